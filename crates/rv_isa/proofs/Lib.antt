@@ -1,0 +1,8 @@
+pub mod Single
+pub mod ByOpcode
+pub mod Masks
+pub mod Formats
+pub mod Codes
+pub mod Back
+pub mod Again
+mod Words
