@@ -1,0 +1,11 @@
+pub mod Arithmetic
+pub mod Effect
+pub mod Step
+pub mod Over
+pub mod Follows
+pub mod Instruction
+pub mod Runs
+pub mod Blind
+pub mod OnePage
+pub mod Computing
+pub mod Laws
