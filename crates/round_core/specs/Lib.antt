@@ -1,0 +1,4 @@
+pub mod Rest
+pub mod Round
+pub mod Mixed
+pub mod Laws
