@@ -1,0 +1,81 @@
+//! Why a file is no image.
+
+use thiserror::Error;
+
+/// Why a file was refused. The first fourteen are tested in this order, and the first that holds is answered.
+#[derive(Clone, Copy, Debug, PartialEq, Eq, Hash, Error)]
+pub enum ImageError {
+    /// The file has fewer than 52 bytes, so it has no file header.
+    #[error("the file is too short for a file header")]
+    Short,
+    /// The first four bytes are not `7F 45 4C 46`.
+    #[error("the file is no ELF file")]
+    NotElf,
+    /// The file is not of the class of 32 bits.
+    #[error("the file is not of 32 bits")]
+    Class,
+    /// The file's numbers are not little-endian.
+    #[error("the file is not little-endian")]
+    ByteOrder,
+    /// The version, in `e_ident` or in `e_version`, is not 1.
+    #[error("the file's version is not 1")]
+    Version,
+    /// `e_type` is not `ET_EXEC`.
+    #[error("the file is no executable")]
+    Kind,
+    /// `e_machine` is not `EM_RISCV`.
+    #[error("the file is not for RISC-V")]
+    Machine,
+    /// `e_flags` asks for instructions or registers that guests have not.
+    #[error("the file asks for an extension")]
+    Flags,
+    /// There are over 64 program headers, or their table is not of entries of 32 bytes within the file.
+    #[error("the table of program headers is unsound")]
+    HeaderTable,
+    /// The file wants a dynamic linker or an interpreter.
+    #[error("the file is not static")]
+    Dynamic,
+    /// The segment with this index in the table has more bytes than memory, or leaves the file or a guest's addresses.
+    #[error("segment {0} does not fit")]
+    Segment(u32),
+    /// The segments with these two indexes share an address; the first is the lower.
+    #[error("segments {0} and {1} overlap")]
+    Overlap(u32, u32),
+    /// No segment takes memory.
+    #[error("the file has nothing to load")]
+    NoLoad,
+    /// The entry is not a multiple of 4, or in no segment that may be executed.
+    #[error("the entry is in no code")]
+    Entry,
+    /// There was no memory to hold the parts. The file may be sound.
+    #[error("out of memory")]
+    Memory,
+}
+
+impl ImageError {
+    ghost use Rattle.std.specs.Prelude.{◌≡◌};
+    ghost use Rattle.elf_image.specs.Image.{number_of};
+
+    /// The refusal's number, from 1 to 14 in the order of the tests. `Memory` is no refusal, and has 0.
+    pub fn number(&self) -> u32
+        ensures { result ≡ number_of self.now }
+    {
+        match self {
+            ImageError::Short => 1,
+            ImageError::NotElf => 2,
+            ImageError::Class => 3,
+            ImageError::ByteOrder => 4,
+            ImageError::Version => 5,
+            ImageError::Kind => 6,
+            ImageError::Machine => 7,
+            ImageError::Flags => 8,
+            ImageError::HeaderTable => 9,
+            ImageError::Dynamic => 10,
+            ImageError::Segment(_) => 11,
+            ImageError::Overlap(_, _) => 12,
+            ImageError::NoLoad => 13,
+            ImageError::Entry => 14,
+            ImageError::Memory => 0,
+        }
+    }
+}

@@ -1,0 +1,71 @@
+//! An image, and how it is read.
+
+ghost use Rattle.std.specs.Prelude.{◌≡◌, ◌≤◌, ◌∷◌, [], IsTrue, length};
+
+use crate::part::{FLAT_BASE, Part, Parts};
+use std::marker::Model;
+
+/// An executable: where it begins, and what it has in memory.
+///
+/// Each image has 1 to 64 parts. Each of them takes memory between 0x00001000 and 0xEFFF0000, no two share an address,
+/// and the entry is a multiple of 4 in a part that may be executed.
+#[derive(Debug, Drop)]
+pub struct Image {
+    /// The address of the first instruction.
+    pub entry: u32,
+    /// What memory begins with, in the order of the file's table.
+    pub parts: Parts,
+}
+
+impl Model for Image {
+    ghost use Rattle.elf_image.specs.Image.{Image, IsSound};
+
+    ghost Value = { Image };
+
+    ghost view = { λ i. record { entry = i.entry; parts = i.parts } };
+
+    ghost invariant = { λ i. IsSound (record { entry = i.entry; parts = i.parts }) };
+}
+
+impl Image {
+    ghost use Rattle.elf_image.specs.Image.{IsSound};
+    ghost use Rattle.elf_image.specs.Form.{is_flat};
+
+    /// The address of the first instruction.
+    pub fn entry(&self) -> u32
+        ensures entry { result ≡ self.now.entry }
+        ensures sound { IsSound self.now }
+    {
+        self.entry
+    }
+
+    /// Its parts, in the order of the file's table.
+    pub fn parts(&self) -> &[Part]
+        ensures parts { result.now ≡ self.now.parts }
+        ensures sound { IsSound self.now }
+    {
+        self.parts.as_slice()
+    }
+
+    /// It is one part at 0x00010000, of bytes alone and with both rights, that is entered at its first byte.
+    pub fn is_flat(&self) -> bool
+        ensures { result ≡ is_flat self.now }
+    {
+        match self.parts.as_slice() {
+            [part] => self.entry == FLAT_BASE && part.is_flat(),
+            _ => false,
+        }
+    }
+
+    /// The one part of a flat image.
+    pub fn only(&self) -> &Part
+        requires { IsTrue (is_flat self.now) }
+        ensures only { self.now.parts ≡ result.now ∷ [] }
+        ensures small { length result.now.bytes ≤ 0xe0000000 }
+    {
+        match self.parts.as_slice() {
+            [part] => part,
+            _ => unreachable!(),
+        }
+    }
+}
