@@ -1,0 +1,6 @@
+use Rattle.std.proofs.Common.{◌≡◌}
+use Rattle.rv_asm.proofs.tests.fill.Given as goal
+
+-- the labels stand
+abbrev pub invariant-loop : goal.invariant-loop
+invariant-loop l = l.builder.labels ≡ l.fn.builder.labels

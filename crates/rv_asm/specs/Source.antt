@@ -1,0 +1,66 @@
+-- What a builder was told, as plain data. This project's own.
+use Rattle.std.specs.Prelude.{◌≡◌, ℕ, ◌+◌, ◌%◌, Bool, List, [], ◌∷◌, ◌++◌, length, All, Option, Some, None, option_and_then, slice_get, slice_set, nat_lt}
+use Rattle.rv_isa.specs.Valid.{IsRegister}
+use Rattle.rv_asm.specs.declared.item.Item.{Item}
+use Rattle.rv_asm.specs.declared.item.Item.TheVariants.{Word, Jump, Branch}
+
+-- the data part: bytes at an address, then so many zeros; where both are none, there is no data part
+pub record Data : Type 0 where
+  pub address : ℕ
+  pub bytes : List ℕ
+  pub zeros : ℕ
+
+-- where the code begins and whether it may be written, what its words are made of, for each label the place of the word
+-- that it stands before, and the data part
+pub record Source : Type 0 where
+  pub base : ℕ
+  pub write : Bool
+  pub items : List Item
+  pub labels : List (Option ℕ)
+  pub data_part : Data
+
+abbrev pub no_data : Data
+no_data = record { address = 0; bytes = []; zeros = 0 }
+
+-- nothing was told yet
+abbrev pub empty_at : ℕ → Bool → Source
+empty_at base write = record { base = base; write = write; items = []; labels = []; data_part = no_data }
+
+-- one word more
+abbrev pub with_item : Source → Item → Source
+with_item source item = record source { items = source.items ++ item ∷ [] }
+
+-- one label more, unset
+abbrev pub with_label : Source → Source
+with_label source = record source { labels = source.labels ++ None ∷ [] }
+
+-- the label stands before the next word
+abbrev pub with_here : Source → ℕ → Source
+with_here source label = record source { labels = slice_set source.labels label (Some (length source.items)) }
+
+abbrev pub with_data : Source → ℕ → List ℕ → ℕ → Source
+with_data source address bytes zeros = record source { data_part = record { address = address; bytes = bytes; zeros = zeros } }
+
+-- the place that a label stands before, if it was made and set
+abbrev pub place_of : List (Option ℕ) → ℕ → Option ℕ
+place_of labels label = option_and_then (λ place. place) (slice_get labels label)
+
+-- how many addresses the data part takes
+abbrev pub data_size : Data → ℕ
+data_size d = length d.bytes + d.zeros
+
+abbrev pub has_data : Source → Bool
+has_data source = nat_lt 0 (data_size source.data_part)
+
+-- ---- what is known of every builder
+
+-- the registers of an item are of x0 to x31
+abbrev pub HasRegisters : Item → Type 0
+HasRegisters (Word value) = Unit {0}
+HasRegisters (Jump rd label) = IsRegister rd
+HasRegisters (Branch op rs1 rs2 label) = IsRegister rs1 × IsRegister rs2
+
+-- the base begins a page
+pub record IsSource (base : ℕ) (items : List Item) : Type 0 where
+  pub aligned : base % 4096 ≡ 0
+  pub registers : All HasRegisters items
