@@ -1,0 +1,3 @@
+mod Examples
+pub mod GivenLaws
+pub mod InputLaws

@@ -1,0 +1,198 @@
+// A sink and files in memory, which fail at the calls that they are told to.
+ghost use Rattle.std.specs.Prelude.{◌≡◌, ◌≢◌, ◌↔◌, ◌<◌, ◌≤◌, ℕ, List, [], Some, None, not, true, is_ok, length, IsTrue, OnOk, OnErr, IfOk, IfSome, IsErrOf};
+ghost use Rattle.dos_io.specs.Outside.{grown, GrewByFront, HasCause, Rose};
+ghost use Rattle.dos_io.specs.Calls.{no_calls, after_call, put_succeeds, after_put};
+ghost use Rattle.dos_io.specs.Memory.{held, calls_of, get_succeeds, set_succeeds};
+
+use crate::calls::Calls;
+use crate::{FileError, Files, Sink, SinkFault};
+use std::alloc::{AllocError, Global};
+use std::collections::BTreeMap;
+use std::marker::Model;
+
+/// A sink in memory. It fails at the calls whose numbers it is given, and where a piece is longer than the room
+/// that is left, and at no other call.
+#[derive(Debug, Drop)]
+pub struct MemorySink {
+    bytes: Vec<u8>,
+    room: usize,
+    calls: Calls,
+}
+
+impl Model for MemorySink {
+    ghost use Rattle.std.specs.Prelude.{◌≤◌, vec_len, vec_capacity};
+    ghost use Rattle.dos_io.specs.Calls.{SinkState};
+
+    ghost Value = { SinkState };
+
+    ghost view = { λ s. record { bytes = s.bytes.items; room = s.room; calls = s.calls } };
+
+    ghost invariant = { λ s. (vec_len s.bytes ≤ s.room) × (s.room ≤ vec_capacity s.bytes) };
+}
+
+impl MemorySink {
+    /// An empty sink with room for `room` bytes in all. `failing` has the numbers of the puts that are to fail,
+    /// counted from 1.
+    pub fn new(alloc: Global, room: u32, failing: &[u32]) -> Result<MemorySink, AllocError>
+        ensures { IfOk result (λ sink. sink ≡ record { bytes = []; room = room; calls = no_calls failing.now }) }
+    {
+        let room = room as usize;
+        Ok(MemorySink {
+            bytes: Vec::with_capacity(alloc, room)?,
+            room,
+            calls: Calls::new(alloc, failing)?,
+        })
+    }
+
+    /// The bytes put so far.
+    pub fn bytes(&self) -> &[u8]
+        ensures bytes { result.now ≡ self.now.bytes }
+        ensures told { ⟦<MemorySink as Sink>⟧.told self.now ≡ Some result.now }
+    {
+        &self.bytes
+    }
+}
+
+impl Sink for MemorySink {
+    ghost told = { λ s. Some s.bytes };
+
+    ghost faults = { λ s. s.calls.faults };
+
+    /// Takes no memory. A put that fails leaves the bytes as they were.
+    fn put(&mut self, piece: &[u8]) -> Result<(), SinkFault>
+        ensures answer { is_ok result ≡ put_succeeds self.old piece.now }
+        ensures state { self.new ≡ after_put self.old piece.now }
+
+        // As of every sink.
+        ensures ok { OnOk result (Some self.new.bytes ≡ grown (Some self.old.bytes) piece.now) }
+        ensures err { OnErr result (GrewByFront (Some self.old.bytes) (Some self.new.bytes) piece.now) }
+        ensures cause { HasCause self.old.calls.faults self.new.calls.faults result }
+    {
+        let fits = piece.len() <= self.room - self.bytes.len();
+        if !self.calls.count(fits) {
+            return Err(SinkFault);
+        }
+        self.bytes.extend_from_slice(piece).unwrap();
+        Ok(())
+    }
+}
+
+/// Files in memory. A call fails by a fault where it is told to, and a get also where the name isn't held.
+#[derive(Drop)]
+pub struct MemoryFiles {
+    alloc: Global,
+    contents: BTreeMap<String, Vec<u8>>,
+    calls: Calls,
+}
+
+impl MemoryFiles {
+    /// Files that hold nothing. `failing` has the numbers of the gets and sets that are to fail, counted
+    /// together from 1.
+    pub fn new(alloc: Global, failing: &[u32]) -> Result<MemoryFiles, AllocError>
+        ensures empty { IfOk result (λ files. (n : List ℕ) → held files n ≡ None) }
+        ensures calls { IfOk result (λ files. calls_of files ≡ no_calls failing.now) }
+    {
+        Ok(MemoryFiles {
+            alloc,
+            contents: BTreeMap::new(alloc),
+            calls: Calls::new(alloc, failing)?,
+        })
+    }
+
+    /// Gives a name its content. It counts as no call.
+    pub fn add(&mut self, name: &str, bytes: &[u8]) -> Result<(), AllocError>
+        ensures content { OnOk result (held self.new name.now ≡ Some bytes.now) }
+        ensures others { (n : List ℕ) → n ≢ name.now → held self.new n ≡ held self.old n }
+        ensures err { OnErr result (held self.new name.now ≡ held self.old name.now) }
+        ensures calls { calls_of self.new ≡ calls_of self.old }
+    {
+        let key = String::from_str(self.alloc, name)?;
+        let content = Vec::from_slice(self.alloc, bytes)?;
+        self.contents.insert(key, content)?;
+        Ok(())
+    }
+}
+
+impl Files for MemoryFiles {
+    ghost content = { held };
+
+    ghost tells = { λ _. true };
+
+    ghost faults = { λ s. (calls_of s).faults };
+
+    fn get(&mut self, name: &str, limit: u64) -> Result<Vec<u8>, FileError>
+        ensures answer { IsErrOf result FileError.Fault ↔ IsTrue (not (get_succeeds self.old name.now)) }
+        ensures calls { calls_of self.new ≡ after_call (calls_of self.old) (get_succeeds self.old name.now) }
+        ensures bytes { IfOk result (λ v. held self.old name.now ≡ Some v.items) }
+
+        // As of all files.
+        ensures within { IfOk result (λ v. length v.items ≤ limit) }
+        ensures too_long { IsErrOf result FileError.TooLong → IfSome (held self.old name.now) (λ t. limit < length t) }
+        ensures fault { IsErrOf result FileError.Fault → Rose (calls_of self.old).faults (calls_of self.new).faults }
+        ensures stays { (n : List ℕ) → held self.new n ≡ held self.old n }
+        ensures later { (calls_of self.old).faults ≤ (calls_of self.new).faults }
+    {
+        let content = self.contents.get(name);
+        if !self.calls.count(content.is_some()) {
+            return Err(FileError::Fault);
+        }
+        match content {
+            Some(bytes) if bytes.len() as u64 <= limit => Ok(Vec::from_slice(self.alloc, bytes)?),
+            Some(_) => Err(FileError::TooLong),
+            None => unreachable!(),
+        }
+    }
+
+    fn set(&mut self, name: &str, bytes: &[u8]) -> Result<(), FileError>
+        ensures answer { IsErrOf result FileError.Fault ↔ IsTrue (not (set_succeeds self.old)) }
+        ensures calls { calls_of self.new ≡ after_call (calls_of self.old) (set_succeeds self.old) }
+        ensures content { OnOk result (held self.new name.now ≡ Some bytes.now) }
+        ensures err { OnErr result (held self.new name.now ≡ held self.old name.now) }
+
+        // As of all files.
+        ensures never { result ≢ Err FileError.TooLong }
+        ensures fault { IsErrOf result FileError.Fault → Rose (calls_of self.old).faults (calls_of self.new).faults }
+        ensures others { (n : List ℕ) → n ≢ name.now → held self.new n ≡ held self.old n }
+        ensures later { (calls_of self.old).faults ≤ (calls_of self.new).faults }
+    {
+        if !self.calls.count(true) {
+            return Err(FileError::Fault);
+        }
+        let name = String::from_str(self.alloc, name)?;
+        let content = Vec::from_slice(self.alloc, bytes)?;
+        self.contents.insert(name, content)?;
+        Ok(())
+    }
+}
+
+#[cfg(test)]
+mod tests {
+    use super::*;
+    use std::test::Fail;
+
+    #[test]
+    fn a_sink_fails_where_it_is_told_to_and_where_it_is_full(rt: HostRuntime) -> Result<(), Fail> {
+        let mut sink = MemorySink::new(rt.alloc(), 5, &[2])?;
+        assert_eq!(rt; sink.put(b"abc"), Ok(()));
+        assert_eq!(rt; sink.put(b"d"), Err(SinkFault));
+        assert_eq!(rt; sink.put(b"def"), Err(SinkFault));
+        assert_eq!(rt; sink.put(b"de"), Ok(()));
+        assert_eq!(rt; sink.bytes(), b"abcde".as_slice());
+        Ok(())
+    }
+
+    #[test]
+    fn files_give_what_they_were_given(rt: HostRuntime) -> Result<(), Fail> {
+        let mut files = MemoryFiles::new(rt.alloc(), &[3, 5])?;
+        files.add("a", b"abc")?;
+        assert_eq!(rt; files.get("a", 3)?.as_slice(), b"abc".as_slice());
+        assert_eq!(rt; files.get("a", 2).err(), Some(FileError::TooLong));
+        assert_eq!(rt; files.get("a", 3).err(), Some(FileError::Fault));
+        assert_eq!(rt; files.get("b", 3).err(), Some(FileError::Fault));
+        assert_eq!(rt; files.set("b", b"x"), Err(FileError::Fault));
+        assert_eq!(rt; files.set("b", b"xy"), Ok(()));
+        assert_eq!(rt; files.get("b", 3)?.as_slice(), b"xy".as_slice());
+        assert_eq!(rt; files.get("a", 3)?.as_slice(), b"abc".as_slice());
+        Ok(())
+    }
+}
