@@ -1,0 +1,5 @@
+pub mod Opening
+pub mod Machine
+pub mod Report
+pub mod Fits
+pub mod Laws
