@@ -1,0 +1,3 @@
+mod Requests
+mod ByClap
+pub mod RangeLaws

@@ -1,0 +1,203 @@
+-- Each request that is given has its numbers in range.
+use Rattle.std.proofs.Common.{◌≡◌, ◌∙◌, ◌≤◌, ℕ, suc, Bool, cond, true, false, leb, ◌&&◌, List, [], ◌∷◌, length, Option, Some, None, refl, ap, subst, arith}
+use Rattle.std.specs.Prelude.{option_and_then, codes, IfSome}
+use Rattle.std.specs.List.{AllByRecursion}
+use Rattle.std.proofs.lemmas.Bool.{leb-true}
+use Rattle.dos_world.specs.declared.Post.{Post}
+use Rattle.clap.specs.Words.{Row, fault_of, subcommand_of}
+use Rattle.clap.specs.Kinds.{Kinds}
+use Rattle.dos_words.specs.declared.request.Request.{Request}
+use Rattle.dos_words.specs.declared.request.Request.TheVariants.{Run, Replay, Inspect, Gen}
+use Rattle.dos_words.specs.Numbers.{Text, number, where_within, number_within, parts_by, post_in, posts_in_all, colon, comma}
+use Rattle.dos_words.specs.Asked.{Values, number_or, posts_or_none, some_number, number_if_given, most_u64, workers_of, images_of, run_asked, replay_asked, inspect_asked, gen_asked}
+use Rattle.dos_words.specs.Commands.{Command, run, replay, inspect, gen, is_named, command_named}
+use Rattle.dos_words.specs.Canonical.{Canonical, pairs_and_names, are_allowed, canonical, values_in}
+use Rattle.dos_words.specs.Clap.{words_app, asked_by, asked_from, where_taken, values_among, names_among, clap_request}
+use Rattle.dos_words.specs.Request.{canonical_request, request_by, request}
+use Rattle.dos_words.specs.Ranges.{IsWithin, FitsAskedPost, FitsRequest}
+
+-- ---- what some value came of
+
+abbrev some : {A : Type 0} → A → Option A
+some x = Some x
+
+some_is : {A : Type 0} (x y : A) → some x ≡ some y → x ≡ y
+some_is x y e = cc
+
+bind_some : {A B : Type 0} (o : Option A) (f : A → Option B) (y : B) → option_and_then f o ≡ Some y → (x : A) × (o ≡ Some x) × (f x ≡ Some y)
+bind_some (Some x) f y e = (x, refl, e)
+bind_some None f y e = absurd cc
+
+guard_some : {A : Type 0} (b : Bool) (x y : A) → cond b (Some x) None ≡ Some y → (b ≡ true) × (x ≡ y)
+guard_some true x y e = (refl, some_is x y e)
+guard_some false x y e = absurd cc
+
+both_true : (a b : Bool) → (a && b) ≡ true → (a ≡ true) × (b ≡ true)
+both_true true true e = (refl, refl)
+both_true true false e = absurd cc
+both_true false b e = absurd cc
+
+-- ---- numbers
+
+is_within : (low high n m : ℕ) → where_within low high n ≡ Some m → IsWithin low high m
+is_within low high n m e =
+    let g = guard_some (leb low n && leb n high) n m e in
+    let b = both_true (leb low n) (leb n high) g.0 in
+    subst (IsWithin low high) g.1 (leb-true _ _ b.0, leb-true _ _ b.1)
+
+number_fits : (low high : ℕ) (text : Text) (n : ℕ) → number_within low high text ≡ Some n → IsWithin low high n
+number_fits low high text n e = let b = bind_some (number text) (where_within low high) n e in is_within low high b.0 n b.2
+
+number_or_fits : (low high default : ℕ) (given : Option Text) (n : ℕ) → IsWithin low high default → number_or given low high default ≡ Some n → IsWithin low high n
+number_or_fits low high default None n fits e = subst (IsWithin low high) (some_is default n e) fits
+number_or_fits low high default (Some text) n fits e = number_fits low high text n e
+
+if_given_fits : (high : ℕ) (given : Option Text) (o : Option ℕ) → number_if_given given 0 high ≡ Some o → IfSome o (λ n. n ≤ high)
+if_given_fits high None o e = subst (λ (x : Option ℕ). IfSome x (λ n. n ≤ high)) (some_is None o e) tt
+if_given_fits high (Some text) o e =
+    let b = bind_some (number_within 0 high text) some_number o e in
+    subst (λ (x : Option ℕ). IfSome x (λ n. n ≤ high)) (some_is (Some b.0) o b.2) (number_fits 0 high text b.0 b.1).1
+
+workers_fit : (value : Values) (n : ℕ) → workers_of value ≡ Some n → IsWithin 1 32 n
+workers_fit value n e = number_or_fits 1 32 4 (value (codes "workers")) n (omega arith, omega arith) e
+
+images_fit : (names images : List Text) → images_of names ≡ Some images → IsWithin 1 8 (length images)
+images_fit names images e =
+    let g = guard_some (leb 1 (length names) && leb (length names) 8) names images e in
+    let b = both_true (leb 1 (length names)) (leb (length names) 8) g.0 in
+    subst (λ (x : List Text). IsWithin 1 8 (length x)) g.1 (leb-true _ _ b.0, leb-true _ _ b.1)
+
+-- ---- posts
+
+post_fits : (parts : List Text) (post : ℕ × Post) → post_in parts ≡ Some post → FitsAskedPost post
+post_fits (round ∷ pid ∷ signal ∷ []) post e =
+    let r = bind_some (number_within 1 1000000 round) _ post e in
+    let p = bind_some (number_within 1 65535 pid) _ post r.2 in
+    let s = bind_some (number_within 1 31 signal) _ post p.2 in
+    subst FitsAskedPost (some_is (r.0, record { pid = p.0; signal = s.0 }) post s.2)
+    (record { round = number_fits 1 1000000 round r.0 r.1; process = number_fits 1 65535 pid p.0 p.1; signal = number_fits 1 31 signal s.0 s.1 })
+post_fits [] post e = absurd cc
+post_fits (a ∷ []) post e = absurd cc
+post_fits (a ∷ b ∷ []) post e = absurd cc
+post_fits (a ∷ b ∷ c ∷ d ∷ parts) post e = absurd cc
+
+record FitPosts (items : List Text) (posts : List (ℕ × Post)) : Type 0 where
+  fit : AllByRecursion FitsAskedPost posts
+  count : length posts ≡ length items
+
+posts_fit : (items : List Text) (posts : List (ℕ × Post)) → posts_in_all items ≡ Some posts → FitPosts items posts
+posts_fit [] posts e = subst (FitPosts []) (some_is [] posts e) (record { fit = tt; count = refl })
+posts_fit (item ∷ items) posts e =
+    let p = bind_some (post_in (parts_by colon item)) _ posts e in
+    let q = bind_some (posts_in_all items) _ posts p.2 in
+    let more = posts_fit items q.0 q.1 in
+    subst (FitPosts (item ∷ items)) (some_is (p.0 ∷ q.0) posts q.2) (record { fit = (post_fits (parts_by colon item) p.0 p.1, more.fit); count = ap (λ (n : ℕ). suc n) more.count })
+
+record FewPosts (posts : List (ℕ × Post)) : Type 0 where
+  fit : AllByRecursion FitsAskedPost posts
+  few : length posts ≤ 32
+
+posts_or_none_fit : (given : Option Text) (posts : List (ℕ × Post)) → posts_or_none given ≡ Some posts → FewPosts posts
+posts_or_none_fit None posts e = subst FewPosts (some_is [] posts e) (record { fit = tt; few = omega arith })
+posts_or_none_fit (Some text) posts e = go (leb (length (parts_by comma text)) 32) refl e
+  where
+    go : (b : Bool) → leb (length (parts_by comma text)) 32 ≡ b → cond b (posts_in_all (parts_by comma text)) None ≡ Some posts → FewPosts posts
+    go true is e = let all = posts_fit (parts_by comma text) posts e in record { fit = all.fit; few = omega (arith, all.count, leb-true _ _ is) }
+    go false is e = absurd cc
+
+-- ---- the commands
+
+abbrev AsksInRange : (Values → List Text → Option Request) → Type 0
+AsksInRange asked = (value : Values) (names : List Text) (r : Request) → asked value names ≡ Some r → FitsRequest r
+
+run_fits : AsksInRange run_asked
+run_fits value names r e =
+    let quantum = bind_some (number_or (value (codes "quantum")) 16 65536 1000) _ r e in
+    let rounds = bind_some (number_or (value (codes "rounds")) 1 1000000 100000) _ r quantum.2 in
+    let frames = bind_some (number_or (value (codes "frames")) 16 16384 4096) _ r rounds.2 in
+    let workers = bind_some (workers_of value) _ r frames.2 in
+    let posts = bind_some (posts_or_none (value (codes "signals"))) _ r workers.2 in
+    let start = bind_some (number_if_given (value (codes "clock-from")) 0 most_u64) _ r posts.2 in
+    let step = bind_some (number_or (value (codes "clock-step")) 0 most_u64 1) _ r start.2 in
+    let log = bind_some (value (codes "log")) _ r step.2 in
+    let images = bind_some (images_of names) _ r log.2 in
+    let few = posts_or_none_fit (value (codes "signals")) posts.0 posts.1 in
+    subst FitsRequest (some_is (Run quantum.0 rounds.0 frames.0 workers.0 posts.0 start.0 step.0 log.0 images.0) r images.2)
+    (record {
+      quantum_fits = number_or_fits 16 65536 1000 (value (codes "quantum")) quantum.0 (omega arith, omega arith) quantum.1;
+      rounds_fit = number_or_fits 1 1000000 100000 (value (codes "rounds")) rounds.0 (omega arith, omega arith) rounds.1;
+      frames_fit = number_or_fits 16 16384 4096 (value (codes "frames")) frames.0 (omega arith, omega arith) frames.1;
+      workers_fit = workers_fit value workers.0 workers.1;
+      posts_fit = few.fit;
+      few_posts = few.few;
+      clock_from_fits = if_given_fits most_u64 (value (codes "clock-from")) start.0 start.1;
+      clock_step_fits = (number_or_fits 0 most_u64 1 (value (codes "clock-step")) step.0 (omega arith, omega arith) step.1).1;
+      names_fit = images_fit names images.0 images.1;
+    })
+
+replay_fits : AsksInRange replay_asked
+replay_fits value names r e =
+    let workers = bind_some (workers_of value) _ r e in
+    let log = bind_some (value (codes "log")) _ r workers.2 in
+    let images = bind_some (images_of names) _ r log.2 in
+    subst FitsRequest (some_is (Replay workers.0 log.0 images.0) r images.2) (workers_fit value workers.0 workers.1, images_fit names images.0 images.1)
+
+inspect_fits : AsksInRange inspect_asked
+inspect_fits value [] r e = absurd cc
+inspect_fits value (name ∷ []) r e = subst FitsRequest (some_is (Inspect name) r e) tt
+inspect_fits value (name ∷ other ∷ names) r e = absurd cc
+
+gen_fits : AsksInRange gen_asked
+gen_fits value (name ∷ names) r e = absurd cc
+gen_fits value [] r e =
+    let text = bind_some (value (codes "number")) _ r e in
+    let n = bind_some (number_within 0 4294967295 text.0) _ r text.2 in
+    let count = bind_some (value (codes "threads")) _ r n.2 in
+    let threads = bind_some (number_within 1 32 count.0) _ r count.2 in
+    let workers = bind_some (workers_of value) _ r threads.2 in
+    subst FitsRequest (some_is (Gen n.0 threads.0 workers.0) r workers.2)
+    ((number_fits 0 4294967295 text.0 n.0 n.1).1, number_fits 1 32 count.0 threads.0 threads.1, workers_fit value workers.0 workers.1)
+
+by_name : (a b c d : Bool) (command : Command) → cond a (some run) (cond b (some replay) (cond c (some inspect) (cond d (some gen) None))) ≡ Some command → AsksInRange command.asked
+by_name true b c d command e = subst (λ (x : Command). AsksInRange x.asked) (some_is run command e) run_fits
+by_name false true c d command e = subst (λ (x : Command). AsksInRange x.asked) (some_is replay command e) replay_fits
+by_name false false true d command e = subst (λ (x : Command). AsksInRange x.asked) (some_is inspect command e) inspect_fits
+by_name false false false true command e = subst (λ (x : Command). AsksInRange x.asked) (some_is gen command e) gen_fits
+by_name false false false false command e = absurd cc
+
+named_fits : (name : Text) (command : Command) → command_named name ≡ Some command → AsksInRange command.asked
+named_fits name command e = by_name (is_named name run) (is_named name replay) (is_named name inspect) (is_named name gen) command e
+
+-- ---- both readings
+
+canonical_fits : (words : List Text) (c : Canonical) (r : Request) → canonical words ≡ Some c → canonical_request c ≡ Some r → FitsRequest r
+canonical_fits [] c r is e = absurd cc
+canonical_fits (name ∷ words) c r is e =
+    let command = bind_some (command_named name) _ c is in
+    let parts = bind_some (pairs_and_names words) _ c command.2 in
+    let g = guard_some (are_allowed command.0.options parts.0.0) (record { command = command.0; pairs = parts.0.0; names = parts.0.1 }) c parts.2 in
+    named_fits name command.0 command.1 (values_in parts.0.0) parts.0.1 r (ap canonical_request g.1 ∙ e)
+
+asked_by_fits : (name : Text) (found : Option Command) (rows : List Row) (r : Request) → command_named name ≡ found → asked_by found rows ≡ Some r → FitsRequest r
+asked_by_fits name None rows r is e = absurd cc
+asked_by_fits name (Some command) rows r is e = named_fits name command is (values_among rows) (names_among rows) r e
+
+asked_from_fits : (found : Option (Text × List Row)) (r : Request) → asked_from found ≡ Some r → FitsRequest r
+asked_from_fits None r e = absurd cc
+asked_from_fits (Some found) r e = asked_by_fits found.0 (command_named found.0) found.1 r refl e
+
+taken_is : (kinds : Kinds) (asked : Option Request) (r : Request) → where_taken kinds asked ≡ Some r → asked ≡ Some r
+taken_is [] asked r e = e
+taken_is (kind ∷ kinds) asked r e = absurd cc
+
+clap_fits : (words : List Text) (r : Request) → clap_request words ≡ Some r → FitsRequest r
+clap_fits words r e =
+    let found : Option (Text × List Row) = subcommand_of words_app words in
+    asked_from_fits found r (taken_is (fault_of words_app words) (asked_from found) r e)
+
+either_fits : (c : Option Canonical) (words : List Text) (r : Request) → canonical words ≡ c → request_by c words ≡ Some r → FitsRequest r
+either_fits None words r is e = clap_fits words r e
+either_fits (Some c) words r is e = canonical_fits words c r is e
+
+pub request_fits : (words : List Text) (r : Request) → request words ≡ Some r → FitsRequest r
+request_fits words r e = either_fits (canonical words) words r refl e

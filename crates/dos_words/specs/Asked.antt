@@ -1,0 +1,83 @@
+-- What the values of a command's options and its names ask for: the ranges, and what stands for an option that isn't given. This project's own rule. Whoever has read the words says the value of an option by its name without the dashes.
+use Rattle.std.specs.Prelude.{ℕ, ◌-◌, ◌^◌, ◌&&◌, List, [], ◌∷◌, length, Option, Some, None, nat_le, if◌then◌else◌, codes}
+use Rattle.dos_world.specs.declared.Post.{Post}
+use Rattle.dos_words.specs.Numbers.{Text, ◌>>=◌, number_within, posts_from}
+use Rattle.dos_words.specs.declared.request.Request.{Request}
+use Rattle.dos_words.specs.declared.request.Request.TheVariants.{Run, Replay, Inspect, Gen}
+
+-- the value of an option by its name, where it is given
+abbrev pub Values : Type 0
+Values = Text → Option Text
+
+-- ---- one option
+
+-- its number in the range, or the default
+abbrev pub number_or : Option Text → (low high default : ℕ) → Option ℕ
+number_or None low high default = Some default
+number_or (Some text) low high default = number_within low high text
+
+-- its posts, or none
+abbrev pub posts_or_none : Option Text → Option (List (ℕ × Post))
+posts_or_none None = Some []
+posts_or_none (Some text) = posts_from text
+
+-- a number that is given
+abbrev pub some_number : ℕ → Option (Option ℕ)
+some_number n = Some (Some n)
+
+-- a number that need not be given
+abbrev pub number_if_given : Option Text → (low high : ℕ) → Option (Option ℕ)
+number_if_given None low high = Some None
+number_if_given (Some text) low high = number_within low high text >>= some_number
+
+-- the highest number of 64 bits
+abbrev pub most_u64 : ℕ
+most_u64 = 2 ^ 64 - 1
+
+-- 1 to 32 workers, else 4
+abbrev pub workers_of : Values → Option ℕ
+workers_of value = number_or (value (codes "workers")) 1 32 4
+
+-- one to eight names of images
+abbrev pub images_of : List Text → Option (List Text)
+images_of names = if nat_le 1 (length names) && nat_le (length names) 8 then Some names else None
+
+-- ---- the commands
+
+-- `run`
+abbrev pub run_asked : Values → List Text → Option Request
+run_asked value names = do
+  quantum ← number_or (value (codes "quantum")) 16 65536 1000
+  rounds ← number_or (value (codes "rounds")) 1 1000000 100000
+  frames ← number_or (value (codes "frames")) 16 16384 4096
+  workers ← workers_of value
+  posts ← posts_or_none (value (codes "signals"))
+  clock_from ← number_if_given (value (codes "clock-from")) 0 most_u64
+  clock_step ← number_or (value (codes "clock-step")) 0 most_u64 1
+  log ← value (codes "log")
+  images ← images_of names
+  Some (Run quantum rounds frames workers posts clock_from clock_step log images)
+
+-- `replay`
+abbrev pub replay_asked : Values → List Text → Option Request
+replay_asked value names = do
+  workers ← workers_of value
+  log ← value (codes "log")
+  images ← images_of names
+  Some (Replay workers log images)
+
+-- `inspect`, of one name
+abbrev pub inspect_asked : Values → List Text → Option Request
+inspect_asked value (name ∷ []) = Some (Inspect name)
+inspect_asked value _ = None
+
+-- `gen`, with no names
+abbrev pub gen_asked : Values → List Text → Option Request
+gen_asked value (name ∷ names) = None
+gen_asked value [] = do
+  text ← value (codes "number")
+  number ← number_within 0 4294967295 text
+  count ← value (codes "threads")
+  threads ← number_within 1 32 count
+  workers ← workers_of value
+  Some (Gen number threads workers)

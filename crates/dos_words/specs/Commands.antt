@@ -1,0 +1,47 @@
+-- The commands of the program. This project's own.
+use Rattle.std.specs.Prelude.{Bool, true, false, List, [], ◌∷◌, Option, find, codes, bytes_eq}
+use Rattle.dos_words.specs.declared.request.Request.{Request}
+use Rattle.dos_words.specs.Numbers.{Text}
+use Rattle.dos_words.specs.Asked.{Values, run_asked, replay_asked, inspect_asked, gen_asked}
+
+-- its name, its options without their dashes, whether names follow them, and what it asks for
+pub record Command : Type 0 where
+  pub name : Text
+  pub options : List Text
+  pub has_names : Bool
+  pub asked : Values → List Text → Option Request
+
+-- records a run
+abbrev pub run : Command
+run = record {
+  name = codes "run";
+  options =
+      codes "quantum" ∷ codes "rounds" ∷ codes "frames" ∷ codes "workers" ∷ codes "signals"
+      ∷ codes "clock-from" ∷ codes "clock-step" ∷ codes "log" ∷ [];
+  has_names = true;
+  asked = run_asked;
+}
+
+-- runs by a log
+abbrev pub replay : Command
+replay = record { name = codes "replay"; options = codes "workers" ∷ codes "log" ∷ []; has_names = true; asked = replay_asked }
+
+-- prints the parts of an image
+abbrev pub inspect : Command
+inspect = record { name = codes "inspect"; options = []; has_names = true; asked = inspect_asked }
+
+-- runs the generated image
+abbrev pub gen : Command
+gen = record { name = codes "gen"; options = codes "number" ∷ codes "threads" ∷ codes "workers" ∷ []; has_names = false; asked = gen_asked }
+
+-- all of them
+abbrev pub commands : List Command
+commands = run ∷ replay ∷ inspect ∷ gen ∷ []
+
+-- the command has this name
+abbrev pub is_named : Text → Command → Bool
+is_named name command = bytes_eq name command.name
+
+-- the command of this name
+abbrev pub command_named : Text → Option Command
+command_named name = find (is_named name) commands

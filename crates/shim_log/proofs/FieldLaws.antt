@@ -1,0 +1,195 @@
+-- A field that is read is the field that was written, and what was written is read again.
+use Rattle.std.proofs.Common.{◌≡◌, ℕ, suc, ◌+◌, ◌^◌, ◌<◌, ◌≤◌, Bool, true, false, cond, ltb, leb, ◌&&◌, List, [], ◌∷◌, ◌++◌, length, take, drop, Result, Ok, Err, refl, sym, ap, subst, ◌∙◌, append_assoc, arith, inl, inr}
+use Rattle.std.specs.Int.{Width, w16, w32, w64, byte_len, from_le_bytes, to_le_bytes}
+use Rattle.std.proofs.lemmas.Bool.{cases_lt, ltb-false, le-ltb, leb-true, le-leb}
+use Rattle.std.proofs.lemmas.List.{take_at, drop_at, take-append-drop, length-append, length-take, get_or-drop, get_or-take, get_or_past}
+use Rattle.std.proofs.lemmas.Nat.{le_bytes_2, le_bytes_4, le_bytes_8, from_le_bytes-to_le_bytes_2, from_le_bytes-to_le_bytes_4, from_le_bytes-to_le_bytes_8}
+use Rattle.shim_log.specs.declared.refusal.LogRefusal.{LogRefusal}
+use Rattle.shim_log.specs.declared.refusal.LogRefusal.TheVariants as refusal
+use Rattle.shim_log.specs.Bytes.{IsBytes}
+use Rattle.shim_log.specs.Reading.{◌>>=◌, place, bytes_at, number_at, byte_at, within, ranged_at, ranged_byte_at, header_number_at}
+
+pub IsBytes-drop : (n : ℕ) (bytes : List ℕ) → IsBytes bytes → IsBytes (drop n bytes)
+IsBytes-drop n bytes h i = rw get_or-drop (h (n + i))
+
+pub IsBytes-take : (n : ℕ) (bytes : List ℕ) → IsBytes bytes → IsBytes (take n bytes)
+IsBytes-take n bytes h i =
+    elim (cases_lt i n) [
+      | inl lt ↦ rw (get_or-take n bytes i 0 lt) (h i)
+      | inr le ↦ rw (get_or_past (take n bytes) i 0 (omega (arith, length-take n bytes))) (omega arith)
+    ]
+
+-- the value of a step that did not fail
+pub bind_ok : {A B : Type 0} (r : Result A LogRefusal) (f : A → Result B LogRefusal) (y : B) → (r >>= f) ≡ Ok y → (x : A) × (r ≡ Ok x) × (f x ≡ Ok y)
+bind_ok (Ok x) f y e = (x, refl, e)
+bind_ok (Err d) f y e = absurd cc
+
+-- a test that did not fail
+pub guard_ok : {A : Type 0} (b : Bool) (d : LogRefusal) (x y : A) → cond b (Err d) (Ok x) ≡ Ok y → (b ≡ false) × (x ≡ y)
+guard_ok true d x y e = absurd cc
+guard_ok false d x y e = (refl, cc)
+
+pub guard_true : {A : Type 0} (b : Bool) (d : LogRefusal) (x y : A) → cond b (Ok x) (Err d) ≡ Ok y → (b ≡ true) × (x ≡ y)
+guard_true true d x y e = (refl, cc)
+guard_true false d x y e = absurd cc
+
+abbrev done : {A : Type 0} → A → Result A LogRefusal
+done x = Ok x
+
+pub ok_is : {A : Type 0} (x y : A) → done x ≡ done y → x ≡ y
+ok_is x y e = cc
+
+both_true : (a b : Bool) → (a && b) ≡ true → (a ≡ true) × (b ≡ true)
+both_true true true e = (refl, refl)
+both_true true false e = absurd cc
+both_true false b e = absurd cc
+
+pub within_ok : {A : Type 0} (low high n : ℕ) (wrong : LogRefusal) (x y : A) → within low high n wrong x ≡ Ok y → (low ≤ n) × (n ≤ high) × (x ≡ y)
+within_ok low high n wrong x y e =
+    let g = guard_true (leb low n && leb n high) wrong x y e in
+    let b = both_true (leb low n) (leb n high) g.0 in
+    (leb-true _ _ b.0, leb-true _ _ b.1, g.1)
+
+pub within_again : {A : Type 0} (low high n : ℕ) (wrong : LogRefusal) (x : A) → low ≤ n → n ≤ high → within low high n wrong x ≡ Ok x
+within_again low high n wrong x p q = rw (le-leb low n p, le-leb n high q) refl
+
+-- what a reader took from the front
+pub record Takes (bytes text rest : List ℕ) : Type 0 where
+  pub parts : bytes ≡ text ++ rest
+  pub rest_fits : IsBytes rest
+
+pub then : (a x b y c : List ℕ) → Takes a x b → Takes b y c → Takes a (x ++ y) c
+then a x b y c p q = record { parts = p.parts ∙ ap (λ (t : List ℕ). x ++ t) q.parts ∙ sym (append_assoc x y c); rest_fits = q.rest_fits }
+
+-- ---- numbers
+
+pub record IsWide (w : Width) (limit : ℕ) : Type 0 where
+  pub len : (n : ℕ) → length (to_le_bytes w n) ≡ byte_len w
+  pub back : (bytes : List ℕ) → length bytes ≡ byte_len w → IsBytes bytes → to_le_bytes w (from_le_bytes w bytes) ≡ bytes
+  pub again : (n : ℕ) → n < limit → from_le_bytes w (to_le_bytes w n) ≡ n
+  pub below : (bytes : List ℕ) → IsBytes bytes → from_le_bytes w bytes < limit
+
+pub wide16 : IsWide w16 (2 ^ 16)
+wide16 = record {
+  len = λ n. refl;
+  back = λ bytes len fits. le_bytes_2 bytes _ len fits refl;
+  again = λ n lt. from_le_bytes-to_le_bytes_2 n lt;
+  below = λ bytes fits. omega (arith, fits 0, fits 1);
+}
+
+pub wide32 : IsWide w32 (2 ^ 32)
+wide32 = record {
+  len = λ n. refl;
+  back = λ bytes len fits. le_bytes_4 bytes _ len fits refl;
+  again = λ n lt. from_le_bytes-to_le_bytes_4 n lt;
+  below = λ bytes fits. omega (arith, fits 0, fits 1, fits 2, fits 3);
+}
+
+pub wide64 : IsWide w64 (2 ^ 64)
+wide64 = record {
+  len = λ n. refl;
+  back = λ bytes len fits. le_bytes_8 bytes _ len fits refl;
+  again = λ n lt. from_le_bytes-to_le_bytes_8 n lt;
+  below = λ bytes fits. omega (arith, fits 0, fits 1, fits 2, fits 3, fits 4, fits 5, fits 6, fits 7);
+}
+
+pub number_takes : (w : Width) (limit : ℕ) (wide : IsWide w limit) (end : ℕ) (bytes : List ℕ) (n : ℕ) (rest : List ℕ) → IsBytes bytes → number_at w end bytes ≡ Ok (n, rest) → Takes bytes (to_le_bytes w n) rest × (n < limit)
+number_takes w limit wide end bytes n rest fits e =
+    let g = guard_ok (ltb (length bytes) (byte_len w)) (refusal.Short (place end bytes)) (from_le_bytes w (take (byte_len w) bytes), drop (byte_len w) bytes) (n, rest) e in
+    let long : byte_len w ≤ length bytes = ltb-false _ _ g.0 in
+    let n-is : from_le_bytes w (take (byte_len w) bytes) ≡ n = ap (λ (p : ℕ × List ℕ). p.0) g.1 in
+    let rest-is : drop (byte_len w) bytes ≡ rest = ap (λ (p : ℕ × List ℕ). p.1) g.1 in
+    let front : to_le_bytes w n ≡ take (byte_len w) bytes = rw (← n-is) (wide.back (take (byte_len w) bytes) (omega (arith, length-take (byte_len w) bytes)) (IsBytes-take (byte_len w) bytes fits)) in
+    (record { parts = rw (front, ← rest-is) (sym (take-append-drop (byte_len w) bytes)); rest_fits = rw (← rest-is) (IsBytes-drop (byte_len w) bytes fits) }, rw (← n-is) (wide.below (take (byte_len w) bytes) (IsBytes-take (byte_len w) bytes fits)))
+
+pub number_again : (w : Width) (limit : ℕ) (wide : IsWide w limit) (end n : ℕ) (rest : List ℕ) → n < limit → number_at w end (to_le_bytes w n ++ rest) ≡ Ok (n, rest)
+number_again w limit wide end n rest lt =
+    let len = wide.len n in
+    let long : ltb (length (to_le_bytes w n ++ rest)) (byte_len w) ≡ false = le-ltb _ _ (omega (arith, length-append (to_le_bytes w n) rest)) in
+    rw (long, take_at (to_le_bytes w n) rest (byte_len w) len, drop_at (to_le_bytes w n) rest (byte_len w) len, wide.again n lt) refl
+
+-- ---- the same, for a step and what comes after it: what was read, and what is left to read
+
+pub record Read {B : Type 0} (f : ℕ × List ℕ → Result B LogRefusal) (y : B) (bytes : List ℕ) (text : ℕ → List ℕ) (low high : ℕ) : Type 0 where
+  pub n : ℕ
+  pub rest : List ℕ
+  pub takes : Takes bytes (text n) rest
+  pub least : low ≤ n
+  pub most : n < high
+  pub more : f (n, rest) ≡ Ok y
+
+pub number_then : {B : Type 0} (w : Width) (limit : ℕ) (wide : IsWide w limit) (end : ℕ) (bytes : List ℕ) (f : ℕ × List ℕ → Result B LogRefusal) (y : B) → IsBytes bytes → (number_at w end bytes >>= f) ≡ Ok y → Read f y bytes (to_le_bytes w) 0 limit
+number_then w limit wide end bytes f y fits e =
+    let b = bind_ok (number_at w end bytes) f y e in
+    let t = number_takes w limit wide end bytes b.0.0 b.0.1 fits b.1 in
+    record { n = b.0.0; rest = b.0.1; takes = t.0; least = omega arith; most = t.1; more = b.2 }
+
+pub ranged_then : {B : Type 0} (w : Width) (limit : ℕ) (wide : IsWide w limit) (low high end : ℕ) (bytes : List ℕ) (f : ℕ × List ℕ → Result B LogRefusal) (y : B) → IsBytes bytes → (ranged_at w low high end bytes >>= f) ≡ Ok y → Read f y bytes (to_le_bytes w) low (suc high)
+unfolding ranged_at
+ranged_then w limit wide low high end bytes f y fits e =
+    let b = bind_ok (ranged_at w low high end bytes) f y e in
+    let c = bind_ok (number_at w end bytes) (λ n. within low high n.0 (refusal.Entry (place end bytes)) n) b.0 b.1 in
+    let t = number_takes w limit wide end bytes c.0.0 c.0.1 fits c.1 in
+    let g = within_ok low high c.0.0 (refusal.Entry (place end bytes)) c.0 b.0 c.2 in
+    record { n = c.0.0; rest = c.0.1; takes = t.0; least = g.0; most = omega (arith, g.1); more = ap f g.2 ∙ b.2 }
+
+pub header_then : {B : Type 0} (w : Width) (limit : ℕ) (wide : IsWide w limit) (low high end : ℕ) (bytes : List ℕ) (f : ℕ × List ℕ → Result B LogRefusal) (y : B) → IsBytes bytes → (header_number_at w low high end bytes >>= f) ≡ Ok y → Read f y bytes (to_le_bytes w) low (suc high)
+unfolding header_number_at
+header_then w limit wide low high end bytes f y fits e =
+    let b = bind_ok (header_number_at w low high end bytes) f y e in
+    let c = bind_ok (number_at w end bytes) (λ n. within low high n.0 (refusal.Header (place end bytes)) n) b.0 b.1 in
+    let t = number_takes w limit wide end bytes c.0.0 c.0.1 fits c.1 in
+    let g = within_ok low high c.0.0 (refusal.Header (place end bytes)) c.0 b.0 c.2 in
+    record { n = c.0.0; rest = c.0.1; takes = t.0; least = g.0; most = omega (arith, g.1); more = ap f g.2 ∙ b.2 }
+
+pub ranged_again : (w : Width) (limit : ℕ) (wide : IsWide w limit) (low high end n : ℕ) (rest : List ℕ) → n < limit → low ≤ n → n ≤ high → ranged_at w low high end (to_le_bytes w n ++ rest) ≡ Ok (n, rest)
+unfolding ranged_at
+ranged_again w limit wide low high end n rest lt p q = rw (number_again w limit wide end n rest lt) (within_again low high n _ (n, rest) p q)
+
+pub header_again : (w : Width) (limit : ℕ) (wide : IsWide w limit) (low high end n : ℕ) (rest : List ℕ) → n < limit → low ≤ n → n ≤ high → header_number_at w low high end (to_le_bytes w n ++ rest) ≡ Ok (n, rest)
+unfolding header_number_at
+header_again w limit wide low high end n rest lt p q = rw (number_again w limit wide end n rest lt) (within_again low high n _ (n, rest) p q)
+
+-- ---- a byte
+
+IsBytes-rest : (b : ℕ) (bytes : List ℕ) → IsBytes (b ∷ bytes) → IsBytes bytes
+IsBytes-rest b bytes h i = h (suc i)
+
+abbrev pub one : ℕ → List ℕ
+one n = n ∷ []
+
+pub byte_then : {B : Type 0} (end : ℕ) (bytes : List ℕ) (f : ℕ × List ℕ → Result B LogRefusal) (y : B) → IsBytes bytes → (byte_at end bytes >>= f) ≡ Ok y → Read f y bytes one 0 256
+byte_then end [] f y fits e = absurd cc
+byte_then end (b ∷ bytes) f y fits e = record { n = b; rest = bytes; takes = record { parts = refl; rest_fits = IsBytes-rest b bytes fits }; least = omega arith; most = fits 0; more = e }
+
+pub ranged_byte_then : {B : Type 0} (low high end : ℕ) (bytes : List ℕ) (f : ℕ × List ℕ → Result B LogRefusal) (y : B) → IsBytes bytes → (ranged_byte_at low high end bytes >>= f) ≡ Ok y → Read f y bytes one low (suc high)
+unfolding ranged_byte_at
+ranged_byte_then low high end [] f y fits e = absurd cc
+ranged_byte_then low high end (b ∷ bytes) f y fits e =
+    let c = bind_ok (ranged_byte_at low high end (b ∷ bytes)) f y e in
+    let g = within_ok low high b (refusal.Entry (place end (b ∷ bytes))) (b, bytes) c.0 c.1 in
+    record { n = b; rest = bytes; takes = record { parts = refl; rest_fits = IsBytes-rest b bytes fits }; least = g.0; most = omega (arith, g.1); more = ap f g.2 ∙ c.2 }
+
+pub ranged_byte_again : (low high end n : ℕ) (rest : List ℕ) → low ≤ n → n ≤ high → ranged_byte_at low high end (n ∷ rest) ≡ Ok (n, rest)
+unfolding ranged_byte_at
+ranged_byte_again low high end n rest p q = within_again low high n _ (n, rest) p q
+
+-- ---- bytes
+
+pub bytes_take : (count end : ℕ) (bytes text rest : List ℕ) → IsBytes bytes → bytes_at count end bytes ≡ Ok (text, rest) → Takes bytes text rest × (length text ≡ count) × IsBytes text
+bytes_take count end bytes text rest fits e =
+    let g = guard_ok (ltb (length bytes) count) (refusal.Short (place end bytes)) (take count bytes, drop count bytes) (text, rest) e in
+    let long : count ≤ length bytes = ltb-false _ _ g.0 in
+    subst (λ (p : List ℕ × List ℕ). Takes bytes p.0 p.1 × (length p.0 ≡ count) × IsBytes p.0) g.1
+    (record { parts = sym (take-append-drop count bytes); rest_fits = IsBytes-drop count bytes fits }, omega (arith, length-take count bytes), IsBytes-take count bytes fits)
+
+pub bytes_again : (end : ℕ) (text rest : List ℕ) → bytes_at (length text) end (text ++ rest) ≡ Ok (text, rest)
+bytes_again end text rest =
+    let long : ltb (length (text ++ rest)) (length text) ≡ false = le-ltb _ _ (omega (arith, length-append text rest)) in
+    rw (long, take_at text rest (length text) refl, drop_at text rest (length text) refl) refl
+
+pub bytes_len : (count end : ℕ) (bytes text rest : List ℕ) → bytes_at count end bytes ≡ Ok (text, rest) → length text ≡ count
+bytes_len count end bytes text rest e =
+    let g = guard_ok (ltb (length bytes) count) (refusal.Short (place end bytes)) (take count bytes, drop count bytes) (text, rest) e in
+    let long : count ≤ length bytes = ltb-false _ _ g.0 in
+    subst (λ (p : List ℕ × List ℕ). length p.0 ≡ count) g.1 (omega (arith, length-take count bytes))

@@ -1,0 +1,68 @@
+-- The ranges of a log's fields. This project's own rule. Of a digest, a process, a round, a thread and a reading each value may stand.
+use Rattle.std.specs.Prelude.{◌≤◌, ◌<◌, ◌+◌, ◌^◌, ℕ, List, length, ⊤}
+use Rattle.std.specs.List.{AllByRecursion}
+use Rattle.dos_world.specs.declared.Post.{Post}
+use Rattle.dos_io.specs.declared.exchange.Exchange.{Exchange}
+use Rattle.dos_io.specs.declared.exchange.Exchange.TheVariants.{Signals, Input, Clock, End}
+use Rattle.dos_io.specs.Posts.{ArePosts}
+use Rattle.shim_log.specs.declared.header.LogHeader.{LogHeader}
+use Rattle.shim_log.specs.Bytes.{IsBytes, AreDigests}
+use Rattle.shim_log.specs.LogText.{Log}
+
+-- the numbers that the words allow, and one to eight digests
+pub record FitsHeader (h : LogHeader) : Type 0 where
+  pub quantum_low : 16 ≤ h.quantum
+  pub quantum_high : h.quantum ≤ 65536
+  pub rounds_low : 1 ≤ h.rounds
+  pub rounds_high : h.rounds ≤ 1000000
+  pub frames_low : 16 ≤ h.frames
+  pub frames_high : h.frames ≤ 16384
+  pub digests_low : 1 ≤ length h.digests
+  pub digests_high : length h.digests ≤ 8
+  pub digests : AreDigests h.digests
+
+-- at most 32 posts
+pub record FitsSignals (round : ℕ) (list : List Post) : Type 0 where
+  pub round_fits : round < 2 ^ 32
+  pub count : length list ≤ 32
+  pub posts : ArePosts list
+
+-- no more bytes than were asked for, and never more than a page
+pub record FitsInput (round tid max : ℕ) (bytes : List ℕ) : Type 0 where
+  pub round_fits : round < 2 ^ 32
+  pub tid_fits : tid < 2 ^ 32
+  pub low : 1 ≤ max
+  pub high : max ≤ 4096
+  pub short : length bytes ≤ max
+  pub bytes_fit : IsBytes bytes
+
+-- any reading of 64 bits
+pub record FitsClock (round tid n : ℕ) : Type 0 where
+  pub round_fits : round < 2 ^ 32
+  pub tid_fits : tid < 2 ^ 32
+  pub reading : n < 2 ^ 64
+
+-- an exchange that may stand in a log
+abbrev pub InRange : Exchange → Type 0
+InRange (Signals round list) = FitsSignals round list
+InRange (Input round tid max bytes) = FitsInput round tid max bytes
+InRange (Clock round tid n) = FitsClock round tid n
+InRange (End ending rounds) = rounds < 2 ^ 32
+
+-- The end is no entry.
+abbrev pub NotEnd : Exchange → Type 0
+NotEnd (Signals round list) = ⊤
+NotEnd (Input round tid max bytes) = ⊤
+NotEnd (Clock round tid n) = ⊤
+NotEnd (End ending rounds) = ⊥
+
+-- each of these
+abbrev pub AreEntries : List Exchange → Type 0
+AreEntries = AllByRecursion (λ exchange. InRange exchange × NotEnd exchange)
+
+-- All of it. The entries are fewer than 2^32, and the end is counted as one. A text of 64 MiB at most implies that, because each entry takes a byte at least.
+pub record FitsLog (log : Log) : Type 0 where
+  pub header : FitsHeader log.header
+  pub entries : AreEntries log.entries
+  pub few : length log.entries + 1 < 2 ^ 32
+  pub rounds : log.rounds < 2 ^ 32

@@ -1,0 +1,37 @@
+//! Laws of the log. The functions do nothing; their contracts are the laws.
+ghost use Rattle.std.specs.Prelude.{◌≡◌, ◌≤◌, ◌+◌, ◌*◌, ℕ, List, length, Ok};
+ghost use Rattle.dos_world.specs.declared.Post.{Post};
+ghost use Rattle.dos_world.specs.declared.Ending.{Ending};
+ghost use Rattle.dos_io.specs.declared.exchange.Exchange.TheVariants.{Signals, Input, Clock, End};
+ghost use Rattle.shim_log.specs.declared.header.LogHeader.{LogHeader};
+ghost use Rattle.shim_log.specs.Bytes.{IsBytes, AreDigests};
+ghost use Rattle.shim_log.specs.LogText.{Log, header_text, entry_text, entries_text, logtext};
+ghost use Rattle.shim_log.specs.Ranges.{FitsLog};
+ghost use Rattle.shim_log.specs.Reading.{log_at};
+ghost use Rattle.shim_log.specs.Room.{most_bytes};
+
+/// The text of a log is read as that log.
+pub fn texts_are_read()
+    ensures { (log : Log) → FitsLog log → log_at (logtext log) ≡ Ok log }
+{}
+
+/// Only the text of a log is read as it, so each log has one spelling. What is read of a text of at most 64 MiB is in its ranges.
+pub fn only_texts_are_read()
+    ensures text { (bytes : List ℕ) (log : Log) → IsBytes bytes → log_at bytes ≡ Ok log → bytes ≡ logtext log }
+    ensures ranges { (bytes : List ℕ) (log : Log) → IsBytes bytes → length bytes ≤ most_bytes → log_at bytes ≡ Ok log → FitsLog log }
+{}
+
+/// Different logs have different texts.
+pub fn texts_differ()
+    ensures { (a b : Log) → FitsLog a → FitsLog b → logtext a ≡ logtext b → a ≡ b }
+{}
+
+/// A text has the length of its header, its entries and the end; what a log has room for goes by these lengths.
+pub fn text_lengths()
+    ensures whole { (log : Log) → length (logtext log) ≡ length (header_text log.header) + length (entries_text log.entries) + 6 }
+    ensures header { (h : LogHeader) → AreDigests h.digests → length (header_text h) ≡ 20 + 32 * length h.digests }
+    ensures signals { (round : ℕ) (list : List Post) → length (entry_text (Signals round list)) ≡ 6 + 5 * length list }
+    ensures input { (round tid max : ℕ) (bytes : List ℕ) → length (entry_text (Input round tid max bytes)) ≡ 13 + length bytes }
+    ensures clock { (round tid n : ℕ) → length (entry_text (Clock round tid n)) ≡ 17 }
+    ensures end { (ending : Ending) (rounds : ℕ) → length (entry_text (End ending rounds)) ≡ 6 }
+{}

@@ -1,0 +1,18 @@
+// Why bytes are no log.
+
+/// Why bytes are no log: the first thing that is wrong, from left to right, with its place, counted in bytes from 0.
+#[derive(Clone, Copy, Debug, PartialEq, Eq)]
+pub enum LogRefusal {
+    /// The bytes end inside the field that begins here.
+    Short(u64),
+    /// They don't begin as a log.
+    Magic,
+    /// They are of this other version.
+    Version(u16),
+    /// The header's field that begins here is out of its range.
+    Header(u64),
+    /// The entry's field that begins here is out of its range, or is an unknown kind.
+    Entry(u64),
+    /// A byte stands here, behind the end.
+    AfterEnd(u64),
+}
