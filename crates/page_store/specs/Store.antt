@@ -1,0 +1,107 @@
+-- What the frames hold, and the one list of bytes that their pages make. This project's own rules.
+use Rattle.std.specs.Prelude.{◌≡◌, ◌<◌, ◌≤◌, ℕ, ◌+◌, ◌-◌, ◌^◌, Bool, List, [], ◌∷◌, ◌++◌, map, take, drop, replicate, length, Option, Some, None, false, IsSome, All, count_by, slice_set, slice_get, slice_index, slice_index_or, ◌==◌, if◌then◌else◌}
+use Rattle.dos_world.specs.declared.Owner.{Owner}
+use Rattle.dos_world.specs.declared.Owner.TheVariants.{Of, Free}
+use Rattle.dos_world.specs.declared.Access.{Access}
+use Rattle.dos_world.specs.declared.Size.{Size}
+use Rattle.dos_world.specs.World.{is_free}
+use Rattle.dos_world.specs.Kernel.{zero_page}
+use Rattle.dos_world.specs.Reach.{granted, number_of, width}
+
+-- Per frame a page, which is None while it is away, an owner and a number of uses. Frames are numbered from 0.
+pub record Store : Type 0 where
+  pub pages : List (Option (List ℕ))
+  pub owners : List Owner
+  pub uses : List ℕ
+
+-- ---- pages
+
+-- the 4096 bytes that a page shows, whatever its list
+unfoldable pub whole : List ℕ → List ℕ
+whole page = take 4096 (page ++ replicate 4096 0)
+
+-- a page that is away shows zeros
+abbrev pub shown : Option (List ℕ) → List ℕ
+shown None = whole []
+shown (Some page) = whole page
+
+-- the pages one after another, in frame order
+unfoldable pub joined : List (Option (List ℕ)) → List ℕ
+joined [] = []
+joined (page ∷ pages) = shown page ++ joined pages
+
+-- the little-endian number of this size at an offset
+abbrev pub number_at : List ℕ → ℕ → Size → ℕ
+number_at bytes offset size = number_of (take (width size) (drop offset bytes))
+
+-- ---- looking up
+
+abbrev pub IsHome : Store → ℕ → Type 0
+IsHome s frame = (page : List ℕ) × (slice_get s.pages frame ≡ Some (Some page))
+
+abbrev pub IsAway : Store → ℕ → Type 0
+IsAway s frame = slice_get s.pages frame ≡ Some None
+
+abbrev pub AreHome : Store → Type 0
+AreHome s = All IsSome s.pages
+
+abbrev pub owner_at : Store → ℕ → Owner
+owner_at s frame = slice_index_or s.owners frame Free
+
+abbrev pub IsOwned : Store → ℕ → Type 0
+IsOwned s frame = is_free (owner_at s frame) ≡ false
+
+abbrev pub is_unused : ℕ → Bool
+is_unused uses = uses == 0
+
+abbrev pub uses_at : Store → ℕ → ℕ
+uses_at s frame = slice_index s.uses frame
+
+abbrev pub free_count : Store → ℕ
+free_count s = count_by is_free s.owners
+
+-- no frame below this one is Free
+abbrev pub AreOwnedBelow : List Owner → ℕ → Type 0
+AreOwnedBelow owners lowest = (frame : ℕ) → frame < lowest → is_free (slice_index_or owners frame Free) ≡ false
+
+-- What the frames keep beside the lists. A frame is Free exactly where it has no use; free is the count of Free owners, and none is below lowest.
+pub record IsKept (count : ℕ) (owners : List Owner) (uses : List ℕ) (free lowest : ℕ) : Type 0 where
+  pub few : count < 2 ^ 32
+  pub each : length owners ≡ count
+  pub agree : map is_free owners ≡ map is_unused uses
+  pub counted : free ≡ count_by is_free owners
+  pub within : lowest ≤ count
+  pub below : AreOwnedBelow owners lowest
+
+-- ---- changing
+
+-- this many frames with zero pages, all home, Free and without uses
+abbrev pub unused : ℕ → Store
+unused count = record { pages = replicate count (Some zero_page); owners = replicate count Free; uses = replicate count 0 }
+
+abbrev pub with_home : Store → ℕ → List ℕ → Store
+with_home s frame page = record s { pages = slice_set s.pages frame (Some page) }
+
+abbrev pub with_away : Store → ℕ → Store
+with_away s frame = record s { pages = slice_set s.pages frame None }
+
+abbrev pub with_grant : Store → ℕ → ℕ → Access → Store
+with_grant s frame t access = record s { owners = slice_set s.owners frame (granted t access) }
+
+-- the frame is t's, with a zero page and one use
+abbrev pub with_owned : Store → ℕ → ℕ → Store
+with_owned s frame t = record {
+  pages = slice_set s.pages frame (Some zero_page);
+  owners = slice_set s.owners frame (Of t);
+  uses = slice_set s.uses frame 1;
+}
+
+abbrev pub with_more : Store → ℕ → Store
+with_more s frame = record s { uses = slice_set s.uses frame (uses_at s frame + 1) }
+
+-- one use less, and Free at none
+abbrev pub with_less : Store → ℕ → Store
+with_less s frame = record s {
+  owners = if uses_at s frame == 1 then slice_set s.owners frame Free else s.owners;
+  uses = slice_set s.uses frame (uses_at s frame - 1);
+}

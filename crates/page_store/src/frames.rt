@@ -1,0 +1,261 @@
+// Frames, each with a page at home or away, an owner and a number of uses.
+ghost use Rattle.std.specs.Prelude.{◌≡◌, ◌+◌, ◌<◌, ◌≤◌, ℕ, List, length, slice_get, Some, None, IfOk, IfSome, IsSome, MatchBool, position, replicate, false};
+ghost use Rattle.std.specs.Borrow.{sem};
+ghost use Rattle.dos_world.specs.World.{is_free};
+ghost use Rattle.dos_world.specs.Kernel.{zero_page};
+ghost use Rattle.dos_world.specs.Reach.{granted};
+ghost use Rattle.page_store.specs.Store.{AreHome, AreOwnedBelow, IsAway, IsHome, IsOwned, free_count, owner_at, unused, uses_at, with_away, with_owned, with_grant, with_home, with_less, with_more};
+ghost use Rattle.page_store.specs.Lending.{LendsPage, LendsSlot};
+
+use crate::Page;
+use dos_world::{Access, Owner};
+use std::alloc::{AllocError, Global};
+use std::marker::Model;
+
+/// Frames, numbered from 0. Contracts see three lists, by frame: pages (None while away), owners and uses.
+#[derive(Drop)]
+pub struct Frames {
+    pages: Vec<Option<Page>>,
+    owners: Vec<Owner>,
+    uses: Vec<u32>,
+    free: u32,
+    lowest: u32,
+}
+
+impl Model for Frames {
+    ghost use Rattle.std.specs.Prelude.{length};
+    ghost use Rattle.page_store.specs.Store.{IsKept, Store};
+
+    ghost Value = { Store };
+
+    ghost view = { λ f. record { pages = f.pages.items; owners = f.owners.items; uses = f.uses.items } };
+
+    ghost invariant = { λ f. IsKept (length f.pages.items) f.owners.items f.uses.items f.free f.lowest };
+}
+
+impl Frames {
+    /// `count` frames: all home, zero, Free and without uses. All their memory is taken here.
+    pub fn reserve(alloc: Global, count: u32) -> Result<Frames, AllocError>
+        ensures { IfOk result (λ f. f ≡ unused count) }
+    {
+        Ok(Frames {
+            pages: zero_pages(alloc, count)?,
+            owners: free_owners(alloc, count)?,
+            uses: no_uses(alloc, count)?,
+            free: count,
+            lowest: 0,
+        })
+    }
+
+    /// How many frames there are.
+    pub fn count(&self) -> u32
+        ensures pages { result ≡ length self.now.pages }
+        ensures owners { result ≡ length self.now.owners }
+        ensures uses { result ≡ length self.now.uses }
+    {
+        self.pages.len() as u32
+    }
+
+    /// How many frames are Free, a count that is kept.
+    pub fn free_count(&self) -> u32
+        ensures { result ≡ free_count self.now }
+    {
+        self.free
+    }
+
+    /// Who the frame belongs to.
+    pub fn owner(&self, frame: u32) -> Owner
+        requires { frame < length self.now.owners }
+        ensures { result ≡ owner_at self.now frame }
+    {
+        self.owners[frame as usize]
+    }
+
+    /// How many entries map the frame.
+    pub fn uses(&self, frame: u32) -> u32
+        requires { frame < length self.now.owners }
+        ensures { result ≡ uses_at self.now frame }
+    {
+        self.uses[frame as usize]
+    }
+
+    /// Whether the frame's page is here.
+    pub fn is_home(&self, frame: u32) -> bool
+        requires { frame < length self.now.owners }
+        ensures { MatchBool result (IsHome self.now frame) (IsAway self.now frame) }
+    {
+        match &self.pages[frame as usize] {
+            Some(_) => true,
+            None => false,
+        }
+    }
+
+    /// Gives the page away. Nothing else changes.
+    pub fn take(&mut self, frame: u32) -> Page
+        requires { IsHome self.old frame }
+        ensures page { slice_get self.old.pages frame ≡ Some (Some result) }
+        ensures away { self.new ≡ with_away self.old frame }
+    {
+        match self.pages[frame as usize].take() {
+            Some(page) => page,
+            None => unreachable!(),
+        }
+    }
+
+    /// Takes a page in for a frame whose page is away. Nothing else changes.
+    pub fn put_back(&mut self, frame: u32, page: Page)
+        requires { IsAway self.old frame }
+        ensures { self.new ≡ with_home self.old frame page }
+    {
+        self.pages[frame as usize] = Some(page);
+    }
+
+    /// The frame's page.
+    pub fn lend(&self, frame: u32) -> &Page
+        requires { IsHome self.now frame }
+        ensures { slice_get self.now.pages frame ≡ Some (Some result.now) }
+    {
+        match &self.pages[frame as usize] {
+            Some(page) => page,
+            None => unreachable!(),
+        }
+    }
+
+    /// The frame's page, to be written. Afterwards the frames are as before, with this page as it was left.
+    pub fn lend_mut(&mut self, frame: u32) -> &mut Page
+        requires { IsHome self.old frame }
+        ensures page { slice_get self.old.pages frame ≡ Some (Some result.now) }
+        ensures* writes_back { sem 𝓛 (LendsPage self.entry frame result) }
+    {
+        page_mut(&mut self.pages[frame as usize])
+    }
+
+    /// The owner becomes Shared for a fetch or load, and `tid` for a store or claim. Nothing else changes.
+    pub fn grant(&mut self, frame: u32, tid: u32, access: Access)
+        requires { IsOwned self.old frame }
+        ensures { self.new ≡ with_grant self.old frame tid access }
+    {
+        let owner = granted(tid, access);
+        self.owners[frame as usize] = owner;
+    }
+
+    /// The lowest Free frame, which becomes `tid`'s, with a zero page and one use. None exactly where no frame is Free; nothing changes then.
+    pub fn fresh(&mut self, tid: u32) -> Option<u32>
+        requires { AreHome self.old }
+        ensures found { result ≡ position is_free self.old.owners }
+        ensures none { result ≡ None → self.new ≡ self.old }
+        ensures one { IfSome result (λ frame. self.new ≡ with_owned self.old frame tid) }
+    {
+        match first_free(&self.owners, self.lowest as usize) {
+            None => None,
+            Some(place) => {
+                let frame = place as u32;
+                page_mut(&mut self.pages[place]).clear();
+                self.owners[place] = Owner::Of(tid);
+                self.uses[place] = 1;
+                self.free -= 1;
+                self.lowest = frame + 1;
+                Some(frame)
+            }
+        }
+    }
+
+    /// One use more, of at most 32. Nothing else changes.
+    pub fn use_more(&mut self, frame: u32)
+        requires owned { IsOwned self.old frame }
+        requires few { uses_at self.old frame < 32 }
+        ensures { self.new ≡ with_more self.old frame }
+    {
+        self.uses[frame as usize] += 1;
+    }
+
+    /// One use less. At no use the frame is Free; its page stays as it is.
+    pub fn use_less(&mut self, frame: u32)
+        requires { 0 < uses_at self.old frame }
+        ensures { self.new ≡ with_less self.old frame }
+    {
+        let place = frame as usize;
+        if self.uses[place] == 1 {
+            self.owners[place] = Owner::Free;
+            self.uses[place] = 0;
+            self.free += 1;
+            self.lowest = self.lowest.min(frame);
+        } else {
+            self.uses[place] -= 1;
+        }
+    }
+}
+
+fn zero_pages(alloc: Global, count: u32) -> Result<Vec<Option<Page>>, AllocError>
+    ensures { IfOk result (λ pages. pages.items ≡ replicate count (Some zero_page)) }
+{
+    let mut pages = Vec::with_capacity(alloc, count as usize)?;
+    for _place in 0..count {
+        pages.push(Some(Page::new(alloc)?))?;
+    }
+    Ok(pages)
+}
+
+fn free_owners(alloc: Global, count: u32) -> Result<Vec<Owner>, AllocError>
+    ensures { IfOk result (λ owners. owners.items ≡ replicate count Owner.Free) }
+{
+    let mut owners = Vec::with_capacity(alloc, count as usize)?;
+    for _place in 0..count {
+        owners.push(Owner::Free)?;
+    }
+    Ok(owners)
+}
+
+fn no_uses(alloc: Global, count: u32) -> Result<Vec<u32>, AllocError>
+    ensures { IfOk result (λ uses. uses.items ≡ replicate count 0) }
+{
+    vec![in alloc; 0; count as usize]
+}
+
+// the search begins at `start`, below which no owner is Free
+fn first_free(owners: &[Owner], start: usize) -> Option<usize>
+    requires within { start ≤ length owners.now }
+    requires below { AreOwnedBelow owners.now start }
+    ensures { result ≡ position is_free owners.now }
+{
+    match first_free_in(&owners[start..]) {
+        Some(place) => Some(start + place),
+        None => None,
+    }
+}
+
+fn first_free_in(owners: &[Owner]) -> Option<usize>
+    ensures { result ≡ position is_free owners.now }
+{
+    owners.iter().position(is_free)
+}
+
+fn granted(tid: u32, access: Access) -> Owner
+    ensures value { result ≡ granted tid access }
+    ensures used { is_free result ≡ false }
+{
+    match access {
+        Access::Fetch | Access::Load => Owner::Shared,
+        Access::Store | Access::Claim => Owner::Of(tid),
+    }
+}
+
+fn is_free(owner: &Owner) -> bool
+    ensures { result ≡ is_free owner.now }
+{
+    match owner {
+        Owner::Free => true,
+        Owner::Shared | Owner::Of(_) => false,
+    }
+}
+
+fn page_mut(slot: &mut Option<Page>) -> &mut Page
+    requires { IsSome slot.old }
+    ensures value { slot.old ≡ Some result.now }
+    ensures* writes_back { sem 𝓛 (LendsSlot slot.entry result) }
+{
+    match slot {
+        Some(page) => page,
+        None => unreachable!(),
+    }
+}

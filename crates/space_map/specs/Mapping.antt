@@ -1,0 +1,57 @@
+-- What a space holds: its entries in rising page, and its room. This project's own rules.
+use Rattle.std.specs.Prelude.{◌≡◌, ◌<◌, ◌≤◌, ◌^◌, ℕ, false, not, ◌||◌, List, [], length, map, filter, IsSome, ◌==◌, slice_index_or}
+use Rattle.std.specs.List.Sorted.{IsStrictlyIncreasing}
+use Rattle.dos_world.specs.declared.Entry.{Entry}
+use Rattle.dos_world.specs.World.{look}
+
+-- the pages with their entries, and how many there may be
+pub record Mapping : Type 0 where
+  pub entries : List (ℕ × Entry)
+  pub room : ℕ
+
+abbrev pub empty : ℕ → Mapping
+empty room = record { entries = []; room = room }
+
+-- each page is above the one before it
+abbrev pub IsRising : List (ℕ × Entry) → Type 0
+IsRising entries = IsStrictlyIncreasing (map (λ e. e.0) entries)
+
+abbrev pub IsMapped : List (ℕ × Entry) → ℕ → Type 0
+IsMapped entries page = IsSome (look entries page)
+
+-- the entries of the other pages
+abbrev pub without : ℕ → List (ℕ × Entry) → List (ℕ × Entry)
+without page entries = filter (λ e. not (e.0 == page)) entries
+
+-- an entry that is shared where it is this page's
+abbrev pub marked : ℕ → (ℕ × Entry) → (ℕ × Entry)
+marked page e = (e.0, record e.1 { shared = (e.0 == page) || e.1.shared })
+
+abbrev pub with_shared : ℕ → List (ℕ × Entry) → List (ℕ × Entry)
+with_shared page entries = map (marked page) entries
+
+-- ---- what a space keeps
+
+abbrev pub no_entry : Entry
+no_entry = record { frame = 0; write = false; exec = false; shared = false }
+
+abbrev pub page_at : List (ℕ × Entry) → ℕ → ℕ
+page_at entries place = let e : ℕ × Entry = slice_index_or entries place (0, no_entry) in e.0
+
+-- the pages rise, the entries have room, and the room was taken
+pub record IsKept (entries : List (ℕ × Entry)) (room capacity : ℕ) : Type 0 where
+  pub rising : (i j : ℕ) → i < j → j < length entries → page_at entries i < page_at entries j
+  pub fits : length entries ≤ room
+  pub taken : room ≤ capacity
+  pub few : room < 2 ^ 32
+
+-- the page's entry stands at this place
+pub record IsAt (entries : List (ℕ × Entry)) (page place : ℕ) : Type 0 where
+  pub within : place < length entries
+  pub is : page_at entries place ≡ page
+
+-- the page would stand at this place: lower pages before it, and higher ones from it on
+pub record IsGapFor (entries : List (ℕ × Entry)) (page place : ℕ) : Type 0 where
+  pub within : place ≤ length entries
+  pub lower : (i : ℕ) → i < place → page_at entries i < page
+  pub higher : (i : ℕ) → place ≤ i → i < length entries → page < page_at entries i

@@ -1,0 +1,9 @@
+//! The pages of a process: a map from page numbers to entries.
+#![tactic(auto)]
+
+mod space;
+
+pub use space::Space;
+
+#[cfg(test)]
+mod tests;

@@ -1,0 +1,127 @@
+// The pages of a process, in rising order.
+ghost use Rattle.std.specs.Prelude.{◌≡◌, ◌<◌, ◌≤◌, length, None, Some, [], slice_get, IfOk, IfErr};
+ghost use Rattle.dos_world.specs.World.{look};
+ghost use Rattle.dos_world.specs.Kernel.{put};
+ghost use Rattle.space_map.specs.Mapping.{IsAt, IsGapFor, IsMapped, IsRising, empty, with_shared, without};
+
+use dos_world::Entry;
+use std::alloc::{AllocError, Global};
+use std::marker::Model;
+
+/// Pages with their entries. Contracts see the list of (page, entry) in strictly rising page, and the room for it.
+#[derive(Drop)]
+pub struct Space {
+    entries: Vec<(u32, Entry)>,
+    room: u32,
+}
+
+impl Model for Space {
+    ghost use Rattle.std.specs.Vec.{vec_capacity};
+    ghost use Rattle.space_map.specs.Mapping.{IsKept, Mapping};
+
+    ghost Value = { Mapping };
+
+    ghost view = { λ s. record { entries = s.entries.items; room = s.room } };
+
+    ghost invariant = { λ s. IsKept s.entries.items s.room (vec_capacity s.entries) };
+}
+
+impl Space {
+    /// No page, with room for `entries` of them. All the memory of the space is taken here.
+    pub fn reserve(alloc: Global, entries: u32) -> Result<Space, AllocError>
+        ensures { IfOk result (λ s. s ≡ empty entries) }
+    {
+        Ok(Space {
+            entries: Vec::with_capacity(alloc, entries as usize)?,
+            room: entries,
+        })
+    }
+
+    /// How many pages are mapped.
+    pub fn len(&self) -> u32
+        ensures count { result ≡ length self.now.entries }
+        ensures room { length self.now.entries ≤ self.now.room }
+        ensures rising { IsRising self.now.entries }
+    {
+        self.entries.len() as u32
+    }
+
+    /// The page with this place in the rising order, and its entry.
+    pub fn at(&self, index: u32) -> (u32, Entry)
+        requires { index < length self.now.entries }
+        ensures { slice_get self.now.entries index ≡ Some result }
+    {
+        self.entries[index as usize]
+    }
+
+    /// The page's entry, by a binary search. None exactly where the page isn't mapped.
+    pub fn look(&self, page: u32) -> Option<Entry>
+        ensures { result ≡ look self.now.entries page }
+    {
+        match self.search(page) {
+            Ok(place) => Some(self.entries[place].1),
+            Err(_) => None,
+        }
+    }
+
+    /// Maps a page, without taking memory.
+    pub fn put(&mut self, page: u32, entry: Entry)
+        requires unmapped { look self.old.entries page ≡ None }
+        requires room { length self.old.entries < self.old.room }
+        ensures { self.new ≡ record self.old { entries = put page entry self.old.entries } }
+    {
+        match self.search(page) {
+            Ok(_) => unreachable!(),
+            Err(place) => match self.entries.insert(place, (page, entry)) {
+                Ok(()) => {}
+                Err(_) => unreachable!(),
+            },
+        }
+    }
+
+    /// Unmaps a page and gives its entry. The other pages stay.
+    pub fn remove(&mut self, page: u32) -> Entry
+        requires { IsMapped self.old.entries page }
+        ensures entry { look self.old.entries page ≡ Some result }
+        ensures others { self.new ≡ record self.old { entries = without page self.old.entries } }
+    {
+        match self.search(page) {
+            Ok(place) => self.entries.remove(place).1,
+            Err(_) => unreachable!(),
+        }
+    }
+
+    /// Makes a page's entry shared. Nothing else changes.
+    pub fn mark_shared(&mut self, page: u32)
+        requires { IsMapped self.old.entries page }
+        ensures { self.new ≡ record self.old { entries = with_shared page self.old.entries } }
+    {
+        match self.search(page) {
+            Ok(place) => {
+                let entry = self.entries[place].1;
+                let shared = Entry {
+                    shared: true,
+                    ..entry
+                };
+                self.entries[place] = (page, shared);
+            }
+            Err(_) => unreachable!(),
+        }
+    }
+
+    /// Unmaps all pages. The room stays.
+    pub fn clear(&mut self)
+        ensures { self.new ≡ record self.old { entries = [] } }
+    {
+        self.entries.clear();
+    }
+
+    // where the page stands, or where it would
+    fn search(&self, page: u32) -> Result<usize, usize>
+        ensures found { IfOk result (IsAt self.now.entries page) }
+        ensures gap { IfErr result (IsGapFor self.now.entries page) }
+    {
+        self.entries
+            .binary_search_by_key(&page, |&(number, _)| number)
+    }
+}
