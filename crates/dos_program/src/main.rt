@@ -1,0 +1,43 @@
+//! The program `dos`: the top call over the real files and streams.
+#![tactic(auto)]
+
+use dos_cmd::{Refusal, dos_main, refuse};
+use dos_io::{StdErr, StdFiles, StdOut};
+use std::env;
+use std::io::ErrorKind;
+use std::process::ExitCode;
+
+/// The words behind the program's name. Words that are no text are refused.
+fn words(rt: &HostRuntime) -> Result<Vec<String>, Refusal> {
+    let args = match env::args(rt) {
+        Ok(args) => args,
+        Err(error) => {
+            return Err(match error.kind() {
+                ErrorKind::OutOfMemory => Refusal::Memory,
+                _ => Refusal::Words,
+            });
+        }
+    };
+    let mut words = Vec::new(rt.alloc());
+    for word in args.skip(1) {
+        words.push(word).map_err(|_| Refusal::Memory)?;
+    }
+    Ok(words)
+}
+
+fn run(rt: &HostRuntime) -> u8 {
+    let alloc = rt.alloc();
+    let mut err = StdErr::new(rt.stderr());
+    match words(rt) {
+        Ok(words) => {
+            let mut files = StdFiles::new(rt, alloc);
+            let mut out = StdOut::new(rt);
+            dos_main(alloc, &words, &mut files, &mut out, &mut err)
+        }
+        Err(refusal) => refuse(refusal, &mut err).number(),
+    }
+}
+
+fn main(rt: HostRuntime) -> ExitCode {
+    ExitCode::from(run(&rt))
+}
