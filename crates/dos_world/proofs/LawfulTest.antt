@@ -11,8 +11,8 @@ use Rattle.dos_world.specs.Numbered.{numbered, run_of}
 use Rattle.dos_world.specs.World.{World, Process, Holdings, Thread, Sleeper, Registers, flat, all_holdings, live_process, thread_at, live_threads, threads_of, owner_of, is_free, is_state, has_bit, get, code_unit, holdings_of}
 use Rattle.dos_world.specs.Counts.{is_mapped, is_open, uses_of}
 use Rattle.dos_world.specs.SignalCalls.{is_action}
-use Rattle.dos_world.specs.Lawful.{Lawful, AreHoldings, AreRegisters, IsThread, IsWord, IsByte, IsPending, IsMask, IsAction, IsEnd, IsPage, IsSaved, IsAlone, IsSleeper, IsPipe, turns_asleep}
-use Rattle.dos_world.specs.IsLawful.{pairs_pass, passes_below, none_or, is_empty, same_truth, if_then, is_word, is_byte, is_pending, is_mask, is_end, is_page, are_registers, is_saved, is_thread, are_holdings, is_alone, is_sleeper, is_pipe, frees_unmapped, is_owner, has_thread, has_lower_parent, sleeps_once, is_asleep, is_empty_if_closed, is_lawful, frames_are_lawful, processes_are_lawful, threads_are_lawful, pipes_are_lawful, is_within_limits}
+use Rattle.dos_world.specs.Lawful.{Lawful, FramesAreLawful, ProcessesAreLawful, ThreadsAreLawful, PipesAreLawful, IsWithinLimits, IsWithinRun, AreHoldings, AreRegisters, IsThread, IsWord, IsByte, IsPending, IsMask, IsAction, IsEnd, IsPage, IsSaved, IsAlone, IsSleeper, IsPipe, turns_asleep}
+use Rattle.dos_world.specs.IsLawful.{pairs_pass, passes_below, none_or, is_empty, same_truth, if_then, is_word, is_byte, is_pending, is_mask, is_end, is_page, are_registers, is_saved, is_thread, are_holdings, is_alone, is_sleeper, is_pipe, frees_unmapped, is_owner, has_thread, has_lower_parent, sleeps_once, is_asleep, is_empty_if_closed, has_bytes, is_lawful, is_lawful_but_for_frames, frames_are_lawful, processes_are_lawful, threads_are_lawful, pipes_are_lawful, is_within_limits, is_within_run}
 use Rattle.dos_world.specs.declared.Entry.{Entry}
 use Rattle.dos_world.specs.declared.Owner.{Owner}
 use Rattle.dos_world.specs.declared.Owner.TheVariants.{Free, Shared, Of}
@@ -263,55 +263,84 @@ module _ (w : World) where
       go (inl lt) = empty_by (slice_index_or w.pipes pipe []) (then_by (not (is_open w pipe)) (is_empty (slice_index_or w.pipes pipe [])) (below (is_empty_if_closed w) 64 h pipe lt) (ap not closed))
       go (inr past) = get_or_past w.pipes pipe [] (subst (λ n. n ≤ pipe) (sym count) past)
 
-  -- What the test passes is lawful.
-  pub lawful_by : IsTrue (is_lawful w) → Lawful w
-  lawful_by h =
-      let whole = and_parts (frames_are_lawful w) (processes_are_lawful w && (threads_are_lawful w && (pipes_are_lawful w && is_within_limits w))) h in
-      let rest = and_parts (processes_are_lawful w) (threads_are_lawful w && (pipes_are_lawful w && is_within_limits w)) whole.1 in
-      let others = and_parts (threads_are_lawful w) (pipes_are_lawful w && is_within_limits w) rest.1 in
-      let last = and_parts (pipes_are_lawful w) (is_within_limits w) others.1 in
-      -- frames
-      let f = and_parts ((length w.bytes == 4096 * length w.owners) && list_all is_byte w.bytes) _ whole.0 in
+  frames_by : frames_are_lawful w ≡ true → FramesAreLawful w
+  frames_by h =
+      let f = and_parts (has_bytes w) (passes_below (length w.owners) (frees_unmapped w) && list_all (is_owner (length w.threads)) w.owners) h in
       let bytes = and_parts (length w.bytes == 4096 * length w.owners) (list_all is_byte w.bytes) f.0 in
       let owners = and_parts (passes_below (length w.owners) (frees_unmapped w)) (list_all (is_owner (length w.threads)) w.owners) f.1 in
-      -- processes
-      let p = and_parts (list_all (are_holdings (length w.owners)) (all_holdings w.processes)) _ rest.0 in
-      let q = and_parts (list_all (λ h. list_all (is_alone w) h.space) (all_holdings w.processes)) _ p.1 in
-      let r = and_parts (passes_below (length w.processes + 1) (has_thread w)) _ q.1 in
-      let s = and_parts (passes_below (length w.processes + 1) (has_lower_parent w)) _ r.1 in
-      let numbers = and_parts (nat_lt 0 (length w.processes)) (nat_le (length w.processes) (length w.threads)) s.1 in
-      -- threads
-      let t = and_parts (passes_below (length w.threads + 1) (λ t. none_or (is_thread w.processes) (thread_at w t))) _ others.0 in
-      let u = and_parts (passes_below (length w.threads + 1) (sleeps_once w)) _ t.1 in
-      let v = and_parts (list_all (is_asleep w) w.sleepers) (list_all (is_sleeper (length w.owners)) w.sleepers) u.1 in
-      -- pipes
-      let x = and_parts ((length w.pipes == 64) && list_all is_pipe w.pipes) (passes_below 64 (is_empty_if_closed w)) last.0 in
-      let pipes = and_parts (length w.pipes == 64) (list_all is_pipe w.pipes) x.0 in
-      let sixty_four : length w.pipes ≡ 64 = eqb-true (length w.pipes) 64 pipes.0 in
-      -- limits
-      let a = and_parts (nat_le (length (live_threads w)) 64 && nat_le (length w.threads) 65535) _ last.1 in
-      let b = and_parts (nat_le (length (live_threads w)) 64) (nat_le (length w.threads) 65535) a.0 in
-      let c = and_parts (nat_le (length (all_holdings w.processes)) 32) _ a.1 in
-      let d = and_parts (nat_le 16 (length w.owners) && nat_le (length w.owners) 16384) _ c.1 in
-      let e = and_parts (nat_le 16 (length w.owners)) (nat_le (length w.owners) 16384) d.0 in
-      let g = and_parts (nat_le 16 w.quantum) (nat_le w.quantum 65536 && nat_le w.rounds 1000000) d.1 in
-      let k = and_parts (nat_le w.quantum 65536) (nat_le w.rounds 1000000) g.1 in
       record {
         bytes = (eqb-true (length w.bytes) (4096 * length w.owners) bytes.0, all_by IsByte is_byte byte_by w.bytes bytes.1);
         free = λ frame lt. free_by (owner_of w frame) (is_mapped w frame) (below (frees_unmapped w) (length w.owners) owners.0 frame lt);
         owned = owned_by owners.1;
+      }
+
+  processes_by : processes_are_lawful w ≡ true → ProcessesAreLawful w
+  processes_by h =
+      let p = and_parts (list_all (are_holdings (length w.owners)) (all_holdings w.processes)) _ h in
+      let q = and_parts (list_all (λ h. list_all (is_alone w) h.space) (all_holdings w.processes)) _ p.1 in
+      let r = and_parts (passes_below (length w.processes + 1) (has_thread w)) _ q.1 in
+      let s = and_parts (passes_below (length w.processes + 1) (has_lower_parent w)) _ r.1 in
+      let numbers = and_parts (nat_lt 0 (length w.processes)) (nat_le (length w.processes) (length w.threads)) s.1 in
+      record {
         holdings = all_by (AreHoldings (length w.owners)) (are_holdings (length w.owners)) (holdings_by (length w.owners)) (all_holdings w.processes) p.0;
         private = all_by (λ h. All (IsAlone w) h.space) (λ h. list_all (is_alone w) h.space) private_by (all_holdings w.processes) q.0;
         populated = populated_by r.0;
         parents = parents_by s.0;
         given = (ltb-true 0 (length w.processes) numbers.0, leb-true (length w.processes) (length w.threads) numbers.1);
-        threads = threads_by t.0;
+      }
+
+  live_threads_by : threads_are_lawful w ≡ true → ThreadsAreLawful w
+  live_threads_by h =
+      let t = and_parts (passes_below (length w.threads + 1) (λ t. none_or (is_thread w.processes) (thread_at w t))) _ h in
+      let u = and_parts (passes_below (length w.threads + 1) (sleeps_once w)) _ t.1 in
+      let v = and_parts (list_all (is_asleep w) w.sleepers) (list_all (is_sleeper (length w.owners)) w.sleepers) u.1 in
+      record {
+        ranges = threads_by t.0;
         asleep = asleep_by u.0 v.0;
         sleepers = all_by (IsSleeper (length w.owners)) (is_sleeper (length w.owners)) (sleeper_by (length w.owners)) w.sleepers v.1;
-        pipes = (sixty_four, all_by IsPipe is_pipe pipe_by w.pipes pipes.1);
+      }
+
+  pipes_by : pipes_are_lawful w ≡ true → PipesAreLawful w
+  pipes_by h =
+      let x = and_parts ((length w.pipes == 64) && list_all is_pipe w.pipes) (passes_below 64 (is_empty_if_closed w)) h in
+      let pipes = and_parts (length w.pipes == 64) (list_all is_pipe w.pipes) x.0 in
+      let sixty_four : length w.pipes ≡ 64 = eqb-true (length w.pipes) 64 pipes.0 in
+      record {
+        ranges = (sixty_four, all_by IsPipe is_pipe pipe_by w.pipes pipes.1);
         closed = closed_by sixty_four x.1;
-        thread_limits = (leb-true (length (live_threads w)) 64 b.0, leb-true (length w.threads) 65535 b.1);
-        process_limit = leb-true (length (all_holdings w.processes)) 32 c.0;
-        frame_limits = (leb-true 16 (length w.owners) e.0, leb-true (length w.owners) 16384 e.1);
-        run_limits = (leb-true 16 w.quantum g.0, leb-true w.quantum 65536 k.0, leb-true w.rounds 1000000 k.1);
+      }
+
+  limits_by : is_within_limits w ≡ true → IsWithinLimits w
+  limits_by h =
+      let a = and_parts (nat_le (length (live_threads w)) 64 && nat_le (length w.threads) 65535) _ h in
+      let b = and_parts (nat_le (length (live_threads w)) 64) (nat_le (length w.threads) 65535) a.0 in
+      let c = and_parts (nat_le (length (all_holdings w.processes)) 32) (nat_le 16 (length w.owners) && nat_le (length w.owners) 16384) a.1 in
+      let d = and_parts (nat_le 16 (length w.owners)) (nat_le (length w.owners) 16384) c.1 in
+      record {
+        threads = (leb-true (length (live_threads w)) 64 b.0, leb-true (length w.threads) 65535 b.1);
+        processes = leb-true (length (all_holdings w.processes)) 32 c.0;
+        frames = (leb-true 16 (length w.owners) d.0, leb-true (length w.owners) 16384 d.1);
+      }
+
+  run_by : (quantum rounds : ℕ) → is_within_run quantum rounds ≡ true → IsWithinRun quantum rounds
+  run_by quantum rounds h =
+      let a = and_parts (nat_le 16 quantum && nat_le quantum 65536) (nat_le rounds 1000000) h in
+      let b = and_parts (nat_le 16 quantum) (nat_le quantum 65536) a.0 in
+      record { turn = (leb-true 16 quantum b.0, leb-true quantum 65536 b.1); count = leb-true rounds 1000000 a.1 }
+
+  -- What the test passes is lawful.
+  pub lawful_by : IsTrue (is_lawful w) → Lawful w
+  lawful_by h =
+      let whole = and_parts (frames_are_lawful w) (is_lawful_but_for_frames w) h in
+      let rest = and_parts (processes_are_lawful w) (threads_are_lawful w && (pipes_are_lawful w && (is_within_limits w && is_within_run w.quantum w.rounds))) whole.1 in
+      let others = and_parts (threads_are_lawful w) (pipes_are_lawful w && (is_within_limits w && is_within_run w.quantum w.rounds)) rest.1 in
+      let last = and_parts (pipes_are_lawful w) (is_within_limits w && is_within_run w.quantum w.rounds) others.1 in
+      let limits = and_parts (is_within_limits w) (is_within_run w.quantum w.rounds) last.1 in
+      record {
+        frames = frames_by whole.0;
+        processes = processes_by rest.0;
+        threads = live_threads_by others.0;
+        pipes = pipes_by last.0;
+        limits = limits_by limits.0;
+        run = run_by w.quantum w.rounds limits.1;
       }

@@ -52,6 +52,7 @@ same_but_both w owners t f = record {
   quantum = refl;
   output = refl;
   error = refl;
+  built = refl;
 }
 
 pub same_but_registers : (w : World) (t : ℕ) (f : Registers → Registers) → SameButRegisters w (with_registers w t f) t

@@ -109,7 +109,7 @@ is_sleeper frames s = nat_lt s.frame frames && ((s.offset % 4 == 0) && nat_lt s.
 abbrev pub is_pipe : List ℕ → Bool
 is_pipe bytes = nat_le (length bytes) 4096 && list_all is_byte bytes
 
--- ---- the world, field by field
+-- ---- the world, topic by topic
 
 -- whether each frame has its 4096 bytes
 abbrev pub has_bytes : World → Bool
@@ -170,14 +170,20 @@ threads_are_lawful w =
 abbrev pub pipes_are_lawful : World → Bool
 pipes_are_lawful w = ((length w.pipes == 64) && list_all is_pipe w.pipes) && passes_below 64 (is_empty_if_closed w)
 
--- limits
+-- the limits of a group
 abbrev pub is_within_limits : World → Bool
 is_within_limits w =
     (nat_le (length (live_threads w)) 64 && nat_le (length w.threads) 65535)
-    && (nat_le (length (all_holdings w.processes)) 32
-    && ((nat_le 16 (length w.owners) && nat_le (length w.owners) 16384)
-    && (nat_le 16 w.quantum && (nat_le w.quantum 65536 && nat_le w.rounds 1000000))))
+    && (nat_le (length (all_holdings w.processes)) 32 && (nat_le 16 (length w.owners) && nat_le (length w.owners) 16384))
+
+-- the limits of a run
+abbrev pub is_within_run : ℕ → ℕ → Bool
+is_within_run quantum rounds = (nat_le 16 quantum && nat_le quantum 65536) && nat_le rounds 1000000
+
+-- all but the frames
+abbrev pub is_lawful_but_for_frames : World → Bool
+is_lawful_but_for_frames w = processes_are_lawful w && (threads_are_lawful w && (pipes_are_lawful w && (is_within_limits w && is_within_run w.quantum w.rounds)))
 
 -- whether a world is lawful
 abbrev pub is_lawful : World → Bool
-is_lawful w = frames_are_lawful w && (processes_are_lawful w && (threads_are_lawful w && (pipes_are_lawful w && is_within_limits w)))
+is_lawful w = frames_are_lawful w && is_lawful_but_for_frames w

@@ -101,15 +101,19 @@ pub record IsConfig (config : Config) : Type 0 where
   pub rounds : (1 ≤ config.rounds) × (config.rounds ≤ 1000000)
   pub frames : (16 ≤ config.frames) × (config.frames ≤ 16384)
 
--- ---- the world
+-- ---- the world, topic by topic
 
-pub record Lawful (w : World) : Type 0 where
+-- frames
+pub record FramesAreLawful (w : World) : Type 0 where
   -- each frame has its 4096 bytes
   pub bytes : (length w.bytes ≡ 4096 * length w.owners) × All IsByte w.bytes
   -- a frame is Free exactly where nothing maps it
   pub free : (frame : ℕ) → frame < length w.owners → (owner_of w frame ≡ Free) ↔ IsFalse (is_mapped w frame)
   -- an owner's number was given
   pub owned : (frame t : ℕ) → owner_of w frame ≡ Of t → (1 ≤ t) × (t ≤ length w.threads)
+
+-- processes
+pub record ProcessesAreLawful (w : World) : Type 0 where
   -- what the live processes have is in range
   pub holdings : All (AreHoldings (length w.owners)) (all_holdings w.processes)
   -- a private entry is the only one of its frame
@@ -120,21 +124,41 @@ pub record Lawful (w : World) : Type 0 where
   pub parents : (p : ℕ) → IfSome (numbered w.processes p) (λ process. process.parent < p)
   -- some process was made, and each with a thread
   pub given : (0 < length w.processes) × (length w.processes ≤ length w.threads)
+
+-- threads
+pub record ThreadsAreLawful (w : World) : Type 0 where
   -- a live thread is in range, and its process lives
-  pub threads : (t : ℕ) → IfSome (thread_at w t) (IsThread w.processes)
+  pub ranges : (t : ℕ) → IfSome (thread_at w t) (IsThread w.processes)
   -- who is asleep stands in the queue once, and nobody else does
   pub asleep : (t : ℕ) → count_by (λ s. s.thread == t) w.sleepers ≡ turns_asleep (thread_at w t)
   -- each sleeps on a word of a frame
   pub sleepers : All (IsSleeper (length w.owners)) w.sleepers
+
+-- pipes
+pub record PipesAreLawful (w : World) : Type 0 where
   -- there are 64 pipes of at most 4096 bytes
-  pub pipes : (length w.pipes ≡ 64) × All IsPipe w.pipes
+  pub ranges : (length w.pipes ≡ 64) × All IsPipe w.pipes
   -- a pipe without ends is empty
   pub closed : (pipe : ℕ) → IsFalse (is_open w pipe) → slice_index_or w.pipes pipe [] ≡ []
-  -- the limits of threads: 64 live, 65535 numbers given
-  pub thread_limits : (length (live_threads w) ≤ 64) × (length w.threads ≤ 65535)
-  -- the limit of processes: 32 live
-  pub process_limit : length (all_holdings w.processes) ≤ 32
-  -- the limits of frames: 16 to 16384
-  pub frame_limits : (16 ≤ length w.owners) × (length w.owners ≤ 16384)
-  -- the limits of a run: a quantum of 16 to 65536, and at most 1000000 rounds
-  pub run_limits : (16 ≤ w.quantum) × (w.quantum ≤ 65536) × (w.rounds ≤ 1000000)
+
+-- the limits of a group
+pub record IsWithinLimits (w : World) : Type 0 where
+  -- 64 live threads, and 65535 numbers given
+  pub threads : (length (live_threads w) ≤ 64) × (length w.threads ≤ 65535)
+  -- 32 live processes
+  pub processes : length (all_holdings w.processes) ≤ 32
+  -- 16 to 16384 frames
+  pub frames : (16 ≤ length w.owners) × (length w.owners ≤ 16384)
+
+-- the limits of a run: a quantum of 16 to 65536, and at most 1000000 rounds that were run
+pub record IsWithinRun (quantum rounds : ℕ) : Type 0 where
+  pub turn : (16 ≤ quantum) × (quantum ≤ 65536)
+  pub count : rounds ≤ 1000000
+
+pub record Lawful (w : World) : Type 0 where
+  pub frames : FramesAreLawful w
+  pub processes : ProcessesAreLawful w
+  pub threads : ThreadsAreLawful w
+  pub pipes : PipesAreLawful w
+  pub limits : IsWithinLimits w
+  pub run : IsWithinRun w.quantum w.rounds

@@ -67,6 +67,7 @@ pub record SameButRegistersAndOwners (old new : World) (t : ℕ) : Type 0 where
   pub quantum : new.quantum ≡ old.quantum
   pub output : new.output ≡ old.output
   pub error : new.error ≡ old.error
+  pub built : new.built ≡ old.built
 
 -- but for t's registers
 abbrev pub SameButRegisters : World → World → ℕ → Type 0

@@ -48,14 +48,14 @@ with_child c h thread =
     let copy : World × List (ℕ × Entry) = copied_space c.world (next_thread c.world) h.space in
     record (with_new_thread copy.0 (child_thread c.world thread)) { processes = copy.0.processes ++ child_process c h copy.1 ∷ [] }
 
--- whether no more processes can be made: 32 live, or no more threads can be made
-abbrev pub are_processes_full : World → Bool
-are_processes_full w = nat_le 32 (length (all_holdings w.processes)) || are_threads_full w
+-- whether no more processes can be made beside these: 32 live, or no more threads can be made
+abbrev pub are_processes_full : List Process → List (Option Thread) → Bool
+are_processes_full processes threads = nat_le 32 (length (all_holdings processes)) || are_threads_full threads
 
 -- the world with the child, or the refusal: 11 where no more processes can be made, 12 where too few frames are free
 abbrev pub forked_by : Call → Option Holdings → Option Thread → Result World ℕ
 forked_by c (Some h) (Some thread) =
-    if are_processes_full c.world then Err 11
+    if are_processes_full c.world.processes c.world.threads then Err 11
     else (if nat_lt (free_frames c.world) (private_entries h.space) then Err 12 else Ok (with_child c h thread))
 forked_by c _ _ = Err 11
 

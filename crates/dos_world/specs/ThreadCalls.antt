@@ -1,6 +1,7 @@
 -- The services of a thread: thread_exit, thread_new, get_tid, yield. This project's own; error numbers are chosen after Linux's.
-use Rattle.std.specs.Prelude.{ℕ, ◌+◌, ◌%◌, Bool, not, ◌||◌, List, [], ◌∷◌, ◌++◌, length, Some, ◌==◌, nat_le, if◌then◌else◌}
-use Rattle.dos_world.specs.World.{World, Thread, Registers, code_unit, live_threads, with_registers, set, blank}
+use Rattle.std.specs.Prelude.{ℕ, ◌+◌, ◌%◌, Bool, not, ◌||◌, List, [], ◌∷◌, ◌++◌, length, Option, Some, is_some, ◌==◌, nat_le, if◌then◌else◌}
+use Rattle.dos_world.specs.Numbered.{numbers_of}
+use Rattle.dos_world.specs.World.{World, Thread, Registers, code_unit, with_registers, set, blank}
 use Rattle.dos_world.specs.Kernel.{answered, thread_ended}
 use Rattle.dos_world.specs.Play.{done}
 use Rattle.dos_world.specs.Calls.{Service, gone, yields, mask_of, returns, returns_in, refuses}
@@ -10,9 +11,9 @@ use Rattle.dos_world.specs.declared.ThreadState.TheVariants.{Ready}
 abbrev pub thread_exit : Service
 thread_exit c = done (gone (thread_ended c.world c.process c.thread))
 
--- whether no more threads can be made: 64 live, or number 65535 was given
-abbrev pub are_threads_full : World → Bool
-are_threads_full w = nat_le 64 (length (live_threads w)) || nat_le 65535 (length w.threads)
+-- whether no more threads can be made beside these: 64 live, or number 65535 was given
+abbrev pub are_threads_full : List (Option Thread) → Bool
+are_threads_full threads = nat_le 64 (length (numbers_of is_some threads)) || nat_le 65535 (length threads)
 
 -- the number that the next thread gets
 abbrev pub next_thread : World → ℕ
@@ -35,7 +36,7 @@ new_registers pc sp argument = set (set (blank pc) 2 sp) 10 argument
 abbrev pub thread_new : Service
 thread_new c =
     if not (c.a0 % code_unit == 0) then refuses 22 c
-    else (if are_threads_full c.world then refuses 11 c
+    else (if are_threads_full c.world.threads then refuses 11 c
     else returns_in (with_new_thread c.world (ready_thread c.process (new_registers c.a0 c.a1 c.a2) (mask_of c) [])) (next_thread c.world) c)
 
 -- 21: the thread's number
