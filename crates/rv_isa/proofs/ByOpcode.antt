@@ -24,7 +24,7 @@ low w m v e h =
     let f : bit_and w m % 128 ≡ v % 128 = ap (λ x. x % 128) h in
     omega (arith, a, b, c, d, f)
 
-misses : (w o : ℕ) → bit_and w 127 ≡ o → (m v : ℕ) → m % 128 ≡ 127 → (v % 128 == o) ≡ false → (bit_and w m == v) ≡ false
+pub misses : (w o : ℕ) → bit_and w 127 ≡ o → (m v : ℕ) → m % 128 ≡ 127 → (v % 128 == o) ≡ false → (bit_and w m == v) ≡ false
 misses w o is m v e f =
     false_from_ne_true (bit_and w m == v) (λ h. both_ways (v % 128 == o) f (eq-eqb (v % 128) o (low w m v e (eqb-true (bit_and w m) v h) ∙ is)))
 

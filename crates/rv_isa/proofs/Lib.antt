@@ -1,6 +1,7 @@
 pub mod Single
 pub mod ByOpcode
 pub mod Masks
+pub mod ByFields
 pub mod Formats
 pub mod Codes
 pub mod Back

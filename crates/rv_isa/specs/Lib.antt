@@ -1,4 +1,5 @@
 pub mod Fields
 pub mod Meaning
+pub mod Groups
 pub mod Valid
 pub mod Encoding

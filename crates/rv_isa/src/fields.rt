@@ -38,6 +38,24 @@ pub fn rs2(word: u32) -> u8
     (word >> 20 & 31) as u8
 }
 
+/// Bits 14:12.
+#[inline]
+pub fn funct3(word: u32) -> u32
+    ensures value { result ≡ parts.field 14 12 word }
+    ensures range { result < 8 }
+{
+    word >> 12 & 7
+}
+
+/// Bits 31:25.
+#[inline]
+pub fn funct7(word: u32) -> u32
+    ensures value { result ≡ parts.field 31 25 word }
+    ensures range { result < 128 }
+{
+    word >> 25
+}
+
 /// The bit aq of an atomic instruction, 26.
 #[inline]
 pub fn acquires(word: u32) -> bool
