@@ -1,1 +1,9 @@
+pub mod Threads
 pub mod Own
+pub mod Places
+pub mod Reaching
+pub mod After
+pub mod Going
+pub mod Witness
+pub mod Whole
+pub mod Parts

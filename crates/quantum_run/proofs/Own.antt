@@ -1,8 +1,7 @@
 -- What the parallel part of a thread changes.
-use Rattle.std.proofs.Common.{ℕ, zero, suc, ◌/◌, ◌≡◌, ◌≢◌, refl, sym, ap, ◌∙◌, subst, List, [], ◌∷◌, length, get_or, Option, Some, None, option_map, Result, Ok, Err}
-use Rattle.std.specs.Prelude.{slice_get, slice_index_or}
-use Rattle.dos_world.specs.Numbered.{numbered, changed, changed_at}
-use Rattle.dos_world.specs.World.{World, Thread, flat, owner_of, with_thread, registers_by, released}
+use Rattle.std.proofs.Common.{ℕ, zero, suc, ◌/◌, ◌≡◌, ◌≢◌, refl, sym, ap, ◌∙◌, subst, List, length, get_or, option_map, Result, Ok, Err}
+use Rattle.std.specs.Prelude.{slice_index_or}
+use Rattle.dos_world.specs.World.{World, Thread, flat, thread_at, owner_of, with_thread, registers_by, released}
 use Rattle.dos_world.specs.declared.Owner.{Owner}
 use Rattle.dos_world.specs.declared.Owner.TheVariants.{Free, Of}
 use Rattle.dos_world.specs.declared.Reason.{Reason}
@@ -10,20 +9,9 @@ use Rattle.dos_world.proofs.Refusals.{changed_other}
 use Rattle.rv_exec.specs.Step.{step, paid_by}
 use Rattle.rv_exec.proofs.Keeps.{step-keeps}
 use Rattle.rv_exec.proofs.Stays.{step-form}
+use Rattle.quantum_run.proofs.Threads.{seen-changed, same-seen}
 use Rattle.quantum_run.specs.Alone.{budget_of, emptied, steps, alone}
 use Rattle.quantum_run.specs.Laws.{without_run, DiffersInOwn}
-
--- a change of the thread that leaves all but its registers and its budget
-kept_there : (f : Thread → Thread) → ((thread : Thread) → without_run (f thread) ≡ without_run thread) → (xs : List (Option Thread)) (t : ℕ)
-    → option_map without_run (flat (numbered (changed (option_map f) xs t) t)) ≡ option_map without_run (flat (numbered xs t))
-kept_there f same xs zero = refl
-kept_there f same xs (suc i) = at xs i
-  where
-    at : (xs : List (Option Thread)) (i : ℕ) → option_map without_run (flat (slice_get (changed_at (option_map f) xs i) i)) ≡ option_map without_run (flat (slice_get xs i))
-    at [] i = refl
-    at (None ∷ xs) zero = refl
-    at (Some thread ∷ xs) zero = ap Some (same thread)
-    at (x ∷ xs) (suc i) = at xs i
 
 -- bytes of its own and such a change of the thread
 changed_own : (w : World) (t : ℕ) (b : List ℕ) (f : Thread → Thread) → ((thread : Thread) → without_run (f thread) ≡ without_run thread) → length b ≡ length w.bytes
@@ -34,13 +22,14 @@ changed_own w t b f same count kept = record {
   bytes = kept;
   processes = refl;
   others = λ s other. ap flat (changed_other (option_map f) w.threads t s other);
-  thread = kept_there f same w.threads t;
+  thread = seen-changed without_run f w.threads t ∙ same-seen (λ x. without_run (f x)) without_run (thread_at w t) same;
   pipes = refl;
   sleepers = refl;
   rounds = refl;
   quantum = refl;
   output = refl;
   error = refl;
+  built = refl;
 }
 
 differs_in_nothing : (t : ℕ) (w : World) → DiffersInOwn t w w
@@ -57,6 +46,7 @@ differs_in_nothing t w = record {
   quantum = refl;
   output = refl;
   error = refl;
+  built = refl;
 }
 
 differs_then : (t : ℕ) (u v w : World) → DiffersInOwn t u v → DiffersInOwn t v w → DiffersInOwn t u w
@@ -73,6 +63,7 @@ differs_then t u v w a b = record {
   quantum = b.quantum ∙ a.quantum;
   output = b.output ∙ a.output;
   error = b.error ∙ a.error;
+  built = b.built ∙ a.built;
 }
   where
     owner_in : List Owner → ℕ → Owner

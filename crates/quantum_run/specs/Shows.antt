@@ -1,6 +1,7 @@
 -- What a pack, which is a thread with the pages that are its own, and the view that is lent to it show of a world. This project's own rule.
 use Rattle.std.specs.Prelude.{ℕ, ◌≡◌, ◌≢◌, List, [], Option, Some, None, option_map, slice_get}
-use Rattle.dos_world.specs.World.{World, Thread, Registers, thread_at, space_of, owner_of, look, page_of}
+use Rattle.rv_exec.specs.Runs.{kept}
+use Rattle.dos_world.specs.World.{World, Registers, thread_at, space_of, owner_of, look, page_of}
 use Rattle.dos_world.specs.declared.Entry.{Entry}
 use Rattle.dos_world.specs.declared.Owner.{Owner}
 use Rattle.dos_world.specs.declared.Owner.TheVariants.{Free, Shared, Of}
@@ -18,10 +19,6 @@ pub record Pack : Type 0 where
   pub registers : Registers
   pub budget : ℕ
   pub pages : List (ℕ × List ℕ)
-
--- what a part changes of a thread
-abbrev pub kept : Thread → Registers × ℕ
-kept thread = (thread.registers, thread.budget)
 
 -- the space of t's process
 abbrev pub thread_space : World → ℕ → List (ℕ × Entry)

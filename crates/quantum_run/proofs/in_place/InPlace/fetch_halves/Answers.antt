@@ -1,0 +1,28 @@
+use Rattle.std.proofs.Common.{Ok, sym, ◌∙◌, ap, arith}
+use Rattle.quantum_run.proofs.Reaching.{word-both, word-low, word-err, word-err-second}
+use Rattle.quantum_run.proofs.in_place.InPlace.fetch_halves.Goals as goal
+
+pub returns-then-low-ne3 : goal.returns-then-low-ne3
+returns-then-low-ne3 c = λ f t w s.
+    let first = c.in-Ok.ensures f t w s in
+    (first.0, ap Ok c.from.ensures ∙ sym (word-low w t c.args.address c.in-Ok.low (sym first.1) c.if-low-ne3.true))
+
+pub returns-in-Err : goal.returns-in-Err
+returns-in-Err c = λ f t w s.
+    let first = c.in-Err.ensures f t w s in
+    (first.0, sym (word-err w t c.args.address c.in-Err.reason (sym first.1)))
+
+pub returns-in-Err-fetch_half : goal.returns-in-Err-fetch_half
+returns-in-Err-fetch_half c = λ f t w s.
+    let first = c.in-Ok.ensures f t w s in
+    let second = c.in-Err-fetch_half.ensures f t w first.0 in
+    (second.0, sym (word-err-second w t c.args.address c.in-Ok.low c.in-Err-fetch_half.reason (sym first.1) c.if-low-ne3.false (sym second.1)))
+
+pub returns-in-Ok-fetch_half : goal.returns-in-Ok-fetch_half
+returns-in-Ok-fetch_half c = λ f t w s.
+    let first = c.in-Ok.ensures f t w s in
+    let second = c.in-Ok-fetch_half.ensures f t w first.0 in (
+      second.0,
+      ap Ok (omega (arith, c.from-in-Ok-fetch_half.ensures, c.from-in-Ok-fetch_half-2.ensures))
+          ∙ sym (word-both w t c.args.address c.in-Ok.low c.in-Ok-fetch_half.high (sym first.1) c.if-low-ne3.false (sym second.1)),
+    )

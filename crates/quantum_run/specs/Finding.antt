@@ -1,0 +1,40 @@
+-- Which frame an access reaches, by the owners of the frames and the entries of a space. This project's own rules.
+use Rattle.std.specs.Prelude.{ℕ, ◌≡◌, ◌≢◌, ◌+◌, ◌*◌, ◌<◌, ◌/◌, ◌%◌, ◌^◌, List, Option, Some, None, Result, Ok, Err, not, if◌then◌else◌, slice_get, slice_index_or}
+use Rattle.dos_world.specs.World.{look}
+use Rattle.dos_world.specs.Reach.{has_right, is_foreign}
+use Rattle.dos_world.specs.declared.Access.{Access}
+use Rattle.dos_world.specs.declared.Access.TheVariants.{Fetch, Load, Store, Claim}
+use Rattle.dos_world.specs.declared.Entry.{Entry}
+use Rattle.dos_world.specs.declared.Owner.{Owner}
+use Rattle.dos_world.specs.declared.Owner.TheVariants.{Free}
+use Rattle.dos_world.specs.declared.Reason.{Reason}
+use Rattle.dos_world.specs.declared.Reason.TheVariants.{Page, Fault}
+
+-- the frame of an entry for an access of t, or why the access is refused: it lacks the right, or the page is another's
+abbrev pub frame_by : ℕ → List Owner → Access → ℕ → Entry → Result ℕ Reason
+frame_by t owners access address e =
+    if not (has_right access e) then Err (Fault 11)
+    else (if is_foreign t access (slice_index_or owners e.frame Free) then Err (Page address access) else Ok e.frame)
+
+-- the frame of an address's page for an access of t, or why the access is refused; no entry is fault 11
+abbrev pub frame_for : ℕ → List Owner → List (ℕ × Entry) → Access → ℕ → Result ℕ Reason
+frame_for t owners entries access address = elim (look entries (address / 4096)) [ None ↦ Err (Fault 11) | Some e ↦ frame_by t owners access address e ]
+
+-- Each access of t to this page would find this frame.
+abbrev pub IsFrameOf : ℕ → List Owner → List (ℕ × Entry) → Access → (page frame : ℕ) → Type 0
+IsFrameOf t owners entries access page frame = (address : ℕ) → address < 2 ^ 32 → address / 4096 ≡ page → frame_for t owners entries access address ≡ Ok frame
+
+-- No page is away.
+abbrev pub IsNoneAway : List (Option (List ℕ)) → Type 0
+IsNoneAway pages = (frame : ℕ) → slice_get pages frame ≢ Some None
+
+-- Stores and claims, which reach the same frames.
+abbrev pub IsWriting : Access → Type 0
+IsWriting Fetch = ⊥
+IsWriting Load = ⊥
+IsWriting Store = Unit {0}
+IsWriting Claim = Unit {0}
+
+-- the place of an address in the flat bytes, by its page's frame
+abbrev pub place_in : ℕ → ℕ → ℕ
+place_in frame address = 4096 * frame + address % 4096
