@@ -1,0 +1,26 @@
+pub mod Numbers
+pub mod Mapped
+pub mod Quiet
+pub mod QuietEnds
+pub mod Threads
+pub mod RegisterRanges
+pub mod Outside
+pub mod Frames
+pub mod NewThread
+pub mod ThreadGone
+pub mod Parts
+pub mod EndedProcesses
+pub mod Ends
+pub mod Words
+pub mod Kept
+pub mod Numerals
+pub mod Effects
+pub mod Steps
+pub mod Plays
+pub mod Parallel
+pub mod Calls
+pub mod Copies
+pub mod Services
+pub mod Turns
+pub mod Rounds
+mod PlainExamples

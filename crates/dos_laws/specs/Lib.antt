@@ -1,0 +1,5 @@
+pub mod Plain
+pub mod Taken
+pub mod Ends
+pub mod Plays
+pub mod Laws
