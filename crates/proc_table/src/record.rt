@@ -1,0 +1,15 @@
+// What is kept of a process by its number.
+#[derive(Clone, Copy, Drop)]
+pub(crate) enum Kept {
+    // It lives, and has this place.
+    Live(u32),
+    // Its status, and whether its parent has collected it.
+    Ended { status: u8, collected: bool },
+}
+
+// A process; parent 0 is none.
+#[derive(Clone, Copy, Drop)]
+pub(crate) struct Record {
+    pub(crate) parent: u32,
+    pub(crate) kept: Kept,
+}
