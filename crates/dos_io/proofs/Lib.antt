@@ -1,3 +1,4 @@
 mod Examples
 pub mod GivenLaws
 pub mod InputLaws
+pub mod QuietAnswers

@@ -1,5 +1,5 @@
 -- An exchange is a question and its answer. This project's own rule.
-use Rattle.std.specs.Prelude.{[]}
+use Rattle.std.specs.Prelude.{◌≡◌, List, [], ◌∷◌, ⊤}
 use Rattle.dos_world.specs.Play.{Answer, posts, input, reading}
 use Rattle.dos_world.specs.declared.Question.{Question}
 use Rattle.dos_world.specs.declared.Question.TheVariants.{Signals as signals_question, Input as input_question, Clock as clock_question, End as end_question}
@@ -19,3 +19,11 @@ answer_of (Signals round list) = posts list
 answer_of (Input round tid max bytes) = input bytes
 answer_of (Clock round tid n) = reading n
 answer_of (End ending rounds) = posts []
+
+-- no signal came: each answer to a question for signals has no posts
+abbrev pub HaveNoPosts : List Exchange → Type 0
+HaveNoPosts [] = ⊤
+HaveNoPosts (Signals round list ∷ es) = (list ≡ []) × HaveNoPosts es
+HaveNoPosts (Input round tid max bytes ∷ es) = HaveNoPosts es
+HaveNoPosts (Clock round tid n ∷ es) = HaveNoPosts es
+HaveNoPosts (End ending rounds ∷ es) = HaveNoPosts es

@@ -6,3 +6,6 @@ pub mod Hosts
 pub mod Exchanges
 pub mod Shims
 pub mod Given
+pub mod Quiet
+pub mod QuietLaws
+pub mod System

@@ -1,5 +1,8 @@
 // The outside over std, which tells nothing of what is written or held.
-ghost use Rattle.std.specs.Prelude.{◌≡◌, None, false, ◌≤◌, ◌+◌, length, IfOk};
+ghost use Rattle.std.specs.Prelude.{◌≡◌, None, false, ◌≤◌, ◌+◌, length, IfOk, OnOk};
+ghost use Rattle.std.specs.Io.KnownBytes.{Appends};
+ghost use Rattle.dos_io.specs.Outside.{HasCause};
+ghost use Rattle.dos_io.specs.System.{written};
 
 use crate::{FileError, Files, Sink, SinkFault};
 use std::alloc::Global;
@@ -56,11 +59,18 @@ impl<W: Write> StdErr<W> {
 }
 
 impl<W: Write> Sink for StdErr<W> {
+    // A writer of which nothing is known may come to be known at any call, so it is no sink that tells.
     ghost told = { λ _. None };
 
     ghost faults = { λ s. s.faults };
 
-    fn put(&mut self, piece: &[u8]) -> Result<(), SinkFault> {
+    /// Where it is known what the writer holds, that grew by the piece.
+    fn put(&mut self, piece: &[u8]) -> Result<(), SinkFault>
+        ensures written { OnOk result (Appends (written W.contents self.old) (written W.contents self.new) piece.now) }
+
+        // As of every sink.
+        ensures cause { HasCause (⟦<StdErr<W> as Sink>⟧.faults self.old) (⟦<StdErr<W> as Sink>⟧.faults self.new) result }
+    {
         match self.writer.write_all(piece) {
             Ok(()) => Ok(()),
             Err(_) => {
