@@ -1,0 +1,63 @@
+-- The service of a thread, from its registers to what it answers.
+use Rattle.std.proofs.Common.{◌≡◌, ℕ, List, [], Option, Some, None, IsSome, IfSome, sym, ap, ◌∙◌, append-nil}
+use Rattle.std.specs.Prelude.{Result, Ok, Err, IfOk}
+use Rattle.dos_world.specs.World.{World, Thread, Registers, get, with_thread}
+use Rattle.dos_world.specs.Play.{over, questions}
+use Rattle.dos_world.specs.Services.{Call, charged, service, service_for, built_service, services_today, call_of}
+use Rattle.dos_io.specs.declared.exchange.Exchange.{Exchange}
+use Rattle.proc_table.specs.Tables.{IsThread, thread_in, thread_by}
+use Rattle.kernel_calls.specs.Serving.{Answers, sent, world_of}
+use Rattle.kernel_calls.specs.Calling.{Sends, call_in, meaning}
+use Rattle.kernel_calls.specs.declared.state.State.{State}
+use Rattle.kernel_calls.specs.declared.state.Asked.{Asked}
+use Rattle.kernel_calls.specs.declared.state.Served.{Served}
+use Rattle.kernel_calls.specs.declared.naming.Service.{Service}
+
+-- a call with these arguments
+abbrev pub asked : ℕ → ℕ → ℕ → ℕ → ℕ → Asked
+asked t p x y z = record { thread = t; process = p; a0 = x; a1 = y; a2 = z }
+
+-- what a live thread calls is the service that its registers name, once it is paid for
+pub called : (s mid : State) (t p x y z n : ℕ) (r : Registers) → IsThread s.table.threads t → IfSome (thread_in s.table.threads t) (λ thread. r ≡ thread.registers) → IfSome (thread_in s.table.threads t) (λ thread. p ≡ thread.process)
+    → x ≡ get r 10 → y ≡ get r 11 → z ≡ get r 12 → n ≡ get r 17 → mid ≡ record s { table = thread_by charged s.table t }
+    → (q : ℕ) (o e : List ℕ) → service (sent o e (world_of q s)) t ≡ built_service services_today n (call_in (sent o e (world_of q mid)) (asked t p x y z))
+called s mid t p x y z n r live registers process first second third number paid q o e =
+    by (thread_in s.table.threads t) live registers process ∙ ap (λ m. built_service services_today n (call_in (sent o e (world_of q m)) (asked t p x y z))) (sym paid)
+  where
+    w : World
+    w = sent o e (world_of q s)
+
+    call : ℕ → ℕ → ℕ → ℕ → Call
+    call p x y z = record { world = with_thread (sent o e (world_of q s)) t charged; thread = t; process = p; a0 = x; a1 = y; a2 = z }
+
+    by : (found : Option Thread) → IsSome found → IfSome found (λ thread. r ≡ thread.registers) → IfSome found (λ thread. p ≡ thread.process)
+        → service_for (sent o e (world_of q s)) t found ≡ built_service services_today n (call p x y z)
+    by None live registers process = cc
+    by (Some thread) live registers process =
+        let one : get thread.registers 10 ≡ x = ap (λ k. get k 10) (sym registers) ∙ sym first in
+        let two : get thread.registers 11 ≡ y = ap (λ k. get k 11) (sym registers) ∙ sym second in
+        let three : get thread.registers 12 ≡ z = ap (λ k. get k 12) (sym registers) ∙ sym third in
+        ap (λ k. built_service services_today k (call_of (sent o e (world_of q s)) t thread)) (ap (λ k. get k 17) (sym registers) ∙ sym number)
+        ∙ ap (λ k. built_service services_today n (call k (get thread.registers 10) (get thread.registers 11) (get thread.registers 12))) (sym process)
+        ∙ ap (λ k. built_service services_today n (call p k (get thread.registers 11) (get thread.registers 12))) one
+        ∙ ap (λ k. built_service services_today n (call p x k (get thread.registers 12))) two
+        ∙ ap (λ k. built_service services_today n (call p x y k)) three
+
+-- nothing is asked, so nothing is told to the shim
+pub answered : (s mid new : State) (t : ℕ) (named : Option Service) (a : Asked) (way : Served) (told : List Exchange) (out out_after err err_after : Option (List ℕ))
+    → ((q : ℕ) (o e : List ℕ) → service (sent o e (world_of q s)) t ≡ meaning named (call_in (sent o e (world_of q mid)) a))
+    → Sends (meaning named) mid a way new out out_after err err_after → Answers (λ w. service w t) s told told way new out out_after err err_after
+answered s mid new t named a way told out out_after err err_after is h = record {
+  exchanges = [];
+  output = h.output;
+  error = h.error;
+  told_is = sym (append-nil told);
+  out_is = h.out_is;
+  err_is = h.err_is;
+  gives = λ q o e. ap (λ p. over [] p) (is q o e ∙ h.sends q o e);
+  asks = λ q o e. ap (λ p. questions [] p) (is q o e ∙ h.sends q o e);
+}
+
+pub ok_map : {T E : Type 0} (P Q : T → Type 0) (r : Result T E) → ((x : T) → P x → Q x) → IfOk r P → IfOk r Q
+ok_map P Q (Ok x) f h = f x h
+ok_map P Q (Err e) f h = h

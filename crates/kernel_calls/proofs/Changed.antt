@@ -1,0 +1,58 @@
+-- Changes of one thread, and threads that are added.
+use Rattle.std.proofs.Common.{◌≡◌, ◌<◌, ℕ, zero, suc, List, [], ◌∷◌, ◌++◌, Option, Some, None, option_map, IsSome, IfSome, refl, sym, ap, subst, ◌∙◌}
+use Rattle.dos_world.specs.Numbered.{changed, changed_at}
+use Rattle.dos_world.specs.World.{Thread, Registers, registers_by}
+use Rattle.dos_world.specs.Kernel.{answered}
+use Rattle.proc_table.specs.Tables.{Tables, IsThread, thread_in, thread_by, ran}
+
+-- two changes that agree on the thread are one
+changed_same : (f g : Thread → Thread) (xs : List (Option Thread)) (t : ℕ) → IfSome (thread_in xs t) (λ thread. f thread ≡ g thread) → changed (option_map f) xs t ≡ changed (option_map g) xs t
+changed_same f g xs zero h = refl
+changed_same f g xs (suc i) h = at xs i h
+  where
+    at : (xs : List (Option Thread)) (i : ℕ) → IfSome (thread_in xs (suc i)) (λ thread. f thread ≡ g thread) → changed_at (option_map f) xs i ≡ changed_at (option_map g) xs i
+    at [] i h = refl
+    at (None ∷ xs) zero h = refl
+    at (Some x ∷ xs) zero h = ap (λ y. Some y ∷ xs) h
+    at (x ∷ xs) (suc i) h = ap (λ rest. x ∷ rest) (at xs i h)
+
+-- registers that are set to what an answer makes of those that were there
+pub answer_set : (T : Tables) (t v : ℕ) (old new : Registers) → IfSome (thread_in T.threads t) (λ thread. old ≡ thread.registers) → new ≡ answered v old → thread_by (registers_by (λ r. new)) T t ≡ thread_by (registers_by (answered v)) T t
+answer_set T t v old new was is =
+    ap (λ threads. with_threads threads) (changed_same (registers_by (λ r. new)) (registers_by (answered v)) T.threads t (by (thread_in T.threads t) was))
+  where
+    with_threads : List (Option Thread) → Tables
+    with_threads threads = record T { threads = threads }
+
+    by : (o : Option Thread) → IfSome o (λ thread. old ≡ thread.registers) → IfSome o (λ thread. registers_by (λ r. new) thread ≡ registers_by (answered v) thread)
+    by None h = tt
+    by (Some thread) h = ap (λ r. registers_by (λ _. r) thread) (is ∙ ap (answered v) h)
+
+-- the thread that is changed
+pub thread_changed : (f : Thread → Thread) (xs : List (Option Thread)) (t : ℕ) → thread_in (changed (option_map f) xs t) t ≡ option_map f (thread_in xs t)
+thread_changed f xs zero = refl
+thread_changed f xs (suc i) = at xs i
+  where
+    at : (xs : List (Option Thread)) (i : ℕ) → thread_in (changed_at (option_map f) xs i) (suc i) ≡ option_map f (thread_in xs (suc i))
+    at [] i = refl
+    at (None ∷ xs) zero = refl
+    at (Some x ∷ xs) zero = refl
+    at (x ∷ xs) (suc i) = at xs i
+
+-- a live thread stands where one is added
+pub thread_stands : (xs ys : List (Option Thread)) (t : ℕ) → IsThread xs t → IsThread (xs ++ ys) t
+thread_stands xs ys zero live = live
+thread_stands xs ys (suc i) live = at xs i live
+  where
+    at : (xs : List (Option Thread)) (i : ℕ) → IsThread xs (suc i) → IsThread (xs ++ ys) (suc i)
+    at [] i live = cc
+    at (x ∷ xs) zero live = live
+    at (x ∷ xs) (suc i) live = at xs i live
+
+-- a thread that is set to run lives, and has its budget
+pub thread_ran : (xs : List (Option Thread)) (t : ℕ) (r : Registers) (budget : ℕ) → 0 < budget → IsThread xs t → IsThread (changed (option_map (ran r budget)) xs t) t × IfSome (thread_in (changed (option_map (ran r budget)) xs t) t) (λ thread. 0 < thread.budget)
+thread_ran xs t r budget some live = subst (λ (o : Option Thread). IsSome o × IfSome o (λ thread. 0 < thread.budget)) (sym (thread_changed (ran r budget) xs t)) (by (thread_in xs t) live)
+  where
+    by : (o : Option Thread) → IsSome o → IsSome (option_map (ran r budget) o) × IfSome (option_map (ran r budget) o) (λ thread. 0 < thread.budget)
+    by None live = cc
+    by (Some thread) live = (refl, some)

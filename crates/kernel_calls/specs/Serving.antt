@@ -1,0 +1,127 @@
+-- The flat world of a state, what a sound state is, and what it means to have served. This project's own rules.
+use Rattle.std.specs.Prelude.{◌≡◌, ◌≤◌, ◌-◌, ◌++◌, ℕ, List, [], map, length, replicate, Option, None, Some, Result, Ok, Err, IfErr}
+use Rattle.dos_world.specs.World.{World}
+use Rattle.dos_world.specs.Lawful.{Lawful, uses_of}
+use Rattle.dos_world.specs.Play.{Play, over, questions, gives, asks}
+use Rattle.dos_world.specs.Services.{Served as FlatServed, went, waits, yields, gone, services_today}
+use Rattle.dos_world.specs.declared.Question.{Question}
+use Rattle.dos_io.specs.Exchanges.{answer_of, question_of}
+use Rattle.dos_io.specs.Outside.{grown, Rose}
+use Rattle.dos_io.specs.Shims.{ShimState, Stopped}
+use Rattle.dos_io.specs.declared.exchange.Exchange.{Exchange}
+use Rattle.dos_io.specs.declared.shim.ShimStop.{ShimStop}
+use Rattle.dos_io.specs.declared.shim.ShimStop.TheVariants.{HostFault as host_fault, LogFull as log_full, Misfit as misfit, Memory as memory}
+use Rattle.dos_laws.specs.Plain.{IsPlain}
+use Rattle.page_store.specs.Store.{uses_at}
+use Rattle.kernel_mem.specs.Seen.{in_world, IsHome}
+use Rattle.kernel_calls.specs.declared.state.State.{State}
+use Rattle.kernel_calls.specs.declared.state.Served.{Served}
+use Rattle.kernel_calls.specs.declared.state.Served.TheVariants.{Went, Waits, Yields, Gone}
+use Rattle.kernel_calls.specs.declared.state.RunStop.{RunStop}
+use Rattle.kernel_calls.specs.declared.state.RunStop.TheVariants.{HostFault, LogFull, Misfit, OutFault, ErrFault, Memory}
+
+-- ---- the world of a state
+
+-- what a state has besides its frames and its table, in its round: no byte sent, no sleeper, and empty pipes
+abbrev pub base : ℕ → ℕ → World
+base quantum round = record {
+  bytes = [];
+  owners = [];
+  processes = [];
+  threads = [];
+  pipes = replicate 64 [];
+  sleepers = [];
+  rounds = round - 1;
+  quantum = quantum;
+  output = [];
+  error = [];
+  built = services_today;
+}
+
+-- the world of a state under this quantum, with nothing sent
+abbrev pub world_of : ℕ → State → World
+world_of quantum s = in_world (base quantum s.round) s.frames s.table
+
+-- the world with these bytes sent so far
+abbrev pub sent : List ℕ → List ℕ → World → World
+sent output error w = record w { output = output; error = error }
+
+-- ---- sound states
+
+-- What the kept numbers of a state are, and which worlds it may be of.
+pub record IsSound (s : State) : Type 0 where
+  -- every page is home
+  pub home : IsHome s.frames
+  -- rounds are numbered from 1
+  pub round : 1 ≤ s.round
+  -- a space has room for every frame
+  pub room : length s.frames.owners ≤ s.table.room
+  -- a frame's kept uses are the entries that have it
+  pub uses : (q frame : ℕ) → uses_at s.frames frame ≡ uses_of (world_of q s) frame
+  -- its world is lawful, under every quantum that a run may have
+  pub lawful : (q : ℕ) → 16 ≤ q → q ≤ 65536 → Lawful (world_of q s)
+  -- and plain
+  pub plain : (q : ℕ) → IsPlain (world_of q s)
+
+-- ---- having served
+
+-- to go on this way, in this world
+abbrev pub way_in : Served → World → FlatServed
+way_in Went w = went w
+way_in Waits w = waits w
+way_in Yields w = yields w
+way_in Gone w = gone w
+
+-- From the world of the old state, with any bytes sent before, a play asks what these exchanges added asked, and over their answers it goes on this way:
+-- in the world of the new state, with the bytes sent before and those that the sinks now tell more.
+pub record Answers (play : World → Play FlatServed) (old : State) (told told_after : List Exchange) (way : Served) (new : State) (out out_after err err_after : Option (List ℕ)) : Type 0 where
+  pub exchanges : List Exchange
+  pub output : List ℕ
+  pub error : List ℕ
+  pub told_is : told_after ≡ told ++ exchanges
+  pub out_is : out_after ≡ grown out output
+  pub err_is : err_after ≡ grown err error
+  pub gives : (q : ℕ) (o e : List ℕ) → over (map answer_of exchanges) (play (sent o e (world_of q old))) ≡ gives (way_in way (sent (o ++ output) (e ++ error) (world_of q new))) []
+  pub asks : (q : ℕ) (o e : List ℕ) → questions (map answer_of exchanges) (play (sent o e (world_of q old))) ≡ map question_of exchanges
+
+-- ---- not having served
+
+-- the stop of a shim that ends a run, where it was the shim's
+abbrev pub shim_stop : RunStop → Option ShimStop
+shim_stop HostFault = Some host_fault
+shim_stop LogFull = Some log_full
+shim_stop (Misfit m) = Some (misfit m)
+shim_stop Memory = Some memory
+shim_stop OutFault = None
+shim_stop ErrFault = None
+
+-- The shim stopped at the play's first question; no byte was sent by then.
+pub record Asks (play : World → Play FlatServed) (old : State) (before : ShimState) (stop : ShimStop) (after : ShimState) (out out_after err err_after : Option (List ℕ)) : Type 0 where
+  pub question : Question
+  pub asks : (q : ℕ) (o e : List ℕ) → over [] (play (sent o e (world_of q old))) ≡ asks question o e
+  pub stopped : Stopped before question stop after
+  pub out_is : out_after ≡ out
+  pub err_is : err_after ≡ err
+
+-- a sink's fault that ends a run comes only where that sink's count rose
+abbrev pub HasSinkCause : RunStop → (out out_after err err_after : ℕ) → Type 0
+HasSinkCause OutFault out out_after err err_after = Rose out out_after
+HasSinkCause ErrFault out out_after err err_after = Rose err err_after
+HasSinkCause _ out out_after err err_after = Unit {0}
+
+-- the shim hasn't stopped
+pub record HasNotStopped (before after : ShimState) : Type 0 where
+  pub stops : after.stops ≡ before.stops
+  pub last : after.last ≡ before.last
+
+-- where the shim hasn't stopped, its count and its last stop stand
+abbrev pub StandsUnlessShims : Result Served RunStop → ShimState → ShimState → Type 0
+StandsUnlessShims (Ok way) before after = HasNotStopped before after
+StandsUnlessShims (Err stop) before after = elim (shim_stop stop) [ None ↦ HasNotStopped before after | Some s ↦ Unit {0} ]
+
+-- No count falls, and a stop comes only where its object's count rose.
+pub record HasCauses (result : Result Served RunStop) (shim shim_after : ShimState) (out out_after err err_after : ℕ) : Type 0 where
+  pub out_later : out ≤ out_after
+  pub err_later : err ≤ err_after
+  pub sinks : IfErr result (λ stop. HasSinkCause stop out out_after err err_after)
+  pub stands : StandsUnlessShims result shim shim_after

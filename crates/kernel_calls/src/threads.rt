@@ -1,0 +1,60 @@
+// The services of threads and processes that send nothing.
+ghost use Rattle.std.specs.Prelude.{◌≡◌};
+ghost use Rattle.dos_world.specs.Services.{new_registers, thread_exit, thread_new};
+ghost use Rattle.kernel_calls.specs.Serving.{IsSound};
+ghost use Rattle.kernel_calls.specs.Calling.{AreAsked, GoesOn};
+ghost use Rattle.kernel_calls.specs.declared.state.Served.TheVariants.{Gone, Went};
+
+use crate::answering::{answer, refuse};
+use crate::ending::end_process;
+use crate::state::{Asked, State};
+use dos_world::Regs;
+
+// How much an instruction's address is a multiple of.
+const CODE_UNIT: u32 = 4;
+
+/// A new thread at a0, with stack a1 and argument a2: its number. Refusals: 22 where a0 is no place for an instruction,
+/// 11 where no more threads can be made.
+pub(crate) fn thread_new(state: &mut State, asked: &Asked)
+    requires sound { IsSound state.old }
+    requires asked { AreAsked state.old asked.now }
+    ensures goes_on { GoesOn thread_new state.old asked.now Went state.new }
+    ensures sound { IsSound state.new }
+    ensures round { state.new.round ≡ state.old.round }
+{
+    if asked.a0 % CODE_UNIT != 0 {
+        refuse(state, asked.thread, 22);
+        return;
+    }
+    let mask = state.table.mask(asked.thread);
+    let regs = new_registers(asked.a0, asked.a1, asked.a2);
+    match state.table.add_thread(asked.process, regs, mask) {
+        Ok(number) => answer(state, asked.thread, number),
+        Err(_) => refuse(state, asked.thread, 11),
+    }
+}
+
+// pc, stack pointer and argument of a new thread.
+fn new_registers(pc: u32, sp: u32, argument: u32) -> Regs
+    ensures { result ≡ new_registers pc sp argument }
+{
+    let mut regs = Regs::new(pc);
+    regs.set(2, sp);
+    regs.set(10, argument);
+    regs
+}
+
+/// The thread is gone. The last thread of a process ends it with status 0.
+pub(crate) fn thread_exit(state: &mut State, asked: &Asked)
+    requires sound { IsSound state.old }
+    requires asked { AreAsked state.old asked.now }
+    ensures goes_on { GoesOn thread_exit state.old asked.now Gone state.new }
+    ensures sound { IsSound state.new }
+    ensures round { state.new.round ≡ state.old.round }
+{
+    if state.table.threads_of(asked.process) == 1 {
+        end_process(state, asked.process, 0);
+    } else {
+        state.table.end_thread(asked.thread);
+    }
+}

@@ -1,0 +1,138 @@
+// Writing to output and error.
+ghost use Rattle.std.specs.Prelude.{◌≡◌, ◌≤◌, ℕ, List, take, true, OnOk};
+ghost use Rattle.dos_world.specs.World.{World};
+ghost use Rattle.dos_world.specs.declared.Access.TheVariants.{Load};
+ghost use Rattle.dos_world.specs.Kernel.{all_reach, copied_in};
+ghost use Rattle.dos_world.specs.Services.{write};
+ghost use Rattle.dos_io.specs.Outside.{HasCause};
+ghost use Rattle.kernel_mem.specs.Seen.{in_world, AreMapped, IsCaller, IsHome, KeepsUses};
+ghost use Rattle.page_store.specs.Store.{Store as Held};
+ghost use Rattle.kernel_calls.specs.Serving.{IsSound};
+ghost use Rattle.kernel_calls.specs.Calling.{AreAsked, HasSinkCauses, IsSent, Sends, target_of};
+ghost use Rattle.kernel_calls.specs.declared.state.Served.TheVariants.{Went};
+
+use crate::answering::{answer, refuse};
+use crate::state::{Asked, RunStop, State};
+use dos_io::{Sink, SinkFault};
+use dos_world::End;
+use kernel_mem::{check, copy_in};
+use page_store::Frames;
+use proc_table::Table;
+
+/// Where a write goes.
+#[derive(Clone, Copy)]
+pub(crate) enum Target {
+    Output,
+    Error,
+}
+
+/// Bytes to output or error: how many. Refusals: 9 where a0 names neither, 14 where one of the bytes isn't mapped.
+pub(crate) fn write<O: Sink, E: Sink>(
+    state: &mut State,
+    asked: &Asked,
+    out: &mut O,
+    err: &mut E,
+) -> Result<(), RunStop>
+    requires sound { IsSound state.old }
+    requires asked { AreAsked state.old asked.now }
+    ensures sends { OnOk result (Sends write state.old asked.now Went state.new (O.told out.old) (O.told out.new) (E.told err.old) (E.told err.new)) }
+    ensures sound { OnOk result (IsSound state.new) }
+    ensures round { state.new.round ≡ state.old.round }
+    ensures causes { HasSinkCauses result (O.faults out.old) (O.faults out.new) (E.faults err.old) (E.faults err.new) }
+{
+    match target_of(state.table.descriptor(asked.process, asked.a0)) {
+        Some(Target::Output) => match send(state, asked, out) {
+            Ok(()) => Ok(()),
+            Err(SinkFault) => Err(RunStop::OutFault),
+        },
+        Some(Target::Error) => match send(state, asked, err) {
+            Ok(()) => Ok(()),
+            Err(SinkFault) => Err(RunStop::ErrFault),
+        },
+        None => {
+            refuse(state, asked.thread, 9);
+            Ok(())
+        }
+    }
+}
+
+// Where a descriptor writes to, if it is one of the group's own outputs.
+fn target_of(end: Option<End>) -> Option<Target>
+    ensures { result ≡ target_of end }
+{
+    match end {
+        Some(End::Output) => Some(Target::Output),
+        Some(End::Error) => Some(Target::Error),
+        Some(End::Input) | Some(End::PipeRead(_)) | Some(End::PipeWrite(_)) | None => None,
+    }
+}
+
+// The bytes to one sink, by one put.
+fn send<S: Sink>(state: &mut State, asked: &Asked, sink: &mut S) -> Result<(), SinkFault>
+    requires sound { IsSound state.old }
+    requires asked { AreAsked state.old asked.now }
+    ensures sends { OnOk result (IsSent state.old asked.now state.new (S.told sink.old) (S.told sink.new)) }
+    ensures sound { OnOk result (IsSound state.new) }
+    ensures round { state.new.round ≡ state.old.round }
+    ensures cause { HasCause (S.faults sink.old) (S.faults sink.new) result }
+{
+    let count = asked.a2.min(4096);
+    if count == 0 {
+        answer(state, asked.thread, 0);
+        return Ok(());
+    }
+    match check(&state.table, asked.thread, asked.a1, count) {
+        Ok(()) => {
+            fetch(state, asked, count);
+            match sink.put(&state.buffer[..count as usize]) {
+                Ok(()) => {
+                    answer(state, asked.thread, count);
+                    Ok(())
+                }
+                Err(fault) => Err(fault),
+            }
+        }
+        Err(number) => {
+            refuse(state, asked.thread, number);
+            Ok(())
+        }
+    }
+}
+
+// The first bytes that a1 names, into the buffer.
+fn fetch(state: &mut State, asked: &Asked, count: u32)
+    requires sound { IsSound state.old }
+    requires asked { AreAsked state.old asked.now }
+    requires few { count ≤ 4096 }
+    requires reach { (w : World) (s : Held) → all_reach (in_world w s state.old.table) asked.now.thread asked.now.a1 count Load ≡ true }
+    ensures copies { (w : World) → copied_in (in_world w state.old.frames state.old.table) asked.now.thread asked.now.a1 count ≡ (in_world w state.new.frames state.new.table, take count state.new.buffer) }
+    ensures sound { IsSound state.new }
+    ensures table { state.new.table ≡ state.old.table }
+    ensures round { state.new.round ≡ state.old.round }
+{
+    fill(
+        &mut state.frames,
+        &state.table,
+        asked,
+        &mut state.buffer,
+        count,
+    );
+}
+
+fn fill(frames: &mut Frames, table: &Table, asked: &Asked, buffer: &mut [u8; 4096], count: u32)
+    requires caller { IsCaller table.now asked.now.thread }
+    requires mapped { AreMapped table.now frames.old asked.now.thread }
+    requires home { IsHome frames.old }
+    requires few { count ≤ 4096 }
+    requires reach { (w : World) (s : Held) → all_reach (in_world w s table.now) asked.now.thread asked.now.a1 count Load ≡ true }
+    ensures copies { (w : World) → copied_in (in_world w frames.old table.now) asked.now.thread asked.now.a1 count ≡ (in_world w frames.new table.now, take count buffer.new) }
+    ensures stays { KeepsUses frames.old frames.new }
+{
+    copy_in(
+        frames,
+        table,
+        asked.thread,
+        asked.a1,
+        &mut buffer[..count as usize],
+    );
+}

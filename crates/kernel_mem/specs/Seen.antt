@@ -1,0 +1,45 @@
+-- Frames and a table set into a world. This project's own rules.
+use Rattle.std.specs.Prelude.{◌≡◌, ◌/◌, ℕ, List, [], length, false, Option, None, Some, IsSome, IfSome, All, slice_index_or}
+use Rattle.dos_world.specs.World.{World, is_free, look}
+use Rattle.dos_world.specs.declared.Entry.{Entry}
+use Rattle.dos_world.specs.declared.Owner.TheVariants.{Free, Of}
+use Rattle.page_store.specs.Store.{Store, joined}
+use Rattle.proc_table.specs.Tables.{Tables, thread_in, held_in, IsThread, IsProcess}
+
+-- the world with the bytes and owners of these frames, and the processes and threads of this table
+abbrev pub in_world : World → Store → Tables → World
+in_world w s table = record w { bytes = joined s.pages; owners = s.owners; processes = table.processes; threads = table.threads }
+
+-- ---- looking up
+
+-- the space of a live process
+abbrev pub space_in : Tables → ℕ → List (ℕ × Entry)
+space_in table p = elim (held_in table.processes p) [ None ↦ [] | Some h ↦ h.space ]
+
+-- t's entry of the page that an address lies in
+abbrev pub entry_in : Tables → ℕ → ℕ → Option Entry
+entry_in table t address = elim (thread_in table.threads t) [ None ↦ None | Some thread ↦ look (space_in table thread.process) (address / 4096) ]
+
+-- ---- what calls rely on
+
+-- the thread lives, and so does its process
+pub record IsCaller (table : Tables) (t : ℕ) : Type 0 where
+  pub thread : IsThread table.threads t
+  pub process : IfSome (thread_in table.threads t) (λ thread. IsProcess table.processes thread.process)
+
+-- what t's entries name isn't Free
+abbrev pub AreMapped : Tables → Store → ℕ → Type 0
+AreMapped table s t = (address : ℕ) (e : Entry) → entry_in table t address ≡ Some e → is_free (slice_index_or s.owners e.frame Free) ≡ false
+
+-- all pages are home, each with an owner
+pub record IsHome (s : Store) : Type 0 where
+  pub home : All IsSome s.pages
+  pub owners : length s.owners ≡ length s.pages
+
+-- Only owners changed: none came or went, and none became a thread's.
+pub record KeepsUses (old new : Store) : Type 0 where
+  pub pages : new.pages ≡ old.pages
+  pub uses : new.uses ≡ old.uses
+  pub count : length new.owners ≡ length old.owners
+  pub used : (frame : ℕ) → is_free (slice_index_or new.owners frame Free) ≡ is_free (slice_index_or old.owners frame Free)
+  pub owned : (frame t : ℕ) → slice_index_or new.owners frame Free ≡ Of t → slice_index_or old.owners frame Free ≡ Of t

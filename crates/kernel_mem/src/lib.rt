@@ -1,0 +1,13 @@
+//! What services do to the memory of processes: the one place where the table's entries meet the frames.
+//!
+//! Each call is stated over every world that frames and a table are set into (`specs/Seen`), by the flat world's
+//! own definitions.
+#![tactic(auto)]
+
+mod copy;
+mod drop;
+mod map;
+
+pub use copy::{check, copy_in};
+pub use drop::drop_space;
+pub use map::map_page;
