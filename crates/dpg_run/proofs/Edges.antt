@@ -5,9 +5,9 @@ use Rattle.dos_world.specs.declared.Question.TheVariants.{Signals as signals_que
 use Rattle.dos_world.specs.declared.Ending.TheVariants.{Done}
 use Rattle.rv_exec.specs.Computing.{computing}
 use Rattle.elf_image.specs.Image.{Image}
-use Rattle.dpg_run.specs.Opening.{needed}
+use Rattle.group_open.specs.Opening.{needed}
 use Rattle.dpg_run.specs.Machine.{machine}
-use Rattle.dpg_run.proofs.Programs.{program, with_frames, without_work, ended}
+use Rattle.dpg_run.proofs.Programs.{program, with_frames, without_work, ended, whole_machine}
 
 -- a store at the end of the stack's page reaches no page behind it: sw x0, 16(x2) at 0xF0000000
 behind_the_stack : without_work (machine (program (0x00012823 ∷ []) ∷ []) (with_frames 17) (posts [] ∷ [])) ≡ ended (signals_question 1 ∷ end_question Done 1 ∷ []) [] (Some 139 ∷ []) Done 1
@@ -31,7 +31,7 @@ unfolding computing
 a_jump_into_the_stack = refl
 
 -- input in pieces of four
-copies_pieces : without_work (machine (program (0x00700893 ∷ 0x00000513 ∷ 0xFC010593 ∷ 0x04000613 ∷ 0x00000073 ∷ 0x00050C63 ∷ 0x00050613 ∷ 0x00800893 ∷ 0x00100513 ∷ 0x00000073 ∷ 0xFD9FF06F ∷ 0x00200893 ∷ 0x00000073 ∷ []) ∷ []) (with_frames 17)
+copies_pieces : without_work (whole_machine (program (0x00700893 ∷ 0x00000513 ∷ 0xFC010593 ∷ 0x04000613 ∷ 0x00000073 ∷ 0x00050C63 ∷ 0x00050613 ∷ 0x00800893 ∷ 0x00100513 ∷ 0x00000073 ∷ 0xFD9FF06F ∷ 0x00200893 ∷ 0x00000073 ∷ []) ∷ []) (with_frames 17)
     (posts [] ∷ input (codes "0123") ∷ input (codes "4567") ∷ input (codes "89") ∷ input [] ∷ []))
     ≡ ended (signals_question 1 ∷ input_question 1 1 64 ∷ input_question 1 1 64 ∷ input_question 1 1 64 ∷ input_question 1 1 64 ∷ end_question Done 1 ∷ []) (codes "0123456789") (Some 0 ∷ []) Done 1
 unfolding computing

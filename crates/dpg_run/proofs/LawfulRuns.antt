@@ -1,16 +1,16 @@
 -- The openings of small programs, and the worlds in which their runs end, are lawful: tested by the checker.
-use Rattle.std.specs.Prelude.{List, [], ◌∷◌, ◌≡◌, refl, Bool, true, false, ◌&&◌, IsTrue}
+use Rattle.std.specs.Prelude.{List, [], ◌∷◌, ◌≡◌, refl, Bool, true, false, IsTrue}
 use Rattle.dos_world.specs.World.{World}
 use Rattle.dos_world.specs.Lawful.{Lawful}
-use Rattle.dos_world.specs.IsLawful.{is_lawful, processes_are_lawful, threads_are_lawful, pipes_are_lawful, is_within_limits}
+use Rattle.dos_world.specs.IsLawful.{is_lawful, is_lawful_but_for_frames}
 use Rattle.dos_world.specs.Play.{Answer, Outcome, gives, asks, over, posts}
 use Rattle.dos_world.specs.declared.Config.{Config}
 use Rattle.dos_world.proofs.LawfulTest.{lawful_by}
 use Rattle.rv_exec.specs.Computing.{computing}
 use Rattle.elf_image.specs.Image.{Image}
-use Rattle.dpg_run.specs.Opening.{opening}
+use Rattle.group_open.specs.Opening.{opening}
 use Rattle.dpg_run.specs.Machine.{Finish, rounds_from}
-use Rattle.dpg_run.proofs.Programs.{with_frames}
+use Rattle.dpg_run.proofs.Programs.{with_frames, whole_opening}
 use Rattle.dpg_run.proofs.Endings.{exits_with_7}
 use Rattle.dpg_run.proofs.Sending.{says_hi}
 use Rattle.dpg_run.proofs.Threads.{sleeps, forks}
@@ -32,16 +32,14 @@ ends_in test (asks question output error) = false
 
 -- the same of the run of these images over these answers
 abbrev run_ends_in : (World → Bool) → List Image → Config → List Answer → Bool
-run_ends_in test images config answers = ends_in test (over answers (rounds_from (opening images config) config))
+run_ends_in test images config answers = ends_in test (over answers (rounds_from (whole_opening images config) config))
 
 -- one thread that sleeps for ever
 with_a_sleeper : IsTrue (run_ends_in is_lawful (sleeps ∷ []) (with_frames 17) (posts [] ∷ posts [] ∷ []))
 unfolding computing
 with_a_sleeper = refl
 
--- Processes, threads, pipes and limits of a run that forks; the bytes of its 34 frames take the checker too long.
-abbrev is_lawful_but_for_frames : World → Bool
-is_lawful_but_for_frames w = processes_are_lawful w && (threads_are_lawful w && (pipes_are_lawful w && is_within_limits w))
+-- All but the frames of a run that forks; the bytes of its 34 frames take the checker too long.
 
 -- after its first round: a child that lives, and a parent that waits for it
 parent_and_child : run_ends_in is_lawful_but_for_frames (forks ∷ []) (record { quantum = 1000; rounds = 1; frames = 34 }) (posts [] ∷ []) ≡ true

@@ -6,7 +6,5 @@ mod Fitting
 mod FittingEndings
 mod Edges
 mod LawfulRuns
-pub mod Runs
-pub mod OpeningParts
-pub mod OpeningLaws
-pub mod AcceptedFiles
+mod ReportLaws
+mod RoundsRun

@@ -6,7 +6,7 @@ use Rattle.dos_world.specs.declared.Ending.TheVariants.{Done}
 use Rattle.rv_exec.specs.Computing.{computing}
 use Rattle.elf_image.specs.Image.{Image}
 use Rattle.dpg_run.specs.Machine.{machine, ends, needs}
-use Rattle.dpg_run.proofs.Programs.{program, with_frames, ended, without_work}
+use Rattle.dpg_run.proofs.Programs.{program, with_frames, ended, without_work, whole_machine}
 
 -- write of three bytes to output, then process_exit with 0
 abbrev pub says_hi : Image
@@ -32,18 +32,18 @@ an_error_is_sent = refl
 abbrev copies : Image
 copies = program (0x00700893 ∷ 0x00000513 ∷ 0xFC010593 ∷ 0x04000613 ∷ 0x00000073 ∷ 0x00050C63 ∷ 0x00050613 ∷ 0x00800893 ∷ 0x00100513 ∷ 0x00000073 ∷ 0xFD9FF06F ∷ 0x00200893 ∷ 0x00000073 ∷ [])
 
-input_is_copied : without_work (machine (copies ∷ []) (with_frames 17) (posts [] ∷ input (codes "0123456789") ∷ input [] ∷ []))
+input_is_copied : without_work (whole_machine (copies ∷ []) (with_frames 17) (posts [] ∷ input (codes "0123456789") ∷ input [] ∷ []))
     ≡ ended (Signals 1 ∷ Input 1 1 64 ∷ Input 1 1 64 ∷ End Done 1 ∷ []) (codes "0123456789") (Some 0 ∷ []) Done 1
 unfolding computing
 input_is_copied = refl
 
 -- where the second reading has no answer, what was sent until there stands
-the_second_reading_is_asked : machine (copies ∷ []) (with_frames 17) (posts [] ∷ input (codes "0123456789") ∷ []) ≡ needs (Input 1 1 64) (codes "0123456789") []
+the_second_reading_is_asked : whole_machine (copies ∷ []) (with_frames 17) (posts [] ∷ input (codes "0123456789") ∷ []) ≡ needs (Input 1 1 64) (codes "0123456789") []
 unfolding computing
 the_second_reading_is_asked = refl
 
 -- clock, and then exit with its low half
-the_clock_is_asked : without_work (machine (program (0x01600893 ∷ 0x00000073 ∷ 0x00200893 ∷ 0x00000073 ∷ []) ∷ []) (with_frames 17) (posts [] ∷ reading 0x100000005 ∷ []))
+the_clock_is_asked : without_work (whole_machine (program (0x01600893 ∷ 0x00000073 ∷ 0x00200893 ∷ 0x00000073 ∷ []) ∷ []) (with_frames 17) (posts [] ∷ reading 0x100000005 ∷ []))
     ≡ ended (Signals 1 ∷ Clock 1 1 ∷ End Done 1 ∷ []) [] (Some 5 ∷ []) Done 1
 unfolding computing
 the_clock_is_asked = refl

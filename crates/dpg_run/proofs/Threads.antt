@@ -6,7 +6,7 @@ use Rattle.dos_world.specs.declared.Ending.TheVariants.{Done, Stalled}
 use Rattle.rv_exec.specs.Computing.{computing}
 use Rattle.elf_image.specs.Image.{Image}
 use Rattle.dpg_run.specs.Machine.{machine}
-use Rattle.dpg_run.proofs.Programs.{program, with_frames, with_quantum, ended, without_work}
+use Rattle.dpg_run.proofs.Programs.{program, with_frames, with_quantum, ended, without_work, whole_machine}
 
 -- Two threads load one word, yield, add 1 and store: one addition is lost, always.
 two_threads_lose_an_addition : without_work (machine (program (0x00300893 ∷ 0x00000517 ∷ 0x01450513 ∷ 0x00000073 ∷ 0x01700893 ∷ 0x00000073 ∷ 0x00000417 ∷ 0x03842283 ∷ 0x01700893 ∷ 0x00000073 ∷ 0x00128293
@@ -20,17 +20,17 @@ two_threads_lose_an_addition = refl
 abbrev pub sleeps : Image
 sleeps = program (0x00B00893 ∷ 0x00000517 ∷ 0x00052583 ∷ 0x00000073 ∷ 0x00200893 ∷ 0x00000073 ∷ [])
 
-nobody_is_ready : without_work (machine (sleeps ∷ []) (with_frames 17) (posts [] ∷ posts [] ∷ [])) ≡ ended (Signals 1 ∷ Signals 2 ∷ End Stalled 1 ∷ []) [] (None ∷ []) Stalled 1
+nobody_is_ready : without_work (whole_machine (sleeps ∷ []) (with_frames 17) (posts [] ∷ posts [] ∷ [])) ≡ ended (Signals 1 ∷ Signals 2 ∷ End Stalled 1 ∷ []) [] (None ∷ []) Stalled 1
 unfolding computing
 nobody_is_ready = refl
 
-a_signal_ends_a_sleeper : without_work (machine (sleeps ∷ []) (with_frames 17) (posts [] ∷ posts (record { pid = 1; signal = 15 } ∷ []) ∷ []))
+a_signal_ends_a_sleeper : without_work (whole_machine (sleeps ∷ []) (with_frames 17) (posts [] ∷ posts (record { pid = 1; signal = 15 } ∷ []) ∷ []))
     ≡ ended (Signals 1 ∷ Signals 2 ∷ End Done 1 ∷ []) [] (Some 143 ∷ []) Done 1
 unfolding computing
 a_signal_ends_a_sleeper = refl
 
 -- sig_handler of 15, then futex_wait, then exit with its answer; the handler is sig_return
-a_handler_interrupts_a_wait : without_work (machine (program (0x01000893 ∷ 0x00F00513 ∷ 0x00000597 ∷ 0x02458593 ∷ 0x00000073 ∷ 0x00B00893 ∷ 0x00000517 ∷ 0x00052583 ∷ 0x00000073 ∷ 0x00200893 ∷ 0x00000073
+a_handler_interrupts_a_wait : without_work (whole_machine (program (0x01000893 ∷ 0x00F00513 ∷ 0x00000597 ∷ 0x02458593 ∷ 0x00000073 ∷ 0x00B00893 ∷ 0x00000517 ∷ 0x00052583 ∷ 0x00000073 ∷ 0x00200893 ∷ 0x00000073
     ∷ 0x01200893 ∷ 0x00000073 ∷ []) ∷ []) (with_frames 17) (posts [] ∷ posts (record { pid = 1; signal = 15 } ∷ []) ∷ []))
     ≡ ended (Signals 1 ∷ Signals 2 ∷ End Done 2 ∷ []) [] (Some 252 ∷ []) Done 2
 unfolding computing
@@ -52,7 +52,7 @@ a_part_empties_the_reservation = refl
 abbrev pub forks : Image
 forks = program (0x00400893 ∷ 0x00000073 ∷ 0x00050E63 ∷ 0x00500893 ∷ 0x00000513 ∷ 0x00000073 ∷ 0x00058513 ∷ 0x00200893 ∷ 0x00000073 ∷ 0x00500513 ∷ 0x00200893 ∷ 0x00000073 ∷ [])
 
-a_parent_collects_its_child : without_work (machine (forks ∷ []) (with_frames 34) (posts [] ∷ posts [] ∷ posts [] ∷ []))
+a_parent_collects_its_child : without_work (whole_machine (forks ∷ []) (with_frames 34) (posts [] ∷ posts [] ∷ posts [] ∷ []))
     ≡ ended (Signals 1 ∷ Signals 2 ∷ Signals 3 ∷ End Done 3 ∷ []) [] (Some 5 ∷ Some 5 ∷ []) Done 3
 unfolding computing
 a_parent_collects_its_child = refl

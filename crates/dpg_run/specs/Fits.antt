@@ -11,7 +11,7 @@ use Rattle.dos_world.specs.declared.Question.TheVariants.{Signals, Input, Clock,
 use Rattle.dos_io.specs.declared.exchange.Exchange.{Exchange}
 use Rattle.dos_io.specs.Exchanges.{question_of, answer_of}
 use Rattle.elf_image.specs.Image.{Image}
-use Rattle.dpg_run.specs.Opening.{opening}
+use Rattle.group_open.specs.Opening.{opening}
 use Rattle.dpg_run.specs.Machine.{run_from, group}
 
 -- From this world the run asks exactly the questions of these exchanges, one after another, where they answer it; the last is its end.

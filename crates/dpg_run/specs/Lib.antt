@@ -1,5 +1,4 @@
-pub mod Opening
 pub mod Machine
 pub mod Report
 pub mod Fits
-pub mod Laws
+pub mod Running

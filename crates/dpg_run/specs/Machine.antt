@@ -9,7 +9,7 @@ use Rattle.dos_world.specs.declared.Question.{Question}
 use Rattle.dos_world.specs.declared.Question.TheVariants.{End as end_question}
 use Rattle.round_core.specs.Round.{went, finished, stalled, round_of, is_none_of}
 use Rattle.elf_image.specs.Image.{Image}
-use Rattle.dpg_run.specs.Opening.{opening}
+use Rattle.group_open.specs.Opening.{opening}
 
 -- ---- the run
 

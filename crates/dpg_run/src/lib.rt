@@ -1,4 +1,13 @@
-//! The run of a group of images, from its opening to its report: definitions, and the law that openings are lawful.
+//! The run of a group of images, from its opening to its report.
 #![tactic(auto)]
 
-pub mod laws;
+mod open;
+mod report;
+mod run;
+
+pub use open::open_group;
+pub use report::put_report;
+pub use run::run_group;
+
+#[cfg(test)]
+mod tests;

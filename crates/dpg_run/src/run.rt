@@ -1,0 +1,79 @@
+// A whole run.
+ghost use Rattle.std.specs.Prelude.{◌≡◌, ◌==◌, false, if◌then◌else◌, is_some, length, IfOk, IfErr, OnOk, OnSome};
+ghost use Rattle.dos_world.specs.Numbered.{numbers_of};
+ghost use Rattle.dos_io.specs.Shims.{HasNoEnd};
+ghost use Rattle.kernel_calls.specs.Serving.{shim_stop};
+ghost use Rattle.group_rounds.specs.Going.{telling};
+ghost use Rattle.group_rounds.specs.Outside.{HaveCauses};
+ghost use Rattle.dpg_run.specs.Running.{RanGroup, RanRounds, StoppedGroup};
+
+use dos_io::{Shim, Sink};
+use dos_world::Ending;
+use group_rounds::{Kernel, RoundEnd, run_round, run_stop};
+use kernel_calls::RunStop;
+
+// how a run ends where no round is left
+fn limit_ending(kernel: &Kernel) -> Ending
+    ensures { result ≡ (if length (numbers_of is_some kernel.now.state.table.threads) == 0 then Ending.Done else Ending.Limit) }
+{
+    if kernel.state().table.live_threads() == 0 {
+        Ending::Done
+    } else {
+        Ending::Limit
+    }
+}
+
+// the rounds of a run, as many as its configuration allows
+fn run_rounds<S: Shim, O: Sink, E: Sink>(
+    kernel: &mut Kernel,
+    shim: &mut S,
+    out: &mut O,
+    err: &mut E,
+) -> Result<Ending, RunStop>
+    requires running { kernel.old.failed ≡ false }
+    requires fresh { kernel.old.state.round ≡ 1 }
+    requires told { HasNoEnd (S.state shim.old).told }
+    ensures runs { IfOk result (λ ending. RanRounds kernel.old.config kernel.old.state (telling (S.state shim.old).told (O.told out.old) (E.told err.old)) ending kernel.new.state (telling (S.state shim.new).told (O.told out.new) (E.told err.new))) }
+    ensures asks { IfErr result (λ stop. OnSome (shim_stop stop) (StoppedGroup kernel.old.config kernel.old.state (telling (S.state shim.old).told (O.told out.old) (E.told err.old)) (telling (S.state shim.new).told (O.told out.new) (E.told err.new)) (S.state shim.new).asked)) }
+    ensures config { kernel.new.config ≡ kernel.old.config }
+    ensures running { OnOk result (kernel.new.failed ≡ false) }
+    ensures told { OnOk result (HasNoEnd (S.state shim.new).told) }
+    ensures causes { HaveCauses result (S.state shim.old) (S.state shim.new) (O.faults out.old) (O.faults out.new) (E.faults err.old) (E.faults err.new) }
+    ensures follows { S.follows shim.old shim.new }
+{
+    let rounds = kernel.config().rounds;
+    for _round in 0..rounds {
+        match run_round(kernel, shim, out, err)? {
+            RoundEnd::Went => {}
+            RoundEnd::Done => return Ok(Ending::Done),
+            RoundEnd::Stalled => return Ok(Ending::Stalled),
+        }
+    }
+    Ok(limit_ending(kernel))
+}
+
+/// Runs a group that has run no round to its end, and tells the shim the end.
+///
+/// After a stop at the end the kernel hasn't failed; after any other it has, and nothing more is said of it.
+pub fn run_group<S: Shim, O: Sink, E: Sink>(
+    kernel: &mut Kernel,
+    shim: &mut S,
+    out: &mut O,
+    err: &mut E,
+) -> Result<Ending, RunStop>
+    requires running { kernel.old.failed ≡ false }
+    requires fresh { kernel.old.state.round ≡ 1 }
+    requires told { HasNoEnd (S.state shim.old).told }
+    ensures runs { IfOk result (λ ending. RanGroup kernel.old.config kernel.old.state (telling (S.state shim.old).told (O.told out.old) (E.told err.old)) ending kernel.new.state (telling (S.state shim.new).told (O.told out.new) (E.told err.new))) }
+    ensures asks { IfErr result (λ stop. OnSome (shim_stop stop) (StoppedGroup kernel.old.config kernel.old.state (telling (S.state shim.old).told (O.told out.old) (E.told err.old)) (telling (S.state shim.new).told (O.told out.new) (E.told err.new)) (S.state shim.new).asked)) }
+    ensures config { kernel.new.config ≡ kernel.old.config }
+    ensures running { OnOk result (kernel.new.failed ≡ false) }
+    ensures causes { HaveCauses result (S.state shim.old) (S.state shim.new) (O.faults out.old) (O.faults out.new) (E.faults err.old) (E.faults err.new) }
+    ensures follows { S.follows shim.old shim.new }
+{
+    let ending = run_rounds(kernel, shim, out, err)?;
+    match shim.end(ending, kernel.rounds()) {
+        Ok(()) => Ok(ending),
+        Err(stop) => Err(run_stop(stop)),
+    }
+}

@@ -1,0 +1,10 @@
+pub mod Runs
+pub mod OpeningParts
+pub mod OpeningLaws
+pub mod AcceptedFiles
+pub mod PageLaws
+pub mod FillingLaws
+pub mod HeldLaws
+pub mod OpensLaws
+pub mod GroupLaws
+pub mod StateLaws

@@ -1,0 +1,5 @@
+pub mod Opening
+pub mod Laws
+pub mod Pages
+pub mod Filling
+pub mod Group

@@ -1,0 +1,10 @@
+pub mod GoesLaws
+pub mod GoingLaws
+pub mod Quiet
+pub mod Sound
+pub mod RunningLaws
+pub mod TurnLaws
+pub mod CauseLaws
+pub mod Starters
+pub mod PhaseLaws
+pub mod RoundLaws

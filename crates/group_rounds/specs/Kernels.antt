@@ -1,0 +1,30 @@
+-- What a kernel holds. This project's own rules.
+use Rattle.std.specs.Prelude.{◌≡◌, ◌≤◌, ◌-◌, Bool, false, length}
+use Rattle.dos_world.specs.World.{World}
+use Rattle.dos_world.specs.Lawful.{IsConfig}
+use Rattle.dos_world.specs.declared.Config.{Config}
+use Rattle.kernel_calls.specs.Serving.{IsSound, world_of}
+use Rattle.kernel_calls.specs.declared.state.State.{State}
+
+-- the state between two rounds, what the run was given, and whether a round has failed
+pub record Held : Type 0 where
+  pub state : State
+  pub config : Config
+  pub failed : Bool
+
+-- A state that a run with this configuration may have between two rounds.
+pub record IsBetweenRounds (state : State) (config : Config) : Type 0 where
+  pub sound : IsSound state
+  pub range : IsConfig config
+  pub rounds : state.round - 1 ≤ config.rounds
+  pub frames : length state.frames.owners ≡ config.frames
+
+-- the kernel's flat world, with nothing sent
+abbrev pub kernel_world : Held → World
+kernel_world k = world_of k.config.quantum k.state
+
+-- a kernel with this configuration that has run no round
+pub record IsFresh (k : Held) (config : Config) : Type 0 where
+  pub running : k.failed ≡ false
+  pub round : k.state.round ≡ 1
+  pub given : k.config ≡ config

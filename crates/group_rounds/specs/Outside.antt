@@ -1,0 +1,31 @@
+-- Why a run stops, and what a run may do to its shim and its sinks. This project's own rules.
+use Rattle.std.specs.Prelude.{ℕ, ◌≡◌, ◌≤◌, Some, None, Result, IfErr, OnOk}
+use Rattle.dos_io.specs.Outside.{Rose}
+use Rattle.dos_io.specs.Shims.{ShimState}
+use Rattle.kernel_calls.specs.Serving.{HasSinkCause, shim_stop}
+use Rattle.kernel_calls.specs.declared.state.RunStop.{RunStop}
+
+-- ---- causes
+
+-- the shim hasn't stopped
+pub record HasNotStopped (before after : ShimState) : Type 0 where
+  pub stops : after.stops ≡ before.stops
+  pub last : after.last ≡ before.last
+
+-- no count fell, and the shim hasn't stopped
+pub record HaveStood (before after : ShimState) (out out_after err err_after : ℕ) : Type 0 where
+  pub out_later : out ≤ out_after
+  pub err_later : err ≤ err_after
+  pub stands : HasNotStopped before after
+
+-- The shim stopped so, if the stop is a shim's; else it hasn't stopped.
+abbrev pub HasShimCause : RunStop → ShimState → ShimState → Type 0
+HasShimCause stop before after = elim (shim_stop stop) [ None ↦ HasNotStopped before after | Some s ↦ Rose before.stops after.stops × (after.last ≡ Some s) ]
+
+-- No sink's count falls, and a stop comes only where its object's count rose.
+pub record HaveCauses {T : Type 0} (result : Result T RunStop) (before after : ShimState) (out out_after err err_after : ℕ) : Type 0 where
+  pub out_later : out ≤ out_after
+  pub err_later : err ≤ err_after
+  pub shim : IfErr result (λ stop. HasShimCause stop before after)
+  pub stands : OnOk result (HasNotStopped before after)
+  pub sinks : IfErr result (λ stop. HasSinkCause stop out out_after err err_after)

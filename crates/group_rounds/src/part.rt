@@ -1,0 +1,192 @@
+// One thread's part in a round.
+ghost use Rattle.std.specs.Prelude.{◌≡◌, ◌+◌, ◌≤◌, ◌<◌, ℕ, List, true, IfOk, IfErr, OnOk, None, Err};
+ghost use Rattle.dos_world.specs.Kernel.{process_ended};
+ghost use Rattle.dos_world.specs.Play.{done};
+ghost use Rattle.dos_world.specs.World.{registers_by, released};
+ghost use Rattle.dos_world.specs.declared.Reason.TheVariants.{Page, Fault};
+ghost use Rattle.dos_io.specs.Shims.{HasNoEnd};
+ghost use Rattle.rv_exec.specs.Step.{step};
+ghost use Rattle.quantum_run.specs.Alone.{alone, emptied};
+ghost use Rattle.round_core.specs.Rest.{page_granted, process_of, rest_of};
+ghost use Rattle.proc_table.specs.Tables.{IsThread, thread_by};
+ghost use Rattle.kernel_calls.specs.Serving.{IsSound, sent, shim_stop, world_of};
+ghost use Rattle.group_rounds.specs.Going.{GoesTo, telling};
+ghost use Rattle.group_rounds.specs.Outside.{HaveCauses};
+ghost use Rattle.group_rounds.specs.Parts.{KeepsCount, Ran, budget_in, goes_on_after, part_left, part_measure, turns_left};
+
+use dos_io::{Shim, Sink};
+use dos_world::{Access, Reason};
+use kernel_calls::{RunStop, Served, State, end_process, serve};
+use proc_table::Table;
+use quantum_run::run_until_stop;
+
+// no reservation
+fn empty_reservation(table: &mut Table, tid: u32)
+    requires live { IsThread table.old.threads tid }
+    ensures { table.new ≡ thread_by (registers_by released) table.old tid }
+{
+    let mut regs = *table.regs(tid);
+    regs.set_held(None);
+    table.set_regs(tid, regs);
+}
+
+/// A part of the thread begins: with no reservation.
+pub(crate) fn begin(state: &mut State, tid: u32)
+    requires sound { IsSound state.old }
+    requires live { IsThread state.old.table.threads tid }
+    ensures empties { (q : ℕ) (o e : List ℕ) → emptied (sent o e (world_of q state.old)) tid ≡ sent o e (world_of q state.new) }
+    ensures budget { budget_in state.new tid ≡ budget_in state.old tid }
+    ensures sound { IsSound state.new }
+    ensures round { state.new.round ≡ state.old.round }
+    ensures count { KeepsCount state.old state.new }
+    ensures live { IsThread state.new.table.threads tid }
+{
+    empty_reservation(&mut state.table, tid);
+}
+
+/// Runs the thread in place until its next instruction stops or its budget is 0: why it stops, or None exactly where the
+/// budget is 0.
+pub(crate) fn run(state: &mut State, tid: u32) -> Option<Reason>
+    requires sound { IsSound state.old }
+    requires live { IsThread state.old.table.threads tid }
+    ensures ran { Ran state.old tid state.new result }
+    ensures sound { IsSound state.new }
+    ensures round { state.new.round ≡ state.old.round }
+    ensures count { KeepsCount state.old state.new }
+    ensures live { IsThread state.new.table.threads tid }
+{
+    let pid = state.table.process_of(tid);
+    let mut regs = *state.table.regs(tid);
+    let mut budget = state.table.budget(tid);
+    let space = state.table.space(pid);
+    let reason = run_until_stop(&mut state.frames, space, tid, &mut regs, &mut budget);
+    // that each page has an owner is known of the frames themselves
+    let _count = state.frames.count();
+    state.table.set_run(tid, regs, budget);
+    reason
+}
+
+/// The thread's parallel part.
+pub(crate) fn run_alone(state: &mut State, tid: u32)
+    requires sound { IsSound state.old }
+    requires live { IsThread state.old.table.threads tid }
+    ensures runs { (q : ℕ) (o e : List ℕ) → alone (sent o e (world_of q state.old)) tid ≡ sent o e (world_of q state.new) }
+    ensures sound { IsSound state.new }
+    ensures round { state.new.round ≡ state.old.round }
+    ensures count { KeepsCount state.old state.new }
+{
+    begin(state, tid);
+    let _reason = run(state, tid);
+}
+
+// the page at an address is granted
+fn grant(state: &mut State, tid: u32, address: u32, access: Access)
+    requires sound { IsSound state.old }
+    requires live { IsThread state.old.table.threads tid }
+    ensures grants { (q : ℕ) (o e : List ℕ) → page_granted (sent o e (world_of q state.old)) tid address access ≡ sent o e (world_of q state.new) }
+    ensures sound { IsSound state.new }
+    ensures table { state.new.table ≡ state.old.table }
+    ensures round { state.new.round ≡ state.old.round }
+    ensures count { KeepsCount state.old state.new }
+{
+    let pid = state.table.process_of(tid);
+    if let Some(entry) = state.table.space(pid).look(address / 4096) {
+        state.frames.grant(entry.frame, tid, access);
+    }
+}
+
+// the thread's process ends, with 128 plus the number of its fault
+fn end_by_fault(state: &mut State, tid: u32, number: u8)
+    requires sound { IsSound state.old }
+    requires live { IsThread state.old.table.threads tid }
+    requires small { number ≤ 11 }
+    ensures ends { (q : ℕ) (o e : List ℕ) → process_ended (sent o e (world_of q state.old)) (process_of (sent o e (world_of q state.old)) tid) (128 + number) ≡ sent o e (world_of q state.new) }
+    ensures sound { IsSound state.new }
+    ensures round { state.new.round ≡ state.old.round }
+    ensures count { KeepsCount state.old state.new }
+{
+    let pid = state.table.process_of(tid);
+    end_process(state, pid, 128 + number);
+}
+
+// whether the thread's part goes on
+fn goes_on_after(way: Served) -> bool
+    ensures { result ≡ goes_on_after way }
+{
+    match way {
+        Served::Went => true,
+        Served::Waits | Served::Yields | Served::Gone => false,
+    }
+}
+
+// what follows a stop: the page is granted, or the process ends, or the ecall is served; whether the part goes on
+fn take_turn<S: Shim, O: Sink, E: Sink>(
+    state: &mut State,
+    tid: u32,
+    reason: Reason,
+    shim: &mut S,
+    out: &mut O,
+    err: &mut E,
+) -> Result<bool, RunStop>
+    requires sound { IsSound state.old }
+    requires live { IsThread state.old.table.threads tid }
+    requires budget { 0 < budget_in state.old tid }
+    requires stops { (q : ℕ) (o e : List ℕ) → step (sent o e (world_of q state.old)) tid ≡ Err reason }
+    requires told { HasNoEnd (S.state shim.old).told }
+    ensures goes { IfOk result (λ on. (q : ℕ) → GoesTo q (turns_left tid) state.old (telling (S.state shim.old).told (O.told out.old) (E.told err.old)) (part_left tid on) state.new (telling (S.state shim.new).told (O.told out.new) (E.told err.new))) }
+    ensures less { IfOk result (λ on. on ≡ true → part_measure state.new tid < part_measure state.old tid) }
+    ensures live { IfOk result (λ on. on ≡ true → IsThread state.new.table.threads tid) }
+    ensures sound { OnOk result (IsSound state.new) }
+    ensures round { state.new.round ≡ state.old.round }
+    ensures count { OnOk result (KeepsCount state.old state.new) }
+    ensures sinks { IfErr result (λ stop. shim_stop stop ≡ None) }
+    ensures told { OnOk result ((S.state shim.new).told ≡ (S.state shim.old).told) }
+    ensures causes { HaveCauses result (S.state shim.old) (S.state shim.new) (O.faults out.old) (O.faults out.new) (E.faults err.old) (E.faults err.new) }
+    ensures follows { S.follows shim.old shim.new }
+{
+    match reason {
+        Reason::Page { address, access } => {
+            grant(state, tid, address, access);
+            Ok(true)
+        }
+        Reason::Fault(number) => {
+            end_by_fault(state, tid, number);
+            Ok(false)
+        }
+        Reason::Service => {
+            let way = serve(state, tid, shim, out, err)?;
+            Ok(goes_on_after(way))
+        }
+    }
+}
+
+/// The thread's serial part: until its budget is 0 or it waits, yields or is gone.
+///
+/// After an `Err` nothing is said of the state. Today no service asks the shim, so that only a sink stops it.
+pub(crate) fn finish<S: Shim, O: Sink, E: Sink>(
+    state: &mut State,
+    tid: u32,
+    shim: &mut S,
+    out: &mut O,
+    err: &mut E,
+) -> Result<(), RunStop>
+    requires sound { IsSound state.old }
+    requires live { IsThread state.old.table.threads tid }
+    requires told { HasNoEnd (S.state shim.old).told }
+    ensures goes { OnOk result ((q : ℕ) → GoesTo q (λ w. rest_of w tid) state.old (telling (S.state shim.old).told (O.told out.old) (E.told err.old)) (λ w. done w) state.new (telling (S.state shim.new).told (O.told out.new) (E.told err.new))) }
+    ensures sound { OnOk result (IsSound state.new) }
+    ensures round { state.new.round ≡ state.old.round }
+    ensures count { OnOk result (KeepsCount state.old state.new) }
+    ensures sinks { IfErr result (λ stop. shim_stop stop ≡ None) }
+    ensures told { OnOk result ((S.state shim.new).told ≡ (S.state shim.old).told) }
+    ensures causes { HaveCauses result (S.state shim.old) (S.state shim.new) (O.faults out.old) (O.faults out.new) (E.faults err.old) (E.faults err.new) }
+    ensures follows { S.follows shim.old shim.new }
+{
+    begin(state, tid);
+    while let Some(reason) = run(state, tid) {
+        if !take_turn(state, tid, reason, shim, out, err)? {
+            break;
+        }
+    }
+    Ok(())
+}

@@ -1,0 +1,130 @@
+// The phases of a round, over its starters.
+ghost use Rattle.std.specs.Prelude.{◌≡◌, ◌≤◌, ◌+◌, ◌++◌, ◌∷◌, [], ℕ, List, None, filter, is_some, length, IfErr, OnOk};
+ghost use Rattle.std.specs.Vec.{vec_capacity};
+ghost use Rattle.dos_world.specs.Numbered.{numbers_of};
+ghost use Rattle.dos_world.specs.Play.{done};
+ghost use Rattle.dos_io.specs.Shims.{HasNoEnd};
+ghost use Rattle.round_core.specs.Rest.{rest_if_live, serial_of};
+ghost use Rattle.round_core.specs.Round.{all_alone, with_budgets};
+ghost use Rattle.proc_table.specs.Tables.{IsThread};
+ghost use Rattle.kernel_calls.specs.Serving.{IsSound, sent, shim_stop, world_of};
+ghost use Rattle.group_rounds.specs.Going.{GoesTo, telling};
+ghost use Rattle.group_rounds.specs.Outside.{HaveCauses};
+ghost use Rattle.group_rounds.specs.Parts.{KeepsCount};
+ghost use Rattle.group_rounds.specs.Phases.{AreLive, is_ready, ready_in};
+
+use crate::part::{finish, run_alone};
+use dos_io::{Shim, Sink};
+use dos_world::ThreadState;
+use kernel_calls::{RunStop, State};
+use proc_table::Table;
+
+// one more starter, for which there is room, if its thread is ready
+fn add_if_ready(table: &Table, starters: &mut Vec<u32>, tid: u32)
+    requires live { IsThread table.now.threads tid }
+    requires room { length starters.old.items + 1 ≤ vec_capacity starters.old }
+    ensures items { starters.new.items ≡ starters.old.items ++ filter (is_ready table.now.threads) (tid ∷ []) }
+    ensures room { vec_capacity starters.old ≤ vec_capacity starters.new }
+{
+    if table.state(tid) != ThreadState::Ready {
+        return;
+    }
+    match starters.push(tid) {
+        Ok(()) => {}
+        Err(_) => unreachable!(),
+    }
+}
+
+/// The numbers of the ready threads, in rising order.
+pub(crate) fn gather(table: &Table, starters: &mut Vec<u32>)
+    requires few { length (numbers_of is_some table.now.threads) ≤ 64 }
+    requires room { 64 ≤ vec_capacity starters.old }
+    ensures ready { starters.new.items ≡ ready_in table.now.threads }
+    ensures room { 64 ≤ vec_capacity starters.new }
+{
+    starters.clear();
+    let mut last = 0;
+    while let Some(tid) = table.next_thread(last) {
+        add_if_ready(table, starters, tid);
+        last = tid;
+    }
+}
+
+/// Each starter gets the quantum as its budget.
+pub(crate) fn set_budgets(state: &mut State, starters: &[u32], quantum: u32)
+    requires sound { IsSound state.old }
+    requires live { AreLive state.old.table.threads starters.now }
+    ensures sets { (o e : List ℕ) → with_budgets (sent o e (world_of quantum state.old)) starters.now ≡ sent o e (world_of quantum state.new) }
+    ensures sound { IsSound state.new }
+    ensures round { state.new.round ≡ state.old.round }
+    ensures count { KeepsCount state.old state.new }
+    ensures live { AreLive state.new.table.threads starters.now }
+{
+    for &tid in starters {
+        state.table.set_budget(tid, quantum);
+    }
+}
+
+/// The parallel phase: each starter by itself. Today they go one after another, in place.
+pub(crate) fn parallel_phase(state: &mut State, starters: &[u32])
+    requires sound { IsSound state.old }
+    requires live { AreLive state.old.table.threads starters.now }
+    ensures runs { (q : ℕ) (o e : List ℕ) → all_alone (sent o e (world_of q state.old)) starters.now ≡ sent o e (world_of q state.new) }
+    ensures sound { IsSound state.new }
+    ensures round { state.new.round ≡ state.old.round }
+    ensures count { KeepsCount state.old state.new }
+{
+    for &tid in starters {
+        run_alone(state, tid);
+    }
+}
+
+// the rest of a starter, if it still lives
+fn finish_if_live<S: Shim, O: Sink, E: Sink>(
+    state: &mut State,
+    tid: u32,
+    shim: &mut S,
+    out: &mut O,
+    err: &mut E,
+) -> Result<(), RunStop>
+    requires sound { IsSound state.old }
+    requires told { HasNoEnd (S.state shim.old).told }
+    ensures goes { OnOk result ((q : ℕ) → GoesTo q (λ w. rest_if_live w tid) state.old (telling (S.state shim.old).told (O.told out.old) (E.told err.old)) (λ w. done w) state.new (telling (S.state shim.new).told (O.told out.new) (E.told err.new))) }
+    ensures sound { OnOk result (IsSound state.new) }
+    ensures round { state.new.round ≡ state.old.round }
+    ensures count { OnOk result (KeepsCount state.old state.new) }
+    ensures sinks { IfErr result (λ stop. shim_stop stop ≡ None) }
+    ensures told { OnOk result ((S.state shim.new).told ≡ (S.state shim.old).told) }
+    ensures causes { HaveCauses result (S.state shim.old) (S.state shim.new) (O.faults out.old) (O.faults out.new) (E.faults err.old) (E.faults err.new) }
+    ensures follows { S.follows shim.old shim.new }
+{
+    if !state.table.is_thread(tid) {
+        return Ok(());
+    }
+    finish(state, tid, shim, out, err)
+}
+
+/// The serial phase: the rest of each starter that still lives, one after another.
+pub(crate) fn serial_phase<S: Shim, O: Sink, E: Sink>(
+    state: &mut State,
+    starters: &[u32],
+    shim: &mut S,
+    out: &mut O,
+    err: &mut E,
+) -> Result<(), RunStop>
+    requires sound { IsSound state.old }
+    requires told { HasNoEnd (S.state shim.old).told }
+    ensures goes { OnOk result ((q : ℕ) → GoesTo q (λ w. serial_of w starters.now) state.old (telling (S.state shim.old).told (O.told out.old) (E.told err.old)) (λ w. done w) state.new (telling (S.state shim.new).told (O.told out.new) (E.told err.new))) }
+    ensures sound { OnOk result (IsSound state.new) }
+    ensures round { state.new.round ≡ state.old.round }
+    ensures count { OnOk result (KeepsCount state.old state.new) }
+    ensures sinks { IfErr result (λ stop. shim_stop stop ≡ None) }
+    ensures told { OnOk result ((S.state shim.new).told ≡ (S.state shim.old).told) }
+    ensures causes { HaveCauses result (S.state shim.old) (S.state shim.new) (O.faults out.old) (O.faults out.new) (E.faults err.old) (E.faults err.new) }
+    ensures follows { S.follows shim.old shim.new }
+{
+    for &tid in starters {
+        finish_if_live(state, tid, shim, out, err)?;
+    }
+    Ok(())
+}
