@@ -1,12 +1,15 @@
 pub mod Sent
-pub mod Memory
-pub mod Runs
 pub mod Told
-pub mod Images
-pub mod Exits
-pub mod Commands
+pub mod Verdicts
 pub mod Lines
 pub mod Parts
-mod Rows
 mod LineExamples
 mod PrintedExamples
+pub mod Decimals
+pub mod Asking
+pub mod Ranges
+pub mod Refusals
+pub mod Failing
+pub mod Silent
+pub mod QuietRuns
+pub mod GroupRuns

@@ -1,12 +1,14 @@
--- The exit statuses, and the one line of each message (this project's own tables).
-use Rattle.std.specs.Prelude.{ℕ, List, [], ◌++◌, codes}
-use Rattle.dpg_run.specs.Report.{line_feed}
-use Rattle.dos_cmd.specs.Lines.{line, words_refused, image_too_long, image_refused, file_fault, out_of_memory}
+-- The exit statuses, and the one line of each message. This project's own tables.
+use Rattle.std.specs.Prelude.{ℕ, List, [], Option, Some, None}
+use Rattle.dos_world.specs.declared.Ending.{Ending}
+use Rattle.dos_world.specs.declared.Ending.TheVariants as endings
+use Rattle.dos_cmd.specs.Lines.{Message, line, words_refused, image_too_long, image_refused, no_room, file_fault, out_of_memory}
 use Rattle.dos_cmd.specs.declared.exit.Exit.{Exit}
 use Rattle.dos_cmd.specs.declared.exit.Exit.TheVariants as exits
 use Rattle.dos_cmd.specs.declared.exit.Refusal.{Refusal}
 use Rattle.dos_cmd.specs.declared.exit.Refusal.TheVariants as refusals
 
+-- the exit status of each way to end
 unfoldable pub exit_number : Exit → ℕ
 exit_number exits.Done = 0
 exit_number exits.Words = 2
@@ -14,26 +16,40 @@ exit_number exits.Image = 3
 exit_number exits.Files = 5
 exit_number exits.Sink = 6
 exit_number exits.Limit = 7
+exit_number exits.Stalled = 8
 exit_number exits.Memory = 9
 
+-- how a call ends whose run ended so
+abbrev pub exit_by : Ending → Exit
+exit_by endings.Done = exits.Done
+exit_by endings.Limit = exits.Limit
+exit_by endings.Stalled = exits.Stalled
+
+-- how a call ends that was refused
 unfoldable pub exit_of : Refusal → Exit
 exit_of refusals.Words = exits.Words
-exit_of refusals.TooLong = exits.Image
-exit_of (refusals.Image error) = exits.Image
-exit_of refusals.NotBuilt = exits.Image
+exit_of (refusals.TooLong image) = exits.Image
+exit_of (refusals.Image image error) = exits.Image
+exit_of (refusals.NoRoom needed frames) = exits.Image
 exit_of refusals.Files = exits.Files
 exit_of refusals.Sink = exits.Sink
 exit_of refusals.Memory = exits.Memory
 
--- the one line that is no message of the whole program: a program that can't be run yet
-abbrev pub not_built_line : List ℕ
-not_built_line = codes "dos: image 1 not built yet" ++ line_feed
+-- what is said of a refusal: nothing once a sink has failed
+abbrev pub message_of : Refusal → Option Message
+message_of refusals.Words = Some words_refused
+message_of (refusals.TooLong image) = Some (image_too_long image)
+message_of (refusals.Image image error) = Some (image_refused image error)
+message_of (refusals.NoRoom needed frames) = Some (no_room needed frames)
+message_of refusals.Files = Some file_fault
+message_of refusals.Sink = None
+message_of refusals.Memory = Some out_of_memory
 
+-- the line of a message, where there is one
+abbrev pub line_if : Option Message → List ℕ
+line_if None = []
+line_if (Some message) = line message
+
+-- the one line of a refusal
 unfoldable pub line_of : Refusal → List ℕ
-line_of refusals.Words = line words_refused
-line_of refusals.TooLong = line (image_too_long 1)
-line_of (refusals.Image error) = line (image_refused 1 error)
-line_of refusals.NotBuilt = not_built_line
-line_of refusals.Files = line file_fault
-line_of refusals.Sink = []
-line_of refusals.Memory = line out_of_memory
+line_of refusal = line_if (message_of refusal)

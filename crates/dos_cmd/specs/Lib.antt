@@ -1,6 +1,8 @@
-pub mod Machine
-pub mod Flat
+pub mod Words
+pub mod Shown
 pub mod Lines
 pub mod Printed
+pub mod Images
 pub mod Exit
-pub mod Report
+pub mod Results
+pub mod Stops

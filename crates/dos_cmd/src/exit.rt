@@ -1,29 +1,33 @@
 //! How a call ends, and the lines that say so.
 ghost use Rattle.std.specs.Prelude.{◌≡◌, ◌≤◌, ◌++◌, length};
 ghost use Rattle.arrayvec.specs.ArrayString.{array_string_len};
-ghost use Rattle.dos_cmd.specs.Exit.{exit_number, exit_of, line_of};
-ghost use Rattle.dos_cmd.specs.Lines.{line, image_refused, indexes_text};
+ghost use Rattle.dos_cmd.specs.Exit.{exit_number, exit_by, exit_of, line_of};
+ghost use Rattle.dos_cmd.specs.Lines.{line, image_too_long, image_refused, no_room, indexes_text};
 
 use crate::line::LINE;
 use arrayvec::ArrayString;
+use dos_world::Ending;
 use elf_image::ImageError;
 use itoa::Buffer;
+use std::alloc::AllocFailed;
 
 /// How a call ended. The numbers are exit statuses.
 #[derive(Clone, Copy, Debug, PartialEq, Eq)]
 pub enum Exit {
-    /// The process ended.
+    /// No process lives any more, or an image was inspected.
     Done = 0,
     /// The words ask for nothing.
     Words = 2,
-    /// The image's file is too long, refused or not flat.
+    /// An image's file is too long or refused, or there is no room for the images.
     Image = 3,
     /// A file couldn't be read.
     Files = 5,
     /// A put to output or error failed.
     Sink = 6,
-    /// The process lives at the limit of rounds.
+    /// Processes live at the limit of rounds.
     Limit = 7,
+    /// Processes live, and none of them can go on.
+    Stalled = 8,
     /// Memory ran out.
     Memory = 9,
 }
@@ -36,25 +40,47 @@ impl Exit {
     {
         self as u8
     }
+
+    /// How a call ends whose run ended so.
+    pub fn of_ending(ending: Ending) -> Exit
+        ensures { result ≡ exit_by ending }
+    {
+        match ending {
+            Ending::Done => Exit::Done,
+            Ending::Limit => Exit::Limit,
+            Ending::Stalled => Exit::Stalled,
+        }
+    }
 }
 
-/// Why a call came to no report.
+/// Why a call came to no report. Images are counted from 1, in the order of the words.
 #[derive(Clone, Copy, Debug, PartialEq, Eq)]
 pub enum Refusal {
     /// The words ask for nothing.
     Words,
-    /// The image's file is too long.
-    TooLong,
-    /// The image's file is refused for this, which is never want of memory.
-    Image(ImageError),
-    /// The image is one that can't be run yet: it isn't flat.
-    NotBuilt,
+    /// The file of this image is too long.
+    TooLong(u32),
+    /// The file of this image is refused for this, which is never want of memory.
+    Image(u32, ImageError),
+    /// The images need so many frames, and there are so many.
+    NoRoom(u64, u32),
     /// A file couldn't be read.
     Files,
     /// A put to output or error failed.
     Sink,
-    /// Memory ran out, before the guest's first instruction.
+    /// Memory ran out.
     Memory,
+}
+
+impl<T: Drop> From<AllocFailed<T>> for Refusal {
+    ghost use Rattle.std.specs.Prelude.{◌≡◌};
+    ghost use Rattle.dos_cmd.specs.declared.exit.Refusal.TheVariants.{Memory};
+
+    ghost from_gives = { λ _ e. e ≡ Memory };
+
+    fn from(_failed: AllocFailed<T>) -> Refusal {
+        Refusal::Memory
+    }
 }
 
 impl Refusal {
@@ -65,9 +91,9 @@ impl Refusal {
     {
         match self {
             Refusal::Words => Exit::Words,
-            Refusal::TooLong => Exit::Image,
-            Refusal::Image(_) => Exit::Image,
-            Refusal::NotBuilt => Exit::Image,
+            Refusal::TooLong(_) => Exit::Image,
+            Refusal::Image(_, _) => Exit::Image,
+            Refusal::NoRoom(_, _) => Exit::Image,
             Refusal::Files => Exit::Files,
             Refusal::Sink => Exit::Sink,
             Refusal::Memory => Exit::Memory,
@@ -75,15 +101,15 @@ impl Refusal {
     }
 
     /// The line that says so. Where a sink failed there is none, since nothing more is written.
-    #[tactic(auto, using(crate::proofs::Exits::too_long_of), unfolding(crate::specs::Exit::line_of))]
+    #[tactic(auto, unfolding(crate::specs::Exit::line_of))]
     pub fn line(self) -> ArrayString<LINE>
         ensures { result.bytes ≡ line_of self }
     {
         match self {
             Refusal::Words => text_line("dos: words refused\n"),
-            Refusal::TooLong => text_line("dos: image 1 too long\n"),
-            Refusal::Image(error) => image_line(error),
-            Refusal::NotBuilt => text_line("dos: image 1 not built yet\n"),
+            Refusal::TooLong(image) => long_line(image),
+            Refusal::Image(image, error) => image_line(image, error),
+            Refusal::NoRoom(needed, frames) => room_line(needed, frames),
             Refusal::Files => text_line("dos: file fault\n"),
             Refusal::Sink => text_line(""),
             Refusal::Memory => text_line("dos: out of memory\n"),
@@ -122,15 +148,43 @@ fn push_indexes(line: &mut ArrayString<LINE>, error: ImageError)
     }
 }
 
-/// The line of an image that is refused.
-fn image_line(error: ImageError) -> ArrayString<LINE>
-    ensures { result.bytes ≡ line (image_refused 1 error) }
+/// The line of an image whose file is too long.
+fn long_line(image: u32) -> ArrayString<LINE>
+    ensures { result.bytes ≡ line (image_too_long image) }
 {
     let mut number = Buffer::new();
     let mut line = ArrayString::new();
-    line.push_str("dos: image 1 refused ");
+    line.push_str("dos: image ");
+    line.push_str(number.format(image));
+    line.push_str(" too long\n");
+    line
+}
+
+/// The line of an image that is refused.
+fn image_line(image: u32, error: ImageError) -> ArrayString<LINE>
+    ensures { result.bytes ≡ line (image_refused image error) }
+{
+    let mut number = Buffer::new();
+    let mut line = ArrayString::new();
+    line.push_str("dos: image ");
+    line.push_str(number.format(image));
+    line.push_str(" refused ");
     line.push_str(number.format(error.number()));
     push_indexes(&mut line, error);
+    line.push_str("\n");
+    line
+}
+
+/// The line of images for which there is no room.
+fn room_line(needed: u64, frames: u32) -> ArrayString<LINE>
+    ensures { result.bytes ≡ line (no_room needed frames) }
+{
+    let mut number = Buffer::new();
+    let mut line = ArrayString::new();
+    line.push_str("dos: needs ");
+    line.push_str(number.format(needed));
+    line.push_str(" frames, has ");
+    line.push_str(number.format(frames));
     line.push_str("\n");
     line
 }

@@ -1,19 +1,14 @@
-//! The commands of `dos`: `run NAME` reads one image, runs it and reports; `inspect NAME` reads one and prints its parts.
+//! The commands of `dos`: `run` reads 1 to 8 images, runs them as one group and reports; `inspect NAME` reads one and prints its parts.
 #![tactic(auto)]
 
 mod exit;
-mod flat;
+mod images;
 mod inspect;
 mod line;
-mod report;
-mod run;
-mod service;
+mod number;
+mod request;
 mod top;
-mod words;
 
 pub use exit::{Exit, Refusal};
-pub use run::{FlatEnd, FlatStop, run_flat};
+pub use request::Request;
 pub use top::{dos_main, refuse};
-
-#[cfg(test)]
-mod tests;

@@ -1,107 +1,133 @@
 //! The top call: from the words to the exit status.
-ghost use Rattle.std.specs.Prelude.{◌≡◌, ◌≢◌, ◌≤◌, ◌⊎◌, ℕ, List, Some, IfOk, IfErr, IfSome, IsErrOf, IsTrue, OnOk};
+ghost use Rattle.std.specs.Prelude.{◌≡◌, ◌≢◌, ◌≤◌, ◌<◌, ◌⊎◌, ℕ, List, Option, None, Some, Ok, Err, length, IfOk, IfErr, OnOk, false};
+ghost use Rattle.dos_world.specs.Lawful.{IsConfig};
 ghost use Rattle.dos_io.specs.Outside.{Rose, grown};
-ghost use Rattle.elf_image.specs.Form.{is_flat};
-ghost use Rattle.dos_cmd.specs.Machine.{run};
-ghost use Rattle.dos_cmd.specs.Flat.{opening_of};
+ghost use Rattle.elf_image.specs.Image.{Image as Parsed};
+ghost use Rattle.group_open.specs.Opening.{needed};
+ghost use Rattle.dos_cmd.specs.Words.{texts, Asked, runs, inspects, request};
+ghost use Rattle.dos_cmd.specs.Shown.{asked_by, IsInRange};
+ghost use Rattle.dos_cmd.specs.Images.{judgement};
 ghost use Rattle.dos_cmd.specs.Lines.{line, words_refused, file_fault, out_of_memory};
 ghost use Rattle.dos_cmd.specs.Exit.{line_of, exit_of, exit_number};
-ghost use Rattle.dos_cmd.specs.Report.{texts, Asks, Reports, Ran, Inspected, Refused, SaysOnly, SaysOfImage, taken, verdict, run_of, ending_of, IsStatus, status_of};
-ghost use Rattle.dos_cmd.specs.declared.words.Command.{Command};
+ghost use Rattle.dos_cmd.specs.Results.{sinks, SaysOnly, Ran, Did, DidWith, Finished, Refused, EndsForMemory, FailsRunning, FailsAsked, Fails, IsStatus};
+ghost use Rattle.dos_cmd.specs.Stops.{IsOpened, IsQuietStop, refusal_by};
 
 use crate::exit::{Exit, Refusal};
+use crate::images::{load, load_all};
 use crate::inspect::inspect;
-use crate::report::put_report;
-use crate::run::{FlatEnd, FlatStop, run_flat};
-use crate::words::{Command, read_words};
-use dos_io::{FileError, Files, Sink};
-use elf_image::{Image, ImageError, read_image};
+use crate::request::{Request, read_words};
+use dos_io::{Files, Quiet, Sink};
+use dos_world::Config;
+use dpg_run::{open_group, put_report, run_group};
+use elf_image::Image;
+use group_open::OpenError;
+use group_rounds::Kernel;
+use kernel_calls::RunStop;
 use std::alloc::Global;
 
-/// The longest file that is read.
-const LIMIT: u64 = 4194304;
-
-/// How many rounds are run at most.
-const ROUNDS: u32 = 100000;
-
-/// The image, if the command takes it.
-fn take(command: Command, image: Image) -> Result<Image, Refusal>
-    ensures { result ≡ taken command image }
+/// Why a run over a quiet shim comes to no ending. Such a shim stops for want of memory alone.
+fn stop_refusal(stop: RunStop) -> Refusal
+    requires { IsQuietStop stop }
+    ensures { result ≡ refusal_by stop }
 {
-    match command {
-        Command::Run => {
-            if image.is_flat() {
-                Ok(image)
-            } else {
-                Err(Refusal::NotBuilt)
-            }
-        }
-        Command::Inspect => Ok(image),
+    match stop {
+        RunStop::OutFault => Refusal::Sink,
+        RunStop::ErrFault => Refusal::Sink,
+        RunStop::Memory => Refusal::Memory,
+        RunStop::HostFault => unreachable!(),
+        RunStop::LogFull => unreachable!(),
+        RunStop::Misfit(_) => unreachable!(),
     }
 }
 
-/// Why a file is refused that isn't read as an image. Want of memory refuses no image.
-fn refusal_of(error: ImageError) -> Refusal
-    ensures { ((error ≡ ImageError.Memory) × (result ≡ Refusal.Memory)) ⊎ ((error ≢ ImageError.Memory) × (result ≡ Refusal.Image error)) }
-{
-    if error == ImageError::Memory {
-        Refusal::Memory
-    } else {
-        Refusal::Image(error)
-    }
-}
-
-/// Reads the file of a name as an image for the command.
-#[tactic(auto, using(crate::proofs::Images::told_long, crate::proofs::Images::taken_flat), unfolding(crate::specs::Exit::exit_of))]
-fn load<F: Files>(
+/// Runs a group that was opened, and puts its report.
+fn run_opened<O: Sink, E: Sink>(
     alloc: Global,
-    files: &mut F,
-    command: Command,
-    name: &str,
-) -> Result<Image, Refusal>
-    ensures accepted { IfOk result (λ parsed. IfSome (F.content files.old name.now) (λ file. verdict command file ≡ Ok parsed)) }
-    ensures flat { IfOk result (λ parsed. command ≡ Command.Run → IsTrue (is_flat parsed)) }
-    ensures refused { IfErr result (λ why. exit_of why ≡ Exit.Image → IfSome (F.content files.old name.now) (λ file. verdict command file ≡ Err why)) }
-    ensures fault { IsErrOf result Refusal.Files → Rose (F.faults files.old) (F.faults files.new) }
-    ensures words { ¬ IsErrOf result Refusal.Words }
-    ensures sink { ¬ IsErrOf result Refusal.Sink }
-    ensures later { F.faults files.old ≤ F.faults files.new }
-    ensures stays { (n : List ℕ) → F.content files.new n ≡ F.content files.old n }
-{
-    let bytes = match files.get(name, LIMIT) {
-        Ok(bytes) => bytes,
-        Err(FileError::TooLong) => return Err(Refusal::TooLong),
-        Err(FileError::Fault) => return Err(Refusal::Files),
-        Err(FileError::Memory) => return Err(Refusal::Memory),
-    };
-    match read_image(alloc, &bytes) {
-        Ok(image) => take(command, image),
-        Err(error) => Err(refusal_of(error)),
-    }
-}
-
-/// Runs an image, and puts its report.
-fn execute<O: Sink, E: Sink>(
-    alloc: Global,
-    image: &Image,
+    kernel: &mut Kernel,
     out: &mut O,
     err: &mut E,
 ) -> Result<Exit, Refusal>
-    requires { IsTrue (is_flat image.now) }
-    ensures exit { IfOk result (λ exit. exit ≡ ending_of (run 100000 (opening_of image.now)).core.status) }
-    ensures reports { OnOk result (Reports (O.told out.old) (E.told err.old) (O.told out.new) (E.told err.new) (run 100000 (opening_of image.now))) }
-    ensures sink { IsErrOf result Refusal.Sink → Rose (O.faults out.old) (O.faults out.new) ⊎ Rose (E.faults err.old) (E.faults err.new) }
-    ensures memory { IfErr result (λ e. e ≢ Refusal.Sink → (e ≡ Refusal.Memory) × (O.told out.new ≡ O.told out.old) × (E.told err.new ≡ E.told err.old)) }
+    requires running { kernel.old.failed ≡ false }
+    requires fresh { kernel.old.state.round ≡ 1 }
+    ensures ran { IfOk result (λ exit. (images : List Parsed) (config : Config) → IsConfig config → IsOpened kernel.old images config → Ran images config (exit_number exit) (sinks (O.told out.old) (E.told err.old) (O.told out.new) (E.told err.new))) }
+    ensures fails { IfErr result (λ why. (images : List Parsed) (config : Config) → IsConfig config → IsOpened kernel.old images config → needed images ≤ config.frames
+        → FailsRunning images config (Rose (O.faults out.old) (O.faults out.new) ⊎ Rose (E.faults err.old) (E.faults err.new)) (sinks (O.told out.old) (E.told err.old) (O.told out.new) (E.told err.new)) why) }
     ensures out_later { O.faults out.old ≤ O.faults out.new }
     ensures err_later { E.faults err.old ≤ E.faults err.new }
 {
-    let end = match run_flat(alloc, image, ROUNDS, out, err) {
-        Ok(end) => end,
-        Err(FlatStop::OutFault) => return Err(Refusal::Sink),
-        Err(FlatStop::ErrFault) => return Err(Refusal::Sink),
-        Err(FlatStop::Memory) => return Err(Refusal::Memory),
+    let mut shim = Quiet::new(alloc);
+    let ending = match run_group(kernel, &mut shim, out, err) {
+        Ok(ending) => ending,
+        Err(stop) => return Err(stop_refusal(stop)),
     };
-    put_report(&end, err)
+    match put_report(kernel, ending, err) {
+        Ok(()) => Ok(Exit::of_ending(ending)),
+        Err(_) => Err(Refusal::Sink),
+    }
+}
+
+/// Runs the images as one group, and puts its report.
+fn execute<O: Sink, E: Sink>(
+    alloc: Global,
+    images: &[Image],
+    config: Config,
+    out: &mut O,
+    err: &mut E,
+) -> Result<Exit, Refusal>
+    requires some { 1 ≤ length images.now }
+    requires few { length images.now ≤ 8 }
+    requires range { IsConfig config }
+    ensures ran { IfOk result (λ exit. Ran images.now config (exit_number exit) (sinks (O.told out.old) (E.told err.old) (O.told out.new) (E.told err.new))) }
+    ensures fits { OnOk result (needed images.now ≤ config.frames) }
+    ensures fails { IfErr result (FailsRunning images.now config (Rose (O.faults out.old) (O.faults out.new) ⊎ Rose (E.faults err.old) (E.faults err.new)) (sinks (O.told out.old) (E.told err.old) (O.told out.new) (E.told err.new))) }
+    ensures out_later { O.faults out.old ≤ O.faults out.new }
+    ensures err_later { E.faults err.old ≤ E.faults err.new }
+{
+    let mut kernel = match open_group(alloc, images, config) {
+        Ok(kernel) => kernel,
+        Err(OpenError::NoRoom { needed, frames }) => return Err(Refusal::NoRoom(needed, frames)),
+        Err(OpenError::Memory) => return Err(Refusal::Memory),
+    };
+    run_opened(alloc, &mut kernel, out, err)
+}
+
+/// Runs the images of these names as one group.
+fn run_images<F: Files, O: Sink, E: Sink>(
+    alloc: Global,
+    files: &mut F,
+    config: Config,
+    names: &[String],
+    out: &mut O,
+    err: &mut E,
+) -> Result<Exit, Refusal>
+    requires { IsInRange (runs config (texts names.now)) }
+    ensures did { IfOk result (λ exit. Did (F.content files.old) (runs config (texts names.now)) (exit_number exit) (sinks (O.told out.old) (E.told err.old) (O.told out.new) (E.told err.new))) }
+    ensures fails { IfErr result (FailsAsked (F.content files.old) (runs config (texts names.now)) (Rose (F.faults files.old) (F.faults files.new)) (Rose (O.faults out.old) (O.faults out.new) ⊎ Rose (E.faults err.old) (E.faults err.new)) (sinks (O.told out.old) (E.told err.old) (O.told out.new) (E.told err.new))) }
+    ensures stays { (n : List ℕ) → F.content files.new n ≡ F.content files.old n }
+    ensures files_later { F.faults files.old ≤ F.faults files.new }
+    ensures out_later { O.faults out.old ≤ O.faults out.new }
+    ensures err_later { E.faults err.old ≤ E.faults err.new }
+{
+    let images = load_all(alloc, files, names)?;
+    execute(alloc, &images, config, out, err)
+}
+
+/// Prints the parts of the image of this name.
+fn inspect_image<F: Files, O: Sink>(
+    alloc: Global,
+    files: &mut F,
+    name: &str,
+    out: &mut O,
+) -> Result<Exit, Refusal>
+    // whatever error tells, and whether it fails
+    ensures did { IfOk result (λ exit. (e : Option (List ℕ)) → Did (F.content files.old) (inspects name.now) (exit_number exit) (sinks (O.told out.old) e (O.told out.new) e)) }
+    ensures fails { IfErr result (λ why. (e : Option (List ℕ)) (m n : ℕ) → FailsAsked (F.content files.old) (inspects name.now) (Rose (F.faults files.old) (F.faults files.new)) (Rose (O.faults out.old) (O.faults out.new) ⊎ Rose m n) (sinks (O.told out.old) e (O.told out.new) e) why) }
+    ensures stays { (n : List ℕ) → F.content files.new n ≡ F.content files.old n }
+    ensures files_later { F.faults files.old ≤ F.faults files.new }
+    ensures out_later { O.faults out.old ≤ O.faults out.new }
+{
+    let image = load(alloc, files, 1, name)?;
+    inspect(&image, out)
 }
 
 /// Does what the words ask for.
@@ -112,39 +138,25 @@ fn command<F: Files, O: Sink, E: Sink>(
     out: &mut O,
     err: &mut E,
 ) -> Result<Exit, Refusal>
-    ensures runs { IfOk result (λ exit. (name file : List ℕ) → Asks Command.Run (texts words.now) name → F.content files.old name ≡ Some file
-        → Ran file (exit_number exit) (O.told out.old) (E.told err.old) (O.told out.new) (E.told err.new)) }
-    ensures inspects { IfOk result (λ exit. (name file : List ℕ) → Asks Command.Inspect (texts words.now) name → F.content files.old name ≡ Some file
-        → Inspected file (O.told out.old) (E.told err.old) (O.told out.new) (E.told err.new)) }
-    ensures inspected { IfOk result (λ exit. (name : List ℕ) → Asks Command.Inspect (texts words.now) name → exit ≡ Exit.Done) }
-    ensures ending { IfOk result (λ exit. (exit ≡ Exit.Done) ⊎ (exit ≡ Exit.Limit)) }
-
-    ensures words { IsErrOf result Refusal.Words → (command : Command) (name : List ℕ) → ¬ Asks command (texts words.now) name }
-    ensures words_only { ((command : Command) (name : List ℕ) → ¬ Asks command (texts words.now) name) → result ≡ Err Refusal.Words }
-    ensures refused { IfErr result (λ why. exit_of why ≡ Exit.Image → (command : Command) (name file : List ℕ) → Asks command (texts words.now) name → F.content files.old name ≡ Some file → verdict command file ≡ Err why) }
-    ensures fault { IsErrOf result Refusal.Files → Rose (F.faults files.old) (F.faults files.new) }
-    ensures sink { IsErrOf result Refusal.Sink → Rose (O.faults out.old) (O.faults out.new) ⊎ Rose (E.faults err.old) (E.faults err.new) }
-
-    // But for a fault of a sink, a refusal comes before the first put.
-    ensures quiet { IfErr result (λ e. e ≢ Refusal.Sink → (O.told out.new ≡ O.told out.old) × (E.told err.new ≡ E.told err.old)) }
+    ensures finished { IfOk result (λ exit. Finished (F.content files.old) (texts words.now) (exit_number exit) (sinks (O.told out.old) (E.told err.old) (O.told out.new) (E.told err.new))) }
+    ensures fails { IfErr result (Fails (F.content files.old) (texts words.now) (Rose (F.faults files.old) (F.faults files.new)) (Rose (O.faults out.old) (O.faults out.new) ⊎ Rose (E.faults err.old) (E.faults err.new)) (sinks (O.told out.old) (E.told err.old) (O.told out.new) (E.told err.new))) }
     ensures stays { (n : List ℕ) → F.content files.new n ≡ F.content files.old n }
     ensures files_later { F.faults files.old ≤ F.faults files.new }
     ensures out_later { O.faults out.old ≤ O.faults out.new }
     ensures err_later { E.faults err.old ≤ E.faults err.new }
 {
-    let Some(asked) = read_words(words) else {
+    let Some(request) = read_words(words) else {
         return Err(Refusal::Words);
     };
-    let image = load(alloc, files, asked.command, asked.name)?;
-    match asked.command {
-        Command::Run => execute(alloc, &image, out, err),
-        Command::Inspect => inspect(&image, out),
+    match request {
+        Request::Run { config, names } => run_images(alloc, files, config, names, out, err),
+        Request::Inspect { name } => inspect_image(alloc, files, name, out),
     }
 }
 
 /// Puts a refusal's line to `err` by one put, and answers how the call ended. Where a sink has
 /// failed already, or this put fails, that is `Sink`.
-#[tactic(auto, using(crate::proofs::Exits::exit_of_sink))]
+#[tactic(auto, using(crate::proofs::Refusals::exit_of_sink))]
 pub fn refuse<E: Sink>(refusal: Refusal, err: &mut E) -> Exit
     ensures told { result ≢ Exit.Sink → (refusal ≢ Refusal.Sink) × (result ≡ exit_of refusal) × (E.told err.new ≡ grown (E.told err.old) (line_of refusal)) }
     ensures sink { result ≡ Exit.Sink → (refusal ≡ Refusal.Sink) ⊎ Rose (E.faults err.old) (E.faults err.new) }
@@ -161,22 +173,27 @@ pub fn refuse<E: Sink>(refusal: Refusal, err: &mut E) -> Exit
 
 /// Does what the words ask for, and answers the exit status.
 ///
-/// The words are those behind the program's name: a command, and the name of an image's file,
-/// which isn't empty and doesn't begin with `-`. `run NAME` runs the image for at most 100000
-/// rounds, and puts its report to `err`. `inspect NAME` prints its entry and its parts to `out`.
+/// The words are those behind the program's name: a command, its options as two words each, and names of files. No value
+/// or name is empty or begins with `-`.
+///
+/// `run` takes `--quantum` (1000; 16 to 65536), `--rounds` (100000; 1 to 1000000) and `--frames` (4096; 16 to 16384), each
+/// at most once and in any order, and then 1 to 8 names of images. It runs them as one group, and puts its report to `err`.
+/// `inspect` takes one name, and prints its entry and its parts to `out`.
 ///
 /// | Status | Comes |
 /// |---|---|
-/// | 0 | the process ended, or the image was inspected |
-/// | 2 | exactly where the words are not a command and a name |
-/// | 3 | exactly where the file is longer than 4194304 bytes, is refused as an image, or is to be run and isn't flat |
+/// | 0 | no process lives any more, or the image was inspected |
+/// | 2 | exactly where the words ask for nothing |
+/// | 3 | exactly where a file is longer than 4194304 bytes or is refused as an image, or the images need more frames than there are |
 /// | 5 | only where the count of `files` rose |
 /// | 6 | only where the count of `out` or `err` rose |
-/// | 7 | the process lives after 100000 rounds |
-/// | 9 | only for want of memory, before the guest's first instruction or the first line |
+/// | 7 | processes live after as many rounds as were asked for |
+/// | 8 | processes live, and none of them can go on |
+/// | 9 | only for want of memory |
 ///
-/// A put that fails gives 6 in place of any other status. Words of the form may also give 5 or 9
-/// in place of 0, 3 and 7. With 2, 3, 5 and 9 `out` stays, and `err` grows by one line.
+/// A put that fails gives 6 in place of any other status. Words that ask for something may also give 5 or 9 in place of 0,
+/// 3, 7 and 8. With 2, 3, 5 and 9 `err` grows by one line, and but for 9 `out` stays. Want of memory may also end a run
+/// between two rounds; its bytes so far stand then.
 pub fn dos_main<F: Files, O: Sink, E: Sink>(
     alloc: Global,
     words: &[String],
@@ -186,36 +203,25 @@ pub fn dos_main<F: Files, O: Sink, E: Sink>(
 ) -> u8
     ensures statuses { IsStatus result }
 
-    // A file that is taken is run, and the status tells its ending.
-    ensures runs { (name file : List ℕ) → Asks Command.Run (texts words.now) name → F.content files.old name ≡ Some file
-        → result ≢ 5 → result ≢ 6 → result ≢ 9 → IfOk (verdict Command.Run file) (λ parsed. result ≡ status_of (run_of parsed)) }
-    ensures ran { (result ≡ 0) ⊎ (result ≡ 7) → (name file : List ℕ) → Asks Command.Run (texts words.now) name → F.content files.old name ≡ Some file
-        → Ran file result (O.told out.old) (E.told err.old) (O.told out.new) (E.told err.new) }
+    // What the words ask for is done, with images that the files are.
+    ensures finished { (result ≡ 0) ⊎ (result ≡ 7) ⊎ (result ≡ 8) → Finished (F.content files.old) (texts words.now) result (sinks (O.told out.old) (E.told err.old) (O.told out.new) (E.told err.new)) }
+    ensures does { (asked : Asked) (images : List Parsed) → request (texts words.now) ≡ Some asked → judgement (F.content files.old) asked ≡ Some (Ok images) → result ≢ 5 → result ≢ 6 → result ≢ 9
+        → DidWith asked images result (sinks (O.told out.old) (E.told err.old) (O.told out.new) (E.told err.new)) }
 
-    // A file that is taken is inspected.
-    ensures inspects { (name file : List ℕ) → Asks Command.Inspect (texts words.now) name → F.content files.old name ≡ Some file
-        → result ≢ 5 → result ≢ 6 → result ≢ 9 → IfOk (verdict Command.Inspect file) (λ parsed. result ≡ 0) }
-    ensures inspected { result ≡ 0 → (name file : List ℕ) → Asks Command.Inspect (texts words.now) name → F.content files.old name ≡ Some file
-        → Inspected file (O.told out.old) (E.told err.old) (O.told out.new) (E.told err.new) }
-    ensures seven { result ≡ 7 → (name : List ℕ) → ¬ Asks Command.Inspect (texts words.now) name }
+    // The words ask for nothing.
+    ensures two { result ≡ 2 → request (texts words.now) ≡ None }
+    ensures two_only { request (texts words.now) ≡ None → result ≢ 6 → result ≡ 2 }
+    ensures two_says { result ≡ 2 → SaysOnly (sinks (O.told out.old) (E.told err.old) (O.told out.new) (E.told err.new)) (line words_refused) }
 
-    // The words aren't of the form.
-    ensures two { result ≡ 2 → (command : Command) (name : List ℕ) → ¬ Asks command (texts words.now) name }
-    ensures two_only { ((command : Command) (name : List ℕ) → ¬ Asks command (texts words.now) name) → result ≢ 6 → result ≡ 2 }
-    ensures two_says { result ≡ 2 → SaysOnly (O.told out.old) (E.told err.old) (O.told out.new) (E.told err.new) (line words_refused) }
-
-    // The file is refused.
-    ensures three { result ≡ 3 → (command : Command) (name file : List ℕ) → Asks command (texts words.now) name → F.content files.old name ≡ Some file
-        → Refused command file (O.told out.old) (E.told err.old) (O.told out.new) (E.told err.new) }
-    ensures three_only { (command : Command) (name file : List ℕ) → Asks command (texts words.now) name → F.content files.old name ≡ Some file
-        → result ≢ 5 → result ≢ 6 → result ≢ 9 → IfErr (verdict command file) (λ why. result ≡ 3) }
-    ensures three_says { result ≡ 3 → SaysOfImage (O.told out.old) (E.told err.old) (O.told out.new) (E.told err.new) }
+    // An image is refused, or there is no room.
+    ensures three { result ≡ 3 → Refused (F.content files.old) (texts words.now) (sinks (O.told out.old) (E.told err.old) (O.told out.new) (E.told err.new)) }
+    ensures three_only { (asked : Asked) (why : Refusal) → request (texts words.now) ≡ Some asked → judgement (F.content files.old) asked ≡ Some (Err why) → result ≢ 5 → result ≢ 6 → result ≢ 9 → result ≡ 3 }
 
     // The outside failed.
     ensures five { result ≡ 5 → Rose (F.faults files.old) (F.faults files.new) }
-    ensures five_says { result ≡ 5 → SaysOnly (O.told out.old) (E.told err.old) (O.told out.new) (E.told err.new) (line file_fault) }
+    ensures five_says { result ≡ 5 → SaysOnly (sinks (O.told out.old) (E.told err.old) (O.told out.new) (E.told err.new)) (line file_fault) }
     ensures six { result ≡ 6 → Rose (O.faults out.old) (O.faults out.new) ⊎ Rose (E.faults err.old) (E.faults err.new) }
-    ensures nine_says { result ≡ 9 → SaysOnly (O.told out.old) (E.told err.old) (O.told out.new) (E.told err.new) (line out_of_memory) }
+    ensures nine { result ≡ 9 → EndsForMemory (F.content files.old) (texts words.now) (line out_of_memory) (sinks (O.told out.old) (E.told err.old) (O.told out.new) (E.told err.new)) }
 
     ensures stays { (n : List ℕ) → F.content files.new n ≡ F.content files.old n }
     ensures files_later { F.faults files.old ≤ F.faults files.new }

@@ -1,0 +1,150 @@
+-- What a call leaves behind, by how it ended. This project's own rules. "Sinks" are what output and error tell before the call, and after it.
+use Rattle.std.specs.Prelude.{◌≡◌, ◌≤◌, ◌<◌, ◌⊎◌, ℕ, List, [], ◌∷◌, ◌++◌, replicate, Option, Some, None, IfSome, Ok, Err}
+use Rattle.dos_world.specs.Play.{posts}
+use Rattle.dos_world.specs.declared.Config.{Config}
+use Rattle.dos_io.specs.Outside.{grown}
+use Rattle.elf_image.specs.Image.{Image}
+use Rattle.group_open.specs.Opening.{needed}
+use Rattle.dpg_run.specs.Machine.{Seen, Ran as Outcome, ends, needs, machine}
+use Rattle.dpg_run.specs.Report.{report}
+use Rattle.dos_cmd.specs.Words.{Text, Asked, runs, inspects, request}
+use Rattle.dos_cmd.specs.Images.{judgement}
+use Rattle.dos_cmd.specs.Exit.{exit_of, line_of}
+use Rattle.dos_cmd.specs.Lines.{ending_status}
+use Rattle.dos_cmd.specs.Printed.{inspect_lines}
+use Rattle.dos_cmd.specs.declared.exit.Exit.TheVariants as exits
+use Rattle.dos_cmd.specs.declared.exit.Refusal.{Refusal}
+use Rattle.dos_cmd.specs.declared.exit.Refusal.TheVariants as refusals
+
+pub record Sinks : Type 0 where
+  pub out_before : Option (List ℕ)
+  pub err_before : Option (List ℕ)
+  pub out_now : Option (List ℕ)
+  pub err_now : Option (List ℕ)
+
+abbrev pub sinks : (out_before err_before out_now err_now : Option (List ℕ)) → Sinks
+sinks out_before err_before out_now err_now = record { out_before = out_before; err_before = err_before; out_now = out_now; err_now = err_now }
+
+-- both grew by these bytes
+pub record Grew (s : Sinks) (out err : List ℕ) : Type 0 where
+  pub out_is : s.out_now ≡ grown s.out_before out
+  pub err_is : s.err_now ≡ grown s.err_before err
+
+-- Both stay.
+pub record Stays (s : Sinks) : Type 0 where
+  pub out_is : s.out_now ≡ s.out_before
+  pub err_is : s.err_now ≡ s.err_before
+
+-- Output stays, and error grew by exactly this line.
+pub record SaysOnly (s : Sinks) (line : List ℕ) : Type 0 where
+  pub out_stays : s.out_now ≡ s.out_before
+  pub err_says : s.err_now ≡ grown s.err_before line
+
+-- ---- a call that does what it is asked for
+
+-- the run of a group that no signal reaches: each question for signals is answered with none
+abbrev pub quiet_run : List Image → Config → Outcome
+quiet_run images config = machine images config (replicate config.rounds (posts []))
+
+-- The images were run as one group. The run tells the status and what the sinks grew by: its output; its error bytes and then its report.
+pub record Ran (images : List Image) (config : Config) (status : ℕ) (s : Sinks) : Type 0 where
+  pub seen : Seen
+  pub is : quiet_run images config ≡ ends seen
+  pub status_is : status ≡ ending_status seen.ending
+  pub grew : Grew s seen.output (seen.error ++ report seen)
+
+-- The one image was inspected: its lines went to output.
+pub record Inspected (images : List Image) (status : ℕ) (s : Sinks) : Type 0 where
+  pub parsed : Image
+  pub only : images ≡ parsed ∷ []
+  pub status_is : status ≡ 0
+  pub grew : Grew s (inspect_lines parsed) []
+
+-- what was asked for was done with these images
+abbrev pub DidWith : Asked → List Image → ℕ → Sinks → Type 0
+DidWith (runs config names) images status s = Ran images config status s
+DidWith (inspects name) images status s = Inspected images status s
+
+-- What was asked for was done with images that the files are, as far as they tell.
+pub record Did (contents : Text → Option (List ℕ)) (asked : Asked) (status : ℕ) (s : Sinks) : Type 0 where
+  pub images : List Image
+  pub taken : IfSome (judgement contents asked) (λ j. j ≡ Ok images)
+  pub with_images : DidWith asked images status s
+
+-- The words ask for something, and it was done.
+pub record Finished (contents : Text → Option (List ℕ)) (words : List Text) (status : ℕ) (s : Sinks) : Type 0 where
+  pub asked : Asked
+  pub asks : request words ≡ Some asked
+  pub did : Did contents asked status s
+
+-- ---- a call that is refused
+
+-- The files aren't taken for what is asked for, for this reason, as far as they tell.
+abbrev pub IsRefused : (Text → Option (List ℕ)) → Asked → Refusal → Type 0
+IsRefused contents asked why = IfSome (judgement contents asked) (λ j. j ≡ Err why)
+
+-- An image was refused, or there was no room, and error grew by the one line that says so.
+pub record Refused (contents : Text → Option (List ℕ)) (words : List Text) (s : Sinks) : Type 0 where
+  pub asked : Asked
+  pub asks : request words ≡ Some asked
+  pub why : Refusal
+  pub of_image : exit_of why ≡ exits.Image
+  pub is : IsRefused contents asked why
+  pub says : SaysOnly s (line_of why)
+
+-- ---- a run that want of memory ended
+
+-- a run over some answers sent these bytes until its next question, or until its end
+abbrev pub IsUntil : Outcome → List ℕ → List ℕ → Type 0
+IsUntil (needs question o e) output error = (o ≡ output) × (e ≡ error)
+IsUntil (ends seen) output error = (seen.output ≡ output) × (seen.error ≡ error)
+
+-- The group was run until a question for signals, so many of which had been answered with none, or until its end. Then error grew by the last bytes.
+pub record Interrupted (images : List Image) (config : Config) (last : List ℕ) (s : Sinks) : Type 0 where
+  pub answers : ℕ
+  pub output : List ℕ
+  pub error : List ℕ
+  pub until : IsUntil (machine images config (replicate answers (posts []))) output error
+  pub grew : Grew s output (error ++ last)
+
+-- so for what is asked for, with images that the files are, as far as they tell
+pub record RanOutOfMemory (contents : Text → Option (List ℕ)) (asked : Asked) (last : List ℕ) (s : Sinks) : Type 0 where
+  pub config : Config
+  pub names : List Text
+  pub runs_images : asked ≡ runs config names
+  pub images : List Image
+  pub taken : IfSome (judgement contents asked) (λ j. j ≡ Ok images)
+  pub interrupted : Interrupted images config last s
+
+-- Error grew by the one line that says so, either before the run or at one of its questions.
+abbrev pub EndsForMemory : (Text → Option (List ℕ)) → List Text → List ℕ → Sinks → Type 0
+EndsForMemory contents words line s = SaysOnly s line ⊎ ((asked : Asked) × (request words ≡ Some asked) × RanOutOfMemory contents asked line s)
+
+-- ---- before the line of a refusal is put: why a call comes to no report, and what the sinks show then
+
+-- a group that isn't run to its end
+abbrev pub FailsRunning : List Image → Config → (sinks_rose : Type 0) → Sinks → Refusal → Type 0
+FailsRunning images config sinks_rose s (refusals.NoRoom n frames) = (n ≡ needed images) × (frames ≡ config.frames) × (config.frames < needed images) × Stays s
+FailsRunning images config sinks_rose s refusals.Sink = sinks_rose
+FailsRunning images config sinks_rose s refusals.Memory = Stays s ⊎ ((needed images ≤ config.frames) × Interrupted images config [] s)
+FailsRunning images config sinks_rose s _ = ⊥
+
+-- what is asked for, which isn't done
+abbrev pub FailsAsked : (Text → Option (List ℕ)) → Asked → (files_rose sinks_rose : Type 0) → Sinks → Refusal → Type 0
+FailsAsked contents asked files_rose sinks_rose s refusals.Words = ⊥
+FailsAsked contents asked files_rose sinks_rose s (refusals.TooLong image) = IsRefused contents asked (refusals.TooLong image) × Stays s
+FailsAsked contents asked files_rose sinks_rose s (refusals.Image image error) = IsRefused contents asked (refusals.Image image error) × Stays s
+FailsAsked contents asked files_rose sinks_rose s (refusals.NoRoom n frames) = IsRefused contents asked (refusals.NoRoom n frames) × Stays s
+FailsAsked contents asked files_rose sinks_rose s refusals.Files = files_rose × Stays s
+FailsAsked contents asked files_rose sinks_rose s refusals.Sink = sinks_rose
+FailsAsked contents asked files_rose sinks_rose s refusals.Memory = Stays s ⊎ RanOutOfMemory contents asked [] s
+
+-- the words, which ask for nothing or for what isn't done
+abbrev pub Fails : (Text → Option (List ℕ)) → List Text → (files_rose sinks_rose : Type 0) → Sinks → Refusal → Type 0
+Fails contents words files_rose sinks_rose s why =
+    ((request words ≡ None) × (why ≡ refusals.Words) × Stays s) ⊎ ((asked : Asked) × (request words ≡ Some asked) × FailsAsked contents asked files_rose sinks_rose s why)
+
+-- ---- all exit statuses
+
+abbrev pub IsStatus : ℕ → Type 0
+IsStatus n = (n ≡ 0) ⊎ (n ≡ 2) ⊎ (n ≡ 3) ⊎ (n ≡ 5) ⊎ (n ≡ 6) ⊎ (n ≡ 7) ⊎ (n ≡ 8) ⊎ (n ≡ 9)

@@ -1,0 +1,51 @@
+//! Calls of the program.
+use dos_cmd::dos_main;
+use dos_io::{MemoryFiles, MemorySink};
+use std::alloc::{AllocError, Global};
+use std::test::Fail;
+
+/// What a call left.
+#[derive(Drop)]
+pub struct Left {
+    pub status: u8,
+    pub out: MemorySink,
+    pub err: MemorySink,
+}
+
+fn words_of(alloc: Global, texts: &[&str]) -> Result<Vec<String>, AllocError> {
+    let mut words = Vec::new(alloc);
+    for text in texts {
+        words.push(String::from_str(alloc, text)?)?;
+    }
+    Ok(words)
+}
+
+/// Calls the program with these words. Both sinks have room for 5000 bytes, and the puts to output of these numbers fail.
+pub fn call(
+    alloc: Global,
+    texts: &[&str],
+    files: &mut MemoryFiles,
+    failing: &[u32],
+) -> Result<Left, AllocError> {
+    let words = words_of(alloc, texts)?;
+    let mut out = MemorySink::new(alloc, 5000, failing)?;
+    let mut err = MemorySink::new(alloc, 5000, &[])?;
+    let status = dos_main(alloc, &words, files, &mut out, &mut err);
+    Ok(Left { status, out, err })
+}
+
+impl Left {
+    /// Whether it is what was wanted.
+    pub fn expect(&self, status: u8, out: &str, err: &str) -> Result<(), Fail> {
+        if self.status != status {
+            return Err(Fail::from("another status"));
+        }
+        if self.out.bytes() != out.as_bytes() {
+            return Err(Fail::from("another output"));
+        }
+        if self.err.bytes() != err.as_bytes() {
+            return Err(Fail::from("another error output"));
+        }
+        Ok(())
+    }
+}

@@ -1,0 +1,105 @@
+//! Groups of several images, room for them, and sinks that fail.
+use crate::calls::call;
+use crate::files::{HI, SEVEN, file, linked_file};
+use dos_io::MemoryFiles;
+use std::test::Fail;
+
+#[test]
+fn two_images_are_two_processes(rt: HostRuntime) -> Result<(), Fail> {
+    let alloc = rt.alloc();
+    let mut files = MemoryFiles::new(alloc, &[])?;
+    files.add("a", &file(alloc, &SEVEN)?)?;
+    files.add("b", &file(alloc, &HI)?)?;
+    call(alloc, &["run", "a", "b"], &mut files, &[])?.expect(
+        0,
+        "Hi\n",
+        "process 1 status 7\nprocess 2 status 0\nrounds 1 done\n",
+    )
+}
+
+#[test]
+fn one_file_may_be_run_twice(rt: HostRuntime) -> Result<(), Fail> {
+    let alloc = rt.alloc();
+    let mut files = MemoryFiles::new(alloc, &[])?;
+    files.add("b", &file(alloc, &HI)?)?;
+    call(alloc, &["run", "b", "b"], &mut files, &[])?.expect(
+        0,
+        "Hi\nHi\n",
+        "process 1 status 0\nprocess 2 status 0\nrounds 1 done\n",
+    )
+}
+
+#[test]
+fn a_linked_file_needs_18_frames(rt: HostRuntime) -> Result<(), Fail> {
+    let alloc = rt.alloc();
+    let mut files = MemoryFiles::new(alloc, &[])?;
+    files.add("a", &linked_file(alloc)?)?;
+    call(alloc, &["run", "--frames", "17", "a"], &mut files, &[])?.expect(
+        3,
+        "",
+        "dos: needs 18 frames, has 17\n",
+    )?;
+    call(alloc, &["run", "--frames", "18", "a"], &mut files, &[])?.expect(
+        0,
+        "",
+        "process 1 status 7\nrounds 1 done\n",
+    )
+}
+
+#[test]
+fn images_without_room_are_refused(rt: HostRuntime) -> Result<(), Fail> {
+    let alloc = rt.alloc();
+    let mut files = MemoryFiles::new(alloc, &[])?;
+    files.add("a", &file(alloc, &SEVEN)?)?;
+    call(alloc, &["run", "--frames", "16", "a"], &mut files, &[])?.expect(
+        3,
+        "",
+        "dos: needs 17 frames, has 16\n",
+    )?;
+    call(alloc, &["run", "--frames", "33", "a", "a"], &mut files, &[])?.expect(
+        3,
+        "",
+        "dos: needs 34 frames, has 33\n",
+    )
+}
+
+#[test]
+fn an_output_that_fails_gives_six(rt: HostRuntime) -> Result<(), Fail> {
+    let alloc = rt.alloc();
+    let mut files = MemoryFiles::new(alloc, &[])?;
+    files.add("b", &file(alloc, &HI)?)?;
+    call(alloc, &["run", "b"], &mut files, &[1])?.expect(6, "", "")?;
+    call(alloc, &["run", "b", "b"], &mut files, &[2])?.expect(6, "Hi\n", "")
+}
+
+// li a7, 8; li a0, 1; auipc a1, 0; lui a2, 1; addi a2, a2, 904; ecall: writes 5000 bytes from
+// its third word on. Then li a7, 2; ecall: ends with the answer.
+const LONG: [u32; 8] = [
+    0x0080_0893,
+    0x0010_0513,
+    0x0000_0597,
+    0x0000_1637,
+    0x3886_0613,
+    0x0000_0073,
+    0x0020_0893,
+    0x0000_0073,
+];
+
+#[test]
+fn a_write_puts_at_most_4096_bytes(rt: HostRuntime) -> Result<(), Fail> {
+    let alloc = rt.alloc();
+    let mut files = MemoryFiles::new(alloc, &[])?;
+    let mut code = Vec::from_slice(alloc, &LONG)?;
+    for _ in 0..1020 {
+        code.push(0)?;
+    }
+    files.add("a", &file(alloc, &code)?)?;
+    let left = call(alloc, &["run", "a"], &mut files, &[])?;
+    // 4096 modulo 256 is 0, and 5000 modulo 256 is not
+    assert_eq!(rt;
+        left.err.bytes(),
+        b"process 1 status 0\nrounds 1 done\n".as_slice()
+    );
+    assert_eq!(rt; left.out.bytes().len(), 4096);
+    Ok(())
+}
