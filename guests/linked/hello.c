@@ -1,5 +1,5 @@
-/* Writes a line to standard output and exits with 0. A service is an ecall with its number in a7 and its arguments in a0
-   to a2; 8 writes a2 bytes from the address a1 on to the descriptor a0, and 2 exits with the status a0. */
+/* Writes a line to standard output and exits with 0. A service is an ecall with its number in a7 and its arguments in
+   a0 to a2; 8 writes a2 bytes from the address a1 on to the descriptor a0, and 2 exits with the status a0. */
 static long service(long number, long a, long b, long c) {
   register long a0 __asm__("a0") = a;
   register long a1 __asm__("a1") = b;
