@@ -1,4 +1,4 @@
-/* A plain interpreter of guests, as a C programmer would write it: the baseline for the whole program in bench/guests.
+/* A plain interpreter of guests, as a C programmer would write it: the baseline of bench/run for the whole program.
    One flat memory behind a table of pages, no owners: threads take turns of the quantum, round after round, and a
    service is done where it is met. Each access makes the tests of a plain machine: aligned, mapped, the right.
    usage: plain_guest FILE QUANTUM */
