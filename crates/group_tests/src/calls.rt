@@ -27,9 +27,20 @@ pub fn call(
     files: &mut MemoryFiles,
     failing: &[u32],
 ) -> Result<Left, AllocError> {
+    call_failing(alloc, texts, files, failing, &[])
+}
+
+/// The same, where the puts to error of the last numbers fail too.
+pub fn call_failing(
+    alloc: Global,
+    texts: &[&str],
+    files: &mut MemoryFiles,
+    out_failing: &[u32],
+    err_failing: &[u32],
+) -> Result<Left, AllocError> {
     let words = words_of(alloc, texts)?;
-    let mut out = MemorySink::new(alloc, 5000, failing)?;
-    let mut err = MemorySink::new(alloc, 5000, &[])?;
+    let mut out = MemorySink::new(alloc, 5000, out_failing)?;
+    let mut err = MemorySink::new(alloc, 5000, err_failing)?;
     let status = dos_main(alloc, &words, files, &mut out, &mut err);
     Ok(Left { status, out, err })
 }

@@ -1,5 +1,5 @@
 //! Groups of several images, room for them, and sinks that fail.
-use crate::calls::call;
+use crate::calls::{call, call_failing};
 use crate::files::{HI, SEVEN, file, linked_file};
 use dos_io::MemoryFiles;
 use std::test::Fail;
@@ -70,6 +70,28 @@ fn an_output_that_fails_gives_six(rt: HostRuntime) -> Result<(), Fail> {
     files.add("b", &file(alloc, &HI)?)?;
     call(alloc, &["run", "b"], &mut files, &[1])?.expect(6, "", "")?;
     call(alloc, &["run", "b", "b"], &mut files, &[2])?.expect(6, "Hi\n", "")
+}
+
+// The guest's bytes stand; of the report what was put before.
+#[test]
+fn an_error_output_that_fails_gives_six(rt: HostRuntime) -> Result<(), Fail> {
+    let alloc = rt.alloc();
+    let mut files = MemoryFiles::new(alloc, &[])?;
+    files.add("b", &file(alloc, &HI)?)?;
+    call_failing(alloc, &["run", "b"], &mut files, &[], &[1])?.expect(6, "Hi\n", "")?;
+    call_failing(alloc, &["run", "b"], &mut files, &[], &[2])?.expect(
+        6,
+        "Hi\n",
+        "process 1 status 0\n",
+    )
+}
+
+// A refusal's line fails too.
+#[test]
+fn a_refusal_that_fails_gives_six(rt: HostRuntime) -> Result<(), Fail> {
+    let alloc = rt.alloc();
+    let mut files = MemoryFiles::new(alloc, &[])?;
+    call_failing(alloc, &["run"], &mut files, &[], &[1])?.expect(6, "", "")
 }
 
 // li a7, 8; li a0, 1; auipc a1, 0; lui a2, 1; addi a2, a2, 904; ecall: writes 5000 bytes from
