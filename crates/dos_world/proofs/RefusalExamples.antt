@@ -1,11 +1,12 @@
 -- Which refusal comes first, and where ranges and frames end, in a small world; computed by the checker. What each comes to was worked out by hand from its rule.
-use Rattle.std.specs.Prelude.{[], ◌∷◌, replicate, Some, ◌≡◌, refl}
-use Rattle.dos_world.specs.World.{World, thread_at, blank, set}
+use Rattle.std.specs.Prelude.{ℕ, [], ◌∷◌, replicate, Option, Some, None, ◌≡◌, refl}
+use Rattle.dos_world.specs.World.{World, thread_at, with_thread, with_registers, blank, set}
 use Rattle.dos_world.specs.Kernel.{minus, zero_page}
 use Rattle.dos_world.specs.Services.{services}
+use Rattle.dos_world.specs.Refusals.{refusals, call_refusal}
 use Rattle.dos_world.specs.declared.Owner.TheVariants.{Shared, Of}
 use Rattle.dos_world.specs.declared.ThreadState.TheVariants.{Ready}
-use Rattle.dos_world.proofs.SmallWorld.{a_thread, a_process, world_with, small, served, goes_on, after, reply}
+use Rattle.dos_world.proofs.SmallWorld.{a_thread, a_process, world_with, small, arguments, served, goes_on, after, reply}
 
 -- ---- map: 22 before 12
 
@@ -89,3 +90,58 @@ no_page_to_write_from = refl
 no_reader : reply 1 (served nobody_reads 1 8 4 0x11000 1) ≡ (goes_on, minus 32)
 unfolding services
 no_reader = refl
+
+-- ---- the table of refusals
+
+-- the number with which thread 1's call is refused
+abbrev refusal_for : World → ℕ → ℕ → ℕ → ℕ → Option ℕ
+refusal_for w number a0 a1 a2 = call_refusal (with_registers w 1 (arguments number a0 a1 a2)) 1
+
+-- descriptor 4 writes to a pipe that nobody reads
+first_the_page : refusal_for nobody_reads 8 4 0x50000 1 ≡ Some 14
+unfolding services refusals
+first_the_page = refl
+
+then_the_reader : refusal_for nobody_reads 8 4 0x11000 1 ≡ Some 32
+unfolding services refusals
+then_the_reader = refl
+
+not_for_no_bytes : refusal_for nobody_reads 8 4 0x50000 0 ≡ None
+unfolding services refusals
+not_for_no_bytes = refl
+
+another_word : refusal_for small 11 0x11000 2 0 ≡ Some 11
+unfolding services refusals
+another_word = refl
+
+that_word : refusal_for small 11 0x11000 0x07070707 0 ≡ None
+unfolding services refusals
+that_word = refl
+
+too_few_frames_are_free : refusal_for small 4 0 0 0 ≡ Some 12
+unfolding services refusals
+too_few_frames_are_free = refl
+
+nothing_to_return_to : refusal_for small 18 0 0 0 ≡ Some 22
+unfolding services refusals
+nothing_to_return_to = refl
+
+never_refused : refusal_for small 20 0 0 0 ≡ None
+unfolding services refusals
+never_refused = refl
+
+not_built : refusal_for (record small { built = [] }) 20 0 0 0 ≡ Some 38
+unfolding services refusals
+not_built = refl
+
+no_such_service : refusal_for small 25 0 0 0 ≡ Some 38
+unfolding services refusals
+no_such_service = refl
+
+-- In a world that isn't lawful the number of a process may read like a refusal: so the table is complete for lawful worlds.
+abbrev many_processes : World
+many_processes = with_thread small 1 (λ thread. record thread { process = 0xFFFFFFEA })
+
+reads_like_a_refusal : reply 1 (served many_processes 1 20 0 0 0) ≡ (goes_on, minus 22)
+unfolding services
+reads_like_a_refusal = refl

@@ -1,51 +1,35 @@
--- A change of one thread leaves the others, and a refusal is such a change; one after a grant changes an owner besides.
-use Rattle.std.proofs.Common.{ℕ, zero, suc, ◌≡◌, ◌≢◌, refl, ap, List, [], ◌∷◌, Option, Some, None, option_map}
-use Rattle.std.specs.Prelude.{slice_get, slice_set, slice_index_or}
-use Rattle.dos_world.specs.Numbered.{numbered, changed, changed_at}
-use Rattle.dos_world.specs.World.{World, Thread, Registers, flat, with_registers, registers_by}
-use Rattle.dos_world.specs.Kernel.{minus, answered}
-use Rattle.dos_world.specs.Play.{done}
-use Rattle.dos_world.specs.Calls.{Call, went, refuses}
-use Rattle.dos_world.specs.Laws.{without_registers, pc_of, SameButRegistersAndOwners, SameButRegisters, SameButRegistersAndOneOwner, RefusalsAfterAGrantChangeOneOwner, RefusalsInPlaceLeavePc}
-use Rattle.dos_world.specs.Copying.{opened}
-use Rattle.dos_world.specs.Reach.{Reached, fault, foreign, at, reach, grant, granted}
-use Rattle.dos_world.specs.SignalCalls.{refused_in_place}
+-- A call that is refused changes its thread's registers alone, and which calls are refused.
+use Rattle.std.proofs.Common.{ℕ, ◌≡◌, inl, inr, refl, sym, ap, ◌∙◌, subst, Bool, cond, true, false, List, Option, Some, None, option_map}
+use Rattle.std.specs.Prelude.{slice_set, ◌==◌, ◌&&◌, find, is_some}
+use Rattle.std.specs.List.{list_any}
+use Rattle.std.proofs.lemmas.Bool.{and_parts, eqb-true}
+use Rattle.dos_world.specs.Numbered.{numbered, changed}
+use Rattle.dos_world.specs.World.{World, Thread, Registers, flat, thread_at, with_thread, with_registers, registers_by, get}
+use Rattle.dos_world.specs.Kernel.{opened}
+use Rattle.dos_world.specs.Calls.{Call, Service, call_of, charged, refuses}
+use Rattle.dos_world.specs.Services.{services, service_by, service_for}
+use Rattle.dos_world.specs.Refusals.{refusals, conditions_by, first_that_holds, refusal_for, granted_before, refused_registers}
+use Rattle.dos_world.specs.Laws.{but_for_registers, SameButRegistersAndOwners, KeepsOwners, RefusedCallsChangeRegistersAlone, OnlyTheseAreRefused}
+use Rattle.dos_world.specs.Reach.{Reached, fault, foreign, at, reach, grant}
 use Rattle.dos_world.specs.declared.Owner.{Owner}
-use Rattle.dos_world.specs.declared.Owner.TheVariants.{Free}
+use Rattle.dos_world.specs.declared.Owner.TheVariants.{Shared}
+use Rattle.dos_world.specs.declared.Access.TheVariants.{Load}
 use Rattle.dos_world.specs.declared.Size.TheVariants.{Byte}
+use Rattle.dos_world.proofs.Numbers.{changed_other, changed_there}
+use Rattle.dos_world.proofs.Unrefused.{NotRefused}
+use Rattle.dos_world.proofs.UsualCalls.{IsUsual, usual}
+use Rattle.dos_world.proofs.RefusalRows.{IsRow, refusal_play, checked-some, checked-none, found-row, all-rows}
 
--- another element stands
-pub changed_other : {A : Type 0} (f : A → A) (xs : List A) (t s : ℕ) → s ≢ t → numbered (changed f xs t) s ≡ numbered xs s
-changed_other f xs zero s other = refl
-changed_other f xs (suc i) zero other = refl
-changed_other f xs (suc i) (suc j) other = walk xs i j (λ e. other (ap suc e))
-  where
-    walk : (xs : List _) (i j : ℕ) → j ≢ i → slice_get (changed_at f xs i) j ≡ slice_get xs j
-    walk [] i j other = refl
-    walk (x ∷ xs) zero zero other = absurd (other refl)
-    walk (x ∷ xs) zero (suc j) other = refl
-    walk (x ∷ xs) (suc i) zero other = refl
-    walk (x ∷ xs) (suc i) (suc j) other = walk xs i j (λ e. other (ap suc e))
+-- ---- what a refusal leaves
 
--- the changed element has what the change keeps
-kept_there : {B : Type 0} (f : Registers → Registers) (seen : Thread → B) → ((thread : Thread) → seen (registers_by f thread) ≡ seen thread)
-    → (xs : List (Option Thread)) (t : ℕ) → option_map seen (flat (numbered (changed (option_map (registers_by f)) xs t) t)) ≡ option_map seen (flat (numbered xs t))
-kept_there f seen keeps xs zero = refl
-kept_there f seen keeps xs (suc i) = walk xs i
-  where
-    walk : (xs : List (Option Thread)) (i : ℕ) → option_map seen (flat (slice_get (changed_at (option_map (registers_by f)) xs i) i)) ≡ option_map seen (flat (slice_get xs i))
-    walk [] i = refl
-    walk (None ∷ xs) zero = refl
-    walk (Some thread ∷ xs) zero = ap Some (keeps thread)
-    walk (x ∷ xs) (suc i) = walk xs i
-
--- a world with other owners, and t's registers changed
-same_but_both : (w : World) (owners : List Owner) (t : ℕ) (f : Registers → Registers) → SameButRegistersAndOwners w (with_registers (record w { owners = owners }) t f) t
-same_but_both w owners t f = record {
+-- a world with other owners, and t's registers and budget changed
+same_but : (w : World) (owners : List Owner) (t : ℕ) (f : Registers → Registers)
+    → SameButRegistersAndOwners w (with_registers (record (with_thread w t charged) { owners = owners }) t f) t
+same_but w owners t f = record {
   bytes = refl;
   processes = refl;
-  others = λ s other. ap flat (changed_other (option_map (registers_by f)) w.threads t s other);
-  thread = kept_there f without_registers (λ thread. refl) w.threads t;
+  others = λ s other. ap flat (changed_other (option_map (registers_by f)) (changed (option_map charged) w.threads t) t s other ∙ changed_other (option_map charged) w.threads t s other);
+  thread = ap (option_map but_for_registers) (changed_there (registers_by f) (changed (option_map charged) w.threads t) t ∙ ap (option_map (registers_by f)) (changed_there charged w.threads t)) ∙ same_thread (flat (numbered w.threads t));
   pipes = refl;
   sleepers = refl;
   rounds = refl;
@@ -54,31 +38,92 @@ same_but_both w owners t f = record {
   error = refl;
   built = refl;
 }
-
-pub same_but_registers : (w : World) (t : ℕ) (f : Registers → Registers) → SameButRegisters w (with_registers w t f) t
-same_but_registers w t f = (same_but_both w w.owners t f, refl)
-
-pub refusals_keep : (number : ℕ) (c : Call) → (after : World) × (refuses number c ≡ done (went after)) × SameButRegisters c.world after c.thread
-refusals_keep number c = (with_registers c.world c.thread (answered (minus number)), refl, same_but_registers c.world c.thread (answered (minus number)))
-
--- the owner of another frame stands
-other_owner : (owners : List Owner) (frame other : ℕ) (owner : Owner) → other ≢ frame → slice_index_or (slice_set owners frame owner) other Free ≡ slice_index_or owners other Free
-other_owner [] frame other owner apart = refl
-other_owner (x ∷ xs) zero zero owner apart = absurd (apart refl)
-other_owner (x ∷ xs) zero (suc j) owner apart = refl
-other_owner (x ∷ xs) (suc i) zero owner apart = refl
-other_owner (x ∷ xs) (suc i) (suc j) owner apart = other_owner xs i j owner (λ e. apart (ap suc e))
-
-pub refusals_after_a_grant : RefusalsAfterAGrantChangeOneOwner
-refusals_after_a_grant number c address access = (with_registers (opened c.world c.thread address access) c.thread (answered (minus number)), refl, by_reached (reach c.world c.thread address Byte access))
   where
-    by_reached : (r : Reached)
-        → SameButRegistersAndOneOwner c.world (with_registers (elim r [ fault n ↦ c.world | foreign frame ↦ grant c.world c.thread frame access | at place ↦ c.world ]) c.thread (answered (minus number))) c.thread
-    by_reached (fault n) = (same_but_both c.world c.world.owners c.thread (answered (minus number)), 0, λ other apart. refl)
-    by_reached (at place) = (same_but_both c.world c.world.owners c.thread (answered (minus number)), 0, λ other apart. refl)
-    by_reached (foreign frame) =
-        (same_but_both c.world (slice_set c.world.owners frame (granted c.thread access)) c.thread (answered (minus number)), frame, λ other apart. other_owner c.world.owners frame other (granted c.thread access) apart)
+    same_thread : (o : Option Thread) → option_map but_for_registers (option_map (registers_by f) (option_map charged o)) ≡ option_map but_for_registers o
+    same_thread None = refl
+    same_thread (Some thread) = refl
 
-pub refusals_in_place : RefusalsInPlaceLeavePc
-refusals_in_place c =
-    (with_registers c.world c.thread refused_in_place, refl, same_but_registers c.world c.thread refused_in_place, kept_there refused_in_place pc_of (λ thread. refl) c.world.threads c.thread)
+-- what is the same after a refusal
+abbrev Kept : World → ℕ → Thread → ℕ → ℕ → World → Type 0
+Kept w t thread named number before =
+    let left : World = with_registers before t (refused_registers named number) in
+    SameButRegistersAndOwners w left t × KeepsOwners named number w left
+
+kept : (w : World) (t : ℕ) (thread : Thread) (named number : ℕ) → Kept w t thread named number (granted_before named number (call_of w t thread))
+kept w t thread named number = by_row ((number == 11) && (named == 11)) refl
+  where
+    paid : World
+    paid = with_thread w t charged
+
+    f : Registers → Registers
+    f = refused_registers named number
+
+    by_reached : (r : Reached) → named ≡ 11 → number ≡ 11 → Kept w t thread named number (elim r as (λ _. World) [ fault n ↦ paid | foreign frame ↦ grant paid t frame Load | at place ↦ paid ])
+    by_reached (fault n) this eleven = (same_but w w.owners t f, inl refl)
+    by_reached (at place) this eleven = (same_but w w.owners t f, inl refl)
+    by_reached (foreign frame) this eleven = (same_but w (slice_set w.owners frame Shared) t f, inr (this, eleven, (frame, refl)))
+
+    by_row : (b : Bool) → ((number == 11) && (named == 11)) ≡ b → Kept w t thread named number (cond b (opened paid t (get thread.registers 10) Load) paid)
+    by_row false e = (same_but w w.owners t f, inl refl)
+    by_row true e =
+        let p = and_parts (number == 11) (named == 11) e in
+        by_reached (reach paid t (get thread.registers 10) Byte Load) (eqb-true named 11 p.1) (eqb-true number 11 p.0)
+
+-- ---- a call of a service that is built, or of none
+
+-- where the table has a number
+refused-row : (row : ℕ × Service) → IsRow row → (c : Call) (thread : Thread) → thread_at c.world c.thread ≡ Some thread
+    → (number : ℕ) → first_that_holds (conditions_by (find (λ r. r.0 == row.0) refusals)) c ≡ Some number → row.1 c ≡ refusal_play row.0 c number
+refused-row row is c thread lives number h =
+    let at = is c thread lives in
+    at.1 ∙ checked-some (conditions_by (find (λ r. r.0 == row.0) refusals)) c (refusal_play row.0 c) at.0 number h
+
+-- where it has none
+unrefused-row : (row : ℕ × Service) → IsRow row → (c : Call) (thread : Thread) → thread_at c.world c.thread ≡ Some thread → IsUsual c
+    → first_that_holds (conditions_by (find (λ r. r.0 == row.0) refusals)) c ≡ None → NotRefused row.0 c (row.1 c)
+unrefused-row row is c thread lives u h number above below e =
+    let at = is c thread lives in
+    at.2 u number above below (sym (at.1 ∙ checked-none (conditions_by (find (λ r. r.0 == row.0) refusals)) c (refusal_play row.0 c) at.0 h) ∙ e)
+
+-- by whether it is built and by the row that is found
+refused-by : (built : Bool) (o : Option (ℕ × Service)) (service : ℕ) → find (λ row. row.0 == service) services ≡ o
+    → (c : Call) (thread : Thread) → thread_at c.world c.thread ≡ Some thread → (number : ℕ)
+    → cond (built && is_some o) (first_that_holds (conditions_by (find (λ row. row.0 == service) refusals)) c) (Some 38) ≡ Some number
+    → cond {A = Service} built (service_by o) (refuses 38) c ≡ refusal_play service c number
+refused-by false o service e c thread lives number h = let same : 38 ≡ number = cc in ap (refusal_play service c) same
+refused-by true None service e c thread lives number h = let same : 38 ≡ number = cc in ap (refusal_play service c) same
+refused-by true (Some row) service e c thread lives number h =
+    let found = found-row services all-rows service row e in
+    subst (λ n. first_that_holds (conditions_by (find (λ r. r.0 == n) refusals)) c ≡ Some number → row.1 c ≡ refusal_play n c number) found.0 (refused-row row found.1 c thread lives number) h
+
+unrefused-by : (built : Bool) (o : Option (ℕ × Service)) (service : ℕ) → find (λ row. row.0 == service) services ≡ o
+    → (c : Call) (thread : Thread) → thread_at c.world c.thread ≡ Some thread → IsUsual c
+    → cond (built && is_some o) (first_that_holds (conditions_by (find (λ row. row.0 == service) refusals)) c) (Some 38) ≡ None
+    → NotRefused service c (cond {A = Service} built (service_by o) (refuses 38) c)
+unrefused-by false o service e c thread lives u h = absurd cc
+unrefused-by true None service e c thread lives u h = absurd cc
+unrefused-by true (Some row) service e c thread lives u h =
+    let found = found-row services all-rows service row e in
+    subst (λ n. first_that_holds (conditions_by (find (λ r. r.0 == n) refusals)) c ≡ None → NotRefused n c (row.1 c)) found.0 (unrefused-row row found.1 c thread lives u) h
+
+-- ---- both laws
+
+-- the call's own thread, once it has paid
+caller : (w : World) (t : ℕ) (thread : Thread) → thread_at w t ≡ Some thread → thread_at (call_of w t thread).world t ≡ Some (charged thread)
+caller w t thread is = changed_there charged w.threads t ∙ ap (option_map charged) is
+
+pub refused_calls : RefusedCallsChangeRegistersAlone
+refused_calls w t thread is number h =
+    let named : ℕ = get thread.registers 17 in
+    let c : Call = call_of w t thread in
+    let which = sym (ap (refusal_for w t) is) ∙ h in
+    let same = kept w t thread named number in
+    (ap (service_for w t) is ∙ refused-by (list_any (λ n. n == named) w.built) (find (λ row. row.0 == named) services) named refl c (charged thread) (caller w t thread is) number which, same.0, same.1)
+
+pub only_these : OnlyTheseAreRefused
+only_these w law t thread is h number above below e =
+    let named : ℕ = get thread.registers 17 in
+    let c : Call = call_of w t thread in
+    let which = sym (ap (refusal_for w t) is) ∙ h in
+    unrefused-by (list_any (λ n. n == named) w.built) (find (λ row. row.0 == named) services) named refl c (charged thread) (caller w t thread is) (usual w t thread law is) which number above below
+    (sym (ap (service_for w t) is) ∙ e)

@@ -1,4 +1,5 @@
--- Numbers and pages in the flat list of bytes. Memory of this profile is little-endian: RISC-V unprivileged manual, edition 20191213, sections 1.5 and 2.6.
+-- Numbers and pages in the flat list of bytes. Memory of this profile is little-endian: RISC-V
+-- unprivileged manual, edition 20191213, sections 1.5 and 2.6.
 use Rattle.std.specs.Prelude.{ℕ, zero, suc, ◌+◌, ◌*◌, ◌/◌, ◌%◌, List, [], ◌∷◌, ◌++◌, take, drop, slice_set}
 use Rattle.dos_world.specs.World.{World}
 

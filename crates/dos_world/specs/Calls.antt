@@ -1,4 +1,6 @@
--- What a service is called with and how it answers. Arguments and answers are in the registers of the ABI's calls (RISC-V ELF psABI, "Integer register convention"); the rest is this project's own.
+-- What a service is called with and how it answers. Arguments and answers are in the registers of
+-- the ABI's calls (RISC-V ELF psABI, "Integer register convention"); the rest is this project's
+-- own.
 use Rattle.std.specs.Prelude.{ℕ, ◌-◌, Some, None, Result, Ok, Err}
 use Rattle.dos_world.specs.World.{World, Thread, thread_at, with_thread, with_registers, in_state, get, released}
 use Rattle.dos_world.specs.Kernel.{minus, answered, answered_two}
@@ -6,7 +8,8 @@ use Rattle.dos_world.specs.Play.{Play, Answer, done, ask}
 use Rattle.dos_world.specs.declared.Question.{Question}
 use Rattle.dos_world.specs.declared.ThreadState.TheVariants.{Retry}
 
--- How a service leaves its thread: it goes on; it waits; its part in this round is over; it is gone. With the world after it.
+-- How a service leaves its thread: it goes on; it waits; its part in this round is over; it is
+-- gone. With the world after it.
 pub data Served : Type 0 where
   went waits yields gone : World → Served
 
@@ -62,7 +65,8 @@ returns value c = returns_in c.world value c
 abbrev pub returns_two : World → ℕ → ℕ → Service
 returns_two w first second c = done (went (with_registers w c.thread (answered_two first second)))
 
--- A refusal answers minus the error's number, and changes nothing else but pc and what every call pays.
+-- A refusal answers minus the error's number, and changes nothing else but pc and what every call
+-- pays.
 abbrev pub refuses : ℕ → Service
 refuses number c = returns (minus number) c
 

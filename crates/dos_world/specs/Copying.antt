@@ -1,4 +1,5 @@
--- The bytes that a service reads from its caller's memory or writes to it, page by page granted. This project's own rules.
+-- The bytes that a service reads from its caller's memory or writes to it, page by page granted.
+-- This project's own rules.
 use Rattle.std.specs.Prelude.{ℕ, zero, suc, Bool, true, false, ◌&&◌, List, [], ◌∷◌}
 use Rattle.dos_world.specs.World.{World}
 use Rattle.dos_world.specs.Bytes.{loaded, stored}
@@ -16,15 +17,19 @@ is_reached (at place) = true
 -- whether each of n addresses is mapped, and where it is to be written has W
 abbrev pub all_reach : World → ℕ → ℕ → ℕ → Access → Bool
 all_reach w t address zero access = true
-all_reach w t address (suc n) access = is_reached (reach w t address Byte access) && all_reach w t (suc address) n access
+all_reach w t address (suc n) access =
+    is_reached (reach w t address Byte access) && all_reach w t (suc address) n access
 
 -- the world in which the frame at an address is granted, where it is foreign
 abbrev pub opened : World → ℕ → ℕ → Access → World
-opened w t address access = elim (reach w t address Byte access) [ fault n ↦ w | foreign frame ↦ grant w t frame access | at place ↦ w ]
+opened w t address access =
+    elim (reach w t address Byte access)
+    [ fault n ↦ w | foreign frame ↦ grant w t frame access | at place ↦ w ]
 
 -- The place of an address whose access goes on. A service asks for no other.
 abbrev pub place_of : World → ℕ → ℕ → Access → ℕ
-place_of w t address access = elim (reach w t address Byte access) [ fault n ↦ 0 | foreign frame ↦ 0 | at place ↦ place ]
+place_of w t address access =
+    elim (reach w t address Byte access) [ fault n ↦ 0 | foreign frame ↦ 0 | at place ↦ place ]
 
 -- n bytes from an address on, read one by one, with the world in which their pages are granted
 abbrev pub copied_in : World → ℕ → ℕ → ℕ → World × List ℕ
@@ -39,4 +44,5 @@ abbrev pub copied_out : World → ℕ → ℕ → List ℕ → World
 copied_out w t address [] = w
 copied_out w t address (b ∷ bytes) =
     let open_world : World = opened w t address Store in
-    copied_out (stored open_world (place_of open_world t address Store) (b ∷ [])) t (suc address) bytes
+    let place : ℕ = place_of open_world t address Store in
+    copied_out (stored open_world place (b ∷ [])) t (suc address) bytes

@@ -1,4 +1,5 @@
--- What isn't kept but counted from the lists of a world: frames in use, ends of pipes. This project's own rules.
+-- What isn't kept but counted from the lists of a world: frames in use, ends of pipes. This
+-- project's own rules.
 use Rattle.std.specs.Prelude.{ℕ, Bool, false, ◌||◌, List, [], length, filter, position, Option, Some, unwrap_or, ◌==◌, if◌then◌else◌, count_by, sum_by}
 use Rattle.std.specs.List.{list_any}
 use Rattle.dos_world.specs.Numbered.{map_from}
@@ -44,11 +45,13 @@ writes_pipe pipe _ = false
 
 -- whether some process has the reading end of a pipe
 abbrev pub has_reader : World → ℕ → Bool
-has_reader w pipe = list_any (λ h. list_any (reads_pipe pipe) h.descriptors) (all_holdings w.processes)
+has_reader w pipe =
+    list_any (λ h. list_any (reads_pipe pipe) h.descriptors) (all_holdings w.processes)
 
 -- whether some process has the writing end of a pipe
 abbrev pub has_writer : World → ℕ → Bool
-has_writer w pipe = list_any (λ h. list_any (writes_pipe pipe) h.descriptors) (all_holdings w.processes)
+has_writer w pipe =
+    list_any (λ h. list_any (writes_pipe pipe) h.descriptors) (all_holdings w.processes)
 
 -- A pipe is open as long as it has an end.
 abbrev pub is_open : World → ℕ → Bool

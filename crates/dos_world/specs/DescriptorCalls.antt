@@ -1,5 +1,6 @@
--- The services of descriptors: pipe, read, write, close, dup. This project's own; error numbers are chosen after Linux's.
-use Rattle.std.specs.Prelude.{ℕ, ◌+◌, ◌-◌, min, Bool, not, List, [], ◌∷◌, ◌++◌, length, filter, find, take, drop, Option, Some, None, is_none, unwrap_or, ◌==◌, if◌then◌else◌, slice_get, slice_index_or, slice_set}
+-- The services of descriptors: pipe, read, write, close, dup. This project's own; error numbers are
+-- chosen after Linux's.
+use Rattle.std.specs.Prelude.{ℕ, ◌+◌, ◌-◌, min, Bool, not, List, [], ◌++◌, length, filter, find, take, drop, Option, Some, None, is_none, unwrap_or, ◌==◌, if◌then◌else◌, slice_get, slice_index_or, slice_set}
 use Rattle.dos_world.specs.Numbered.{run_of}
 use Rattle.dos_world.specs.World.{World, Holdings, live_process, first_of, with_holdings}
 use Rattle.dos_world.specs.Kernel.{is_open, has_reader, has_writer, tidied, all_reach, copied_in, copied_out}
@@ -34,12 +35,12 @@ with_descriptor c w number end = with_holdings w c.process (with_end number end)
 
 -- the numbers of the caller's free descriptors, in rising order
 abbrev pub free_descriptors : Call → List ℕ
-free_descriptors c = filter (λ number. is_none (descriptor_at c number)) (run_of 0 (length (descriptors_of c)))
+free_descriptors c =
+    filter (λ number. is_none (descriptor_at c number)) (run_of 0 (length (descriptors_of c)))
 
 -- the second of a list
 abbrev pub second_of : List ℕ → Option ℕ
-second_of [] = None
-second_of (x ∷ xs) = first_of xs
+second_of xs = slice_get xs 1
 
 -- ---- 6, 9, 10
 
@@ -54,21 +55,27 @@ pipe_by (Some reading) (Some writing) (Some pipe) c =
     returns_two (with_descriptor c one writing (Some (PipeWrite pipe))) reading writing c
 pipe_by _ _ _ c = refuses 24 c
 
--- 6: A new pipe: the two lowest free descriptors, the first of which reads and the second writes. Refusal 24 where fewer than two are free or 64 pipes are open.
+-- 6: A new pipe: the two lowest free descriptors, the first of which reads and the second writes.
+-- Refusal 24 where fewer than two are free or 64 pipes are open.
 abbrev pub pipe : Service
-pipe c = pipe_by (first_of (free_descriptors c)) (second_of (free_descriptors c)) (lowest_pipe c.world) c
+pipe c =
+    pipe_by (first_of (free_descriptors c)) (second_of (free_descriptors c)) (lowest_pipe c.world) c
 
 -- 9: Closed; 0. Refusal 9 where it isn't open.
 abbrev pub close : Service
-close c = elim (descriptor c) [ None ↦ refuses 9 c | Some end ↦ returns_in (tidied (with_descriptor c c.world c.a0 None)) 0 c ]
+close c =
+    let left : World = tidied (with_descriptor c c.world c.a0 None) in
+    elim (descriptor c) [ None ↦ refuses 9 c | Some end ↦ returns_in left 0 c ]
 
 -- what dup answers by what a0 names and a free descriptor
 abbrev pub dup_by : Option End → Option ℕ → Service
 dup_by None _ c = refuses 9 c
 dup_by (Some end) None c = refuses 24 c
-dup_by (Some end) (Some number) c = returns_in (with_descriptor c c.world number (Some end)) number c
+dup_by (Some end) (Some number) c =
+    returns_in (with_descriptor c c.world number (Some end)) number c
 
--- 10: The lowest free descriptor names the same end; its number. Refusals: 9 where a0 isn't open, 24 where none is free.
+-- 10: The lowest free descriptor names the same end; its number. Refusals: 9 where a0 isn't open,
+-- 24 where none is free.
 abbrev pub dup : Service
 dup c = dup_by (descriptor c) (first_of (free_descriptors c)) c
 
@@ -80,7 +87,8 @@ count_of c = min c.a2 4096
 
 -- Where no byte is asked for the answer is 0; where one of them isn't mapped, the refusal is 14.
 abbrev pub moves : Service → Bool → Service
-moves service are_mapped c = if count_of c == 0 then returns 0 c else (if are_mapped then service c else refuses 14 c)
+moves service are_mapped c =
+    if count_of c == 0 then returns 0 c else (if are_mapped then service c else refuses 14 c)
 
 -- the bytes that a pipe holds
 abbrev pub pipe_bytes : World → ℕ → List ℕ
@@ -92,27 +100,32 @@ with_pipe w pipe bytes = record w { pipes = slice_set w.pipes pipe bytes }
 
 -- the bytes of an answer are copied, and their number is the answer of the service
 abbrev pub input_copied : Call → Answer → Play Served
-input_copied c answer = returns_in (copied_out c.world c.thread c.a1 (input_of answer)) (length (input_of answer)) c
+input_copied c answer =
+    returns_in (copied_out c.world c.thread c.a1 (input_of answer)) (length (input_of answer)) c
 
 -- The shim is asked for at most so many bytes, and gives no more.
 abbrev pub read_input : Service
 read_input c = asks_shim (input_question (c.world.rounds + 1) c.thread (count_of c)) input_copied c
 
--- An empty pipe without a writer answers 0, and else waits. The first bytes move, as many as are held and asked for.
+-- An empty pipe without a writer answers 0, and else waits. The first bytes move, as many as are
+-- held and asked for.
 abbrev pub read_pipe : ℕ → Service
 read_pipe pipe c =
     let held : List ℕ = pipe_bytes c.world pipe in
     let k : ℕ = min (count_of c) (length held) in
+    let copy : World = copied_out c.world c.thread c.a1 (take k held) in
     if k == 0 then (if has_writer c.world pipe then retries c else returns 0 c)
-    else returns_in (with_pipe (copied_out c.world c.thread c.a1 (take k held)) pipe (drop k held)) k c
+    else returns_in (with_pipe copy pipe (drop k held)) k c
 
 -- what read does by what a0 names
 abbrev pub read_by : Option End → Service
 read_by (Some Input) c = moves read_input (all_reach c.world c.thread c.a1 (count_of c) Store) c
-read_by (Some (PipeRead pipe)) c = moves (read_pipe pipe) (all_reach c.world c.thread c.a1 (count_of c) Store) c
+read_by (Some (PipeRead pipe)) c =
+    moves (read_pipe pipe) (all_reach c.world c.thread c.a1 (count_of c) Store) c
 read_by _ c = refuses 9 c
 
--- 7: Bytes of the input or of a pipe; how many. Refusals: 9 where a0 names neither, 14 where one of the bytes isn't mapped with W.
+-- 7: Bytes of the input or of a pipe; how many. Refusals: 9 where a0 names neither, 14 where one of
+-- the bytes isn't mapped with W.
 abbrev pub read : Service
 read c = read_by (descriptor c) c
 
@@ -134,20 +147,24 @@ write_some pipe held k c =
     let copy : World × List ℕ = copied_in c.world c.thread c.a1 k in
     returns_in (with_pipe copy.0 pipe (held ++ copy.1)) k c
 
--- Refusal 32 where the pipe has no reader; a full pipe, of 4096 bytes, waits. As many bytes go in as there is room for.
+-- Refusal 32 where the pipe has no reader; a full pipe, of 4096 bytes, waits. As many bytes go in
+-- as there is room for.
 abbrev pub write_pipe : ℕ → Service
 write_pipe pipe c =
     let held : List ℕ = pipe_bytes c.world pipe in
     let k : ℕ = min (count_of c) (4096 - length held) in
-    if not (has_reader c.world pipe) then refuses 32 c else (if k == 0 then retries c else write_some pipe held k c)
+    if not (has_reader c.world pipe) then refuses 32 c
+    else (if k == 0 then retries c else write_some pipe held k c)
 
 -- what write does by what a0 names
 abbrev pub write_by : Option End → Service
 write_by (Some Output) c = moves write_output (all_reach c.world c.thread c.a1 (count_of c) Load) c
 write_by (Some Error) c = moves write_error (all_reach c.world c.thread c.a1 (count_of c) Load) c
-write_by (Some (PipeWrite pipe)) c = moves (write_pipe pipe) (all_reach c.world c.thread c.a1 (count_of c) Load) c
+write_by (Some (PipeWrite pipe)) c =
+    moves (write_pipe pipe) (all_reach c.world c.thread c.a1 (count_of c) Load) c
 write_by _ c = refuses 9 c
 
--- 8: Bytes to output, error or a pipe; how many. Refusals: 9 where a0 names none of them, 14 where one of the bytes isn't mapped.
+-- 8: Bytes to output, error or a pipe; how many. Refusals: 9 where a0 names none of them, 14 where
+-- one of the bytes isn't mapped.
 abbrev pub write : Service
 write c = write_by (descriptor c) c

@@ -1,4 +1,5 @@
--- The services of a thread that sleeps on a word: futex_wait and futex_wake. This project's own, after Linux's.
+-- The services of a thread that sleeps on a word: futex_wait and futex_wake. This project's own,
+-- after Linux's.
 use Rattle.std.specs.Prelude.{ℕ, ◌+◌, ◌*◌, ◌%◌, Bool, not, ◌&&◌, List, [], ◌∷◌, ◌++◌, length, map, filter, take, Option, Some, None, ◌==◌, if◌then◌else◌}
 use Rattle.dos_world.specs.World.{World, Entry, Sleeper, entry_at, with_thread, in_state}
 use Rattle.dos_world.specs.Bytes.{loaded}
@@ -8,27 +9,36 @@ use Rattle.dos_world.specs.Calls.{Service, Call, waits, returns_in, refuses, ref
 use Rattle.dos_world.specs.declared.Access.TheVariants.{Load}
 use Rattle.dos_world.specs.declared.ThreadState.TheVariants.{Asleep}
 
+-- whether a0 is no place of a word
+abbrev pub is_off_word : Call → Bool
+is_off_word c = not (c.a0 % 4 == 0)
+
 -- what a service of the word at a0 does by the entry of its page: refusal 14 where it isn't mapped
 abbrev pub by_entry : (Entry → Service) → Option Entry → Service
 by_entry service None c = refuses 14 c
 by_entry service (Some e) c = service e c
 
--- a service of the word at a0: refusal 22 where a0 isn't a multiple of 4
+-- a service of the word at a0: refusal 22 where there is none
 abbrev pub at_word : (Entry → Service) → Service
-at_word service c = if not (c.a0 % 4 == 0) then refuses 22 c else by_entry service (entry_at c.world c.thread c.a0) c
+at_word service c =
+    if is_off_word c then refuses 22 c else by_entry service (entry_at c.world c.thread c.a0) c
 
 -- t sleeps, last in the queue, on the word at a0
 abbrev pub asleep_at : World → Entry → Call → World
 asleep_at w e c =
-    record (with_thread w c.thread (in_state Asleep)) {
-      sleepers = w.sleepers ++ record { thread = c.thread; frame = e.frame; offset = c.a0 % 4096 } ∷ [];
-    }
+    let sleeper : Sleeper = record { thread = c.thread; frame = e.frame; offset = c.a0 % 4096 } in
+    record (with_thread w c.thread (in_state Asleep)) { sleepers = w.sleepers ++ sleeper ∷ [] }
 
--- The word is read, its page granted for Load. Refusal 11 where it isn't a1; else the thread sleeps.
+-- the word at a0
+abbrev pub futex_word : Entry → Call → ℕ
+futex_word e c = loaded c.world (4096 * e.frame + c.a0 % 4096) 4
+
+-- The word is read, its page granted for Load. Refusal 11 where it isn't a1; else the thread
+-- sleeps.
 abbrev pub futex_wait_at : Entry → Service
 futex_wait_at e c =
     let w : World = opened c.world c.thread c.a0 Load in
-    if loaded w (4096 * e.frame + c.a0 % 4096) 4 == c.a1 then done (waits (asleep_at w e c)) else refuses_in w 11 c
+    if futex_word e c == c.a1 then done (waits (asleep_at w e c)) else refuses_in w 11 c
 
 -- 11: The thread sleeps on the word at a0 as long as it is a1.
 abbrev pub futex_wait : Service

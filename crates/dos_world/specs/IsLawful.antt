@@ -1,4 +1,5 @@
--- Whether a world is lawful, as a test that can be computed: so an opening and a worked example can be shown to be. What it passes is lawful.
+-- Whether a world is lawful, as a test that can be computed: so an opening and a worked example can
+-- be shown to be. What it passes is lawful.
 use Rattle.std.specs.Prelude.{ℕ, ◌+◌, ◌*◌, ◌%◌, ◌^◌, Bool, true, false, not, ◌&&◌, List, [], ◌∷◌, length, map, Option, Some, None, option_and_then, is_some, ◌==◌, nat_lt, nat_le, count_by, slice_index_or}
 use Rattle.std.specs.List.{list_all}
 use Rattle.dos_world.specs.Numbered.{numbered, run_of}
@@ -75,9 +76,13 @@ is_end None = true
 abbrev pub is_page : ℕ → (ℕ × Entry) → Bool
 is_page frames e = nat_le 0x1 e.0 && (nat_le e.0 0xEFFFF && nat_lt e.1.frame frames)
 
--- whether there are 32 registers of 32 bits, the first of which is 0, and pc and the reservation have 32 bits
+-- whether there are 32 registers of 32 bits, the first of which is 0, and pc and the reservation
+-- have 32 bits
 abbrev pub are_registers : Registers → Bool
-are_registers r = is_word r.pc && ((length r.numbers == 32) && (list_all is_word r.numbers && ((get r 0 == 0) && none_or is_word r.held)))
+are_registers r =
+    is_word r.pc
+    && ((length r.numbers == 32)
+    && (list_all is_word r.numbers && ((get r 0 == 0) && none_or is_word r.held)))
 
 -- whether a handler may have saved these registers and this mask
 abbrev pub is_saved : (Registers × ℕ) → Bool
@@ -87,15 +92,20 @@ is_saved s = are_registers s.0 && is_mask s.1
 abbrev pub is_thread : List Process → Thread → Bool
 is_thread processes thread =
     is_some (option_and_then holdings_of (numbered processes thread.process))
-    && (are_registers thread.registers && (is_pending thread.pending && (is_mask thread.mask && (nat_le (length thread.saved) 4 && list_all is_saved thread.saved))))
+    && (are_registers thread.registers
+    && (is_pending thread.pending
+    && (is_mask thread.mask
+    && (nat_le (length thread.saved) 4 && list_all is_saved thread.saved))))
 
--- whether what a process has is in range, where there are so many frames: no page twice and no frame twice
+-- whether what a process has is in range, where there are so many frames: no page twice and no
+-- frame twice
 abbrev pub are_holdings : ℕ → Holdings → Bool
 are_holdings frames h =
     ((length h.actions == 31) && list_all is_action h.actions)
     && (((length h.descriptors == 32) && list_all is_end h.descriptors)
     && (pairs_pass nat_lt (map (λ e. e.0) h.space)
-    && (list_all (is_page frames) h.space && pairs_pass (λ a b. not (a.1.frame == b.1.frame)) h.space)))
+    && (list_all (is_page frames) h.space
+    && pairs_pass (λ a b. not (a.1.frame == b.1.frame)) h.space)))
 
 -- whether an entry, where it is private, is the only one of its frame
 abbrev pub is_alone : World → (ℕ × Entry) → Bool
@@ -143,12 +153,15 @@ is_asleep w s = is_state Asleep (thread_at w s.thread)
 
 -- whether a pipe is empty where it has no ends
 abbrev pub is_empty_if_closed : World → ℕ → Bool
-is_empty_if_closed w pipe = if_then (not (is_open w pipe)) (is_empty (slice_index_or w.pipes pipe []))
+is_empty_if_closed w pipe =
+    if_then (not (is_open w pipe)) (is_empty (slice_index_or w.pipes pipe []))
 
 -- frames
 abbrev pub frames_are_lawful : World → Bool
 frames_are_lawful w =
-    has_bytes w && (passes_below (length w.owners) (frees_unmapped w) && list_all (is_owner (length w.threads)) w.owners)
+    has_bytes w
+    && (passes_below (length w.owners) (frees_unmapped w)
+    && list_all (is_owner (length w.threads)) w.owners)
 
 -- processes; numbers count from 1, so they are below their count and one more
 abbrev pub processes_are_lawful : World → Bool
@@ -168,13 +181,15 @@ threads_are_lawful w =
 
 -- pipes
 abbrev pub pipes_are_lawful : World → Bool
-pipes_are_lawful w = ((length w.pipes == 64) && list_all is_pipe w.pipes) && passes_below 64 (is_empty_if_closed w)
+pipes_are_lawful w =
+    ((length w.pipes == 64) && list_all is_pipe w.pipes) && passes_below 64 (is_empty_if_closed w)
 
 -- the limits of a group
 abbrev pub is_within_limits : World → Bool
 is_within_limits w =
     (nat_le (length (live_threads w)) 64 && nat_le (length w.threads) 65535)
-    && (nat_le (length (all_holdings w.processes)) 32 && (nat_le 16 (length w.owners) && nat_le (length w.owners) 16384))
+    && (nat_le (length (all_holdings w.processes)) 32
+    && (nat_le 16 (length w.owners) && nat_le (length w.owners) 16384))
 
 -- the limits of a run
 abbrev pub is_within_run : ℕ → ℕ → Bool
@@ -182,7 +197,11 @@ is_within_run quantum rounds = (nat_le 16 quantum && nat_le quantum 65536) && na
 
 -- all but the frames
 abbrev pub is_lawful_but_for_frames : World → Bool
-is_lawful_but_for_frames w = processes_are_lawful w && (threads_are_lawful w && (pipes_are_lawful w && (is_within_limits w && is_within_run w.quantum w.rounds)))
+is_lawful_but_for_frames w =
+    processes_are_lawful w
+    && (threads_are_lawful w
+    && (pipes_are_lawful w
+    && (is_within_limits w && is_within_run w.quantum w.rounds)))
 
 -- whether a world is lawful
 abbrev pub is_lawful : World → Bool

@@ -1,8 +1,9 @@
--- What several services and the signal point share: frames that are taken, threads that wake, signals that are posted, the end of a process. This project's own rules.
-use Rattle.std.specs.Prelude.{ℕ, ◌-◌, ◌^◌, Bool, false, not, ◌&&◌, List, [], ◌∷◌, length, map, filter, replicate, Option, None, Some, ◌==◌, nat_lt, if◌then◌else◌, slice_set}
+-- What several services and the signal point share: frames that are taken, threads that wake,
+-- signals that are posted, the end of a process. This project's own rules.
+use Rattle.std.specs.Prelude.{ℕ, ◌-◌, ◌^◌, Bool, false, not, List, [], ◌∷◌, length, map, filter, replicate, Option, None, Some, ◌==◌, nat_lt, if◌then◌else◌, slice_set}
 use Rattle.std.specs.List.{list_any}
 use Rattle.dos_world.specs.Numbered.{changed}
-use Rattle.dos_world.specs.World.{World, Sleeper, Process, Holdings, Thread, Registers, Entry, ended, was_collected, parent_of, threads_of, first_thread, belongs_to, with_thread, without_thread, set, past, with_bit}
+use Rattle.dos_world.specs.World.{World, Sleeper, Process, Holdings, Thread, Registers, Entry, ended, is_child, parent_of, threads_of, first_thread, belongs_to, with_thread, without_thread, set, past, with_bit}
 use Rattle.dos_world.specs.Bytes.{with_page}
 use Rattle.dos_world.specs.declared.Owner.TheVariants.{Of}
 use Rattle.dos_world.specs.declared.ThreadState.TheVariants.{Ready}
@@ -25,7 +26,8 @@ with_fresh w t page = let frame = lowest_free_frame w in record w {
 -- a page put into a space, in rising order
 abbrev pub put : ℕ → Entry → List (ℕ × Entry) → List (ℕ × Entry)
 put page entry [] = (page, entry) ∷ []
-put page entry (e ∷ space) = if nat_lt page e.0 then (page, entry) ∷ e ∷ space else e ∷ put page entry space
+put page entry (e ∷ space) =
+    if nat_lt page e.0 then (page, entry) ∷ e ∷ space else e ∷ put page entry space
 
 -- what a process has, with a page more
 abbrev pub with_entry : ℕ → Entry → Holdings → Holdings
@@ -61,7 +63,8 @@ is_other t s = not (s.thread == t)
 
 -- t wakes with this answer, and no longer waits for a word
 abbrev pub woken : World → ℕ → ℕ → World
-woken w t value = record (with_thread w t (awake value)) { sleepers = filter (is_other t) w.sleepers }
+woken w t value =
+    record (with_thread w t (awake value)) { sleepers = filter (is_other t) w.sleepers }
 
 -- ---- posting
 
@@ -69,9 +72,11 @@ woken w t value = record (with_thread w t (awake value)) { sleepers = filter (is
 abbrev pub pending_with : ℕ → Thread → Thread
 pending_with signal thread = record thread { pending = with_bit thread.pending signal }
 
--- The signal is pending at the process's lowest live thread. Where the process doesn't live, nothing happens.
+-- The signal is pending at the process's lowest live thread. Where the process doesn't live,
+-- nothing happens.
 abbrev pub posted : World → ℕ → ℕ → World
-posted w p signal = elim (first_thread w p) [ None ↦ w | Some t ↦ with_thread w t (pending_with signal) ]
+posted w p signal =
+    elim (first_thread w p) [ None ↦ w | Some t ↦ with_thread w t (pending_with signal) ]
 
 -- ---- the end of a process and of a thread
 
@@ -79,9 +84,11 @@ posted w p signal = elim (first_thread w p) [ None ↦ w | Some t ↦ with_threa
 abbrev pub unless_of : ℕ → Option Thread → Option Thread
 unless_of p thread = if belongs_to p thread then None else thread
 
--- A child whose parent ends has none. A child is a process that wasn't collected, so one that was keeps its parent's number.
+-- A child whose parent ends has none. A child is a process that wasn't collected, so one that was
+-- keeps its parent's number.
 abbrev pub orphaned : ℕ → Process → Process
-orphaned p process = record process { parent = if (process.parent == p) && not (was_collected process) then 0 else process.parent }
+orphaned p process =
+    record process { parent = if is_child p process then 0 else process.parent }
 
 -- a process that has ended with this status, not collected yet
 abbrev pub ended_by : ℕ → Process → Process
@@ -91,7 +98,8 @@ ended_by status process = record process { life = ended status false }
 abbrev pub is_none_of_these : List ℕ → Sleeper → Bool
 is_none_of_these threads s = not (list_any (λ t. t == s.thread) threads)
 
--- Its threads are gone, its descriptors closed and its frames unused, its children have no parent, and 17 is posted to its parent, if that lives.
+-- Its threads are gone, its descriptors closed and its frames unused, its children have no parent,
+-- and 17 is posted to its parent, if that lives.
 abbrev pub process_ended : World → ℕ → ℕ → World
 process_ended w p status =
     let closed : World = record w {
@@ -103,4 +111,5 @@ process_ended w p status =
 
 -- The last thread of a process ends it with status 0.
 abbrev pub thread_ended : World → ℕ → ℕ → World
-thread_ended w p t = if length (threads_of w p) == 1 then process_ended w p 0 else without_thread w t
+thread_ended w p t =
+    if length (threads_of w p) == 1 then process_ended w p 0 else without_thread w t

@@ -1,4 +1,5 @@
--- Which worlds are lawful: what holds of the opening, and what every instruction, service and signal keeps. This project's own rules and limits.
+-- Which worlds are lawful: what holds of the opening, and what every instruction, service and
+-- signal keeps. This project's own rules and limits.
 use Rattle.std.specs.Prelude.{ℕ, List, option_and_then, ◌≡◌, ◌≢◌, ◌⊎◌, ◌↔◌, ◌*◌, ◌%◌, ◌^◌, ◌<◌, ◌≤◌, ◌==◌, [], length, map, Option, Some, All, AllPairs, IsTrue, IsFalse, IfSome, count_by, is_some, slice_index_or, ⊤, if◌then◌else◌}
 use Rattle.std.specs.List.Sorted.{IsStrictlyIncreasing}
 use Rattle.dos_world.specs.Numbered.{numbered}
@@ -108,7 +109,8 @@ pub record FramesAreLawful (w : World) : Type 0 where
   -- each frame has its 4096 bytes
   pub bytes : (length w.bytes ≡ 4096 * length w.owners) × All IsByte w.bytes
   -- a frame is Free exactly where nothing maps it
-  pub free : (frame : ℕ) → frame < length w.owners → (owner_of w frame ≡ Free) ↔ IsFalse (is_mapped w frame)
+  pub free : (frame : ℕ) → frame < length w.owners
+      → (owner_of w frame ≡ Free) ↔ IsFalse (is_mapped w frame)
   -- an owner's number was given
   pub owned : (frame t : ℕ) → owner_of w frame ≡ Of t → (1 ≤ t) × (t ≤ length w.threads)
 

@@ -16,6 +16,7 @@ pub mod FutexCalls
 pub mod MemoryCalls
 pub mod SignalCalls
 pub mod Services
+pub mod Refusals
 pub mod Signals
 pub mod Lawful
 pub mod IsLawful

@@ -1,4 +1,5 @@
--- Lists whose elements are numbered from 1, as processes and threads are. No element has number 0. This project's own rule.
+-- Lists whose elements are numbered from 1, as processes and threads are. No element has number 0.
+-- This project's own rule.
 use Rattle.std.specs.Prelude.{ℕ, zero, suc, Bool, List, [], ◌∷◌, Option, None, slice_get, if◌then◌else◌}
 
 -- the element with this number
@@ -20,7 +21,8 @@ changed f xs (suc i) = changed_at f xs i
 -- the places, counted from n, at which the test passes
 abbrev pub places_from : {A : Type 0} → ℕ → (A → Bool) → List A → List ℕ
 places_from n test [] = []
-places_from n test (x ∷ xs) = let rest = places_from (suc n) test xs in if test x then n ∷ rest else rest
+places_from n test (x ∷ xs) =
+    let rest = places_from (suc n) test xs in if test x then n ∷ rest else rest
 
 -- the numbers of the elements that pass, in rising order
 abbrev pub numbers_of : {A : Type 0} → (A → Bool) → List A → List ℕ

@@ -1,4 +1,5 @@
--- What asks the shim as it goes on, and what it comes to over a list of the shim's answers. This project's own.
+-- What asks the shim as it goes on, and what it comes to over a list of the shim's answers. This
+-- project's own.
 use Rattle.std.specs.Prelude.{ℕ, List, [], ◌∷◌}
 use Rattle.dos_world.specs.declared.Post.{Post}
 use Rattle.dos_world.specs.declared.Question.{Question}
@@ -31,7 +32,8 @@ reading_of (reading n) = n
 
 -- ---- plays
 
--- It is done, or it asks, with what was sent to output and error by then, and goes on by the answer.
+-- It is done, or it asks, with what was sent to output and error by then, and goes on by the
+-- answer.
 pub data Play (A : Type 0) : Type 0 where
   done : A → Play A
   ask : Question → (output error : List ℕ) → (Answer → Play A) → Play A
@@ -44,7 +46,8 @@ abbrev pub ◌>>=◌ : {A B : Type 0} → Play A → (A → Play B) → Play B
 
 -- ---- plays over answers
 
--- What a play gives, with the answers that are left; or the question at which they have run out, with what was sent by then.
+-- What a play gives, with the answers that are left; or the question at which they have run out,
+-- with what was sent by then.
 pub data Outcome (A : Type 0) : Type 0 where
   gives : A → (rest : List Answer) → Outcome A
   asks : Question → (output error : List ℕ) → Outcome A
@@ -59,4 +62,5 @@ over (answer ∷ answers) (ask question output error next) = over answers (next 
 abbrev pub questions : {A : Type 0} → List Answer → Play A → List Question
 questions answers (done a) = []
 questions [] (ask question output error next) = question ∷ []
-questions (answer ∷ answers) (ask question output error next) = question ∷ questions answers (next answer)
+questions (answer ∷ answers) (ask question output error next) =
+    question ∷ questions answers (next answer)

@@ -1,7 +1,8 @@
--- The services of a process: process_exit, fork, wait, get_pid. This project's own; error numbers are chosen after Linux's.
-use Rattle.std.specs.Prelude.{ℕ, ◌+◌, ◌%◌, Bool, true, not, ◌&&◌, ◌||◌, List, [], ◌∷◌, ◌++◌, length, filter, Option, Some, None, Result, Ok, Err, ◌==◌, nat_lt, nat_le, if◌then◌else◌}
+-- The services of a process: process_exit, fork, wait, get_pid. This project's own; error numbers
+-- are chosen after Linux's.
+use Rattle.std.specs.Prelude.{ℕ, ◌+◌, ◌%◌, Bool, true, not, ◌&&◌, ◌||◌, List, [], ◌∷◌, ◌++◌, length, filter, Option, Some, None, Result, Ok, Err, ◌==◌, count_by, nat_lt, nat_le, if◌then◌else◌}
 use Rattle.dos_world.specs.Numbered.{changed, numbers_of}
-use Rattle.dos_world.specs.World.{World, Process, Holdings, Thread, Entry, live, ended, live_process, process_at, all_holdings, thread_at, first_of, has_ended, was_collected, status_of, released, page_of}
+use Rattle.dos_world.specs.World.{World, Process, Holdings, Thread, Entry, live, ended, live_process, process_at, all_holdings, thread_at, first_of, has_ended, is_child, status_of, released, page_of}
 use Rattle.dos_world.specs.Kernel.{answered, free_frames, lowest_free_frame, with_fresh, process_ended}
 use Rattle.dos_world.specs.Play.{done}
 use Rattle.dos_world.specs.Calls.{Service, Call, gone, returns, returns_two, refuses, replies, retries}
@@ -19,9 +20,10 @@ get_pid c = returns c.process c
 
 -- how many entries of a space are private
 abbrev pub private_entries : List (ℕ × Entry) → ℕ
-private_entries space = length (filter (λ e. not e.1.shared) space)
+private_entries space = count_by (λ e. not e.1.shared) space
 
--- In rising page each private entry gets a fresh frame of t's with the same bytes, and each shared entry keeps its frame.
+-- In rising page each private entry gets a fresh frame of t's with the same bytes, and each shared
+-- entry keeps its frame.
 abbrev pub copied_space : World → ℕ → List (ℕ × Entry) → World × List (ℕ × Entry)
 copied_space w t [] = (w, [])
 copied_space w t (e ∷ space) =
@@ -34,9 +36,11 @@ copied_space w t (e ∷ space) =
 abbrev pub next_process : World → ℕ
 next_process w = length w.processes + 1
 
--- the child's thread: the caller's registers with 0 in a0, pc past the ecall and no reservation, its mask and saved handlers
+-- the child's thread: the caller's registers with 0 in a0, pc past the ecall and no reservation,
+-- its mask and saved handlers
 abbrev pub child_thread : World → Thread → Thread
-child_thread w thread = ready_thread (next_process w) (released (answered 0 thread.registers)) thread.mask thread.saved
+child_thread w thread =
+    ready_thread (next_process w) (released (answered 0 thread.registers)) thread.mask thread.saved
 
 -- the child, with the caller's actions and descriptors and this space
 abbrev pub child_process : Call → Holdings → List (ℕ × Entry) → Process
@@ -46,17 +50,21 @@ child_process c h space = record { parent = c.process; life = live (record h { s
 abbrev pub with_child : Call → Holdings → Thread → World
 with_child c h thread =
     let copy : World × List (ℕ × Entry) = copied_space c.world (next_thread c.world) h.space in
-    record (with_new_thread copy.0 (child_thread c.world thread)) { processes = copy.0.processes ++ child_process c h copy.1 ∷ [] }
+    let more : List Process = copy.0.processes ++ child_process c h copy.1 ∷ [] in
+    record (with_new_thread copy.0 (child_thread c.world thread)) { processes = more }
 
 -- whether no more processes can be made beside these: 32 live, or no more threads can be made
 abbrev pub are_processes_full : List Process → List (Option Thread) → Bool
-are_processes_full processes threads = nat_le 32 (length (all_holdings processes)) || are_threads_full threads
+are_processes_full processes threads =
+    nat_le 32 (length (all_holdings processes)) || are_threads_full threads
 
--- the world with the child, or the refusal: 11 where no more processes can be made, 12 where too few frames are free
+-- the world with the child, or the refusal: 11 where no more processes can be made, 12 where too
+-- few frames are free
 abbrev pub forked_by : Call → Option Holdings → Option Thread → Result World ℕ
 forked_by c (Some h) (Some thread) =
     if are_processes_full c.world.processes c.world.threads then Err 11
-    else (if nat_lt (free_frames c.world) (private_entries h.space) then Err 12 else Ok (with_child c h thread))
+    else (if nat_lt (free_frames c.world) (private_entries h.space) then Err 12
+    else Ok (with_child c h thread))
 forked_by c _ _ = Err 11
 
 -- the same for the caller, which lives
@@ -69,11 +77,12 @@ fork c = replies (forked c) (next_process c.world) c
 
 -- ---- 5: wait
 
--- A child is a process whose parent is the caller's process and that wasn't collected. Those that a0 names (0 names all) and that pass the test, in rising number.
+-- the children of the caller's process that a0 names (0 names all) and that pass the test, in
+-- rising number
 abbrev pub children_where : (Process → Bool) → Call → List ℕ
 children_where test c =
     filter (λ p. (c.a0 == 0) || (c.a0 == p))
-    (numbers_of (λ process. (process.parent == c.process) && not (was_collected process) && test process) c.world.processes)
+    (numbers_of (λ process. is_child c.process process && test process) c.world.processes)
 
 -- whatever it is
 abbrev pub any_process : Process → Bool
@@ -97,6 +106,7 @@ wait_by None _ c = refuses 10 c
 wait_by (Some any) None c = retries c
 wait_by (Some any) (Some p) c = returns_two (collected c.world p) p (status_at c.world p) c
 
--- 5: The lowest ended child that a0 names is collected: its number and its status. Refusal 10 where there is no child; it waits where none has ended.
+-- 5: The lowest ended child that a0 names is collected: its number and its status. Refusal 10 where
+-- there is no child; it waits where none has ended.
 abbrev pub wait : Service
 wait c = wait_by (first_of (children_where any_process c)) (first_of (children_where has_ended c)) c

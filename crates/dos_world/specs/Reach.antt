@@ -15,7 +15,8 @@ width Byte = 1
 width Half = 2
 width Word = 4
 
--- A fault by its number, a frame that is foreign to the thread, or the place in the flat list of bytes.
+-- A fault by its number, a frame that is foreign to the thread, or the place in the flat list of
+-- bytes.
 pub data Reached : Type 0 where
   fault : (number : ℕ) → Reached
   foreign : (frame : ℕ) → Reached
@@ -28,7 +29,8 @@ has_right Load e = true
 has_right Store e = e.write
 has_right Claim e = e.write
 
--- A fetch or load is foreign where the owner is another thread, a store or claim where the owner isn't t.
+-- A fetch or load is foreign where the owner is another thread, a store or claim where the owner
+-- isn't t.
 abbrev pub is_foreign : ℕ → Access → Owner → Bool
 is_foreign t access (Of s) = not (s == t)
 is_foreign t Fetch _ = false
@@ -36,16 +38,20 @@ is_foreign t Load _ = false
 is_foreign t Store _ = true
 is_foreign t Claim _ = true
 
--- what an aligned access reaches by the entry of its page: 11 where there is none, or where it lacks the right
+-- what an aligned access reaches by the entry of its page: 11 where there is none, or where it
+-- lacks the right
 abbrev pub in_frame : World → ℕ → ℕ → Access → Option Entry → Reached
 in_frame w t address access None = fault 11
 in_frame w t address access (Some e) =
     if not (has_right access e) then fault 11
-    else (if is_foreign t access (owner_of w e.frame) then foreign e.frame else at (4096 * e.frame + address % 4096))
+    else (if is_foreign t access (owner_of w e.frame) then foreign e.frame
+    else at (4096 * e.frame + address % 4096))
 
 -- The order of the tests: misaligned, not mapped, no right, foreign.
 abbrev pub reach : World → ℕ → ℕ → Size → Access → Reached
-reach w t address size access = if not (address % width size == 0) then fault 7 else in_frame w t address access (entry_at w t address)
+reach w t address size access =
+    if not (address % width size == 0) then fault 7
+    else in_frame w t address access (entry_at w t address)
 
 -- Granting a fetch or load makes the frame Shared, granting a store or claim makes it t's.
 abbrev pub granted : ℕ → Access → Owner

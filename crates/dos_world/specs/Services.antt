@@ -18,7 +18,8 @@ pub use Rattle.dos_world.specs.SignalCalls.{sig_handler, sig_mask, sig_return, k
 
 -- the reading of an answer, modulo 2^64: its low half in a0, its high half in a1
 abbrev pub reading_returned : Call → Answer → Play Served
-reading_returned c answer = returns_two c.world (reading_of answer % 2 ^ 32) (reading_of answer / 2 ^ 32 % 2 ^ 32) c
+reading_returned c answer =
+    returns_two c.world (reading_of answer % 2 ^ 32) (reading_of answer / 2 ^ 32 % 2 ^ 32) c
 
 -- 22: The shim is asked for a reading of its clock.
 abbrev pub clock : Service
@@ -33,30 +34,12 @@ round_number c = returns (c.world.rounds + 1) c
 -- each service with its number
 unfoldable pub services : List (ℕ × Service)
 services =
-    (1, thread_exit) ∷
-    (2, process_exit) ∷
-    (3, thread_new) ∷
-    (4, fork) ∷
-    (5, wait) ∷
-    (6, pipe) ∷
-    (7, read) ∷
-    (8, write) ∷
-    (9, close) ∷
-    (10, dup) ∷
-    (11, futex_wait) ∷
-    (12, futex_wake) ∷
-    (13, map_pages) ∷
-    (14, unmap) ∷
-    (15, share) ∷
-    (16, sig_handler) ∷
-    (17, sig_mask) ∷
-    (18, sig_return) ∷
-    (19, kill) ∷
-    (20, get_pid) ∷
-    (21, get_tid) ∷
-    (22, clock) ∷
-    (23, yield) ∷
-    (24, round_number) ∷
+    (1, thread_exit) ∷ (2, process_exit) ∷ (3, thread_new) ∷ (4, fork) ∷ (5, wait) ∷
+    (6, pipe) ∷ (7, read) ∷ (8, write) ∷ (9, close) ∷ (10, dup) ∷
+    (11, futex_wait) ∷ (12, futex_wake) ∷
+    (13, map_pages) ∷ (14, unmap) ∷ (15, share) ∷
+    (16, sig_handler) ∷ (17, sig_mask) ∷ (18, sig_return) ∷ (19, kill) ∷
+    (20, get_pid) ∷ (21, get_tid) ∷ (22, clock) ∷ (23, yield) ∷ (24, round_number) ∷
     []
 
 -- the service of a row, or refusal 38 where there is none
@@ -80,7 +63,8 @@ services_today = 1 ∷ 2 ∷ 3 ∷ 8 ∷ 20 ∷ 21 ∷ 23 ∷ 24 ∷ []
 
 -- the service of a number that is built, and else refusal 38
 abbrev pub built_service : List ℕ → ℕ → Service
-built_service built number = if list_any (λ n. n == number) built then service_of number else refuses 38
+built_service built number =
+    if list_any (λ n. n == number) built then service_of number else refuses 38
 
 -- the service that a7 (x17) names, for a thread that lives
 abbrev pub service_for : World → ℕ → Option Thread → Play Served

@@ -1,4 +1,5 @@
--- The signal point of a round, and which waiting threads go on. This project's own rules; signal numbers are chosen after Linux's.
+-- The signal point of a round, and which waiting threads go on. This project's own rules; signal
+-- numbers are chosen after Linux's.
 use Rattle.std.specs.Prelude.{ℕ, ◌+◌, Bool, true, false, not, ◌&&◌, ◌||◌, List, [], ◌∷◌, length, filter, find, Option, Some, None, ◌==◌, nat_le, if◌then◌else◌}
 use Rattle.dos_world.specs.Numbered.{numbers_of, run_of}
 use Rattle.dos_world.specs.World.{World, Thread, live_threads, thread_at, action_of, is_state, in_state, with_thread, has_bit, with_bit, without_bit, set, with_pc}
@@ -11,7 +12,8 @@ use Rattle.dos_world.specs.declared.ThreadState.TheVariants.{Ready, Retry}
 
 -- ---- posts
 
--- Each post goes to the lowest live thread of its process; where that doesn't live it is passed over.
+-- Each post goes to the lowest live thread of its process; where that doesn't live it is passed
+-- over.
 abbrev pub all_posted : World → List Post → World
 all_posted w [] = w
 all_posted w (post ∷ posts) = all_posted (posted w post.pid post.signal) posts
@@ -30,7 +32,8 @@ chosen thread = if has_bit thread.pending 9 then Some 9 else find (may_come thre
 abbrev pub cleared : ℕ → Thread → Thread
 cleared signal thread = record thread { pending = without_bit thread.pending signal }
 
--- Registers and mask are saved, the signal is masked, and the handler begins with the signal in a0; all other registers stay.
+-- Registers and mask are saved, the signal is masked, and the handler begins with the signal in a0;
+-- all other registers stay.
 abbrev pub handling : ℕ → ℕ → Thread → Thread
 handling signal handler thread = record (cleared signal thread) {
   saved = (thread.registers, thread.mask) ∷ thread.saved;
@@ -42,26 +45,34 @@ handling signal handler thread = record (cleared signal thread) {
 abbrev pub interrupted : World → ℕ → Thread → World
 interrupted w t thread = if is_state Ready (Some thread) then w else woken w t (minus 4)
 
--- The default action: 17 is dropped; any other signal ends the process with status 128 plus its number.
+-- The default action: 17 is dropped; any other signal ends the process with status 128 plus its
+-- number.
 abbrev pub default_action : World → ℕ → Thread → ℕ → World
-default_action w t thread signal = if signal == 17 then with_thread w t (cleared 17) else process_ended w thread.process (128 + signal)
+default_action w t thread signal =
+    if signal == 17 then with_thread w t (cleared 17)
+    else process_ended w thread.process (128 + signal)
 
 -- A handler: where four are saved already, the signal stays pending.
 abbrev pub handler_action : World → ℕ → Thread → ℕ → ℕ → World
 handler_action w t thread signal handler =
-    if nat_le 4 (length thread.saved) then w else with_thread (interrupted w t thread) t (handling signal handler)
+    if nat_le 4 (length thread.saved) then w
+    else with_thread (interrupted w t thread) t (handling signal handler)
 
--- A signal comes to t. Signal 9 has the default action, whatever was set; action 1 drops the signal, and a wait goes on.
+-- A signal comes to t. Signal 9 has the default action, whatever was set; action 1 drops the
+-- signal, and a wait goes on.
 abbrev pub delivered : World → ℕ → Thread → ℕ → World
 delivered w t thread signal =
     let action : ℕ = action_of w thread.process signal in
     if (action == 0) || (signal == 9) then default_action w t thread signal
-    else (if action == 1 then with_thread w t (cleared signal) else handler_action w t thread signal action)
+    else (if action == 1 then with_thread w t (cleared signal)
+    else handler_action w t thread signal action)
 
--- t's turn by the thread that it is now, and by the signal that it chooses: without one nothing happens
+-- t's turn by the thread that it is now, and by the signal that it chooses: without one nothing
+-- happens
 abbrev pub turn_by : World → ℕ → Option Thread → World
 turn_by w t None = w
-turn_by w t (Some thread) = elim (chosen thread) [ None ↦ w | Some signal ↦ delivered w t thread signal ]
+turn_by w t (Some thread) =
+    elim (chosen thread) [ None ↦ w | Some signal ↦ delivered w t thread signal ]
 
 -- t's turn, with what is pending as it comes
 abbrev pub signal_turn : World → ℕ → World
@@ -74,7 +85,9 @@ signal_turns w (t ∷ ts) = signal_turns (signal_turn w t) ts
 
 -- The signal point: first the posts, then the live threads in rising number.
 abbrev pub signalled : World → List Post → World
-signalled w posts = let after_posts : World = all_posted w posts in signal_turns after_posts (live_threads after_posts)
+signalled w posts =
+    let after_posts : World = all_posted w posts in
+    signal_turns after_posts (live_threads after_posts)
 
 -- ---- waiting threads
 
@@ -99,6 +112,7 @@ abbrev pub made_ready : World → List ℕ → World
 made_ready w [] = w
 made_ready w (t ∷ ts) = made_ready (with_thread w t (in_state Ready)) ts
 
--- Each thread in Retry whose service would not wait becomes ready. All of them look at this one world.
+-- Each thread in Retry whose service would not wait becomes ready. All of them look at this one
+-- world.
 abbrev pub ripen : World → World
 ripen w = made_ready w (filter (λ t. not (would_wait w t)) (numbers_of (is_state Retry) w.threads))

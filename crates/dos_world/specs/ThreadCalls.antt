@@ -1,4 +1,5 @@
--- The services of a thread: thread_exit, thread_new, get_tid, yield. This project's own; error numbers are chosen after Linux's.
+-- The services of a thread: thread_exit, thread_new, get_tid, yield. This project's own; error
+-- numbers are chosen after Linux's.
 use Rattle.std.specs.Prelude.{ℕ, ◌+◌, ◌%◌, Bool, not, ◌||◌, List, [], ◌∷◌, ◌++◌, length, Option, Some, is_some, ◌==◌, nat_le, if◌then◌else◌}
 use Rattle.dos_world.specs.Numbered.{numbers_of}
 use Rattle.dos_world.specs.World.{World, Thread, Registers, code_unit, with_registers, set, blank}
@@ -13,7 +14,8 @@ thread_exit c = done (gone (thread_ended c.world c.process c.thread))
 
 -- whether no more threads can be made beside these: 64 live, or number 65535 was given
 abbrev pub are_threads_full : List (Option Thread) → Bool
-are_threads_full threads = nat_le 64 (length (numbers_of is_some threads)) || nat_le 65535 (length threads)
+are_threads_full threads =
+    nat_le 64 (length (numbers_of is_some threads)) || nat_le 65535 (length threads)
 
 -- the number that the next thread gets
 abbrev pub next_thread : World → ℕ
@@ -26,18 +28,29 @@ with_new_thread w thread = record w { threads = w.threads ++ Some thread ∷ [] 
 -- A thread that begins: ready, with no budget and nothing pending.
 abbrev pub ready_thread : ℕ → Registers → ℕ → List (Registers × ℕ) → Thread
 ready_thread process registers mask saved =
-    record { process = process; registers = registers; budget = 0; state = Ready; pending = 0; mask = mask; saved = saved }
+    record {
+      process = process;
+      registers = registers;
+      budget = 0;
+      state = Ready;
+      pending = 0;
+      mask = mask;
+      saved = saved;
+    }
 
 -- pc, stack pointer (x2) and argument (x10) of a new thread; all other registers are 0
 abbrev pub new_registers : ℕ → ℕ → ℕ → Registers
 new_registers pc sp argument = set (set (blank pc) 2 sp) 10 argument
 
--- 3: A new thread at a0, with stack a1 and argument a2, and the caller's mask; its number. Refusals: 22 where a0 is no place for an instruction, 11 where no more threads can be made.
+-- 3: A new thread at a0, with stack a1 and argument a2, and the caller's mask; its number.
+-- Refusals: 22 where a0 is no place for an instruction, 11 where no more threads can be made.
 abbrev pub thread_new : Service
 thread_new c =
+    let registers : Registers = new_registers c.a0 c.a1 c.a2 in
+    let thread : Thread = ready_thread c.process registers (mask_of c) [] in
     if not (c.a0 % code_unit == 0) then refuses 22 c
     else (if are_threads_full c.world.threads then refuses 11 c
-    else returns_in (with_new_thread c.world (ready_thread c.process (new_registers c.a0 c.a1 c.a2) (mask_of c) [])) (next_thread c.world) c)
+    else returns_in (with_new_thread c.world thread) (next_thread c.world) c)
 
 -- 21: the thread's number
 abbrev pub get_tid : Service

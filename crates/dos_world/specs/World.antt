@@ -1,5 +1,6 @@
--- The flat world: a group of processes and threads as plain data. All rules here are this project's own.
-use Rattle.std.specs.Prelude.{ℕ, ◌-◌, ◌*◌, ◌/◌, Bool, true, false, List, [], ◌∷◌, take, drop, find, Option, Some, None, is_some, option_map, option_and_then, ◌==◌, slice_index_or, slice_index}
+-- The flat world: a group of processes and threads as plain data. All rules here are this project's
+-- own.
+use Rattle.std.specs.Prelude.{ℕ, ◌-◌, ◌*◌, ◌/◌, Bool, true, false, not, ◌&&◌, List, [], ◌∷◌, take, drop, find, Option, Some, None, is_some, option_map, option_and_then, ◌==◌, slice_get, slice_index_or, slice_index}
 use Rattle.dos_world.specs.Numbered.{numbered, changed, numbers_of}
 use Rattle.dos_world.specs.declared.Owner.{Owner}
 use Rattle.dos_world.specs.declared.Owner.TheVariants.{Free, Shared, Of}
@@ -12,7 +13,8 @@ pub use Rattle.dos_world.specs.SignalSet.{has_bit, with_bit, without_bit, allowe
 
 -- ---- the parts
 
--- what a live process has: the actions of the signals 1 to 31, 32 descriptors, and its pages in rising order
+-- what a live process has: the actions of the signals 1 to 31, 32 descriptors, and its pages in
+-- rising order
 pub record Holdings : Type 0 where
   pub actions : List ℕ
   pub descriptors : List (Option End)
@@ -28,7 +30,8 @@ pub record Process : Type 0 where
   pub parent : ℕ
   pub life : Life
 
--- A thread. Pending and mask are sets of signals; of the saved registers and masks the last saved stand first.
+-- A thread. Pending and mask are sets of signals; of the saved registers and masks the last saved
+-- stand first.
 pub record Thread : Type 0 where
   pub process : ℕ
   pub registers : Registers
@@ -44,8 +47,10 @@ pub record Sleeper : Type 0 where
   pub frame : ℕ
   pub offset : ℕ
 
--- Frame f is the stretch of 4096 bytes from 4096 * f, and has one owner. Processes and threads are numbered from 1; a thread that is gone is None.
--- Rounds counts those that were run; output and error are the bytes sent so far. Built are the numbers of the services that there are; the rest are refused.
+-- Frame f is the stretch of 4096 bytes from 4096 * f, and has one owner. Processes and threads are
+-- numbered from 1; a thread that is gone is None.
+-- Rounds counts those that were run; output and error are the bytes sent so far. Built are the
+-- numbers of the services that there are; the rest are refused.
 pub record World : Type 0 where
   pub bytes : List ℕ
   pub owners : List Owner
@@ -59,7 +64,8 @@ pub record World : Type 0 where
   pub error : List ℕ
   pub built : List ℕ
 
--- What the address of an instruction is a multiple of: IALIGN, in bytes. RISC-V unprivileged manual, edition 20191213, section 1.5.
+-- What the address of an instruction is a multiple of: IALIGN, in bytes. RISC-V unprivileged
+-- manual, edition 20191213, section 1.5.
 abbrev pub code_unit : ℕ
 code_unit = 4
 
@@ -80,7 +86,8 @@ live_process w p = option_and_then holdings_of (process_at w p)
 -- what the live processes have, in rising number
 abbrev pub all_holdings : List Process → List Holdings
 all_holdings [] = []
-all_holdings (p ∷ ps) = elim (holdings_of p) [ None ↦ all_holdings ps | Some h ↦ h ∷ all_holdings ps ]
+all_holdings (p ∷ ps) =
+    elim (holdings_of p) [ None ↦ all_holdings ps | Some h ↦ h ∷ all_holdings ps ]
 
 -- whether a process has ended
 abbrev pub has_ended : Process → Bool
@@ -89,6 +96,10 @@ has_ended process = elim process.life [ live h ↦ false | ended status collecte
 -- whether a process has ended and its parent has collected it
 abbrev pub was_collected : Process → Bool
 was_collected process = elim process.life [ live h ↦ false | ended status collected ↦ collected ]
+
+-- A child is a process of this parent that wasn't collected.
+abbrev pub is_child : ℕ → Process → Bool
+is_child parent process = (process.parent == parent) && not (was_collected process)
 
 -- the status of a process that has ended
 abbrev pub status_of : Process → ℕ
@@ -100,7 +111,8 @@ parent_of w p = elim (process_at w p) [ None ↦ 0 | Some process ↦ process.pa
 
 -- the action of a signal from 1 to 31
 abbrev pub action_of : World → ℕ → ℕ → ℕ
-action_of w p signal = elim (live_process w p) [ None ↦ 0 | Some h ↦ slice_index h.actions (signal - 1) ]
+action_of w p signal =
+    elim (live_process w p) [ None ↦ 0 | Some h ↦ slice_index h.actions (signal - 1) ]
 
 -- ---- threads
 
@@ -143,8 +155,7 @@ threads_of w p = numbers_of (belongs_to p) w.threads
 
 -- the first of a list
 abbrev pub first_of : {A : Type 0} → List A → Option A
-first_of [] = None
-first_of (x ∷ xs) = Some x
+first_of xs = slice_get xs 0
 
 -- a process's lowest live thread
 abbrev pub first_thread : World → ℕ → Option ℕ
@@ -162,7 +173,9 @@ space_of w p = elim (live_process w p) [ None ↦ [] | Some h ↦ h.space ]
 
 -- t's entry of the page that an address lies in
 abbrev pub entry_at : World → ℕ → ℕ → Option Entry
-entry_at w t address = elim (thread_at w t) [ None ↦ None | Some thread ↦ look (space_of w thread.process) (address / 4096) ]
+entry_at w t address =
+    elim (thread_at w t)
+    [ None ↦ None | Some thread ↦ look (space_of w thread.process) (address / 4096) ]
 
 -- the owner of a frame
 abbrev pub owner_of : World → ℕ → Owner
@@ -195,6 +208,14 @@ without_thread w t = record w { threads = changed none_of w.threads t }
 -- a thread with its registers changed by f
 abbrev pub registers_by : (Registers → Registers) → Thread → Thread
 registers_by f thread = record thread { registers = f thread.registers }
+
+-- a thread with this budget
+abbrev pub with_budget : ℕ → Thread → Thread
+with_budget budget thread = record thread { budget = budget }
+
+-- a thread with these registers and this budget, as its instructions have left it
+abbrev pub ran : Registers → ℕ → Thread → Thread
+ran registers budget thread = record thread { registers = registers; budget = budget }
 
 -- t's registers changed by f
 abbrev pub with_registers : World → ℕ → (Registers → Registers) → World

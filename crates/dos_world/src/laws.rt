@@ -1,5 +1,5 @@
 // Laws of the definitions, as contracts of functions that do nothing.
-ghost use Rattle.dos_world.specs.Laws.{MoreAnswersGoOn, OneThenAnother, TheLastQuestionIsAsked, TestedIsLawful, RefusalsChangeRegistersAlone, RefusalsAfterAGrantChangeOneOwner, RefusalsInPlaceLeavePc, UnknownServicesAreRefused};
+ghost use Rattle.dos_world.specs.Laws.{MoreAnswersGoOn, OneThenAnother, TheLastQuestionIsAsked, TestedIsLawful, RefusedCallsChangeRegistersAlone, OnlyTheseAreRefused, UnknownServicesAreRefused};
 
 /// More answers of the shim go on where the first ran out.
 pub fn more_answers_go_on<A>()
@@ -21,23 +21,18 @@ pub fn tested_is_lawful()
     ensures { TestedIsLawful }
 {}
 
-/// A call that is refused before anything is granted changes the registers of its thread and nothing else, but for what
-/// every call pays: one of the budget, and the reservation. Two refusals differ: `futex_wait`'s 11 comes after its page has
-/// been granted, and `sig_return`'s 22 leaves pc at the ecall.
-pub fn refusals_change_registers_alone()
-    ensures { RefusalsChangeRegistersAlone }
+/// A call that is refused, by whichever service, goes on with minus the error's number in a0 and changes the registers of
+/// its thread and nothing else, but for what every call pays: one of the budget, and the reservation. `refusals` is the
+/// table of what is refused and with which number. Two rows differ: `futex_wait`'s 11 comes after its page has been
+/// granted, which makes one frame Shared, and `sig_return`'s 22 leaves pc at the ecall.
+pub fn refused_calls_change_registers_alone()
+    ensures { RefusedCallsChangeRegistersAlone }
 {}
 
-/// A call that is refused after the page of one address has been granted, as `futex_wait`'s 11, changes the registers of its
-/// thread and the owner of at most one frame, and nothing else but for what every call pays.
-pub fn refusals_after_a_grant_change_one_owner()
-    ensures { RefusalsAfterAGrantChangeOneOwner }
-{}
-
-/// A `sig_return` of a thread that has saved nothing changes the registers of its thread and nothing else, but for what every
-/// call pays. Its pc stays.
-pub fn refusals_in_place_leave_pc()
-    ensures { RefusalsInPlaceLeavePc }
+/// In a lawful world a call for which `refusals` has no number isn't refused: what it comes to is not what a refusal with an
+/// error's number, 1 to 63, would come to.
+pub fn only_these_are_refused()
+    ensures { OnlyTheseAreRefused }
 {}
 
 /// A service number that is 0 or over 24 is refused with 38.

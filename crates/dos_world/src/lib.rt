@@ -4,6 +4,7 @@
 #![tactic(auto)]
 
 pub mod laws;
+mod reach;
 mod regs;
 
 pub use regs::Regs;
