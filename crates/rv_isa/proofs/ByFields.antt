@@ -6,8 +6,8 @@ use Rattle.std.proofs.lemmas.Bool.{and_parts, and_from, eqb-true}
 use Rattle.std.proofs.lemmas.Nat.{and_mask}
 use Rattle.rv_isa.specs.Fields.{field}
 use Rattle.rv_isa.specs.declared.RegOp.{RegOp}
-use Rattle.rv_isa.specs.Meaning.{Row, fits, found, arithmetic_rows, register_rows, multiply_rows}
-use Rattle.rv_isa.specs.Groups.{by_fields, with_funct3, with_funct7, arithmetic_by, register_by}
+use Rattle.rv_isa.specs.Meaning.{Row, fits, found, with_funct3, with_funct7, arithmetic_rows, register_rows, multiply_rows}
+use Rattle.rv_isa.specs.Groups.{by_fields, arithmetic_by, register_by}
 use Rattle.rv_isa.proofs.Masks.{funct3_mask, funct7_mask}
 use Rattle.rv_isa.proofs.ByOpcode.{misses}
 

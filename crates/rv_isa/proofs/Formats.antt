@@ -29,9 +29,6 @@ r_fields opcode funct3 funct7 d s1 s2 a b c e f g = record {
   funct7_is = omega arith;
 }
 
-pub r_whole : (w : ℕ) → w < 2 ^ 32 → r_type (field 6 0 w) (field 14 12 w) (field 31 25 w) (rd w) (rs1 w) (rs2 w) ≡ w
-r_whole w h = omega arith
-
 -- ---- two's complement
 
 pub twos-extended_12 : (n : ℕ) → n < 2 ^ 12 → twos 12 (sign_extended 12 n) ≡ n

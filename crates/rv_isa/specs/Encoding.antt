@@ -1,5 +1,5 @@
--- The word of an instruction: the RISC-V unprivileged manual, RV32I, "Base Instruction Formats", and its instruction
--- listings for the opcodes, funct3, funct5 and funct7.
+-- The word of an instruction: the RISC-V unprivileged manual, RV32I, "Base Instruction Formats",
+-- and its instruction listings for the opcodes, funct3, funct5 and funct7.
 use Rattle.std.specs.Prelude.{ℕ, suc, ◌+◌, ◌-◌, ◌*◌, ◌^◌, Bool, ℤ, pos, negsuc, if◌then◌else◌}
 use Rattle.rv_isa.specs.Fields.{field}
 use Rattle.rv_isa.specs.declared.BranchOp.{BranchOp}
@@ -30,24 +30,28 @@ one_if b = if b then 1 else 0
 -- ---- the six formats; an immediate is given as its bits
 
 abbrev pub r_type : (opcode funct3 funct7 rd rs1 rs2 : ℕ) → ℕ
-r_type opcode funct3 funct7 rd rs1 rs2 = funct7 * 2 ^ 25 + rs2 * 2 ^ 20 + rs1 * 2 ^ 15 + funct3 * 2 ^ 12 + rd * 2 ^ 7 + opcode
+r_type opcode funct3 funct7 rd rs1 rs2 =
+    funct7 * 2 ^ 25 + rs2 * 2 ^ 20 + rs1 * 2 ^ 15 + funct3 * 2 ^ 12 + rd * 2 ^ 7 + opcode
 
 abbrev pub i_type : (opcode funct3 rd rs1 imm : ℕ) → ℕ
-i_type opcode funct3 rd rs1 imm = imm * 2 ^ 20 + rs1 * 2 ^ 15 + funct3 * 2 ^ 12 + rd * 2 ^ 7 + opcode
+i_type opcode funct3 rd rs1 imm =
+    imm * 2 ^ 20 + rs1 * 2 ^ 15 + funct3 * 2 ^ 12 + rd * 2 ^ 7 + opcode
 
 abbrev pub s_type : (opcode funct3 rs1 rs2 imm : ℕ) → ℕ
 s_type opcode funct3 rs1 rs2 imm = r_type opcode funct3 (field 11 5 imm) (field 4 0 imm) rs1 rs2
 
 abbrev pub b_type : (opcode funct3 rs1 rs2 imm : ℕ) → ℕ
 b_type opcode funct3 rs1 rs2 imm =
-    r_type opcode funct3 (field 12 12 imm * 2 ^ 6 + field 10 5 imm) (field 4 1 imm * 2 + field 11 11 imm) rs1 rs2
+    r_type opcode funct3
+    (field 12 12 imm * 2 ^ 6 + field 10 5 imm) (field 4 1 imm * 2 + field 11 11 imm) rs1 rs2
 
 abbrev pub u_type : (opcode rd imm : ℕ) → ℕ
 u_type opcode rd imm = imm + rd * 2 ^ 7 + opcode
 
 abbrev pub j_type : (opcode rd imm : ℕ) → ℕ
 j_type opcode rd imm =
-    field 20 20 imm * 2 ^ 31 + field 10 1 imm * 2 ^ 21 + field 11 11 imm * 2 ^ 20 + field 19 12 imm * 2 ^ 12 + rd * 2 ^ 7 + opcode
+    field 20 20 imm * 2 ^ 31 + field 10 1 imm * 2 ^ 21 + field 11 11 imm * 2 ^ 20
+    + field 19 12 imm * 2 ^ 12 + rd * 2 ^ 7 + opcode
 
 -- ---- funct3, funct5 and funct7 of each operation
 
@@ -110,16 +114,8 @@ reg_funct3 Rem = 6
 reg_funct3 Remu = 7
 
 abbrev pub reg_funct7 : RegOp → ℕ
-reg_funct7 Add = 0
 reg_funct7 Sub = 0x20
-reg_funct7 Sll = 0
-reg_funct7 Slt = 0
-reg_funct7 Sltu = 0
-reg_funct7 Xor = 0
-reg_funct7 Srl = 0
 reg_funct7 Sra = 0x20
-reg_funct7 Or = 0
-reg_funct7 And = 0
 reg_funct7 Mul = 1
 reg_funct7 Mulh = 1
 reg_funct7 Mulhsu = 1
@@ -128,6 +124,7 @@ reg_funct7 Div = 1
 reg_funct7 Divu = 1
 reg_funct7 Rem = 1
 reg_funct7 Remu = 1
+reg_funct7 _ = 0
 
 abbrev pub amo_funct5 : AmoOp → ℕ
 amo_funct5 LrW = 0b00010

@@ -1,5 +1,5 @@
--- The fields of an instruction word, and its five immediates: the RISC-V unprivileged manual, RV32I, "Base Instruction
--- Formats" and "Immediate Encoding Variants".
+-- The fields of an instruction word, and its five immediates: the RISC-V unprivileged manual,
+-- RV32I, "Base Instruction Formats" and "Immediate Encoding Variants".
 use Rattle.std.specs.Prelude.{ℕ, suc, ◌+◌, ◌-◌, ◌*◌, ◌/◌, ◌%◌, ◌^◌, Bool, ℤ, pos, negsuc, nat_lt, ◌==◌, if◌then◌else◌}
 
 -- bits high down to low, as the manual writes them, high:low
@@ -35,7 +35,9 @@ abbrev pub imm_s : ℕ → ℤ
 imm_s word = sign_extended 12 (bits_s word)
 
 abbrev pub bits_b : ℕ → ℕ
-bits_b word = field 31 31 word * 2 ^ 12 + field 7 7 word * 2 ^ 11 + field 30 25 word * 2 ^ 5 + field 11 8 word * 2
+bits_b word =
+    field 31 31 word * 2 ^ 12 + field 7 7 word * 2 ^ 11
+    + field 30 25 word * 2 ^ 5 + field 11 8 word * 2
 
 abbrev pub imm_b : ℕ → ℤ
 imm_b word = sign_extended 13 (bits_b word)
@@ -44,7 +46,9 @@ abbrev pub imm_u : ℕ → ℕ
 imm_u word = field 31 12 word * 2 ^ 12
 
 abbrev pub bits_j : ℕ → ℕ
-bits_j word = field 31 31 word * 2 ^ 20 + field 19 12 word * 2 ^ 12 + field 20 20 word * 2 ^ 11 + field 30 21 word * 2
+bits_j word =
+    field 31 31 word * 2 ^ 20 + field 19 12 word * 2 ^ 12
+    + field 20 20 word * 2 ^ 11 + field 30 21 word * 2
 
 abbrev pub imm_j : ℕ → ℤ
 imm_j word = sign_extended 21 (bits_j word)

@@ -1,4 +1,5 @@
--- The instruction that a word stands for: RV32I, M, A and Zifencei, by the RISC-V unprivileged manual's instruction listings.
+-- The instruction that a word stands for: RV32I, M, A and Zifencei, by the RISC-V unprivileged
+-- manual's instruction listings.
 use Rattle.std.specs.Prelude.{ℕ, ◌+◌, ◌*◌, ◌^◌, Bool, true, false, List, [], ◌∷◌, ◌++◌, map, Option, None, Some, option_map, ◌==◌, if◌then◌else◌, bit_and, filter, length, ◌≤◌}
 use Rattle.rv_isa.specs.Fields.{field, rd, rs1, rs2, flag, imm_i, imm_s, imm_b, imm_u, imm_j}
 use Rattle.rv_isa.specs.declared.BranchOp.{BranchOp}
@@ -38,23 +39,37 @@ found (row ∷ rows) word = if fits word row then Some row.name else found rows 
 
 -- ---- which bits a row looks at
 
+-- what a word's opcode and funct3 say, under the mask that leaves them
+abbrev pub with_funct3 : ℕ → ℕ → ℕ
+with_funct3 opcode funct3 = funct3 * 2 ^ 12 + opcode
+
+-- what its opcode, funct3 and funct7 say
+abbrev pub with_funct7 : ℕ → ℕ → ℕ → ℕ
+with_funct7 opcode funct7 funct3 = funct7 * 2 ^ 25 + funct3 * 2 ^ 12 + opcode
+
 -- the opcode alone
 abbrev pub by_opcode : {A : Type 0} → ℕ → A → Row A
 by_opcode opcode name = record { mask = 0x0000007F; value = opcode; name = name }
 
 abbrev pub by_funct3 : {A : Type 0} → ℕ → ℕ → A → Row A
-by_funct3 opcode funct3 name = record { mask = 0x0000707F; value = funct3 * 2 ^ 12 + opcode; name = name }
+by_funct3 opcode funct3 name =
+    record { mask = 0x0000707F; value = with_funct3 opcode funct3; name = name }
 
 abbrev pub by_funct7 : {A : Type 0} → ℕ → ℕ → ℕ → A → Row A
-by_funct7 opcode funct7 funct3 name = record { mask = 0xFE00707F; value = funct7 * 2 ^ 25 + funct3 * 2 ^ 12 + opcode; name = name }
+by_funct7 opcode funct7 funct3 name =
+    record { mask = 0xFE00707F; value = with_funct7 opcode funct7 funct3; name = name }
 
--- opcode 0x2F and funct3 2 with bits 31:27; the bits aq and rl are free
+-- opcode 0x2F and funct3 2 with bits 31:27
+abbrev pub with_funct5 : ℕ → ℕ
+with_funct5 funct5 = funct5 * 2 ^ 27 + 2 * 2 ^ 12 + 0x2F
+
+-- where the bits aq and rl are free
 abbrev pub by_funct5 : {A : Type 0} → ℕ → A → Row A
-by_funct5 funct5 name = record { mask = 0xF800707F; value = funct5 * 2 ^ 27 + 2 * 2 ^ 12 + 0x2F; name = name }
+by_funct5 funct5 name = record { mask = 0xF800707F; value = with_funct5 funct5; name = name }
 
 -- the same with rs2 0
 abbrev pub by_funct5_alone : {A : Type 0} → ℕ → A → Row A
-by_funct5_alone funct5 name = record { mask = 0xF9F0707F; value = funct5 * 2 ^ 27 + 2 * 2 ^ 12 + 0x2F; name = name }
+by_funct5_alone funct5 name = record { mask = 0xF9F0707F; value = with_funct5 funct5; name = name }
 
 -- the whole word
 abbrev pub by_word : {A : Type 0} → ℕ → A → Row A
@@ -204,8 +219,9 @@ with_fields instr rows = map (with_name instr) rows
 
 unfoldable pub base_rows : List (Row (ℕ → Instr))
 base_rows =
-    (by_opcode 0x37 (upper false) ∷ by_opcode 0x17 (upper true) ∷ by_opcode 0x6F jal ∷ by_funct3 0x67 0 jalr ∷ [])
-    ++ with_fields branch branch_rows
+    by_opcode 0x37 (upper false) ∷ by_opcode 0x17 (upper true)
+    ∷ by_opcode 0x6F jal ∷ by_funct3 0x67 0 jalr
+    ∷ with_fields branch branch_rows
     ++ with_fields load load_rows
     ++ with_fields store store_rows
     ++ with_fields arithmetic arithmetic_rows
