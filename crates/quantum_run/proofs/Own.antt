@@ -5,7 +5,7 @@ use Rattle.dos_world.specs.World.{World, Thread, flat, thread_at, owner_of, with
 use Rattle.dos_world.specs.declared.Owner.{Owner}
 use Rattle.dos_world.specs.declared.Owner.TheVariants.{Free, Of}
 use Rattle.dos_world.specs.declared.Reason.{Reason}
-use Rattle.dos_world.proofs.Refusals.{changed_other}
+use Rattle.dos_world.proofs.Numbers.{changed_other}
 use Rattle.rv_exec.specs.Step.{step, paid_by}
 use Rattle.rv_exec.proofs.Keeps.{step-keeps}
 use Rattle.rv_exec.proofs.Stays.{step-form}

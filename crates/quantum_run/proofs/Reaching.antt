@@ -1,5 +1,5 @@
 -- What the flat world answers to an access, by the frame that is found for it.
-use Rattle.std.proofs.Common.{ℕ, ◌+◌, ◌*◌, ◌/◌, ◌%◌, ◌^◌, ◌<◌, ◌≡◌, ◌≢◌, refl, sym, ap, ◌∙◌, cond, not, Bool, true, false, eqb, eq-eqb, ne_eqb, List, [], ◌∷◌, take, drop, Option, Some, None, Result, Ok, Err, arith}
+use Rattle.std.proofs.Common.{ℕ, ◌+◌, ◌*◌, ◌/◌, ◌%◌, ◌^◌, ◌<◌, ◌≡◌, ◌≢◌, refl, sym, ap, ◌∙◌, subst, cond, not, Bool, true, false, eqb, eq-eqb, ne_eqb, List, [], ◌∷◌, take, drop, Option, Some, None, Result, Ok, Err, arith}
 use Rattle.std.specs.Prelude.{slice_index_or}
 use Rattle.std.proofs.lemmas.List.{drop-drop}
 use Rattle.dos_world.specs.World.{World, look, entry_at}
@@ -17,7 +17,8 @@ use Rattle.page_store.specs.Store.{joined, number_at}
 use Rattle.rv_exec.specs.Step.{◌>>=◌, reached, place_or_reason, half_at}
 use Rattle.rv_exec.specs.Follows.{word_at}
 use Rattle.quantum_run.specs.Finding.{frame_by, frame_for, place_in}
-use Rattle.quantum_run.specs.InPlace.{Still, Holds}
+use Rattle.quantum_run.specs.declared.in_place.InPlace.{InPlace}
+use Rattle.quantum_run.specs.InPlace.{Still, Holds, Stays, Shows}
 
 pub reached-misaligned : (w : World) (t a : ℕ) (size : Size) (access : Access) → a % width size ≢ 0 → reached w t a size access ≡ Err (Fault 7)
 reached-misaligned w t a size access h = ap (λ b. place_or_reason a access (cond (not b) (fault 7) (in_frame w t a access (entry_at w t a)))) (ne_eqb (a % width size) 0 h)
@@ -44,6 +45,13 @@ reached-frame fixed pages t w holds a size access aligned =
     by_entry (Some e) =
         ap (λ b. place_or_reason a access (cond (not (has_right access e)) (fault 11) (cond b (foreign e.frame) (at (4096 * e.frame + a % 4096))))) (holds.foreign access e.frame)
         ∙ by_test (has_right access e) (is_foreign fixed.thread access (slice_index_or fixed.owners e.frame Free)) e.frame
+
+-- a memory shows what it showed where nothing but what was found last is another
+pub shows-stays : (old new : InPlace) (fixed : Still) (t : ℕ) (w : World) → Stays old new → Shows old fixed t w → Shows new fixed t w
+shows-stays old new fixed t w stays s = record {
+  still = stays.still ∙ s.still;
+  holds = subst (λ pages. Holds fixed pages t w) (sym stays.pages) s.holds;
+}
 
 -- ---- the word at pc
 

@@ -1,5 +1,6 @@
 -- A thread that runs in place, over the frames and its space. This project's own rules.
 use Rattle.std.specs.Prelude.{ℕ, zero, suc, ◌≡◌, ◌<◌, ◌-◌, List, Option, Some, None, Ok, Err, option_map, length}
+pub use Rattle.dos_world.specs.World.{ran}
 use Rattle.dos_world.specs.World.{World, Thread, Registers, thread_at, with_thread, look}
 use Rattle.dos_world.specs.declared.Entry.{Entry}
 use Rattle.dos_world.specs.declared.Reason.{Reason}
@@ -12,10 +13,6 @@ use Rattle.quantum_run.specs.Shows.{thread_space}
 abbrev pub after_steps : ℕ → World → ℕ → Option World
 after_steps zero w t = Some w
 after_steps (suc n) w t = elim (step w t) [ Ok next ↦ after_steps n next t | Err reason ↦ None ]
-
--- a thread with these registers and this budget
-abbrev pub ran : Registers → ℕ → Thread → Thread
-ran registers budget thread = record thread { registers = registers; budget = budget }
 
 -- the world in which t has these registers and this budget, and the bytes are those of these pages
 abbrev pub run_to : World → ℕ → List (Option (List ℕ)) → Registers → ℕ → World

@@ -1,5 +1,6 @@
 // The memory of one thread that runs in place.
-ghost use Rattle.std.specs.Prelude.{◌≡◌, ◌+◌, ◌*◌, ◌%◌, ◌^◌, ◌<◌, ℕ, Ok, IfOk, IfSome, length};
+ghost use Rattle.std.specs.Prelude.{◌≡◌, ◌+◌, ◌*◌, ◌%◌, ◌^◌, ◌<◌, ℕ, Ok, Err, IfSome, length};
+ghost use Rattle.std.specs.Option.{ok_or};
 ghost use Rattle.dos_world.specs.World.{World};
 ghost use Rattle.dos_world.specs.Reach.{bytes_of, width, written};
 ghost use Rattle.dos_world.specs.declared.Access.TheVariants.{Fetch, Load, Store};
@@ -8,7 +9,6 @@ ghost use Rattle.rv_exec.specs.Follows.{word_at};
 ghost use Rattle.quantum_run.specs.Finding.{IsFrameOf, IsNoneAway, IsWriting, frame_for, place_in};
 ghost use Rattle.quantum_run.specs.Running.{AreMapped};
 
-use crate::access::{has_right, is_aligned, is_foreign};
 use dos_world::{Access, Reason, Size};
 use page_store::Frames;
 use rv_exec::Memory;
@@ -31,6 +31,9 @@ const EMPTY: Slot = Slot {
 
 /// The frames and a space, as the memory of thread `tid`. The pages that were found last, for a fetch, for a load, and
 /// for a store or claim, are found again without a search: owners and entries stand still while the thread runs.
+///
+/// What is refused is rare. A search answers None then and leaves the reason in `refused`, so that all it gives back to
+/// the loop of instructions fits registers.
 #[derive(Drop)]
 pub struct InPlace<'a> {
     pub frames: &'a mut Frames,
@@ -39,6 +42,8 @@ pub struct InPlace<'a> {
     pub fetched: Slot,
     pub loaded: Slot,
     pub stored: Slot,
+    /// Why the last call that gave None was refused. It is read after such a call alone.
+    pub refused: Reason,
     ghost home: { IsNoneAway frames.now.pages },
     ghost mapped: { AreMapped frames.now space.now.entries },
     ghost fetched_is: { IsFrameOf tid frames.now.owners space.now.entries Fetch fetched.page fetched.frame },
@@ -65,91 +70,92 @@ impl<'a> InPlace<'a> {
             fetched: EMPTY,
             loaded: EMPTY,
             stored: EMPTY,
+            refused: Reason::Fault(11),
         }
     }
 
-    /// The frame of an address's page, by a search, or why the access is refused.
+    /// No answer, for this reason.
+    fn refuse(&mut self, reason: Reason) -> Option<u32>
+        ensures none { ok_or result self.new.refused ≡ Err reason }
+        ensures stays { Stays self.old self.new }
+    {
+        self.refused = reason;
+        None
+    }
+
+    /// The frame of an address's page, by a search; None where the access is refused.
+    #[cold]
     #[inline(never)]
-    fn find(&self, address: u32, access: Access) -> Result<u32, Reason>
-        ensures { result ≡ frame_for self.now.tid self.now.frames.now.owners self.now.space.now.entries access address }
+    fn find(&mut self, address: u32, access: Access) -> Option<u32>
+        ensures value { ok_or result self.new.refused ≡ frame_for self.old.tid self.old.frames.now.owners self.old.space.now.entries access address }
+        ensures within { IfSome result (λ frame. frame < length self.new.frames.now.pages) }
+        ensures stays { Stays self.old self.new }
     {
         let Some(entry) = self.space.look(address / 4096) else {
-            return Err(Reason::Fault(11));
+            return self.refuse(Reason::Fault(11));
         };
-        if !has_right(access, entry) {
-            return Err(Reason::Fault(11));
+        if !entry.has_right(access) {
+            return self.refuse(Reason::Fault(11));
         }
-        if is_foreign(self.tid, access, self.frames.owner(entry.frame)) {
-            return Err(Reason::Page { address, access });
+        if self.frames.owner(entry.frame).is_foreign(self.tid, access) {
+            return self.refuse(Reason::Page { address, access });
         }
-        Ok(entry.frame)
+        Some(entry.frame)
     }
 
-    /// The frame of an address's page for a fetch, or why it is refused.
+    /// The frame of an address's page for a fetch; None where it is refused.
     #[inline]
-    fn frame_to_fetch(&mut self, address: u32) -> Result<u32, Reason>
-        ensures value { result ≡ frame_for self.old.tid self.old.frames.now.owners self.old.space.now.entries Fetch address }
-        ensures within { IfOk result (λ frame. frame < length self.new.frames.now.pages) }
+    fn frame_to_fetch(&mut self, address: u32) -> Option<u32>
+        ensures value { ok_or result self.new.refused ≡ frame_for self.old.tid self.old.frames.now.owners self.old.space.now.entries Fetch address }
+        ensures within { IfSome result (λ frame. frame < length self.new.frames.now.pages) }
         ensures stays { Stays self.old self.new }
     {
         if self.fetched.page == address / 4096 {
-            return Ok(self.fetched.frame);
+            return Some(self.fetched.frame);
         }
-        match self.find(address, Access::Fetch) {
-            Ok(frame) => {
-                self.fetched = Slot {
-                    page: address / 4096,
-                    frame,
-                };
-                Ok(frame)
-            }
-            Err(reason) => Err(reason),
-        }
+        let frame = self.find(address, Access::Fetch)?;
+        self.fetched = Slot {
+            page: address / 4096,
+            frame,
+        };
+        Some(frame)
     }
 
-    /// The frame of an address's page for a load, or why it is refused.
+    /// The frame of an address's page for a load; None where it is refused.
     #[inline]
-    fn frame_to_load(&mut self, address: u32) -> Result<u32, Reason>
-        ensures value { result ≡ frame_for self.old.tid self.old.frames.now.owners self.old.space.now.entries Load address }
-        ensures within { IfOk result (λ frame. frame < length self.new.frames.now.pages) }
+    fn frame_to_load(&mut self, address: u32) -> Option<u32>
+        ensures value { ok_or result self.new.refused ≡ frame_for self.old.tid self.old.frames.now.owners self.old.space.now.entries Load address }
+        ensures within { IfSome result (λ frame. frame < length self.new.frames.now.pages) }
         ensures stays { Stays self.old self.new }
     {
         if self.loaded.page == address / 4096 {
-            return Ok(self.loaded.frame);
+            return Some(self.loaded.frame);
         }
-        match self.find(address, Access::Load) {
-            Ok(frame) => {
-                self.loaded = Slot {
-                    page: address / 4096,
-                    frame,
-                };
-                Ok(frame)
-            }
-            Err(reason) => Err(reason),
-        }
+        let frame = self.find(address, Access::Load)?;
+        self.loaded = Slot {
+            page: address / 4096,
+            frame,
+        };
+        Some(frame)
     }
 
-    /// The frame of an address's page for a store or claim, or why it is refused.
+    /// The frame of an address's page for a store or claim; None where it is refused.
     #[inline]
-    fn frame_to_write(&mut self, address: u32, access: Access) -> Result<u32, Reason>
+    fn frame_to_write(&mut self, address: u32, access: Access) -> Option<u32>
         requires { IsWriting access }
-        ensures value { result ≡ frame_for self.old.tid self.old.frames.now.owners self.old.space.now.entries access address }
-        ensures within { IfOk result (λ frame. frame < length self.new.frames.now.pages) }
+        ensures value { ok_or result self.new.refused ≡ frame_for self.old.tid self.old.frames.now.owners self.old.space.now.entries access address }
+        ensures within { IfSome result (λ frame. frame < length self.new.frames.now.pages) }
         ensures stays { Stays self.old self.new }
     {
         if self.stored.page == address / 4096 {
-            return Ok(self.stored.frame);
+            return Some(self.stored.frame);
         }
-        match self.find(address, access) {
-            Ok(frame) => {
-                self.stored = Slot {
-                    page: address / 4096,
-                    frame,
-                };
-                Ok(frame)
-            }
-            Err(reason) => Err(reason),
-        }
+        let frame = self.find(address, access)?;
+        self.stored = Slot {
+            page: address / 4096,
+            frame,
+        };
+        Some(frame)
     }
 
     /// The number at an aligned address whose page is this frame's.
@@ -192,20 +198,21 @@ impl<'a> InPlace<'a> {
         None
     }
 
-    /// The word of an instruction by its two halfwords, one after another.
+    /// The word of an instruction by its two halfwords, one after another; None where a fetch is refused.
+    #[cold]
     #[inline(never)]
-    fn fetch_halves(&mut self, address: u32) -> Result<u32, Reason>
-        ensures { (f : _) (t : ℕ) (w : World) → Shows self.old f t w → Shows self.new f t w × (result ≡ word_at w t address) }
+    fn fetch_halves(&mut self, address: u32) -> Option<u32>
+        ensures { (f : _) (t : ℕ) (w : World) → Shows self.old f t w → Shows self.new f t w × (ok_or result self.new.refused ≡ word_at w t address) }
     {
         match self.fetch_half(address) {
-            Err(reason) => Err(reason),
+            Err(reason) => self.refuse(reason),
             Ok(low) => {
                 if low % 4 != 3 {
-                    return Ok(u32::from(low));
+                    return Some(u32::from(low));
                 }
                 match self.fetch_half(address.wrapping_add(2)) {
-                    Err(reason) => Err(reason),
-                    Ok(high) => Ok(u32::from(low) + 65536 * u32::from(high)),
+                    Err(reason) => self.refuse(reason),
+                    Ok(high) => Some(u32::from(low) + 65536 * u32::from(high)),
                 }
             }
         }
@@ -223,12 +230,12 @@ impl<'a> Memory for InPlace<'a> {
 
     #[inline]
     fn fetch_half(&mut self, address: u32) -> Result<u16, Reason> {
-        if !is_aligned(address, Size::Half) {
+        if !Size::Half.is_aligned(address) {
             return Err(Reason::Fault(7));
         }
         match self.frame_to_fetch(address) {
-            Ok(frame) => Ok(self.read(frame, address, Size::Half) as u16),
-            Err(reason) => Err(reason),
+            Some(frame) => Ok(self.read(frame, address, Size::Half) as u16),
+            None => Err(self.refused),
         }
     }
 
@@ -238,8 +245,8 @@ impl<'a> Memory for InPlace<'a> {
         let word = match self.word_found(address) {
             Some(word) => word,
             None => match self.fetch_halves(address) {
-                Ok(word) => word,
-                Err(reason) => return Err(reason),
+                Some(word) => word,
+                None => return Err(self.refused),
             },
         };
         Ok(word)
@@ -247,37 +254,37 @@ impl<'a> Memory for InPlace<'a> {
 
     #[inline]
     fn load(&mut self, address: u32, size: Size) -> Result<u32, Reason> {
-        if !is_aligned(address, size) {
+        if !size.is_aligned(address) {
             return Err(Reason::Fault(7));
         }
         match self.frame_to_load(address) {
-            Ok(frame) => Ok(self.read(frame, address, size)),
-            Err(reason) => Err(reason),
+            Some(frame) => Ok(self.read(frame, address, size)),
+            None => Err(self.refused),
         }
     }
 
     #[inline]
     fn store(&mut self, address: u32, size: Size, value: u32) -> Result<(), Reason> {
-        if !is_aligned(address, size) {
+        if !size.is_aligned(address) {
             return Err(Reason::Fault(7));
         }
         match self.frame_to_write(address, Access::Store) {
-            Ok(frame) => {
+            Some(frame) => {
                 self.write(frame, address, size, value);
                 Ok(())
             }
-            Err(reason) => Err(reason),
+            None => Err(self.refused),
         }
     }
 
     #[inline]
     fn claim(&mut self, address: u32) -> Result<u32, Reason> {
-        if !is_aligned(address, Size::Word) {
+        if !Size::Word.is_aligned(address) {
             return Err(Reason::Fault(7));
         }
         match self.frame_to_write(address, Access::Claim) {
-            Ok(frame) => Ok(self.read(frame, address, Size::Word)),
-            Err(reason) => Err(reason),
+            Some(frame) => Ok(self.read(frame, address, Size::Word)),
+            None => Err(self.refused),
         }
     }
 }

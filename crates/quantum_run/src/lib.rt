@@ -1,7 +1,6 @@
 //! The parallel part of one thread: it runs in place, over the frames and its space.
 #![tactic(auto)]
 
-mod access;
 mod in_place;
 pub mod laws;
 mod run;

@@ -6,4 +6,3 @@ pub mod Atomics
 pub mod Stepping
 pub mod Stays
 mod Results
-mod DivideWords

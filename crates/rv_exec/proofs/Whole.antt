@@ -1,10 +1,13 @@
 -- One instruction by its word: what is fetched, and then done.
-use Rattle.std.proofs.Common.{ℕ, ◌+◌, ◌*◌, ◌%◌, ◌^◌, ◌≡◌, ◌≢◌, refl, sym, ap, ◌∙◌, subst, cond, Bool, true, false, eqb, eqb-true, eq-eqb, Option, Some, None, Result, Ok, Err, arith}
+use Rattle.std.proofs.Common.{ℕ, ◌+◌, ◌*◌, ◌%◌, ◌^◌, ◌≡◌, ◌≢◌, refl, sym, ap, ◌∙◌, subst, cond, Bool, true, false, eqb, eq-eqb, Option, Some, None, Result, Ok, Err, arith}
+use Rattle.std.specs.Prelude.{bit_and}
 use Rattle.std.proofs.lemmas.Bool.{both_ways}
+use Rattle.std.proofs.lemmas.Nat.{and_mask}
 use Rattle.dos_world.specs.World.{World, Registers}
 use Rattle.dos_world.specs.declared.Reason.{Reason}
 use Rattle.dos_world.specs.declared.Reason.TheVariants.{Fault}
 use Rattle.rv_isa.specs.Meaning.{meaning}
+use Rattle.rv_isa.proofs.ByOpcode.{meaning_none}
 use Rattle.rv_isa.specs.declared.Instr.{Instr}
 use Rattle.rv_exec.specs.declared.Went.TheVariants.{Stop}
 use Rattle.rv_exec.specs.Effect.{effect}
@@ -15,6 +18,14 @@ use Rattle.rv_exec.specs.Instruction.{effect_of_word, effect_by}
 
 pub follows_err : (shows : World → Type 0) (w : World) (old : Registers) (reason : Reason) (o : Result (Registers × World) Reason) → o ≡ Err reason → shows w → Follows shows w old old (Stop reason) o
 follows_err shows w old reason o e s = subst (λ (x : Result (Registers × World) Reason). Follows shows w old old (Stop reason) x) (sym e) (record { went_is = refl; registers = refl; world = s })
+
+-- A halfword whose low two bits aren't 11 is no word's, so it has none of the opcodes.
+lone-means-nothing : (word : ℕ) → word % 4 ≢ 3 → meaning word ≡ None
+lone-means-nothing word alone =
+    meaning_none word (other 0x37 refl) (other 0x17 refl) (other 0x6F refl) (other 0x67 refl) (other 0x63 refl) (other 0x03 refl) (other 0x23 refl) (other 0x13 refl) (other 0x33 refl) (other 0x0F refl) (other 0x73 refl) (other 0x2F refl)
+  where
+    other : (o : ℕ) → o % 4 ≡ 3 → bit_and word 127 ≢ o
+    other o odd is = alone (omega (arith, and_mask word 7, is, odd))
 
 module _ (w : World) (t : ℕ) (r : Registers) where
   abbrev rest : Option Instr × ℕ → Result (Registers × World) Reason
@@ -45,33 +56,22 @@ module _ (w : World) (t : ℕ) (r : Registers) where
       by_test true (Err other) q = let e : other ≡ reason = cc in ap (λ x. Err x) e
       by_test false second q = cc
 
-  ok_by : (first second : Result ℕ Reason) (word : ℕ) → Ok word ≡ words first second → word % 4 ≡ 3 → found_in first second ≡ Ok (meaning word, 4)
-  ok_by (Err other) second word q h = cc
-  ok_by (Ok low) second word q h = by_test (eqb (low % 4) 3) refl second q
+  -- a lone halfword is found as nothing, and means nothing as a word
+  ok_by : (first second : Result ℕ Reason) (word : ℕ) → Ok word ≡ words first second → (found_in first second >>= rest) ≡ effect_in (world_answers t) w (effect_of_word word r)
+  ok_by (Err other) second word q = cc
+  ok_by (Ok low) second word q = by_test (eqb (low % 4) 3) refl second q
     where
-      by_test : (b : Bool) → eqb (low % 4) 3 ≡ b → (second : Result ℕ Reason) → Ok word ≡ cond b (second >>= λ high. Ok (low + 2 ^ 16 * high)) (Ok low) → cond b (second >>= decoded low) nothing ≡ Ok (meaning word, 4)
-      by_test true is (Ok high) q = let e : word ≡ low + 2 ^ 16 * high = cc in ap (λ x. Ok (meaning x, 4)) (sym e)
+      by_test : (b : Bool) → eqb (low % 4) 3 ≡ b → (second : Result ℕ Reason) → Ok word ≡ cond b (second >>= λ high. Ok (low + 2 ^ 16 * high)) (Ok low)
+          → (cond b (second >>= decoded low) nothing >>= rest) ≡ effect_in (world_answers t) w (effect_of_word word r)
+      by_test true is (Ok high) q = let e : word ≡ low + 2 ^ 16 * high = cc in ap (λ x. rest (meaning x, 4)) (sym e) ∙ by_effect (meaning word)
       by_test true is (Err other) q = cc
-      by_test false is second q = let e : word ≡ low = cc in absurd (both_ways (eqb (low % 4) 3) is (eq-eqb (low % 4) 3 (ap (λ x. x % 4) (sym e) ∙ h)))
-
-  none_by : (first second : Result ℕ Reason) (word : ℕ) → Ok word ≡ words first second → word % 4 ≢ 3 → found_in first second ≡ Ok (None, 2)
-  none_by (Err other) second word q h = cc
-  none_by (Ok low) second word q h = by_test (eqb (low % 4) 3) refl second q
-    where
-      by_test : (b : Bool) → eqb (low % 4) 3 ≡ b → (second : Result ℕ Reason) → Ok word ≡ cond b (second >>= λ high. Ok (low + 2 ^ 16 * high)) (Ok low) → cond b (second >>= decoded low) nothing ≡ Ok (None, 2)
-      by_test true is (Ok high) q =
-          let e : word ≡ low + 2 ^ 16 * high = cc in
-          let l : low % 4 ≡ 3 = eqb-true (low % 4) 3 is in
-          let f : word % 4 ≡ 3 = omega arith in
-          absurd (h f)
-      by_test true is (Err other) q = cc
-      by_test false is second q = refl
+      by_test false is second q =
+          let e : word ≡ low = cc in
+          let none = lone-means-nothing word (λ h. both_ways (eqb (low % 4) 3) is (eq-eqb (low % 4) 3 (ap (λ x. x % 4) (sym e) ∙ h))) in
+          ap (λ x. effect_in (world_answers t) w (effect_by x 4 r)) (sym none)
 
   pub one_err : (reason : Reason) → Err reason ≡ word_at w t r.pc → one_in (world_answers t) r w ≡ Err reason
   one_err reason h = ap (λ x. x >>= rest) (err_by (half_at w t r.pc) (half_at w t ((r.pc + 2) % 2 ^ 32)) reason h)
 
-  pub one_word : (word : ℕ) → Ok word ≡ word_at w t r.pc → word % 4 ≡ 3 → one_in (world_answers t) r w ≡ effect_in (world_answers t) w (effect_of_word word r)
-  one_word word h e = ap (λ x. x >>= rest) (ok_by (half_at w t r.pc) (half_at w t ((r.pc + 2) % 2 ^ 32)) word h e) ∙ by_effect (meaning word)
-
-  pub one_none : (word : ℕ) → Ok word ≡ word_at w t r.pc → word % 4 ≢ 3 → one_in (world_answers t) r w ≡ Err (Fault 4)
-  one_none word h e = ap (λ x. x >>= rest) (none_by (half_at w t r.pc) (half_at w t ((r.pc + 2) % 2 ^ 32)) word h e)
+  pub one_word : (word : ℕ) → Ok word ≡ word_at w t r.pc → one_in (world_answers t) r w ≡ effect_in (world_answers t) w (effect_of_word word r)
+  one_word word h = ok_by (half_at w t r.pc) (half_at w t ((r.pc + 2) % 2 ^ 32)) word h

@@ -1,28 +1,12 @@
 -- What a memory answers for the flat world, and what one instruction over it leaves. This project's own words.
 use Rattle.std.specs.Prelude.{ℕ, ◌≡◌, ◌+◌, ◌*◌, ◌%◌, ◌^◌, Result, Ok, Err, ◌==◌, if◌then◌else◌}
 use Rattle.dos_world.specs.World.{World, Registers}
-use Rattle.dos_world.specs.Reach.{width, loaded, stored, bytes_of}
-use Rattle.dos_world.specs.declared.Access.TheVariants.{Load, Store, Claim}
-use Rattle.dos_world.specs.declared.Size.{Size}
-use Rattle.dos_world.specs.declared.Size.TheVariants.{Word}
 use Rattle.dos_world.specs.declared.Reason.{Reason}
 use Rattle.rv_exec.specs.declared.Went.{Went}
 use Rattle.rv_exec.specs.declared.Went.TheVariants.{Step, Stop}
-use Rattle.rv_exec.specs.Step.{◌>>=◌, reached, half_at}
+use Rattle.rv_exec.specs.Step.{◌>>=◌, half_at}
 
 -- ---- the answers of the flat world as t's memory
-
--- the number that t loads
-abbrev pub load_at : World → ℕ → ℕ → Size → Result ℕ Reason
-load_at w t address size = reached w t address size Load >>= λ place. Ok (loaded w place (width size))
-
--- the world after a store of t
-abbrev pub store_at : World → ℕ → ℕ → Size → ℕ → Result World Reason
-store_at w t address size value = reached w t address size Store >>= λ place. Ok (stored w place (bytes_of (width size) value))
-
--- the word that t claims
-abbrev pub claim_at : World → ℕ → ℕ → Result ℕ Reason
-claim_at w t address = reached w t address Word Claim >>= λ place. Ok (loaded w place 4)
 
 -- the word at pc, or the halfword alone where it is no word's
 abbrev pub word_at : World → ℕ → ℕ → Result ℕ Reason

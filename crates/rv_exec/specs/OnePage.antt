@@ -1,25 +1,28 @@
 -- The memory of a thread that has one page, of frame 0, which is the only one: what the memory of the tests shows.
-use Rattle.std.specs.Prelude.{ℕ, ◌≡◌, ◌/◌, Bool, false, List, Option, Some, None, ◌==◌, if◌then◌else◌}
+use Rattle.std.specs.Prelude.{ℕ, ◌≡◌, ◌/◌, Option, Some, None, false, ◌==◌, if◌then◌else◌}
 use Rattle.std.proofs.Common.{◌∙◌}
 use Rattle.dos_world.specs.World.{World, Thread, with_thread, entry_at, owner_of}
 use Rattle.dos_world.specs.declared.Entry.{Entry}
-use Rattle.dos_world.specs.declared.Owner.{Owner}
+use Rattle.rv_exec.specs.declared.one_page.OnePage.{OnePage}
 use Rattle.rv_exec.specs.Blind.{entry_at-with_thread}
 
+-- the one page's entry
+abbrev pub entry_of : OnePage → Entry
+entry_of m = record { frame = 0; write = m.write; exec = m.exec; shared = false }
+
 -- the entry of an address: that of the one page, or none
-abbrev pub entry_in : (page : ℕ) → (write exec : Bool) → ℕ → Option Entry
-entry_in page write exec address = if address / 4096 == page then Some (record { frame = 0; write = write; exec = exec; shared = false }) else None
+abbrev pub entry_in : OnePage → ℕ → Option Entry
+entry_in m address = if address / 4096 == m.page then Some (entry_of m) else None
 
 -- w is such a world for t, with these bytes
-pub record IsOnePage (thread page : ℕ) (write exec : Bool) (owner : Owner) (bytes : List ℕ) (t : ℕ) (w : World) : Type 0 where
-  pub is_thread : t ≡ thread
-  pub is_entry : (address : ℕ) → entry_at w t address ≡ entry_in page write exec address
-  pub is_owner : owner_of w 0 ≡ owner
-  pub are_bytes : w.bytes ≡ bytes
+pub record IsOnePage (m : OnePage) (t : ℕ) (w : World) : Type 0 where
+  pub is_thread : t ≡ m.thread
+  pub is_entry : (address : ℕ) → entry_at w t address ≡ entry_in m address
+  pub is_owner : owner_of w 0 ≡ m.owner
+  pub are_bytes : w.bytes ≡ m.bytes.value
 
-pub blind : (thread page : ℕ) (write exec : Bool) (owner : Owner) (bytes : List ℕ) (t : ℕ) (w : World) (change : Thread → Thread) → ((x : Thread) → (change x).process ≡ x.process)
-    → IsOnePage thread page write exec owner bytes t w → IsOnePage thread page write exec owner bytes t (with_thread w t change)
-blind thread page write exec owner bytes t w change same shown = record {
+pub blind : (m : OnePage) (t : ℕ) (w : World) (change : Thread → Thread) → ((thread : Thread) → (change thread).process ≡ thread.process) → IsOnePage m t w → IsOnePage m t (with_thread w t change)
+blind m t w change same shown = record {
   is_thread = shown.is_thread;
   is_entry = λ address. entry_at-with_thread w t change same address ∙ shown.is_entry address;
   is_owner = shown.is_owner;

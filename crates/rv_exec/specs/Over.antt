@@ -1,15 +1,13 @@
 -- One instruction over any memory that answers four calls; a step is this over the flat world. This project's own way to put the manual's instructions.
 use Rattle.std.specs.Prelude.{ℕ, ◌+◌, ◌%◌, ◌^◌, Option, Some, None, Result, Ok, Err, ◌==◌, if◌then◌else◌}
 use Rattle.dos_world.specs.World.{World, Registers}
-use Rattle.dos_world.specs.Reach.{width, loaded, stored, bytes_of}
-use Rattle.dos_world.specs.declared.Access.TheVariants.{Load, Store, Claim}
 use Rattle.dos_world.specs.declared.Size.{Size}
 use Rattle.dos_world.specs.declared.Size.TheVariants.{Word}
 use Rattle.dos_world.specs.declared.Reason.{Reason}
 use Rattle.dos_world.specs.declared.Reason.TheVariants.{Fault}
 use Rattle.rv_isa.specs.declared.Instr.{Instr}
 use Rattle.rv_exec.specs.Effect.{Effect, goes, loads, stores, claims, stops, effect}
-use Rattle.rv_exec.specs.Step.{◌>>=◌, reached, half_at, whole_word}
+use Rattle.rv_exec.specs.Step.{◌>>=◌, half_at, load_at, store_at, claim_at, whole_word}
 
 -- ---- any memory
 
@@ -58,7 +56,7 @@ one_in answers r m = do
 abbrev pub world_answers : ℕ → Answers World
 world_answers t = record {
   fetch = λ w address. half_at w t address;
-  load = λ w address size. reached w t address size Load >>= λ place. Ok (loaded w place (width size));
-  store = λ w address size value. reached w t address size Store >>= λ place. Ok (stored w place (bytes_of (width size) value));
-  claim = λ w address. reached w t address Word Claim >>= λ place. Ok (loaded w place 4);
+  load = λ w address size. load_at w t address size;
+  store = λ w address size value. store_at w t address size value;
+  claim = λ w address. claim_at w t address;
 }

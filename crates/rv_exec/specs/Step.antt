@@ -37,6 +37,18 @@ half_at w t address = do
   place ← reached w t address Half Fetch
   Ok (loaded w place 2)
 
+-- the number that t loads
+abbrev pub load_at : World → ℕ → ℕ → Size → Result ℕ Reason
+load_at w t address size = reached w t address size Load >>= λ place. Ok (loaded w place (width size))
+
+-- the world after a store of t
+abbrev pub store_at : World → ℕ → ℕ → Size → ℕ → Result World Reason
+store_at w t address size value = reached w t address size Store >>= λ place. Ok (stored w place (bytes_of (width size) value))
+
+-- the word that t claims
+abbrev pub claim_at : World → ℕ → ℕ → Result ℕ Reason
+claim_at w t address = reached w t address Word Claim >>= λ place. Ok (loaded w place 4)
+
 -- ---- the instruction at pc
 
 -- an instruction of four bytes by its two halfwords, the lower first. Section 1.5.

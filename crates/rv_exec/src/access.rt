@@ -1,7 +1,8 @@
 // The instructions that read or write memory.
-ghost use Rattle.std.specs.Prelude.{◌≡◌, ◌≢◌, ◌<◌, ℕ, bit_and, None};
+ghost use Rattle.std.specs.Prelude.{◌≡◌, ◌≢◌, ◌<◌, ℕ, bit_and, Some, None};
 ghost use Rattle.dos_world.specs.World.{World, get, set, with_held};
 ghost use Rattle.rv_isa.specs.Fields as fields;
+ghost use Rattle.rv_isa.specs.Meaning.{load_in};
 ghost use Rattle.rv_exec.specs.Effect as effects;
 ghost use Rattle.rv_exec.specs.Effect.{stores, onward, combined};
 ghost use Rattle.rv_exec.specs.Over.{effect_in, world_answers};
@@ -12,7 +13,7 @@ use crate::local::{advance, first, put, second};
 use crate::numbers::{greater, lesser, load_result, load_size, store_size};
 use crate::{Memory, Went};
 use dos_world::{Reason, Regs, Size};
-use rv_isa::AmoOp;
+use rv_isa::{AmoOp, LoadOp, StoreOp};
 
 /// The address of a load.
 #[inline]
@@ -30,7 +31,24 @@ fn store_address(regs: &Regs, word: u32) -> u32
     first(regs, word).wrapping_add_signed(rv_isa::imm_s(word))
 }
 
-/// A load, sign-extended for lb and lh.
+/// A load by one operation, sign-extended for lb and lh.
+#[inline]
+#[tactic(auto, using(rv_isa::proofs::ByOpcode::meaning_load), unfolding(crate::specs::Effect::effect))]
+fn load_by<M: Memory>(regs: &mut Regs, memory: &mut M, word: u32, op: LoadOp) -> Went
+    requires opcode { bit_and word 127 ≡ 0x03 }
+    requires operation { load_in word ≡ Some op }
+    ensures { Performs (M.shows memory.old) (M.shows memory.new) regs.old regs.new result (effect_of_word word regs.old) }
+{
+    match memory.load(load_address(regs, word), load_size(op)) {
+        Ok(number) => {
+            put(regs, word, load_result(op, number));
+            Went::Step
+        }
+        Err(reason) => Went::Stop(reason),
+    }
+}
+
+/// A load. Each operation has an arm of its own, where its size and its sign are known: one branch finds them all.
 #[inline]
 #[tactic(auto, using(rv_isa::proofs::ByOpcode::meaning_load), unfolding(crate::specs::Effect::effect))]
 pub fn load<M: Memory>(regs: &mut Regs, memory: &mut M, word: u32) -> Went
@@ -38,29 +56,23 @@ pub fn load<M: Memory>(regs: &mut Regs, memory: &mut M, word: u32) -> Went
     ensures { Performs (M.shows memory.old) (M.shows memory.new) regs.old regs.new result (effect_of_word word regs.old) }
 {
     match rv_isa::load_op(word) {
-        Some(op) => match memory.load(load_address(regs, word), load_size(op)) {
-            Ok(number) => {
-                put(regs, word, load_result(op, number));
-                Went::Step
-            }
-            Err(reason) => Went::Stop(reason),
-        },
+        Some(LoadOp::Lb) => load_by(regs, memory, word, LoadOp::Lb),
+        Some(LoadOp::Lh) => load_by(regs, memory, word, LoadOp::Lh),
+        Some(LoadOp::Lw) => load_by(regs, memory, word, LoadOp::Lw),
+        Some(LoadOp::Lbu) => load_by(regs, memory, word, LoadOp::Lbu),
+        Some(LoadOp::Lhu) => load_by(regs, memory, word, LoadOp::Lhu),
         None => Went::Stop(Reason::Fault(4)),
     }
 }
 
-/// A store, and on to the next instruction.
+/// A store of the low bytes of a register by one operation.
 #[inline]
-fn store_number<M: Memory>(
-    regs: &mut Regs,
-    memory: &mut M,
-    address: u32,
-    size: Size,
-    value: u32,
-) -> Went
-    ensures { Performs (M.shows memory.old) (M.shows memory.new) regs.old regs.new result (stores address size value (onward 4 regs.old)) }
+fn store_by<M: Memory>(regs: &mut Regs, memory: &mut M, word: u32, op: StoreOp) -> Went
+    ensures { Performs (M.shows memory.old) (M.shows memory.new) regs.old regs.new result (stores (effects.plus (get regs.old (fields.rs1 word)) (fields.imm_s word)) (effects.store_size op) (get regs.old (fields.rs2 word)) (onward 4 regs.old)) }
 {
-    match memory.store(address, size, value) {
+    let address = store_address(regs, word);
+    let value = second(regs, word);
+    match memory.store(address, store_size(op), value) {
         Ok(()) => {
             advance(regs);
             Went::Step
@@ -69,7 +81,7 @@ fn store_number<M: Memory>(
     }
 }
 
-/// A store of the low bytes of a register.
+/// A store. As for loads, each operation has an arm of its own.
 #[inline]
 #[tactic(auto, using(rv_isa::proofs::ByOpcode::meaning_store), unfolding(crate::specs::Effect::effect))]
 pub fn store<M: Memory>(regs: &mut Regs, memory: &mut M, word: u32) -> Went
@@ -77,11 +89,9 @@ pub fn store<M: Memory>(regs: &mut Regs, memory: &mut M, word: u32) -> Went
     ensures { Performs (M.shows memory.old) (M.shows memory.new) regs.old regs.new result (effect_of_word word regs.old) }
 {
     match rv_isa::store_op(word) {
-        Some(op) => {
-            let address = store_address(regs, word);
-            let value = second(regs, word);
-            store_number(regs, memory, address, store_size(op), value)
-        }
+        Some(StoreOp::Sb) => store_by(regs, memory, word, StoreOp::Sb),
+        Some(StoreOp::Sh) => store_by(regs, memory, word, StoreOp::Sh),
+        Some(StoreOp::Sw) => store_by(regs, memory, word, StoreOp::Sw),
         None => Went::Stop(Reason::Fault(4)),
     }
 }
@@ -195,8 +205,8 @@ fn exchange<M: Memory>(
     }
 }
 
-/// lr.w, sc.w and the nine AMOs; aq and rl have no effect. Kept out of the loop that runs instructions, since they are rare.
-#[inline(never)]
+/// lr.w, sc.w and the nine AMOs; aq and rl have no effect.
+#[inline]
 #[tactic(auto, using(rv_isa::proofs::ByOpcode::meaning_amo), unfolding(crate::specs::Effect::effect))]
 pub fn atomic<M: Memory>(regs: &mut Regs, memory: &mut M, word: u32) -> Went
     requires { bit_and word 127 ≡ 0x2F }

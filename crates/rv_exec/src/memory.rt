@@ -1,8 +1,8 @@
 // What an instruction needs of memory.
 ghost use Rattle.std.specs.Prelude.{◌≡◌, ℕ};
 ghost use Rattle.dos_world.specs.World.{World, Thread, with_thread};
-ghost use Rattle.rv_exec.specs.Step.{half_at};
-ghost use Rattle.rv_exec.specs.Follows.{word_at, load_at, store_at, claim_at, answer_of, after_of};
+ghost use Rattle.rv_exec.specs.Step.{half_at, load_at, store_at, claim_at};
+ghost use Rattle.rv_exec.specs.Follows.{word_at, answer_of, after_of};
 
 use dos_world::{Reason, Size};
 

@@ -1,13 +1,11 @@
-// A memory of one page: the least that instructions can run over. It is for tests and for measuring.
-ghost use Rattle.std.specs.Prelude.{◌≡◌, ◌+◌, ◌%◌, ◌≤◌, ℕ, take, drop, false, IfOk, IsTrue, ◌↔◌};
+// A memory of one page: the least that instructions can run over. It is for tests.
+ghost use Rattle.std.specs.Prelude.{◌≡◌, ◌+◌, ◌^◌, ◌<◌, ◌≤◌, ℕ, take, drop, IfOk};
 ghost use Rattle.dos_world.specs.World.{World};
 ghost use Rattle.dos_world.specs.Reach.{width, number_of, written, bytes_of};
-ghost use Rattle.dos_world.specs.Reach as reaching;
 ghost use Rattle.rv_exec.specs.Step.{reached};
-ghost use Rattle.rv_exec.specs.OnePage.{IsOnePage};
 
 use crate::Memory;
-use dos_world::{Access, Owner, Reason, Size};
+use dos_world::{Access, Entry, Owner, Reason, Size};
 
 /// The memory of a thread that has one page, in a world of one frame.
 #[derive(Drop)]
@@ -26,66 +24,46 @@ pub struct OnePage {
     pub bytes: Box<[u8; 4096]>,
 }
 
-fn is_aligned(address: u32, size: Size) -> bool
-    ensures value { IsTrue result ↔ (address % width size ≡ 0) }
-    ensures within { IsTrue result → address % 4096 + width size ≤ 4096 }
-{
-    match size {
-        Size::Byte => true,
-        Size::Half => address % 2 == 0,
-        Size::Word => address % 4 == 0,
-    }
-}
-
-fn is_foreign(thread: u32, access: Access, owner: Owner) -> bool
-    ensures { result ≡ reaching.is_foreign thread access owner }
-{
-    match owner {
-        Owner::Of(other) => other != thread,
-        _ => match access {
-            Access::Fetch => false,
-            Access::Load => false,
-            Access::Store => true,
-            Access::Claim => true,
-        },
-    }
-}
-
 impl OnePage {
-    fn has_right(&self, access: Access) -> bool
-        ensures { result ≡ reaching.has_right access (record { frame = 0; write = self.now.write; exec = self.now.exec; shared = false }) }
+    ghost use Rattle.rv_exec.specs.OnePage.{IsOnePage, entry_of};
+
+    /// The page's entry; its frame is the only one.
+    fn entry(&self) -> Entry
+        ensures { result ≡ entry_of self.now }
     {
-        match access {
-            Access::Fetch => self.exec,
-            Access::Load => true,
-            Access::Store => self.write,
-            Access::Claim => self.write,
+        Entry {
+            frame: 0,
+            write: self.write,
+            exec: self.exec,
+            shared: false,
         }
     }
 
     /// The offset of an access in the page.
     fn find(&self, address: u32, size: Size, access: Access) -> Result<u32, Reason>
-        ensures place { (t : ℕ) (w : World) → IsOnePage self.now.thread self.now.page self.now.write self.now.exec self.now.owner self.now.bytes.value t w → result ≡ reached w t address size access }
+        ensures place { (t : ℕ) (w : World) → IsOnePage self.now t w → result ≡ reached w t address size access }
         ensures within { IfOk result (λ offset. offset + width size ≤ 4096) }
     {
-        if !is_aligned(address, size) {
+        if !size.is_aligned(address) {
             return Err(Reason::Fault(7));
         }
         if address / 4096 != self.page {
             return Err(Reason::Fault(11));
         }
-        if !self.has_right(access) {
+        if !self.entry().has_right(access) {
             return Err(Reason::Fault(11));
         }
-        if is_foreign(self.thread, access, self.owner) {
+        if self.owner.is_foreign(self.thread, access) {
             return Err(Reason::Page { address, access });
         }
         Ok(address % 4096)
     }
 
+    /// The little-endian number at an offset.
     fn number(&self, offset: u32, size: Size) -> u32
         requires { offset + width size ≤ 4096 }
-        ensures { result ≡ number_of (take (width size) (drop offset self.now.bytes.value)) }
+        ensures value { result ≡ number_of (take (width size) (drop offset self.now.bytes.value)) }
+        ensures range { result < 256 ^ width size }
     {
         let o = offset as usize;
         match size {
@@ -100,30 +78,21 @@ impl OnePage {
         }
     }
 
-    fn half(&self, offset: u32) -> u16
-        requires { offset + 2 ≤ 4096 }
-        ensures { result ≡ number_of (take 2 (drop offset self.now.bytes.value)) }
-    {
-        let o = offset as usize;
-        u16::from_le_bytes([self.bytes[o], self.bytes[o + 1]])
-    }
-
+    /// Writes the low bytes of a number at an offset.
     fn put(&mut self, offset: u32, size: Size, value: u32)
         requires { offset + width size ≤ 4096 }
         ensures { self.new ≡ record self.old { bytes = record self.old.bytes { value = written self.old.bytes.value offset (bytes_of (width size) value) } } }
     {
         let o = offset as usize;
+        let [first, second, third, fourth] = value.to_le_bytes();
+        self.bytes[o] = first;
         match size {
-            Size::Byte => self.bytes[o] = (value & 0xff) as u8,
-            Size::Half => {
-                self.bytes[o] = (value & 0xff) as u8;
-                self.bytes[o + 1] = (value >> 8 & 0xff) as u8;
-            }
+            Size::Byte => {}
+            Size::Half => self.bytes[o + 1] = second,
             Size::Word => {
-                self.bytes[o] = (value & 0xff) as u8;
-                self.bytes[o + 1] = (value >> 8 & 0xff) as u8;
-                self.bytes[o + 2] = (value >> 16 & 0xff) as u8;
-                self.bytes[o + 3] = (value >> 24) as u8;
+                self.bytes[o + 1] = second;
+                self.bytes[o + 2] = third;
+                self.bytes[o + 3] = fourth;
             }
         }
     }
@@ -136,13 +105,13 @@ impl Memory for OnePage {
 
     ghost Fixed = { Unit {0} };
 
-    ghost shows = { λ m fixed t w. IsOnePage m.thread m.page m.write m.exec m.owner m.bytes.value t w };
+    ghost shows = { λ m fixed t w. IsOnePage m t w };
 
-    ghost blind = { λ m fixed t w change same shown. blind m.thread m.page m.write m.exec m.owner m.bytes.value t w change same shown };
+    ghost blind = { λ m fixed t w change same shown. blind m t w change same shown };
 
     fn fetch_half(&mut self, address: u32) -> Result<u16, Reason> {
         match self.find(address, Size::Half, Access::Fetch) {
-            Ok(offset) => Ok(self.half(offset)),
+            Ok(offset) => Ok(self.number(offset, Size::Half) as u16),
             Err(reason) => Err(reason),
         }
     }

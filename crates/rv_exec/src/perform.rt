@@ -12,7 +12,8 @@ use crate::local::{arithmetic, auipc, branch, fence, illegal, jal, jalr, lui, re
 use crate::{Memory, Went};
 use dos_world::{Reason, Regs};
 
-/// The instruction of a word, by its opcode.
+/// The instruction of a word, by its opcode. No instruction has opcode 0; its arm keeps the compiler from numbering the
+/// arms anew before it knows the opcode in each of them, where it would then be tested again.
 #[inline]
 fn perform<M: Memory>(regs: &mut Regs, memory: &mut M, word: u32) -> Went
     ensures { Performs (M.shows memory.old) (M.shows memory.new) regs.old regs.new result (effect_of_word word regs.old) }
@@ -30,24 +31,19 @@ fn perform<M: Memory>(regs: &mut Regs, memory: &mut M, word: u32) -> Went
         0x2f => atomic(regs, memory, word),
         0x73 => system(word),
         0x0f => fence(regs, word),
+        0x00 => illegal(word),
         _ => illegal(word),
     }
 }
 
-/// The word at pc is fetched, and its instruction done. A lone halfword, whose low two bits aren't 11, is illegal. It has
-/// none of the opcodes anyway; but told of its low bits here, the compiler makes a shorter way to the opcode's place.
+/// The word at pc is fetched, and its instruction done. A lone halfword, whose low two bits aren't 11, has none of the
+/// opcodes, so it is illegal like any other word without one.
 #[inline]
 fn fetch_and_perform<M: Memory>(regs: &mut Regs, memory: &mut M) -> Went
     ensures { (f : M.Fixed) (t : ℕ) (w : World) → M.shows memory.old f t w → Follows (M.shows memory.new f t) w regs.old regs.new result (one_in (world_answers t) regs.old w) }
 {
     match memory.fetch_word(regs.pc()) {
-        Ok(word) => {
-            if word % 4 == 3 {
-                perform(regs, memory, word)
-            } else {
-                Went::Stop(Reason::Fault(4))
-            }
-        }
+        Ok(word) => perform(regs, memory, word),
         Err(reason) => Went::Stop(reason),
     }
 }

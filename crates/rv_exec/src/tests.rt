@@ -121,10 +121,13 @@ fn stops_leave_the_registers(rt: HostRuntime) -> Result<(), Fail> {
         (0x0000_0073, 0, Reason::Service), // ecall
         (0x0010_0073, 0, Reason::Fault(5)), // ebreak
         (0x0060_00ef, 0, Reason::Fault(7)), // jal x1, 6
+        (0x0060_006f, 0, Reason::Fault(7)), // jal x0, 6
         (0x0062_8363, 0, Reason::Fault(7)), // beq x5, x6, 6
         (0x0002_82e7, 0x2002, Reason::Fault(7)), // jalr x5, 0(x5)
         (0x0062_a123, 0x1000, Reason::Fault(7)), // sw x6, 2(x5)
+        (0x0002_a123, 0x1000, Reason::Fault(7)), // sw x0, 2(x5)
         (0x0060_2023, 0, Reason::Fault(11)), // sw x6, 0(x0)
+        (0x0000_2023, 0, Reason::Fault(11)), // sw x0, 0(x0)
         (0x0002_a283, 0x1fff, Reason::Fault(7)), // lw x5, 0(x5)
         (0x0002_a283, 0x2000, Reason::Fault(11)),
         (0x1002_a2af, 0x1002, Reason::Fault(7)), // lr.w x5, (x5)
@@ -193,23 +196,23 @@ fn atomics(rt: HostRuntime) -> Result<(), Fail> {
     Ok(())
 }
 
-/// lr.w x7, (x5), then sc.w x8, x6, (x5) two times.
+/// lr.w x6, (x5), then sc.w x10, x6, (x5) two times.
 #[test]
 fn the_second_store_fails(rt: HostRuntime) -> Result<(), Fail> {
     let mut memory = one_page(rt.alloc())?;
-    let _ = memory.store(0x1000, Size::Word, 0x1002_a3af);
-    let _ = memory.store(0x1004, Size::Word, 0x1862_a42f);
-    let _ = memory.store(0x1008, Size::Word, 0x1862_a42f);
+    let _ = memory.store(0x1000, Size::Word, 0x1002_a32f);
+    let _ = memory.store(0x1004, Size::Word, 0x1862_a52f);
+    let _ = memory.store(0x1008, Size::Word, 0x1862_a52f);
+    let _ = memory.store(0x1100, Size::Word, 8);
     let mut regs = Regs::new(0x1000);
     regs.set(5, 0x1100);
-    regs.set(6, 9);
     assert_eq!(rt; one(&mut regs, &mut memory), Went::Step);
-    assert_eq!(rt; regs.held(), Some(0x1100));
-    for x8 in [0, 1] {
+    assert_eq!(rt; (regs.get(6), regs.held()), (8, Some(0x1100)));
+    for (x6, x10) in [(9, 0), (10, 1)] {
+        regs.set(6, x6);
         assert_eq!(rt; one(&mut regs, &mut memory), Went::Step);
-        assert_eq!(rt; (regs.get(8), regs.held()), (x8, None));
+        assert_eq!(rt; (regs.get(10), regs.held()), (x10, None));
         assert_eq!(rt; memory.load(0x1100, Size::Word), Ok(9));
-        regs.set(6, 10);
     }
     Ok(())
 }

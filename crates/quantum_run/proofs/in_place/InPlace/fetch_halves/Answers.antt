@@ -1,5 +1,5 @@
 use Rattle.std.proofs.Common.{Ok, sym, ◌∙◌, ap, arith}
-use Rattle.quantum_run.proofs.Reaching.{word-both, word-low, word-err, word-err-second}
+use Rattle.quantum_run.proofs.Reaching.{shows-stays, word-both, word-low, word-err, word-err-second}
 use Rattle.quantum_run.proofs.in_place.InPlace.fetch_halves.Goals as goal
 
 pub returns-then-low-ne3 : goal.returns-then-low-ne3
@@ -10,13 +10,15 @@ returns-then-low-ne3 c = λ f t w s.
 pub returns-in-Err : goal.returns-in-Err
 returns-in-Err c = λ f t w s.
     let first = c.in-Err.ensures f t w s in
-    (first.0, sym (word-err w t c.args.address c.in-Err.reason (sym first.1)))
+    (shows-stays _ _ f t w c.refuse.ensures.stays first.0, c.refuse.ensures.none ∙ sym (word-err w t c.args.address c.in-Err.reason (sym first.1)))
 
 pub returns-in-Err-fetch_half : goal.returns-in-Err-fetch_half
 returns-in-Err-fetch_half c = λ f t w s.
     let first = c.in-Ok.ensures f t w s in
-    let second = c.in-Err-fetch_half.ensures f t w first.0 in
-    (second.0, sym (word-err-second w t c.args.address c.in-Ok.low c.in-Err-fetch_half.reason (sym first.1) c.if-low-ne3.false (sym second.1)))
+    let second = c.in-Err-fetch_half.ensures f t w first.0 in (
+      shows-stays _ _ f t w c.refuse-in-Err-fetch_half.ensures.stays second.0,
+      c.refuse-in-Err-fetch_half.ensures.none ∙ sym (word-err-second w t c.args.address c.in-Ok.low c.in-Err-fetch_half.reason (sym first.1) c.if-low-ne3.false (sym second.1)),
+    )
 
 pub returns-in-Ok-fetch_half : goal.returns-in-Ok-fetch_half
 returns-in-Ok-fetch_half c = λ f t w s.
