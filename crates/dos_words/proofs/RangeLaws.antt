@@ -1,20 +1,21 @@
 -- Each request that is given has its numbers in range.
 use Rattle.std.proofs.Common.{◌≡◌, ◌∙◌, ◌≤◌, ℕ, suc, Bool, cond, true, false, leb, ◌&&◌, List, [], ◌∷◌, length, Option, Some, None, refl, ap, subst, arith}
-use Rattle.std.specs.Prelude.{option_and_then, codes, IfSome}
+use Rattle.std.specs.Prelude.{option_and_then, bytes_eq, codes, IfSome}
 use Rattle.std.specs.List.{AllByRecursion}
-use Rattle.std.proofs.lemmas.Bool.{leb-true}
+use Rattle.std.specs.Int.{IsInRange}
+use Rattle.std.proofs.lemmas.Bool.{and_parts, leb-true}
 use Rattle.dos_world.specs.declared.Post.{Post}
 use Rattle.clap.specs.Words.{Row, fault_of, subcommand_of}
 use Rattle.clap.specs.Kinds.{Kinds}
 use Rattle.dos_words.specs.declared.request.Request.{Request}
 use Rattle.dos_words.specs.declared.request.Request.TheVariants.{Run, Replay, Inspect, Gen}
 use Rattle.dos_words.specs.Numbers.{Text, number, where_within, number_within, parts_by, post_in, posts_in_all, colon, comma}
-use Rattle.dos_words.specs.Asked.{Values, number_or, posts_or_none, some_number, number_if_given, most_u64, workers_of, images_of, run_asked, replay_asked, inspect_asked, gen_asked}
-use Rattle.dos_words.specs.Commands.{Command, run, replay, inspect, gen, is_named, command_named}
-use Rattle.dos_words.specs.Canonical.{Canonical, pairs_and_names, are_allowed, canonical, values_in}
-use Rattle.dos_words.specs.Clap.{words_app, asked_by, asked_from, where_taken, values_among, names_among, clap_request}
-use Rattle.dos_words.specs.Request.{canonical_request, request_by, request}
-use Rattle.dos_words.specs.Ranges.{IsWithin, FitsAskedPost, FitsRequest}
+use Rattle.dos_words.specs.Asked.{Values, number_or, posts_or_none, number_if_given, most_u64, workers_of, images_of, run_asked, replay_asked, inspect_asked, gen_asked}
+use Rattle.dos_words.specs.Commands.{Command, run, replay, inspect, gen, command_named}
+use Rattle.dos_words.specs.Canonical.{pairs_and_names, are_allowed, canonical, values_in}
+use Rattle.dos_words.specs.Clap.{words_app, asked_by, where_taken, values_among, names_among, clap_request}
+use Rattle.dos_words.specs.Request.{request_by, request}
+use Rattle.dos_words.specs.Ranges.{FitsAskedPost, FitsRequest}
 
 -- ---- what some value came of
 
@@ -32,40 +33,35 @@ guard_some : {A : Type 0} (b : Bool) (x y : A) → cond b (Some x) None ≡ Some
 guard_some true x y e = (refl, some_is x y e)
 guard_some false x y e = absurd cc
 
-both_true : (a b : Bool) → (a && b) ≡ true → (a ≡ true) × (b ≡ true)
-both_true true true e = (refl, refl)
-both_true true false e = absurd cc
-both_true false b e = absurd cc
-
 -- ---- numbers
 
-is_within : (low high n m : ℕ) → where_within low high n ≡ Some m → IsWithin low high m
+is_within : (low high n m : ℕ) → where_within low high n ≡ Some m → IsInRange low high m
 is_within low high n m e =
     let g = guard_some (leb low n && leb n high) n m e in
-    let b = both_true (leb low n) (leb n high) g.0 in
-    subst (IsWithin low high) g.1 (leb-true _ _ b.0, leb-true _ _ b.1)
+    let b = and_parts (leb low n) (leb n high) g.0 in
+    subst (IsInRange low high) g.1 (leb-true _ _ b.0, leb-true _ _ b.1)
 
-number_fits : (low high : ℕ) (text : Text) (n : ℕ) → number_within low high text ≡ Some n → IsWithin low high n
+number_fits : (low high : ℕ) (text : Text) (n : ℕ) → number_within low high text ≡ Some n → IsInRange low high n
 number_fits low high text n e = let b = bind_some (number text) (where_within low high) n e in is_within low high b.0 n b.2
 
-number_or_fits : (low high default : ℕ) (given : Option Text) (n : ℕ) → IsWithin low high default → number_or given low high default ≡ Some n → IsWithin low high n
-number_or_fits low high default None n fits e = subst (IsWithin low high) (some_is default n e) fits
+number_or_fits : (low high default : ℕ) (given : Option Text) (n : ℕ) → IsInRange low high default → number_or given low high default ≡ Some n → IsInRange low high n
+number_or_fits low high default None n fits e = subst (IsInRange low high) (some_is default n e) fits
 number_or_fits low high default (Some text) n fits e = number_fits low high text n e
 
 if_given_fits : (high : ℕ) (given : Option Text) (o : Option ℕ) → number_if_given given 0 high ≡ Some o → IfSome o (λ n. n ≤ high)
 if_given_fits high None o e = subst (λ (x : Option ℕ). IfSome x (λ n. n ≤ high)) (some_is None o e) tt
 if_given_fits high (Some text) o e =
-    let b = bind_some (number_within 0 high text) some_number o e in
+    let b = bind_some (number_within 0 high text) (λ n. Some (Some n)) o e in
     subst (λ (x : Option ℕ). IfSome x (λ n. n ≤ high)) (some_is (Some b.0) o b.2) (number_fits 0 high text b.0 b.1).1
 
-workers_fit : (value : Values) (n : ℕ) → workers_of value ≡ Some n → IsWithin 1 32 n
+workers_fit : (value : Values) (n : ℕ) → workers_of value ≡ Some n → IsInRange 1 32 n
 workers_fit value n e = number_or_fits 1 32 4 (value (codes "workers")) n (omega arith, omega arith) e
 
-images_fit : (names images : List Text) → images_of names ≡ Some images → IsWithin 1 8 (length images)
+images_fit : (names images : List Text) → images_of names ≡ Some images → IsInRange 1 8 (length images)
 images_fit names images e =
     let g = guard_some (leb 1 (length names) && leb (length names) 8) names images e in
-    let b = both_true (leb 1 (length names)) (leb (length names) 8) g.0 in
-    subst (λ (x : List Text). IsWithin 1 8 (length x)) g.1 (leb-true _ _ b.0, leb-true _ _ b.1)
+    let b = and_parts (leb 1 (length names)) (leb (length names) 8) g.0 in
+    subst (λ (x : List Text). IsInRange 1 8 (length x)) g.1 (leb-true _ _ b.0, leb-true _ _ b.1)
 
 -- ---- posts
 
@@ -166,25 +162,22 @@ by_name false false false true command e = subst (λ (x : Command). AsksInRange 
 by_name false false false false command e = absurd cc
 
 named_fits : (name : Text) (command : Command) → command_named name ≡ Some command → AsksInRange command.asked
-named_fits name command e = by_name (is_named name run) (is_named name replay) (is_named name inspect) (is_named name gen) command e
+named_fits name command e = by_name (bytes_eq name run.name) (bytes_eq name replay.name) (bytes_eq name inspect.name) (bytes_eq name gen.name) command e
 
 -- ---- both readings
 
-canonical_fits : (words : List Text) (c : Canonical) (r : Request) → canonical words ≡ Some c → canonical_request c ≡ Some r → FitsRequest r
-canonical_fits [] c r is e = absurd cc
-canonical_fits (name ∷ words) c r is e =
-    let command = bind_some (command_named name) _ c is in
-    let parts = bind_some (pairs_and_names words) _ c command.2 in
-    let g = guard_some (are_allowed command.0.options parts.0.0) (record { command = command.0; pairs = parts.0.0; names = parts.0.1 }) c parts.2 in
-    named_fits name command.0 command.1 (values_in parts.0.0) parts.0.1 r (ap canonical_request g.1 ∙ e)
+canonical_fits : (words : List Text) (asked : Option Request) (r : Request) → canonical words ≡ Some asked → asked ≡ Some r → FitsRequest r
+canonical_fits [] asked r is e = absurd cc
+canonical_fits (name ∷ words) asked r is e =
+    let command = bind_some (command_named name) _ asked is in
+    let parts = bind_some (pairs_and_names words) _ asked command.2 in
+    let g = guard_some (are_allowed command.0.options parts.0.0) (command.0.asked (values_in parts.0.0) parts.0.1) asked parts.2 in
+    named_fits name command.0 command.1 (values_in parts.0.0) parts.0.1 r (g.1 ∙ e)
 
-asked_by_fits : (name : Text) (found : Option Command) (rows : List Row) (r : Request) → command_named name ≡ found → asked_by found rows ≡ Some r → FitsRequest r
-asked_by_fits name None rows r is e = absurd cc
-asked_by_fits name (Some command) rows r is e = named_fits name command is (values_among rows) (names_among rows) r e
-
-asked_from_fits : (found : Option (Text × List Row)) (r : Request) → asked_from found ≡ Some r → FitsRequest r
-asked_from_fits None r e = absurd cc
-asked_from_fits (Some found) r e = asked_by_fits found.0 (command_named found.0) found.1 r refl e
+asked_by_fits : (found : Text × List Row) (r : Request) → asked_by found ≡ Some r → FitsRequest r
+asked_by_fits found r e =
+    let command = bind_some (command_named found.0) _ r e in
+    named_fits found.0 command.0 command.1 (values_among found.1) (names_among found.1) r command.2
 
 taken_is : (kinds : Kinds) (asked : Option Request) (r : Request) → where_taken kinds asked ≡ Some r → asked ≡ Some r
 taken_is [] asked r e = e
@@ -192,12 +185,13 @@ taken_is (kind ∷ kinds) asked r e = absurd cc
 
 clap_fits : (words : List Text) (r : Request) → clap_request words ≡ Some r → FitsRequest r
 clap_fits words r e =
-    let found : Option (Text × List Row) = subcommand_of words_app words in
-    asked_from_fits found r (taken_is (fault_of words_app words) (asked_from found) r e)
+    let asked : Option Request = option_and_then asked_by (subcommand_of words_app words) in
+    let found = bind_some (subcommand_of words_app words) asked_by r (taken_is (fault_of words_app words) asked r e) in
+    asked_by_fits found.0 r found.2
 
-either_fits : (c : Option Canonical) (words : List Text) (r : Request) → canonical words ≡ c → request_by c words ≡ Some r → FitsRequest r
+either_fits : (c : Option (Option Request)) (words : List Text) (r : Request) → canonical words ≡ c → request_by c words ≡ Some r → FitsRequest r
 either_fits None words r is e = clap_fits words r e
-either_fits (Some c) words r is e = canonical_fits words c r is e
+either_fits (Some asked) words r is e = canonical_fits words asked r is e
 
 pub request_fits : (words : List Text) (r : Request) → request words ≡ Some r → FitsRequest r
 request_fits words r e = either_fits (canonical words) words r refl e

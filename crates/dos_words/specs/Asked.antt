@@ -1,5 +1,9 @@
--- What the values of a command's options and its names ask for: the ranges, and what stands for an option that isn't given. This project's own rule. Whoever has read the words says the value of an option by its name without the dashes.
-use Rattle.std.specs.Prelude.{ℕ, ◌-◌, ◌^◌, ◌&&◌, List, [], ◌∷◌, length, Option, Some, None, nat_le, if◌then◌else◌, codes}
+-- What the values of a command's options and its names ask for: the ranges, and what stands for an
+-- option that isn't given. This project's own rule. Whoever has read the words says the value of an
+-- option by its name without the dashes.
+use Rattle.std.specs.Prelude.{ℕ, ◌-◌, ◌^◌, List, [], ◌∷◌, length, Option, Some, None, if◌then◌else◌, codes}
+use Rattle.std.specs.Int.{is_in_range}
+use Rattle.std.specs.Option.{option_map_or}
 use Rattle.dos_world.specs.declared.Post.{Post}
 use Rattle.dos_words.specs.Numbers.{Text, ◌>>=◌, number_within, posts_from}
 use Rattle.dos_words.specs.declared.request.Request.{Request}
@@ -13,22 +17,16 @@ Values = Text → Option Text
 
 -- its number in the range, or the default
 abbrev pub number_or : Option Text → (low high default : ℕ) → Option ℕ
-number_or None low high default = Some default
-number_or (Some text) low high default = number_within low high text
+number_or given low high default = option_map_or (number_within low high) given (Some default)
 
 -- its posts, or none
 abbrev pub posts_or_none : Option Text → Option (List (ℕ × Post))
-posts_or_none None = Some []
-posts_or_none (Some text) = posts_from text
-
--- a number that is given
-abbrev pub some_number : ℕ → Option (Option ℕ)
-some_number n = Some (Some n)
+posts_or_none given = option_map_or posts_from given (Some [])
 
 -- a number that need not be given
 abbrev pub number_if_given : Option Text → (low high : ℕ) → Option (Option ℕ)
-number_if_given None low high = Some None
-number_if_given (Some text) low high = number_within low high text >>= some_number
+number_if_given given low high =
+    option_map_or (λ text. number_within low high text >>= λ n. Some (Some n)) given (Some None)
 
 -- the highest number of 64 bits
 abbrev pub most_u64 : ℕ
@@ -40,7 +38,7 @@ workers_of value = number_or (value (codes "workers")) 1 32 4
 
 -- one to eight names of images
 abbrev pub images_of : List Text → Option (List Text)
-images_of names = if nat_le 1 (length names) && nat_le (length names) 8 then Some names else None
+images_of names = if is_in_range 1 8 (length names) then Some names else None
 
 -- ---- the commands
 
@@ -73,7 +71,6 @@ inspect_asked value _ = None
 
 -- `gen`, with no names
 abbrev pub gen_asked : Values → List Text → Option Request
-gen_asked value (name ∷ names) = None
 gen_asked value [] = do
   text ← value (codes "number")
   number ← number_within 0 4294967295 text
@@ -81,3 +78,4 @@ gen_asked value [] = do
   threads ← number_within 1 32 count
   workers ← workers_of value
   Some (Gen number threads workers)
+gen_asked value _ = None

@@ -1,9 +1,13 @@
--- Canonical words: the command, options in any order, each at most once as the two words `--name value`, and then the names. No value or name is empty or begins with `-`. This project's own rule.
-use Rattle.std.specs.Prelude.{Bool, true, false, not, ◌&&◌, List, [], ◌∷◌, find, Option, Some, None, is_some, option_map, ◌==◌, if◌then◌else◌, bytes_eq}
+-- Canonical words: the command, options in any order, each at most once as the two words `--name
+-- value`, and then the names. No value or name is empty or begins with `-`. This project's own
+-- rule.
+use Rattle.std.specs.Prelude.{Bool, true, false, not, ◌&&◌, List, [], ◌∷◌, Option, Some, None, is_some, ◌==◌, if◌then◌else◌, bytes_eq}
 use Rattle.std.specs.List.{list_any, list_all}
+use Rattle.std.specs.Map.{lookup}
 use Rattle.dos_words.specs.Numbers.{Text, ◌>>=◌}
+use Rattle.dos_words.specs.declared.request.Request.{Request}
 use Rattle.dos_words.specs.Asked.{Values}
-use Rattle.dos_words.specs.Commands.{Command, command_named}
+use Rattle.dos_words.specs.Commands.{command_named}
 
 -- a word that may be a value or a name
 abbrev pub is_plain : Text → Bool
@@ -23,10 +27,9 @@ abbrev pub pairs_and_names : List Text → Option (Pairs × List Text)
 pairs_and_names [] = Some ([], [])
 pairs_and_names (word ∷ []) = if is_plain word then Some ([], word ∷ []) else None
 pairs_and_names (word ∷ value ∷ words) =
-    let are_names : Bool = list_all is_plain (word ∷ value ∷ words) in
-    let rest : Option (Pairs × List Text) = pairs_and_names words in
-    if is_plain word then (if are_names then Some ([], word ∷ value ∷ words) else None)
-    else (if is_plain value then rest >>= with_pair word value else None)
+    let names : List Text = word ∷ value ∷ words in
+    if is_plain word then (if list_all is_plain names then Some ([], names) else None)
+    else (if is_plain value then pairs_and_names words >>= with_pair word value else None)
 
 -- ---- the options
 
@@ -34,13 +37,9 @@ pairs_and_names (word ∷ value ∷ words) =
 abbrev pub dashed : Text → Text
 dashed name = 45 ∷ 45 ∷ name
 
--- the pair is of this word
-abbrev pub is_for : Text → Text × Text → Bool
-is_for word pair = bytes_eq pair.0 word
-
 -- the value of an option, by its word
 abbrev pub value_in : Pairs → Text → Option Text
-value_in pairs word = option_map (λ pair. pair.1) (find (is_for word) pairs)
+value_in pairs word = lookup (bytes_eq word) pairs
 
 -- No option stands twice.
 abbrev pub are_once : Pairs → Bool
@@ -55,26 +54,16 @@ is_allowed options pair = list_any (λ option. bytes_eq pair.0 (dashed option)) 
 abbrev pub are_allowed : List Text → Pairs → Bool
 are_allowed options pairs = are_once pairs && list_all (is_allowed options) pairs
 
+-- the option's value by its name
+abbrev pub values_in : Pairs → Values
+values_in pairs name = value_in pairs (dashed name)
+
 -- ---- the words
 
--- the command, its pairs and its names
-pub record Canonical : Type 0 where
-  pub command : Command
-  pub pairs : Pairs
-  pub names : List Text
-
--- where the command has these options
-abbrev pub canonical_of : Command → Pairs × List Text → Option Canonical
-canonical_of command r = if are_allowed command.options r.0 then Some (record { command = command; pairs = r.0; names = r.1 }) else None
-
--- None where the words aren't canonical
-abbrev pub canonical : List Text → Option Canonical
+-- what canonical words ask for; None where the words aren't canonical
+abbrev pub canonical : List Text → Option (Option Request)
 canonical [] = None
 canonical (name ∷ words) = do
   command ← command_named name
   r ← pairs_and_names words
-  canonical_of command r
-
--- the option's value by its name
-abbrev pub values_in : Pairs → Values
-values_in pairs name = value_in pairs (dashed name)
+  if are_allowed command.options r.0 then Some (command.asked (values_in r.0) r.1) else None

@@ -24,7 +24,12 @@ run = record {
 
 -- runs by a log
 abbrev pub replay : Command
-replay = record { name = codes "replay"; options = codes "workers" ∷ codes "log" ∷ []; has_names = true; asked = replay_asked }
+replay = record {
+  name = codes "replay";
+  options = codes "workers" ∷ codes "log" ∷ [];
+  has_names = true;
+  asked = replay_asked;
+}
 
 -- prints the parts of an image
 abbrev pub inspect : Command
@@ -32,16 +37,17 @@ inspect = record { name = codes "inspect"; options = []; has_names = true; asked
 
 -- runs the generated image
 abbrev pub gen : Command
-gen = record { name = codes "gen"; options = codes "number" ∷ codes "threads" ∷ codes "workers" ∷ []; has_names = false; asked = gen_asked }
+gen = record {
+  name = codes "gen";
+  options = codes "number" ∷ codes "threads" ∷ codes "workers" ∷ [];
+  has_names = false;
+  asked = gen_asked;
+}
 
 -- all of them
 abbrev pub commands : List Command
 commands = run ∷ replay ∷ inspect ∷ gen ∷ []
 
--- the command has this name
-abbrev pub is_named : Text → Command → Bool
-is_named name command = bytes_eq name command.name
-
 -- the command of this name
 abbrev pub command_named : Text → Option Command
-command_named name = find (is_named name) commands
+command_named name = find (λ command. bytes_eq name command.name) commands

@@ -1,5 +1,7 @@
 -- Numbers and posts as the words spell them. This project's own rule.
 use Rattle.std.specs.Prelude.{ℕ, ◌+◌, ◌-◌, ◌*◌, Bool, false, not, ◌&&◌, List, [], ◌∷◌, length, fold, Option, Some, None, option_and_then, ◌==◌, nat_le, if◌then◌else◌}
+use Rattle.std.specs.Char.{is_ascii_digit}
+use Rattle.std.specs.Int.{is_in_range}
 use Rattle.std.specs.List.{list_all}
 use Rattle.dos_world.specs.declared.Post.{Post}
 
@@ -13,19 +15,15 @@ o >>= f = option_and_then f o
 
 -- ---- a number: one to twenty decimal digits without a leading zero, or `0`
 
--- `0` to `9`
-abbrev pub is_digit : ℕ → Bool
-is_digit c = nat_le 48 c && nat_le c 57
-
 -- `0` and more behind it
 abbrev pub has_leading_zero : Text → Bool
-has_leading_zero [] = false
-has_leading_zero (c ∷ []) = false
 has_leading_zero (c ∷ d ∷ cs) = c == 48
+has_leading_zero _ = false
 
 -- whether it is spelled so
 abbrev pub is_number : Text → Bool
-is_number text = nat_le 1 (length text) && nat_le (length text) 20 && list_all is_digit text && not (has_leading_zero text)
+is_number text =
+    is_in_range 1 20 (length text) && list_all is_ascii_digit text && not (has_leading_zero text)
 
 -- what the digits come to; `0` is 48
 abbrev pub decimal_value : Text → ℕ
@@ -37,7 +35,7 @@ number text = if is_number text then Some (decimal_value text) else None
 
 -- the number, if it is in the range
 abbrev pub where_within : (low high : ℕ) → ℕ → Option ℕ
-where_within low high n = if nat_le low n && nat_le n high then Some n else None
+where_within low high n = if is_in_range low high n then Some n else None
 
 -- a number in a range
 abbrev pub number_within : (low high : ℕ) → Text → Option ℕ
@@ -53,7 +51,8 @@ with_first c (text ∷ texts) = (c ∷ text) ∷ texts
 -- cut at each separator
 abbrev pub parts_by : ℕ → Text → List Text
 parts_by separator [] = [] ∷ []
-parts_by separator (c ∷ cs) = let rest : List Text = parts_by separator cs in if c == separator then [] ∷ rest else with_first c rest
+parts_by separator (c ∷ cs) =
+    if c == separator then [] ∷ parts_by separator cs else with_first c (parts_by separator cs)
 
 -- ---- posts: ROUND:PID:SIGNAL, one to 32 of them, joined by commas
 
@@ -77,11 +76,13 @@ post_in _ = None
 -- of all items
 abbrev pub posts_in_all : List Text → Option (List (ℕ × Post))
 posts_in_all [] = Some []
-posts_in_all (item ∷ items) = let rest : Option (List (ℕ × Post)) = posts_in_all items in do
+posts_in_all (item ∷ items) = do
   post ← post_in (parts_by colon item)
-  posts ← rest
+  posts ← posts_in_all items
   Some (post ∷ posts)
 
 -- of the option's value
 abbrev pub posts_from : Text → Option (List (ℕ × Post))
-posts_from text = if nat_le (length (parts_by comma text)) 32 then posts_in_all (parts_by comma text) else None
+posts_from text =
+    let items : List Text = parts_by comma text in
+    if nat_le (length items) 32 then posts_in_all items else None

@@ -13,7 +13,7 @@ use Rattle.elf_image.specs.declared.error.ImageError.TheVariants as error
 use Rattle.elf_image.specs.declared.header.Header.{Header}
 use Rattle.elf_image.specs.declared.part.Part.{Part}
 use Rattle.elf_image.specs.Fields.{e_entry, e_phnum, headers}
-use Rattle.elf_image.specs.Image.{entry_unit, is_load, is_part, is_executable, leaves_file, leaves_space, is_segment_bad, do_meet, holds_entry, end_of, IsLoadable, ◌when◌, ◌otherwise◌, format_refusal, machine_refusal, table_refusal, segment_error, segment_refusal, overlap_error, overlap_refusal, entry_refusal, part_headers, refusal, part_of, image_of, size_of, IsPlaced, IsApart, HoldsEntry, IsSound}
+use Rattle.elf_image.specs.Image.{code_unit, is_load, is_part, is_executable, leaves_file, leaves_space, is_segment_bad, do_meet, holds_entry, end_of, IsLoadable, ◌when◌, ◌otherwise◌, format_refusal, machine_refusal, table_refusal, segment_error, segment_refusal, overlap_error, overlap_refusal, entry_refusal, part_headers, refusal, part_of, image_of, size_of, IsPlaced, IsApart, HoldsEntry, IsSound}
 use Rattle.elf_image.proofs.TableLaws.{length-headers}
 
 -- ---- what no refusal means
@@ -163,7 +163,7 @@ held_by bytes entry hs l e =
 
 record EntryIsGood (entry : ℕ) (hs : List Header) : Type 0 where
   some : 1 ≤ length hs
-  aligned : entry % entry_unit ≡ 0
+  aligned : entry % code_unit ≡ 0
   held : list_any (holds_entry entry) hs ≡ true
 
 good_entry : (entry : ℕ) (hs : List Header) → entry_refusal entry hs ≡ None → EntryIsGood entry hs
@@ -171,7 +171,7 @@ unfolding entry_refusal
 good_entry entry hs h =
     let both = otherwise_none _ _ h in
     let some : ¬ (length hs ≡ 0) = eqb-false (length hs) 0 (when_none error.NoLoad _ both.0) in
-    let good = or_parts (not (entry % entry_unit == 0)) _ (when_none error.Entry _ both.1) in
+    let good = or_parts (not (entry % code_unit == 0)) _ (when_none error.Entry _ both.1) in
     record { some = omega (arith, some); aligned = eqb-true _ _ (not-false _ good.0); held = not-false _ good.1 }
 
 pub sound : (bytes : List ℕ) → refusal bytes ≡ None → IsSound (image_of bytes)

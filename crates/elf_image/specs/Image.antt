@@ -1,7 +1,9 @@
 -- The image that a file is, or the first refusal that holds of it.
--- What a field means is the System V ABI's (ELF32); which files are accepted is this project's own profile.
-use Rattle.std.specs.Prelude.{◌≡◌, ℕ, ◌<◌, ◌≤◌, ◌⊎◌, IsTrue, All, AllPairs, Any, ◌+◌, ◌-◌, ◌*◌, ◌%◌, Bool, not, ◌&&◌, ◌||◌, bit_and, List, [], ◌∷◌, length, map, filter, find, take, drop, Option, Some, None, option_map, Result, Ok, Err, ◌==◌, nat_eq, nat_lt, nat_le, true, false}
+-- What a field means is the System V ABI's (ELF32). Which files are accepted is this project's own
+-- profile.
+use Rattle.std.specs.Prelude.{◌≡◌, ℕ, ◌<◌, ◌≤◌, ◌⊎◌, IsTrue, All, AllPairs, Any, ◌+◌, ◌-◌, ◌*◌, ◌%◌, Bool, not, ◌&&◌, ◌||◌, bit_and, List, [], ◌∷◌, length, map, filter, find, take, drop, Option, Some, None, option_map, Result, Ok, Err, ◌==◌, nat_eq, nat_lt, nat_le, if◌then◌else◌, true, false}
 use Rattle.std.specs.List.{list_any, starts_with}
+use Rattle.std.specs.Option.{option_or}
 use Rattle.elf_image.specs.declared.error.ImageError.{ImageError}
 use Rattle.elf_image.specs.declared.error.ImageError.TheVariants as error
 use Rattle.elf_image.specs.declared.header.Header.{Header}
@@ -15,13 +17,14 @@ pub record Image : Type 0 where
 
 -- ---- what the profile leaves open to a later change
 
--- e_flags with one of these bits set is refused (the RISC-V psABI's): compressed instructions, 1; floats in registers, 2 and 4; the reduced registers, 8
+-- e_flags with one of these bits set is refused. The RISC-V psABI's: compressed instructions, 1;
+-- floats in registers, 2 and 4; the reduced registers, 8.
 abbrev pub refused_flags : ℕ
 refused_flags = 0xF
 
--- what an entry is a multiple of
-abbrev pub entry_unit : ℕ
-entry_unit = 4
+-- what the address of an instruction, and so an entry, is a multiple of
+abbrev pub code_unit : ℕ
+code_unit = 4
 
 -- ---- program headers
 
@@ -56,7 +59,8 @@ abbrev pub leaves_space : Header → Bool
 leaves_space h = nat_lt 0 h.memory_size && (nat_lt h.address 0x1000 || nat_lt 0xEFFF0000 (end_of h))
 
 abbrev pub is_segment_bad : ℕ → Header → Bool
-is_segment_bad file_len h = is_load h && (nat_lt h.memory_size h.file_size || leaves_file file_len h || leaves_space h)
+is_segment_bad file_len h =
+    is_load h && (nat_lt h.memory_size h.file_size || leaves_file file_len h || leaves_space h)
 
 -- a part that can be loaded from a file of this length
 pub record IsLoadable (file_len : ℕ) (h : Header) : Type 0 where
@@ -76,14 +80,12 @@ holds_entry entry h = is_executable h && nat_le h.address entry && nat_lt entry 
 -- the error, where the test holds
 infix 8 ◌when◌
 abbrev pub ◌when◌ : ImageError → Bool → Option ImageError
-refusal when true = Some refusal
-refusal when false = None
+refusal when test = if test then Some refusal else None
 
 -- the first refusal, else the second
 infixr 6 ◌otherwise◌
 abbrev pub ◌otherwise◌ : Option ImageError → Option ImageError → Option ImageError
-(Some refusal) otherwise next = Some refusal
-None otherwise next = next
+first otherwise second = option_or first second
 
 -- 0x7F, `E`, `L`, `F`
 abbrev pub magic : List ℕ
@@ -107,12 +109,14 @@ machine_refusal bytes =
 
 -- the headers have another size than 32 bytes, or leave the file
 abbrev pub is_table_bad : List ℕ → Bool
-is_table_bad bytes = not (e_phentsize bytes == 32) || nat_lt (length bytes) (e_phoff bytes + 32 * e_phnum bytes)
+is_table_bad bytes =
+    not (e_phentsize bytes == 32) || nat_lt (length bytes) (e_phoff bytes + 32 * e_phnum bytes)
 
 -- 9: there are at most 64 program headers, and if there are some their table is in the file
 unfoldable pub table_refusal : List ℕ → Option ImageError
 table_refusal bytes =
-    error.HeaderTable when (nat_lt 64 (e_phnum bytes) || (nat_lt 0 (e_phnum bytes) && is_table_bad bytes))
+    error.HeaderTable
+    when (nat_lt 64 (e_phnum bytes) || (nat_lt 0 (e_phnum bytes) && is_table_bad bytes))
 
 abbrev pub segment_error : Header → ImageError
 segment_error h = error.Segment h.index
@@ -129,13 +133,15 @@ overlap_error first second = error.Overlap first.index second.index
 -- 12: the pair of parts that meet with the least first, and for that the least second
 unfoldable pub overlap_refusal : List Header → Option ImageError
 overlap_refusal [] = None
-overlap_refusal (first ∷ others) = option_map (overlap_error first) (find (do_meet first) others) otherwise overlap_refusal others
+overlap_refusal (first ∷ others) =
+    option_map (overlap_error first) (find (do_meet first) others) otherwise
+    overlap_refusal others
 
 -- 13 and 14: there are parts, and the entry is in one
 unfoldable pub entry_refusal : ℕ → List Header → Option ImageError
 entry_refusal entry parts =
     error.NoLoad when (length parts == 0) otherwise
-    error.Entry when (not (entry % entry_unit == 0) || not (list_any (holds_entry entry) parts))
+    error.Entry when (not (entry % code_unit == 0) || not (list_any (holds_entry entry) parts))
 
 -- the headers of parts
 abbrev pub part_headers : List ℕ → List Header
@@ -167,18 +173,17 @@ part_of bytes h = record {
 unfoldable pub image_of : List ℕ → Image
 image_of bytes = record { entry = e_entry bytes; parts = map (part_of bytes) (part_headers bytes) }
 
--- the image, unless the file is refused
-abbrev pub accepted : Option ImageError → Image → Result Image ImageError
-accepted (Some refusal) image = Err refusal
-accepted None image = Ok image
+-- the value, unless a refusal holds
+abbrev pub accepted : {A : Type 0} → Option ImageError → A → Result A ImageError
+accepted (Some refusal) value = Err refusal
+accepted None value = Ok value
 
 unfoldable pub image : List ℕ → Result Image ImageError
 image bytes = accepted (refusal bytes) (image_of bytes)
 
 -- what a test of a group of refusals answers
 abbrev pub checked : Option ImageError → Result (Unit {0}) ImageError
-checked (Some refusal) = Err refusal
-checked None = Ok tt
+checked refusal = accepted refusal tt
 
 -- ---- what is known of every image
 
@@ -193,7 +198,9 @@ pub record IsPlaced (part : Part) : Type 0 where
 
 -- one of two parts ends before the other begins
 abbrev pub IsApart : Part → Part → Type 0
-IsApart first second = (first.address + size_of first ≤ second.address) ⊎ (second.address + size_of second ≤ first.address)
+IsApart first second =
+    (first.address + size_of first ≤ second.address)
+    ⊎ (second.address + size_of second ≤ first.address)
 
 -- the address is in the part, and may be executed there
 pub record HoldsEntry (entry : ℕ) (part : Part) : Type 0 where
@@ -207,24 +214,24 @@ pub record IsSound (image : Image) : Type 0 where
   pub placed : All IsPlaced image.parts
   pub apart : AllPairs IsApart image.parts
   pub some : 1 ≤ length image.parts
-  pub aligned : image.entry % entry_unit ≡ 0
+  pub aligned : image.entry % code_unit ≡ 0
   pub held : Any (HoldsEntry image.entry) image.parts
 
 -- ---- the numbers of the refusals, by which messages name them; want of memory is no refusal
 
-abbrev pub number_of : ImageError → ℕ
-number_of error.Short = 1
-number_of error.NotElf = 2
-number_of error.Class = 3
-number_of error.ByteOrder = 4
-number_of error.Version = 5
-number_of error.Kind = 6
-number_of error.Machine = 7
-number_of error.Flags = 8
-number_of error.HeaderTable = 9
-number_of error.Dynamic = 10
-number_of (error.Segment i) = 11
-number_of (error.Overlap i j) = 12
-number_of error.NoLoad = 13
-number_of error.Entry = 14
-number_of error.Memory = 0
+abbrev pub refusal_number : ImageError → ℕ
+refusal_number error.Short = 1
+refusal_number error.NotElf = 2
+refusal_number error.Class = 3
+refusal_number error.ByteOrder = 4
+refusal_number error.Version = 5
+refusal_number error.Kind = 6
+refusal_number error.Machine = 7
+refusal_number error.Flags = 8
+refusal_number error.HeaderTable = 9
+refusal_number error.Dynamic = 10
+refusal_number (error.Segment i) = 11
+refusal_number (error.Overlap i j) = 12
+refusal_number error.NoLoad = 13
+refusal_number error.Entry = 14
+refusal_number error.Memory = 0

@@ -25,8 +25,8 @@ const EM_RISCV: u16 = 243;
 /// The bits of `e_flags` of which none may be set.
 const REFUSED_FLAGS: u32 = 0xF;
 
-/// What an entry is a multiple of.
-const ENTRY_UNIT: u32 = 4;
+/// What the address of an instruction, and so an entry, is a multiple of.
+const CODE_UNIT: u32 = 4;
 
 /// It is a little-endian ELF32 file of version 1.
 #[tactic(auto, unfolding(crate::specs::Image::format_refusal))]
@@ -159,7 +159,7 @@ pub fn check_entry(parts: &[Header], entry: u32) -> Result<(), ImageError>
     if parts.is_empty() {
         return Err(ImageError::NoLoad);
     }
-    if entry % ENTRY_UNIT != 0 {
+    if entry % CODE_UNIT != 0 {
         return Err(ImageError::Entry);
     }
     if !is_entry_held(parts, entry) {

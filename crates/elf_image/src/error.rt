@@ -54,11 +54,11 @@ pub enum ImageError {
 
 impl ImageError {
     ghost use Rattle.std.specs.Prelude.{◌≡◌};
-    ghost use Rattle.elf_image.specs.Image.{number_of};
+    ghost use Rattle.elf_image.specs.Image.{refusal_number};
 
     /// The refusal's number, from 1 to 14 in the order of the tests. `Memory` is no refusal, and has 0.
     pub fn number(&self) -> u32
-        ensures { result ≡ number_of self.now }
+        ensures { result ≡ refusal_number self.now }
     {
         match self {
             ImageError::Short => 1,

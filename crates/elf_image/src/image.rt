@@ -1,8 +1,8 @@
 //! An image, and how it is read.
 
-ghost use Rattle.std.specs.Prelude.{◌≡◌, ◌≤◌, ◌∷◌, [], IsTrue, length};
+ghost use Rattle.std.specs.Prelude.{◌≡◌};
 
-use crate::part::{FLAT_BASE, Part, Parts};
+use crate::part::{Part, Parts};
 use std::marker::Model;
 
 /// An executable: where it begins, and what it has in memory.
@@ -29,7 +29,6 @@ impl Model for Image {
 
 impl Image {
     ghost use Rattle.elf_image.specs.Image.{IsSound};
-    ghost use Rattle.elf_image.specs.Form.{is_flat};
 
     /// The address of the first instruction.
     pub fn entry(&self) -> u32
@@ -45,27 +44,5 @@ impl Image {
         ensures sound { IsSound self.now }
     {
         self.parts.as_slice()
-    }
-
-    /// It is one part at 0x00010000, of bytes alone and with both rights, that is entered at its first byte.
-    pub fn is_flat(&self) -> bool
-        ensures { result ≡ is_flat self.now }
-    {
-        match self.parts.as_slice() {
-            [part] => self.entry == FLAT_BASE && part.is_flat(),
-            _ => false,
-        }
-    }
-
-    /// The one part of a flat image.
-    pub fn only(&self) -> &Part
-        requires { IsTrue (is_flat self.now) }
-        ensures only { self.now.parts ≡ result.now ∷ [] }
-        ensures small { length result.now.bytes ≤ 0xe0000000 }
-    {
-        match self.parts.as_slice() {
-            [part] => part,
-            _ => unreachable!(),
-        }
     }
 }

@@ -4,12 +4,6 @@ ghost use Rattle.std.specs.Prelude.{◌≡◌, ◌==◌, length};
 
 use std::marker::Model;
 
-/// Where a flat image begins.
-pub const FLAT_BASE: u32 = 0x1_0000;
-
-/// How many bytes a flat image may have.
-const MOST_FLAT: usize = 0xE000_0000;
-
 /// Owned bytes.
 #[derive(Debug, Drop)]
 pub struct Bytes {
@@ -69,21 +63,6 @@ pub struct Part {
     pub exec: bool,
     /// The index of its header in the file's table, from 0 on.
     pub index: u32,
-}
-
-impl Part {
-    ghost use Rattle.elf_image.specs.Form.{is_flat_part};
-
-    /// It is at 0x00010000, of bytes alone and with both rights.
-    pub fn is_flat(&self) -> bool
-        ensures { result ≡ is_flat_part self.now }
-    {
-        self.address == FLAT_BASE
-            && self.zeros == 0
-            && self.write
-            && self.exec
-            && self.bytes.len() <= MOST_FLAT
-    }
 }
 
 /// The parts of an image.

@@ -193,8 +193,11 @@ fn takes_64_headers(rt: HostRuntime) -> Result<(), Fail> {
 fn reads_the_smallest_file(rt: HostRuntime) -> Result<(), Fail> {
     let image = read_image(rt.alloc(), &SMALLEST)?;
     assert_eq!(rt; image.entry(), 0x10000);
-    assert!(rt; image.is_flat());
-    let part = image.only();
+    let parts = image.parts();
+    assert_eq!(rt; parts.len(), 1);
+    let part = &parts[0];
+    assert_eq!(rt; (part.address, part.zeros, part.index), (0x10000, 0, 0));
+    assert_eq!(rt; (part.write, part.exec), (true, true));
     assert_eq!(rt; part.bytes.as_slice(), &SMALLEST[84..]);
     assert_eq!(rt; with_byte(rt.alloc(), 72, 13), None);
     assert_eq!(rt; with_byte(rt.alloc(), 68, 13), Some(ImageError::Segment(0)));
@@ -212,7 +215,6 @@ fn reads_the_smallest_file(rt: HostRuntime) -> Result<(), Fail> {
 fn reads_a_linkers_file(rt: HostRuntime) -> Result<(), Fail> {
     let image: Image = read_image(rt.alloc(), &LINKED)?;
     assert_eq!(rt; image.entry(), 0x100B4);
-    assert!(rt; !image.is_flat());
     let parts = image.parts();
     assert_eq!(rt; parts.len(), 2);
     let (code, data) = (&parts[0], &parts[1]);

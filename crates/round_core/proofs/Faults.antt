@@ -1,15 +1,15 @@
 -- The numbers of faults are small.
-use Rattle.std.proofs.Common.{ℕ, ◌+◌, ◌*◌, ◌%◌, ◌^◌, ◌≤◌, ◌≡◌, refl, sym, ap, ◌∙◌, Bool, cond, true, false, not, eqb, Option, Some, None, Result, Ok, Err, arith}
+use Rattle.std.proofs.Common.{ℕ, ◌+◌, ◌*◌, ◌%◌, ◌^◌, ◌≤◌, ◌≡◌, ap, Bool, cond, true, false, not, Option, Some, None, Result, Ok, Err, arith}
 use Rattle.std.specs.Prelude.{◌==◌}
 use Rattle.dos_world.specs.World.{World, Thread, Registers, code_unit, get, set, with_pc, entry_at, owner_of, thread_at}
-use Rattle.dos_world.specs.Reach.{Reached, fault, foreign, at, reach, in_frame, is_foreign, has_right, width, loaded, stored, bytes_of}
+use Rattle.dos_world.specs.Reach.{fault, foreign, at, in_frame, is_foreign, has_right, width, loaded, stored, bytes_of}
 use Rattle.dos_world.specs.declared.Entry.{Entry}
 use Rattle.dos_world.specs.declared.Access.{Access}
 use Rattle.dos_world.specs.declared.Access.TheVariants.{Fetch, Load, Store, Claim}
 use Rattle.dos_world.specs.declared.Size.{Size}
 use Rattle.dos_world.specs.declared.Size.TheVariants.{Half, Word}
 use Rattle.dos_world.specs.declared.Reason.{Reason}
-use Rattle.dos_world.specs.declared.Reason.TheVariants.{Page, Fault, Service}
+use Rattle.dos_world.specs.declared.Reason.TheVariants.{Fault}
 use Rattle.rv_isa.specs.declared.Instr.{Instr}
 use Rattle.rv_isa.specs.declared.Instr.TheVariants.{Upper, Jal, Jalr, Branch, Load as Instr_Load, Store as Instr_Store, Imm, Shift, Reg, Amo, Fence, Ecall, Ebreak}
 use Rattle.rv_isa.specs.declared.AmoOp.{AmoOp}

@@ -64,10 +64,6 @@ reason_of a x (fault n) = Err (Fault n)
 reason_of a x (foreign f) = Err (Page a x)
 reason_of a x (at p) = Ok p
 
--- reach by what its tests come to
-reach_by : ℕ → Bool → Bool → Bool → Entry → Reached
-reach_by a aligned right is_foreign e = cond (not aligned) (fault 7) (cond (not right) (fault 11) (cond is_foreign (foreign e.frame) (at (4096 * e.frame + a % 4096))))
-
 pub data Access_is (w : World) (t a : ℕ) (s : Size) (x : Access) : Type 0 where
   faults : (n : ℕ) → reached w t a s x ≡ Err (Fault n) → Access_is w t a s x
   stops_at : Stopped w t a s x → reached w t a s x ≡ Err (Page a x) → Access_is w t a s x

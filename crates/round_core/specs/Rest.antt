@@ -23,7 +23,8 @@ granted_by w t access (Some e) = grant w t e.frame access
 abbrev pub page_granted : World → ℕ → ℕ → Access → World
 page_granted w t address access = granted_by w t access (entry_at w t address)
 
--- t's instruction after at most this many grants: the world that they leave, and what a step gives there
+-- t's instruction after at most this many grants: the world that they leave, and what a step gives
+-- there
 abbrev pub settled : ℕ → World → ℕ → World × Result World Reason
 settled zero w t = (w, step w t)
 settled (suc n) w t =
@@ -57,11 +58,13 @@ service_done served = done (after_service served)
 abbrev pub process_of : World → ℕ → ℕ
 process_of w t = elim (thread_at w t) [ None ↦ 0 | Some thread ↦ thread.process ]
 
--- A fault ends the thread's process with 128 plus its number, and an ecall is served. A stop at a page can't be left over; it would end the part.
+-- A fault ends the thread's process with 128 plus its number, and an ecall is served. A stop at a
+-- page can't be left over; it would end the part.
 abbrev pub after_step : ℕ → World → Result World Reason → Play Turn
 after_step t w (Ok next) = done (on next)
 after_step t w (Err (Page address access)) = done (over_with w)
-after_step t w (Err (Fault number)) = done (over_with (process_ended w (process_of w t) (128 + number)))
+after_step t w (Err (Fault number)) =
+    done (over_with (process_ended w (process_of w t) (128 + number)))
 after_step t w (Err Service) = service w t >>= service_done
 
 -- No instruction needs more than three grants: two for the pages that it lies in, one for its data.
@@ -70,10 +73,12 @@ turn w t = let s : World × Result World Reason = settled 3 w t in after_step t 
 
 -- ---- the part, and the phase
 
--- at most this many turns; each that goes on costs one of the budget, so the budget is what bounds them
+-- at most this many turns; each that goes on costs one of the budget, so the budget is what bounds
+-- them
 abbrev pub turns : ℕ → World → ℕ → Play World
 turns zero w t = done w
-turns (suc n) w t = turn w t >>= λ taken. elim taken [ on next ↦ turns n next t | over_with last ↦ done last ]
+turns (suc n) w t =
+    turn w t >>= λ taken. elim taken [ on next ↦ turns n next t | over_with last ↦ done last ]
 
 -- t's serial part: with no reservation, until its budget is 0 or it waits, yields or is gone
 abbrev pub rest_of : World → ℕ → Play World

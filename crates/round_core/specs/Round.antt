@@ -1,5 +1,6 @@
 -- One round. This project's own profile.
 use Rattle.std.specs.Prelude.{ℕ, ◌+◌, ◌-◌, Bool, List, [], ◌∷◌, length, sum_by, ◌==◌, if◌then◌else◌}
+pub use Rattle.dos_world.specs.World.{with_budget}
 use Rattle.dos_world.specs.World.{World, Thread, live_threads, ready_threads, with_thread}
 use Rattle.dos_world.specs.Signals.{signalled, ripen}
 use Rattle.dos_world.specs.Play.{Play, Answer, Outcome, done, ask, ◌>>=◌, over, posts_of}
@@ -14,20 +15,17 @@ abbrev pub all_alone : World → List ℕ → World
 all_alone w [] = w
 all_alone w (t ∷ ts) = all_alone (alone w t) ts
 
--- The ready threads in rising number. In the running program they go at the same time, on separate pages.
+-- The ready threads in rising number. In the running program they go at the same time, on separate
+-- pages.
 abbrev pub parallel : World → World
 parallel w = all_alone w (ready_threads w)
 
 -- ---- budgets
 
--- a thread with this budget
-abbrev pub budgeted : ℕ → Thread → Thread
-budgeted quantum thread = record thread { budget = quantum }
-
 -- the world in which these threads have the quantum as their budget
 abbrev pub with_budgets : World → List ℕ → World
 with_budgets w [] = w
-with_budgets w (t ∷ ts) = with_budgets (with_thread w t (budgeted w.quantum)) ts
+with_budgets w (t ∷ ts) = with_budgets (with_thread w t (with_budget w.quantum)) ts
 
 -- the budgets of these threads, added
 abbrev pub budgets : World → List ℕ → ℕ
@@ -35,7 +33,8 @@ budgets w ts = sum_by (budget_of w) ts
 
 -- ---- the round
 
--- How a round ended: the phases were run, with this many instructions in the parallel one; or nobody lived; or nobody was ready.
+-- How a round ended: the phases were run, with this many instructions in the parallel one; or
+-- nobody lived; or nobody was ready.
 pub data RoundEnd : Type 0 where
   went : World → (work : ℕ) → RoundEnd
   finished stalled : World → RoundEnd
@@ -49,7 +48,8 @@ abbrev pub phases : World → List ℕ → Play RoundEnd
 phases w starters =
     let opening : World = with_budgets w starters in
     let halfway : World = parallel opening in
-    serial_of halfway starters >>= λ last. done (went (counted last) (budgets opening starters - budgets halfway starters))
+    serial_of halfway starters >>= λ last.
+    done (went (counted last) (budgets opening starters - budgets halfway starters))
 
 -- whether nobody is one of these
 abbrev pub is_none_of : List ℕ → Bool
@@ -61,11 +61,13 @@ begun w =
     if is_none_of (live_threads w) then done (finished w)
     else (if is_none_of (ready_threads w) then done (stalled w) else phases w (ready_threads w))
 
--- Where nobody lives nothing is asked. Else the shim is asked for the round's signals; the signal point is done, and who waits no longer is ready.
+-- Where nobody lives nothing is asked. Else the shim is asked for the round's signals; the signal
+-- point is done, and who waits no longer is ready.
 abbrev pub round_of : World → Play RoundEnd
 round_of w =
     if is_none_of (live_threads w) then done (finished w)
-    else ask (Signals (w.rounds + 1)) w.output w.error (λ answer. begun (ripen (signalled w (posts_of answer))))
+    else ask (Signals (w.rounds + 1)) w.output w.error
+    (λ answer. begun (ripen (signalled w (posts_of answer))))
 
 -- the same over a list of answers of the shim
 abbrev pub round : World → List Answer → Outcome RoundEnd

@@ -1,8 +1,7 @@
 -- An entry that is read is the entry that was written, and what was written is read again.
-use Rattle.std.proofs.Common.{◌≡◌, ℕ, zero, suc, ◌^◌, ◌<◌, ◌≤◌, List, [], ◌∷◌, ◌++◌, length, Ok, refl, sym, ap, subst, ◌∙◌, append_assoc, arith}
+use Rattle.std.proofs.Common.{◌≡◌, ℕ, zero, suc, ◌^◌, ◌<◌, ◌≤◌, List, [], ◌∷◌, ◌++◌, length, drop, Ok, refl, sym, ap, subst, arith}
 use Rattle.std.specs.Int.{w16, w32, w64, to_le_bytes}
-use Rattle.std.specs.List.{AllByRecursion}
-use Rattle.std.proofs.lemmas.List.Concat.{flat_map-cons}
+use Rattle.std.specs.List.{flat_map}
 use Rattle.dos_world.specs.declared.Post.{Post}
 use Rattle.dos_world.specs.declared.Ending.{Ending}
 use Rattle.dos_world.specs.declared.Ending.TheVariants.{Done, Limit, Stalled}
@@ -11,9 +10,13 @@ use Rattle.dos_io.specs.declared.exchange.Exchange.TheVariants.{Signals, Input, 
 use Rattle.dos_io.specs.Posts.{FitsPost}
 use Rattle.shim_log.specs.Bytes.{IsBytes}
 use Rattle.shim_log.specs.Ranges.{FitsSignals, FitsInput, FitsClock, InRange}
-use Rattle.shim_log.specs.LogText.{post_text, posts_text, signals_text, input_text, clock_text, end_text, ending_code, entry_text}
-use Rattle.shim_log.specs.Reading.{place, bytes_at, post_at, posts_at, signals_at, input_at, clock_at, ending_by, end_at, entry_of_kind, entry_at}
-use Rattle.shim_log.proofs.FieldLaws.{bind_ok, ok_is, Takes, then, number_then, number_again, wide16, wide32, wide64, ranged_then, ranged_again, ranged_byte_then, ranged_byte_again, bytes_take, bytes_again, one}
+use Rattle.shim_log.specs.LogText.{post_text, ending_code, entry_text}
+use Rattle.shim_log.specs.Reading.{place, bytes_at, many_at, post_at, signals_at, input_at, clock_at, ending_by, end_at, entry_of_kind, entry_at}
+use Rattle.shim_log.proofs.FieldLaws.{bind_ok, ok_is, Takes, then, number_then, number_again, wide16, wide32, wide64, ranged_then, ranged_again, ranged_byte_then, ranged_byte_again, bytes_take, bytes_again, one, many_take, many_again}
+
+-- its text behind the kind
+abbrev behind_kind : Exchange → List ℕ
+behind_kind entry = drop 1 (entry_text entry)
 
 -- of an entry behind its kind: what was read is its text, and it is in its ranges
 pub record Spells (kind : ℕ) (bytes : List ℕ) (x : Exchange × List ℕ) : Type 0 where
@@ -32,7 +35,7 @@ clock_takes end bytes x fits e =
     subst (Spells 3 bytes) (ok_is (Clock a.n b.n c.n, c.rest) x c.more)
     (record { takes = behind 3 _ _ _ (then _ _ _ _ _ a.takes (then _ _ _ _ _ b.takes c.takes)); fits = record { round_fits = a.most; tid_fits = b.most; reading = c.most } })
 
-clock_again : (end round tid n : ℕ) (rest : List ℕ) → FitsClock round tid n → clock_at end (clock_text round tid n ++ rest) ≡ Ok (Clock round tid n, rest)
+clock_again : (end round tid n : ℕ) (rest : List ℕ) → FitsClock round tid n → clock_at end (behind_kind (Clock round tid n) ++ rest) ≡ Ok (Clock round tid n, rest)
 unfolding clock_at
 clock_again end round tid n rest fits =
     rw (number_again w32 _ wide32 end round (to_le_bytes w32 tid ++ (to_le_bytes w64 n ++ rest)) fits.round_fits, number_again w32 _ wide32 end tid (to_le_bytes w64 n ++ rest) fits.tid_fits, number_again w64 _ wide64 end n rest fits.reading) refl
@@ -65,70 +68,41 @@ end_takes end bytes x fits e =
     subst (Spells 0 bytes) (ok_is (End (ending_by a.n) b.n, b.rest) x b.more)
     (record { takes = subst (λ (k : ℕ). Takes (0 ∷ bytes) (0 ∷ (one k ++ to_le_bytes w32 b.n)) b.rest) (sym code) text; fits = b.most })
 
-end_again : (end : ℕ) (ending : Ending) (rounds : ℕ) (rest : List ℕ) → rounds < 2 ^ 32 → end_at end (end_text ending rounds ++ rest) ≡ Ok (End ending rounds, rest)
+end_again : (end : ℕ) (ending : Ending) (rounds : ℕ) (rest : List ℕ) → rounds < 2 ^ 32 → end_at end (behind_kind (End ending rounds) ++ rest) ≡ Ok (End ending rounds, rest)
 unfolding end_at
 end_again end ending rounds rest lt =
     rw (ranged_byte_again 0 2 end (ending_code ending) (to_le_bytes w32 rounds ++ rest) (omega arith) (code_low ending), number_again w32 _ wide32 end rounds rest lt, ending_again ending) refl
 
 -- ---- signals
 
-pub record SpellsPost (bytes : List ℕ) (x : Post × List ℕ) : Type 0 where
-  pub takes : Takes bytes (post_text x.0) x.1
-  pub fits : FitsPost x.0
-
-post_takes : (end : ℕ) (bytes : List ℕ) (x : Post × List ℕ) → IsBytes bytes → post_at end bytes ≡ Ok x → SpellsPost bytes x
+post_takes : (end : ℕ) (bytes : List ℕ) (x : Post × List ℕ) → IsBytes bytes → post_at end bytes ≡ Ok x → Takes bytes (post_text x.0) x.1 × FitsPost x.0
 unfolding post_at
 post_takes end bytes x fits e =
     let a = number_then w32 _ wide32 end bytes _ x fits e in
     let b = ranged_byte_then 1 31 end a.rest _ x a.takes.rest_fits a.more in
-    subst (SpellsPost bytes) (ok_is (record { pid = a.n; signal = b.n }, b.rest) x b.more)
-    (record { takes = then _ _ _ _ _ a.takes b.takes; fits = record { pid = a.most; low = b.least; high = omega (arith, b.most) } })
+    subst (λ (y : Post × List ℕ). Takes bytes (post_text y.0) y.1 × FitsPost y.0) (ok_is (record { pid = a.n; signal = b.n }, b.rest) x b.more)
+    (then _ _ _ _ _ a.takes b.takes, record { pid = a.most; low = b.least; high = omega (arith, b.most) })
 
 post_again : (end : ℕ) (post : Post) (rest : List ℕ) → FitsPost post → post_at end (post_text post ++ rest) ≡ Ok (post, rest)
 unfolding post_at
 post_again end post rest fits =
     rw (number_again w32 _ wide32 end post.pid (post.signal ∷ rest) fits.pid, ranged_byte_again 1 31 end post.signal rest fits.low fits.high) refl
 
-pub record SpellsPosts (n : ℕ) (bytes : List ℕ) (x : List Post × List ℕ) : Type 0 where
-  pub takes : Takes bytes (posts_text x.0) x.1
-  pub count : length x.0 ≡ n
-  pub fits : AllByRecursion FitsPost x.0
-
-posts_take : (n end : ℕ) (bytes : List ℕ) (x : List Post × List ℕ) → IsBytes bytes → posts_at n end bytes ≡ Ok x → SpellsPosts n bytes x
-unfolding posts_at
-posts_take zero end bytes x fits e =
-    subst (SpellsPosts 0 bytes) (ok_is ([], bytes) x e) (record { takes = record { parts = refl; rest_fits = fits }; count = refl; fits = tt })
-posts_take (suc n) end bytes x fits e =
-    let a = bind_ok (post_at end bytes) _ x e in
-    let b = bind_ok (posts_at n end a.0.1) _ x a.2 in
-    let p = post_takes end bytes a.0 fits a.1 in
-    let q = posts_take n end a.0.1 b.0 p.takes.rest_fits b.1 in
-    let both = then _ _ _ _ _ p.takes q.takes in
-    subst (SpellsPosts (suc n) bytes) (ok_is (a.0.0 ∷ b.0.0, b.0.1) x b.2)
-    (record { takes = rw flat_map-cons both; count = ap suc q.count; fits = (p.fits, q.fits) })
-
-posts_again : (end : ℕ) (list : List Post) (rest : List ℕ) → AllByRecursion FitsPost list → posts_at (length list) end (posts_text list ++ rest) ≡ Ok (list, rest)
-unfolding posts_at
-posts_again end [] rest fits = refl
-posts_again end (p ∷ ps) rest fits =
-    let regrouped : posts_text (p ∷ ps) ++ rest ≡ post_text p ++ (posts_text ps ++ rest) = ap (λ (x : List ℕ). x ++ rest) (flat_map-cons post_text p ps) ∙ append_assoc (post_text p) (posts_text ps) rest in
-    ap (posts_at (suc (length ps)) end) regrouped ∙ rw (post_again end p (posts_text ps ++ rest) fits.0, posts_again end ps rest fits.1) refl
-
 signals_take : (end : ℕ) (bytes : List ℕ) (x : Exchange × List ℕ) → IsBytes bytes → signals_at end bytes ≡ Ok x → Spells 1 bytes x
 unfolding signals_at
 signals_take end bytes x fits e =
     let a = number_then w32 _ wide32 end bytes _ x fits e in
     let b = ranged_byte_then 0 32 end a.rest _ x a.takes.rest_fits a.more in
-    let c = bind_ok (posts_at b.n end b.rest) _ x b.more in
-    let p = posts_take b.n end b.rest c.0 b.takes.rest_fits c.1 in
+    let c = bind_ok (many_at post_at b.n end b.rest) _ x b.more in
+    let p = many_take post_at post_text FitsPost post_takes b.n end b.rest c.0 b.takes.rest_fits c.1 in
     let text = behind 1 _ _ _ (then _ _ _ _ _ a.takes (then _ _ _ _ _ b.takes p.takes)) in
     subst (Spells 1 bytes) (ok_is (Signals a.n c.0.0, c.0.1) x c.2)
-    (record { takes = subst (λ (k : ℕ). Takes (1 ∷ bytes) (1 ∷ (to_le_bytes w32 a.n ++ (one k ++ posts_text c.0.0))) c.0.1) (sym p.count) text; fits = record { round_fits = a.most; count = omega (arith, b.most, p.count); posts = p.fits } })
+    (record { takes = subst (λ (k : ℕ). Takes (1 ∷ bytes) (1 ∷ (to_le_bytes w32 a.n ++ (one k ++ flat_map post_text c.0.0))) c.0.1) (sym p.count) text; fits = record { round_fits = a.most; count = omega (arith, b.most, p.count); posts = p.fits } })
 
-signals_again : (end round : ℕ) (list : List Post) (rest : List ℕ) → FitsSignals round list → signals_at end (signals_text round list ++ rest) ≡ Ok (Signals round list, rest)
+signals_again : (end round : ℕ) (list : List Post) (rest : List ℕ) → FitsSignals round list → signals_at end (behind_kind (Signals round list) ++ rest) ≡ Ok (Signals round list, rest)
 unfolding signals_at
 signals_again end round list rest fits =
-    rw (number_again w32 _ wide32 end round (length list ∷ (posts_text list ++ rest)) fits.round_fits, ranged_byte_again 0 32 end (length list) (posts_text list ++ rest) (omega arith) fits.count, posts_again end list rest fits.posts) refl
+    rw (number_again w32 _ wide32 end round (length list ∷ (flat_map post_text list ++ rest)) fits.round_fits, ranged_byte_again 0 32 end (length list) (flat_map post_text list ++ rest) (omega arith) fits.count, many_again post_at post_text FitsPost post_again end list rest fits.posts) refl
 
 -- ---- an input
 
@@ -145,10 +119,10 @@ input_takes end bytes x fits e =
     subst (Spells 2 bytes) (ok_is (Input a.n b.n c.n f.0.0, f.0.1) x f.2)
     (record {
       takes = subst (λ (k : ℕ). Takes (2 ∷ bytes) (2 ∷ (to_le_bytes w32 a.n ++ (to_le_bytes w32 b.n ++ (to_le_bytes w16 c.n ++ (to_le_bytes w16 k ++ f.0.0))))) f.0.1) (sym p.1) text;
-      fits = record { round_fits = a.most; tid_fits = b.most; low = c.least; high = omega (arith, c.most); short = omega (arith, d.most, p.1); bytes_fit = p.2 };
+      fits = record { round_fits = a.most; tid_fits = b.most; max_fits = (c.least, omega (arith, c.most)); short = omega (arith, d.most, p.1); bytes_fit = p.2 };
     })
 
-input_again : (end round tid max : ℕ) (bytes rest : List ℕ) → FitsInput round tid max bytes → input_at end (input_text round tid max bytes ++ rest) ≡ Ok (Input round tid max bytes, rest)
+input_again : (end round tid max : ℕ) (bytes rest : List ℕ) → FitsInput round tid max bytes → input_at end (behind_kind (Input round tid max bytes) ++ rest) ≡ Ok (Input round tid max bytes, rest)
 unfolding input_at
 input_again end round tid max bytes rest fits =
     let r3 : List ℕ = to_le_bytes w16 (length bytes) ++ (bytes ++ rest) in
@@ -156,8 +130,8 @@ input_again end round tid max bytes rest fits =
     rw (
       number_again w32 _ wide32 end round (to_le_bytes w32 tid ++ r2) fits.round_fits,
       number_again w32 _ wide32 end tid r2 fits.tid_fits,
-      ranged_again w16 _ wide16 1 4096 end max r3 (omega (arith, fits.high)) fits.low fits.high,
-      ranged_again w16 _ wide16 0 max end (length bytes) (bytes ++ rest) (omega (arith, fits.high, fits.short)) (omega arith) fits.short,
+      ranged_again w16 _ wide16 1 4096 end max r3 (omega (arith, fits.max_fits.1)) fits.max_fits.0 fits.max_fits.1,
+      ranged_again w16 _ wide16 0 max end (length bytes) (bytes ++ rest) (omega (arith, fits.max_fits.1, fits.short)) (omega arith) fits.short,
       bytes_again end bytes rest,
     ) refl
 

@@ -1,25 +1,26 @@
 -- How long the texts of logs are.
 use Rattle.std.proofs.Common.{◌≡◌, ◌≤◌, ◌∙◌, ℕ, ◌+◌, ◌*◌, List, [], ◌∷◌, ◌++◌, length, Ok, refl, sym, ap, arith}
+use Rattle.std.specs.List.{concat, flat_map}
 use Rattle.std.proofs.lemmas.List.{length-append}
 use Rattle.std.proofs.lemmas.List.Concat.{flat_map-cons}
 use Rattle.dos_world.specs.declared.Post.{Post}
 use Rattle.dos_io.specs.declared.exchange.Exchange.TheVariants.{Signals, Input, End}
 use Rattle.shim_log.specs.declared.header.LogHeader.{LogHeader}
 use Rattle.shim_log.specs.Bytes.{IsBytes, AreDigests}
-use Rattle.shim_log.specs.LogText.{Log, digests_text, header_text, post_text, posts_text, entry_text, entries_text, logtext}
+use Rattle.shim_log.specs.LogText.{Log, header_text, post_text, entry_text, entries_text, logtext}
 use Rattle.shim_log.specs.Ranges.{FitsLog}
 use Rattle.shim_log.specs.Reading.{log_at}
 use Rattle.shim_log.proofs.FieldLaws.{ok_is}
 use Rattle.shim_log.specs.Room.{most_bytes}
 use Rattle.shim_log.proofs.LogLaws.{log_takes, log_again, entries_short}
 
-posts_length : (list : List Post) → length (posts_text list) ≡ 5 * length list
+posts_length : (list : List Post) → length (flat_map post_text list) ≡ 5 * length list
 posts_length [] = refl
-posts_length (post ∷ list) = ap length (flat_map-cons post_text post list) ∙ length-append (post_text post) (posts_text list) ∙ omega (arith, posts_length list)
+posts_length (post ∷ list) = ap length (flat_map-cons post_text post list) ∙ length-append (post_text post) (flat_map post_text list) ∙ omega (arith, posts_length list)
 
-digests_length : (digests : List (List ℕ)) → AreDigests digests → length (digests_text digests) ≡ 32 * length digests
+digests_length : (digests : List (List ℕ)) → AreDigests digests → length (concat digests) ≡ 32 * length digests
 digests_length [] fits = refl
-digests_length (d ∷ ds) fits = ap length (flat_map-cons (λ (digest : List ℕ). digest) d ds) ∙ length-append d (digests_text ds) ∙ omega (arith, fits.0.len, digests_length ds fits.1)
+digests_length (d ∷ ds) fits = length-append d (concat ds) ∙ omega (arith, fits.0.len, digests_length ds fits.1)
 
 pub header_length : (h : LogHeader) → AreDigests h.digests → length (header_text h) ≡ 20 + 32 * length h.digests
 header_length h fits = omega (arith, digests_length h.digests fits)

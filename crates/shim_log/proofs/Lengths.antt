@@ -1,6 +1,6 @@
 -- How long the texts of small logs are: a header with one digest takes 52 bytes, signals without posts 6, an input 13 and its bytes, and the end 6.
-use Rattle.std.specs.Prelude.{ℕ, [], ◌∷◌, length, codes, ◌≡◌, refl}
-use Rattle.dos_world.specs.declared.Ending.TheVariants.{Done, Stalled}
+use Rattle.std.specs.Prelude.{[], ◌∷◌, length, codes, ◌≡◌, refl}
+use Rattle.dos_world.specs.declared.Ending.TheVariants.{Stalled}
 use Rattle.dos_io.specs.declared.exchange.Exchange.TheVariants.{Signals, Input}
 use Rattle.shim_log.specs.LogText.{logtext}
 use Rattle.shim_log.proofs.Texts.{smallest}

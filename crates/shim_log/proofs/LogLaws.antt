@@ -1,105 +1,95 @@
 -- A log that is read is the log that was written, and what was written is read again.
 use Rattle.std.proofs.Common.{◌≡◌, ℕ, zero, suc, ◌^◌, ◌<◌, ◌≤◌, eqb, List, [], ◌∷◌, ◌++◌, length, Result, Ok, Err, refl, sym, ap, subst, ◌∙◌, append_assoc, arith}
 use Rattle.std.specs.Int.{w16, w32, to_le_bytes}
-use Rattle.std.specs.List.{AllByRecursion}
+use Rattle.std.specs.List.{AllByRecursion, concat, flat_map}
 use Rattle.std.specs.Str.{bytes_eq}
 use Rattle.std.proofs.lemmas.Bool.{eqb-true}
 use Rattle.std.proofs.lemmas.List.{append-nil, nil_from_length, length-append}
-use Rattle.std.proofs.lemmas.List.Concat.{flat_map-cons}
+use Rattle.std.proofs.lemmas.List.Concat.{flat_map-cons, concat_is}
 use Rattle.std.proofs.lemmas.Slice.Eq.{bytes_eq-Decides}
 use Rattle.dos_world.specs.declared.Ending.{Ending}
 use Rattle.dos_io.specs.declared.exchange.Exchange.{Exchange}
 use Rattle.dos_io.specs.declared.exchange.Exchange.TheVariants.{Signals, Input, Clock, End}
-use Rattle.shim_log.specs.declared.refusal.LogRefusal.{LogRefusal}
-use Rattle.shim_log.specs.declared.refusal.LogRefusal.TheVariants as refusal
+use Rattle.shim_log.specs.declared.refusal.LogError.{LogError}
+use Rattle.shim_log.specs.declared.refusal.LogError.TheVariants as refusal
 use Rattle.shim_log.specs.declared.header.LogHeader.{LogHeader}
 use Rattle.shim_log.specs.Bytes.{IsBytes, FitsDigest}
 use Rattle.shim_log.specs.Ranges.{NotEnd, AreEntries, FitsHeader, FitsLog}
-use Rattle.shim_log.specs.LogText.{Log, magic, digests_text, header_text, entry_text, entries_text, logtext}
-use Rattle.shim_log.specs.Reading.{place, bytes_at, number_at, entry_at, Tail, with_front, after_entry, tail_at, digests_at, magic_at, version_at, header_at, log_at}
-use Rattle.shim_log.proofs.FieldLaws.{bind_ok, guard_true, ok_is, Takes, then, number_takes, number_again, wide16, wide32, header_then, header_again, bytes_take, bytes_again}
+use Rattle.shim_log.specs.LogText.{Log, magic, header_text, entry_text, entries_text, logtext}
+use Rattle.shim_log.specs.Reading.{place, bytes_at, number_at, many_at, entry_at, after_entry, tail_at, magic_at, version_at, header_at, log_at}
+use Rattle.shim_log.proofs.FieldLaws.{bind_ok, guard_true, done, ok_is, Takes, then, number_takes, number_again, wide16, wide32, header_then, header_again, bytes_take, bytes_again, many_take, many_again}
 use Rattle.shim_log.proofs.EntryLaws.{SpellsEntry, entry_takes, entry_again}
 
 -- ---- entries up to the end
 
-pub record SpellsTail (bytes : List ℕ) (t : Tail) : Type 0 where
-  pub takes : Takes bytes (entries_text t.entries ++ entry_text (End t.ending t.rounds)) t.rest
-  pub entries : AreEntries t.entries
-  pub rounds : t.rounds < 2 ^ 32
+pub record SpellsTail (header : LogHeader) (bytes : List ℕ) (x : Log × List ℕ) : Type 0 where
+  pub takes : Takes bytes (entries_text x.0.entries ++ entry_text (End x.0.ending x.0.rounds)) x.1
+  pub header_is : x.0.header ≡ header
+  pub entries : AreEntries x.0.entries
+  pub rounds : x.0.rounds < 2 ^ 32
 
--- one more entry in front of a tail
-more_takes : (bytes : List ℕ) (e : Exchange) (rest : List ℕ) (t u : Tail) → SpellsEntry bytes (e, rest) → NotEnd e → SpellsTail rest t → with_front (e ∷ []) (Ok t) ≡ Ok u → SpellsTail bytes u
-more_takes bytes e rest t u s not s' is =
-    let both = then _ _ _ _ _ s.takes s'.takes in
-    subst (SpellsTail bytes) (ok_is (record t { entries = e ∷ t.entries }) u is)
-    (record {
-      takes = subst (λ (x : List ℕ). Takes bytes x t.rest) (sym (ap (λ (x : List ℕ). x ++ entry_text (End t.ending t.rounds)) (flat_map-cons entry_text e t.entries) ∙ append_assoc (entry_text e) (entries_text t.entries) (entry_text (End t.ending t.rounds)))) both;
-      entries = ((s.fits, not), s'.entries);
-      rounds = s'.rounds;
-    })
+module _ (header : LogHeader) where
+  -- one more entry in front of what comes after it
+  more_takes : (bytes : List ℕ) (e : Exchange) (rest : List ℕ) (t u : Log × List ℕ) → SpellsEntry bytes (e, rest) → NotEnd e → SpellsTail header rest t → done (record t.0 { entries = e ∷ t.0.entries }, t.1) ≡ Ok u → SpellsTail header bytes u
+  more_takes bytes e rest t u s not s' is =
+      let both = then _ _ _ _ _ s.takes s'.takes in
+      let last : List ℕ = entry_text (End t.0.ending t.0.rounds) in
+      subst (SpellsTail header bytes) (ok_is (record t.0 { entries = e ∷ t.0.entries }, t.1) u is)
+      (record {
+        takes = subst (λ (x : List ℕ). Takes bytes x t.1) (sym (ap (λ (x : List ℕ). x ++ last) (flat_map-cons entry_text e t.0.entries) ∙ append_assoc (entry_text e) (entries_text t.0.entries) last)) both;
+        header_is = s'.header_is;
+        entries = ((s.fits, not), s'.entries);
+        rounds = s'.rounds;
+      })
 
-after_takes : (bytes : List ℕ) (e : Exchange) (rest : List ℕ) (more : Result Tail LogRefusal) (u : Tail) → SpellsEntry bytes (e, rest) → ((t : Tail) → more ≡ Ok t → SpellsTail rest t) → after_entry e rest more ≡ Ok u → SpellsTail bytes u
-after_takes bytes (End ending rounds) rest more u s later is =
-    subst (SpellsTail bytes) (ok_is (record { entries = []; ending = ending; rounds = rounds; rest = rest }) u is) (record { takes = s.takes; entries = tt; rounds = s.fits })
-after_takes bytes (Signals round list) rest (Ok t) u s later is = more_takes bytes (Signals round list) rest t u s tt (later t refl) is
-after_takes bytes (Signals round list) rest (Err d) u s later is = absurd cc
-after_takes bytes (Input round tid max input) rest (Ok t) u s later is = more_takes bytes (Input round tid max input) rest t u s tt (later t refl) is
-after_takes bytes (Input round tid max input) rest (Err d) u s later is = absurd cc
-after_takes bytes (Clock round tid n) rest (Ok t) u s later is = more_takes bytes (Clock round tid n) rest t u s tt (later t refl) is
-after_takes bytes (Clock round tid n) rest (Err d) u s later is = absurd cc
+  after_takes : (bytes : List ℕ) (e : Exchange) (rest : List ℕ) (more : Result (Log × List ℕ) LogError) (u : Log × List ℕ) → SpellsEntry bytes (e, rest) → ((t : Log × List ℕ) → more ≡ Ok t → SpellsTail header rest t) → after_entry header e rest more ≡ Ok u → SpellsTail header bytes u
+  after_takes bytes (End ending rounds) rest more u s later is =
+      subst (SpellsTail header bytes) (ok_is (record { header = header; entries = []; ending = ending; rounds = rounds }, rest) u is) (record { takes = s.takes; header_is = refl; entries = tt; rounds = s.fits })
+  after_takes bytes (Signals round list) rest (Ok t) u s later is = more_takes bytes (Signals round list) rest t u s tt (later t refl) is
+  after_takes bytes (Signals round list) rest (Err d) u s later is = absurd cc
+  after_takes bytes (Input round tid max input) rest (Ok t) u s later is = more_takes bytes (Input round tid max input) rest t u s tt (later t refl) is
+  after_takes bytes (Input round tid max input) rest (Err d) u s later is = absurd cc
+  after_takes bytes (Clock round tid n) rest (Ok t) u s later is = more_takes bytes (Clock round tid n) rest t u s tt (later t refl) is
+  after_takes bytes (Clock round tid n) rest (Err d) u s later is = absurd cc
 
-pub tail_takes : (n end : ℕ) (bytes : List ℕ) (u : Tail) → IsBytes bytes → tail_at n end bytes ≡ Ok u → SpellsTail bytes u
-unfolding tail_at
-tail_takes zero end bytes u fits e = absurd cc
-tail_takes (suc n) end bytes u fits e =
-    let a = bind_ok (entry_at end bytes) _ u e in
-    let s = entry_takes end bytes a.0 fits a.1 in
-    after_takes bytes a.0.0 a.0.1 (tail_at n end a.0.1) u s (λ t is. tail_takes n end a.0.1 t s.takes.rest_fits is) a.2
+  tail_takes : (n end : ℕ) (bytes : List ℕ) (u : Log × List ℕ) → IsBytes bytes → tail_at n header end bytes ≡ Ok u → SpellsTail header bytes u
+  unfolding tail_at
+  tail_takes zero end bytes u fits e = absurd cc
+  tail_takes (suc n) end bytes u fits e =
+      let a = bind_ok (entry_at end bytes) _ u e in
+      let s = entry_takes end bytes a.0 fits a.1 in
+      after_takes bytes a.0.0 a.0.1 (tail_at n header end a.0.1) u s (λ t is. tail_takes n end a.0.1 t s.takes.rest_fits is) a.2
 
-after_again : (e : Exchange) (rest : List ℕ) (t : Tail) → NotEnd e → after_entry e rest (Ok t) ≡ Ok (record t { entries = e ∷ t.entries })
-after_again (End ending rounds) rest t not = absurd not
-after_again (Signals round list) rest t not = refl
-after_again (Input round tid max bytes) rest t not = refl
-after_again (Clock round tid n) rest t not = refl
+  after_again : (e : Exchange) (rest : List ℕ) (t : Log × List ℕ) → NotEnd e → after_entry header e rest (Ok t) ≡ Ok (record t.0 { entries = e ∷ t.0.entries }, t.1)
+  after_again (End ending rounds) rest t not = absurd not
+  after_again (Signals round list) rest t not = refl
+  after_again (Input round tid max bytes) rest t not = refl
+  after_again (Clock round tid n) rest t not = refl
 
-pub tail_again : (n end : ℕ) (es : List Exchange) (ending : Ending) (rounds : ℕ) (rest : List ℕ) → length es < n → AreEntries es → rounds < 2 ^ 32
-    → tail_at n end (entries_text es ++ (entry_text (End ending rounds) ++ rest)) ≡ Ok (record { entries = es; ending = ending; rounds = rounds; rest = rest })
-unfolding tail_at
-tail_again zero end es ending rounds rest lt fits low = absurd (omega arith)
-tail_again (suc n) end [] ending rounds rest lt fits low = rw (entry_again end (End ending rounds) rest low) refl
-tail_again (suc n) end (e ∷ es) ending rounds rest lt fits low =
-    let later : List ℕ = entry_text (End ending rounds) ++ rest in
-    let regrouped : entries_text (e ∷ es) ++ later ≡ entry_text e ++ (entries_text es ++ later) = ap (λ (x : List ℕ). x ++ later) (flat_map-cons entry_text e es) ∙ append_assoc (entry_text e) (entries_text es) later in
-    ap (tail_at (suc n) end) regrouped ∙ rw (entry_again end e (entries_text es ++ later) fits.0.0, tail_again n end es ending rounds rest (omega arith) fits.1 low)
-    (after_again e (entries_text es ++ later) (record { entries = es; ending = ending; rounds = rounds; rest = rest }) fits.0.1)
+  tail_again : (n end : ℕ) (es : List Exchange) (ending : Ending) (rounds : ℕ) (rest : List ℕ) → length es < n → AreEntries es → rounds < 2 ^ 32
+      → tail_at n header end (entries_text es ++ (entry_text (End ending rounds) ++ rest)) ≡ Ok (record { header = header; entries = es; ending = ending; rounds = rounds }, rest)
+  unfolding tail_at
+  tail_again zero end es ending rounds rest lt fits low = absurd (omega arith)
+  tail_again (suc n) end [] ending rounds rest lt fits low = rw (entry_again end (End ending rounds) rest low) refl
+  tail_again (suc n) end (e ∷ es) ending rounds rest lt fits low =
+      let later : List ℕ = entry_text (End ending rounds) ++ rest in
+      let regrouped : entries_text (e ∷ es) ++ later ≡ entry_text e ++ (entries_text es ++ later) = ap (λ (x : List ℕ). x ++ later) (flat_map-cons entry_text e es) ∙ append_assoc (entry_text e) (entries_text es) later in
+      ap (tail_at (suc n) header end) regrouped ∙ rw (entry_again end e (entries_text es ++ later) fits.0.0, tail_again n end es ending rounds rest (omega arith) fits.1 low)
+      (after_again e (entries_text es ++ later) (record { header = header; entries = es; ending = ending; rounds = rounds }, rest) fits.0.1)
 
 -- ---- the header
 
-pub record SpellsDigests (n : ℕ) (bytes : List ℕ) (x : List (List ℕ) × List ℕ) : Type 0 where
-  pub takes : Takes bytes (digests_text x.0) x.1
-  pub count : length x.0 ≡ n
-  pub fits : AllByRecursion FitsDigest x.0
+digest_takes : (end : ℕ) (bytes : List ℕ) (x : List ℕ × List ℕ) → IsBytes bytes → bytes_at 32 end bytes ≡ Ok x → Takes bytes x.0 x.1 × FitsDigest x.0
+digest_takes end bytes x fits e =
+    let p = bytes_take 32 end bytes x.0 x.1 fits e in
+    (p.0, record { len = p.1; bytes = p.2 })
 
-digests_take : (n end : ℕ) (bytes : List ℕ) (x : List (List ℕ) × List ℕ) → IsBytes bytes → digests_at n end bytes ≡ Ok x → SpellsDigests n bytes x
-unfolding digests_at
-digests_take zero end bytes x fits e =
-    subst (SpellsDigests 0 bytes) (ok_is ([], bytes) x e) (record { takes = record { parts = refl; rest_fits = fits }; count = refl; fits = tt })
-digests_take (suc n) end bytes x fits e =
-    let a = bind_ok (bytes_at 32 end bytes) _ x e in
-    let b = bind_ok (digests_at n end a.0.1) _ x a.2 in
-    let p = bytes_take 32 end bytes a.0.0 a.0.1 fits a.1 in
-    let q = digests_take n end a.0.1 b.0 p.0.rest_fits b.1 in
-    let both = then _ _ _ _ _ p.0 q.takes in
-    subst (SpellsDigests (suc n) bytes) (ok_is (a.0.0 ∷ b.0.0, b.0.1) x b.2)
-    (record { takes = rw flat_map-cons both; count = ap suc q.count; fits = (record { len = p.1; bytes = p.2 }, q.fits) })
+digest_again : (end : ℕ) (d rest : List ℕ) → FitsDigest d → bytes_at 32 end (d ++ rest) ≡ Ok (d, rest)
+digest_again end d rest fits = subst (λ (k : ℕ). bytes_at k end (d ++ rest) ≡ Ok (d, rest)) fits.len (bytes_again end d rest)
 
-digests_again : (end : ℕ) (ds : List (List ℕ)) (rest : List ℕ) → AllByRecursion FitsDigest ds → digests_at (length ds) end (digests_text ds ++ rest) ≡ Ok (ds, rest)
-unfolding digests_at
-digests_again end [] rest fits = refl
-digests_again end (d ∷ ds) rest fits =
-    let regrouped : digests_text (d ∷ ds) ++ rest ≡ d ++ (digests_text ds ++ rest) = ap (λ (x : List ℕ). x ++ rest) (flat_map-cons (λ (digest : List ℕ). digest) d ds) ∙ append_assoc d (digests_text ds) rest in
-    let first : bytes_at 32 end (d ++ (digests_text ds ++ rest)) ≡ Ok (d, digests_text ds ++ rest) = subst (λ (k : ℕ). bytes_at k end (d ++ (digests_text ds ++ rest)) ≡ Ok (d, digests_text ds ++ rest)) fits.0.len (bytes_again end d (digests_text ds ++ rest)) in
-    ap (digests_at (suc (length ds)) end) regrouped ∙ rw (first, digests_again end ds rest fits.1) refl
+digests_again : (end : ℕ) (ds : List (List ℕ)) (rest : List ℕ) → AllByRecursion FitsDigest ds → many_at (bytes_at 32) (length ds) end (concat ds ++ rest) ≡ Ok (ds, rest)
+digests_again end ds rest fits =
+    subst (λ (t : List ℕ). many_at (bytes_at 32) (length ds) end (t ++ rest) ≡ Ok (ds, rest)) (sym (concat_is ds)) (many_again (bytes_at 32) (λ d. d) FitsDigest digest_again end ds rest fits)
 
 at_most : (n high : ℕ) → n < suc high → n ≤ high
 at_most n high lt = omega arith
@@ -130,6 +120,14 @@ pub record SpellsHeader (bytes : List ℕ) (x : LogHeader × List ℕ) : Type 0 
   pub takes : Takes bytes (header_text x.0) x.1
   pub fits : FitsHeader x.0
 
+-- the fields one behind the other are the header's text
+header_spelled : (bytes rest : List ℕ) (n : ℕ) (h : LogHeader) → length h.digests ≡ n
+    → Takes bytes (magic ++ (to_le_bytes w16 1 ++ (to_le_bytes w16 n ++ (to_le_bytes w32 h.quantum ++ (to_le_bytes w32 h.rounds ++ (to_le_bytes w32 h.frames ++ flat_map (λ d. d) h.digests)))))) rest
+    → Takes bytes (header_text h) rest
+header_spelled bytes rest n h count text =
+    let fields : List ℕ → ℕ → List ℕ = λ ds m. magic ++ (to_le_bytes w16 1 ++ (to_le_bytes w16 m ++ (to_le_bytes w32 h.quantum ++ (to_le_bytes w32 h.rounds ++ (to_le_bytes w32 h.frames ++ ds))))) in
+    subst (λ (m : ℕ). Takes bytes (fields (concat h.digests) m) rest) (sym count) (subst (λ (t : List ℕ). Takes bytes (fields t n) rest) (sym (concat_is h.digests)) text)
+
 pub header_takes : (end : ℕ) (bytes : List ℕ) (x : LogHeader × List ℕ) → IsBytes bytes → header_at end bytes ≡ Ok x → SpellsHeader bytes x
 unfolding header_at
 header_takes end bytes x fits e =
@@ -141,21 +139,17 @@ header_takes end bytes x fits e =
     let d = header_then w32 _ wide32 16 65536 end c.rest _ x c.takes.rest_fits c.more in
     let f = header_then w32 _ wide32 1 1000000 end d.rest _ x d.takes.rest_fits d.more in
     let g = header_then w32 _ wide32 16 16384 end f.rest _ x f.takes.rest_fits f.more in
-    let h = bind_ok (digests_at c.n end g.rest) _ x g.more in
-    let k = digests_take c.n end g.rest h.0 g.takes.rest_fits h.1 in
+    let h = bind_ok (many_at (bytes_at 32) c.n end g.rest) _ x g.more in
+    let k = many_take (bytes_at 32) (λ d. d) FitsDigest digest_takes c.n end g.rest h.0 g.takes.rest_fits h.1 in
     let text = then _ _ _ _ _ p (then _ _ _ _ _ q (then _ _ _ _ _ c.takes (then _ _ _ _ _ d.takes (then _ _ _ _ _ f.takes (then _ _ _ _ _ g.takes k.takes))))) in
     subst (SpellsHeader bytes) (ok_is (record { quantum = d.n; rounds = f.n; frames = g.n; digests = h.0.0 }, h.0.1) x h.2)
     (record {
-      takes = subst (λ (n : ℕ). Takes bytes (magic ++ (to_le_bytes w16 1 ++ (to_le_bytes w16 n ++ (to_le_bytes w32 d.n ++ (to_le_bytes w32 f.n ++ (to_le_bytes w32 g.n ++ digests_text h.0.0)))))) h.0.1) (sym k.count) text;
+      takes = header_spelled bytes h.0.1 c.n (record { quantum = d.n; rounds = f.n; frames = g.n; digests = h.0.0 }) k.count text;
       fits = record {
-        quantum_low = d.least;
-        quantum_high = at_most d.n _ d.most;
-        rounds_low = f.least;
-        rounds_high = at_most f.n _ f.most;
-        frames_low = g.least;
-        frames_high = at_most g.n _ g.most;
-        digests_low = count_least _ c.n 1 k.count c.least;
-        digests_high = count_most _ c.n _ k.count c.most;
+        quantum = (d.least, at_most d.n _ d.most);
+        rounds = (f.least, at_most f.n _ f.most);
+        frames = (g.least, at_most g.n _ g.most);
+        count = (count_least _ c.n 1 k.count c.least, count_most _ c.n _ k.count c.most);
         digests = k.fits;
       };
     })
@@ -163,7 +157,7 @@ header_takes end bytes x fits e =
 pub header_again_all : (end : ℕ) (h : LogHeader) (rest : List ℕ) → FitsHeader h → header_at end (header_text h ++ rest) ≡ Ok (h, rest)
 unfolding header_at magic_at version_at
 header_again_all end h rest fits =
-    let r4 : List ℕ = digests_text h.digests ++ rest in
+    let r4 : List ℕ = concat h.digests ++ rest in
     let r3 : List ℕ = to_le_bytes w32 h.frames ++ r4 in
     let r2 : List ℕ = to_le_bytes w32 h.rounds ++ r3 in
     let r1 : List ℕ = to_le_bytes w32 h.quantum ++ r2 in
@@ -171,10 +165,10 @@ header_again_all end h rest fits =
     rw (
       bytes_again end magic (to_le_bytes w16 1 ++ r0),
       number_again w16 _ wide16 end 1 r0 (omega arith),
-      header_again w16 _ wide16 1 8 end (length h.digests) r1 (omega (arith, fits.digests_high)) fits.digests_low fits.digests_high,
-      header_again w32 _ wide32 16 65536 end h.quantum r2 (omega (arith, fits.quantum_high)) fits.quantum_low fits.quantum_high,
-      header_again w32 _ wide32 1 1000000 end h.rounds r3 (omega (arith, fits.rounds_high)) fits.rounds_low fits.rounds_high,
-      header_again w32 _ wide32 16 16384 end h.frames r4 (omega (arith, fits.frames_high)) fits.frames_low fits.frames_high,
+      header_again w16 _ wide16 1 8 end (length h.digests) r1 (omega (arith, fits.count.1)) fits.count.0 fits.count.1,
+      header_again w32 _ wide32 16 65536 end h.quantum r2 (omega (arith, fits.quantum.1)) fits.quantum.0 fits.quantum.1,
+      header_again w32 _ wide32 1 1000000 end h.rounds r3 (omega (arith, fits.rounds.1)) fits.rounds.0 fits.rounds.1,
+      header_again w32 _ wide32 16 16384 end h.frames r4 (omega (arith, fits.frames.1)) fits.frames.0 fits.frames.1,
       digests_again end h.digests rest fits.digests,
     ) refl
 
@@ -186,20 +180,25 @@ pub record SpellsLog (bytes : List ℕ) (log : Log) : Type 0 where
   pub entries : AreEntries log.entries
   pub rounds : log.rounds < 2 ^ 32
 
+-- the header's text and the entries' behind it are the log's, where nothing is left
+log_spelled : (bytes rest : List ℕ) (header : LogHeader) (log : Log) → bytes ≡ (header_text header ++ (entries_text log.entries ++ entry_text (End log.ending log.rounds))) ++ rest → rest ≡ [] → log.header ≡ header → bytes ≡ logtext log
+log_spelled bytes rest header log both nothing header_is =
+    let tail : List ℕ = entries_text log.entries ++ entry_text (End log.ending log.rounds) in
+    both ∙ ap (λ (r : List ℕ). (header_text header ++ tail) ++ r) nothing ∙ append-nil (header_text header ++ tail) ∙ ap (λ (h : LogHeader). header_text h ++ tail) (sym header_is) ∙ sym (append_assoc (header_text log.header) (entries_text log.entries) (entry_text (End log.ending log.rounds)))
+
 pub log_takes : (bytes : List ℕ) (log : Log) → IsBytes bytes → log_at bytes ≡ Ok log → SpellsLog bytes log
 unfolding log_at
 log_takes bytes log fits e =
     let a = bind_ok (header_at (length bytes) bytes) _ log e in
     let p = header_takes (length bytes) bytes a.0 fits a.1 in
-    let b = bind_ok (tail_at (length a.0.1) (length bytes) a.0.1) _ log a.2 in
-    let q = tail_takes (length a.0.1) (length bytes) a.0.1 b.0 p.takes.rest_fits b.1 in
-    let made : Log = record { header = a.0.0; entries = b.0.entries; ending = b.0.ending; rounds = b.0.rounds } in
-    let g = guard_true (eqb (length b.0.rest) 0) (refusal.AfterEnd (place (length bytes) b.0.rest)) made log b.2 in
-    let nothing : b.0.rest ≡ [] = nil_from_length b.0.rest (eqb-true _ _ g.0) in
+    let b = bind_ok (tail_at (length a.0.1) a.0.0 (length bytes) a.0.1) _ log a.2 in
+    let q = tail_takes a.0.0 (length a.0.1) (length bytes) a.0.1 b.0 p.takes.rest_fits b.1 in
+    let made : Log = b.0.0 in
+    let g = guard_true (eqb (length b.0.1) 0) (refusal.AfterEnd (place (length bytes) b.0.1)) made log b.2 in
+    let nothing : b.0.1 ≡ [] = nil_from_length b.0.1 (eqb-true _ _ g.0) in
     let both = (then _ _ _ _ _ p.takes q.takes).parts in
-    let tail : List ℕ = entries_text b.0.entries ++ entry_text (End b.0.ending b.0.rounds) in
-    let whole : bytes ≡ logtext made = both ∙ ap (λ (r : List ℕ). (header_text a.0.0 ++ tail) ++ r) nothing ∙ append-nil (header_text a.0.0 ++ tail) ∙ sym (append_assoc (header_text a.0.0) (entries_text b.0.entries) (entry_text (End b.0.ending b.0.rounds))) in
-    subst (SpellsLog bytes) g.1 (record { text = whole; header = p.fits; entries = q.entries; rounds = q.rounds })
+    let whole : bytes ≡ logtext made = log_spelled bytes b.0.1 a.0.0 made both nothing q.header_is in
+    subst (SpellsLog bytes) g.1 (record { text = whole; header = subst FitsHeader (sym q.header_is) p.fits; entries = q.entries; rounds = q.rounds })
 
 -- an entry has a byte at least
 one_byte : (e : Exchange) → 0 < length (entry_text e)
@@ -220,10 +219,7 @@ log_again log fits =
     let regrouped : logtext log ≡ header_text log.header ++ (entries_text log.entries ++ last) = append_assoc (header_text log.header) (entries_text log.entries) last in
     let head : header_at end (logtext log) ≡ Ok (log.header, entries_text log.entries ++ last) = ap (header_at end) regrouped ∙ header_again_all end log.header (entries_text log.entries ++ last) fits.header in
     let enough : length log.entries < length (entries_text log.entries ++ last) = rw (length-append (entries_text log.entries) last) (omega (arith, entries_short log.entries, one_byte (End log.ending log.rounds))) in
-    let tail : tail_at (length (entries_text log.entries ++ last)) end (entries_text log.entries ++ last) ≡ Ok (record { entries = log.entries; ending = log.ending; rounds = log.rounds; rest = [] }) =
-    ap (λ (x : List ℕ). tail_at (length (entries_text log.entries ++ last)) end (entries_text log.entries ++ x)) (sym (append-nil last))
-    ∙ tail_again (length (entries_text log.entries ++ last)) end log.entries log.ending log.rounds [] enough fits.entries fits.rounds in
+    let tail : tail_at (length (entries_text log.entries ++ last)) log.header end (entries_text log.entries ++ last) ≡ Ok (log, []) =
+    ap (λ (x : List ℕ). tail_at (length (entries_text log.entries ++ last)) log.header end (entries_text log.entries ++ x)) (sym (append-nil last))
+    ∙ tail_again log.header (length (entries_text log.entries ++ last)) end log.entries log.ending log.rounds [] enough fits.entries fits.rounds in
     rw (head, tail) refl
-
-pub rest_short : (bytes text rest : List ℕ) → Takes bytes text rest → length rest ≤ length bytes
-rest_short bytes text rest t = omega (arith, ap length t.parts, length-append text rest)

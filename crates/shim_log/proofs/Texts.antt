@@ -3,7 +3,7 @@ use Rattle.std.specs.Prelude.{ℕ, List, [], ◌∷◌, ◌++◌, length, replic
 use Rattle.dos_world.specs.declared.Ending.TheVariants.{Done, Limit, Stalled}
 use Rattle.dos_io.specs.declared.exchange.Exchange.TheVariants.{Signals, Input, Clock, End}
 use Rattle.shim_log.specs.LogText.{Log, exchanges, header_text, entry_text, logtext}
-use Rattle.shim_log.specs.Reading.{log_at, header_at, magic_at, version_at, header_number_at, digests_at, tail_at, entry_at, signals_at, posts_at, post_at, input_at, clock_at, end_at, ranged_at, ranged_byte_at}
+use Rattle.shim_log.specs.Reading.{log_at, header_at, magic_at, version_at, header_number_at, many_at, tail_at, entry_at, signals_at, post_at, input_at, clock_at, end_at, ranged_at, ranged_byte_at}
 
 -- ---- the log of a run of the smallest image: one round, no signals, done
 
@@ -36,7 +36,7 @@ has_64_bytes : length text ≡ 64
 has_64_bytes = refl
 
 read : log_at text ≡ Ok smallest
-unfolding log_at header_at magic_at version_at header_number_at digests_at tail_at entry_at signals_at posts_at post_at input_at clock_at end_at ranged_at ranged_byte_at
+unfolding log_at header_at magic_at version_at header_number_at many_at tail_at entry_at signals_at post_at input_at clock_at end_at ranged_at ranged_byte_at
 read = refl
 
 its_exchanges : exchanges smallest ≡ Signals 1 [] ∷ End Done 1 ∷ []
@@ -74,7 +74,7 @@ all_kinds = record {
 }
 
 all_kinds_read : log_at (logtext all_kinds) ≡ Ok all_kinds
-unfolding log_at header_at magic_at version_at header_number_at digests_at tail_at entry_at signals_at posts_at post_at input_at clock_at end_at ranged_at ranged_byte_at
+unfolding log_at header_at magic_at version_at header_number_at many_at tail_at entry_at signals_at post_at input_at clock_at end_at ranged_at ranged_byte_at
 all_kinds_read = refl
 
 -- eight images

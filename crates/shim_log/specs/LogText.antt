@@ -1,6 +1,7 @@
--- The one text of a log: a header, any number of entries, the end, and nothing more. This project's own format, version 1; all numbers are little-endian.
+-- The one text of a log: a header, any number of entries, the end, and nothing more. This project's
+-- own format, version 1. All numbers are little-endian.
 use Rattle.std.specs.Prelude.{ℕ, List, [], ◌∷◌, ◌++◌, length}
-use Rattle.std.specs.List.{flat_map}
+use Rattle.std.specs.List.{concat, flat_map}
 use Rattle.std.specs.Int.{w16, w32, w64, to_le_bytes}
 use Rattle.dos_world.specs.declared.Post.{Post}
 use Rattle.dos_world.specs.declared.Ending.{Ending}
@@ -20,7 +21,7 @@ pub record Log : Type 0 where
 abbrev pub exchanges : Log → List Exchange
 exchanges log = log.entries ++ End log.ending log.rounds ∷ []
 
--- ---- the header: `DPGL`, the version, how many images, the quantum, the limit of rounds, the frames, and a digest for each image
+-- ---- the header
 
 -- `DPGL`
 abbrev pub magic : List ℕ
@@ -30,37 +31,19 @@ magic = 0x44 ∷ 0x50 ∷ 0x47 ∷ 0x4C ∷ []
 abbrev pub log_version : ℕ
 log_version = 1
 
--- one behind the other
-abbrev pub digests_text : List (List ℕ) → List ℕ
-digests_text = flat_map (λ (digest : List ℕ). digest)
-
--- the fields in their order
+-- `DPGL`, the version, how many images, the quantum, the limit of rounds, the frames, and a digest
+-- for each image
 abbrev pub header_text : LogHeader → List ℕ
 header_text h =
     magic ++ to_le_bytes w16 log_version ++ to_le_bytes w16 (length h.digests)
-    ++ to_le_bytes w32 h.quantum ++ to_le_bytes w32 h.rounds ++ to_le_bytes w32 h.frames ++ digests_text h.digests
+    ++ to_le_bytes w32 h.quantum ++ to_le_bytes w32 h.rounds ++ to_le_bytes w32 h.frames
+    ++ concat h.digests
 
--- ---- an entry behind its kind
+-- ---- an entry
 
 -- a process in four bytes and a signal in one
 abbrev pub post_text : Post → List ℕ
 post_text post = to_le_bytes w32 post.pid ++ post.signal ∷ []
-
--- one behind the other
-abbrev pub posts_text : List Post → List ℕ
-posts_text = flat_map post_text
-
--- the round, how many posts in one byte, and the posts
-abbrev pub signals_text : ℕ → List Post → List ℕ
-signals_text round list = to_le_bytes w32 round ++ (length list ∷ []) ++ posts_text list
-
--- the round, the thread, how many bytes were asked for, how many came, and these
-abbrev pub input_text : ℕ → ℕ → ℕ → List ℕ → List ℕ
-input_text round tid max bytes = to_le_bytes w32 round ++ to_le_bytes w32 tid ++ to_le_bytes w16 max ++ to_le_bytes w16 (length bytes) ++ bytes
-
--- the round, the thread, and the reading in eight bytes
-abbrev pub clock_text : ℕ → ℕ → ℕ → List ℕ
-clock_text round tid n = to_le_bytes w32 round ++ to_le_bytes w32 tid ++ to_le_bytes w64 n
 
 -- the byte of an ending
 abbrev pub ending_code : Ending → ℕ
@@ -68,18 +51,20 @@ ending_code Done = 0
 ending_code Limit = 1
 ending_code Stalled = 2
 
--- the ending, and the rounds that were run
-abbrev pub end_text : Ending → ℕ → List ℕ
-end_text ending rounds = (ending_code ending ∷ []) ++ to_le_bytes w32 rounds
-
--- ---- an entry: its kind in one byte, and what is behind it
-
--- of each kind
+-- An entry's kind is one byte. Behind it stand:
+-- for the end, the ending, and the rounds that were run;
+-- for signals, the round, how many posts in one byte, and the posts;
+-- for an input, the round, the thread, how many bytes were asked for, how many came, and these;
+-- for a reading of the clock, the round, the thread, and the reading in eight bytes.
 abbrev pub entry_text : Exchange → List ℕ
-entry_text (End ending rounds) = 0 ∷ end_text ending rounds
-entry_text (Signals round list) = 1 ∷ signals_text round list
-entry_text (Input round tid max bytes) = 2 ∷ input_text round tid max bytes
-entry_text (Clock round tid n) = 3 ∷ clock_text round tid n
+entry_text (End ending rounds) = 0 ∷ ending_code ending ∷ to_le_bytes w32 rounds
+entry_text (Signals round list) =
+    1 ∷ to_le_bytes w32 round ++ length list ∷ flat_map post_text list
+entry_text (Input round tid max bytes) =
+    2 ∷ to_le_bytes w32 round ++ to_le_bytes w32 tid
+    ++ to_le_bytes w16 max ++ to_le_bytes w16 (length bytes) ++ bytes
+entry_text (Clock round tid n) =
+    3 ∷ to_le_bytes w32 round ++ to_le_bytes w32 tid ++ to_le_bytes w64 n
 
 -- one behind the other
 abbrev pub entries_text : List Exchange → List ℕ
@@ -87,4 +72,5 @@ entries_text = flat_map entry_text
 
 -- the whole text
 abbrev pub logtext : Log → List ℕ
-logtext log = header_text log.header ++ entries_text log.entries ++ entry_text (End log.ending log.rounds)
+logtext log =
+    header_text log.header ++ entries_text log.entries ++ entry_text (End log.ending log.rounds)

@@ -1,6 +1,8 @@
--- The ranges of a log's fields. This project's own rule. Of a digest, a process, a round, a thread and a reading each value may stand.
+-- The ranges of a log's fields. This project's own rule. Of a digest, a process, a round, a thread
+-- and a reading each value may stand.
 use Rattle.std.specs.Prelude.{◌≤◌, ◌<◌, ◌+◌, ◌^◌, ℕ, List, length, ⊤}
 use Rattle.std.specs.List.{AllByRecursion}
+use Rattle.std.specs.Int.{IsInRange}
 use Rattle.dos_world.specs.declared.Post.{Post}
 use Rattle.dos_io.specs.declared.exchange.Exchange.{Exchange}
 use Rattle.dos_io.specs.declared.exchange.Exchange.TheVariants.{Signals, Input, Clock, End}
@@ -11,14 +13,10 @@ use Rattle.shim_log.specs.LogText.{Log}
 
 -- the numbers that the words allow, and one to eight digests
 pub record FitsHeader (h : LogHeader) : Type 0 where
-  pub quantum_low : 16 ≤ h.quantum
-  pub quantum_high : h.quantum ≤ 65536
-  pub rounds_low : 1 ≤ h.rounds
-  pub rounds_high : h.rounds ≤ 1000000
-  pub frames_low : 16 ≤ h.frames
-  pub frames_high : h.frames ≤ 16384
-  pub digests_low : 1 ≤ length h.digests
-  pub digests_high : length h.digests ≤ 8
+  pub quantum : IsInRange 16 65536 h.quantum
+  pub rounds : IsInRange 1 1000000 h.rounds
+  pub frames : IsInRange 16 16384 h.frames
+  pub count : IsInRange 1 8 (length h.digests)
   pub digests : AreDigests h.digests
 
 -- at most 32 posts
@@ -31,8 +29,7 @@ pub record FitsSignals (round : ℕ) (list : List Post) : Type 0 where
 pub record FitsInput (round tid max : ℕ) (bytes : List ℕ) : Type 0 where
   pub round_fits : round < 2 ^ 32
   pub tid_fits : tid < 2 ^ 32
-  pub low : 1 ≤ max
-  pub high : max ≤ 4096
+  pub max_fits : IsInRange 1 4096 max
   pub short : length bytes ≤ max
   pub bytes_fit : IsBytes bytes
 
@@ -51,16 +48,15 @@ InRange (End ending rounds) = rounds < 2 ^ 32
 
 -- The end is no entry.
 abbrev pub NotEnd : Exchange → Type 0
-NotEnd (Signals round list) = ⊤
-NotEnd (Input round tid max bytes) = ⊤
-NotEnd (Clock round tid n) = ⊤
 NotEnd (End ending rounds) = ⊥
+NotEnd _ = ⊤
 
 -- each of these
 abbrev pub AreEntries : List Exchange → Type 0
 AreEntries = AllByRecursion (λ exchange. InRange exchange × NotEnd exchange)
 
--- All of it. The entries are fewer than 2^32, and the end is counted as one. A text of 64 MiB at most implies that, because each entry takes a byte at least.
+-- All of it. The entries are fewer than 2^32, and the end is counted as one. A text of 64 MiB at
+-- most implies that, because each entry takes a byte at least.
 pub record FitsLog (log : Log) : Type 0 where
   pub header : FitsHeader log.header
   pub entries : AreEntries log.entries

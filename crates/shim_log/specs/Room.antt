@@ -15,9 +15,11 @@ most_bytes = 67108864
 
 -- With so many bytes more, and the end's six, the text would be longer than a log may be.
 abbrev pub IsOver : LogHeader → List Exchange → ℕ → Type 0
-IsOver header es bytes = most_bytes < length (header_text header) + length (entries_text es) + bytes + 6
+IsOver header es bytes =
+    most_bytes < length (header_text header) + length (entries_text es) + bytes + 6
 
--- Signals count with the round's posts, an input with all the bytes that were asked for. The end's room is kept free, so there is room for it always.
+-- Signals count with the round's posts, an input with all the bytes that were asked for. The end's
+-- room is kept free, so there is room for it always.
 abbrev pub NoRoom : LogHeader → List (ℕ × Post) → List Exchange → Question → Type 0
 NoRoom header posts es (Signals round) = IsOver header es (6 + 5 * length (posts_in posts round))
 NoRoom header posts es (Input round tid max) = IsOver header es (13 + max)
@@ -27,4 +29,5 @@ NoRoom header posts es (End ending rounds) = ⊥
 -- Each exchange had room, behind those seen before it.
 abbrev pub HadRoom : LogHeader → List (ℕ × Post) → (seen es : List Exchange) → Type 0
 HadRoom header posts seen [] = ⊤
-HadRoom header posts seen (e ∷ es) = (NoRoom header posts seen (question_of e) → ⊥) × HadRoom header posts (seen ++ e ∷ []) es
+HadRoom header posts seen (e ∷ es) =
+    (NoRoom header posts seen (question_of e) → ⊥) × HadRoom header posts (seen ++ e ∷ []) es

@@ -6,4 +6,4 @@ pub mod laws;
 mod refusal;
 
 pub use header::{Digests, LogHeader};
-pub use refusal::LogRefusal;
+pub use refusal::LogError;

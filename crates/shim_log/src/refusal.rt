@@ -2,7 +2,7 @@
 
 /// Why bytes are no log: the first thing that is wrong, from left to right, with its place, counted in bytes from 0.
 #[derive(Clone, Copy, Debug, PartialEq, Eq)]
-pub enum LogRefusal {
+pub enum LogError {
     /// The bytes end inside the field that begins here.
     Short(u64),
     /// They don't begin as a log.
