@@ -7,7 +7,7 @@ use Rattle.std.proofs.lemmas.Option.{slice_get-map}
 use Rattle.dos_world.specs.Numbered.{numbered, changed, changed_at}
 use Rattle.dos_world.specs.World.{Process, Holdings, holdings_of, all_holdings, was_collected}
 use Rattle.dos_world.specs.Kernel.{orphaned, ended_by}
-use Rattle.dos_world.proofs.Refusals.{changed_other}
+use Rattle.dos_world.proofs.Numbers.{changed_other}
 use Rattle.dos_laws.specs.Plain.{IsOrphan}
 use Rattle.dos_laws.specs.Ends.{ended_processes}
 use Rattle.dos_laws.proofs.Numbers.{length-changed, numbered_all}
@@ -16,26 +16,22 @@ use Rattle.dos_laws.proofs.Parts.{IsPart, nothing, left_out, kept, whole_part}
 -- ---- what they have
 
 -- a process's holdings before those of others
-before : Option Holdings → List Holdings → List Holdings
+abbrev pub before : Option Holdings → List Holdings → List Holdings
 before o rest = elim o as (λ _. List Holdings) [ None ↦ rest | Some h ↦ h ∷ rest ]
 
-orphans_have : (p : ℕ) (ps : List Process) → all_holdings (map (orphaned p) ps) ≡ all_holdings ps
-unfolding before
+pub orphans_have : (p : ℕ) (ps : List Process) → all_holdings (map (orphaned p) ps) ≡ all_holdings ps
 orphans_have p [] = refl
 orphans_have p (x ∷ ps) = ap (before (holdings_of x)) (orphans_have p ps)
 
 before_part : (o : Option Holdings) (few many : List Holdings) → IsPart few many → IsPart (before o few) (before o many)
-unfolding before
 before_part None few many part = part
 before_part (Some h) few many part = kept h few many part
 
 less_part : (o : Option Holdings) (rest : List Holdings) → IsPart rest (before o rest)
-unfolding before
 less_part None rest = whole_part rest
 less_part (Some h) rest = left_out h rest rest (whole_part rest)
 
 one_ended : (status : ℕ) (ps : List Process) (p : ℕ) → IsPart (all_holdings (changed (ended_by status) ps p)) (all_holdings ps)
-unfolding before
 one_ended status ps zero = whole_part (all_holdings ps)
 one_ended status ps (suc i) = at ps i
   where

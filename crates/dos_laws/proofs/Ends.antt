@@ -21,11 +21,11 @@ use Rattle.dos_laws.proofs.QuietEnds.{ends_quietly}
 
 -- ---- lists
 
-length-map_from : {A B : Type 0} (n : ℕ) (f : ℕ → A → B) (xs : List A) → length (map_from n f xs) ≡ length xs
+pub length-map_from : {A B : Type 0} (n : ℕ) (f : ℕ → A → B) (xs : List A) → length (map_from n f xs) ≡ length xs
 length-map_from n f [] = refl
 length-map_from n f (x ∷ xs) = ap suc (length-map_from (suc n) f xs)
 
-get_or-map_from : {A B : Type 0} (n : ℕ) (f : ℕ → A → B) (xs : List A) (k : ℕ) (d : A) (e : B) → k < length xs → slice_index_or (map_from n f xs) k e ≡ f (n + k) (slice_index_or xs k d)
+pub get_or-map_from : {A B : Type 0} (n : ℕ) (f : ℕ → A → B) (xs : List A) (k : ℕ) (d : A) (e : B) → k < length xs → slice_index_or (map_from n f xs) k e ≡ f (n + k) (slice_index_or xs k d)
 get_or-map_from n f [] k d e lt = absurd (omega arith)
 get_or-map_from n f (x ∷ xs) zero d e lt = ap (λ m. f m x) (omega arith)
 get_or-map_from n f (x ∷ xs) (suc k) d e lt = get_or-map_from (suc n) f xs k d e (omega arith) ∙ ap (λ m. f m (slice_index_or xs k d)) (omega arith)

@@ -10,7 +10,7 @@ use Rattle.dos_world.specs.ThreadCalls.{are_threads_full, with_new_thread}
 use Rattle.dos_world.specs.Lawful.{IsByte, AreRegisters, IsThread}
 use Rattle.dos_world.specs.declared.Access.{Access}
 use Rattle.rv_exec.specs.Step.{paid}
-use Rattle.round_core.specs.Round.{counted, with_budgets, budgeted}
+use Rattle.round_core.specs.Round.{counted, with_budgets, with_budget}
 use Rattle.dos_laws.specs.Plain.{IsPlainThread, LawfulAndPlain, IsInRun}
 use Rattle.dos_laws.proofs.Mapped.{IsTaken, of_thread}
 use Rattle.dos_laws.proofs.Threads.{ChangesRun, lawful-with_thread, plain-with_thread}
@@ -50,7 +50,7 @@ counted_keeps w few k = record { lawful = lawful-counted w few k.lawful; plain =
 
 pub with_budgets_stays : {q n : ℕ} (w : World) (ts : List ℕ) → IsInRun q n w → IsInRun q n (with_budgets w ts)
 with_budgets_stays w [] k = k
-with_budgets_stays w (t ∷ ts) k = with_budgets_stays (with_thread w t (budgeted w.quantum)) ts (with_thread_stays (budgeted w.quantum) (budget_change w.quantum) w t k)
+with_budgets_stays w (t ∷ ts) k = with_budgets_stays (with_thread w t (with_budget w.quantum)) ts (with_thread_stays (with_budget w.quantum) (budget_change w.quantum) w t k)
 
 -- ---- the ends
 

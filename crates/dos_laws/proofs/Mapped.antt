@@ -5,6 +5,7 @@ use Rattle.std.specs.List.{list_any}
 use Rattle.std.proofs.lemmas.Bool.{or_left, or_right, true≢false}
 use Rattle.std.proofs.lemmas.List.Elements.{All-nil, All-head, All-tail}
 use Rattle.dos_world.specs.Numbered.{numbered}
+pub use Rattle.dos_world.proofs.UsualCalls.{held_all}
 use Rattle.dos_world.specs.World.{World, Process, Thread, Holdings, holdings_of, all_holdings, live_process, thread_at, space_of, entry_at, look, is_free}
 use Rattle.dos_world.specs.Counts.{is_mapped, maps_frame}
 use Rattle.dos_world.specs.Lawful.{Lawful, IsThread, AreHoldings, IsPage}
@@ -28,20 +29,6 @@ pub process_lives : (w : World) (t : ℕ) (thread : Thread) → Lawful w → thr
 process_lives w t thread l is = some_is (live_process w thread.process) (of_thread (IsThread w.processes) w t thread l.threads.ranges is).process
 
 -- ---- what a live process has
-
--- what holds of all that is had holds of what this process has
-pub held_all : (P : Holdings → Type 0) (ps : List Process) (p : ℕ) (h : Holdings) → All P (all_holdings ps) → option_and_then holdings_of (numbered ps p) ≡ Some h → P h
-held_all P ps zero h all e = cc
-held_all P ps (suc i) h all e = at ps i all e
-  where
-    by_first : (o : Option Holdings) (rest : List Holdings) → All P (elim o as (λ _. List Holdings) [ None ↦ rest | Some k ↦ k ∷ rest ]) → All P rest
-    by_first None rest all = all
-    by_first (Some k) rest all = All-tail P k rest all
-
-    at : (ps : List Process) (i : ℕ) → All P (all_holdings ps) → option_and_then holdings_of (slice_get ps i) ≡ Some h → P h
-    at [] i all e = cc
-    at (x ∷ ps) zero all e = All-head P h (all_holdings ps) (subst (λ o. All P (elim o as (λ _. List Holdings) [ None ↦ all_holdings ps | Some k ↦ k ∷ all_holdings ps ])) e all)
-    at (x ∷ ps) (suc i) all e = at ps i (by_first (holdings_of x) (all_holdings ps) all) e
 
 -- what passes at what this process has passes somewhere
 pub held_any : (q : Holdings → Bool) (ps : List Process) (p : ℕ) (h : Holdings) → option_and_then holdings_of (numbered ps p) ≡ Some h → q h ≡ true → list_any q (all_holdings ps) ≡ true

@@ -1,11 +1,12 @@
 -- A thread more keeps a world lawful and plain.
-use Rattle.std.proofs.Common.{ℕ, zero, suc, ◌+◌, ◌<◌, ◌≤◌, ◌≡◌, ◌≢◌, refl, Bool, true, false, cond, List, [], ◌∷◌, ◌++◌, length, Option, Some, None, arith, length-append}
-use Rattle.std.specs.Prelude.{IfSome, slice_get, is_some, nat_le}
+use Rattle.std.proofs.Common.{ℕ, zero, suc, ◌+◌, ◌<◌, ◌≤◌, ◌≡◌, ◌≢◌, refl, Bool, true, false, cond, List, [], ◌∷◌, ◌++◌, length, Option, Some, None, option_and_then, arith, length-append}
+use Rattle.std.specs.Prelude.{IfSome, IsTrue, slice_get, is_some, nat_le}
 use Rattle.std.proofs.lemmas.Bool.{or_parts, leb-false}
+use Rattle.std.proofs.lemmas.List.Elements.{All-nil}
 use Rattle.dos_world.specs.Numbered.{numbered, places_from, numbers_of}
-use Rattle.dos_world.specs.World.{World, Thread, Registers, flat, belongs_to}
+use Rattle.dos_world.specs.World.{World, Process, Thread, Registers, holdings_of, flat, belongs_to}
 use Rattle.dos_world.specs.ThreadCalls.{with_new_thread, are_threads_full, ready_thread}
-use Rattle.dos_world.specs.Lawful.{Lawful, IsThread, turns_asleep}
+use Rattle.dos_world.specs.Lawful.{Lawful, IsThread, IsSaved, AreRegisters, turns_asleep}
 use Rattle.dos_laws.specs.Plain.{IsPlain, IsPlainThread}
 use Rattle.dos_laws.proofs.Threads.{lawful-with_threads, plain-with_threads}
 
@@ -82,3 +83,13 @@ module _ (w : World) (thread : Thread) where
 -- a thread that begins with no mask is plain
 pub ready_is_plain : (p : ℕ) (r : Registers) → IsPlainThread (ready_thread p r 0 [])
 ready_is_plain p r = record { state = refl; pending = refl; mask = refl; saved = refl }
+
+-- it is in range, where its process lives and its registers are
+pub ready_in_range : (ps : List Process) (p : ℕ) (r : Registers) → IsTrue (is_some (option_and_then holdings_of (numbered ps p))) → AreRegisters r → IsThread ps (ready_thread p r 0 [])
+ready_in_range ps p r lives are = record {
+  process = lives;
+  registers = are;
+  pending = (omega arith, refl);
+  mask = (omega arith, refl, refl);
+  saved = (omega arith, All-nil IsSaved);
+}

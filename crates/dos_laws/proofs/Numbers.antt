@@ -2,19 +2,9 @@
 use Rattle.std.proofs.Common.{ℕ, zero, suc, ◌≡◌, refl, sym, ap, ◌∙◌, Bool, false, cond, List, [], ◌∷◌, length, Option, Some, None, option_map}
 use Rattle.std.specs.Prelude.{slice_get, map, All, IfSome}
 use Rattle.std.proofs.lemmas.List.Elements.{All-head, All-tail}
+pub use Rattle.dos_world.proofs.Numbers.{length-changed, changed_there}
 use Rattle.dos_world.specs.Numbered.{numbered, changed, changed_at, places_from, numbers_of}
 use Rattle.dos_world.specs.World.{flat}
-
--- ---- as many as before
-
-length-changed_at : {A : Type 0} (f : A → A) (xs : List A) (i : ℕ) → length (changed_at f xs i) ≡ length xs
-length-changed_at f [] i = refl
-length-changed_at f (x ∷ xs) zero = refl
-length-changed_at f (x ∷ xs) (suc i) = ap suc (length-changed_at f xs i)
-
-pub length-changed : {A : Type 0} (f : A → A) (xs : List A) (t : ℕ) → length (changed f xs t) ≡ length xs
-length-changed f xs zero = refl
-length-changed f xs (suc i) = length-changed_at f xs i
 
 -- ---- the numbers of those that pass a test
 
@@ -39,17 +29,6 @@ numbers_none {A} test xs none = places_none 1 xs (λ k. none (suc k))
         ∙ places_none (suc n) xs (λ k. none (suc k))
 
 -- ---- each element that is there
-
--- The one of the number is changed, where it is there.
-pub changed_there : {A : Type 0} (f : A → A) (xs : List (Option A)) (t : ℕ) → flat (numbered (changed (option_map f) xs t) t) ≡ option_map f (flat (numbered xs t))
-changed_there f xs zero = refl
-changed_there {A} f xs (suc i) = at xs i
-  where
-    at : (xs : List (Option A)) (i : ℕ) → flat (slice_get (changed_at (option_map f) xs i) i) ≡ option_map f (flat (slice_get xs i))
-    at [] i = refl
-    at (None ∷ xs) zero = refl
-    at (Some x ∷ xs) zero = refl
-    at (x ∷ xs) (suc i) = at xs i
 
 -- What holds of each holds of each after a change that keeps it.
 pub each_kept : {A : Type 0} (P : A → Type 0) (f : A → A) → ((x : A) → P x → P (f x)) → (xs : List (Option A)) (t : ℕ)

@@ -41,14 +41,15 @@ still_empty w n (suc k) = ap (λ bytes. bytes ∷ map_from (suc n) (bytes_if_ope
 
 -- ---- the end
 
-module _ (w : World) (lawful : Lawful w) (plain : IsPlain w) (p status : ℕ) where
-  abbrev closed : World
-  closed = record w {
-    processes = ended_processes w.processes p status;
-    threads = map (unless_of p) w.threads;
-    sleepers = filter (is_none_of_these (threads_of w p)) w.sleepers;
-  }
+-- the world without a process and its threads, whose frames it still owns
+abbrev pub closed : World → ℕ → ℕ → World
+closed w p status = record w {
+  processes = ended_processes w.processes p status;
+  threads = map (unless_of p) w.threads;
+  sleepers = filter (is_none_of_these (threads_of w p)) w.sleepers;
+}
 
+module _ (w : World) (lawful : Lawful w) (plain : IsPlain w) (p status : ℕ) where
   no_parent : parent_of w p ≡ 0
   no_parent = go (process_at w p) (numbered_all IsOrphan w.processes p plain.parents)
     where
@@ -56,14 +57,14 @@ module _ (w : World) (lawful : Lawful w) (plain : IsPlain w) (p status : ℕ) wh
       go None h = refl
       go (Some process) h = h
 
-  nobody : threads_of (tidied closed) 0 ≡ []
+  nobody : threads_of (tidied (closed w p status)) 0 ≡ []
   nobody = numbers_none (belongs_to 0) (map (unless_of p) w.threads)
       (λ t. ap (belongs_to 0) (mapped_at (unless_of p) refl w.threads t) ∙ nobody_of_0 p w.processes (thread_at w t) (lawful.threads.ranges t))
 
   -- It is the world without the process, its threads and its frames.
   pub ends_quietly : process_ended w p status ≡ ended_world w p status
   ends_quietly =
-      ap (λ parent. posted (tidied closed) parent 17) no_parent
-      ∙ posts_nothing (tidied closed) 17 nobody
-      ∙ ap (λ pipes. record (tidied closed) { pipes = pipes }) (ap (map_from 0 (bytes_if_open closed)) plain.pipes ∙ still_empty closed 0 64 ∙ sym plain.pipes)
+      ap (λ parent. posted (tidied (closed w p status)) parent 17) no_parent
+      ∙ posts_nothing (tidied (closed w p status)) 17 nobody
+      ∙ ap (λ pipes. record (tidied (closed w p status)) { pipes = pipes }) (ap (map_from 0 (bytes_if_open (closed w p status))) plain.pipes ∙ still_empty (closed w p status) 0 64 ∙ sym plain.pipes)
       ∙ ap (λ sleepers. record (ended_world w p status) { sleepers = sleepers }) (ap (filter (is_none_of_these (threads_of w p))) plain.sleepers ∙ sym plain.sleepers)

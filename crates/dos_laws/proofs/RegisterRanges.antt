@@ -11,7 +11,7 @@ use Rattle.dos_world.specs.Calls.{charged}
 use Rattle.dos_world.specs.ThreadCalls.{new_registers}
 use Rattle.dos_world.specs.Lawful.{AreRegisters, IsWord}
 use Rattle.rv_exec.specs.Step.{paid_by}
-use Rattle.round_core.specs.Round.{budgeted}
+use Rattle.round_core.specs.Round.{with_budget}
 use Rattle.dos_laws.proofs.Threads.{ChangesRun}
 
 -- ---- registers
@@ -78,5 +78,5 @@ pub run_change : (r : Registers) (budget : ℕ) → AreRegisters r → ChangesRu
 run_change r budget a = record { rest = λ thread. refl; ranges = λ thread was. a }
 
 -- another budget
-pub budget_change : (budget : ℕ) → ChangesRun (budgeted budget)
+pub budget_change : (budget : ℕ) → ChangesRun (with_budget budget)
 budget_change budget = record { rest = λ thread. refl; ranges = λ thread a. a }

@@ -20,14 +20,14 @@ use Rattle.dos_laws.specs.Plain.{IsNoPipe, HasNoPipe, IsInRun}
 use Rattle.dos_laws.specs.Plays.{Gives}
 use Rattle.dos_laws.proofs.Mapped.{held_all}
 use Rattle.dos_laws.proofs.RegisterRanges.{new_ranges}
-use Rattle.dos_laws.proofs.NewThread.{ready_is_plain}
+use Rattle.dos_laws.proofs.NewThread.{ready_is_plain, ready_in_range}
 use Rattle.dos_laws.proofs.Kept.{answered_stays, sent_stays, process_ended_stays, thread_ended_stays, with_new_thread_stays}
 use Rattle.dos_laws.proofs.Calls.{IsCall, StaysServed, call_is, process_alive, process_word, thread_word, no_mask, returns_in_stays, returns_stays, refuses_stays}
 use Rattle.dos_laws.proofs.Copies.{copied_in_stays}
 
 -- ---- a call's own part: each service, whatever is answered
 
-no_pipe_at : (ends : List (Option End)) (k : ℕ) → All IsNoPipe ends → IsNoPipe (unwrap_or (slice_get ends k) None)
+pub no_pipe_at : (ends : List (Option End)) (k : ℕ) → All IsNoPipe ends → IsNoPipe (unwrap_or (slice_get ends k) None)
 no_pipe_at [] k all = tt
 no_pipe_at (x ∷ xs) zero all = All-head IsNoPipe x xs all
 no_pipe_at (x ∷ xs) (suc k) all = no_pipe_at xs k (All-tail IsNoPipe x xs all)
@@ -50,13 +50,7 @@ module _ {q n : ℕ} (Q : Answer → Type 0) (c : Call) (call : IsCall q n c) wh
   with_thread_new : are_threads_full c.world.threads ≡ false → IsInRun q n (with_new_thread c.world (ready_thread c.process (new_registers c.a0 c.a1 c.a2) (mask_of c) []))
   with_thread_new room =
       let r : Registers = new_registers c.a0 c.a1 c.a2 in
-      let is : IsThread c.world.processes (ready_thread c.process r 0 []) = record {
-        process = process_alive c call;
-        registers = new_ranges c.a0 c.a1 c.a2 call.first call.second call.third;
-        pending = (omega arith, refl);
-        mask = (omega arith, refl, refl);
-        saved = (omega arith, All-nil _);
-      } in
+      let is : IsThread c.world.processes (ready_thread c.process r 0 []) = ready_in_range c.world.processes c.process r (process_alive c call) (new_ranges c.a0 c.a1 c.a2 call.first call.second call.third) in
       subst (λ mask. IsInRun q n (with_new_thread c.world (ready_thread c.process r mask []))) (sym (no_mask c call))
       (with_new_thread_stays c.world (ready_thread c.process r 0 []) room is (ready_is_plain c.process r) call.stays)
 

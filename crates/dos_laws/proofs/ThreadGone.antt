@@ -5,7 +5,7 @@ use Rattle.std.proofs.lemmas.Bool.{cases_Bool, cases_eq, eqb-true}
 use Rattle.dos_world.specs.Numbered.{numbered, changed, changed_at, places_from, numbers_of}
 use Rattle.dos_world.specs.World.{World, Thread, flat, none_of, thread_at, threads_of, live_process, belongs_to, without_thread}
 use Rattle.dos_world.specs.Lawful.{Lawful, IsThread, turns_asleep}
-use Rattle.dos_world.proofs.Refusals.{changed_other}
+use Rattle.dos_world.proofs.Numbers.{changed_other}
 use Rattle.dos_laws.specs.Plain.{IsPlain, IsPlainThread}
 use Rattle.dos_laws.proofs.Numbers.{length-changed}
 use Rattle.dos_laws.proofs.Threads.{lawful-with_threads, plain-with_threads}

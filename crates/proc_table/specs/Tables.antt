@@ -1,6 +1,7 @@
 -- What the table holds: the flat world's processes and threads, and the room of each space. This project's own rules.
 use Rattle.std.specs.Prelude.{◌≡◌, ◌⊎◌, ℕ, List, [], ◌∷◌, ◌++◌, map, find, replicate, Option, Some, None, IsSome, is_some, option_map, option_and_then, slice_get, unwrap_or, nat_lt}
 use Rattle.dos_world.specs.Numbered.{numbered, changed, numbers_of}
+pub use Rattle.dos_world.specs.World.{ran, with_budget}
 use Rattle.dos_world.specs.World.{Process, Thread, Holdings, Registers, live, ended, flat, holdings_of, on_holdings}
 use Rattle.dos_world.specs.Kernel.{unless_of, orphaned, ended_by}
 use Rattle.dos_world.specs.declared.End.{End}
@@ -84,14 +85,6 @@ with_ended t pid status = record t {
   processes = map (orphaned pid) (changed (ended_by status) t.processes pid);
   threads = map (unless_of pid) t.threads;
 }
-
--- a thread with this budget
-abbrev pub with_budget : ℕ → Thread → Thread
-with_budget budget thread = record thread { budget = budget }
-
--- a thread with these registers and this budget
-abbrev pub ran : Registers → ℕ → Thread → Thread
-ran registers budget thread = record thread { registers = registers; budget = budget }
 
 -- what a process has, with no descriptor open
 abbrev pub without_ends : Holdings → Holdings
