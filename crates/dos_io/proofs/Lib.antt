@@ -1,4 +1,5 @@
 mod Examples
+pub mod OutsideLaws
 pub mod GivenLaws
 pub mod InputLaws
 pub mod QuietAnswers

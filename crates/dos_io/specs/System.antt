@@ -1,7 +1,20 @@
 -- What is known of the outside over std. This project's own.
-use Rattle.std.specs.Prelude.{ℕ, List, Option}
-use Rattle.dos_io.specs.declared.system.StdErr.{StdErr}
+use Rattle.std.specs.Prelude.{◌≡◌, ℕ, ◌<◌, List, length, Option, IfSome}
+use Rattle.std.specs.Io.KnownBytes.{Appends}
+use Rattle.dos_io.specs.declared.system.StdStream.{StdStream}
 
--- what the writer below standard error holds, where that is known
-abbrev pub written : {W : Type 0} → (W → Option (List ℕ)) → StdErr W → Option (List ℕ)
-written contents sink = contents sink.writer
+-- what the writer below a standard stream holds, where that is known
+abbrev pub written : {W : Type 0} → (W → Option (List ℕ)) → StdStream W → Option (List ℕ)
+written contents stream = contents stream.writer
+
+-- there was a file that had these bytes left and no more, where that is known
+abbrev pub Gave : {F : Type 0} → (F → Option (List ℕ)) → List ℕ → Type 0
+Gave {F} remaining bytes = (file : F) × IfSome (remaining file) (λ had. bytes ≡ had)
+
+-- there was a file that had more bytes left than the limit, where that is known
+abbrev pub GaveMore : {F : Type 0} → (F → Option (List ℕ)) → ℕ → Type 0
+GaveMore {F} remaining limit = (file : F) × IfSome (remaining file) (λ had. limit < length had)
+
+-- there was a file that took these bytes, behind what it held, where that is known
+abbrev pub Took : {F : Type 0} → (F → Option (List ℕ)) → List ℕ → Type 0
+Took {F} contents bytes = (before : F) × (after : F) × Appends (contents before) (contents after) bytes

@@ -25,4 +25,4 @@ pub use quiet::Quiet;
 pub use shim::{Shim, ShimStop};
 pub use signal_list::SignalList;
 pub use sink::{Sink, SinkFault};
-pub use system::{StdErr, StdFiles, StdOut};
+pub use system::{StdErr, StdFiles, StdOut, StdStream};

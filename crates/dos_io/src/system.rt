@@ -1,75 +1,53 @@
-// The outside over std, which tells nothing of what is written or held.
-ghost use Rattle.std.specs.Prelude.{◌≡◌, None, false, ◌≤◌, ◌+◌, length, IfOk, OnOk};
-ghost use Rattle.std.specs.Io.KnownBytes.{Appends};
-ghost use Rattle.dos_io.specs.Outside.{HasCause};
-ghost use Rattle.dos_io.specs.System.{written};
+// The outside over std. It tells nothing that all sinks and files tell; what its writers and readers did stands in its own clauses.
+ghost use Rattle.std.specs.Prelude.{◌≡◌, ◌≢◌, None, false, ◌<◌, ◌≤◌, ◌+◌, ℕ, List, length, IfOk, OnOk, OnErr, IfErr, IfSome, IsErrOf};
+ghost use Rattle.std.specs.Io.KnownBytes.{Appends, Consumes, IsAtEnd};
+ghost use Rattle.dos_io.specs.Outside.{HasCause, counted};
+ghost use Rattle.dos_io.specs.System.{written, Gave, GaveMore, Took};
 
 use crate::{FileError, Files, Sink, SinkFault};
 use std::alloc::Global;
 use std::fs;
 use std::io::{Read, Write};
 
-/// Standard output.
+/// A standard stream of the process, over a writer to it. What a guest writes need not be text, and of a writer a
+/// clause can say that it took the bytes; std's own traits for the streams say nothing.
 #[derive(Drop)]
-pub struct StdOut<'a, R: Print> {
-    rt: &'a R,
-    faults: u64,
-}
-
-impl<'a, R: Print> StdOut<'a, R> {
-    /// The runtime's standard output, with no fault so far.
-    pub fn new(rt: &'a R) -> StdOut<'a, R>
-        ensures { ⟦<StdOut<'a, R> as Sink>⟧.faults result ≡ 0 }
-    {
-        StdOut { rt, faults: 0 }
-    }
-}
-
-impl<'a, R: Print> Sink for StdOut<'a, R> {
-    ghost told = { λ _. None };
-
-    ghost faults = { λ s. s.faults };
-
-    fn put(&mut self, piece: &[u8]) -> Result<(), SinkFault> {
-        match self.rt.write_all(piece) {
-            Ok(()) => Ok(()),
-            Err(_) => {
-                self.faults = self.faults.saturating_add(1);
-                Err(SinkFault)
-            }
-        }
-    }
-}
-
-/// Standard error, over a writer to it: std's own trait for it takes text alone, and what a guest writes need not
-/// be text.
-#[derive(Drop)]
-pub struct StdErr<W: Write> {
+pub struct StdStream<W: Write> {
     writer: W,
     faults: u64,
 }
 
-impl<W: Write> StdErr<W> {
-    /// The writer, as `rt.stderr()`, with no fault so far.
-    pub fn new(writer: W) -> StdErr<W>
-        ensures { ⟦<StdErr<W> as Sink>⟧.faults result ≡ 0 }
+/// Standard output, over `rt.stdout()`.
+pub type StdOut<W> = StdStream<W>;
+
+/// Standard error, over `rt.stderr()`.
+pub type StdErr<W> = StdStream<W>;
+
+impl<W: Write> StdStream<W> {
+    /// A stream over a writer, with no fault so far.
+    pub fn new(writer: W) -> StdStream<W>
+        ensures writer { written W.contents result ≡ W.contents writer }
+        ensures faults { ⟦<StdStream<W> as Sink>⟧.faults result ≡ 0 }
     {
-        StdErr { writer, faults: 0 }
+        StdStream { writer, faults: 0 }
     }
 }
 
-impl<W: Write> Sink for StdErr<W> {
+impl<W: Write> Sink for StdStream<W> {
     // A writer of which nothing is known may come to be known at any call, so it is no sink that tells.
     ghost told = { λ _. None };
 
     ghost faults = { λ s. s.faults };
 
-    /// Where it is known what the writer holds, that grew by the piece.
+    /// Where it is known what the writer holds, that grew by the piece. The count of faults rises by one at a fault,
+    /// and at no other call.
     fn put(&mut self, piece: &[u8]) -> Result<(), SinkFault>
         ensures written { OnOk result (Appends (written W.contents self.old) (written W.contents self.new) piece.now) }
+        ensures steady { OnOk result (⟦<StdStream<W> as Sink>⟧.faults self.new ≡ ⟦<StdStream<W> as Sink>⟧.faults self.old) }
+        ensures counted { OnErr result (⟦<StdStream<W> as Sink>⟧.faults self.new ≡ counted (⟦<StdStream<W> as Sink>⟧.faults self.old)) }
 
         // As of every sink.
-        ensures cause { HasCause (⟦<StdErr<W> as Sink>⟧.faults self.old) (⟦<StdErr<W> as Sink>⟧.faults self.new) result }
+        ensures cause { HasCause (⟦<StdStream<W> as Sink>⟧.faults self.old) (⟦<StdStream<W> as Sink>⟧.faults self.new) result }
     {
         match self.writer.write_all(piece) {
             Ok(()) => Ok(()),
@@ -100,13 +78,27 @@ impl<'a, R: fs::Files> StdFiles<'a, R> {
             faults: 0,
         }
     }
+
+    // Counts a fault and answers it.
+    fn fault<T>(&mut self) -> Result<T, FileError>
+        ensures answer { result ≡ Err FileError.Fault }
+        ensures count { self.new ≡ record self.old { faults = counted self.old.faults } }
+        ensures later { self.old.faults ≤ self.new.faults }
+    {
+        self.faults = self.faults.saturating_add(1);
+        Err(FileError::Fault)
+    }
 }
 
 const PIECE: usize = 4096;
 
-// What a reader gives, of which it takes at most one byte more than the limit.
-fn read_up_to<I: Read + Drop>(alloc: Global, mut input: I, limit: u64) -> Result<Vec<u8>, FileError>
-    ensures { IfOk result (λ v. length v.items ≤ limit + 1) }
+// All that a reader has left, where that is at most the limit. It takes at most one byte more.
+fn read_whole<I: Read>(alloc: Global, input: &mut I, limit: u64) -> Result<Vec<u8>, FileError>
+    ensures bytes { IfOk result (λ v. Consumes (I.remaining input.old) (I.remaining input.new) v.items) }
+    ensures end { OnOk result (IsAtEnd (I.remaining input.new)) }
+    ensures within { IfOk result (λ v. length v.items ≤ limit) }
+    ensures too_long { IsErrOf result FileError.TooLong → IfSome (I.remaining input.old) (λ had. limit < length had) }
+    ensures taken { (bs : List ℕ) × Consumes (I.remaining input.old) (I.remaining input.new) bs × (length bs ≤ limit + 1) }
 {
     let mut bytes = Vec::new(alloc);
     let mut piece = [0; PIECE];
@@ -117,11 +109,11 @@ fn read_up_to<I: Read + Drop>(alloc: Global, mut input: I, limit: u64) -> Result
             return Err(FileError::Fault);
         };
         if count == 0 {
-            break;
+            return Ok(bytes);
         }
         bytes.extend_from_slice(&piece[..count])?;
     }
-    Ok(bytes)
+    Err(FileError::TooLong)
 }
 
 impl<'a, R: fs::Files> Files for StdFiles<'a, R> {
@@ -131,30 +123,39 @@ impl<'a, R: fs::Files> Files for StdFiles<'a, R> {
 
     ghost faults = { λ s. s.faults };
 
-    /// Reads at most one byte more than the limit, however long the file is.
-    fn get(&mut self, name: &str, limit: u64) -> Result<Vec<u8>, FileError> {
-        let read = match fs::open(self.rt, name) {
-            Ok(file) => read_up_to(self.alloc, file, limit),
-            Err(_) => Err(FileError::Fault),
+    /// What a file gave, to its end, of which it takes at most one byte more than the limit. The count of faults rises
+    /// by one at a fault, and at no other answer.
+    fn get(&mut self, name: &str, limit: u64) -> Result<Vec<u8>, FileError>
+        ensures gave { IfOk result (λ v. Gave R.File.remaining v.items) }
+        ensures within { IfOk result (λ v. length v.items ≤ limit) }
+        ensures longer { IsErrOf result FileError.TooLong → GaveMore R.File.remaining limit }
+        ensures counted { IsErrOf result FileError.Fault → ⟦<StdFiles<'a, R> as Files>⟧.faults self.new ≡ counted (⟦<StdFiles<'a, R> as Files>⟧.faults self.old) }
+        ensures steady { result ≢ Err FileError.Fault → ⟦<StdFiles<'a, R> as Files>⟧.faults self.new ≡ ⟦<StdFiles<'a, R> as Files>⟧.faults self.old }
+        ensures later { ⟦<StdFiles<'a, R> as Files>⟧.faults self.old ≤ ⟦<StdFiles<'a, R> as Files>⟧.faults self.new }
+    {
+        let Ok(mut file) = fs::open(self.rt, name) else {
+            return self.fault();
         };
-        match read {
-            Ok(bytes) if bytes.len() as u64 > limit => Err(FileError::TooLong),
-            Ok(bytes) => Ok(bytes),
-            Err(FileError::Fault) => {
-                self.faults = self.faults.saturating_add(1);
-                Err(FileError::Fault)
-            }
-            Err(error) => Err(error),
+        match read_whole(self.alloc, &mut file, limit) {
+            Err(FileError::Fault) => self.fault(),
+            read => read,
         }
     }
 
-    fn set(&mut self, name: &str, bytes: &[u8]) -> Result<(), FileError> {
-        match fs::write(self.rt, name, bytes) {
+    /// A file took the bytes, or it is a fault. The count of faults rises by one at a fault, and at no other answer.
+    fn set(&mut self, name: &str, bytes: &[u8]) -> Result<(), FileError>
+        ensures took { OnOk result (Took R.File.contents bytes.now) }
+        ensures steady { OnOk result (⟦<StdFiles<'a, R> as Files>⟧.faults self.new ≡ ⟦<StdFiles<'a, R> as Files>⟧.faults self.old) }
+        ensures fault { IfErr result (λ e. e ≡ FileError.Fault) }
+        ensures counted { OnErr result (⟦<StdFiles<'a, R> as Files>⟧.faults self.new ≡ counted (⟦<StdFiles<'a, R> as Files>⟧.faults self.old)) }
+        ensures later { ⟦<StdFiles<'a, R> as Files>⟧.faults self.old ≤ ⟦<StdFiles<'a, R> as Files>⟧.faults self.new }
+    {
+        let Ok(mut file) = fs::create(self.rt, name) else {
+            return self.fault();
+        };
+        match file.write_all(bytes) {
             Ok(()) => Ok(()),
-            Err(_) => {
-                self.faults = self.faults.saturating_add(1);
-                Err(FileError::Fault)
-            }
+            Err(_) => self.fault(),
         }
     }
 }
@@ -188,7 +189,7 @@ mod tests {
 
     #[test]
     fn the_standard_sinks_take_bytes(rt: HostRuntime) {
-        assert_eq!(rt; StdOut::new(&rt).put(b"out\xff\n"), Ok(()));
+        assert_eq!(rt; StdOut::new(rt.stdout()).put(b"out\xff\n"), Ok(()));
         assert_eq!(rt; StdErr::new(rt.stderr()).put(b"err\xff\n"), Ok(()));
     }
 

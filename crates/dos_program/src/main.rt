@@ -31,7 +31,7 @@ fn run(rt: &HostRuntime) -> u8 {
     match words(rt) {
         Ok(words) => {
             let mut files = StdFiles::new(rt, alloc);
-            let mut out = StdOut::new(rt);
+            let mut out = StdOut::new(rt.stdout());
             dos_main(alloc, &words, &mut files, &mut out, &mut err)
         }
         Err(refusal) => refuse(refusal, &mut err).number(),

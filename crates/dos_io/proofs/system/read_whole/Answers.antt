@@ -1,0 +1,13 @@
+-- Where memory for them ran out, the bytes of the last read are taken too.
+use Rattle.std.proofs.Common.{◌++◌, take, arith, length-append}
+use Rattle.std.proofs.lemmas.Grind.{common_steps}
+use Rattle.std.proofs.KnownBytes.{Consumes-trans}
+use Rattle.dos_io.proofs.system.read_whole.Goals as goal
+
+pub returns-in_err-extend_from_slice-clause-taken :
+    goal.returns-in_err-extend_from_slice-clause-taken
+returns-in_err-extend_from_slice-clause-taken g c = (
+  c.loop-piece.bytes.items ++ take c.in-Ok.count c.read.new.buf,
+  Consumes-trans _ _ _ _ _ c.loop-piece.invariant.taken c.in-Ok.ensures.bytes.0,
+  simp length-append (grind (arith, common_steps)),
+)
