@@ -1,9 +1,11 @@
 -- Frames and a table set into a world. This project's own rules.
-use Rattle.std.specs.Prelude.{◌≡◌, ◌/◌, ℕ, List, [], length, false, Option, None, Some, IsSome, IfSome, All, slice_index_or}
+use Rattle.std.specs.Prelude.{◌≡◌, ◌⊎◌, ◌/◌, ℕ, Bool, List, [], length, false, Option, None, Some, IsSome, IfSome, All, slice_index_or, if◌then◌else◌}
 use Rattle.dos_world.specs.World.{World, is_free, look}
+use Rattle.dos_world.specs.Reach.{has_right, is_foreign}
+use Rattle.dos_world.specs.declared.Access.{Access}
 use Rattle.dos_world.specs.declared.Entry.{Entry}
 use Rattle.dos_world.specs.declared.Owner.TheVariants.{Free, Of}
-use Rattle.page_store.specs.Store.{Store, joined}
+use Rattle.page_store.specs.Store.{Store, joined, owner_at, with_grant}
 use Rattle.proc_table.specs.Tables.{Tables, thread_in, held_in, IsThread, IsProcess}
 
 -- the world with the bytes and owners of these frames, and the processes and threads of this table
@@ -19,6 +21,17 @@ space_in table p = elim (held_in table.processes p) [ None ↦ [] | Some h ↦ h
 -- t's entry of the page that an address lies in
 abbrev pub entry_in : Tables → ℕ → ℕ → Option Entry
 entry_in table t address = elim (thread_in table.threads t) [ None ↦ None | Some thread ↦ look (space_in table thread.process) (address / 4096) ]
+
+-- whether there is an entry, and it has the right that an access needs
+abbrev pub is_allowed : Access → Option Entry → Bool
+is_allowed access None = false
+is_allowed access (Some e) = has_right access e
+
+-- ---- changing
+
+-- the frames with one granted to t, where it is foreign
+abbrev pub with_open : Store → ℕ → ℕ → Access → Store
+with_open s frame t access = if is_foreign t access (owner_at s frame) then with_grant s frame t access else s
 
 -- ---- what calls rely on
 
@@ -43,3 +56,11 @@ pub record KeepsUses (old new : Store) : Type 0 where
   pub count : length new.owners ≡ length old.owners
   pub used : (frame : ℕ) → is_free (slice_index_or new.owners frame Free) ≡ is_free (slice_index_or old.owners frame Free)
   pub owned : (frame t : ℕ) → slice_index_or new.owners frame Free ≡ Of t → slice_index_or old.owners frame Free ≡ Of t
+
+-- What stays where t writes: all pages are home, no use came or went, and no frame became Free or another thread's than t's.
+pub record KeepsOthers (t : ℕ) (old new : Store) : Type 0 where
+  pub home : IsHome new
+  pub uses : new.uses ≡ old.uses
+  pub count : length new.owners ≡ length old.owners
+  pub used : (frame : ℕ) → is_free (slice_index_or new.owners frame Free) ≡ is_free (slice_index_or old.owners frame Free)
+  pub owned : (frame other : ℕ) → slice_index_or new.owners frame Free ≡ Of other → (other ≡ t) ⊎ (slice_index_or old.owners frame Free ≡ Of other)

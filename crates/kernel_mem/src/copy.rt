@@ -1,29 +1,30 @@
-// The bytes that a service reads from its caller's memory.
-ghost use Rattle.std.specs.Prelude.{◌≡◌, ◌<◌, ◌≤◌, ◌+◌, ◌%◌, ◌^◌, true, false, ℕ, IsSome, IfSome, is_ok, length, OnErr, Err};
+// The bytes that a service reads from its caller's memory or writes to it.
+ghost use Rattle.std.specs.Prelude.{◌≡◌, ◌<◌, ◌≤◌, ◌+◌, ◌%◌, ◌^◌, true, false, ℕ, IfSome, is_ok, length, OnErr, Err, if◌then◌else◌};
 ghost use Rattle.dos_world.specs.World.{World};
-ghost use Rattle.dos_world.specs.Kernel.{all_reach, copied_in, opened};
-ghost use Rattle.dos_world.specs.Reach.{is_foreign};
-ghost use Rattle.kernel_mem.specs.Seen.{in_world, entry_in, IsCaller, IsHome, AreMapped, KeepsUses};
-ghost use Rattle.page_store.specs.Store.{Store as Held, owner_at};
+ghost use Rattle.dos_world.specs.Kernel.{all_reach, copied_in, copied_out};
+ghost use Rattle.kernel_mem.specs.Seen.{in_world, entry_in, is_allowed, with_open, IsCaller, IsHome, AreMapped, KeepsUses, KeepsOthers};
+ghost use Rattle.page_store.specs.Store.{Store as Held};
 
-use dos_world::{Access, Entry, Owner};
+use dos_world::{Access, Entry};
 use page_store::Frames;
 use proc_table::Table;
 
-/// Whether `tid` may read each of `length` bytes from `address` on. `Err(14)` exactly where one of them isn't mapped.
-pub fn check(table: &Table, tid: u32, address: u32, length: u32) -> Result<(), u8>
+/// Whether `tid` may read each of `length` bytes from `address` on, or with `write` may write each. `Err(14)` exactly
+/// where one of them isn't mapped, or for `write` its page has no W. Addresses don't wrap at 2^32.
+pub fn check(table: &Table, tid: u32, address: u32, length: u32, write: bool) -> Result<(), u8>
     requires caller { IsCaller table.now tid }
-    requires few { length ≤ 4096 }
-    ensures reach { (w : World) (s : Held) → is_ok result ≡ all_reach (in_world w s table.now) tid address length Access.Load }
+    ensures reach { (w : World) (s : Held) → is_ok result ≡ all_reach (in_world w s table.now) tid address length (if write then Access.Store else Access.Load) }
     ensures refusal { OnErr result (result ≡ Err 14) }
 {
-    let first = (4096 - address % 4096).min(length);
-    let start = address as u64;
-    if !is_stretch_mapped(table, tid, start, first) {
-        return Err(14);
-    }
-    if !is_stretch_mapped(table, tid, start + first as u64, length - first) {
-        return Err(14);
+    let access = access_for(write);
+    let end = address as u64 + length as u64;
+    let mut next = address as u64;
+    'pages: while next < end {
+        let part = (4096 - next % 4096).min(end - next) as u32;
+        if !is_stretch_reached(table, tid, next, part, access) {
+            return Err(14);
+        }
+        next += part as u64;
     }
     Ok(())
 }
@@ -41,25 +42,49 @@ pub fn copy_in(frames: &mut Frames, table: &Table, tid: u32, address: u32, buffe
     let first = (4096 - address as usize % 4096).min(buffer.len());
     let start = address as u64;
     let (front, back) = buffer.split_at_mut(first);
-    copy_stretch(frames, table, tid, start, front);
-    copy_stretch(frames, table, tid, start + first as u64, back);
+    read_stretch(frames, table, tid, start, front);
+    read_stretch(frames, table, tid, start + first as u64, back);
 }
 
-// Whether these bytes, which lie in one page, are mapped.
-fn is_stretch_mapped(table: &Table, tid: u32, address: u64, length: u32) -> bool
+/// Writes the bytes from `address` on. Each page of them that is foreign to `tid` is granted for a store.
+pub fn copy_out(frames: &mut Frames, table: &Table, tid: u32, address: u32, bytes: &[u8])
+    requires caller { IsCaller table.now tid }
+    requires few { length bytes.now ≤ 4096 }
+    requires home { IsHome frames.old }
+    requires mapped { AreMapped table.now frames.old tid }
+    requires checked { (w : World) → all_reach (in_world w frames.old table.now) tid address (length bytes.now) Access.Store ≡ true }
+    ensures copies { (w : World) → copied_out (in_world w frames.old table.now) tid address bytes.now ≡ in_world w frames.new table.now }
+    ensures stays { KeepsOthers tid frames.old frames.new }
+{
+    let first = (4096 - address as usize % 4096).min(bytes.len());
+    let start = address as u64;
+    let (front, back) = bytes.split_at(first);
+    write_stretch(frames, table, tid, start, front);
+    write_stretch(frames, table, tid, start + first as u64, back);
+}
+
+fn access_for(write: bool) -> Access
+    ensures { result ≡ (if write then Access.Store else Access.Load) }
+{
+    if write { Access::Store } else { Access::Load }
+}
+
+// Whether an access reaches each of these bytes, at least one, which lie in one page.
+fn is_stretch_reached(table: &Table, tid: u32, address: u64, length: u32, access: Access) -> bool
     requires caller { IsCaller table.now tid }
     requires address { address < 2 ^ 33 }
     requires within { address % 4096 + length ≤ 4096 }
-    ensures { (w : World) (s : Held) → result ≡ all_reach (in_world w s table.now) tid address length Access.Load }
+    requires some { 0 < length }
+    ensures { (w : World) (s : Held) → result ≡ all_reach (in_world w s table.now) tid address length access }
 {
-    if length == 0 {
-        return true;
+    match entry_of(table, tid, address) {
+        Some(entry) => entry.has_right(access),
+        None => false,
     }
-    entry_of(table, tid, address).is_some()
 }
 
 // These bytes, which are mapped and lie in one page.
-fn copy_stretch(frames: &mut Frames, table: &Table, tid: u32, address: u64, part: &mut [u8])
+fn read_stretch(frames: &mut Frames, table: &Table, tid: u32, address: u64, part: &mut [u8])
     requires caller { IsCaller table.now tid }
     requires address { address < 2 ^ 33 }
     requires within { address % 4096 + length part.old ≤ 4096 }
@@ -72,26 +97,43 @@ fn copy_stretch(frames: &mut Frames, table: &Table, tid: u32, address: u64, part
     if part.is_empty() {
         return;
     }
-    let frame = open(frames, table, tid, address);
+    let frame = open(frames, table, tid, address, Access::Load);
     let offset = (address % 4096) as usize;
     part.copy_from_slice(&frames.lend(frame).bytes()[offset..offset + part.len()]);
 }
 
-// The frame of the page that the address lies in, granted for a load where it was foreign.
-fn open(frames: &mut Frames, table: &Table, tid: u32, address: u64) -> u32
+// These bytes, whose places may be written and lie in one page.
+fn write_stretch(frames: &mut Frames, table: &Table, tid: u32, address: u64, part: &[u8])
+    requires caller { IsCaller table.now tid }
+    requires address { address < 2 ^ 33 }
+    requires within { address % 4096 + length part.now ≤ 4096 }
+    requires home { IsHome frames.old }
+    requires mapped { AreMapped table.now frames.old tid }
+    requires checked { (w : World) → all_reach (in_world w frames.old table.now) tid address (length part.now) Access.Store ≡ true }
+    ensures copies { (w : World) → copied_out (in_world w frames.old table.now) tid address part.now ≡ in_world w frames.new table.now }
+    ensures stays { KeepsOthers tid frames.old frames.new }
+{
+    if part.is_empty() {
+        return;
+    }
+    let frame = open(frames, table, tid, address, Access::Store);
+    let offset = (address % 4096) as u32;
+    frames.lend_mut(frame).copy_from(offset, part);
+}
+
+// The frame of the page that the address lies in, granted where it was foreign.
+fn open(frames: &mut Frames, table: &Table, tid: u32, address: u64, access: Access) -> u32
     requires caller { IsCaller table.now tid }
     requires address { address < 2 ^ 33 }
     requires mapped { AreMapped table.now frames.old tid }
-    requires entry { IsSome (entry_in table.now tid address) }
+    requires allowed { is_allowed access (entry_in table.now tid address) ≡ true }
     ensures frame { IfSome (entry_in table.now tid address) (λ e. result ≡ e.frame) }
-    ensures opens { (w : World) → opened (in_world w frames.old table.now) tid address Access.Load ≡ in_world w frames.new table.now }
-    ensures own { is_foreign tid Access.Load (owner_at frames.new result) ≡ false }
-    ensures stays { KeepsUses frames.old frames.new }
+    ensures opens { frames.new ≡ with_open frames.old result tid access }
 {
     match entry_of(table, tid, address) {
         Some(entry) => {
-            if is_foreign(tid, frames.owner(entry.frame)) {
-                frames.grant(entry.frame, tid, Access::Load);
+            if frames.owner(entry.frame).is_foreign(tid, access) {
+                frames.grant(entry.frame, tid, access);
             }
             entry.frame
         }
@@ -106,14 +148,4 @@ fn entry_of(table: &Table, tid: u32, address: u64) -> Option<Entry>
 {
     let pid = table.process_of(tid);
     table.space(pid).look((address / 4096) as u32)
-}
-
-// Whether a load of `tid` is foreign in a frame of this owner.
-fn is_foreign(tid: u32, owner: Owner) -> bool
-    ensures { result ≡ is_foreign tid Access.Load owner }
-{
-    match owner {
-        Owner::Of(other) => other != tid,
-        Owner::Free | Owner::Shared => false,
-    }
 }

@@ -8,6 +8,9 @@ mod copy;
 mod drop;
 mod map;
 
-pub use copy::{check, copy_in};
+pub use copy::{check, copy_in, copy_out};
 pub use drop::drop_space;
 pub use map::map_page;
+
+#[cfg(test)]
+mod tests;
