@@ -1,6 +1,5 @@
 -- The service of a thread, from its registers to what it answers.
 use Rattle.std.proofs.Common.{◌≡◌, ℕ, List, [], Option, Some, None, IsSome, IfSome, sym, ap, ◌∙◌, append-nil}
-use Rattle.std.specs.Prelude.{Result, Ok, Err, IfOk}
 use Rattle.dos_world.specs.World.{World, Thread, Registers, get, with_thread}
 use Rattle.dos_world.specs.Play.{over, questions}
 use Rattle.dos_world.specs.Services.{Call, charged, service, service_for, built_service, services_today, call_of}
@@ -57,7 +56,3 @@ answered s mid new t named a way told out out_after err err_after is h = record 
   gives = λ q o e. ap (λ p. over [] p) (is q o e ∙ h.sends q o e);
   asks = λ q o e. ap (λ p. questions [] p) (is q o e ∙ h.sends q o e);
 }
-
-pub ok_map : {T E : Type 0} (P Q : T → Type 0) (r : Result T E) → ((x : T) → P x → Q x) → IfOk r P → IfOk r Q
-ok_map P Q (Ok x) f h = f x h
-ok_map P Q (Err e) f h = h

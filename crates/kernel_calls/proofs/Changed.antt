@@ -3,6 +3,8 @@ use Rattle.std.proofs.Common.{◌≡◌, ◌<◌, ℕ, zero, suc, List, [], ◌�
 use Rattle.dos_world.specs.Numbered.{changed, changed_at}
 use Rattle.dos_world.specs.World.{Thread, Registers, registers_by}
 use Rattle.dos_world.specs.Kernel.{answered}
+use Rattle.dos_world.specs.Services.{charged}
+use Rattle.dos_laws.proofs.Numbers.{changed_there}
 use Rattle.proc_table.specs.Tables.{Tables, IsThread, thread_in, thread_by, ran}
 
 -- two changes that agree on the thread are one
@@ -28,16 +30,13 @@ answer_set T t v old new was is =
     by None h = tt
     by (Some thread) h = ap (λ r. registers_by (λ _. r) thread) (is ∙ ap (answered v) h)
 
--- the thread that is changed
-pub thread_changed : (f : Thread → Thread) (xs : List (Option Thread)) (t : ℕ) → thread_in (changed (option_map f) xs t) t ≡ option_map f (thread_in xs t)
-thread_changed f xs zero = refl
-thread_changed f xs (suc i) = at xs i
+-- a live thread that is changed lives
+pub lives_changed : (f : Thread → Thread) (xs : List (Option Thread)) (t : ℕ) → IsThread xs t → IsThread (changed (option_map f) xs t) t
+lives_changed f xs t live = subst (λ (o : Option Thread). IsSome o) (sym (changed_there f xs t)) (by (thread_in xs t) live)
   where
-    at : (xs : List (Option Thread)) (i : ℕ) → thread_in (changed_at (option_map f) xs i) (suc i) ≡ option_map f (thread_in xs (suc i))
-    at [] i = refl
-    at (None ∷ xs) zero = refl
-    at (Some x ∷ xs) zero = refl
-    at (x ∷ xs) (suc i) = at xs i
+    by : (o : Option Thread) → IsSome o → IsSome (option_map f o)
+    by None live = live
+    by (Some thread) live = refl
 
 -- a live thread stands where one is added
 pub thread_stands : (xs ys : List (Option Thread)) (t : ℕ) → IsThread xs t → IsThread (xs ++ ys) t
@@ -49,10 +48,36 @@ thread_stands xs ys (suc i) live = at xs i live
     at (x ∷ xs) zero live = live
     at (x ∷ xs) (suc i) live = at xs i live
 
--- a thread that is set to run lives, and has its budget
-pub thread_ran : (xs : List (Option Thread)) (t : ℕ) (r : Registers) (budget : ℕ) → 0 < budget → IsThread xs t → IsThread (changed (option_map (ran r budget)) xs t) t × IfSome (thread_in (changed (option_map (ran r budget)) xs t) t) (λ thread. 0 < thread.budget)
-thread_ran xs t r budget some live = subst (λ (o : Option Thread). IsSome o × IfSome o (λ thread. 0 < thread.budget)) (sym (thread_changed (ran r budget) xs t)) (by (thread_in xs t) live)
+-- a thread that is set to run has its budget
+pub thread_ran : (xs : List (Option Thread)) (t : ℕ) (r : Registers) (budget : ℕ) → 0 < budget → IfSome (thread_in (changed (option_map (ran r budget)) xs t) t) (λ thread. 0 < thread.budget)
+thread_ran xs t r budget some = subst (λ (o : Option Thread). IfSome o (λ thread. 0 < thread.budget)) (sym (changed_there (ran r budget) xs t)) (by (thread_in xs t))
   where
-    by : (o : Option Thread) → IsSome o → IsSome (option_map (ran r budget) o) × IfSome (option_map (ran r budget) o) (λ thread. 0 < thread.budget)
-    by None live = cc
-    by (Some thread) live = (refl, some)
+    by : (o : Option Thread) → IfSome (option_map (ran r budget) o) (λ thread. 0 < thread.budget)
+    by None = tt
+    by (Some thread) = some
+
+-- ---- a change that is taken back
+
+-- threads are as they were, where the second change takes the first one back
+taken_back : (f g : Thread → Thread) (xs : List (Option Thread)) (t : ℕ) → IfSome (thread_in xs t) (λ thread. g (f thread) ≡ thread) → changed (option_map g) (changed (option_map f) xs t) t ≡ xs
+taken_back f g xs zero h = refl
+taken_back f g xs (suc i) h = at xs i h
+  where
+    at : (xs : List (Option Thread)) (i : ℕ) → IfSome (thread_in xs (suc i)) (λ thread. g (f thread) ≡ thread) → changed_at (option_map g) (changed_at (option_map f) xs i) i ≡ xs
+    at [] i h = refl
+    at (None ∷ xs) zero h = refl
+    at (Some x ∷ xs) zero h = ap (λ y. Some y ∷ xs) h
+    at (x ∷ xs) (suc i) h = ap (λ rest. x ∷ rest) (at xs i h)
+
+-- a thread that was charged, set to the registers and the budget that it had
+pub charge_taken_back : (T : Tables) (t budget : ℕ) (r : Registers) → IfSome (thread_in T.threads t) (λ thread. r ≡ thread.registers) → IfSome (thread_in T.threads t) (λ thread. budget ≡ thread.budget)
+    → thread_by (ran r budget) (thread_by charged T t) t ≡ T
+charge_taken_back T t budget r registers left =
+    ap (λ threads. with_threads threads) (taken_back charged (ran r budget) T.threads t (by (thread_in T.threads t) registers left))
+  where
+    with_threads : List (Option Thread) → Tables
+    with_threads threads = record T { threads = threads }
+
+    by : (o : Option Thread) → IfSome o (λ thread. r ≡ thread.registers) → IfSome o (λ thread. budget ≡ thread.budget) → IfSome o (λ thread. ran r budget (charged thread) ≡ thread)
+    by None registers left = tt
+    by (Some thread) registers left = ap (λ k. ran k budget thread) registers ∙ ap (λ n. ran thread.registers n thread) left

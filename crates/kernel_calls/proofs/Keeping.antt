@@ -1,34 +1,34 @@
 -- What a change of a state keeps sound, and what a sound state gives.
-use Rattle.std.proofs.Common.{◌≡◌, ◌≢◌, ℕ, zero, suc, ◌+◌, ◌-◌, ◌<◌, ◌≤◌, true, false, List, [], ◌∷◌, length, Option, Some, None, IsSome, IfSome, option_map, refl, sym, ap, ◌∙◌, subst, arith}
-use Rattle.std.proofs.lemmas.List.Elements.{All-nil}
+use Rattle.std.proofs.Common.{◌≡◌, ◌≢◌, ℕ, ◌+◌, ◌-◌, ◌<◌, ◌≤◌, true, false, List, [], length, Option, Some, None, IsSome, IfSome, option_map, refl, sym, ap, ◌∙◌, subst, arith}
 use Rattle.dos_world.specs.declared.End.{End}
-use Rattle.std.proofs.lemmas.List.Elements.{All-head, All-tail}
-use Rattle.std.specs.Prelude.{unwrap_or, slice_get, ◌^◌, All, IsFalse, ◌↔◌, slice_index_or}
+use Rattle.std.specs.Prelude.{◌^◌, All, IsFalse, ◌↔◌, slice_index_or}
 use Rattle.dos_world.specs.Numbered.{changed, numbers_of}
-use Rattle.dos_world.specs.World.{Process, Holdings, Thread, Registers, is_free, none_of, belongs_to}
+use Rattle.dos_world.specs.World.{Holdings, Thread, Registers, is_free, none_of, belongs_to}
 use Rattle.dos_world.specs.Services.{charged}
 use Rattle.dos_world.specs.ThreadCalls.{are_threads_full, ready_thread, new_registers}
-use Rattle.dos_world.specs.Lawful.{Lawful, IsThread as InRange, IsByte, IsSaved, AreRegisters}
+use Rattle.dos_world.specs.Lawful.{Lawful, IsThread as InRange, IsByte, AreRegisters}
 use Rattle.dos_world.specs.Counts.{is_mapped}
 use Rattle.dos_world.specs.declared.Owner.{Owner}
 use Rattle.dos_world.specs.declared.Owner.TheVariants.{Free, Shared, Of}
 use Rattle.dos_laws.specs.Plain.{IsPlain, IsPlainThread, IsNoPipe, HasNoPipe}
-use Rattle.dos_laws.proofs.NewThread.{lawful-with_new_thread, plain-with_new_thread, ready_is_plain}
+use Rattle.dos_laws.proofs.Numbers.{changed_there}
+use Rattle.dos_laws.proofs.NewThread.{lawful-with_new_thread, plain-with_new_thread, ready_is_plain, ready_in_range}
 use Rattle.dos_laws.proofs.RegisterRanges.{new_ranges}
 use Rattle.dos_laws.proofs.Threads.{ChangesRun, lawful-with_thread, plain-with_thread}
 use Rattle.dos_laws.proofs.Frames.{AreOwned, lawful-with_frames, plain-with_frames}
 use Rattle.dos_laws.proofs.ThreadGone.{lawful-without_thread, plain-without_thread}
 use Rattle.dos_laws.proofs.Ends.{plain_thread_awake}
 use Rattle.dos_laws.proofs.Mapped.{entry_taken, not_free, some_is, held_all}
+use Rattle.dos_laws.proofs.Services.{no_pipe_at}
 use Rattle.dos_laws.proofs.Outside.{lawful-counted, plain-counted}
 use Rattle.page_store.specs.Store.{Store, joined}
-use Rattle.proc_table.specs.Tables.{IsThread, IsProcess, thread_in, held_in, end_in, thread_by, thread_added}
+use Rattle.proc_table.specs.Tables.{IsThread, IsProcess, thread_in, held_in, end_in, thread_by, thread_added, ran}
 use Rattle.kernel_mem.specs.Seen.{IsCaller, AreMapped, KeepsUses}
-use Rattle.kernel_calls.specs.Serving.{IsSound, world_of}
+use Rattle.kernel_calls.specs.Serving.{IsSound, Stands, world_of}
 use Rattle.kernel_calls.specs.Calling.{AreAsked}
 use Rattle.kernel_calls.specs.declared.state.State.{State}
 use Rattle.kernel_calls.specs.declared.state.Asked.{Asked}
-use Rattle.kernel_calls.proofs.Changed.{thread_changed}
+use Rattle.kernel_calls.proofs.Changed.{lives_changed, charge_taken_back}
 
 -- ---- what a sound state gives
 
@@ -68,16 +68,11 @@ module _ (s : State) (sound : IsSound s) where
   pub no_pipe : (p number : ℕ) (d : Option End) → IsProcess s.table.processes p → IfSome (held_in s.table.processes p) (λ h. d ≡ end_in h number) → IsNoPipe d
   no_pipe p number d live is = by (some_is (held_in s.table.processes p) live)
     where
-      at : (ends : List (Option End)) (i : ℕ) → All IsNoPipe ends → IsNoPipe (unwrap_or (slice_get ends i) None)
-      at [] i all = tt
-      at (x ∷ ends) zero all = All-head IsNoPipe x ends all
-      at (x ∷ ends) (suc i) all = at ends i (All-tail IsNoPipe x ends all)
-
       by : (h : Holdings) × (held_in s.table.processes p ≡ Some h) → IsNoPipe d
       by found =
           let all : HasNoPipe found.0 = held_all HasNoPipe s.table.processes p found.0 (sound.plain 16).descriptors found.1 in
           let here : d ≡ end_in found.0 number = subst (λ o. IfSome o (λ (h : Holdings). d ≡ end_in h number)) found.1 is in
-          subst IsNoPipe (sym here) (at found.0.descriptors number all)
+          subst IsNoPipe (sym here) (no_pipe_at found.0.descriptors number all)
 
 -- ---- what changes keep
 
@@ -139,16 +134,6 @@ sound-counted s h sound =
 abbrev beginner : ℕ → ℕ → ℕ → ℕ → Thread
 beginner p pc sp argument = ready_thread p (new_registers pc sp argument) 0 []
 
--- a thread that begins without a mask, of a live process
-begins : (ps : List Process) (p pc sp argument : ℕ) → IsProcess ps p → pc < 2 ^ 32 → sp < 2 ^ 32 → argument < 2 ^ 32 → InRange ps (beginner p pc sp argument)
-begins ps p pc sp argument live a b c = record {
-  process = live;
-  registers = new_ranges pc sp argument a b c;
-  pending = (omega arith, refl);
-  mask = (omega arith, refl, refl);
-  saved = (omega arith, All-nil IsSaved);
-}
-
 pub sound-thread_added : (s : State) (t p pc sp argument mask : ℕ) → IsSound s → IsThread s.table.threads t → IfSome (thread_in s.table.threads t) (λ thread. p ≡ thread.process) → IfSome (thread_in s.table.threads t) (λ thread. mask ≡ thread.mask)
     → are_threads_full s.table.threads ≡ false → pc < 2 ^ 32 → sp < 2 ^ 32 → argument < 2 ^ 32
     → IsSound (record s { table = thread_added s.table (ready_thread p (new_registers pc sp argument) mask []) })
@@ -160,7 +145,7 @@ sound-thread_added s t p pc sp argument mask sound live process masked room a b 
       round = sound.round;
       room = sound.room;
       uses = sound.uses;
-      lawful = λ q low high. lawful-with_new_thread (world_of q s) (beginner p pc sp argument) room (begins s.table.processes p pc sp argument alive a b c) refl (sound.lawful q low high);
+      lawful = λ q low high. lawful-with_new_thread (world_of q s) (beginner p pc sp argument) room (ready_in_range s.table.processes p (new_registers pc sp argument) alive (new_ranges pc sp argument a b c)) refl (sound.lawful q low high);
       plain = λ q. plain-with_new_thread (world_of q s) (beginner p pc sp argument) (ready_is_plain p (new_registers pc sp argument)) (sound.plain q);
     })
   where
@@ -189,14 +174,18 @@ sound-thread_gone s t p sound live process others =
 
 pub asked_charged : (s : State) (a : Asked) → IsThread s.table.threads a.thread → IfSome (thread_in s.table.threads a.thread) (λ thread. a.process ≡ thread.process) → AreAsked (record s { table = thread_by charged s.table a.thread }) a
 asked_charged s a live process = record {
-  live = subst (λ (o : Option Thread). IsSome o) (sym (thread_changed charged s.table.threads a.thread)) (some (thread_in s.table.threads a.thread) live);
-  process = subst (λ o. IfSome o (λ (thread : Thread). a.process ≡ thread.process)) (sym (thread_changed charged s.table.threads a.thread)) (own (thread_in s.table.threads a.thread) process);
+  live = lives_changed charged s.table.threads a.thread live;
+  process = subst (λ o. IfSome o (λ (thread : Thread). a.process ≡ thread.process)) (sym (changed_there charged s.table.threads a.thread)) (own (thread_in s.table.threads a.thread) process);
 }
   where
-    some : (o : Option Thread) → IsSome o → IsSome (option_map charged o)
-    some None h = h
-    some (Some thread) h = refl
-
     own : (o : Option Thread) → IfSome o (λ thread. a.process ≡ thread.process) → IfSome (option_map charged o) (λ thread. a.process ≡ thread.process)
     own None h = tt
     own (Some thread) h = h
+
+-- What stood after the call was paid for stands, once the thread has its registers and its budget again.
+pub stands-restored : (s paid after new : State) (t budget : ℕ) (r : Registers) → IfSome (thread_in s.table.threads t) (λ thread. r ≡ thread.registers) → IfSome (thread_in s.table.threads t) (λ thread. budget ≡ thread.budget)
+    → paid ≡ record s { table = thread_by charged s.table t } → Stands paid after → new ≡ record after { table = thread_by (ran r budget) after.table t } → Stands s new
+stands-restored s paid after new t budget r registers left paid_is stood is = record {
+  table = ap (λ (x : State). x.table) is ∙ ap (λ T. thread_by (ran r budget) T t) (stood.table ∙ ap (λ (x : State). x.table) paid_is) ∙ charge_taken_back s.table t budget r registers left;
+  frames = subst (λ (f : Store). KeepsUses s.frames f) (sym (ap (λ (x : State). x.frames) is)) (subst (λ (f : Store). KeepsUses f after.frames) (ap (λ (x : State). x.frames) paid_is) stood.frames);
+}

@@ -1,18 +1,17 @@
 -- The end of a process, from a sound state.
 use Rattle.std.proofs.Common.{◌≡◌, ℕ, zero, suc, ◌+◌, ◌<◌, ◌≤◌, false, cond, List, [], ◌∷◌, map, length, Option, Some, None, IsSome, refl, sym, ap, subst, ◌∙◌, arith}
-use Rattle.std.specs.Prelude.{All, slice_index_or, nat_lt}
+use Rattle.std.specs.Prelude.{All, nat_lt}
 use Rattle.std.proofs.lemmas.List.{ext_get_or}
-use Rattle.std.specs.Prelude.{filter}
 use Rattle.dos_world.specs.Numbered.{changed, changed_at, map_from}
-use Rattle.dos_world.specs.World.{World, Life, live as alive, ended, Process, Holdings, on_holdings, holdings_of, first_thread, threads_of, with_thread, parent_of}
-use Rattle.dos_world.specs.Kernel.{process_ended, posted, pending_with, orphaned, ended_by, unless_of, without_entries, tidied, is_none_of_these}
+use Rattle.dos_world.specs.World.{World, Life, live as alive, ended, Process, Holdings, on_holdings, holdings_of, first_thread, with_thread, parent_of}
+use Rattle.dos_world.specs.Kernel.{process_ended, posted, pending_with, orphaned, ended_by, unless_of, without_entries, tidied}
 use Rattle.dos_world.specs.Counts.{uses_of, is_mapped, owner_if_mapped}
 use Rattle.dos_world.specs.declared.Owner.{Owner}
 use Rattle.dos_world.specs.declared.Owner.TheVariants.{Free}
 use Rattle.dos_laws.specs.Plain.{LawfulAndPlain}
 use Rattle.dos_laws.specs.Ends.{ended_processes}
-use Rattle.dos_laws.proofs.QuietEnds.{ends_quietly}
-use Rattle.dos_laws.proofs.Ends.{process_ended_keeps}
+use Rattle.dos_laws.proofs.QuietEnds.{closed, ends_quietly}
+use Rattle.dos_laws.proofs.Ends.{length-map_from, get_or-map_from, process_ended_keeps}
 use Rattle.dos_laws.proofs.Outside.{lawful-sent, plain-sent, plain-with_quantum}
 use Rattle.dos_laws.proofs.Mapped.{some_is}
 use Rattle.page_store.specs.Store.{Store, joined, uses_at, owner_at}
@@ -24,16 +23,7 @@ use Rattle.kernel_calls.specs.declared.state.State.{State}
 use Rattle.kernel_calls.proofs.Keeping.{lawful_now}
 use Rattle.kernel_calls.proofs.Uses.{uses-ended, mapped-used, owner-left}
 
--- ---- lists
-
-length-map_from : {A B : Type 0} (n : ℕ) (f : ℕ → A → B) (xs : List A) → length (map_from n f xs) ≡ length xs
-length-map_from n f [] = refl
-length-map_from n f (x ∷ xs) = ap suc (length-map_from (suc n) f xs)
-
-get_or-map_from : {A B : Type 0} (n : ℕ) (f : ℕ → A → B) (xs : List A) (k : ℕ) (d : A) (e : B) → k < length xs → slice_index_or (map_from n f xs) k e ≡ f (n + k) (slice_index_or xs k d)
-get_or-map_from n f [] k d e lt = absurd (omega arith)
-get_or-map_from n f (x ∷ xs) zero d e lt = ap (λ m. f m x) (omega arith)
-get_or-map_from n f (x ∷ xs) (suc k) d e lt = get_or-map_from (suc n) f xs k d e (omega arith) ∙ ap (λ m. f m (slice_index_or xs k d)) (omega arith)
+-- ---- processes
 
 -- what a process had is forgotten when it ends
 ended-changed : (f : Holdings → Holdings) (status : ℕ) (ps : List Process) (p : ℕ) → changed (ended_by status) (changed (on_holdings f) ps p) p ≡ changed (ended_by status) ps p
@@ -68,13 +58,6 @@ posted-quantum w p signal q = by (first_thread w p)
         ≡ record (elim o as (λ _. World) [ None ↦ w | Some t ↦ with_thread w t (pending_with signal) ]) { quantum = q }
     by None = refl
     by (Some t) = refl
-
-abbrev closed : World → ℕ → ℕ → World
-closed w p status = record w {
-  processes = ended_processes w.processes p status;
-  threads = map (unless_of p) w.threads;
-  sleepers = filter (is_none_of_these (threads_of w p)) w.sleepers;
-}
 
 ended-quantum : (w : World) (p status q : ℕ) → process_ended (record w { quantum = q }) p status ≡ record (process_ended w p status) { quantum = q }
 ended-quantum w p status q = posted-quantum (tidied (closed w p status)) (parent_of w p) 17 q

@@ -1,5 +1,5 @@
 -- The branches of a write, and what a service sends.
-use Rattle.std.proofs.Common.{◌≡◌, ◌≢◌, ℕ, Bool, true, false, cond, List, [], ◌++◌, Option, Some, None, IsSome, IfSome, refl, sym, ap, subst, ◌∙◌, eq-eqb, append-nil}
+use Rattle.std.proofs.Common.{◌≡◌, ◌≢◌, ℕ, Bool, true, false, cond, List, [], ◌++◌, Option, Some, None, IsSome, IfSome, refl, sym, ap, subst, ◌∙◌, eq-eqb, append-nil, take}
 use Rattle.std.specs.Prelude.{unwrap_or, slice_get}
 use Rattle.std.proofs.lemmas.Bool.{ne_eqb}
 use Rattle.dos_world.specs.World.{World, Holdings, live_process, registers_by}
@@ -10,20 +10,17 @@ use Rattle.dos_world.specs.declared.Access.TheVariants.{Load}
 use Rattle.dos_world.specs.declared.End.{End}
 use Rattle.dos_world.specs.declared.End.TheVariants.{Input, Output, Error, PipeRead, PipeWrite}
 use Rattle.dos_laws.specs.Plain.{IsNoPipe}
-use Rattle.dos_io.specs.Outside.{grown}
+use Rattle.dos_io.specs.Outside.{grown, GrewByFront}
+use Rattle.dos_io.proofs.OutsideLaws.{grown-nothing}
 use Rattle.proc_table.specs.Tables.{thread_by, end_in}
 use Rattle.kernel_mem.specs.Seen.{in_world}
-use Rattle.kernel_calls.specs.Serving.{world_of, base, sent, way_in}
-use Rattle.kernel_calls.specs.Calling.{call_in, GoesOn, Sends, IsSent, asked_count, are_readable, target_of}
+use Rattle.kernel_calls.specs.Serving.{world_of, base, sent, way_in, HaveGrown}
+use Rattle.kernel_calls.specs.Calling.{call_in, GoesOn, Sends, IsSent, HasGrown, asked_count, are_readable, target_of}
 use Rattle.kernel_calls.specs.declared.state.State.{State}
 use Rattle.kernel_calls.specs.declared.state.Asked.{Asked}
 use Rattle.kernel_calls.specs.declared.state.Served.{Served}
 use Rattle.kernel_calls.specs.declared.state.Served.TheVariants.{Went}
 use Rattle.kernel_calls.specs.declared.writing.Target.TheVariants.{Output as output_target, Error as error_target}
-
-grown_nothing : (t : Option (List ℕ)) → grown t [] ≡ t
-grown_nothing None = refl
-grown_nothing (Some t) = ap (λ xs. Some xs) (append-nil t)
 
 -- the state after an answer
 abbrev pub answering : State → ℕ → ℕ → State
@@ -53,7 +50,7 @@ module _ (s new : State) (a : Asked) (value : ℕ) (is : new ≡ answering s a.t
 pub sent-nothing : (s new : State) (a : Asked) (t : Option (List ℕ)) → asked_count a ≡ 0 → new ≡ answering s a.thread 0 → IsSent s a new t t
 sent-nothing s new a t zero is = record {
   bytes = [];
-  told_is = sym (grown_nothing t);
+  told_is = grown-nothing t;
   output = λ q o e. zero_moves write_output _ (call_in (sent o e (world_of q s)) a) zero ∙ quiet_output s new a 0 is q o e;
   error = λ q o e. zero_moves write_error _ (call_in (sent o e (world_of q s)) a) zero ∙ quiet_error s new a 0 is q o e;
 }
@@ -61,7 +58,7 @@ sent-nothing s new a t zero is = record {
 pub sent-refusal : (s new : State) (a : Asked) (t : Option (List ℕ)) → asked_count a ≢ 0 → ((q : ℕ) (o e : List ℕ) → are_readable (sent o e (world_of q s)) a ≡ false) → new ≡ answering s a.thread (minus 14) → IsSent s a new t t
 sent-refusal s new a t some none is = record {
   bytes = [];
-  told_is = sym (grown_nothing t);
+  told_is = grown-nothing t;
   output = λ q o e. moved write_output _ false (call_in (sent o e (world_of q s)) a) some (none q o e) ∙ quiet_output s new a (minus 14) is q o e;
   error = λ q o e. moved write_error _ false (call_in (sent o e (world_of q s)) a) some (none q o e) ∙ quiet_error s new a (minus 14) is q o e;
 }
@@ -125,8 +122,8 @@ pub quietly : (service : Service) (s : State) (a : Asked) (way : Served) (new : 
 quietly service s a way new t u goes = record {
   output = [];
   error = [];
-  out_is = sym (grown_nothing t);
-  err_is = sym (grown_nothing u);
+  out_is = grown-nothing t;
+  err_is = grown-nothing u;
   sends = λ q o e. goes q o e ∙ ap (λ output. done (way_in way (sent output e (world_of q new)))) (sym (append-nil o)) ∙ ap (λ error. done (way_in way (sent (o ++ []) error (world_of q new)))) (sym (append-nil e));
 }
 
@@ -137,7 +134,7 @@ sends-output service s a new t v u is h = record {
   output = h.bytes;
   error = [];
   out_is = h.told_is;
-  err_is = sym (grown_nothing u);
+  err_is = grown-nothing u;
   sends = λ q o e. is q o e ∙ h.output q o e ∙ ap (λ error. done (went (sent (o ++ h.bytes) error (world_of q new)))) (sym (append-nil e));
 }
 
@@ -146,7 +143,7 @@ pub sends-error : (service : Service) (s : State) (a : Asked) (new : State) (t u
 sends-error service s a new t u v is h = record {
   output = [];
   error = h.bytes;
-  out_is = sym (grown_nothing t);
+  out_is = grown-nothing t;
   err_is = h.told_is;
   sends = λ q o e. is q o e ∙ h.error q o e ∙ ap (λ output. done (went (sent output (e ++ h.bytes) (world_of q new)))) (sym (append-nil o));
 }
@@ -154,3 +151,16 @@ sends-error service s a new t u v is h = record {
 -- the same of a service that is the same
 pub sends-same : (one two : Service) (s : State) (a : Asked) (way : Served) (new : State) (t v u w : Option (List ℕ)) → one ≡ two → Sends two s a way new t v u w → Sends one s a way new t v u w
 sends-same one two s a way new t v u w is h = subst (λ x. Sends x s a way new t v u w) (sym is) h
+
+-- ---- where a sink fails
+
+-- by a front of a piece
+pub front_grown : (t u : Option (List ℕ)) (piece : List ℕ) → GrewByFront t u piece → HasGrown t u
+front_grown t u piece h = record { bytes = take h.0 piece; told_is = h.1 }
+
+-- the sink of the output, or that of the error output
+pub output_grown : (t v u : Option (List ℕ)) → HasGrown t v → HaveGrown t v u u
+output_grown t v u h = record { output = h.bytes; error = []; out_is = h.told_is; err_is = grown-nothing u }
+
+pub error_grown : (t u v : Option (List ℕ)) → HasGrown u v → HaveGrown t t u v
+error_grown t u v h = record { output = []; error = h.bytes; out_is = grown-nothing t; err_is = h.told_is }

@@ -1,28 +1,21 @@
 -- The uses of frames, counted again when a process has ended.
-use Rattle.std.proofs.Common.{◌≡◌, ℕ, zero, suc, ◌+◌, Bool, true, false, cond, List, [], ◌∷◌, map, Option, Some, None, refl, sym, ap, ◌∙◌, arith}
+use Rattle.std.proofs.Common.{◌≡◌, ℕ, zero, suc, ◌+◌, Bool, true, false, cond, List, [], ◌∷◌, Option, Some, None, refl, sym, ap, ◌∙◌, arith}
 use Rattle.std.specs.Prelude.{◌==◌, ◌&&◌, ◌||◌, nat_lt, count_by, sum_by}
 use Rattle.std.specs.List.{list_any}
 use Rattle.std.proofs.lemmas.List.Sums.{sum_by-cons}
 use Rattle.std.proofs.lemmas.Bool.Decides.{nat_tests}
 use Rattle.dos_world.specs.Numbered.{changed, changed_at}
 use Rattle.dos_world.specs.World.{World, Process, Holdings, holdings_of, all_holdings}
-use Rattle.dos_world.specs.Kernel.{orphaned, ended_by}
+use Rattle.dos_world.specs.Kernel.{ended_by}
 use Rattle.dos_world.specs.Counts.{uses_of, is_mapped, maps_frame}
 use Rattle.dos_world.specs.declared.Owner.{Owner}
 use Rattle.dos_world.specs.declared.Owner.TheVariants.{Free}
 use Rattle.dos_laws.specs.Ends.{ended_processes}
+use Rattle.dos_laws.proofs.EndedProcesses.{before, orphans_have}
 use Rattle.proc_table.specs.Tables.{held_in}
 use Rattle.kernel_mem.specs.Memory.{entries_of}
 
 -- ---- sums over what the live processes have
-
--- a process's holdings before those of others
-abbrev before : Option Holdings → List Holdings → List Holdings
-before o rest = elim o as (λ _. List Holdings) [ None ↦ rest | Some h ↦ h ∷ rest ]
-
-orphans_have : (p : ℕ) (ps : List Process) → all_holdings (map (orphaned p) ps) ≡ all_holdings ps
-orphans_have p [] = refl
-orphans_have p (x ∷ ps) = ap (before (holdings_of x)) (orphans_have p ps)
 
 sum_before : (f : Holdings → ℕ) (o : Option Holdings) (rest more : List Holdings) (k : ℕ) → sum_by f more ≡ sum_by f rest + k → sum_by f (before o more) ≡ sum_by f (before o rest) + k
 sum_before f None rest more k e = e

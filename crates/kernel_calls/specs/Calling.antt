@@ -98,3 +98,8 @@ pub record IsSent (old : State) (a : Asked) (new : State) (told told_after : Opt
   pub told_is : told_after ≡ grown told bytes
   pub output : (q : ℕ) (o e : List ℕ) → moves write_output (are_readable (sent o e (world_of q old)) a) (call_in (sent o e (world_of q old)) a) ≡ done (went (sent (o ++ bytes) e (world_of q new)))
   pub error : (q : ℕ) (o e : List ℕ) → moves write_error (are_readable (sent o e (world_of q old)) a) (call_in (sent o e (world_of q old)) a) ≡ done (went (sent o (e ++ bytes) (world_of q new)))
+
+-- what a sink tells is what it told, with more bytes behind it
+pub record HasGrown (told told_after : Option (List ℕ)) : Type 0 where
+  pub bytes : List ℕ
+  pub told_is : told_after ≡ grown told bytes

@@ -13,7 +13,7 @@ use Rattle.dos_io.specs.declared.shim.ShimStop.{ShimStop}
 use Rattle.dos_io.specs.declared.shim.ShimStop.TheVariants.{HostFault as host_fault, LogFull as log_full, Misfit as misfit, Memory as memory}
 use Rattle.dos_laws.specs.Plain.{IsPlain}
 use Rattle.page_store.specs.Store.{uses_at}
-use Rattle.kernel_mem.specs.Seen.{in_world, IsHome}
+use Rattle.kernel_mem.specs.Seen.{in_world, IsHome, KeepsUses}
 use Rattle.kernel_calls.specs.declared.state.State.{State}
 use Rattle.kernel_calls.specs.declared.state.Served.{Served}
 use Rattle.kernel_calls.specs.declared.state.Served.TheVariants.{Went, Waits, Yields, Gone}
@@ -102,6 +102,19 @@ pub record Asks (play : World → Play FlatServed) (old : State) (before : ShimS
   pub stopped : Stopped before question stop after
   pub out_is : out_after ≡ out
   pub err_is : err_after ≡ err
+
+-- All stands but owners: each process and thread is as it was, its registers and budget too, and so are each frame's page and uses.
+-- Owners differ at most by the grants of what was read.
+pub record Stands (old new : State) : Type 0 where
+  pub table : new.table ≡ old.table
+  pub frames : KeepsUses old.frames new.frames
+
+-- what the sinks tell is what they told, with more bytes behind it
+pub record HaveGrown (out out_after err err_after : Option (List ℕ)) : Type 0 where
+  pub output : List ℕ
+  pub error : List ℕ
+  pub out_is : out_after ≡ grown out output
+  pub err_is : err_after ≡ grown err error
 
 -- a sink's fault that ends a run comes only where that sink's count rose
 abbrev pub HasSinkCause : RunStop → (out out_after err err_after : ℕ) → Type 0

@@ -1,9 +1,10 @@
 // The services by number.
-ghost use Rattle.std.specs.Prelude.{◌≡◌, ◌<◌, IfSome, IfOk, IfErr, OnOk};
+ghost use Rattle.std.specs.Prelude.{◌≡◌, ◌<◌, IfSome, IfOk, IfErr, OnErr};
+ghost use Rattle.dos_world.specs.Lawful.{AreRegisters};
 ghost use Rattle.dos_world.specs.Services.{charged, service};
 ghost use Rattle.dos_io.specs.Shims.{HasNoEnd};
-ghost use Rattle.proc_table.specs.Tables.{IsThread, thread_by, thread_in};
-ghost use Rattle.kernel_calls.specs.Serving.{Answers, Asks, HasCauses, IsSound, shim_stop};
+ghost use Rattle.proc_table.specs.Tables.{IsThread, ran, thread_by, thread_in};
+ghost use Rattle.kernel_calls.specs.Serving.{Answers, Asks, HasCauses, HaveGrown, IsSound, Stands, shim_stop};
 ghost use Rattle.kernel_calls.specs.Calling.{AreAsked, HasSinkCauses, Sends, deed, meaning};
 
 use crate::answering::{answer, refuse};
@@ -13,10 +14,14 @@ use crate::state::{Asked, RunStop, Served, State};
 use crate::threads::{thread_exit, thread_new};
 use crate::writing::write;
 use dos_io::{Shim, Sink};
+use dos_world::Regs;
 
 /// Serves a live thread that has a budget: the service that its x17 names, which costs one of the budget.
 ///
-/// After an `Err` the run is over, and nothing is said of the state but its round.
+/// After an `Err` the run is over, and nothing is served or paid for: each process and thread is as before the call,
+/// this thread's registers and budget too. Of the frames owners alone may differ: a page whose bytes were read before
+/// the sink failed may be shared now. The shim tells no more then, and of what
+/// the sinks tell only more bytes behind it.
 pub fn serve<S: Shim, O: Sink, E: Sink>(
     state: &mut State,
     tid: u32,
@@ -29,9 +34,12 @@ pub fn serve<S: Shim, O: Sink, E: Sink>(
     requires budget { IfSome (thread_in state.old.table.threads tid) (λ thread. 0 < thread.budget) }
     requires told { HasNoEnd (S.state shim.old).told }
     ensures runs { IfOk result (λ way. Answers (λ w. service w tid) state.old (S.state shim.old).told (S.state shim.new).told way state.new (O.told out.old) (O.told out.new) (E.told err.old) (E.told err.new)) }
-    ensures sound { OnOk result (IsSound state.new) }
+    ensures sound { IsSound state.new }
+    ensures stands { OnErr result (Stands state.old state.new) }
     ensures round { state.new.round ≡ state.old.round }
     ensures asks { IfErr result (λ stop. IfSome (shim_stop stop) (λ s. Asks (λ w. service w tid) state.old (S.state shim.old) s (S.state shim.new) (O.told out.old) (O.told out.new) (E.told err.old) (E.told err.new))) }
+    ensures told { OnErr result ((S.state shim.new).told ≡ (S.state shim.old).told) }
+    ensures grows { OnErr result (HaveGrown (O.told out.old) (O.told out.new) (E.told err.old) (E.told err.new)) }
     ensures causes { HasCauses result (S.state shim.old) (S.state shim.new) (O.faults out.old) (O.faults out.new) (E.faults err.old) (E.faults err.new) }
     ensures follows { S.follows shim.old shim.new }
 {
@@ -43,8 +51,15 @@ pub fn serve<S: Shim, O: Sink, E: Sink>(
         a1: regs.get(11),
         a2: regs.get(12),
     };
+    let budget = state.table.budget(tid);
     charge(state, tid);
-    dispatch(state, service_named(regs.get(17)), &asked, out, err)
+    match dispatch(state, service_named(regs.get(17)), &asked, out, err) {
+        Ok(way) => Ok(way),
+        Err(stop) => {
+            restore(state, tid, regs, budget);
+            Err(stop)
+        }
+    }
 }
 
 // One of the thread's budget goes, and its reservation.
@@ -58,6 +73,17 @@ fn charge(state: &mut State, tid: u32)
     state.table.charge(tid);
 }
 
+// The thread's registers and budget are these again.
+fn restore(state: &mut State, tid: u32, regs: Regs, budget: u32)
+    requires sound { IsSound state.old }
+    requires live { IsThread state.old.table.threads tid }
+    requires range { AreRegisters regs }
+    ensures restores { state.new ≡ record state.old { table = thread_by (ran regs budget) state.old.table tid } }
+    ensures sound { IsSound state.new }
+{
+    state.table.set_run(tid, regs, budget);
+}
+
 // The service, once it is paid for.
 fn dispatch<O: Sink, E: Sink>(
     state: &mut State,
@@ -69,8 +95,10 @@ fn dispatch<O: Sink, E: Sink>(
     requires sound { IsSound state.old }
     requires asked { AreAsked state.old asked.now }
     ensures sends { IfOk result (λ way. Sends (meaning service) state.old asked.now way state.new (O.told out.old) (O.told out.new) (E.told err.old) (E.told err.new)) }
-    ensures sound { OnOk result (IsSound state.new) }
+    ensures sound { IsSound state.new }
+    ensures stands { OnErr result (Stands state.old state.new) }
     ensures round { state.new.round ≡ state.old.round }
+    ensures grows { OnErr result (HaveGrown (O.told out.old) (O.told out.new) (E.told err.old) (E.told err.new)) }
     ensures causes { HasSinkCauses result (O.faults out.old) (O.faults out.new) (E.faults err.old) (E.faults err.new) }
 {
     match service {
@@ -92,8 +120,10 @@ fn perform<O: Sink, E: Sink>(
     requires sound { IsSound state.old }
     requires asked { AreAsked state.old asked.now }
     ensures sends { IfOk result (λ way. Sends (deed service) state.old asked.now way state.new (O.told out.old) (O.told out.new) (E.told err.old) (E.told err.new)) }
-    ensures sound { OnOk result (IsSound state.new) }
+    ensures sound { IsSound state.new }
+    ensures stands { OnErr result (Stands state.old state.new) }
     ensures round { state.new.round ≡ state.old.round }
+    ensures grows { OnErr result (HaveGrown (O.told out.old) (O.told out.new) (E.told err.old) (E.told err.new)) }
     ensures causes { HasSinkCauses result (O.faults out.old) (O.faults out.new) (E.faults err.old) (E.faults err.new) }
 {
     match service {

@@ -47,7 +47,7 @@ fn sound_state(alloc: Global) -> Result<State, AllocError>
 
 // ---- calls
 
-// The thread is about to call a number with these arguments.
+// The thread is about to call a number with these arguments, with a word reserved and a budget of 9.
 fn prepare(state: &mut State, tid: u32, number: u32, a0: u32, a1: u32, a2: u32)
     requires sound { IsSound state.old }
     requires live { IsThread state.old.table.threads tid }
@@ -60,42 +60,61 @@ fn prepare(state: &mut State, tid: u32, number: u32, a0: u32, a1: u32, a2: u32)
     regs.set(10, a0);
     regs.set(11, a1);
     regs.set(12, a2);
+    regs.set_held(Some(0x10000));
     state.table.set_run(tid, regs, 9);
 }
 
-// A call of a thread with its number and arguments, how it leaves the thread, and what is in a0 then (0 where it is gone).
-#[derive(Clone, Copy)]
-struct Row {
-    tid: u32,
-    asking: (u32, u32, u32, u32),
-    want: (Served, i32),
+// ---- a small state and its sinks
+
+#[derive(Drop)]
+struct Bench {
+    state: State,
+    out: MemorySink,
+    err: MemorySink,
 }
 
-fn case(tid: u32, asking: (u32, u32, u32, u32), want: (Served, i32)) -> Row {
-    Row { tid, asking, want }
-}
-
-// What the call comes to. None where the thread doesn't live or the run stops.
-fn call(
-    state: &mut State,
-    row: Row,
-    out: &mut MemorySink,
-    err: &mut MemorySink,
-    alloc: Global,
-) -> Option<(Served, i32)>
-    requires { IsSound state.old }
-    ensures { IfSome result (λ _. IsSound state.new) }
+// Each sink has room for so many bytes, and fails at these puts.
+fn new_bench(alloc: Global, room: u32, failing: &[u32]) -> Result<Bench, AllocError>
+    ensures { IfOk result (λ bench. IsSound bench.state) }
 {
-    let tid = row.tid;
-    if !state.table.is_thread(tid) {
+    Ok(Bench {
+        state: sound_state(alloc)?,
+        out: MemorySink::new(alloc, room, failing)?,
+        err: MemorySink::new(alloc, room, failing)?,
+    })
+}
+
+// A thread's call: its number and its arguments.
+type Asking = (u32, u32, u32, u32);
+
+// How a call leaves its thread, and what is in a0 then (0 where the thread is gone).
+type Answer = (Served, i32);
+
+// What the call comes to. None where the thread doesn't live.
+fn call(
+    bench: &mut Bench,
+    tid: u32,
+    asking: Asking,
+    alloc: Global,
+) -> Option<Result<Answer, RunStop>>
+    requires { IsSound bench.old.state }
+    ensures { IsSound bench.new.state }
+{
+    if !bench.state.table.is_thread(tid) {
         return None;
     }
-    let (number, a0, a1, a2) = row.asking;
-    prepare(state, tid, number, a0, a1, a2);
+    let (number, a0, a1, a2) = asking;
+    prepare(&mut bench.state, tid, number, a0, a1, a2);
     let mut shim = Quiet::new(alloc);
-    match serve(state, tid, &mut shim, out, err) {
-        Ok(way) => Some((way, first_argument(state, tid))),
-        Err(_) => None,
+    match serve(
+        &mut bench.state,
+        tid,
+        &mut shim,
+        &mut bench.out,
+        &mut bench.err,
+    ) {
+        Ok(way) => Some(Ok((way, first_argument(&bench.state, tid)))),
+        Err(stop) => Some(Err(stop)),
     }
 }
 
@@ -113,24 +132,55 @@ struct WrongCall {
     place: usize,
 }
 
-// The state after these calls, one after another.
-fn run(
-    mut state: State,
-    rows: &[Row],
-    out: &mut MemorySink,
-    err: &mut MemorySink,
-    alloc: Global,
-) -> Result<State, WrongCall>
-    requires { IsSound state }
-    ensures { IfOk result (λ s. IsSound s) }
+// A thread, its call, and what that is to come to.
+type Row = (u32, Asking, Answer);
+
+// Makes these calls, one after another.
+fn run(bench: &mut Bench, rows: &[Row], alloc: Global) -> Result<(), WrongCall>
+    requires { IsSound bench.old.state }
+    ensures { IsSound bench.new.state }
 {
     for (place, row) in rows.iter().enumerate() {
-        match call(&mut state, *row, out, err, alloc) {
-            Some(answer) if answer == row.want => {}
+        let (tid, asking, want) = *row;
+        match call(bench, tid, asking, alloc) {
+            Some(Ok(answer)) if answer == want => {}
             _ => return Err(WrongCall { place }),
         }
     }
-    Ok(state)
+    Ok(())
+}
+
+// A new bench after these calls.
+fn bench_after(alloc: Global, room: u32, rows: &[Row]) -> Result<Bench, Fail>
+    ensures { IfOk result (λ bench. IsSound bench.state) }
+{
+    let mut bench = new_bench(alloc, room, &[])?;
+    run(&mut bench, rows, alloc)?;
+    Ok(bench)
+}
+
+// ---- what is looked at
+
+// What a call is paid with, and where it is answered.
+#[derive(Clone, Copy, Debug, PartialEq, Eq)]
+struct Snapshot {
+    pc: u32,
+    a0: u32,
+    held: Option<u32>,
+    budget: u32,
+}
+
+fn snapshot_of(state: &State, tid: u32) -> Option<Snapshot> {
+    if !state.table.is_thread(tid) {
+        return None;
+    }
+    let regs = state.table.regs(tid);
+    Some(Snapshot {
+        pc: regs.pc(),
+        a0: regs.get(10),
+        held: regs.held(),
+        budget: state.table.budget(tid),
+    })
 }
 
 fn owner_of(state: &State, frame: u32) -> Option<Owner> {
@@ -141,188 +191,18 @@ fn owner_of(state: &State, frame: u32) -> Option<Owner> {
     }
 }
 
-const WENT: Served = Served::Went;
-
-#[test]
-fn services_answer_by_their_numbers(rt: HostRuntime) -> Result<(), Fail> {
-    let mut out = MemorySink::new(rt.alloc(), 0, &[])?;
-    let mut err = MemorySink::new(rt.alloc(), 0, &[])?;
-    let rows = [
-        case(1, (20, 0, 0, 0), (WENT, 1)),
-        case(1, (21, 0, 0, 0), (WENT, 1)),
-        case(1, (24, 0, 0, 0), (WENT, 1)),
-        case(1, (23, 5, 0, 0), (Served::Yields, 0)),
-        // No service, or none that is built.
-        case(1, (0, 0, 0, 0), (WENT, -38)),
-        case(1, (4, 0, 0, 0), (WENT, -38)),
-        case(1, (22, 0, 0, 0), (WENT, -38)),
-        case(1, (25, 0, 0, 0), (WENT, -38)),
-        case(1, (0x1_0014, 0, 0, 0), (WENT, -38)),
-        // A new thread begins at a multiple of 4.
-        case(1, (3, 0x10002, 0, 0), (WENT, -22)),
-        case(1, (3, 0x10004, 0xefff_fff0, 7), (WENT, 2)),
-        case(2, (21, 0, 0, 0), (WENT, 2)),
-        case(2, (20, 0, 0, 0), (WENT, 1)),
-        case(1, (3, 0xffff_fffc, 0, 0), (WENT, 3)),
-        case(3, (1, 0, 0, 0), (Served::Gone, 0)),
-    ];
-    let mut state = run(
-        sound_state(rt.alloc())?,
-        &rows,
-        &mut out,
-        &mut err,
-        rt.alloc(),
-    )?;
-    assert_eq!(rt; state.round, 1);
-    if state.round == 1 {
-        count_round(&mut state);
-        let rows = [case(2, (24, 0, 0, 0), (WENT, 2))];
-        run(state, &rows, &mut out, &mut err, rt.alloc())?;
-    }
-    Ok(())
+// The owners of the two mapped pages' frames.
+fn owners(state: &State) -> (Option<Owner>, Option<Owner>) {
+    (owner_of(state, 0), owner_of(state, 1))
 }
 
-#[test]
-fn writes_go_to_output_and_error(rt: HostRuntime) -> Result<(), Fail> {
-    let mut out = MemorySink::new(rt.alloc(), 9000, &[])?;
-    let mut err = MemorySink::new(rt.alloc(), 9000, &[])?;
-    let rows = [
-        // Over the border of the two pages, and at both ends.
-        case(1, (8, 1, 0x10ffe, 4), (WENT, 4)),
-        case(1, (8, 2, 0x10000, 3), (WENT, 3)),
-        case(1, (8, 1, 0x11fff, 1), (WENT, 1)),
-        // At most 4096 bytes.
-        case(1, (8, 1, 0x10800, 0xffff_ffff), (WENT, 4096)),
-        // Neither output nor error, whatever else is wrong.
-        case(1, (8, 0, 0x10000, 1), (WENT, -9)),
-        case(1, (8, 3, 0x10000, 0), (WENT, -9)),
-        case(1, (8, 32, 0, 1), (WENT, -9)),
-        // No byte, wherever it isn't.
-        case(1, (8, 1, 0, 0), (WENT, 0)),
-        // A byte that isn't mapped: the last, the first, all of them, and at the end of the addresses.
-        case(1, (8, 1, 0x11fff, 2), (WENT, -14)),
-        case(1, (8, 1, 0xffff, 2), (WENT, -14)),
-        case(1, (8, 2, 0x12000, 1), (WENT, -14)),
-        case(1, (8, 1, 0xffff_ffff, 4096), (WENT, -14)),
-    ];
-    let state = run(
-        sound_state(rt.alloc())?,
-        &rows,
-        &mut out,
-        &mut err,
-        rt.alloc(),
-    )?;
-    assert_eq!(rt; (out.bytes().len(), err.bytes().len()), (4 + 1 + 4096, 3));
-    assert_eq!(rt; owner_of(&state, 0), Some(Owner::Of(1)));
-    Ok(())
-}
-
-#[test]
-fn what_another_thread_reads_is_shared(rt: HostRuntime) -> Result<(), Fail> {
-    let mut out = MemorySink::new(rt.alloc(), 9000, &[])?;
-    let mut err = MemorySink::new(rt.alloc(), 9000, &[])?;
-    let rows = [
-        case(1, (3, 0x10004, 0, 0), (WENT, 2)),
-        case(2, (8, 1, 0x10000, 4096), (WENT, 4096)),
-    ];
-    let state = run(
-        sound_state(rt.alloc())?,
-        &rows,
-        &mut out,
-        &mut err,
-        rt.alloc(),
-    )?;
-    assert_eq!(rt; owner_of(&state, 0), Some(Owner::Shared));
-    assert_eq!(rt; owner_of(&state, 1), Some(Owner::Of(1)));
-    Ok(())
-}
-
-#[test]
-fn at_most_64_threads_live(rt: HostRuntime) -> Result<(), Fail> {
-    let mut state = sound_state(rt.alloc())?;
-    let mut out = MemorySink::new(rt.alloc(), 0, &[])?;
-    let mut err = MemorySink::new(rt.alloc(), 0, &[])?;
-    for tid in 2..65 {
-        let rows = [case(tid - 1, (3, 0x10004, 0, 0), (WENT, tid.cast_signed()))];
-        state = run(state, &rows, &mut out, &mut err, rt.alloc())?;
-    }
-    let rows = [
-        case(1, (3, 0x10004, 0, 0), (WENT, -11)),
-        case(1, (3, 0x10002, 0, 0), (WENT, -22)),
-        case(40, (1, 0, 0, 0), (Served::Gone, 0)),
-        case(1, (3, 0x10004, 0, 0), (WENT, 65)),
-        case(65, (3, 0x10004, 0, 0), (WENT, -11)),
-    ];
-    let state = run(state, &rows, &mut out, &mut err, rt.alloc())?;
-    assert_eq!(rt; state.table.live_threads(), 64);
-    Ok(())
-}
-
-#[test]
-fn the_last_thread_ends_its_process(rt: HostRuntime) -> Result<(), Fail> {
-    let mut out = MemorySink::new(rt.alloc(), 0, &[])?;
-    let mut err = MemorySink::new(rt.alloc(), 0, &[])?;
-    let rows = [
-        case(1, (3, 0x10004, 0, 0), (WENT, 2)),
-        case(1, (1, 9, 0, 0), (Served::Gone, 0)),
-        case(2, (20, 0, 0, 0), (WENT, 1)),
-    ];
-    let state = run(
-        sound_state(rt.alloc())?,
-        &rows,
-        &mut out,
-        &mut err,
-        rt.alloc(),
-    )?;
-    assert_eq!(rt;
-        (state.frames.free_count(), state.table.live_processes()),
-        (14, 1)
-    );
-    let rows = [case(2, (1, 9, 0, 0), (Served::Gone, 0))];
-    let state = run(state, &rows, &mut out, &mut err, rt.alloc())?;
-    assert_eq!(rt;
-        (state.frames.free_count(), state.table.live_processes()),
-        (16, 0)
-    );
-    assert_eq!(rt; status_of(&state, 1), Some(0));
-    Ok(())
-}
-
-#[test]
-fn a_status_is_taken_modulo_256(rt: HostRuntime) -> Result<(), Fail> {
-    let mut out = MemorySink::new(rt.alloc(), 0, &[])?;
-    let mut err = MemorySink::new(rt.alloc(), 0, &[])?;
-    let rows = [
-        case(1, (3, 0x10004, 0, 0), (WENT, 2)),
-        case(2, (2, 0x1234, 0, 0), (Served::Gone, 0)),
-    ];
-    let state = run(
-        sound_state(rt.alloc())?,
-        &rows,
-        &mut out,
-        &mut err,
-        rt.alloc(),
-    )?;
-    assert_eq!(rt; status_of(&state, 1), Some(0x34));
-    assert_eq!(rt;
-        (state.table.live_threads(), state.frames.free_count()),
-        (0, 16)
-    );
-    Ok(())
-}
-
-#[test]
-fn a_sink_that_fails_stops_the_run(rt: HostRuntime) -> Result<(), Fail> {
-    for (end, stop) in [(1, RunStop::OutFault), (2, RunStop::ErrFault)] {
-        let mut state = sound_state(rt.alloc())?;
-        let mut out = MemorySink::new(rt.alloc(), 9, &[1])?;
-        let mut err = MemorySink::new(rt.alloc(), 9, &[1])?;
-        let mut shim = Quiet::new(rt.alloc());
-        prepare(&mut state, 1, 8, end, 0x10000, 3);
-        let result = serve(&mut state, 1, &mut shim, &mut out, &mut err);
-        assert_eq!(rt; result, Err(stop));
-    }
-    Ok(())
+// Free frames, live processes and live threads.
+fn standing(state: &State) -> (u32, u32, u32) {
+    (
+        state.frames.free_count(),
+        state.table.live_processes(),
+        state.table.live_threads(),
+    )
 }
 
 fn status_of(state: &State, pid: u32) -> Option<u8> {
@@ -330,4 +210,194 @@ fn status_of(state: &State, pid: u32) -> Option<u8> {
         return None;
     }
     state.table.status(pid)
+}
+
+// How many bytes the output has, and the error output.
+fn sent_counts(bench: &Bench) -> (usize, usize) {
+    (bench.out.bytes().len(), bench.err.bytes().len())
+}
+
+// ---- the services
+
+const WENT: Served = Served::Went;
+
+static SERVICES: [Row; 15] = [
+    (1, (20, 0, 0, 0), (WENT, 1)),
+    (1, (21, 0, 0, 0), (WENT, 1)),
+    (1, (24, 0, 0, 0), (WENT, 1)),
+    (1, (23, 5, 0, 0), (Served::Yields, 0)),
+    // No service, or none that is built.
+    (1, (0, 0, 0, 0), (WENT, -38)),
+    (1, (4, 0, 0, 0), (WENT, -38)),
+    (1, (22, 0, 0, 0), (WENT, -38)),
+    (1, (25, 0, 0, 0), (WENT, -38)),
+    (1, (0x1_0014, 0, 0, 0), (WENT, -38)),
+    // A new thread begins at a multiple of 4.
+    (1, (3, 0x10002, 0, 0), (WENT, -22)),
+    (1, (3, 0x10004, 0xefff_fff0, 7), (WENT, 2)),
+    (2, (21, 0, 0, 0), (WENT, 2)),
+    (2, (20, 0, 0, 0), (WENT, 1)),
+    (1, (3, 0xffff_fffc, 0, 0), (WENT, 3)),
+    (3, (1, 0, 0, 0), (Served::Gone, 0)),
+];
+
+static LATER_ROUND: [Row; 1] = [(2, (24, 0, 0, 0), (WENT, 2))];
+
+#[test]
+fn services_answer_by_their_numbers(rt: HostRuntime) -> Result<(), Fail> {
+    let mut bench = bench_after(rt.alloc(), 0, &SERVICES)?;
+    assert!(rt; bench.state.round == 1);
+    count_round(&mut bench.state);
+    run(&mut bench, &LATER_ROUND, rt.alloc())?;
+    Ok(())
+}
+
+static WRITES: [Row; 12] = [
+    // Over the border of the two pages, and at both ends.
+    (1, (8, 1, 0x10ffe, 4), (WENT, 4)),
+    (1, (8, 2, 0x10000, 3), (WENT, 3)),
+    (1, (8, 1, 0x11fff, 1), (WENT, 1)),
+    // At most 4096 bytes.
+    (1, (8, 1, 0x10800, 0xffff_ffff), (WENT, 4096)),
+    // Neither output nor error, whatever else is wrong.
+    (1, (8, 0, 0x10000, 1), (WENT, -9)),
+    (1, (8, 3, 0x10000, 0), (WENT, -9)),
+    (1, (8, 32, 0, 1), (WENT, -9)),
+    // No byte, wherever it isn't.
+    (1, (8, 1, 0, 0), (WENT, 0)),
+    // A byte that isn't mapped: the last, the first, all of them, and at the end of the addresses.
+    (1, (8, 1, 0x11fff, 2), (WENT, -14)),
+    (1, (8, 1, 0xffff, 2), (WENT, -14)),
+    (1, (8, 2, 0x12000, 1), (WENT, -14)),
+    (1, (8, 1, 0xffff_ffff, 4096), (WENT, -14)),
+];
+
+#[test]
+fn writes_go_to_output_and_error(rt: HostRuntime) -> Result<(), Fail> {
+    let bench = bench_after(rt.alloc(), 9000, &WRITES)?;
+    assert_eq!(rt; sent_counts(&bench), (4 + 1 + 4096, 3));
+    assert_eq!(rt; owners(&bench.state).0, Some(Owner::Of(1)));
+    Ok(())
+}
+
+static READ_BY_ANOTHER: [Row; 2] = [
+    (1, (3, 0x10004, 0, 0), (WENT, 2)),
+    (2, (8, 1, 0x10000, 4096), (WENT, 4096)),
+];
+
+#[test]
+fn what_another_thread_reads_is_shared(rt: HostRuntime) -> Result<(), Fail> {
+    let bench = bench_after(rt.alloc(), 9000, &READ_BY_ANOTHER)?;
+    assert_eq!(rt;
+        owners(&bench.state),
+        (Some(Owner::Shared), Some(Owner::Of(1)))
+    );
+    Ok(())
+}
+
+// Each thread starts the next, up to the 64th.
+fn start_63_threads(bench: &mut Bench, alloc: Global) -> Result<(), WrongCall>
+    requires { IsSound bench.old.state }
+    ensures { IsSound bench.new.state }
+{
+    for tid in 2..65_u32 {
+        let row = (tid - 1, (3, 0x10004, 0, 0), (WENT, tid.cast_signed()));
+        run(bench, &[row], alloc)?;
+    }
+    Ok(())
+}
+
+static FULL: [Row; 5] = [
+    (1, (3, 0x10004, 0, 0), (WENT, -11)),
+    (1, (3, 0x10002, 0, 0), (WENT, -22)),
+    (40, (1, 0, 0, 0), (Served::Gone, 0)),
+    (1, (3, 0x10004, 0, 0), (WENT, 65)),
+    (65, (3, 0x10004, 0, 0), (WENT, -11)),
+];
+
+#[test]
+fn at_most_64_threads_live(rt: HostRuntime) -> Result<(), Fail> {
+    let mut bench = new_bench(rt.alloc(), 0, &[])?;
+    start_63_threads(&mut bench, rt.alloc())?;
+    run(&mut bench, &FULL, rt.alloc())?;
+    assert_eq!(rt; bench.state.table.live_threads(), 64);
+    Ok(())
+}
+
+static FIRST_EXIT: [Row; 3] = [
+    (1, (3, 0x10004, 0, 0), (WENT, 2)),
+    (1, (1, 9, 0, 0), (Served::Gone, 0)),
+    (2, (20, 0, 0, 0), (WENT, 1)),
+];
+
+static LAST_EXIT: [Row; 1] = [(2, (1, 9, 0, 0), (Served::Gone, 0))];
+
+#[test]
+fn the_last_thread_ends_its_process(rt: HostRuntime) -> Result<(), Fail> {
+    let mut bench = bench_after(rt.alloc(), 0, &FIRST_EXIT)?;
+    assert_eq!(rt; standing(&bench.state), (14, 1, 1));
+    run(&mut bench, &LAST_EXIT, rt.alloc())?;
+    assert_eq!(rt; standing(&bench.state), (16, 0, 0));
+    assert_eq!(rt; status_of(&bench.state, 1), Some(0));
+    Ok(())
+}
+
+static PROCESS_EXIT: [Row; 2] = [
+    (1, (3, 0x10004, 0, 0), (WENT, 2)),
+    (2, (2, 0x1234, 0, 0), (Served::Gone, 0)),
+];
+
+#[test]
+fn a_status_is_taken_modulo_256(rt: HostRuntime) -> Result<(), Fail> {
+    let bench = bench_after(rt.alloc(), 0, &PROCESS_EXIT)?;
+    assert_eq!(rt; status_of(&bench.state, 1), Some(0x34));
+    assert_eq!(rt; standing(&bench.state), (16, 0, 0));
+    Ok(())
+}
+
+#[test]
+fn a_sink_that_fails_stops_the_run(rt: HostRuntime) -> Result<(), Fail> {
+    for (end, stop) in [(1, RunStop::OutFault), (2, RunStop::ErrFault)] {
+        let mut bench = new_bench(rt.alloc(), 9, &[1])?;
+        let answer = call(&mut bench, 1, (8, end, 0x10000, 3), rt.alloc());
+        assert_eq!(rt; answer, Some(Err(stop)));
+    }
+    Ok(())
+}
+
+static FIRST_WRITE: [Row; 2] = [
+    (1, (3, 0x10004, 0, 0), (WENT, 2)),
+    (1, (8, 1, 0x11000, 3), (WENT, 3)),
+];
+
+static SAME_WRITE: [Row; 1] = [(2, (8, 1, 0x10000, 4), (WENT, 4))];
+
+#[test]
+fn a_failed_write_leaves_its_thread(rt: HostRuntime) -> Result<(), Fail> {
+    let mut bench = new_bench(rt.alloc(), 9, &[2])?;
+    run(&mut bench, &FIRST_WRITE, rt.alloc())?;
+    let answer = call(&mut bench, 2, (8, 1, 0x10000, 4), rt.alloc());
+    assert_eq!(rt; answer, Some(Err(RunStop::OutFault)));
+    let as_before = Snapshot {
+        pc: 0x10004,
+        a0: 1,
+        held: Some(0x10000),
+        budget: 9,
+    };
+    assert_eq!(rt; snapshot_of(&bench.state, 2), Some(as_before));
+    assert_eq!(rt;
+        owners(&bench.state),
+        (Some(Owner::Shared), Some(Owner::Of(1)))
+    );
+    // The state is sound, so that the same call can be made again, and is paid for.
+    run(&mut bench, &SAME_WRITE, rt.alloc())?;
+    let paid = Snapshot {
+        pc: 0x10008,
+        a0: 4,
+        held: None,
+        budget: 8,
+    };
+    assert_eq!(rt; snapshot_of(&bench.state, 2), Some(paid));
+    assert_eq!(rt; sent_counts(&bench), (3 + 4, 0));
+    Ok(())
 }

@@ -1,5 +1,7 @@
 // The services of threads and processes that send nothing.
-ghost use Rattle.std.specs.Prelude.{◌≡◌};
+ghost use Rattle.std.specs.Prelude.{◌≡◌, ◌==◌, length};
+ghost use Rattle.dos_world.specs.Numbered.{numbers_of};
+ghost use Rattle.dos_world.specs.World.{belongs_to};
 ghost use Rattle.dos_world.specs.Services.{new_registers, thread_exit, thread_new};
 ghost use Rattle.kernel_calls.specs.Serving.{IsSound};
 ghost use Rattle.kernel_calls.specs.Calling.{AreAsked, GoesOn};
@@ -9,6 +11,7 @@ use crate::answering::{answer, refuse};
 use crate::ending::end_process;
 use crate::state::{Asked, State};
 use dos_world::Regs;
+use proc_table::Table;
 
 // How much an instruction's address is a multiple of.
 const CODE_UNIT: u32 = 4;
@@ -52,9 +55,15 @@ pub(crate) fn thread_exit(state: &mut State, asked: &Asked)
     ensures sound { IsSound state.new }
     ensures round { state.new.round ≡ state.old.round }
 {
-    if state.table.threads_of(asked.process) == 1 {
+    if has_one_thread(&state.table, asked.process) {
         end_process(state, asked.process, 0);
     } else {
         state.table.end_thread(asked.thread);
     }
+}
+
+fn has_one_thread(table: &Table, pid: u32) -> bool
+    ensures { result ≡ (length (numbers_of (belongs_to pid) table.now.threads) == 1) }
+{
+    table.threads_of(pid) == 1
 }

@@ -1,5 +1,5 @@
 // Writing to output and error.
-ghost use Rattle.std.specs.Prelude.{◌≡◌, ◌≤◌, ℕ, List, take, true, OnOk};
+ghost use Rattle.std.specs.Prelude.{◌≡◌, ◌≤◌, ℕ, List, take, true, OnErr, OnOk};
 ghost use Rattle.dos_world.specs.World.{World};
 ghost use Rattle.dos_world.specs.declared.Access.TheVariants.{Load};
 ghost use Rattle.dos_world.specs.Kernel.{all_reach, copied_in};
@@ -7,8 +7,8 @@ ghost use Rattle.dos_world.specs.Services.{write};
 ghost use Rattle.dos_io.specs.Outside.{HasCause};
 ghost use Rattle.kernel_mem.specs.Seen.{in_world, AreMapped, IsCaller, IsHome, KeepsUses};
 ghost use Rattle.page_store.specs.Store.{Store as Held};
-ghost use Rattle.kernel_calls.specs.Serving.{IsSound};
-ghost use Rattle.kernel_calls.specs.Calling.{AreAsked, HasSinkCauses, IsSent, Sends, target_of};
+ghost use Rattle.kernel_calls.specs.Serving.{HaveGrown, IsSound, Stands};
+ghost use Rattle.kernel_calls.specs.Calling.{AreAsked, HasGrown, HasSinkCauses, IsSent, Sends, target_of};
 ghost use Rattle.kernel_calls.specs.declared.state.Served.TheVariants.{Went};
 
 use crate::answering::{answer, refuse};
@@ -36,8 +36,10 @@ pub(crate) fn write<O: Sink, E: Sink>(
     requires sound { IsSound state.old }
     requires asked { AreAsked state.old asked.now }
     ensures sends { OnOk result (Sends write state.old asked.now Went state.new (O.told out.old) (O.told out.new) (E.told err.old) (E.told err.new)) }
-    ensures sound { OnOk result (IsSound state.new) }
+    ensures sound { IsSound state.new }
+    ensures stands { OnErr result (Stands state.old state.new) }
     ensures round { state.new.round ≡ state.old.round }
+    ensures grows { OnErr result (HaveGrown (O.told out.old) (O.told out.new) (E.told err.old) (E.told err.new)) }
     ensures causes { HasSinkCauses result (O.faults out.old) (O.faults out.new) (E.faults err.old) (E.faults err.new) }
 {
     match target_of(state.table.descriptor(asked.process, asked.a0)) {
@@ -72,8 +74,10 @@ fn send<S: Sink>(state: &mut State, asked: &Asked, sink: &mut S) -> Result<(), S
     requires sound { IsSound state.old }
     requires asked { AreAsked state.old asked.now }
     ensures sends { OnOk result (IsSent state.old asked.now state.new (S.told sink.old) (S.told sink.new)) }
-    ensures sound { OnOk result (IsSound state.new) }
+    ensures sound { IsSound state.new }
+    ensures stands { OnErr result (Stands state.old state.new) }
     ensures round { state.new.round ≡ state.old.round }
+    ensures grows { OnErr result (HasGrown (S.told sink.old) (S.told sink.new)) }
     ensures cause { HasCause (S.faults sink.old) (S.faults sink.new) result }
 {
     let count = asked.a2.min(4096);
@@ -81,9 +85,9 @@ fn send<S: Sink>(state: &mut State, asked: &Asked, sink: &mut S) -> Result<(), S
         answer(state, asked.thread, 0);
         return Ok(());
     }
-    match check(&state.table, asked.thread, asked.a1, count) {
+    match check(&state.table, asked.thread, asked.a1, count, false) {
         Ok(()) => {
-            fetch(state, asked, count);
+            take_in(state, asked, count);
             match sink.put(&state.buffer[..count as usize]) {
                 Ok(()) => {
                     answer(state, asked.thread, count);
@@ -100,14 +104,14 @@ fn send<S: Sink>(state: &mut State, asked: &Asked, sink: &mut S) -> Result<(), S
 }
 
 // The first bytes that a1 names, into the buffer.
-fn fetch(state: &mut State, asked: &Asked, count: u32)
+fn take_in(state: &mut State, asked: &Asked, count: u32)
     requires sound { IsSound state.old }
     requires asked { AreAsked state.old asked.now }
     requires few { count ≤ 4096 }
     requires reach { (w : World) (s : Held) → all_reach (in_world w s state.old.table) asked.now.thread asked.now.a1 count Load ≡ true }
     ensures copies { (w : World) → copied_in (in_world w state.old.frames state.old.table) asked.now.thread asked.now.a1 count ≡ (in_world w state.new.frames state.new.table, take count state.new.buffer) }
     ensures sound { IsSound state.new }
-    ensures table { state.new.table ≡ state.old.table }
+    ensures stands { Stands state.old state.new }
     ensures round { state.new.round ≡ state.old.round }
 {
     fill(

@@ -1,10 +1,13 @@
-use Rattle.std.proofs.Common.{sym, ◌∙◌, subst}
+use Rattle.std.proofs.Common.{sym, ap, ◌∙◌, subst}
+use Rattle.dos_world.specs.Services.{charged}
+use Rattle.proc_table.specs.Tables.{Tables, IsThread}
 use Rattle.kernel_calls.specs.Serving.{sent, world_of}
 use Rattle.kernel_calls.specs.Calling.{AreAsked, call_in}
 use Rattle.kernel_calls.specs.declared.state.State.{State}
 use Rattle.kernel_calls.specs.declared.state.Asked.{Asked}
-use Rattle.kernel_calls.proofs.Keeping.{asked_charged}
-use Rattle.kernel_calls.proofs.Called.{asked, called, answered, ok_map}
+use Rattle.kernel_calls.proofs.Changed.{lives_changed}
+use Rattle.kernel_calls.proofs.Keeping.{asked_charged, registers_range, stands-restored}
+use Rattle.kernel_calls.proofs.Called.{asked, called, answered}
 use Rattle.kernel_calls.proofs.serving.serve.Goals as goal
 
 pub dispatch-requires-clause-asked : goal.dispatch-requires-clause-asked
@@ -12,9 +15,22 @@ dispatch-requires-clause-asked g c =
     let a : Asked = asked c.args.tid c.process_of.result c.get.result c.get-2.result c.get-3.result in
     subst (λ (s : State). AreAsked s a) (sym c.charge.ensures.charges) (asked_charged c.args.state.now a c.requires.live c.process_of.ensures)
 
-pub returns-clause-runs : goal.returns-clause-runs
-returns-clause-runs g c =
+pub restore-requires-clause-live : goal.restore-requires-clause-live
+restore-requires-clause-live g c =
+    subst (λ (T : Tables). IsThread T.threads c.args.tid) (sym (c.in-Err.ensures.stands.table ∙ ap (λ (s : State). s.table) c.charge.ensures.charges))
+    (lives_changed charged c.args.state.now.table.threads c.args.tid c.requires.live)
+
+pub restore-requires-clause-range : goal.restore-requires-clause-range
+restore-requires-clause-range g c = registers_range c.args.state.now c.requires.sound c.args.tid c.regs.result.now c.requires.live c.regs.ensures
+
+pub returns-in-Ok-clause-runs : goal.returns-in-Ok-clause-runs
+returns-in-Ok-clause-runs g c =
     let a : Asked = asked c.args.tid c.process_of.result c.get.result c.get-2.result c.get-3.result in
-    ok_map _ _ c.dispatch.result (λ way h. answered c.args.state.now c.charge.new.state c.dispatch.new.state c.args.tid c.service_named.result a way _ _ _ _ _
+    answered c.args.state.now c.charge.new.state c.dispatch.new.state c.args.tid c.service_named.result a c.in-Ok.way _ _ _ _ _
     (λ q o e. called c.args.state.now c.charge.new.state c.args.tid c.process_of.result c.get.result c.get-2.result c.get-3.result c.get-4.result c.regs.result.now c.requires.live c.regs.ensures c.process_of.ensures c.get.ensures c.get-2.ensures c.get-3.ensures c.get-4.ensures c.charge.ensures.charges q o e
-    ∙ c.service_named.ensures (call_in (sent o e (world_of q c.charge.new.state)) a)) h) c.dispatch.ensures.sends
+    ∙ c.service_named.ensures (call_in (sent o e (world_of q c.charge.new.state)) a)) c.in-Ok.ensures.sends
+
+pub returns-in-Err-clause-stands : goal.returns-in-Err-clause-stands
+returns-in-Err-clause-stands g c =
+    stands-restored c.args.state.now c.charge.new.state c.dispatch.new.state c.restore.new.state c.args.tid c.budget-budget.result c.regs.result.now c.regs.ensures c.budget-budget.ensures
+    c.charge.ensures.charges c.in-Err.ensures.stands c.restore.ensures.restores

@@ -1,5 +1,5 @@
-use Rattle.std.proofs.Common.{◌≡◌, Bool, cond, true, length, sym, ap, ◌∙◌, subst, eq-eqb}
-use Rattle.std.specs.Prelude.{◌==◌}
+use Rattle.std.proofs.Common.{Bool, cond, length, sym, ap, ◌∙◌, subst}
+use Rattle.std.proofs.lemmas.Bool.{eqb-false}
 use Rattle.dos_world.specs.World.{World, threads_of, without_thread}
 use Rattle.dos_world.specs.Kernel.{process_ended}
 use Rattle.dos_world.specs.Play.{done}
@@ -9,13 +9,14 @@ use Rattle.kernel_calls.specs.Serving.{IsSound, sent, world_of}
 use Rattle.kernel_calls.proofs.Keeping.{sound-thread_gone}
 use Rattle.kernel_calls.proofs.threads.thread_exit.Goals as goal
 
-pub returns-then-threads_of-eq1-clause-goes_on : goal.returns-then-threads_of-eq1-clause-goes_on
-returns-then-threads_of-eq1-clause-goes_on c = λ q o e.
+pub returns-then-has_one_thread-clause-goes_on : goal.returns-then-has_one_thread-clause-goes_on
+returns-then-has_one_thread-clause-goes_on c = λ q o e.
     let w : World = sent o e (world_of q c.args.state.now) in
-    let last : (length (threads_of w c.args.asked.now.process) == 1) ≡ true = eq-eqb (length (threads_of w c.args.asked.now.process)) 1 (sym c.threads_of.ensures ∙ c.if-threads_of-eq1.true) in
-    ap (λ (b : Bool). done (gone (cond b (process_ended w c.args.asked.now.process 0) (without_thread w c.args.asked.now.thread)))) last ∙ ap (λ v. done (gone v)) (c.end_process.ensures.ends q o e)
+    ap (λ (b : Bool). done (gone (cond b (process_ended w c.args.asked.now.process 0) (without_thread w c.args.asked.now.thread)))) (sym c.has_one_thread.ensures ∙ c.if-has_one_thread.true)
+    ∙ ap (λ v. done (gone v)) (c.end_process.ensures.ends q o e)
 
-pub returns-else-threads_of-eq1-clause-sound : goal.returns-else-threads_of-eq1-clause-sound
-returns-else-threads_of-eq1-clause-sound c =
+pub returns-else-has_one_thread-clause-sound : goal.returns-else-has_one_thread-clause-sound
+returns-else-has_one_thread-clause-sound c =
     subst (λ (T : Tables). IsSound (record c.args.state.now { table = T })) (sym c.end_thread.ensures)
-    (sound-thread_gone c.args.state.now c.args.asked.now.thread c.args.asked.now.process c.requires.sound c.requires.asked.live c.requires.asked.process (λ e. c.if-threads_of-eq1.false (c.threads_of.ensures ∙ e)))
+    (sound-thread_gone c.args.state.now c.args.asked.now.thread c.args.asked.now.process c.requires.sound c.requires.asked.live c.requires.asked.process
+    (eqb-false (length (threads_of (world_of 0 c.args.state.now) c.args.asked.now.process)) 1 (sym c.has_one_thread.ensures ∙ c.if-has_one_thread.false)))

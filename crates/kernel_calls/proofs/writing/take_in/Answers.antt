@@ -1,5 +1,5 @@
 use Rattle.kernel_calls.proofs.Keeping.{mapped, sound-frames}
-use Rattle.kernel_calls.proofs.writing.fetch.Goals as goal
+use Rattle.kernel_calls.proofs.writing.take_in.Goals as goal
 
 pub fill-requires-clause-mapped : goal.fill-requires-clause-mapped
 fill-requires-clause-mapped c = mapped c.args.state.now c.requires.sound c.args.asked.now.thread
