@@ -1,20 +1,18 @@
 -- Laws of plays that go on while the state changes.
 use Rattle.std.proofs.Common.{ℕ, ◌≡◌, refl, sym, ap, ap₂, ◌∙◌, subst, List, [], ◌++◌, append-nil, append_assoc, Option, Some, None}
+use Rattle.std.specs.Prelude.{Result, Ok, Err, OnErr}
 use Rattle.dos_world.specs.World.{World}
 use Rattle.dos_world.specs.Play.{Play, done, ◌>>=◌}
 use Rattle.dos_io.specs.Outside.{grown}
+pub use Rattle.dos_io.proofs.OutsideLaws.{grown-nothing}
 use Rattle.dos_io.specs.declared.exchange.Exchange.{Exchange}
-use Rattle.kernel_calls.specs.Serving.{world_of, sent, way_in, Answers}
+use Rattle.kernel_calls.specs.Serving.{world_of, sent, way_in, Answers, HaveGrown}
 use Rattle.dos_world.specs.Services.{Served as FlatServed}
 use Rattle.kernel_calls.specs.declared.state.State.{State}
 use Rattle.kernel_calls.specs.declared.state.Served.{Served}
 use Rattle.group_rounds.specs.Goes.{GoesOn}
 use Rattle.group_rounds.specs.Going.{Telling, telling, GoesTo}
 use Rattle.group_rounds.proofs.GoesLaws.{goes-append, goes-then, goes_by}
-
-pub grown-nothing : (told : Option (List ℕ)) → told ≡ grown told []
-grown-nothing None = refl
-grown-nothing (Some bytes) = ap Some (sym (append-nil bytes))
 
 pub grown-twice : (told : Option (List ℕ)) (a b : List ℕ) → grown (grown told a) b ≡ grown told (a ++ b)
 grown-twice None a b = refl
@@ -77,3 +75,18 @@ goes_served q play old new told told_after way out out_after err err_after h = r
   error_is = h.err_is;
   goes = λ o e. goes_by h.exchanges (play (sent o e (world_of q old))) (way_in way (sent (o ++ h.output) (e ++ h.error) (world_of q new))) (h.gives q o e) (h.asks q o e);
 }
+
+-- after a play that went on, a call that failed
+pub grown_behind : {A : Type 0} (q : ℕ) (play left : World → Play A) (old new : State) (before between : Telling) (out err : Option (List ℕ))
+    → GoesTo q play old before left new between → HaveGrown between.output out between.error err → HaveGrown before.output out before.error err
+grown_behind q play left old new before between out err h k = record {
+  output = h.output ++ k.output;
+  error = h.error ++ k.error;
+  out_is = k.out_is ∙ ap (λ told. grown told k.output) h.output_is ∙ grown-twice before.output h.output k.output;
+  err_is = k.err_is ∙ ap (λ told. grown told k.error) h.error_is ∙ grown-twice before.error h.error k.error;
+}
+
+-- where it holds of all, it holds where there is an error
+pub on_err : {T E : Type 0} (result : Result T E) (P : Type 0) → P → OnErr result P
+on_err (Ok x) P holds = tt
+on_err (Err e) P holds = holds

@@ -8,3 +8,4 @@ pub mod CauseLaws
 pub mod Starters
 pub mod PhaseLaws
 pub mod RoundLaws
+pub mod Ready

@@ -11,7 +11,7 @@ use Rattle.quantum_run.specs.Alone.{alone}
 use Rattle.quantum_run.specs.Laws.{without_run}
 use Rattle.quantum_run.proofs.Own.{alone-own}
 use Rattle.round_core.specs.Rest.{rest_of, rest_if_live, serial_of}
-use Rattle.round_core.specs.Round.{with_budgets, all_alone, budgeted}
+use Rattle.round_core.specs.Round.{with_budgets, all_alone}
 use Rattle.proc_table.specs.Tables.{Tables, IsThread, thread_by, thread_in, with_budget}
 use Rattle.kernel_calls.specs.Serving.{IsSound, sent, world_of}
 use Rattle.kernel_calls.specs.declared.state.State.{State}
@@ -43,7 +43,7 @@ module _ (s : State) (table : Tables) (quantum t : ℕ) (set : table ≡ thread_
       let home = sound.home in
       subst (λ (table : Tables). IsSound (record s { table = table })) (sym set)
       (sound_like s (record s { table = thread_by (with_budget quantum) s.table t }) sound (record { home = home; round = refl; room = refl; count = refl; uses = refl; processes = refl })
-      (λ q both. record { lawful = lawful-with_thread (budgeted quantum) (budget_change quantum) (world_of q s) t both.lawful; plain = plain-with_thread (budgeted quantum) (budget_change quantum) (world_of q s) t both.plain }))
+      (λ q both. record { lawful = lawful-with_thread (with_budget quantum) (budget_change quantum) (world_of q s) t both.lawful; plain = plain-with_thread (with_budget quantum) (budget_change quantum) (world_of q s) t both.plain }))
 
   pub budget_live : (xs : List ℕ) → AreLive s.table.threads xs → AreLive table.threads xs
   budget_live xs live k d lt = subst (λ (table : Tables). IsThread table.threads (get_or xs k d)) (sym set) (lives_by (with_budget quantum) s.table.threads t (get_or xs k d) (live k d lt))

@@ -14,23 +14,24 @@ use Rattle.dos_io.specs.declared.exchange.Exchange.{Exchange}
 use Rattle.dos_io.specs.declared.exchange.Exchange.TheVariants.{Signals, Input, Clock, End}
 use Rattle.dos_io.specs.Exchanges.{question_of}
 use Rattle.dos_io.specs.Outside.{grown}
+use Rattle.dos_io.proofs.OutsideLaws.{grown-nothing}
 use Rattle.dos_io.specs.Shims.{HasNoEnd}
 use Rattle.dos_laws.specs.Plain.{IsPlain}
 use Rattle.dos_laws.proofs.Numbers.{numbers_same}
 use Rattle.dos_laws.proofs.Outside.{plain-sent}
 use Rattle.dos_laws.proofs.Quiet.{signalled_still, ripen_still}
 use Rattle.round_core.specs.Rest.{serial_of}
-use Rattle.round_core.specs.Round.{RoundEnd as FlatEnd, went, finished, stalled, is_none_of, begun, round_of, phases, counted, with_budgets, budgeted, budgets, all_alone, parallel}
-use Rattle.kernel_calls.specs.Serving.{IsSound, sent, world_of}
+use Rattle.round_core.specs.Round.{RoundEnd as FlatEnd, went, finished, stalled, is_none_of, begun, round_of, phases, counted, with_budgets, with_budget, budgets, all_alone, parallel}
+use Rattle.kernel_calls.specs.Serving.{HaveGrown, IsSound, sent, world_of}
 use Rattle.kernel_calls.specs.declared.state.State.{State}
 use Rattle.group_rounds.specs.declared.round.RoundEnd.TheVariants.{Went, Done, Stalled}
 use Rattle.group_rounds.specs.Goes.{GoesOn}
 use Rattle.group_rounds.specs.Going.{GoesTo, Telling}
 use Rattle.group_rounds.specs.Parts.{budget_in}
 use Rattle.group_rounds.specs.Phases.{ready_in}
-use Rattle.group_rounds.specs.Rounds.{RanRound, StoppedRound}
+use Rattle.group_rounds.specs.Rounds.{CutRound, RanRound, StoppedRound}
 use Rattle.group_rounds.proofs.GoesLaws.{goes-over, goes-questions}
-use Rattle.group_rounds.proofs.GoingLaws.{goes_still, goes_and, goes_behind, grown-nothing}
+use Rattle.group_rounds.proofs.GoingLaws.{goes_still, goes_and, goes_behind}
 
 -- ---- told exchanges
 
@@ -48,7 +49,7 @@ ready_kept : (w : World) (ts : List ℕ) → ready_threads (with_budgets w ts) �
 ready_kept w [] = refl
 ready_kept w (t ∷ ts) = ready_kept _ ts ∙ numbers_same _ (is_state Ready) same w.threads t
   where
-    same : (o : Option Thread) → is_state Ready (option_map (budgeted w.quantum) o) ≡ is_state Ready o
+    same : (o : Option Thread) → is_state Ready (option_map (with_budget w.quantum) o) ≡ is_state Ready o
     same None = refl
     same (Some thread) = refl
 
@@ -116,6 +117,18 @@ round_done quantum s tells none = record {
     finished_is o e = let w : World = sent o e (world_of quantum s) in
         ap (λ (b : Bool). cond b (done (finished w)) (ask (signals_question (w.rounds + 1)) w.output w.error (λ answer. begun (ripen (signalled w (posts_of answer)))))) (none_of (live_threads w) none)
 
+-- it is cut off at its first question
+pub cut_first : (quantum : ℕ) (s : State) (before after : Telling) → after.exchanges ≡ before.exchanges → after.output ≡ before.output → after.error ≡ before.error → CutRound quantum s before after
+cut_first quantum s before after told out err = record {
+  exchanges = [];
+  output = [];
+  error = [];
+  exchanges_are = told ∙ sym (append-nil before.exchanges);
+  output_is = out ∙ grown-nothing before.output;
+  error_is = err ∙ grown-nothing before.error;
+  goes = λ o e. (round_of (sent o e (world_of quantum s)), refl);
+}
+
 module _ (quantum : ℕ) (s : State) (sound : IsSound s) (live : length (numbers_of is_some s.table.threads) ≢ 0) where
   -- what the shim is asked, and what follows
   abbrev asks_first : (o e : List ℕ) → Play FlatEnd
@@ -140,6 +153,22 @@ module _ (quantum : ℕ) (s : State) (sound : IsSound s) (live : length (numbers
     asked_is = is;
     asks = λ without o e. ap (over []) (round_asks o e) ∙ ap (λ n. asks (signals_question n) o e) round_is ∙ ap₂ (λ x y. asks (signals_question s.round) x y) (sym (append-nil o)) (sym (append-nil e));
     asked_so = λ without o e. ap (questions []) (round_asks o e) ∙ ap (λ n. signals_question n ∷ []) round_is;
+  }
+
+  -- it is cut off in its phases
+  pub cut_later : (list : List Post) (before asked after : Telling) → asked.exchanges ≡ before.exchanges ++ Signals s.round list ∷ [] → asked.output ≡ before.output → asked.error ≡ before.error
+      → after.exchanges ≡ asked.exchanges → HaveGrown asked.output after.output asked.error after.error → CutRound quantum s before after
+  cut_later list before asked after told out err same more = record {
+    exchanges = Signals s.round list ∷ [];
+    output = more.output;
+    error = more.error;
+    exchanges_are = same ∙ told;
+    output_is = more.out_is ∙ ap (λ told. grown told more.output) out;
+    error_is = more.err_is ∙ ap (λ told. grown told more.error) err;
+    goes = λ o e. let left : Play FlatEnd = begun (ripen (signalled (sent o e (world_of quantum s)) list)) in (
+      left,
+      subst (λ play. GoesOn (Signals s.round list ∷ []) play left) (sym (round_asks o e)) (ap signals_question round_is, refl),
+    );
   }
 
   -- without signals the round begins in the same world

@@ -1,15 +1,16 @@
 -- What a kernel holds. This project's own rules.
-use Rattle.std.specs.Prelude.{◌≡◌, ◌≤◌, ◌-◌, Bool, false, length}
+use Rattle.std.specs.Prelude.{ℕ, ◌≡◌, ◌≤◌, ◌-◌, Bool, List, false, length}
 use Rattle.dos_world.specs.World.{World}
 use Rattle.dos_world.specs.Lawful.{IsConfig}
 use Rattle.dos_world.specs.declared.Config.{Config}
 use Rattle.kernel_calls.specs.Serving.{IsSound, world_of}
 use Rattle.kernel_calls.specs.declared.state.State.{State}
 
--- the state between two rounds, what the run was given, and whether a round has failed
+-- the state between two rounds, what the run was given, the threads that were ready as the last phases began, and whether a round has failed
 pub record Held : Type 0 where
   pub state : State
   pub config : Config
+  pub starters : List ℕ
   pub failed : Bool
 
 -- A state that a run with this configuration may have between two rounds.

@@ -1,5 +1,7 @@
 -- Why a run stops, and what a run may do to its shim and its sinks. This project's own rules.
-use Rattle.std.specs.Prelude.{ℕ, ◌≡◌, ◌≤◌, Some, None, Result, IfErr, OnOk}
+use Rattle.std.specs.Prelude.{ℕ, ◌≡◌, ◌≤◌, Bool, true, false, Option, Some, None, Result, IfErr, OnOk}
+use Rattle.dos_world.specs.declared.Question.{Question}
+use Rattle.dos_world.specs.declared.Question.TheVariants.{Signals, Input, Clock, End}
 use Rattle.dos_io.specs.Outside.{Rose}
 use Rattle.dos_io.specs.Shims.{ShimState}
 use Rattle.kernel_calls.specs.Serving.{HasSinkCause, shim_stop}
@@ -21,6 +23,14 @@ pub record HaveStood (before after : ShimState) (out out_after err err_after : �
 -- The shim stopped so, if the stop is a shim's; else it hasn't stopped.
 abbrev pub HasShimCause : RunStop → ShimState → ShimState → Type 0
 HasShimCause stop before after = elim (shim_stop stop) [ None ↦ HasNotStopped before after | Some s ↦ Rose before.stops after.stops × (after.last ≡ Some s) ]
+
+-- whether what was asked is the run's end
+abbrev pub is_end : Option Question → Bool
+is_end None = false
+is_end (Some (Signals round)) = false
+is_end (Some (Input round tid max)) = false
+is_end (Some (Clock round tid)) = false
+is_end (Some (End ending rounds)) = true
 
 -- No sink's count falls, and a stop comes only where its object's count rose.
 pub record HaveCauses {T : Type 0} (result : Result T RunStop) (before after : ShimState) (out out_after err err_after : ℕ) : Type 0 where

@@ -1,16 +1,18 @@
 // The kernel: the state, what the run was given, and who starts a round.
-ghost use Rattle.std.specs.Prelude.{◌≡◌, ◌≤◌, ◌-◌, false, is_err, length, IfErr, IfOk, IfSome, IsSome, OnOk, OnSome};
+ghost use Rattle.std.specs.Prelude.{◌≡◌, ◌≢◌, ◌≤◌, ◌-◌, [], None, false, is_err, length, IfErr, IfOk, IfSome, IsSome, OnErr, OnOk, OnSome};
 ghost use Rattle.dos_world.specs.Numbered.{numbered};
+ghost use Rattle.dos_world.specs.Play.{done};
 ghost use Rattle.dos_io.specs.Shims.{HasNoEnd};
+ghost use Rattle.round_core.specs.Rest.{serial_of};
 ghost use Rattle.proc_table.specs.Tables.{last_status};
-ghost use Rattle.kernel_calls.specs.Serving.{shim_stop};
-ghost use Rattle.group_rounds.specs.Going.{telling};
+ghost use Rattle.kernel_calls.specs.Serving.{HaveGrown, shim_stop};
+ghost use Rattle.group_rounds.specs.Going.{GoesTo, telling};
 ghost use Rattle.group_rounds.specs.Kernels.{IsBetweenRounds};
-ghost use Rattle.group_rounds.specs.Outside.{HaveCauses};
-ghost use Rattle.group_rounds.specs.Rounds.{RanRound, StoppedRound, next_round};
+ghost use Rattle.group_rounds.specs.Outside.{HaveCauses, is_end};
+ghost use Rattle.group_rounds.specs.Rounds.{CutRound, RanRound, StoppedRound, next_round, starters_after};
 
-use crate::RoundEnd;
 use crate::round::play_round;
+use crate::{RoundEnd, phases};
 use dos_io::{Shim, Sink};
 use dos_world::Config;
 use kernel_calls::{RunStop, State};
@@ -20,7 +22,8 @@ use std::marker::Model;
 // at most so many threads live
 const THREADS: usize = 64;
 
-/// A group between two rounds. Contracts see its state, its configuration and whether a round has failed.
+/// A group between two rounds. Contracts see its state, its configuration, the threads that were
+/// ready as the last phases began, and whether a round has failed.
 #[derive(Drop)]
 pub struct Kernel {
     state: State,
@@ -36,16 +39,16 @@ impl Model for Kernel {
 
     ghost Value = { Held };
 
-    ghost view = { λ k. record { state = k.state; config = k.config; failed = k.failed } };
+    ghost view = { λ k. record { state = k.state; config = k.config; starters = k.starters.items; failed = k.failed } };
 
-    ghost invariant = { λ k. (64 ≤ vec_capacity k.starters) × (k.failed ≡ false → IsBetweenRounds k.state k.config) };
+    ghost invariant = { λ k. (64 ≤ vec_capacity k.starters) × (1 ≤ k.state.round) × (k.failed ≡ false → IsBetweenRounds k.state k.config) };
 }
 
 impl Kernel {
     /// A kernel with this state.
     pub fn new(alloc: Global, state: State, config: Config) -> Result<Kernel, AllocError>
         requires { IsBetweenRounds state config }
-        ensures { IfOk result (λ k. k ≡ record { state = state; config = config; failed = false }) }
+        ensures { IfOk result (λ k. k ≡ record { state = state; config = config; starters = []; failed = false }) }
     {
         Ok(Kernel {
             state,
@@ -84,23 +87,23 @@ impl Kernel {
         self.state.table.status(pid)
     }
 
-    /// The state.
+    /// The state. Where no round has failed it is one that may stand between two rounds.
     pub fn state(&self) -> &State
-        ensures { result.now ≡ self.now.state }
+        ensures state { result.now ≡ self.now.state }
+        ensures sound { self.now.failed ≡ false → IsBetweenRounds result.now self.now.config }
     {
         &self.state
     }
 
-    /// How many rounds have been run.
+    /// How many rounds have been run. One that has failed isn't counted.
     pub fn rounds(&self) -> u32
-        requires { self.now.failed ≡ false }
         ensures { result ≡ self.now.state.round - 1 }
     {
         self.state.round - 1
     }
 }
 
-/// Runs one round. After an `Err` the kernel has failed, and nothing more is said of its state.
+/// Runs one round. After an `Err` the kernel has failed, the round isn't counted, and nothing more is said of its state.
 ///
 /// Today no signal is delivered, whatever list the shim answers.
 pub fn run_round<S: Shim, O: Sink, E: Sink>(
@@ -114,7 +117,13 @@ pub fn run_round<S: Shim, O: Sink, E: Sink>(
     requires told { HasNoEnd (S.state shim.old).told }
     ensures runs { IfOk result (λ end. RanRound kernel.old.config.quantum kernel.old.state (telling (S.state shim.old).told (O.told out.old) (E.told err.old)) end kernel.new.state (telling (S.state shim.new).told (O.told out.new) (E.told err.new))) }
     ensures asks { IfErr result (λ stop. OnSome (shim_stop stop) (StoppedRound kernel.old.config.quantum kernel.old.state (telling (S.state shim.old).told (O.told out.old) (E.told err.old)) (telling (S.state shim.new).told (O.told out.new) (E.told err.new)) (S.state shim.new).asked)) }
+    ensures cut { OnErr result (CutRound kernel.old.config.quantum kernel.old.state (telling (S.state shim.old).told (O.told out.old) (E.told err.old)) (telling (S.state shim.new).told (O.told out.new) (E.told err.new))) }
+    ensures before_end { IfErr result (λ stop. OnSome (shim_stop stop) (is_end (S.state shim.new).asked ≡ false)) }
     ensures round { IfOk result (λ end. kernel.new.state.round ≡ next_round end kernel.old.state.round) }
+    ensures starters { IfOk result (λ end. kernel.new.starters ≡ starters_after end kernel.old.state.table.threads kernel.old.starters) }
+    ensures uncounted { OnErr result (kernel.new.state.round ≡ kernel.old.state.round) }
+    ensures ready { IfOk result (λ end. end ≢ RoundEnd.Stalled) }
+    ensures sound { kernel.new.failed ≡ false → IsBetweenRounds kernel.new.state kernel.new.config }
     ensures config { kernel.new.config ≡ kernel.old.config }
     ensures failed { kernel.new.failed ≡ is_err result }
     ensures told { OnOk result (HasNoEnd (S.state shim.new).told) }
@@ -132,4 +141,34 @@ pub fn run_round<S: Shim, O: Sink, E: Sink>(
     );
     kernel.failed = result.is_err();
     result
+}
+
+/// The serial phase: the rest of each starter that still lives, one after another, each under what is left of its budget.
+///
+/// `run_round` has it as its last step. After an `Err` the kernel has failed, and nothing more is said of its state. Today
+/// no service asks the shim, so that only a sink stops it.
+pub fn serial_phase<S: Shim, O: Sink, E: Sink>(
+    kernel: &mut Kernel,
+    shim: &mut S,
+    out: &mut O,
+    err: &mut E,
+) -> Result<(), RunStop>
+    requires running { kernel.old.failed ≡ false }
+    requires told { HasNoEnd (S.state shim.old).told }
+    ensures goes { OnOk result (GoesTo kernel.old.config.quantum (λ w. serial_of w kernel.old.starters) kernel.old.state (telling (S.state shim.old).told (O.told out.old) (E.told err.old)) (λ w. done w) kernel.new.state (telling (S.state shim.new).told (O.told out.new) (E.told err.new))) }
+    ensures grows { OnErr result (HaveGrown (O.told out.old) (O.told out.new) (E.told err.old) (E.told err.new)) }
+    ensures sinks { IfErr result (λ stop. shim_stop stop ≡ None) }
+    ensures told { (S.state shim.new).told ≡ (S.state shim.old).told }
+    ensures starters { kernel.new.starters ≡ kernel.old.starters }
+    ensures round { kernel.new.state.round ≡ kernel.old.state.round }
+    ensures sound { kernel.new.failed ≡ false → IsBetweenRounds kernel.new.state kernel.new.config }
+    ensures config { kernel.new.config ≡ kernel.old.config }
+    ensures failed { kernel.new.failed ≡ is_err result }
+    ensures causes { HaveCauses result (S.state shim.old) (S.state shim.new) (O.faults out.old) (O.faults out.new) (E.faults err.old) (E.faults err.new) }
+    ensures follows { S.follows shim.old shim.new }
+{
+    let starters = kernel.starters.as_slice();
+    let served = phases::serial_phase(&mut kernel.state, starters, shim, out, err);
+    kernel.failed = served.is_err();
+    served
 }

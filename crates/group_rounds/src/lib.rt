@@ -9,7 +9,7 @@ mod part;
 mod phases;
 mod round;
 
-pub use kernel::{Kernel, run_round};
+pub use kernel::{Kernel, run_round, serial_phase};
 pub use round::{RoundEnd, run_stop};
 
 #[cfg(test)]

@@ -1,5 +1,5 @@
 // One thread's part in a round.
-ghost use Rattle.std.specs.Prelude.{◌≡◌, ◌+◌, ◌≤◌, ◌<◌, ℕ, List, true, IfOk, IfErr, OnOk, None, Err};
+ghost use Rattle.std.specs.Prelude.{◌≡◌, ◌+◌, ◌≤◌, ◌<◌, ℕ, List, true, IfOk, IfErr, OnOk, OnErr, None, Err};
 ghost use Rattle.dos_world.specs.Kernel.{process_ended};
 ghost use Rattle.dos_world.specs.Play.{done};
 ghost use Rattle.dos_world.specs.World.{registers_by, released};
@@ -9,7 +9,7 @@ ghost use Rattle.rv_exec.specs.Step.{step};
 ghost use Rattle.quantum_run.specs.Alone.{alone, emptied};
 ghost use Rattle.round_core.specs.Rest.{page_granted, process_of, rest_of};
 ghost use Rattle.proc_table.specs.Tables.{IsThread, thread_by};
-ghost use Rattle.kernel_calls.specs.Serving.{IsSound, sent, shim_stop, world_of};
+ghost use Rattle.kernel_calls.specs.Serving.{HaveGrown, IsSound, sent, shim_stop, world_of};
 ghost use Rattle.group_rounds.specs.Going.{GoesTo, telling};
 ghost use Rattle.group_rounds.specs.Outside.{HaveCauses};
 ghost use Rattle.group_rounds.specs.Parts.{KeepsCount, Ran, budget_in, goes_on_after, part_left, part_measure, turns_left};
@@ -140,7 +140,8 @@ fn take_turn<S: Shim, O: Sink, E: Sink>(
     ensures round { state.new.round ≡ state.old.round }
     ensures count { OnOk result (KeepsCount state.old state.new) }
     ensures sinks { IfErr result (λ stop. shim_stop stop ≡ None) }
-    ensures told { OnOk result ((S.state shim.new).told ≡ (S.state shim.old).told) }
+    ensures told { (S.state shim.new).told ≡ (S.state shim.old).told }
+    ensures grows { OnErr result (HaveGrown (O.told out.old) (O.told out.new) (E.told err.old) (E.told err.new)) }
     ensures causes { HaveCauses result (S.state shim.old) (S.state shim.new) (O.faults out.old) (O.faults out.new) (E.faults err.old) (E.faults err.new) }
     ensures follows { S.follows shim.old shim.new }
 {
@@ -162,7 +163,7 @@ fn take_turn<S: Shim, O: Sink, E: Sink>(
 
 /// The thread's serial part: until its budget is 0 or it waits, yields or is gone.
 ///
-/// After an `Err` nothing is said of the state. Today no service asks the shim, so that only a sink stops it.
+/// After an `Err` nothing is said of the state but its round. Today no service asks the shim, so that only a sink stops it.
 pub(crate) fn finish<S: Shim, O: Sink, E: Sink>(
     state: &mut State,
     tid: u32,
@@ -178,7 +179,8 @@ pub(crate) fn finish<S: Shim, O: Sink, E: Sink>(
     ensures round { state.new.round ≡ state.old.round }
     ensures count { OnOk result (KeepsCount state.old state.new) }
     ensures sinks { IfErr result (λ stop. shim_stop stop ≡ None) }
-    ensures told { OnOk result ((S.state shim.new).told ≡ (S.state shim.old).told) }
+    ensures told { (S.state shim.new).told ≡ (S.state shim.old).told }
+    ensures grows { OnErr result (HaveGrown (O.told out.old) (O.told out.new) (E.told err.old) (E.told err.new)) }
     ensures causes { HaveCauses result (S.state shim.old) (S.state shim.new) (O.faults out.old) (O.faults out.new) (E.faults err.old) (E.faults err.new) }
     ensures follows { S.follows shim.old shim.new }
 {

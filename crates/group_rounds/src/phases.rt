@@ -1,5 +1,5 @@
 // The phases of a round, over its starters.
-ghost use Rattle.std.specs.Prelude.{◌≡◌, ◌≤◌, ◌+◌, ◌++◌, ◌∷◌, [], ℕ, List, None, filter, is_some, length, IfErr, OnOk};
+ghost use Rattle.std.specs.Prelude.{◌≡◌, ◌≤◌, ◌+◌, ◌++◌, ◌∷◌, [], ℕ, List, None, filter, is_some, length, IfErr, OnOk, OnErr};
 ghost use Rattle.std.specs.Vec.{vec_capacity};
 ghost use Rattle.dos_world.specs.Numbered.{numbers_of};
 ghost use Rattle.dos_world.specs.Play.{done};
@@ -7,7 +7,7 @@ ghost use Rattle.dos_io.specs.Shims.{HasNoEnd};
 ghost use Rattle.round_core.specs.Rest.{rest_if_live, serial_of};
 ghost use Rattle.round_core.specs.Round.{all_alone, with_budgets};
 ghost use Rattle.proc_table.specs.Tables.{IsThread};
-ghost use Rattle.kernel_calls.specs.Serving.{IsSound, sent, shim_stop, world_of};
+ghost use Rattle.kernel_calls.specs.Serving.{HaveGrown, IsSound, sent, shim_stop, world_of};
 ghost use Rattle.group_rounds.specs.Going.{GoesTo, telling};
 ghost use Rattle.group_rounds.specs.Outside.{HaveCauses};
 ghost use Rattle.group_rounds.specs.Parts.{KeepsCount};
@@ -94,7 +94,8 @@ fn finish_if_live<S: Shim, O: Sink, E: Sink>(
     ensures round { state.new.round ≡ state.old.round }
     ensures count { OnOk result (KeepsCount state.old state.new) }
     ensures sinks { IfErr result (λ stop. shim_stop stop ≡ None) }
-    ensures told { OnOk result ((S.state shim.new).told ≡ (S.state shim.old).told) }
+    ensures told { (S.state shim.new).told ≡ (S.state shim.old).told }
+    ensures grows { OnErr result (HaveGrown (O.told out.old) (O.told out.new) (E.told err.old) (E.told err.new)) }
     ensures causes { HaveCauses result (S.state shim.old) (S.state shim.new) (O.faults out.old) (O.faults out.new) (E.faults err.old) (E.faults err.new) }
     ensures follows { S.follows shim.old shim.new }
 {
@@ -119,7 +120,8 @@ pub(crate) fn serial_phase<S: Shim, O: Sink, E: Sink>(
     ensures round { state.new.round ≡ state.old.round }
     ensures count { OnOk result (KeepsCount state.old state.new) }
     ensures sinks { IfErr result (λ stop. shim_stop stop ≡ None) }
-    ensures told { OnOk result ((S.state shim.new).told ≡ (S.state shim.old).told) }
+    ensures told { (S.state shim.new).told ≡ (S.state shim.old).told }
+    ensures grows { OnErr result (HaveGrown (O.told out.old) (O.told out.new) (E.told err.old) (E.told err.new)) }
     ensures causes { HaveCauses result (S.state shim.old) (S.state shim.new) (O.faults out.old) (O.faults out.new) (E.faults err.old) (E.faults err.new) }
     ensures follows { S.follows shim.old shim.new }
 {

@@ -1,16 +1,16 @@
 // One round.
-ghost use Rattle.std.specs.Prelude.{◌≡◌, ◌≤◌, ◌+◌, ℕ, Some, None, false, is_err, IfOk, IfErr, OnOk, OnSome};
+ghost use Rattle.std.specs.Prelude.{◌≡◌, ◌≢◌, ◌≤◌, ◌+◌, ℕ, Some, None, false, is_err, IfOk, IfErr, OnErr, OnOk, OnSome};
 ghost use Rattle.std.specs.Vec.{vec_capacity};
 ghost use Rattle.dos_world.specs.Play.{done};
 ghost use Rattle.dos_world.specs.declared.Question.TheVariants.{Signals as signals_question};
 ghost use Rattle.dos_io.specs.Shims.{HasNoEnd};
 ghost use Rattle.round_core.specs.Round.{phases, went};
-ghost use Rattle.kernel_calls.specs.Serving.{IsSound, shim_stop};
+ghost use Rattle.kernel_calls.specs.Serving.{HaveGrown, IsSound, shim_stop};
 ghost use Rattle.group_rounds.specs.Going.{GoesTo, telling};
-ghost use Rattle.group_rounds.specs.Outside.{HaveCauses};
+ghost use Rattle.group_rounds.specs.Outside.{HaveCauses, is_end};
 ghost use Rattle.group_rounds.specs.Parts.{KeepsCount};
 ghost use Rattle.group_rounds.specs.Phases.{ready_in};
-ghost use Rattle.group_rounds.specs.Rounds.{AnswersSignals, RanRound, StoppedRound, StopsRun, next_round};
+ghost use Rattle.group_rounds.specs.Rounds.{AnswersSignals, CutRound, RanRound, StoppedRound, StopsRun, next_round, starters_after};
 
 use crate::phases::{gather, parallel_phase, serial_phase, set_budgets};
 use dos_io::{Shim, ShimStop, SignalList, Sink};
@@ -23,7 +23,7 @@ pub enum RoundEnd {
     Went,
     /// No thread lived.
     Done,
-    /// Threads lived, and none of them was ready.
+    /// Threads lived, and none of them was ready. No round of today's services ends so.
     Stalled,
 }
 
@@ -70,9 +70,11 @@ fn run_phases<S: Shim, O: Sink, E: Sink>(
     ensures goes { OnOk result ((work : ℕ) × GoesTo quantum (λ w. phases w starters.now) state.old (telling (S.state shim.old).told (O.told out.old) (E.told err.old)) (λ w. done (went w work)) state.new (telling (S.state shim.new).told (O.told out.new) (E.told err.new))) }
     ensures sound { OnOk result (IsSound state.new) }
     ensures round { OnOk result (state.new.round ≡ state.old.round + 1) }
+    ensures uncounted { OnErr result (state.new.round ≡ state.old.round) }
     ensures count { OnOk result (KeepsCount state.old state.new) }
     ensures sinks { IfErr result (λ stop. shim_stop stop ≡ None) }
-    ensures told { OnOk result ((S.state shim.new).told ≡ (S.state shim.old).told) }
+    ensures told { (S.state shim.new).told ≡ (S.state shim.old).told }
+    ensures grows { OnErr result (HaveGrown (O.told out.old) (O.told out.new) (E.told err.old) (E.told err.new)) }
     ensures causes { HaveCauses result (S.state shim.old) (S.state shim.new) (O.faults out.old) (O.faults out.new) (E.faults err.old) (E.faults err.new) }
     ensures follows { S.follows shim.old shim.new }
 {
@@ -85,7 +87,7 @@ fn run_phases<S: Shim, O: Sink, E: Sink>(
 
 /// One round over the state under a quantum, its starters gathered into `starters`.
 ///
-/// After an `Err` nothing is said of the state.
+/// After an `Err` nothing is said of the state but that the round isn't counted.
 pub(crate) fn play_round<S: Shim, O: Sink, E: Sink>(
     state: &mut State,
     starters: &mut Vec<u32>,
@@ -100,9 +102,14 @@ pub(crate) fn play_round<S: Shim, O: Sink, E: Sink>(
     requires told { HasNoEnd (S.state shim.old).told }
     ensures runs { IfOk result (λ end. RanRound quantum state.old (telling (S.state shim.old).told (O.told out.old) (E.told err.old)) end state.new (telling (S.state shim.new).told (O.told out.new) (E.told err.new))) }
     ensures asks { IfErr result (λ stop. OnSome (shim_stop stop) (StoppedRound quantum state.old (telling (S.state shim.old).told (O.told out.old) (E.told err.old)) (telling (S.state shim.new).told (O.told out.new) (E.told err.new)) (S.state shim.new).asked)) }
+    ensures cut { OnErr result (CutRound quantum state.old (telling (S.state shim.old).told (O.told out.old) (E.told err.old)) (telling (S.state shim.new).told (O.told out.new) (E.told err.new))) }
+    ensures before_end { IfErr result (λ stop. OnSome (shim_stop stop) (is_end (S.state shim.new).asked ≡ false)) }
+    ensures starters { IfOk result (λ end. starters.new.items ≡ starters_after end state.old.table.threads starters.old.items) }
     ensures room { 64 ≤ vec_capacity starters.new }
     ensures sound { OnOk result (IsSound state.new) }
     ensures round { IfOk result (λ end. state.new.round ≡ next_round end state.old.round) }
+    ensures uncounted { OnErr result (state.new.round ≡ state.old.round) }
+    ensures ready { IfOk result (λ end. end ≢ RoundEnd.Stalled) }
     ensures count { OnOk result (KeepsCount state.old state.new) }
     ensures told { OnOk result (HasNoEnd (S.state shim.new).told) }
     ensures causes { HaveCauses result (S.state shim.old) (S.state shim.new) (O.faults out.old) (O.faults out.new) (E.faults err.old) (E.faults err.new) }

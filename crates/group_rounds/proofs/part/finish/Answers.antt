@@ -1,6 +1,7 @@
 use Rattle.std.proofs.Common.{◌<◌, ◌≤◌, refl, ◌∙◌, subst, arith}
 use Rattle.group_rounds.specs.Going.{telling}
-use Rattle.group_rounds.specs.Parts.{Ran, part_measure}
+use Rattle.group_rounds.specs.Parts.{Ran, part_measure, turns_left}
+use Rattle.group_rounds.proofs.GoingLaws.{grown_behind, on_err}
 use Rattle.group_rounds.proofs.CauseLaws.{stood_yet, stood_then}
 use Rattle.group_rounds.proofs.TurnLaws.{rest_begins, run_measure, goes_further, goes_out, goes_over_budget}
 use Rattle.group_rounds.proofs.part.finish.Goals as goal
@@ -31,7 +32,7 @@ loop-reason-preserved g c = record {
   count = c.in_ok-take_turn.ensures.count ∙ c.run.ensures.count ∙ c.loop-reason.invariant.count;
   goes = λ q.
       goes_further q c.args.tid c.args.state.now c.loop-reason.state c.run.new.state c.take_turn.new.state _ _ _ c.run.result c.in_ok-take_turn.field-0 c.if-not-branch.false (c.loop-reason.invariant.goes q) c.run.ensures.ran (c.in_ok-take_turn.ensures.goes q);
-  told = c.in_ok-take_turn.ensures.told ∙ c.loop-reason.invariant.told;
+  told = c.take_turn.ensures.told ∙ c.loop-reason.invariant.told;
   stood = stood_then c.in_ok-take_turn.field-0 _ _ _ _ _ _ _ _ _ c.loop-reason.invariant.stood c.in_ok-take_turn.ensures.causes;
   follows = g.met.S.Shim.transitive _ _ _ c.loop-reason.invariant.follows c.take_turn.ensures.follows;
 }
@@ -43,3 +44,8 @@ returns-then-not-branch-clause-goes g c = λ q.
 pub returns-in_default-clause-goes : goal.returns-in_default-clause-goes
 returns-in_default-clause-goes g c = λ q.
     goes_over_budget q c.args.tid c.args.state.now c.loop-reason.state c.run.new.state _ _ (c.loop-reason.invariant.goes q) (subst (Ran c.loop-reason.state c.args.tid c.run.new.state) c.in_default.is c.run.ensures.ran)
+
+pub returns-in_err-take_turn-clause-grows : goal.returns-in_err-take_turn-clause-grows
+returns-in_err-take_turn-clause-grows g c =
+    on_err c.from_residual.result _
+    (grown_behind 0 _ (turns_left c.args.tid) c.args.state.now c.loop-reason.state _ _ _ _ (c.loop-reason.invariant.goes 0) c.in_err-take_turn.ensures.grows)

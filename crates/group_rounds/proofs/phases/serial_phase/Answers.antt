@@ -1,5 +1,6 @@
 use Rattle.std.proofs.Common.{◌∙◌, refl}
 use Rattle.group_rounds.specs.Going.{telling}
+use Rattle.group_rounds.proofs.GoingLaws.{grown_behind, on_err}
 use Rattle.group_rounds.proofs.CauseLaws.{stood_yet, stood_then}
 use Rattle.group_rounds.proofs.PhaseLaws.{serial_starts, serial_next, serial_ends}
 use Rattle.group_rounds.proofs.phases.serial_phase.Goals as goal
@@ -22,10 +23,15 @@ loop-tid-preserved g c = record {
   sound = c.in_ok-finish_if_live.ensures.sound;
   round = c.finish_if_live.ensures.round ∙ c.loop-tid.invariant.round;
   count = c.in_ok-finish_if_live.ensures.count ∙ c.loop-tid.invariant.count;
-  told = c.in_ok-finish_if_live.ensures.told ∙ c.loop-tid.invariant.told;
+  told = c.finish_if_live.ensures.told ∙ c.loop-tid.invariant.told;
   stood = stood_then c.in_ok-finish_if_live.field-0 _ _ _ _ _ _ _ _ _ c.loop-tid.invariant.stood c.in_ok-finish_if_live.ensures.causes;
   follows = g.met.S.Shim.transitive _ _ _ c.loop-tid.invariant.follows c.finish_if_live.ensures.follows;
 }
 
 pub returns-clause-goes : goal.returns-clause-goes
 returns-clause-goes g c = λ q. serial_ends q c.args.state.now c.loop-tid.state _ _ c.args.starters.now c.loop-tid.tid-index c.loop-tid-test.false (c.loop-tid.invariant.goes q)
+
+pub returns-in_err-finish_if_live-clause-grows : goal.returns-in_err-finish_if_live-clause-grows
+returns-in_err-finish_if_live-clause-grows g c =
+    on_err c.from_residual.result _
+    (grown_behind 0 _ _ c.args.state.now c.loop-tid.state _ _ _ _ (c.loop-tid.invariant.goes 0) c.in_err-finish_if_live.ensures.grows)
