@@ -1,10 +1,4 @@
-mod Programs
-mod Endings
-mod Sending
-mod Threads
-mod Fitting
-mod FittingEndings
-mod Edges
-mod LawfulRuns
 mod ReportLaws
 mod RoundsRun
+mod Counting
+mod Limits

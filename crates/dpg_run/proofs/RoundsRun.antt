@@ -1,6 +1,6 @@
 -- Rounds of the kernel one after another, and the end that the shim is told.
 use Rattle.std.proofs.Common.{ℕ, suc, ◌+◌, ◌-◌, ◌≡◌, refl, sym, ap, ap₂, ◌∙◌, subst, List, [], ◌∷◌, ◌++◌, length, append-nil, append_assoc, ◌<◌, ◌≤◌, Option, None, Some, arith}
-use Rattle.std.specs.Prelude.{◌==◌, map, is_some, if◌then◌else◌, OnSome}
+use Rattle.std.specs.Prelude.{◌==◌, Bool, true, false, not, map, is_some, if◌then◌else◌, Err, OnSome}
 use Rattle.dos_world.specs.Numbered.{numbers_of}
 use Rattle.dos_world.specs.World.{World}
 use Rattle.dos_world.specs.Play.{Play, Answer, done, ask, ◌>>=◌, over, questions, gives, posts}
@@ -14,17 +14,20 @@ use Rattle.dos_io.specs.declared.exchange.Exchange.TheVariants.{End}
 use Rattle.dos_io.specs.Exchanges.{question_of, answer_of, HaveNoPosts}
 use Rattle.dos_io.specs.Outside.{grown}
 use Rattle.round_core.specs.Round.{RoundEnd as FlatEnd, went, finished, stalled, round_of}
-use Rattle.kernel_calls.specs.Serving.{world_of, sent}
+use Rattle.dos_io.specs.declared.shim.ShimStop.{ShimStop}
+use Rattle.kernel_calls.specs.Serving.{world_of, sent, shim_stop}
+use Rattle.kernel_calls.specs.declared.state.RunStop.{RunStop}
 use Rattle.kernel_calls.specs.declared.state.State.{State}
 use Rattle.group_rounds.specs.Goes.{GoesOn}
 use Rattle.group_rounds.specs.Going.{Telling}
-use Rattle.group_rounds.specs.Rounds.{RanRound, StoppedRound}
+use Rattle.group_rounds.specs.Outside.{is_end}
+use Rattle.group_rounds.specs.Rounds.{CutRound, RanRound, StoppedRound}
 use Rattle.group_rounds.specs.declared.round.RoundEnd.{RoundEnd}
 use Rattle.group_rounds.specs.declared.round.RoundEnd.TheVariants.{Went, Done, Stalled}
 use Rattle.group_rounds.proofs.GoesLaws.{goes-append, goes-then, goes-over, goes-over_more, goes-questions, goes_by, stops_by, no_posts-append}
 use Rattle.group_rounds.proofs.GoingLaws.{grown-nothing, grown-twice}
-use Rattle.dpg_run.specs.Machine.{Finish, rounds_of, rounds_from, told_end, run_from, ran as machine_ran}
-use Rattle.dpg_run.specs.Running.{RanRounds, RanGroup, StoppedGroup, finish_in}
+use Rattle.dpg_run.specs.Machine.{Finish, rounds_of, rounds_from, told_end, run_from, result_of}
+use Rattle.dpg_run.specs.Running.{CutGroup, RanRounds, RanGroup, StoppedGroup, finish_in, has_failed}
 
 -- ---- rounds so far
 
@@ -146,6 +149,28 @@ module _ (config : Config) (rounds left : ℕ) (start s : State) (before told : 
                   (goes-append some.exchanges h.exchanges (rounds_of rounds (world_of config.quantum start) 0 >>= told_end) (rounds_of (suc left) here some.work >>= told_end) (ask h.question (some.output ++ h.output) (some.error ++ h.error) next) outer inner),
             )
 
+    -- it is cut off in the round
+    pub round_cut : (after : Telling) → CutRound config.quantum s told after → CutGroup config start before after
+    round_cut after h = record {
+      exchanges = some.exchanges ++ h.exchanges;
+      output = some.output ++ h.output;
+      error = some.error ++ h.error;
+      exchanges_are = h.exchanges_are ∙ ap (λ es. es ++ h.exchanges) some.exchanges_are ∙ append_assoc before.exchanges some.exchanges h.exchanges;
+      output_is = h.output_is ∙ ap (λ told. grown told h.output) some.output_is ∙ grown-twice before.output some.output h.output;
+      error_is = h.error_is ∙ ap (λ told. grown told h.error) some.error_is ∙ grown-twice before.error some.error h.error;
+      goes = λ without.
+          let parts = no_posts-append some.exchanges h.exchanges without in
+          let at = h.goes some.output some.error in
+          let inner = goes-then h.exchanges (round_of here >>= after_round left some.work) (at.0 >>= after_round left some.work) told_end
+          (goes-then h.exchanges (round_of here) at.0 (after_round left some.work) at.1) in
+          let outer = goes-then some.exchanges (rounds_of rounds (world_of config.quantum start) 0) (rounds_of (suc left) here some.work) told_end (some.goes parts.0) in
+          let last : Play Finish = (at.0 >>= after_round left some.work) >>= told_end in (
+            last,
+            subst (λ play. GoesOn (some.exchanges ++ h.exchanges) (play >>= told_end) last) from_start
+                (goes-append some.exchanges h.exchanges (rounds_of rounds (world_of config.quantum start) 0 >>= told_end) (rounds_of (suc left) here some.work >>= told_end) last outer inner),
+          );
+    }
+
 -- no round is left
 pub rounds_over : (config : Config) (rounds : ℕ) (start s : State) (before told : Telling) (ending : Ending) → start.round ≡ 1 → rounds ≡ config.rounds
     → ending ≡ (if length (numbers_of is_some s.table.threads) == 0 then done_ending else limit_ending) → RanSome config rounds start before 0 s told → RanRounds config start before ending s told
@@ -192,6 +217,18 @@ module _ (config : Config) (start s : State) (before told : Telling) (ending : E
     asked_so = λ without. goes-questions ran.exchanges (run_from (world_of config.quantum start) config) (told_end finish) (to_end without);
   }
 
+  -- it is cut off there
+  pub end_cut : (after : Telling) → after.exchanges ≡ told.exchanges → after.output ≡ told.output → after.error ≡ told.error → CutGroup config start before after
+  end_cut after told_is out err = record {
+    exchanges = ran.exchanges;
+    output = ran.output;
+    error = ran.error;
+    exchanges_are = told_is ∙ ran.exchanges_are;
+    output_is = out ∙ ran.output_is;
+    error_is = err ∙ ran.error_is;
+    goes = λ without. (told_end finish, to_end without);
+  }
+
   -- the shim is told
   pub end_told : (after : Telling) → after.exchanges ≡ told.exchanges ++ End ending (s.round - 1) ∷ [] → after.output ≡ told.output → after.error ≡ told.error → RanGroup config start before ending s after
   end_told after told_is out err = record {
@@ -203,7 +240,7 @@ module _ (config : Config) (start s : State) (before told : Telling) (ending : E
     output_is = out ∙ ran.output_is;
     error_is = err ∙ ran.error_is;
     fits = fits;
-    ends = λ without. ap₂ machine_ran (fits without) (over_is without);
+    ends = λ without. ap₂ result_of (fits without) (over_is without);
   }
     where
       fits : HaveNoPosts (ran.exchanges ++ End ending (s.round - 1) ∷ []) → questions (map answer_of (ran.exchanges ++ End ending (s.round - 1) ∷ [])) (run_from (world_of config.quantum start) config) ≡ map question_of (ran.exchanges ++ End ending (s.round - 1) ∷ [])
@@ -235,6 +272,24 @@ round_so config other s s' before after end so same is h = subst (λ (c : Config
 
 pub stopped_so : (config other : Config) (s : State) (before after : Telling) (asked : Option Question) → other ≡ config → StoppedRound other.quantum s before after asked → StoppedRound config.quantum s before after asked
 stopped_so config other s before after asked same h = subst (λ (c : Config). StoppedRound c.quantum s before after asked) same h
+
+pub cut_so : (config other : Config) (s : State) (before after : Telling) → other ≡ config → CutRound other.quantum s before after → CutRound config.quantum s before after
+cut_so config other s before after same h = subst (λ (c : Config). CutRound c.quantum s before after) same h
+
+-- ---- whether the kernel has failed
+
+-- by a stop before the end
+pub failed_before : (stop : RunStop) (asked : Option Question) (failed : Bool) → failed ≡ true → OnSome (shim_stop stop) (is_end asked ≡ false) → failed ≡ has_failed (Err stop) asked
+failed_before stop asked failed is before = is ∙ go (shim_stop stop) before
+  where
+    go : (o : Option ShimStop) → OnSome o (is_end asked ≡ false) → true ≡ elim o as (λ _. Bool) [ None ↦ true | Some reason ↦ not (is_end asked) ]
+    go None h = refl
+    go (Some reason) h = sym (ap not h)
+
+-- not by one at the end
+pub stands_at_end : (stop : RunStop) (reason : ShimStop) (asked : Option Question) (ending : Ending) (rounds : ℕ) (failed : Bool) → failed ≡ false → shim_stop stop ≡ Some reason → asked ≡ Some (end_question ending rounds) → failed ≡ has_failed (Err stop) asked
+stands_at_end stop reason asked ending rounds failed is stopped at =
+    is ∙ sym (ap (λ (o : Option ShimStop). elim o as (λ _. Bool) [ None ↦ true | Some reason ↦ not (is_end asked) ]) stopped ∙ ap (λ a. not (is_end a)) at)
 
 -- what follows where there is one
 pub some_weaker : {A P Q : Type 0} (o : Option A) → (P → Q) → OnSome o P → OnSome o Q

@@ -2,3 +2,4 @@ pub mod Machine
 pub mod Report
 pub mod Fits
 pub mod Running
+pub mod Laws

@@ -83,13 +83,13 @@ seen asked f = record {
 }
 
 -- a run by what it comes to over its answers
-abbrev pub ran : List Question → Outcome Finish → Ran
-ran asked (gives finish rest) = ends (seen asked finish)
-ran asked (asks question output error) = needs question output error
+abbrev pub result_of : List Question → Outcome Finish → Ran
+result_of asked (gives finish rest) = ends (seen asked finish)
+result_of asked (asks question output error) = needs question output error
 
 -- the run from a world over these answers of the shim
 abbrev pub machine_from : World → Config → List Answer → Ran
-machine_from w config answers = ran (questions answers (run_from w config)) (over answers (rounds_from w config))
+machine_from w config answers = result_of (questions answers (run_from w config)) (over answers (rounds_from w config))
 
 -- the run of these images over these answers of the shim
 abbrev pub machine : List Image → Config → List Answer → Ran

@@ -1,6 +1,7 @@
 //! The run of a group of images, from its opening to its report.
 #![tactic(auto)]
 
+pub mod laws;
 mod open;
 mod report;
 mod run;

@@ -1,6 +1,6 @@
 //! The report of a run, line by line, without memory of its own.
 
-ghost use Rattle.std.specs.Prelude.{◌≡◌, false, map, OnOk, OnErr};
+ghost use Rattle.std.specs.Prelude.{◌≡◌, map, OnOk, OnErr};
 ghost use Rattle.dos_io.specs.Outside.{grown, GrewByFront, HasCause};
 ghost use Rattle.group_rounds.specs.Kernels.{kernel_world};
 ghost use Rattle.dpg_run.specs.Machine.{status_in};
@@ -79,7 +79,6 @@ pub(crate) fn put_lines<S: Sink>(
 
 /// Puts the report of a run that has ended so, one put for each line. After a fault a front of the report was put.
 pub fn put_report<S: Sink>(kernel: &Kernel, ending: Ending, sink: &mut S) -> Result<(), SinkFault>
-    requires { kernel.now.failed ≡ false }
     ensures told { OnOk result (S.told sink.new ≡ grown (S.told sink.old) (report_in (kernel_world kernel.now) ending)) }
     ensures front { OnErr result (GrewByFront (S.told sink.old) (S.told sink.new) (report_in (kernel_world kernel.now) ending)) }
     ensures cause { HasCause (S.faults sink.old) (S.faults sink.new) result }

@@ -3,6 +3,7 @@ use crate::{open_group, put_report, run_group};
 use dos_io::{MemorySink, Quiet, SinkFault};
 use dos_world::{Config, Ending, Regs};
 use elf_image::read_image;
+use group_open::OpenError;
 use proc_table::{SignalState, Table};
 use std::alloc::{AllocError, Global};
 use std::test::Fail;
@@ -67,6 +68,28 @@ const CONFIG: Config = Config {
     rounds: 10,
     frames: 17,
 };
+
+#[test]
+fn images_that_need_more_frames_have_no_room(rt: HostRuntime) -> Result<(), Fail> {
+    let image = read_image(rt.alloc(), &ENDS_WITH_7)?;
+    let narrow = Config {
+        frames: 16,
+        ..CONFIG
+    };
+    match open_group(rt.alloc(), &[image], narrow) {
+        Ok(_kernel) => Err("there is no room".into()),
+        Err(error) => {
+            assert_eq!(rt;
+                error,
+                OpenError::NoRoom {
+                    needed: 17,
+                    frames: 16
+                }
+            );
+            Ok(())
+        }
+    }
+}
 
 #[test]
 fn a_group_is_opened_run_and_reported(rt: HostRuntime) -> Result<(), Fail> {

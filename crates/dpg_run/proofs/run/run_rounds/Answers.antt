@@ -4,8 +4,9 @@ use Rattle.std.proofs.lemmas.Result.{err_from_is_err_and}
 use Rattle.dos_world.specs.declared.Config.{Config}
 use Rattle.group_rounds.specs.Rounds.{next_round}
 use Rattle.group_rounds.specs.declared.round.RoundEnd.TheVariants.{Went, Done, Stalled}
+use Rattle.group_rounds.proofs.GoingLaws.{on_err}
 use Rattle.group_rounds.proofs.CauseLaws.{stood_yet, stood_then}
-use Rattle.dpg_run.proofs.RoundsRun.{ran_none, round_more, round_ends, round_stalls, round_stops, some_at, none_left, rounds_over, round_so, stopped_so, some_weaker}
+use Rattle.dpg_run.proofs.RoundsRun.{ran_none, round_more, round_ends, round_stalls, round_stops, some_at, none_left, rounds_over, round_so, stopped_so, cut_so, round_cut, some_weaker}
 use Rattle.dpg_run.proofs.run.run_rounds.Goals as goal
 
 -- a round of the loop is one that the configuration allows
@@ -29,6 +30,13 @@ returns-in_err-run_round-clause-asks g c =
     rw (p.1, p.2) (some_weaker _ (λ stopped. round_stops c.args.kernel.now.config c.args.kernel.now.config.rounds _ c.args.kernel.now.state c.loop-round.kernel.state _ _
     (some_at c.args.kernel.now.config c.args.kernel.now.config.rounds c.loop-round._round c.args.kernel.now.state c.loop-round.kernel.state _ _ (below c.args.kernel.now.config c.config-rounds.result c.loop-round._round c.config-rounds.ensures c.loop-round-test.true) c.loop-round.invariant.runs)
     c.requires.fresh refl _ _ (stopped_so c.args.kernel.now.config c.loop-round.kernel.config c.loop-round.kernel.state _ _ _ c.loop-round.invariant.config stopped)) c.in_err-run_round.ensures.asks)
+
+pub returns-in_err-run_round-clause-cut : goal.returns-in_err-run_round-clause-cut
+returns-in_err-run_round-clause-cut g c =
+    on_err c.from_residual.result _
+    (round_cut c.args.kernel.now.config c.args.kernel.now.config.rounds _ c.args.kernel.now.state c.loop-round.kernel.state _ _
+    (some_at c.args.kernel.now.config c.args.kernel.now.config.rounds c.loop-round._round c.args.kernel.now.state c.loop-round.kernel.state _ _ (below c.args.kernel.now.config c.config-rounds.result c.loop-round._round c.config-rounds.ensures c.loop-round-test.true) c.loop-round.invariant.runs)
+    c.requires.fresh refl _ (cut_so c.args.kernel.now.config c.loop-round.kernel.config c.loop-round.kernel.state _ _ c.loop-round.invariant.config c.in_err-run_round.ensures.cut))
 
 pub returns-in-Done-clause-runs : goal.returns-in-Done-clause-runs
 returns-in-Done-clause-runs g c =
@@ -62,5 +70,5 @@ past config read round same le = subst (λ (c : Config). c.rounds ≤ round) sam
 
 pub returns-clause-runs : goal.returns-clause-runs
 returns-clause-runs g c =
-    rounds_over c.args.kernel.now.config c.args.kernel.now.config.rounds c.args.kernel.now.state c.loop-round.kernel.state _ _ c.limit_ending.result c.requires.fresh refl c.limit_ending.ensures
+    rounds_over c.args.kernel.now.config c.args.kernel.now.config.rounds c.args.kernel.now.state c.loop-round.kernel.state _ _ c.limit_ending.result c.requires.fresh refl c.limit_ending.ensures.ending
     (none_left c.args.kernel.now.config c.args.kernel.now.config.rounds c.loop-round._round c.args.kernel.now.state c.loop-round.kernel.state _ _ (past c.args.kernel.now.config c.config-rounds.result c.loop-round._round c.config-rounds.ensures c.loop-round-test.false) c.loop-round.invariant.runs)

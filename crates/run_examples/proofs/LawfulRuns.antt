@@ -10,10 +10,10 @@ use Rattle.rv_exec.specs.Computing.{computing}
 use Rattle.elf_image.specs.Image.{Image}
 use Rattle.group_open.specs.Opening.{opening}
 use Rattle.dpg_run.specs.Machine.{Finish, rounds_from}
-use Rattle.dpg_run.proofs.Programs.{with_frames, whole_opening}
-use Rattle.dpg_run.proofs.Endings.{exits_with_7}
-use Rattle.dpg_run.proofs.Sending.{says_hi}
-use Rattle.dpg_run.proofs.Threads.{sleeps, forks}
+use Rattle.run_examples.proofs.Programs.{with_frames, whole_opening}
+use Rattle.run_examples.proofs.Endings.{exits_with_7}
+use Rattle.run_examples.proofs.Sending.{says_hi}
+use Rattle.run_examples.proofs.Threads.{sleeps, forks}
 
 one_image : IsTrue (is_lawful (opening (exits_with_7 ∷ []) (with_frames 17)))
 one_image = refl

@@ -7,8 +7,8 @@ use Rattle.dos_io.specs.declared.exchange.Exchange.TheVariants.{Signals, Input, 
 use Rattle.rv_exec.specs.Computing.{computing}
 use Rattle.dpg_run.specs.Fits.{Fits, misfit}
 use Rattle.dpg_run.specs.Report.{report}
-use Rattle.dpg_run.proofs.Programs.{with_frames}
-use Rattle.dpg_run.proofs.Endings.{exits_with_7}
+use Rattle.run_examples.proofs.Programs.{with_frames}
+use Rattle.run_examples.proofs.Endings.{exits_with_7}
 
 its_exchanges_fit : Fits (exits_with_7 ∷ []) (with_frames 17) (Signals 1 [] ∷ End Done 1 ∷ [])
 unfolding computing

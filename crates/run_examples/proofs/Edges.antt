@@ -7,7 +7,7 @@ use Rattle.rv_exec.specs.Computing.{computing}
 use Rattle.elf_image.specs.Image.{Image}
 use Rattle.group_open.specs.Opening.{needed}
 use Rattle.dpg_run.specs.Machine.{machine}
-use Rattle.dpg_run.proofs.Programs.{program, with_frames, without_work, ended, whole_machine}
+use Rattle.run_examples.proofs.Programs.{program, with_frames, without_work, ended, whole_machine}
 
 -- a store at the end of the stack's page reaches no page behind it: sw x0, 16(x2) at 0xF0000000
 behind_the_stack : without_work (machine (program (0x00012823 ∷ []) ∷ []) (with_frames 17) (posts [] ∷ [])) ≡ ended (signals_question 1 ∷ end_question Done 1 ∷ []) [] (Some 139 ∷ []) Done 1

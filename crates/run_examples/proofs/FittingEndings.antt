@@ -6,8 +6,8 @@ use Rattle.dos_io.specs.declared.exchange.Exchange.TheVariants.{Signals, End}
 use Rattle.rv_exec.specs.Computing.{computing}
 use Rattle.dpg_run.specs.Machine.{run_from}
 use Rattle.dpg_run.specs.Fits.{Fits, FitsFrom, misfit_from}
-use Rattle.dpg_run.proofs.Programs.{program, with_frames, whole_opening}
-use Rattle.dpg_run.proofs.Threads.{sleeps}
+use Rattle.run_examples.proofs.Programs.{program, with_frames, whole_opening}
+use Rattle.run_examples.proofs.Threads.{sleeps}
 
 -- a run that stalls
 a_stalled_run_fits : FitsFrom (whole_opening (sleeps ∷ []) (with_frames 17)) (with_frames 17) (Signals 1 [] ∷ Signals 2 [] ∷ End Stalled 1 ∷ [])

@@ -6,7 +6,7 @@ use Rattle.dos_world.specs.declared.Ending.TheVariants.{Done, Stalled}
 use Rattle.rv_exec.specs.Computing.{computing}
 use Rattle.elf_image.specs.Image.{Image}
 use Rattle.dpg_run.specs.Machine.{machine}
-use Rattle.dpg_run.proofs.Programs.{program, with_frames, with_quantum, ended, without_work, whole_machine}
+use Rattle.run_examples.proofs.Programs.{program, with_frames, with_quantum, ended, without_work, whole_machine}
 
 -- Two threads load one word, yield, add 1 and store: one addition is lost, always.
 two_threads_lose_an_addition : without_work (machine (program (0x00300893 ∷ 0x00000517 ∷ 0x01450513 ∷ 0x00000073 ∷ 0x01700893 ∷ 0x00000073 ∷ 0x00000417 ∷ 0x03842283 ∷ 0x01700893 ∷ 0x00000073 ∷ 0x00128293

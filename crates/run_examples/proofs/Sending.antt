@@ -6,7 +6,7 @@ use Rattle.dos_world.specs.declared.Ending.TheVariants.{Done}
 use Rattle.rv_exec.specs.Computing.{computing}
 use Rattle.elf_image.specs.Image.{Image}
 use Rattle.dpg_run.specs.Machine.{machine, ends, needs}
-use Rattle.dpg_run.proofs.Programs.{program, with_frames, ended, without_work, whole_machine}
+use Rattle.run_examples.proofs.Programs.{program, with_frames, ended, without_work, whole_machine}
 
 -- write of three bytes to output, then process_exit with 0
 abbrev pub says_hi : Image

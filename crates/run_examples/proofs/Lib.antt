@@ -1,0 +1,14 @@
+mod Programs
+mod Endings
+mod Sending
+mod Threads
+mod Edges
+mod Fitting
+mod FittingEndings
+mod LawfulRuns
+mod Pipes
+mod SharedPages
+mod Sleepers
+mod SentSignals
+mod Numbers
+mod RefusedCalls
