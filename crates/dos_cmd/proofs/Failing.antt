@@ -7,6 +7,7 @@ use Rattle.dos_world.specs.declared.Config.{Config}
 use Rattle.elf_image.specs.Image.{Image}
 use Rattle.group_open.specs.Opening.{needed}
 use Rattle.dos_io.specs.Outside.{grown, Rose}
+use Rattle.dos_io.proofs.OutsideLaws.{grown-nothing}
 use Rattle.dos_cmd.specs.Words.{Text, Asked, runs, inspects}
 use Rattle.dos_cmd.specs.Images.{Judgement, verdict, with_room, images_from, judgement}
 use Rattle.dos_cmd.specs.Exit.{exit_of, exit_number}
@@ -16,7 +17,6 @@ use Rattle.dos_cmd.specs.declared.exit.Exit.{Exit}
 use Rattle.dos_cmd.specs.declared.exit.Exit.TheVariants as exits
 use Rattle.dos_cmd.specs.declared.exit.Refusal.{Refusal}
 use Rattle.dos_cmd.specs.declared.exit.Refusal.TheVariants as refusals
-use Rattle.dos_cmd.proofs.Sent.{grown_nil}
 
 -- ---- images that aren't read
 
@@ -51,10 +51,10 @@ pub no_image : (told : Option (List ℕ)) (why : Refusal) → IfSome told (λ fi
 no_image None why h = tt
 no_image (Some file) why h = rw h refl
 
-pub inspect_fails : (contents : Text → Option (List ℕ)) (name : Text) (fr : Type 0) (o o1 : Option (List ℕ)) (a b : ℕ) (r : Result Exit Refusal) → IfErr r (λ e. e ≡ refusals.Sink) → OnErr r (Rose a b)
+pub inspect_fails : (contents : Text → Option (List ℕ)) (name : Text) (parsed : Image) (fr : Type 0) (o o1 : Option (List ℕ)) (a b : ℕ) (r : Result Exit Refusal) → IfSome (contents name) (λ file. verdict 1 file ≡ Ok parsed) → IfErr r (λ e. e ≡ refusals.Sink) → OnErr r (Rose a b)
     → IfErr r (λ why. (e : Option (List ℕ)) (m n : ℕ) → FailsAsked contents (inspects name) fr (Rose a b ⊎ Rose m n) (sinks o e o1 e) why)
-inspect_fails contents name fr o o1 a b (Ok exit) h k = tt
-inspect_fails contents name fr o o1 a b (Err why) h k = λ e m n. subst (λ (w : Refusal). FailsAsked contents (inspects name) fr (Rose a b ⊎ Rose m n) (sinks o e o1 e) w) (sym h) (inl k)
+inspect_fails contents name parsed fr o o1 a b (Ok exit) t h k = tt
+inspect_fails contents name parsed fr o o1 a b (Err why) t h k = λ e m n. subst (λ (w : Refusal). FailsAsked contents (inspects name) fr (Rose a b ⊎ Rose m n) (sinks o e o1 e) w) (sym h) (inl k, (parsed ∷ [], one_image (contents name) parsed t))
 
 pub inspect_did : (contents : Text → Option (List ℕ)) (name : Text) (parsed : Image) (o o1 : Option (List ℕ)) (r : Result Exit Refusal) → IfSome (contents name) (λ file. verdict 1 file ≡ Ok parsed) → IfOk r (λ exit. exit ≡ exits.Done) → OnOk r (o1 ≡ grown o (inspect_lines parsed))
     → IfOk r (λ exit. (e : Option (List ℕ)) → Did contents (inspects name) (exit_number exit) (sinks o e o1 e))
@@ -63,7 +63,7 @@ inspect_did contents name parsed o o1 (Err why) t h k = tt
 inspect_did contents name parsed o o1 (Ok exit) t h k = λ e. record {
   images = parsed ∷ [];
   taken = one_image (contents name) parsed t;
-  with_images = record { parsed = parsed; only = refl; status_is = ap exit_number h; grew = record { out_is = k; err_is = sym (grown_nil e) } };
+  with_images = record { parsed = parsed; only = refl; status_is = ap exit_number h; grew = record { out_is = k; err_is = grown-nothing e } };
 }
 
 -- ---- a group
@@ -95,7 +95,7 @@ group_fails contents config names images fr sr s (refusals.NoRoom n frames) t h 
     let j : with_room config (Ok images) ≡ Err (refusals.NoRoom n frames) = room_not config images h.2 ∙ sym (ap (λ x. Err (refusals.NoRoom x config.frames)) h.0) ∙ sym (ap (λ x. Err (refusals.NoRoom n x)) h.1) in
     (judged_by config (images_from 1 (map contents names)) (Ok images) _ j t, h.3)
 group_fails contents config names images fr sr s refusals.Files t h = absurd h
-group_fails contents config names images fr sr s refusals.Sink t h = h
+group_fails contents config names images fr sr s refusals.Sink t h = (h.0, (images, group_taken config (images_from 1 (map contents names)) images h.1 t))
 group_fails contents config names images fr sr s refusals.Memory t (inl k) = inl k
 group_fails contents config names images fr sr s refusals.Memory t (inr k) = inr (record {
   config = config;

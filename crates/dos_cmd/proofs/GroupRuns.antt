@@ -19,7 +19,7 @@ use Rattle.dos_io.proofs.QuietAnswers.{no_posts_more, last_is_memory}
 use Rattle.elf_image.specs.Image.{Image}
 use Rattle.dos_laws.specs.Plain.{LawfulAndPlain}
 use Rattle.group_open.specs.Opening.{needed, opening}
-use Rattle.dpg_run.specs.Machine.{Finish, Seen, seen, ends, ran, run_from, rounds_from, machine_from, status_in}
+use Rattle.dpg_run.specs.Machine.{Finish, Seen, seen, ends, result_of, run_from, rounds_from, machine_from, status_in}
 use Rattle.dpg_run.specs.Running.{RanGroup, StoppedGroup}
 use Rattle.dpg_run.specs.Report.{report_in}
 use Rattle.dos_cmd.specs.Exit.{exit_number, exit_by}
@@ -71,7 +71,7 @@ pub record RoundsGave (asked : List Question) (outcome : Outcome Finish) (s : Se
   pub gave : outcome ≡ gives finish left
   pub is : seen asked finish ≡ s
 
-rounds_gave : (asked : List Question) (outcome : Outcome Finish) (s : Seen) → ran asked outcome ≡ ends s → RoundsGave asked outcome s
+rounds_gave : (asked : List Question) (outcome : Outcome Finish) (s : Seen) → result_of asked outcome ≡ ends s → RoundsGave asked outcome s
 rounds_gave asked (gives finish left) s h = record { finish = finish; left = left; gave = refl; is = cc }
 rounds_gave asked (asks question output error) s h = cc
 
@@ -86,7 +86,7 @@ quiet_machine w config es s first most both none h q =
     let asked : List Question = questions (replicate config.rounds (posts [])) (run_from w config) in
     let g = rounds_gave (questions (map answer_of es) (run_from w config)) (over (map answer_of es) (rounds_from w config)) s h in
     let quietly = quiet_rounds (config.rounds - w.rounds) config.rounds w 0 es g.finish g.left (omega arith) (omega arith) both none g.gave q in
-    ap (ran asked) quietly.is ∙ ap (λ x. ends (with_questions asked x)) g.is
+    ap (result_of asked) quietly.is ∙ ap (λ x. ends (with_questions asked x)) g.is
 
 pub group_ran : (k k' : Held) (ending : Ending) (before after : Quietness) (o e o1 e1 e2 : Option (List ℕ)) → RanGroup k.config k.state (telling (shown before).told o e) ending k'.state (telling (shown after).told o1 e1) → FollowsQuietly (shown before) (shown after)
     → e2 ≡ grown e1 (report_in (kernel_world k') ending)
@@ -109,7 +109,7 @@ group_ran k k' ending before after o e o1 e1 e2 run follows report images config
 
 -- ---- a run that didn't
 
-until_is : (asked : List Question) (outcome : Outcome Finish) (o e : List ℕ) → RanUntil outcome o e → IsUntil (ran asked outcome) o e
+until_is : (asked : List Question) (outcome : Outcome Finish) (o e : List ℕ) → RanUntil outcome o e → IsUntil (result_of asked outcome) o e
 until_is asked (gives finish rest) o e h = h
 until_is asked (asks question output error) o e h = h
 
@@ -134,8 +134,8 @@ pub group_stopped : (k : Held) (stop : RunStop) (before after : Quietness) (o e 
 group_stopped k HostFault before after o e o1 e1 a b m n run follows cause quiet images config range opened fits = absurd quiet
 group_stopped k LogFull before after o e o1 e1 a b m n run follows cause quiet images config range opened fits = absurd quiet
 group_stopped k (Misfit x) before after o e o1 e1 a b m n run follows cause quiet images config range opened fits = absurd quiet
-group_stopped k OutFault before after o e o1 e1 a b m n run follows cause quiet images config range opened fits = inl cause
-group_stopped k ErrFault before after o e o1 e1 a b m n run follows cause quiet images config range opened fits = inr cause
+group_stopped k OutFault before after o e o1 e1 a b m n run follows cause quiet images config range opened fits = (inl cause, fits)
+group_stopped k ErrFault before after o e o1 e1 a b m n run follows cause quiet images config range opened fits = (inr cause, fits)
 group_stopped k Memory before after o e o1 e1 a b m n run follows cause quiet images config range opened fits = inr (fits, interrupted k before after o e o1 e1 run follows images config range opened)
 
 pub fails_as : (images : List Image) (config : Config) (sr : Type 0) (s : Sinks) (r t : Refusal) → r ≡ t → FailsRunning images config sr s t → FailsRunning images config sr s r

@@ -13,3 +13,5 @@ pub mod Failing
 pub mod Silent
 pub mod QuietRuns
 pub mod GroupRuns
+pub mod Ready
+pub mod Fronts

@@ -154,7 +154,7 @@ finished_ends contents words n s f = did_ends f.asked f.did.images n s f.did.wit
 pub finished_as : (contents : Text → Option (List ℕ)) (words : List Text) (n m : ℕ) (s : Sinks) → n ≡ m → Finished contents words m s → Finished contents words n s
 finished_as contents words n m s q f = subst (λ (k : ℕ). Finished contents words k s) (sym q) f
 
-told_as : (told : Option Judgement) (j : Judgement) (Q : Judgement → Type 0) → told ≡ Some j → IfSome told Q → Q j
+pub told_as : (told : Option Judgement) (j : Judgement) (Q : Judgement → Type 0) → told ≡ Some j → IfSome told Q → Q j
 told_as None j Q e h = cc
 told_as (Some k) j Q e h = let same : k ≡ j = cc in subst Q same h
 
@@ -243,7 +243,7 @@ fails_five contents words fr sr o e o1 e1 e2 r n h told q =
 
 pub sinks_fail : (contents : Text → Option (List ℕ)) (words : List Text) (fr sr : Type 0) (s : Sinks) (r : Refusal) → r ≡ refusals.Sink → Fails contents words fr sr s r → sr
 sinks_fail contents words fr sr s r is (inl k) = let clash : refusals.Sink ≡ refusals.Words = sym is ∙ k.1 in absurd (cc)
-sinks_fail contents words fr sr s r is (inr k) = subst (λ (w : Refusal). FailsAsked contents k.0 fr sr s w) is k.2
+sinks_fail contents words fr sr s r is (inr k) = (subst (λ (w : Refusal). FailsAsked contents k.0 fr sr s w) is k.2).0
 
 memory_fails : (contents : Text → Option (List ℕ)) (words : List Text) (fr sr : Type 0) (o e o1 e1 e2 : Option (List ℕ)) (r : Refusal) (n : ℕ) (line : List ℕ) → Told n r e1 e2 → line_of r ≡ line → Fails contents words fr sr (sinks o e o1 e1) refusals.Memory → EndsForMemory contents words line (sinks o e o1 e2)
 memory_fails contents words fr sr o e o1 e1 e2 r n line told l (inl k) = let clash : refusals.Memory ≡ refusals.Words = k.1 in absurd (cc)

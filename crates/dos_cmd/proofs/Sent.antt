@@ -1,11 +1,6 @@
 -- What a sink is told, piece by piece.
-use Rattle.std.proofs.Common.{◌≡◌, ℕ, List, [], ◌++◌, Option, Some, None, refl, ap, ◌∙◌, append_assoc}
-use Rattle.std.proofs.lemmas.List.{append-nil}
+use Rattle.std.proofs.Common.{◌≡◌, ℕ, List, ◌++◌, Option, Some, None, refl, ap, ◌∙◌, append_assoc}
 use Rattle.dos_io.specs.Outside.{grown}
-
-pub grown_nil : (told : Option (List ℕ)) → grown told [] ≡ told
-grown_nil None = refl
-grown_nil (Some bytes) = ap (λ v. Some v) (append-nil bytes)
 
 pub grown-grown : (told : Option (List ℕ)) (xs ys : List ℕ) → grown (grown told xs) ys ≡ grown told (xs ++ ys)
 grown-grown None xs ys = refl

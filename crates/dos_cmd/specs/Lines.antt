@@ -5,11 +5,11 @@ use Rattle.dos_world.specs.declared.Ending.TheVariants.{Done, Limit, Stalled}
 use Rattle.dos_world.specs.declared.Question.{Question}
 use Rattle.dos_world.specs.declared.Question.TheVariants.{Signals, Input, Clock, End}
 use Rattle.dpg_run.specs.Report.{ending_word, line_feed}
-use Rattle.elf_image.specs.Image.{number_of}
+use Rattle.elf_image.specs.Image.{refusal_number}
 use Rattle.elf_image.specs.declared.error.ImageError.{ImageError}
 use Rattle.elf_image.specs.declared.error.ImageError.TheVariants.{Segment, Overlap}
-use Rattle.shim_log.specs.declared.refusal.LogRefusal.{LogRefusal}
-use Rattle.shim_log.specs.declared.refusal.LogRefusal.TheVariants.{Short, Magic, Version, Header, Entry, AfterEnd}
+use Rattle.shim_log.specs.declared.refusal.LogError.{LogError}
+use Rattle.shim_log.specs.declared.refusal.LogError.TheVariants.{Short, Magic, Version, Header, Entry, AfterEnd}
 
 -- Images are counted from 1 in the order of the words, a log's entries from 0. Want of memory refuses no image.
 pub data Message : Type 0 where
@@ -18,7 +18,7 @@ pub data Message : Type 0 where
   image_refused : (image : ℕ) → ImageError → Message
   no_room : (needed frames : ℕ) → Message
   log_too_long : Message
-  log_refused : LogRefusal → Message
+  log_refused : LogError → Message
   images_differ : (logged given : ℕ) → Message
   digests_differ : (image : ℕ) → (digest logged : List ℕ) → Message
   misfit : (entry : ℕ) → (kept asked : Question) → Message
@@ -51,7 +51,7 @@ indexes_text (Overlap i j) = codes " at " ++ decimal i ++ codes " and " ++ decim
 indexes_text _ = []
 
 -- what is wrong with a log
-abbrev pub refusal_text : LogRefusal → List ℕ
+abbrev pub refusal_text : LogError → List ℕ
 refusal_text (Short place) = codes "short at " ++ decimal place
 refusal_text Magic = codes "magic"
 refusal_text (Version n) = codes "version " ++ decimal n
@@ -72,7 +72,7 @@ question_text (End ending rounds) = codes "end " ++ ending_word ending ++ codes 
 abbrev pub message_text : Message → List ℕ
 message_text words_refused = codes "words refused"
 message_text (image_too_long i) = codes "image " ++ decimal i ++ codes " too long"
-message_text (image_refused i refusal) = codes "image " ++ decimal i ++ codes " refused " ++ decimal (number_of refusal) ++ indexes_text refusal
+message_text (image_refused i refusal) = codes "image " ++ decimal i ++ codes " refused " ++ decimal (refusal_number refusal) ++ indexes_text refusal
 message_text (no_room needed frames) = codes "needs " ++ decimal needed ++ codes " frames, has " ++ decimal frames
 message_text log_too_long = codes "log too long"
 message_text (log_refused refusal) = codes "log refused: " ++ refusal_text refusal

@@ -2,7 +2,7 @@
 use Rattle.std.specs.Prelude.{◌≡◌, ◌≤◌, ◌<◌, ◌⊎◌, ℕ, List, [], ◌∷◌, ◌++◌, replicate, Option, Some, None, IfSome, Ok, Err}
 use Rattle.dos_world.specs.Play.{posts}
 use Rattle.dos_world.specs.declared.Config.{Config}
-use Rattle.dos_io.specs.Outside.{grown}
+use Rattle.dos_io.specs.Outside.{grown, GrewByFront}
 use Rattle.elf_image.specs.Image.{Image}
 use Rattle.group_open.specs.Opening.{needed}
 use Rattle.dpg_run.specs.Machine.{Seen, Ran as Outcome, ends, needs, machine}
@@ -10,7 +10,7 @@ use Rattle.dpg_run.specs.Report.{report}
 use Rattle.dos_cmd.specs.Words.{Text, Asked, runs, inspects, request}
 use Rattle.dos_cmd.specs.Images.{judgement}
 use Rattle.dos_cmd.specs.Exit.{exit_of, line_of}
-use Rattle.dos_cmd.specs.Lines.{ending_status}
+use Rattle.dos_cmd.specs.Lines.{line, ending_status, file_fault, out_of_memory}
 use Rattle.dos_cmd.specs.Printed.{inspect_lines}
 use Rattle.dos_cmd.specs.declared.exit.Exit.TheVariants as exits
 use Rattle.dos_cmd.specs.declared.exit.Refusal.{Refusal}
@@ -92,6 +92,10 @@ pub record Refused (contents : Text → Option (List ℕ)) (words : List Text) (
   pub is : IsRefused contents asked why
   pub says : SaysOnly s (line_of why)
 
+-- The files are taken for what is asked for, as far as they tell.
+abbrev pub IsTaken : (Text → Option (List ℕ)) → Asked → Type 0
+IsTaken contents asked = (images : List Image) × IfSome (judgement contents asked) (λ j. j ≡ Ok images)
+
 -- ---- a run that want of memory ended
 
 -- a run over some answers sent these bytes until its next question, or until its end
@@ -125,7 +129,7 @@ EndsForMemory contents words line s = SaysOnly s line ⊎ ((asked : Asked) × (r
 -- a group that isn't run to its end
 abbrev pub FailsRunning : List Image → Config → (sinks_rose : Type 0) → Sinks → Refusal → Type 0
 FailsRunning images config sinks_rose s (refusals.NoRoom n frames) = (n ≡ needed images) × (frames ≡ config.frames) × (config.frames < needed images) × Stays s
-FailsRunning images config sinks_rose s refusals.Sink = sinks_rose
+FailsRunning images config sinks_rose s refusals.Sink = sinks_rose × (needed images ≤ config.frames)
 FailsRunning images config sinks_rose s refusals.Memory = Stays s ⊎ ((needed images ≤ config.frames) × Interrupted images config [] s)
 FailsRunning images config sinks_rose s _ = ⊥
 
@@ -136,7 +140,7 @@ FailsAsked contents asked files_rose sinks_rose s (refusals.TooLong image) = IsR
 FailsAsked contents asked files_rose sinks_rose s (refusals.Image image error) = IsRefused contents asked (refusals.Image image error) × Stays s
 FailsAsked contents asked files_rose sinks_rose s (refusals.NoRoom n frames) = IsRefused contents asked (refusals.NoRoom n frames) × Stays s
 FailsAsked contents asked files_rose sinks_rose s refusals.Files = files_rose × Stays s
-FailsAsked contents asked files_rose sinks_rose s refusals.Sink = sinks_rose
+FailsAsked contents asked files_rose sinks_rose s refusals.Sink = sinks_rose × IsTaken contents asked
 FailsAsked contents asked files_rose sinks_rose s refusals.Memory = Stays s ⊎ RanOutOfMemory contents asked [] s
 
 -- the words, which ask for nothing or for what isn't done
@@ -148,3 +152,14 @@ Fails contents words files_rose sinks_rose s why =
 
 abbrev pub IsStatus : ℕ → Type 0
 IsStatus n = (n ≡ 0) ⊎ (n ≡ 2) ⊎ (n ≡ 3) ⊎ (n ≡ 5) ⊎ (n ≡ 6) ⊎ (n ≡ 7) ⊎ (n ≡ 8) ⊎ (n ≡ 9)
+
+-- ---- a line whose put failed
+
+-- Output stays, and error grew by a front of this line.
+pub record SaysFront (s : Sinks) (line : List ℕ) : Type 0 where
+  pub out_stays : s.out_now ≡ s.out_before
+  pub err_says : GrewByFront s.err_before s.err_now line
+
+-- so for a refused image's line, or for that of a fault of files or of want of memory, which may come before it
+abbrev pub SaysFrontOf : Sinks → Refusal → Type 0
+SaysFrontOf s why = SaysFront s (line_of why) ⊎ SaysFront s (line file_fault) ⊎ SaysFront s (line out_of_memory)

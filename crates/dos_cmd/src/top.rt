@@ -1,7 +1,7 @@
 //! The top call: from the words to the exit status.
 ghost use Rattle.std.specs.Prelude.{◌≡◌, ◌≢◌, ◌≤◌, ◌<◌, ◌⊎◌, ℕ, List, Option, None, Some, Ok, Err, length, IfOk, IfErr, OnOk, false};
 ghost use Rattle.dos_world.specs.Lawful.{IsConfig};
-ghost use Rattle.dos_io.specs.Outside.{Rose, grown};
+ghost use Rattle.dos_io.specs.Outside.{GrewByFront, Rose, grown};
 ghost use Rattle.elf_image.specs.Image.{Image as Parsed};
 ghost use Rattle.group_open.specs.Opening.{needed};
 ghost use Rattle.dos_cmd.specs.Words.{texts, Asked, runs, inspects, request};
@@ -9,7 +9,7 @@ ghost use Rattle.dos_cmd.specs.Shown.{asked_by, IsInRange};
 ghost use Rattle.dos_cmd.specs.Images.{judgement};
 ghost use Rattle.dos_cmd.specs.Lines.{line, words_refused, file_fault, out_of_memory};
 ghost use Rattle.dos_cmd.specs.Exit.{line_of, exit_of, exit_number};
-ghost use Rattle.dos_cmd.specs.Results.{sinks, SaysOnly, Ran, Did, DidWith, Finished, Refused, EndsForMemory, FailsRunning, FailsAsked, Fails, IsStatus};
+ghost use Rattle.dos_cmd.specs.Results.{sinks, SaysFront, SaysFrontOf, SaysOnly, Ran, Did, DidWith, Finished, Refused, EndsForMemory, FailsRunning, FailsAsked, Fails, IsStatus};
 ghost use Rattle.dos_cmd.specs.Stops.{IsOpened, IsQuietStop, refusal_by};
 
 use crate::exit::{Exit, Refusal};
@@ -50,6 +50,7 @@ fn run_opened<O: Sink, E: Sink>(
     requires running { kernel.old.failed ≡ false }
     requires fresh { kernel.old.state.round ≡ 1 }
     ensures ran { IfOk result (λ exit. (images : List Parsed) (config : Config) → IsConfig config → IsOpened kernel.old images config → Ran images config (exit_number exit) (sinks (O.told out.old) (E.told err.old) (O.told out.new) (E.told err.new))) }
+    ensures ready { IfOk result (λ exit. exit ≢ Exit.Stalled) }
     ensures fails { IfErr result (λ why. (images : List Parsed) (config : Config) → IsConfig config → IsOpened kernel.old images config → needed images ≤ config.frames
         → FailsRunning images config (Rose (O.faults out.old) (O.faults out.new) ⊎ Rose (E.faults err.old) (E.faults err.new)) (sinks (O.told out.old) (E.told err.old) (O.told out.new) (E.told err.new)) why) }
     ensures out_later { O.faults out.old ≤ O.faults out.new }
@@ -78,6 +79,7 @@ fn execute<O: Sink, E: Sink>(
     requires few { length images.now ≤ 8 }
     requires range { IsConfig config }
     ensures ran { IfOk result (λ exit. Ran images.now config (exit_number exit) (sinks (O.told out.old) (E.told err.old) (O.told out.new) (E.told err.new))) }
+    ensures ready { IfOk result (λ exit. exit ≢ Exit.Stalled) }
     ensures fits { OnOk result (needed images.now ≤ config.frames) }
     ensures fails { IfErr result (FailsRunning images.now config (Rose (O.faults out.old) (O.faults out.new) ⊎ Rose (E.faults err.old) (E.faults err.new)) (sinks (O.told out.old) (E.told err.old) (O.told out.new) (E.told err.new))) }
     ensures out_later { O.faults out.old ≤ O.faults out.new }
@@ -102,6 +104,7 @@ fn run_images<F: Files, O: Sink, E: Sink>(
 ) -> Result<Exit, Refusal>
     requires { IsInRange (runs config (texts names.now)) }
     ensures did { IfOk result (λ exit. Did (F.content files.old) (runs config (texts names.now)) (exit_number exit) (sinks (O.told out.old) (E.told err.old) (O.told out.new) (E.told err.new))) }
+    ensures ready { IfOk result (λ exit. exit ≢ Exit.Stalled) }
     ensures fails { IfErr result (FailsAsked (F.content files.old) (runs config (texts names.now)) (Rose (F.faults files.old) (F.faults files.new)) (Rose (O.faults out.old) (O.faults out.new) ⊎ Rose (E.faults err.old) (E.faults err.new)) (sinks (O.told out.old) (E.told err.old) (O.told out.new) (E.told err.new))) }
     ensures stays { (n : List ℕ) → F.content files.new n ≡ F.content files.old n }
     ensures files_later { F.faults files.old ≤ F.faults files.new }
@@ -121,6 +124,7 @@ fn inspect_image<F: Files, O: Sink>(
 ) -> Result<Exit, Refusal>
     // whatever error tells, and whether it fails
     ensures did { IfOk result (λ exit. (e : Option (List ℕ)) → Did (F.content files.old) (inspects name.now) (exit_number exit) (sinks (O.told out.old) e (O.told out.new) e)) }
+    ensures ready { IfOk result (λ exit. exit ≢ Exit.Stalled) }
     ensures fails { IfErr result (λ why. (e : Option (List ℕ)) (m n : ℕ) → FailsAsked (F.content files.old) (inspects name.now) (Rose (F.faults files.old) (F.faults files.new)) (Rose (O.faults out.old) (O.faults out.new) ⊎ Rose m n) (sinks (O.told out.old) e (O.told out.new) e) why) }
     ensures stays { (n : List ℕ) → F.content files.new n ≡ F.content files.old n }
     ensures files_later { F.faults files.old ≤ F.faults files.new }
@@ -139,6 +143,7 @@ fn command<F: Files, O: Sink, E: Sink>(
     err: &mut E,
 ) -> Result<Exit, Refusal>
     ensures finished { IfOk result (λ exit. Finished (F.content files.old) (texts words.now) (exit_number exit) (sinks (O.told out.old) (E.told err.old) (O.told out.new) (E.told err.new))) }
+    ensures ready { IfOk result (λ exit. exit ≢ Exit.Stalled) }
     ensures fails { IfErr result (Fails (F.content files.old) (texts words.now) (Rose (F.faults files.old) (F.faults files.new)) (Rose (O.faults out.old) (O.faults out.new) ⊎ Rose (E.faults err.old) (E.faults err.new)) (sinks (O.told out.old) (E.told err.old) (O.told out.new) (E.told err.new))) }
     ensures stays { (n : List ℕ) → F.content files.new n ≡ F.content files.old n }
     ensures files_later { F.faults files.old ≤ F.faults files.new }
@@ -155,11 +160,12 @@ fn command<F: Files, O: Sink, E: Sink>(
 }
 
 /// Puts a refusal's line to `err` by one put, and answers how the call ended. Where a sink has
-/// failed already, or this put fails, that is `Sink`.
-#[tactic(auto, using(crate::proofs::Refusals::exit_of_sink))]
+/// failed already, or this put fails, that is `Sink`; of the line a front was put then, of any length.
+#[tactic(auto, using(crate::proofs::Refusals::exit_of_sink, crate::proofs::Fronts::front_of_sink))]
 pub fn refuse<E: Sink>(refusal: Refusal, err: &mut E) -> Exit
     ensures told { result ≢ Exit.Sink → (refusal ≢ Refusal.Sink) × (result ≡ exit_of refusal) × (E.told err.new ≡ grown (E.told err.old) (line_of refusal)) }
     ensures sink { result ≡ Exit.Sink → (refusal ≡ Refusal.Sink) ⊎ Rose (E.faults err.old) (E.faults err.new) }
+    ensures front { result ≡ Exit.Sink → GrewByFront (E.told err.old) (E.told err.new) (line_of refusal) }
     ensures later { E.faults err.old ≤ E.faults err.new }
 {
     if refusal == Refusal::Sink {
@@ -188,12 +194,13 @@ pub fn refuse<E: Sink>(refusal: Refusal, err: &mut E) -> Exit
 /// | 5 | only where the count of `files` rose |
 /// | 6 | only where the count of `out` or `err` rose |
 /// | 7 | processes live after as many rounds as were asked for |
-/// | 8 | processes live, and none of them can go on |
+/// | 8 | processes live, and none of them can go on; with the services of today it never comes |
 /// | 9 | only for want of memory |
 ///
-/// A put that fails gives 6 in place of any other status. Words that ask for something may also give 5 or 9 in place of 0,
-/// 3, 7 and 8. With 2, 3, 5 and 9 `err` grows by one line, and but for 9 `out` stays. Want of memory may also end a run
-/// between two rounds; its bytes so far stand then.
+/// A put that fails gives 6 in place of any other status. Where the words ask for nothing, or an image is refused or there is
+/// no room, `out` stays then, and `err` grows by a front of one line. Words that ask for something may also give 5 or 9 in
+/// place of 0, 3 and 7. With 2, 3, 5 and 9 `err` grows by one line, and but for 9 `out` stays. Want of memory may also end a
+/// run between two rounds; its bytes so far stand then.
 pub fn dos_main<F: Files, O: Sink, E: Sink>(
     alloc: Global,
     words: &[String],
@@ -202,6 +209,8 @@ pub fn dos_main<F: Files, O: Sink, E: Sink>(
     err: &mut E,
 ) -> u8
     ensures statuses { IsStatus result }
+    // No group of today's services stalls.
+    ensures ready { result ≢ 8 }
 
     // What the words ask for is done, with images that the files are.
     ensures finished { (result ≡ 0) ⊎ (result ≡ 7) ⊎ (result ≡ 8) → Finished (F.content files.old) (texts words.now) result (sinks (O.told out.old) (E.told err.old) (O.told out.new) (E.told err.new)) }
@@ -212,10 +221,12 @@ pub fn dos_main<F: Files, O: Sink, E: Sink>(
     ensures two { result ≡ 2 → request (texts words.now) ≡ None }
     ensures two_only { request (texts words.now) ≡ None → result ≢ 6 → result ≡ 2 }
     ensures two_says { result ≡ 2 → SaysOnly (sinks (O.told out.old) (E.told err.old) (O.told out.new) (E.told err.new)) (line words_refused) }
+    ensures two_front { request (texts words.now) ≡ None → result ≡ 6 → SaysFront (sinks (O.told out.old) (E.told err.old) (O.told out.new) (E.told err.new)) (line words_refused) }
 
     // An image is refused, or there is no room.
     ensures three { result ≡ 3 → Refused (F.content files.old) (texts words.now) (sinks (O.told out.old) (E.told err.old) (O.told out.new) (E.told err.new)) }
     ensures three_only { (asked : Asked) (why : Refusal) → request (texts words.now) ≡ Some asked → judgement (F.content files.old) asked ≡ Some (Err why) → result ≢ 5 → result ≢ 6 → result ≢ 9 → result ≡ 3 }
+    ensures three_front { (asked : Asked) (why : Refusal) → request (texts words.now) ≡ Some asked → judgement (F.content files.old) asked ≡ Some (Err why) → result ≡ 6 → SaysFrontOf (sinks (O.told out.old) (E.told err.old) (O.told out.new) (E.told err.new)) why }
 
     // The outside failed.
     ensures five { result ≡ 5 → Rose (F.faults files.old) (F.faults files.new) }

@@ -9,7 +9,7 @@ fn other_words_are_refused(rt: HostRuntime) -> Result<(), Fail> {
     let alloc = rt.alloc();
     let mut files = MemoryFiles::new(alloc, &[])?;
     files.add("a", &file(alloc, &SEVEN)?)?;
-    let others: [&[&str]; 16] = [
+    let others: [&[&str]; 21] = [
         &[],
         &["run"],
         &["a"],
@@ -21,8 +21,13 @@ fn other_words_are_refused(rt: HostRuntime) -> Result<(), Fail> {
         &["inspect", "a", "b"],
         &["inspect", "-a"],
         &["run", "--quantum", "15", "a"],
+        &["run", "--quantum", "65537", "a"],
         &["run", "--quantum", "0016", "a"],
+        &["run", "--rounds", "0", "a"],
         &["run", "--rounds", "1000001", "a"],
+        &["run", "--frames", "15", "a"],
+        &["run", "--frames", "16385", "a"],
+        &["run", "--frames", "a"],
         &["run", "--frames", "16", "--frames", "16", "a"],
         &["run", "a", "--frames", "16"],
         &["run", "a", "a", "a", "a", "a", "a", "a", "a", "a"],

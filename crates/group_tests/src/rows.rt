@@ -23,9 +23,33 @@ fn run_rows(alloc: Global, rows: &[Row]) -> Result<(), Fail> {
     Ok(())
 }
 
-const ENDS: [Row; 3] = [
+const ENDS: [Row; 5] = [
     Row {
         words: &["run", "a"],
+        code: &SEVEN,
+        status: 0,
+        out: "",
+        err: "process 1 status 7\nrounds 1 done\n",
+    },
+    // the numbers at the ends of their ranges, in either order
+    Row {
+        words: &[
+            "run",
+            "--quantum",
+            "65536",
+            "--rounds",
+            "1000000",
+            "--frames",
+            "16384",
+            "a",
+        ],
+        code: &SEVEN,
+        status: 0,
+        out: "",
+        err: "process 1 status 7\nrounds 1 done\n",
+    },
+    Row {
+        words: &["run", "--frames", "17", "--quantum", "16", "a"],
         code: &SEVEN,
         status: 0,
         out: "",

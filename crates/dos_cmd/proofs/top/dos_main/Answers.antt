@@ -1,5 +1,7 @@
 use Rattle.std.proofs.Common.{arith, inl, inr, refl, ◌∙◌}
 use Rattle.dos_cmd.specs.Words.{texts}
+use Rattle.dos_cmd.proofs.Fronts.{front_two, front_three}
+use Rattle.dos_cmd.proofs.Ready.{ready_number}
 use Rattle.dos_cmd.proofs.Refusals.{number_is_status, sink_of_number, finished_as, finished_ends, finished_does, finished_not_refused, finished_not_none, ends_not, ends_not_nine, refusal_told, refusal_ends_not, refusal_of_three, fails_two, fails_none, fails_three, fails_five, sinks_fail, fails_nine, fails_refused, judged_not, ends_not_six, rose_then, then_rose}
 use Rattle.dos_cmd.proofs.top.dos_main.Goals as goal
 
@@ -40,6 +42,15 @@ returns-in-Ok-clause-two_only g c = λ none b. absurd (finished_not_none _ _ _ _
 
 pub returns-in-Ok-clause-three_only : goal.returns-in-Ok-clause-three_only
 returns-in-Ok-clause-three_only g c = λ asked why ask told a b d. absurd (finished_not_refused _ _ _ _ asked why (finished_as _ _ _ _ _ c.number.ensures c.in-Ok.ensures.finished) ask told)
+
+pub returns-in-Ok-clause-ready : goal.returns-in-Ok-clause-ready
+returns-in-Ok-clause-ready g c = ready_number _ c.in-Ok.exit c.number.ensures c.in-Ok.ensures.ready
+
+pub returns-in-Ok-clause-two_front : goal.returns-in-Ok-clause-two_front
+returns-in-Ok-clause-two_front g c = λ none q. absurd (finished_not_none _ _ _ _ (finished_as _ _ _ _ _ c.number.ensures c.in-Ok.ensures.finished) none)
+
+pub returns-in-Ok-clause-three_front : goal.returns-in-Ok-clause-three_front
+returns-in-Ok-clause-three_front g c = λ asked why ask told q. absurd (finished_not_refused _ _ _ _ asked why (finished_as _ _ _ _ _ c.number.ensures c.in-Ok.ensures.finished) ask told)
 
 -- ---- it was refused
 
@@ -99,3 +110,15 @@ returns-in-Err-clause-six g c =
 pub returns-in-Err-clause-nine : goal.returns-in-Err-clause-nine
 returns-in-Err-clause-nine g c =
     λ q. let r = refusal_told _ _ _ _ _ c.number-in-Err.ensures c.refuse.ensures.told (λ s. absurd (omega arith)) in fails_nine (g.F.Files.content c.args.files.now) (texts c.args.words.now) _ _ _ _ _ _ _ _ _ c.in-Err.ensures.fails r q
+
+pub returns-in-Err-clause-ready : goal.returns-in-Err-clause-ready
+returns-in-Err-clause-ready g c =
+    λ q. let r = refusal_told _ _ _ _ _ c.number-in-Err.ensures c.refuse.ensures.told (λ s. absurd (omega arith)) in refusal_ends_not _ _ r.number (inr (inr q))
+
+pub returns-in-Err-clause-two_front : goal.returns-in-Err-clause-two_front
+returns-in-Err-clause-two_front g c =
+    λ none q. front_two (g.F.Files.content c.args.files.now) (texts c.args.words.now) _ _ _ _ _ _ _ _ c.in-Err.ensures.fails none (c.refuse.ensures.front (sink_of_number _ _ c.number-in-Err.ensures q))
+
+pub returns-in-Err-clause-three_front : goal.returns-in-Err-clause-three_front
+returns-in-Err-clause-three_front g c =
+    λ asked why ask told q. front_three (g.F.Files.content c.args.files.now) (texts c.args.words.now) _ _ _ _ _ _ _ _ asked why c.in-Err.ensures.fails ask told (c.refuse.ensures.front (sink_of_number _ _ c.number-in-Err.ensures q))

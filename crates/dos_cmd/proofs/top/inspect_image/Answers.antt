@@ -18,4 +18,4 @@ pub returns-clause-did : goal.returns-clause-did
 returns-clause-did g c = inspect_did (g.F.Files.content c.args.files.now) c.args.name.now c.in_ok-image.image _ _ c.inspect.result c.in_ok-image.ensures.accepted c.inspect.ensures.exit c.inspect.ensures.told
 
 pub returns-clause-fails : goal.returns-clause-fails
-returns-clause-fails g c = inspect_fails (g.F.Files.content c.args.files.now) c.args.name.now _ _ _ _ _ c.inspect.result c.inspect.ensures.sink c.inspect.ensures.cause.failed
+returns-clause-fails g c = inspect_fails (g.F.Files.content c.args.files.now) c.args.name.now c.in_ok-image.image _ _ _ _ _ c.inspect.result c.in_ok-image.ensures.accepted c.inspect.ensures.sink c.inspect.ensures.cause.failed

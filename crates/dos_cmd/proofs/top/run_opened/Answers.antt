@@ -1,4 +1,5 @@
 use Rattle.dos_cmd.proofs.GroupRuns.{group_ran, group_stopped, fails_as, ran_as, quiet_stop}
+use Rattle.dos_cmd.proofs.Ready.{ready_by}
 use Rattle.dos_cmd.proofs.top.run_opened.Goals as goal
 
 pub returns-in-Err-clause-fails : goal.returns-in-Err-clause-fails
@@ -10,3 +11,6 @@ pub returns-in-Ok-put_report-clause-ran : goal.returns-in-Ok-put_report-clause-r
 returns-in-Ok-put_report-clause-ran g c = λ images config range opened.
     ran_as images config _ _ _ c.of_ending.ensures
     (group_ran c.args.kernel.now c.run_group.new.kernel c.in-Ok.ending c.new-shim.result c.run_group.new.shim _ _ _ _ _ c.in-Ok.ensures.runs c.in-Ok.ensures.follows c.in-Ok-put_report.ensures.told images config range opened)
+
+pub returns-in-Ok-put_report-clause-ready : goal.returns-in-Ok-put_report-clause-ready
+returns-in-Ok-put_report-clause-ready g c = ready_by _ _ c.of_ending.ensures c.in-Ok.ensures.ready
