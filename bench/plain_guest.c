@@ -1,6 +1,7 @@
 /* A plain interpreter of guests, as a C programmer would write it: the baseline of bench/run for the whole program.
-   One flat memory behind a table of pages, no owners: threads take turns of the quantum, round after round, and a
-   service is done where it is met. Each access makes the tests of a plain machine: aligned, mapped, the right.
+   One flat memory behind a table of pages: threads take turns of the quantum, round after round, and a service is done
+   where it is met. Each access makes the tests that the proved one makes: aligned, mapped, the right, and whose the page
+   is. A page that is another's changes its owner at once.
    usage: plain_guest FILE QUANTUM */
 #include <stdint.h>
 #include <stdio.h>
@@ -9,8 +10,8 @@
 
 enum { THREADS = 64, PAGES = 1 << 20, W = 1, X = 2 };
 
-struct page { uint8_t *bytes; int rights; };
 struct thread { uint32_t pc, x[32], held; int lives, holds; };
+struct page { uint8_t *bytes; int rights; struct thread *owner; }; /* no owner: everybody reads it */
 
 static struct page pages[PAGES];
 static struct thread threads[THREADS];
@@ -22,21 +23,22 @@ enum stop { STEPPED = -1, SERVICE = -2 };
 
 static inline int32_t s(uint32_t a) { return (int32_t)a; }
 
-/* The bytes of an access, or none; *stop then says why. */
-static inline uint8_t *reach(uint32_t address, uint32_t size, int right, int *stop) {
+/* The bytes of an access of thread m, or none; *stop then says why. */
+static inline uint8_t *reach(struct thread *m, uint32_t address, uint32_t size, int right, int *stop) {
   if (address & (size - 1)) { *stop = 7; return NULL; }
   struct page *p = &pages[address >> 12];
   if (!p->bytes || (p->rights & right) != right) { *stop = 11; return NULL; }
+  if (p->owner != m && (p->owner || right == W)) p->owner = right == W ? m : NULL;
   return p->bytes + (address & 4095);
 }
 
-#define LOAD(type, convert) { uint8_t *at = reach(a + (uint32_t)imm, sizeof(type), 0, &stop); if (!at) return stop; type v; memcpy(&v, at, sizeof v); value = (uint32_t)(convert)v; break; }
-#define STORE(type) { uint8_t *at = reach(t, sizeof(type), W, &stop); if (!at) return stop; type v = (type)b; memcpy(at, &v, sizeof v); break; }
+#define LOAD(type, convert) { uint8_t *at = reach(m, a + (uint32_t)imm, sizeof(type), 0, &stop); if (!at) return stop; type v; memcpy(&v, at, sizeof v); value = (uint32_t)(convert)v; break; }
+#define STORE(type) { uint8_t *at = reach(m, t, sizeof(type), W, &stop); if (!at) return stop; type v = (type)b; memcpy(at, &v, sizeof v); break; }
 
 /* One instruction: STEPPED, SERVICE, or the number of a fault. */
 static inline int one(struct thread *m) {
   int stop = 0;
-  uint8_t *code = reach(m->pc, 4, X, &stop);
+  uint8_t *code = reach(m, m->pc, 4, X, &stop);
   if (!code) return stop;
   uint32_t w, next = m->pc + 4, value = 0;
   memcpy(&w, code, 4);
@@ -135,7 +137,7 @@ static inline int one(struct thread *m) {
     break;
   case 0x2f: {
     if (f3 != 2) return 4;
-    uint8_t *at = reach(a, 4, W, &stop);
+    uint8_t *at = reach(m, a, 4, W, &stop);
     if (!at) return stop;
     uint32_t old, put = 0;
     memcpy(&old, at, 4);
@@ -174,6 +176,7 @@ static void end_all(uint32_t with) {
 
 static void map(uint32_t page, int rights) {
   if (!pages[page].bytes) pages[page].bytes = calloc(1, 4096);
+  pages[page].owner = &threads[0];
   pages[page].rights |= rights;
 }
 
