@@ -20,32 +20,64 @@ use Rattle.dos_laws.proofs.Mapped.{IsTaken}
 
 -- ---- other owners and bytes
 
--- what owners and bytes of a lawful world must keep, so that the world with these in their place is lawful
+-- what owners and bytes of a lawful world must keep, so that the world with these in their place is
+-- lawful
 pub record AreOwned (w : World) (owners : List Owner) (bytes : List ℕ) : Type 0 where
   pub places : length owners ≡ length w.owners
   pub count : length bytes ≡ length w.bytes
   pub range : All IsByte bytes
-  pub free : (frame : ℕ) → frame < length w.owners → (slice_index_or owners frame Free ≡ Free) ↔ IsFalse (is_mapped w frame)
-  pub owned : (frame t : ℕ) → slice_index_or owners frame Free ≡ Of t → (1 ≤ t) × (t ≤ length w.threads)
+  pub free : (frame : ℕ) → frame < length w.owners
+      → (slice_index_or owners frame Free ≡ Free) ↔ IsFalse (is_mapped w frame)
+  pub owned : (frame t : ℕ) → slice_index_or owners frame Free ≡ Of t
+      → (1 ≤ t) × (t ≤ length w.threads)
 
-pub lawful-with_frames : (w : World) (owners : List Owner) (bytes : List ℕ) → AreOwned w owners bytes → Lawful w → Lawful (record w { owners = owners; bytes = bytes })
+pub lawful-with_frames : (w : World) (owners : List Owner) (bytes : List ℕ)
+    → AreOwned w owners bytes → Lawful w → Lawful (record w { owners = owners; bytes = bytes })
 lawful-with_frames w owners bytes are l = record {
-  frames = record { bytes = (omega (arith, l.frames.bytes.0, are.count, are.places), are.range); free = λ frame lt. are.free frame (omega (arith, are.places)); owned = are.owned };
+  frames = record {
+    bytes = (omega (arith, l.frames.bytes.0, are.count, are.places), are.range);
+    free = λ frame lt. are.free frame (omega (arith, are.places));
+    owned = are.owned;
+  };
   processes = record {
-    holdings = subst (λ n. All (AreHoldings n) (all_holdings w.processes)) (sym are.places) l.processes.holdings;
+    holdings =
+        subst (λ n. All (AreHoldings n) (all_holdings w.processes)) (sym are.places)
+        l.processes.holdings;
     private = l.processes.private;
     populated = l.processes.populated;
+    statuses = l.processes.statuses;
     parents = l.processes.parents;
     given = l.processes.given;
   };
-  threads = record { ranges = l.threads.ranges; asleep = l.threads.asleep; sleepers = subst (λ n. All (IsSleeper n) w.sleepers) (sym are.places) l.threads.sleepers };
+  threads = record {
+    ranges = l.threads.ranges;
+    asleep = l.threads.asleep;
+    sleepers =
+        subst (λ n. All (IsSleeper n) w.sleepers) (sym are.places) l.threads.sleepers;
+  };
   pipes = record { ranges = l.pipes.ranges; closed = l.pipes.closed };
-  limits = record { threads = l.limits.threads; processes = l.limits.processes; frames = (omega (arith, l.limits.frames.0, are.places), omega (arith, l.limits.frames.1, are.places)) };
+  limits = record {
+    threads = l.limits.threads;
+    processes = l.limits.processes;
+    frames = (
+      omega (arith, l.limits.frames.0, are.places),
+      omega (arith, l.limits.frames.1, are.places),
+    );
+  };
   run = l.run;
 }
 
-pub plain-with_frames : (w : World) (owners : List Owner) (bytes : List ℕ) → IsPlain w → IsPlain (record w { owners = owners; bytes = bytes })
-plain-with_frames w owners bytes p = record { built = p.built; parents = p.parents; threads = p.threads; sleepers = p.sleepers; pipes = p.pipes; descriptors = p.descriptors }
+pub plain-with_frames : (w : World) (owners : List Owner) (bytes : List ℕ) → IsPlain w
+    → IsPlain (record w { owners = owners; bytes = bytes })
+plain-with_frames w owners bytes p =
+    record {
+      built = p.built;
+      parents = p.parents;
+      threads = p.threads;
+      sleepers = p.sleepers;
+      pipes = p.pipes;
+      descriptors = p.descriptors;
+    }
 
 -- ---- a grant
 
@@ -82,7 +114,8 @@ module _ (w : World) (t frame : ℕ) (access : Access) where
       by_kind (inr of) = let both : Of t ≡ Of s = sym of ∙ e in cc
 
   -- A frame that is taken is granted to a thread whose number was given.
-  pub lawful-grant : (1 ≤ t) × (t ≤ length w.threads) → IsTaken w frame → Lawful w → Lawful (grant w t frame access)
+  pub lawful-grant : (1 ≤ t) × (t ≤ length w.threads) → IsTaken w frame → Lawful w
+      → Lawful (grant w t frame access)
   lawful-grant given taken l =
       lawful-with_frames w owners_after w.bytes (record {
         places = length-set w.owners frame (granted t access);
@@ -95,45 +128,65 @@ module _ (w : World) (t frame : ℕ) (access : Access) where
       here : slice_index_or owners_after frame Free ≡ granted t access
       here = get_or-set_same w.owners frame (granted t access) Free taken.within
 
-      free_after : (f : ℕ) → f < length w.owners → (((f == frame) ≡ true) × (f ≡ frame)) ⊎ (((f == frame) ≡ false) × (f ≢ frame)) → (slice_index_or owners_after f Free ≡ Free) ↔ IsFalse (is_mapped w f)
-      free_after f lt (inl same) = subst (λ n. (slice_index_or owners_after n Free ≡ Free) ↔ IsFalse (is_mapped w n)) (sym same.1) (
-        (λ e. absurd (never_free (sym here ∙ e))),
-        (λ e. absurd (true≢false (sym (taken_mapped w frame l taken) ∙ e))),
-      )
-      free_after f lt (inr other) = subst (λ o. (o ≡ Free) ↔ IsFalse (is_mapped w f)) (sym (get_or-set_other w.owners frame f (granted t access) Free other.1)) (l.frames.free f lt)
+      free_after : (f : ℕ) → f < length w.owners
+          → (((f == frame) ≡ true) × (f ≡ frame)) ⊎ (((f == frame) ≡ false) × (f ≢ frame))
+          → (slice_index_or owners_after f Free ≡ Free) ↔ IsFalse (is_mapped w f)
+      free_after f lt (inl same) =
+          subst (λ n. (slice_index_or owners_after n Free ≡ Free) ↔ IsFalse (is_mapped w n))
+          (sym same.1) (
+            (λ e. absurd (never_free (sym here ∙ e))),
+            (λ e. absurd (true≢false (sym (taken_mapped w frame l taken) ∙ e))),
+          )
+      free_after f lt (inr other) =
+          subst (λ o. (o ≡ Free) ↔ IsFalse (is_mapped w f))
+          (sym (get_or-set_other w.owners frame f (granted t access) Free other.1))
+          (l.frames.free f lt)
 
-      owned_after : (f s : ℕ) → slice_index_or owners_after f Free ≡ Of s → (((f == frame) ≡ true) × (f ≡ frame)) ⊎ (((f == frame) ≡ false) × (f ≢ frame)) → (1 ≤ s) × (s ≤ length w.threads)
+      owned_after : (f s : ℕ) → slice_index_or owners_after f Free ≡ Of s
+          → (((f == frame) ≡ true) × (f ≡ frame)) ⊎ (((f == frame) ≡ false) × (f ≢ frame))
+          → (1 ≤ s) × (s ≤ length w.threads)
       owned_after f s e (inl same) =
-          let is : s ≡ t = the_thread s (sym here ∙ ap (λ n. slice_index_or owners_after n Free) (sym same.1) ∙ e) in
+          let is : s ≡ t =
+          the_thread s (sym here ∙ ap (λ n. slice_index_or owners_after n Free) (sym same.1) ∙ e) in
           (omega (arith, is, given.0), omega (arith, is, given.1))
-      owned_after f s e (inr other) = l.frames.owned f s (sym (get_or-set_other w.owners frame f (granted t access) Free other.1) ∙ e)
+      owned_after f s e (inr other) =
+          l.frames.owned f s
+          (sym (get_or-set_other w.owners frame f (granted t access) Free other.1) ∙ e)
 
   pub plain-grant : IsPlain w → IsPlain (grant w t frame access)
   plain-grant p = plain-with_frames w owners_after w.bytes p
 
 -- the number of a live thread was given
-pub thread_given : (w : World) (t : ℕ) (thread : Thread) → thread_at w t ≡ Some thread → (1 ≤ t) × (t ≤ length w.threads)
+pub thread_given : (w : World) (t : ℕ) (thread : Thread) → thread_at w t ≡ Some thread
+    → (1 ≤ t) × (t ≤ length w.threads)
 thread_given w zero thread e = cc
 thread_given w (suc i) thread e = by_place (cases_lt i (length w.threads))
   where
-    by_place : (i < length w.threads) ⊎ (length w.threads ≤ i) → (1 ≤ suc i) × (suc i ≤ length w.threads)
+    by_place : (i < length w.threads) ⊎ (length w.threads ≤ i)
+        → (1 ≤ suc i) × (suc i ≤ length w.threads)
     by_place (inl lt) = (omega arith, omega arith)
-    by_place (inr past) = let none : thread_at w (suc i) ≡ None = ap flat (slice_get_past w.threads i past) in cc
+    by_place (inr past) =
+        let none : thread_at w (suc i) ≡ None = ap flat (slice_get_past w.threads i past) in cc
 
 -- ---- bytes
 
-length-written : (bytes : List ℕ) (place : ℕ) (new : List ℕ) → length (written bytes place new) ≡ length bytes
+length-written : (bytes : List ℕ) (place : ℕ) (new : List ℕ)
+    → length (written bytes place new) ≡ length bytes
 length-written bytes place [] = refl
-length-written bytes place (b ∷ new) = length-written (slice_set bytes place b) (suc place) new ∙ length-set bytes place b
+length-written bytes place (b ∷ new) =
+    length-written (slice_set bytes place b) (suc place) new ∙ length-set bytes place b
 
-written_bytes : (bytes : List ℕ) (place : ℕ) (new : List ℕ) → All IsByte bytes → All IsByte new → All IsByte (written bytes place new)
+written_bytes : (bytes : List ℕ) (place : ℕ) (new : List ℕ) → All IsByte bytes → All IsByte new
+    → All IsByte (written bytes place new)
 written_bytes bytes place [] all in_new = all
 written_bytes bytes place (b ∷ new) all in_new =
-    written_bytes (slice_set bytes place b) (suc place) new (All-set IsByte bytes place b (All-head IsByte b new in_new) all) (All-tail IsByte b new in_new)
+    written_bytes (slice_set bytes place b) (suc place) new
+    (All-set IsByte bytes place b (All-head IsByte b new in_new) all) (All-tail IsByte b new in_new)
 
 pub bytes_of_bytes : (k n : ℕ) → All IsByte (bytes_of k n)
 bytes_of_bytes zero n = All-nil IsByte
-bytes_of_bytes (suc k) n = All-cons IsByte (n % 256) (bytes_of k (n / 256)) (omega arith) (bytes_of_bytes k (n / 256))
+bytes_of_bytes (suc k) n =
+    All-cons IsByte (n % 256) (bytes_of k (n / 256)) (omega arith) (bytes_of_bytes k (n / 256))
 
 module _ (w : World) (place : ℕ) (new : List ℕ) where
   pub lawful-stored : All IsByte new → Lawful w → Lawful (stored w place new)

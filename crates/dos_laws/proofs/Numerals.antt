@@ -15,19 +15,25 @@ power_positive : (k : ℕ) → 0 < 256 ^ k
 power_positive zero = omega arith
 power_positive (suc k) = omega (arith, pow-succ' 256 k, power_positive k)
 
-number_below : (k : ℕ) (bytes : List ℕ) → All IsByte bytes → length bytes ≤ k → number_of bytes < 256 ^ k
+number_below : (k : ℕ) (bytes : List ℕ) → All IsByte bytes → length bytes ≤ k
+    → number_of bytes < 256 ^ k
 number_below k [] all short = power_positive k
 number_below zero (b ∷ bytes) all short = absurd (omega arith)
 number_below (suc k) (b ∷ bytes) all short =
     let first : b < 256 = All-head IsByte b bytes all in
-    let rest : number_of bytes < 256 ^ k = number_below k bytes (All-tail IsByte b bytes all) (omega arith) in
+    let rest : number_of bytes < 256 ^ k =
+    number_below k bytes (All-tail IsByte b bytes all) (omega arith) in
     omega (arith, pow-succ' 256 k, first, rest)
 
 pub loaded_below : (w : World) (place count : ℕ) → Lawful w → loaded w place count < 256 ^ count
-loaded_below w place count l = number_below count (take count (drop place w.bytes)) (All-take IsByte count (drop place w.bytes) (All-drop IsByte place w.bytes l.frames.bytes.1)) (omega (arith, length-take count (drop place w.bytes)))
+loaded_below w place count l =
+    number_below count (take count (drop place w.bytes))
+    (All-take IsByte count (drop place w.bytes) (All-drop IsByte place w.bytes l.frames.bytes.1))
+    (omega (arith, length-take count (drop place w.bytes)))
 
 -- what an access of a size loads is a word
-pub loaded_word : (w : World) (place : ℕ) (size : Size) → Lawful w → loaded w place (width size) < 2 ^ 32
+pub loaded_word : (w : World) (place : ℕ) (size : Size) → Lawful w
+    → loaded w place (width size) < 2 ^ 32
 loaded_word w place Byte l = omega (arith, loaded_below w place 1 l)
 loaded_word w place Half l = omega (arith, loaded_below w place 2 l)
 loaded_word w place Word l = loaded_below w place 4 l

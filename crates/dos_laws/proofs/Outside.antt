@@ -1,4 +1,5 @@
--- What was sent, the rounds, the quantum and the services that there are: a lawful world with others in their place is lawful.
+-- What was sent, the rounds, the quantum and the services that there are: a lawful world with
+-- others in their place is lawful.
 use Rattle.std.proofs.Common.{ℕ, ◌+◌, ◌<◌, ◌≤◌, List, arith}
 use Rattle.dos_world.specs.World.{World}
 use Rattle.dos_world.specs.Lawful.{Lawful, IsWithinRun}
@@ -11,44 +12,72 @@ module _ (w : World) (quantum rounds : ℕ) (output error : List ℕ) where
   abbrev pub outside : World
   outside = record w { quantum = quantum; rounds = rounds; output = output; error = error }
 
-  pub lawful-outside : (built : List ℕ) → IsWithinRun quantum rounds → Lawful w → Lawful (record outside { built = built })
+  pub lawful-outside : (built : List ℕ) → IsWithinRun quantum rounds → Lawful w
+      → Lawful (record outside { built = built })
   lawful-outside built run l = record {
     frames = record { bytes = l.frames.bytes; free = l.frames.free; owned = l.frames.owned };
     processes = record {
       holdings = l.processes.holdings;
       private = l.processes.private;
       populated = l.processes.populated;
+      statuses = l.processes.statuses;
       parents = l.processes.parents;
       given = l.processes.given;
     };
-    threads = record { ranges = l.threads.ranges; asleep = l.threads.asleep; sleepers = l.threads.sleepers };
+    threads = record {
+      ranges = l.threads.ranges;
+      asleep = l.threads.asleep;
+      sleepers =
+          l.threads.sleepers;
+    };
     pipes = record { ranges = l.pipes.ranges; closed = l.pipes.closed };
-    limits = record { threads = l.limits.threads; processes = l.limits.processes; frames = l.limits.frames };
+    limits = record {
+      threads = l.limits.threads;
+      processes = l.limits.processes;
+      frames =
+          l.limits.frames;
+    };
     run = run;
   }
 
   pub plain-outside : IsPlain w → IsPlain outside
-  plain-outside p = record { built = p.built; parents = p.parents; threads = p.threads; sleepers = p.sleepers; pipes = p.pipes; descriptors = p.descriptors }
+  plain-outside p = record {
+    built = p.built;
+    parents = p.parents;
+    threads = p.threads;
+    sleepers =
+        p.sleepers;
+    pipes = p.pipes;
+    descriptors = p.descriptors;
+  }
 
 -- ---- one thing
 
 -- bytes that were sent
-pub lawful-sent : (w : World) (output error : List ℕ) → Lawful w → Lawful (record w { output = output; error = error })
+pub lawful-sent : (w : World) (output error : List ℕ) → Lawful w
+    → Lawful (record w { output = output; error = error })
 lawful-sent w output error l = lawful-outside w w.quantum w.rounds output error w.built l.run l
 
-pub plain-sent : (w : World) (output error : List ℕ) → IsPlain w → IsPlain (record w { output = output; error = error })
+pub plain-sent : (w : World) (output error : List ℕ) → IsPlain w
+    → IsPlain (record w { output = output; error = error })
 plain-sent w output error p = plain-outside w w.quantum w.rounds output error p
 
 -- another quantum
-pub lawful-with_quantum : (w : World) (quantum : ℕ) → 16 ≤ quantum → quantum ≤ 65536 → Lawful w → Lawful (record w { quantum = quantum })
-lawful-with_quantum w quantum low high l = lawful-outside w quantum w.rounds w.output w.error w.built (record { turn = (low, high); count = l.run.count }) l
+pub lawful-with_quantum : (w : World) (quantum : ℕ) → 16 ≤ quantum → quantum ≤ 65536 → Lawful w
+    → Lawful (record w { quantum = quantum })
+lawful-with_quantum w quantum low high l =
+    lawful-outside w quantum w.rounds w.output w.error w.built
+    (record { turn = (low, high); count = l.run.count }) l
 
-pub plain-with_quantum : (w : World) (quantum : ℕ) → IsPlain w → IsPlain (record w { quantum = quantum })
+pub plain-with_quantum : (w : World) (quantum : ℕ) → IsPlain w
+    → IsPlain (record w { quantum = quantum })
 plain-with_quantum w quantum p = plain-outside w quantum w.rounds w.output w.error p
 
 -- a round more
 pub lawful-counted : (w : World) → w.rounds < 1000000 → Lawful w → Lawful (counted w)
-lawful-counted w few l = lawful-outside w w.quantum (w.rounds + 1) w.output w.error w.built (record { turn = l.run.turn; count = omega arith }) l
+lawful-counted w few l =
+    lawful-outside w w.quantum (w.rounds + 1) w.output w.error w.built
+    (record { turn = l.run.turn; count = omega arith }) l
 
 pub plain-counted : (w : World) → IsPlain w → IsPlain (counted w)
 plain-counted w p = plain-outside w w.quantum (w.rounds + 1) w.output w.error p

@@ -13,12 +13,14 @@ nothing_chosen : (thread : Thread) → thread.pending ≡ 0 → chosen thread �
 nothing_chosen thread e = ap (λ n. chosen (record thread { pending = n })) e
 
 module _ (w : World) (plain : IsPlain w) where
-  turn_still : (t : ℕ) → turn_by w t (thread_at w t) ≡ w
+  pub turn_still : (t : ℕ) → turn_by w t (thread_at w t) ≡ w
   turn_still t = go (thread_at w t) (plain.threads t)
     where
       go : (o : Option Thread) → IfSome o IsPlainThread → turn_by w t o ≡ w
       go None h = refl
-      go (Some thread) h = ap (λ o. elim o as (λ _. World) [ None ↦ w | Some signal ↦ delivered w t thread signal ]) (nothing_chosen thread h.pending)
+      go (Some thread) h =
+          ap (λ o. elim o as (λ _. World) [ None ↦ w | Some signal ↦ delivered w t thread signal ])
+          (nothing_chosen thread h.pending)
 
   turns_still : (ts : List ℕ) → signal_turns w ts ≡ w
   turns_still [] = refl
@@ -38,4 +40,6 @@ module _ (w : World) (plain : IsPlain w) where
       go (Some thread) h = ap (λ s. is_state Retry (Some (record thread { state = s }))) h.state
 
   pub ripen_still : ripen w ≡ w
-  ripen_still = ap (λ ts. made_ready w (filter (λ t. not (would_wait w t)) ts)) (numbers_none (is_state Retry) w.threads nobody_waits)
+  ripen_still =
+      ap (λ ts. made_ready w (filter (λ t. not (would_wait w t)) ts))
+      (numbers_none (is_state Retry) w.threads nobody_waits)

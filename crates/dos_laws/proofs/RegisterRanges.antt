@@ -30,32 +30,50 @@ set_ranges r (suc i) v h a = record {
   held = a.held;
 }
 
-pub with_pc_ranges : (r : Registers) (pc : ℕ) → pc < 2 ^ 32 → AreRegisters r → AreRegisters (with_pc r pc)
-with_pc_ranges r pc h a = record { pc = h; count = a.count; words = a.words; first = a.first; held = a.held }
+pub with_pc_ranges : (r : Registers) (pc : ℕ) → pc < 2 ^ 32 → AreRegisters r
+    → AreRegisters (with_pc r pc)
+with_pc_ranges r pc h a =
+    record { pc = h; count = a.count; words = a.words; first = a.first; held = a.held }
 
-pub with_held_ranges : (r : Registers) (held : Option ℕ) → IfSome held IsWord → AreRegisters r → AreRegisters (with_held r held)
-with_held_ranges r held h a = record { pc = a.pc; count = a.count; words = a.words; first = a.first; held = h }
+pub with_held_ranges : (r : Registers) (held : Option ℕ) → IfSome held IsWord → AreRegisters r
+    → AreRegisters (with_held r held)
+with_held_ranges r held h a =
+    record { pc = a.pc; count = a.count; words = a.words; first = a.first; held = h }
 
 pub blank_ranges : (pc : ℕ) → pc < 2 ^ 32 → AreRegisters (blank pc)
-blank_ranges pc h = record { pc = h; count = refl; words = All-replicate IsWord 32 0 (omega arith); first = refl; held = tt }
+blank_ranges pc h = record {
+  pc = h;
+  count = refl;
+  words = All-replicate IsWord 32 0 (omega arith);
+  first = refl;
+  held = tt;
+}
 
 pub get_range : (r : Registers) (i : ℕ) → AreRegisters r → get r i < 2 ^ 32
 get_range r i a = by_place (cases_lt i (length r.numbers))
   where
     by_place : (i < length r.numbers) ⊎ (length r.numbers ≤ i) → get r i < 2 ^ 32
     by_place (inl lt) = a.words i 0 lt
-    by_place (inr past) = let none : get r i ≡ 0 = get_or_past r.numbers i 0 past in omega (arith, none)
+    by_place (inr past) =
+        let none : get r i ≡ 0 = get_or_past r.numbers i 0 past in omega (arith, none)
 
-pub answered_ranges : (v : ℕ) (r : Registers) → v < 2 ^ 32 → AreRegisters r → AreRegisters (answered v r)
-answered_ranges v r h a = with_pc_ranges (set r 10 v) ((r.pc + 4) % 2 ^ 32) (omega arith) (set_ranges r 10 v h a)
+pub answered_ranges : (v : ℕ) (r : Registers) → v < 2 ^ 32 → AreRegisters r
+    → AreRegisters (answered v r)
+answered_ranges v r h a =
+    with_pc_ranges (set r 10 v) ((r.pc + 4) % 2 ^ 32) (omega arith) (set_ranges r 10 v h a)
 
-pub new_ranges : (pc sp argument : ℕ) → pc < 2 ^ 32 → sp < 2 ^ 32 → argument < 2 ^ 32 → AreRegisters (new_registers pc sp argument)
-new_ranges pc sp argument p s a = set_ranges (set (blank pc) 2 sp) 10 argument a (set_ranges (blank pc) 2 sp s (blank_ranges pc p))
+pub new_ranges : (pc sp argument : ℕ) → pc < 2 ^ 32 → sp < 2 ^ 32 → argument < 2 ^ 32
+    → AreRegisters (new_registers pc sp argument)
+new_ranges pc sp argument p s a =
+    set_ranges (set (blank pc) 2 sp) 10 argument a
+    (set_ranges (blank pc) 2 sp s (blank_ranges pc p))
 
 -- ---- changes of a thread's run
 
-pub registers_change : (f : Registers → Registers) → ((r : Registers) → AreRegisters r → AreRegisters (f r)) → ChangesRun (registers_by f)
-registers_change f ranges = record { rest = λ thread. refl; ranges = λ thread a. ranges thread.registers a }
+pub registers_change : (f : Registers → Registers)
+    → ((r : Registers) → AreRegisters r → AreRegisters (f r)) → ChangesRun (registers_by f)
+registers_change f ranges =
+    record { rest = λ thread. refl; ranges = λ thread a. ranges thread.registers a }
 
 -- an answer of a service
 pub answered_change : (v : ℕ) → v < 2 ^ 32 → ChangesRun (registers_by (answered v))
@@ -67,14 +85,19 @@ released_change = registers_change released (λ r a. with_held_ranges r None tt 
 
 -- the cost of a service
 pub charged_change : ChangesRun charged
-charged_change = record { rest = λ thread. refl; ranges = λ thread a. with_held_ranges thread.registers None tt a }
+charged_change = record {
+  rest = λ thread. refl;
+  ranges =
+      λ thread a. with_held_ranges thread.registers None tt a;
+}
 
 -- the cost of an instruction
 pub paid_change : (r : Registers) → AreRegisters r → ChangesRun (paid_by r)
 paid_change r a = record { rest = λ thread. refl; ranges = λ thread was. a }
 
 -- other registers and another budget
-pub run_change : (r : Registers) (budget : ℕ) → AreRegisters r → ChangesRun (λ thread. record thread { registers = r; budget = budget })
+pub run_change : (r : Registers) (budget : ℕ) → AreRegisters r
+    → ChangesRun (λ thread. record thread { registers = r; budget = budget })
 run_change r budget a = record { rest = λ thread. refl; ranges = λ thread was. a }
 
 -- another budget

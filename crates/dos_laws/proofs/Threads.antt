@@ -1,4 +1,5 @@
--- Other threads in a lawful world: what they must keep, and a change of one of them that leaves all but its registers and its budget.
+-- Other threads in a lawful world: what they must keep, and a change of one of them that leaves all
+-- but its registers and its budget.
 use Rattle.std.proofs.Common.{ℕ, ◌≤◌, ◌≡◌, ◌≢◌, refl, sym, ap, ◌∙◌, subst, List, [], length, Option, Some, None, option_map, arith}
 use Rattle.std.specs.Prelude.{All, option_and_then, IfSome, IsTrue, is_some, ◌==◌}
 use Rattle.dos_world.specs.Numbered.{numbered, changed, numbers_of}
@@ -11,7 +12,8 @@ use Rattle.dos_laws.proofs.Numbers.{length-changed, numbers_same, each_kept, eac
 
 -- ---- other threads
 
--- what the threads of a lawful world must keep, so that the world with these in their place is lawful
+-- what the threads of a lawful world must keep, so that the world with these in their place is
+-- lawful
 pub record AreKept (w : World) (ts : List (Option Thread)) : Type 0 where
   pub count : length w.threads ≤ length ts
   pub populated : (p : ℕ) → IsTrue (is_some (live_process w p)) → numbers_of (belongs_to p) ts ≢ []
@@ -19,28 +21,51 @@ pub record AreKept (w : World) (ts : List (Option Thread)) : Type 0 where
   pub asleep : (t : ℕ) → turns_asleep (flat (numbered ts t)) ≡ turns_asleep (thread_at w t)
   pub limits : (length (numbers_of is_some ts) ≤ 64) × (length ts ≤ 65535)
 
-pub lawful-with_threads : (w : World) (ts : List (Option Thread)) → AreKept w ts → Lawful w → Lawful (record w { threads = ts })
+pub lawful-with_threads : (w : World) (ts : List (Option Thread)) → AreKept w ts → Lawful w
+    → Lawful (record w { threads = ts })
 lawful-with_threads w ts kept l = record {
   frames = record {
     bytes = l.frames.bytes;
     free = l.frames.free;
-    owned = λ frame t e. let was = l.frames.owned frame t e in (was.0, omega (arith, was.1, kept.count));
+    owned = λ frame t e.
+        let was = l.frames.owned frame t e in (was.0, omega (arith, was.1, kept.count));
   };
   processes = record {
     holdings = l.processes.holdings;
     private = l.processes.private;
     populated = kept.populated;
+    statuses = l.processes.statuses;
     parents = l.processes.parents;
     given = (l.processes.given.0, omega (arith, l.processes.given.1, kept.count));
   };
-  threads = record { ranges = kept.ranges; asleep = λ t. l.threads.asleep t ∙ sym (kept.asleep t); sleepers = l.threads.sleepers };
+  threads = record {
+    ranges = kept.ranges;
+    asleep = λ t. l.threads.asleep t ∙ sym (kept.asleep t);
+    sleepers = l.threads.sleepers;
+  };
   pipes = record { ranges = l.pipes.ranges; closed = l.pipes.closed };
-  limits = record { threads = kept.limits; processes = l.limits.processes; frames = l.limits.frames };
+  limits = record {
+    threads = kept.limits;
+    processes = l.limits.processes;
+    frames =
+        l.limits.frames;
+  };
   run = l.run;
 }
 
-pub plain-with_threads : (w : World) (ts : List (Option Thread)) → ((t : ℕ) → IfSome (flat (numbered ts t)) IsPlainThread) → IsPlain w → IsPlain (record w { threads = ts })
-plain-with_threads w ts threads p = record { built = p.built; parents = p.parents; threads = threads; sleepers = p.sleepers; pipes = p.pipes; descriptors = p.descriptors }
+pub plain-with_threads : (w : World) (ts : List (Option Thread))
+    → ((t : ℕ) → IfSome (flat (numbered ts t)) IsPlainThread) → IsPlain w
+    → IsPlain (record w { threads = ts })
+plain-with_threads w ts threads p =
+    record {
+      built = p.built;
+      parents = p.parents;
+      threads = threads;
+      sleepers = p.sleepers;
+      pipes =
+          p.pipes;
+      descriptors = p.descriptors;
+    }
 
 -- ---- a change of one thread
 
@@ -50,8 +75,30 @@ pub record ChangesRun (f : Thread → Thread) : Type 0 where
   pub ranges : (thread : Thread) → AreRegisters thread.registers → AreRegisters (f thread).registers
 
 -- what holds of a thread without its run holds of what such a change leaves
-of_rest : (P : Thread → Type 0) (f : Thread → Thread) → ((thread : Thread) → without_run (f thread) ≡ without_run thread) → (thread : Thread) → P (without_run thread) → P (without_run (f thread))
+of_rest : (P : Thread → Type 0) (f : Thread → Thread)
+    → ((thread : Thread) → without_run (f thread) ≡ without_run thread) → (thread : Thread)
+    → P (without_run thread) → P (without_run (f thread))
 of_rest P f rest thread h = subst P (sym (rest thread)) h
+
+-- It leaves a plain world plain, whatever the registers.
+pub plain-changed : (f : Thread → Thread)
+    → ((thread : Thread) → without_run (f thread) ≡ without_run thread)
+    → (w : World) (t : ℕ) → IsPlain w → IsPlain (with_thread w t f)
+plain-changed f rest w t p =
+    plain-with_threads w (changed (option_map f) w.threads t)
+    (each_kept IsPlainThread f plain_kept w.threads t p.threads) p
+  where
+    plain_kept : (thread : Thread) → IsPlainThread thread → IsPlainThread (f thread)
+    plain_kept thread is = record {
+      state = of_rest (λ x. x.state ≡ Ready) f rest thread is.state;
+      pending = of_rest (λ x. x.pending ≡ 0) f rest thread is.pending;
+      mask = of_rest (λ x. x.mask ≡ 0) f rest thread is.mask;
+      saved = of_rest (λ x. x.saved ≡ []) f rest thread is.saved;
+    }
+
+pub plain-with_thread : (f : Thread → Thread) → ChangesRun f → (w : World) (t : ℕ) → IsPlain w
+    → IsPlain (with_thread w t f)
+plain-with_thread f c w t p = plain-changed f c.rest w t p
 
 module _ (f : Thread → Thread) (c : ChangesRun f) where
   belonging : (p : ℕ) (o : Option Thread) → belongs_to p (option_map f o) ≡ belongs_to p o
@@ -68,33 +115,33 @@ module _ (f : Thread → Thread) (c : ChangesRun f) where
 
   thread_kept : (ps : List Process) (thread : Thread) → IsThread ps thread → IsThread ps (f thread)
   thread_kept ps thread is = record {
-    process = of_rest (λ x. IsTrue (is_some (option_and_then holdings_of (numbered ps x.process)))) f c.rest thread is.process;
+    process =
+        of_rest (λ x. IsTrue (is_some (option_and_then holdings_of (numbered ps x.process)))) f
+        c.rest thread is.process;
     registers = c.ranges thread is.registers;
     pending = of_rest (λ x. IsPending x.pending) f c.rest thread is.pending;
     mask = of_rest (λ x. IsMask x.mask) f c.rest thread is.mask;
     saved = of_rest (λ x. (length x.saved ≤ 4) × All IsSaved x.saved) f c.rest thread is.saved;
   }
 
-  plain_kept : (thread : Thread) → IsPlainThread thread → IsPlainThread (f thread)
-  plain_kept thread is = record {
-    state = of_rest (λ x. x.state ≡ Ready) f c.rest thread is.state;
-    pending = of_rest (λ x. x.pending ≡ 0) f c.rest thread is.pending;
-    mask = of_rest (λ x. x.mask ≡ 0) f c.rest thread is.mask;
-    saved = of_rest (λ x. x.saved ≡ []) f c.rest thread is.saved;
-  }
-
   pub lawful-with_thread : (w : World) (t : ℕ) → Lawful w → Lawful (with_thread w t f)
   lawful-with_thread w t l =
       lawful-with_threads w (changed (option_map f) w.threads t) (record {
         count = omega (arith, length-changed (option_map f) w.threads t);
-        populated = λ p lives e. l.processes.populated p lives (sym (numbers_same (option_map f) (belongs_to p) (belonging p) w.threads t) ∙ e);
-        ranges = each_kept (IsThread w.processes) f (thread_kept w.processes) w.threads t l.threads.ranges;
+        populated = λ p lives e.
+            l.processes.populated p lives
+            (sym (numbers_same (option_map f) (belongs_to p) (belonging p) w.threads t) ∙ e);
+        ranges =
+            each_kept (IsThread w.processes) f (thread_kept w.processes) w.threads t
+            l.threads.ranges;
         asleep = each_same turns_asleep f sleeping w.threads t;
         limits = (
-          omega (arith, l.limits.threads.0, ap (λ (ns : List ℕ). length ns) (numbers_same (option_map f) is_some living w.threads t)),
+          omega (
+            arith,
+            l.limits.threads.0,
+            ap (λ (ns : List ℕ). length ns)
+                (numbers_same (option_map f) is_some living w.threads t),
+          ),
           omega (arith, l.limits.threads.1, length-changed (option_map f) w.threads t),
         );
       }) l
-
-  pub plain-with_thread : (w : World) (t : ℕ) → IsPlain w → IsPlain (with_thread w t f)
-  plain-with_thread w t p = plain-with_threads w (changed (option_map f) w.threads t) (each_kept IsPlainThread f plain_kept w.threads t p.threads) p

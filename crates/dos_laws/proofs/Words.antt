@@ -40,7 +40,8 @@ plus_word a z = omega arith
 -- ---- shifts
 
 shifted_word : (a n : ℕ) → a < 2 ^ 32 → IsWord (unsigned (int_shr (signed a) n))
-shifted_word a n h = unsigned_word (int_shr (signed a) n) (omega (arith, mag_shr (signed a) (2 ^ n), signed_mag a h))
+shifted_word a n h =
+    unsigned_word (int_shr (signed a) n) (omega (arith, mag_shr (signed a) (2 ^ n), signed_mag a h))
 
 -- ---- products
 
@@ -51,8 +52,11 @@ upper_mag (negsuc n) h = omega arith
 signed_abs : (a : ℕ) → a < 2 ^ 32 → unsigned_abs (signed a) ≤ 2 ^ 31
 signed_abs a h = omega (arith, ints)
 
-upper_word : (x y : ℤ) (m n : ℕ) → unsigned_abs x ≤ m → unsigned_abs y ≤ n → m * n < 2 ^ 63 → IsWord (unsigned (int_shr (x *ℤ y) 32))
-upper_word x y m n h k less = let fits : SFits w64 (x *ℤ y) = fits_signed_mul w64 x y m n h k less in unsigned_word (int_shr (x *ℤ y) 32) (upper_mag (x *ℤ y) fits.sfits)
+upper_word : (x y : ℤ) (m n : ℕ) → unsigned_abs x ≤ m → unsigned_abs y ≤ n → m * n < 2 ^ 63
+    → IsWord (unsigned (int_shr (x *ℤ y) 32))
+upper_word x y m n h k less =
+    let fits : SFits w64 (x *ℤ y) = fits_signed_mul w64 x y m n h k less in
+    unsigned_word (int_shr (x *ℤ y) 32) (upper_mag (x *ℤ y) fits.sfits)
 
 upper_unsigned : (a b : ℕ) → a < 2 ^ 32 → b < 2 ^ 32 → a * b / 2 ^ 32 < 2 ^ 32
 upper_unsigned a b h k = omega (arith, mul-lt a b (2 ^ 32) (2 ^ 32) h k)
@@ -71,15 +75,21 @@ quotient_mag (negsuc a) (negsuc b) = omega (arith, div-le_self (suc a) (suc b))
 
 quotient_word : (a b : ℕ) → a < 2 ^ 32 → IsWord (quotient a b)
 quotient_word a b h =
-    cond_both (b == 0) 0xFFFFFFFF (unsigned (int_div (signed a) (signed b))) IsWord (λ e. omega arith)
-    (λ e. unsigned_word (int_div (signed a) (signed b)) (omega (arith, quotient_mag (signed a) (signed b), signed_mag a h)))
+    cond_both (b == 0) 0xFFFFFFFF (unsigned (int_div (signed a) (signed b))) IsWord
+    (λ e. omega arith)
+    (λ e. unsigned_word (int_div (signed a) (signed b))
+    (omega (arith, quotient_mag (signed a) (signed b), signed_mag a h)))
 
 remainder_word : (a b : ℕ) → a < 2 ^ 32 → IsWord (remainder a b)
-remainder_word a b h = cond_both (b == 0) a (unsigned (int_rem (signed a) (signed b))) IsWord (λ e. h) (λ e. unsigned_word (int_rem (signed a) (signed b)) (omega (arith, mag_rem (signed a) (signed b), signed_mag a h)))
+remainder_word a b h =
+    cond_both (b == 0) a (unsigned (int_rem (signed a) (signed b))) IsWord (λ e. h)
+    (λ e. unsigned_word (int_rem (signed a) (signed b))
+    (omega (arith, mag_rem (signed a) (signed b), signed_mag a h)))
 
 -- ---- registers with registers
 
-pub register_word : (op : RegOp) (a b : ℕ) → a < 2 ^ 32 → b < 2 ^ 32 → IsWord (register_result op a b)
+pub register_word : (op : RegOp) (a b : ℕ) → a < 2 ^ 32 → b < 2 ^ 32
+    → IsWord (register_result op a b)
 register_word Add a b h k = omega arith
 register_word Sub a b h k = omega arith
 register_word Sll a b h k = omega arith
@@ -91,13 +101,18 @@ register_word Sra a b h k = shifted_word a (b % 32) h
 register_word Or a b h k = or_lt 32 a b h k
 register_word And a b h k = and_lt 32 a b h k
 register_word Mul a b h k = omega arith
-register_word Mulh a b h k = upper_word (signed a) (signed b) (2 ^ 31) (2 ^ 31) (signed_abs a h) (signed_abs b k) (lit< tt)
-register_word Mulhsu a b h k = upper_word (signed a) (pos b) (2 ^ 31) (2 ^ 32 - 1) (signed_abs a h) (omega arith) (lit< tt)
+register_word Mulh a b h k =
+    upper_word (signed a) (signed b) (2 ^ 31) (2 ^ 31) (signed_abs a h) (signed_abs b k) (lit< tt)
+register_word Mulhsu a b h k =
+    upper_word (signed a) (pos b) (2 ^ 31) (2 ^ 32 - 1) (signed_abs a h) (omega arith) (lit< tt)
 register_word Mulhu a b h k = upper_unsigned a b h k
 register_word Div a b h k = quotient_word a b h
-register_word Divu a b h k = cond_both (b == 0) 0xFFFFFFFF (a / b) IsWord (λ e. omega arith) (λ e. omega (arith, div-le_self a b))
+register_word Divu a b h k =
+    cond_both (b == 0) 0xFFFFFFFF (a / b) IsWord (λ e. omega arith)
+    (λ e. omega (arith, div-le_self a b))
 register_word Rem a b h k = remainder_word a b h
-register_word Remu a b h k = cond_both (b == 0) a (a % b) IsWord (λ e. h) (λ e. omega (arith, mod-le a b))
+register_word Remu a b h k =
+    cond_both (b == 0) a (a % b) IsWord (λ e. h) (λ e. omega (arith, mod-le a b))
 
 -- ---- registers with immediates
 
@@ -105,7 +120,8 @@ immediate_bits : (z : ℤ) → IsImmediate z → IsWord (unsigned z)
 immediate_bits (pos n) h = omega (arith, ints, h.1)
 immediate_bits (negsuc n) h = omega arith
 
-pub immediate_word : (op : ImmOp) (a : ℕ) (z : ℤ) → a < 2 ^ 32 → IsImmediate z → IsWord (immediate_result op a z)
+pub immediate_word : (op : ImmOp) (a : ℕ) (z : ℤ) → a < 2 ^ 32 → IsImmediate z
+    → IsWord (immediate_result op a z)
 immediate_word Addi a z h is = plus_word a z
 immediate_word Slti a z h is = test_word (int_lt (signed a) z)
 immediate_word Sltiu a z h is = test_word (nat_lt a (unsigned z))
@@ -121,10 +137,14 @@ shift_word Srai a n h = shifted_word a n h
 -- ---- loads
 
 byte_extended : (n : ℕ) → n < 2 ^ 8 → IsWord (unsigned (cast_signed w8 n))
-byte_extended n h = let fits : SFits w8 (to_z w8 n) = search (arith, ints) in unsigned_word (to_z w8 n) (omega (arith, fits.sfits))
+byte_extended n h =
+    let fits : SFits w8 (to_z w8 n) = search (arith, ints) in
+    unsigned_word (to_z w8 n) (omega (arith, fits.sfits))
 
 half_extended : (n : ℕ) → n < 2 ^ 16 → IsWord (unsigned (cast_signed w16 n))
-half_extended n h = let fits : SFits w16 (to_z w16 n) = search (arith, ints) in unsigned_word (to_z w16 n) (omega (arith, fits.sfits))
+half_extended n h =
+    let fits : SFits w16 (to_z w16 n) = search (arith, ints) in
+    unsigned_word (to_z w16 n) (omega (arith, fits.sfits))
 
 pub load_word : (op : LoadOp) (n : ℕ) → n < 2 ^ 32 → IsWord (load_result op n)
 load_word Lb n h = byte_extended (n % 2 ^ 8) (omega arith)

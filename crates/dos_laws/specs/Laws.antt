@@ -1,69 +1,95 @@
--- Laws of lawful and plain worlds; the functions of the module laws promise them.
-use Rattle.std.specs.Prelude.{ℕ, List, [], ◌≡◌, ◌<◌, All, Some, Ok, IsTrue, is_some}
+-- Laws of lawful worlds; the functions of the module laws promise them.
+use Rattle.std.specs.Prelude.{ℕ, List, ◌≡◌, ◌<◌, All, Some, Ok, IsTrue, is_some}
 use Rattle.dos_world.specs.World.{World, Thread, thread_at, live_process, entry_at}
 use Rattle.dos_world.specs.Lawful.{Lawful}
 use Rattle.dos_world.specs.Kernel.{process_ended, thread_ended}
 use Rattle.dos_world.specs.Play.{Answer, gives, over}
-use Rattle.dos_world.specs.Calls.{Served}
+use Rattle.dos_world.specs.Calls.{Call, Served}
+use Rattle.dos_world.specs.ProcessCalls.{forked}
 use Rattle.dos_world.specs.Services.{service}
 use Rattle.dos_world.specs.Signals.{signalled, ripen}
 use Rattle.dos_world.specs.declared.Entry.{Entry}
+use Rattle.dos_world.specs.declared.Post.{Post}
+use Rattle.dos_world.specs.declared.ThreadState.TheVariants.{Ready}
 use Rattle.rv_exec.specs.Step.{step}
+use Rattle.round_core.specs.Invariants.{Keeps}
 use Rattle.round_core.specs.Laws.{IsNoPage}
 use Rattle.round_core.specs.Rest.{settled, serial_of}
 use Rattle.round_core.specs.Round.{RoundEnd, parallel, round_of}
-use Rattle.dos_laws.specs.Plain.{IsPlain, LawfulAndPlain, IsInRun}
-use Rattle.dos_laws.specs.Plays.{HasNoSignal, world_served, world_ended}
+use Rattle.dos_laws.specs.Plays.{world_served, world_ended}
+use Rattle.dos_laws.specs.Standing.{IsAwake, AreAwake, AreApart, LawfulWith, IsPost, IsFit, fit_protocol}
 use Rattle.dos_laws.specs.Taken.{IsTaken}
 
 -- ---- what holds in a lawful world
 
 -- The process of a live thread lives.
 abbrev pub ThreadsHaveProcesses : Type 0
-ThreadsHaveProcesses = (w : World) (t : ℕ) (thread : Thread) → Lawful w → thread_at w t ≡ Some thread → IsTrue (is_some (live_process w thread.process))
+ThreadsHaveProcesses = (w : World) (t : ℕ) (thread : Thread) → Lawful w
+    → thread_at w t ≡ Some thread → IsTrue (is_some (live_process w thread.process))
 
 -- The frame of an entry is there, and isn't Free.
 abbrev pub EntriesAreTaken : Type 0
-EntriesAreTaken = (w : World) (t address : ℕ) (e : Entry) → Lawful w → entry_at w t address ≡ Some e → IsTaken w e.frame
+EntriesAreTaken = (w : World) (t address : ℕ) (e : Entry) → Lawful w
+    → entry_at w t address ≡ Some e → IsTaken w e.frame
 
 -- After three grants no instruction stops at a page.
 abbrev pub NoPageIsLeft : Type 0
 NoPageIsLeft = (w : World) (t : ℕ) → Lawful w → IsNoPage (settled 3 w t).1
 
--- ---- what does nothing in a plain world
+-- ---- what leaves every lawful world lawful, whatever pipes, sleepers, signals and children it has
 
--- Without posts nobody gets a signal, and nobody waits.
-abbrev pub NobodyIsSignalled : Type 0
-NobodyIsSignalled = (w : World) → IsPlain w → ripen (signalled w []) ≡ w
-
--- ---- what leaves a lawful and plain world lawful and plain, in the same round of the same run
+-- All that a round does, over all answers that fit: lawfulness is an invariant of the machine,
+-- whichever of the 24 services are built.
+abbrev pub LawfulnessIsKept : Type 0
+LawfulnessIsKept = Keeps fit_protocol LawfulWith
 
 -- an instruction
 abbrev pub StepsKeep : Type 0
-StepsKeep = (w w' : World) (t : ℕ) → step w t ≡ Ok w' → LawfulAndPlain w → IsInRun w.quantum w.rounds w'
+StepsKeep = (w next : World) (t : ℕ) → step w t ≡ Ok next → Lawful w → Lawful next
 
 -- the parallel phase
 abbrev pub ParallelPhasesKeep : Type 0
-ParallelPhasesKeep = (w : World) → LawfulAndPlain w → IsInRun w.quantum w.rounds (parallel w)
+ParallelPhasesKeep = (w : World) → Lawful w → Lawful (parallel w)
 
 -- the end of a process
 abbrev pub ProcessEndsKeep : Type 0
-ProcessEndsKeep = (w : World) (p status : ℕ) → LawfulAndPlain w → IsInRun w.quantum w.rounds (process_ended w p status)
+ProcessEndsKeep = (w : World) (p status : ℕ) → status < 256 → Lawful w
+    → Lawful (process_ended w p status)
 
--- the end of a thread
+-- the end of a thread that is ready
 abbrev pub ThreadEndsKeep : Type 0
-ThreadEndsKeep = (w : World) (t : ℕ) (thread : Thread) → thread_at w t ≡ Some thread → LawfulAndPlain w → IsInRun w.quantum w.rounds (thread_ended w thread.process t)
+ThreadEndsKeep = (w : World) (t : ℕ) (thread : Thread) → thread_at w t ≡ Some thread
+    → thread.state ≡ Ready → Lawful w → Lawful (thread_ended w thread.process t)
 
--- what is served for a thread, over any answers
+-- a fork that isn't refused, of a caller that is ready
+abbrev pub ForksKeep : Type 0
+ForksKeep = (c : Call) (v : World) (caller : Thread) → Lawful c.world
+    → thread_at c.world c.thread ≡ Some caller → caller.state ≡ Ready → caller.process ≡ c.process
+    → forked c ≡ Ok v → Lawful v
+
+-- what is served for a thread that is ready, or gone
 abbrev pub ServicesKeep : Type 0
-ServicesKeep = (w : World) (t : ℕ) (answers : List Answer) (served : Served) (rest : List Answer) → LawfulAndPlain w → over answers (service w t) ≡ gives served rest → IsInRun w.quantum w.rounds (world_served served)
+ServicesKeep = (w : World) (t : ℕ) (answers rest : List Answer) (served : Served)
+    → IsAwake w t → Lawful w → All IsFit answers
+    → over answers (service w t) ≡ gives served rest → Lawful (world_served served)
 
--- the serial phase, over any answers
+-- the serial phase of threads that are ready or gone, each once
 abbrev pub SerialPhasesKeep : Type 0
-SerialPhasesKeep = (w last : World) (starters : List ℕ) (answers rest : List Answer) → LawfulAndPlain w → over answers (serial_of w starters) ≡ gives last rest → IsInRun w.quantum w.rounds last
+SerialPhasesKeep = (w last : World) (starters : List ℕ) (answers rest : List Answer)
+    → AreAwake w starters → AreApart starters → Lawful w → All IsFit answers
+    → over answers (serial_of w starters) ≡ gives last rest → Lawful last
 
--- ---- a round
+-- the signal point: signals from 1 to 31 that are posted, and each thread's turn
+abbrev pub SignalPointsKeep : Type 0
+SignalPointsKeep = (w : World) (posts : List Post) → All IsPost posts → Lawful w
+    → Lawful (signalled w posts)
 
--- A round over answers without signals, where one is left, leaves such a world so.
+-- who waits no longer is ready
+abbrev pub RipeningKeeps : Type 0
+RipeningKeeps = (w : World) → Lawful w → Lawful (ripen w)
+
+-- a round, where one is left to be counted
 abbrev pub RoundsKeep : Type 0
-RoundsKeep = (w : World) (end : RoundEnd) (answers rest : List Answer) → w.rounds < 1000000 → LawfulAndPlain w → All HasNoSignal answers → over answers (round_of w) ≡ gives end rest → LawfulAndPlain (world_ended end)
+RoundsKeep = (w : World) (end : RoundEnd) (answers rest : List Answer) → w.rounds < 1000000
+    → Lawful w → All IsFit answers
+    → over answers (round_of w) ≡ gives end rest → Lawful (world_ended end)

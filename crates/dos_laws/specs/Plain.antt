@@ -1,11 +1,14 @@
--- Which worlds are plain: those that come of images and their threads alone, with no child, signal, pipe or sleeper. This project's own rule.
-use Rattle.std.specs.Prelude.{ℕ, [], replicate, Option, Some, ◌≡◌, All, IfSome, ⊤}
+-- Which worlds are plain: those that come of images and their threads alone, with no child, signal,
+-- pipe or sleeper. This project's own rule.
+use Rattle.std.specs.Prelude.{ℕ, Bool, IsTrue, List, [], ◌∷◌, replicate, ◌==◌, Option, Some, ◌≡◌, All, IfSome, ⊤}
+use Rattle.std.specs.List.{list_any, list_all}
 use Rattle.dos_world.specs.World.{World, Process, Holdings, Thread, all_holdings, thread_at}
-use Rattle.dos_world.specs.Services.{services_today}
 use Rattle.dos_world.specs.Lawful.{Lawful}
 use Rattle.dos_world.specs.declared.End.{End}
 use Rattle.dos_world.specs.declared.End.TheVariants.{PipeRead, PipeWrite}
 use Rattle.dos_world.specs.declared.ThreadState.TheVariants.{Ready}
+use Rattle.round_core.specs.Invariants.{IsOf}
+use Rattle.dos_laws.specs.Standing.{LawfulWith}
 
 -- a thread to which no signal came, and which neither waits nor sleeps
 pub record IsPlainThread (thread : Thread) : Type 0 where
@@ -28,9 +31,18 @@ IsNoPipe _ = ⊤
 abbrev pub HasNoPipe : Holdings → Type 0
 HasNoPipe h = All IsNoPipe h.descriptors
 
--- A plain world. No kernel with today's services comes to any other.
+-- the services that leave a plain world plain, and ask nothing: none of them forks, waits, or makes
+-- a pipe, a signal or a mask
+abbrev pub plain_services : List ℕ
+plain_services = 1 ∷ 2 ∷ 3 ∷ 8 ∷ 20 ∷ 21 ∷ 23 ∷ 24 ∷ []
+
+-- whether this is the number of one of them
+abbrev pub is_plain_service : ℕ → Bool
+is_plain_service number = list_any (λ n. n == number) plain_services
+
+-- A plain world: to no other does a kernel come in which these services alone are built.
 pub record IsPlain (w : World) : Type 0 where
-  pub built : w.built ≡ services_today
+  pub built : IsTrue (list_all is_plain_service w.built)
   pub parents : All IsOrphan w.processes
   pub threads : (t : ℕ) → IfSome (thread_at w t) IsPlainThread
   pub sleepers : w.sleepers ≡ []
@@ -42,9 +54,9 @@ pub record LawfulAndPlain (w : World) : Type 0 where
   pub lawful : Lawful w
   pub plain : IsPlain w
 
--- such a world in a run with this quantum, after so many rounds
-pub record IsInRun (quantum rounds : ℕ) (w : World) : Type 0 where
-  pub lawful : Lawful w
+-- such a world in a run with this quantum, after so many rounds, in which these threads may have
+-- their serial parts
+pub record PlainWith (quantum rounds : ℕ) (built : List ℕ) (ts : List ℕ) (w : World) : Type 0 where
+  pub lawful : LawfulWith ts w
   pub plain : IsPlain w
-  pub same_quantum : w.quantum ≡ quantum
-  pub same_rounds : w.rounds ≡ rounds
+  pub same : IsOf quantum rounds built w

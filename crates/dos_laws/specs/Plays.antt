@@ -1,9 +1,11 @@
--- What a play comes to over the answers that may be given, and the world in what it comes to. This project's own words.
-use Rattle.std.specs.Prelude.{[], ◌≡◌}
+-- The world in what a play comes to, and the answers without signals. This project's own words.
+use Rattle.std.specs.Prelude.{[], ◌≡◌, All}
+use Rattle.std.proofs.Common.{sym, subst}
+use Rattle.std.proofs.lemmas.List.Elements.{All-nil}
 use Rattle.dos_world.specs.World.{World}
-use Rattle.dos_world.specs.Play.{Play, Answer, done, ask, posts_of}
+use Rattle.dos_world.specs.Play.{Answer, posts_of}
 use Rattle.dos_world.specs.Calls.{Served, went, waits, yields, gone}
-use Rattle.round_core.specs.Rest.{Turn, on, over_with}
+use Rattle.round_core.specs.Protocol.{Protocol}
 use Rattle.round_core.specs.Round.{RoundEnd, finished, stalled}
 use Rattle.round_core.specs.Round.{went as went_on}
 
@@ -11,10 +13,14 @@ use Rattle.round_core.specs.Round.{went as went_on}
 abbrev pub HasNoSignal : Answer → Type 0
 HasNoSignal answer = posts_of answer ≡ []
 
--- Whatever the answers, where each is one of these, what the play gives is so.
-abbrev pub Gives : {A : Type 0} → (Answer → Type 0) → (A → Type 0) → Play A → Type 0
-Gives answers P (done a) = P a
-Gives answers P (ask question output error next) = (answer : Answer) → answers answer → Gives answers P (next answer)
+-- no question, and no signal
+abbrev pub plain_protocol : Protocol
+plain_protocol = record {
+  may = λ question output error. ⊥;
+  answers = HasNoSignal;
+  posts = λ post. ⊥;
+  brings = λ answer none. subst (All (λ post. ⊥)) (sym none) (All-nil (λ post. ⊥));
+}
 
 -- the world after a service
 abbrev pub world_served : Served → World
@@ -22,11 +28,6 @@ world_served (went w) = w
 world_served (waits w) = w
 world_served (yields w) = w
 world_served (gone w) = w
-
--- the world after a turn
-abbrev pub world_turned : Turn → World
-world_turned (on w) = w
-world_turned (over_with w) = w
 
 -- the world after a round
 abbrev pub world_ended : RoundEnd → World

@@ -1,5 +1,8 @@
 // Laws of the definitions, as contracts of functions that do nothing.
-ghost use Rattle.dos_laws.specs.Laws.{ThreadsHaveProcesses, EntriesAreTaken, NoPageIsLeft, NobodyIsSignalled, StepsKeep, ParallelPhasesKeep, ProcessEndsKeep, ThreadEndsKeep, ServicesKeep, SerialPhasesKeep, RoundsKeep};
+ghost use Rattle.dos_laws.specs.Laws.{EntriesAreTaken, ForksKeep, LawfulnessIsKept, NoPageIsLeft, ParallelPhasesKeep, ProcessEndsKeep, RipeningKeeps, RoundsKeep, SerialPhasesKeep, ServicesKeep, SignalPointsKeep, StepsKeep, ThreadEndsKeep, ThreadsHaveProcesses};
+ghost use Rattle.dos_laws.specs.PlainLaws.{NobodyIsSignalled, PlainEndsKeep, PlainRoundsKeep, PlainnessIsKept};
+
+// ---- what holds in a lawful world
 
 /// In a lawful world the process of a live thread lives.
 pub fn threads_have_processes()
@@ -16,45 +19,88 @@ pub fn no_page_is_left()
     ensures { NoPageIsLeft }
 {}
 
+// ---- what leaves every lawful world lawful
+
+/// Lawfulness is an invariant of the machine: all that a round does keeps it, whichever of the 24
+/// services are built, over all answers that fit.
+pub fn lawfulness_is_kept()
+    ensures { LawfulnessIsKept }
+{}
+
+/// An instruction leaves every lawful world lawful.
+pub fn steps_keep()
+    ensures { StepsKeep }
+{}
+
+/// The parallel phase leaves every lawful world lawful.
+pub fn parallel_phases_keep()
+    ensures { ParallelPhasesKeep }
+{}
+
+/// The end of a process leaves every lawful world lawful: with pipes, sleepers, signals, children
+/// and a parent.
+pub fn process_ends_keep()
+    ensures { ProcessEndsKeep }
+{}
+
+/// The end of a thread that is ready leaves every lawful world lawful.
+pub fn thread_ends_keep()
+    ensures { ThreadEndsKeep }
+{}
+
+/// A fork of a ready caller that isn't refused leaves every lawful world lawful.
+pub fn forks_keep()
+    ensures { ForksKeep }
+{}
+
+/// What is served for a ready thread leaves every lawful world lawful, whichever services are
+/// built, over all answers that fit.
+pub fn services_keep()
+    ensures { ServicesKeep }
+{}
+
+/// The serial phase of ready threads, each once, leaves every lawful world lawful, over all answers
+/// that fit.
+pub fn serial_phases_keep()
+    ensures { SerialPhasesKeep }
+{}
+
+/// The signal point leaves every lawful world lawful, where signals from 1 to 31 are posted.
+pub fn signal_points_keep()
+    ensures { SignalPointsKeep }
+{}
+
+/// The ripening of waiting threads leaves every lawful world lawful.
+pub fn ripening_keeps()
+    ensures { RipeningKeeps }
+{}
+
+/// A round leaves every lawful world lawful, over all answers that fit, where fewer than 1000000
+/// rounds were run.
+pub fn rounds_keep()
+    ensures { RoundsKeep }
+{}
+
+// ---- plain worlds, to which today's services come
+
 /// In a plain world a signal point without posts, and the ripening of waiting threads, do nothing.
 pub fn nobody_is_signalled()
     ensures { NobodyIsSignalled }
 {}
 
-/// An instruction leaves a lawful and plain world lawful and plain, in the same round.
-pub fn steps_keep()
-    ensures { StepsKeep }
+/// All that a round does but count itself leaves a lawful and plain world so, in the same round of
+/// the same run, and asks nothing but its signals.
+pub fn plainness_is_kept()
+    ensures { PlainnessIsKept }
 {}
 
-/// The parallel phase leaves a lawful and plain world lawful and plain, in the same round.
-pub fn parallel_phases_keep()
-    ensures { ParallelPhasesKeep }
+/// The end of a process leaves a lawful and plain world so, in the same round of the same run.
+pub fn plain_ends_keep()
+    ensures { PlainEndsKeep }
 {}
 
-/// The end of a process leaves a lawful and plain world lawful and plain, in the same round.
-pub fn process_ends_keep()
-    ensures { ProcessEndsKeep }
-{}
-
-/// The end of a thread leaves a lawful and plain world lawful and plain, in the same round, whether its process ends with
-/// it or not.
-pub fn thread_ends_keep()
-    ensures { ThreadEndsKeep }
-{}
-
-/// What is served for a thread leaves a lawful and plain world lawful and plain, in the same round, whatever the shim
-/// answers.
-pub fn services_keep()
-    ensures { ServicesKeep }
-{}
-
-/// The serial phase leaves a lawful and plain world lawful and plain, in the same round, whatever the shim answers.
-pub fn serial_phases_keep()
-    ensures { SerialPhasesKeep }
-{}
-
-/// A round leaves a lawful and plain world lawful and plain, where the shim posts no signal and fewer than 1000000 rounds
-/// were run.
-pub fn rounds_keep()
-    ensures { RoundsKeep }
+/// A round leaves a lawful and plain world so, where the shim posts no signal and fewer than
+/// 1000000 rounds were run.
+pub fn plain_rounds_keep()
+    ensures { PlainRoundsKeep }
 {}

@@ -22,36 +22,50 @@ use Rattle.dos_world.specs.declared.Size.TheVariants.{Byte}
 -- ---- which changes leave the threads
 
 opened_by : (w : World) (t : ℕ) (access : Access) (r : Reached)
-    → (elim r as (λ _. World) [ fault n ↦ w | foreign frame ↦ grant w t frame access | at place ↦ w ]).threads ≡ w.threads
+    → (elim r as (λ _. World) [
+      | fault n ↦ w
+      | foreign frame ↦ grant w t frame access
+      | at place ↦ w
+    ]).threads ≡ w.threads
 opened_by w t access (fault n) = refl
 opened_by w t access (foreign frame) = refl
 opened_by w t access (at place) = refl
 
-pub threads-opened : (w : World) (t address : ℕ) (access : Access) → (opened w t address access).threads ≡ w.threads
+pub threads-opened : (w : World) (t address : ℕ) (access : Access)
+    → (opened w t address access).threads ≡ w.threads
 threads-opened w t address access = opened_by w t access (reach w t address Byte access)
 
-pub threads-copied_in : (w : World) (t address n : ℕ) → (copied_in w t address n).0.threads ≡ w.threads
+pub threads-copied_in : (w : World) (t address n : ℕ)
+    → (copied_in w t address n).0.threads ≡ w.threads
 threads-copied_in w t address zero = refl
-threads-copied_in w t address (suc n) = threads-copied_in (opened w t address Load) t (suc address) n ∙ threads-opened w t address Load
+threads-copied_in w t address (suc n) =
+    threads-copied_in (opened w t address Load) t (suc address) n ∙ threads-opened w t address Load
 
-pub threads-copied_out : (w : World) (t address : ℕ) (bytes : List ℕ) → (copied_out w t address bytes).threads ≡ w.threads
+pub threads-copied_out : (w : World) (t address : ℕ) (bytes : List ℕ)
+    → (copied_out w t address bytes).threads ≡ w.threads
 threads-copied_out w t address [] = refl
 threads-copied_out w t address (b ∷ bytes) =
     let before : World = opened w t address Store in
-    threads-copied_out (stored before (place_of before t address Store) (b ∷ [])) t (suc address) bytes ∙ threads-opened w t address Store
+    threads-copied_out (stored before (place_of before t address Store) (b ∷ [])) t
+    (suc address) bytes ∙ threads-opened w t address Store
 
-pub threads-copied_space : (w : World) (t : ℕ) (space : List (ℕ × Entry)) → (copied_space w t space).0.threads ≡ w.threads
+pub threads-copied_space : (w : World) (t : ℕ) (space : List (ℕ × Entry))
+    → (copied_space w t space).0.threads ≡ w.threads
 threads-copied_space w t [] = refl
-threads-copied_space w t (e ∷ space) = by_shared (λ next. threads-copied_space next t space) e.1.shared
+threads-copied_space w t (e ∷ space) =
+    by_shared (λ next. threads-copied_space next t space) e.1.shared
   where
     by_shared : ((next : World) → (copied_space next t space).0.threads ≡ next.threads) → (b : Bool)
-        → (copied_space (cond b w (with_fresh w t (page_of w.bytes e.1.frame))) t space).0.threads ≡ w.threads
+        → (copied_space (cond b w (with_fresh w t (page_of w.bytes e.1.frame))) t space).0.threads
+        ≡ w.threads
     by_shared rest true = rest w
     by_shared rest false = rest (with_fresh w t (page_of w.bytes e.1.frame))
 
-pub threads-mapped_fresh : (c : Call) (w : World) (pages : List ℕ) → (mapped_fresh c w pages).threads ≡ w.threads
+pub threads-mapped_fresh : (c : Call) (w : World) (pages : List ℕ)
+    → (mapped_fresh c w pages).threads ≡ w.threads
 threads-mapped_fresh c w [] = refl
-threads-mapped_fresh c w (page ∷ pages) = threads-mapped_fresh c (page_mapped c.thread c.process c.a2 w page) pages
+threads-mapped_fresh c w (page ∷ pages) =
+    threads-mapped_fresh c (page_mapped c.thread c.process c.a2 w page) pages
 
 -- ---- a thread with its registers
 
@@ -65,13 +79,17 @@ abbrev pub lives : List (Option Thread) → ℕ → Bool
 lives threads t = has_a0 (flat (numbered threads t))
 
 -- what keeps the number of registers keeps that
-pub lives-changed : (f : Thread → Thread) → ((thread : Thread) → length (f thread).registers.numbers ≡ length thread.registers.numbers)
-    → (threads : List (Option Thread)) (s t : ℕ) → lives (changed (option_map f) threads s) t ≡ lives threads t
+pub lives-changed : (f : Thread → Thread)
+    → ((thread : Thread) → length (f thread).registers.numbers ≡ length thread.registers.numbers)
+    → (threads : List (Option Thread)) (s t : ℕ)
+    → lives (changed (option_map f) threads s) t ≡ lives threads t
 lives-changed f keeps threads zero t = refl
 lives-changed f keeps threads (suc s) zero = refl
 lives-changed f keeps threads (suc s) (suc t) = walk threads s t
   where
-    walk : (threads : List (Option Thread)) (s t : ℕ) → has_a0 (flat (slice_get (changed_at (option_map f) threads s) t)) ≡ has_a0 (flat (slice_get threads t))
+    walk : (threads : List (Option Thread)) (s t : ℕ)
+        → has_a0 (flat (slice_get (changed_at (option_map f) threads s) t))
+        ≡ has_a0 (flat (slice_get threads t))
     walk [] s t = refl
     walk (None ∷ threads) zero zero = refl
     walk (Some thread ∷ threads) zero zero = ap (nat_lt 10) (keeps thread)
@@ -79,30 +97,41 @@ lives-changed f keeps threads (suc s) (suc t) = walk threads s t
     walk (x ∷ threads) (suc s) zero = refl
     walk (x ∷ threads) (suc s) (suc t) = walk threads s t
 
-pub lives-more : (threads more : List (Option Thread)) (t : ℕ) → IsTrue (lives threads t) → IsTrue (lives (threads ++ more) t)
+pub lives-more : (threads more : List (Option Thread)) (t : ℕ) → IsTrue (lives threads t)
+    → IsTrue (lives (threads ++ more) t)
 lives-more threads more zero h = h
 lives-more threads more (suc t) h = walk threads t h
   where
-    walk : (threads : List (Option Thread)) (t : ℕ) → IsTrue (has_a0 (flat (slice_get threads t))) → IsTrue (has_a0 (flat (slice_get (threads ++ more) t)))
+    walk : (threads : List (Option Thread)) (t : ℕ) → IsTrue (has_a0 (flat (slice_get threads t)))
+        → IsTrue (has_a0 (flat (slice_get (threads ++ more) t)))
     walk [] t h = absurd (true≢false (sym h))
     walk (x ∷ threads) zero h = h
     walk (x ∷ threads) (suc t) h = walk threads t h
 
-pub numbers-set : (r : Registers) (index value : ℕ) → length (set r index value).numbers ≡ length r.numbers
+pub numbers-set : (r : Registers) (index value : ℕ)
+    → length (set r index value).numbers ≡ length r.numbers
 numbers-set r zero value = refl
 numbers-set r (suc i) value = length-set r.numbers (suc i) value
 
-pub lives-woken : (w : World) (s value t : ℕ) → lives (woken w s value).threads t ≡ lives w.threads t
-lives-woken w s value t = lives-changed (awake value) (λ thread. numbers-set thread.registers 10 value) w.threads s t
+pub lives-woken : (w : World) (s value t : ℕ)
+    → lives (woken w s value).threads t ≡ lives w.threads t
+lives-woken w s value t =
+    lives-changed (awake value) (λ thread. numbers-set thread.registers 10 value) w.threads s t
 
-pub lives-all_woken : (w : World) (sleepers : List ℕ) (t : ℕ) → lives (all_woken w sleepers).threads t ≡ lives w.threads t
+pub lives-all_woken : (w : World) (sleepers : List ℕ) (t : ℕ)
+    → lives (all_woken w sleepers).threads t ≡ lives w.threads t
 lives-all_woken w [] t = refl
 lives-all_woken w (s ∷ sleepers) t = lives-all_woken (woken w s 0) sleepers t ∙ lives-woken w s 0 t
 
-pub lives-posted : (w : World) (p signal t : ℕ) → lives (posted w p signal).threads t ≡ lives w.threads t
+pub lives-posted : (w : World) (p signal t : ℕ)
+    → lives (posted w p signal).threads t ≡ lives w.threads t
 lives-posted w p signal t = by_first (first_thread w p)
   where
-    by_first : (o : Option ℕ) → lives (elim o as (λ _. World) [ None ↦ w | Some s ↦ with_thread w s (pending_with signal) ]).threads t ≡ lives w.threads t
+    by_first : (o : Option ℕ)
+        → lives (elim o as (λ _. World) [
+          | None ↦ w
+          | Some s ↦ with_thread w s (pending_with signal)
+        ]).threads t ≡ lives w.threads t
     by_first None = refl
     by_first (Some s) = lives-changed (pending_with signal) (λ thread. refl) w.threads s t
 
@@ -113,13 +142,18 @@ abbrev pub a0_of : Option Thread → Option ℕ
 a0_of thread = option_map (λ thread. get thread.registers 10) thread
 
 -- where t lives and its registers are changed so that a0 has a value
-pub a0-changed : (f : Registers → Registers) (value : ℕ) → ((r : Registers) → 10 < length r.numbers → get (f r) 10 ≡ value)
-    → (threads : List (Option Thread)) (t : ℕ) → IsTrue (lives threads t) → a0_of (flat (numbered (changed (option_map (registers_by f)) threads t) t)) ≡ Some value
-a0-changed f value gives threads t h = ap a0_of (changed_there (registers_by f) threads t) ∙ by_thread (flat (numbered threads t)) h
+pub a0-changed : (f : Registers → Registers) (value : ℕ)
+    → ((r : Registers) → 10 < length r.numbers → get (f r) 10 ≡ value)
+    → (threads : List (Option Thread)) (t : ℕ) → IsTrue (lives threads t)
+    → a0_of (flat (numbered (changed (option_map (registers_by f)) threads t) t)) ≡ Some value
+a0-changed f value gives threads t h = ap a0_of (changed_there (registers_by f) threads t)
+    ∙ by_thread (flat (numbered threads t)) h
   where
-    by_thread : (o : Option Thread) → IsTrue (has_a0 o) → a0_of (option_map (registers_by f) o) ≡ Some value
+    by_thread : (o : Option Thread) → IsTrue (has_a0 o)
+        → a0_of (option_map (registers_by f) o) ≡ Some value
     by_thread None h = absurd (true≢false (sym h))
-    by_thread (Some thread) h = ap Some (gives thread.registers (ltb-true 10 (length thread.registers.numbers) h))
+    by_thread (Some thread) h =
+        ap Some (gives thread.registers (ltb-true 10 (length thread.registers.numbers) h))
 
 pub a0-set : (value : ℕ) (r : Registers) → 10 < length r.numbers → get (set r 10 value) 10 ≡ value
 a0-set value r h = get_or-set_same r.numbers 10 value 0 h

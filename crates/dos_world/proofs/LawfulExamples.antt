@@ -10,7 +10,12 @@ use Rattle.dos_world.proofs.LawfulTest.{lawful_by}
 
 -- one process with one thread and two pages, in 16 frames
 abbrev sixteen : World
-sixteen = record small { bytes = replicate (16 * 4096) 0; owners = Shared ∷ Of 1 ∷ replicate 14 Free; threads = Some a_thread ∷ [] }
+sixteen = record small {
+  bytes = replicate (16 * 4096) 0;
+  owners =
+      Shared ∷ Of 1 ∷ replicate 14 Free;
+  threads = Some a_thread ∷ [];
+}
 
 it_passes : is_lawful sixteen ≡ true
 it_passes = refl
@@ -26,10 +31,12 @@ three_frames = refl
 a_byte_is_missing : is_lawful (record sixteen { bytes = replicate 65535 0 }) ≡ false
 a_byte_is_missing = refl
 
-a_mapped_frame_is_free : is_lawful (record sixteen { owners = Free ∷ Of 1 ∷ replicate 14 Free }) ≡ false
+a_mapped_frame_is_free : is_lawful (record sixteen { owners = Free ∷ Of 1 ∷ replicate 14 Free })
+    ≡ false
 a_mapped_frame_is_free = refl
 
-an_unmapped_frame_is_owned : is_lawful (record sixteen { owners = Shared ∷ Of 1 ∷ Of 1 ∷ replicate 13 Free }) ≡ false
+an_unmapped_frame_is_owned : is_lawful
+    (record sixteen { owners = Shared ∷ Of 1 ∷ Of 1 ∷ replicate 13 Free }) ≡ false
 an_unmapped_frame_is_owned = refl
 
 no_such_owner : is_lawful (record sixteen { owners = Shared ∷ Of 2 ∷ replicate 14 Free }) ≡ false
@@ -43,33 +50,45 @@ nobody_was_made = refl
 a_process_without_a_thread : is_lawful (record sixteen { threads = None ∷ [] }) ≡ false
 a_process_without_a_thread = refl
 
-a_thread_without_a_process : is_lawful (record sixteen { threads = Some a_thread ∷ Some (record a_thread { process = 2 }) ∷ [] }) ≡ false
+a_thread_without_a_process : is_lawful
+    (record sixteen { threads = Some a_thread ∷ Some (record a_thread { process = 2 }) ∷ [] })
+    ≡ false
 a_thread_without_a_process = refl
 
-its_own_parent : is_lawful (record sixteen { processes = record a_process { parent = 1 } ∷ [] }) ≡ false
+its_own_parent : is_lawful (record sixteen { processes = record a_process { parent = 1 } ∷ [] })
+    ≡ false
 its_own_parent = refl
 
-register_0_is_5 : is_lawful (with_registers sixteen 1 (λ r. record r { numbers = 5 ∷ replicate 31 0 })) ≡ false
+register_0_is_5 : is_lawful
+    (with_registers sixteen 1 (λ r. record r { numbers = 5 ∷ replicate 31 0 })) ≡ false
 register_0_is_5 = refl
 
-signal_9_is_masked : is_lawful (with_thread sixteen 1 (λ thread. record thread { mask = 512 })) ≡ false
+signal_9_is_masked : is_lawful (with_thread sixteen 1 (λ thread. record thread { mask = 512 }))
+    ≡ false
 signal_9_is_masked = refl
 
-signal_0_is_pending : is_lawful (with_thread sixteen 1 (λ thread. record thread { pending = 1 })) ≡ false
+signal_0_is_pending : is_lawful (with_thread sixteen 1 (λ thread. record thread { pending = 1 }))
+    ≡ false
 signal_0_is_pending = refl
 
 -- ---- sleepers and pipes
 
-a_sleeper_who_is_awake : is_lawful (record sixteen { sleepers = record { thread = 1; frame = 1; offset = 0 } ∷ [] }) ≡ false
+a_sleeper_who_is_awake : is_lawful
+    (record sixteen { sleepers = record { thread = 1; frame = 1; offset = 0 } ∷ [] }) ≡ false
 a_sleeper_who_is_awake = refl
 
 asleep_but_not_in_the_queue : is_lawful (with_thread sixteen 1 (in_state Asleep)) ≡ false
 asleep_but_not_in_the_queue = refl
 
-asleep_in_the_queue : is_lawful (record (with_thread sixteen 1 (in_state Asleep)) { sleepers = record { thread = 1; frame = 1; offset = 0 } ∷ [] }) ≡ true
+asleep_in_the_queue : is_lawful
+    (record (with_thread sixteen 1 (in_state Asleep)) {
+      sleepers =
+          record { thread = 1; frame = 1; offset = 0 } ∷ [];
+    }) ≡ true
 asleep_in_the_queue = refl
 
-a_closed_pipe_holds_a_byte : is_lawful (record sixteen { pipes = (7 ∷ []) ∷ replicate 63 [] }) ≡ false
+a_closed_pipe_holds_a_byte : is_lawful (record sixteen { pipes = (7 ∷ []) ∷ replicate 63 [] })
+    ≡ false
 a_closed_pipe_holds_a_byte = refl
 
 -- ---- limits

@@ -6,19 +6,22 @@ use Rattle.dos_world.specs.World.{flat}
 
 -- ---- as many as before
 
-length-changed_at : {A : Type 0} (f : A → A) (xs : List A) (i : ℕ) → length (changed_at f xs i) ≡ length xs
+length-changed_at : {A : Type 0} (f : A → A) (xs : List A) (i : ℕ)
+    → length (changed_at f xs i) ≡ length xs
 length-changed_at f [] i = refl
 length-changed_at f (x ∷ xs) zero = refl
 length-changed_at f (x ∷ xs) (suc i) = ap suc (length-changed_at f xs i)
 
-pub length-changed : {A : Type 0} (f : A → A) (xs : List A) (t : ℕ) → length (changed f xs t) ≡ length xs
+pub length-changed : {A : Type 0} (f : A → A) (xs : List A) (t : ℕ)
+    → length (changed f xs t) ≡ length xs
 length-changed f xs zero = refl
 length-changed f xs (suc i) = length-changed_at f xs i
 
 -- ---- each element
 
 -- another element stands
-pub changed_other : {A : Type 0} (f : A → A) (xs : List A) (t s : ℕ) → s ≢ t → numbered (changed f xs t) s ≡ numbered xs s
+pub changed_other : {A : Type 0} (f : A → A) (xs : List A) (t s : ℕ) → s ≢ t
+    → numbered (changed f xs t) s ≡ numbered xs s
 changed_other f xs zero s other = refl
 changed_other f xs (suc i) zero other = refl
 changed_other f xs (suc i) (suc j) other = walk xs i j (λ e. other (ap suc e))
@@ -31,11 +34,13 @@ changed_other f xs (suc i) (suc j) other = walk xs i j (λ e. other (ap suc e))
     walk (x ∷ xs) (suc i) (suc j) other = walk xs i j (λ e. other (ap suc e))
 
 -- The one of the number is changed, where it is there.
-pub changed_there : {A : Type 0} (f : A → A) (xs : List (Option A)) (t : ℕ) → flat (numbered (changed (option_map f) xs t) t) ≡ option_map f (flat (numbered xs t))
+pub changed_there : {A : Type 0} (f : A → A) (xs : List (Option A)) (t : ℕ)
+    → flat (numbered (changed (option_map f) xs t) t) ≡ option_map f (flat (numbered xs t))
 changed_there f xs zero = refl
 changed_there {A} f xs (suc i) = at xs i
   where
-    at : (xs : List (Option A)) (i : ℕ) → flat (slice_get (changed_at (option_map f) xs i) i) ≡ option_map f (flat (slice_get xs i))
+    at : (xs : List (Option A)) (i : ℕ)
+        → flat (slice_get (changed_at (option_map f) xs i) i) ≡ option_map f (flat (slice_get xs i))
     at [] i = refl
     at (None ∷ xs) zero = refl
     at (Some x ∷ xs) zero = refl

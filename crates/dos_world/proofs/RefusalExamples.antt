@@ -1,4 +1,5 @@
--- Which refusal comes first, and where ranges and frames end, in a small world; computed by the checker. What each comes to was worked out by hand from its rule.
+-- Which refusal comes first, and where ranges and frames end, in a small world; computed by the
+-- checker. What each comes to was worked out by hand from its rule.
 use Rattle.std.specs.Prelude.{ℕ, [], ◌∷◌, replicate, Option, Some, None, ◌≡◌, refl}
 use Rattle.dos_world.specs.World.{World, thread_at, with_thread, with_registers, blank, set}
 use Rattle.dos_world.specs.Kernel.{minus, zero_page}
@@ -61,7 +62,15 @@ no_old_owner_changes = refl
 
 -- its thread: pc past the ecall, a0 is 0, no reservation
 the_child's_thread : thread_at (after (served part_shared 1 4 9 0 0)) 3
-    ≡ Some (record { process = 2; registers = set (set (blank 0x10008) 17 4) 10 0; budget = 0; state = Ready; pending = 0; mask = 0; saved = [] })
+    ≡ Some (record {
+      process = 2;
+      registers = set (set (blank 0x10008) 17 4) 10 0;
+      budget = 0;
+      state = Ready;
+      pending = 0;
+      mask = 0;
+      saved = [];
+    })
 unfolding services
 the_child's_thread = refl
 
@@ -138,7 +147,8 @@ no_such_service : refusal_for small 25 0 0 0 ≡ Some 38
 unfolding services refusals
 no_such_service = refl
 
--- In a world that isn't lawful the number of a process may read like a refusal: so the table is complete for lawful worlds.
+-- In a world that isn't lawful the number of a process may read like a refusal: so the table is
+-- complete for lawful worlds.
 abbrev many_processes : World
 many_processes = with_thread small 1 (λ thread. record thread { process = 0xFFFFFFEA })
 

@@ -1,4 +1,5 @@
--- What services answer in a small world, computed by the checker. What each comes to was worked out by hand from its rule.
+-- What services answer in a small world, computed by the checker. What each comes to was worked out
+-- by hand from its rule.
 use Rattle.std.specs.Prelude.{ℕ, true, false, [], ◌∷◌, map, replicate, Some, None, ◌≡◌, refl}
 use Rattle.dos_world.specs.World.{World, live, ended, thread_at, live_threads, entry_at, owner_of, get, with_thread, blank, set}
 use Rattle.dos_world.specs.Kernel.{minus, zero_page}
@@ -47,7 +48,8 @@ a_yield = refl
 
 -- the last thread of a process: its status is 0, its frames are free
 abbrev alone : World
-alone = after (served (world_with (replicate 4096 7) (a_process ∷ []) (Some a_thread ∷ [])) 1 1 0 0 0)
+alone = after (served (world_with (replicate 4096 7) (a_process ∷ []) (Some a_thread ∷ [])) 1 1 0 0
+    0)
 
 the_last_thread_exits : alone.processes ≡ record { parent = 0; life = ended 0 false } ∷ []
 unfolding services
@@ -71,7 +73,8 @@ unfolding services
 its_frame_stays = refl
 
 -- process_exit with 258: the status is 2, both threads are gone
-an_exit_ends_all : (after (served small 2 2 258 0 0)).processes ≡ record { parent = 0; life = ended 2 false } ∷ []
+an_exit_ends_all : (after (served small 2 2 258 0 0)).processes
+    ≡ record { parent = 0; life = ended 2 false } ∷ []
 unfolding services
 an_exit_ends_all = refl
 
@@ -137,7 +140,8 @@ nobody_can_write : reply 1 (served (after (served piped 1 9 4 0 0)) 1 7 3 0x1100
 unfolding services
 nobody_can_write = refl
 
-nobody_can_read : reply 1 (served (after (served piped 1 9 3 0 0)) 1 8 4 0x11000 1) ≡ (goes_on, minus 32)
+nobody_can_read : reply 1 (served (after (served piped 1 9 3 0 0)) 1 8 4 0x11000 1)
+    ≡ (goes_on, minus 32)
 unfolding services
 nobody_can_read = refl
 
@@ -174,7 +178,16 @@ not_open = refl
 
 -- all 32 descriptors name the output
 abbrev crowded : World
-crowded = world_with (replicate 4096 7) (record { parent = 0; life = live (record { actions = replicate 31 0; descriptors = replicate 32 (Some Output); space = [] }) } ∷ []) (Some a_thread ∷ [])
+crowded = world_with (replicate 4096 7)
+    (record {
+      parent = 0;
+      life =
+          live (record {
+            actions = replicate 31 0;
+            descriptors = replicate 32 (Some Output);
+            space = [];
+          });
+    } ∷ []) (Some a_thread ∷ [])
 
 none_is_free : reply 1 (served crowded 1 10 1 0 0) ≡ (goes_on, minus 24)
 unfolding services
@@ -190,7 +203,8 @@ a_page_is_unmapped : (after (served small 1 14 0x11000 1 0)).owners ≡ Shared �
 unfolding services
 a_page_is_unmapped = refl
 
-unmapped_twice : reply 1 (served (after (served small 1 14 0x11000 1 0)) 1 14 0x11000 1 0) ≡ (goes_on, minus 22)
+unmapped_twice : reply 1 (served (after (served small 1 14 0x11000 1 0)) 1 14 0x11000 1 0)
+    ≡ (goes_on, minus 22)
 unfolding services
 unmapped_twice = refl
 
@@ -199,7 +213,8 @@ partly_mapped : reply 1 (served small 1 14 0x11000 2 0) ≡ (goes_on, minus 22)
 unfolding services
 partly_mapped = refl
 
-a_page_is_shared : entry_at (after (served small 1 15 0x11000 1 0)) 1 0x11000 ≡ Some (record { frame = 1; write = true; exec = false; shared = true })
+a_page_is_shared : entry_at (after (served small 1 15 0x11000 1 0)) 1 0x11000
+    ≡ Some (record { frame = 1; write = true; exec = false; shared = true })
 unfolding services
 a_page_is_shared = refl
 
@@ -208,11 +223,13 @@ unfolding services
 sharing_is_answered = refl
 
 -- a page of frame 2, which may be written and executed
-a_page_is_mapped : entry_at (after (served small 1 13 0x12000 1 7)) 1 0x12000 ≡ Some (record { frame = 2; write = true; exec = true; shared = false })
+a_page_is_mapped : entry_at (after (served small 1 13 0x12000 1 7)) 1 0x12000
+    ≡ Some (record { frame = 2; write = true; exec = true; shared = false })
 unfolding services zero_page
 a_page_is_mapped = refl
 
-its_frame_is_the_caller's : (after (served small 1 13 0x12000 1 7)).owners ≡ Shared ∷ Of 1 ∷ Of 1 ∷ []
+its_frame_is_the_caller's : (after (served small 1 13 0x12000 1 7)).owners ≡ Shared ∷ Of 1 ∷ Of 1
+    ∷ []
 unfolding services zero_page
 its_frame_is_the_caller's = refl
 
@@ -241,7 +258,9 @@ abbrev four : World
 four = world_with (replicate 4096 7) (a_process ∷ []) (replicate 4 (Some a_thread))
 
 abbrev three_sleep : World
-three_sleep = after (served (after (served (after (served four 2 11 0x11000 0x07070707 0)) 3 11 0x11000 0x07070707 0)) 4 11 0x11000 0x07070707 0)
+three_sleep = after (served
+    (after (served (after (served four 2 11 0x11000 0x07070707 0)) 3 11 0x11000 0x07070707
+    0)) 4 11 0x11000 0x07070707 0)
 
 the_queue : map (λ s. s.thread) three_sleep.sleepers ≡ 2 ∷ 3 ∷ 4 ∷ []
 unfolding services
@@ -251,13 +270,18 @@ two_wake : reply 1 (served three_sleep 1 12 0x11000 2 0) ≡ (goes_on, 2)
 unfolding services
 two_wake = refl
 
-one_sleeps_on : (after (served three_sleep 1 12 0x11000 2 0)).sleepers ≡ record { thread = 4; frame = 1; offset = 0 } ∷ []
+one_sleeps_on : (after (served three_sleep 1 12 0x11000 2 0)).sleepers
+    ≡ record { thread = 4; frame = 1; offset = 0 } ∷ []
 unfolding services
 one_sleeps_on = refl
 
 -- thread 3 is ready with 0, and pc past its ecall
 the_woken_go_on : thread_at (after (served three_sleep 1 12 0x11000 2 0)) 3
-    ≡ Some (record a_thread { budget = 4; registers = set (set (set (set (blank 0x10004) 17 11) 10 0) 11 0x07070707) 12 0 })
+    ≡ Some (record a_thread {
+      budget = 4;
+      registers =
+          set (set (set (set (blank 0x10004) 17 11) 10 0) 11 0x07070707) 12 0;
+    })
 unfolding services
 the_woken_go_on = refl
 
@@ -267,12 +291,19 @@ nobody_wakes = refl
 
 -- ---- signals
 
-the_former_mask : reply 1 (served (after (served small 1 17 6 0 0)) 1 17 0xFFFFFFFF 0 0) ≡ (goes_on, 6)
+the_former_mask : reply 1 (served (after (served small 1 17 6 0 0)) 1 17 0xFFFFFFFF 0 0)
+    ≡ (goes_on, 6)
 unfolding services
 the_former_mask = refl
 
 -- bits 0 and 9 are dropped
-the_new_mask : thread_at (after (served small 1 17 0xFFFFFFFF 0 0)) 1 ≡ Some (record a_thread { budget = 4; mask = 0xFFFFFDFE; registers = set (set (blank 0x10004) 17 17) 10 0 })
+the_new_mask : thread_at (after (served small 1 17 0xFFFFFFFF 0 0)) 1
+    ≡ Some (record a_thread {
+      budget = 4;
+      mask = 0xFFFFFDFE;
+      registers =
+          set (set (blank 0x10004) 17 17) 10 0;
+    })
 unfolding services
 the_new_mask = refl
 
@@ -285,25 +316,38 @@ unfolding services
 no_such_process = refl
 
 -- 0 only tests
-a_test_only : map (λ o. elim o as (λ _. ℕ) [ None ↦ 0 | Some thread ↦ thread.pending ]) (after (served small 2 19 1 0 0)).threads ≡ 0 ∷ 0 ∷ []
+a_test_only : map (λ o. elim o as (λ _. ℕ) [ None ↦ 0 | Some thread ↦ thread.pending ])
+    (after (served small 2 19 1 0 0)).threads ≡ 0 ∷ 0 ∷ []
 unfolding services
 a_test_only = refl
 
 -- the lowest live thread has it
-signal_15_is_pending : map (λ o. elim o as (λ _. ℕ) [ None ↦ 0 | Some thread ↦ thread.pending ]) (after (served small 2 19 1 15 0)).threads ≡ 32768 ∷ 0 ∷ []
+signal_15_is_pending : map (λ o. elim o as (λ _. ℕ) [ None ↦ 0 | Some thread ↦ thread.pending ])
+    (after (served small 2 19 1 15 0)).threads ≡ 32768 ∷ 0 ∷ []
 unfolding services
 signal_15_is_pending = refl
 
 -- Where nothing is saved the answer is -22, and pc stays at the ecall.
-nothing_is_saved : thread_at (after (served small 1 18 0 0 0)) 1 ≡ Some (record a_thread { budget = 4; registers = set (set (blank 0x10000) 17 18) 10 0xFFFFFFEA })
+nothing_is_saved : thread_at (after (served small 1 18 0 0 0)) 1
+    ≡ Some (record a_thread {
+      budget = 4;
+      registers =
+          set (set (blank 0x10000) 17 18) 10 0xFFFFFFEA;
+    })
 unfolding services
 nothing_is_saved = refl
 
 -- the last saved come back whole, but for the reservation
 abbrev in_handler : World
-in_handler = with_thread small 1 (λ thread. record thread { mask = 32768; saved = (record (set (blank 0x20000) 10 99) { held = Some 4 }, 2) ∷ [] })
+in_handler = with_thread small 1
+    (λ thread. record thread {
+      mask = 32768;
+      saved =
+          (record (set (blank 0x20000) 10 99) { held = Some 4 }, 2) ∷ [];
+    })
 
-a_handler_returns : thread_at (after (served in_handler 1 18 0 0 0)) 1 ≡ Some (record a_thread { budget = 4; mask = 2; registers = set (blank 0x20000) 10 99 })
+a_handler_returns : thread_at (after (served in_handler 1 18 0 0 0)) 1
+    ≡ Some (record a_thread { budget = 4; mask = 2; registers = set (blank 0x20000) 10 99 })
 unfolding services
 a_handler_returns = refl
 
@@ -313,9 +357,11 @@ no_child : reply 1 (served small 1 5 0 0 0) ≡ (goes_on, minus 10)
 unfolding services
 no_child = refl
 
--- a parent with a child that has ended with 9: its number and its status, and then there is no child
+-- a parent with a child that has ended with 9: its number and its status, and then there is no
+-- child
 abbrev parent : World
-parent = world_with (replicate 4096 7) (a_process ∷ record { parent = 1; life = ended 9 false } ∷ []) (Some a_thread ∷ None ∷ [])
+parent = world_with (replicate 4096 7)
+    (a_process ∷ record { parent = 1; life = ended 9 false } ∷ []) (Some a_thread ∷ None ∷ [])
 
 a_child_is_collected : reply 1 (served parent 1 5 0 0 0) ≡ (goes_on, 2)
 unfolding services
@@ -329,12 +375,15 @@ only_once : reply 1 (served (after (served parent 1 5 0 0 0)) 1 5 0 0 0) ≡ (go
 unfolding services
 only_once = refl
 
--- a child that was collected keeps its parent's number when the parent ends, and one that wasn't has none
-collected_keeps_its_parent : (after (served (after (served parent 1 5 0 0 0)) 1 2 0 0 0)).processes ≡ record { parent = 0; life = ended 0 false } ∷ record { parent = 1; life = ended 9 true } ∷ []
+-- a child that was collected keeps its parent's number when the parent ends, and one that wasn't
+-- has none
+collected_keeps_its_parent : (after (served (after (served parent 1 5 0 0 0)) 1 2 0 0 0)).processes
+    ≡ record { parent = 0; life = ended 0 false } ∷ record { parent = 1; life = ended 9 true } ∷ []
 unfolding services
 collected_keeps_its_parent = refl
 
-uncollected_has_none : (after (served parent 1 2 0 0 0)).processes ≡ record { parent = 0; life = ended 0 false } ∷ record { parent = 0; life = ended 9 false } ∷ []
+uncollected_has_none : (after (served parent 1 2 0 0 0)).processes
+    ≡ record { parent = 0; life = ended 0 false } ∷ record { parent = 0; life = ended 9 false } ∷ []
 unfolding services
 uncollected_has_none = refl
 

@@ -10,7 +10,15 @@ use Rattle.dos_world.specs.declared.ThreadState.TheVariants.{Ready}
 
 -- a ready thread of process 1 at 0x10000, with a budget of 5 and a reservation
 abbrev pub a_thread : Thread
-a_thread = record { process = 1; registers = with_held (blank 0x10000) (Some 0x11000); budget = 5; state = Ready; pending = 0; mask = 0; saved = [] }
+a_thread = record {
+  process = 1;
+  registers = with_held (blank 0x10000) (Some 0x11000);
+  budget = 5;
+  state = Ready;
+  pending = 0;
+  mask = 0;
+  saved = [];
+}
 
 -- page 0x10 is frame 0 and may be executed, page 0x11 is frame 1 and may be written
 abbrev pub two_pages : List (ℕ × Entry)
@@ -21,7 +29,16 @@ two_pages =
 
 -- input, output, error, and 29 that are free
 abbrev pub a_process : Process
-a_process = record { parent = 0; life = live (record { actions = replicate 31 0; descriptors = Some Input ∷ Some Output ∷ Some Error ∷ replicate 29 None; space = two_pages }) }
+a_process = record {
+  parent = 0;
+  life =
+      live (record {
+        actions = replicate 31 0;
+        descriptors = Some Input ∷ Some Output ∷ Some Error
+            ∷ replicate 29 None;
+        space = two_pages;
+      });
+}
 
 -- with these bytes in frame 1 (4096 of them), this process and these threads; frame 1 is thread 1's
 abbrev pub world_with : List ℕ → List Process → List (Option Thread) → World

@@ -1,7 +1,7 @@
 -- Numbers and pages in the flat list of bytes. Memory of this profile is little-endian: RISC-V
 -- unprivileged manual, edition 20191213, sections 1.5 and 2.6.
 use Rattle.std.specs.Prelude.{ℕ, zero, suc, ◌+◌, ◌*◌, ◌/◌, ◌%◌, List, [], ◌∷◌, ◌++◌, take, drop, slice_set}
-use Rattle.dos_world.specs.World.{World}
+use Rattle.dos_world.specs.World.{World, page_size}
 
 -- the number that bytes stand for, the lowest first
 abbrev pub number_of : List ℕ → ℕ
@@ -28,4 +28,5 @@ stored w place new = record w { bytes = written w.bytes place new }
 
 -- the bytes with the page of a frame replaced
 abbrev pub with_page : List ℕ → ℕ → List ℕ → List ℕ
-with_page bytes frame page = take (4096 * frame) bytes ++ page ++ drop (4096 * frame + 4096) bytes
+with_page bytes frame page =
+    take (page_size * frame) bytes ++ page ++ drop (page_size * frame + page_size) bytes

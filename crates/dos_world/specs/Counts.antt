@@ -21,7 +21,8 @@ is_mapped w frame = list_any (maps_frame frame) (all_holdings w.processes)
 
 -- how many entries of all spaces have a frame
 abbrev pub uses_of : World → ℕ → ℕ
-uses_of w frame = sum_by (λ h. count_by (λ e. e.1.frame == frame) h.space) (all_holdings w.processes)
+uses_of w frame =
+    sum_by (λ h. count_by (λ e. e.1.frame == frame) h.space) (all_holdings w.processes)
 
 -- how many frames are free
 abbrev pub free_frames : World → ℕ

@@ -1,8 +1,9 @@
 -- The services of descriptors: pipe, read, write, close, dup. This project's own; error numbers are
 -- chosen after Linux's.
 use Rattle.std.specs.Prelude.{ℕ, ◌+◌, ◌-◌, min, Bool, not, List, [], ◌++◌, length, filter, find, take, drop, Option, Some, None, is_none, unwrap_or, ◌==◌, if◌then◌else◌, slice_get, slice_index_or, slice_set}
+use Rattle.dos_world.specs.Errors.{ebadf, efault, emfile, epipe}
 use Rattle.dos_world.specs.Numbered.{run_of}
-use Rattle.dos_world.specs.World.{World, Holdings, live_process, first_of, with_holdings}
+use Rattle.dos_world.specs.World.{World, Holdings, live_process, first_of, with_holdings, pipe_size}
 use Rattle.dos_world.specs.Kernel.{is_open, has_reader, has_writer, tidied, all_reach, copied_in, copied_out}
 use Rattle.dos_world.specs.Play.{Play, Answer, input_of}
 use Rattle.dos_world.specs.Calls.{Served, Service, Call, asks_shim, returns, returns_in, returns_two, refuses, retries}
@@ -53,7 +54,7 @@ abbrev pub pipe_by : Option ℕ → Option ℕ → Option ℕ → Service
 pipe_by (Some reading) (Some writing) (Some pipe) c =
     let one : World = with_descriptor c c.world reading (Some (PipeRead pipe)) in
     returns_two (with_descriptor c one writing (Some (PipeWrite pipe))) reading writing c
-pipe_by _ _ _ c = refuses 24 c
+pipe_by _ _ _ c = refuses emfile c
 
 -- 6: A new pipe: the two lowest free descriptors, the first of which reads and the second writes.
 -- Refusal 24 where fewer than two are free or 64 pipes are open.
@@ -65,12 +66,12 @@ pipe c =
 abbrev pub close : Service
 close c =
     let left : World = tidied (with_descriptor c c.world c.a0 None) in
-    elim (descriptor c) [ None ↦ refuses 9 c | Some end ↦ returns_in left 0 c ]
+    elim (descriptor c) [ None ↦ refuses ebadf c | Some end ↦ returns_in left 0 c ]
 
 -- what dup answers by what a0 names and a free descriptor
 abbrev pub dup_by : Option End → Option ℕ → Service
-dup_by None _ c = refuses 9 c
-dup_by (Some end) None c = refuses 24 c
+dup_by None _ c = refuses ebadf c
+dup_by (Some end) None c = refuses emfile c
 dup_by (Some end) (Some number) c =
     returns_in (with_descriptor c c.world number (Some end)) number c
 
@@ -81,14 +82,18 @@ dup c = dup_by (descriptor c) (first_of (free_descriptors c)) c
 
 -- ---- 7 and 8: the bytes at a1, as many as a2 says and at most 4096
 
+-- how many bytes one call moves at most
+abbrev pub transfer_limit : ℕ
+transfer_limit = 4096
+
 -- how many bytes are asked for
 abbrev pub count_of : Call → ℕ
-count_of c = min c.a2 4096
+count_of c = min c.a2 transfer_limit
 
 -- Where no byte is asked for the answer is 0; where one of them isn't mapped, the refusal is 14.
-abbrev pub moves : Service → Bool → Service
-moves service are_mapped c =
-    if count_of c == 0 then returns 0 c else (if are_mapped then service c else refuses 14 c)
+abbrev pub transfers : Service → Bool → Service
+transfers service are_mapped c =
+    if count_of c == 0 then returns 0 c else (if are_mapped then service c else refuses efault c)
 
 -- the bytes that a pipe holds
 abbrev pub pipe_bytes : World → ℕ → List ℕ
@@ -119,10 +124,10 @@ read_pipe pipe c =
 
 -- what read does by what a0 names
 abbrev pub read_by : Option End → Service
-read_by (Some Input) c = moves read_input (all_reach c.world c.thread c.a1 (count_of c) Store) c
+read_by (Some Input) c = transfers read_input (all_reach c.world c.thread c.a1 (count_of c) Store) c
 read_by (Some (PipeRead pipe)) c =
-    moves (read_pipe pipe) (all_reach c.world c.thread c.a1 (count_of c) Store) c
-read_by _ c = refuses 9 c
+    transfers (read_pipe pipe) (all_reach c.world c.thread c.a1 (count_of c) Store) c
+read_by _ c = refuses ebadf c
 
 -- 7: Bytes of the input or of a pipe; how many. Refusals: 9 where a0 names neither, 14 where one of
 -- the bytes isn't mapped with W.
@@ -152,17 +157,19 @@ write_some pipe held k c =
 abbrev pub write_pipe : ℕ → Service
 write_pipe pipe c =
     let held : List ℕ = pipe_bytes c.world pipe in
-    let k : ℕ = min (count_of c) (4096 - length held) in
-    if not (has_reader c.world pipe) then refuses 32 c
+    let k : ℕ = min (count_of c) (pipe_size - length held) in
+    if not (has_reader c.world pipe) then refuses epipe c
     else (if k == 0 then retries c else write_some pipe held k c)
 
 -- what write does by what a0 names
 abbrev pub write_by : Option End → Service
-write_by (Some Output) c = moves write_output (all_reach c.world c.thread c.a1 (count_of c) Load) c
-write_by (Some Error) c = moves write_error (all_reach c.world c.thread c.a1 (count_of c) Load) c
+write_by (Some Output) c =
+    transfers write_output (all_reach c.world c.thread c.a1 (count_of c) Load) c
+write_by (Some Error) c =
+    transfers write_error (all_reach c.world c.thread c.a1 (count_of c) Load) c
 write_by (Some (PipeWrite pipe)) c =
-    moves (write_pipe pipe) (all_reach c.world c.thread c.a1 (count_of c) Load) c
-write_by _ c = refuses 9 c
+    transfers (write_pipe pipe) (all_reach c.world c.thread c.a1 (count_of c) Load) c
+write_by _ c = refuses ebadf c
 
 -- 8: Bytes to output, error or a pipe; how many. Refusals: 9 where a0 names none of them, 14 where
 -- one of the bytes isn't mapped.

@@ -3,7 +3,7 @@
 use Rattle.std.specs.Prelude.{ℕ, ◌+◌, ◌*◌, ◌%◌, ◌^◌, Bool, true, false, not, ◌&&◌, List, [], ◌∷◌, length, map, Option, Some, None, option_and_then, is_some, ◌==◌, nat_lt, nat_le, count_by, slice_index_or}
 use Rattle.std.specs.List.{list_all}
 use Rattle.dos_world.specs.Numbered.{numbered, run_of}
-use Rattle.dos_world.specs.World.{World, Process, Holdings, Thread, Sleeper, Registers, holdings_of, all_holdings, live_process, thread_at, live_threads, threads_of, owner_of, is_free, is_state, has_bit, get}
+use Rattle.dos_world.specs.World.{World, Process, status_of, Holdings, Thread, Sleeper, Registers, holdings_of, all_holdings, live_process, thread_at, live_threads, threads_of, owner_of, is_free, is_state, has_bit, get, page_size, pipe_size}
 use Rattle.dos_world.specs.Counts.{is_mapped, is_open, uses_of}
 use Rattle.dos_world.specs.SignalCalls.{is_action}
 use Rattle.dos_world.specs.Lawful.{turns_asleep}
@@ -113,17 +113,17 @@ is_alone w e = if_then (not e.1.shared) (uses_of w e.1.frame == 1)
 
 -- whether somebody sleeps on a word of one of so many frames
 abbrev pub is_sleeper : ℕ → Sleeper → Bool
-is_sleeper frames s = nat_lt s.frame frames && ((s.offset % 4 == 0) && nat_lt s.offset 4096)
+is_sleeper frames s = nat_lt s.frame frames && ((s.offset % 4 == 0) && nat_lt s.offset page_size)
 
 -- whether a pipe may hold these bytes: at most 4096
 abbrev pub is_pipe : List ℕ → Bool
-is_pipe bytes = nat_le (length bytes) 4096 && list_all is_byte bytes
+is_pipe bytes = nat_le (length bytes) pipe_size && list_all is_byte bytes
 
 -- ---- the world, topic by topic
 
 -- whether each frame has its 4096 bytes
 abbrev pub has_bytes : World → Bool
-has_bytes w = (length w.bytes == 4096 * length w.owners) && list_all is_byte w.bytes
+has_bytes w = (length w.bytes == page_size * length w.owners) && list_all is_byte w.bytes
 
 -- whether a frame is Free exactly where nothing maps it
 abbrev pub frees_unmapped : World → ℕ → Bool
@@ -156,6 +156,10 @@ abbrev pub is_empty_if_closed : World → ℕ → Bool
 is_empty_if_closed w pipe =
     if_then (not (is_open w pipe)) (is_empty (slice_index_or w.pipes pipe []))
 
+-- whether a status has 8 bits
+abbrev pub has_status : Process → Bool
+has_status process = nat_lt (status_of process) 256
+
 -- frames
 abbrev pub frames_are_lawful : World → Bool
 frames_are_lawful w =
@@ -170,7 +174,8 @@ processes_are_lawful w =
     && (list_all (λ h. list_all (is_alone w) h.space) (all_holdings w.processes)
     && (passes_below (length w.processes + 1) (has_thread w)
     && (passes_below (length w.processes + 1) (has_lower_parent w)
-    && (nat_lt 0 (length w.processes) && nat_le (length w.processes) (length w.threads)))))
+    && ((nat_lt 0 (length w.processes) && nat_le (length w.processes) (length w.threads))
+    && list_all has_status w.processes))))
 
 -- threads
 abbrev pub threads_are_lawful : World → Bool

@@ -3,7 +3,7 @@
 use Rattle.std.specs.Prelude.{ℕ, ◌-◌, ◌^◌, Bool, false, not, List, [], ◌∷◌, length, map, filter, replicate, Option, None, Some, ◌==◌, nat_lt, if◌then◌else◌, slice_set}
 use Rattle.std.specs.List.{list_any}
 use Rattle.dos_world.specs.Numbered.{changed}
-use Rattle.dos_world.specs.World.{World, Sleeper, Process, Holdings, Thread, Registers, Entry, ended, is_child, parent_of, threads_of, first_thread, belongs_to, with_thread, without_thread, set, past, with_bit}
+use Rattle.dos_world.specs.World.{World, Sleeper, Process, Holdings, Thread, Registers, Entry, ended, is_child, parent_of, threads_of, first_thread, belongs_to, with_thread, without_thread, set, past, with_bit, page_size}
 use Rattle.dos_world.specs.Bytes.{with_page}
 use Rattle.dos_world.specs.declared.Owner.TheVariants.{Of}
 use Rattle.dos_world.specs.declared.ThreadState.TheVariants.{Ready}
@@ -14,7 +14,7 @@ pub use Rattle.dos_world.specs.Copying.{is_reached, all_reach, opened, place_of,
 
 -- a page of zeros
 unfoldable pub zero_page : List ℕ
-zero_page = replicate 4096 0
+zero_page = replicate page_size 0
 
 -- The lowest free frame becomes t's, with these bytes.
 abbrev pub with_fresh : World → ℕ → List ℕ → World

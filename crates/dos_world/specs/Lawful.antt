@@ -3,7 +3,7 @@
 use Rattle.std.specs.Prelude.{ℕ, List, option_and_then, ◌≡◌, ◌≢◌, ◌⊎◌, ◌↔◌, ◌*◌, ◌%◌, ◌^◌, ◌<◌, ◌≤◌, ◌==◌, [], length, map, Option, Some, All, AllPairs, IsTrue, IsFalse, IfSome, count_by, is_some, slice_index_or, ⊤, if◌then◌else◌}
 use Rattle.std.specs.List.Sorted.{IsStrictlyIncreasing}
 use Rattle.dos_world.specs.Numbered.{numbered}
-use Rattle.dos_world.specs.World.{World, Process, holdings_of, Holdings, Thread, Sleeper, Registers, Entry, code_unit, all_holdings, live_process, thread_at, live_threads, threads_of, owner_of, is_state, has_bit, get}
+use Rattle.dos_world.specs.World.{World, Process, status_of, holdings_of, Holdings, Thread, Sleeper, Registers, Entry, code_unit, all_holdings, live_process, thread_at, live_threads, threads_of, owner_of, is_state, has_bit, get, page_size, pipe_size}
 use Rattle.dos_world.specs.Counts.{is_mapped, is_open}
 pub use Rattle.dos_world.specs.Counts.{uses_of}
 use Rattle.dos_world.specs.declared.Owner.TheVariants.{Free, Of}
@@ -84,11 +84,11 @@ IsAlone w e = IsFalse e.1.shared → uses_of w e.1.frame ≡ 1
 
 -- a place where a thread may sleep: a word of a frame
 abbrev pub IsSleeper : ℕ → Sleeper → Type 0
-IsSleeper frames s = (s.frame < frames) × (s.offset % 4 ≡ 0) × (s.offset < 4096)
+IsSleeper frames s = (s.frame < frames) × (s.offset % 4 ≡ 0) × (s.offset < page_size)
 
 -- what a pipe may hold
 abbrev pub IsPipe : List ℕ → Type 0
-IsPipe bytes = (length bytes ≤ 4096) × All IsByte bytes
+IsPipe bytes = (length bytes ≤ pipe_size) × All IsByte bytes
 
 -- how often a thread that sleeps stands in the queue
 abbrev pub turns_asleep : Option Thread → ℕ
@@ -102,12 +102,16 @@ pub record IsConfig (config : Config) : Type 0 where
   pub rounds : (1 ≤ config.rounds) × (config.rounds ≤ 1000000)
   pub frames : (16 ≤ config.frames) × (config.frames ≤ 16384)
 
+-- a status: of 8 bits, where the process has ended
+abbrev pub HasStatus : Process → Type 0
+HasStatus process = status_of process < 256
+
 -- ---- the world, topic by topic
 
 -- frames
 pub record FramesAreLawful (w : World) : Type 0 where
   -- each frame has its 4096 bytes
-  pub bytes : (length w.bytes ≡ 4096 * length w.owners) × All IsByte w.bytes
+  pub bytes : (length w.bytes ≡ page_size * length w.owners) × All IsByte w.bytes
   -- a frame is Free exactly where nothing maps it
   pub free : (frame : ℕ) → frame < length w.owners
       → (owner_of w frame ≡ Free) ↔ IsFalse (is_mapped w frame)
@@ -124,6 +128,8 @@ pub record ProcessesAreLawful (w : World) : Type 0 where
   pub populated : (p : ℕ) → IsTrue (is_some (live_process w p)) → threads_of w p ≢ []
   -- a parent's number is below its child's
   pub parents : (p : ℕ) → IfSome (numbered w.processes p) (λ process. process.parent < p)
+  -- the status of each that has ended is in range
+  pub statuses : All HasStatus w.processes
   -- some process was made, and each with a thread
   pub given : (0 < length w.processes) × (length w.processes ≤ length w.threads)
 

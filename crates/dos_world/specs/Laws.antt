@@ -1,5 +1,6 @@
 -- Laws of the definitions; the functions of the module laws promise them.
 use Rattle.std.specs.Prelude.{ℕ, ◌≡◌, ◌≢◌, ◌⊎◌, ◌<◌, List, [], ◌∷◌, ◌++◌, Some, None, option_map, IsTrue, slice_set}
+use Rattle.dos_world.specs.Errors.{enosys}
 use Rattle.dos_world.specs.World.{World, Thread, thread_at, get, blank}
 use Rattle.dos_world.specs.Play.{Play, Answer, done, ask, ◌>>=◌, Outcome, gives, asks, over, questions}
 use Rattle.dos_world.specs.Services.{service, service_of}
@@ -110,4 +111,5 @@ OnlyTheseAreRefused = (w : World) → Lawful w → (t : ℕ) (thread : Thread)
 -- A number that is 0 or over 24 is no service: the call is refused with 38.
 abbrev pub UnknownServicesAreRefused : Type 0
 UnknownServicesAreRefused =
-    (number : ℕ) → (number ≡ 0) ⊎ (24 < number) → (c : Call) → service_of number c ≡ refuses 38 c
+    (number : ℕ) → (number ≡ 0) ⊎ (24 < number) → (c : Call)
+    → service_of number c ≡ refuses enosys c

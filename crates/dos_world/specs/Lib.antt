@@ -1,3 +1,4 @@
+pub mod Errors
 pub mod Numbered
 pub mod Registers
 pub mod SignalSet

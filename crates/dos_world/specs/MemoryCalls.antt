@@ -2,8 +2,9 @@
 -- Linux's.
 use Rattle.std.specs.Prelude.{ℕ, ◌+◌, ◌*◌, ◌/◌, ◌%◌, Bool, true, false, not, ◌&&◌, List, [], ◌∷◌, map, filter, Result, Ok, Err, is_some, ◌==◌, nat_lt, nat_le, if◌then◌else◌}
 use Rattle.std.specs.List.{list_any, list_all}
+use Rattle.dos_world.specs.Errors.{einval, enomem}
 use Rattle.dos_world.specs.Numbered.{run_of}
-use Rattle.dos_world.specs.World.{World, Holdings, Entry, look, space_of, with_holdings}
+use Rattle.dos_world.specs.World.{World, Holdings, Entry, look, space_of, with_holdings, page_size}
 use Rattle.dos_world.specs.Kernel.{tidied, free_frames, lowest_free_frame, with_fresh, zero_page, with_entry}
 use Rattle.dos_world.specs.Calls.{Service, Call, replies}
 
@@ -12,8 +13,8 @@ use Rattle.dos_world.specs.Calls.{Service, Call, replies}
 -- whether a0 begins a page, there is a page, and all of them lie within 0x1000 to 0xEFFFFFFF
 abbrev pub is_range : Call → Bool
 is_range c =
-    (c.a0 % 4096 == 0) && nat_lt 0 c.a1
-    && nat_le 0x1000 c.a0 && nat_le (c.a0 + 4096 * c.a1) 0xF0000000
+    (c.a0 % page_size == 0) && nat_lt 0 c.a1
+    && nat_le 0x1000 c.a0 && nat_le (c.a0 + page_size * c.a1) 0xF0000000
 
 -- whether they are no range
 abbrev pub is_no_range : Call → Bool
@@ -21,7 +22,7 @@ is_no_range c = not (is_range c)
 
 -- its page numbers, in rising order
 abbrev pub pages_of : Call → List ℕ
-pages_of c = run_of (c.a0 / 4096) c.a1
+pages_of c = run_of (c.a0 / page_size) c.a1
 
 -- whether the caller maps a page
 abbrev pub is_page_mapped : Call → ℕ → Bool
@@ -37,11 +38,15 @@ lacks_page c = not (list_all (is_page_mapped c) (pages_of c))
 
 -- whether an entry is one of the range
 abbrev pub in_pages : Call → (ℕ × Entry) → Bool
-in_pages c e = nat_le (c.a0 / 4096) e.0 && nat_lt e.0 (c.a0 / 4096 + c.a1)
+in_pages c e = nat_le (c.a0 / page_size) e.0 && nat_lt e.0 (c.a0 / page_size + c.a1)
 
 -- ---- 13: map
 
--- a private entry with these rights: 1 is X, 2 is W, 4 is R
+-- the rights of a page, added: 1 is X, 2 is W, 4 is R
+abbrev pub all_rights : ℕ
+all_rights = 7
+
+-- a private entry with these rights
 abbrev pub private_entry : ℕ → ℕ → Entry
 private_entry frame rights =
     record { frame = frame; write = rights / 2 % 2 == 1; exec = rights % 2 == 1; shared = false }
@@ -61,9 +66,9 @@ mapped_fresh c w (page ∷ pages) = mapped_fresh c (page_mapped c.thread c.proce
 -- where too few frames are free
 abbrev pub mapped : Call → Result World ℕ
 mapped c =
-    if not (is_range c && nat_le c.a2 7) then Err 22
-    else (if maps_page c then Err 22
-    else (if nat_lt (free_frames c.world) c.a1 then Err 12
+    if not (is_range c && nat_le c.a2 all_rights) then Err einval
+    else (if maps_page c then Err einval
+    else (if nat_lt (free_frames c.world) c.a1 then Err enomem
     else Ok (mapped_fresh c c.world (pages_of c))))
 
 -- 13: a1 new pages from a0 on, with the rights a2; 0
@@ -74,7 +79,7 @@ map_pages c = replies (mapped c) 0 c
 
 -- this world, or refusal 22 where it is no range or a page of it isn't mapped
 abbrev pub where_mapped : Call → World → Result World ℕ
-where_mapped c w = if is_no_range c then Err 22 else (if lacks_page c then Err 22 else Ok w)
+where_mapped c w = if is_no_range c then Err einval else (if lacks_page c then Err einval else Ok w)
 
 -- whether an entry is none of the range
 abbrev pub stays_mapped : Call → (ℕ × Entry) → Bool

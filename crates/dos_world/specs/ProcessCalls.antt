@@ -1,6 +1,7 @@
 -- The services of a process: process_exit, fork, wait, get_pid. This project's own; error numbers
 -- are chosen after Linux's.
 use Rattle.std.specs.Prelude.{ℕ, ◌+◌, ◌%◌, Bool, true, not, ◌&&◌, ◌||◌, List, [], ◌∷◌, ◌++◌, length, filter, Option, Some, None, Result, Ok, Err, ◌==◌, count_by, nat_lt, nat_le, if◌then◌else◌}
+use Rattle.dos_world.specs.Errors.{eagain, echild, enomem}
 use Rattle.dos_world.specs.Numbered.{changed, numbers_of}
 use Rattle.dos_world.specs.World.{World, Process, Holdings, Thread, Entry, live, ended, live_process, process_at, all_holdings, thread_at, first_of, has_ended, is_child, status_of, released, page_of}
 use Rattle.dos_world.specs.Kernel.{answered, free_frames, lowest_free_frame, with_fresh, process_ended}
@@ -62,10 +63,10 @@ are_processes_full processes threads =
 -- few frames are free
 abbrev pub forked_by : Call → Option Holdings → Option Thread → Result World ℕ
 forked_by c (Some h) (Some thread) =
-    if are_processes_full c.world.processes c.world.threads then Err 11
-    else (if nat_lt (free_frames c.world) (private_entries h.space) then Err 12
+    if are_processes_full c.world.processes c.world.threads then Err eagain
+    else (if nat_lt (free_frames c.world) (private_entries h.space) then Err enomem
     else Ok (with_child c h thread))
-forked_by c _ _ = Err 11
+forked_by c _ _ = Err eagain
 
 -- the same for the caller, which lives
 abbrev pub forked : Call → Result World ℕ
@@ -102,7 +103,7 @@ status_at w p = elim (process_at w p) [ None ↦ 0 | Some process ↦ status_of 
 
 -- what wait answers by the first child and the first that has ended
 abbrev pub wait_by : Option ℕ → Option ℕ → Service
-wait_by None _ c = refuses 10 c
+wait_by None _ c = refuses echild c
 wait_by (Some any) None c = retries c
 wait_by (Some any) (Some p) c = returns_two (collected c.world p) p (status_at c.world p) c
 

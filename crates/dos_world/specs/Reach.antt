@@ -1,6 +1,6 @@
 -- What an access of a thread reaches, and what granting a page does. This project's own rules.
 use Rattle.std.specs.Prelude.{ℕ, ◌+◌, ◌*◌, ◌%◌, Bool, true, false, not, Option, Some, None, ◌==◌, if◌then◌else◌, slice_set}
-use Rattle.dos_world.specs.World.{World, Entry, entry_at, owner_of}
+use Rattle.dos_world.specs.World.{World, Entry, entry_at, owner_of, page_size}
 use Rattle.dos_world.specs.declared.Access.{Access}
 use Rattle.dos_world.specs.declared.Access.TheVariants.{Fetch, Load, Store, Claim}
 use Rattle.dos_world.specs.declared.Size.{Size}
@@ -45,7 +45,7 @@ in_frame w t address access None = fault 11
 in_frame w t address access (Some e) =
     if not (has_right access e) then fault 11
     else (if is_foreign t access (owner_of w e.frame) then foreign e.frame
-    else at (4096 * e.frame + address % 4096))
+    else at (page_size * e.frame + address % page_size))
 
 -- The order of the tests: misaligned, not mapped, no right, foreign.
 abbrev pub reach : World → ℕ → ℕ → Size → Access → Reached

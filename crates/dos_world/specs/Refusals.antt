@@ -2,6 +2,7 @@
 -- error numbers are chosen after Linux's.
 use Rattle.std.specs.Prelude.{ℕ, ◌%◌, Bool, true, false, not, ◌&&◌, ◌||◌, List, [], ◌∷◌, find, Option, Some, None, is_some, is_none, ◌==◌, nat_lt, nat_le, if◌then◌else◌}
 use Rattle.std.specs.List.{list_any}
+use Rattle.dos_world.specs.Errors.{eagain, ebadf, echild, efault, einval, emfile, enomem, enosys, epipe, esrch}
 use Rattle.dos_world.specs.World.{World, Thread, Registers, code_unit, first_of, entry_at, live_process, thread_at, space_of, with_registers, get}
 use Rattle.dos_world.specs.Kernel.{minus, answered, has_reader, free_frames, all_reach, opened}
 use Rattle.dos_world.specs.Calls.{Call, call_of}
@@ -9,7 +10,7 @@ use Rattle.dos_world.specs.ThreadCalls.{are_threads_full}
 use Rattle.dos_world.specs.ProcessCalls.{are_processes_full, private_entries, children_where, any_process}
 use Rattle.dos_world.specs.DescriptorCalls.{descriptor, free_descriptors, second_of, lowest_pipe, count_of}
 use Rattle.dos_world.specs.FutexCalls.{futex_word, is_off_word}
-use Rattle.dos_world.specs.MemoryCalls.{is_range, is_no_range, maps_page, lacks_page}
+use Rattle.dos_world.specs.MemoryCalls.{is_range, is_no_range, maps_page, lacks_page, all_rights}
 use Rattle.dos_world.specs.SignalCalls.{is_signal, is_action, saved_of, refused_in_place}
 use Rattle.dos_world.specs.Services.{services}
 use Rattle.dos_world.specs.declared.Access.{Access}
@@ -84,7 +85,7 @@ is_other_word c =
 
 -- whether there is no range, or there are no such rights
 abbrev pub is_no_map : Call → Bool
-is_no_map c = not (is_range c && nat_le c.a2 7)
+is_no_map c = not (is_range c && nat_le c.a2 all_rights)
 
 -- whether no registers are saved
 abbrev pub lacks_saved : Call → Bool
@@ -102,23 +103,32 @@ Condition = ℕ × (Call → Bool)
 
 -- what unmap and share refuse
 abbrev pub range_conditions : List Condition
-range_conditions = (22, is_no_range) ∷ (22, lacks_page) ∷ []
+range_conditions = (einval, is_no_range) ∷ (einval, lacks_page) ∷ []
 
 -- the services that refuse, each with its conditions in the order in which they are tested
 unfoldable pub refusals : List (ℕ × List Condition)
-refusals =
-    (3, (22, λ c. not (c.a0 % code_unit == 0)) ∷ (11, λ c. are_threads_full c.world.threads) ∷ []) ∷
-    (4, (11, lacks_process) ∷ (12, lacks_frames) ∷ []) ∷
-    (5, (10, lacks_child) ∷ []) ∷ (6, (24, lacks_pipe) ∷ []) ∷
-    (7, (9, λ c. is_unreadable (descriptor c)) ∷ (14, lacks_byte Store) ∷ []) ∷
-    (8, (9, λ c. is_unwritable (descriptor c)) ∷ (14, lacks_byte Load) ∷ (32, lacks_reader) ∷ []) ∷
-    (9, (9, is_closed) ∷ []) ∷ (10, (9, is_closed) ∷ (24, lacks_descriptor) ∷ []) ∷
-    (11, (22, is_off_word) ∷ (14, is_unmapped) ∷ (11, is_other_word) ∷ []) ∷
-    (12, (22, is_off_word) ∷ (14, is_unmapped) ∷ []) ∷
-    (13, (22, is_no_map) ∷ (22, maps_page) ∷ (12, λ c. nat_lt (free_frames c.world) c.a1) ∷ []) ∷
+refusals = (
+  3,
+  (einval, λ c. not (c.a0 % code_unit == 0))
+      ∷ (eagain, λ c. are_threads_full c.world.threads) ∷ [],
+) ∷
+    (4, (eagain, lacks_process) ∷ (enomem, lacks_frames) ∷ []) ∷
+    (5, (echild, lacks_child) ∷ []) ∷ (6, (emfile, lacks_pipe) ∷ []) ∷
+    (7, (ebadf, λ c. is_unreadable (descriptor c)) ∷ (efault, lacks_byte Store) ∷ []) ∷ (
+      8,
+      (ebadf, λ c. is_unwritable (descriptor c)) ∷ (efault, lacks_byte Load)
+          ∷ (epipe, lacks_reader) ∷ [],
+    ) ∷
+    (9, (ebadf, is_closed) ∷ []) ∷ (10, (ebadf, is_closed) ∷ (emfile, lacks_descriptor) ∷ []) ∷
+    (11, (einval, is_off_word) ∷ (efault, is_unmapped) ∷ (eagain, is_other_word) ∷ []) ∷
+    (12, (einval, is_off_word) ∷ (efault, is_unmapped) ∷ []) ∷ (
+      13,
+      (einval, is_no_map) ∷ (einval, maps_page)
+          ∷ (enomem, λ c. nat_lt (free_frames c.world) c.a1) ∷ [],
+    ) ∷
     (14, range_conditions) ∷ (15, range_conditions) ∷
-    (16, (22, is_no_action) ∷ []) ∷ (18, (22, lacks_saved) ∷ []) ∷
-    (19, (22, λ c. nat_lt 31 c.a1) ∷ (3, λ c. is_none (live_process c.world c.a0)) ∷ []) ∷
+    (16, (einval, is_no_action) ∷ []) ∷ (18, (einval, lacks_saved) ∷ []) ∷
+    (19, (einval, λ c. nat_lt 31 c.a1) ∷ (esrch, λ c. is_none (live_process c.world c.a0)) ∷ []) ∷
     []
 
 -- the conditions of a row
@@ -147,7 +157,7 @@ is_built built service =
 -- service
 abbrev pub refusal_by : List ℕ → ℕ → Call → Option ℕ
 refusal_by built service c =
-    if is_built built service then first_that_holds (conditions_of service) c else Some 38
+    if is_built built service then first_that_holds (conditions_of service) c else Some enosys
 
 -- the same for a thread that lives
 abbrev pub refusal_for : World → ℕ → Option Thread → Option ℕ

@@ -1,6 +1,7 @@
 -- The services by number, and what is served for a thread. This project's own.
 use Rattle.std.specs.Prelude.{ℕ, ◌+◌, ◌/◌, ◌%◌, ◌^◌, List, [], ◌∷◌, find, Option, Some, None, ◌==◌, if◌then◌else◌}
 use Rattle.std.specs.List.{list_any}
+use Rattle.dos_world.specs.Errors.{enosys}
 use Rattle.dos_world.specs.Numbered.{run_of}
 use Rattle.dos_world.specs.World.{World, Thread, thread_at, get}
 use Rattle.dos_world.specs.Play.{Play, Answer, done, Outcome, over, reading_of}
@@ -9,7 +10,7 @@ pub use Rattle.dos_world.specs.World.{action_of}
 pub use Rattle.dos_world.specs.Calls.{Served, went, waits, yields, gone, Call, Service, charged, call_of, mask_of, asks_shim, returns, returns_in, returns_two, refuses, refuses_in, replies, retries}
 pub use Rattle.dos_world.specs.ThreadCalls.{thread_exit, thread_new, get_tid, yield, are_threads_full, next_thread, with_new_thread, new_registers, ready_thread}
 pub use Rattle.dos_world.specs.ProcessCalls.{process_exit, get_pid, fork, forked, forked_by, with_child, copied_space, private_entries, next_process, wait, wait_by, children_where, collected}
-pub use Rattle.dos_world.specs.DescriptorCalls.{pipe, close, dup, read, read_by, read_input, read_pipe, write, write_by, write_output, write_error, write_pipe, moves, count_of, descriptor, descriptors_of, pipe_bytes, with_pipe}
+pub use Rattle.dos_world.specs.DescriptorCalls.{pipe, close, dup, read, read_by, read_input, read_pipe, write, write_by, write_output, write_error, write_pipe, transfers, count_of, descriptor, descriptors_of, pipe_bytes, with_pipe}
 pub use Rattle.dos_world.specs.FutexCalls.{futex_wait, futex_wake}
 pub use Rattle.dos_world.specs.MemoryCalls.{map_pages, mapped, page_mapped, mapped_fresh, unmap, unmapped, share, shared, is_range, pages_of, is_page_mapped}
 pub use Rattle.dos_world.specs.SignalCalls.{sig_handler, sig_mask, sig_return, kill, is_signal, is_action}
@@ -44,7 +45,7 @@ services =
 
 -- the service of a row, or refusal 38 where there is none
 abbrev pub service_by : Option (ℕ × Service) → Service
-service_by None = refuses 38
+service_by None = refuses enosys
 service_by (Some row) = row.1
 
 -- the service of this number
@@ -57,14 +58,10 @@ service_of number = service_by (find (λ row. row.0 == number) services)
 abbrev pub all_services : List ℕ
 all_services = run_of 1 24
 
--- the services that the kernel has today; this list grows
-abbrev pub services_today : List ℕ
-services_today = 1 ∷ 2 ∷ 3 ∷ 8 ∷ 20 ∷ 21 ∷ 23 ∷ 24 ∷ []
-
 -- the service of a number that is built, and else refusal 38
 abbrev pub built_service : List ℕ → ℕ → Service
 built_service built number =
-    if list_any (λ n. n == number) built then service_of number else refuses 38
+    if list_any (λ n. n == number) built then service_of number else refuses enosys
 
 -- the service that a7 (x17) names, for a thread that lives
 abbrev pub service_for : World → ℕ → Option Thread → Play Served

@@ -1,6 +1,7 @@
 -- The services of signals: sig_handler, sig_mask, sig_return, kill. This project's own; error and
 -- signal numbers are chosen after Linux's.
 use Rattle.std.specs.Prelude.{ℕ, ◌-◌, ◌%◌, Bool, not, ◌&&◌, ◌||◌, List, [], ◌∷◌, Some, None, is_none, ◌==◌, nat_lt, nat_le, if◌then◌else◌, slice_set}
+use Rattle.dos_world.specs.Errors.{einval, esrch}
 use Rattle.dos_world.specs.World.{Holdings, Thread, Registers, code_unit, live_process, thread_at, action_of, with_thread, with_registers, with_holdings, set, released, allowed_mask}
 use Rattle.dos_world.specs.Kernel.{minus, posted}
 use Rattle.dos_world.specs.Play.{done}
@@ -24,7 +25,7 @@ with_action signal action h = record h { actions = slice_set h.actions (signal -
 abbrev pub sig_handler : Service
 sig_handler c =
     let former : ℕ = action_of c.world c.process c.a0 in
-    if not (is_signal c.a0) || (c.a0 == 9) || not (is_action c.a1) then refuses 22 c
+    if not (is_signal c.a0) || (c.a0 == 9) || not (is_action c.a1) then refuses einval c
     else returns_in (with_holdings c.world c.process (with_action c.a0 c.a1)) former c
 
 -- a thread with this mask, less the bits that none may have
@@ -43,7 +44,7 @@ restored last others thread =
 
 -- registers with -22 in a0, and pc still at the ecall
 abbrev pub refused_in_place : Registers → Registers
-refused_in_place r = set r 10 (minus 22)
+refused_in_place r = set r 10 (minus einval)
 
 -- what sig_return does by what is saved
 abbrev pub sig_return_by : List (Registers × ℕ) → Service
@@ -63,6 +64,6 @@ sig_return c = sig_return_by (saved_of c) c
 -- a1 is over 31, 3 where no such process lives.
 abbrev pub kill : Service
 kill c =
-    if nat_lt 31 c.a1 then refuses 22 c
-    else (if is_none (live_process c.world c.a0) then refuses 3 c
+    if nat_lt 31 c.a1 then refuses einval c
+    else (if is_none (live_process c.world c.a0) then refuses esrch c
     else returns_in (if c.a1 == 0 then c.world else posted c.world c.a0 c.a1) 0 c)

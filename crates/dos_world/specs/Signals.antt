@@ -1,6 +1,7 @@
 -- The signal point of a round, and which waiting threads go on. This project's own rules; signal
 -- numbers are chosen after Linux's.
 use Rattle.std.specs.Prelude.{ℕ, ◌+◌, Bool, true, false, not, ◌&&◌, ◌||◌, List, [], ◌∷◌, length, filter, find, Option, Some, None, ◌==◌, nat_le, if◌then◌else◌}
+use Rattle.dos_world.specs.Errors.{eintr}
 use Rattle.dos_world.specs.Numbered.{numbers_of, run_of}
 use Rattle.dos_world.specs.World.{World, Thread, live_threads, thread_at, action_of, is_state, in_state, with_thread, has_bit, with_bit, without_bit, set, with_pc}
 use Rattle.dos_world.specs.Kernel.{minus, woken, posted, process_ended}
@@ -43,7 +44,7 @@ handling signal handler thread = record (cleared signal thread) {
 
 -- A thread that waits or sleeps first gets -4 in a0, and is ready.
 abbrev pub interrupted : World → ℕ → Thread → World
-interrupted w t thread = if is_state Ready (Some thread) then w else woken w t (minus 4)
+interrupted w t thread = if is_state Ready (Some thread) then w else woken w t (minus eintr)
 
 -- The default action: 17 is dropped; any other signal ends the process with status 128 plus its
 -- number.

@@ -1,6 +1,7 @@
 -- The services of a thread: thread_exit, thread_new, get_tid, yield. This project's own; error
 -- numbers are chosen after Linux's.
 use Rattle.std.specs.Prelude.{ℕ, ◌+◌, ◌%◌, Bool, not, ◌||◌, List, [], ◌∷◌, ◌++◌, length, Option, Some, is_some, ◌==◌, nat_le, if◌then◌else◌}
+use Rattle.dos_world.specs.Errors.{eagain, einval}
 use Rattle.dos_world.specs.Numbered.{numbers_of}
 use Rattle.dos_world.specs.World.{World, Thread, Registers, code_unit, with_registers, set, blank}
 use Rattle.dos_world.specs.Kernel.{answered, thread_ended}
@@ -48,8 +49,8 @@ abbrev pub thread_new : Service
 thread_new c =
     let registers : Registers = new_registers c.a0 c.a1 c.a2 in
     let thread : Thread = ready_thread c.process registers (mask_of c) [] in
-    if not (c.a0 % code_unit == 0) then refuses 22 c
-    else (if are_threads_full c.world.threads then refuses 11 c
+    if not (c.a0 % code_unit == 0) then refuses einval c
+    else (if are_threads_full c.world.threads then refuses eagain c
     else returns_in (with_new_thread c.world thread) (next_thread c.world) c)
 
 -- 21: the thread's number

@@ -69,6 +69,13 @@ pub record World : Type 0 where
 abbrev pub code_unit : ℕ
 code_unit = 4
 
+-- how many bytes a page and a frame have, and how many a pipe holds at most
+abbrev pub page_size : ℕ
+page_size = 4096
+
+abbrev pub pipe_size : ℕ
+pipe_size = 4096
+
 -- ---- processes
 
 -- the process of this number
@@ -175,7 +182,7 @@ space_of w p = elim (live_process w p) [ None ↦ [] | Some h ↦ h.space ]
 abbrev pub entry_at : World → ℕ → ℕ → Option Entry
 entry_at w t address =
     elim (thread_at w t)
-    [ None ↦ None | Some thread ↦ look (space_of w thread.process) (address / 4096) ]
+    [ None ↦ None | Some thread ↦ look (space_of w thread.process) (address / page_size) ]
 
 -- the owner of a frame
 abbrev pub owner_of : World → ℕ → Owner
@@ -189,7 +196,7 @@ is_free (Of t) = false
 
 -- the 4096 bytes of a frame
 abbrev pub page_of : List ℕ → ℕ → List ℕ
-page_of bytes frame = take 4096 (drop (4096 * frame) bytes)
+page_of bytes frame = take page_size (drop (page_size * frame) bytes)
 
 -- ---- changing
 

@@ -21,16 +21,17 @@ pub fn tested_is_lawful()
     ensures { TestedIsLawful }
 {}
 
-/// A call that is refused, by whichever service, goes on with minus the error's number in a0 and changes the registers of
-/// its thread and nothing else, but for what every call pays: one of the budget, and the reservation. `refusals` is the
-/// table of what is refused and with which number. Two rows differ: `futex_wait`'s 11 comes after its page has been
-/// granted, which makes one frame Shared, and `sig_return`'s 22 leaves pc at the ecall.
+/// A call that is refused, by whichever service, goes on with minus the error's number in a0 and
+/// changes the registers of its thread and nothing else, but for what every call pays: one of the
+/// budget, and the reservation. `refusals` is the table of what is refused and with which number.
+/// Two rows differ: `futex_wait`'s 11 comes after its page has been granted, which makes one frame
+/// Shared, and `sig_return`'s 22 leaves pc at the ecall.
 pub fn refused_calls_change_registers_alone()
     ensures { RefusedCallsChangeRegistersAlone }
 {}
 
-/// In a lawful world a call for which `refusals` has no number isn't refused: what it comes to is not what a refusal with an
-/// error's number, 1 to 63, would come to.
+/// In a lawful world a call for which `refusals` has no number isn't refused: what it comes to is
+/// not what a refusal with an error's number, 1 to 63, would come to.
 pub fn only_these_are_refused()
     ensures { OnlyTheseAreRefused }
 {}

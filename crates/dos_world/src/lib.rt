@@ -1,8 +1,9 @@
-//! The plain types of a deterministic process group, and the registers of a thread. `specs/` has the flat world that
-//! they describe: a group of processes and threads as one piece of data, what an access reaches, the services, the
-//! signals, and which worlds are lawful.
+//! The plain types of a deterministic process group, and the registers of a thread. `specs/` has
+//! the flat world that they describe: a group of processes and threads as one piece of data, what
+//! an access reaches, the services, the signals, and which worlds are lawful.
 #![tactic(auto)]
 
+pub mod errors;
 pub mod laws;
 mod reach;
 mod regs;
@@ -40,7 +41,8 @@ pub enum Owner {
     Free,
     /// Everybody may read it, nobody may write it.
     Shared,
-    /// The thread of this number may read and write it, and nobody else may; also after that thread is gone.
+    /// The thread of this number may read and write it, and nobody else may; also after that thread
+    /// is gone.
     Of(u32),
 }
 
@@ -86,7 +88,8 @@ pub enum End {
 pub enum Reason {
     /// The page at this address is another's, for this access.
     Page { address: u32, access: Access },
-    /// It can't be done: 4 is no instruction, 5 is ebreak, 7 is misaligned, 11 is no page or no right.
+    /// It can't be done: 4 is no instruction, 5 is ebreak, 7 is misaligned, 11 is no page or no
+    /// right.
     Fault(u8),
     /// It is an ecall.
     Service,
@@ -99,8 +102,8 @@ pub struct Post {
     pub signal: u8,
 }
 
-/// What a run is given: instructions for each thread and round (16 to 65536), rounds at most (1 to 1000000), and frames
-/// (16 to 16384).
+/// What a run is given: instructions for each thread and round (16 to 65536), rounds at most (1 to
+/// 1000000), and frames (16 to 16384).
 #[derive(Clone, Copy, Debug, PartialEq, Eq)]
 pub struct Config {
     pub quantum: u32,
@@ -121,8 +124,8 @@ pub enum Question {
     End { ending: Ending, rounds: u32 },
 }
 
-/// Where a log differs from the run that replays it: the entry, counted from 0, its question and the question asked.
-/// The two questions differ.
+/// Where a log differs from the run that replays it: the entry, counted from 0, its question and
+/// the question asked. The two questions differ.
 #[derive(Clone, Copy, Debug, PartialEq, Eq)]
 pub struct Misfit {
     pub entry: u32,
@@ -130,7 +133,8 @@ pub struct Misfit {
     pub asked: Question,
 }
 
-/// A page of a process: the frame, whether it may be written and executed, and whether a fork shares it.
+/// A page of a process: the frame, whether it may be written and executed, and whether a fork
+/// shares it.
 #[derive(Clone, Copy, Debug, PartialEq, Eq)]
 pub struct Entry {
     pub frame: u32,

@@ -6,7 +6,8 @@ ghost use Rattle.dos_world.specs.Reach as reaching;
 use crate::{Access, Entry, Owner, Size};
 
 impl Size {
-    /// Whether an address is a multiple of what the access takes. An aligned access lies in one page.
+    /// Whether an address is a multiple of what the access takes. An aligned access lies in one
+    /// page.
     #[inline]
     pub fn is_aligned(self, address: u32) -> bool
         ensures value { IsTrue result ↔ (address % width self ≡ 0) }

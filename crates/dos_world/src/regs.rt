@@ -4,8 +4,8 @@ ghost use Rattle.dos_world.specs.World.{get, set, with_pc, with_held, blank};
 
 use std::marker::Model;
 
-/// The registers of a thread: pc, x0 to x31, and the word's address that lr.w reserved. Contracts see them as the
-/// record `Registers` of the flat world.
+/// The registers of a thread: pc, x0 to x31, and the word's address that lr.w reserved. Contracts
+/// see them as the record `Registers` of the flat world.
 #[derive(Clone, Copy)]
 pub struct Regs {
     pc: u32,
@@ -44,7 +44,8 @@ impl Regs {
         self.numbers[index as usize]
     }
 
-    /// Sets x1 to x31. A write to x0, which is always 0, is dropped (RISC-V unprivileged manual, edition 20191213, section 2.1).
+    /// Sets x1 to x31. A write to x0, which is always 0, is dropped (RISC-V unprivileged manual,
+    /// edition 20191213, section 2.1).
     #[inline(always)]
     pub fn set(&mut self, index: u8, value: u32)
         requires { index < 32 }
@@ -85,27 +86,5 @@ impl Regs {
         ensures { self.new ≡ with_held self.old word }
     {
         self.held = word;
-    }
-}
-
-#[cfg(test)]
-mod tests {
-    use super::*;
-
-    #[test]
-    fn registers_keep_what_is_set(rt: HostRuntime) {
-        let mut regs = Regs::new(0x10000);
-        assert_eq!(rt; regs.pc(), 0x10000);
-        assert_eq!(rt; regs.held(), None);
-        assert_eq!(rt; regs.get(31), 0);
-        regs.set(0, 9);
-        regs.set(5, 7);
-        regs.set_pc(0x10004);
-        regs.set_held(Some(0x20000));
-        for (index, want) in [(0, 0), (4, 0), (5, 7), (6, 0)] {
-            assert_eq!(rt; regs.get(index), want, "at x{index}");
-        }
-        assert_eq!(rt; regs.pc(), 0x10004);
-        assert_eq!(rt; regs.held(), Some(0x20000));
     }
 }

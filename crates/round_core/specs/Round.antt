@@ -1,7 +1,7 @@
 -- One round. This project's own profile.
 use Rattle.std.specs.Prelude.{ℕ, ◌+◌, ◌-◌, Bool, List, [], ◌∷◌, length, sum_by, ◌==◌, if◌then◌else◌}
 pub use Rattle.dos_world.specs.World.{with_budget}
-use Rattle.dos_world.specs.World.{World, Thread, live_threads, ready_threads, with_thread}
+use Rattle.dos_world.specs.World.{World, live_threads, ready_threads, with_thread}
 use Rattle.dos_world.specs.Signals.{signalled, ripen}
 use Rattle.dos_world.specs.Play.{Play, Answer, Outcome, done, ask, ◌>>=◌, over, posts_of}
 use Rattle.dos_world.specs.declared.Question.TheVariants.{Signals}

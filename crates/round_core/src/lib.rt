@@ -1,4 +1,5 @@
-//! Rounds of a group: the parallel phase, the serial phase and the signal point before them. Definitions and their laws.
+//! Rounds of a group: the parallel phase, the serial phase and the signal point before them.
+//! Definitions and their laws.
 #![tactic(auto)]
 
 pub mod laws;

@@ -10,7 +10,8 @@ use Rattle.rv_isa.specs.declared.AmoOp.TheVariants.{LrW, ScW, AmoswapW, AmoaddW,
 use Rattle.rv_exec.specs.Effect.{effect, atomic, combined, exchange, onward}
 use Rattle.rv_exec.specs.Instruction.{effect_of_word, effect_by}
 
-by_new_word : (op : AmoOp) → op ≢ LrW → op ≢ ScW → (n a b : ℕ) (r : Registers) → atomic op n a b r ≡ exchange n a (λ old. combined op old b) r
+by_new_word : (op : AmoOp) → op ≢ LrW → op ≢ ScW → (n a b : ℕ) (r : Registers)
+    → atomic op n a b r ≡ exchange n a (λ old. combined op old b) r
 by_new_word LrW l s n a b r = absurd (l refl)
 by_new_word ScW l s n a b r = absurd (s refl)
 by_new_word AmoswapW l s n a b r = refl
@@ -23,8 +24,10 @@ by_new_word AmomaxW l s n a b r = refl
 by_new_word AmominuW l s n a b r = refl
 by_new_word AmomaxuW l s n a b r = refl
 
-pub exchange_effect : (word : ℕ) (r : Registers) (op : AmoOp) (a b : ℕ) → bit_and word 127 ≡ 0x2F → amo_in word ≡ Some op → op ≢ LrW → op ≢ ScW
-    → a ≡ get r (rs1 word) → b ≡ get r (rs2 word) → exchange (rd word) a (λ old. combined op old b) (onward 4 r) ≡ effect_of_word word r
+pub exchange_effect : (word : ℕ) (r : Registers) (op : AmoOp) (a b : ℕ) → bit_and word 127 ≡ 0x2F
+    → amo_in word ≡ Some op → op ≢ LrW → op ≢ ScW
+    → a ≡ get r (rs1 word) → b ≡ get r (rs2 word)
+    → exchange (rd word) a (λ old. combined op old b) (onward 4 r) ≡ effect_of_word word r
 unfolding effect
 exchange_effect word r op a b is e l s p q =
     ap (λ x. exchange (rd word) x (λ old. combined op old b) (onward 4 r)) p

@@ -4,5 +4,8 @@ pub mod High
 pub mod Whole
 pub mod Atomics
 pub mod Stepping
+pub mod Forms
+pub mod Seen
 pub mod Stays
+pub mod Commute
 mod Results

@@ -1,4 +1,5 @@
--- What operations compute, at values from the manual's tables and at the ends of their ranges; worked out by hand.
+-- What operations compute, at values from the manual's tables and at the ends of their ranges;
+-- worked out by hand.
 use Rattle.std.specs.Prelude.{negsuc, true, false, ◌≡◌, refl}
 use Rattle.rv_isa.specs.declared.RegOp.TheVariants.{Add, Sub, Sll, Slt, Sltu, Srl, Sra, Mul, Mulh, Mulhsu, Mulhu, Div, Divu, Rem, Remu}
 use Rattle.rv_isa.specs.declared.ImmOp.TheVariants.{Addi, Slti, Sltiu}

@@ -1,4 +1,5 @@
--- What the instructions compute, on numbers below 2^32. RISC-V unprivileged manual, edition 20191213.
+-- What the instructions compute, on numbers below 2^32. RISC-V unprivileged manual, edition
+-- 20191213.
 use Rattle.std.specs.Prelude.{ℕ, ◌+◌, ◌-◌, ◌*◌, ◌/◌, ◌%◌, ◌^◌, Bool, not, ℤ, pos, ◌*ℤ◌, ◌==◌, nat_lt, int_lt, int_div, int_rem, if◌then◌else◌, bit_and, bit_or, bit_xor}
 use Rattle.std.specs.Int.{w8, w16, w32, cast_signed, cast_unsigned, int_shr}
 use Rattle.dos_world.specs.declared.Size.{Size}
@@ -52,11 +53,13 @@ shifted_signed a n = unsigned (int_shr (signed a) n)
 abbrev pub quotient : ℕ → ℕ → ℕ
 quotient a b = if b == 0 then 0xFFFFFFFF else unsigned (int_div (signed a) (signed b))
 
--- The remainder has the dividend's sign; by zero it is the dividend. -2^31 by -1 gives 0. Section 7.2.
+-- The remainder has the dividend's sign; by zero it is the dividend. -2^31 by -1 gives 0. Section
+-- 7.2.
 abbrev pub remainder : ℕ → ℕ → ℕ
 remainder a b = if b == 0 then a else unsigned (int_rem (signed a) (signed b))
 
--- Sections 2.4 (a shift takes the low five bits of rs2), 7.1 (the upper 32 bits of a product of two numbers, signed or not) and 7.2.
+-- Sections 2.4 (a shift takes the low five bits of rs2), 7.1 (the upper 32 bits of a product of two
+-- numbers, signed or not) and 7.2.
 abbrev pub register_result : RegOp → ℕ → ℕ → ℕ
 register_result Add a b = (a + b) % 2 ^ 32
 register_result Sub a b = (a + (2 ^ 32 - b)) % 2 ^ 32

@@ -1,4 +1,5 @@
--- What a worked example unfolds, so that the checker computes it: named here once. A lemma with the line 'unfolding computing' unfolds it all.
+-- What a worked example unfolds, so that the checker computes it: named here once. A lemma with the
+-- line 'unfolding computing' unfolds it all.
 use Rattle.dos_world.specs.Kernel.{zero_page}
 use Rattle.dos_world.specs.Services.{services}
 use Rattle.rv_isa.specs.Meaning.{meaning, found, rows, base_rows}

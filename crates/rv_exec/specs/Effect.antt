@@ -1,4 +1,5 @@
--- What an instruction does: it changes registers alone, or makes one access to memory, or stops. RISC-V unprivileged manual, edition 20191213; the reservation is this project's own.
+-- What an instruction does: it changes registers alone, or makes one access to memory, or stops.
+-- RISC-V unprivileged manual, edition 20191213; the reservation is this project's own.
 use Rattle.std.specs.Prelude.{ℕ, ◌+◌, ◌*◌, ◌/◌, ◌%◌, ◌^◌, min, max, Bool, true, false, not, Option, Some, None, ◌==◌, if◌then◌else◌, bit_and, bit_or, bit_xor}
 use Rattle.dos_world.specs.World.{Registers, code_unit, get, set, with_pc, with_held}
 use Rattle.dos_world.specs.declared.Size.{Size}
@@ -47,16 +48,19 @@ is_held (Some word) address = word == address
 abbrev pub link : ℕ → ℕ → Registers → Effect
 link rd address r = claims address (λ old. with_held (set r rd old) (Some address)) (λ old. None)
 
--- sc.w: where it passes, the value is stored and rd is 0, else rd is 1. Nothing is reserved afterwards. Section 8.2.
+-- sc.w: where it passes, the value is stored and rd is 0, else rd is 1. Nothing is reserved
+-- afterwards. Section 8.2.
 abbrev pub conditional : ℕ → ℕ → ℕ → Bool → Registers → Effect
 conditional rd address value passes r =
-    claims address (λ old. with_held (set r rd (test (not passes))) None) (λ old. if passes then Some value else None)
+    claims address (λ old. with_held (set r rd (test (not passes))) None)
+    (λ old. if passes then Some value else None)
 
 -- an AMO: rd is the old word, and what is made of it is stored. Section 8.4.
 abbrev pub exchange : ℕ → ℕ → (ℕ → ℕ) → Registers → Effect
 exchange rd address new r = claims address (λ old. set r rd old) (λ old. Some (new old))
 
--- What an AMO stores, by the old word and b in rs2. Section 8.4. lr.w and sc.w are no AMOs, and store nothing by this.
+-- What an AMO stores, by the old word and b in rs2. Section 8.4. lr.w and sc.w are no AMOs, and
+-- store nothing by this.
 abbrev pub combined : AmoOp → ℕ → ℕ → ℕ
 combined AmoswapW old b = b
 combined AmoaddW old b = (old + b) % 2 ^ 32
@@ -70,7 +74,8 @@ combined AmomaxuW old b = max old b
 combined LrW old b = old
 combined ScW old b = old
 
--- by the operation, with the address in rs1 and b in rs2; aq and rl have no effect. Sections 8.2 and 8.4.
+-- by the operation, with the address in rs1 and b in rs2; aq and rl have no effect. Sections 8.2
+-- and 8.4.
 abbrev pub atomic : AmoOp → ℕ → ℕ → ℕ → Registers → Effect
 atomic LrW rd address b r = link rd address r
 atomic ScW rd address b r = conditional rd address b (is_held r.held address) r
@@ -83,13 +88,20 @@ unfoldable pub effect : Instr → ℕ → Registers → Effect
 effect (Upper false rd imm) size r = goes (set (onward size r) rd imm)
 effect (Upper true rd imm) size r = goes (set (onward size r) rd ((r.pc + imm) % 2 ^ 32))
 effect (Jal rd offset) size r = jumps (plus r.pc offset) (set r rd (next_address size r))
-effect (Jalr rd rs1 offset) size r = jumps (plus (get r rs1) offset / 2 * 2) (set r rd (next_address size r))
-effect (Branch op rs1 rs2 offset) size r = if is_taken op (get r rs1) (get r rs2) then jumps (plus r.pc offset) r else goes (onward size r)
-effect (Load op rd rs1 offset) size r = loads (plus (get r rs1) offset) (load_size op) (λ n. set (onward size r) rd (load_result op n))
-effect (Store op rs1 rs2 offset) size r = stores (plus (get r rs1) offset) (store_size op) (get r rs2) (onward size r)
-effect (Imm op rd rs1 imm) size r = goes (set (onward size r) rd (immediate_result op (get r rs1) imm))
-effect (Shift op rd rs1 amount) size r = goes (set (onward size r) rd (shift_result op (get r rs1) amount))
-effect (Reg op rd rs1 rs2) size r = goes (set (onward size r) rd (register_result op (get r rs1) (get r rs2)))
+effect (Jalr rd rs1 offset) size r =
+    jumps (plus (get r rs1) offset / 2 * 2) (set r rd (next_address size r))
+effect (Branch op rs1 rs2 offset) size r =
+    if is_taken op (get r rs1) (get r rs2) then jumps (plus r.pc offset) r else goes (onward size r)
+effect (Load op rd rs1 offset) size r =
+    loads (plus (get r rs1) offset) (load_size op) (λ n. set (onward size r) rd (load_result op n))
+effect (Store op rs1 rs2 offset) size r =
+    stores (plus (get r rs1) offset) (store_size op) (get r rs2) (onward size r)
+effect (Imm op rd rs1 imm) size r =
+    goes (set (onward size r) rd (immediate_result op (get r rs1) imm))
+effect (Shift op rd rs1 amount) size r =
+    goes (set (onward size r) rd (shift_result op (get r rs1) amount))
+effect (Reg op rd rs1 rs2) size r =
+    goes (set (onward size r) rd (register_result op (get r rs1) (get r rs2)))
 effect (Amo op rd rs1 rs2 aq rl) size r = atomic op rd (get r rs1) (get r rs2) (onward size r)
 effect (Fence fetch rd rs1 imm) size r = goes (onward size r)
 effect Ecall size r = stops Service

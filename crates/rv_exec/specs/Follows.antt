@@ -1,4 +1,5 @@
--- What a memory answers for the flat world, and what one instruction over it leaves. This project's own words.
+-- What a memory answers for the flat world, and what one instruction over it leaves. This project's
+-- own words.
 use Rattle.std.specs.Prelude.{ℕ, ◌≡◌, ◌+◌, ◌*◌, ◌%◌, ◌^◌, Result, Ok, Err, ◌==◌, if◌then◌else◌}
 use Rattle.dos_world.specs.World.{World, Registers}
 use Rattle.dos_world.specs.declared.Reason.{Reason}
@@ -10,7 +11,9 @@ use Rattle.rv_exec.specs.Step.{◌>>=◌, half_at}
 
 -- the word at pc, or the halfword alone where it is no word's
 abbrev pub word_at : World → ℕ → ℕ → Result ℕ Reason
-word_at w t pc = half_at w t pc >>= λ low. if low % 4 == 3 then (half_at w t ((pc + 2) % 2 ^ 32) >>= λ high. Ok (low + 2 ^ 16 * high)) else Ok low
+word_at w t pc = half_at w t pc
+    >>= λ low. if low % 4 == 3 then
+    (half_at w t ((pc + 2) % 2 ^ 32) >>= λ high. Ok (low + 2 ^ 16 * high)) else Ok low
 
 -- a store's answer without the world
 abbrev pub answer_of : Result World Reason → Result (Unit {0}) Reason
@@ -40,7 +43,8 @@ world_of w (Ok x) = x.1
 world_of w (Err reason) = w
 
 -- The registers old became new with this answer, and the memory shows what is left.
-pub record Follows (shows : World → Type 0) (w : World) (old new : Registers) (went : Went) (o : Result (Registers × World) Reason) : Type 0 where
+pub record Follows (shows : World → Type 0) (w : World) (old new : Registers) (went : Went)
+    (o : Result (Registers × World) Reason) : Type 0 where
   pub went_is : went ≡ went_of o
   pub registers : new ≡ registers_of old o
   pub world : shows (world_of w o)

@@ -19,10 +19,12 @@ effect_by (Some instr) size r = effect instr size r
 abbrev pub effect_of_word : ℕ → Registers → Effect
 effect_of_word word r = effect_by (meaning word) 4 r
 
--- None of the opcodes that RV32I, M, A and Zifencei have. The manual's chapter "RV32/64G Instruction Set Listings".
+-- None of the opcodes that RV32I, M, A and Zifencei have. The manual's chapter "RV32/64G
+-- Instruction Set Listings".
 abbrev pub IsNoOpcode : ℕ → Type 0
 IsNoOpcode o =
-    (o ≢ 0x37) × (o ≢ 0x17) × (o ≢ 0x6F) × (o ≢ 0x67) × (o ≢ 0x63) × (o ≢ 0x03) × (o ≢ 0x23) × (o ≢ 0x13) × (o ≢ 0x33) × (o ≢ 0x0F) × (o ≢ 0x73) × (o ≢ 0x2F)
+    (o ≢ 0x37) × (o ≢ 0x17) × (o ≢ 0x6F) × (o ≢ 0x67) × (o ≢ 0x63) × (o ≢ 0x03) × (o ≢ 0x23)
+    × (o ≢ 0x13) × (o ≢ 0x33) × (o ≢ 0x0F) × (o ≢ 0x73) × (o ≢ 0x2F)
 
 -- The registers old became new with this answer, as an effect says that makes no access to memory.
 abbrev pub Settles : Went → Registers → Registers → Effect → Type 0
@@ -32,7 +34,10 @@ Settles went old new (loads address size next) = ⊥
 Settles went old new (stores address size value r) = ⊥
 Settles went old new (claims address next word) = ⊥
 
--- On a memory that shows old before and new afterwards, for whatever stands still in it, each thread and each world: what
+-- On a memory that shows old before and new afterwards, for whatever stands still in it, each
+-- thread and each world: what
 -- is left of the registers r is what the effect says.
-abbrev pub Performs : {Fixed : Type 0} → (Fixed → ℕ → World → Type 0) → (Fixed → ℕ → World → Type 0) → (r after : Registers) → Went → Effect → Type 0
-Performs old new r after went e = (f : _) (t : ℕ) (w : World) → old f t w → Follows (new f t) w r after went (effect_in (world_answers t) w e)
+abbrev pub Performs : {Fixed : Type 0} → (Fixed → ℕ → World → Type 0) → (Fixed → ℕ → World → Type 0)
+    → (r after : Registers) → Went → Effect → Type 0
+Performs old new r after went e = (f : _) (t : ℕ) (w : World) → old f t w
+    → Follows (new f t) w r after went (effect_in (world_answers t) w e)

@@ -1,4 +1,5 @@
--- One instruction over any memory that answers four calls; a step is this over the flat world. This project's own way to put the manual's instructions.
+-- One instruction over any memory that answers four calls; a step is this over the flat world. This
+-- project's own way to put the manual's instructions.
 use Rattle.std.specs.Prelude.{ℕ, ◌+◌, ◌%◌, ◌^◌, Option, Some, None, Result, Ok, Err, ◌==◌, if◌then◌else◌}
 use Rattle.dos_world.specs.World.{World, Registers}
 use Rattle.dos_world.specs.declared.Size.{Size}
@@ -22,7 +23,8 @@ pub record Answers (M : Type 0) : Type 0 where
 abbrev pub instruction_in : {M : Type 0} → Answers M → M → ℕ → Result (Option Instr × ℕ) Reason
 instruction_in answers m pc = do
   low ← answers.fetch m pc
-  if low % 4 == 3 then (answers.fetch m ((pc + 2) % 2 ^ 32) >>= λ high. Ok (whole_word low high)) else Ok (None, 2)
+  if low % 4 == 3 then (answers.fetch m ((pc + 2) % 2 ^ 32)
+      >>= λ high. Ok (whole_word low high)) else Ok (None, 2)
 
 -- a word stored, where there is one
 abbrev pub store_if : {M : Type 0} → Answers M → M → ℕ → Option ℕ → Result M Reason

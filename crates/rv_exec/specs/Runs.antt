@@ -10,12 +10,15 @@ abbrev pub kept : Thread → Registers × ℕ
 kept thread = (thread.registers, thread.budget)
 
 -- The memory shows this world, in which t has these registers and this budget.
-pub record Runs (shows : World → Type 0) (w : World) (t : ℕ) (r : Registers) (budget : ℕ) : Type 0 where
+pub record Runs (shows : World → Type 0) (w : World) (t : ℕ) (r : Registers)
+    (budget : ℕ) : Type 0 where
   pub shown : shows w
   pub thread : option_map kept (thread_at w t) ≡ Some (r, budget)
 
--- What is left of an instruction of t from w on, by what its step gives: the new world, with one of the budget less; or,
+-- What is left of an instruction of t from w on, by what its step gives: the new world, with one of
+-- the budget less; or,
 -- where it stops, the world as it was.
-abbrev pub Steps : (World → Type 0) → World → ℕ → Registers → ℕ → Went → Result World Reason → Type 0
+abbrev pub Steps : (World → Type 0) → World → ℕ → Registers → ℕ → Went → Result World Reason
+    → Type 0
 Steps shows w t new budget went (Ok after) = (went ≡ Step) × Runs shows after t new (budget - 1)
 Steps shows w t new budget went (Err reason) = (went ≡ Stop reason) × Runs shows w t new budget

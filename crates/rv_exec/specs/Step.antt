@@ -1,4 +1,5 @@
--- One instruction of a thread on the flat world. The instructions are those of the unprivileged manual; what an access reaches is this project's own.
+-- One instruction of a thread on the flat world. The instructions are those of the unprivileged
+-- manual; what an access reaches is this project's own.
 use Rattle.std.specs.Prelude.{ℕ, ◌+◌, ◌-◌, ◌*◌, ◌%◌, ◌^◌, Option, Some, None, Result, Ok, Err, ◌==◌, if◌then◌else◌}
 use Rattle.dos_world.specs.World.{World, Thread, Registers, thread_at, with_thread}
 use Rattle.dos_world.specs.Reach.{Reached, fault, foreign, at, reach, width, loaded, stored, bytes_of}
@@ -39,11 +40,13 @@ half_at w t address = do
 
 -- the number that t loads
 abbrev pub load_at : World → ℕ → ℕ → Size → Result ℕ Reason
-load_at w t address size = reached w t address size Load >>= λ place. Ok (loaded w place (width size))
+load_at w t address size =
+    reached w t address size Load >>= λ place. Ok (loaded w place (width size))
 
 -- the world after a store of t
 abbrev pub store_at : World → ℕ → ℕ → Size → ℕ → Result World Reason
-store_at w t address size value = reached w t address size Store >>= λ place. Ok (stored w place (bytes_of (width size) value))
+store_at w t address size value =
+    reached w t address size Store >>= λ place. Ok (stored w place (bytes_of (width size) value))
 
 -- the word that t claims
 abbrev pub claim_at : World → ℕ → ℕ → Result ℕ Reason
@@ -55,11 +58,13 @@ claim_at w t address = reached w t address Word Claim >>= λ place. Ok (loaded w
 abbrev pub whole_word : ℕ → ℕ → Option Instr × ℕ
 whole_word low high = (meaning (low + 2 ^ 16 * high), 4)
 
--- The instruction at pc, where its bytes mean one, and its size in bytes. A halfword whose low two bits aren't 11 means none; else it and the next one are the word, which may lie on two pages.
+-- The instruction at pc, where its bytes mean one, and its size in bytes. A halfword whose low two
+-- bits aren't 11 means none; else it and the next one are the word, which may lie on two pages.
 abbrev pub instruction_at : World → ℕ → ℕ → Result (Option Instr × ℕ) Reason
 instruction_at w t pc = do
   low ← half_at w t pc
-  if low % 4 == 3 then (half_at w t ((pc + 2) % 2 ^ 32) >>= λ high. Ok (whole_word low high)) else Ok (None, 2)
+  if low % 4 == 3 then (half_at w t ((pc + 2) % 2 ^ 32) >>= λ high. Ok (whole_word low high)) else
+      Ok (None, 2)
 
 -- ---- the step
 
@@ -92,7 +97,10 @@ performed w t (stops reason) = Err reason
 
 -- what t does with what it finds at pc: bytes that mean no instruction are fault 4
 abbrev pub step_by : World → ℕ → Registers → Option Instr × ℕ → Result World Reason
-step_by w t r found = elim found.0 [ None ↦ Err (Fault 4) | Some instr ↦ performed w t (effect instr found.1 r) ]
+step_by w t r found = elim found.0 [
+  | None ↦ Err (Fault 4)
+  | Some instr ↦ performed w t (effect instr found.1 r)
+]
 
 -- a step of t by the thread that it is; who is gone stops
 abbrev pub step_of : World → ℕ → Option Thread → Result World Reason

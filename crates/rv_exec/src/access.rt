@@ -32,12 +32,13 @@ fn store_address(regs: &Regs, word: u32) -> u32
 }
 
 /// A load by one operation, sign-extended for lb and lh.
-#[inline]
+#[inline(always)]
 #[tactic(auto, using(rv_isa::proofs::ByOpcode::meaning_load), unfolding(crate::specs::Effect::effect))]
 fn load_by<M: Memory>(regs: &mut Regs, memory: &mut M, word: u32, op: LoadOp) -> Went
     requires opcode { bit_and word 127 ≡ 0x03 }
     requires operation { load_in word ≡ Some op }
-    ensures { Performs (M.shows memory.old) (M.shows memory.new) regs.old regs.new result (effect_of_word word regs.old) }
+    ensures { Performs (M.shows memory.old) (M.shows memory.new) regs.old regs.new result
+        (effect_of_word word regs.old) }
 {
     match memory.load(load_address(regs, word), load_size(op)) {
         Ok(number) => {
@@ -48,12 +49,14 @@ fn load_by<M: Memory>(regs: &mut Regs, memory: &mut M, word: u32, op: LoadOp) ->
     }
 }
 
-/// A load. Each operation has an arm of its own, where its size and its sign are known: one branch finds them all.
-#[inline]
+/// A load. Each operation has an arm of its own, where its size and its sign are known: one branch
+/// finds them all.
+#[inline(always)]
 #[tactic(auto, using(rv_isa::proofs::ByOpcode::meaning_load), unfolding(crate::specs::Effect::effect))]
 pub fn load<M: Memory>(regs: &mut Regs, memory: &mut M, word: u32) -> Went
     requires { bit_and word 127 ≡ 0x03 }
-    ensures { Performs (M.shows memory.old) (M.shows memory.new) regs.old regs.new result (effect_of_word word regs.old) }
+    ensures { Performs (M.shows memory.old) (M.shows memory.new) regs.old regs.new result
+        (effect_of_word word regs.old) }
 {
     match rv_isa::load_op(word) {
         Some(LoadOp::Lb) => load_by(regs, memory, word, LoadOp::Lb),
@@ -66,9 +69,11 @@ pub fn load<M: Memory>(regs: &mut Regs, memory: &mut M, word: u32) -> Went
 }
 
 /// A store of the low bytes of a register by one operation.
-#[inline]
+#[inline(always)]
 fn store_by<M: Memory>(regs: &mut Regs, memory: &mut M, word: u32, op: StoreOp) -> Went
-    ensures { Performs (M.shows memory.old) (M.shows memory.new) regs.old regs.new result (stores (effects.plus (get regs.old (fields.rs1 word)) (fields.imm_s word)) (effects.store_size op) (get regs.old (fields.rs2 word)) (onward 4 regs.old)) }
+    ensures { Performs (M.shows memory.old) (M.shows memory.new) regs.old regs.new result
+        (stores (effects.plus (get regs.old (fields.rs1 word)) (fields.imm_s word))
+        (effects.store_size op) (get regs.old (fields.rs2 word)) (onward 4 regs.old)) }
 {
     let address = store_address(regs, word);
     let value = second(regs, word);
@@ -82,11 +87,12 @@ fn store_by<M: Memory>(regs: &mut Regs, memory: &mut M, word: u32, op: StoreOp) 
 }
 
 /// A store. As for loads, each operation has an arm of its own.
-#[inline]
+#[inline(always)]
 #[tactic(auto, using(rv_isa::proofs::ByOpcode::meaning_store), unfolding(crate::specs::Effect::effect))]
 pub fn store<M: Memory>(regs: &mut Regs, memory: &mut M, word: u32) -> Went
     requires { bit_and word 127 ≡ 0x23 }
-    ensures { Performs (M.shows memory.old) (M.shows memory.new) regs.old regs.new result (effect_of_word word regs.old) }
+    ensures { Performs (M.shows memory.old) (M.shows memory.new) regs.old regs.new result
+        (effect_of_word word regs.old) }
 {
     match rv_isa::store_op(word) {
         Some(StoreOp::Sb) => store_by(regs, memory, word, StoreOp::Sb),
@@ -99,7 +105,8 @@ pub fn store<M: Memory>(regs: &mut Regs, memory: &mut M, word: u32) -> Went
 /// lr.w: the word is claimed, and its address is the reservation.
 #[inline]
 fn load_reserved<M: Memory>(regs: &mut Regs, memory: &mut M, word: u32, address: u32) -> Went
-    ensures { Performs (M.shows memory.old) (M.shows memory.new) regs.old regs.new result (effects.link (fields.rd word) address (onward 4 regs.old)) }
+    ensures { Performs (M.shows memory.old) (M.shows memory.new) regs.old regs.new result
+        (effects.link (fields.rd word) address (onward 4 regs.old)) }
 {
     let claimed = memory.claim(address);
     match claimed {
@@ -141,7 +148,9 @@ fn store_conditional<M: Memory>(
     address: u32,
     value: u32,
 ) -> Went
-    ensures { Performs (M.shows memory.old) (M.shows memory.new) regs.old regs.new result (effects.conditional (fields.rd word) address value (effects.is_held regs.old.held address) (onward 4 regs.old)) }
+    ensures { Performs (M.shows memory.old) (M.shows memory.new) regs.old regs.new result
+        (effects.conditional (fields.rd word) address value
+        (effects.is_held regs.old.held address) (onward 4 regs.old)) }
 {
     match memory.claim(address) {
         Err(reason) => Went::Stop(reason),
@@ -191,7 +200,9 @@ fn exchange<M: Memory>(
     address: u32,
     value: u32,
 ) -> Went
-    ensures { Performs (M.shows memory.old) (M.shows memory.new) regs.old regs.new result (effects.exchange (fields.rd word) address (λ old. combined op old value) (onward 4 regs.old)) }
+    ensures { Performs (M.shows memory.old) (M.shows memory.new) regs.old regs.new result
+        (effects.exchange (fields.rd word) address (λ old. combined op old value)
+        (onward 4 regs.old)) }
 {
     match memory.claim(address) {
         Err(reason) => Went::Stop(reason),
@@ -210,7 +221,8 @@ fn exchange<M: Memory>(
 #[tactic(auto, using(rv_isa::proofs::ByOpcode::meaning_amo), unfolding(crate::specs::Effect::effect))]
 pub fn atomic<M: Memory>(regs: &mut Regs, memory: &mut M, word: u32) -> Went
     requires { bit_and word 127 ≡ 0x2F }
-    ensures { Performs (M.shows memory.old) (M.shows memory.new) regs.old regs.new result (effect_of_word word regs.old) }
+    ensures { Performs (M.shows memory.old) (M.shows memory.new) regs.old regs.new result
+        (effect_of_word word regs.old) }
 {
     let address = first(regs, word);
     let value = second(regs, word);

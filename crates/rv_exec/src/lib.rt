@@ -1,5 +1,5 @@
-//! One instruction of a thread, RV32IMA with Zifencei, over any memory: what it computes, what it does to registers and
-//! memory, and why it stops.
+//! One instruction of a thread, RV32IMA with Zifencei, over any memory: what it computes, what it
+//! does to registers and memory, and why it stops.
 #![tactic(auto)]
 
 mod access;
@@ -9,8 +9,6 @@ mod memory;
 mod numbers;
 mod one_page;
 mod perform;
-#[cfg(test)]
-mod tests;
 
 use dos_world::Reason;
 pub use memory::Memory;

@@ -61,7 +61,8 @@ fn jump(regs: &mut Regs, target: u32) -> Went
 /// A jump that leaves the address of the next instruction in the register that is written.
 #[inline]
 fn jump_and_link(regs: &mut Regs, word: u32, target: u32) -> Went
-    ensures { Settles result regs.old regs.new (effects.jumps target (set regs.old (fields.rd word) (next_address 4 regs.old))) }
+    ensures { Settles result regs.old regs.new
+        (effects.jumps target (set regs.old (fields.rd word) (next_address 4 regs.old))) }
 {
     if target % 4 == 0 {
         let next = regs.pc().wrapping_add(4);
@@ -74,7 +75,7 @@ fn jump_and_link(regs: &mut Regs, word: u32, target: u32) -> Went
 }
 
 /// The immediate, for the register that is written.
-#[inline]
+#[inline(always)]
 #[tactic(auto, using(rv_isa::proofs::ByOpcode::meaning_lui), unfolding(crate::specs::Effect::effect))]
 pub fn lui(regs: &mut Regs, word: u32) -> Went
     requires { bit_and word 127 ≡ 0x37 }
@@ -85,7 +86,7 @@ pub fn lui(regs: &mut Regs, word: u32) -> Went
 }
 
 /// pc and the immediate, added.
-#[inline]
+#[inline(always)]
 #[tactic(auto, using(rv_isa::proofs::ByOpcode::meaning_auipc), unfolding(crate::specs::Effect::effect))]
 pub fn auipc(regs: &mut Regs, word: u32) -> Went
     requires { bit_and word 127 ≡ 0x17 }
@@ -97,7 +98,7 @@ pub fn auipc(regs: &mut Regs, word: u32) -> Went
 }
 
 /// A jump by an offset from pc.
-#[inline]
+#[inline(always)]
 #[tactic(auto, using(rv_isa::proofs::ByOpcode::meaning_jal), unfolding(crate::specs::Effect::effect))]
 pub fn jal(regs: &mut Regs, word: u32) -> Went
     requires { bit_and word 127 ≡ 0x6F }
@@ -108,7 +109,7 @@ pub fn jal(regs: &mut Regs, word: u32) -> Went
 }
 
 /// A jump to a register and an offset, with bit 0 cleared; funct3 is 0.
-#[inline]
+#[inline(always)]
 #[tactic(auto, using(rv_isa::proofs::ByOpcode::meaning_jalr), unfolding(crate::specs::Effect::effect))]
 pub fn jalr(regs: &mut Regs, word: u32) -> Went
     requires { bit_and word 127 ≡ 0x67 }
@@ -122,7 +123,7 @@ pub fn jalr(regs: &mut Regs, word: u32) -> Went
 }
 
 /// A jump by an offset from pc, where a comparison of two registers holds.
-#[inline]
+#[inline(always)]
 #[tactic(auto, using(rv_isa::proofs::ByOpcode::meaning_branch), unfolding(crate::specs::Effect::effect))]
 pub fn branch(regs: &mut Regs, word: u32) -> Went
     requires { bit_and word 127 ≡ 0x63 }
@@ -143,7 +144,7 @@ pub fn branch(regs: &mut Regs, word: u32) -> Went
 }
 
 /// Operations on a register and a constant.
-#[inline]
+#[inline(always)]
 #[tactic(auto, using(rv_isa::proofs::ByOpcode::meaning_arithmetic), unfolding(crate::specs::Effect::effect))]
 pub fn arithmetic(regs: &mut Regs, word: u32) -> Went
     requires { bit_and word 127 ≡ 0x13 }
@@ -165,7 +166,7 @@ pub fn arithmetic(regs: &mut Regs, word: u32) -> Went
 }
 
 /// Operations on two registers.
-#[inline]
+#[inline(always)]
 #[tactic(auto, using(rv_isa::proofs::ByOpcode::meaning_register), unfolding(crate::specs::Effect::effect))]
 pub fn register(regs: &mut Regs, word: u32) -> Went
     requires { bit_and word 127 ≡ 0x33 }

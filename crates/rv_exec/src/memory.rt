@@ -6,9 +6,10 @@ ghost use Rattle.rv_exec.specs.Follows.{word_at, answer_of, after_of};
 
 use dos_world::{Reason, Size};
 
-/// The memory of one thread. Each call answers as the flat world does, for every world that the memory shows: misaligned
-/// is fault 7, a page that isn't mapped or lacks the right is fault 11, and another thread's page is `Reason::Page`. After
-/// an error the memory shows what it showed before.
+/// The memory of one thread. Each call answers as the flat world does, for every world that the
+/// memory shows: misaligned is fault 7, a page that isn't mapped or lacks the right is fault 11,
+/// and another thread's page is `Reason::Page`. After an error the memory shows what it showed
+/// before.
 pub trait Memory {
     /// What the calls leave as it is, as the frames and spaces that are lent to a thread.
     ghost Fixed: { Type 0 };
@@ -18,11 +19,14 @@ pub trait Memory {
 
     /// Two bytes of an instruction, at a multiple of 2.
     fn fetch_half(&mut self, address: u32) -> Result<u16, Reason>
-        ensures { (f : Fixed) (t : ℕ) (w : World) → shows self.old f t w → shows self.new f t w × (result ≡ half_at w t address) };
+        ensures { (f : Fixed) (t : ℕ) (w : World) → shows self.old f t w
+            → shows self.new f t w × (result ≡ half_at w t address) };
 
-    /// The word of an instruction, as its two halfwords one after another; the first alone where its low two bits aren't 11.
+    /// The word of an instruction, as its two halfwords one after another; the first alone where
+    /// its low two bits aren't 11.
     fn fetch_word(&mut self, address: u32) -> Result<u32, Reason>
-        ensures { (f : Fixed) (t : ℕ) (w : World) → shows self.old f t w → shows self.new f t w × (result ≡ word_at w t address) }
+        ensures { (f : Fixed) (t : ℕ) (w : World) → shows self.old f t w
+            → shows self.new f t w × (result ≡ word_at w t address) }
     {
         match self.fetch_half(address) {
             Err(reason) => Err(reason),
@@ -40,15 +44,19 @@ pub trait Memory {
 
     /// The number at an address, zero-extended.
     fn load(&mut self, address: u32, size: Size) -> Result<u32, Reason>
-        ensures { (f : Fixed) (t : ℕ) (w : World) → shows self.old f t w → shows self.new f t w × (result ≡ load_at w t address size) };
+        ensures { (f : Fixed) (t : ℕ) (w : World) → shows self.old f t w
+            → shows self.new f t w × (result ≡ load_at w t address size) };
 
     /// The low bytes of the value are stored.
     fn store(&mut self, address: u32, size: Size, value: u32) -> Result<(), Reason>
-        ensures { (f : Fixed) (t : ℕ) (w : World) → shows self.old f t w → shows self.new f t (after_of w (store_at w t address size value)) × (result ≡ answer_of (store_at w t address size value)) };
+        ensures { (f : Fixed) (t : ℕ) (w : World) → shows self.old f t w
+            → shows self.new f t (after_of w (store_at w t address size value))
+            × (result ≡ answer_of (store_at w t address size value)) };
 
     /// The word at an address; a word that is stored there next is stored.
     fn claim(&mut self, address: u32) -> Result<u32, Reason>
-        ensures { (f : Fixed) (t : ℕ) (w : World) → shows self.old f t w → shows self.new f t w × (result ≡ claim_at w t address) };
+        ensures { (f : Fixed) (t : ℕ) (w : World) → shows self.old f t w
+            → shows self.new f t w × (result ≡ claim_at w t address) };
 
     /// The registers and the budget of a thread are no part of memory.
     ghost blind: { (m : Self) (f : Fixed) (t : ℕ) (w : World) (change : Thread → Thread) → ((thread : Thread) → (change thread).process ≡ thread.process) → shows m f t w → shows m f t (with_thread w t change) };

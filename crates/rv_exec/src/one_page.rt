@@ -41,7 +41,8 @@ impl OnePage {
 
     /// The offset of an access in the page.
     fn find(&self, address: u32, size: Size, access: Access) -> Result<u32, Reason>
-        ensures place { (t : ℕ) (w : World) → IsOnePage self.now t w → result ≡ reached w t address size access }
+        ensures place { (t : ℕ) (w : World) → IsOnePage self.now t w
+            → result ≡ reached w t address size access }
         ensures within { IfOk result (λ offset. offset + width size ≤ 4096) }
     {
         if !size.is_aligned(address) {
@@ -81,7 +82,14 @@ impl OnePage {
     /// Writes the low bytes of a number at an offset.
     fn put(&mut self, offset: u32, size: Size, value: u32)
         requires { offset + width size ≤ 4096 }
-        ensures { self.new ≡ record self.old { bytes = record self.old.bytes { value = written self.old.bytes.value offset (bytes_of (width size) value) } } }
+        ensures { self.new
+            ≡ record self.old {
+              bytes =
+                  record self.old.bytes {
+                    value =
+                        written self.old.bytes.value offset (bytes_of (width size) value);
+                  };
+            } }
     {
         let o = offset as usize;
         let [first, second, third, fourth] = value.to_le_bytes();

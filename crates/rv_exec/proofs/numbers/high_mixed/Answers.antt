@@ -5,5 +5,7 @@ use Rattle.rv_exec.proofs.numbers.high_mixed.Goals as goal
 pub returns : goal.returns
 returns c =
     c.cast_unsigned.ensures
-    ∙ signed_by_unsigned c.args.a c.args.b c.from.result c.from-2.result c.ranges.a.fits c.ranges.b.fits
-    (factor c.args.a c.cast_signed.result c.from.result c.ranges.a.fits c.cast_signed.ensures c.from.ensures) c.from-2.ensures
+    ∙ signed_by_unsigned c.args.a c.args.b c.from.result c.from-2.result c.ranges.a.fits
+    c.ranges.b.fits
+    (factor c.args.a c.cast_signed.result c.from.result c.ranges.a.fits c.cast_signed.ensures
+    c.from.ensures) c.from-2.ensures

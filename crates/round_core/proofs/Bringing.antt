@@ -1,0 +1,383 @@
+-- Pages, registers and budgets that are brought back from the packs make the world of the parallel
+-- phase.
+use Rattle.std.proofs.Common.{ℕ, zero, suc, ◌+◌, ◌*◌, ◌/◌, ◌%◌, ◌≡◌, ◌≢◌, ◌⊎◌, inl, inr, refl, sym, ap, ◌∙◌, subst, Bool, true, false, eqb, eqb-true, List, [], ◌∷◌, length, get_or, drop, Option, Some, None, option_map, Result, Ok, Err, arith}
+use Rattle.std.specs.Prelude.{fold, replicate, slice_get, slice_index_or}
+use Rattle.std.proofs.lemmas.List.{ext_get_or, get_or-take, get_or-drop}
+use Rattle.dos_world.specs.World.{World, Thread, Process, Sleeper, Registers, flat, thread_at, is_state, ready_threads, owner_of, page_of, registers_by, released}
+use Rattle.dos_world.specs.declared.Owner.{Owner}
+use Rattle.dos_world.specs.declared.Owner.TheVariants.{Free, Shared, Of}
+use Rattle.dos_world.specs.declared.ThreadState.TheVariants.{Ready}
+use Rattle.dos_world.specs.declared.Reason.{Reason}
+use Rattle.dos_world.proofs.Numbers.{length-changed}
+use Rattle.rv_exec.specs.Step.{step, paid_by}
+use Rattle.rv_exec.specs.Runs.{kept}
+use Rattle.rv_exec.proofs.Stays.{step-form}
+use Rattle.quantum_run.specs.Alone.{budget_of, emptied, steps, alone}
+use Rattle.quantum_run.specs.Laws.{without_run, DiffersInOwn}
+use Rattle.quantum_run.specs.Shows.{Pack, View, Shows}
+use Rattle.quantum_run.proofs.After.{steps-ok, steps-stopped}
+use Rattle.quantum_run.proofs.Own.{alone-own}
+use Rattle.round_core.specs.Mix.{turns_of, members, HaveBegun}
+use Rattle.round_core.specs.Mixed.{stepped, mixed}
+use Rattle.round_core.specs.Round.{all_alone, parallel}
+use Rattle.round_core.proofs.Commute.{Among, Apart, finish, finish_all, all_alone-finish, places-apart, ready-in, steps-others, budget_in}
+use Rattle.round_core.proofs.Mix.{parts-are-a-mix, fold-emptied-same, begun-held, begun-budget, fold-append, turns-finish}
+
+-- ---- worlds that differ in parts of some threads
+
+pub record DifferIn (ts : List ℕ) (w u : World) : Type 0 where
+  pub owners : u.owners ≡ w.owners
+  pub count : length u.bytes ≡ length w.bytes
+  pub bytes : (i : ℕ) → ((t : ℕ) → Among ts t → owner_of w (i / 4096) ≢ Of t)
+      → get_or u.bytes i 0 ≡ get_or w.bytes i 0
+  pub processes : u.processes ≡ w.processes
+  pub numbers : length u.threads ≡ length w.threads
+  pub others : (s : ℕ) → (Among ts s → ⊥) → thread_at u s ≡ thread_at w s
+  pub threads : (s : ℕ)
+      → option_map without_run (thread_at u s) ≡ option_map without_run (thread_at w s)
+  pub pipes : u.pipes ≡ w.pipes
+  pub sleepers : u.sleepers ≡ w.sleepers
+  pub rounds : u.rounds ≡ w.rounds
+  pub quantum : u.quantum ≡ w.quantum
+  pub output : u.output ≡ w.output
+  pub error : u.error ≡ w.error
+  pub built : u.built ≡ w.built
+
+differ_in_nothing : (w : World) → DifferIn [] w w
+differ_in_nothing w = record {
+  owners = refl;
+  count = refl;
+  bytes = λ i h. refl;
+  processes = refl;
+  numbers = refl;
+  others = λ s h. refl;
+  threads = λ s. refl;
+  pipes = refl;
+  sleepers = refl;
+  rounds = refl;
+  quantum = refl;
+  output = refl;
+  error = refl;
+  built = refl;
+}
+
+steps-numbers : (n : ℕ) (w : World) (t : ℕ) → length ((steps n w t).threads) ≡ length w.threads
+steps-numbers zero w t = refl
+steps-numbers (suc n) w t = by_step (λ next. steps-numbers n next t) (step w t) refl
+  where
+    by_step : ((next : World) → length ((steps n next t).threads) ≡ length next.threads)
+        → (r : Result World Reason) → step w t ≡ r
+        → length ((steps (suc n) w t).threads) ≡ length w.threads
+    by_step rest (Ok next) h =
+        let form = step-form w next t h in
+        ap (λ (x : World). length x.threads) (steps-ok n w next t h)
+        ∙ rest next
+        ∙ ap (λ (x : World). length x.threads) form.is
+        ∙ length-changed (option_map (paid_by form.registers)) w.threads t
+    by_step rest (Err reason) h =
+        ap (λ (x : World). length x.threads) (steps-stopped (suc n) w t reason h)
+
+alone-numbers : (w : World) (t : ℕ) → length ((alone w t).threads) ≡ length w.threads
+alone-numbers w t =
+    steps-numbers (budget_of w t) (emptied w t) t
+    ∙ length-changed (option_map (registers_by released)) w.threads t
+
+differ-first : (t : ℕ) (ts : List ℕ) (w v u : World) → DiffersInOwn t w v
+    → length v.threads ≡ length w.threads → DifferIn ts v u → DifferIn (t ∷ ts) w u
+differ-first t ts w v u d numbers r = record {
+  owners = r.owners ∙ d.owners;
+  count = r.count ∙ d.count;
+  bytes = λ i none.
+      r.bytes i
+      (λ x h e. none x (inr h)
+      (sym (ap (λ (os : List Owner). slice_index_or os (i / 4096) Free) d.owners) ∙ e))
+      ∙ d.bytes i (none t (inl refl));
+  processes = r.processes ∙ d.processes;
+  numbers = r.numbers ∙ numbers;
+  others = λ s out. r.others s (λ h. out (inr h)) ∙ d.others s (λ e. out (inl (sym e)));
+  threads = λ s. r.threads s ∙ by_eq s (eqb s t) refl;
+  pipes = r.pipes ∙ d.pipes;
+  sleepers = r.sleepers ∙ d.sleepers;
+  rounds = r.rounds ∙ d.rounds;
+  quantum = r.quantum ∙ d.quantum;
+  output = r.output ∙ d.output;
+  error = r.error ∙ d.error;
+  built = r.built ∙ d.built;
+}
+  where
+    by_eq : (s : ℕ) (b : Bool) → eqb s t ≡ b
+        → option_map without_run (thread_at v s) ≡ option_map without_run (thread_at w s)
+    by_eq s true e =
+        subst (λ n. option_map without_run (thread_at v n) ≡ option_map without_run (thread_at w n))
+        (sym (eqb-true s t e)) d.thread
+    by_eq s false e =
+        let other : s ≢ t = λ q. grind (arith, q, e) in
+        ap (option_map without_run) (d.others s other)
+
+pub all_alone-differ : (ts : List ℕ) (w : World) → DifferIn ts w (all_alone w ts)
+all_alone-differ [] w = differ_in_nothing w
+all_alone-differ (t ∷ ts) w =
+    differ-first t ts w (alone w t) (all_alone (alone w t) ts) (alone-own w t) (alone-numbers w t)
+    (all_alone-differ ts (alone w t))
+
+-- ---- two of them that agree on those parts are one
+
+decide-among : (ts : List ℕ) (s : ℕ) → Among ts s ⊎ (Among ts s → ⊥)
+decide-among [] s = inr (λ h. absurd h)
+decide-among (t ∷ ts) s = by (decide-among ts s) (eqb t s) refl
+  where
+    by : Among ts s ⊎ (Among ts s → ⊥) → (b : Bool) → eqb t s ≡ b
+        → Among (t ∷ ts) s ⊎ (Among (t ∷ ts) s → ⊥)
+    by rest true e = inl (inl (eqb-true t s e))
+    by (inl h) false e = inl (inr h)
+    by (inr out) false e = inr (λ h. both h)
+      where
+        both : Among (t ∷ ts) s → ⊥
+        both (inl q) = grind (arith, q, e)
+        both (inr q) = out q
+
+decide-owner : (ts : List ℕ) (o : Owner)
+    → ((t : ℕ) × Among ts t × (o ≡ Of t)) ⊎ ((t : ℕ) → Among ts t → o ≢ Of t)
+decide-owner ts Free = inr (λ t h q. free t q)
+  where
+    free : (t : ℕ) → Free ≡ Of t → ⊥
+    free t q = cc
+decide-owner ts Shared = inr (λ t h q. shared t q)
+  where
+    shared : (t : ℕ) → Shared ≡ Of t → ⊥
+    shared t q = cc
+decide-owner ts (Of s) = by (decide-among ts s)
+  where
+    Of-is : (a b : ℕ) → Of a ≡ Of b → a ≡ b
+    Of-is a b q = cc
+
+    by : Among ts s ⊎ (Among ts s → ⊥)
+        → ((t : ℕ) × Among ts t × (Of s ≡ Of t)) ⊎ ((t : ℕ) → Among ts t → Of s ≢ Of t)
+    by (inl h) = inl (s, h, refl)
+    by (inr out) = inr (λ t h q. out (subst (Among ts) (sym (Of-is s t q)) h))
+
+byte-in-page : (bytes : List ℕ) (i : ℕ)
+    → get_or (page_of bytes (i / 4096)) (i % 4096) 0 ≡ get_or bytes i 0
+byte-in-page bytes i =
+    let place : 4096 * (i / 4096) + i % 4096 ≡ i = omega arith in
+    get_or-take 4096 (drop (4096 * (i / 4096)) bytes) (i % 4096) 0 (omega arith)
+    ∙ get_or-drop (4096 * (i / 4096)) bytes (i % 4096) 0
+    ∙ ap (λ k. get_or bytes k 0) place
+
+at-number : (ts : List (Option Thread)) (i : ℕ) → flat (slice_get ts i) ≡ get_or ts i None
+at-number [] i = refl
+at-number (None ∷ ts) zero = refl
+at-number (Some x ∷ ts) zero = refl
+at-number (x ∷ ts) (suc i) = at-number ts i
+
+restore : Registers × ℕ → Thread → Thread
+restore k thread = record thread { registers = k.0; budget = k.1 }
+
+same-thread : (a b : Option Thread) → option_map kept a ≡ option_map kept b
+    → option_map without_run a ≡ option_map without_run b → a ≡ b
+unfolding restore
+same-thread None None k w = refl
+same-thread None (Some y) k w = cc
+same-thread (Some x) None k w = cc
+same-thread (Some x) (Some y) k w =
+    let kx : kept x ≡ kept y = cc in
+    let wx : without_run x ≡ without_run y = cc in
+    ap Some (ap (λ z. restore z (without_run x)) kx ∙ ap (λ z. restore (kept y) z) wx)
+
+mk : List ℕ → List Owner → List Process → List (Option Thread) → List (List ℕ) → List Sleeper → ℕ
+    → ℕ → List ℕ → List ℕ → List ℕ → World
+mk x0 x1 x2 x3 x4 x5 x6 x7 x8 x9 x10 =
+    record {
+      bytes = x0;
+      owners = x1;
+      processes = x2;
+      threads = x3;
+      pipes = x4;
+      sleepers = x5;
+      rounds = x6;
+      quantum = x7;
+      output = x8;
+      error = x9;
+      built = x10;
+    }
+
+world-same : (u v : World) → u.bytes ≡ v.bytes → u.owners ≡ v.owners → u.processes ≡ v.processes
+    → u.threads ≡ v.threads → u.pipes ≡ v.pipes → u.sleepers ≡ v.sleepers → u.rounds ≡ v.rounds
+    → u.quantum ≡ v.quantum → u.output ≡ v.output → u.error ≡ v.error → u.built ≡ v.built → u ≡ v
+unfolding mk
+world-same u v h0 h1 h2 h3 h4 h5 h6 h7 h8 h9 h10 =
+    ap
+    (λ x. mk x u.owners u.processes u.threads u.pipes u.sleepers u.rounds u.quantum u.output u.error
+    u.built) h0
+    ∙ ap
+    (λ x. mk v.bytes x u.processes u.threads u.pipes u.sleepers u.rounds u.quantum u.output u.error
+    u.built) h1
+    ∙ ap
+    (λ x. mk v.bytes v.owners x u.threads u.pipes u.sleepers u.rounds u.quantum u.output u.error
+    u.built) h2
+    ∙ ap
+    (λ x. mk v.bytes v.owners v.processes x u.pipes u.sleepers u.rounds u.quantum u.output u.error
+    u.built) h3
+    ∙ ap
+    (λ x. mk v.bytes v.owners v.processes v.threads x u.sleepers u.rounds u.quantum u.output u.error
+    u.built) h4
+    ∙ ap
+    (λ x. mk v.bytes v.owners v.processes v.threads v.pipes x u.rounds u.quantum u.output u.error
+    u.built) h5
+    ∙ ap
+    (λ x. mk v.bytes v.owners v.processes v.threads v.pipes v.sleepers x u.quantum u.output u.error
+    u.built) h6
+    ∙ ap
+    (λ x. mk v.bytes v.owners v.processes v.threads v.pipes v.sleepers v.rounds x u.output u.error
+    u.built) h7
+    ∙ ap
+    (λ x. mk v.bytes v.owners v.processes v.threads v.pipes v.sleepers v.rounds v.quantum x u.error
+    u.built) h8
+    ∙ ap
+    (λ x. mk v.bytes v.owners v.processes v.threads v.pipes v.sleepers v.rounds v.quantum v.output x
+    u.built) h9
+    ∙ ap
+    (λ x. mk v.bytes v.owners v.processes v.threads v.pipes v.sleepers v.rounds v.quantum v.output
+    v.error x) h10
+
+pub differ-same : (ts : List ℕ) (w u v : World) → DifferIn ts w u → DifferIn ts w v
+    → ((t : ℕ) → Among ts t → option_map kept (thread_at u t) ≡ option_map kept (thread_at v t))
+    → ((t frame : ℕ) → Among ts t → owner_of w frame ≡ Of t
+    → page_of u.bytes frame ≡ page_of v.bytes frame)
+    → u ≡ v
+differ-same ts w u v a b threads pages =
+    world-same u v
+    (ext_get_or 0 u.bytes v.bytes (a.count ∙ sym b.count)
+    (λ i h. byte i (decide-owner ts (owner_of w (i / 4096)))))
+    (a.owners ∙ sym b.owners) (a.processes ∙ sym b.processes)
+    (ext_get_or None u.threads v.threads (a.numbers ∙ sym b.numbers)
+    (λ i h. sym (at-number u.threads i) ∙ thread (suc i) (decide-among ts (suc i))
+    ∙ at-number v.threads i))
+    (a.pipes ∙ sym b.pipes) (a.sleepers ∙ sym b.sleepers) (a.rounds ∙ sym b.rounds)
+    (a.quantum ∙ sym b.quantum) (a.output ∙ sym b.output) (a.error ∙ sym b.error)
+    (a.built ∙ sym b.built)
+  where
+    byte : (i : ℕ)
+        → ((t : ℕ) × Among ts t × (owner_of w (i / 4096) ≡ Of t))
+        ⊎ ((t : ℕ) → Among ts t → owner_of w (i / 4096) ≢ Of t)
+        → get_or u.bytes i 0 ≡ get_or v.bytes i 0
+    byte i (inl h) =
+        sym (byte-in-page u.bytes i)
+        ∙ ap (λ page. get_or page (i % 4096) 0) (pages h.0 (i / 4096) h.1 h.2)
+        ∙ byte-in-page v.bytes i
+    byte i (inr out) = a.bytes i out ∙ sym (b.bytes i out)
+
+    thread : (s : ℕ) → Among ts s ⊎ (Among ts s → ⊥) → thread_at u s ≡ thread_at v s
+    thread s (inl h) =
+        same-thread (thread_at u s) (thread_at v s) (threads s h) (a.threads s ∙ sym (b.threads s))
+    thread s (inr out) = a.others s out ∙ sym (b.others s out)
+
+-- ---- all of the parts are the parallel phase
+
+members-all : (n : ℕ) (ts : List ℕ) → members (λ i. true) n ts ≡ ts
+members-all n [] = refl
+members-all n (t ∷ ts) = ap (λ xs. t ∷ xs) (members-all (suc n) ts)
+
+turns-all : (q : ℕ) (ts : List ℕ) (u : World) → Apart ts
+    → ((t : ℕ) → Among ts t → (is_state Ready (thread_at u t) ≡ true) × (budget_of u t ≡ q))
+    → fold stepped u (turns_of q ts) ≡ finish_all u ts
+turns-all q [] u apart begun = refl
+turns-all q (t ∷ ts) u apart begun =
+    let mine = begun t (inl refl) in
+    fold-append (replicate q t) (turns_of q ts) u
+    ∙ ap (λ x. fold stepped x (turns_of q ts)) (turns-finish q u t mine.0 mine.1)
+    ∙ turns-all q ts (finish u t) apart.1
+    (λ s h. let same = steps-others (budget_of u t) u t s (apart.0 s h) in
+    let theirs = begun s (inr h) in
+    (ap (is_state Ready) same ∙ theirs.0, ap budget_in same ∙ theirs.1))
+
+pub mixed-parallel : (w : World) → HaveBegun w
+    → mixed w (turns_of w.quantum (members (λ i. true) 0 (ready_threads w))) ≡ parallel w
+mixed-parallel w begun =
+    let ready : List ℕ = ready_threads w in
+    let apart : Apart ready = places-apart 1 (is_state Ready) w.threads in
+    let start : fold emptied w ready ≡ w =
+    fold-emptied-same w ready
+    (λ s h. begun-held w.quantum (thread_at w s) (begun s (ready-in w s h))) in
+    ap (λ u. fold stepped u (turns_of w.quantum (members (λ i. true) 0 ready))) start
+    ∙ ap (λ ms. fold stepped w (turns_of w.quantum ms)) (members-all 0 ready)
+    ∙ turns-all w.quantum ready w apart
+    (λ t h. (
+      ready-in w t h,
+      begun-budget w.quantum (thread_at w t) (ready-in w t h)
+          (begun t (ready-in w t h)),
+    ))
+    ∙ ap (λ u. finish_all u ready) (sym start)
+    ∙ sym (all_alone-finish ready w apart)
+
+-- ---- what is taken in
+
+among-at : (ts : List ℕ) (t : ℕ) → Among ts t → (i : ℕ) × (slice_get ts i ≡ Some t)
+among-at [] t h = absurd h
+among-at (x ∷ ts) t (inl e) = (0, ap Some e)
+among-at (x ∷ ts) t (inr h) = let r = among-at ts t h in (suc r.0, r.1)
+
+pack-at : (packs : List Pack) (ts : List ℕ) (i t : ℕ) → length packs ≡ length ts
+    → slice_get ts i ≡ Some t → (p : Pack) × (slice_get packs i ≡ Some p)
+pack-at packs [] i t e h = cc
+pack-at [] (x ∷ ts) i t e h = absurd (grind arith)
+pack-at (p ∷ packs) (x ∷ ts) zero t e h = (p, refl)
+pack-at (p ∷ packs) (x ∷ ts) (suc i) t e h = pack-at packs ts i t (omega arith) h
+
+-- u has what a pack holds: its thread's registers and budget, and a page of each of its frames
+pub record Has (u w : World) (t : ℕ) (p : Pack) : Type 0 where
+  pub thread : option_map kept (thread_at u t) ≡ Some (p.registers, p.budget)
+  pub pages : (frame : ℕ) → owner_of w frame ≡ Of t
+      → (i : ℕ) × (slice_get p.pages i ≡ Some (frame, page_of u.bytes frame))
+
+pair-is : (f : ℕ) (a b : List ℕ) → ◌≡◌ {A = Option (ℕ × List ℕ)} (Some (f, a)) (Some (f, b)) → a ≡ b
+pair-is f a b e = ap second e
+  where
+    second : Option (ℕ × List ℕ) → List ℕ
+    second None = []
+    second (Some x) = x.1
+
+pub taken-in : (w u : World) (v : View) (packs : List Pack) → HaveBegun w
+    → length packs ≡ length (ready_threads w)
+    → ((i t : ℕ) (p : Pack) → slice_get (ready_threads w) i ≡ Some t → slice_get packs i ≡ Some p
+    → (p.thread ≡ t) × Shows p v (alone w t))
+    → DifferIn (ready_threads w) w u
+    → ((i t : ℕ) (p : Pack) → slice_get (ready_threads w) i ≡ Some t → slice_get packs i ≡ Some p
+    → Has u w t p)
+    → u ≡ parallel w
+taken-in w u v packs begun count shown differ has =
+    differ-same (ready_threads w) w u (parallel w) differ (all_alone-differ (ready_threads w) w)
+    (λ t h. let i = among-at (ready_threads w) t h in let p =
+    pack-at packs (ready_threads w) i.0 t count i.1 in
+    (has i.0 t p.0 i.1 p.1).thread ∙ sym (thread i.0 t p.0 i.1 p.1))
+    (λ t frame h mine. let i = among-at (ready_threads w) t h in let p =
+    pack-at packs (ready_threads w) i.0 t count i.1 in page i.0 t p.0 frame i.1 p.1 mine)
+  where
+    in-parallel : (i t : ℕ) (p : Pack) → slice_get (ready_threads w) i ≡ Some t
+        → slice_get packs i ≡ Some p → Shows p v (parallel w)
+    in-parallel i t p at here =
+        subst (Shows p v) (mixed-parallel w begun)
+        (parts-are-a-mix w (λ k. true) v packs begun (λ j s q a b. shown j s q a b) i t p at here)
+
+    thread : (i t : ℕ) (p : Pack) → slice_get (ready_threads w) i ≡ Some t
+        → slice_get packs i ≡ Some p
+        → option_map kept (thread_at (parallel w) t) ≡ Some (p.registers, p.budget)
+    thread i t p at here =
+        subst (λ n. option_map kept (thread_at (parallel w) n) ≡ Some (p.registers, p.budget))
+        (shown i t p at here).0 (in-parallel i t p at here).thread
+
+    page : (i t : ℕ) (p : Pack) (frame : ℕ) → slice_get (ready_threads w) i ≡ Some t
+        → slice_get packs i ≡ Some p → owner_of w frame ≡ Of t
+        → page_of u.bytes frame ≡ page_of ((parallel w).bytes) frame
+    page i t p frame at here mine =
+        let sh = in-parallel i t p at here in
+        let mine' : owner_of (parallel w) frame ≡ Of p.thread =
+        ap (λ (os : List Owner). slice_index_or os frame Free)
+        (all_alone-differ (ready_threads w) w).owners
+        ∙ mine
+        ∙ ap Of (sym (shown i t p at here).0) in
+        let theirs = sh.own.all frame mine' in
+        let ours = (has i t p at here).pages frame mine in
+        let same : ours.0 ≡ theirs.0 = sh.own.apart ours.0 theirs.0 frame _ _ ours.1 theirs.1 in
+        pair-is frame (page_of u.bytes frame) (page_of ((parallel w).bytes) frame)
+        (sym ours.1 ∙ ap (slice_get p.pages) same ∙ theirs.1)
