@@ -1,5 +1,5 @@
 -- How a write changes what the frames keep.
-use Rattle.std.proofs.Common.{◌≡◌, ℕ, zero, suc, ◌+◌, ◌-◌, ◌^◌, ◌<◌, ◌≤◌, min, Bool, true, false, cond, inl, inr, List, [], ◌∷◌, length, get_or, set, map, drop, replicate, count_by, refl, sym, ap, ◌∙◌, arith}
+use Rattle.std.proofs.Common.{◌≡◌, ◌≢◌, ◌⊎◌, ℕ, zero, suc, ◌+◌, ◌-◌, ◌^◌, ◌<◌, ◌≤◌, min, Bool, true, false, cond, inl, inr, List, [], ◌∷◌, length, get_or, set, map, drop, replicate, count_by, refl, sym, ap, ◌∙◌, arith}
 use Rattle.std.specs.Prelude.{position, Option, Some, None, option_map, nat_lt}
 use Rattle.std.specs.List.{position_or_len}
 use Rattle.std.proofs.lemmas.List.Quantifiers.{position-Some}
@@ -7,26 +7,34 @@ use Rattle.std.proofs.lemmas.List.{length-set, length-replicate, map-set, set-ge
 use Rattle.std.proofs.Math.ListN.{get_or-map}
 use Rattle.std.proofs.lemmas.List.Sums.{count_by-le-length, sum_by-set}
 use Rattle.std.proofs.lemmas.List.Folds.{sum_by-replicate}
-use Rattle.std.proofs.lemmas.Bool.{cases_eq}
+use Rattle.std.proofs.lemmas.Bool.{cases_eq, cases_lt}
 use Rattle.std.proofs.lemmas.Bool.Decides.{nat_tests}
 use Rattle.dos_world.specs.declared.Owner.{Owner}
 use Rattle.dos_world.specs.declared.Owner.TheVariants.{Free, Shared}
 use Rattle.dos_world.specs.World.{is_free}
-use Rattle.page_store.specs.Store.{is_unused, IsKept, AreOwnedBelow}
+use Rattle.page_store.specs.Store.{is_unused, AreFreeFrom, IsKept, AreOwnedBelow}
 
 -- ---- the count of Free owners
 
 abbrev counted : Bool → ℕ
 counted b = cond b 1 0
 
-pub count_by-taken : (xs : List Owner) (i : ℕ) (y : Owner) → i < length xs → is_free (get_or xs i Free) ≡ true → is_free y ≡ false → count_by is_free (set xs i y) + 1 ≡ count_by is_free xs
-count_by-taken xs i y h e n = omega (arith, sum_by-set (λ x. cond (is_free x) 1 0) xs i y Free h, ap counted e, ap counted n)
+pub count_by-taken : (xs : List Owner) (i : ℕ) (y : Owner) → i < length xs
+    → is_free (get_or xs i Free) ≡ true → is_free y ≡ false
+    → count_by is_free (set xs i y) + 1 ≡ count_by is_free xs
+count_by-taken xs i y h e n =
+    omega (arith, sum_by-set (λ x. cond (is_free x) 1 0) xs i y Free h, ap counted e, ap counted n)
 
-pub count_by-freed : (xs : List Owner) (i : ℕ) → i < length xs → is_free (get_or xs i Free) ≡ false → count_by is_free (set xs i Free) ≡ count_by is_free xs + 1
-count_by-freed xs i h e = omega (arith, sum_by-set (λ x. cond (is_free x) 1 0) xs i Free Free h, ap counted e)
+pub count_by-freed : (xs : List Owner) (i : ℕ) → i < length xs → is_free (get_or xs i Free) ≡ false
+    → count_by is_free (set xs i Free) ≡ count_by is_free xs + 1
+count_by-freed xs i h e =
+    omega (arith, sum_by-set (λ x. cond (is_free x) 1 0) xs i Free Free h, ap counted e)
 
-pub count_by-granted : (xs : List Owner) (i : ℕ) (y : Owner) → i < length xs → is_free (get_or xs i Free) ≡ false → is_free y ≡ false → count_by is_free (set xs i y) ≡ count_by is_free xs
-count_by-granted xs i y h e n = omega (arith, sum_by-set (λ x. cond (is_free x) 1 0) xs i y Free h, ap counted e, ap counted n)
+pub count_by-granted : (xs : List Owner) (i : ℕ) (y : Owner) → i < length xs
+    → is_free (get_or xs i Free) ≡ false → is_free y ≡ false
+    → count_by is_free (set xs i y) ≡ count_by is_free xs
+count_by-granted xs i y h e n =
+    omega (arith, sum_by-set (λ x. cond (is_free x) 1 0) xs i y Free h, ap counted e, ap counted n)
 
 -- ---- what isn't Free or has a use is a frame
 
@@ -40,24 +48,31 @@ used-within [] i h = absurd (omega arith)
 used-within (x ∷ xs) zero h = omega arith
 used-within (x ∷ xs) (suc i) h = omega (arith, used-within xs i h)
 
-pub used-owned : (owners : List Owner) (uses : List ℕ) (i : ℕ) → map is_free owners ≡ map is_unused uses → 0 < get_or uses i 0 → is_free (get_or owners i Free) ≡ false
+pub used-owned : (owners : List Owner) (uses : List ℕ) (i : ℕ)
+    → map is_free owners ≡ map is_unused uses → 0 < get_or uses i 0
+    → is_free (get_or owners i Free) ≡ false
 used-owned owners uses i e h =
     let some : is_unused (get_or uses i 0) ≡ false = grind (arith, nat_tests) in
-    sym (get_or-map is_free owners i Free) ∙ ap (λ bs. get_or bs i true) e ∙ get_or-map is_unused uses i 0 ∙ some
+    sym (get_or-map is_free owners i Free) ∙ ap (λ bs. get_or bs i true) e
+    ∙ get_or-map is_unused uses i 0 ∙ some
 
 -- ---- the search from a frame on
 
 shift_test : (a l : ℕ) → nat_lt (1 + a) (suc l) ≡ nat_lt a l
 shift_test a l = grind (arith, nat_tests)
 
-shifted : (a l : ℕ) → cond (nat_lt (1 + a) (suc l)) (Some (1 + a)) None ≡ option_map (λ i. 1 + i) (cond (nat_lt a l) (Some a) None)
+shifted : (a l : ℕ) → cond (nat_lt (1 + a) (suc l)) (Some (1 + a)) None
+    ≡ option_map (λ i. 1 + i) (cond (nat_lt a l) (Some a) None)
 shifted a l = ap (λ b. cond b (Some (1 + a)) None) (shift_test a l)
-    ∙ elim (nat_lt a l) as (λ b. cond b (Some (1 + a)) None ≡ option_map (λ i. 1 + i) (cond b (Some a) None)) [ true ↦ refl | false ↦ refl ]
+    ∙ elim (nat_lt a l) as (λ b. cond b (Some (1 + a)) None
+    ≡ option_map (λ i. 1 + i) (cond b (Some a) None)) [ true ↦ refl | false ↦ refl ]
 
-position_more : (x : Owner) (xs : List Owner) → is_free x ≡ false → position is_free (x ∷ xs) ≡ option_map (λ i. 1 + i) (position is_free xs)
+pub position_more : (x : Owner) (xs : List Owner) → is_free x ≡ false
+    → position is_free (x ∷ xs) ≡ option_map (λ i. 1 + i) (position is_free xs)
 position_more x xs e = rw e (shifted (position_or_len is_free xs) (length xs))
 
-twice : (n : ℕ) (o : Option ℕ) → option_map (λ i. suc n + i) o ≡ option_map (λ i. 1 + i) (option_map (λ i. n + i) o)
+twice : (n : ℕ) (o : Option ℕ)
+    → option_map (λ i. suc n + i) o ≡ option_map (λ i. 1 + i) (option_map (λ i. n + i) o)
 twice n None = refl
 twice n (Some i) = ap (λ m. Some m) (omega arith)
 
@@ -66,35 +81,49 @@ none_added None = refl
 none_added (Some i) = ap (λ m. Some m) (omega arith)
 
 -- where none below n is Free, the search may begin there
-pub position-drop : (xs : List Owner) (n : ℕ) → n ≤ length xs → AreOwnedBelow xs n → option_map (λ i. n + i) (position is_free (drop n xs)) ≡ position is_free xs
+pub position-drop : (xs : List Owner) (n : ℕ) → n ≤ length xs → AreOwnedBelow xs n
+    → option_map (λ i. n + i) (position is_free (drop n xs)) ≡ position is_free xs
 position-drop xs zero h below = none_added (position is_free xs)
 position-drop [] (suc n) h below = absurd (omega arith)
 position-drop (x ∷ xs) (suc n) h below =
     let rest = position-drop xs n (omega arith) (λ k l. below (suc k) (omega arith)) in
-    twice n (position is_free (drop n xs)) ∙ ap (option_map (λ i. 1 + i)) rest ∙ sym (position_more x xs (below 0 (omega arith)))
+    twice n (position is_free (drop n xs)) ∙ ap (option_map (λ i. 1 + i)) rest
+    ∙ sym (position_more x xs (below 0 (omega arith)))
 
 -- ---- what the frames keep
 
-owned-set : (xs : List Owner) (i k : ℕ) (y : Owner) → is_free y ≡ false → is_free (get_or xs k Free) ≡ false → is_free (get_or (set xs i y) k Free) ≡ false
+owned-set : (xs : List Owner) (i k : ℕ) (y : Owner) → is_free y ≡ false
+    → is_free (get_or xs k Free) ≡ false → is_free (get_or (set xs i y) k Free) ≡ false
 owned-set [] i k y e h = h
 owned-set (x ∷ xs) zero zero y e h = e
 owned-set (x ∷ xs) zero (suc k) y e h = h
 owned-set (x ∷ xs) (suc i) zero y e h = h
 owned-set (x ∷ xs) (suc i) (suc k) y e h = owned-set xs i k y e h
 
-bits_agree : (owners : List Owner) (uses : List ℕ) (i : ℕ) (y : Owner) (v : ℕ) → map is_free owners ≡ map is_unused uses → is_free y ≡ is_unused v → map is_free (set owners i y) ≡ map is_unused (set uses i v)
-bits_agree owners uses i y v e h = map-set is_free owners i y ∙ ap (λ bs. set bs i (is_free y)) e ∙ ap (λ b. set (map is_unused uses) i b) h ∙ sym (map-set is_unused uses i v)
+bits_agree : (owners : List Owner) (uses : List ℕ) (i : ℕ) (y : Owner) (v : ℕ)
+    → map is_free owners ≡ map is_unused uses → is_free y ≡ is_unused v
+    → map is_free (set owners i y) ≡ map is_unused (set uses i v)
+bits_agree owners uses i y v e h = map-set is_free owners i y ∙ ap (λ bs. set bs i (is_free y)) e
+    ∙ ap (λ b. set (map is_unused uses) i b) h ∙ sym (map-set is_unused uses i v)
 
 -- the same owner set again
-agree-owner : (owners : List Owner) (bs : List Bool) (i : ℕ) (y : Owner) → map is_free owners ≡ bs → is_free (get_or owners i Free) ≡ is_free y → map is_free (set owners i y) ≡ bs
+agree-owner : (owners : List Owner) (bs : List Bool) (i : ℕ) (y : Owner) → map is_free owners ≡ bs
+    → is_free (get_or owners i Free) ≡ is_free y → map is_free (set owners i y) ≡ bs
 agree-owner owners bs i y e h =
-    map-set is_free owners i y ∙ ap (λ b. set (map is_free owners) i b) (sym h ∙ sym (get_or-map is_free owners i Free)) ∙ set-get_or (map is_free owners) i true ∙ e
+    map-set is_free owners i y
+    ∙ ap (λ b. set (map is_free owners) i b) (sym h ∙ sym (get_or-map is_free owners i Free))
+    ∙ set-get_or (map is_free owners) i true ∙ e
 
-agree-uses : (bs : List Bool) (uses : List ℕ) (i v : ℕ) → bs ≡ map is_unused uses → is_unused (get_or uses i 0) ≡ is_unused v → bs ≡ map is_unused (set uses i v)
+agree-uses : (bs : List Bool) (uses : List ℕ) (i v : ℕ) → bs ≡ map is_unused uses
+    → is_unused (get_or uses i 0) ≡ is_unused v → bs ≡ map is_unused (set uses i v)
 agree-uses bs uses i v e h =
-    e ∙ sym (map-set is_unused uses i v ∙ ap (λ b. set (map is_unused uses) i b) (sym h ∙ sym (get_or-map is_unused uses i 0)) ∙ set-get_or (map is_unused uses) i true)
+    e ∙ sym (map-set is_unused uses i v
+    ∙ ap (λ b. set (map is_unused uses) i b) (sym h ∙ sym (get_or-map is_unused uses i 0))
+    ∙ set-get_or (map is_unused uses) i true)
 
-pub kept-granted : (count : ℕ) (owners : List Owner) (uses : List ℕ) (free lowest i : ℕ) (y : Owner) → IsKept count owners uses free lowest → is_free (get_or owners i Free) ≡ false → is_free y ≡ false
+pub kept-granted : (count : ℕ) (owners : List Owner) (uses : List ℕ) (free lowest i : ℕ) (y : Owner)
+    → IsKept count owners uses free lowest → is_free (get_or owners i Free) ≡ false
+    → is_free y ≡ false
     → IsKept count (set owners i y) uses free lowest
 kept-granted count owners uses free lowest i y k e n = record {
   few = k.few;
@@ -105,7 +134,9 @@ kept-granted count owners uses free lowest i y k e n = record {
   below = λ j l. owned-set owners i j y n (k.below j l);
 }
 
-pub kept-uses : (count : ℕ) (owners : List Owner) (uses : List ℕ) (free lowest i v : ℕ) → IsKept count owners uses free lowest → is_unused (get_or uses i 0) ≡ is_unused v → IsKept count owners (set uses i v) free lowest
+pub kept-uses : (count : ℕ) (owners : List Owner) (uses : List ℕ) (free lowest i v : ℕ)
+    → IsKept count owners uses free lowest → is_unused (get_or uses i 0) ≡ is_unused v
+    → IsKept count owners (set uses i v) free lowest
 kept-uses count owners uses free lowest i v k e = record {
   few = k.few;
   each = k.each;
@@ -115,7 +146,9 @@ kept-uses count owners uses free lowest i v k e = record {
   below = k.below;
 }
 
-pub kept-fresh : (count : ℕ) (owners : List Owner) (uses : List ℕ) (free lowest i new_count : ℕ) (y : Owner) → IsKept count owners uses free lowest → position is_free owners ≡ Some i → is_free y ≡ false → new_count ≡ count
+pub kept-fresh : (count : ℕ) (owners : List Owner) (uses : List ℕ) (free lowest i new_count : ℕ)
+    (y : Owner) → IsKept count owners uses free lowest → position is_free owners ≡ Some i
+    → is_free y ≡ false → new_count ≡ count
     → IsKept new_count (set owners i y) (set uses i 1) (free - 1) (i + 1)
 kept-fresh count owners uses free lowest i new_count y k e n c =
     let found = position-Some is_free owners i Free e in
@@ -128,16 +161,21 @@ kept-fresh count owners uses free lowest i new_count y k e n c =
       below = λ j l. below_it found.0 found.2 j l;
     }
   where
-    below_it : i < length owners → ((j : ℕ) → j < i → is_free (get_or owners j Free) ≡ false) → (j : ℕ) → j < i + 1 → is_free (get_or (set owners i y) j Free) ≡ false
+    below_it : i < length owners → ((j : ℕ) → j < i → is_free (get_or owners j Free) ≡ false)
+        → (j : ℕ) → j < i + 1 → is_free (get_or (set owners i y) j Free) ≡ false
     below_it h below j l = elim (cases_eq j i) [
-      | inl same ↦ ap (λ m. is_free (get_or (set owners i y) m Free)) same ∙ ap is_free (get_or-set_same owners i y Free h) ∙ n
+      | inl same ↦ ap (λ m. is_free (get_or (set owners i y) m Free)) same
+          ∙ ap is_free (get_or-set_same owners i y Free h) ∙ n
       | inr other ↦ owned-set owners i j y n (below j (omega arith))
     ]
 
-pub kept-some : (owners : List Owner) (free i : ℕ) → free ≡ count_by is_free owners → position is_free owners ≡ Some i → 1 ≤ free
-kept-some owners free i k e = let found = position-Some is_free owners i Free e in omega (arith, k, count_by-taken owners i Shared found.0 found.1 refl)
+pub kept-some : (owners : List Owner) (free i : ℕ) → free ≡ count_by is_free owners
+    → position is_free owners ≡ Some i → 1 ≤ free
+kept-some owners free i k e = let found = position-Some is_free owners i Free e in
+    omega (arith, k, count_by-taken owners i Shared found.0 found.1 refl)
 
-pub kept-freed : (count : ℕ) (owners : List Owner) (uses : List ℕ) (free lowest i new : ℕ) → IsKept count owners uses free lowest → 0 < get_or uses i 0 → new ≡ min lowest i
+pub kept-freed : (count : ℕ) (owners : List Owner) (uses : List ℕ) (free lowest i new : ℕ)
+    → IsKept count owners uses free lowest → 0 < get_or uses i 0 → new ≡ min lowest i
     → IsKept count (set owners i Free) (set uses i 0) (free + 1) new
 kept-freed count owners uses free lowest i new k h m =
     let owned = used-owned owners uses i k.agree h in
@@ -145,34 +183,55 @@ kept-freed count owners uses free lowest i new k h m =
       few = k.few;
       each = length-set owners i Free ∙ k.each;
       agree = bits_agree owners uses i Free 0 k.agree refl;
-      counted = omega (arith, k.counted, count_by-freed owners i (owned-within owners i owned) owned);
+      counted = omega (
+        arith,
+        k.counted,
+        count_by-freed owners i (owned-within owners i owned) owned,
+      );
       within = omega (arith, k.within);
-      below = λ j l. ap is_free (get_or-set_other owners i j Free Free (λ e. omega arith)) ∙ k.below j (omega arith);
+      below = λ j l. ap is_free (get_or-set_other owners i j Free Free (λ e. omega arith))
+          ∙ k.below j (omega arith);
     }
 
-pub kept-room : (count : ℕ) (owners : List Owner) (uses : List ℕ) (free lowest i : ℕ) → IsKept count owners uses free lowest → 0 < get_or uses i 0 → free + 1 < 2 ^ 32
+pub kept-room : (count : ℕ) (owners : List Owner) (uses : List ℕ) (free lowest i : ℕ)
+    → IsKept count owners uses free lowest → 0 < get_or uses i 0 → free + 1 < 2 ^ 32
 kept-room count owners uses free lowest i k h =
     let owned = used-owned owners uses i k.agree h in
-    omega (arith, k.few, k.each, k.counted, count_by-freed owners i (owned-within owners i owned) owned, count_by-le-length is_free (set owners i Free), length-set owners i Free)
+    omega (
+      arith,
+      k.few,
+      k.each,
+      k.counted,
+      count_by-freed owners i (owned-within owners i owned) owned,
+      count_by-le-length is_free (set owners i Free),
+      length-set owners i Free,
+    )
 
-pub kept-more : (count : ℕ) (owners : List Owner) (uses : List ℕ) (free lowest i v : ℕ) → IsKept count owners uses free lowest → is_free (get_or owners i Free) ≡ false → IsKept count owners (set uses i (v + 1)) free lowest
+pub kept-more : (count : ℕ) (owners : List Owner) (uses : List ℕ) (free lowest i v : ℕ)
+    → IsKept count owners uses free lowest → is_free (get_or owners i Free) ≡ false
+    → IsKept count owners (set uses i (v + 1)) free lowest
 kept-more count owners uses free lowest i v k e =
     let some : is_unused (v + 1) ≡ false = grind (arith, nat_tests) in
-    kept-uses count owners uses free lowest i (v + 1) k (sym (get_or-map is_unused uses i 0) ∙ ap (λ bs. get_or bs i true) (sym k.agree) ∙ get_or-map is_free owners i Free ∙ e ∙ sym some)
+    kept-uses count owners uses free lowest i (v + 1) k
+    (sym (get_or-map is_unused uses i 0) ∙ ap (λ bs. get_or bs i true) (sym k.agree)
+    ∙ get_or-map is_free owners i Free ∙ e ∙ sym some)
 
-pub kept-fewer : (count : ℕ) (owners : List Owner) (uses : List ℕ) (free lowest i v : ℕ) → IsKept count owners uses free lowest → 0 < get_or uses i 0 → v ≡ get_or uses i 0 → (v ≡ 1 → ⊥)
+pub kept-fewer : (count : ℕ) (owners : List Owner) (uses : List ℕ) (free lowest i v : ℕ)
+    → IsKept count owners uses free lowest → 0 < get_or uses i 0 → v ≡ get_or uses i 0 → (v ≡ 1 → ⊥)
     → IsKept count owners (set uses i (v - 1)) free lowest
 kept-fewer count owners uses free lowest i v k h e n =
     let old : is_unused (get_or uses i 0) ≡ false = grind (arith, nat_tests) in
     let new : is_unused (v - 1) ≡ false = grind (arith, nat_tests) in
     kept-uses count owners uses free lowest i (v - 1) k (old ∙ sym new)
 
-pub kept-unused : (count : ℕ) (owners : List Owner) (uses : List ℕ) (n : ℕ) → count ≡ n → owners ≡ replicate n Free → uses ≡ replicate n 0 → n < 2 ^ 32 → IsKept count owners uses n 0
+pub kept-unused : (count : ℕ) (owners : List Owner) (uses : List ℕ) (n : ℕ) → count ≡ n
+    → owners ≡ replicate n Free → uses ≡ replicate n 0 → n < 2 ^ 32 → IsKept count owners uses n 0
 kept-unused count owners uses n e o u h = record {
   few = omega arith;
   each = ap length o ∙ length-replicate n Free ∙ sym e;
   agree = ap (map is_free) o ∙ both n ∙ sym (ap (map is_unused) u);
-  counted = sym (ap (count_by is_free) o ∙ sum_by-replicate (λ x. cond (is_free x) 1 0) n Free ∙ omega arith);
+  counted = sym (ap (count_by is_free) o ∙ sum_by-replicate (λ x. cond (is_free x) 1 0) n Free
+      ∙ omega arith);
   within = omega arith;
   below = λ j l. absurd (omega arith);
 }
@@ -180,3 +239,46 @@ kept-unused count owners uses n e o u h = record {
     both : (m : ℕ) → map is_free (replicate m Free) ≡ map is_unused (replicate m 0)
     both zero = refl
     both (suc m) = ap (λ bs. true ∷ bs) (both m)
+
+-- ---- where all are Free from some frame on
+
+pub free-set : (owners : List Owner) (high i : ℕ) (y : Owner) → AreFreeFrom owners high → i < high
+    → AreFreeFrom (set owners i y) high
+free-set owners high i y h low frame above =
+    ap is_free (get_or-set_other owners i frame y Free (λ e. omega (arith, low, above, e)))
+    ∙ h frame above
+
+pub free-more : (owners : List Owner) (high more : ℕ) → AreFreeFrom owners high → high ≤ more
+    → AreFreeFrom owners more
+free-more owners high more h le frame above = h frame (omega (arith, le, above))
+
+-- who is owned stands below
+pub owned-low : (owners : List Owner) (high i : ℕ) → AreFreeFrom owners high
+    → is_free (get_or owners i Free) ≡ false → i < high
+owned-low owners high i h owned = by (cases_lt i high)
+  where
+    by : (i < high) ⊎ (high ≤ i) → i < high
+    by (inl low) = low
+    by (inr above) = let free = h i above in absurd (grind (arith, owned, free))
+
+pub free-freed : (owners : List Owner) (high i : ℕ) → AreFreeFrom owners high
+    → AreFreeFrom (set owners i Free) high
+free-freed owners high i h frame above = by (cases_eq frame i)
+  where
+    same : (xs : List Owner) (k : ℕ) → is_free (get_or (set xs k Free) k Free) ≡ true
+    same [] k = refl
+    same (x ∷ xs) zero = refl
+    same (x ∷ xs) (suc k) = same xs k
+
+    by : (frame ≡ i) ⊎ (frame ≢ i) → is_free (get_or (set owners i Free) frame Free) ≡ true
+    by (inl e) = ap (λ k. is_free (get_or (set owners i Free) k Free)) e ∙ same owners i
+    by (inr other) = ap is_free (get_or-set_other owners i frame Free Free other) ∙ h frame above
+
+pub free-all : (owners : List Owner) (n : ℕ) → owners ≡ replicate n Free → AreFreeFrom owners 0
+free-all owners n is frame above = ap (λ (xs : List Owner). is_free (get_or xs frame Free)) is
+    ∙ each n frame
+  where
+    each : (n frame : ℕ) → is_free (get_or (replicate n Free) frame Free) ≡ true
+    each zero frame = refl
+    each (suc n) zero = refl
+    each (suc n) (suc frame) = each n frame

@@ -1,3 +1,4 @@
 pub mod Pages
 pub mod Counts
 pub mod Joined
+pub mod Copied

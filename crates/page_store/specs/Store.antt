@@ -1,5 +1,5 @@
 -- What the frames hold, and the one list of bytes that their pages make. This project's own rules.
-use Rattle.std.specs.Prelude.{◌≡◌, ◌<◌, ◌≤◌, ℕ, ◌+◌, ◌-◌, ◌^◌, Bool, List, [], ◌∷◌, ◌++◌, map, take, drop, replicate, length, Option, Some, None, false, IsSome, All, count_by, slice_set, slice_get, slice_index, slice_index_or, ◌==◌, if◌then◌else◌}
+use Rattle.std.specs.Prelude.{◌≡◌, ◌<◌, ◌≤◌, ℕ, ◌+◌, ◌-◌, ◌^◌, Bool, List, [], ◌∷◌, ◌++◌, map, take, drop, replicate, length, Option, Some, None, false, true, IsSome, All, count_by, slice_set, slice_get, slice_index, slice_index_or, ◌==◌, if◌then◌else◌}
 use Rattle.dos_world.specs.declared.Owner.{Owner}
 use Rattle.dos_world.specs.declared.Owner.TheVariants.{Of, Free}
 use Rattle.dos_world.specs.declared.Access.{Access}
@@ -8,7 +8,8 @@ use Rattle.dos_world.specs.World.{is_free}
 use Rattle.dos_world.specs.Kernel.{zero_page}
 use Rattle.dos_world.specs.Reach.{granted, number_of, width}
 
--- Per frame a page, which is None while it is away, an owner and a number of uses. Frames are numbered from 0.
+-- Per frame a page, which is None while it is away, an owner and a number of uses. Frames are
+-- numbered from 0.
 pub record Store : Type 0 where
   pub pages : List (Option (List ℕ))
   pub owners : List Owner
@@ -57,14 +58,21 @@ is_unused uses = uses == 0
 abbrev pub uses_at : Store → ℕ → ℕ
 uses_at s frame = slice_index s.uses frame
 
+-- a frame that is there and has no use
+pub record IsUnused (s : Store) (frame : ℕ) : Type 0 where
+  pub none : uses_at s frame ≡ 0
+  pub within : frame < length s.uses
+
 abbrev pub free_count : Store → ℕ
 free_count s = count_by is_free s.owners
 
 -- no frame below this one is Free
 abbrev pub AreOwnedBelow : List Owner → ℕ → Type 0
-AreOwnedBelow owners lowest = (frame : ℕ) → frame < lowest → is_free (slice_index_or owners frame Free) ≡ false
+AreOwnedBelow owners lowest = (frame : ℕ) → frame < lowest
+    → is_free (slice_index_or owners frame Free) ≡ false
 
--- What the frames keep beside the lists. A frame is Free exactly where it has no use; free is the count of Free owners, and none is below lowest.
+-- What the frames keep beside the lists. A frame is Free exactly where it has no use; free is the
+-- count of Free owners, and none is below lowest.
 pub record IsKept (count : ℕ) (owners : List Owner) (uses : List ℕ) (free lowest : ℕ) : Type 0 where
   pub few : count < 2 ^ 32
   pub each : length owners ≡ count
@@ -73,11 +81,20 @@ pub record IsKept (count : ℕ) (owners : List Owner) (uses : List ℕ) (free lo
   pub within : lowest ≤ count
   pub below : AreOwnedBelow owners lowest
 
+-- each frame from this one on is Free
+abbrev pub AreFreeFrom : List Owner → ℕ → Type 0
+AreFreeFrom owners high = (frame : ℕ) → high ≤ frame
+    → is_free (slice_index_or owners frame Free) ≡ true
+
 -- ---- changing
 
 -- this many frames with zero pages, all home, Free and without uses
 abbrev pub unused : ℕ → Store
-unused count = record { pages = replicate count (Some zero_page); owners = replicate count Free; uses = replicate count 0 }
+unused count = record {
+  pages = replicate count (Some zero_page);
+  owners = replicate count Free;
+  uses = replicate count 0;
+}
 
 abbrev pub with_home : Store → ℕ → List ℕ → Store
 with_home s frame page = record s { pages = slice_set s.pages frame (Some page) }
@@ -105,3 +122,27 @@ with_less s frame = record s {
   owners = if uses_at s frame == 1 then slice_set s.owners frame Free else s.owners;
   uses = slice_set s.uses frame (uses_at s frame - 1);
 }
+
+-- ---- copying a page
+
+abbrev pub IsHomeIn : List (Option (List ℕ)) → ℕ → Type 0
+IsHomeIn pages frame = (page : List ℕ) × (slice_get pages frame ≡ Some (Some page))
+
+-- the bytes of a page, by its frame
+abbrev pub shown_at : List (Option (List ℕ)) → ℕ → List ℕ
+shown_at pages frame = shown (slice_index_or pages frame None)
+
+-- one page has the bytes of another, and the rest stays
+pub record IsPageCopied (pages : List (Option (List ℕ))) (from frame : ℕ)
+    (new : List (Option (List ℕ))) : Type 0 where
+  pub page : List ℕ
+  pub pages_are : new ≡ slice_set pages frame (Some page)
+  pub bytes : whole page ≡ shown_at pages from
+
+-- a frame that had no use is t's, with the bytes of another frame and one use
+pub record IsCopied (s : Store) (from frame t : ℕ) (new : Store) : Type 0 where
+  pub pages : IsPageCopied s.pages from frame new.pages
+  pub owners : new.owners ≡ slice_set s.owners frame (Of t)
+  pub uses : new.uses ≡ slice_set s.uses frame 1
+  pub unused : uses_at s frame ≡ 0
+  pub within : frame < length s.uses

@@ -1,10 +1,10 @@
 // Frames, each with a page at home or away, an owner and a number of uses.
-ghost use Rattle.std.specs.Prelude.{◌≡◌, ◌+◌, ◌<◌, ◌≤◌, ℕ, List, length, slice_get, Some, None, IfOk, IfSome, IsSome, MatchBool, position, replicate, false};
+ghost use Rattle.std.specs.Prelude.{◌≡◌, ◌≢◌, ◌+◌, ◌-◌, ◌^◌, ◌<◌, ◌≤◌, ℕ, List, length, slice_get, Some, None, IfOk, IfSome, IsSome, MatchBool, position, replicate, false};
 ghost use Rattle.std.specs.Borrow.{sem};
 ghost use Rattle.dos_world.specs.World.{is_free};
 ghost use Rattle.dos_world.specs.Kernel.{zero_page};
 ghost use Rattle.dos_world.specs.Reach.{granted};
-ghost use Rattle.page_store.specs.Store.{AreHome, AreOwnedBelow, IsAway, IsHome, IsOwned, free_count, owner_at, unused, uses_at, with_away, with_owned, with_grant, with_home, with_less, with_more};
+ghost use Rattle.page_store.specs.Store.{AreFreeFrom, AreHome, AreOwnedBelow, IsAway, IsCopied, IsHome, IsHomeIn, IsOwned, IsPageCopied, IsUnused, free_count, owner_at, unused, uses_at, with_away, with_owned, with_grant, with_home, with_less, with_more};
 ghost use Rattle.page_store.specs.Lending.{LendsPage, LendsSlot};
 
 use crate::Page;
@@ -12,7 +12,8 @@ use dos_world::{Access, Owner};
 use std::alloc::{AllocError, Global};
 use std::marker::Model;
 
-/// Frames, numbered from 0. Contracts see three lists, by frame: pages (None while away), owners and uses.
+/// Frames, numbered from 0. Contracts see three lists, by frame: pages (None while away), owners
+/// and uses.
 #[derive(Drop)]
 pub struct Frames {
     pages: Vec<Option<Page>>,
@@ -20,17 +21,25 @@ pub struct Frames {
     uses: Vec<u32>,
     free: u32,
     lowest: u32,
+    high: u32,
 }
 
 impl Model for Frames {
-    ghost use Rattle.std.specs.Prelude.{length};
-    ghost use Rattle.page_store.specs.Store.{IsKept, Store};
+    ghost use Rattle.std.specs.Prelude.{◌≤◌, length};
+    ghost use Rattle.page_store.specs.Store.{AreFreeFrom, IsKept, Store};
 
     ghost Value = { Store };
 
-    ghost view = { λ f. record { pages = f.pages.items; owners = f.owners.items; uses = f.uses.items } };
+    ghost view = { λ f. record {
+      pages = f.pages.items;
+      owners = f.owners.items;
+      uses =
+          f.uses.items;
+    } };
 
-    ghost invariant = { λ f. IsKept (length f.pages.items) f.owners.items f.uses.items f.free f.lowest };
+    ghost invariant = { λ f.
+        IsKept (length f.pages.items) f.owners.items f.uses.items f.free f.lowest
+        × AreFreeFrom f.owners.items f.high × (f.high ≤ length f.pages.items) };
 }
 
 impl Frames {
@@ -44,6 +53,7 @@ impl Frames {
             uses: no_uses(alloc, count)?,
             free: count,
             lowest: 0,
+            high: 0,
         })
     }
 
@@ -61,6 +71,14 @@ impl Frames {
         ensures { result ≡ free_count self.now }
     {
         self.free
+    }
+
+    /// From which frame on all are Free: no frame from it on was ever in use.
+    pub fn high(&self) -> u32
+        ensures free { AreFreeFrom self.now.owners result }
+        ensures within { result ≤ length self.now.pages }
+    {
+        self.high
     }
 
     /// Who the frame belongs to.
@@ -110,6 +128,13 @@ impl Frames {
         self.pages[frame as usize] = Some(page);
     }
 
+    /// The pages by frame, None where one is away.
+    pub fn pages(&self) -> &[Option<Page>]
+        ensures { result.now ≡ self.now.pages }
+    {
+        self.pages.as_slice()
+    }
+
     /// The frame's page.
     pub fn lend(&self, frame: u32) -> &Page
         requires { IsHome self.now frame }
@@ -121,7 +146,8 @@ impl Frames {
         }
     }
 
-    /// The frame's page, to be written. Afterwards the frames are as before, with this page as it was left.
+    /// The frame's page, to be written. Afterwards the frames are as before, with this page as it
+    /// was left.
     pub fn lend_mut(&mut self, frame: u32) -> &mut Page
         requires { IsHome self.old frame }
         ensures page { slice_get self.old.pages frame ≡ Some (Some result.now) }
@@ -130,7 +156,8 @@ impl Frames {
         page_mut(&mut self.pages[frame as usize])
     }
 
-    /// The owner becomes Shared for a fetch or load, and `tid` for a store or claim. Nothing else changes.
+    /// The owner becomes Shared for a fetch or load, and `tid` for a store or claim. Nothing else
+    /// changes.
     pub fn grant(&mut self, frame: u32, tid: u32, access: Access)
         requires { IsOwned self.old frame }
         ensures { self.new ≡ with_grant self.old frame tid access }
@@ -139,12 +166,14 @@ impl Frames {
         self.owners[frame as usize] = owner;
     }
 
-    /// The lowest Free frame, which becomes `tid`'s, with a zero page and one use. None exactly where no frame is Free; nothing changes then.
+    /// The lowest Free frame, which becomes `tid`'s, with a zero page and one use. None exactly
+    /// where no frame is Free; nothing changes then.
     pub fn fresh(&mut self, tid: u32) -> Option<u32>
         requires { AreHome self.old }
         ensures found { result ≡ position is_free self.old.owners }
         ensures none { result ≡ None → self.new ≡ self.old }
         ensures one { IfSome result (λ frame. self.new ≡ with_owned self.old frame tid) }
+        ensures unused { IfSome result (λ frame. IsUnused self.old frame) }
     {
         match first_free(&self.owners, self.lowest as usize) {
             None => None,
@@ -155,16 +184,42 @@ impl Frames {
                 self.uses[place] = 1;
                 self.free -= 1;
                 self.lowest = frame + 1;
+                self.high = self.high.max(frame + 1);
                 Some(frame)
             }
         }
     }
 
-    /// One use more, of at most 32. Nothing else changes.
+    /// The lowest Free frame, which becomes `tid`'s, with the bytes of the page of `from` and one
+    /// use. None exactly where no frame is Free; nothing changes then.
+    pub fn fresh_copy(&mut self, tid: u32, from: u32) -> Option<u32>
+        requires home { AreHome self.old }
+        requires owned { IsOwned self.old from }
+        ensures found { result ≡ position is_free self.old.owners }
+        ensures none { result ≡ None → self.new ≡ self.old }
+        ensures one { IfSome result (λ frame. IsCopied self.old from frame tid self.new) }
+    {
+        match first_free(&self.owners, self.lowest as usize) {
+            None => None,
+            Some(place) => {
+                let frame = place as u32;
+                copy_page(&mut self.pages, from as usize, place);
+                self.owners[place] = Owner::Of(tid);
+                self.uses[place] = 1;
+                self.free -= 1;
+                self.lowest = frame + 1;
+                self.high = self.high.max(frame + 1);
+                Some(frame)
+            }
+        }
+    }
+
+    /// One use more. Nothing else changes.
     pub fn use_more(&mut self, frame: u32)
         requires owned { IsOwned self.old frame }
-        requires few { uses_at self.old frame < 32 }
-        ensures { self.new ≡ with_more self.old frame }
+        requires few { uses_at self.old frame < 2 ^ 32 - 1 }
+        ensures one { self.new ≡ with_more self.old frame }
+        ensures within { frame < length self.old.uses }
     {
         self.uses[frame as usize] += 1;
     }
@@ -183,6 +238,25 @@ impl Frames {
         } else {
             self.uses[place] -= 1;
         }
+    }
+}
+
+// the page at one place becomes a copy of that at another
+fn copy_page(pages: &mut Vec<Option<Page>>, from: usize, to: usize)
+    requires apart { from ≢ to }
+    requires source { IsHomeIn pages.old.items from }
+    requires target { IsHomeIn pages.old.items to }
+    ensures { IsPageCopied pages.old.items from to pages.new.items }
+{
+    match pages[to].take() {
+        Some(mut page) => {
+            match &pages[from] {
+                Some(source) => page.copy_from(0, source.bytes()),
+                None => unreachable!(),
+            }
+            pages[to] = Some(page);
+        }
+        None => unreachable!(),
     }
 }
 

@@ -6,6 +6,3 @@ mod page;
 
 pub use frames::Frames;
 pub use page::Page;
-
-#[cfg(test)]
-mod tests;

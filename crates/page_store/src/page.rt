@@ -8,7 +8,8 @@ use dos_world::Size;
 use std::alloc::{AllocError, Global};
 use std::marker::Model;
 
-/// 4096 bytes on the heap. Contracts see the list of its bytes, and speak of `whole` of it, whose length is always 4096.
+/// 4096 bytes on the heap. Contracts see the list of its bytes, and speak of `whole` of it, whose
+/// length is always 4096.
 #[derive(Drop)]
 pub struct Page {
     bytes: Box<[u8; 4096]>,

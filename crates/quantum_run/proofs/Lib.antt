@@ -7,3 +7,8 @@ pub mod Going
 pub mod Witness
 pub mod Whole
 pub mod Parts
+pub mod Overlay
+pub mod Alike
+pub mod Packing
+pub mod Finishing
+pub mod Keeping

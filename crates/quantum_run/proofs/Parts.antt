@@ -14,8 +14,12 @@ use Rattle.quantum_run.specs.Running.{IsRunOf, Stops, after_steps, run_to}
 use Rattle.quantum_run.proofs.After.{same-after, steps-ok, steps-stopped}
 use Rattle.quantum_run.proofs.Threads.{seen-changed, ran-twice}
 
-space-by : (w : World) (o : Option Thread) → (elim o as (λ _. List (ℕ × Entry)) [ None ↦ [] | Some thread ↦ space_of w thread.process ])
-    ≡ (elim (option_map (λ x. x.process) o) as (λ _. List (ℕ × Entry)) [ None ↦ [] | Some p ↦ space_of w p ])
+space-by : (w : World) (o : Option Thread)
+    → (elim o as (λ _. List (ℕ × Entry)) [ None ↦ [] | Some thread ↦ space_of w thread.process ])
+    ≡ (elim (option_map (λ x. x.process) o) as (λ _. List (ℕ × Entry)) [
+      | None ↦ []
+      | Some p ↦ space_of w p
+    ])
 space-by w None = refl
 space-by w (Some thread) = refl
 
@@ -23,51 +27,77 @@ space-by w (Some thread) = refl
 emptied-space : (w : World) (t : ℕ) → thread_space (emptied w t) t ≡ thread_space w t
 emptied-space w t =
     space-by w (thread_at (emptied w t) t)
-    ∙ ap (λ (o : Option ℕ). elim o as (λ _. List (ℕ × Entry)) [ None ↦ [] | Some p ↦ space_of w p ]) (seen-changed (λ x. x.process) (registers_by released) w.threads t)
+    ∙ ap (λ (o : Option ℕ). elim o as (λ _. List (ℕ × Entry)) [ None ↦ [] | Some p ↦ space_of w p ])
+    (seen-changed (λ x. x.process) (registers_by released) w.threads t)
     ∙ sym (space-by w (thread_at w t))
 
-pub emptied-run : (w : World) (s : Store) (entries : List (ℕ × Entry)) (t : ℕ) (r : Registers) (budget : ℕ) → IsRunOf w s entries t r budget → IsRunOf (emptied w t) s entries t (released r) budget
+pub emptied-run : (w : World) (s : Store) (entries : List (ℕ × Entry)) (t : ℕ) (r : Registers)
+    (budget : ℕ) → IsRunOf w s entries t r budget
+    → IsRunOf (emptied w t) s entries t (released r) budget
 emptied-run w s entries t r budget run =
     let k = of_kept (thread_at w t) r budget run.thread in
     record {
       bytes = run.bytes;
       owners = run.owners;
       space = emptied-space w t ∙ run.space;
-      thread = seen-changed kept (registers_by released) w.threads t ∙ ap (option_map (λ x. kept (registers_by released x))) k.1 ∙ ap (λ x. Some (released x, k.0.budget)) k.2 ∙ ap (λ b. Some (released r, b)) k.3;
+      thread = seen-changed kept (registers_by released) w.threads t
+          ∙ ap (option_map (λ x. kept (registers_by released x))) k.1
+          ∙ ap (λ x. Some (released x, k.0.budget)) k.2 ∙ ap (λ b. Some (released r, b)) k.3;
     }
 
 -- What a run does to a count and a world, it does to its budget and what is left of it.
-pub run-same : {A : Type 0} (t : ℕ) (F : ℕ → World → A) → ((k : ℕ) (u next : World) → step u t ≡ Ok next → F (suc k) u ≡ F k next)
-    → (budget left : ℕ) (w v : World) → left ≤ budget → after_steps (budget - left) w t ≡ Some v → F budget w ≡ F left v
+pub run-same : {A : Type 0} (t : ℕ) (F : ℕ → World → A)
+    → ((k : ℕ) (u next : World) → step u t ≡ Ok next → F (suc k) u ≡ F k next)
+    → (budget left : ℕ) (w v : World) → left ≤ budget → after_steps (budget - left) w t ≡ Some v
+    → F budget w ≡ F left v
 run-same t F one budget left w v within h =
     let count : budget ≡ (budget - left) + left = omega (arith, within) in
     ap (λ n. F n w) count ∙ same-after t F one (budget - left) left w v h
 
 -- who stopped, or has nothing left, runs no further
-steps-ended : (w : World) (t left : ℕ) (stop : Option Reason) → Stops w t left stop → steps left w t ≡ w
+steps-ended : (w : World) (t left : ℕ) (stop : Option Reason) → Stops w t left stop
+    → steps left w t ≡ w
 steps-ended w t left None out = ap (λ n. steps n w t) out
 steps-ended w t left (Some reason) stopped = steps-stopped left w t reason stopped
 
 -- what the clause of a run says of one world
-pub stops-here : (stop : Option Reason) (left t : ℕ) (IsOf : World → Type 0) (end : World → World) (w : World) → IsOf w → MatchOption stop (left ≡ 0) (λ reason. (0 < left) × ((u : World) → IsOf u → step (end u) t ≡ Err reason))
+pub stops-here : (stop : Option Reason) (left t : ℕ) (IsOf : World → Type 0) (end : World → World)
+    (w : World) → IsOf w
+    → MatchOption stop (left ≡ 0)
+    (λ reason. (0 < left) × ((u : World) → IsOf u → step (end u) t ≡ Err reason))
     → Stops (end w) t left stop
 stops-here None left t IsOf end w is out = out
 stops-here (Some reason) left t IsOf end w is stopped = stopped.1 w is
 
-budget-is : (w : World) (t : ℕ) (r : Registers) (budget : ℕ) → option_map kept (thread_at w t) ≡ Some (r, budget) → budget_of w t ≡ budget
-budget-is w t r budget h = let k = of_kept (thread_at w t) r budget h in ap (λ (o : Option Thread). elim o as (λ _. ℕ) [ None ↦ 0 | Some thread ↦ thread.budget ]) k.1 ∙ k.3
+budget-is : (w : World) (t : ℕ) (r : Registers) (budget : ℕ)
+    → option_map kept (thread_at w t) ≡ Some (r, budget) → budget_of w t ≡ budget
+budget-is w t r budget h = let k = of_kept (thread_at w t) r budget h in
+    ap (λ (o : Option Thread). elim o as (λ _. ℕ) [ None ↦ 0 | Some thread ↦ thread.budget ]) k.1
+    ∙ k.3
 
-pub run-alone : (w : World) (s : Store) (entries : List (ℕ × Entry)) (t : ℕ) (r begun after : Registers) (pages : List (Option (List ℕ))) (budget left : ℕ) (stop : Option Reason)
+pub run-alone : (w : World) (s : Store) (entries : List (ℕ × Entry)) (t : ℕ)
+    (r begun after : Registers) (pages : List (Option (List ℕ))) (budget left : ℕ)
+    (stop : Option Reason)
     → IsRunOf w s entries t r budget
     → begun ≡ released r
     → left ≤ budget
-    → ((u : World) → IsRunOf u s entries t begun budget → after_steps (budget - left) u t ≡ Some (run_to u t pages after left))
-    → MatchOption stop (left ≡ 0) (λ reason. (0 < left) × ((u : World) → IsRunOf u s entries t begun budget → step (run_to u t pages after left) t ≡ Err reason))
+    → ((u : World) → IsRunOf u s entries t begun budget
+    → after_steps (budget - left) u t ≡ Some (run_to u t pages after left))
+    → MatchOption stop (left ≡ 0)
+    (λ reason. (0 < left)
+    × ((u : World) → IsRunOf u s entries t begun budget
+    → step (run_to u t pages after left) t ≡ Err reason))
     → alone w t ≡ run_to w t pages after left
 run-alone w s entries t r begun after pages budget left stop run empty within runs stopped =
-    let from : IsRunOf (emptied w t) s entries t begun budget = subst (λ (x : Registers). IsRunOf (emptied w t) s entries t x budget) (sym empty) (emptied-run w s entries t r budget run) in
+    let from : IsRunOf (emptied w t) s entries t begun budget =
+    subst (λ (x : Registers). IsRunOf (emptied w t) s entries t x budget) (sym empty)
+    (emptied-run w s entries t r budget run) in
     let end : World = run_to (emptied w t) t pages after left in
     ap (λ n. steps n (emptied w t) t) (budget-is w t r budget run.thread)
-    ∙ run-same t (λ n u. steps n u t) (λ k u next is. steps-ok k u next t is) budget left (emptied w t) end within (runs (emptied w t) from)
-    ∙ steps-ended end t left stop (stops-here stop left t (λ u. IsRunOf u s entries t begun budget) (λ u. run_to u t pages after left) (emptied w t) from stopped)
-    ∙ ap (λ (u : World). record u { bytes = joined pages }) (ran-twice w t (registers_by released) after left (λ x. refl))
+    ∙ run-same t (λ n u. steps n u t) (λ k u next is. steps-ok k u next t is) budget left
+    (emptied w t) end within (runs (emptied w t) from)
+    ∙ steps-ended end t left stop
+    (stops-here stop left t (λ u. IsRunOf u s entries t begun budget)
+    (λ u. run_to u t pages after left) (emptied w t) from stopped)
+    ∙ ap (λ (u : World). record u { bytes = joined pages })
+    (ran-twice w t (registers_by released) after left (λ x. refl))

@@ -17,40 +17,63 @@ use Rattle.page_store.specs.Store.{joined, number_at}
 use Rattle.rv_exec.specs.Step.{◌>>=◌, reached, place_or_reason, half_at}
 use Rattle.rv_exec.specs.Follows.{word_at}
 use Rattle.quantum_run.specs.Finding.{frame_by, frame_for, place_in}
-use Rattle.quantum_run.specs.declared.in_place.InPlace.{InPlace}
-use Rattle.quantum_run.specs.InPlace.{Still, Holds, Stays, Shows}
+use Rattle.quantum_run.specs.Showing.{Still, Holds, ShowsBy}
 
-pub reached-misaligned : (w : World) (t a : ℕ) (size : Size) (access : Access) → a % width size ≢ 0 → reached w t a size access ≡ Err (Fault 7)
-reached-misaligned w t a size access h = ap (λ b. place_or_reason a access (cond (not b) (fault 7) (in_frame w t a access (entry_at w t a)))) (ne_eqb (a % width size) 0 h)
+pub reached-misaligned : (w : World) (t a : ℕ) (size : Size) (access : Access) → a % width size ≢ 0
+    → reached w t a size access ≡ Err (Fault 7)
+reached-misaligned w t a size access h =
+    ap (λ b. place_or_reason a access
+    (cond (not b) (fault 7) (in_frame w t a access (entry_at w t a))))
+    (ne_eqb (a % width size) 0 h)
 
 -- an aligned access reaches its place in the frame that is found for it
-pub reached-frame : (fixed : Still) (pages : List (Option (List ℕ))) (t : ℕ) (w : World) → Holds fixed pages t w → (a : ℕ) (size : Size) (access : Access) → a % width size ≡ 0
-    → reached w t a size access ≡ (frame_for fixed.thread fixed.owners fixed.entries access a >>= λ frame. Ok (place_in frame a))
+pub reached-frame : (fixed : Still) (pages : List (Option (List ℕ))) (t : ℕ) (w : World)
+    → Holds fixed pages t w → (a : ℕ) (size : Size) (access : Access) → a % width size ≡ 0
+    → reached w t a size access
+    ≡ (frame_for fixed.thread fixed.owners fixed.entries access a
+    >>= λ frame. Ok (place_in frame a))
 reached-frame fixed pages t w holds a size access aligned =
-    ap (λ b. place_or_reason a access (cond (not b) (fault 7) (in_frame w t a access (entry_at w t a)))) (eq-eqb (a % width size) 0 aligned)
+    ap (λ b. place_or_reason a access
+    (cond (not b) (fault 7) (in_frame w t a access (entry_at w t a))))
+    (eq-eqb (a % width size) 0 aligned)
     ∙ ap (λ x. place_or_reason a access (in_frame w t a access x)) (holds.entry a)
     ∙ by_entry (look fixed.entries (a / 4096))
   where
     by_test : (right foreign_to : Bool) (frame : ℕ)
-        → place_or_reason a access (cond (not right) (fault 11) (cond foreign_to (foreign frame) (at (4096 * frame + a % 4096))))
-        ≡ (cond (not right) (Err (Fault 11)) (cond foreign_to (Err (Page a access)) (Ok frame)) >>= λ frame. Ok (place_in frame a))
+        → place_or_reason a access
+        (cond (not right) (fault 11)
+        (cond foreign_to (foreign frame) (at (4096 * frame + a % 4096))))
+        ≡ (cond (not right) (Err (Fault 11)) (cond foreign_to (Err (Page a access)) (Ok frame))
+        >>= λ frame. Ok (place_in frame a))
     by_test false foreign_to frame = refl
     by_test true true frame = refl
     by_test true false frame = refl
 
     by_entry : (o : Option Entry)
         → place_or_reason a access (in_frame w t a access o)
-        ≡ ((elim o as (λ _. Result ℕ Reason) [ None ↦ Err (Fault 11) | Some e ↦ frame_by fixed.thread fixed.owners access a e ]) >>= λ frame. Ok (place_in frame a))
+        ≡ ((elim o as (λ _. Result ℕ Reason) [
+          | None ↦ Err (Fault 11)
+          | Some e ↦ frame_by fixed.thread fixed.owners access a e
+        ])
+        >>= λ frame. Ok (place_in frame a))
     by_entry None = refl
     by_entry (Some e) =
-        ap (λ b. place_or_reason a access (cond (not (has_right access e)) (fault 11) (cond b (foreign e.frame) (at (4096 * e.frame + a % 4096))))) (holds.foreign access e.frame)
-        ∙ by_test (has_right access e) (is_foreign fixed.thread access (slice_index_or fixed.owners e.frame Free)) e.frame
+        ap (λ b. place_or_reason a access
+        (cond (not (has_right access e)) (fault 11)
+        (cond b (foreign e.frame) (at (4096 * e.frame + a % 4096)))))
+        (holds.foreign access e.frame)
+        ∙ by_test (has_right access e)
+        (is_foreign fixed.thread access (slice_index_or fixed.owners e.frame Free)) e.frame
 
 -- a memory shows what it showed where nothing but what was found last is another
-pub shows-stays : (old new : InPlace) (fixed : Still) (t : ℕ) (w : World) → Stays old new → Shows old fixed t w → Shows new fixed t w
-shows-stays old new fixed t w stays s = record {
-  still = stays.still ∙ s.still;
-  holds = subst (λ pages. Holds fixed pages t w) (sym stays.pages) s.holds;
+pub shows-stays : {F : Type 0} (old new : Still) (fixed after : F)
+    (pages left_pages : List (Option (List ℕ))) (f : Still × F) (t : ℕ) (w : World) → new ≡ old
+    → after ≡ fixed → left_pages ≡ pages
+    → ShowsBy old fixed pages f t w → ShowsBy new after left_pages f t w
+shows-stays old new fixed after pages left_pages f t w same kept is s = record {
+  still = same ∙ s.still;
+  fixed_is = kept ∙ s.fixed_is;
+  holds = subst (λ ps. Holds f.0 ps t w) (sym is) s.holds;
 }
 
 -- ---- the word at pc
@@ -61,55 +84,78 @@ second_of w t a low = half_at w t ((a + 2) % 2 ^ 32) >>= λ high. Ok (low + 2 ^ 
 abbrev by_first : World → ℕ → ℕ → ℕ → Result ℕ Reason
 by_first w t a low = cond (eqb (low % 4) 3) (second_of w t a low) (Ok low)
 
-pub word-both : (w : World) (t a low high : ℕ) → half_at w t a ≡ Ok low → low % 4 ≡ 3 → half_at w t ((a + 2) % 2 ^ 32) ≡ Ok high → word_at w t a ≡ Ok (low + 2 ^ 16 * high)
+pub word-both : (w : World) (t a low high : ℕ) → half_at w t a ≡ Ok low → low % 4 ≡ 3
+    → half_at w t ((a + 2) % 2 ^ 32) ≡ Ok high → word_at w t a ≡ Ok (low + 2 ^ 16 * high)
 word-both w t a low high first is second =
     ap (λ (x : Result ℕ Reason). x >>= by_first w t a) first
     ∙ ap (λ b. cond b (second_of w t a low) (Ok low)) (eq-eqb (low % 4) 3 is)
     ∙ ap (λ (x : Result ℕ Reason). x >>= λ up. Ok (low + 2 ^ 16 * up)) second
 
-pub word-low : (w : World) (t a low : ℕ) → half_at w t a ≡ Ok low → low % 4 ≢ 3 → word_at w t a ≡ Ok low
-word-low w t a low first other = ap (λ (x : Result ℕ Reason). x >>= by_first w t a) first ∙ ap (λ b. cond b (second_of w t a low) (Ok low)) (ne_eqb (low % 4) 3 other)
+pub word-low : (w : World) (t a low : ℕ) → half_at w t a ≡ Ok low → low % 4 ≢ 3
+    → word_at w t a ≡ Ok low
+word-low w t a low first other = ap (λ (x : Result ℕ Reason). x >>= by_first w t a) first
+    ∙ ap (λ b. cond b (second_of w t a low) (Ok low)) (ne_eqb (low % 4) 3 other)
 
-pub word-err : (w : World) (t a : ℕ) (reason : Reason) → half_at w t a ≡ Err reason → word_at w t a ≡ Err reason
+pub word-err : (w : World) (t a : ℕ) (reason : Reason) → half_at w t a ≡ Err reason
+    → word_at w t a ≡ Err reason
 word-err w t a reason first = ap (λ (x : Result ℕ Reason). x >>= by_first w t a) first
 
-pub word-err-second : (w : World) (t a low : ℕ) (reason : Reason) → half_at w t a ≡ Ok low → low % 4 ≡ 3 → half_at w t ((a + 2) % 2 ^ 32) ≡ Err reason → word_at w t a ≡ Err reason
+pub word-err-second : (w : World) (t a low : ℕ) (reason : Reason) → half_at w t a ≡ Ok low
+    → low % 4 ≡ 3 → half_at w t ((a + 2) % 2 ^ 32) ≡ Err reason → word_at w t a ≡ Err reason
 word-err-second w t a low reason first is second =
     ap (λ (x : Result ℕ Reason). x >>= by_first w t a) first
     ∙ ap (λ b. cond b (second_of w t a low) (Ok low)) (eq-eqb (low % 4) 3 is)
     ∙ ap (λ (x : Result ℕ Reason). x >>= λ up. Ok (low + 2 ^ 16 * up)) second
 
 -- a frame found for an address is found for each address of its page
-same-page : (t : ℕ) (owners : List Owner) (entries : List (ℕ × Entry)) (access : Access) (a b frame : ℕ) → b / 4096 ≡ a / 4096 → frame_for t owners entries access a ≡ Ok frame → frame_for t owners entries access b ≡ Ok frame
-same-page t owners entries access a b frame page h = ap (λ number. by_look b (look entries number)) page ∙ by_entry (look entries (a / 4096)) h
+same-page : (t : ℕ) (owners : List Owner) (entries : List (ℕ × Entry)) (access : Access)
+    (a b frame : ℕ) → b / 4096 ≡ a / 4096 → frame_for t owners entries access a ≡ Ok frame
+    → frame_for t owners entries access b ≡ Ok frame
+same-page t owners entries access a b frame page h =
+    ap (λ number. by_look b (look entries number)) page ∙ by_entry (look entries (a / 4096)) h
   where
     by_look : ℕ → Option Entry → Result ℕ Reason
-    by_look address o = elim o as (λ _. Result ℕ Reason) [ None ↦ Err (Fault 11) | Some e ↦ frame_by t owners access address e ]
+    by_look address o = elim o as (λ _. Result ℕ Reason) [
+      | None ↦ Err (Fault 11)
+      | Some e ↦ frame_by t owners access address e
+    ]
 
-    by_test : (right foreign_to : Bool) (found : ℕ) → cond (not right) (Err (Fault 11)) (cond foreign_to (Err (Page a access)) (Ok found)) ≡ Ok frame
-        → cond (not right) (Err (Fault 11)) (cond foreign_to (Err (Page b access)) (Ok found)) ≡ Ok frame
+    by_test : (right foreign_to : Bool) (found : ℕ)
+        → cond (not right) (Err (Fault 11)) (cond foreign_to (Err (Page a access)) (Ok found))
+        ≡ Ok frame
+        → cond (not right) (Err (Fault 11)) (cond foreign_to (Err (Page b access)) (Ok found))
+        ≡ Ok frame
     by_test false foreign_to found q = cc
     by_test true true found q = cc
     by_test true false found q = q
 
     by_entry : (o : Option Entry) → by_look a o ≡ Ok frame → by_look b o ≡ Ok frame
     by_entry None q = cc
-    by_entry (Some e) q = by_test (has_right access e) (is_foreign t access (slice_index_or owners e.frame Free)) e.frame q
+    by_entry (Some e) q =
+        by_test (has_right access e)
+        (is_foreign t access (slice_index_or owners e.frame Free)) e.frame q
 
 -- four bytes are two and two
-number-four : (xs : List ℕ) → number_of (take 4 xs) ≡ number_of (take 2 xs) + 2 ^ 16 * number_of (take 2 (drop 2 xs))
+number-four : (xs : List ℕ)
+    → number_of (take 4 xs) ≡ number_of (take 2 xs) + 2 ^ 16 * number_of (take 2 (drop 2 xs))
 number-four [] = refl
 number-four (a ∷ []) = omega arith
 number-four (a ∷ b ∷ xs) = omega arith
 
-module _ (fixed : Still) (pages : List (Option (List ℕ))) (t : ℕ) (w : World) (holds : Holds fixed pages t w) where
-  half-found : (a frame : ℕ) → a % 2 ≡ 0 → frame_for fixed.thread fixed.owners fixed.entries Fetch a ≡ Ok frame → half_at w t a ≡ Ok (number_at (joined pages) (place_in frame a) Half)
+module _ (fixed : Still) (pages : List (Option (List ℕ))) (t : ℕ) (w : World)
+    (holds : Holds fixed pages t w) where
+  half-found : (a frame : ℕ) → a % 2 ≡ 0
+      → frame_for fixed.thread fixed.owners fixed.entries Fetch a ≡ Ok frame
+      → half_at w t a ≡ Ok (number_at (joined pages) (place_in frame a) Half)
   half-found a frame even found =
-      ap (λ (x : Result ℕ Reason). x >>= λ place. Ok (loaded w place 2)) (reached-frame fixed pages t w holds a Half Fetch even ∙ ap (λ (x : Result ℕ Reason). x >>= λ f. Ok (place_in f a)) found)
+      ap (λ (x : Result ℕ Reason). x >>= λ place. Ok (loaded w place 2))
+      (reached-frame fixed pages t w holds a Half Fetch even
+      ∙ ap (λ (x : Result ℕ Reason). x >>= λ f. Ok (place_in f a)) found)
       ∙ ap (λ bytes. Ok (number_of (take 2 (drop (place_in frame a) bytes)))) holds.bytes
 
   -- the word at a multiple of 4 is read at once
-  pub word-found : (a frame n : ℕ) → a % 4 ≡ 0 → a < 2 ^ 32 → frame_for fixed.thread fixed.owners fixed.entries Fetch a ≡ Ok frame
+  pub word-found : (a frame n : ℕ) → a % 4 ≡ 0 → a < 2 ^ 32
+      → frame_for fixed.thread fixed.owners fixed.entries Fetch a ≡ Ok frame
       → n ≡ number_at (joined pages) (place_in frame a) Word → n % 4 ≡ 3 → word_at w t a ≡ Ok n
   word-found a frame n four fits found is odd =
       let bytes : List ℕ = drop (place_in frame a) (joined pages) in
@@ -123,7 +169,10 @@ module _ (fixed : Still) (pages : List (Option (List ℕ))) (t : ℕ) (w : World
       let even_after : after % 2 ≡ 0 = omega (arith, four, next) in
       let place : place_in frame after ≡ place_in frame a + 2 = omega (arith, four, next) in
       let second : half_at w t after ≡ Ok high =
-      half-found after frame even_after (same-page fixed.thread fixed.owners fixed.entries Fetch a after frame page found)
+      half-found after frame even_after
+      (same-page fixed.thread fixed.owners fixed.entries Fetch a after frame page found)
       ∙ ap (λ k. Ok (number_of (take 2 (drop k (joined pages))))) place
-      ∙ ap (λ xs. Ok (number_of (take 2 xs))) (sym (drop-drop 2 (place_in frame a) (joined pages))) in
-      word-both w t a low high (half-found a frame even found) (omega (arith, whole, odd)) second ∙ ap Ok (sym whole)
+      ∙ ap (λ xs. Ok (number_of (take 2 xs)))
+      (sym (drop-drop 2 (place_in frame a) (joined pages))) in
+      word-both w t a low high (half-found a frame even found) (omega (arith, whole, odd)) second
+      ∙ ap Ok (sym whole)

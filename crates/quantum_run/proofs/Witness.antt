@@ -1,4 +1,5 @@
--- A world for each memory that shows one: so what stands still in all of them stands still. In it the thread that runs is 1, and every other one is 2.
+-- A world for each memory that shows one: so what stands still in all of them stands still. In it
+-- the thread that runs is 1, and every other one is 2.
 use Rattle.std.proofs.Common.{ℕ, zero, suc, ◌≡◌, refl, cond, not, Bool, true, false, List, [], ◌∷◌, map, Option, Some}
 use Rattle.std.specs.Prelude.{slice_index_or, ◌==◌, if◌then◌else◌}
 use Rattle.dos_world.specs.World.{World, Registers, live}
@@ -9,7 +10,7 @@ use Rattle.dos_world.specs.declared.Owner.{Owner}
 use Rattle.dos_world.specs.declared.Owner.TheVariants.{Free, Shared, Of}
 use Rattle.dos_world.specs.declared.ThreadState.TheVariants.{Ready}
 use Rattle.page_store.specs.Store.{joined}
-use Rattle.quantum_run.specs.InPlace.{Still, Holds}
+use Rattle.quantum_run.specs.Showing.{Still, Holds}
 
 abbrev renamed : ℕ → Owner → Owner
 renamed t Free = Free
@@ -20,8 +21,20 @@ abbrev pub witness : Still → List (Option (List ℕ)) → Registers → ℕ �
 witness fixed pages r budget = record {
   bytes = joined pages;
   owners = map (renamed fixed.thread) fixed.owners;
-  processes = record { parent = 0; life = live (record { actions = []; descriptors = []; space = fixed.entries }) } ∷ [];
-  threads = Some (record { process = 1; registers = r; budget = budget; state = Ready; pending = 0; mask = 0; saved = [] }) ∷ [];
+  processes = record {
+    parent = 0;
+    life =
+        live (record { actions = []; descriptors = []; space = fixed.entries });
+  } ∷ [];
+  threads = Some (record {
+    process = 1;
+    registers = r;
+    budget = budget;
+    state = Ready;
+    pending = 0;
+    mask = 0;
+    saved = [];
+  }) ∷ [];
   pipes = [];
   sleepers = [];
   rounds = 0;
@@ -31,7 +44,8 @@ witness fixed pages r budget = record {
   built = [];
 }
 
-same-foreign : (t : ℕ) (access : Access) (owner : Owner) → is_foreign 1 access (renamed t owner) ≡ is_foreign t access owner
+same-foreign : (t : ℕ) (access : Access) (owner : Owner)
+    → is_foreign 1 access (renamed t owner) ≡ is_foreign t access owner
 same-foreign t Fetch Free = refl
 same-foreign t Fetch Shared = refl
 same-foreign t Load Free = refl
@@ -46,10 +60,19 @@ same-foreign t access (Of s) = by_test (s == t)
     by_test true = refl
     by_test false = refl
 
-owners-foreign : (t : ℕ) (access : Access) (owners : List Owner) (frame : ℕ) → is_foreign 1 access (slice_index_or (map (renamed t) owners) frame Free) ≡ is_foreign t access (slice_index_or owners frame Free)
+owners-foreign : (t : ℕ) (access : Access) (owners : List Owner) (frame : ℕ)
+    → is_foreign 1 access (slice_index_or (map (renamed t) owners) frame Free)
+    ≡ is_foreign t access (slice_index_or owners frame Free)
 owners-foreign t access [] frame = same-foreign t access Free
 owners-foreign t access (x ∷ xs) zero = same-foreign t access x
 owners-foreign t access (x ∷ xs) (suc frame) = owners-foreign t access xs frame
 
-pub witness-holds : (fixed : Still) (pages : List (Option (List ℕ))) (r : Registers) (budget : ℕ) → Holds fixed pages 1 (witness fixed pages r budget)
-witness-holds fixed pages r budget = record { bytes = refl; entry = λ address. refl; foreign = λ access frame. owners-foreign fixed.thread access fixed.owners frame }
+pub witness-holds : (fixed : Still) (pages : List (Option (List ℕ))) (r : Registers) (budget : ℕ)
+    → Holds fixed pages 1 (witness fixed pages r budget)
+witness-holds fixed pages r budget =
+    record {
+      bytes = refl;
+      entry = λ address. refl;
+      foreign =
+          λ access frame. owners-foreign fixed.thread access fixed.owners frame;
+    }

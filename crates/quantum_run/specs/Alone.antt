@@ -16,6 +16,7 @@ abbrev pub steps : ℕ → World → ℕ → World
 steps zero w t = w
 steps (suc n) w t = elim (step w t) [ Ok next ↦ steps n next t | Err reason ↦ w ]
 
--- The part: instructions of t until it stops or its budget is 0. Each costs one of the budget, so the budget is what bounds them.
+-- The part: instructions of t until it stops or its budget is 0. Each costs one of the budget, so
+-- the budget is what bounds them.
 abbrev pub alone : World → ℕ → World
 alone w t = steps (budget_of w t) (emptied w t) t

@@ -1,5 +1,6 @@
--- Which frame an access reaches, by the owners of the frames and the entries of a space. This project's own rules.
-use Rattle.std.specs.Prelude.{ℕ, ◌≡◌, ◌≢◌, ◌+◌, ◌*◌, ◌<◌, ◌/◌, ◌%◌, ◌^◌, List, Option, Some, None, Result, Ok, Err, not, if◌then◌else◌, slice_get, slice_index_or}
+-- Which frame an access reaches, by the owners of the frames and the entries of a space. This
+-- project's own rules.
+use Rattle.std.specs.Prelude.{ℕ, ◌≡◌, ◌≢◌, ◌+◌, ◌*◌, ◌<◌, ◌/◌, ◌%◌, ◌^◌, List, Option, Some, None, Result, Ok, Err, not, if◌then◌else◌, slice_get, slice_index_or, All}
 use Rattle.dos_world.specs.World.{look}
 use Rattle.dos_world.specs.Reach.{has_right, is_foreign}
 use Rattle.dos_world.specs.declared.Access.{Access}
@@ -9,20 +10,34 @@ use Rattle.dos_world.specs.declared.Owner.{Owner}
 use Rattle.dos_world.specs.declared.Owner.TheVariants.{Free}
 use Rattle.dos_world.specs.declared.Reason.{Reason}
 use Rattle.dos_world.specs.declared.Reason.TheVariants.{Page, Fault}
+use Rattle.quantum_run.specs.declared.running.Slot.{Slot}
 
--- the frame of an entry for an access of t, or why the access is refused: it lacks the right, or the page is another's
+-- the frame of an entry for an access of t, or why the access is refused: it lacks the right, or
+-- the page is another's
 abbrev pub frame_by : ℕ → List Owner → Access → ℕ → Entry → Result ℕ Reason
 frame_by t owners access address e =
     if not (has_right access e) then Err (Fault 11)
-    else (if is_foreign t access (slice_index_or owners e.frame Free) then Err (Page address access) else Ok e.frame)
+    else (if is_foreign t access (slice_index_or owners e.frame Free) then Err
+    (Page address access) else Ok e.frame)
 
--- the frame of an address's page for an access of t, or why the access is refused; no entry is fault 11
+-- the frame of an address's page for an access of t, or why the access is refused; no entry is
+-- fault 11
 abbrev pub frame_for : ℕ → List Owner → List (ℕ × Entry) → Access → ℕ → Result ℕ Reason
-frame_for t owners entries access address = elim (look entries (address / 4096)) [ None ↦ Err (Fault 11) | Some e ↦ frame_by t owners access address e ]
+frame_for t owners entries access address =
+    elim (look entries (address / 4096)) [
+      | None ↦ Err (Fault 11)
+      | Some e ↦ frame_by t owners access address e
+    ]
 
 -- Each access of t to this page would find this frame.
 abbrev pub IsFrameOf : ℕ → List Owner → List (ℕ × Entry) → Access → (page frame : ℕ) → Type 0
-IsFrameOf t owners entries access page frame = (address : ℕ) → address < 2 ^ 32 → address / 4096 ≡ page → frame_for t owners entries access address ≡ Ok frame
+IsFrameOf t owners entries access page frame = (address : ℕ) → address < 2 ^ 32
+    → address / 4096 ≡ page → frame_for t owners entries access address ≡ Ok frame
+
+-- Each of these slots is right for such accesses of t.
+abbrev pub AreFramesOf : ℕ → List Owner → List (ℕ × Entry) → Access → List Slot → Type 0
+AreFramesOf t owners entries access slots =
+    All (λ slot. IsFrameOf t owners entries access slot.page slot.frame) slots
 
 -- No page is away.
 abbrev pub IsNoneAway : List (Option (List ℕ)) → Type 0

@@ -2,5 +2,7 @@ pub mod Alone
 pub mod Shows
 pub mod Running
 pub mod Finding
-pub mod InPlace
+pub mod Pages
+pub mod Showing
 pub mod Laws
+pub mod Packs

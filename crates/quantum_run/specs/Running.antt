@@ -1,8 +1,9 @@
 -- A thread that runs in place, over the frames and its space. This project's own rules.
-use Rattle.std.specs.Prelude.{ℕ, zero, suc, ◌≡◌, ◌<◌, ◌-◌, List, Option, Some, None, Ok, Err, option_map, length}
+use Rattle.std.specs.Prelude.{ℕ, zero, suc, ◌≡◌, ◌<◌, ◌-◌, List, [], Option, Some, None, Ok, Err, option_map, length}
 pub use Rattle.dos_world.specs.World.{ran}
-use Rattle.dos_world.specs.World.{World, Thread, Registers, thread_at, with_thread, look}
+use Rattle.dos_world.specs.World.{World, Registers, thread_at, with_thread, look}
 use Rattle.dos_world.specs.declared.Entry.{Entry}
+use Rattle.dos_world.specs.declared.Owner.{Owner}
 use Rattle.dos_world.specs.declared.Reason.{Reason}
 use Rattle.page_store.specs.Store.{Store, joined, IsOwned}
 use Rattle.rv_exec.specs.Step.{step}
@@ -16,31 +17,42 @@ after_steps (suc n) w t = elim (step w t) [ Ok next ↦ after_steps n next t | E
 
 -- the world in which t has these registers and this budget, and the bytes are those of these pages
 abbrev pub run_to : World → ℕ → List (Option (List ℕ)) → Registers → ℕ → World
-run_to w t pages registers budget = record (with_thread w t (ran registers budget)) { bytes = joined pages }
+run_to w t pages registers budget =
+    record (with_thread w t (ran registers budget)) { bytes = joined pages }
+
+-- frames with these owners and pages, whatever their uses
+abbrev pub store_of : List Owner → List (Option (List ℕ)) → Store
+store_of owners pages = record { pages = pages; owners = owners; uses = [] }
 
 -- Each entry names a frame that there is, and that isn't Free.
 abbrev pub AreMapped : Store → List (ℕ × Entry) → Type 0
-AreMapped s entries = (page : ℕ) (e : Entry) → look entries page ≡ Some e → (e.frame < length s.pages) × IsOwned s e.frame
+AreMapped s entries = (page : ℕ) (e : Entry) → look entries page ≡ Some e
+    → (e.frame < length s.pages) × IsOwned s e.frame
 
--- The frames hold w's bytes and owners, these entries are t's space in w, and t has these registers and this budget.
-pub record IsRunOf (w : World) (s : Store) (entries : List (ℕ × Entry)) (t : ℕ) (registers : Registers) (budget : ℕ) : Type 0 where
+-- The frames hold w's bytes and owners, these entries are t's space in w, and t has these registers
+-- and this budget.
+pub record IsRunOf (w : World) (s : Store) (entries : List (ℕ × Entry)) (t : ℕ)
+    (registers : Registers) (budget : ℕ) : Type 0 where
   pub bytes : w.bytes ≡ joined s.pages
   pub owners : w.owners ≡ s.owners
   pub space : thread_space w t ≡ entries
   pub thread : option_map kept (thread_at w t) ≡ Some (registers, budget)
 
--- what the end of a run says of the world that it ends in: the budget is used up, or the next instruction stops
+-- what the end of a run says of the world that it ends in: the budget is used up, or the next
+-- instruction stops
 abbrev pub Stops : World → ℕ → ℕ → Option Reason → Type 0
 Stops w t left None = left ≡ 0
 Stops w t left (Some reason) = step w t ≡ Err reason
 
 -- From w on, t went as far as its budget fell, to a world that the memory shows.
-pub record Reaches (shows : World → Type 0) (w : World) (t : ℕ) (registers : Registers) (budget left : ℕ) : Type 0 where
+pub record Reaches (shows : World → Type 0) (w : World) (t : ℕ) (registers : Registers)
+    (budget left : ℕ) : Type 0 where
   pub now : World
   pub ran : after_steps (budget - left) w t ≡ Some now
   pub runs : Runs shows now t registers left
 
 -- And it stopped there for this reason, or for none.
-pub record Goes (shows : World → Type 0) (w : World) (t : ℕ) (registers : Registers) (budget left : ℕ) (stop : Option Reason) : Type 0 where
+pub record Goes (shows : World → Type 0) (w : World) (t : ℕ) (registers : Registers)
+    (budget left : ℕ) (stop : Option Reason) : Type 0 where
   pub reaches : Reaches shows w t registers budget left
   pub stops : Stops reaches.now t left stop

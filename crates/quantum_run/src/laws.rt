@@ -1,12 +1,14 @@
 // Laws of the definitions, as contracts of functions that do nothing.
 ghost use Rattle.quantum_run.specs.Laws.{PartsChangeTheirOwn, RunsAreEmptied, RunsAreParts, StepsGoOn, StopsEndSteps};
 
-/// The parallel part of a thread changes at most its registers, its budget and the bytes of frames that are its own.
+/// The parallel part of a thread changes at most its registers, its budget and the bytes of frames
+/// that are its own.
 pub fn parts_change_their_own()
     ensures { PartsChangeTheirOwn }
 {}
 
-/// After some instructions of a thread, none of which stopped, the rest of its part goes on from there.
+/// After some instructions of a thread, none of which stopped, the rest of its part goes on from
+/// there.
 pub fn steps_go_on()
     ensures { StepsGoOn }
 {}

@@ -1,11 +1,13 @@
-//! The parallel part of one thread: it runs in place, over the frames and its space.
+//! The parallel part of one thread: it runs in place over the frames and its space, or over pages
+//! of its own with the frames lent.
 #![tactic(auto)]
 
-mod in_place;
 pub mod laws;
+mod lent;
+mod pack;
+mod pages;
 mod run;
+mod running;
 
+pub use pack::{Pack, View, run_pack};
 pub use run::run_until_stop;
-
-#[cfg(test)]
-mod tests;

@@ -6,7 +6,9 @@ use Rattle.quantum_run.proofs.run.go.Given as goal
 
 abbrev pub invariant-loop-left : goal.invariant-loop-left
 invariant-loop-left g l =
-    ((f : g.M.Memory.Fixed) (t : ℕ) (w : World) → Runs (g.M.Memory.shows l.fn.memory f t) w t l.fn.regs l.fn.budget → Reaches (g.M.Memory.shows l.memory f t) w t l.regs l.fn.budget l.left)
+    ((f : g.M.Memory.Fixed) (t : ℕ) (w : World)
+    → Runs (g.M.Memory.shows l.fn.memory f t) w t l.fn.regs l.fn.budget
+    → Reaches (g.M.Memory.shows l.memory f t) w t l.regs l.fn.budget l.left)
     × (l.left ≤ l.fn.budget)
 
 abbrev pub decreases-loop-left : goal.decreases-loop-left

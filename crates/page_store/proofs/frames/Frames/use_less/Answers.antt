@@ -1,23 +1,46 @@
 use Rattle.std.proofs.Common.{◌≡◌, ◌<◌, sym, ◌∙◌, subst, get_or, length, arith}
 use Rattle.std.proofs.lemmas.List.{get_or_read}
 use Rattle.page_store.specs.Store.{Store}
-use Rattle.page_store.proofs.Counts.{kept-fewer, kept-freed, kept-room, used-within}
+use Rattle.page_store.proofs.Counts.{free-freed, kept-fewer, kept-freed, kept-room, used-within}
 use Rattle.page_store.proofs.frames.Frames.use_less.Goals as goal
 
 pub overflow_add-self : goal.overflow_add-self
 overflow_add-self c =
-    let used : 0 < get_or c.self.inside.uses.items c.args.frame 0 = subst (λ (s : Store). 0 < get_or s.uses c.args.frame 0) (sym c.self.view_is) c.requires in
-    omega (arith, kept-room _ c.self.inside.owners.items c.self.inside.uses.items c.self.inside.free c.self.inside.lowest c.args.frame c.self.invariant used)
+    let used : 0 < get_or c.self.inside.uses.items c.args.frame 0 =
+    subst (λ (s : Store). 0 < get_or s.uses c.args.frame 0) (sym c.self.view_is) c.requires in
+    omega (
+      arith,
+      kept-room _ c.self.inside.owners.items c.self.inside.uses.items c.self.inside.free
+          c.self.inside.lowest c.args.frame c.self.invariant.0 used,
+    )
 
 pub invariant_of-self : goal.invariant_of-self
 invariant_of-self c =
-    let used : 0 < get_or c.self.inside.uses.items c.args.frame 0 = subst (λ (s : Store). 0 < get_or s.uses c.args.frame 0) (sym c.self.view_is) c.requires in
-    kept-freed _ c.self.inside.owners.items c.self.inside.uses.items c.self.inside.free c.self.inside.lowest c.args.frame c.min-self-inside.result c.self.invariant used c.min-self-inside.ensures
+    let used : 0 < get_or c.self.inside.uses.items c.args.frame 0 =
+    subst (λ (s : Store). 0 < get_or s.uses c.args.frame 0) (sym c.self.view_is) c.requires in (
+      kept-freed _ c.self.inside.owners.items c.self.inside.uses.items c.self.inside.free
+          c.self.inside.lowest c.args.frame c.min-self-inside.result c.self.invariant.0 used
+          c.min-self-inside.ensures,
+      free-freed c.self.inside.owners.items c.self.inside.high c.args.frame
+          c.self.invariant.1,
+      c.self.invariant.2,
+    )
 
 pub invariant_of-self-else-index-eq1 : goal.invariant_of-self-else-index-eq1
 invariant_of-self-else-index-eq1 c =
-    let used : 0 < get_or c.self.inside.uses.items c.args.frame 0 = subst (λ (s : Store). 0 < get_or s.uses c.args.frame 0) (sym c.self.view_is) c.requires in
-    let within : c.args.frame < length c.self.inside.uses.items = used-within c.self.inside.uses.items c.args.frame used in
-    let tested : c.index.result.now ≡ get_or c.self.inside.uses.items c.args.frame 0 = get_or_read _ c.args.frame _ within c.index.ensures 0 in
-    let written : c.index_mut-else-index-eq1.result.now ≡ get_or c.self.inside.uses.items c.args.frame 0 = get_or_read _ c.args.frame _ within c.index_mut-else-index-eq1.ensures.value 0 in
-    kept-fewer _ c.self.inside.owners.items c.self.inside.uses.items c.self.inside.free c.self.inside.lowest c.args.frame c.index_mut-else-index-eq1.result.now c.self.invariant used written (λ e. c.if-index-eq1.false (tested ∙ sym written ∙ e))
+    let used : 0 < get_or c.self.inside.uses.items c.args.frame 0 =
+    subst (λ (s : Store). 0 < get_or s.uses c.args.frame 0) (sym c.self.view_is) c.requires in
+    let within : c.args.frame < length c.self.inside.uses.items =
+    used-within c.self.inside.uses.items c.args.frame used in
+    let tested : c.index.result.now ≡ get_or c.self.inside.uses.items c.args.frame 0 =
+    get_or_read _ c.args.frame _ within c.index.ensures 0 in
+    let written : c.index_mut-else-index-eq1.result.now
+    ≡ get_or c.self.inside.uses.items c.args.frame 0 =
+    get_or_read _ c.args.frame _ within c.index_mut-else-index-eq1.ensures.value 0 in (
+      kept-fewer _ c.self.inside.owners.items c.self.inside.uses.items c.self.inside.free
+          c.self.inside.lowest c.args.frame c.index_mut-else-index-eq1.result.now
+          c.self.invariant.0 used written
+          (λ e. c.if-index-eq1.false (tested ∙ sym written ∙ e)),
+      c.self.invariant.1,
+      c.self.invariant.2,
+    )

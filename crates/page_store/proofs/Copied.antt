@@ -1,0 +1,60 @@
+-- A page copied into another frame.
+use Rattle.std.proofs.Common.{◌≡◌, ◌≢◌, ℕ, zero, suc, ◌+◌, ◌<◌, true, false, List, [], ◌∷◌, length, get_or, set, slice_get, Option, Some, None, IsSome, All, refl, sym, ap, ◌∙◌, arith}
+use Rattle.std.specs.Prelude.{position}
+use Rattle.std.proofs.lemmas.List.{length-set, length-map, get_or-set_other}
+use Rattle.std.proofs.lemmas.List.Quantifiers.{position-Some}
+use Rattle.std.proofs.lemmas.Option.{get_or_from_slice_get}
+use Rattle.std.proofs.Math.ListN.{get_or-map}
+use Rattle.std.proofs.lemmas.Bool.Decides.{nat_tests}
+use Rattle.dos_world.specs.World.{is_free}
+use Rattle.dos_world.specs.Reach.{written}
+use Rattle.dos_world.specs.declared.Owner.{Owner}
+use Rattle.dos_world.specs.declared.Owner.TheVariants.{Free}
+use Rattle.page_store.specs.Store.{IsHomeIn, IsKept, IsPageCopied, is_unused, shown, whole}
+use Rattle.page_store.proofs.Pages.{length-whole}
+use Rattle.page_store.proofs.Joined.{written-whole}
+
+set_twice : {A : Type 0} (xs : List A) (i : ℕ) (a b : A) → set (set xs i a) i b ≡ set xs i b
+set_twice [] i a b = refl
+set_twice (x ∷ xs) zero a b = refl
+set_twice (x ∷ xs) (suc i) a b = ap (λ ys. x ∷ ys) (set_twice xs i a b)
+
+-- a page is taken out, gets the bytes of another, and is put back
+pub copied-page : (pages : List (Option (List ℕ))) (from to : ℕ) (away here : Option (List ℕ))
+    (page new source : List ℕ) → from ≢ to → IsHomeIn pages from
+    → here ≡ get_or (set pages to away) from here → here ≡ Some source
+    → whole new ≡ written (whole page) 0 (whole source)
+    → IsPageCopied pages from to (set (set pages to away) to (Some new))
+copied-page pages from to away here page new source apart home read is wrote = record {
+  page = new;
+  pages_are = set_twice pages to away (Some new);
+  bytes = wrote ∙ written-whole (whole page) (whole source)
+      (length-whole source ∙ sym (length-whole page))
+      ∙ ap shown (sym is ∙ read ∙ get_or-set_other pages to from away here apart
+      ∙ get_or_from_slice_get pages from (Some home.0) here home.1
+      ∙ sym (get_or_from_slice_get pages from (Some home.0) None home.1));
+}
+
+-- a Free frame has no use
+pub unused-at : (count : ℕ) (owners : List Owner) (uses : List ℕ) (free lowest i : ℕ)
+    → IsKept count owners uses free lowest → position is_free owners ≡ Some i → get_or uses i 0 ≡ 0
+unused-at count owners uses free lowest i kept found =
+    let at = position-Some is_free owners i Free found in
+    let none : is_unused (get_or uses i 0) ≡ true = sym (get_or-map is_unused uses i 0)
+    ∙ ap (λ bs. get_or bs i true) (sym kept.agree) ∙ get_or-map is_free owners i Free ∙ at.1 in
+    grind (arith, nat_tests)
+
+-- what isn't Free isn't the lowest that is
+pub owned-apart : (owners : List Owner) (from i : ℕ) → is_free (get_or owners from Free) ≡ false
+    → position is_free owners ≡ Some i → from ≢ i
+owned-apart owners from i owned found e =
+    let at = position-Some is_free owners i Free found in
+    let free : is_free (get_or owners from Free) ≡ true = ap (λ k. is_free (get_or owners k Free)) e
+    ∙ at.1 in
+    cc
+
+-- a use for each owner
+pub uses-each : (count : ℕ) (owners : List Owner) (uses : List ℕ) (free lowest : ℕ)
+    → IsKept count owners uses free lowest → length uses ≡ length owners
+uses-each count owners uses free lowest kept =
+    sym (length-map uses is_unused) ∙ ap length (sym kept.agree) ∙ length-map owners is_free

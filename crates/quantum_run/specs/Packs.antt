@@ -1,0 +1,68 @@
+-- What a pack keeps, and what a view is. This project's own rules.
+use Rattle.std.specs.Prelude.{ℕ, ◌≡◌, ◌<◌, ◌≤◌, ◌^◌, ◌++◌, List, [], ◌∷◌, true, map, length, suc, Option, Some, None, option_map, slice_get}
+use Rattle.dos_world.specs.World.{Process, Holdings, holdings_of}
+use Rattle.dos_world.specs.declared.Entry.{Entry}
+use Rattle.dos_world.specs.Registers.{Registers, blank}
+use Rattle.page_store.specs.Store.{whole, shown}
+use Rattle.quantum_run.specs.Pages.{is_here}
+use Rattle.quantum_run.specs.Shows.{Pack, View}
+use Rattle.quantum_run.specs.declared.pack.View.{View as ViewOf}
+
+-- the bytes that a frame's page shows
+abbrev pub bytes_at : List (Option (List ℕ)) → ℕ → List ℕ
+bytes_at table frame = elim (slice_get table frame) [ None ↦ shown None | Some page ↦ shown page ]
+
+-- these frames, each with its page
+abbrev pub paired : List ℕ → List (Option (List ℕ)) → List (ℕ × List ℕ)
+paired held table = map (λ frame. (frame, bytes_at table frame)) held
+
+-- how many pages are here
+abbrev pub how_many : List (Option (List ℕ)) → ℕ
+how_many [] = 0
+how_many (None ∷ table) = how_many table
+how_many (Some page ∷ table) = suc (how_many table)
+
+-- The frames that are held are those whose page is here, each once, and there is room to hold them
+-- all.
+pub record IsPacked (held : List ℕ) (table : List (Option (List ℕ))) (capacity : ℕ) : Type 0 where
+  pub here : (i frame : ℕ) → slice_get held i ≡ Some frame → is_here table frame ≡ true
+  pub all : (frame : ℕ) → is_here table frame ≡ true → (i : ℕ) × (slice_get held i ≡ Some frame)
+  pub apart : (i j frame : ℕ) → slice_get held i ≡ Some frame → slice_get held j ≡ Some frame
+      → i ≡ j
+  pub count : length held ≡ how_many table
+  pub room_for : length table ≤ capacity
+  pub few : length table < 2 ^ 32
+
+-- no thread, and no pages
+abbrev pub empty_pack : ℕ → Pack
+empty_pack room = record {
+  thread = 0;
+  process = 0;
+  registers = blank 0;
+  budget = 0;
+  pages = [];
+  room = room;
+}
+
+abbrev pub with_thread_of : Pack → (thread process : ℕ) → Registers → ℕ → Pack
+with_thread_of p thread process registers budget =
+    record p { thread = thread; process = process; registers = registers; budget = budget }
+
+-- one page more
+abbrev pub with_page : Pack → ℕ → List ℕ → Pack
+with_page p frame page = record p { pages = p.pages ++ (frame, whole page) ∷ [] }
+
+abbrev pub HoldsNo : Pack → ℕ → Type 0
+HoldsNo p frame = (i : ℕ) (page : List ℕ) → slice_get p.pages i ≡ Some (frame, page) → ⊥
+
+-- the space of a process, where it lives
+abbrev pub space_in : Process → Option (List (ℕ × Entry))
+space_in process = option_map (λ (h : Holdings). h.space) (holdings_of process)
+
+-- what a view shows
+abbrev pub seen : ViewOf → View
+seen v = record {
+  owners = v.frames.now.owners;
+  pages = map (option_map whole) v.frames.now.pages;
+  spaces = map space_in v.table.now.processes;
+}

@@ -1,0 +1,53 @@
+-- What the memory of a thread that runs shows. This project's own rules.
+use Rattle.std.specs.Prelude.{ℕ, ◌≡◌, ◌/◌, List, Option, slice_index_or}
+use Rattle.std.proofs.Common.{◌∙◌}
+use Rattle.dos_world.specs.World.{World, Thread, with_thread, owner_of, entry_at, look}
+use Rattle.dos_world.specs.Reach.{is_foreign}
+use Rattle.dos_world.specs.declared.Access.{Access}
+use Rattle.dos_world.specs.declared.Entry.{Entry}
+use Rattle.dos_world.specs.declared.Owner.{Owner}
+use Rattle.dos_world.specs.declared.Owner.TheVariants.{Free}
+use Rattle.page_store.specs.Store.{joined}
+use Rattle.rv_exec.specs.Blind.{entry_at-with_thread}
+
+-- What stands still while a thread runs: who runs, the owners of the frames, and the entries of the
+-- space.
+pub record Still : Type 0 where
+  pub thread : ℕ
+  pub owners : List Owner
+  pub entries : List (ℕ × Entry)
+
+abbrev pub still : ℕ → List Owner → List (ℕ × Entry) → Still
+still t owners entries = record { thread = t; owners = owners; entries = entries }
+
+-- The pages hold w's bytes; t has these entries in w, and what is foreign to it there is what is
+-- foreign to the thread that runs.
+pub record Holds (fixed : Still) (pages : List (Option (List ℕ))) (t : ℕ) (w : World) : Type 0 where
+  pub bytes : w.bytes ≡ joined pages
+  pub entry : (address : ℕ) → entry_at w t address ≡ look fixed.entries (address / 4096)
+  pub foreign : (access : Access) (frame : ℕ)
+      → is_foreign t access (owner_of w frame)
+      ≡ is_foreign fixed.thread access (slice_index_or fixed.owners frame Free)
+
+-- What stands still is as it was, and so is what the pages keep; and the pages hold w for t.
+pub record ShowsBy {F : Type 0} (now : Still) (fixed_now : F) (pages : List (Option (List ℕ)))
+    (fixed : Still × F) (t : ℕ) (w : World) : Type 0 where
+  pub still : now ≡ fixed.0
+  pub fixed_is : fixed_now ≡ fixed.1
+  pub holds : Holds fixed.0 pages t w
+
+-- The registers and the budget of a thread are no part of it.
+pub blind_by : {F : Type 0} (now : Still) (fixed_now : F) (pages : List (Option (List ℕ)))
+    (fixed : Still × F) (t : ℕ) (w : World) (change : Thread → Thread)
+    → ((thread : Thread) → (change thread).process ≡ thread.process)
+    → ShowsBy now fixed_now pages fixed t w
+    → ShowsBy now fixed_now pages fixed t (with_thread w t change)
+blind_by now fixed_now pages fixed t w change same s = record {
+  still = s.still;
+  fixed_is = s.fixed_is;
+  holds = record {
+    bytes = s.holds.bytes;
+    entry = λ address. entry_at-with_thread w t change same address ∙ s.holds.entry address;
+    foreign = s.holds.foreign;
+  };
+}

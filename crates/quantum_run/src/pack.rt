@@ -1,0 +1,168 @@
+// A thread with the pages that are its own, apart from the frames.
+ghost use Rattle.std.specs.Prelude.{◌≡◌, ◌<◌, ◌≤◌, ◌++◌, ◌∷◌, [], length, map, replicate, None, IfOk, MatchOption};
+ghost use Rattle.page_store.specs.Store.{whole};
+ghost use Rattle.quantum_run.specs.Shows.{CanRun, Finished, frames_of};
+ghost use Rattle.quantum_run.specs.Packs.{HoldsNo, empty_pack, seen, with_page, with_thread_of};
+
+use crate::run::run_lent;
+use dos_world::Regs;
+use page_store::{Frames, Page};
+use proc_table::Table;
+use std::alloc::{AllocError, Global};
+use std::marker::Model;
+
+/// What is lent to each pack: the frames, and the table with the spaces.
+#[derive(Drop)]
+pub struct View<'a> {
+    /// The frames: those of threads that run are away.
+    pub frames: &'a Frames,
+    /// The processes' spaces.
+    pub table: &'a Table,
+}
+
+/// A thread's number and its process's, its registers and budget, and the pages of frames that are
+/// its own. Contracts see the record `Pack`, with the pages in the order in which they came.
+#[derive(Drop)]
+pub struct Pack {
+    tid: u32,
+    pid: u32,
+    regs: Regs,
+    left: u32,
+    // by frame
+    own: Vec<Option<Page>>,
+    held: Vec<u32>,
+}
+
+impl Model for Pack {
+    ghost use Rattle.std.specs.Prelude.{length};
+    ghost use Rattle.std.specs.Vec.{vec_capacity};
+    ghost use Rattle.quantum_run.specs.Shows.{Pack as Value_of};
+    ghost use Rattle.quantum_run.specs.Packs.{IsPacked, paired};
+
+    ghost Value = { Value_of };
+
+    ghost view = { λ k. record {
+      thread = k.tid;
+      process = k.pid;
+      registers = k.regs;
+      budget =
+          k.left;
+      pages = paired k.held.items k.own.items;
+      room = length k.own.items;
+    } };
+
+    ghost invariant = { λ k. IsPacked k.held.items k.own.items (vec_capacity k.held) };
+}
+
+impl Pack {
+    /// No pages, with room for `frames` of them. All memory of the pack is taken here.
+    pub fn reserve(alloc: Global, frames: u32) -> Result<Pack, AllocError>
+        ensures { IfOk result (λ p. p ≡ empty_pack frames) }
+    {
+        Ok(Pack {
+            tid: 0,
+            pid: 0,
+            regs: Regs::new(0),
+            left: 0,
+            own: no_pages(alloc, frames)?,
+            held: Vec::with_capacity(alloc, frames as usize)?,
+        })
+    }
+
+    /// Another thread, before its pages come.
+    pub fn fill(&mut self, tid: u32, pid: u32, regs: Regs, budget: u32)
+        requires { self.old.pages ≡ [] }
+        ensures { self.new ≡ with_thread_of self.old tid pid regs budget }
+    {
+        self.tid = tid;
+        self.pid = pid;
+        self.regs = regs;
+        self.left = budget;
+    }
+
+    /// One page more, of a frame that isn't held.
+    pub fn add_page(&mut self, frame: u32, page: Page)
+        requires room { frame < self.old.room }
+        requires other { HoldsNo self.old frame }
+        ensures { self.new ≡ with_page self.old frame page }
+    {
+        self.own[frame as usize] = Some(page);
+        match self.held.push(frame) {
+            Ok(()) => {}
+            Err(_) => unreachable!(),
+        }
+    }
+
+    /// The page that came last; None exactly where none is held.
+    pub fn take_page(&mut self) -> Option<(u32, Page)>
+        ensures { MatchOption result ((self.old.pages ≡ []) × (self.new ≡ self.old))
+            (λ r. self.old ≡ with_page self.new r.0 r.1) }
+    {
+        let frame = self.held.pop()?;
+        match self.own[frame as usize].take() {
+            Some(page) => Some((frame, page)),
+            None => unreachable!(),
+        }
+    }
+
+    /// The thread's number.
+    pub fn tid(&self) -> u32
+        ensures { result ≡ self.now.thread }
+    {
+        self.tid
+    }
+
+    /// Its registers.
+    pub fn regs(&self) -> &Regs
+        ensures { result.now ≡ self.now.registers }
+    {
+        &self.regs
+    }
+
+    /// Its budget.
+    pub fn budget(&self) -> u32
+        ensures { result ≡ self.now.budget }
+    {
+        self.left
+    }
+}
+
+fn no_pages(alloc: Global, count: u32) -> Result<Vec<Option<Page>>, AllocError>
+    ensures { IfOk result (λ pages. pages.items ≡ replicate count None) }
+{
+    let mut pages = Vec::with_capacity(alloc, count as usize)?;
+    for _place in 0..count {
+        pages.push(None)?;
+    }
+    Ok(pages)
+}
+
+/// Runs the pack's thread until its next instruction stops or its budget is 0: its whole part in
+/// the parallel phase, in each world that the pack and the view show. It takes no memory and no
+/// lock.
+pub fn run_pack(pack: &mut Pack, view: &View<'_>)
+    requires can { CanRun pack.old (seen view.now) }
+    ensures finished { Finished pack.old (seen view.now) pack.new }
+    ensures thread { pack.new.thread ≡ pack.old.thread }
+    ensures process { pack.new.process ≡ pack.old.process }
+    ensures frames { frames_of pack.new.pages ≡ frames_of pack.old.pages }
+    ensures budget { pack.new.budget ≤ pack.old.budget }
+    ensures room { pack.new.room ≡ pack.old.room }
+{
+    // that each page has an owner is known of the frames themselves
+    let _count = view.frames.count();
+    let space = view.table.space(pack.pid);
+    let mut regs = pack.regs;
+    regs.set_held(None);
+    let mut left = pack.left;
+    let _reason = run_lent(
+        &mut pack.own,
+        view.frames,
+        space,
+        pack.tid,
+        &mut regs,
+        &mut left,
+    );
+    pack.regs = regs;
+    pack.left = left;
+}

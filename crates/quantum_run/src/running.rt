@@ -1,0 +1,344 @@
+// The memory of one thread over any pages.
+ghost use Rattle.std.specs.Prelude.{◌≡◌, ◌+◌, ◌*◌, ◌%◌, ◌^◌, ◌<◌, ℕ, replicate, Ok, Err, IfSome, true, length};
+ghost use Rattle.std.specs.Option.{ok_or};
+ghost use Rattle.dos_world.specs.World.{World};
+ghost use Rattle.dos_world.specs.Reach.{bytes_of, width, written};
+ghost use Rattle.rv_exec.specs.Follows.{word_at};
+ghost use Rattle.quantum_run.specs.Showing.{Still, ShowsBy, Holds, still};
+ghost use Rattle.dos_world.specs.declared.Access.TheVariants.{Fetch, Load, Store};
+ghost use Rattle.page_store.specs.Store.{joined, number_at};
+ghost use Rattle.quantum_run.specs.Finding.{AreFramesOf, IsFrameOf, IsWriting, frame_for, place_in};
+ghost use Rattle.quantum_run.specs.Pages.{AreReached, AreOwn, AreWithin, IsHomeIn};
+
+use crate::pages::Pages;
+use dos_world::{Access, Reason, Size};
+use rv_exec::Memory;
+use space_map::Space;
+
+/// A page that an access of one kind found.
+#[derive(Clone, Copy)]
+pub struct Slot {
+    pub page: u32,
+    pub frame: u32,
+}
+
+/// Nothing was found: no page has this number.
+const EMPTY: Slot = Slot {
+    page: 0xffff_ffff,
+    frame: 0,
+};
+
+/// No slot has found anything.
+#[inline]
+fn nothing_found() -> [Slot; 64]
+    ensures { result ≡ replicate 64 (record { page = 0xFFFFFFFF; frame = 0 }) }
+{
+    [EMPTY; 64]
+}
+
+/// Which slot of 64 a page is remembered in, by its address.
+#[inline]
+fn place_of(address: u32) -> usize
+    ensures { result < 64 }
+{
+    (address / 4096 % 64) as usize
+}
+
+/// Pages and a space, as the memory of thread `tid`. The page that a fetch found last, and of loads
+/// and of stores or claims the page that was found last in each of 64 slots, are found again
+/// without a search: owners and entries stand still while the thread runs.
+///
+/// What is refused is rare. A search answers None then and leaves the reason in `refused`, so that
+/// all it gives back to the loop of instructions fits registers.
+#[derive(Drop)]
+pub struct Running<'a, P: Pages> {
+    pub pages: P,
+    pub space: &'a Space,
+    pub tid: u32,
+    pub fetched: Slot,
+    pub loaded: [Slot; 64],
+    pub stored: [Slot; 64],
+    pub refused: Reason,
+    ghost reached: { AreReached tid (P.owners pages) space.now.entries (P.pages pages) },
+    ghost own: { AreOwn tid (P.owners pages) space.now.entries (P.is_own pages) },
+    ghost within: { AreWithin (P.owners pages) space.now.entries },
+    ghost fetched_is: { IsFrameOf tid (P.owners pages) space.now.entries Fetch fetched.page fetched.frame },
+    ghost loaded_are: { AreFramesOf tid (P.owners pages) space.now.entries Load loaded },
+    ghost stored_are: { AreFramesOf tid (P.owners pages) space.now.entries Store stored },
+}
+
+impl<'a, P: Pages> Running<'a, P> {
+    /// The memory before anything is found.
+    pub fn new(pages: P, space: &'a Space, tid: u32) -> Running<'a, P>
+        requires reached { AreReached tid (P.owners pages) space.now.entries (P.pages pages) }
+        requires own { AreOwn tid (P.owners pages) space.now.entries (P.is_own pages) }
+        requires within { AreWithin (P.owners pages) space.now.entries }
+        ensures pages { result.pages ≡ pages }
+        ensures space { result.space.now ≡ space.now }
+        ensures thread { result.tid ≡ tid }
+    {
+        Running {
+            pages,
+            space,
+            tid,
+            fetched: EMPTY,
+            loaded: nothing_found(),
+            stored: nothing_found(),
+            refused: Reason::Fault(11),
+        }
+    }
+
+    /// No answer, for this reason.
+    fn refuse(&mut self, reason: Reason) -> Option<u32>
+        ensures none { ok_or result self.new.refused ≡ Err reason }
+        ensures still { still self.new.tid (P.owners self.new.pages) self.new.space.now.entries
+            ≡ still self.old.tid (P.owners self.old.pages) self.old.space.now.entries }
+        ensures fixed { P.fixed self.new.pages ≡ P.fixed self.old.pages }
+        ensures pages { P.pages self.new.pages ≡ P.pages self.old.pages }
+    {
+        self.refused = reason;
+        None
+    }
+
+    /// The frame of an address's page, by a search; None where the access is refused.
+    #[cold]
+    #[inline(never)]
+    fn find(&mut self, address: u32, access: Access) -> Option<u32>
+        ensures value { ok_or result self.new.refused
+            ≡ frame_for self.old.tid
+            (P.owners self.old.pages) self.old.space.now.entries access address }
+        ensures still { still self.new.tid (P.owners self.new.pages) self.new.space.now.entries
+            ≡ still self.old.tid (P.owners self.old.pages) self.old.space.now.entries }
+        ensures fixed { P.fixed self.new.pages ≡ P.fixed self.old.pages }
+        ensures pages { P.pages self.new.pages ≡ P.pages self.old.pages }
+    {
+        let Some(entry) = self.space.look(address / 4096) else {
+            return self.refuse(Reason::Fault(11));
+        };
+        if !entry.has_right(access) {
+            return self.refuse(Reason::Fault(11));
+        }
+        if self.pages.owner(entry.frame).is_foreign(self.tid, access) {
+            return self.refuse(Reason::Page { address, access });
+        }
+        Some(entry.frame)
+    }
+
+    /// The frame of an address's page for a load; None where it is refused.
+    #[inline]
+    fn frame_to_load(&mut self, address: u32) -> Option<u32>
+        ensures value { ok_or result self.new.refused
+            ≡ frame_for self.old.tid
+            (P.owners self.old.pages) self.old.space.now.entries Load address }
+        ensures home { IfSome result (λ frame. IsHomeIn (P.pages self.new.pages) frame) }
+        ensures still { still self.new.tid (P.owners self.new.pages) self.new.space.now.entries
+            ≡ still self.old.tid (P.owners self.old.pages) self.old.space.now.entries }
+        ensures fixed { P.fixed self.new.pages ≡ P.fixed self.old.pages }
+        ensures pages { P.pages self.new.pages ≡ P.pages self.old.pages }
+    {
+        let place = place_of(address);
+        let slot = self.loaded[place];
+        if slot.page == address / 4096 {
+            return Some(slot.frame);
+        }
+        let frame = self.find(address, Access::Load)?;
+        self.loaded[place] = Slot {
+            page: address / 4096,
+            frame,
+        };
+        Some(frame)
+    }
+
+    /// The frame of an address's page for a fetch; None where it is refused.
+    #[inline]
+    fn frame_to_fetch(&mut self, address: u32) -> Option<u32>
+        ensures value { ok_or result self.new.refused
+            ≡ frame_for self.old.tid
+            (P.owners self.old.pages) self.old.space.now.entries Fetch address }
+        ensures home { IfSome result (λ frame. IsHomeIn (P.pages self.new.pages) frame) }
+        ensures still { still self.new.tid (P.owners self.new.pages) self.new.space.now.entries
+            ≡ still self.old.tid (P.owners self.old.pages) self.old.space.now.entries }
+        ensures fixed { P.fixed self.new.pages ≡ P.fixed self.old.pages }
+        ensures pages { P.pages self.new.pages ≡ P.pages self.old.pages }
+    {
+        if self.fetched.page == address / 4096 {
+            return Some(self.fetched.frame);
+        }
+        let frame = self.find(address, Access::Fetch)?;
+        self.fetched = Slot {
+            page: address / 4096,
+            frame,
+        };
+        Some(frame)
+    }
+
+    /// The frame of an address's page for a store or claim; None where it is refused.
+    #[inline]
+    fn frame_to_write(&mut self, address: u32, access: Access) -> Option<u32>
+        requires { IsWriting access }
+        ensures value { ok_or result self.new.refused
+            ≡ frame_for self.old.tid
+            (P.owners self.old.pages) self.old.space.now.entries access address }
+        ensures home { IfSome result (λ frame. IsHomeIn (P.pages self.new.pages) frame) }
+        ensures own { IfSome result (λ frame. P.is_own self.new.pages frame ≡ true) }
+        ensures still { still self.new.tid (P.owners self.new.pages) self.new.space.now.entries
+            ≡ still self.old.tid (P.owners self.old.pages) self.old.space.now.entries }
+        ensures fixed { P.fixed self.new.pages ≡ P.fixed self.old.pages }
+        ensures pages { P.pages self.new.pages ≡ P.pages self.old.pages }
+    {
+        let place = place_of(address);
+        let slot = self.stored[place];
+        if slot.page == address / 4096 {
+            return Some(slot.frame);
+        }
+        let frame = self.find(address, access)?;
+        self.stored[place] = Slot {
+            page: address / 4096,
+            frame,
+        };
+        Some(frame)
+    }
+
+    /// The word at an address in the page that was fetched from last, where both halfwords lie
+    /// there and make a word.
+    #[inline]
+    fn word_found(&self, address: u32) -> Option<u32>
+        ensures { IfSome result (λ word. (f : Still) (t : ℕ) (w : World)
+            → (still self.now.tid (P.owners self.now.pages) self.now.space.now.entries ≡ f)
+            → Holds f (P.pages self.now.pages) t w → word_at w t address ≡ Ok word) }
+    {
+        if address % 4 == 0 {
+            if self.fetched.page == address / 4096 {
+                let word = self.read(self.fetched.frame, address, Size::Word);
+                if word % 4 == 3 {
+                    return Some(word);
+                }
+            }
+        }
+        None
+    }
+
+    /// The number at an aligned address whose page is this frame's.
+    #[inline]
+    fn read(&self, frame: u32, address: u32, size: Size) -> u32
+        requires home { IsHomeIn (P.pages self.now.pages) frame }
+        requires aligned { address % width size ≡ 0 }
+        ensures value { result ≡ number_at (joined (P.pages self.now.pages))
+            (place_in frame address) size }
+        ensures range { result < 256 ^ width size }
+    {
+        self.pages.page(frame).read(address % 4096, size)
+    }
+
+    /// Writes the low bytes of a number at an aligned address whose page is this frame's.
+    #[inline]
+    fn write(&mut self, frame: u32, address: u32, size: Size, value: u32)
+        requires own { P.is_own self.old.pages frame ≡ true }
+        requires aligned { address % width size ≡ 0 }
+        ensures bytes { joined (P.pages self.new.pages) ≡ written (joined (P.pages self.old.pages))
+            (place_in frame address) (bytes_of (width size) value) }
+        ensures still { still self.new.tid (P.owners self.new.pages) self.new.space.now.entries
+            ≡ still self.old.tid (P.owners self.old.pages) self.old.space.now.entries }
+        ensures fixed { P.fixed self.new.pages ≡ P.fixed self.old.pages }
+    {
+        self.pages.write(frame, address % 4096, size, value);
+    }
+
+    /// The word of an instruction by its two halfwords, one after another; None where a fetch is
+    /// refused.
+    #[cold]
+    #[inline(never)]
+    fn fetch_halves(&mut self, address: u32) -> Option<u32>
+        ensures { (f : Still × P.Fixed) (t : ℕ) (w : World)
+            → ShowsBy (still self.old.tid (P.owners self.old.pages) self.old.space.now.entries)
+            (P.fixed self.old.pages) (P.pages self.old.pages) f t w
+            → (ShowsBy (still self.new.tid (P.owners self.new.pages) self.new.space.now.entries)
+            (P.fixed self.new.pages) (P.pages self.new.pages) f t w)
+            × (ok_or result self.new.refused ≡ word_at w t address) }
+    {
+        match self.fetch_half(address) {
+            Err(reason) => self.refuse(reason),
+            Ok(low) => {
+                if low % 4 != 3 {
+                    return Some(u32::from(low));
+                }
+                match self.fetch_half(address.wrapping_add(2)) {
+                    Err(reason) => self.refuse(reason),
+                    Ok(high) => Some(u32::from(low) + 65536 * u32::from(high)),
+                }
+            }
+        }
+    }
+}
+
+impl<'a, P: Pages> Memory for Running<'a, P> {
+    ghost use Rattle.quantum_run.specs.Showing.{Still, ShowsBy, still, blind_by};
+
+    ghost Fixed = { Still × P.Fixed };
+
+    ghost shows = { λ m. ShowsBy (still m.tid (P.owners m.pages) m.space.now.entries)
+        (P.fixed m.pages) (P.pages m.pages) };
+
+    ghost blind = { λ m. blind_by (still m.tid (P.owners m.pages) m.space.now.entries)
+        (P.fixed m.pages) (P.pages m.pages) };
+
+    #[inline]
+    fn fetch_half(&mut self, address: u32) -> Result<u16, Reason> {
+        if !Size::Half.is_aligned(address) {
+            return Err(Reason::Fault(7));
+        }
+        match self.frame_to_fetch(address) {
+            Some(frame) => Ok(self.read(frame, address, Size::Half) as u16),
+            None => Err(self.refused),
+        }
+    }
+
+    // The Ok is made in one place, so that the word stays in one register.
+    #[inline]
+    fn fetch_word(&mut self, address: u32) -> Result<u32, Reason> {
+        let word = match self.word_found(address) {
+            Some(word) => word,
+            None => match self.fetch_halves(address) {
+                Some(word) => word,
+                None => return Err(self.refused),
+            },
+        };
+        Ok(word)
+    }
+
+    #[inline]
+    fn load(&mut self, address: u32, size: Size) -> Result<u32, Reason> {
+        if !size.is_aligned(address) {
+            return Err(Reason::Fault(7));
+        }
+        match self.frame_to_load(address) {
+            Some(frame) => Ok(self.read(frame, address, size)),
+            None => Err(self.refused),
+        }
+    }
+
+    #[inline]
+    fn store(&mut self, address: u32, size: Size, value: u32) -> Result<(), Reason> {
+        if !size.is_aligned(address) {
+            return Err(Reason::Fault(7));
+        }
+        match self.frame_to_write(address, Access::Store) {
+            Some(frame) => {
+                self.write(frame, address, size, value);
+                Ok(())
+            }
+            None => Err(self.refused),
+        }
+    }
+
+    #[inline]
+    fn claim(&mut self, address: u32) -> Result<u32, Reason> {
+        if !Size::Word.is_aligned(address) {
+            return Err(Reason::Fault(7));
+        }
+        match self.frame_to_write(address, Access::Claim) {
+            Some(frame) => Ok(self.read(frame, address, Size::Word)),
+            None => Err(self.refused),
+        }
+    }
+}
