@@ -3,4 +3,8 @@ pub mod Copying
 pub mod Keeping
 pub mod Dropping
 pub mod Mapping
-pub mod SmallLaws
+pub mod Copies
+pub mod Loops
+pub mod Children
+pub mod Runs
+pub mod MapRun

@@ -1,3 +1,4 @@
 pub mod Seen
 pub mod Memory
-pub mod Small
+pub mod Forking
+pub mod Ranges

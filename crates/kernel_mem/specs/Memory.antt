@@ -1,5 +1,5 @@
 -- What a call does to frames when a process's space is dropped. This project's own rules.
-use Rattle.std.specs.Prelude.{◌≡◌, ◌-◌, ◌≤◌, ◌==◌, ◌&&◌, nat_lt, ℕ, List, length, count_by, if◌then◌else◌}
+use Rattle.std.specs.Prelude.{◌≡◌, ◌+◌, ◌-◌, ◌≤◌, ◌==◌, ◌&&◌, nat_lt, ℕ, List, length, count_by, if◌then◌else◌}
 use Rattle.dos_world.specs.declared.Entry.{Entry}
 use Rattle.dos_world.specs.declared.Owner.{Owner}
 use Rattle.dos_world.specs.declared.Owner.TheVariants.{Free}
@@ -15,11 +15,19 @@ AreUsed space s = (frame : ℕ) → entries_of space frame ≤ uses_at s frame
 
 -- the owner of a frame whose last use was one of these entries is nobody
 abbrev pub owner_without : List (ℕ × Entry) → Store → ℕ → Owner
-owner_without space s frame = if nat_lt 0 (entries_of space frame) && (uses_at s frame == entries_of space frame) then Free else owner_at s frame
+owner_without space s frame = if nat_lt 0 (entries_of space frame)
+    && (uses_at s frame == entries_of space frame) then Free else owner_at s frame
 
--- Each entry of a space is a use less, and a frame is Free where none is left. No page and no other owner changed.
+-- Each entry of a space is a use less, and a frame is Free where none is left. No page and no other
+-- owner changed.
 pub record IsDropped (space : List (ℕ × Entry)) (old new : Store) : Type 0 where
   pub pages : new.pages ≡ old.pages
   pub count : length new.owners ≡ length old.owners
   pub uses : (frame : ℕ) → uses_at new frame ≡ uses_at old frame - entries_of space frame
   pub owners : (frame : ℕ) → owner_at new frame ≡ owner_without space old frame
+
+-- As many uses came to each frame as entries of this space, and as many went.
+abbrev pub HasUsesOf : List (ℕ × Entry) → Store → List (ℕ × Entry) → Store → Type 0
+HasUsesOf before old after new =
+    (frame : ℕ) → uses_at new frame + entries_of before frame
+    ≡ uses_at old frame + entries_of after frame

@@ -10,7 +10,13 @@ use Rattle.proc_table.specs.Tables.{Tables, thread_in, held_in, IsThread, IsProc
 
 -- the world with the bytes and owners of these frames, and the processes and threads of this table
 abbrev pub in_world : World → Store → Tables → World
-in_world w s table = record w { bytes = joined s.pages; owners = s.owners; processes = table.processes; threads = table.threads }
+in_world w s table = record w {
+  bytes = joined s.pages;
+  owners = s.owners;
+  processes =
+      table.processes;
+  threads = table.threads;
+}
 
 -- ---- looking up
 
@@ -20,7 +26,11 @@ space_in table p = elim (held_in table.processes p) [ None ↦ [] | Some h ↦ h
 
 -- t's entry of the page that an address lies in
 abbrev pub entry_in : Tables → ℕ → ℕ → Option Entry
-entry_in table t address = elim (thread_in table.threads t) [ None ↦ None | Some thread ↦ look (space_in table thread.process) (address / 4096) ]
+entry_in table t address =
+    elim (thread_in table.threads t) [
+      | None ↦ None
+      | Some thread ↦ look (space_in table thread.process) (address / 4096)
+    ]
 
 -- whether there is an entry, and it has the right that an access needs
 abbrev pub is_allowed : Access → Option Entry → Bool
@@ -31,18 +41,21 @@ is_allowed access (Some e) = has_right access e
 
 -- the frames with one granted to t, where it is foreign
 abbrev pub with_open : Store → ℕ → ℕ → Access → Store
-with_open s frame t access = if is_foreign t access (owner_at s frame) then with_grant s frame t access else s
+with_open s frame t access =
+    if is_foreign t access (owner_at s frame) then with_grant s frame t access else s
 
 -- ---- what calls rely on
 
 -- the thread lives, and so does its process
 pub record IsCaller (table : Tables) (t : ℕ) : Type 0 where
   pub thread : IsThread table.threads t
-  pub process : IfSome (thread_in table.threads t) (λ thread. IsProcess table.processes thread.process)
+  pub process : IfSome (thread_in table.threads t)
+      (λ thread. IsProcess table.processes thread.process)
 
 -- what t's entries name isn't Free
 abbrev pub AreMapped : Tables → Store → ℕ → Type 0
-AreMapped table s t = (address : ℕ) (e : Entry) → entry_in table t address ≡ Some e → is_free (slice_index_or s.owners e.frame Free) ≡ false
+AreMapped table s t = (address : ℕ) (e : Entry) → entry_in table t address ≡ Some e
+    → is_free (slice_index_or s.owners e.frame Free) ≡ false
 
 -- all pages are home, each with an owner
 pub record IsHome (s : Store) : Type 0 where
@@ -54,13 +67,18 @@ pub record KeepsUses (old new : Store) : Type 0 where
   pub pages : new.pages ≡ old.pages
   pub uses : new.uses ≡ old.uses
   pub count : length new.owners ≡ length old.owners
-  pub used : (frame : ℕ) → is_free (slice_index_or new.owners frame Free) ≡ is_free (slice_index_or old.owners frame Free)
-  pub owned : (frame t : ℕ) → slice_index_or new.owners frame Free ≡ Of t → slice_index_or old.owners frame Free ≡ Of t
+  pub used : (frame : ℕ) → is_free (slice_index_or new.owners frame Free)
+      ≡ is_free (slice_index_or old.owners frame Free)
+  pub owned : (frame t : ℕ) → slice_index_or new.owners frame Free ≡ Of t
+      → slice_index_or old.owners frame Free ≡ Of t
 
--- What stays where t writes: all pages are home, no use came or went, and no frame became Free or another thread's than t's.
+-- What stays where t writes: all pages are home, no use came or went, and no frame became Free or
+-- another thread's than t's.
 pub record KeepsOthers (t : ℕ) (old new : Store) : Type 0 where
   pub home : IsHome new
   pub uses : new.uses ≡ old.uses
   pub count : length new.owners ≡ length old.owners
-  pub used : (frame : ℕ) → is_free (slice_index_or new.owners frame Free) ≡ is_free (slice_index_or old.owners frame Free)
-  pub owned : (frame other : ℕ) → slice_index_or new.owners frame Free ≡ Of other → (other ≡ t) ⊎ (slice_index_or old.owners frame Free ≡ Of other)
+  pub used : (frame : ℕ) → is_free (slice_index_or new.owners frame Free)
+      ≡ is_free (slice_index_or old.owners frame Free)
+  pub owned : (frame other : ℕ) → slice_index_or new.owners frame Free ≡ Of other
+      → (other ≡ t) ⊎ (slice_index_or old.owners frame Free ≡ Of other)

@@ -5,15 +5,19 @@ ghost use Rattle.dos_world.specs.Kernel.{all_reach, copied_in, copied_out};
 ghost use Rattle.kernel_mem.specs.Seen.{in_world, entry_in, is_allowed, with_open, IsCaller, IsHome, AreMapped, KeepsUses, KeepsOthers};
 ghost use Rattle.page_store.specs.Store.{Store as Held};
 
+use dos_world::errors::EFAULT;
 use dos_world::{Access, Entry};
 use page_store::Frames;
 use proc_table::Table;
 
-/// Whether `tid` may read each of `length` bytes from `address` on, or with `write` may write each. `Err(14)` exactly
-/// where one of them isn't mapped, or for `write` its page has no W. Addresses don't wrap at 2^32.
+/// Whether `tid` may read each of `length` bytes from `address` on, or with `write` may write each.
+/// `Err(14)` exactly where one of them isn't mapped, or for `write` its page has no W. Addresses
+/// don't wrap at 2^32.
 pub fn check(table: &Table, tid: u32, address: u32, length: u32, write: bool) -> Result<(), u8>
     requires caller { IsCaller table.now tid }
-    ensures reach { (w : World) (s : Held) → is_ok result ≡ all_reach (in_world w s table.now) tid address length (if write then Access.Store else Access.Load) }
+    ensures reach { (w : World) (s : Held)
+        → is_ok result ≡ all_reach (in_world w s table.now) tid address length
+        (if write then Access.Store else Access.Load) }
     ensures refusal { OnErr result (result ≡ Err 14) }
 {
     let access = access_for(write);
@@ -22,21 +26,26 @@ pub fn check(table: &Table, tid: u32, address: u32, length: u32, write: bool) ->
     'pages: while next < end {
         let part = (4096 - next % 4096).min(end - next) as u32;
         if !is_stretch_reached(table, tid, next, part, access) {
-            return Err(14);
+            return Err(EFAULT);
         }
         next += part as u64;
     }
     Ok(())
 }
 
-/// The bytes from `address` on, into `buffer`. Each page of them that is foreign to `tid` is granted for a load.
+/// The bytes from `address` on, into `buffer`. Each page of them that is foreign to `tid` is
+/// granted for a load.
 pub fn copy_in(frames: &mut Frames, table: &Table, tid: u32, address: u32, buffer: &mut [u8])
     requires caller { IsCaller table.now tid }
     requires few { length buffer.old ≤ 4096 }
     requires home { IsHome frames.old }
     requires mapped { AreMapped table.now frames.old tid }
-    requires checked { (w : World) → all_reach (in_world w frames.old table.now) tid address (length buffer.old) Access.Load ≡ true }
-    ensures copies { (w : World) → copied_in (in_world w frames.old table.now) tid address (length buffer.old) ≡ (in_world w frames.new table.now, buffer.new) }
+    requires checked { (w : World)
+        → all_reach (in_world w frames.old table.now) tid address
+        (length buffer.old) Access.Load ≡ true }
+    ensures copies { (w : World)
+        → copied_in (in_world w frames.old table.now) tid address (length buffer.old)
+        ≡ (in_world w frames.new table.now, buffer.new) }
     ensures stays { KeepsUses frames.old frames.new }
 {
     let first = (4096 - address as usize % 4096).min(buffer.len());
@@ -46,14 +55,19 @@ pub fn copy_in(frames: &mut Frames, table: &Table, tid: u32, address: u32, buffe
     read_stretch(frames, table, tid, start + first as u64, back);
 }
 
-/// Writes the bytes from `address` on. Each page of them that is foreign to `tid` is granted for a store.
+/// Writes the bytes from `address` on. Each page of them that is foreign to `tid` is granted for a
+/// store.
 pub fn copy_out(frames: &mut Frames, table: &Table, tid: u32, address: u32, bytes: &[u8])
     requires caller { IsCaller table.now tid }
     requires few { length bytes.now ≤ 4096 }
     requires home { IsHome frames.old }
     requires mapped { AreMapped table.now frames.old tid }
-    requires checked { (w : World) → all_reach (in_world w frames.old table.now) tid address (length bytes.now) Access.Store ≡ true }
-    ensures copies { (w : World) → copied_out (in_world w frames.old table.now) tid address bytes.now ≡ in_world w frames.new table.now }
+    requires checked { (w : World)
+        → all_reach (in_world w frames.old table.now) tid address
+        (length bytes.now) Access.Store ≡ true }
+    ensures copies { (w : World)
+        → copied_out (in_world w frames.old table.now) tid address bytes.now
+        ≡ in_world w frames.new table.now }
     ensures stays { KeepsOthers tid frames.old frames.new }
 {
     let first = (4096 - address as usize % 4096).min(bytes.len());
@@ -75,7 +89,8 @@ fn is_stretch_reached(table: &Table, tid: u32, address: u64, length: u32, access
     requires address { address < 2 ^ 33 }
     requires within { address % 4096 + length ≤ 4096 }
     requires some { 0 < length }
-    ensures { (w : World) (s : Held) → result ≡ all_reach (in_world w s table.now) tid address length access }
+    ensures { (w : World) (s : Held)
+        → result ≡ all_reach (in_world w s table.now) tid address length access }
 {
     match entry_of(table, tid, address) {
         Some(entry) => entry.has_right(access),
@@ -90,8 +105,12 @@ fn read_stretch(frames: &mut Frames, table: &Table, tid: u32, address: u64, part
     requires within { address % 4096 + length part.old ≤ 4096 }
     requires home { IsHome frames.old }
     requires mapped { AreMapped table.now frames.old tid }
-    requires checked { (w : World) → all_reach (in_world w frames.old table.now) tid address (length part.old) Access.Load ≡ true }
-    ensures copies { (w : World) → copied_in (in_world w frames.old table.now) tid address (length part.old) ≡ (in_world w frames.new table.now, part.new) }
+    requires checked { (w : World)
+        → all_reach (in_world w frames.old table.now) tid address (length part.old) Access.Load
+        ≡ true }
+    ensures copies { (w : World)
+        → copied_in (in_world w frames.old table.now) tid address (length part.old)
+        ≡ (in_world w frames.new table.now, part.new) }
     ensures stays { KeepsUses frames.old frames.new }
 {
     if part.is_empty() {
@@ -109,8 +128,12 @@ fn write_stretch(frames: &mut Frames, table: &Table, tid: u32, address: u64, par
     requires within { address % 4096 + length part.now ≤ 4096 }
     requires home { IsHome frames.old }
     requires mapped { AreMapped table.now frames.old tid }
-    requires checked { (w : World) → all_reach (in_world w frames.old table.now) tid address (length part.now) Access.Store ≡ true }
-    ensures copies { (w : World) → copied_out (in_world w frames.old table.now) tid address part.now ≡ in_world w frames.new table.now }
+    requires checked { (w : World)
+        → all_reach (in_world w frames.old table.now) tid address (length part.now) Access.Store
+        ≡ true }
+    ensures copies { (w : World)
+        → copied_out (in_world w frames.old table.now) tid address part.now
+        ≡ in_world w frames.new table.now }
     ensures stays { KeepsOthers tid frames.old frames.new }
 {
     if part.is_empty() {

@@ -9,7 +9,8 @@ use page_store::Frames;
 use proc_table::Table;
 use space_map::Space;
 
-/// Unmaps all pages of a live process: each of its entries is one use less of its frame, and a frame without uses is Free.
+/// Unmaps all pages of a live process: each of its entries is one use less of its frame, and a
+/// frame without uses is Free.
 pub fn drop_space(frames: &mut Frames, table: &mut Table, pid: u32)
     requires live { IsProcess table.old.processes pid }
     requires used { AreUsed (space_in table.old pid) frames.old }

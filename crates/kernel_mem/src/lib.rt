@@ -1,16 +1,18 @@
-//! What services do to the memory of processes: the one place where the table's entries meet the frames.
+//! What services do to the memory of processes: the one place where the table's entries meet the
+//! frames.
 //!
-//! Each call is stated over every world that frames and a table are set into (`specs/Seen`), by the flat world's
-//! own definitions.
+//! Each call is stated over every world that frames and a table are set into (`specs/Seen`), by the
+//! flat world's own definitions.
 #![tactic(auto)]
 
 mod copy;
 mod drop;
+mod forking;
 mod map;
+mod ranges;
 
 pub use copy::{check, copy_in, copy_out};
 pub use drop::drop_space;
-pub use map::map_page;
-
-#[cfg(test)]
-mod tests;
+pub use forking::fork;
+pub use map::{map_page, map_pages};
+pub use ranges::share;

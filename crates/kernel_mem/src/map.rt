@@ -1,18 +1,24 @@
 // Fresh pages.
-ghost use Rattle.std.specs.Prelude.{◌≡◌, ◌≢◌, ◌<◌, ◌≤◌, None, Some, length, position};
+ghost use Rattle.std.specs.Prelude.{◌≡◌, ◌≢◌, ◌<◌, ◌≤◌, ◌+◌, ◌/◌, ◌^◌, ℕ, false, None, Some, IfSome, OnErr, length, position};
+ghost use Rattle.dos_world.specs.Numbered.{run_of};
 ghost use Rattle.dos_world.specs.World.{World, is_free, look};
 ghost use Rattle.dos_world.specs.Kernel.{with_entry};
 ghost use Rattle.dos_world.specs.Services.{page_mapped};
-ghost use Rattle.dos_world.specs.MemoryCalls.{private_entry};
-ghost use Rattle.page_store.specs.Store.{with_owned};
-ghost use Rattle.proc_table.specs.Tables.{IsProcess, held_by};
-ghost use Rattle.kernel_mem.specs.Seen.{space_in, in_world, IsHome};
+ghost use Rattle.dos_world.specs.MemoryCalls.{mapped, mapped_fresh, private_entry};
+ghost use Rattle.page_store.specs.Store.{IsUnused, free_count, uses_at, with_owned};
+ghost use Rattle.proc_table.specs.Tables.{IsProcess, held_by, thread_in};
+ghost use Rattle.kernel_mem.specs.Seen.{space_in, in_world, IsCaller, IsHome};
+ghost use Rattle.kernel_mem.specs.Memory.{HasUsesOf};
+ghost use Rattle.kernel_mem.specs.Ranges.{maps_any, range_call, result_in};
 
+use crate::ranges::{any_mapped, is_range};
 use dos_world::Entry;
+use dos_world::errors::{EINVAL, ENOMEM};
 use page_store::Frames;
 use proc_table::Table;
 
-/// Maps one private page of zeros with these rights (1 is X, 2 is W, 4 is R) for a live process, in the lowest Free frame, which becomes `tid`'s. Answers the frame.
+/// Maps one private page of zeros with these rights (1 is X, 2 is W, 4 is R) for a live process, in
+/// the lowest Free frame, which becomes `tid`'s. Answers the frame.
 pub fn map_page(
     frames: &mut Frames,
     table: &mut Table,
@@ -28,9 +34,13 @@ pub fn map_page(
     requires free { position is_free frames.old.owners ≢ None }
     ensures frame { position is_free frames.old.owners ≡ Some result }
     ensures frames { frames.new ≡ with_owned frames.old result tid }
-    ensures table { table.new ≡ held_by (with_entry page (private_entry result rights)) table.old pid }
-    ensures maps { (w : World) → in_world w frames.new table.new ≡ page_mapped tid pid rights (in_world w frames.old table.old) page }
+    ensures table { table.new
+        ≡ held_by (with_entry page (private_entry result rights)) table.old pid }
+    ensures maps { (w : World)
+        → in_world w frames.new table.new
+        ≡ page_mapped tid pid rights (in_world w frames.old table.old) page }
     ensures home { IsHome frames.new }
+    ensures unused { IsUnused frames.old result }
 {
     match frames.fresh(tid) {
         Some(frame) => {
@@ -38,6 +48,85 @@ pub fn map_page(
             frame
         }
         None => unreachable!(),
+    }
+}
+
+/// Maps `pages` private pages of zeros from `address` on for `tid`'s process, with these rights (1
+/// is X, 2 is W, 4 is R), in the lowest Free frames, which become `tid`'s. `Err(22)` exactly where
+/// they are no range, the rights are over 7 or one of them is mapped, and else `Err(12)` exactly
+/// where too few frames are Free; nothing changes then.
+pub fn map_pages(
+    frames: &mut Frames,
+    table: &mut Table,
+    tid: u32,
+    address: u32,
+    pages: u32,
+    rights: u32,
+) -> Result<(), u8>
+    requires caller { IsCaller table.old tid }
+    requires home { IsHome frames.old }
+    requires room { IfSome (thread_in table.old.threads tid)
+        (λ thread.
+        length
+        (space_in table.old thread.process) + free_count frames.old ≤ table.old.room) }
+    ensures maps { IfSome (thread_in table.old.threads tid) (λ thread. (w : World)
+        → mapped (range_call
+        (in_world w frames.old table.old) tid thread.process address pages rights)
+        ≡ result_in result (in_world w frames.new table.new)) }
+    ensures uses { IfSome (thread_in table.old.threads tid)
+        (λ thread. HasUsesOf (space_in table.old thread.process) frames.old
+        (space_in table.new thread.process) frames.new) }
+    ensures stays { OnErr result ((frames.new ≡ frames.old) × (table.new ≡ table.old)) }
+    ensures home { IsHome frames.new }
+    ensures room { table.new.room ≡ table.old.room }
+    ensures count { length frames.new.owners ≡ length frames.old.owners }
+{
+    if !is_range(address, pages) {
+        return Err(EINVAL);
+    }
+    if rights > 7 {
+        return Err(EINVAL);
+    }
+    let pid = table.process_of(tid);
+    if any_mapped(table.space(pid), address / 4096, pages) {
+        return Err(EINVAL);
+    }
+    if frames.free_count() < pages {
+        return Err(ENOMEM);
+    }
+    map_run(frames, table, tid, pid, address / 4096, pages, rights);
+    Ok(())
+}
+
+// So many pages from this one on, none of which is mapped.
+fn map_run(
+    frames: &mut Frames,
+    table: &mut Table,
+    tid: u32,
+    pid: u32,
+    page: u32,
+    count: u32,
+    rights: u32,
+)
+    requires home { IsHome frames.old }
+    requires live { IsProcess table.old.processes pid }
+    requires unmapped { maps_any (space_in table.old pid) page count ≡ false }
+    requires room { length (space_in table.old pid) + count ≤ table.old.room }
+    requires free { count ≤ free_count frames.old }
+    requires fits { page + count < 2 ^ 32 }
+    ensures maps { (w : World) (address pages : ℕ)
+        → mapped_fresh
+        (range_call (in_world w frames.old table.old) tid pid address pages rights)
+        (in_world w frames.old table.old) (run_of page count)
+        ≡ in_world w frames.new table.new }
+    ensures uses { HasUsesOf (space_in table.old pid) frames.old
+        (space_in table.new pid) frames.new }
+    ensures home { IsHome frames.new }
+    ensures room { table.new.room ≡ table.old.room }
+    ensures count { length frames.new.owners ≡ length frames.old.owners }
+{
+    for index in 0..count {
+        map_page(frames, table, tid, pid, page + index, rights);
     }
 }
 

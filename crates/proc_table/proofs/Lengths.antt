@@ -3,12 +3,14 @@ use Rattle.std.proofs.Common.{◌≡◌, ℕ, zero, suc, List, [], ◌∷◌, ma
 use Rattle.std.proofs.lemmas.List.{length-map}
 use Rattle.dos_world.specs.Numbered.{changed, changed_at}
 
-changed_at_length : {A : Type 0} (f : A → A) (xs : List A) (i : ℕ) → length (changed_at f xs i) ≡ length xs
+changed_at_length : {A : Type 0} (f : A → A) (xs : List A) (i : ℕ)
+    → length (changed_at f xs i) ≡ length xs
 changed_at_length f [] i = refl
 changed_at_length f (x ∷ xs) zero = refl
 changed_at_length f (x ∷ xs) (suc i) = ap (λ n. suc n) (changed_at_length f xs i)
 
-pub changed_length : {A : Type 0} (f : A → A) (xs : List A) (t : ℕ) → length (changed f xs t) ≡ length xs
+pub changed_length : {A : Type 0} (f : A → A) (xs : List A) (t : ℕ)
+    → length (changed f xs t) ≡ length xs
 changed_length f xs zero = refl
 changed_length f xs (suc i) = changed_at_length f xs i
 

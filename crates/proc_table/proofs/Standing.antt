@@ -1,40 +1,43 @@
 -- What a table's records and places stand for, and what a change there does to it.
-use Rattle.std.proofs.Common.{◌≡◌, ◌≢◌, ℕ, zero, suc, ◌+◌, ◌-◌, ◌<◌, ◌≤◌, Bool, false, cond, List, [], ◌∷◌, ◌++◌, map, length, get_or, set, slice_get, replicate, count_by, Option, Some, None, option_map, option_and_then, IsSome, refl, sym, ap, ◌∙◌, subst, arith, length-set, length-append, get_or-set_other, get_or-set_same}
+use Rattle.std.proofs.Common.{◌≡◌, ◌≢◌, ℕ, zero, suc, ◌+◌, ◌-◌, ◌<◌, ◌≤◌, Bool, true, false, cond, List, [], ◌∷◌, ◌++◌, map, length, get_or, set, slice_get, replicate, count_by, Option, Some, None, option_map, option_and_then, IsSome, refl, sym, ap, ◌∙◌, subst, arith, length-set, length-append, get_or-set_other, get_or-set_same}
 use Rattle.std.specs.Prelude.{is_some, is_none, nat_le, position, All, slice_index_or}
 use Rattle.std.proofs.lemmas.List.{get_or_read, length-map}
 use Rattle.std.proofs.lemmas.List.Elements.{All-set, All-get_or, All-replicate}
 use Rattle.std.proofs.lemmas.List.Sums.{sum_by-set, sum_by-append}
 use Rattle.std.proofs.lemmas.Option.{slice_get_within, get_or_from_slice_get}
 use Rattle.std.proofs.lemmas.Bool.Decides.{nat_tests}
-use Rattle.dos_world.specs.Numbered.{numbered, changed}
+use Rattle.dos_world.specs.Numbered.{numbered, changed, changed_at}
 use Rattle.dos_world.specs.World.{Holdings, all_holdings, on_holdings}
 use Rattle.dos_world.specs.Kernel.{orphaned, ended_by}
-use Rattle.dos_world.specs.declared.End.{End}
+use Rattle.dos_world.specs.ProcessCalls.{collected_by}
 use Rattle.dos_world.specs.declared.Entry.{Entry}
 use Rattle.space_map.specs.Mapping.{Mapping, empty}
-use Rattle.proc_table.specs.Tables.{held_in, IsProcess, new_process}
-use Rattle.proc_table.specs.Places.{Group, group, holdings_in, process_by, shown, place_of, place_in, is_placed, orphan_record, IsHeld, AreHeld, ArePlaced}
+use Rattle.proc_table.specs.Tables.{held_as, held_in, IsProcess, new_process}
+use Rattle.proc_table.specs.Places.{Group, group, first_belongings, holdings_by, holdings_in, no_belongings, process_by, shown, place_of, place_in, is_placed, orphan_record, status_or_0, IsHeld, AreHeld, ArePlaced}
 use Rattle.proc_table.specs.declared.record.Record.{Record}
+use Rattle.proc_table.specs.declared.record.Belongings.{Belongings}
 use Rattle.proc_table.specs.declared.record.Kept.TheVariants.{Live, Ended}
-use Rattle.proc_table.proofs.Places.{given_read, shown_length, held_shown, held_at, changed_process, holdings_count, orphans_count, ended_held, orphans_held, held_pushed, all_kept, none_free, free_place, get_within, get_placed, get-set_same, shown_ended, shown_added}
+use Rattle.proc_table.proofs.Places.{collected_shown, marked_held, given_read, shown_length, held_shown, held_at, changed_process, holdings_count, orphans_count, ended_held, orphans_held, held_pushed, all_kept, none_free, free_place, get_within, get_placed, get-set_same, shown_ended, shown_added}
 
 abbrev pub spaced_by : (List (ℕ × Entry) → List (ℕ × Entry)) → Holdings → Holdings
 spaced_by f h = record h { space = f h.space }
 
-abbrev pub ends_by : (List (Option End) → List (Option End)) → Holdings → Holdings
-ends_by f h = record h { descriptors = f h.descriptors }
-
 abbrev counted : Bool → ℕ
 counted b = cond b 1 0
 
-pub count_set : {A : Type 0} (test : A → Bool) (xs : List A) (i : ℕ) (y d : A) → i < length xs → count_by test (set xs i y) + counted (test (get_or xs i d)) ≡ count_by test xs + counted (test y)
+pub count_set : {A : Type 0} (test : A → Bool) (xs : List A) (i : ℕ) (y d : A) → i < length xs
+    → count_by test (set xs i y) + counted (test (get_or xs i d))
+    ≡ count_by test xs + counted (test y)
 count_set test xs i y d h = sum_by-set (λ x. counted (test x)) xs i y d h
 
 -- a place as a function that is lent the records finds it
-pub found_in : (rs R : List Record) (p : ℕ) {o : Option ℕ} → rs ≡ R → place_in rs p ≡ o → place_in R p ≡ o
+pub found_in : (rs R : List Record) (p : ℕ) {o : Option ℕ} → rs ≡ R → place_in rs p ≡ o
+    → place_in R p ≡ o
 found_in rs R p e h = ap (λ xs. place_in xs p) (sym e) ∙ h
 
-module _ (R : List Record) (holders : List (Option ℕ)) (S : List Mapping) (D : List (List (Option End))) (count room capacity : ℕ) (now : Group) (shows : group S D R room ≡ now) (placed : ArePlaced R holders S D count room capacity) where
+module _ (R : List Record) (holders : List (Option ℕ)) (S : List Mapping) (D : List Belongings)
+    (count room capacity : ℕ) (now : Group) (shows : group S D R room ≡ now)
+    (placed : ArePlaced R holders S D count room capacity) where
   processes_shown : shown S D R ≡ now.processes
   processes_shown = ap (λ (g : Group). g.processes) shows
 
@@ -45,14 +48,18 @@ module _ (R : List Record) (holders : List (Option ℕ)) (S : List Mapping) (D :
   given_shown = ap (λ ps. length ps) (sym processes_shown) ∙ shown_length S D R
 
   pub living_shown : count ≡ length (all_holdings now.processes)
-  living_shown = placed.living ∙ sym (holdings_count S D R) ∙ ap (λ ps. length (all_holdings ps)) processes_shown
+  living_shown = placed.living ∙ sym (holdings_count S D R)
+      ∙ ap (λ ps. length (all_holdings ps)) processes_shown
 
   pub held_now : (p : ℕ) → held_in now.processes p ≡ option_map (holdings_in S D) (place_in R p)
   held_now p = ap (λ ps. held_in ps p) (sym processes_shown) ∙ held_shown S D R p
 
   -- a live process has a place, in the records as a function is lent them
-  pub lives_in : (rs : List Record) (p : ℕ) → rs ≡ R → IsProcess now.processes p → IsSome (place_in rs p)
-  lives_in rs p e h = by (place_in rs p) (subst (λ (o : Option Holdings). IsSome o) (held_now p ∙ ap (λ xs. option_map (holdings_in S D) (place_in xs p)) (sym e)) h)
+  pub lives_in : (rs : List Record) (p : ℕ) → rs ≡ R → IsProcess now.processes p
+      → IsSome (place_in rs p)
+  lives_in rs p e h = by (place_in rs p)
+      (subst (λ (o : Option Holdings). IsSome o)
+      (held_now p ∙ ap (λ xs. option_map (holdings_in S D) (place_in xs p)) (sym e)) h)
     where
       by : (o : Option ℕ) → IsSome (option_map (holdings_in S D) o) → IsSome o
       by None h = h
@@ -65,15 +72,22 @@ module _ (R : List Record) (holders : List (Option ℕ)) (S : List Mapping) (D :
   given_within p h = (given_read S D R p (given_here p h)).0
 
   -- what a record says of a process whose number was given
-  pub record_read : (p : ℕ) (x : Record) → IsSome (numbered now.processes p) → x ≡ get_or R (p - 1) x → numbered now.processes p ≡ Some (process_by (holdings_in S D) x)
-  record_read p x h read = ap (λ ps. numbered ps p) (sym processes_shown) ∙ (given_read S D R p (given_here p h)).1 x read
+  pub record_read : (p : ℕ) (x : Record) → IsSome (numbered now.processes p)
+      → x ≡ get_or R (p - 1) x → numbered now.processes p ≡ Some (process_by (holdings_in S D) x)
+  record_read p x h read = ap (λ ps. numbered ps p) (sym processes_shown)
+      ∙ (given_read S D R p (given_here p h)).1 x read
 
   -- what stands at a place changes by f
-  shown_changed : (place : ℕ) (S' : List Mapping) (D' : List (List (Option End))) (f : Holdings → Holdings) → ((q : ℕ) → q ≢ place → holdings_in S' D' q ≡ holdings_in S D q) → holdings_in S' D' place ≡ f (holdings_in S D place)
-      → (p : ℕ) → place_in R p ≡ Some place → slice_get holders place ≡ Some (Some p) → shown S' D' R ≡ changed (on_holdings f) (shown S D R) p
+  shown_changed : (place : ℕ) (S' : List Mapping) (D' : List Belongings) (f : Holdings → Holdings)
+      → ((q : ℕ) → q ≢ place → holdings_in S' D' q ≡ holdings_in S D q)
+      → holdings_in S' D' place ≡ f (holdings_in S D place)
+      → (p : ℕ) → place_in R p ≡ Some place → slice_get holders place ≡ Some (Some p)
+      → shown S' D' R ≡ changed (on_holdings f) (shown S D R) p
   unfolding shown
   shown_changed place S' D' f others here zero e at = cc
-  shown_changed place S' D' f others here (suc i) e at = changed_process (holdings_in S D) (holdings_in S' D') holders place others f (suc i) 1 i R (omega arith) here at placed.held e
+  shown_changed place S' D' f others here (suc i) e at =
+      changed_process (holdings_in S D) (holdings_in S' D') holders place others f (suc i) 1 i R
+      (omega arith) here at placed.held e
 
   module _ (p place : ℕ) (found : place_in R p ≡ Some place) where
     pub at_place : slice_get holders place ≡ Some (Some p)
@@ -81,7 +95,8 @@ module _ (R : List Record) (holders : List (Option ℕ)) (S : List Mapping) (D :
       where
         by : (p : ℕ) → place_in R p ≡ Some place → slice_get holders place ≡ Some (Some p)
         by zero e = cc
-        by (suc i) e = held_at holders place 1 R i placed.held e ∙ ap (λ n. Some (Some n)) (omega arith)
+        by (suc i) e = held_at holders place 1 R i placed.held e
+            ∙ ap (λ n. Some (Some n)) (omega arith)
 
     pub within : place < 32
     within = omega (arith, slice_get_within holders place (Some p) at_place, placed.holders_count)
@@ -90,61 +105,99 @@ module _ (R : List Record) (holders : List (Option ℕ)) (S : List Mapping) (D :
     holds = held_now p ∙ ap (option_map (holdings_in S D)) found
 
     pub space_read : (x : Mapping) → x ≡ get_or S place x → x ≡ get_or S place (empty 0)
-    space_read x read = get_or_read S place x (omega (arith, within, placed.spaces_count)) read (empty 0)
+    space_read x read = get_or_read S place x (omega (arith, within, placed.spaces_count)) read
+        (empty 0)
 
     pub room_read : (x : Mapping) → x ≡ get_or S place x → x.room ≡ now.room
-    room_read x read = ap (λ (s : Mapping). s.room) read ∙ All-get_or (λ (s : Mapping). s.room ≡ room) S place x (omega (arith, within, placed.spaces_count)) placed.rooms ∙ room_shown
+    room_read x read = ap (λ (s : Mapping). s.room) read
+        ∙ All-get_or (λ (s : Mapping). s.room ≡ room) S place x
+        (omega (arith, within, placed.spaces_count)) placed.rooms ∙ room_shown
 
-    pub ends_read : (x : List (Option End)) → x ≡ get_or D place x → x ≡ get_or D place []
-    ends_read x read = get_or_read D place x (omega (arith, within, placed.descriptors_count)) read []
+    pub belongings_read : (x : Belongings) → x ≡ get_or D place x → x ≡ get_or D place no_belongings
+    belongings_read x read =
+        get_or_read D place x (omega (arith, within, placed.belongings_count)) read no_belongings
 
     -- what stands at the process's place changes by f
-    changes : (S' : List Mapping) (D' : List (List (Option End))) (f : Holdings → Holdings) → ((q : ℕ) → q ≢ place → holdings_in S' D' q ≡ holdings_in S D q) → holdings_in S' D' place ≡ f (holdings_in S D place)
+    changes : (S' : List Mapping) (D' : List Belongings) (f : Holdings → Holdings)
+        → ((q : ℕ) → q ≢ place → holdings_in S' D' q ≡ holdings_in S D q)
+        → holdings_in S' D' place ≡ f (holdings_in S D place)
         → group S' D' R room ≡ record now { processes = changed (on_holdings f) now.processes p }
     changes S' D' f others here =
-        ap (λ ps. let g : Group = record { processes = ps; room = room } in g) (shown_changed place S' D' f others here p found at_place)
-        ∙ ap (λ (g : Group). let h : Group = record g { processes = changed (on_holdings f) g.processes p } in h) shows
+        ap (λ ps. let g : Group = record { processes = ps; room = room } in g)
+        (shown_changed place S' D' f others here p found at_place)
+        ∙ ap (λ (g : Group). let h : Group =
+        record g { processes = changed (on_holdings f) g.processes p } in h) shows
 
     -- its space is written
-    pub space_written : (f : List (ℕ × Entry) → List (ℕ × Entry)) (x y : Mapping) → x ≡ get_or S place x → y.entries ≡ f x.entries → group (set S place y) D R room ≡ record now { processes = changed (on_holdings (spaced_by f)) now.processes p }
+    pub space_written : (f : List (ℕ × Entry) → List (ℕ × Entry)) (x y : Mapping)
+        → x ≡ get_or S place x → y.entries ≡ f x.entries
+        → group (set S place y) D R room
+        ≡ record now { processes = changed (on_holdings (spaced_by f)) now.processes p }
     space_written f x y read is = changes (set S place y) D (spaced_by f)
-        (λ q apart. ap (λ (s : Mapping). with_space s q) (get_or-set_other S place q y (empty 0) apart))
-        (ap (λ (s : Mapping). with_space s place) (get_or-set_same S place y (empty 0) (omega (arith, within, placed.spaces_count)))
-        ∙ ap (λ es. let h : Holdings = record { actions = replicate 31 0; descriptors = slice_index_or D place []; space = es } in h) (is ∙ ap (λ (s : Mapping). f s.entries) (space_read x read)))
+        (λ q apart. ap (λ (s : Mapping). with_space s q)
+        (get_or-set_other S place q y (empty 0) apart))
+        (ap (λ (s : Mapping). with_space s place)
+        (get_or-set_same S place y (empty 0)
+        (omega (arith, within, placed.spaces_count)))
+        ∙ ap (λ es. holdings_by (slice_index_or D place no_belongings) es)
+        (is ∙ ap (λ (s : Mapping). f s.entries) (space_read x read)))
       where
         with_space : Mapping → ℕ → Holdings
-        with_space s q = record { actions = replicate 31 0; descriptors = slice_index_or D q []; space = s.entries }
+        with_space s q = holdings_by (slice_index_or D q no_belongings) s.entries
 
-    pub placed_space : (x y : Mapping) → x ≡ get_or S place x → y.room ≡ x.room → ArePlaced R holders (set S place y) D count room capacity
+    pub placed_space : (x y : Mapping) → x ≡ get_or S place x → y.room ≡ x.room
+        → ArePlaced R holders (set S place y) D count room capacity
     placed_space x y read is = record {
       held = placed.held;
       holding = placed.holding;
       living = placed.living;
       holders_count = placed.holders_count;
       spaces_count = length-set S place y ∙ placed.spaces_count;
-      descriptors_count = placed.descriptors_count;
-      rooms = All-set (λ (s : Mapping). s.room ≡ room) S place y (is ∙ room_read x read ∙ sym room_shown) placed.rooms;
+      belongings_count = placed.belongings_count;
+      rooms = All-set (λ (s : Mapping). s.room ≡ room) S place y
+          (is ∙ room_read x read ∙ sym room_shown) placed.rooms;
       few = placed.few;
       taken = placed.taken;
     }
 
-    -- its descriptors are written
-    pub ends_written : (f : List (Option End) → List (Option End)) (x y : List (Option End)) → x ≡ get_or D place x → y ≡ f x → group S (set D place y) R room ≡ record now { processes = changed (on_holdings (ends_by f)) now.processes p }
-    ends_written f x y read is = changes S (set D place y) (ends_by f)
-        (λ q apart. ap (λ ends. with_ends ends q) (get_or-set_other D place q y [] apart))
-        (ap (λ ends. with_ends ends place) (get_or-set_same D place y [] (omega (arith, within, placed.descriptors_count)) ∙ is ∙ ap f (ends_read x read)))
-      where
-        with_ends : List (Option End) → ℕ → Holdings
-        with_ends ends q = record { actions = replicate 31 0; descriptors = ends; space = (slice_index_or S q (empty 0)).entries }
+    -- its belongings are written
+    pub belongings_written : (f : Holdings → Holdings) (x y : Belongings) → x ≡ get_or D place x
+        → ((space : List (ℕ × Entry)) → holdings_by y space ≡ f (holdings_by x space))
+        → group S (set D place y) R room
+        ≡ record now { processes = changed (on_holdings f) now.processes p }
+    belongings_written f x y read is = changes S (set D place y) f
+        (λ q apart. ap (λ (b : Belongings). holdings_by b (slice_index_or S q (empty 0)).entries)
+        (get_or-set_other D place q y no_belongings apart))
+        (ap (λ (b : Belongings). holdings_by b (slice_index_or S place (empty 0)).entries)
+        (get_or-set_same D place y no_belongings
+        (omega (arith, within, placed.belongings_count)))
+        ∙ is (slice_index_or S place (empty 0)).entries
+        ∙ ap (λ (b : Belongings). f (holdings_by b (slice_index_or S place (empty 0)).entries))
+        (belongings_read x read))
 
-    pub placed_ends : (y : List (Option End)) → ArePlaced R holders S (set D place y) count room capacity
-    placed_ends y = record {
+    -- it gets those of another
+    pub belongings_copied : (source : ℕ) (x y : Belongings) → source < 32 → x ≡ get_or D place x
+        → y ≡ get_or D source y
+        → group S (set D place y) R room
+        ≡ record now {
+          processes =
+              changed (on_holdings (held_as (holdings_in S D source))) now.processes p;
+        }
+    belongings_copied source x y low read is =
+        belongings_written (held_as (holdings_in S D source)) x y read
+        (λ space. ap (λ (b : Belongings). holdings_by b space)
+        (get_or_read D source y
+        (omega (arith, low, placed.belongings_count)) is no_belongings))
+
+    pub placed_belongings : (y : Belongings)
+        → ArePlaced R holders S (set D place y) count room capacity
+    placed_belongings y = record {
       held = placed.held;
       holding = placed.holding;
       living = placed.living;
       holders_count = placed.holders_count;
       spaces_count = placed.spaces_count;
-      descriptors_count = length-set D place y ∙ placed.descriptors_count;
+      belongings_count = length-set D place y ∙ placed.belongings_count;
       rooms = placed.rooms;
       few = placed.few;
       taken = placed.taken;
@@ -153,52 +206,149 @@ module _ (R : List Record) (holders : List (Option ℕ)) (S : List Mapping) (D :
     -- ---- its end
 
     -- its record
-    pub recorded : (p - 1 + 1 ≡ p) × (p - 1 < length R) × (option_and_then place_of (slice_get R (p - 1)) ≡ Some place)
+    pub recorded : (p - 1 + 1 ≡ p) × (p - 1 < length R)
+        × (option_and_then place_of (slice_get R (p - 1)) ≡ Some place)
     recorded = by p found
       where
-        by : (p : ℕ) → place_in R p ≡ Some place → (p - 1 + 1 ≡ p) × (p - 1 < length R) × (option_and_then place_of (slice_get R (p - 1)) ≡ Some place)
+        by : (p : ℕ) → place_in R p ≡ Some place → (p - 1 + 1 ≡ p) × (p - 1 < length R)
+            × (option_and_then place_of (slice_get R (p - 1)) ≡ Some place)
         by zero e = cc
-        by (suc i) e = (omega arith, omega (arith, get_within R i e), subst (λ n. option_and_then place_of (slice_get R n) ≡ Some place) {x = i} (omega arith) e)
+        by (suc i) e = (
+          omega arith,
+          omega (arith, get_within R i e),
+          subst (λ n. option_and_then place_of (slice_get R n) ≡ Some place) {x = i}
+              (omega arith) e,
+        )
 
-    pub ended_standing : (status : ℕ) (x y : Record) (new : List Record) → x ≡ get_or R (p - 1) x → y ≡ record x { kept = Ended status false } → new ≡ map (orphan_record p) (set R (p - 1) y)
-        → group S D new room ≡ record now { processes = map (orphaned p) (changed (ended_by status) now.processes p) }
+    pub ended_standing : (status : ℕ) (x y : Record) (new : List Record) → x ≡ get_or R (p - 1) x
+        → y ≡ record x { kept = Ended status false } → new ≡ map (orphan_record p) (set R (p - 1) y)
+        → group S D new room
+        ≡ record now { processes = map (orphaned p) (changed (ended_by status) now.processes p) }
     ended_standing status x y new read is e =
-        ap (λ ps. let g : Group = record { processes = ps; room = room } in g) (ap (shown S D) e ∙ shown_ended S D p status R x y read is recorded.0 recorded.1)
-        ∙ ap (λ (g : Group). let h : Group = record g { processes = map (orphaned p) (changed (ended_by status) g.processes p) } in h) shows
+        ap (λ ps. let g : Group = record { processes = ps; room = room } in g)
+        (ap (shown S D) e ∙ shown_ended S D p status R x y read is recorded.0 recorded.1)
+        ∙ ap (λ (g : Group). let h : Group =
+        record g { processes = map (orphaned p) (changed (ended_by status) g.processes p) } in
+        h) shows
 
     freed : count_by is_some (set holders place None) + 1 ≡ count_by is_some holders
     freed =
-        let was : get_or holders place None ≡ Some p = get_or_from_slice_get holders place (Some p) None at_place in
-        omega (arith, count_set is_some holders place None None (omega (arith, within, placed.holders_count)), ap (λ (o : Option ℕ). counted (is_some o)) was)
+        let was : get_or holders place None ≡ Some p =
+        get_or_from_slice_get holders place (Some p) None at_place in
+        omega (
+          arith,
+          count_set is_some holders place None None
+              (omega (arith, within, placed.holders_count)),
+          ap (λ (o : Option ℕ). counted (is_some o)) was,
+        )
 
     -- at least one process lives
     pub one_lives : 1 ≤ count
     one_lives = omega (arith, freed, placed.holding)
 
-    one_ended : (x y : Record) → x ≡ get_or R (p - 1) x → place_of y ≡ None → count_by is_placed (set R (p - 1) y) + 1 ≡ count_by is_placed R
+    one_ended : (x y : Record) → x ≡ get_or R (p - 1) x → place_of y ≡ None
+        → count_by is_placed (set R (p - 1) y) + 1 ≡ count_by is_placed R
     one_ended x y read gone =
-        let was : place_of (get_or R (p - 1) y) ≡ Some place = get_placed R (p - 1) y place recorded.1 recorded.2 in
-        omega (arith, count_set is_placed R (p - 1) y y recorded.1, ap (λ (o : Option ℕ). counted (is_some o)) was, ap (λ (o : Option ℕ). counted (is_some o)) gone)
+        let was : place_of (get_or R (p - 1) y) ≡ Some place =
+        get_placed R (p - 1) y place recorded.1 recorded.2 in
+        omega (
+          arith,
+          count_set is_placed R (p - 1) y y recorded.1,
+          ap (λ (o : Option ℕ). counted (is_some o)) was,
+          ap (λ (o : Option ℕ). counted (is_some o)) gone,
+        )
 
-    pub placed_ended : (x y : Record) (new : List Record) (same : ℕ) → x ≡ get_or R (p - 1) x → place_of y ≡ None → new ≡ map (orphan_record p) (set R (p - 1) y) → same ≡ capacity → ArePlaced new (set holders place None) S D (count - 1) room same
+    pub placed_ended : (x y : Record) (new : List Record) (same : ℕ) → x ≡ get_or R (p - 1) x
+        → place_of y ≡ None → new ≡ map (orphan_record p) (set R (p - 1) y) → same ≡ capacity
+        → ArePlaced new (set holders place None) S D (count - 1) room same
     placed_ended x y new same read gone e c =
         let ended : List Record = set R (p - 1) y in
         record {
-          held = subst (AreHeld (set holders place None) 1) (sym e) (orphans_held (set holders place None) p 1 ended (ended_held holders place p 1 (p - 1) R y (omega (arith, recorded.0)) at_place gone placed.held));
+          held = subst (AreHeld (set holders place None) 1) (sym e)
+              (orphans_held (set holders place None) p 1 ended
+              (ended_held holders place p 1 (p - 1) R y
+              (omega (arith, recorded.0)) at_place gone placed.held));
           holding = omega (arith, freed, placed.holding);
-          living = omega (arith, one_ended x y read gone, placed.living, ap (count_by is_placed) e, orphans_count p ended);
+          living = omega (
+            arith,
+            one_ended x y read gone,
+            placed.living,
+            ap (count_by is_placed) e,
+            orphans_count p ended,
+          );
           holders_count = length-set holders place None ∙ placed.holders_count;
           spaces_count = placed.spaces_count;
-          descriptors_count = placed.descriptors_count;
+          belongings_count = placed.belongings_count;
           rooms = placed.rooms;
-          few = omega (arith, placed.few, ap (λ (rs : List Record). length rs) e, length-map ended (orphan_record p), length-set R (p - 1) y);
+          few = omega (
+            arith,
+            placed.few,
+            ap (λ (rs : List Record). length rs) e,
+            length-map ended (orphan_record p),
+            length-set R (p - 1) y,
+          );
+          taken = omega (arith, placed.taken);
+        }
+
+  -- ---- a child is collected
+
+  pub shown_now : shown S D R ≡ now.processes
+  shown_now = processes_shown
+
+  module _ (p : ℕ) (x y : Record) (from : 1 ≤ p) (within : p - 1 < length R)
+      (read : x ≡ get_or R (p - 1) x) (gone : place_of x ≡ None) where
+    pub collected_standing : y ≡ record x { kept = Ended (status_or_0 x.kept) true }
+        → group S D (set R (p - 1) y) room
+        ≡ record now { processes = changed collected_by now.processes p }
+    unfolding shown
+    collected_standing is =
+        ap (λ ps. let g : Group = record { processes = ps; room = room } in g)
+        (collected_shown (holdings_in S D) (p - 1) R x y read is within ∙ at p from)
+        ∙ ap (λ (g : Group). let h : Group =
+        record g { processes = changed collected_by g.processes p } in h) shows
+      where
+        at : (p : ℕ) → 1 ≤ p
+            → changed_at collected_by (map (process_by (holdings_in S D)) R) (p - 1)
+            ≡ changed collected_by (map (process_by (holdings_in S D)) R) p
+        at zero h = absurd (omega arith)
+        at (suc i) h = ap (changed_at collected_by (map (process_by (holdings_in S D)) R))
+            (omega arith)
+
+    pub placed_collected : (same : ℕ) → same ≡ capacity → place_of y ≡ None
+        → ArePlaced (set R (p - 1) y) holders S D count room same
+    placed_collected same c none =
+        let was : place_of (get_or R (p - 1) y) ≡ None =
+        ap place_of (sym (get_or_read R (p - 1) x within read y)) ∙ gone in
+        record {
+          held = marked_held holders 1 (p - 1) R y none placed.held;
+          holding = placed.holding;
+          living = omega (
+            arith,
+            placed.living,
+            count_set is_placed R (p - 1) y y within,
+            ap (λ (o : Option ℕ). counted (is_some o)) was,
+            ap (λ (o : Option ℕ). counted (is_some o)) none,
+          );
+          holders_count = placed.holders_count;
+          spaces_count = placed.spaces_count;
+          belongings_count = placed.belongings_count;
+          rooms = placed.rooms;
+          few = omega (arith, placed.few, length-set R (p - 1) y);
           taken = omega (arith, placed.taken);
         }
 
   -- ---- a new process, at a place that no process holds
 
-  pub has_place : nat_le 32 (length (all_holdings now.processes)) ≡ false → position is_none holders ≡ None → ⊥
-  has_place few none = no_more (length (all_holdings now.processes)) few (omega (arith, living_shown, placed.holding, placed.holders_count, none_free holders none))
+  pub has_place : nat_le 32 (length (all_holdings now.processes)) ≡ false
+      → position is_none holders ≡ None → ⊥
+  has_place few none = no_more (length (all_holdings now.processes)) few
+      (omega (
+        arith,
+        living_shown,
+        placed.holding,
+        placed.holders_count,
+        none_free holders none,
+      ))
     where
       no_more : (n : ℕ) → nat_le 32 n ≡ false → 32 ≤ n → ⊥
       no_more n few h = grind (arith, nat_tests)
@@ -210,31 +360,63 @@ module _ (R : List Record) (holders : List (Option ℕ)) (S : List Mapping) (D :
     pub free_within : place < 32
     free_within = omega (arith, slice_get_within holders place None free, placed.holders_count)
 
-    pub added_standing : (parent : ℕ) (y : Mapping) (new : List Record) → y.entries ≡ [] → new ≡ R ++ record { parent = parent; kept = Live place } ∷ []
-        → group (set S place y) (set D place (replicate 32 None)) new room ≡ record now { processes = now.processes ++ new_process parent ∷ [] }
+    pub added_standing : (parent : ℕ) (y : Mapping) (new : List Record) → y.entries ≡ []
+        → new ≡ R ++ record { parent = parent; kept = Live place } ∷ []
+        → group (set S place y) (set D place first_belongings) new room
+        ≡ record now { processes = now.processes ++ new_process parent ∷ [] }
     added_standing parent y new is e =
         ap (λ ps. let g : Group = record { processes = ps; room = room } in g)
-        (ap (shown (set S place y) (set D place (replicate 32 None))) e
-        ∙ shown_added R holders S D place parent y free (omega (arith, free_within, placed.spaces_count)) (omega (arith, free_within, placed.descriptors_count)) is placed.held)
-        ∙ ap (λ (g : Group). let h : Group = record g { processes = g.processes ++ new_process parent ∷ [] } in h) shows
+        (ap (shown (set S place y) (set D place first_belongings)) e
+        ∙ shown_added R holders S D place parent y free
+        (omega (arith, free_within, placed.spaces_count))
+        (omega (arith, free_within, placed.belongings_count)) is placed.held)
+        ∙ ap (λ (g : Group). let h : Group =
+        record g { processes = g.processes ++ new_process parent ∷ [] } in h) shows
 
-    pub placed_added : (parent n : ℕ) (x y : Mapping) (new : List Record) (grown : ℕ) → n ≡ length R + 1 → length now.processes < 65535 → x ≡ get_or S place x → y.room ≡ x.room → new ≡ R ++ record { parent = parent; kept = Live place } ∷ [] → capacity ≤ grown
-        → ArePlaced new (set holders place (Some n)) (set S place y) (set D place (replicate 32 None)) (count + 1) room grown
+    pub placed_added : (parent n : ℕ) (x y : Mapping) (new : List Record) (grown : ℕ)
+        → n ≡ length R + 1 → length now.processes < 65535 → x ≡ get_or S place x → y.room ≡ x.room
+        → new ≡ R ++ record { parent = parent; kept = Live place } ∷ [] → capacity ≤ grown
+        → ArePlaced new (set holders place (Some n)) (set S place y) (set D place first_belongings)
+        (count + 1) room grown
     placed_added parent n x y new grown number room_left read is e c =
         let r : Record = record { parent = parent; kept = Live place } in
         let H : List (Option ℕ) = set holders place (Some n) in
-        let holder : IsHeld H (place_of r) (1 + length R) = get-set_same holders place (Some n) (omega (arith, free_within, placed.holders_count)) ∙ ap (λ m. Some (Some m)) (omega (arith, number)) in
-        let was : get_or holders place None ≡ None = get_or_from_slice_get holders place None None free in
-        let same_room : y.room ≡ room = is ∙ ap (λ (s : Mapping). s.room) read ∙ All-get_or (λ (s : Mapping). s.room ≡ room) S place x (omega (arith, free_within, placed.spaces_count)) placed.rooms in
+        let holder : IsHeld H (place_of r) (1 + length R) =
+        get-set_same holders place (Some n) (omega (arith, free_within, placed.holders_count))
+        ∙ ap (λ m. Some (Some m)) (omega (arith, number)) in
+        let was : get_or holders place None ≡ None =
+        get_or_from_slice_get holders place None None free in
+        let same_room : y.room ≡ room = is ∙ ap (λ (s : Mapping). s.room) read
+        ∙ All-get_or (λ (s : Mapping). s.room ≡ room) S place x
+        (omega (arith, free_within, placed.spaces_count)) placed.rooms in
         record {
-          held = subst (AreHeld H 1) (sym e) (held_pushed H 1 R r (all_kept holders place (Some n) 1 R (λ m le s. never m s) placed.held) holder);
-          holding = omega (arith, placed.holding, count_set is_some holders place (Some n) None (omega (arith, free_within, placed.holders_count)), ap (λ (o : Option ℕ). counted (is_some o)) was);
-          living = omega (arith, placed.living, ap (count_by is_placed) e, sum_by-append (λ (k : Record). counted (is_placed k)) R (r ∷ []));
+          held = subst (AreHeld H 1) (sym e)
+              (held_pushed H 1 R r
+              (all_kept holders place (Some n) 1 R (λ m le s. never m s) placed.held)
+              holder);
+          holding = omega (
+            arith,
+            placed.holding,
+            count_set is_some holders place (Some n) None
+                (omega (arith, free_within, placed.holders_count)),
+            ap (λ (o : Option ℕ). counted (is_some o)) was,
+          );
+          living = omega (
+            arith,
+            placed.living,
+            ap (count_by is_placed) e,
+            sum_by-append (λ (k : Record). counted (is_placed k)) R (r ∷ []),
+          );
           holders_count = length-set holders place (Some n) ∙ placed.holders_count;
           spaces_count = length-set S place y ∙ placed.spaces_count;
-          descriptors_count = length-set D place (replicate 32 None) ∙ placed.descriptors_count;
+          belongings_count = length-set D place first_belongings ∙ placed.belongings_count;
           rooms = All-set (λ (s : Mapping). s.room ≡ room) S place y same_room placed.rooms;
-          few = omega (arith, given_shown, ap (λ (rs : List Record). length rs) e, length-append R (r ∷ []));
+          few = omega (
+            arith,
+            given_shown,
+            ap (λ (rs : List Record). length rs) e,
+            length-append R (r ∷ []),
+          );
           taken = omega (arith, placed.taken);
         }
       where
@@ -243,19 +425,25 @@ module _ (R : List Record) (holders : List (Option ℕ)) (S : List Mapping) (D :
 
 -- ---- no process
 
-pub none_standing : (R : List Record) (S : List Mapping) (D : List (List (Option End))) (room : ℕ) → R ≡ [] → group S D R room ≡ record { processes = []; room = room }
+pub none_standing : (R : List Record) (S : List Mapping) (D : List Belongings) (room : ℕ) → R ≡ []
+    → group S D R room ≡ record { processes = []; room = room }
 unfolding shown
-none_standing R S D room e = ap (λ (rs : List Record). let g : Group = record { processes = map (process_by (holdings_in S D)) rs; room = room } in g) e
+none_standing R S D room e =
+    ap (λ (rs : List Record). let g : Group =
+    record { processes = map (process_by (holdings_in S D)) rs; room = room } in g) e
 
-pub placed_none : (R : List Record) (S : List Mapping) (D : List (List (Option End))) (room capacity : ℕ) → R ≡ [] → S ≡ replicate 32 (empty room) → D ≡ replicate 32 (replicate 32 None) → 65535 ≤ capacity → ArePlaced R (replicate 32 None) S D 0 room capacity
+pub placed_none : (R : List Record) (S : List Mapping) (D : List Belongings) (room capacity : ℕ)
+    → R ≡ [] → S ≡ replicate 32 (empty room) → D ≡ replicate 32 first_belongings → 65535 ≤ capacity
+    → ArePlaced R (replicate 32 None) S D 0 room capacity
 placed_none R S D room capacity none spaces ends taken = record {
   held = subst (AreHeld (replicate 32 None) 1) (sym none) tt;
   holding = refl;
   living = sym (ap (count_by is_placed) none);
   holders_count = refl;
   spaces_count = ap (λ (ss : List Mapping). length ss) spaces;
-  descriptors_count = ap (λ (ds : List (List (Option End))). length ds) ends;
-  rooms = subst (All (λ (s : Mapping). s.room ≡ room)) (sym spaces) (All-replicate (λ (s : Mapping). s.room ≡ room) 32 (empty room) refl);
+  belongings_count = ap (λ (ds : List Belongings). length ds) ends;
+  rooms = subst (All (λ (s : Mapping). s.room ≡ room)) (sym spaces)
+      (All-replicate (λ (s : Mapping). s.room ≡ room) 32 (empty room) refl);
   few = omega (arith, ap (λ (rs : List Record). length rs) none);
   taken = taken;
 }

@@ -1,12 +1,13 @@
 -- The processes of a table by number, and the places of those that live. This project's own rules.
-use Rattle.std.specs.Prelude.{◌≡◌, ◌≤◌, ℕ, suc, Bool, List, [], ◌∷◌, map, length, replicate, Option, Some, None, is_some, option_and_then, slice_get, slice_index_or, All, count_by, ◌&&◌, not, ◌==◌, false, if◌then◌else◌}
-use Rattle.dos_world.specs.Numbered.{numbered}
-use Rattle.dos_world.specs.World.{Process, Holdings, Life, live, ended}
-use Rattle.dos_world.specs.declared.End.{End}
+use Rattle.std.specs.Prelude.{◌≡◌, ◌≤◌, ℕ, suc, Bool, List, [], ◌∷◌, map, length, replicate, Option, Some, None, is_some, option_and_then, slice_get, slice_index_or, All, count_by, ◌&&◌, not, ◌||◌, ◌==◌, true, false, filter, if◌then◌else◌}
+use Rattle.dos_world.specs.Numbered.{numbered, numbers_of}
+use Rattle.dos_world.specs.World.{first_of, Process, Holdings, Life, live, ended}
+use Rattle.dos_world.specs.declared.Entry.{Entry}
 use Rattle.space_map.specs.Mapping.{Mapping, empty}
 use Rattle.proc_table.specs.declared.record.Kept.{Kept}
 use Rattle.proc_table.specs.declared.record.Kept.TheVariants.{Live, Ended}
 use Rattle.proc_table.specs.declared.record.Record.{Record}
+use Rattle.proc_table.specs.declared.record.Belongings.{Belongings}
 
 -- the processes, and the room of each space
 pub record Group : Type 0 where
@@ -15,13 +16,22 @@ pub record Group : Type 0 where
 
 -- ---- by place
 
--- what the process at a place has
-abbrev pub holdings_in : List Mapping → List (List (Option End)) → ℕ → Holdings
-holdings_in spaces descriptors place = record {
-  actions = replicate 31 0;
-  descriptors = slice_index_or descriptors place [];
-  space = (slice_index_or spaces place (empty 0)).entries;
-}
+-- where nothing stands
+abbrev pub no_belongings : Belongings
+no_belongings = record { descriptors = []; actions = [] }
+
+-- those of a process that begins: no descriptor open, and all actions default
+abbrev pub first_belongings : Belongings
+first_belongings = record { descriptors = replicate 32 None; actions = replicate 31 0 }
+
+-- what a process has, of these belongings and pages
+abbrev pub holdings_by : Belongings → List (ℕ × Entry) → Holdings
+holdings_by b space = record { actions = b.actions; descriptors = b.descriptors; space = space }
+
+abbrev pub holdings_in : List Mapping → List Belongings → ℕ → Holdings
+holdings_in spaces belongings place =
+    holdings_by (slice_index_or belongings place no_belongings)
+    (slice_index_or spaces place (empty 0)).entries
 
 abbrev pub life_by : (ℕ → Holdings) → Kept → Life
 life_by held (Live place) = live (held place)
@@ -31,11 +41,12 @@ abbrev pub process_by : (ℕ → Holdings) → Record → Process
 process_by held r = record { parent = r.parent; life = life_by held r.kept }
 
 -- the processes that these records and places stand for
-unfoldable pub shown : List Mapping → List (List (Option End)) → List Record → List Process
-shown spaces descriptors records = map (process_by (holdings_in spaces descriptors)) records
+unfoldable pub shown : List Mapping → List Belongings → List Record → List Process
+shown spaces belongings records = map (process_by (holdings_in spaces belongings)) records
 
-abbrev pub group : List Mapping → List (List (Option End)) → List Record → ℕ → Group
-group spaces descriptors records room = record { processes = shown spaces descriptors records; room = room }
+abbrev pub group : List Mapping → List Belongings → List Record → ℕ → Group
+group spaces belongings records room =
+    record { processes = shown spaces belongings records; room = room }
 
 abbrev pub place_kept : Kept → Option ℕ
 place_kept (Live place) = Some place
@@ -62,7 +73,34 @@ status_kept (Ended status collected) = Some status
 
 -- a child whose parent ends has none, unless it was collected
 abbrev pub orphan_record : ℕ → Record → Record
-orphan_record p r = record r { parent = if (r.parent == p) && not (is_collected r.kept) then 0 else r.parent }
+orphan_record p r = record r {
+  parent =
+      if (r.parent == p) && not (is_collected r.kept) then 0 else r.parent;
+}
+
+-- ---- children
+
+-- whether it has ended, where that is asked
+abbrev pub has_come : Bool → Kept → Bool
+has_come asked (Live place) = not asked
+has_come asked (Ended status collected) = true
+
+-- whether a process is a child of this parent that wasn't collected, and has ended where that is
+-- asked
+abbrev pub is_child_record : Bool → ℕ → Record → Bool
+is_child_record asked parent r =
+    (r.parent == parent) && not (is_collected r.kept) && has_come asked r.kept
+
+-- the lowest of them that a number names, where 0 names all
+abbrev pub first_child : Bool → List Record → ℕ → ℕ → Option ℕ
+first_child asked records parent which =
+    first_of (filter (λ p. (which == 0) || (which == p))
+    (numbers_of (is_child_record asked parent) records))
+
+-- the status of a process, 0 where it lives
+abbrev pub status_or_0 : Kept → ℕ
+status_or_0 (Live place) = 0
+status_or_0 (Ended status collected) = status
 
 -- ---- what is kept
 
@@ -76,14 +114,16 @@ abbrev pub AreHeld : List (Option ℕ) → ℕ → List Record → Type 0
 AreHeld holders n [] = Unit {0}
 AreHeld holders n (r ∷ records) = IsHeld holders (place_of r) n × AreHeld holders (suc n) records
 
--- Each process that lives holds a place of its own, of 32. Live is the count of both, and the memory of the records was taken.
-pub record ArePlaced (records : List Record) (holders : List (Option ℕ)) (spaces : List Mapping) (descriptors : List (List (Option End))) (live room capacity : ℕ) : Type 0 where
+-- Each process that lives holds a place of its own, of 32. Live is the count of both, and the
+-- memory of the records was taken.
+pub record ArePlaced (records : List Record) (holders : List (Option ℕ)) (spaces : List Mapping)
+    (belongings : List Belongings) (live room capacity : ℕ) : Type 0 where
   pub held : AreHeld holders 1 records
   pub holding : live ≡ count_by is_some holders
   pub living : live ≡ count_by is_placed records
   pub holders_count : length holders ≡ 32
   pub spaces_count : length spaces ≡ 32
-  pub descriptors_count : length descriptors ≡ 32
+  pub belongings_count : length belongings ≡ 32
   pub rooms : All (λ s. s.room ≡ room) spaces
   pub few : length records ≤ 65535
   pub taken : 65535 ≤ capacity

@@ -41,7 +41,8 @@ pub record IsAt (live : List (ℕ × Thread)) (t place : ℕ) : Type 0 where
   pub within : place < length live
   pub is : number_at live place ≡ t
 
--- the thread of this number would stand at this place: lower numbers before it, and higher ones from it on
+-- the thread of this number would stand at this place: lower numbers before it, and higher ones
+-- from it on
 pub record IsGapFor (live : List (ℕ × Thread)) (t place : ℕ) : Type 0 where
   pub within : place ≤ length live
   pub lower : (i : ℕ) → i < place → number_at live i < t

@@ -1,12 +1,16 @@
--- What the table holds: the flat world's processes and threads, and the room of each space. This project's own rules.
-use Rattle.std.specs.Prelude.{◌≡◌, ◌⊎◌, ℕ, List, [], ◌∷◌, ◌++◌, map, find, replicate, Option, Some, None, IsSome, is_some, option_map, option_and_then, slice_get, unwrap_or, nat_lt}
+-- What the table holds: the flat world's processes and threads, and the room of each space. This
+-- project's own rules.
+use Rattle.std.specs.Prelude.{◌≡◌, ◌⊎◌, ℕ, Bool, true, false, List, [], ◌∷◌, ◌++◌, map, find, replicate, Option, Some, None, IsSome, is_some, option_map, option_and_then, slice_get, unwrap_or, nat_lt}
 use Rattle.dos_world.specs.Numbered.{numbered, changed, numbers_of}
 pub use Rattle.dos_world.specs.World.{ran, with_budget}
 use Rattle.dos_world.specs.World.{Process, Thread, Holdings, Registers, live, ended, flat, holdings_of, on_holdings}
 use Rattle.dos_world.specs.Kernel.{unless_of, orphaned, ended_by}
+use Rattle.dos_world.specs.SignalCalls.{restored}
 use Rattle.dos_world.specs.declared.End.{End}
+use Rattle.space_map.specs.Mapping.{with_shared_run, without_run}
 
--- Processes and threads are numbered from 1. Each live process's space has room for so many entries.
+-- Processes and threads are numbered from 1. Each live process's space has room for so many
+-- entries.
 pub record Tables : Type 0 where
   pub processes : List Process
   pub threads : List (Option Thread)
@@ -16,7 +20,8 @@ pub record Tables : Type 0 where
 abbrev pub no_tables : ℕ → Tables
 no_tables room = record { processes = []; threads = []; room = room }
 
--- the signals of a thread: those that are pending, its mask, and the saved registers and masks, the last saved first
+-- the signals of a thread: those that are pending, its mask, and the saved registers and masks, the
+-- last saved first
 pub record Signals : Type 0 where
   pub pending : ℕ
   pub mask : ℕ
@@ -69,11 +74,22 @@ thread_added t thread = record t { threads = t.threads ++ Some thread ∷ [] }
 
 -- with one process more, and its first thread
 abbrev pub process_added : Tables → Process → Thread → Tables
-process_added t process thread = record t { processes = t.processes ++ process ∷ []; threads = t.threads ++ Some thread ∷ [] }
+process_added t process thread =
+    record t { processes = t.processes ++ process ∷ []; threads = t.threads ++ Some thread ∷ [] }
 
 -- with a live thread changed by f
 abbrev pub thread_by : (Thread → Thread) → Tables → ℕ → Tables
 thread_by f t tid = record t { threads = changed (option_map f) t.threads tid }
+
+-- whether anything is saved
+abbrev pub are_any : List (Registers × ℕ) → Bool
+are_any [] = false
+are_any (last ∷ others) = true
+
+-- with the last of what a live thread has saved come back, where anything is
+abbrev pub restored_in : List (Registers × ℕ) → Tables → ℕ → Tables
+restored_in [] t tid = t
+restored_in (last ∷ others) t tid = thread_by (restored last others) t tid
 
 -- with what a live process has changed by f
 abbrev pub held_by : (Holdings → Holdings) → Tables → ℕ → Tables
@@ -89,3 +105,15 @@ with_ended t pid status = record t {
 -- what a process has, with no descriptor open
 abbrev pub without_ends : Holdings → Holdings
 without_ends h = record h { descriptors = replicate 32 None }
+
+-- what a process has, with the actions and descriptors of another
+abbrev pub held_as : Holdings → Holdings → Holdings
+held_as other h = record other { space = h.space }
+
+-- what a process has, without so many pages from this one on
+abbrev pub run_unmapped : ℕ → ℕ → Holdings → Holdings
+run_unmapped page count h = record h { space = without_run page count h.space }
+
+-- what a process has, with so many pages from this one on shared
+abbrev pub run_shared : ℕ → ℕ → Holdings → Holdings
+run_shared page count h = record h { space = with_shared_run page count h.space }

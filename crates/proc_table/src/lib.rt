@@ -1,6 +1,7 @@
 //! The table of the processes and threads of a group, exact on the lists of the flat world.
 #![tactic(auto)]
 
+mod collected;
 mod processes;
 mod record;
 mod signals;
@@ -8,8 +9,6 @@ mod table;
 mod thread;
 mod threads;
 
+pub use collected::Collected;
 pub use signals::SignalState;
 pub use table::Table;
-
-#[cfg(test)]
-mod tests;

@@ -1,3 +1,5 @@
+use dos_world::End;
+
 // What is kept of a process by its number.
 #[derive(Clone, Copy, Drop)]
 pub(crate) enum Kept {
@@ -12,4 +14,12 @@ pub(crate) enum Kept {
 pub(crate) struct Record {
     pub(crate) parent: u32,
     pub(crate) kept: Kept,
+}
+
+// What a live process has beside its pages: its descriptors, and the actions of the signals 1 to
+// 31.
+#[derive(Clone, Copy, Drop)]
+pub(crate) struct Belongings {
+    pub(crate) descriptors: [Option<End>; 32],
+    pub(crate) actions: [u32; 31],
 }

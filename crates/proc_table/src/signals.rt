@@ -1,29 +1,45 @@
 // The signals of a thread.
-ghost use Rattle.std.specs.Prelude.{◌≡◌, []};
-ghost use Rattle.dos_world.specs.SignalSet.{allowed_mask};
+ghost use Rattle.std.specs.Prelude.{◌≡◌, ◌<◌, [], ◌∷◌, length, None, Some, IfNone, IfSome, find};
+ghost use Rattle.dos_world.specs.SignalSet.{allowed_mask, has_bit, with_bit, without_bit};
+ghost use Rattle.proc_table.specs.Saved.{first_signal, handled, is_open, lowest_open};
 
+use crate::processes::first_none;
+use dos_world::Regs;
 use std::marker::Model;
 
 // every bit but 0, which is no signal, and 9, which can't be masked
 const MASKABLE: u32 = 0xffff_fdfe;
 
-/// The signals of a thread as sets of bits, bit k for signal k: those that are pending, and its mask. Contracts see the
-/// record `Signals`; nothing is saved.
+// the signal that nothing keeps off
+const KILL: u8 = 9;
+
+// how many registers and masks may be saved
+const MOST_SAVED: u32 = 4;
+
+/// The signals of a thread as sets of bits, bit k for signal k: those that are pending, and its
+/// mask; and at most four saved registers and masks. Contracts see the record `Signals`, in which
+/// the last saved stands first.
 #[derive(Clone, Copy, Drop)]
 pub struct SignalState {
     pending: u32,
     mask: u32,
+    saved: [Option<(Regs, u32)>; 4],
 }
 
 impl Model for SignalState {
-    ghost use Rattle.std.specs.Prelude.{[]};
+    ghost use Rattle.std.specs.Prelude.{◌≡◌};
+    ghost use Rattle.std.proofs.Common.{sym};
     ghost use Rattle.proc_table.specs.Tables.{Signals};
+    ghost use Rattle.proc_table.specs.Saved.{filled, slots_of};
 
     ghost Value = { Signals };
 
-    ghost view = { λ s. record { pending = s.pending; mask = s.mask; saved = [] } };
+    ghost view = { λ s. record { pending = s.pending; mask = s.mask; saved = filled s.saved } };
 
-    ghost inverse = { λ s. record { pending = s.pending; mask = s.mask } };
+    ghost invariant = { λ s. s.saved ≡ slots_of 4 (filled s.saved) };
+
+    ghost inverse = { λ s.
+        record { pending = s.pending; mask = s.mask; saved = slots_of 4 s.saved } };
 }
 
 impl SignalState {
@@ -31,24 +47,108 @@ impl SignalState {
     pub fn new(mask: u32) -> SignalState
         ensures { result ≡ record { pending = 0; mask = allowed_mask mask; saved = [] } }
     {
-        SignalState {
-            pending: 0,
-            mask: mask & MASKABLE,
-        }
+        SignalState::masked(mask & MASKABLE)
     }
 
-    // The mask, as a set of bits.
-    pub(crate) fn mask(&self) -> u32
+    /// The signal is pending.
+    pub fn post(&mut self, signal: u8)
+        requires { signal < 32 }
+        ensures { self.new ≡ record self.old { pending = with_bit self.old.pending signal } }
+    {
+        self.pending |= 1 << signal;
+    }
+
+    /// The signal isn't pending any more.
+    pub fn clear(&mut self, signal: u8)
+        requires { signal < 32 }
+        ensures { self.new ≡ record self.old { pending = without_bit self.old.pending signal } }
+    {
+        self.pending = without(self.pending, signal);
+    }
+
+    /// The mask, a set of bits.
+    pub fn mask(&self) -> u32
         ensures { result ≡ self.now.mask }
     {
         self.mask
+    }
+
+    /// Sets the mask, less bits 0 and 9.
+    pub fn set_mask(&mut self, mask: u32)
+        ensures { self.new ≡ record self.old { mask = allowed_mask mask } }
+    {
+        self.mask = mask & MASKABLE;
+    }
+
+    /// How many registers and masks are saved, at most 4.
+    pub fn depth(&self) -> u32
+        ensures { result ≡ length self.now.saved }
+    {
+        match first_none(&self.saved) {
+            Some(place) => place as u32,
+            None => MOST_SAVED,
+        }
+    }
+
+    /// The signal that comes: 9 where it is pending, else the lowest pending one that isn't masked.
+    /// None exactly where there is neither.
+    pub fn first(&self) -> Option<u8>
+        ensures { result ≡ first_signal self.now.pending self.now.mask }
+    {
+        if has(self.pending, KILL) {
+            return Some(KILL);
+        }
+        lowest_open(self.pending, self.mask)
+    }
+
+    /// Saves these registers and the mask, as the last.
+    pub fn save(&mut self, regs: Regs)
+        requires { length self.old.saved < 4 }
+        ensures { self.new ≡ record self.old { saved = (regs, self.old.mask) ∷ self.old.saved } }
+    {
+        let [first, second, third, _] = self.saved;
+        let saved = [Some((regs, self.mask)), first, second, third];
+        self.saved = saved;
+    }
+
+    /// Takes back the mask that was saved last; the registers saved with it. None exactly where
+    /// nothing is saved; nothing changes then.
+    pub fn restore(&mut self) -> Option<Regs>
+        ensures none { IfNone result (self.old.saved ≡ []) }
+        ensures stays { IfNone result (self.new ≡ self.old) }
+        ensures last { IfSome result
+            (λ regs. self.old.saved ≡ (regs, self.new.mask) ∷ self.new.saved) }
+        ensures pending { self.new.pending ≡ self.old.pending }
+    {
+        let [last, second, third, fourth] = self.saved;
+        let (regs, mask) = last?;
+        self.mask = mask;
+        let others = [second, third, fourth, None];
+        self.saved = others;
+        Some(regs)
+    }
+
+    /// A handler of the signal begins: these registers and the mask are saved, the signal isn't
+    /// pending any more, and it is masked.
+    pub fn handle(&mut self, signal: u8, regs: Regs)
+        requires signal { signal < 32 }
+        requires room { length self.old.saved < 4 }
+        ensures { self.new ≡ handled self.old signal regs }
+    {
+        self.save(regs);
+        self.clear(signal);
+        self.mask |= 1 << signal;
     }
 
     // Nothing pending or saved, and exactly this mask.
     pub(crate) fn masked(mask: u32) -> SignalState
         ensures { result ≡ record { pending = 0; mask = mask; saved = [] } }
     {
-        SignalState { pending: 0, mask }
+        SignalState {
+            pending: 0,
+            mask,
+            saved: [None; 4],
+        }
     }
 
     // The same with nothing pending.
@@ -57,4 +157,33 @@ impl SignalState {
     {
         SignalState { pending: 0, ..self }
     }
+}
+
+// The lowest signal that is pending and not masked.
+fn lowest_open(pending: u32, mask: u32) -> Option<u8>
+    ensures { result ≡ lowest_open pending mask }
+{
+    for signal in 1..32 {
+        if has(pending, signal) && !has(mask, signal) {
+            return Some(signal);
+        }
+    }
+    None
+}
+
+fn without(set: u32, signal: u8) -> u32
+    requires { signal < 32 }
+    ensures { result ≡ without_bit set signal }
+{
+    if has(set, signal) {
+        return set - (1 << signal);
+    }
+    set
+}
+
+fn has(set: u32, signal: u8) -> bool
+    requires { signal < 32 }
+    ensures { result ≡ has_bit set signal }
+{
+    set >> signal & 1 == 1
 }

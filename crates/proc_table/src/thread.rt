@@ -18,5 +18,15 @@ impl Model for Thread {
 
     ghost Value = { Flat };
 
-    ghost view = { λ t. record { process = t.process; registers = t.regs; budget = t.budget; state = t.state; pending = t.signals.pending; mask = t.signals.mask; saved = t.signals.saved } };
+    ghost view = { λ t. record {
+      process = t.process;
+      registers = t.regs;
+      budget = t.budget;
+      state =
+          t.state;
+      pending = t.signals.pending;
+      mask = t.signals.mask;
+      saved =
+          t.signals.saved;
+    } };
 }

@@ -1,14 +1,17 @@
 // The threads that live, in rising number.
-ghost use Rattle.std.specs.Prelude.{◌≡◌, ◌==◌, ◌≤◌, find, count_by, slice_get, ◌<◌, ◌+◌, [], ◌∷◌, ◌++◌, length, map, option_map, None, Some, false, is_some, IfOk, IfErr, IsSome, IfSome};
+ghost use Rattle.std.specs.Prelude.{◌≡◌, ◌==◌, ◌≤◌, filter, find, count_by, slice_get, ◌<◌, ◌+◌, [], ◌∷◌, ◌++◌, length, map, option_map, None, Some, false, is_some, IfOk, IfErr, IsSome, IfSome};
 ghost use Rattle.dos_world.specs.Numbered.{changed, numbers_of};
 ghost use Rattle.dos_world.specs.World.{belongs_to, first_of, none_of, registers_by};
-ghost use Rattle.dos_world.specs.Kernel.{unless_of};
+ghost use Rattle.dos_world.specs.Kernel.{pending_with, unless_of};
 ghost use Rattle.dos_world.specs.Calls.{charged};
 ghost use Rattle.dos_world.specs.ThreadCalls.{are_threads_full};
 ghost use Rattle.proc_table.specs.Tables.{IsThread, next_in, ran, thread_in, with_budget};
 ghost use Rattle.proc_table.specs.Spread.{AreInOrder, IsAt, IsGapAbove, IsGapFor, live_in};
+ghost use Rattle.std.specs.Borrow.{sem};
+ghost use Rattle.proc_table.specs.Lending.{LendsThread};
 
 use crate::thread::Thread;
+use arrayvec::ArrayVec;
 use dos_world::Regs;
 use std::alloc::{AllocError, Global};
 use std::marker::Model;
@@ -18,8 +21,8 @@ const MOST_THREADS: u32 = 64;
 
 const LAST_NUMBER: u32 = 65535;
 
-// The live threads with their numbers, and how many numbers were given. Contracts see the list by number from 1; a thread
-// that is gone is None.
+// The live threads with their numbers, and how many numbers were given. Contracts see the list by
+// number from 1; a thread that is gone is None.
 #[derive(Drop)]
 pub(crate) struct Threads {
     live: Vec<(u32, Thread)>,
@@ -103,32 +106,14 @@ impl Threads {
         &self.live[place_of(&self.live, tid)].1
     }
 
-    pub(crate) fn set_regs(&mut self, tid: u32, regs: Regs)
+    // the thread, to be changed
+    pub(crate) fn get_mut(&mut self, tid: u32) -> &mut Thread
         requires { IsThread self.old tid }
-        ensures { self.new ≡ changed (option_map (registers_by (λ _. regs))) self.old tid }
+        ensures is { thread_in self.old tid ≡ Some result.now }
+        ensures* writes_back { sem 𝓛 (LendsThread self.entry tid result) }
     {
         let place = place_of(&self.live, tid);
-        let thread = &mut self.live[place].1;
-        thread.regs = regs;
-    }
-
-    pub(crate) fn set_budget(&mut self, tid: u32, budget: u32)
-        requires { IsThread self.old tid }
-        ensures { self.new ≡ changed (option_map (with_budget budget)) self.old tid }
-    {
-        let place = place_of(&self.live, tid);
-        let thread = &mut self.live[place].1;
-        thread.budget = budget;
-    }
-
-    pub(crate) fn set_run(&mut self, tid: u32, regs: Regs, budget: u32)
-        requires { IsThread self.old tid }
-        ensures { self.new ≡ changed (option_map (ran regs budget)) self.old tid }
-    {
-        let place = place_of(&self.live, tid);
-        let thread = &mut self.live[place].1;
-        thread.regs = regs;
-        thread.budget = budget;
+        &mut self.live[place].1
     }
 
     // one unit of the budget less, and nothing reserved
@@ -165,6 +150,13 @@ impl Threads {
         first_in(&self.live, pid)
     }
 
+    // the numbers of the process's threads, in rising order
+    pub(crate) fn numbers_of(&self, pid: u32) -> ArrayVec<u32, 64>
+        ensures { result.items ≡ numbers_of (belongs_to pid) self.now }
+    {
+        numbers_in(&self.live, pid)
+    }
+
     // how many threads the process has
     pub(crate) fn count_of(&self, pid: u32) -> u32
         ensures { result ≡ length (numbers_of (belongs_to pid) self.now) }
@@ -194,6 +186,19 @@ fn first_in(live: &[(u32, Thread)], pid: u32) -> Option<u32>
         Some(entry) => Some(entry.0),
         None => None,
     }
+}
+
+fn numbers_in(live: &[(u32, Thread)], pid: u32) -> ArrayVec<u32, 64>
+    requires { length live.now ≤ 64 }
+    ensures { result.items ≡ map (λ e. e.0) (filter (λ e. e.1.process == pid) live.now) }
+{
+    let mut numbers = ArrayVec::new();
+    for entry in live {
+        if belongs(entry, pid) {
+            numbers.push(entry.0);
+        }
+    }
+    numbers
 }
 
 fn count_in(live: &[(u32, Thread)], pid: u32) -> u32

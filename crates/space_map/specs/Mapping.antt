@@ -1,8 +1,9 @@
 -- What a space holds: its entries in rising page, and its room. This project's own rules.
-use Rattle.std.specs.Prelude.{◌≡◌, ◌<◌, ◌≤◌, ◌^◌, ℕ, false, not, ◌||◌, List, [], length, map, filter, IsSome, ◌==◌, slice_index_or}
+use Rattle.std.specs.Prelude.{◌≡◌, ◌<◌, ◌≤◌, ◌+◌, ◌^◌, ℕ, Bool, false, not, ◌&&◌, ◌||◌, nat_le, nat_lt, List, [], length, map, filter, IsSome, ◌==◌, slice_index_or}
 use Rattle.std.specs.List.Sorted.{IsStrictlyIncreasing}
 use Rattle.dos_world.specs.declared.Entry.{Entry}
 use Rattle.dos_world.specs.World.{look}
+use Rattle.dos_world.specs.MemoryCalls.{share_if}
 
 -- the pages with their entries, and how many there may be
 pub record Mapping : Type 0 where
@@ -29,6 +30,23 @@ marked page e = (e.0, record e.1 { shared = (e.0 == page) || e.1.shared })
 
 abbrev pub with_shared : ℕ → List (ℕ × Entry) → List (ℕ × Entry)
 with_shared page entries = map (marked page) entries
+
+-- ---- runs of pages
+
+-- whether an entry is of one of so many pages from this one on
+abbrev pub in_run : ℕ → ℕ → (ℕ × Entry) → Bool
+in_run page count e = nat_le page e.0 && nat_lt e.0 (page + count)
+
+-- the entries of the other pages
+abbrev pub without_run : ℕ → ℕ → List (ℕ × Entry) → List (ℕ × Entry)
+without_run page count entries = filter (λ e. not (in_run page count e)) entries
+
+-- an entry that is shared where it is of one of these pages
+abbrev pub shared_in_run : ℕ → ℕ → (ℕ × Entry) → ℕ × Entry
+shared_in_run page count e = (e.0, share_if (in_run page count e) e.1)
+
+abbrev pub with_shared_run : ℕ → ℕ → List (ℕ × Entry) → List (ℕ × Entry)
+with_shared_run page count entries = map (shared_in_run page count) entries
 
 -- ---- what a space keeps
 

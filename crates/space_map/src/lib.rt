@@ -4,6 +4,3 @@
 mod space;
 
 pub use space::Space;
-
-#[cfg(test)]
-mod tests;

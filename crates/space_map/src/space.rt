@@ -2,13 +2,16 @@
 ghost use Rattle.std.specs.Prelude.{◌≡◌, ◌<◌, ◌≤◌, length, None, Some, [], slice_get, IfOk, IfErr};
 ghost use Rattle.dos_world.specs.World.{look};
 ghost use Rattle.dos_world.specs.Kernel.{put};
-ghost use Rattle.space_map.specs.Mapping.{IsAt, IsGapFor, IsMapped, IsRising, empty, with_shared, without};
+ghost use Rattle.space_map.specs.Mapping.{IsAt, IsGapFor, IsMapped, IsRising, empty, in_run, shared_in_run, with_shared, with_shared_run, without, without_run};
+ghost use Rattle.std.specs.List.{list_any};
+ghost use Rattle.std.specs.Vec.{vec_capacity};
 
 use dos_world::Entry;
 use std::alloc::{AllocError, Global};
 use std::marker::Model;
 
-/// Pages with their entries. Contracts see the list of (page, entry) in strictly rising page, and the room for it.
+/// Pages with their entries. Contracts see the list of (page, entry) in strictly rising page, and
+/// the room for it.
 #[derive(Drop)]
 pub struct Space {
     entries: Vec<(u32, Entry)>,
@@ -116,6 +119,29 @@ impl Space {
         self.entries.clear();
     }
 
+    /// Whether one of `count` pages from this one on is mapped.
+    pub fn has_any(&self, page: u32, count: u32) -> bool
+        ensures { result ≡ list_any (in_run page count) self.now.entries }
+    {
+        any_in_run(&self.entries, page, count)
+    }
+
+    /// Unmaps those of `count` pages from this one on that are mapped. The other pages stay.
+    pub fn remove_run(&mut self, page: u32, count: u32)
+        ensures { self.new ≡ record self.old { entries = without_run page count self.old.entries } }
+    {
+        self.entries.retain(|entry| !is_in_run(entry, page, count));
+    }
+
+    /// Makes the entries shared of those of `count` pages from this one on that are mapped. Nothing
+    /// else changes.
+    pub fn share_run(&mut self, page: u32, count: u32)
+        ensures { self.new
+            ≡ record self.old { entries = with_shared_run page count self.old.entries } }
+    {
+        share_all(&mut self.entries, page, count);
+    }
+
     // where the page stands, or where it would
     fn search(&self, page: u32) -> Result<usize, usize>
         ensures found { IfOk result (IsAt self.now.entries page) }
@@ -124,4 +150,44 @@ impl Space {
         self.entries
             .binary_search_by_key(&page, |&(number, _)| number)
     }
+}
+
+fn is_in_run(entry: &(u32, Entry), page: u32, count: u32) -> bool
+    ensures { result ≡ in_run page count entry.now }
+{
+    page <= entry.0 && u64::from(entry.0) < u64::from(page) + u64::from(count)
+}
+
+fn any_in_run(entries: &[(u32, Entry)], page: u32, count: u32) -> bool
+    ensures { result ≡ list_any (in_run page count) entries.now }
+{
+    entries.iter().any(|entry| is_in_run(entry, page, count))
+}
+
+fn share_all(entries: &mut Vec<(u32, Entry)>, page: u32, count: u32)
+    ensures items { entries.new.items ≡ with_shared_run page count entries.old.items }
+    ensures capacity { vec_capacity entries.new ≡ vec_capacity entries.old }
+{
+    share_each(entries, page, count);
+}
+
+fn share_each(entries: &mut [(u32, Entry)], page: u32, count: u32)
+    ensures { entries.new ≡ with_shared_run page count entries.old }
+{
+    for entry in entries.iter_mut() {
+        *entry = shared(*entry, page, count);
+    }
+}
+
+fn shared(entry: (u32, Entry), page: u32, count: u32) -> (u32, Entry)
+    ensures { result ≡ shared_in_run page count entry }
+{
+    if is_in_run(&entry, page, count) {
+        let shared = Entry {
+            shared: true,
+            ..entry.1
+        };
+        return (entry.0, shared);
+    }
+    entry
 }

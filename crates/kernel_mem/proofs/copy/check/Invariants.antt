@@ -10,7 +10,8 @@ abbrev pub invariant-pages : goal.invariant-pages
 invariant-pages l = record {
   low : l.address ≤ l.next;
   high : l.next ≤ l.end;
-  reached : (w : World) (s : Held) → all_reach (in_world w s l.table) l.tid l.address (l.next - l.address) l.access ≡ true;
+  reached : (w : World) (s : Held)
+      → all_reach (in_world w s l.table) l.tid l.address (l.next - l.address) l.access ≡ true;
 }
 
 abbrev pub decreases-pages : goal.decreases-pages

@@ -6,5 +6,7 @@ use Rattle.kernel_mem.proofs.copy.open.Goals as goal
 
 pub owner-requires : goal.owner-requires
 owner-requires c =
-    let found : entry_in c.args.table.now c.args.tid c.args.address ≡ Some c.in-Some.entry = cc (c.in-Some.ensures) in
-    owned-within c.args.frames.now.owners c.in-Some.entry.frame (c.requires.mapped c.args.address c.in-Some.entry found)
+    let found : entry_in c.args.table.now c.args.tid c.args.address ≡ Some c.in-Some.entry =
+    cc (c.in-Some.ensures) in
+    owned-within c.args.frames.now.owners c.in-Some.entry.frame
+    (c.requires.mapped c.args.address c.in-Some.entry found)

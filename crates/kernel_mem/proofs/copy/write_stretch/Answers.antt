@@ -8,26 +8,45 @@ use Rattle.kernel_mem.proofs.copy.write_stretch.Goals as goal
 
 pub open-frame-requires-clause-allowed : goal.open-frame-requires-clause-allowed
 open-frame-requires-clause-allowed c =
-    let some : 0 < length c.args.part.now = grind (arith, nat_tests, c.is_empty.ensures, c.if-is_empty.false) in
-    stretch_allowed c.args.frames.now c.args.table.now c.args.tid c.args.address (length c.args.part.now) Store some c.requires.within c.requires.checked
+    let some : 0 < length c.args.part.now =
+    grind (arith, nat_tests, c.is_empty.ensures, c.if-is_empty.false) in
+    stretch_allowed c.args.frames.now c.args.table.now c.args.tid c.args.address
+    (length c.args.part.now) Store some c.requires.within c.requires.checked
 
 pub lend_mut-requires : goal.lend_mut-requires
 lend_mut-requires c =
-    let some : 0 < length c.args.part.now = grind (arith, nat_tests, c.is_empty.ensures, c.if-is_empty.false) in
-    let has : HasFrame c.args.table.now c.args.frames.now c.args.tid c.args.address Store c.open-frame.result =
-    frame_reached c.args.table.now c.args.frames.now c.args.tid c.args.address (length c.args.part.now) Store c.open-frame.result c.requires.mapped some c.requires.within c.requires.checked c.open-frame.ensures.frame in
-    opened-home c.args.frames.now c.open-frame.new.frames c.args.table.now c.args.tid c.args.address Store c.open-frame.result has c.requires.home c.open-frame.ensures.opens
+    let some : 0 < length c.args.part.now =
+    grind (arith, nat_tests, c.is_empty.ensures, c.if-is_empty.false) in
+    let has : HasFrame c.args.table.now c.args.frames.now c.args.tid c.args.address Store
+    c.open-frame.result =
+    frame_reached c.args.table.now c.args.frames.now c.args.tid c.args.address
+    (length c.args.part.now) Store c.open-frame.result c.requires.mapped some
+    c.requires.within c.requires.checked c.open-frame.ensures.frame in
+    opened-home c.args.frames.now c.open-frame.new.frames c.args.table.now c.args.tid c.args.address
+    Store c.open-frame.result has c.requires.home c.open-frame.ensures.opens
 
 pub returns-clause-copies : goal.returns-clause-copies
 returns-clause-copies c = λ w.
-    let some : 0 < length c.args.part.now = grind (arith, nat_tests, c.is_empty.ensures, c.if-is_empty.false) in
-    let has : HasFrame c.args.table.now c.args.frames.now c.args.tid c.args.address Store c.open-frame.result =
-    frame_reached c.args.table.now c.args.frames.now c.args.tid c.args.address (length c.args.part.now) Store c.open-frame.result c.requires.mapped some c.requires.within c.requires.checked c.open-frame.ensures.frame in
-    stretch_written w c.args.frames.now c.open-frame.new.frames c.args.table.now c.args.tid c.args.address c.open-frame.result c.lend_mut.result.now c.copy_from.new.self c.args.part.now has c.open-frame.ensures.opens some c.requires.within c.lend_mut.ensures.page c.copy_from.ensures
+    let some : 0 < length c.args.part.now =
+    grind (arith, nat_tests, c.is_empty.ensures, c.if-is_empty.false) in
+    let has : HasFrame c.args.table.now c.args.frames.now c.args.tid c.args.address Store
+    c.open-frame.result =
+    frame_reached c.args.table.now c.args.frames.now c.args.tid c.args.address
+    (length c.args.part.now) Store c.open-frame.result c.requires.mapped some
+    c.requires.within c.requires.checked c.open-frame.ensures.frame in
+    stretch_written w c.args.frames.now c.open-frame.new.frames c.args.table.now c.args.tid
+    c.args.address c.open-frame.result c.lend_mut.result.now c.copy_from.new.self
+    c.args.part.now has c.open-frame.ensures.opens some c.requires.within
+    c.lend_mut.ensures.page c.copy_from.ensures
 
 pub returns-clause-stays : goal.returns-clause-stays
 returns-clause-stays c =
-    let some : 0 < length c.args.part.now = grind (arith, nat_tests, c.is_empty.ensures, c.if-is_empty.false) in
-    let has : HasFrame c.args.table.now c.args.frames.now c.args.tid c.args.address Store c.open-frame.result =
-    frame_reached c.args.table.now c.args.frames.now c.args.tid c.args.address (length c.args.part.now) Store c.open-frame.result c.requires.mapped some c.requires.within c.requires.checked c.open-frame.ensures.frame in
-    written-others c.args.frames.now c.open-frame.new.frames c.open-frame.result c.args.tid c.copy_from.new.self c.requires.home has.owned c.open-frame.ensures.opens
+    let some : 0 < length c.args.part.now =
+    grind (arith, nat_tests, c.is_empty.ensures, c.if-is_empty.false) in
+    let has : HasFrame c.args.table.now c.args.frames.now c.args.tid c.args.address Store
+    c.open-frame.result =
+    frame_reached c.args.table.now c.args.frames.now c.args.tid c.args.address
+    (length c.args.part.now) Store c.open-frame.result c.requires.mapped some
+    c.requires.within c.requires.checked c.open-frame.ensures.frame in
+    written-others c.args.frames.now c.open-frame.new.frames c.open-frame.result c.args.tid
+    c.copy_from.new.self c.requires.home has.owned c.open-frame.ensures.opens

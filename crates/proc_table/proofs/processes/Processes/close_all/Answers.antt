@@ -1,17 +1,37 @@
-use Rattle.std.proofs.Common.{rules, vec_len, ◌≡◌, length, None, replicate, refl, arith}
-use Rattle.proc_table.proofs.Standing.{lives_in, found_in, within, ends_written, placed_ends}
+use Rattle.std.proofs.Common.{rules, vec_len, ◌≡◌, length, refl, arith}
+use Rattle.proc_table.specs.Tables.{without_ends}
+use Rattle.proc_table.proofs.Standing.{lives_in, found_in, within, belongings_written, placed_belongings}
 use Rattle.proc_table.proofs.processes.Processes.close_all.Goals as goal
 
 pub place_of-place-requires : goal.place_of-place-requires
-place_of-place-requires c = lives_in c.self.inside.records.items c.self.inside.holders c.self.inside.spaces.items c.self.inside.descriptors.items c.self.inside.live c.self.inside.room _ c.args.self.now c.self.view_is c.self.invariant _ c.args.pid c.deref.ensures.value c.requires
+place_of-place-requires c =
+    lives_in c.self.inside.records.items c.self.inside.holders c.self.inside.spaces.items
+    c.self.inside.belongings.items c.self.inside.live c.self.inside.room _ c.args.self.now
+    c.self.view_is c.self.invariant _ c.args.pid c.deref.ensures.value c.requires
 
 pub index_mut-requires : goal.index_mut-requires
 index_mut-requires c =
-    let count : vec_len c.self.inside.descriptors ≡ length c.self.inside.descriptors.items = search rules in
-    omega (arith, c.self.invariant.descriptors_count, within c.self.inside.records.items c.self.inside.holders c.self.inside.spaces.items c.self.inside.descriptors.items c.self.inside.live c.self.inside.room _ c.args.self.now c.self.view_is c.self.invariant c.args.pid c.place_of-place.result (found_in _ _ _ c.deref.ensures.value c.place_of-place.ensures))
+    let count : vec_len c.self.inside.belongings ≡ length c.self.inside.belongings.items =
+    search rules in
+    omega (
+      arith,
+      c.self.invariant.belongings_count,
+      within c.self.inside.records.items c.self.inside.holders c.self.inside.spaces.items
+          c.self.inside.belongings.items c.self.inside.live c.self.inside.room _
+          c.args.self.now c.self.view_is c.self.invariant c.args.pid c.place_of-place.result
+          (found_in _ _ _ c.deref.ensures.value c.place_of-place.ensures),
+    )
 
 pub invariant_of-self : goal.invariant_of-self
-invariant_of-self c = placed_ends c.self.inside.records.items c.self.inside.holders c.self.inside.spaces.items c.self.inside.descriptors.items c.self.inside.live c.self.inside.room _ c.args.self.now c.self.view_is c.self.invariant c.args.pid c.place_of-place.result (found_in _ _ _ c.deref.ensures.value c.place_of-place.ensures) _
+invariant_of-self c = placed_belongings c.self.inside.records.items c.self.inside.holders
+    c.self.inside.spaces.items c.self.inside.belongings.items c.self.inside.live
+    c.self.inside.room _ c.args.self.now c.self.view_is c.self.invariant c.args.pid
+    c.place_of-place.result (found_in _ _ _ c.deref.ensures.value c.place_of-place.ensures) _
 
 pub returns : goal.returns
-returns c = ends_written c.self.inside.records.items c.self.inside.holders c.self.inside.spaces.items c.self.inside.descriptors.items c.self.inside.live c.self.inside.room _ c.args.self.now c.self.view_is c.self.invariant c.args.pid c.place_of-place.result (found_in _ _ _ c.deref.ensures.value c.place_of-place.ensures) (λ _. replicate 32 None) c.index_mut.result.now _ c.index_mut.ensures.value refl
+returns c = belongings_written c.self.inside.records.items c.self.inside.holders
+    c.self.inside.spaces.items c.self.inside.belongings.items c.self.inside.live
+    c.self.inside.room _ c.args.self.now c.self.view_is c.self.invariant c.args.pid
+    c.place_of-place.result
+    (found_in _ _ _ c.deref.ensures.value c.place_of-place.ensures) without_ends
+    c.index_mut.result.now _ c.index_mut.ensures.value (λ space. refl)

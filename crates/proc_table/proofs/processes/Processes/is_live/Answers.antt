@@ -12,6 +12,11 @@ mapped f (Some n) = refl
 
 pub returns : goal.returns
 returns c =
-    c.is_some.ensures ∙ ap is_some (c.place_in.ensures ∙ ap (λ (rs : List Record). place_in rs c.args.pid) c.deref.ensures.value)
-    ∙ mapped (holdings_in c.self.inside.spaces.items c.self.inside.descriptors.items) (place_in c.self.inside.records.items c.args.pid)
-    ∙ sym (ap is_some (held_now c.self.inside.records.items c.self.inside.holders c.self.inside.spaces.items c.self.inside.descriptors.items c.self.inside.live c.self.inside.room _ c.args.self.now c.self.view_is c.self.invariant c.args.pid))
+    c.is_some.ensures ∙ ap is_some
+    (c.place_in.ensures
+    ∙ ap (λ (rs : List Record). place_in rs c.args.pid) c.deref.ensures.value)
+    ∙ mapped (holdings_in c.self.inside.spaces.items c.self.inside.belongings.items)
+    (place_in c.self.inside.records.items c.args.pid)
+    ∙ sym (ap is_some (held_now c.self.inside.records.items c.self.inside.holders
+    c.self.inside.spaces.items c.self.inside.belongings.items c.self.inside.live
+    c.self.inside.room _ c.args.self.now c.self.view_is c.self.invariant c.args.pid))

@@ -6,7 +6,18 @@ use Rattle.proc_table.proofs.processes.Processes.parent.Goals as goal
 pub index-requires : goal.index-requires
 index-requires c =
     let count : vec_len c.self.inside.records ≡ length c.self.inside.records.items = search rules in
-    omega (arith, given_within c.self.inside.records.items c.self.inside.holders c.self.inside.spaces.items c.self.inside.descriptors.items c.self.inside.live c.self.inside.room _ c.args.self.now c.self.view_is c.self.invariant c.args.pid c.requires)
+    omega (
+      arith,
+      given_within c.self.inside.records.items c.self.inside.holders
+          c.self.inside.spaces.items c.self.inside.belongings.items c.self.inside.live
+          c.self.inside.room _ c.args.self.now c.self.view_is c.self.invariant c.args.pid
+          c.requires,
+    )
 
 pub returns : goal.returns
-returns c = subst (λ (o : Option Process). IfSome o (λ process. c.index.result.now.parent ≡ process.parent)) (sym (record_read c.self.inside.records.items c.self.inside.holders c.self.inside.spaces.items c.self.inside.descriptors.items c.self.inside.live c.self.inside.room _ c.args.self.now c.self.view_is c.self.invariant c.args.pid c.index.result.now c.requires c.index.ensures)) refl
+returns c = subst (λ (o : Option Process). IfSome o
+    (λ process. c.index.result.now.parent ≡ process.parent))
+    (sym (record_read c.self.inside.records.items c.self.inside.holders
+    c.self.inside.spaces.items c.self.inside.belongings.items c.self.inside.live
+    c.self.inside.room _ c.args.self.now c.self.view_is c.self.invariant c.args.pid
+    c.index.result.now c.requires c.index.ensures)) refl

@@ -5,17 +5,41 @@ use Rattle.proc_table.proofs.Standing.{lives_in, found_in, within, holds, space_
 use Rattle.proc_table.proofs.processes.Processes.space.Goals as goal
 
 pub place_of-requires : goal.place_of-requires
-place_of-requires c = lives_in c.self.inside.records.items c.self.inside.holders c.self.inside.spaces.items c.self.inside.descriptors.items c.self.inside.live c.self.inside.room _ c.args.self.now c.self.view_is c.self.invariant _ c.args.pid c.deref.ensures.value c.requires
+place_of-requires c = lives_in c.self.inside.records.items c.self.inside.holders
+    c.self.inside.spaces.items c.self.inside.belongings.items c.self.inside.live
+    c.self.inside.room _ c.args.self.now c.self.view_is c.self.invariant _ c.args.pid
+    c.deref.ensures.value c.requires
 
 pub index-requires : goal.index-requires
 index-requires c =
     let count : vec_len c.self.inside.spaces ≡ length c.self.inside.spaces.items = search rules in
-    omega (arith, c.self.invariant.spaces_count, within c.self.inside.records.items c.self.inside.holders c.self.inside.spaces.items c.self.inside.descriptors.items c.self.inside.live c.self.inside.room _ c.args.self.now c.self.view_is c.self.invariant c.args.pid c.place_of.result (found_in _ _ _ c.deref.ensures.value c.place_of.ensures))
+    omega (
+      arith,
+      c.self.invariant.spaces_count,
+      within c.self.inside.records.items c.self.inside.holders c.self.inside.spaces.items
+          c.self.inside.belongings.items c.self.inside.live c.self.inside.room _
+          c.args.self.now c.self.view_is c.self.invariant c.args.pid c.place_of.result
+          (found_in _ _ _ c.deref.ensures.value c.place_of.ensures),
+    )
 
 pub returns-clause-entries : goal.returns-clause-entries
 returns-clause-entries c =
-    subst (λ (o : Option Holdings). IfSome o (λ h. c.index.result.now.entries ≡ h.space)) (sym (holds c.self.inside.records.items c.self.inside.holders c.self.inside.spaces.items c.self.inside.descriptors.items c.self.inside.live c.self.inside.room _ c.args.self.now c.self.view_is c.self.invariant c.args.pid c.place_of.result (found_in _ _ _ c.deref.ensures.value c.place_of.ensures)))
-    (ap (λ (s : Mapping). s.entries) (space_read c.self.inside.records.items c.self.inside.holders c.self.inside.spaces.items c.self.inside.descriptors.items c.self.inside.live c.self.inside.room _ c.args.self.now c.self.view_is c.self.invariant c.args.pid c.place_of.result (found_in _ _ _ c.deref.ensures.value c.place_of.ensures) c.index.result.now c.index.ensures))
+    subst (λ (o : Option Holdings). IfSome o (λ h. c.index.result.now.entries ≡ h.space))
+    (sym (holds c.self.inside.records.items c.self.inside.holders c.self.inside.spaces.items
+    c.self.inside.belongings.items c.self.inside.live c.self.inside.room _
+    c.args.self.now c.self.view_is c.self.invariant c.args.pid c.place_of.result
+    (found_in _ _ _ c.deref.ensures.value c.place_of.ensures)))
+    (ap (λ (s : Mapping). s.entries)
+    (space_read c.self.inside.records.items c.self.inside.holders
+    c.self.inside.spaces.items c.self.inside.belongings.items c.self.inside.live
+    c.self.inside.room _ c.args.self.now c.self.view_is c.self.invariant c.args.pid
+    c.place_of.result
+    (found_in _ _ _ c.deref.ensures.value c.place_of.ensures) c.index.result.now
+    c.index.ensures))
 
 pub returns-clause-room : goal.returns-clause-room
-returns-clause-room c = room_read c.self.inside.records.items c.self.inside.holders c.self.inside.spaces.items c.self.inside.descriptors.items c.self.inside.live c.self.inside.room _ c.args.self.now c.self.view_is c.self.invariant c.args.pid c.place_of.result (found_in _ _ _ c.deref.ensures.value c.place_of.ensures) c.index.result.now c.index.ensures
+returns-clause-room c = room_read c.self.inside.records.items c.self.inside.holders
+    c.self.inside.spaces.items c.self.inside.belongings.items c.self.inside.live
+    c.self.inside.room _ c.args.self.now c.self.view_is c.self.invariant c.args.pid
+    c.place_of.result
+    (found_in _ _ _ c.deref.ensures.value c.place_of.ensures) c.index.result.now c.index.ensures

@@ -1,5 +1,5 @@
 use Rattle.std.proofs.Common.{List, rules, vec_len, ◌≡◌, ℕ, length, Option, Some, None, IfSome, sym, ap, subst, arith}
-use Rattle.dos_world.specs.declared.End.{End}
+use Rattle.proc_table.specs.declared.record.Belongings.{Belongings}
 use Rattle.space_map.specs.Mapping.{Mapping}
 use Rattle.dos_world.specs.World.{Process}
 use Rattle.proc_table.specs.Tables.{last_status}
@@ -11,18 +11,38 @@ use Rattle.proc_table.proofs.processes.Processes.status.Goals as goal
 pub index-requires : goal.index-requires
 index-requires c =
     let count : vec_len c.self.inside.records ≡ length c.self.inside.records.items = search rules in
-    omega (arith, given_within c.self.inside.records.items c.self.inside.holders c.self.inside.spaces.items c.self.inside.descriptors.items c.self.inside.live c.self.inside.room _ c.args.self.now c.self.view_is c.self.invariant c.args.pid c.requires)
+    omega (
+      arith,
+      given_within c.self.inside.records.items c.self.inside.holders
+          c.self.inside.spaces.items c.self.inside.belongings.items c.self.inside.live
+          c.self.inside.room _ c.args.self.now c.self.view_is c.self.invariant c.args.pid
+          c.requires,
+    )
 
 -- the status of a process with this record
-abbrev kept_status : List Mapping → List (List (Option End)) → ℕ → Kept → Option ℕ
-kept_status S D parent k = last_status (let p : Process = record { parent = parent; life = life_by (holdings_in S D) k } in p)
+abbrev kept_status : List Mapping → List Belongings → ℕ → Kept → Option ℕ
+kept_status S D parent k =
+    last_status (let p : Process = record { parent = parent; life = life_by (holdings_in S D) k } in
+    p)
 
 pub returns-in-Live : goal.returns-in-Live
 returns-in-Live c =
-    subst (λ (o : Option Process). IfSome o (λ process. ◌≡◌ {A = Option ℕ} None (last_status process))) (sym (record_read c.self.inside.records.items c.self.inside.holders c.self.inside.spaces.items c.self.inside.descriptors.items c.self.inside.live c.self.inside.room _ c.args.self.now c.self.view_is c.self.invariant c.args.pid c.index.result.now c.requires c.index.ensures))
-    (sym (ap (kept_status c.self.inside.spaces.items c.self.inside.descriptors.items c.index.result.now.parent) c.in-Live.is))
+    subst (λ (o : Option Process). IfSome o
+    (λ process. ◌≡◌ {A = Option ℕ} None (last_status process)))
+    (sym (record_read c.self.inside.records.items c.self.inside.holders
+    c.self.inside.spaces.items c.self.inside.belongings.items c.self.inside.live
+    c.self.inside.room _ c.args.self.now c.self.view_is c.self.invariant c.args.pid
+    c.index.result.now c.requires c.index.ensures))
+    (sym (ap (kept_status c.self.inside.spaces.items c.self.inside.belongings.items
+    c.index.result.now.parent) c.in-Live.is))
 
 pub returns-in-Ended : goal.returns-in-Ended
 returns-in-Ended c =
-    subst (λ (o : Option Process). IfSome o (λ process. ◌≡◌ {A = Option ℕ} (Some c.in-Ended.status) (last_status process))) (sym (record_read c.self.inside.records.items c.self.inside.holders c.self.inside.spaces.items c.self.inside.descriptors.items c.self.inside.live c.self.inside.room _ c.args.self.now c.self.view_is c.self.invariant c.args.pid c.index.result.now c.requires c.index.ensures))
-    (sym (ap (kept_status c.self.inside.spaces.items c.self.inside.descriptors.items c.index.result.now.parent) c.in-Ended.is))
+    subst (λ (o : Option Process). IfSome o
+    (λ process. ◌≡◌ {A = Option ℕ} (Some c.in-Ended.status) (last_status process)))
+    (sym (record_read c.self.inside.records.items c.self.inside.holders
+    c.self.inside.spaces.items c.self.inside.belongings.items c.self.inside.live
+    c.self.inside.room _ c.args.self.now c.self.view_is c.self.invariant c.args.pid
+    c.index.result.now c.requires c.index.ensures))
+    (sym (ap (kept_status c.self.inside.spaces.items c.self.inside.belongings.items
+    c.index.result.now.parent) c.in-Ended.is))

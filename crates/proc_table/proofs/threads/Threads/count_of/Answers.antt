@@ -6,11 +6,17 @@ use Rattle.proc_table.proofs.Shown.{belonging}
 use Rattle.proc_table.proofs.threads.Threads.count_of.Goals as goal
 
 pub count_in-requires : goal.count_in-requires
-count_in-requires c = omega (arith, c.self.invariant.few, ap (λ (es : List (ℕ × Thread)). length es) c.deref.ensures.value)
+count_in-requires c = omega (
+  arith,
+  c.self.invariant.few,
+  ap (λ (es : List (ℕ × Thread)). length es) c.deref.ensures.value,
+)
 
 pub returns : goal.returns
 returns c =
     c.count_in.ensures
-    ∙ ap (λ (es : List (ℕ × Thread)). count_by (λ (e : ℕ × Thread). e.1.process == c.args.pid) es) c.deref.ensures.value
+    ∙ ap (λ (es : List (ℕ × Thread)). count_by (λ (e : ℕ × Thread). e.1.process == c.args.pid) es)
+    c.deref.ensures.value
     ∙ sym (length-filter (λ (e : ℕ × Thread). e.1.process == c.args.pid) c.self.inside.live.items)
-    ∙ sym (belonging c.self.inside.live.items c.self.inside.given _ c.args.self.now c.self.view_is c.self.invariant c.args.pid)
+    ∙ sym (belonging c.self.inside.live.items c.self.inside.given _ c.args.self.now c.self.view_is
+    c.self.invariant c.args.pid)

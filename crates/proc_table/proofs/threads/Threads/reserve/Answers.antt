@@ -5,4 +5,5 @@ use Rattle.proc_table.proofs.Spread.{spread_none}
 use Rattle.proc_table.proofs.threads.Threads.reserve.Goals as goal
 
 pub returns : goal.returns
-returns c = ap (λ (es : List (ℕ × Thread)). spread es 0) c.in_ok-with_capacity.ensures.items ∙ spread_none
+returns c = ap (λ (es : List (ℕ × Thread)). spread es 0) c.in_ok-with_capacity.ensures.items
+    ∙ spread_none

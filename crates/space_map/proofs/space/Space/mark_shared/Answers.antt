@@ -7,11 +7,19 @@ use Rattle.space_map.specs.contracts.space.Space.{the_view}
 use Rattle.space_map.proofs.space.Space.mark_shared.Goals as goal
 
 pub unreachable-requires : goal.unreachable-requires
-unreachable-requires c = nothing _ (look-gap c.args.self.now.entries c.args.page c.in-Err.field-0 c.in-Err.ensures.gap) c.requires
+unreachable-requires c = nothing _
+    (look-gap c.args.self.now.entries c.args.page c.in-Err.field-0 c.in-Err.ensures.gap)
+    c.requires
 
 pub returns : goal.returns
 returns c =
-    let at : IsAt c.self.inside.entries.items c.args.page c.in-Ok.place = subst (λ (m : Mapping). IsAt m.entries c.args.page c.in-Ok.place) (sym c.self.view_is) c.in-Ok.ensures.found in
-    let read : c.index.result.now ≡ get_or c.self.inside.entries.items c.in-Ok.place (0, no_entry) = get_or_read _ _ _ at.within c.index.ensures _ in
-    shown-changed (with_shared c.args.page) (the_view c.self.inside) c.args.self.now _ c.self.view_is
-    (set-shared c.self.inside.entries.items c.args.page c.in-Ok.place (c.args.page, record c.index.result.now.1 { shared = true }) c.self.invariant.rising at (ap (λ (e : ℕ × Entry). (c.args.page, record e.1 { shared = true })) read))
+    let at : IsAt c.self.inside.entries.items c.args.page c.in-Ok.place =
+    subst (λ (m : Mapping). IsAt m.entries c.args.page c.in-Ok.place)
+    (sym c.self.view_is) c.in-Ok.ensures.found in
+    let read : c.index.result.now ≡ get_or c.self.inside.entries.items c.in-Ok.place (0, no_entry) =
+    get_or_read _ _ _ at.within c.index.ensures _ in
+    shown-changed (with_shared c.args.page)
+    (the_view c.self.inside) c.args.self.now _ c.self.view_is
+    (set-shared c.self.inside.entries.items c.args.page c.in-Ok.place
+    (c.args.page, record c.index.result.now.1 { shared = true }) c.self.invariant.rising
+    at (ap (λ (e : ℕ × Entry). (c.args.page, record e.1 { shared = true })) read))

@@ -8,16 +8,25 @@ use Rattle.space_map.proofs.space.Space.put.Goals as goal
 pub unreachable-requires : goal.unreachable-requires
 unreachable-requires c =
     let rises = subst (λ (m : Mapping). Rises m.entries) c.self.view_is c.self.invariant.rising in
-    let never = sym (look-at c.args.self.now.entries c.args.page c.in-Ok.field-0 rises c.in-Ok.ensures.found) ∙ c.requires.unmapped in
+    let never = sym (look-at c.args.self.now.entries c.args.page c.in-Ok.field-0 rises
+    c.in-Ok.ensures.found) ∙ c.requires.unmapped in
     cc
 
 pub invariant_of-self : goal.invariant_of-self
 invariant_of-self c =
-    let gap = subst (λ (m : Mapping). IsGapFor m.entries c.args.page c.in-Err.place) (sym c.self.view_is) c.in-Err.ensures.gap in
-    let room = subst (λ (m : Mapping). length m.entries < m.room) (sym c.self.view_is) c.requires.room in
-    kept-put c.self.inside.entries.items _ c.self.inside.room _ _ c.args.page c.in-Err.place c.args.entry c.self.invariant gap room c.in-Ok-insert.ensures.items c.in-Ok-insert.ensures.capacity
+    let gap = subst (λ (m : Mapping). IsGapFor m.entries c.args.page c.in-Err.place)
+    (sym c.self.view_is) c.in-Err.ensures.gap in
+    let room = subst (λ (m : Mapping). length m.entries < m.room)
+    (sym c.self.view_is) c.requires.room in
+    kept-put c.self.inside.entries.items _ c.self.inside.room _ _ c.args.page c.in-Err.place
+    c.args.entry c.self.invariant gap room c.in-Ok-insert.ensures.items
+    c.in-Ok-insert.ensures.capacity
 
 pub returns : goal.returns
 returns c =
-    let gap = subst (λ (m : Mapping). IsGapFor m.entries c.args.page c.in-Err.place) (sym c.self.view_is) c.in-Err.ensures.gap in
-    shown-changed (put c.args.page c.args.entry) (the_view c.self.inside) c.args.self.now _ c.self.view_is (c.in-Ok-insert.ensures.items ∙ insert-put c.self.inside.entries.items c.args.page c.in-Err.place c.args.entry gap)
+    let gap = subst (λ (m : Mapping). IsGapFor m.entries c.args.page c.in-Err.place)
+    (sym c.self.view_is) c.in-Err.ensures.gap in
+    shown-changed (put c.args.page c.args.entry)
+    (the_view c.self.inside) c.args.self.now _ c.self.view_is
+    (c.in-Ok-insert.ensures.items
+    ∙ insert-put c.self.inside.entries.items c.args.page c.in-Err.place c.args.entry gap)

@@ -1,0 +1,2 @@
+pub mod Pipework
+pub mod Queue

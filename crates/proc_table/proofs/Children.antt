@@ -1,0 +1,302 @@
+-- The lowest child of a process: in the records, and in the processes that they stand for.
+use Rattle.std.proofs.Common.{◌≡◌, ◌≢◌, ℕ, zero, suc, ◌+◌, ◌-◌, ◌<◌, ◌≤◌, Bool, true, false, cond, List, [], ◌∷◌, map, length, get_or, slice_get, Option, Some, None, option_map, refl, sym, ap, ◌∙◌, arith}
+use Rattle.std.specs.Prelude.{not, ◌&&◌, ◌||◌, ◌==◌, filter, is_none, position}
+use Rattle.std.proofs.lemmas.Bool.{and_parts}
+use Rattle.std.proofs.lemmas.Option.{slice_get-get_or}
+use Rattle.std.proofs.lemmas.Bool.Decides.{nat_tests}
+use Rattle.std.proofs.lemmas.List.Quantifiers.{position-Some}
+use Rattle.dos_world.specs.Numbered.{numbered, places_from, numbers_of}
+use Rattle.dos_world.specs.World.{Process, first_of, has_ended, is_child, status_of}
+use Rattle.dos_world.specs.ProcessCalls.{any_process}
+use Rattle.space_map.specs.Mapping.{Mapping}
+use Rattle.proc_table.specs.Children.{children_in, outcome, outcome_by, status_in}
+use Rattle.proc_table.specs.declared.collected.Collected.TheVariants.{Got, Wait, NoChild}
+use Rattle.proc_table.specs.Places.{holdings_in, process_by, shown, has_come, is_child_record, is_collected, first_child, place_kept, place_of, status_or_0}
+use Rattle.proc_table.specs.declared.record.Belongings.{Belongings}
+use Rattle.proc_table.specs.declared.record.Kept.{Kept}
+use Rattle.proc_table.specs.declared.record.Kept.TheVariants.{Live, Ended}
+use Rattle.proc_table.specs.declared.record.Record.{Record}
+use Rattle.proc_table.proofs.Places.{none_passes, numbered_shown}
+
+-- whether a number names another, where 0 names all
+abbrev pub names : ℕ → ℕ → Bool
+names which p = (which == 0) || (which == p)
+
+names_all : (ps : List ℕ) → filter (names 0) ps ≡ ps
+names_all [] = refl
+names_all (p ∷ ps) = ap (λ qs. p ∷ qs) (names_all ps)
+
+names_it : (which p : ℕ) → which ≡ p → names which p ≡ true
+names_it which p same = grind (arith, nat_tests)
+
+names_no_other : (which p : ℕ) → 0 < which → which ≢ p → names which p ≡ false
+names_no_other which p some other = grind (arith, nat_tests)
+
+module _ {A : Type 0} (test : A → Bool) where
+  first_at : (n i : ℕ) (xs : List A) (d : A) → i < length xs → test (get_or xs i d) ≡ true
+      → ((k : ℕ) → k < i → test (get_or xs k d) ≡ false)
+      → first_of (places_from n test xs) ≡ Some (n + i)
+  first_at n i [] d h here below = absurd (omega arith)
+  first_at n zero (x ∷ xs) d h here below =
+      ap (λ b. first_of (cond b (n ∷ places_from (suc n) test xs) (places_from (suc n) test xs)))
+      here ∙ ap (λ k. Some k) (omega arith)
+  first_at n (suc i) (x ∷ xs) d h here below =
+      ap (λ b. first_of (cond b (n ∷ places_from (suc n) test xs) (places_from (suc n) test xs)))
+      (below 0 (omega arith))
+      ∙ first_at (suc n) i xs d (omega arith) here (λ k l. below (suc k) (omega arith))
+      ∙ ap (λ k. Some k) (omega arith)
+
+  none_at : (n : ℕ) (xs : List A) (d : A) → ((k : ℕ) → k < length xs → test (get_or xs k d) ≡ false)
+      → places_from n test xs ≡ []
+  none_at n [] d none = refl
+  none_at n (x ∷ xs) d none =
+      ap (λ b. cond b (n ∷ places_from (suc n) test xs) (places_from (suc n) test xs))
+      (none 0 (omega arith)) ∙ none_at (suc n) xs d (λ k l. none (suc k) (omega arith))
+
+  -- nothing below the first number is named
+  none_below : (n which : ℕ) (xs : List A) → 0 < which → which < n
+      → filter (names which) (places_from n test xs) ≡ []
+  none_below n which [] some below = refl
+  none_below n which (x ∷ xs) some below =
+      elim (test x) as (λ b.
+      filter (names which)
+      (cond b (n ∷ places_from (suc n) test xs) (places_from (suc n) test xs)) ≡ []) [
+        | true ↦ ap (λ b. cond b (n ∷ filter (names which) (places_from (suc n) test xs))
+            (filter (names which) (places_from (suc n) test xs)))
+            (names_no_other which n some (λ e. omega arith))
+            ∙ none_below (suc n) which xs some (omega arith)
+        | false ↦ none_below (suc n) which xs some (omega arith)
+      ]
+
+  -- the one that is named, where it passes
+  abbrev if_passes : ℕ → Option A → Option ℕ
+  if_passes which None = None
+  if_passes which (Some x) = cond (test x) (Some which) None
+
+  named_at : (n i which : ℕ) (xs : List A) → 0 < which → n + i ≡ which
+      → first_of (filter (names which) (places_from n test xs)) ≡ if_passes which (slice_get xs i)
+  named_at n i which [] some at = refl
+  named_at n zero which (x ∷ xs) some at =
+      elim (test x) as (λ b.
+      first_of (filter (names which)
+      (cond b (n ∷ places_from (suc n) test xs) (places_from (suc n) test xs)))
+      ≡ cond b (Some which) None) [
+        | true ↦ ap (λ b. first_of
+            (cond b (n ∷ filter (names which) (places_from (suc n) test xs))
+            (filter (names which) (places_from (suc n) test xs))))
+            (names_it which n (omega arith)) ∙ ap (λ k. Some k) (omega arith)
+        | false ↦ ap (first_of {A = ℕ}) (none_below (suc n) which xs some (omega arith))
+      ]
+  named_at n (suc i) which (x ∷ xs) some at =
+      elim (test x) as (λ b.
+      first_of (filter (names which)
+      (cond b (n ∷ places_from (suc n) test xs) (places_from (suc n) test xs)))
+      ≡ if_passes which (slice_get xs i)) [
+        | true ↦ ap (λ b. first_of
+            (cond b (n ∷ filter (names which) (places_from (suc n) test xs))
+            (filter (names which) (places_from (suc n) test xs))))
+            (names_no_other which n some (λ e. omega arith))
+            ∙ named_at (suc n) i which xs some (omega arith)
+        | false ↦ named_at (suc n) i which xs some (omega arith)
+      ]
+
+  -- the element of a number is there, and passes
+  abbrev pub Passes : ℕ → ℕ → List A → Type 0
+  Passes p n xs = (n ≤ p) × (p - n < length xs)
+      × ((x : A) → slice_get xs (p - n) ≡ Some x → test x ≡ true)
+
+  -- what is first is there, and passes
+  pub first_passes : (q : ℕ → Bool) (n p : ℕ) (xs : List A)
+      → first_of (filter q (places_from n test xs)) ≡ Some p → Passes p n xs
+  first_passes q n p [] e = cc
+  first_passes q n p (x ∷ xs) e = by (test x) refl e (first_passes q (suc n) p xs)
+    where
+      later : Passes p (suc n) xs → Passes p n (x ∷ xs)
+      later rest =
+          let one : p - n ≡ suc (p - suc n) = omega (arith, rest.0) in (
+            omega (arith, rest.0),
+            omega (arith, rest.0, rest.1),
+            λ y is.
+                rest.2 y (ap (slice_get (x ∷ xs)) (sym one) ∙ is),
+          )
+
+      by_name : (b : Bool) → test x ≡ true
+          → first_of (cond b (n ∷ filter q (places_from (suc n) test xs))
+          (filter q (places_from (suc n) test xs))) ≡ Some p
+          → (first_of (filter q (places_from (suc n) test xs)) ≡ Some p → Passes p (suc n) xs)
+          → Passes p n (x ∷ xs)
+      by_name true is e rest =
+          let same : n ≡ p = cc in
+          let here : p - n ≡ 0 = omega arith in (
+            omega arith,
+            omega arith,
+            λ y at. let it : Some x ≡ Some y =
+                ap (slice_get (x ∷ xs)) (sym here) ∙ at in let y_is : x ≡ y = cc in
+                ap test (sym y_is) ∙ is,
+          )
+      by_name false is e rest = later (rest e)
+
+      by : (b : Bool) → test x ≡ b
+          → first_of (filter q
+          (cond b (n ∷ places_from (suc n) test xs) (places_from (suc n) test xs))) ≡ Some p
+          → (first_of (filter q (places_from (suc n) test xs)) ≡ Some p → Passes p (suc n) xs)
+          → Passes p n (x ∷ xs)
+      by true is e rest = by_name (q n) is e rest
+      by false is e rest = later (rest e)
+
+-- ---- in the records
+
+pub lowest_found : (asked : Bool) (parent i : ℕ) (R : List Record)
+    → position (is_child_record asked parent) R ≡ Some i
+    → Some (i + 1) ≡ first_child asked R parent 0
+lowest_found asked parent i R e =
+    let d : Record = record { parent = 0; kept = Live 0 } in
+    let at = position-Some (is_child_record asked parent) R i d e in
+    sym (ap (first_of {A = ℕ}) (names_all (numbers_of (is_child_record asked parent) R))
+    ∙ first_at (is_child_record asked parent) 1 i R d at.0 at.1 at.2
+    ∙ ap (λ k. Some k) (omega arith))
+
+pub lowest_missing : (asked : Bool) (parent : ℕ) (R : List Record)
+    → position (is_child_record asked parent) R ≡ None → None ≡ first_child asked R parent 0
+lowest_missing asked parent R e =
+    let d : Record = record { parent = 0; kept = Live 0 } in
+    sym (ap (first_of {A = ℕ})
+    (names_all (numbers_of (is_child_record asked parent) R)
+    ∙ none_at (is_child_record asked parent) 1 R d
+    (none_passes (is_child_record asked parent) R d e)))
+
+pub named_is : (asked : Bool) (parent which : ℕ) (R : List Record) (o : Option Record) → 0 < which
+    → slice_get R (which - 1) ≡ o
+    → first_child asked R parent which ≡ if_passes (is_child_record asked parent) which o
+named_is asked parent which R o some is =
+    named_at (is_child_record asked parent) 1 (which - 1) which R some (omega arith)
+    ∙ ap (if_passes (is_child_record asked parent) which) is
+
+-- ---- in the processes
+
+abbrev pub test_of : Bool → Process → Bool
+test_of true = has_ended
+test_of false = any_process
+
+child_shown : (held : ℕ → _) (asked : Bool) (parent : ℕ) (r : Record)
+    → (is_child parent (process_by held r) && test_of asked (process_by held r))
+    ≡ is_child_record asked parent r
+child_shown held asked parent r = by asked r.kept
+  where
+    by : (asked : Bool) (k : Kept)
+        → (is_child parent (process_by held (record r { kept = k }))
+        && test_of asked (process_by held (record r { kept = k })))
+        ≡ is_child_record asked parent (record r { kept = k })
+    by true (Live place) = refl
+    by true (Ended status collected) = refl
+    by false (Live place) = refl
+    by false (Ended status collected) = refl
+
+places_shown : {A B : Type 0} (f : A → B) (t : B → Bool) (u : A → Bool) → ((x : A) → t (f x) ≡ u x)
+    → (n : ℕ) (xs : List A) → places_from n t (map f xs) ≡ places_from n u xs
+places_shown f t u same n [] = refl
+places_shown f t u same n (x ∷ xs) =
+    ap (λ b. cond b (n ∷ places_from (suc n) t (map f xs)) (places_from (suc n) t (map f xs)))
+    (same x)
+    ∙ ap (λ ps. cond (u x) (n ∷ ps) ps) (places_shown f t u same (suc n) xs)
+
+pub children_shown : (asked : Bool) (S : List Mapping) (D : List Belongings) (R : List Record)
+    (parent which : ℕ)
+    → first_of (children_in (test_of asked) (shown S D R) parent which)
+    ≡ first_child asked R parent which
+unfolding shown
+children_shown asked S D R parent which =
+    ap (λ ps. first_of (filter (names which) ps))
+    (places_shown (process_by (holdings_in S D))
+    (λ process. is_child parent process && test_of asked process)
+    (is_child_record asked parent) (child_shown (holdings_in S D) asked parent) 1 R)
+
+-- ---- what a wait comes to
+
+module _ (S : List Mapping) (D : List Belongings) (R : List Record) (ps : List Process)
+    (shows : shown S D R ≡ ps) (parent which : ℕ) where
+  first_is : (asked : Bool)
+      → first_of (children_in (test_of asked) ps parent which) ≡ first_child asked R parent which
+  first_is asked = ap (λ qs. first_of (children_in (test_of asked) qs parent which)) (sym shows)
+      ∙ children_shown asked S D R parent which
+
+  outcome_is : (any come : Option ℕ) → first_child false R parent which ≡ any
+      → first_child true R parent which ≡ come → outcome_by any come ps ≡ outcome ps parent which
+  outcome_is any come a b =
+      ap (λ o. outcome_by o come ps) (sym (first_is false ∙ a))
+      ∙ ap (λ o. outcome_by (first_of (children_in any_process ps parent which)) o ps)
+      (sym (first_is true ∙ b))
+
+  pub outcome_none : (o : Option ℕ) → first_child false R parent which ≡ o → is_none o ≡ true
+      → NoChild ≡ outcome ps parent which
+  outcome_none None e none = outcome_is None (first_child true R parent which) e refl
+  outcome_none (Some a) e none = cc
+
+  pub outcome_wait : (o : Option ℕ) → first_child false R parent which ≡ o → is_none o ≡ false
+      → first_child true R parent which ≡ None → Wait ≡ outcome ps parent which
+  outcome_wait None e some none = cc
+  outcome_wait (Some a) e some none = outcome_is (Some a) None e none
+
+  -- who is found has a record, and has ended
+  module _ (p : ℕ) (found : first_child true R parent which ≡ Some p) where
+    passes : Passes (is_child_record true parent) p 1 R
+    passes = first_passes (is_child_record true parent) (names which) 1 p R found
+
+    pub found_from : 1 ≤ p
+    found_from = passes.0
+
+    pub found_within : p - 1 < length R
+    found_within = passes.1
+
+    record_at : (x : Record) → x ≡ get_or R (p - 1) x → slice_get R (p - 1) ≡ Some x
+    record_at x read = slice_get-get_or R (p - 1) x found_within ∙ ap (λ r. Some r) (sym read)
+
+    pub found_ended : (x : Record) → x ≡ get_or R (p - 1) x → place_of x ≡ None
+    found_ended x read = by x.kept
+        (and_parts ((x.parent == parent) && not (is_collected x.kept)) (has_come true x.kept)
+        (passes.2 x (record_at x read))).1
+      where
+        by : (k : Kept) → has_come true k ≡ true → place_kept k ≡ None
+        by (Live place) e = cc
+        by (Ended status collected) e = refl
+
+    pub found_status : (x : Record) → x ≡ get_or R (p - 1) x → status_in ps p ≡ status_or_0 x.kept
+    found_status x read =
+        ap (λ qs. status_in qs p) (sym shows) ∙ ap status_by (numbered_shown S D R p)
+        ∙ ap (λ o. status_by (option_map (process_by (holdings_in S D)) o))
+        (given p found_from ∙ record_at x read) ∙ kept x.kept
+      where
+        status_by : Option Process → ℕ
+        status_by o = elim o [ None ↦ 0 | Some process ↦ status_of process ]
+
+        given : (p : ℕ) → 1 ≤ p → numbered R p ≡ slice_get R (p - 1)
+        given zero h = absurd (omega arith)
+        given (suc i) h = ap (slice_get R) (omega arith)
+
+        kept : (k : Kept)
+            → status_by (Some (process_by (holdings_in S D) (record x { kept = k })))
+            ≡ status_or_0 k
+        kept (Live place) = refl
+        kept (Ended status collected) = refl
+
+    pub outcome_got : (o : Option ℕ) → first_child false R parent which ≡ o → is_none o ≡ false
+        → (x : Record) → x ≡ get_or R (p - 1) x
+        → Got p (status_or_0 x.kept) ≡ outcome ps parent which
+    outcome_got None e some x read = cc
+    outcome_got (Some a) e some x read = ap (λ n. Got p n) (sym (found_status x read))
+        ∙ outcome_is (Some a) (Some p) e found
+
+  pub got_found : (p status : ℕ) → Got p status ≡ outcome ps parent which
+      → (first_child true R parent which ≡ Some p) × (status ≡ status_in ps p)
+  got_found p status e = by (first_child false R parent which)
+      (first_child true R parent which) refl
+      (e ∙ sym (outcome_is (first_child false R parent which)
+      (first_child true R parent which) refl refl))
+    where
+      by : (any come : Option ℕ) → first_child true R parent which ≡ come
+          → Got p status ≡ outcome_by any come ps → (first_child true R parent which ≡ Some p)
+          × (status ≡ status_in ps p)
+      by None come is e = cc
+      by (Some a) None is e = cc
+      by (Some a) (Some q) is e = let same : p ≡ q = cc in let value : status ≡ status_in ps q =
+          cc in (is ∙ ap (λ n. Some n) (sym same), value ∙ ap (status_in ps) (sym same))

@@ -1,0 +1,20 @@
+use Rattle.std.proofs.Common.{ℕ, List, length, map, sym, ap, ◌∙◌, refl, arith}
+use Rattle.std.specs.Prelude.{◌==◌, filter}
+use Rattle.dos_world.specs.World.{Thread, belongs_to}
+use Rattle.proc_table.proofs.Shown.{count_shown}
+use Rattle.proc_table.proofs.threads.Threads.numbers_of.Goals as goal
+
+pub numbers_in-requires : goal.numbers_in-requires
+numbers_in-requires c = omega (
+  arith,
+  c.self.invariant.few,
+  ap (λ (es : List (ℕ × Thread)). length es) c.deref.ensures.value,
+)
+
+pub returns : goal.returns
+returns c =
+    c.numbers_in.ensures ∙
+    ap (λ (es : List (ℕ × Thread)). map (λ (e : ℕ × Thread). e.0)
+    (filter (λ (e : ℕ × Thread). e.1.process == c.args.pid) es)) c.deref.ensures.value
+    ∙ sym (count_shown c.self.inside.live.items c.self.inside.given _ c.args.self.now c.self.view_is
+    c.self.invariant (belongs_to c.args.pid) refl)
