@@ -5,7 +5,8 @@ use Rattle.dos_world.specs.declared.Ending.TheVariants.{Done, Limit, Stalled}
 use Rattle.dos_world.specs.declared.Question.TheVariants as question
 use Rattle.elf_image.specs.declared.error.ImageError.TheVariants as image
 use Rattle.shim_log.specs.declared.refusal.LogError.TheVariants as log
-use Rattle.dos_cmd.specs.Lines.{line, words_refused, image_too_long, image_refused, no_room, log_too_long, log_refused, images_differ, digests_differ, misfit, file_fault, host_fault, out_of_memory, log_full}
+use Rattle.dos_cmd.specs.Exit.{line}
+use Rattle.dos_cmd.specs.Lines.{words_refused, image_too_long, image_refused, no_room, log_too_long, log_refused, images_differ, digests_differ, misfit, file_fault, host_fault, out_of_memory, log_full}
 
 abbrev ended : List ℕ
 ended = 10 ∷ []
@@ -60,11 +61,13 @@ of_refusal_10 : line (image_refused 1 image.Dynamic) ≡ codes "dos: image 1 ref
 unfolding digits
 of_refusal_10 = refl
 
-of_refusal_11 : line (image_refused 1 (image.Segment 0)) ≡ codes "dos: image 1 refused 11 at 0" ++ ended
+of_refusal_11 : line (image_refused 1 (image.Segment 0)) ≡ codes "dos: image 1 refused 11 at 0"
+    ++ ended
 unfolding digits
 of_refusal_11 = refl
 
-of_refusal_12 : line (image_refused 1 (image.Overlap 1 2)) ≡ codes "dos: image 1 refused 12 at 1 and 2" ++ ended
+of_refusal_12 : line (image_refused 1 (image.Overlap 1 2))
+    ≡ codes "dos: image 1 refused 12 at 1 and 2" ++ ended
 unfolding digits
 of_refusal_12 = refl
 
@@ -94,19 +97,23 @@ of_no_log : line (log_refused log.Magic) ≡ codes "dos: log refused: magic" ++ 
 unfolding digits
 of_no_log = refl
 
-of_another_version : line (log_refused (log.Version 2)) ≡ codes "dos: log refused: version 2" ++ ended
+of_another_version : line (log_refused (log.Version 2)) ≡ codes "dos: log refused: version 2"
+    ++ ended
 unfolding digits
 of_another_version = refl
 
-of_a_header_field : line (log_refused (log.Header 8)) ≡ codes "dos: log refused: header at 8" ++ ended
+of_a_header_field : line (log_refused (log.Header 8)) ≡ codes "dos: log refused: header at 8"
+    ++ ended
 unfolding digits
 of_a_header_field = refl
 
-of_an_entry_field : line (log_refused (log.Entry 52)) ≡ codes "dos: log refused: entry at 52" ++ ended
+of_an_entry_field : line (log_refused (log.Entry 52)) ≡ codes "dos: log refused: entry at 52"
+    ++ ended
 unfolding digits
 of_an_entry_field = refl
 
-of_a_byte_behind : line (log_refused (log.AfterEnd 64)) ≡ codes "dos: log refused: after end at 64" ++ ended
+of_a_byte_behind : line (log_refused (log.AfterEnd 64)) ≡ codes "dos: log refused: after end at 64"
+    ++ ended
 unfolding digits
 of_a_byte_behind = refl
 
@@ -114,25 +121,31 @@ of_another_count : line (images_differ 1 2) ≡ codes "dos: log has 1 images, gi
 unfolding digits
 of_another_count = refl
 
-of_another_digest : line (digests_differ 1 (0x0A ∷ 0xFF ∷ replicate 30 0x10) (replicate 32 0x9C)) ≡ codes "dos: image 1 has digest 0aff101010101010101010101010101010101010101010101010101010101010, log has 9c9c9c9c9c9c9c9c9c9c9c9c9c9c9c9c9c9c9c9c9c9c9c9c9c9c9c9c9c9c9c9c" ++ ended
+of_another_digest : line (digests_differ 1 (0x0A ∷ 0xFF ∷ replicate 30 0x10) (replicate 32 0x9C))
+    ≡ codes "dos: image 1 has digest 0aff101010101010101010101010101010101010101010101010101010101010, log has 9c9c9c9c9c9c9c9c9c9c9c9c9c9c9c9c9c9c9c9c9c9c9c9c9c9c9c9c9c9c9c9c" ++ ended
 unfolding digits
 of_another_digest = refl
 
 -- ---- a misfit, with each kind of question
 
-of_a_round : line (misfit 0 (question.Signals 2) (question.Signals 1)) ≡ codes "dos: log entry 0 is signals round 2, asked signals round 1" ++ ended
+of_a_round : line (misfit 0 (question.Signals 2) (question.Signals 1))
+    ≡ codes "dos: log entry 0 is signals round 2, asked signals round 1" ++ ended
 unfolding digits
 of_a_round = refl
 
-of_an_input : line (misfit 12 (question.Input 3 1 64) (question.Clock 3 2)) ≡ codes "dos: log entry 12 is input round 3 thread 1 max 64, asked clock round 3 thread 2" ++ ended
+of_an_input : line (misfit 12 (question.Input 3 1 64) (question.Clock 3 2))
+    ≡ codes "dos: log entry 12 is input round 3 thread 1 max 64, asked clock round 3 thread 2"
+    ++ ended
 unfolding digits
 of_an_input = refl
 
-of_an_end : line (misfit 1 (question.End Done 1) (question.End Limit 100000)) ≡ codes "dos: log entry 1 is end done rounds 1, asked end limit rounds 100000" ++ ended
+of_an_end : line (misfit 1 (question.End Done 1) (question.End Limit 100000))
+    ≡ codes "dos: log entry 1 is end done rounds 1, asked end limit rounds 100000" ++ ended
 unfolding digits
 of_an_end = refl
 
-of_a_stalled_end : line (misfit 1 (question.End Stalled 4294967295) (question.Signals 2)) ≡ codes "dos: log entry 1 is end stalled rounds 4294967295, asked signals round 2" ++ ended
+of_a_stalled_end : line (misfit 1 (question.End Stalled 4294967295) (question.Signals 2))
+    ≡ codes "dos: log entry 1 is end stalled rounds 4294967295, asked signals round 2" ++ ended
 unfolding digits
 of_a_stalled_end = refl
 

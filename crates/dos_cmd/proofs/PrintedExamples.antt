@@ -13,22 +13,35 @@ ended = 10 ∷ []
 -- ---- the report: a line for each process number, and how the run ended
 
 abbrev seen : List (Option ℕ) → Ending → ℕ → Seen
-seen statuses ending rounds = record { questions = []; output = codes "Hi"; error = []; statuses = statuses; ending = ending; rounds = rounds; work = 0 }
+seen statuses ending rounds =
+    record {
+      questions = [];
+      output = codes "Hi";
+      error = [];
+      statuses = statuses;
+      ending = ending;
+      rounds = rounds;
+      work = 0;
+    }
 
-one_process : report (seen (Some 7 ∷ []) Done 1) ≡ (codes "process 1 status 7" ++ ended) ++ codes "rounds 1 done" ++ ended
+one_process : report (seen (Some 7 ∷ []) Done 1) ≡ (codes "process 1 status 7" ++ ended)
+    ++ codes "rounds 1 done" ++ ended
 unfolding digits
 one_process = refl
 
-two_processes : report (seen (Some 7 ∷ Some 0 ∷ []) Done 1) ≡ (codes "process 1 status 7" ++ ended) ++ (codes "process 2 status 0" ++ ended) ++ codes "rounds 1 done" ++ ended
+two_processes : report (seen (Some 7 ∷ Some 0 ∷ []) Done 1) ≡ (codes "process 1 status 7" ++ ended)
+    ++ (codes "process 2 status 0" ++ ended) ++ codes "rounds 1 done" ++ ended
 unfolding digits
 two_processes = refl
 
 -- at the limit of rounds it lives still
-one_live : report (seen (None ∷ []) Limit 100000) ≡ (codes "process 1 live" ++ ended) ++ codes "rounds 100000 limit" ++ ended
+one_live : report (seen (None ∷ []) Limit 100000) ≡ (codes "process 1 live" ++ ended)
+    ++ codes "rounds 100000 limit" ++ ended
 unfolding digits
 one_live = refl
 
-one_waits : report (seen (None ∷ Some 143 ∷ []) Stalled 1) ≡ (codes "process 1 live" ++ ended) ++ (codes "process 2 status 143" ++ ended) ++ codes "rounds 1 stalled" ++ ended
+one_waits : report (seen (None ∷ Some 143 ∷ []) Stalled 1) ≡ (codes "process 1 live" ++ ended)
+    ++ (codes "process 2 status 143" ++ ended) ++ codes "rounds 1 stalled" ++ ended
 unfolding digits
 one_waits = refl
 
@@ -37,8 +50,23 @@ one_waits = refl
 linked : inspect_lines (record {
   entry = 0x000100B4;
   parts =
-      record { address = 0x00010000; bytes = replicate 192 0; zeros = 0; write = false; exec = true; index = 1 }
-      ∷ record { address = 0x000110C0; bytes = replicate 4 0; zeros = 60; write = true; exec = false; index = 2 } ∷ [];
+      record {
+        address = 0x00010000;
+        bytes = replicate 192 0;
+        zeros = 0;
+        write = false;
+        exec = true;
+        index = 1;
+      }
+      ∷ record {
+        address = 0x000110C0;
+        bytes = replicate 4 0;
+        zeros = 60;
+        write = true;
+        exec =
+            false;
+        index = 2;
+      } ∷ [];
 }) ≡ (codes "entry 000100b4" ++ ended)
     ++ (codes "load 00010000 file 192 memory 192 rights r-x" ++ ended)
     ++ codes "load 000110c0 file 4 memory 64 rights rw-" ++ ended
@@ -48,7 +76,8 @@ linked = refl
 -- ---- gen, with the digest of what was printed
 
 generated : summary_lines (seen (Some 0 ∷ []) Done 13) (0x0A ∷ replicate 31 0xFF)
-    ≡ (codes "rounds 13 done" ++ ended) ++ (codes "process 1 status 0" ++ ended) ++ (codes "output 2 bytes" ++ ended)
+    ≡ (codes "rounds 13 done" ++ ended) ++ (codes "process 1 status 0" ++ ended)
+    ++ (codes "output 2 bytes" ++ ended)
     ++ codes "sha256 0affffffffffffffffffffffffffffffffffffffffffffffffffffffffffffff" ++ ended
 unfolding digits
 generated = refl

@@ -1,55 +1,101 @@
--- The exit statuses, and the one line of each message. This project's own tables.
-use Rattle.std.specs.Prelude.{ℕ, List, [], Option, Some, None}
+-- How a call ends: the one table of its statuses and lines, and what follows from it. This
+-- project's own.
+use Rattle.std.specs.Prelude.{◌≡◌, ◌⊎◌, ℕ, List, [], ◌++◌, Option, Some, None, codes, decimal}
 use Rattle.dos_world.specs.declared.Ending.{Ending}
-use Rattle.dos_world.specs.declared.Ending.TheVariants as endings
-use Rattle.dos_cmd.specs.Lines.{Message, line, words_refused, image_too_long, image_refused, no_room, file_fault, out_of_memory}
-use Rattle.dos_cmd.specs.declared.exit.Exit.{Exit}
-use Rattle.dos_cmd.specs.declared.exit.Exit.TheVariants as exits
+use Rattle.dos_world.specs.declared.Ending.TheVariants.{Done, Limit, Stalled}
+use Rattle.dpg_run.specs.Report.{line_feed}
+use Rattle.elf_image.specs.Image.{refusal_number}
+use Rattle.dos_cmd.specs.Lines.{Message, words_refused, image_too_long, image_refused, no_room, log_too_long, log_refused, images_differ, digests_differ, misfit, file_fault, host_fault, out_of_memory, log_full, indexes_text, refusal_text, question_text, digest_text}
 use Rattle.dos_cmd.specs.declared.exit.Refusal.{Refusal}
 use Rattle.dos_cmd.specs.declared.exit.Refusal.TheVariants as refusals
 
--- the exit status of each way to end
-unfoldable pub exit_number : Exit → ℕ
-exit_number exits.Done = 0
-exit_number exits.Words = 2
-exit_number exits.Image = 3
-exit_number exits.Files = 5
-exit_number exits.Sink = 6
-exit_number exits.Limit = 7
-exit_number exits.Stalled = 8
-exit_number exits.Memory = 9
+-- ---- the table
 
--- how a call ends whose run ended so
-abbrev pub exit_by : Ending → Exit
-exit_by endings.Done = exits.Done
-exit_by endings.Limit = exits.Limit
-exit_by endings.Stalled = exits.Stalled
+-- It ends as a run came to its ending, of which an inspected image has Done; with a message; or
+-- because a put failed.
+pub data Exit : Type 0 where
+  by_ending : Ending → Exit
+  by_message : Message → Exit
+  by_sink : Exit
+
+-- an exit's status, and what its one line says
+pub record Row : Type 0 where
+  pub status : ℕ
+  pub text : Option (List ℕ)
+
+-- no line
+abbrev pub silent : ℕ → Row
+silent status = record { status = status; text = None }
+
+-- this text between `dos: ` and a line feed
+abbrev pub saying : ℕ → List ℕ → Row
+saying status text = record { status = status; text = Some text }
+
+abbrev pub row : Exit → Row
+row (by_ending Done) = silent 0
+row (by_message words_refused) = saying 2 (codes "words refused")
+row (by_message (image_too_long i)) = saying 3 (codes "image " ++ decimal i ++ codes " too long")
+row (by_message (image_refused i refusal)) =
+    saying 3 (codes "image " ++ decimal i ++ codes " refused " ++ decimal (refusal_number refusal)
+    ++ indexes_text refusal)
+row (by_message (no_room needed frames)) =
+    saying 3 (codes "needs " ++ decimal needed ++ codes " frames, has " ++ decimal frames)
+row (by_message log_too_long) = saying 4 (codes "log too long")
+row (by_message (log_refused refusal)) = saying 4 (codes "log refused: " ++ refusal_text refusal)
+row (by_message (images_differ logged given)) =
+    saying 4 (codes "log has " ++ decimal logged ++ codes " images, given " ++ decimal given)
+row (by_message (digests_differ i digest logged)) =
+    saying 4 (codes "image " ++ decimal i ++ codes " has digest " ++ digest_text digest
+    ++ codes ", log has " ++ digest_text logged)
+row (by_message (misfit entry kept asked)) =
+    saying 4 (codes "log entry " ++ decimal entry ++ codes " is " ++ question_text kept
+    ++ codes ", asked " ++ question_text asked)
+row (by_message file_fault) = saying 5 (codes "file fault")
+row (by_message host_fault) = saying 5 (codes "host fault")
+row by_sink = silent 6
+row (by_ending Limit) = silent 7
+row (by_ending Stalled) = silent 8
+row (by_message out_of_memory) = saying 9 (codes "out of memory")
+row (by_message log_full) = saying 10 (codes "log full")
+
+-- ---- what follows from it
+
+-- the exit status
+abbrev pub status : Exit → ℕ
+status exit = (row exit).status
+
+-- the line of this text, if any
+abbrev pub line_with : Option (List ℕ) → List ℕ
+line_with None = []
+line_with (Some text) = codes "dos: " ++ text ++ line_feed
+
+-- the one line of a message
+abbrev pub line : Message → List ℕ
+line message = line_with (row (by_message message)).text
+
+-- of a run that came to its ending
+abbrev pub ending_status : Ending → ℕ
+ending_status ending = status (by_ending ending)
 
 -- how a call ends that was refused
-unfoldable pub exit_of : Refusal → Exit
-exit_of refusals.Words = exits.Words
-exit_of (refusals.TooLong image) = exits.Image
-exit_of (refusals.Image image error) = exits.Image
-exit_of (refusals.NoRoom needed frames) = exits.Image
-exit_of refusals.Files = exits.Files
-exit_of refusals.Sink = exits.Sink
-exit_of refusals.Memory = exits.Memory
+abbrev pub exit_of : Refusal → Exit
+exit_of refusals.Words = by_message words_refused
+exit_of (refusals.TooLong image) = by_message (image_too_long image)
+exit_of (refusals.Image image error) = by_message (image_refused image error)
+exit_of (refusals.NoRoom needed frames) = by_message (no_room needed frames)
+exit_of refusals.Files = by_message file_fault
+exit_of refusals.Sink = by_sink
+exit_of refusals.Memory = by_message out_of_memory
 
--- what is said of a refusal: nothing once a sink has failed
-abbrev pub message_of : Refusal → Option Message
-message_of refusals.Words = Some words_refused
-message_of (refusals.TooLong image) = Some (image_too_long image)
-message_of (refusals.Image image error) = Some (image_refused image error)
-message_of (refusals.NoRoom needed frames) = Some (no_room needed frames)
-message_of refusals.Files = Some file_fault
-message_of refusals.Sink = None
-message_of refusals.Memory = Some out_of_memory
+-- its status
+unfoldable pub refusal_status : Refusal → ℕ
+refusal_status refusal = status (exit_of refusal)
 
--- the line of a message, where there is one
-abbrev pub line_if : Option Message → List ℕ
-line_if None = []
-line_if (Some message) = line message
-
--- the one line of a refusal
+-- its one line; nothing once a sink has failed
 unfoldable pub line_of : Refusal → List ℕ
-line_of refusal = line_if (message_of refusal)
+line_of refusal = line_with (row (exit_of refusal)).text
+
+-- the exit statuses that come today
+abbrev pub IsStatus : ℕ → Type 0
+IsStatus n = ((ending : Ending) × (n ≡ ending_status ending))
+    ⊎ ((refusal : Refusal) × (n ≡ refusal_status refusal))

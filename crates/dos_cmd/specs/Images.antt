@@ -21,7 +21,8 @@ judged number (Err error) = Err (refusals.Image number error)
 
 -- the image that a file is, or why it is refused
 unfoldable pub verdict : ℕ → List ℕ → Result Image Refusal
-verdict number file = if nat_lt limit (length file) then Err (refusals.TooLong number) else judged number (image file)
+verdict number file = if nat_lt limit (length file) then Err
+    (refusals.TooLong number) else judged number (image file)
 
 -- ---- all of them, in order: the first refusal counts
 
@@ -43,16 +44,21 @@ then_images (Ok parsed) others = option_map (with_image parsed) others
 abbrev pub images_from : ℕ → List (Option (List ℕ)) → Option Judgement
 images_from number [] = Some (Ok [])
 images_from number (None ∷ files) = None
-images_from number (Some file ∷ files) = let others : Option Judgement = images_from (suc number) files in then_images (verdict number file) others
+images_from number (Some file ∷ files) = let others : Option Judgement =
+    images_from (suc number) files in then_images (verdict number file) others
 
 -- ---- room
 
 -- A group needs its images' pages, with 16 for each stack.
 abbrev pub with_room : Config → Judgement → Judgement
 with_room config (Err why) = Err why
-with_room config (Ok images) = if nat_lt config.frames (needed images) then Err (refusals.NoRoom (needed images) config.frames) else Ok images
+with_room config (Ok images) =
+    if nat_lt config.frames (needed images) then Err
+    (refusals.NoRoom (needed images) config.frames) else Ok images
 
--- what is asked for is judged by what the files tell under its names; None where that leaves it open
+-- what is asked for is judged by what the files tell under its names; None where that leaves it
+-- open
 abbrev pub judgement : (Text → Option (List ℕ)) → Asked → Option Judgement
-judgement contents (runs config names) = option_map (with_room config) (images_from 1 (map contents names))
+judgement contents (runs config names) =
+    option_map (with_room config) (images_from 1 (map contents names))
 judgement contents (inspects name) = images_from 1 (contents name ∷ [])

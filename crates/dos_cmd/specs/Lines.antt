@@ -1,17 +1,15 @@
--- The message lines, and the statuses that they end with. This project's own texts; numbers are decimal.
+-- The messages, and the parts of their lines. This project's own texts; numbers are decimal.
 use Rattle.std.specs.Prelude.{ℕ, zero, suc, ◌+◌, ◌/◌, ◌%◌, List, [], ◌∷◌, ◌++◌, flat_map, nat_lt, if◌then◌else◌, codes, decimal}
-use Rattle.dos_world.specs.declared.Ending.{Ending}
-use Rattle.dos_world.specs.declared.Ending.TheVariants.{Done, Limit, Stalled}
 use Rattle.dos_world.specs.declared.Question.{Question}
 use Rattle.dos_world.specs.declared.Question.TheVariants.{Signals, Input, Clock, End}
-use Rattle.dpg_run.specs.Report.{ending_word, line_feed}
-use Rattle.elf_image.specs.Image.{refusal_number}
+use Rattle.dpg_run.specs.Report.{ending_word}
 use Rattle.elf_image.specs.declared.error.ImageError.{ImageError}
 use Rattle.elf_image.specs.declared.error.ImageError.TheVariants.{Segment, Overlap}
 use Rattle.shim_log.specs.declared.refusal.LogError.{LogError}
 use Rattle.shim_log.specs.declared.refusal.LogError.TheVariants.{Short, Magic, Version, Header, Entry, AfterEnd}
 
--- Images are counted from 1 in the order of the words, a log's entries from 0. Want of memory refuses no image.
+-- Images are counted from 1 in the order of the words, a log's entries from 0. Want of memory
+-- refuses no image.
 pub data Message : Type 0 where
   words_refused : Message
   image_too_long : (image : ℕ) → Message
@@ -62,56 +60,9 @@ refusal_text (AfterEnd place) = codes "after end at " ++ decimal place
 -- a question
 abbrev pub question_text : Question → List ℕ
 question_text (Signals round) = codes "signals round " ++ decimal round
-question_text (Input round tid max) = codes "input round " ++ decimal round ++ codes " thread " ++ decimal tid ++ codes " max " ++ decimal max
-question_text (Clock round tid) = codes "clock round " ++ decimal round ++ codes " thread " ++ decimal tid
-question_text (End ending rounds) = codes "end " ++ ending_word ending ++ codes " rounds " ++ decimal rounds
-
--- ---- the line
-
--- the line without its beginning and its end
-abbrev pub message_text : Message → List ℕ
-message_text words_refused = codes "words refused"
-message_text (image_too_long i) = codes "image " ++ decimal i ++ codes " too long"
-message_text (image_refused i refusal) = codes "image " ++ decimal i ++ codes " refused " ++ decimal (refusal_number refusal) ++ indexes_text refusal
-message_text (no_room needed frames) = codes "needs " ++ decimal needed ++ codes " frames, has " ++ decimal frames
-message_text log_too_long = codes "log too long"
-message_text (log_refused refusal) = codes "log refused: " ++ refusal_text refusal
-message_text (images_differ logged given) = codes "log has " ++ decimal logged ++ codes " images, given " ++ decimal given
-message_text (digests_differ i digest logged) = codes "image " ++ decimal i ++ codes " has digest " ++ digest_text digest ++ codes ", log has " ++ digest_text logged
-message_text (misfit entry kept asked) = codes "log entry " ++ decimal entry ++ codes " is " ++ question_text kept ++ codes ", asked " ++ question_text asked
-message_text file_fault = codes "file fault"
-message_text host_fault = codes "host fault"
-message_text out_of_memory = codes "out of memory"
-message_text log_full = codes "log full"
-
--- the whole line
-abbrev pub line : Message → List ℕ
-line message = codes "dos: " ++ message_text message ++ line_feed
-
--- ---- the exit status
-
--- with a message
-abbrev pub message_status : Message → ℕ
-message_status words_refused = 2
-message_status (image_too_long i) = 3
-message_status (image_refused i refusal) = 3
-message_status (no_room needed frames) = 3
-message_status log_too_long = 4
-message_status (log_refused refusal) = 4
-message_status (images_differ logged given) = 4
-message_status (digests_differ i digest logged) = 4
-message_status (misfit entry kept asked) = 4
-message_status file_fault = 5
-message_status host_fault = 5
-message_status out_of_memory = 9
-message_status log_full = 10
-
--- a sink that failed, in place of any other
-abbrev pub sink_status : ℕ
-sink_status = 6
-
--- of a run that came to its ending
-abbrev pub ending_status : Ending → ℕ
-ending_status Done = 0
-ending_status Limit = 7
-ending_status Stalled = 8
+question_text (Input round tid max) = codes "input round " ++ decimal round ++ codes " thread "
+    ++ decimal tid ++ codes " max " ++ decimal max
+question_text (Clock round tid) = codes "clock round " ++ decimal round ++ codes " thread "
+    ++ decimal tid
+question_text (End ending rounds) = codes "end " ++ ending_word ending ++ codes " rounds "
+    ++ decimal rounds

@@ -20,7 +20,8 @@ rights part = 114 ∷ right 119 part.write ∷ right 120 part.exec ∷ []
 -- the line of a part
 unfoldable pub part_line : Part → List ℕ
 part_line part =
-    codes "load " ++ hex 8 part.address ++ codes " file " ++ decimal (length part.bytes) ++ codes " memory " ++ decimal (size_of part)
+    codes "load " ++ hex 8 part.address ++ codes " file " ++ decimal (length part.bytes)
+    ++ codes " memory " ++ decimal (size_of part)
     ++ codes " rights " ++ rights part ++ line_feed
 
 -- the first line

@@ -1,5 +1,6 @@
--- What a call leaves behind, by how it ended. This project's own rules. "Sinks" are what output and error tell before the call, and after it.
-use Rattle.std.specs.Prelude.{◌≡◌, ◌≤◌, ◌<◌, ◌⊎◌, ℕ, List, [], ◌∷◌, ◌++◌, replicate, Option, Some, None, IfSome, Ok, Err}
+-- What a call leaves behind, by how it ended. This project's own rules. "Sinks" are what output and
+-- error tell before the call, and after it.
+use Rattle.std.specs.Prelude.{◌≡◌, ◌≤◌, ◌<◌, ◌⊎◌, ⊤, ℕ, List, [], ◌∷◌, ◌++◌, replicate, Option, Some, None, IfSome, Ok, Err}
 use Rattle.dos_world.specs.Play.{posts}
 use Rattle.dos_world.specs.declared.Config.{Config}
 use Rattle.dos_io.specs.Outside.{grown, GrewByFront}
@@ -9,10 +10,9 @@ use Rattle.dpg_run.specs.Machine.{Seen, Ran as Outcome, ends, needs, machine}
 use Rattle.dpg_run.specs.Report.{report}
 use Rattle.dos_cmd.specs.Words.{Text, Asked, runs, inspects, request}
 use Rattle.dos_cmd.specs.Images.{judgement}
-use Rattle.dos_cmd.specs.Exit.{exit_of, line_of}
-use Rattle.dos_cmd.specs.Lines.{line, ending_status, file_fault, out_of_memory}
+use Rattle.dos_cmd.specs.Exit.{line, line_of, ending_status, refusal_status}
+use Rattle.dos_cmd.specs.Lines.{words_refused, file_fault, out_of_memory}
 use Rattle.dos_cmd.specs.Printed.{inspect_lines}
-use Rattle.dos_cmd.specs.declared.exit.Exit.TheVariants as exits
 use Rattle.dos_cmd.specs.declared.exit.Refusal.{Refusal}
 use Rattle.dos_cmd.specs.declared.exit.Refusal.TheVariants as refusals
 
@@ -23,7 +23,14 @@ pub record Sinks : Type 0 where
   pub err_now : Option (List ℕ)
 
 abbrev pub sinks : (out_before err_before out_now err_now : Option (List ℕ)) → Sinks
-sinks out_before err_before out_now err_now = record { out_before = out_before; err_before = err_before; out_now = out_now; err_now = err_now }
+sinks out_before err_before out_now err_now =
+    record {
+      out_before = out_before;
+      err_before = err_before;
+      out_now = out_now;
+      err_now =
+          err_now;
+    }
 
 -- both grew by these bytes
 pub record Grew (s : Sinks) (out err : List ℕ) : Type 0 where
@@ -46,7 +53,8 @@ pub record SaysOnly (s : Sinks) (line : List ℕ) : Type 0 where
 abbrev pub quiet_run : List Image → Config → Outcome
 quiet_run images config = machine images config (replicate config.rounds (posts []))
 
--- The images were run as one group. The run tells the status and what the sinks grew by: its output; its error bytes and then its report.
+-- The images were run as one group. The run tells the status and what the sinks grew by: its
+-- output; its error bytes and then its report.
 pub record Ran (images : List Image) (config : Config) (status : ℕ) (s : Sinks) : Type 0 where
   pub seen : Seen
   pub is : quiet_run images config ≡ ends seen
@@ -66,13 +74,15 @@ DidWith (runs config names) images status s = Ran images config status s
 DidWith (inspects name) images status s = Inspected images status s
 
 -- What was asked for was done with images that the files are, as far as they tell.
-pub record Did (contents : Text → Option (List ℕ)) (asked : Asked) (status : ℕ) (s : Sinks) : Type 0 where
+pub record Did (contents : Text → Option (List ℕ)) (asked : Asked) (status : ℕ)
+    (s : Sinks) : Type 0 where
   pub images : List Image
   pub taken : IfSome (judgement contents asked) (λ j. j ≡ Ok images)
   pub with_images : DidWith asked images status s
 
 -- The words ask for something, and it was done.
-pub record Finished (contents : Text → Option (List ℕ)) (words : List Text) (status : ℕ) (s : Sinks) : Type 0 where
+pub record Finished (contents : Text → Option (List ℕ)) (words : List Text) (status : ℕ)
+    (s : Sinks) : Type 0 where
   pub asked : Asked
   pub asks : request words ≡ Some asked
   pub did : Did contents asked status s
@@ -84,17 +94,14 @@ abbrev pub IsRefused : (Text → Option (List ℕ)) → Asked → Refusal → Ty
 IsRefused contents asked why = IfSome (judgement contents asked) (λ j. j ≡ Err why)
 
 -- An image was refused, or there was no room, and error grew by the one line that says so.
-pub record Refused (contents : Text → Option (List ℕ)) (words : List Text) (s : Sinks) : Type 0 where
+pub record Refused (contents : Text → Option (List ℕ)) (words : List Text)
+    (s : Sinks) : Type 0 where
   pub asked : Asked
   pub asks : request words ≡ Some asked
   pub why : Refusal
-  pub of_image : exit_of why ≡ exits.Image
+  pub of_image : refusal_status why ≡ 3
   pub is : IsRefused contents asked why
   pub says : SaysOnly s (line_of why)
-
--- The files are taken for what is asked for, as far as they tell.
-abbrev pub IsTaken : (Text → Option (List ℕ)) → Asked → Type 0
-IsTaken contents asked = (images : List Image) × IfSome (judgement contents asked) (λ j. j ≡ Ok images)
 
 -- ---- a run that want of memory ended
 
@@ -103,8 +110,10 @@ abbrev pub IsUntil : Outcome → List ℕ → List ℕ → Type 0
 IsUntil (needs question o e) output error = (o ≡ output) × (e ≡ error)
 IsUntil (ends seen) output error = (seen.output ≡ output) × (seen.error ≡ error)
 
--- The group was run until a question for signals, so many of which had been answered with none, or until its end. Then error grew by the last bytes.
-pub record Interrupted (images : List Image) (config : Config) (last : List ℕ) (s : Sinks) : Type 0 where
+-- The group was run until a question for signals, so many of which had been answered with none, or
+-- until its end. Then error grew by the last bytes.
+pub record Interrupted (images : List Image) (config : Config) (last : List ℕ)
+    (s : Sinks) : Type 0 where
   pub answers : ℕ
   pub output : List ℕ
   pub error : List ℕ
@@ -112,7 +121,8 @@ pub record Interrupted (images : List Image) (config : Config) (last : List ℕ)
   pub grew : Grew s output (error ++ last)
 
 -- so for what is asked for, with images that the files are, as far as they tell
-pub record RanOutOfMemory (contents : Text → Option (List ℕ)) (asked : Asked) (last : List ℕ) (s : Sinks) : Type 0 where
+pub record RanOutOfMemory (contents : Text → Option (List ℕ)) (asked : Asked) (last : List ℕ)
+    (s : Sinks) : Type 0 where
   pub config : Config
   pub names : List Text
   pub runs_images : asked ≡ runs config names
@@ -122,36 +132,8 @@ pub record RanOutOfMemory (contents : Text → Option (List ℕ)) (asked : Asked
 
 -- Error grew by the one line that says so, either before the run or at one of its questions.
 abbrev pub EndsForMemory : (Text → Option (List ℕ)) → List Text → List ℕ → Sinks → Type 0
-EndsForMemory contents words line s = SaysOnly s line ⊎ ((asked : Asked) × (request words ≡ Some asked) × RanOutOfMemory contents asked line s)
-
--- ---- before the line of a refusal is put: why a call comes to no report, and what the sinks show then
-
--- a group that isn't run to its end
-abbrev pub FailsRunning : List Image → Config → (sinks_rose : Type 0) → Sinks → Refusal → Type 0
-FailsRunning images config sinks_rose s (refusals.NoRoom n frames) = (n ≡ needed images) × (frames ≡ config.frames) × (config.frames < needed images) × Stays s
-FailsRunning images config sinks_rose s refusals.Sink = sinks_rose × (needed images ≤ config.frames)
-FailsRunning images config sinks_rose s refusals.Memory = Stays s ⊎ ((needed images ≤ config.frames) × Interrupted images config [] s)
-FailsRunning images config sinks_rose s _ = ⊥
-
--- what is asked for, which isn't done
-abbrev pub FailsAsked : (Text → Option (List ℕ)) → Asked → (files_rose sinks_rose : Type 0) → Sinks → Refusal → Type 0
-FailsAsked contents asked files_rose sinks_rose s refusals.Words = ⊥
-FailsAsked contents asked files_rose sinks_rose s (refusals.TooLong image) = IsRefused contents asked (refusals.TooLong image) × Stays s
-FailsAsked contents asked files_rose sinks_rose s (refusals.Image image error) = IsRefused contents asked (refusals.Image image error) × Stays s
-FailsAsked contents asked files_rose sinks_rose s (refusals.NoRoom n frames) = IsRefused contents asked (refusals.NoRoom n frames) × Stays s
-FailsAsked contents asked files_rose sinks_rose s refusals.Files = files_rose × Stays s
-FailsAsked contents asked files_rose sinks_rose s refusals.Sink = sinks_rose × IsTaken contents asked
-FailsAsked contents asked files_rose sinks_rose s refusals.Memory = Stays s ⊎ RanOutOfMemory contents asked [] s
-
--- the words, which ask for nothing or for what isn't done
-abbrev pub Fails : (Text → Option (List ℕ)) → List Text → (files_rose sinks_rose : Type 0) → Sinks → Refusal → Type 0
-Fails contents words files_rose sinks_rose s why =
-    ((request words ≡ None) × (why ≡ refusals.Words) × Stays s) ⊎ ((asked : Asked) × (request words ≡ Some asked) × FailsAsked contents asked files_rose sinks_rose s why)
-
--- ---- all exit statuses
-
-abbrev pub IsStatus : ℕ → Type 0
-IsStatus n = (n ≡ 0) ⊎ (n ≡ 2) ⊎ (n ≡ 3) ⊎ (n ≡ 5) ⊎ (n ≡ 6) ⊎ (n ≡ 7) ⊎ (n ≡ 8) ⊎ (n ≡ 9)
+EndsForMemory contents words line s = SaysOnly s line
+    ⊎ ((asked : Asked) × (request words ≡ Some asked) × RanOutOfMemory contents asked line s)
 
 -- ---- a line whose put failed
 
@@ -160,6 +142,129 @@ pub record SaysFront (s : Sinks) (line : List ℕ) : Type 0 where
   pub out_stays : s.out_now ≡ s.out_before
   pub err_says : GrewByFront s.err_before s.err_now line
 
--- so for a refused image's line, or for that of a fault of files or of want of memory, which may come before it
+-- so for a refused image's line, or for that of a fault of files or of want of memory, which may
+-- come before it
 abbrev pub SaysFrontOf : Sinks → Refusal → Type 0
-SaysFrontOf s why = SaysFront s (line_of why) ⊎ SaysFront s (line file_fault) ⊎ SaysFront s (line out_of_memory)
+SaysFrontOf s why = SaysFront s (line_of why) ⊎ SaysFront s (line file_fault)
+    ⊎ SaysFront s (line out_of_memory)
+
+-- ---- a put that failed: what the sinks hold of what the call would have given them
+
+-- Each sink grew by a front of these bytes.
+pub record GrewByFronts (s : Sinks) (out err : List ℕ) : Type 0 where
+  pub out_is : GrewByFront s.out_before s.out_now out
+  pub err_is : GrewByFront s.err_before s.err_now err
+
+-- Output grew by all its bytes, and so did error, and then by a front of what was put to it last.
+pub record GrewUpToLast (s : Sinks) (out err last : List ℕ) : Type 0 where
+  pub out_is : s.out_now ≡ grown s.out_before out
+  pub err_is : GrewByFront (grown s.err_before err) s.err_now last
+
+-- A put of the run failed. So many questions for signals had been answered with none; the machine's
+-- bytes are those until its next question, or until its end.
+pub record CutInRun (images : List Image) (config : Config) (s : Sinks) : Type 0 where
+  pub answers : ℕ
+  pub output : List ℕ
+  pub error : List ℕ
+  pub until : IsUntil (machine images config (replicate answers (posts []))) output error
+  pub grew : GrewByFronts s output error
+
+-- The group was run to its end, and a put of the report failed.
+pub record CutInReport (images : List Image) (config : Config) (s : Sinks) : Type 0 where
+  pub seen : Seen
+  pub is : quiet_run images config ≡ ends seen
+  pub grew : GrewUpToLast s seen.output seen.error (report seen)
+
+-- Want of memory ended the run at a question, or at its end, and the put of the line failed.
+pub record CutInLine (images : List Image) (config : Config) (s : Sinks) : Type 0 where
+  pub answers : ℕ
+  pub output : List ℕ
+  pub error : List ℕ
+  pub until : IsUntil (machine images config (replicate answers (posts []))) output error
+  pub grew : GrewUpToLast s output error (line out_of_memory)
+
+-- A put of the one image's lines failed.
+pub record CutInLines (images : List Image) (s : Sinks) : Type 0 where
+  pub parsed : Image
+  pub only : images ≡ parsed ∷ []
+  pub out_is : GrewByFront s.out_before s.out_now (inspect_lines parsed)
+  pub err_stays : s.err_now ≡ s.err_before
+
+-- what was asked for was begun with these images
+abbrev pub CutWith : Asked → List Image → Sinks → Type 0
+CutWith (runs config names) images s =
+    CutInRun images config s ⊎ CutInReport images config s ⊎ CutInLine images config s
+CutWith (inspects name) images s = CutInLines images s
+
+-- It was begun with images that the files are, as far as they tell.
+pub record CutDoing (contents : Text → Option (List ℕ)) (asked : Asked) (s : Sinks) : Type 0 where
+  pub images : List Image
+  pub taken : IfSome (judgement contents asked) (λ j. j ≡ Ok images)
+  pub with_images : CutWith asked images s
+
+-- why what is asked for isn't begun
+abbrev pub IsNotBegun : (Text → Option (List ℕ)) → Asked → (files_rose : Type 0) → Refusal → Type 0
+IsNotBegun contents asked files_rose refusals.Words = ⊥
+IsNotBegun contents asked files_rose (refusals.TooLong image) =
+    IsRefused contents asked (refusals.TooLong image)
+IsNotBegun contents asked files_rose (refusals.Image image error) =
+    IsRefused contents asked (refusals.Image image error)
+IsNotBegun contents asked files_rose (refusals.NoRoom n frames) =
+    IsRefused contents asked (refusals.NoRoom n frames)
+IsNotBegun contents asked files_rose refusals.Files = files_rose
+IsNotBegun contents asked files_rose refusals.Sink = ⊥
+IsNotBegun contents asked files_rose refusals.Memory = ⊤
+
+-- It wasn't begun, and the put of the line that says why failed.
+pub record CutRefusing (contents : Text → Option (List ℕ)) (asked : Asked) (files_rose : Type 0)
+    (s : Sinks) : Type 0 where
+  pub why : Refusal
+  pub is : IsNotBegun contents asked files_rose why
+  pub says : SaysFront s (line_of why)
+
+-- A put failed, and nothing was put after it: of the line that refuses the words, or of what is put
+-- by a call that they ask for.
+abbrev pub EndsForSink : (Text → Option (List ℕ)) → List Text → (files_rose : Type 0) → Sinks
+    → Type 0
+EndsForSink contents words files_rose s =
+    ((request words ≡ None) × SaysFront s (line words_refused))
+    ⊎ ((asked : Asked) × (request words ≡ Some asked)
+    × (CutRefusing contents asked files_rose s ⊎ CutDoing contents asked s))
+
+-- ---- before the line of a refusal is put: why a call comes to no report, and what the sinks show
+-- then
+
+-- a group that isn't run to its end
+abbrev pub FailsRunning : List Image → Config → (sinks_rose : Type 0) → Sinks → Refusal → Type 0
+FailsRunning images config sinks_rose s (refusals.NoRoom n frames) = (n ≡ needed images)
+    × (frames ≡ config.frames) × (config.frames < needed images) × Stays s
+FailsRunning images config sinks_rose s refusals.Sink =
+    sinks_rose × (needed images ≤ config.frames)
+    × (CutInRun images config s ⊎ CutInReport images config s)
+FailsRunning images config sinks_rose s refusals.Memory = Stays s
+    ⊎ ((needed images ≤ config.frames) × Interrupted images config [] s)
+FailsRunning images config sinks_rose s _ = ⊥
+
+-- what is asked for, which isn't done
+abbrev pub FailsAsked : (Text → Option (List ℕ)) → Asked → (files_rose sinks_rose : Type 0) → Sinks
+    → Refusal → Type 0
+FailsAsked contents asked files_rose sinks_rose s refusals.Words = ⊥
+FailsAsked contents asked files_rose sinks_rose s (refusals.TooLong image) =
+    IsRefused contents asked (refusals.TooLong image) × Stays s
+FailsAsked contents asked files_rose sinks_rose s (refusals.Image image error) =
+    IsRefused contents asked (refusals.Image image error) × Stays s
+FailsAsked contents asked files_rose sinks_rose s (refusals.NoRoom n frames) =
+    IsRefused contents asked (refusals.NoRoom n frames) × Stays s
+FailsAsked contents asked files_rose sinks_rose s refusals.Files = files_rose × Stays s
+FailsAsked contents asked files_rose sinks_rose s refusals.Sink =
+    sinks_rose × CutDoing contents asked s
+FailsAsked contents asked files_rose sinks_rose s refusals.Memory = Stays s
+    ⊎ RanOutOfMemory contents asked [] s
+
+-- the words, which ask for nothing or for what isn't done
+abbrev pub Fails : (Text → Option (List ℕ)) → List Text → (files_rose sinks_rose : Type 0) → Sinks
+    → Refusal → Type 0
+Fails contents words files_rose sinks_rose s why =
+    ((request words ≡ None) × (why ≡ refusals.Words) × Stays s)
+    ⊎ ((asked : Asked) × (request words ≡ Some asked)
+    × FailsAsked contents asked files_rose sinks_rose s why)

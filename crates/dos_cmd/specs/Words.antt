@@ -1,4 +1,6 @@
--- What the words ask for. Canonical words are the command, then options in any order, each at most once as the two words `--name value`, and then the names. No value or name is empty or begins with `-`. This project's own rule.
+-- What the words ask for. Canonical words are the command, then options in any order, each at most
+-- once as the two words `--name value`, and then the names. No value or name is empty or begins
+-- with `-`. This project's own rule.
 use Rattle.std.specs.Prelude.{ℕ, ◌+◌, ◌-◌, ◌*◌, Bool, false, not, ◌&&◌, List, [], ◌∷◌, length, map, fold, Option, Some, None, option_and_then, unwrap_or, ◌==◌, nat_le, if◌then◌else◌, codes, bytes_eq, String, string_bytes}
 use Rattle.std.specs.List.{list_all}
 use Rattle.std.specs.declared.alloc.Global.{Global}
@@ -31,7 +33,8 @@ has_leading_zero (c ∷ d ∷ cs) = c == 48
 
 -- whether it is spelled so
 abbrev pub is_number : Text → Bool
-is_number text = nat_le 1 (length text) && nat_le (length text) 20 && list_all is_digit text && not (has_leading_zero text)
+is_number text = nat_le 1 (length text) && nat_le (length text) 20 && list_all is_digit text
+    && not (has_leading_zero text)
 
 -- what the digits come to; `0` is 48
 abbrev pub decimal_value : Text → ℕ
@@ -88,9 +91,12 @@ given_once None low high value = number_within low high value
 -- with one option more; None where there is no such option, or its value can't be taken
 abbrev pub with_option : Options → Text → Text → Option Options
 with_option o word value =
-    if bytes_eq word (codes "--quantum") then given_once o.quantum 16 65536 value >>= (λ n. Some (record o { quantum = Some n }))
-    else (if bytes_eq word (codes "--rounds") then given_once o.rounds 1 1000000 value >>= (λ n. Some (record o { rounds = Some n }))
-    else (if bytes_eq word (codes "--frames") then given_once o.frames 16 16384 value >>= (λ n. Some (record o { frames = Some n }))
+    if bytes_eq word (codes "--quantum") then given_once o.quantum 16 65536 value
+    >>= (λ n. Some (record o { quantum = Some n }))
+    else (if bytes_eq word (codes "--rounds") then given_once o.rounds 1 1000000 value
+    >>= (λ n. Some (record o { rounds = Some n }))
+    else (if bytes_eq word (codes "--frames") then given_once o.frames 16 16384 value
+    >>= (λ n. Some (record o { frames = Some n }))
     else None))
 
 -- the options of these pairs, behind those that are given already
@@ -100,7 +106,11 @@ options_from o (pair ∷ pairs) = with_option o pair.0 pair.1 >>= (λ more. opti
 
 -- what isn't given is 1000 units a round, 100000 rounds and 4096 frames
 abbrev pub config_of : Options → Config
-config_of o = record { quantum = unwrap_or o.quantum 1000; rounds = unwrap_or o.rounds 100000; frames = unwrap_or o.frames 4096 }
+config_of o = record {
+  quantum = unwrap_or o.quantum 1000;
+  rounds = unwrap_or o.rounds 100000;
+  frames = unwrap_or o.frames 4096;
+}
 
 -- ---- the commands
 

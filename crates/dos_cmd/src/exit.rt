@@ -1,8 +1,8 @@
-//! How a call ends, and the lines that say so.
+//! How a call ends: its status, and the line that says so.
 ghost use Rattle.std.specs.Prelude.{◌≡◌, ◌≤◌, ◌++◌, length};
 ghost use Rattle.arrayvec.specs.ArrayString.{array_string_len};
-ghost use Rattle.dos_cmd.specs.Exit.{exit_number, exit_by, exit_of, line_of};
-ghost use Rattle.dos_cmd.specs.Lines.{line, image_too_long, image_refused, no_room, indexes_text};
+ghost use Rattle.dos_cmd.specs.Exit.{line, line_of, ending_status, refusal_status};
+ghost use Rattle.dos_cmd.specs.Lines.{image_too_long, image_refused, no_room, indexes_text};
 
 use crate::line::LINE;
 use arrayvec::ArrayString;
@@ -11,45 +11,14 @@ use elf_image::ImageError;
 use itoa::Buffer;
 use std::alloc::AllocFailed;
 
-/// How a call ended. The numbers are exit statuses.
-#[derive(Clone, Copy, Debug, PartialEq, Eq)]
-pub enum Exit {
-    /// No process lives any more, or an image was inspected.
-    Done = 0,
-    /// The words ask for nothing.
-    Words = 2,
-    /// An image's file is too long or refused, or there is no room for the images.
-    Image = 3,
-    /// A file couldn't be read.
-    Files = 5,
-    /// A put to output or error failed.
-    Sink = 6,
-    /// Processes live at the limit of rounds.
-    Limit = 7,
-    /// Processes live, and none of them can go on.
-    Stalled = 8,
-    /// Memory ran out.
-    Memory = 9,
-}
-
-impl Exit {
-    /// The exit status.
-    #[tactic(auto, unfolding(crate::specs::Exit::exit_number))]
-    pub fn number(self) -> u8
-        ensures { result ≡ exit_number self }
-    {
-        self as u8
-    }
-
-    /// How a call ends whose run ended so.
-    pub fn of_ending(ending: Ending) -> Exit
-        ensures { result ≡ exit_by ending }
-    {
-        match ending {
-            Ending::Done => Exit::Done,
-            Ending::Limit => Exit::Limit,
-            Ending::Stalled => Exit::Stalled,
-        }
+/// The exit status of a call whose run ended so. An inspected image is done.
+pub fn ending_status(ending: Ending) -> u8
+    ensures { result ≡ ending_status ending }
+{
+    match ending {
+        Ending::Done => 0,
+        Ending::Limit => 7,
+        Ending::Stalled => 8,
     }
 }
 
@@ -84,19 +53,19 @@ impl<T: Drop> From<AllocFailed<T>> for Refusal {
 }
 
 impl Refusal {
-    /// How the call ends then.
-    #[tactic(auto, unfolding(crate::specs::Exit::exit_of))]
-    pub fn exit(self) -> Exit
-        ensures { result ≡ exit_of self }
+    /// The exit status then.
+    #[tactic(auto, unfolding(crate::specs::Exit::refusal_status))]
+    pub fn status(self) -> u8
+        ensures { result ≡ refusal_status self }
     {
         match self {
-            Refusal::Words => Exit::Words,
-            Refusal::TooLong(_) => Exit::Image,
-            Refusal::Image(_, _) => Exit::Image,
-            Refusal::NoRoom(_, _) => Exit::Image,
-            Refusal::Files => Exit::Files,
-            Refusal::Sink => Exit::Sink,
-            Refusal::Memory => Exit::Memory,
+            Refusal::Words => 2,
+            Refusal::TooLong(_) => 3,
+            Refusal::Image(_, _) => 3,
+            Refusal::NoRoom(_, _) => 3,
+            Refusal::Files => 5,
+            Refusal::Sink => 6,
+            Refusal::Memory => 9,
         }
     }
 

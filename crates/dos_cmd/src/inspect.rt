@@ -1,13 +1,14 @@
 //! What `inspect` prints, a line for the entry and one for each part.
-ghost use Rattle.std.specs.Prelude.{◌≡◌, ◌≤◌, IfOk, IfErr, OnOk};
-ghost use Rattle.dos_io.specs.Outside.{grown, HasCause};
+ghost use Rattle.std.specs.Prelude.{◌≡◌, ◌≤◌, IfOk, IfErr, OnOk, OnErr};
+ghost use Rattle.dos_io.specs.Outside.{grown, GrewByFront, HasCause};
 ghost use Rattle.elf_image.specs.Image.{size_of};
 ghost use Rattle.dos_cmd.specs.Printed.{rights, entry_line, part_line, inspect_lines};
 
-use crate::exit::{Exit, Refusal};
+use crate::exit::Refusal;
 use crate::line::{LINE, push_hex};
 use arrayvec::ArrayString;
 use dos_io::Sink;
+use dos_world::Ending;
 use elf_image::{Image, Part};
 use itoa::Buffer;
 
@@ -52,9 +53,10 @@ fn part_line(part: &Part) -> ArrayString<LINE>
     line
 }
 
-/// Puts a line by one put.
+/// Puts a line by one put. Where that fails a front of it was put.
 fn put_line<O: Sink>(line: &ArrayString<LINE>, out: &mut O) -> Result<(), Refusal>
     ensures told { OnOk result (O.told out.new ≡ grown (O.told out.old) line.now.bytes) }
+    ensures front { OnErr result (GrewByFront (O.told out.old) (O.told out.new) line.now.bytes) }
     ensures sink { IfErr result (λ e. e ≡ Refusal.Sink) }
     ensures cause { HasCause (O.faults out.old) (O.faults out.new) result }
 {
@@ -64,10 +66,13 @@ fn put_line<O: Sink>(line: &ArrayString<LINE>, out: &mut O) -> Result<(), Refusa
     }
 }
 
-/// Prints an image's entry and parts, one put for each line.
-pub fn inspect<O: Sink>(image: &Image, out: &mut O) -> Result<Exit, Refusal>
-    ensures exit { IfOk result (λ exit. exit ≡ Exit.Done) }
+/// Prints an image's entry and parts, one put for each line. Where a put fails a front of the
+/// lines was put.
+pub fn inspect<O: Sink>(image: &Image, out: &mut O) -> Result<Ending, Refusal>
+    ensures done { IfOk result (λ ending. ending ≡ Ending.Done) }
     ensures told { OnOk result (O.told out.new ≡ grown (O.told out.old) (inspect_lines image.now)) }
+    ensures front { OnErr result (GrewByFront (O.told out.old) (O.told out.new)
+        (inspect_lines image.now)) }
     ensures sink { IfErr result (λ e. e ≡ Refusal.Sink) }
     ensures cause { HasCause (O.faults out.old) (O.faults out.new) result }
 {
@@ -77,5 +82,5 @@ pub fn inspect<O: Sink>(image: &Image, out: &mut O) -> Result<Exit, Refusal>
         let next = part_line(part);
         put_line(&next, out)?;
     }
-    Ok(Exit::Done)
+    Ok(Ending::Done)
 }

@@ -122,7 +122,8 @@ fn are_plain(words: &[String]) -> bool
 
 /// One to eight names.
 fn are_image_names(words: &[String]) -> bool
-    ensures { result ≡ (nat_le 1 (length (texts words.now)) && nat_le (length (texts words.now)) 8 && list_all is_plain (texts words.now)) }
+    ensures { result ≡ (nat_le 1 (length (texts words.now)) && nat_le (length (texts words.now)) 8
+        && list_all is_plain (texts words.now)) }
 {
     if words.is_empty() {
         return false;

@@ -7,17 +7,17 @@ ghost use Rattle.group_open.specs.Opening.{needed};
 ghost use Rattle.dos_cmd.specs.Words.{texts, Asked, runs, inspects, request};
 ghost use Rattle.dos_cmd.specs.Shown.{asked_by, IsInRange};
 ghost use Rattle.dos_cmd.specs.Images.{judgement};
-ghost use Rattle.dos_cmd.specs.Lines.{line, words_refused, file_fault, out_of_memory};
-ghost use Rattle.dos_cmd.specs.Exit.{line_of, exit_of, exit_number};
-ghost use Rattle.dos_cmd.specs.Results.{sinks, SaysFront, SaysFrontOf, SaysOnly, Ran, Did, DidWith, Finished, Refused, EndsForMemory, FailsRunning, FailsAsked, Fails, IsStatus};
+ghost use Rattle.dos_cmd.specs.Lines.{words_refused, file_fault, out_of_memory};
+ghost use Rattle.dos_cmd.specs.Exit.{line, line_of, ending_status, refusal_status, IsStatus};
+ghost use Rattle.dos_cmd.specs.Results.{sinks, SaysFront, SaysFrontOf, SaysOnly, Ran, Did, DidWith, Finished, Refused, EndsForMemory, EndsForSink, FailsRunning, FailsAsked, Fails};
 ghost use Rattle.dos_cmd.specs.Stops.{IsOpened, IsQuietStop, refusal_by};
 
-use crate::exit::{Exit, Refusal};
+use crate::exit::{Refusal, ending_status};
 use crate::images::{load, load_all};
 use crate::inspect::inspect;
 use crate::request::{Request, read_words};
 use dos_io::{Files, Quiet, Sink};
-use dos_world::Config;
+use dos_world::{Config, Ending};
 use dpg_run::{open_group, put_report, run_group};
 use elf_image::Image;
 use group_open::OpenError;
@@ -46,13 +46,18 @@ fn run_opened<O: Sink, E: Sink>(
     kernel: &mut Kernel,
     out: &mut O,
     err: &mut E,
-) -> Result<Exit, Refusal>
+) -> Result<Ending, Refusal>
     requires running { kernel.old.failed ≡ false }
     requires fresh { kernel.old.state.round ≡ 1 }
-    ensures ran { IfOk result (λ exit. (images : List Parsed) (config : Config) → IsConfig config → IsOpened kernel.old images config → Ran images config (exit_number exit) (sinks (O.told out.old) (E.told err.old) (O.told out.new) (E.told err.new))) }
-    ensures ready { IfOk result (λ exit. exit ≢ Exit.Stalled) }
-    ensures fails { IfErr result (λ why. (images : List Parsed) (config : Config) → IsConfig config → IsOpened kernel.old images config → needed images ≤ config.frames
-        → FailsRunning images config (Rose (O.faults out.old) (O.faults out.new) ⊎ Rose (E.faults err.old) (E.faults err.new)) (sinks (O.told out.old) (E.told err.old) (O.told out.new) (E.told err.new)) why) }
+    ensures ran { IfOk result (λ ending. (images : List Parsed) (config : Config) → IsConfig config
+        → IsOpened kernel.old images config → Ran images config (ending_status ending)
+        (sinks (O.told out.old) (E.told err.old) (O.told out.new) (E.told err.new))) }
+    ensures ready { IfOk result (λ ending. ending ≢ Ending.Stalled) }
+    ensures fails { IfErr result (λ why. (images : List Parsed) (config : Config) → IsConfig config
+        → IsOpened kernel.old images config → needed images ≤ config.frames
+        → FailsRunning images config (Rose (O.faults out.old) (O.faults out.new)
+        ⊎ Rose (E.faults err.old) (E.faults err.new))
+        (sinks (O.told out.old) (E.told err.old) (O.told out.new) (E.told err.new)) why) }
     ensures out_later { O.faults out.old ≤ O.faults out.new }
     ensures err_later { E.faults err.old ≤ E.faults err.new }
 {
@@ -62,7 +67,7 @@ fn run_opened<O: Sink, E: Sink>(
         Err(stop) => return Err(stop_refusal(stop)),
     };
     match put_report(kernel, ending, err) {
-        Ok(()) => Ok(Exit::of_ending(ending)),
+        Ok(()) => Ok(ending),
         Err(_) => Err(Refusal::Sink),
     }
 }
@@ -74,14 +79,18 @@ fn execute<O: Sink, E: Sink>(
     config: Config,
     out: &mut O,
     err: &mut E,
-) -> Result<Exit, Refusal>
+) -> Result<Ending, Refusal>
     requires some { 1 ≤ length images.now }
     requires few { length images.now ≤ 8 }
     requires range { IsConfig config }
-    ensures ran { IfOk result (λ exit. Ran images.now config (exit_number exit) (sinks (O.told out.old) (E.told err.old) (O.told out.new) (E.told err.new))) }
-    ensures ready { IfOk result (λ exit. exit ≢ Exit.Stalled) }
+    ensures ran { IfOk result (λ ending. Ran images.now config (ending_status ending)
+        (sinks (O.told out.old) (E.told err.old) (O.told out.new) (E.told err.new))) }
+    ensures ready { IfOk result (λ ending. ending ≢ Ending.Stalled) }
     ensures fits { OnOk result (needed images.now ≤ config.frames) }
-    ensures fails { IfErr result (FailsRunning images.now config (Rose (O.faults out.old) (O.faults out.new) ⊎ Rose (E.faults err.old) (E.faults err.new)) (sinks (O.told out.old) (E.told err.old) (O.told out.new) (E.told err.new))) }
+    ensures fails { IfErr result
+        (FailsRunning images.now config (Rose (O.faults out.old) (O.faults out.new)
+        ⊎ Rose (E.faults err.old) (E.faults err.new))
+        (sinks (O.told out.old) (E.told err.old) (O.told out.new) (E.told err.new))) }
     ensures out_later { O.faults out.old ≤ O.faults out.new }
     ensures err_later { E.faults err.old ≤ E.faults err.new }
 {
@@ -101,11 +110,18 @@ fn run_images<F: Files, O: Sink, E: Sink>(
     names: &[String],
     out: &mut O,
     err: &mut E,
-) -> Result<Exit, Refusal>
+) -> Result<Ending, Refusal>
     requires { IsInRange (runs config (texts names.now)) }
-    ensures did { IfOk result (λ exit. Did (F.content files.old) (runs config (texts names.now)) (exit_number exit) (sinks (O.told out.old) (E.told err.old) (O.told out.new) (E.told err.new))) }
-    ensures ready { IfOk result (λ exit. exit ≢ Exit.Stalled) }
-    ensures fails { IfErr result (FailsAsked (F.content files.old) (runs config (texts names.now)) (Rose (F.faults files.old) (F.faults files.new)) (Rose (O.faults out.old) (O.faults out.new) ⊎ Rose (E.faults err.old) (E.faults err.new)) (sinks (O.told out.old) (E.told err.old) (O.told out.new) (E.told err.new))) }
+    ensures did { IfOk result (λ ending. Did (F.content files.old) (runs config (texts names.now))
+        (ending_status ending) (sinks (O.told out.old) (E.told err.old) (O.told out.new)
+        (E.told err.new))) }
+    ensures ready { IfOk result (λ ending. ending ≢ Ending.Stalled) }
+    ensures fails { IfErr result
+        (FailsAsked (F.content files.old) (runs config (texts names.now))
+        (Rose (F.faults files.old) (F.faults files.new))
+        (Rose (O.faults out.old) (O.faults out.new)
+        ⊎ Rose (E.faults err.old) (E.faults err.new))
+        (sinks (O.told out.old) (E.told err.old) (O.told out.new) (E.told err.new))) }
     ensures stays { (n : List ℕ) → F.content files.new n ≡ F.content files.old n }
     ensures files_later { F.faults files.old ≤ F.faults files.new }
     ensures out_later { O.faults out.old ≤ O.faults out.new }
@@ -121,11 +137,17 @@ fn inspect_image<F: Files, O: Sink>(
     files: &mut F,
     name: &str,
     out: &mut O,
-) -> Result<Exit, Refusal>
+) -> Result<Ending, Refusal>
     // whatever error tells, and whether it fails
-    ensures did { IfOk result (λ exit. (e : Option (List ℕ)) → Did (F.content files.old) (inspects name.now) (exit_number exit) (sinks (O.told out.old) e (O.told out.new) e)) }
-    ensures ready { IfOk result (λ exit. exit ≢ Exit.Stalled) }
-    ensures fails { IfErr result (λ why. (e : Option (List ℕ)) (m n : ℕ) → FailsAsked (F.content files.old) (inspects name.now) (Rose (F.faults files.old) (F.faults files.new)) (Rose (O.faults out.old) (O.faults out.new) ⊎ Rose m n) (sinks (O.told out.old) e (O.told out.new) e) why) }
+    ensures did { IfOk result (λ ending. (e : Option (List ℕ))
+        → Did (F.content files.old) (inspects name.now) (ending_status ending)
+        (sinks (O.told out.old) e (O.told out.new) e)) }
+    ensures ready { IfOk result (λ ending. ending ≢ Ending.Stalled) }
+    ensures fails { IfErr result (λ why. (e : Option (List ℕ)) (m n : ℕ)
+        → FailsAsked (F.content files.old) (inspects name.now)
+        (Rose (F.faults files.old) (F.faults files.new))
+        (Rose (O.faults out.old) (O.faults out.new) ⊎ Rose m n)
+        (sinks (O.told out.old) e (O.told out.new) e) why) }
     ensures stays { (n : List ℕ) → F.content files.new n ≡ F.content files.old n }
     ensures files_later { F.faults files.old ≤ F.faults files.new }
     ensures out_later { O.faults out.old ≤ O.faults out.new }
@@ -141,10 +163,17 @@ fn command<F: Files, O: Sink, E: Sink>(
     files: &mut F,
     out: &mut O,
     err: &mut E,
-) -> Result<Exit, Refusal>
-    ensures finished { IfOk result (λ exit. Finished (F.content files.old) (texts words.now) (exit_number exit) (sinks (O.told out.old) (E.told err.old) (O.told out.new) (E.told err.new))) }
-    ensures ready { IfOk result (λ exit. exit ≢ Exit.Stalled) }
-    ensures fails { IfErr result (Fails (F.content files.old) (texts words.now) (Rose (F.faults files.old) (F.faults files.new)) (Rose (O.faults out.old) (O.faults out.new) ⊎ Rose (E.faults err.old) (E.faults err.new)) (sinks (O.told out.old) (E.told err.old) (O.told out.new) (E.told err.new))) }
+) -> Result<Ending, Refusal>
+    ensures finished { IfOk result (λ ending. Finished (F.content files.old) (texts words.now)
+        (ending_status ending) (sinks (O.told out.old) (E.told err.old) (O.told out.new)
+        (E.told err.new))) }
+    ensures ready { IfOk result (λ ending. ending ≢ Ending.Stalled) }
+    ensures fails { IfErr result
+        (Fails (F.content files.old) (texts words.now)
+        (Rose (F.faults files.old) (F.faults files.new))
+        (Rose (O.faults out.old) (O.faults out.new)
+        ⊎ Rose (E.faults err.old) (E.faults err.new))
+        (sinks (O.told out.old) (E.told err.old) (O.told out.new) (E.told err.new))) }
     ensures stays { (n : List ℕ) → F.content files.new n ≡ F.content files.old n }
     ensures files_later { F.faults files.old ≤ F.faults files.new }
     ensures out_later { O.faults out.old ≤ O.faults out.new }
@@ -159,48 +188,54 @@ fn command<F: Files, O: Sink, E: Sink>(
     }
 }
 
-/// Puts a refusal's line to `err` by one put, and answers how the call ended. Where a sink has
-/// failed already, or this put fails, that is `Sink`; of the line a front was put then, of any length.
-#[tactic(auto, using(crate::proofs::Refusals::exit_of_sink, crate::proofs::Fronts::front_of_sink))]
-pub fn refuse<E: Sink>(refusal: Refusal, err: &mut E) -> Exit
-    ensures told { result ≢ Exit.Sink → (refusal ≢ Refusal.Sink) × (result ≡ exit_of refusal) × (E.told err.new ≡ grown (E.told err.old) (line_of refusal)) }
-    ensures sink { result ≡ Exit.Sink → (refusal ≡ Refusal.Sink) ⊎ Rose (E.faults err.old) (E.faults err.new) }
-    ensures front { result ≡ Exit.Sink → GrewByFront (E.told err.old) (E.told err.new) (line_of refusal) }
+/// Puts a refusal's line to `err` by one put, and answers the exit status. Where a sink has failed
+/// already, or this put fails, that is 6; of the line a front was put then, of any length.
+#[tactic(auto, using(crate::proofs::Refusals::status_of_sink, crate::proofs::Fronts::front_of_sink), unfolding(crate::specs::Exit::refusal_status))]
+pub fn refuse<E: Sink>(refusal: Refusal, err: &mut E) -> u8
+    ensures told { result ≢ 6 → (refusal ≢ Refusal.Sink) × (result ≡ refusal_status refusal)
+        × (E.told err.new ≡ grown (E.told err.old) (line_of refusal)) }
+    ensures sink { result ≡ 6 → (refusal ≡ Refusal.Sink)
+        ⊎ Rose (E.faults err.old) (E.faults err.new) }
+    ensures front { result ≡ 6 → GrewByFront (E.told err.old) (E.told err.new) (line_of refusal) }
+    ensures statuses { IsStatus result }
     ensures later { E.faults err.old ≤ E.faults err.new }
 {
     if refusal == Refusal::Sink {
-        return Exit::Sink;
+        return Refusal::Sink.status();
     }
     match err.put(refusal.line().as_str().as_bytes()) {
-        Ok(()) => refusal.exit(),
-        Err(_) => Exit::Sink,
+        Ok(()) => refusal.status(),
+        Err(_) => Refusal::Sink.status(),
     }
 }
 
 /// Does what the words ask for, and answers the exit status.
 ///
-/// The words are those behind the program's name: a command, its options as two words each, and names of files. No value
-/// or name is empty or begins with `-`.
+/// The words are those behind the program's name: a command, its options as two words each, and
+/// names of files. No value or name is empty or begins with `-`.
 ///
-/// `run` takes `--quantum` (1000; 16 to 65536), `--rounds` (100000; 1 to 1000000) and `--frames` (4096; 16 to 16384), each
-/// at most once and in any order, and then 1 to 8 names of images. It runs them as one group, and puts its report to `err`.
-/// `inspect` takes one name, and prints its entry and its parts to `out`.
+/// `run` takes `--quantum` (1000; 16 to 65536), `--rounds` (100000; 1 to 1000000) and `--frames`
+/// (4096; 16 to 16384), each at most once and in any order, and then 1 to 8 names of images. It
+/// runs them as one group, and puts its report to `err`. `inspect` takes one name, and prints its
+/// entry and its parts to `out`.
 ///
 /// | Status | Comes |
 /// |---|---|
 /// | 0 | no process lives any more, or the image was inspected |
 /// | 2 | exactly where the words ask for nothing |
-/// | 3 | exactly where a file is longer than 4194304 bytes or is refused as an image, or the images need more frames than there are |
+/// | 3 | exactly where a file is longer than 4194304 bytes or is refused as an image, or the images
+/// need more frames than there are |
 /// | 5 | only where the count of `files` rose |
 /// | 6 | only where the count of `out` or `err` rose |
 /// | 7 | processes live after as many rounds as were asked for |
 /// | 8 | processes live, and none of them can go on; with the services of today it never comes |
 /// | 9 | only for want of memory |
 ///
-/// A put that fails gives 6 in place of any other status. Where the words ask for nothing, or an image is refused or there is
-/// no room, `out` stays then, and `err` grows by a front of one line. Words that ask for something may also give 5 or 9 in
-/// place of 0, 3 and 7. With 2, 3, 5 and 9 `err` grows by one line, and but for 9 `out` stays. Want of memory may also end a
-/// run between two rounds; its bytes so far stand then.
+/// A put that fails gives 6 in place of any other status, and nothing is put after it: each sink
+/// has then grown by a front of what the call would have put to it. Words that ask for something
+/// may also give 5 or 9 in place of 0, 3 and 7. With 2, 3, 5 and 9 `err` grows by one line, and but
+/// for 9 `out` stays. Want of memory may also end a run between two rounds; its bytes so far stand
+/// then.
 pub fn dos_main<F: Files, O: Sink, E: Sink>(
     alloc: Global,
     words: &[String],
@@ -213,26 +248,50 @@ pub fn dos_main<F: Files, O: Sink, E: Sink>(
     ensures ready { result ≢ 8 }
 
     // What the words ask for is done, with images that the files are.
-    ensures finished { (result ≡ 0) ⊎ (result ≡ 7) ⊎ (result ≡ 8) → Finished (F.content files.old) (texts words.now) result (sinks (O.told out.old) (E.told err.old) (O.told out.new) (E.told err.new)) }
-    ensures does { (asked : Asked) (images : List Parsed) → request (texts words.now) ≡ Some asked → judgement (F.content files.old) asked ≡ Some (Ok images) → result ≢ 5 → result ≢ 6 → result ≢ 9
-        → DidWith asked images result (sinks (O.told out.old) (E.told err.old) (O.told out.new) (E.told err.new)) }
+    ensures finished { (result ≡ 0) ⊎ (result ≡ 7) ⊎ (result ≡ 8)
+        → Finished (F.content files.old) (texts words.now) result
+        (sinks (O.told out.old) (E.told err.old) (O.told out.new) (E.told err.new)) }
+    ensures does { (asked : Asked) (images : List Parsed) → request (texts words.now) ≡ Some asked
+        → judgement (F.content files.old) asked ≡ Some (Ok images) → result ≢ 5 → result ≢ 6
+        → result ≢ 9
+        → DidWith asked images result
+        (sinks (O.told out.old) (E.told err.old) (O.told out.new) (E.told err.new)) }
 
     // The words ask for nothing.
     ensures two { result ≡ 2 → request (texts words.now) ≡ None }
     ensures two_only { request (texts words.now) ≡ None → result ≢ 6 → result ≡ 2 }
-    ensures two_says { result ≡ 2 → SaysOnly (sinks (O.told out.old) (E.told err.old) (O.told out.new) (E.told err.new)) (line words_refused) }
-    ensures two_front { request (texts words.now) ≡ None → result ≡ 6 → SaysFront (sinks (O.told out.old) (E.told err.old) (O.told out.new) (E.told err.new)) (line words_refused) }
+    ensures two_says { result ≡ 2
+        → SaysOnly (sinks (O.told out.old) (E.told err.old) (O.told out.new) (E.told err.new))
+        (line words_refused) }
+    ensures two_front { request (texts words.now) ≡ None → result ≡ 6
+        → SaysFront (sinks (O.told out.old) (E.told err.old) (O.told out.new) (E.told err.new))
+        (line words_refused) }
 
     // An image is refused, or there is no room.
-    ensures three { result ≡ 3 → Refused (F.content files.old) (texts words.now) (sinks (O.told out.old) (E.told err.old) (O.told out.new) (E.told err.new)) }
-    ensures three_only { (asked : Asked) (why : Refusal) → request (texts words.now) ≡ Some asked → judgement (F.content files.old) asked ≡ Some (Err why) → result ≢ 5 → result ≢ 6 → result ≢ 9 → result ≡ 3 }
-    ensures three_front { (asked : Asked) (why : Refusal) → request (texts words.now) ≡ Some asked → judgement (F.content files.old) asked ≡ Some (Err why) → result ≡ 6 → SaysFrontOf (sinks (O.told out.old) (E.told err.old) (O.told out.new) (E.told err.new)) why }
+    ensures three { result ≡ 3
+        → Refused (F.content files.old) (texts words.now)
+        (sinks (O.told out.old) (E.told err.old) (O.told out.new) (E.told err.new)) }
+    ensures three_only { (asked : Asked) (why : Refusal) → request (texts words.now) ≡ Some asked
+        → judgement (F.content files.old) asked ≡ Some (Err why) → result ≢ 5 → result ≢ 6
+        → result ≢ 9 → result ≡ 3 }
+    ensures three_front { (asked : Asked) (why : Refusal) → request (texts words.now) ≡ Some asked
+        → judgement (F.content files.old) asked ≡ Some (Err why) → result ≡ 6
+        → SaysFrontOf
+        (sinks (O.told out.old) (E.told err.old) (O.told out.new) (E.told err.new)) why }
 
     // The outside failed.
     ensures five { result ≡ 5 → Rose (F.faults files.old) (F.faults files.new) }
-    ensures five_says { result ≡ 5 → SaysOnly (sinks (O.told out.old) (E.told err.old) (O.told out.new) (E.told err.new)) (line file_fault) }
-    ensures six { result ≡ 6 → Rose (O.faults out.old) (O.faults out.new) ⊎ Rose (E.faults err.old) (E.faults err.new) }
-    ensures nine { result ≡ 9 → EndsForMemory (F.content files.old) (texts words.now) (line out_of_memory) (sinks (O.told out.old) (E.told err.old) (O.told out.new) (E.told err.new)) }
+    ensures five_says { result ≡ 5
+        → SaysOnly (sinks (O.told out.old) (E.told err.old) (O.told out.new) (E.told err.new))
+        (line file_fault) }
+    ensures six { result ≡ 6 → Rose (O.faults out.old) (O.faults out.new)
+        ⊎ Rose (E.faults err.old) (E.faults err.new) }
+    ensures six_fronts { result ≡ 6 → EndsForSink (F.content files.old) (texts words.now)
+        (Rose (F.faults files.old) (F.faults files.new))
+        (sinks (O.told out.old) (E.told err.old) (O.told out.new) (E.told err.new)) }
+    ensures nine { result ≡ 9
+        → EndsForMemory (F.content files.old) (texts words.now) (line out_of_memory)
+        (sinks (O.told out.old) (E.told err.old) (O.told out.new) (E.told err.new)) }
 
     ensures stays { (n : List ℕ) → F.content files.new n ≡ F.content files.old n }
     ensures files_later { F.faults files.old ≤ F.faults files.new }
@@ -240,7 +299,7 @@ pub fn dos_main<F: Files, O: Sink, E: Sink>(
     ensures err_later { E.faults err.old ≤ E.faults err.new }
 {
     match command(alloc, words, files, out, err) {
-        Ok(exit) => exit.number(),
-        Err(refusal) => refuse(refusal, err).number(),
+        Ok(ending) => ending_status(ending),
+        Err(refusal) => refuse(refusal, err),
     }
 }

@@ -34,7 +34,7 @@ fn run(rt: &HostRuntime) -> u8 {
             let mut out = StdOut::new(rt.stdout());
             dos_main(alloc, &words, &mut files, &mut out, &mut err)
         }
-        Err(refusal) => refuse(refusal, &mut err).number(),
+        Err(refusal) => refuse(refusal, &mut err),
     }
 }
 

@@ -1,4 +1,6 @@
-mod ReportLaws
+pub mod ReportLaws
 mod RoundsRun
-mod Counting
+pub mod RunKeeps
 mod Limits
+pub mod LawfulRuns
+pub mod QuietRuns

@@ -7,82 +7,120 @@ use Rattle.dos_world.specs.Numbered.{numbered}
 use Rattle.dos_world.specs.World.{Process}
 use Rattle.dos_world.specs.declared.Ending.{Ending}
 use Rattle.dos_io.specs.Outside.{grown, GrewByFront}
+use Rattle.dos_io.proofs.OutsideLaws.{grown-twice}
 use Rattle.proc_table.specs.Tables.{last_status}
 use Rattle.dpg_run.specs.Machine.{status_in}
 use Rattle.dpg_run.specs.Report.{process_line, process_lines, report_of, rounds_line}
 
 -- ---- what is told
 
-grown_twice : (told : Option (List ℕ)) (first then : List ℕ) → grown (grown told first) then ≡ grown told (first ++ then)
-grown_twice None first then = refl
-grown_twice (Some told) first then = ap (λ bytes. Some bytes) (append_assoc told first then)
-
 pub on_err : {T E : Type 0} (result : Result T E) (P : Type 0) → P → OnErr result P
 on_err (Ok x) P holds = tt
 on_err (Err e) P holds = holds
 
 -- a front of what comes next is a front of the whole
-take_next : (first next rest : List ℕ) (k : ℕ) → take (length first + min k (length next)) (first ++ (next ++ rest)) ≡ first ++ take k next
+take_next : (first next rest : List ℕ) (k : ℕ)
+    → take (length first + min k (length next)) (first ++ (next ++ rest)) ≡ first ++ take k next
 take_next first next rest k =
     take-append-add first (next ++ rest) (min k (length next))
-    ∙ ap (λ xs. first ++ xs) (take-append-le (min k (length next)) next rest (omega arith) ∙ take_min k next)
+    ∙ ap (λ xs. first ++ xs)
+    (take-append-le (min k (length next)) next rest (omega arith) ∙ take_min k next)
 
-front_of_whole : (told before new : Option (List ℕ)) (first next rest whole : List ℕ) → before ≡ grown told first → GrewByFront before new next → whole ≡ first ++ (next ++ rest) → GrewByFront told new whole
+pub front_of_whole : (told before new : Option (List ℕ)) (first next rest whole : List ℕ)
+    → before ≡ grown told first → GrewByFront before new next → whole ≡ first ++ (next ++ rest)
+    → GrewByFront told new whole
 front_of_whole told before new first next rest whole b front w = (
   length first + min front.0 (length next),
-  front.1 ∙ ap (λ t. grown t (take front.0 next)) b ∙ grown_twice told first (take front.0 next)
-      ∙ ap (grown told) (sym (take_next first next rest front.0)) ∙ ap (λ xs. grown told (take (length first + min front.0 (length next)) xs)) (sym w),
+  front.1 ∙ ap (λ t. grown t (take front.0 next)) b ∙ grown-twice told first (take front.0 next)
+      ∙ ap (grown told) (sym (take_next first next rest front.0))
+      ∙ ap (λ xs. grown told (take (length first + min front.0 (length next)) xs)) (sym w),
 )
 
 -- ---- the lines
 
-lines-append : (number : ℕ) (xs ys : List (Option ℕ)) → process_lines number (xs ++ ys) ≡ process_lines number xs ++ process_lines (number + length xs) ys
+lines-append : (number : ℕ) (xs ys : List (Option ℕ))
+    → process_lines number (xs ++ ys) ≡ process_lines number xs
+    ++ process_lines (number + length xs) ys
 lines-append number [] ys = ap (λ n. process_lines n ys) (omega arith)
 lines-append number (x ∷ xs) ys =
-    ap (λ lines. process_line number x ++ lines) (lines-append (suc number) xs ys ∙ ap (λ n. process_lines (suc number) xs ++ process_lines n ys) (omega arith))
-    ∙ sym (append_assoc (process_line number x) (process_lines (suc number) xs) (process_lines (number + suc (length xs)) ys))
+    ap (λ lines. process_line number x ++ lines)
+    (lines-append (suc number) xs ys
+    ∙ ap (λ n. process_lines (suc number) xs ++ process_lines n ys) (omega arith))
+    ∙ sym (append_assoc (process_line number x) (process_lines (suc number) xs)
+    (process_lines (number + suc (length xs)) ys))
 
-lines_more : (all : List (Option ℕ)) (i : ℕ) (status : Option ℕ) → i < length all → status ≡ get_or all i status → process_lines 1 (take (i + 1) all) ≡ process_lines 1 (take i all) ++ process_line (i + 1) status
+lines_more : (all : List (Option ℕ)) (i : ℕ) (status : Option ℕ) → i < length all
+    → status ≡ get_or all i status
+    → process_lines 1 (take (i + 1) all) ≡ process_lines 1 (take i all)
+    ++ process_line (i + 1) status
 lines_more all i status lt is =
     ap (process_lines 1) (take_more all i status lt ∙ ap (λ s. take i all ++ s ∷ []) (sym is))
     ∙ lines-append 1 (take i all) (status ∷ [])
-    ∙ ap (λ n. process_lines 1 (take i all) ++ process_lines n (status ∷ [])) (omega (arith, length-take i all))
+    ∙ ap (λ n. process_lines 1 (take i all) ++ process_lines n (status ∷ []))
+    (omega (arith, length-take i all))
     ∙ ap (λ line. process_lines 1 (take i all) ++ line) (append-nil (process_line (i + 1) status))
 
-pub told_more : (told before new : Option (List ℕ)) (all : List (Option ℕ)) (i : ℕ) (status : Option ℕ) (line : List ℕ) → i < length all → status ≡ get_or all i status
-    → before ≡ grown told (process_lines 1 (take i all)) → line ≡ process_line (i + 1) status → new ≡ grown before line → new ≡ grown told (process_lines 1 (take (i + 1) all))
+pub told_more : (told before new : Option (List ℕ)) (all : List (Option ℕ)) (i : ℕ)
+    (status : Option ℕ) (line : List ℕ) → i < length all → status ≡ get_or all i status
+    → before ≡ grown told (process_lines 1 (take i all)) → line ≡ process_line (i + 1) status
+    → new ≡ grown before line → new ≡ grown told (process_lines 1 (take (i + 1) all))
 told_more told before new all i status line lt is so_far line_is put =
-    put ∙ ap (λ t. grown t line) so_far ∙ ap (grown (grown told (process_lines 1 (take i all)))) line_is
-    ∙ grown_twice told (process_lines 1 (take i all)) (process_line (i + 1) status) ∙ ap (grown told) (sym (lines_more all i status lt is))
+    put ∙ ap (λ t. grown t line) so_far
+    ∙ ap (grown (grown told (process_lines 1 (take i all)))) line_is
+    ∙ grown-twice told (process_lines 1 (take i all)) (process_line (i + 1) status)
+    ∙ ap (grown told) (sym (lines_more all i status lt is))
 
-pub front_more : (told before new : Option (List ℕ)) (all : List (Option ℕ)) (rounds : ℕ) (ending : Ending) (i : ℕ) (status : Option ℕ) (line : List ℕ) → i < length all → status ≡ get_or all i status
-    → before ≡ grown told (process_lines 1 (take i all)) → line ≡ process_line (i + 1) status → GrewByFront before new line → GrewByFront told new (report_of all rounds ending)
+pub front_more : (told before new : Option (List ℕ)) (all : List (Option ℕ)) (rounds : ℕ)
+    (ending : Ending) (i : ℕ) (status : Option ℕ) (line : List ℕ) → i < length all
+    → status ≡ get_or all i status
+    → before ≡ grown told (process_lines 1 (take i all)) → line ≡ process_line (i + 1) status
+    → GrewByFront before new line → GrewByFront told new (report_of all rounds ending)
 front_more told before new all rounds ending i status line lt is so_far line_is front =
     let left : List ℕ = process_lines (1 + length (take (i + 1) all)) (drop (i + 1) all) in
-    let whole : report_of all rounds ending ≡ process_lines 1 (take i all) ++ (line ++ (left ++ rounds_line rounds ending)) =
+    let whole : report_of all rounds ending ≡ process_lines 1 (take i all)
+    ++ (line ++ (left ++ rounds_line rounds ending)) =
     ap (λ xs. process_lines 1 xs ++ rounds_line rounds ending) (sym (take-append-drop (i + 1) all))
-    ∙ ap (λ lines. lines ++ rounds_line rounds ending) (lines-append 1 (take (i + 1) all) (drop (i + 1) all) ∙ ap (λ lines. lines ++ left) (lines_more all i status lt is))
-    ∙ append_assoc (process_lines 1 (take i all) ++ process_line (i + 1) status) left (rounds_line rounds ending)
-    ∙ append_assoc (process_lines 1 (take i all)) (process_line (i + 1) status) (left ++ rounds_line rounds ending)
-    ∙ ap (λ l. process_lines 1 (take i all) ++ (l ++ (left ++ rounds_line rounds ending))) (sym line_is) in
-    front_of_whole told before new (process_lines 1 (take i all)) line (left ++ rounds_line rounds ending) (report_of all rounds ending) so_far front whole
+    ∙ ap (λ lines. lines ++ rounds_line rounds ending)
+    (lines-append 1 (take (i + 1) all) (drop (i + 1) all)
+    ∙ ap (λ lines. lines ++ left) (lines_more all i status lt is))
+    ∙ append_assoc (process_lines 1 (take i all) ++ process_line (i + 1) status) left
+    (rounds_line rounds ending)
+    ∙ append_assoc (process_lines 1 (take i all)) (process_line (i + 1) status)
+    (left ++ rounds_line rounds ending)
+    ∙ ap (λ l. process_lines 1 (take i all) ++ (l ++ (left ++ rounds_line rounds ending)))
+    (sym line_is) in
+    front_of_whole told before new (process_lines 1 (take i all)) line
+    (left ++ rounds_line rounds ending) (report_of all rounds ending) so_far front whole
 
 -- ---- the last line
 
-so_far_all : (told before : Option (List ℕ)) (all : List (Option ℕ)) (i : ℕ) → length all ≤ i → before ≡ grown told (process_lines 1 (take i all)) → before ≡ grown told (process_lines 1 all)
-so_far_all told before all i past so_far = so_far ∙ ap (λ xs. grown told (process_lines 1 xs)) (take_all i all past)
+so_far_all : (told before : Option (List ℕ)) (all : List (Option ℕ)) (i : ℕ) → length all ≤ i
+    → before ≡ grown told (process_lines 1 (take i all)) → before ≡ grown told (process_lines 1 all)
+so_far_all told before all i past so_far =
+    so_far ∙ ap (λ xs. grown told (process_lines 1 xs)) (take_all i all past)
 
-pub told_all : {T E : Type 0} (result : Result T E) (told before new : Option (List ℕ)) (all : List (Option ℕ)) (rounds : ℕ) (ending : Ending) (i : ℕ) (line : List ℕ) → length all ≤ i
-    → before ≡ grown told (process_lines 1 (take i all)) → line ≡ rounds_line rounds ending → OnOk result (new ≡ grown before line) → OnOk result (new ≡ grown told (report_of all rounds ending))
+pub told_all : {T E : Type 0} (result : Result T E) (told before new : Option (List ℕ))
+    (all : List (Option ℕ)) (rounds : ℕ) (ending : Ending) (i : ℕ) (line : List ℕ)
+    → length all ≤ i
+    → before ≡ grown told (process_lines 1 (take i all)) → line ≡ rounds_line rounds ending
+    → OnOk result (new ≡ grown before line)
+    → OnOk result (new ≡ grown told (report_of all rounds ending))
 told_all (Ok x) told before new all rounds ending i line past so_far line_is put =
-    put ∙ ap (λ t. grown t line) (so_far_all told before all i past so_far) ∙ ap (grown (grown told (process_lines 1 all))) line_is ∙ grown_twice told (process_lines 1 all) (rounds_line rounds ending)
+    put ∙ ap (λ t. grown t line) (so_far_all told before all i past so_far)
+    ∙ ap (grown (grown told (process_lines 1 all))) line_is
+    ∙ grown-twice told (process_lines 1 all) (rounds_line rounds ending)
 told_all (Err e) told before new all rounds ending i line past so_far line_is put = tt
 
-pub front_all : {T E : Type 0} (result : Result T E) (told before new : Option (List ℕ)) (all : List (Option ℕ)) (rounds : ℕ) (ending : Ending) (i : ℕ) (line : List ℕ) → length all ≤ i
-    → before ≡ grown told (process_lines 1 (take i all)) → line ≡ rounds_line rounds ending → OnErr result (GrewByFront before new line) → OnErr result (GrewByFront told new (report_of all rounds ending))
+pub front_all : {T E : Type 0} (result : Result T E) (told before new : Option (List ℕ))
+    (all : List (Option ℕ)) (rounds : ℕ) (ending : Ending) (i : ℕ) (line : List ℕ)
+    → length all ≤ i
+    → before ≡ grown told (process_lines 1 (take i all)) → line ≡ rounds_line rounds ending
+    → OnErr result (GrewByFront before new line)
+    → OnErr result (GrewByFront told new (report_of all rounds ending))
 front_all (Ok x) told before new all rounds ending i line past so_far line_is front = tt
 front_all (Err e) told before new all rounds ending i line past so_far line_is front =
-    front_of_whole told before new (process_lines 1 all) line [] (report_of all rounds ending) (so_far_all told before all i past so_far) front
+    front_of_whole told before new (process_lines 1 all) line [] (report_of all rounds ending)
+    (so_far_all told before all i past so_far) front
     (ap (λ l. process_lines 1 all ++ l) (sym line_is ∙ sym (append-nil line)))
 
 -- the bytes of a text that was made as a line
@@ -91,12 +129,19 @@ same_text bytes text line is e f g = e ∙ f ∙ g
 
 -- ---- the status of a process
 
-status_here : (processes : List Process) (i : ℕ) (status : Option ℕ) → i < length processes → IfSome (slice_get processes i) (λ process. status ≡ last_status process) → status ≡ get_or (map status_in processes) i status
+status_here : (processes : List Process) (i : ℕ) (status : Option ℕ) → i < length processes
+    → IfSome (slice_get processes i) (λ process. status ≡ last_status process)
+    → status ≡ get_or (map status_in processes) i status
 status_here [] i status lt known = absurd (omega arith)
 status_here (process ∷ processes) zero status lt known = known
-status_here (process ∷ processes) (suc i) status lt known = status_here processes i status (omega arith) known
+status_here (process ∷ processes) (suc i) status lt known =
+    status_here processes i status (omega arith) known
 
-pub status_at : (processes : List Process) (i : ℕ) (status : Option ℕ) → i < length processes → IfSome (numbered processes (i + 1)) (λ process. status ≡ last_status process) → status ≡ get_or (map status_in processes) i status
+pub status_at : (processes : List Process) (i : ℕ) (status : Option ℕ) → i < length processes
+    → IfSome (numbered processes (i + 1)) (λ process. status ≡ last_status process)
+    → status ≡ get_or (map status_in processes) i status
 status_at processes i status lt known =
     let next : i + 1 ≡ suc i = omega arith in
-    status_here processes i status lt (subst (λ n. IfSome (numbered processes n) (λ process. status ≡ last_status process)) next known)
+    status_here processes i status lt
+    (subst (λ n. IfSome (numbered processes n) (λ process. status ≡ last_status process))
+    next known)

@@ -1,4 +1,5 @@
--- Whether a log's exchanges are those of a run, and where they first differ. This project's own rule.
+-- Whether a log's exchanges are those of a run, and where they first differ. This project's own
+-- rule.
 use Rattle.std.specs.Prelude.{ℕ, suc, ◌≡◌, Bool, true, false, ◌&&◌, List, [], ◌∷◌, map, Option, Some, None, ◌==◌}
 use Rattle.dos_world.specs.Play.{Play, done, ask, questions}
 use Rattle.dos_world.specs.World.{World}
@@ -14,7 +15,8 @@ use Rattle.elf_image.specs.Image.{Image}
 use Rattle.group_open.specs.Opening.{opening}
 use Rattle.dpg_run.specs.Machine.{run_from, group}
 
--- From this world the run asks exactly the questions of these exchanges, one after another, where they answer it; the last is its end.
+-- From this world the run asks exactly the questions of these exchanges, one after another, where
+-- they answer it; the last is its end.
 abbrev pub FitsFrom : World → Config → List Exchange → Type 0
 FitsFrom w config es = questions (map answer_of es) (run_from w config) ≡ map question_of es
 
@@ -49,6 +51,7 @@ misfit_from n (e ∷ es) (ask question output error next) =
       | false ↦ Some (record { entry = n; kept = question_of e; asked = question })
     ]
 
--- the least entry at which the exchanges don't fit these images, with the kept question and the asked one
+-- the least entry at which the exchanges don't fit these images, with the kept question and the
+-- asked one
 abbrev pub misfit : List Image → Config → List Exchange → Option Misfit
 misfit images config es = misfit_from 0 es (group images config)

@@ -1,10 +1,62 @@
 -- Laws of a whole run; the functions of the module laws promise them.
-use Rattle.std.specs.Prelude.{◌≡◌, ◌≤◌, List}
-use Rattle.dos_world.specs.Play.{Answer}
+use Rattle.std.specs.Prelude.{ℕ, ◌+◌, ◌<◌, ◌≡◌, ◌≤◌, List, [], length, All}
+use Rattle.dos_world.specs.World.{World}
+use Rattle.dos_world.specs.Lawful.{Lawful, IsConfig}
+use Rattle.dos_world.specs.Play.{Answer, gives, over}
 use Rattle.dos_world.specs.declared.Config.{Config}
+use Rattle.dos_world.specs.declared.Question.TheVariants.{Signals}
+use Rattle.round_core.specs.Protocol.{Protocol, Allows}
+use Rattle.round_core.specs.Invariants.{Holds, Keeps}
+use Rattle.round_core.specs.Round.{counted}
+use Rattle.dos_laws.specs.Standing.{IsFit}
 use Rattle.elf_image.specs.Image.{Image}
-use Rattle.dpg_run.specs.Machine.{Seen, ends, machine}
+use Rattle.group_open.specs.Laws.{IsAccepted}
+use Rattle.group_open.specs.Opening.{opening_with, needed}
+use Rattle.dpg_run.specs.Machine.{Finish, Seen, ends, machine, rounds_of, rounds_from}
 
--- What is seen of a run has at most as many rounds as its configuration allows, whatever the shim answers.
+-- ---- invariants of a run, one for each count of its rounds
+
+-- What a round keeps, the run owes for each round; a round more is counted below the limit.
+pub record RunOwes (protocol : Protocol) (limit : ℕ) (I : ℕ → Holds) : Type 0 where
+  pub round_kept : (n : ℕ) → Keeps protocol (I n)
+  pub may_ask : (n m : ℕ) (w : World) → I n [] w → protocol.may (Signals m) w.output w.error
+  pub counted_kept : (n : ℕ) (w : World) → n < limit → I n [] w → I (n + 1) [] (counted w)
+
+-- what a run leaves: the invariant after as many rounds as it ran
+abbrev pub LeavesFinish : ℕ → (ℕ → Holds) → Finish → Type 0
+LeavesFinish limit I finish = (n : ℕ) × (n ≤ limit) × I n [] finish.world
+
+-- So many rounds keep it, from whatever world it holds of.
+abbrev pub RunIsKept : Protocol → ℕ → (ℕ → Holds) → Type 0
+RunIsKept protocol limit I =
+    (count n : ℕ) (w : World) (work : ℕ) → n + count ≤ limit → I n [] w
+    → Allows protocol (LeavesFinish limit I) (rounds_of count w work)
+
+-- ---- lawfulness
+
+-- From a lawful world so many rounds, where they may be run, lead to a lawful world, after no more
+-- of them, over all answers that fit.
+abbrev pub RunsEndLawful : Type 0
+RunsEndLawful = (count : ℕ) (w : World) (work : ℕ) (answers rest : List Answer) (finish : Finish)
+    → w.rounds + count ≤ 1000000 → Lawful w → All IsFit answers
+    → over answers (rounds_of count w work) ≡ gives finish rest
+    → Lawful finish.world × (finish.world.rounds ≤ w.rounds + count)
+
+-- So the run of 1 to 8 accepted images that fit the frames ends in a lawful world, after no more
+-- rounds than it may have, whichever services are built.
+abbrev pub GroupsEndLawful : Type 0
+GroupsEndLawful = (built : List ℕ) (images : List Image) (config : Config)
+    (answers rest : List Answer) (finish : Finish)
+    → 1 ≤ length images → length images ≤ 8 → All IsAccepted images → IsConfig config
+    → needed images ≤ config.frames → All IsFit answers
+    → over answers (rounds_from (opening_with built images config) config) ≡ gives finish rest
+    → Lawful finish.world × (finish.world.rounds ≤ config.rounds)
+
+-- ---- rounds
+
+-- What is seen of a run has at most as many rounds as its configuration allows, whatever the shim
+-- answers.
 abbrev pub RunsKeepTheirLimit : Type 0
-RunsKeepTheirLimit = (images : List Image) (config : Config) (answers : List Answer) (s : Seen) → machine images config answers ≡ ends s → s.rounds ≤ config.rounds
+RunsKeepTheirLimit =
+    (images : List Image) (config : Config) (answers : List Answer) (s : Seen)
+    → machine images config answers ≡ ends s → s.rounds ≤ config.rounds

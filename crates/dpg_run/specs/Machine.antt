@@ -21,7 +21,11 @@ pub record Finish : Type 0 where
 
 -- where no round is left: Done where nobody lives, else Limit
 abbrev pub at_limit : World → ℕ → Finish
-at_limit w work = record { ending = if is_none_of (live_threads w) then Done else Limit; world = w; work = work }
+at_limit w work = record {
+  ending = if is_none_of (live_threads w) then Done else Limit;
+  world = w;
+  work = work;
+}
 
 -- at most this many rounds more, after so much work
 abbrev pub rounds_of : ℕ → World → ℕ → Play Finish
@@ -39,7 +43,8 @@ rounds_from w config = rounds_of (config.rounds - w.rounds) w 0
 
 -- the shim is told the end, which has no answer of its own
 abbrev pub told_end : Finish → Play Finish
-told_end finish = ask (end_question finish.ending finish.world.rounds) finish.world.output finish.world.error (λ _. done finish)
+told_end finish = ask (end_question finish.ending finish.world.rounds) finish.world.output
+    finish.world.error (λ _. done finish)
 
 -- the run from a world, its end told
 abbrev pub run_from : World → Config → Play Finish
@@ -55,7 +60,8 @@ group images config = run_from (opening images config) config
 abbrev pub status_in : Process → Option ℕ
 status_in process = elim process.life [ live h ↦ None | ended status collected ↦ Some status ]
 
--- The questions in order, the last being the end; the bytes sent; each process's status; how it ended, after how many rounds; and its work.
+-- The questions in order, the last being the end; the bytes sent; each process's status; how it
+-- ended, after how many rounds; and its work.
 pub record Seen : Type 0 where
   pub questions : List Question
   pub output : List ℕ
@@ -89,7 +95,8 @@ result_of asked (asks question output error) = needs question output error
 
 -- the run from a world over these answers of the shim
 abbrev pub machine_from : World → Config → List Answer → Ran
-machine_from w config answers = result_of (questions answers (run_from w config)) (over answers (rounds_from w config))
+machine_from w config answers =
+    result_of (questions answers (run_from w config)) (over answers (rounds_from w config))
 
 -- the run of these images over these answers of the shim
 abbrev pub machine : List Image → Config → List Answer → Ran

@@ -22,16 +22,19 @@ status_text (Some status) = codes "status " ++ decimal status
 
 -- the line of the process of this number
 abbrev pub process_line : ℕ → Option ℕ → List ℕ
-process_line number status = codes "process " ++ decimal number ++ codes " " ++ status_text status ++ line_feed
+process_line number status = codes "process " ++ decimal number ++ codes " " ++ status_text status
+    ++ line_feed
 
 -- a line for each process, the first of which has this number
 abbrev pub process_lines : ℕ → List (Option ℕ) → List ℕ
 process_lines number [] = []
-process_lines number (status ∷ statuses) = process_line number status ++ process_lines (suc number) statuses
+process_lines number (status ∷ statuses) =
+    process_line number status ++ process_lines (suc number) statuses
 
 -- the last line
 abbrev pub rounds_line : ℕ → Ending → List ℕ
-rounds_line rounds ending = codes "rounds " ++ decimal rounds ++ codes " " ++ ending_word ending ++ line_feed
+rounds_line rounds ending = codes "rounds " ++ decimal rounds ++ codes " " ++ ending_word ending
+    ++ line_feed
 
 -- the whole, of these statuses, after this many rounds
 abbrev pub report_of : List (Option ℕ) → ℕ → Ending → List ℕ

@@ -1,9 +1,43 @@
 //! Laws of the definitions, as contracts of functions that do nothing.
 
-ghost use Rattle.dpg_run.specs.Laws.{RunsKeepTheirLimit};
+ghost use Rattle.dpg_run.specs.Laws.{GroupsEndLawful, RunIsKept, RunOwes, RunsEndLawful, RunsKeepTheirLimit};
 
-/// A run has at most as many rounds as its configuration allows, whatever images it runs and whatever the shim answers,
-/// signals too.
+/// An invariant of a run: for each count of rounds, what holds in each world of the next one.
+pub trait RunInvariant {
+    ghost use Rattle.std.specs.Prelude.{ℕ};
+    ghost use Rattle.round_core.specs.Protocol.{Protocol};
+    ghost use Rattle.round_core.specs.Invariants.{Holds};
+
+    /// What may be asked, and what may be answered.
+    ghost protocol: { Protocol };
+
+    /// How many rounds there may be.
+    ghost limit: { ℕ };
+
+    /// What holds after so many rounds.
+    ghost holds: { ℕ → Holds };
+}
+
+/// What every change of a round and the count of rounds keep, the run keeps.
+pub fn run_invariants_are_kept<I: RunInvariant>()
+    requires { RunOwes I.protocol I.limit I.holds }
+    ensures { RunIsKept I.protocol I.limit I.holds }
+{}
+
+/// As many rounds as there may be lead from a lawful world to a lawful world, over all answers that
+/// fit, whichever services are built.
+pub fn runs_end_lawful()
+    ensures { RunsEndLawful }
+{}
+
+/// The run of 1 to 8 images of accepted files that fit the frames ends in a lawful world, over all
+/// answers that fit, whichever services are built.
+pub fn groups_end_lawful()
+    ensures { GroupsEndLawful }
+{}
+
+/// A run has at most as many rounds as its configuration allows, whatever images it runs and
+/// whatever the shim answers, signals too.
 pub fn runs_keep_their_limit()
     ensures { RunsKeepTheirLimit }
 {}

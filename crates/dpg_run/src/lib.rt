@@ -9,6 +9,3 @@ mod run;
 pub use open::open_group;
 pub use report::put_report;
 pub use run::run_group;
-
-#[cfg(test)]
-mod tests;

@@ -58,16 +58,21 @@ fn rounds_line(rounds: u32, ending: Ending) -> ArrayString<LINE>
     line
 }
 
-/// Puts the report of these processes after so many rounds, one put for each line. After a fault a front of the report was
-/// put.
+/// Puts the report of these processes after so many rounds, one put for each line. After a fault a
+/// front of the report was put.
 pub(crate) fn put_lines<S: Sink>(
     table: &Table,
     rounds: u32,
     ending: Ending,
     sink: &mut S,
 ) -> Result<(), SinkFault>
-    ensures told { OnOk result (S.told sink.new ≡ grown (S.told sink.old) (report_of (map status_in table.now.processes) rounds ending)) }
-    ensures front { OnErr result (GrewByFront (S.told sink.old) (S.told sink.new) (report_of (map status_in table.now.processes) rounds ending)) }
+    ensures told { OnOk result
+        (S.told sink.new
+        ≡ grown (S.told sink.old)
+        (report_of (map status_in table.now.processes) rounds ending)) }
+    ensures front { OnErr result
+        (GrewByFront (S.told sink.old) (S.told sink.new)
+        (report_of (map status_in table.now.processes) rounds ending)) }
     ensures cause { HasCause (S.faults sink.old) (S.faults sink.new) result }
 {
     for place in 0..table.processes() {
@@ -77,10 +82,15 @@ pub(crate) fn put_lines<S: Sink>(
     sink.put(rounds_line(rounds, ending).as_str().as_bytes())
 }
 
-/// Puts the report of a run that has ended so, one put for each line. After a fault a front of the report was put.
+/// Puts the report of a run that has ended so, one put for each line. After a fault a front of the
+/// report was put.
 pub fn put_report<S: Sink>(kernel: &Kernel, ending: Ending, sink: &mut S) -> Result<(), SinkFault>
-    ensures told { OnOk result (S.told sink.new ≡ grown (S.told sink.old) (report_in (kernel_world kernel.now) ending)) }
-    ensures front { OnErr result (GrewByFront (S.told sink.old) (S.told sink.new) (report_in (kernel_world kernel.now) ending)) }
+    ensures told { OnOk result
+        (S.told sink.new
+        ≡ grown (S.told sink.old) (report_in (kernel_world kernel.now) ending)) }
+    ensures front { OnErr result
+        (GrewByFront (S.told sink.old) (S.told sink.new)
+        (report_in (kernel_world kernel.now) ending)) }
     ensures cause { HasCause (S.faults sink.old) (S.faults sink.new) result }
 {
     put_lines(&kernel.state().table, kernel.rounds(), ending, sink)

@@ -5,7 +5,7 @@ ghost use Rattle.dos_io.specs.Shims.{HasNoEnd};
 ghost use Rattle.kernel_calls.specs.Serving.{shim_stop};
 ghost use Rattle.group_rounds.specs.Going.{telling};
 ghost use Rattle.group_rounds.specs.Outside.{HaveCauses, is_end};
-ghost use Rattle.dpg_run.specs.Running.{CutGroup, RanGroup, RanRounds, StoppedGroup, has_failed};
+ghost use Rattle.dpg_run.specs.Running.{AreEnded, CutGroup, RanGroup, RanRounds, StoppedGroup, has_failed};
 ghost use Rattle.group_rounds.specs.Kernels.{IsBetweenRounds};
 
 use dos_io::{Shim, Sink};
@@ -15,7 +15,9 @@ use kernel_calls::RunStop;
 
 // how a run ends where no round is left
 fn limit_ending(kernel: &Kernel) -> Ending
-    ensures ending { result ≡ (if length (numbers_of is_some kernel.now.state.table.threads) == 0 then Ending.Done else Ending.Limit) }
+    ensures ending { result
+        ≡ (if length (numbers_of is_some kernel.now.state.table.threads) == 0 then
+        Ending.Done else Ending.Limit) }
     ensures ready { result ≢ Ending.Stalled }
     ensures sound { kernel.now.failed ≡ false → IsBetweenRounds kernel.now.state kernel.now.config }
 {
@@ -36,16 +38,30 @@ fn run_rounds<S: Shim, O: Sink, E: Sink>(
     requires running { kernel.old.failed ≡ false }
     requires fresh { kernel.old.state.round ≡ 1 }
     requires told { HasNoEnd (S.state shim.old).told }
-    ensures runs { IfOk result (λ ending. RanRounds kernel.old.config kernel.old.state (telling (S.state shim.old).told (O.told out.old) (E.told err.old)) ending kernel.new.state (telling (S.state shim.new).told (O.told out.new) (E.told err.new))) }
+    ensures runs { IfOk result
+        (λ ending. RanRounds kernel.old.config kernel.old.state
+        (telling (S.state shim.old).told (O.told out.old) (E.told err.old)) ending
+        kernel.new.state
+        (telling (S.state shim.new).told (O.told out.new) (E.told err.new))) }
     ensures ready { IfOk result (λ ending. ending ≢ Ending.Stalled) }
     ensures sound { kernel.new.failed ≡ false → IsBetweenRounds kernel.new.state kernel.new.config }
-    ensures asks { IfErr result (λ stop. OnSome (shim_stop stop) (StoppedGroup kernel.old.config kernel.old.state (telling (S.state shim.old).told (O.told out.old) (E.told err.old)) (telling (S.state shim.new).told (O.told out.new) (E.told err.new)) (S.state shim.new).asked)) }
-    ensures cut { OnErr result (CutGroup kernel.old.config kernel.old.state (telling (S.state shim.old).told (O.told out.old) (E.told err.old)) (telling (S.state shim.new).told (O.told out.new) (E.told err.new))) }
-    ensures before_end { IfErr result (λ stop. OnSome (shim_stop stop) (is_end (S.state shim.new).asked ≡ false)) }
+    ensures asks { IfErr result
+        (λ stop. OnSome (shim_stop stop)
+        (StoppedGroup kernel.old.config kernel.old.state
+        (telling (S.state shim.old).told (O.told out.old) (E.told err.old))
+        (telling (S.state shim.new).told (O.told out.new) (E.told err.new))
+        (S.state shim.new).asked)) }
+    ensures cut { OnErr result
+        (CutGroup kernel.old.config kernel.old.state
+        (telling (S.state shim.old).told (O.told out.old) (E.told err.old))
+        (telling (S.state shim.new).told (O.told out.new) (E.told err.new))) }
+    ensures before_end { IfErr result
+        (λ stop. OnSome (shim_stop stop) (is_end (S.state shim.new).asked ≡ false)) }
     ensures config { kernel.new.config ≡ kernel.old.config }
     ensures failed { kernel.new.failed ≡ is_err result }
     ensures told { OnOk result (HasNoEnd (S.state shim.new).told) }
-    ensures causes { HaveCauses result (S.state shim.old) (S.state shim.new) (O.faults out.old) (O.faults out.new) (E.faults err.old) (E.faults err.new) }
+    ensures causes { HaveCauses result (S.state shim.old) (S.state shim.new) (O.faults out.old)
+        (O.faults out.new) (E.faults err.old) (E.faults err.new) }
     ensures follows { S.follows shim.old shim.new }
 {
     let rounds = kernel.config().rounds;
@@ -61,7 +77,9 @@ fn run_rounds<S: Shim, O: Sink, E: Sink>(
 
 /// Runs a group that has run no round to its end, and tells the shim the end.
 ///
-/// After a stop at the end the kernel hasn't failed; after any other it has, and nothing more is said of it.
+/// After a stop at the end the kernel hasn't failed; after any other it has, and nothing more is
+/// said of it. After any stop each sink holds a front of what the machine sends to it; after the
+/// shim's, all that it has sent by then.
 pub fn run_group<S: Shim, O: Sink, E: Sink>(
     kernel: &mut Kernel,
     shim: &mut S,
@@ -71,15 +89,30 @@ pub fn run_group<S: Shim, O: Sink, E: Sink>(
     requires running { kernel.old.failed ≡ false }
     requires fresh { kernel.old.state.round ≡ 1 }
     requires told { HasNoEnd (S.state shim.old).told }
-    ensures runs { IfOk result (λ ending. RanGroup kernel.old.config kernel.old.state (telling (S.state shim.old).told (O.told out.old) (E.told err.old)) ending kernel.new.state (telling (S.state shim.new).told (O.told out.new) (E.told err.new))) }
+    ensures runs { IfOk result
+        (λ ending. RanGroup kernel.old.config kernel.old.state
+        (telling (S.state shim.old).told (O.told out.old) (E.told err.old)) ending
+        kernel.new.state
+        (telling (S.state shim.new).told (O.told out.new) (E.told err.new))) }
     ensures ready { IfOk result (λ ending. ending ≢ Ending.Stalled) }
     ensures sound { kernel.new.failed ≡ false → IsBetweenRounds kernel.new.state kernel.new.config }
     ensures limit { OnOk result (kernel.new.state.round - 1 ≤ kernel.old.config.rounds) }
-    ensures asks { IfErr result (λ stop. OnSome (shim_stop stop) (StoppedGroup kernel.old.config kernel.old.state (telling (S.state shim.old).told (O.told out.old) (E.told err.old)) (telling (S.state shim.new).told (O.told out.new) (E.told err.new)) (S.state shim.new).asked)) }
-    ensures cut { OnErr result (CutGroup kernel.old.config kernel.old.state (telling (S.state shim.old).told (O.told out.old) (E.told err.old)) (telling (S.state shim.new).told (O.told out.new) (E.told err.new))) }
+    ensures asks { IfErr result
+        (λ stop. OnSome (shim_stop stop)
+        (StoppedGroup kernel.old.config kernel.old.state
+        (telling (S.state shim.old).told (O.told out.old) (E.told err.old))
+        (telling (S.state shim.new).told (O.told out.new) (E.told err.new))
+        (S.state shim.new).asked)) }
+    ensures cut { OnErr result
+        (CutGroup kernel.old.config kernel.old.state
+        (telling (S.state shim.old).told (O.told out.old) (E.told err.old))
+        (telling (S.state shim.new).told (O.told out.new) (E.told err.new))) }
+    ensures told_end { IfOk result
+        (λ ending. AreEnded ending (kernel.new.state.round - 1) (S.state shim.new).told) }
     ensures config { kernel.new.config ≡ kernel.old.config }
     ensures failed { kernel.new.failed ≡ has_failed result (S.state shim.new).asked }
-    ensures causes { HaveCauses result (S.state shim.old) (S.state shim.new) (O.faults out.old) (O.faults out.new) (E.faults err.old) (E.faults err.new) }
+    ensures causes { HaveCauses result (S.state shim.old) (S.state shim.new) (O.faults out.old)
+        (O.faults out.new) (E.faults err.old) (E.faults err.new) }
     ensures follows { S.follows shim.old shim.new }
 {
     let ending = run_rounds(kernel, shim, out, err)?;

@@ -1,4 +1,5 @@
--- Frames that are taken one after another from the lowest on, each mapped as a page of one process. This project's own rule.
+-- Frames that are taken one after another from the lowest on, each mapped as a page of one process.
+-- This project's own rule.
 use Rattle.std.specs.Prelude.{◌≡◌, ◌<◌, ◌≤◌, ℕ, ◌+◌, ◌-◌, ◌*◌, List, ◌++◌, length, replicate, Some, false, All, IsSome, flat_map, position}
 use Rattle.dos_world.specs.World.{Holdings, is_free}
 use Rattle.dos_world.specs.declared.Entry.{Entry}
@@ -22,7 +23,8 @@ pub record IsFilled (s : Store) (bytes : List ℕ) (owners : List Owner) : Type 
   pub taken : All IsTaken owners
   pub bytes_are : joined s.pages ≡ bytes ++ replicate (4096 * (length s.pages - length owners)) 0
   pub owners_are : s.owners ≡ owners ++ replicate (length s.pages - length owners) Free
-  pub uses_are : s.uses ≡ replicate (length owners) 1 ++ replicate (length s.pages - length owners) 0
+  pub uses_are : s.uses ≡ replicate (length owners) 1
+      ++ replicate (length s.pages - length owners) 0
 
 -- so many frames more may be taken
 pub record HasRoom (s : Store) (more : ℕ) : Type 0 where
@@ -42,11 +44,17 @@ pub record Takes (old new : Store) (t frame : ℕ) (bytes : List ℕ) : Type 0 w
 abbrev pub with_more : List (ℕ × Entry) → Holdings → Holdings
 with_more entries h = record h { space = h.space ++ entries }
 
--- Frames were taken, with these bytes and owners; the process has the entries of the pages that they are, the first of them in the frame of the given number.
-pub record Opens (old new : Store) (before after : Tables) (pid : ℕ) (entries : ℕ → List (ℕ × Entry)) (bytes : List ℕ) (owners : List Owner) : Type 0 where
+-- Frames were taken, with these bytes and owners; the process has the entries of the pages that
+-- they are, the first of them in the frame of the given number.
+pub record Opens (old new : Store) (before after : Tables) (pid : ℕ) (entries : ℕ
+    → List (ℕ × Entry)) (bytes : List ℕ) (owners : List Owner) : Type 0 where
   pub count : length new.pages ≡ length old.pages
-  pub fills : (bytes_before : List ℕ) (owners_before : List Owner) → IsFilled old bytes_before owners_before → IsFilled new (bytes_before ++ bytes) (owners_before ++ owners)
-  pub maps : (bytes_before : List ℕ) (owners_before : List Owner) → IsFilled old bytes_before owners_before → after ≡ held_by (with_more (entries (length owners_before))) before pid
+  pub fills : (bytes_before : List ℕ) (owners_before : List Owner)
+      → IsFilled old bytes_before owners_before
+      → IsFilled new (bytes_before ++ bytes) (owners_before ++ owners)
+  pub maps : (bytes_before : List ℕ) (owners_before : List Owner)
+      → IsFilled old bytes_before owners_before
+      → after ≡ held_by (with_more (entries (length owners_before))) before pid
 
 -- the process lives, all its pages are below this one, and its space has room for so many more
 pub record HasPlace (t : Tables) (pid page more : ℕ) : Type 0 where
@@ -58,15 +66,21 @@ pub record HasPlace (t : Tables) (pid page more : ℕ) : Type 0 where
 -- ---- the pages of an image
 
 -- these pages of the image's parts were opened
-abbrev pub OpensParts : (old new : Store) → (before after : Tables) → (pid tid : ℕ) → Image → List ℕ → Type 0
+abbrev pub OpensParts : (old new : Store) → (before after : Tables) → (pid tid : ℕ) → Image → List ℕ
+    → Type 0
 OpensParts old new before after pid tid image pages =
-    Opens old new before after pid (λ n. map_from n (part_entry image) pages) (flat_map (page_bytes image) pages) (replicate (length pages) (Of tid))
+    Opens old new before after pid (λ n. map_from n (part_entry image) pages)
+    (flat_map (page_bytes image) pages) (replicate (length pages) (Of tid))
 
 -- these pages of a stack were opened
-abbrev pub OpensStack : (old new : Store) → (before after : Tables) → (pid tid : ℕ) → List ℕ → Type 0
+abbrev pub OpensStack : (old new : Store) → (before after : Tables) → (pid tid : ℕ) → List ℕ
+    → Type 0
 OpensStack old new before after pid tid pages =
-    Opens old new before after pid (λ n. map_from n stack_entry pages) (replicate (4096 * length pages) 0) (replicate (length pages) (Of tid))
+    Opens old new before after pid (λ n. map_from n stack_entry pages)
+    (replicate (4096 * length pages) 0) (replicate (length pages) (Of tid))
 
 -- all pages of the image were opened
 abbrev pub OpensImage : (old new : Store) → (before after : Tables) → (pid tid : ℕ) → Image → Type 0
-OpensImage old new before after pid tid image = Opens old new before after pid (space_from image) (image_bytes image) (replicate (page_count image) (Of tid))
+OpensImage old new before after pid tid image =
+    Opens old new before after pid (space_from image) (image_bytes image)
+    (replicate (page_count image) (Of tid))

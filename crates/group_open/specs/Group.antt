@@ -4,6 +4,7 @@ use Rattle.dos_world.specs.Numbered.{map_from}
 use Rattle.dos_world.specs.World.{Holdings}
 use Rattle.dos_world.specs.ThreadCalls.{ready_thread}
 use Rattle.elf_image.specs.Image.{Image}
+use Rattle.kernel_objects.specs.Pipework.{none_open}
 use Rattle.kernel_calls.specs.declared.state.State.{State}
 use Rattle.page_store.specs.Store.{Store}
 use Rattle.proc_table.specs.Tables.{Tables, held_by, new_process, process_added}
@@ -17,7 +18,10 @@ with_first_ends h = record h { descriptors = opening_descriptors }
 -- with a process more that has no page yet, and its first thread
 abbrev pub with_opened : Tables → Image → Tables
 with_opened t image =
-    held_by with_first_ends (process_added t (new_process 0) (ready_thread (length t.processes + 1) (opening_registers image) 0 [])) (length t.processes + 1)
+    held_by with_first_ends
+    (process_added t (new_process 0)
+    (ready_thread (length t.processes + 1) (opening_registers image) 0 []))
+    (length t.processes + 1)
 
 -- These images are opened, in so many frames: what is left of the frames is Free and zero.
 pub record IsOpened (count : ℕ) (s : Store) (t : Tables) (images : List Image) : Type 0 where
@@ -38,4 +42,6 @@ pub record FitsMore (s : Store) (t : Tables) (image : Image) : Type 0 where
 -- The state of these images in so many frames, before its first round.
 pub record IsStateOf (count : ℕ) (images : List Image) (state : State) : Type 0 where
   pub opened : IsOpened count state.frames state.table images
+  pub pipes : state.pipes ≡ none_open
+  pub futexes : state.futexes ≡ []
   pub round : state.round ≡ 1

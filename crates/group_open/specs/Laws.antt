@@ -17,4 +17,6 @@ pub record IsAccepted (image : Image) : Type 0 where
 
 -- The opening of 1 to 8 accepted images that fit the frames is lawful.
 abbrev pub OpeningsAreLawful : Type 0
-OpeningsAreLawful = (images : List Image) (config : Config) → 1 ≤ length images → length images ≤ 8 → All IsAccepted images → IsConfig config → needed images ≤ config.frames → Lawful (opening images config)
+OpeningsAreLawful = (images : List Image) (config : Config) → 1 ≤ length images → length images ≤ 8
+    → All IsAccepted images → IsConfig config → needed images ≤ config.frames
+    → Lawful (opening images config)

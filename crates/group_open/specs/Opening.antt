@@ -1,9 +1,9 @@
--- The world that a group opens with. This project's own rules; what a part of an image is comes from the System V ABI, "Program Loading".
+-- The world that a group opens with. This project's own rules; what a part of an image is comes
+-- from the System V ABI, "Program Loading".
 use Rattle.std.specs.Prelude.{ℕ, suc, ◌+◌, ◌-◌, ◌*◌, ◌/◌, Bool, true, false, List, [], ◌∷◌, ◌++◌, length, map, filter, find, flat_map, replicate, Option, Some, None, ◌==◌, ◌&&◌, nat_lt, nat_le, if◌then◌else◌, slice_index, sum_by}
 use Rattle.std.specs.List.{list_any}
 use Rattle.dos_world.specs.Numbered.{run_of, map_from}
 use Rattle.dos_world.specs.World.{World, Process, live, Thread, Registers, set, blank}
-use Rattle.dos_world.specs.Services.{services_today}
 use Rattle.dos_world.specs.declared.Entry.{Entry}
 use Rattle.dos_world.specs.declared.Owner.{Owner}
 use Rattle.dos_world.specs.declared.Owner.TheVariants.{Free, Of}
@@ -13,6 +13,7 @@ use Rattle.dos_world.specs.declared.ThreadState.TheVariants.{Ready}
 use Rattle.dos_world.specs.declared.Config.{Config}
 use Rattle.elf_image.specs.declared.part.Part.{Part}
 use Rattle.elf_image.specs.Image.{Image, size_of}
+use Rattle.kernel_calls.specs.Built.{services_built}
 
 -- ---- the pages of an image
 
@@ -25,7 +26,8 @@ pages_touched part =
 -- a number put into a rising list, once
 abbrev pub with_number : ℕ → List ℕ → List ℕ
 with_number n [] = n ∷ []
-with_number n (x ∷ xs) = if nat_lt n x then n ∷ x ∷ xs else (if n == x then x ∷ xs else x ∷ with_number n xs)
+with_number n (x ∷ xs) = if nat_lt n x then n ∷ x
+    ∷ xs else (if n == x then x ∷ xs else x ∷ with_number n xs)
 
 -- the numbers of a list in rising order, each once
 abbrev pub rising : List ℕ → List ℕ
@@ -95,11 +97,15 @@ part_entry image frame page = (
 
 -- The stack is written and not executed.
 abbrev pub stack_entry : ℕ → ℕ → ℕ × Entry
-stack_entry frame page = (page, record { frame = frame; write = true; exec = false; shared = false })
+stack_entry frame page = (
+  page,
+  record { frame = frame; write = true; exec = false; shared = false },
+)
 
 -- an image's space, in frames from this one on
 abbrev pub space_from : Image → ℕ → List (ℕ × Entry)
-space_from image frame = map_from frame (part_entry image) (part_pages image) ++ map_from (frame + length (part_pages image)) stack_entry stack_pages
+space_from image frame = map_from frame (part_entry image) (part_pages image)
+    ++ map_from (frame + length (part_pages image)) stack_entry stack_pages
 
 -- ---- processes and threads: image i, counted from 1, gives process i and thread i
 
@@ -111,10 +117,16 @@ opening_descriptors = Some Input ∷ Some Output ∷ Some Error ∷ replicate 29
 abbrev pub opening_process : Image → ℕ → Process
 opening_process image frame = record {
   parent = 0;
-  life = live (record { actions = replicate 31 0; descriptors = opening_descriptors; space = space_from image frame });
+  life = live (record {
+    actions = replicate 31 0;
+    descriptors = opening_descriptors;
+    space =
+        space_from image frame;
+  });
 }
 
--- All registers are 0 but pc, the image's entry, and the stack pointer x2. ABI: RISC-V ELF psABI, "Integer register convention".
+-- All registers are 0 but pc, the image's entry, and the stack pointer x2. ABI: RISC-V ELF psABI,
+-- "Integer register convention".
 abbrev pub opening_registers : Image → Registers
 opening_registers image = set (blank image.entry) 2 0xEFFFFFF0
 
@@ -135,12 +147,14 @@ opening_thread number image = Some (record {
 -- the processes of these images, in frames from this one on
 abbrev pub processes_from : ℕ → List Image → List Process
 processes_from frame [] = []
-processes_from frame (image ∷ images) = opening_process image frame ∷ processes_from (frame + page_count image) images
+processes_from frame (image ∷ images) =
+    opening_process image frame ∷ processes_from (frame + page_count image) images
 
 -- Each frame of an image is its thread's; the threads are counted from this number on.
 abbrev pub owners_from : ℕ → List Image → List Owner
 owners_from number [] = []
-owners_from number (image ∷ images) = replicate (page_count image) (Of number) ++ owners_from (suc number) images
+owners_from number (image ∷ images) = replicate (page_count image) (Of number)
+    ++ owners_from (suc number) images
 
 -- The opening, where the images fit the frames. What is left of the frames is Free, and 0.
 abbrev pub opening_with : List ℕ → List Image → Config → World
@@ -158,6 +172,6 @@ opening_with built images config = record {
   built = built;
 }
 
--- the opening with the services that the kernel has today
+-- the opening with the services that the kernel has
 abbrev pub opening : List Image → Config → World
-opening images config = opening_with services_today images config
+opening images config = opening_with services_built images config

@@ -55,7 +55,9 @@ fn open_page(frames: &mut Frames, table: &mut Table, opened: Opened, image: &Ima
     requires room { HasRoom frames.old 1 }
     requires place { HasPlace table.old opened.pid page 1 }
     requires page { page < 0xF0000 }
-    ensures { Opens frames.old frames.new table.old table.new opened.pid (λ n. part_entry image.now n page ∷ []) (page_bytes image.now page) (Owner.Of opened.tid ∷ []) }
+    ensures { Opens frames.old frames.new table.old table.new opened.pid
+        (λ n. part_entry image.now n page ∷ []) (page_bytes image.now page)
+        (Owner.Of opened.tid ∷ []) }
 {
     let frame = take_filled(frames, opened.tid, image, page);
     table.put_entry(opened.pid, page, entry_of(image, page, frame));
@@ -65,7 +67,8 @@ fn open_page(frames: &mut Frames, table: &mut Table, opened: Opened, image: &Ima
 fn open_stack_page(frames: &mut Frames, table: &mut Table, opened: Opened, page: u32)
     requires room { HasRoom frames.old 1 }
     requires place { HasPlace table.old opened.pid page 1 }
-    ensures { Opens frames.old frames.new table.old table.new opened.pid (λ n. stack_entry n page ∷ []) zero_page (Owner.Of opened.tid ∷ []) }
+    ensures { Opens frames.old frames.new table.old table.new opened.pid
+        (λ n. stack_entry n page ∷ []) zero_page (Owner.Of opened.tid ∷ []) }
 {
     let frame = take_frame(frames, opened.tid);
     let entry = Entry {
@@ -81,7 +84,8 @@ fn open_stack_page(frames: &mut Frames, table: &mut Table, opened: Opened, page:
 fn open_parts(frames: &mut Frames, table: &mut Table, opened: Opened, image: &Image)
     requires room { HasRoom frames.old (length (part_pages image.now)) }
     requires place { HasPlace table.old opened.pid 0 (length (part_pages image.now)) }
-    ensures opens { OpensParts frames.old frames.new table.old table.new opened.pid opened.tid image.now (part_pages image.now) }
+    ensures opens { OpensParts frames.old frames.new table.old table.new opened.pid opened.tid
+        image.now (part_pages image.now) }
     ensures below { All (λ page. page < 0xEFFF0) (part_pages image.now) }
 {
     let mut from = 0;

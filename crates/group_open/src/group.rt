@@ -31,7 +31,8 @@ fn first_regs(image: &Image) -> Regs
 // opens the descriptors 0, 1 and 2 as input, output and error
 fn open_ends(table: &mut Table, pid: u32)
     requires live { IsProcess table.old.processes pid }
-    requires closed { IfSome (held_in table.old.processes pid) (λ h. h.descriptors ≡ replicate 32 None) }
+    requires closed { IfSome (held_in table.old.processes pid)
+        (λ h. h.descriptors ≡ replicate 32 None) }
     ensures { table.new ≡ held_by with_first_ends table.old pid }
 {
     let _input = table.open_lowest(pid, End::Input);
@@ -42,7 +43,8 @@ fn open_ends(table: &mut Table, pid: u32)
 // a process without a page, and its thread at the image's entry
 fn open_process(table: &mut Table, image: &Image) -> Opened
     requires { are_processes_full table.old.processes table.old.threads ≡ false }
-    ensures numbers { result ≡ record { pid = length table.old.processes + 1; tid = length table.old.threads + 1 } }
+    ensures numbers { result
+        ≡ record { pid = length table.old.processes + 1; tid = length table.old.threads + 1 } }
     ensures opens { table.new ≡ with_opened table.old image.now }
 {
     match table.add_process(0, first_regs(image), SignalState::new(0)) {
@@ -57,7 +59,8 @@ fn open_process(table: &mut Table, image: &Image) -> Opened
 // one image more
 fn open_image(frames: &mut Frames, table: &mut Table, image: &Image)
     requires { FitsMore frames.old table.old image.now }
-    ensures { (count : ℕ) (images : List FlatImage) → IsOpened count frames.old table.old images → IsOpened count frames.new table.new (images ++ image.now ∷ []) }
+    ensures { (count : ℕ) (images : List FlatImage) → IsOpened count frames.old table.old images
+        → IsOpened count frames.new table.new (images ++ image.now ∷ []) }
 {
     let opened = open_process(table, image);
     open_pages(frames, table, opened, image);

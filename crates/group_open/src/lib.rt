@@ -1,5 +1,5 @@
-//! The opening of a group: images become processes, threads and frames. `specs/` has the world that a group opens with, and
-//! the law that it is lawful.
+//! The opening of a group: images become processes, threads and frames. `specs/` has the world that
+//! a group opens with, and the law that it is lawful.
 #![tactic(auto)]
 
 mod error;
@@ -12,6 +12,3 @@ mod pages;
 pub use error::OpenError;
 pub use open::open_state;
 pub use pages::{entry_of, fill_page, needed, next_page, page_count};
-
-#[cfg(test)]
-mod tests;

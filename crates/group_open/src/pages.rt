@@ -174,7 +174,9 @@ pub fn entry_of(image: &Image, page: u32, frame: u32) -> Entry
 fn fill_part(part: &Part, page: u32, target: &mut Page)
     requires placed { IsPlaced part.now }
     requires page { page < 0xF0000 }
-    ensures { (k : ℕ) → k < 4096 → slice_index (whole target.new) k ≡ laid_over part.now (4096 * page + k) (slice_index (whole target.old) k) }
+    ensures { (k : ℕ) → k < 4096
+        → slice_index (whole target.new) k ≡ laid_over part.now (4096 * page + k)
+        (slice_index (whole target.old) k) }
 {
     let base = PAGE * page;
     let start = part.address.max(base);

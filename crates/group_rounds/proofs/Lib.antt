@@ -1,5 +1,6 @@
 pub mod GoesLaws
 pub mod GoingLaws
+pub mod FrontLaws
 pub mod Quiet
 pub mod Sound
 pub mod RunningLaws
@@ -9,3 +10,8 @@ pub mod Starters
 pub mod PhaseLaws
 pub mod RoundLaws
 pub mod Ready
+pub mod HandingLaws
+pub mod HandingOut
+pub mod PacksRan
+pub mod PacksShow
+pub mod PacksBack

@@ -15,38 +15,63 @@ use Rattle.round_core.specs.Round.{with_budgets, all_alone}
 use Rattle.proc_table.specs.Tables.{Tables, IsThread, thread_by, thread_in, with_budget}
 use Rattle.kernel_calls.specs.Serving.{IsSound, sent, world_of}
 use Rattle.kernel_calls.specs.declared.state.State.{State}
+use Rattle.group_rounds.specs.Fronts.{CutPlay}
 use Rattle.group_rounds.specs.Going.{GoesTo, Telling}
 use Rattle.group_rounds.specs.Phases.{AreLive}
+use Rattle.group_rounds.proofs.FrontLaws.{cut_behind, cut_then, cut_from, fronts_serial}
 use Rattle.group_rounds.proofs.GoingLaws.{goes_still, goes_and, goes_behind, goes_from}
 use Rattle.group_rounds.proofs.Sound.{sound_like, lives_by}
 
 -- ---- the list of starters, from a place on
 
 pub drop_at : (xs : List ℕ) (i : ℕ) → i < length xs → drop i xs ≡ get_or xs i 0 ∷ drop (i + 1) xs
-drop_at xs i lt = drop-cons xs i 0 lt ∙ ap (λ n. get_or xs i 0 ∷ drop n xs) (let e : suc i ≡ i + 1 = omega arith in e)
+drop_at xs i lt = drop-cons xs i 0 lt
+    ∙ ap (λ n. get_or xs i 0 ∷ drop n xs) (let e : suc i ≡ i + 1 = omega arith in e)
 
 pub drop_out : (xs : List ℕ) (i : ℕ) → length xs ≤ i → drop i xs ≡ []
 drop_out xs i le = drop_of_length-le xs le
 
 -- ---- budgets
 
-module _ (s : State) (table : Tables) (quantum t : ℕ) (set : table ≡ thread_by (with_budget quantum) s.table t) where
+module _ (s : State) (table : Tables) (quantum t : ℕ)
+    (set : table ≡ thread_by (with_budget quantum) s.table t) where
   pub budget_next : (xs : List ℕ) (i : ℕ) → i < length xs → t ≡ get_or xs i 0 → (o e : List ℕ)
-      → with_budgets (sent o e (world_of quantum s)) (drop i xs) ≡ with_budgets (sent o e (world_of quantum (record s { table = table }))) (drop (i + 1) xs)
+      → with_budgets (sent o e (world_of quantum s)) (drop i xs)
+      ≡ with_budgets (sent o e (world_of quantum (record s { table = table }))) (drop (i + 1) xs)
   budget_next xs i lt is o e =
       ap (with_budgets (sent o e (world_of quantum s))) (drop_at xs i lt)
       ∙ ap (λ t. with_budgets (sent o e (world_of quantum s)) (t ∷ drop (i + 1) xs)) (sym is)
-      ∙ ap (λ (table : Tables). with_budgets (sent o e (world_of quantum (record s { table = table }))) (drop (i + 1) xs)) (sym set)
+      ∙ ap (λ (table : Tables). with_budgets
+      (sent o e (world_of quantum (record s { table = table }))) (drop (i + 1) xs))
+      (sym set)
 
   pub budget_sound : IsSound s → IsSound (record s { table = table })
   budget_sound sound =
       let home = sound.home in
       subst (λ (table : Tables). IsSound (record s { table = table })) (sym set)
-      (sound_like s (record s { table = thread_by (with_budget quantum) s.table t }) sound (record { home = home; round = refl; room = refl; count = refl; uses = refl; processes = refl })
-      (λ q both. record { lawful = lawful-with_thread (with_budget quantum) (budget_change quantum) (world_of q s) t both.lawful; plain = plain-with_thread (with_budget quantum) (budget_change quantum) (world_of q s) t both.plain }))
+      (sound_like s (record s { table = thread_by (with_budget quantum) s.table t }) sound
+      (record {
+        home = home;
+        round = refl;
+        room = refl;
+        count = refl;
+        uses = refl;
+        processes = refl;
+        pipes = refl;
+      })
+      (λ q both. record {
+        lawful =
+            lawful-with_thread (with_budget quantum) (budget_change quantum)
+            (world_of q s) t both.lawful;
+        plain =
+            plain-with_thread (with_budget quantum) (budget_change quantum)
+            (world_of q s) t both.plain;
+      }))
 
   pub budget_live : (xs : List ℕ) → AreLive s.table.threads xs → AreLive table.threads xs
-  budget_live xs live k d lt = subst (λ (table : Tables). IsThread table.threads (get_or xs k d)) (sym set) (lives_by (with_budget quantum) s.table.threads t (get_or xs k d) (live k d lt))
+  budget_live xs live k d lt =
+      subst (λ (table : Tables). IsThread table.threads (get_or xs k d)) (sym set)
+      (lives_by (with_budget quantum) s.table.threads t (get_or xs k d) (live k d lt))
 
 -- ---- the parallel phase
 
@@ -54,47 +79,108 @@ module _ (s : State) (table : Tables) (quantum t : ℕ) (set : table ≡ thread_
 alone_lives : (w : World) (t u : ℕ) → IsSome (thread_at w u) → IsSome (thread_at (alone w t) u)
 alone_lives w t u live = go (cases_eq u t)
   where
-    same_some : (o p : Option Thread) → option_map without_run o ≡ option_map without_run p → IsSome p → IsSome o
+    same_some : (o p : Option Thread) → option_map without_run o ≡ option_map without_run p
+        → IsSome p → IsSome o
     same_some None None e h = h
     same_some None (Some thread) e h = cc
     same_some (Some thread) p e h = refl
 
     go : (u ≡ t) ⊎ (u ≢ t) → IsSome (thread_at (alone w t) u)
-    go (inl same) = subst (λ n. IsSome (thread_at (alone w t) n)) (sym same) (same_some (thread_at (alone w t) t) (thread_at w t) (alone-own w t).thread (subst (λ n. IsSome (thread_at w n)) same live))
+    go (inl same) = subst (λ n. IsSome (thread_at (alone w t) n)) (sym same)
+        (same_some (thread_at (alone w t) t) (thread_at w t) (alone-own w t).thread
+        (subst (λ n. IsSome (thread_at w n)) same live))
     go (inr other) = subst (λ o. IsSome o) (sym ((alone-own w t).others u other)) live
 
-module _ (s s' : State) (t : ℕ) (runs : (q : ℕ) (o e : List ℕ) → alone (sent o e (world_of q s)) t ≡ sent o e (world_of q s')) where
-  pub alone_next : (xs : List ℕ) (i : ℕ) → i < length xs → t ≡ get_or xs i 0 → (q : ℕ) (o e : List ℕ) → all_alone (sent o e (world_of q s)) (drop i xs) ≡ all_alone (sent o e (world_of q s')) (drop (i + 1) xs)
+module _ (s s' : State) (t : ℕ) (runs : (q : ℕ) (o e : List ℕ)
+    → alone (sent o e (world_of q s)) t ≡ sent o e (world_of q s')) where
+  pub alone_next : (xs : List ℕ) (i : ℕ) → i < length xs → t ≡ get_or xs i 0
+      → (q : ℕ) (o e : List ℕ)
+      → all_alone (sent o e (world_of q s)) (drop i xs) ≡ all_alone (sent o e (world_of q s'))
+      (drop (i + 1) xs)
   alone_next xs i lt is q o e =
-      ap (all_alone (sent o e (world_of q s))) (drop_at xs i lt) ∙ ap (λ t. all_alone (sent o e (world_of q s)) (t ∷ drop (i + 1) xs)) (sym is)
+      ap (all_alone (sent o e (world_of q s))) (drop_at xs i lt)
+      ∙ ap (λ t. all_alone (sent o e (world_of q s)) (t ∷ drop (i + 1) xs)) (sym is)
       ∙ ap (λ w. all_alone w (drop (i + 1) xs)) (runs q o e)
 
   pub alone_live : (xs : List ℕ) → AreLive s.table.threads xs → AreLive s'.table.threads xs
-  alone_live xs live k d lt = subst (λ w. IsSome (thread_at w (get_or xs k d))) (runs 0 [] []) (alone_lives (world_of 0 s) t (get_or xs k d) (live k d lt))
+  alone_live xs live k d lt =
+      subst (λ w. IsSome (thread_at w (get_or xs k d))) (runs 0 [] [])
+      (alone_lives (world_of 0 s) t (get_or xs k d) (live k d lt))
 
 -- ---- the serial phase
 
-pub serial_next : (q : ℕ) (start s s' : State) (t₀ t₁ t₂ : Telling) (t : ℕ) (xs : List ℕ) (i : ℕ) → i < length xs → t ≡ get_or xs i 0 → GoesTo q (λ w. serial_of w xs) start t₀ (λ w. serial_of w (drop i xs)) s t₁
-    → GoesTo q (λ w. rest_if_live w t) s t₁ (λ w. done w) s' t₂ → GoesTo q (λ w. serial_of w xs) start t₀ (λ w. serial_of w (drop (i + 1) xs)) s' t₂
+serial_at : (xs : List ℕ) (t i : ℕ) → i < length xs → t ≡ get_or xs i 0 → (w : World)
+    → serial_of w (drop i xs) ≡ (rest_if_live w t >>= λ next. serial_of next (drop (i + 1) xs))
+serial_at xs t i lt is w = ap (serial_of w) (drop_at xs i lt)
+    ∙ ap (λ t. serial_of w (t ∷ drop (i + 1) xs)) (sym is)
+
+pub serial_next : (q : ℕ) (start s s' : State) (t₀ t₁ t₂ : Telling) (t : ℕ) (xs : List ℕ) (i : ℕ)
+    → i < length xs → t ≡ get_or xs i 0
+    → GoesTo q (λ w. serial_of w xs) start t₀ (λ w. serial_of w (drop i xs)) s t₁
+    → GoesTo q (λ w. rest_if_live w t) s t₁ (λ w. done w) s' t₂
+    → GoesTo q (λ w. serial_of w xs) start t₀ (λ w. serial_of w (drop (i + 1) xs)) s' t₂
 serial_next q start s s' t₀ t₁ t₂ t xs i lt is h k =
-    goes_and q (λ w. serial_of w xs) (λ w. serial_of w (drop i xs)) (λ w. serial_of w (drop (i + 1) xs)) start s s' t₀ t₁ t₂ h
-    (goes_from q (λ w. serial_of w (drop i xs)) (λ w. rest_if_live w t >>= λ next. serial_of next (drop (i + 1) xs)) (λ w. serial_of w (drop (i + 1) xs)) s s' t₁ t₂
-    (λ o e. ap (serial_of (sent o e (world_of q s))) (drop_at xs i lt) ∙ ap (λ t. serial_of (sent o e (world_of q s)) (t ∷ drop (i + 1) xs)) (sym is))
-    (goes_behind q (λ w. rest_if_live w t) (λ w. done w) (λ next. serial_of next (drop (i + 1) xs)) s s' t₁ t₂ k))
+    goes_and q (λ w. serial_of w xs) (λ w. serial_of w (drop i xs))
+    (λ w. serial_of w (drop (i + 1) xs)) start s s' t₀ t₁ t₂ h
+    (goes_from q (λ w. serial_of w (drop i xs))
+    (λ w. rest_if_live w t >>= λ next. serial_of next (drop (i + 1) xs))
+    (λ w. serial_of w (drop (i + 1) xs)) s s' t₁ t₂
+    (λ o e. serial_at xs t i lt is (sent o e (world_of q s)))
+    (goes_behind q (λ w. rest_if_live w t) (λ w. done w)
+    (λ next. serial_of next (drop (i + 1) xs)) s s' t₁ t₂ k))
 
-pub serial_starts : (q : ℕ) (s : State) (tells : Telling) (xs : List ℕ) → GoesTo q (λ w. serial_of w xs) s tells (λ w. serial_of w (drop 0 xs)) s tells
-serial_starts q s tells xs = goes_still q (λ w. serial_of w xs) (λ w. serial_of w (drop 0 xs)) s s tells (λ o e. refl)
+pub serial_starts : (q : ℕ) (s : State) (tells : Telling) (xs : List ℕ)
+    → GoesTo q (λ w. serial_of w xs) s tells (λ w. serial_of w (drop 0 xs)) s tells
+serial_starts q s tells xs =
+    goes_still q (λ w. serial_of w xs) (λ w. serial_of w (drop 0 xs)) s s tells (λ o e. refl)
 
-pub serial_ends : (q : ℕ) (start s : State) (t₀ t₁ : Telling) (xs : List ℕ) (i : ℕ) → length xs ≤ i → GoesTo q (λ w. serial_of w xs) start t₀ (λ w. serial_of w (drop i xs)) s t₁ → GoesTo q (λ w. serial_of w xs) start t₀ (λ w. done w) s t₁
+pub serial_ends : (q : ℕ) (start s : State) (t₀ t₁ : Telling) (xs : List ℕ) (i : ℕ) → length xs ≤ i
+    → GoesTo q (λ w. serial_of w xs) start t₀ (λ w. serial_of w (drop i xs)) s t₁
+    → GoesTo q (λ w. serial_of w xs) start t₀ (λ w. done w) s t₁
 serial_ends q start s t₀ t₁ xs i le h =
-    goes_and q (λ w. serial_of w xs) (λ w. serial_of w (drop i xs)) (λ w. done w) start s s t₀ t₁ t₁ h
-    (goes_still q (λ w. serial_of w (drop i xs)) (λ w. done w) s s t₁ (λ o e. ap (serial_of (sent o e (world_of q s))) (drop_out xs i le)))
+    goes_and q (λ w. serial_of w xs) (λ w. serial_of w (drop i xs))
+    (λ w. done w) start s s t₀ t₁ t₁ h
+    (goes_still q (λ w. serial_of w (drop i xs)) (λ w. done w) s s t₁
+    (λ o e. ap (serial_of (sent o e (world_of q s))) (drop_out xs i le)))
+
+-- where a sink failed in the part of one of them
+pub serial_cut : (q : ℕ) (start s : State) (t₀ t₁ t₂ : Telling) (t : ℕ) (xs : List ℕ) (i : ℕ)
+    → i < length xs → t ≡ get_or xs i 0
+    → GoesTo q (λ w. serial_of w xs) start t₀ (λ w. serial_of w (drop i xs)) s t₁
+    → CutPlay q (λ w. w) (λ w. rest_if_live w t) s t₁ t₂
+    → CutPlay q (λ w. w) (λ w. serial_of w xs) start t₀ t₂
+serial_cut q start s t₀ t₁ t₂ t xs i lt is h k =
+    cut_behind q (λ w. w) (λ w. serial_of w xs) (λ w. serial_of w (drop i xs)) start s t₀ t₁ t₂ h
+    (cut_from q (λ w. w) (λ w. serial_of w (drop i xs))
+    (λ w. rest_if_live w t >>= λ next. serial_of next (drop (i + 1) xs)) s t₁ t₂
+    (λ o e. serial_at xs t i lt is (sent o e (world_of q s)))
+    (cut_then q (λ w. w) (λ w. w) (λ w. rest_if_live w t) (λ next. serial_of next (drop (i + 1) xs))
+    s t₁ t₂ (λ o e. fronts_serial o e (drop (i + 1) xs)) k))
 
 -- a starter that lives, or not
 
-pub rest_of_live : (q : ℕ) (s s' : State) (t₀ t₁ : Telling) (t : ℕ) → true ≡ is_some (thread_in s.table.threads t) → GoesTo q (λ w. rest_of w t) s t₀ (λ w. done w) s' t₁ → GoesTo q (λ w. rest_if_live w t) s t₀ (λ w. done w) s' t₁
-rest_of_live q s s' t₀ t₁ t live h =
-    goes_from q (λ w. rest_if_live w t) (λ w. rest_of w t) (λ w. done w) s s' t₀ t₁ (λ o e. ap (λ (b : Bool). cond b (rest_of (sent o e (world_of q s)) t) (done (sent o e (world_of q s)))) (sym live)) h
+pub rest_cut_live : (q : ℕ) (s : State) (t₀ t₁ : Telling) (t : ℕ)
+    → true ≡ is_some (thread_in s.table.threads t)
+    → CutPlay q (λ w. w) (λ w. rest_of w t) s t₀ t₁
+    → CutPlay q (λ w. w) (λ w. rest_if_live w t) s t₀ t₁
+rest_cut_live q s t₀ t₁ t live k =
+    cut_from q (λ w. w) (λ w. rest_if_live w t) (λ w. rest_of w t) s t₀ t₁
+    (λ o e. ap (λ (b : Bool). cond b (rest_of (sent o e (world_of q s)) t)
+    (done (sent o e (world_of q s)))) (sym live)) k
 
-pub rest_of_gone : (q : ℕ) (s : State) (tells : Telling) (t : ℕ) → false ≡ is_some (thread_in s.table.threads t) → GoesTo q (λ w. rest_if_live w t) s tells (λ w. done w) s tells
-rest_of_gone q s tells t gone = goes_still q (λ w. rest_if_live w t) (λ w. done w) s s tells (λ o e. ap (λ (b : Bool). cond b (rest_of (sent o e (world_of q s)) t) (done (sent o e (world_of q s)))) (sym gone))
+pub rest_of_live : (q : ℕ) (s s' : State) (t₀ t₁ : Telling) (t : ℕ)
+    → true ≡ is_some (thread_in s.table.threads t)
+    → GoesTo q (λ w. rest_of w t) s t₀ (λ w. done w) s' t₁
+    → GoesTo q (λ w. rest_if_live w t) s t₀ (λ w. done w) s' t₁
+rest_of_live q s s' t₀ t₁ t live h =
+    goes_from q (λ w. rest_if_live w t) (λ w. rest_of w t) (λ w. done w) s s' t₀ t₁
+    (λ o e. ap (λ (b : Bool). cond b (rest_of (sent o e (world_of q s)) t)
+    (done (sent o e (world_of q s)))) (sym live)) h
+
+pub rest_of_gone : (q : ℕ) (s : State) (tells : Telling) (t : ℕ)
+    → false ≡ is_some (thread_in s.table.threads t)
+    → GoesTo q (λ w. rest_if_live w t) s tells (λ w. done w) s tells
+rest_of_gone q s tells t gone =
+    goes_still q (λ w. rest_if_live w t) (λ w. done w) s s tells
+    (λ o e. ap (λ (b : Bool). cond b (rest_of (sent o e (world_of q s)) t)
+    (done (sent o e (world_of q s)))) (sym gone))

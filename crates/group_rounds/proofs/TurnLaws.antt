@@ -22,13 +22,15 @@ use Rattle.round_core.specs.Laws.{MapsWithin}
 use Rattle.round_core.specs.Rest.{page_granted, process_of, after_service, turns, rest_of}
 use Rattle.round_core.proofs.Turning.{goes_on, turns-granted, turns-fault, turns-service, turns-after_steps, few_grants, needed-granted}
 use Rattle.proc_table.specs.Tables.{thread_in, IsThread}
-use Rattle.kernel_calls.specs.Serving.{IsSound, world_of, sent, way_in, Answers, Asks, shim_stop}
+use Rattle.kernel_calls.specs.Serving.{IsSound, world_of, sent, way_in, Answers, Asks, HasFaulted, shim_stop}
 use Rattle.kernel_calls.specs.declared.state.RunStop.{RunStop}
 use Rattle.kernel_calls.specs.declared.state.State.{State}
 use Rattle.kernel_calls.specs.declared.state.Served.{Served}
 use Rattle.kernel_calls.specs.declared.state.Served.TheVariants.{Went, Waits, Yields, Gone}
+use Rattle.group_rounds.specs.Fronts.{CutPlay}
 use Rattle.group_rounds.specs.Going.{Telling, telling, GoesTo}
 use Rattle.group_rounds.specs.Parts.{KeepsCount, Ran, budget_in, goes_on_after, turns_left, part_left, part_measure}
+use Rattle.group_rounds.proofs.FrontLaws.{cut_behind, cut_then, cut_from, fronts_after_service, service_cut}
 use Rattle.group_rounds.proofs.GoingLaws.{goes_still, goes_behind, goes_from, goes_and, goes_served}
 use Rattle.group_rounds.proofs.Quiet.{IsQuiet, HasLeft, budget_at, service-quiet, quiet-asks_nothing, process_ended-count}
 use Rattle.group_rounds.proofs.RunningLaws.{some_of}
@@ -38,104 +40,186 @@ one_less : (n : ℕ) → 0 < n → n ≡ suc (n - 1)
 one_less n h = omega (arith, h)
 
 -- what t maps is there, whatever was sent
-maps_within : (s : State) (t : ℕ) → IsSound s → (q : ℕ) (o e : List ℕ) → MapsWithin (sent o e (world_of q s)) t
-maps_within s t sound q o e address entry found = (entry_taken (world_of 16 s) t address entry (sound_one s sound).lawful found).within
+maps_within : (s : State) (t : ℕ) → IsSound s → (q : ℕ) (o e : List ℕ)
+    → MapsWithin (sent o e (world_of q s)) t
+maps_within s t sound q o e address entry found =
+    (entry_taken (world_of 16 s) t address entry (sound_one s sound).lawful found).within
 
 -- ---- instructions
 
 module _ (s s' : State) (t : ℕ) (reason : Option Reason) (ran : Ran s t s' reason) where
   pub run_goes : (q : ℕ) (tells : Telling) → GoesTo q (turns_left t) s tells (turns_left t) s' tells
   run_goes q tells = goes_still q (turns_left t) (turns_left t) s s' tells (λ o e.
-      ap (λ n. turns n (sent o e (world_of q s)) t) ran.paid ∙ turns-after_steps ran.count (budget_in s' t) (sent o e (world_of q s)) (sent o e (world_of q s')) t (ran.runs q o e))
+      ap (λ n. turns n (sent o e (world_of q s)) t) ran.paid
+      ∙ turns-after_steps ran.count (budget_in s' t) (sent o e (world_of q s))
+      (sent o e (world_of q s')) t (ran.runs q o e))
 
   pub run_measure : part_measure s' t ≤ part_measure s t
   run_measure = go ran.count ran.paid (ran.runs 0 [] [])
     where
-      go : (count : ℕ) → budget_in s t ≡ count + budget_in s' t → after_steps count (world_of 0 s) t ≡ Some (world_of 0 s') → part_measure s' t ≤ part_measure s t
+      go : (count : ℕ) → budget_in s t ≡ count + budget_in s' t
+          → after_steps count (world_of 0 s) t ≡ Some (world_of 0 s')
+          → part_measure s' t ≤ part_measure s t
       go zero paid runs =
           let same : world_of 0 s ≡ world_of 0 s' = cc in
-          let needs : grants_needed 3 (world_of 0 s) t ≡ grants_needed 3 (world_of 0 s') t = ap (λ w. grants_needed 3 w t) same in
+          let needs : grants_needed 3 (world_of 0 s) t ≡ grants_needed 3 (world_of 0 s') t =
+          ap (λ w. grants_needed 3 w t) same in
           omega (arith, paid, needs)
-      go (suc count) paid runs = let few = few_grants 3 (world_of 0 s') t in omega (arith, paid, few)
+      go (suc count) paid runs = let few = few_grants 3 (world_of 0 s') t in
+          omega (arith, paid, few)
 
 -- ---- the parallel part
 
-steps-after_steps : (k n : ℕ) (w w' : World) (t : ℕ) → after_steps k w t ≡ Some w' → steps (k + n) w t ≡ steps n w' t
-steps-after_steps zero n w w' t e = let same : w ≡ w' = cc in ap (λ m. steps m w t) (let z : 0 + n ≡ n = omega arith in z) ∙ ap (λ v. steps n v t) same
-steps-after_steps (suc k) n w w' t e = ap (λ m. steps m w t) (let z : suc k + n ≡ suc (k + n) = omega arith in z) ∙ go (λ next. steps-after_steps k n next w' t) (step w t) refl e
+steps-after_steps : (k n : ℕ) (w w' : World) (t : ℕ) → after_steps k w t ≡ Some w'
+    → steps (k + n) w t ≡ steps n w' t
+steps-after_steps zero n w w' t e = let same : w ≡ w' = cc in
+    ap (λ m. steps m w t) (let z : 0 + n ≡ n = omega arith in z) ∙ ap (λ v. steps n v t) same
+steps-after_steps (suc k) n w w' t e =
+    ap (λ m. steps m w t) (let z : suc k + n ≡ suc (k + n) = omega arith in z)
+    ∙ go (λ next. steps-after_steps k n next w' t) (step w t) refl e
   where
-    go : ((next : World) → after_steps k next t ≡ Some w' → steps (k + n) next t ≡ steps n w' t) → (r : Result World Reason) → step w t ≡ r
-        → (elim r as (λ _. Option World) [ Ok next ↦ after_steps k next t | Err reason ↦ None ]) ≡ Some w' → steps (suc (k + n)) w t ≡ steps n w' t
-    go rest (Ok next) is h = ap (λ (r : Result World Reason). elim r as (λ _. World) [ Ok next ↦ steps (k + n) next t | Err reason ↦ w ]) is ∙ rest next h
+    go : ((next : World) → after_steps k next t ≡ Some w' → steps (k + n) next t ≡ steps n w' t)
+        → (r : Result World Reason) → step w t ≡ r
+        → (elim r as (λ _. Option World) [ Ok next ↦ after_steps k next t | Err reason ↦ None ])
+        ≡ Some w' → steps (suc (k + n)) w t ≡ steps n w' t
+    go rest (Ok next) is h =
+        ap (λ (r : Result World Reason). elim r as (λ _. World) [
+          | Ok next ↦ steps (k + n) next t
+          | Err reason ↦ w
+        ]) is ∙ rest next h
     go rest (Err reason) is h = cc
 
 -- who stops runs no further
-steps-stopped : (n : ℕ) (w : World) (t : ℕ) (reason : Reason) → step w t ≡ Err reason → steps n w t ≡ w
+steps-stopped : (n : ℕ) (w : World) (t : ℕ) (reason : Reason) → step w t ≡ Err reason
+    → steps n w t ≡ w
 steps-stopped zero w t reason e = refl
-steps-stopped (suc n) w t reason e = ap (λ (r : Result World Reason). elim r as (λ _. World) [ Ok next ↦ steps n next t | Err reason ↦ w ]) e
+steps-stopped (suc n) w t reason e =
+    ap (λ (r : Result World Reason). elim r as (λ _. World) [
+      | Ok next ↦ steps n next t
+      | Err reason ↦ w
+    ]) e
 
 -- t begins, and runs until it stops or its budget is 0
-pub alone_runs : (s begun s' : State) (t : ℕ) (reason : Option Reason) → ((q : ℕ) (o e : List ℕ) → emptied (sent o e (world_of q s)) t ≡ sent o e (world_of q begun)) → budget_in begun t ≡ budget_in s t → Ran begun t s' reason
+pub alone_runs : (s begun s' : State) (t : ℕ) (reason : Option Reason)
+    → ((q : ℕ) (o e : List ℕ) → emptied (sent o e (world_of q s)) t ≡ sent o e (world_of q begun))
+    → budget_in begun t ≡ budget_in s t → Ran begun t s' reason
     → (q : ℕ) (o e : List ℕ) → alone (sent o e (world_of q s)) t ≡ sent o e (world_of q s')
 alone_runs s begun s' t reason empties same ran q o e =
-    ap₂ (λ n w. steps n w t) (sym same ∙ ran.paid) (empties q o e) ∙ steps-after_steps ran.count (budget_in s' t) (sent o e (world_of q begun)) (sent o e (world_of q s')) t (ran.runs q o e) ∙ go reason ran.stops
+    ap₂ (λ n w. steps n w t) (sym same ∙ ran.paid) (empties q o e)
+    ∙ steps-after_steps ran.count (budget_in s' t) (sent o e (world_of q begun))
+    (sent o e (world_of q s')) t (ran.runs q o e) ∙ go reason ran.stops
   where
-    go : (r : Option Reason) → MatchOption r (budget_in s' t ≡ 0) (λ r. (0 < budget_in s' t) × ((q : ℕ) (o e : List ℕ) → step (sent o e (world_of q s')) t ≡ Err r)) → steps (budget_in s' t) (sent o e (world_of q s')) t ≡ sent o e (world_of q s')
+    go : (r : Option Reason)
+        → MatchOption r (budget_in s' t ≡ 0)
+        (λ r. (0 < budget_in s' t)
+        × ((q : ℕ) (o e : List ℕ) → step (sent o e (world_of q s')) t ≡ Err r))
+        → steps (budget_in s' t) (sent o e (world_of q s')) t ≡ sent o e (world_of q s')
     go None h = ap (λ n. steps n (sent o e (world_of q s')) t) h
     go (Some r) h = steps-stopped (budget_in s' t) (sent o e (world_of q s')) t r (h.1 q o e)
 
 -- t's serial part, as it begins
-pub rest_begins : (s begun : State) (t : ℕ) → ((q : ℕ) (o e : List ℕ) → emptied (sent o e (world_of q s)) t ≡ sent o e (world_of q begun)) → budget_in begun t ≡ budget_in s t
+pub rest_begins : (s begun : State) (t : ℕ)
+    → ((q : ℕ) (o e : List ℕ) → emptied (sent o e (world_of q s)) t ≡ sent o e (world_of q begun))
+    → budget_in begun t ≡ budget_in s t
     → (q : ℕ) (tells : Telling) → GoesTo q (λ w. rest_of w t) s tells (turns_left t) begun tells
-rest_begins s begun t empties same q tells = goes_still q (λ w. rest_of w t) (turns_left t) s begun tells (λ o e. ap₂ (λ n w. turns n w t) (sym same) (empties q o e))
+rest_begins s begun t empties same q tells =
+    goes_still q (λ w. rest_of w t) (turns_left t) s begun tells
+    (λ o e. ap₂ (λ n w. turns n w t) (sym same) (empties q o e))
 
 -- where its budget is 0, the part is over
-pub run_over : (s : State) (t : ℕ) → budget_in s t ≡ 0 → (q : ℕ) (tells : Telling) → GoesTo q (turns_left t) s tells (λ w. done w) s tells
-run_over s t none q tells = goes_still q (turns_left t) (λ w. done w) s s tells (λ o e. ap (λ n. turns n (sent o e (world_of q s)) t) none)
+pub run_over : (s : State) (t : ℕ) → budget_in s t ≡ 0 → (q : ℕ) (tells : Telling)
+    → GoesTo q (turns_left t) s tells (λ w. done w) s tells
+run_over s t none q tells =
+    goes_still q (turns_left t) (λ w. done w) s s tells
+    (λ o e. ap (λ n. turns n (sent o e (world_of q s)) t) none)
 
 -- ---- a grant
 
-module _ (s s' : State) (t address : ℕ) (access : Access) (sound : IsSound s) (budget : 0 < budget_in s t)
+module _ (s s' : State) (t address : ℕ) (access : Access) (sound : IsSound s)
+    (budget : 0 < budget_in s t)
     (stops : (q : ℕ) (o e : List ℕ) → step (sent o e (world_of q s)) t ≡ Err (Page address access))
-    (grants : (q : ℕ) (o e : List ℕ) → page_granted (sent o e (world_of q s)) t address access ≡ sent o e (world_of q s'))
+    (grants : (q : ℕ) (o e : List ℕ)
+    → page_granted (sent o e (world_of q s)) t address access ≡ sent o e (world_of q s'))
     (same : s'.table ≡ s.table) where
   budget_same : budget_in s' t ≡ budget_in s t
   budget_same = ap (λ table. budget_in (record s { table = table }) t) same
 
-  pub grant_goes : (q : ℕ) (tells : Telling) → GoesTo q (turns_left t) s tells (turns_left t) s' tells
+  pub grant_goes : (q : ℕ) (tells : Telling)
+      → GoesTo q (turns_left t) s tells (turns_left t) s' tells
   grant_goes q tells = goes_still q (turns_left t) (turns_left t) s s' tells (λ o e.
       let w : World = sent o e (world_of q s) in
       ap (λ n. turns n w t) (one_less (budget_in s t) budget)
-      ∙ turns-granted w t address access (budget_in s t - 1) (maps_within s t sound q o e) (stops q o e)
+      ∙ turns-granted w t address access (budget_in s t - 1) (maps_within s t sound q o e)
+      (stops q o e)
       ∙ ap (λ v. turns (suc (budget_in s t - 1)) v t) (grants q o e)
-      ∙ ap (λ n. turns n (sent o e (world_of q s')) t) (sym (one_less (budget_in s t) budget) ∙ sym budget_same))
+      ∙ ap (λ n. turns n (sent o e (world_of q s')) t)
+      (sym (one_less (budget_in s t) budget) ∙ sym budget_same))
 
   pub grant_measure : part_measure s' t < part_measure s t
   grant_measure =
       let needs : grants_needed 3 (world_of 0 s) t ≡ suc (grants_needed 3 (world_of 0 s') t) =
-      needed-granted (world_of 0 s) t address access (maps_within s t sound 0 [] []) (stops 0 [] []) ∙ ap (λ w. suc (grants_needed 3 w t)) (grants 0 [] []) in
+      needed-granted (world_of 0 s) t address access (maps_within s t sound 0 [] []) (stops 0 [] [])
+      ∙ ap (λ w. suc (grants_needed 3 w t)) (grants 0 [] []) in
       let budgets = budget_same in
       omega (arith, needs, budgets)
 
 -- ---- a fault
 
-pub fault_goes : (s s' : State) (t number : ℕ) → 0 < budget_in s t → ((q : ℕ) (o e : List ℕ) → step (sent o e (world_of q s)) t ≡ Err (Fault number))
-    → ((q : ℕ) (o e : List ℕ) → process_ended (sent o e (world_of q s)) (process_of (sent o e (world_of q s)) t) (128 + number) ≡ sent o e (world_of q s'))
+pub fault_goes : (s s' : State) (t number : ℕ) → 0 < budget_in s t
+    → ((q : ℕ) (o e : List ℕ) → step (sent o e (world_of q s)) t ≡ Err (Fault number))
+    → ((q : ℕ) (o e : List ℕ)
+    → process_ended (sent o e (world_of q s)) (process_of (sent o e (world_of q s)) t)
+    (128 + number) ≡ sent o e (world_of q s'))
     → (q : ℕ) (tells : Telling) → GoesTo q (turns_left t) s tells (λ w. done w) s' tells
-fault_goes s s' t number budget stops ends q tells = goes_still q (turns_left t) (λ w. done w) s s' tells (λ o e.
+fault_goes s s' t number budget stops ends q tells =
+    goes_still q (turns_left t) (λ w. done w) s s' tells (λ o e.
     let w : World = sent o e (world_of q s) in
-    ap (λ n. turns n w t) (one_less (budget_in s t) budget) ∙ turns-fault w t (budget_in s t - 1) number (stops q o e) ∙ ap done (ends q o e))
+    ap (λ n. turns n w t) (one_less (budget_in s t) budget)
+    ∙ turns-fault w t (budget_in s t - 1) number (stops q o e) ∙ ap done (ends q o e))
 
 -- and leaves as many frames
-pub fault_count : (s s' : State) (p status : ℕ) → process_ended (world_of 0 s) p status ≡ world_of 0 s' → KeepsCount s s'
-fault_count s s' p status ends = ap (λ w. length w.owners) (sym ends) ∙ process_ended-count (world_of 0 s) p status
+pub fault_count : (s s' : State) (p status : ℕ)
+    → process_ended (world_of 0 s) p status ≡ world_of 0 s' → KeepsCount s s'
+fault_count s s' p status ends = ap (λ w. length w.owners) (sym ends)
+    ∙ process_ended-count (world_of 0 s) p status
 
 -- ---- a service
 
-gives_same : {A : Type 0} {a b : A} {rest : List Answer} → ◌≡◌ {A = Outcome A} (gives a rest) (gives b []) → (a ≡ b) × (rest ≡ [])
+gives_same : {A : Type 0} {a b : A} {rest : List Answer}
+    → ◌≡◌ {A = Outcome A} (gives a rest) (gives b []) → (a ≡ b) × (rest ≡ [])
 gives_same e = (cc, cc)
 
-module _ (s s' : State) (t : ℕ) (sound : IsSound s) (live : IsThread s.table.threads t) (told told' : List Exchange) (way : Served) (out out' err err' : Option (List ℕ))
+-- what is left is the service, and then the turns with one of the budget less
+turn_serves : (s : State) (t : ℕ) → 0 < budget_in s t
+    → ((q : ℕ) (o e : List ℕ) → step (sent o e (world_of q s)) t ≡ Err Service)
+    → (q : ℕ) (o e : List ℕ)
+    → turns_left t (sent o e (world_of q s))
+    ≡ (service (sent o e (world_of q s)) t
+    >>= λ served. goes_on (budget_in s t - 1) t (after_service served))
+turn_serves s t budget stops q o e =
+    ap (λ n. turns n (sent o e (world_of q s)) t) (one_less (budget_in s t) budget)
+    ∙ turns-service (sent o e (world_of q s)) t (budget_in s t - 1) (stops q o e)
+
+-- where a sink fails in it
+pub turn_cut : (s s' : State) (t : ℕ) → 0 < budget_in s t
+    → ((q : ℕ) (o e : List ℕ) → step (sent o e (world_of q s)) t ≡ Err Service)
+    → (told told' : List Exchange) (out out' err err' : Option (List ℕ)) (stop : RunStop)
+    → told' ≡ told → shim_stop stop ≡ None
+    → HasFaulted stop (λ w. service w t) s s' out out' err err'
+    → (q : ℕ) → CutPlay q (λ w. w) (turns_left t) s (telling told out err) (telling told' out' err')
+turn_cut s s' t budget stops told told' out out' err err' stop same is h q =
+    cut_from q (λ w. w) (turns_left t)
+    (λ w. service w t >>= λ served. goes_on (budget_in s t - 1) t (after_service served))
+    s (telling told out err) (telling told' out' err')
+    (turn_serves s t budget stops q)
+    (cut_then q world_served (λ w. w) (λ w. service w t)
+    (λ served. goes_on (budget_in s t - 1) t (after_service served)) s (telling told out err)
+    (telling told' out' err')
+    (λ o e. fronts_after_service o e (budget_in s t - 1) t)
+    (service_cut q s s' t told told' same out out' err err' stop is h))
+
+module _ (s s' : State) (t : ℕ) (sound : IsSound s) (live : IsThread s.table.threads t)
+    (told told' : List Exchange) (way : Served) (out out' err err' : Option (List ℕ))
     (answers : Answers (λ w. service w t) s told told' way s' out out' err err') where
   caller : (thread : Thread) × (thread_in s.table.threads t ≡ Some thread)
   caller = some_of (thread_in s.table.threads t) live
@@ -144,8 +228,10 @@ module _ (s s' : State) (t : ℕ) (sound : IsSound s) (live : IsThread s.table.t
   quiet = service-quiet (world_of 0 s) t caller.0 refl caller.1
 
   -- what the service left
-  left_so : (quiet.served ≡ way_in way (sent answers.output answers.error (world_of 0 s'))) × (map answer_of answers.exchanges ≡ [])
-  left_so = gives_same (sym (ap (over (map answer_of answers.exchanges)) quiet.is) ∙ answers.gives 0 [] [])
+  left_so : (quiet.served ≡ way_in way (sent answers.output answers.error (world_of 0 s')))
+      × (map answer_of answers.exchanges ≡ [])
+  left_so = gives_same (sym (ap (over (map answer_of answers.exchanges)) quiet.is)
+      ∙ answers.gives 0 [] [])
 
   budget_before : budget_in s t ≡ caller.0.budget
   budget_before = ap (λ o. elim o as (λ _. ℕ) [ None ↦ 0 | Some thread ↦ thread.budget ]) caller.1
@@ -165,7 +251,9 @@ module _ (s s' : State) (t : ℕ) (sound : IsSound s) (live : IsThread s.table.t
   pub served_count : KeepsCount s s'
   served_count = go way left_so.0
     where
-      go : (way : Served) → quiet.served ≡ way_in way (sent answers.output answers.error (world_of 0 s')) → length s'.frames.owners ≡ length s.frames.owners
+      go : (way : Served)
+          → quiet.served ≡ way_in way (sent answers.output answers.error (world_of 0 s'))
+          → length s'.frames.owners ≡ length s.frames.owners
       go Went h = sym (ap (λ served. length (world_served served).owners) h) ∙ quiet.count
       go Waits h = sym (ap (λ served. length (world_served served).owners) h) ∙ quiet.count
       go Yields h = sym (ap (λ served. length (world_served served).owners) h) ∙ quiet.count
@@ -175,7 +263,9 @@ module _ (s s' : State) (t : ℕ) (sound : IsSound s) (live : IsThread s.table.t
   on_left : goes_on_after way ≡ true → budget_at s'.table.threads t ≡ Some (caller.0.budget - 1)
   on_left = go way left_so.0
     where
-      go : (way : Served) → quiet.served ≡ way_in way (sent answers.output answers.error (world_of 0 s')) → goes_on_after way ≡ true → budget_at s'.table.threads t ≡ Some (caller.0.budget - 1)
+      go : (way : Served)
+          → quiet.served ≡ way_in way (sent answers.output answers.error (world_of 0 s'))
+          → goes_on_after way ≡ true → budget_at s'.table.threads t ≡ Some (caller.0.budget - 1)
       go Went h on = subst (HasLeft t (caller.0.budget - 1)) h quiet.left
       go Waits h on = cc
       go Yields h on = cc
@@ -184,71 +274,120 @@ module _ (s s' : State) (t : ℕ) (sound : IsSound s) (live : IsThread s.table.t
   pub on_lives : goes_on_after way ≡ true → IsThread s'.table.threads t
   on_lives on = go (thread_in s'.table.threads t) (on_left on)
     where
-      go : (o : Option Thread) → option_map (λ (thread : Thread). thread.budget) o ≡ Some (caller.0.budget - 1) → IsSome o
+      go : (o : Option Thread)
+          → option_map (λ (thread : Thread). thread.budget) o ≡ Some (caller.0.budget - 1)
+          → IsSome o
       go None h = cc
       go (Some thread) h = refl
 
   on_budget : goes_on_after way ≡ true → budget_in s' t ≡ budget_in s t - 1
-  on_budget on = go (thread_in s'.table.threads t) (on_left on) ∙ sym (ap (λ n. n - 1) budget_before)
+  on_budget on = go (thread_in s'.table.threads t) (on_left on)
+      ∙ sym (ap (λ n. n - 1) budget_before)
     where
-      go : (o : Option Thread) → option_map (λ (thread : Thread). thread.budget) o ≡ Some (caller.0.budget - 1) → (elim o as (λ _. ℕ) [ None ↦ 0 | Some thread ↦ thread.budget ]) ≡ caller.0.budget - 1
+      go : (o : Option Thread)
+          → option_map (λ (thread : Thread). thread.budget) o ≡ Some (caller.0.budget - 1)
+          → (elim o as (λ _. ℕ) [ None ↦ 0 | Some thread ↦ thread.budget ]) ≡ caller.0.budget - 1
       go None h = cc
       go (Some thread) h = cc
 
-  pub on_measure : 0 < budget_in s t → goes_on_after way ≡ true → part_measure s' t < part_measure s t
-  on_measure budget on = let less = on_budget on in let few = few_grants 3 (world_of 0 s') t in omega (arith, less, few, budget)
+  pub on_measure : 0 < budget_in s t → goes_on_after way ≡ true
+      → part_measure s' t < part_measure s t
+  on_measure budget on = let less = on_budget on in let few = few_grants 3 (world_of 0 s') t in
+      omega (arith, less, few, budget)
 
   -- what follows the service, with the budget that is left
   abbrev on_with : FlatServed → Play World
   on_with served = goes_on (budget_in s t - 1) t (after_service served)
 
-  pub service_goes : 0 < budget_in s t → ((q : ℕ) (o e : List ℕ) → step (sent o e (world_of q s)) t ≡ Err Service)
-      → (q : ℕ) → GoesTo q (turns_left t) s (telling told out err) (part_left t (goes_on_after way)) s' (telling told' out' err')
+  pub service_goes : 0 < budget_in s t
+      → ((q : ℕ) (o e : List ℕ) → step (sent o e (world_of q s)) t ≡ Err Service)
+      → (q : ℕ) → GoesTo q (turns_left t) s (telling told out err)
+      (part_left t (goes_on_after way)) s' (telling told' out' err')
   service_goes budget stops q =
-      goes_from q (turns_left t) (λ w. service w t >>= on_with) (part_left t (goes_on_after way)) s s' (telling told out err) (telling told' out' err') first
-      (goes_and q (λ w. service w t >>= on_with) (λ w. done (way_in way w) >>= on_with) (part_left t (goes_on_after way)) s s' s' (telling told out err) (telling told' out' err') (telling told' out' err')
-      (goes_behind q (λ w. service w t) (λ w. done (way_in way w)) on_with s s' (telling told out err) (telling told' out' err') (goes_served q (λ w. service w t) s s' told told' way out out' err err' answers))
-      (goes_still q (λ w. done (way_in way w) >>= on_with) (part_left t (goes_on_after way)) s' s' (telling told' out' err') (last way on_budget)))
+      goes_from q (turns_left t) (λ w. service w t >>= on_with) (part_left t (goes_on_after way)) s
+      s' (telling told out err) (telling told' out' err') (turn_serves s t budget stops q)
+      (goes_and q (λ w. service w t >>= on_with) (λ w. done (way_in way w) >>= on_with)
+      (part_left t (goes_on_after way)) s s' s' (telling told out err)
+      (telling told' out' err') (telling told' out' err')
+      (goes_behind q (λ w. service w t) (λ w. done (way_in way w)) on_with s s'
+      (telling told out err) (telling told' out' err')
+      (goes_served q (λ w. service w t) s s' told told' way out out' err err' answers))
+      (goes_still q (λ w. done (way_in way w) >>= on_with) (part_left t (goes_on_after way)) s' s'
+      (telling told' out' err') (last way on_budget)))
     where
-      first : (o e : List ℕ) → turns_left t (sent o e (world_of q s)) ≡ (service (sent o e (world_of q s)) t >>= on_with)
-      first o e = ap (λ n. turns n (sent o e (world_of q s)) t) (one_less (budget_in s t) budget) ∙ turns-service (sent o e (world_of q s)) t (budget_in s t - 1) (stops q o e)
-
-      last : (way : Served) → (goes_on_after way ≡ true → budget_in s' t ≡ budget_in s t - 1) → (o e : List ℕ) → on_with (way_in way (sent o e (world_of q s'))) ≡ part_left t (goes_on_after way) (sent o e (world_of q s'))
+      last : (way : Served) → (goes_on_after way ≡ true → budget_in s' t ≡ budget_in s t - 1)
+          → (o e : List ℕ)
+          → on_with (way_in way (sent o e (world_of q s'))) ≡ part_left t (goes_on_after way)
+          (sent o e (world_of q s'))
       last Went less o e = ap (λ n. turns n (sent o e (world_of q s')) t) (sym (less refl))
       last Waits less o e = refl
       last Yields less o e = refl
       last Gone less o e = refl
 
 -- The stop of a service isn't the shim's: nothing was asked.
-pub never_asks : (s : State) (t : ℕ) → IsSound s → IsThread s.table.threads t → (stop : RunStop) (before after : ShimState) (out out' err err' : Option (List ℕ))
-    → IfSome (shim_stop stop) (λ stop. Asks (λ w. service w t) s before stop after out out' err err') → shim_stop stop ≡ None
+pub never_asks : (s : State) (t : ℕ) → IsSound s → IsThread s.table.threads t
+    → (stop : RunStop) (before after : ShimState) (out out' err err' : Option (List ℕ))
+    → IfSome (shim_stop stop)
+    (λ stop. Asks (λ w. service w t) s before stop after out out' err err')
+    → shim_stop stop ≡ None
 never_asks s t sound live stop before after out out' err err' h = go (shim_stop stop) h
   where
-    go : (o : Option ShimStop) → IfSome o (λ stop. Asks (λ w. service w t) s before stop after out out' err err') → o ≡ None
+    go : (o : Option ShimStop)
+        → IfSome o (λ stop. Asks (λ w. service w t) s before stop after out out' err err')
+        → o ≡ None
     go None h = refl
     go (Some x) h =
         let found = some_of (thread_in s.table.threads t) live in
-        absurd (quiet-asks_nothing t (found.0.budget - 1) (length s.frames.owners) (service (world_of 0 s) t) h.question [] [] (service-quiet (world_of 0 s) t found.0 refl found.1) (h.asks 0 [] []))
+        absurd (quiet-asks_nothing t (found.0.budget - 1) (length s.frames.owners)
+        (service (world_of 0 s) t) h.question [] []
+        (service-quiet (world_of 0 s) t found.0 refl found.1) (h.asks 0 [] []))
 
 -- From the part's begin over the instructions and then a turn.
-goes_turn : (q : ℕ) (t : ℕ) (start s ran after : State) (t₀ t₁ t₂ : Telling) (reason : Option Reason) (on : Bool) → GoesTo q (λ w. rest_of w t) start t₀ (turns_left t) s t₁ → Ran s t ran reason
-    → GoesTo q (turns_left t) ran t₁ (part_left t on) after t₂ → GoesTo q (λ w. rest_of w t) start t₀ (part_left t on) after t₂
+goes_turn : (q : ℕ) (t : ℕ) (start s ran after : State) (t₀ t₁ t₂ : Telling)
+    (reason : Option Reason) (on : Bool)
+    → GoesTo q (λ w. rest_of w t) start t₀ (turns_left t) s t₁ → Ran s t ran reason
+    → GoesTo q (turns_left t) ran t₁ (part_left t on) after t₂
+    → GoesTo q (λ w. rest_of w t) start t₀ (part_left t on) after t₂
 goes_turn q t start s ran after t₀ t₁ t₂ reason on h run k =
     goes_and q (λ w. rest_of w t) (turns_left t) (part_left t on) start ran after t₀ t₁ t₂
-    (goes_and q (λ w. rest_of w t) (turns_left t) (turns_left t) start s ran t₀ t₁ t₁ h (run_goes s ran t reason run q t₁)) k
+    (goes_and q (λ w. rest_of w t) (turns_left t) (turns_left t) start s ran t₀ t₁ t₁ h
+    (run_goes s ran t reason run q t₁)) k
 
 -- after which the part goes on
-pub goes_further : (q : ℕ) (t : ℕ) (start s ran after : State) (t₀ t₁ t₂ : Telling) (reason : Option Reason) (on : Bool) → on ≡ true → GoesTo q (λ w. rest_of w t) start t₀ (turns_left t) s t₁ → Ran s t ran reason
-    → GoesTo q (turns_left t) ran t₁ (part_left t on) after t₂ → GoesTo q (λ w. rest_of w t) start t₀ (turns_left t) after t₂
-goes_further q t start s ran after t₀ t₁ t₂ reason on is h run k = subst (λ on. GoesTo q (λ w. rest_of w t) start t₀ (part_left t on) after t₂) is (goes_turn q t start s ran after t₀ t₁ t₂ reason on h run k)
+pub goes_further : (q : ℕ) (t : ℕ) (start s ran after : State) (t₀ t₁ t₂ : Telling)
+    (reason : Option Reason) (on : Bool) → on ≡ true
+    → GoesTo q (λ w. rest_of w t) start t₀ (turns_left t) s t₁ → Ran s t ran reason
+    → GoesTo q (turns_left t) ran t₁ (part_left t on) after t₂
+    → GoesTo q (λ w. rest_of w t) start t₀ (turns_left t) after t₂
+goes_further q t start s ran after t₀ t₁ t₂ reason on is h run k =
+    subst (λ on. GoesTo q (λ w. rest_of w t) start t₀ (part_left t on) after t₂) is
+    (goes_turn q t start s ran after t₀ t₁ t₂ reason on h run k)
 
 -- after which it is over
-pub goes_out : (q : ℕ) (t : ℕ) (start s ran after : State) (t₀ t₁ t₂ : Telling) (reason : Option Reason) (on : Bool) → on ≡ false → GoesTo q (λ w. rest_of w t) start t₀ (turns_left t) s t₁ → Ran s t ran reason
-    → GoesTo q (turns_left t) ran t₁ (part_left t on) after t₂ → GoesTo q (λ w. rest_of w t) start t₀ (λ w. done w) after t₂
-goes_out q t start s ran after t₀ t₁ t₂ reason on is h run k = subst (λ on. GoesTo q (λ w. rest_of w t) start t₀ (part_left t on) after t₂) is (goes_turn q t start s ran after t₀ t₁ t₂ reason on h run k)
+pub goes_out : (q : ℕ) (t : ℕ) (start s ran after : State) (t₀ t₁ t₂ : Telling)
+    (reason : Option Reason) (on : Bool) → on ≡ false
+    → GoesTo q (λ w. rest_of w t) start t₀ (turns_left t) s t₁ → Ran s t ran reason
+    → GoesTo q (turns_left t) ran t₁ (part_left t on) after t₂
+    → GoesTo q (λ w. rest_of w t) start t₀ (λ w. done w) after t₂
+goes_out q t start s ran after t₀ t₁ t₂ reason on is h run k =
+    subst (λ on. GoesTo q (λ w. rest_of w t) start t₀ (part_left t on) after t₂) is
+    (goes_turn q t start s ran after t₀ t₁ t₂ reason on h run k)
 
 -- over the instructions alone, after which the budget is 0
-pub goes_over_budget : (q : ℕ) (t : ℕ) (start s ran : State) (t₀ t₁ : Telling) → GoesTo q (λ w. rest_of w t) start t₀ (turns_left t) s t₁ → Ran s t ran None → GoesTo q (λ w. rest_of w t) start t₀ (λ w. done w) ran t₁
+pub goes_over_budget : (q : ℕ) (t : ℕ) (start s ran : State) (t₀ t₁ : Telling)
+    → GoesTo q (λ w. rest_of w t) start t₀ (turns_left t) s t₁ → Ran s t ran None
+    → GoesTo q (λ w. rest_of w t) start t₀ (λ w. done w) ran t₁
 goes_over_budget q t start s ran t₀ t₁ h run =
     goes_and q (λ w. rest_of w t) (turns_left t) (λ w. done w) start ran ran t₀ t₁ t₁
-    (goes_and q (λ w. rest_of w t) (turns_left t) (turns_left t) start s ran t₀ t₁ t₁ h (run_goes s ran t None run q t₁)) (run_over ran t run.stops q t₁)
+    (goes_and q (λ w. rest_of w t) (turns_left t) (turns_left t) start s ran t₀ t₁ t₁ h
+    (run_goes s ran t None run q t₁)) (run_over ran t run.stops q t₁)
+
+-- over the instructions, and then a turn in which a sink failed
+pub rest_cut : (q : ℕ) (t : ℕ) (start s ran : State) (t₀ t₁ t₂ : Telling) (reason : Option Reason)
+    → GoesTo q (λ w. rest_of w t) start t₀ (turns_left t) s t₁ → Ran s t ran reason
+    → CutPlay q (λ w. w) (turns_left t) ran t₁ t₂
+    → CutPlay q (λ w. w) (λ w. rest_of w t) start t₀ t₂
+rest_cut q t start s ran t₀ t₁ t₂ reason h run k =
+    cut_behind q (λ w. w) (λ w. rest_of w t) (turns_left t) start ran t₀ t₁ t₂
+    (goes_and q (λ w. rest_of w t) (turns_left t) (turns_left t) start s ran t₀ t₁ t₁ h
+    (run_goes s ran t reason run q t₁)) k

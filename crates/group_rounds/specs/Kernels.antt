@@ -6,7 +6,8 @@ use Rattle.dos_world.specs.declared.Config.{Config}
 use Rattle.kernel_calls.specs.Serving.{IsSound, world_of}
 use Rattle.kernel_calls.specs.declared.state.State.{State}
 
--- the state between two rounds, what the run was given, the threads that were ready as the last phases began, and whether a round has failed
+-- the state between two rounds, what the run was given, the threads that were ready as the last
+-- phases began, and whether a round has failed
 pub record Held : Type 0 where
   pub state : State
   pub config : Config

@@ -1,7 +1,9 @@
 pub mod Goes
 pub mod Going
+pub mod Fronts
 pub mod Kernels
 pub mod Outside
 pub mod Parts
 pub mod Phases
 pub mod Rounds
+pub mod Handing

@@ -22,7 +22,11 @@ pub record HaveStood (before after : ShimState) (out out_after err err_after : �
 
 -- The shim stopped so, if the stop is a shim's; else it hasn't stopped.
 abbrev pub HasShimCause : RunStop → ShimState → ShimState → Type 0
-HasShimCause stop before after = elim (shim_stop stop) [ None ↦ HasNotStopped before after | Some s ↦ Rose before.stops after.stops × (after.last ≡ Some s) ]
+HasShimCause stop before after =
+    elim (shim_stop stop) [
+      | None ↦ HasNotStopped before after
+      | Some s ↦ Rose before.stops after.stops × (after.last ≡ Some s)
+    ]
 
 -- whether what was asked is the run's end
 abbrev pub is_end : Option Question → Bool
@@ -33,7 +37,8 @@ is_end (Some (Clock round tid)) = false
 is_end (Some (End ending rounds)) = true
 
 -- No sink's count falls, and a stop comes only where its object's count rose.
-pub record HaveCauses {T : Type 0} (result : Result T RunStop) (before after : ShimState) (out out_after err err_after : ℕ) : Type 0 where
+pub record HaveCauses {T : Type 0} (result : Result T RunStop) (before after : ShimState)
+    (out out_after err err_after : ℕ) : Type 0 where
   pub out_later : out ≤ out_after
   pub err_later : err ≤ err_after
   pub shim : IfErr result (λ stop. HasShimCause stop before after)

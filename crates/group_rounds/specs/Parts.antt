@@ -21,12 +21,16 @@ KeepsCount old new = length new.frames.owners ≡ length old.frames.owners
 abbrev pub budget_in : State → ℕ → ℕ
 budget_in s t = budget_of (world_of 0 s) t
 
--- From the old state t did so many instructions, each for one of its budget and none of which stopped, and now its next instruction stops for this reason; or its budget is 0.
+-- From the old state t did so many instructions, each for one of its budget and none of which
+-- stopped, and now its next instruction stops for this reason; or its budget is 0.
 pub record Ran (old : State) (t : ℕ) (new : State) (reason : Option Reason) : Type 0 where
   pub count : ℕ
   pub paid : budget_in old t ≡ count + budget_in new t
-  pub runs : (q : ℕ) (o e : List ℕ) → after_steps count (sent o e (world_of q old)) t ≡ Some (sent o e (world_of q new))
-  pub stops : MatchOption reason (budget_in new t ≡ 0) (λ r. (0 < budget_in new t) × ((q : ℕ) (o e : List ℕ) → step (sent o e (world_of q new)) t ≡ Err r))
+  pub runs : (q : ℕ) (o e : List ℕ)
+      → after_steps count (sent o e (world_of q old)) t ≡ Some (sent o e (world_of q new))
+  pub stops : MatchOption reason (budget_in new t ≡ 0)
+      (λ r. (0 < budget_in new t)
+      × ((q : ℕ) (o e : List ℕ) → step (sent o e (world_of q new)) t ≡ Err r))
 
 -- whether a thread's part goes on after a service
 abbrev pub goes_on_after : Served → Bool
@@ -46,6 +50,7 @@ part_left t false w = done w
 
 -- ---- what bounds a part
 
--- It falls with each instruction, service and grant of t: no instruction needs more than three grants.
+-- It falls with each instruction, service and grant of t: no instruction needs more than three
+-- grants.
 abbrev pub part_measure : State → ℕ → ℕ
 part_measure s t = 4 * budget_in s t + grants_needed 3 (world_of 0 s) t

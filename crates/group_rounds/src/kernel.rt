@@ -6,11 +6,13 @@ ghost use Rattle.dos_io.specs.Shims.{HasNoEnd};
 ghost use Rattle.round_core.specs.Rest.{serial_of};
 ghost use Rattle.proc_table.specs.Tables.{last_status};
 ghost use Rattle.kernel_calls.specs.Serving.{HaveGrown, shim_stop};
+ghost use Rattle.group_rounds.specs.Fronts.{CutPlay};
 ghost use Rattle.group_rounds.specs.Going.{GoesTo, telling};
 ghost use Rattle.group_rounds.specs.Kernels.{IsBetweenRounds};
 ghost use Rattle.group_rounds.specs.Outside.{HaveCauses, is_end};
 ghost use Rattle.group_rounds.specs.Rounds.{CutRound, RanRound, StoppedRound, next_round, starters_after};
 
+use crate::packs::Packs;
 use crate::round::play_round;
 use crate::{RoundEnd, phases};
 use dos_io::{Shim, Sink};
@@ -29,6 +31,7 @@ pub struct Kernel {
     state: State,
     config: Config,
     starters: Vec<u32>,
+    packs: Packs,
     failed: bool,
 }
 
@@ -39,21 +42,35 @@ impl Model for Kernel {
 
     ghost Value = { Held };
 
-    ghost view = { λ k. record { state = k.state; config = k.config; starters = k.starters.items; failed = k.failed } };
+    ghost view = { λ k. record {
+      state = k.state;
+      config = k.config;
+      starters = k.starters.items;
+      failed = k.failed;
+    } };
 
-    ghost invariant = { λ k. (64 ≤ vec_capacity k.starters) × (1 ≤ k.state.round) × (k.failed ≡ false → IsBetweenRounds k.state k.config) };
+    ghost invariant = { λ k. (64 ≤ vec_capacity k.starters) × (1 ≤ k.state.round)
+        × (k.packs ≡ k.config.frames) × (k.failed ≡ false → IsBetweenRounds k.state k.config) };
 }
 
 impl Kernel {
     /// A kernel with this state.
     pub fn new(alloc: Global, state: State, config: Config) -> Result<Kernel, AllocError>
         requires { IsBetweenRounds state config }
-        ensures { IfOk result (λ k. k ≡ record { state = state; config = config; starters = []; failed = false }) }
+        ensures { IfOk result
+            (λ k. k ≡ record {
+              state = state;
+              config = config;
+              starters = [];
+              failed =
+                  false;
+            }) }
     {
         Ok(Kernel {
             state,
             config,
             starters: Vec::with_capacity(alloc, THREADS)?,
+            packs: Packs::reserve(alloc, config.frames)?,
             failed: false,
         })
     }
@@ -82,7 +99,8 @@ impl Kernel {
     /// The status of a process whose number was given. None exactly where it lives.
     pub fn status(&self, pid: u32) -> Option<u8>
         requires given { IsSome (numbered self.now.state.table.processes pid) }
-        ensures { IfSome (numbered self.now.state.table.processes pid) (λ process. result ≡ last_status process) }
+        ensures { IfSome (numbered self.now.state.table.processes pid)
+            (λ process. result ≡ last_status process) }
     {
         self.state.table.status(pid)
     }
@@ -103,7 +121,8 @@ impl Kernel {
     }
 }
 
-/// Runs one round. After an `Err` the kernel has failed, the round isn't counted, and nothing more is said of its state.
+/// Runs one round. After an `Err` the kernel has failed, the round isn't counted, and nothing more
+/// is said of its state; each sink holds a front of what the round sends to it.
 ///
 /// Today no signal is delivered, whatever list the shim answers.
 pub fn run_round<S: Shim, O: Sink, E: Sink>(
@@ -115,25 +134,42 @@ pub fn run_round<S: Shim, O: Sink, E: Sink>(
     requires running { kernel.old.failed ≡ false }
     requires limit { kernel.old.state.round ≤ kernel.old.config.rounds }
     requires told { HasNoEnd (S.state shim.old).told }
-    ensures runs { IfOk result (λ end. RanRound kernel.old.config.quantum kernel.old.state (telling (S.state shim.old).told (O.told out.old) (E.told err.old)) end kernel.new.state (telling (S.state shim.new).told (O.told out.new) (E.told err.new))) }
-    ensures asks { IfErr result (λ stop. OnSome (shim_stop stop) (StoppedRound kernel.old.config.quantum kernel.old.state (telling (S.state shim.old).told (O.told out.old) (E.told err.old)) (telling (S.state shim.new).told (O.told out.new) (E.told err.new)) (S.state shim.new).asked)) }
-    ensures cut { OnErr result (CutRound kernel.old.config.quantum kernel.old.state (telling (S.state shim.old).told (O.told out.old) (E.told err.old)) (telling (S.state shim.new).told (O.told out.new) (E.told err.new))) }
-    ensures before_end { IfErr result (λ stop. OnSome (shim_stop stop) (is_end (S.state shim.new).asked ≡ false)) }
-    ensures round { IfOk result (λ end. kernel.new.state.round ≡ next_round end kernel.old.state.round) }
-    ensures starters { IfOk result (λ end. kernel.new.starters ≡ starters_after end kernel.old.state.table.threads kernel.old.starters) }
+    ensures runs { IfOk result
+        (λ end. RanRound kernel.old.config.quantum kernel.old.state
+        (telling (S.state shim.old).told (O.told out.old) (E.told err.old)) end
+        kernel.new.state
+        (telling (S.state shim.new).told (O.told out.new) (E.told err.new))) }
+    ensures asks { IfErr result
+        (λ stop. OnSome (shim_stop stop)
+        (StoppedRound kernel.old.config.quantum kernel.old.state
+        (telling (S.state shim.old).told (O.told out.old) (E.told err.old))
+        (telling (S.state shim.new).told (O.told out.new) (E.told err.new))
+        (S.state shim.new).asked)) }
+    ensures cut { OnErr result (CutRound kernel.old.config.quantum kernel.old.state
+        (telling (S.state shim.old).told (O.told out.old) (E.told err.old))
+        (telling (S.state shim.new).told (O.told out.new) (E.told err.new))) }
+    ensures before_end { IfErr result
+        (λ stop. OnSome (shim_stop stop) (is_end (S.state shim.new).asked ≡ false)) }
+    ensures round { IfOk result
+        (λ end. kernel.new.state.round ≡ next_round end kernel.old.state.round) }
+    ensures starters { IfOk result
+        (λ end. kernel.new.starters
+        ≡ starters_after end kernel.old.state.table.threads kernel.old.starters) }
     ensures uncounted { OnErr result (kernel.new.state.round ≡ kernel.old.state.round) }
     ensures ready { IfOk result (λ end. end ≢ RoundEnd.Stalled) }
     ensures sound { kernel.new.failed ≡ false → IsBetweenRounds kernel.new.state kernel.new.config }
     ensures config { kernel.new.config ≡ kernel.old.config }
     ensures failed { kernel.new.failed ≡ is_err result }
     ensures told { OnOk result (HasNoEnd (S.state shim.new).told) }
-    ensures causes { HaveCauses result (S.state shim.old) (S.state shim.new) (O.faults out.old) (O.faults out.new) (E.faults err.old) (E.faults err.new) }
+    ensures causes { HaveCauses result (S.state shim.old) (S.state shim.new) (O.faults out.old)
+        (O.faults out.new) (E.faults err.old) (E.faults err.new) }
     ensures follows { S.follows shim.old shim.new }
 {
     let quantum = kernel.config.quantum;
     let result = play_round(
         &mut kernel.state,
         &mut kernel.starters,
+        &mut kernel.packs,
         quantum,
         shim,
         out,
@@ -143,10 +179,12 @@ pub fn run_round<S: Shim, O: Sink, E: Sink>(
     result
 }
 
-/// The serial phase: the rest of each starter that still lives, one after another, each under what is left of its budget.
+/// The serial phase: the rest of each starter that still lives, one after another, each under what
+/// is left of its budget.
 ///
-/// `run_round` has it as its last step. After an `Err` the kernel has failed, and nothing more is said of its state. Today
-/// no service asks the shim, so that only a sink stops it.
+/// `run_round` has it as its last step. After an `Err` the kernel has failed, and nothing more is
+/// said of its state; each sink holds a front of what the phase sends to it. Today no service asks
+/// the shim, so that only a sink stops it.
 pub fn serial_phase<S: Shim, O: Sink, E: Sink>(
     kernel: &mut Kernel,
     shim: &mut S,
@@ -155,8 +193,18 @@ pub fn serial_phase<S: Shim, O: Sink, E: Sink>(
 ) -> Result<(), RunStop>
     requires running { kernel.old.failed ≡ false }
     requires told { HasNoEnd (S.state shim.old).told }
-    ensures goes { OnOk result (GoesTo kernel.old.config.quantum (λ w. serial_of w kernel.old.starters) kernel.old.state (telling (S.state shim.old).told (O.told out.old) (E.told err.old)) (λ w. done w) kernel.new.state (telling (S.state shim.new).told (O.told out.new) (E.told err.new))) }
-    ensures grows { OnErr result (HaveGrown (O.told out.old) (O.told out.new) (E.told err.old) (E.told err.new)) }
+    ensures goes { OnOk result
+        (GoesTo kernel.old.config.quantum
+        (λ w. serial_of w kernel.old.starters) kernel.old.state
+        (telling (S.state shim.old).told (O.told out.old) (E.told err.old))
+        (λ w. done w) kernel.new.state
+        (telling (S.state shim.new).told (O.told out.new) (E.told err.new))) }
+    ensures cut { OnErr result (CutPlay kernel.old.config.quantum (λ w. w)
+        (λ w. serial_of w kernel.old.starters) kernel.old.state
+        (telling (S.state shim.old).told (O.told out.old) (E.told err.old))
+        (telling (S.state shim.new).told (O.told out.new) (E.told err.new))) }
+    ensures grows { OnErr result
+        (HaveGrown (O.told out.old) (O.told out.new) (E.told err.old) (E.told err.new)) }
     ensures sinks { IfErr result (λ stop. shim_stop stop ≡ None) }
     ensures told { (S.state shim.new).told ≡ (S.state shim.old).told }
     ensures starters { kernel.new.starters ≡ kernel.old.starters }
@@ -164,7 +212,8 @@ pub fn serial_phase<S: Shim, O: Sink, E: Sink>(
     ensures sound { kernel.new.failed ≡ false → IsBetweenRounds kernel.new.state kernel.new.config }
     ensures config { kernel.new.config ≡ kernel.old.config }
     ensures failed { kernel.new.failed ≡ is_err result }
-    ensures causes { HaveCauses result (S.state shim.old) (S.state shim.new) (O.faults out.old) (O.faults out.new) (E.faults err.old) (E.faults err.new) }
+    ensures causes { HaveCauses result (S.state shim.old) (S.state shim.new) (O.faults out.old)
+        (O.faults out.new) (E.faults err.old) (E.faults err.new) }
     ensures follows { S.follows shim.old shim.new }
 {
     let starters = kernel.starters.as_slice();

@@ -1,16 +1,15 @@
-//! Rounds of a group over the kernel's state: the parallel phase, the serial phase, and the shim's question before them.
+//! Rounds of a group over the kernel's state: the parallel phase, the serial phase, and the shim's
+//! question before them.
 //!
-//! Each call is stated over the flat world of the state, whatever bytes were sent before. See the definitions of
-//! `round_core`.
+//! Each call is stated over the flat world of the state, whatever bytes were sent before. See the
+//! definitions of `round_core`.
 #![tactic(auto)]
 
 mod kernel;
+mod packs;
 mod part;
 mod phases;
 mod round;
 
 pub use kernel::{Kernel, run_round, serial_phase};
 pub use round::{RoundEnd, run_stop};
-
-#[cfg(test)]
-mod tests;

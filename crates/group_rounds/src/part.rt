@@ -6,10 +6,11 @@ ghost use Rattle.dos_world.specs.World.{registers_by, released};
 ghost use Rattle.dos_world.specs.declared.Reason.TheVariants.{Page, Fault};
 ghost use Rattle.dos_io.specs.Shims.{HasNoEnd};
 ghost use Rattle.rv_exec.specs.Step.{step};
-ghost use Rattle.quantum_run.specs.Alone.{alone, emptied};
+ghost use Rattle.quantum_run.specs.Alone.{emptied};
 ghost use Rattle.round_core.specs.Rest.{page_granted, process_of, rest_of};
 ghost use Rattle.proc_table.specs.Tables.{IsThread, thread_by};
-ghost use Rattle.kernel_calls.specs.Serving.{HaveGrown, IsSound, sent, shim_stop, world_of};
+ghost use Rattle.kernel_calls.specs.Serving.{IsSound, sent, shim_stop, world_of};
+ghost use Rattle.group_rounds.specs.Fronts.{CutPlay};
 ghost use Rattle.group_rounds.specs.Going.{GoesTo, telling};
 ghost use Rattle.group_rounds.specs.Outside.{HaveCauses};
 ghost use Rattle.group_rounds.specs.Parts.{KeepsCount, Ran, budget_in, goes_on_after, part_left, part_measure, turns_left};
@@ -34,7 +35,8 @@ fn empty_reservation(table: &mut Table, tid: u32)
 pub(crate) fn begin(state: &mut State, tid: u32)
     requires sound { IsSound state.old }
     requires live { IsThread state.old.table.threads tid }
-    ensures empties { (q : ℕ) (o e : List ℕ) → emptied (sent o e (world_of q state.old)) tid ≡ sent o e (world_of q state.new) }
+    ensures empties { (q : ℕ) (o e : List ℕ)
+        → emptied (sent o e (world_of q state.old)) tid ≡ sent o e (world_of q state.new) }
     ensures budget { budget_in state.new tid ≡ budget_in state.old tid }
     ensures sound { IsSound state.new }
     ensures round { state.new.round ≡ state.old.round }
@@ -44,8 +46,8 @@ pub(crate) fn begin(state: &mut State, tid: u32)
     empty_reservation(&mut state.table, tid);
 }
 
-/// Runs the thread in place until its next instruction stops or its budget is 0: why it stops, or None exactly where the
-/// budget is 0.
+/// Runs the thread in place until its next instruction stops or its budget is 0: why it stops, or
+/// None exactly where the budget is 0.
 pub(crate) fn run(state: &mut State, tid: u32) -> Option<Reason>
     requires sound { IsSound state.old }
     requires live { IsThread state.old.table.threads tid }
@@ -66,24 +68,13 @@ pub(crate) fn run(state: &mut State, tid: u32) -> Option<Reason>
     reason
 }
 
-/// The thread's parallel part.
-pub(crate) fn run_alone(state: &mut State, tid: u32)
-    requires sound { IsSound state.old }
-    requires live { IsThread state.old.table.threads tid }
-    ensures runs { (q : ℕ) (o e : List ℕ) → alone (sent o e (world_of q state.old)) tid ≡ sent o e (world_of q state.new) }
-    ensures sound { IsSound state.new }
-    ensures round { state.new.round ≡ state.old.round }
-    ensures count { KeepsCount state.old state.new }
-{
-    begin(state, tid);
-    let _reason = run(state, tid);
-}
-
 // the page at an address is granted
 fn grant(state: &mut State, tid: u32, address: u32, access: Access)
     requires sound { IsSound state.old }
     requires live { IsThread state.old.table.threads tid }
-    ensures grants { (q : ℕ) (o e : List ℕ) → page_granted (sent o e (world_of q state.old)) tid address access ≡ sent o e (world_of q state.new) }
+    ensures grants { (q : ℕ) (o e : List ℕ)
+        → page_granted (sent o e (world_of q state.old)) tid address access
+        ≡ sent o e (world_of q state.new) }
     ensures sound { IsSound state.new }
     ensures table { state.new.table ≡ state.old.table }
     ensures round { state.new.round ≡ state.old.round }
@@ -100,7 +91,10 @@ fn end_by_fault(state: &mut State, tid: u32, number: u8)
     requires sound { IsSound state.old }
     requires live { IsThread state.old.table.threads tid }
     requires small { number ≤ 11 }
-    ensures ends { (q : ℕ) (o e : List ℕ) → process_ended (sent o e (world_of q state.old)) (process_of (sent o e (world_of q state.old)) tid) (128 + number) ≡ sent o e (world_of q state.new) }
+    ensures ends { (q : ℕ) (o e : List ℕ)
+        → process_ended (sent o e (world_of q state.old))
+        (process_of (sent o e (world_of q state.old)) tid) (128 + number)
+        ≡ sent o e (world_of q state.new) }
     ensures sound { IsSound state.new }
     ensures round { state.new.round ≡ state.old.round }
     ensures count { KeepsCount state.old state.new }
@@ -119,7 +113,8 @@ fn goes_on_after(way: Served) -> bool
     }
 }
 
-// what follows a stop: the page is granted, or the process ends, or the ecall is served; whether the part goes on
+// what follows a stop: the page is granted, or the process ends, or the ecall is served; whether
+// the part goes on
 fn take_turn<S: Shim, O: Sink, E: Sink>(
     state: &mut State,
     tid: u32,
@@ -131,18 +126,27 @@ fn take_turn<S: Shim, O: Sink, E: Sink>(
     requires sound { IsSound state.old }
     requires live { IsThread state.old.table.threads tid }
     requires budget { 0 < budget_in state.old tid }
-    requires stops { (q : ℕ) (o e : List ℕ) → step (sent o e (world_of q state.old)) tid ≡ Err reason }
+    requires stops { (q : ℕ) (o e : List ℕ)
+        → step (sent o e (world_of q state.old)) tid ≡ Err reason }
     requires told { HasNoEnd (S.state shim.old).told }
-    ensures goes { IfOk result (λ on. (q : ℕ) → GoesTo q (turns_left tid) state.old (telling (S.state shim.old).told (O.told out.old) (E.told err.old)) (part_left tid on) state.new (telling (S.state shim.new).told (O.told out.new) (E.told err.new))) }
-    ensures less { IfOk result (λ on. on ≡ true → part_measure state.new tid < part_measure state.old tid) }
+    ensures goes { IfOk result (λ on. (q : ℕ)
+        → GoesTo q (turns_left tid) state.old
+        (telling (S.state shim.old).told (O.told out.old) (E.told err.old))
+        (part_left tid on) state.new
+        (telling (S.state shim.new).told (O.told out.new) (E.told err.new))) }
+    ensures less { IfOk result (λ on. on ≡ true
+        → part_measure state.new tid < part_measure state.old tid) }
     ensures live { IfOk result (λ on. on ≡ true → IsThread state.new.table.threads tid) }
     ensures sound { OnOk result (IsSound state.new) }
     ensures round { state.new.round ≡ state.old.round }
     ensures count { OnOk result (KeepsCount state.old state.new) }
     ensures sinks { IfErr result (λ stop. shim_stop stop ≡ None) }
     ensures told { (S.state shim.new).told ≡ (S.state shim.old).told }
-    ensures grows { OnErr result (HaveGrown (O.told out.old) (O.told out.new) (E.told err.old) (E.told err.new)) }
-    ensures causes { HaveCauses result (S.state shim.old) (S.state shim.new) (O.faults out.old) (O.faults out.new) (E.faults err.old) (E.faults err.new) }
+    ensures cut { OnErr result ((q : ℕ) → CutPlay q (λ w. w) (turns_left tid) state.old
+        (telling (S.state shim.old).told (O.told out.old) (E.told err.old))
+        (telling (S.state shim.new).told (O.told out.new) (E.told err.new))) }
+    ensures causes { HaveCauses result (S.state shim.old) (S.state shim.new) (O.faults out.old)
+        (O.faults out.new) (E.faults err.old) (E.faults err.new) }
     ensures follows { S.follows shim.old shim.new }
 {
     match reason {
@@ -163,7 +167,8 @@ fn take_turn<S: Shim, O: Sink, E: Sink>(
 
 /// The thread's serial part: until its budget is 0 or it waits, yields or is gone.
 ///
-/// After an `Err` nothing is said of the state but its round. Today no service asks the shim, so that only a sink stops it.
+/// After an `Err` nothing is said of the state but its round. Today no service asks the shim, so
+/// that only a sink stops it.
 pub(crate) fn finish<S: Shim, O: Sink, E: Sink>(
     state: &mut State,
     tid: u32,
@@ -174,14 +179,21 @@ pub(crate) fn finish<S: Shim, O: Sink, E: Sink>(
     requires sound { IsSound state.old }
     requires live { IsThread state.old.table.threads tid }
     requires told { HasNoEnd (S.state shim.old).told }
-    ensures goes { OnOk result ((q : ℕ) → GoesTo q (λ w. rest_of w tid) state.old (telling (S.state shim.old).told (O.told out.old) (E.told err.old)) (λ w. done w) state.new (telling (S.state shim.new).told (O.told out.new) (E.told err.new))) }
+    ensures goes { OnOk result ((q : ℕ)
+        → GoesTo q (λ w. rest_of w tid) state.old
+        (telling (S.state shim.old).told (O.told out.old) (E.told err.old))
+        (λ w. done w) state.new
+        (telling (S.state shim.new).told (O.told out.new) (E.told err.new))) }
     ensures sound { OnOk result (IsSound state.new) }
     ensures round { state.new.round ≡ state.old.round }
     ensures count { OnOk result (KeepsCount state.old state.new) }
     ensures sinks { IfErr result (λ stop. shim_stop stop ≡ None) }
     ensures told { (S.state shim.new).told ≡ (S.state shim.old).told }
-    ensures grows { OnErr result (HaveGrown (O.told out.old) (O.told out.new) (E.told err.old) (E.told err.new)) }
-    ensures causes { HaveCauses result (S.state shim.old) (S.state shim.new) (O.faults out.old) (O.faults out.new) (E.faults err.old) (E.faults err.new) }
+    ensures cut { OnErr result ((q : ℕ) → CutPlay q (λ w. w) (λ w. rest_of w tid) state.old
+        (telling (S.state shim.old).told (O.told out.old) (E.told err.old))
+        (telling (S.state shim.new).told (O.told out.new) (E.told err.new))) }
+    ensures causes { HaveCauses result (S.state shim.old) (S.state shim.new) (O.faults out.old)
+        (O.faults out.new) (E.faults err.old) (E.faults err.new) }
     ensures follows { S.follows shim.old shim.new }
 {
     begin(state, tid);

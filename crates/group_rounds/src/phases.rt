@@ -5,15 +5,16 @@ ghost use Rattle.dos_world.specs.Numbered.{numbers_of};
 ghost use Rattle.dos_world.specs.Play.{done};
 ghost use Rattle.dos_io.specs.Shims.{HasNoEnd};
 ghost use Rattle.round_core.specs.Rest.{rest_if_live, serial_of};
-ghost use Rattle.round_core.specs.Round.{all_alone, with_budgets};
+ghost use Rattle.round_core.specs.Round.{with_budgets};
 ghost use Rattle.proc_table.specs.Tables.{IsThread};
-ghost use Rattle.kernel_calls.specs.Serving.{HaveGrown, IsSound, sent, shim_stop, world_of};
+ghost use Rattle.kernel_calls.specs.Serving.{IsSound, sent, shim_stop, world_of};
+ghost use Rattle.group_rounds.specs.Fronts.{CutPlay};
 ghost use Rattle.group_rounds.specs.Going.{GoesTo, telling};
 ghost use Rattle.group_rounds.specs.Outside.{HaveCauses};
 ghost use Rattle.group_rounds.specs.Parts.{KeepsCount};
 ghost use Rattle.group_rounds.specs.Phases.{AreLive, is_ready, ready_in};
 
-use crate::part::{finish, run_alone};
+use crate::part::finish;
 use dos_io::{Shim, Sink};
 use dos_world::ThreadState;
 use kernel_calls::{RunStop, State};
@@ -23,7 +24,8 @@ use proc_table::Table;
 fn add_if_ready(table: &Table, starters: &mut Vec<u32>, tid: u32)
     requires live { IsThread table.now.threads tid }
     requires room { length starters.old.items + 1 ≤ vec_capacity starters.old }
-    ensures items { starters.new.items ≡ starters.old.items ++ filter (is_ready table.now.threads) (tid ∷ []) }
+    ensures items { starters.new.items ≡ starters.old.items
+        ++ filter (is_ready table.now.threads) (tid ∷ []) }
     ensures room { vec_capacity starters.old ≤ vec_capacity starters.new }
 {
     if table.state(tid) != ThreadState::Ready {
@@ -54,7 +56,9 @@ pub(crate) fn gather(table: &Table, starters: &mut Vec<u32>)
 pub(crate) fn set_budgets(state: &mut State, starters: &[u32], quantum: u32)
     requires sound { IsSound state.old }
     requires live { AreLive state.old.table.threads starters.now }
-    ensures sets { (o e : List ℕ) → with_budgets (sent o e (world_of quantum state.old)) starters.now ≡ sent o e (world_of quantum state.new) }
+    ensures sets { (o e : List ℕ)
+        → with_budgets (sent o e (world_of quantum state.old)) starters.now
+        ≡ sent o e (world_of quantum state.new) }
     ensures sound { IsSound state.new }
     ensures round { state.new.round ≡ state.old.round }
     ensures count { KeepsCount state.old state.new }
@@ -62,20 +66,6 @@ pub(crate) fn set_budgets(state: &mut State, starters: &[u32], quantum: u32)
 {
     for &tid in starters {
         state.table.set_budget(tid, quantum);
-    }
-}
-
-/// The parallel phase: each starter by itself. Today they go one after another, in place.
-pub(crate) fn parallel_phase(state: &mut State, starters: &[u32])
-    requires sound { IsSound state.old }
-    requires live { AreLive state.old.table.threads starters.now }
-    ensures runs { (q : ℕ) (o e : List ℕ) → all_alone (sent o e (world_of q state.old)) starters.now ≡ sent o e (world_of q state.new) }
-    ensures sound { IsSound state.new }
-    ensures round { state.new.round ≡ state.old.round }
-    ensures count { KeepsCount state.old state.new }
-{
-    for &tid in starters {
-        run_alone(state, tid);
     }
 }
 
@@ -89,14 +79,21 @@ fn finish_if_live<S: Shim, O: Sink, E: Sink>(
 ) -> Result<(), RunStop>
     requires sound { IsSound state.old }
     requires told { HasNoEnd (S.state shim.old).told }
-    ensures goes { OnOk result ((q : ℕ) → GoesTo q (λ w. rest_if_live w tid) state.old (telling (S.state shim.old).told (O.told out.old) (E.told err.old)) (λ w. done w) state.new (telling (S.state shim.new).told (O.told out.new) (E.told err.new))) }
+    ensures goes { OnOk result ((q : ℕ)
+        → GoesTo q (λ w. rest_if_live w tid) state.old
+        (telling (S.state shim.old).told (O.told out.old) (E.told err.old))
+        (λ w. done w) state.new
+        (telling (S.state shim.new).told (O.told out.new) (E.told err.new))) }
     ensures sound { OnOk result (IsSound state.new) }
     ensures round { state.new.round ≡ state.old.round }
     ensures count { OnOk result (KeepsCount state.old state.new) }
     ensures sinks { IfErr result (λ stop. shim_stop stop ≡ None) }
     ensures told { (S.state shim.new).told ≡ (S.state shim.old).told }
-    ensures grows { OnErr result (HaveGrown (O.told out.old) (O.told out.new) (E.told err.old) (E.told err.new)) }
-    ensures causes { HaveCauses result (S.state shim.old) (S.state shim.new) (O.faults out.old) (O.faults out.new) (E.faults err.old) (E.faults err.new) }
+    ensures cut { OnErr result ((q : ℕ) → CutPlay q (λ w. w) (λ w. rest_if_live w tid) state.old
+        (telling (S.state shim.old).told (O.told out.old) (E.told err.old))
+        (telling (S.state shim.new).told (O.told out.new) (E.told err.new))) }
+    ensures causes { HaveCauses result (S.state shim.old) (S.state shim.new) (O.faults out.old)
+        (O.faults out.new) (E.faults err.old) (E.faults err.new) }
     ensures follows { S.follows shim.old shim.new }
 {
     if !state.table.is_thread(tid) {
@@ -115,14 +112,22 @@ pub(crate) fn serial_phase<S: Shim, O: Sink, E: Sink>(
 ) -> Result<(), RunStop>
     requires sound { IsSound state.old }
     requires told { HasNoEnd (S.state shim.old).told }
-    ensures goes { OnOk result ((q : ℕ) → GoesTo q (λ w. serial_of w starters.now) state.old (telling (S.state shim.old).told (O.told out.old) (E.told err.old)) (λ w. done w) state.new (telling (S.state shim.new).told (O.told out.new) (E.told err.new))) }
+    ensures goes { OnOk result ((q : ℕ)
+        → GoesTo q (λ w. serial_of w starters.now) state.old
+        (telling (S.state shim.old).told (O.told out.old) (E.told err.old))
+        (λ w. done w) state.new
+        (telling (S.state shim.new).told (O.told out.new) (E.told err.new))) }
     ensures sound { OnOk result (IsSound state.new) }
     ensures round { state.new.round ≡ state.old.round }
     ensures count { OnOk result (KeepsCount state.old state.new) }
     ensures sinks { IfErr result (λ stop. shim_stop stop ≡ None) }
     ensures told { (S.state shim.new).told ≡ (S.state shim.old).told }
-    ensures grows { OnErr result (HaveGrown (O.told out.old) (O.told out.new) (E.told err.old) (E.told err.new)) }
-    ensures causes { HaveCauses result (S.state shim.old) (S.state shim.new) (O.faults out.old) (O.faults out.new) (E.faults err.old) (E.faults err.new) }
+    ensures cut { OnErr result ((q : ℕ)
+        → CutPlay q (λ w. w) (λ w. serial_of w starters.now) state.old
+        (telling (S.state shim.old).told (O.told out.old) (E.told err.old))
+        (telling (S.state shim.new).told (O.told out.new) (E.told err.new))) }
+    ensures causes { HaveCauses result (S.state shim.old) (S.state shim.new) (O.faults out.old)
+        (O.faults out.new) (E.faults err.old) (E.faults err.new) }
     ensures follows { S.follows shim.old shim.new }
 {
     for &tid in starters {

@@ -8,31 +8,42 @@ use Rattle.dos_laws.proofs.Numbers.{changed_there}
 use Rattle.proc_table.specs.Tables.{Tables, IsThread, thread_in, thread_by, ran}
 
 -- two changes that agree on the thread are one
-changed_same : (f g : Thread → Thread) (xs : List (Option Thread)) (t : ℕ) → IfSome (thread_in xs t) (λ thread. f thread ≡ g thread) → changed (option_map f) xs t ≡ changed (option_map g) xs t
+changed_same : (f g : Thread → Thread) (xs : List (Option Thread)) (t : ℕ)
+    → IfSome (thread_in xs t) (λ thread. f thread ≡ g thread)
+    → changed (option_map f) xs t ≡ changed (option_map g) xs t
 changed_same f g xs zero h = refl
 changed_same f g xs (suc i) h = at xs i h
   where
-    at : (xs : List (Option Thread)) (i : ℕ) → IfSome (thread_in xs (suc i)) (λ thread. f thread ≡ g thread) → changed_at (option_map f) xs i ≡ changed_at (option_map g) xs i
+    at : (xs : List (Option Thread)) (i : ℕ)
+        → IfSome (thread_in xs (suc i)) (λ thread. f thread ≡ g thread)
+        → changed_at (option_map f) xs i ≡ changed_at (option_map g) xs i
     at [] i h = refl
     at (None ∷ xs) zero h = refl
     at (Some x ∷ xs) zero h = ap (λ y. Some y ∷ xs) h
     at (x ∷ xs) (suc i) h = ap (λ rest. x ∷ rest) (at xs i h)
 
 -- registers that are set to what an answer makes of those that were there
-pub answer_set : (T : Tables) (t v : ℕ) (old new : Registers) → IfSome (thread_in T.threads t) (λ thread. old ≡ thread.registers) → new ≡ answered v old → thread_by (registers_by (λ r. new)) T t ≡ thread_by (registers_by (answered v)) T t
+pub answer_set : (T : Tables) (t v : ℕ) (old new : Registers)
+    → IfSome (thread_in T.threads t) (λ thread. old ≡ thread.registers) → new ≡ answered v old
+    → thread_by (registers_by (λ r. new)) T t ≡ thread_by (registers_by (answered v)) T t
 answer_set T t v old new was is =
-    ap (λ threads. with_threads threads) (changed_same (registers_by (λ r. new)) (registers_by (answered v)) T.threads t (by (thread_in T.threads t) was))
+    ap (λ threads. with_threads threads)
+    (changed_same (registers_by (λ r. new)) (registers_by (answered v)) T.threads t
+    (by (thread_in T.threads t) was))
   where
     with_threads : List (Option Thread) → Tables
     with_threads threads = record T { threads = threads }
 
-    by : (o : Option Thread) → IfSome o (λ thread. old ≡ thread.registers) → IfSome o (λ thread. registers_by (λ r. new) thread ≡ registers_by (answered v) thread)
+    by : (o : Option Thread) → IfSome o (λ thread. old ≡ thread.registers)
+        → IfSome o (λ thread. registers_by (λ r. new) thread ≡ registers_by (answered v) thread)
     by None h = tt
     by (Some thread) h = ap (λ r. registers_by (λ _. r) thread) (is ∙ ap (answered v) h)
 
 -- a live thread that is changed lives
-pub lives_changed : (f : Thread → Thread) (xs : List (Option Thread)) (t : ℕ) → IsThread xs t → IsThread (changed (option_map f) xs t) t
-lives_changed f xs t live = subst (λ (o : Option Thread). IsSome o) (sym (changed_there f xs t)) (by (thread_in xs t) live)
+pub lives_changed : (f : Thread → Thread) (xs : List (Option Thread)) (t : ℕ) → IsThread xs t
+    → IsThread (changed (option_map f) xs t) t
+lives_changed f xs t live =
+    subst (λ (o : Option Thread). IsSome o) (sym (changed_there f xs t)) (by (thread_in xs t) live)
   where
     by : (o : Option Thread) → IsSome o → IsSome (option_map f o)
     by None live = live
@@ -49,8 +60,11 @@ thread_stands xs ys (suc i) live = at xs i live
     at (x ∷ xs) (suc i) live = at xs i live
 
 -- a thread that is set to run has its budget
-pub thread_ran : (xs : List (Option Thread)) (t : ℕ) (r : Registers) (budget : ℕ) → 0 < budget → IfSome (thread_in (changed (option_map (ran r budget)) xs t) t) (λ thread. 0 < thread.budget)
-thread_ran xs t r budget some = subst (λ (o : Option Thread). IfSome o (λ thread. 0 < thread.budget)) (sym (changed_there (ran r budget) xs t)) (by (thread_in xs t))
+pub thread_ran : (xs : List (Option Thread)) (t : ℕ) (r : Registers) (budget : ℕ) → 0 < budget
+    → IfSome (thread_in (changed (option_map (ran r budget)) xs t) t) (λ thread. 0 < thread.budget)
+thread_ran xs t r budget some =
+    subst (λ (o : Option Thread). IfSome o (λ thread. 0 < thread.budget))
+    (sym (changed_there (ran r budget) xs t)) (by (thread_in xs t))
   where
     by : (o : Option Thread) → IfSome (option_map (ran r budget) o) (λ thread. 0 < thread.budget)
     by None = tt
@@ -59,25 +73,36 @@ thread_ran xs t r budget some = subst (λ (o : Option Thread). IfSome o (λ thre
 -- ---- a change that is taken back
 
 -- threads are as they were, where the second change takes the first one back
-taken_back : (f g : Thread → Thread) (xs : List (Option Thread)) (t : ℕ) → IfSome (thread_in xs t) (λ thread. g (f thread) ≡ thread) → changed (option_map g) (changed (option_map f) xs t) t ≡ xs
+taken_back : (f g : Thread → Thread) (xs : List (Option Thread)) (t : ℕ)
+    → IfSome (thread_in xs t) (λ thread. g (f thread) ≡ thread)
+    → changed (option_map g) (changed (option_map f) xs t) t ≡ xs
 taken_back f g xs zero h = refl
 taken_back f g xs (suc i) h = at xs i h
   where
-    at : (xs : List (Option Thread)) (i : ℕ) → IfSome (thread_in xs (suc i)) (λ thread. g (f thread) ≡ thread) → changed_at (option_map g) (changed_at (option_map f) xs i) i ≡ xs
+    at : (xs : List (Option Thread)) (i : ℕ)
+        → IfSome (thread_in xs (suc i)) (λ thread. g (f thread) ≡ thread)
+        → changed_at (option_map g) (changed_at (option_map f) xs i) i ≡ xs
     at [] i h = refl
     at (None ∷ xs) zero h = refl
     at (Some x ∷ xs) zero h = ap (λ y. Some y ∷ xs) h
     at (x ∷ xs) (suc i) h = ap (λ rest. x ∷ rest) (at xs i h)
 
 -- a thread that was charged, set to the registers and the budget that it had
-pub charge_taken_back : (T : Tables) (t budget : ℕ) (r : Registers) → IfSome (thread_in T.threads t) (λ thread. r ≡ thread.registers) → IfSome (thread_in T.threads t) (λ thread. budget ≡ thread.budget)
+pub charge_taken_back : (T : Tables) (t budget : ℕ) (r : Registers)
+    → IfSome (thread_in T.threads t) (λ thread. r ≡ thread.registers)
+    → IfSome (thread_in T.threads t) (λ thread. budget ≡ thread.budget)
     → thread_by (ran r budget) (thread_by charged T t) t ≡ T
 charge_taken_back T t budget r registers left =
-    ap (λ threads. with_threads threads) (taken_back charged (ran r budget) T.threads t (by (thread_in T.threads t) registers left))
+    ap (λ threads. with_threads threads)
+    (taken_back charged (ran r budget) T.threads t
+    (by (thread_in T.threads t) registers left))
   where
     with_threads : List (Option Thread) → Tables
     with_threads threads = record T { threads = threads }
 
-    by : (o : Option Thread) → IfSome o (λ thread. r ≡ thread.registers) → IfSome o (λ thread. budget ≡ thread.budget) → IfSome o (λ thread. ran r budget (charged thread) ≡ thread)
+    by : (o : Option Thread) → IfSome o (λ thread. r ≡ thread.registers)
+        → IfSome o (λ thread. budget ≡ thread.budget)
+        → IfSome o (λ thread. ran r budget (charged thread) ≡ thread)
     by None registers left = tt
-    by (Some thread) registers left = ap (λ k. ran k budget thread) registers ∙ ap (λ n. ran thread.registers n thread) left
+    by (Some thread) registers left = ap (λ k. ran k budget thread) registers
+        ∙ ap (λ n. ran thread.registers n thread) left

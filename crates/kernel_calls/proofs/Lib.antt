@@ -5,4 +5,4 @@ pub mod Changed
 pub mod Named
 pub mod Sending
 pub mod Called
-pub mod SmallLaws
+pub mod PipeEnds

@@ -17,32 +17,48 @@ use Rattle.kernel_mem.specs.Memory.{entries_of}
 
 -- ---- sums over what the live processes have
 
-sum_before : (f : Holdings → ℕ) (o : Option Holdings) (rest more : List Holdings) (k : ℕ) → sum_by f more ≡ sum_by f rest + k → sum_by f (before o more) ≡ sum_by f (before o rest) + k
+sum_before : (f : Holdings → ℕ) (o : Option Holdings) (rest more : List Holdings) (k : ℕ)
+    → sum_by f more ≡ sum_by f rest + k → sum_by f (before o more) ≡ sum_by f (before o rest) + k
 sum_before f None rest more k e = e
 sum_before f (Some h) rest more k e = omega (arith, sum_by-cons f h more, sum_by-cons f h rest)
 
 -- what the others have, and what the one had that ended
-sum_ended : (f : Holdings → ℕ) (status : ℕ) (ps : List Process) (p : ℕ) (h : Holdings) → held_in ps p ≡ Some h → sum_by f (all_holdings ps) ≡ sum_by f (all_holdings (changed (ended_by status) ps p)) + f h
+pub sum_ended : (f : Holdings → ℕ) (status : ℕ) (ps : List Process) (p : ℕ) (h : Holdings)
+    → held_in ps p ≡ Some h
+    → sum_by f (all_holdings ps) ≡ sum_by f (all_holdings (changed (ended_by status) ps p)) + f h
 sum_ended f status ps zero h e = cc
 sum_ended f status ps (suc i) h e = at ps i e
   where
-    at : (ps : List Process) (i : ℕ) → held_in ps (suc i) ≡ Some h → sum_by f (all_holdings ps) ≡ sum_by f (all_holdings (changed_at (ended_by status) ps i)) + f h
+    at : (ps : List Process) (i : ℕ) → held_in ps (suc i) ≡ Some h
+        → sum_by f (all_holdings ps)
+        ≡ sum_by f (all_holdings (changed_at (ended_by status) ps i)) + f h
     at [] i e = cc
-    at (x ∷ ps) zero e = ap (λ o. sum_by f (before o (all_holdings ps))) e ∙ omega (arith, sum_by-cons f h (all_holdings ps))
-    at (x ∷ ps) (suc i) e = sum_before f (holdings_of x) (all_holdings (changed_at (ended_by status) ps i)) (all_holdings ps) (f h) (at ps i e)
+    at (x ∷ ps) zero e = ap (λ o. sum_by f (before o (all_holdings ps))) e
+        ∙ omega (arith, sum_by-cons f h (all_holdings ps))
+    at (x ∷ ps) (suc i) e =
+        sum_before f (holdings_of x) (all_holdings (changed_at (ended_by status) ps i))
+        (all_holdings ps) (f h) (at ps i e)
 
 -- A frame's uses are those that are left, and those of the process that ended.
-pub uses-ended : (w : World) (p status frame : ℕ) (h : Holdings) → held_in w.processes p ≡ Some h → uses_of w frame ≡ uses_of (record w { processes = ended_processes w.processes p status }) frame + entries_of h.space frame
+pub uses-ended : (w : World) (p status frame : ℕ) (h : Holdings) → held_in w.processes p ≡ Some h
+    → uses_of w frame ≡ uses_of
+    (record w { processes = ended_processes w.processes p status }) frame + entries_of h.space
+    frame
 uses-ended w p status frame h e =
     let f : Holdings → ℕ = λ (k : Holdings). count_by (λ (x : ℕ × _). x.1.frame == frame) k.space in
-    sum_ended f status w.processes p h e ∙ ap (λ hs. sum_by f hs + f h) (sym (orphans_have p (changed (ended_by status) w.processes p)))
+    sum_ended f status w.processes p h e
+    ∙ ap (λ hs. sum_by f hs + f h)
+    (sym (orphans_have p (changed (ended_by status) w.processes p)))
 
 -- ---- mapped is used
 
-any_summed : {A : Type 0} (test : A → Bool) (f : A → ℕ) → ((x : A) → test x ≡ nat_lt 0 (f x)) → (xs : List A) → list_any test xs ≡ nat_lt 0 (sum_by f xs)
+pub any_summed : {A : Type 0} (test : A → Bool) (f : A → ℕ) → ((x : A) → test x ≡ nat_lt 0 (f x))
+    → (xs : List A) → list_any test xs ≡ nat_lt 0 (sum_by f xs)
 any_summed test f each [] = refl
 any_summed test f each (x ∷ xs) =
-    ap (λ b. b || list_any test xs) (each x) ∙ ap (λ b. nat_lt 0 (f x) || b) (any_summed test f each xs) ∙ either (f x) (sum_by f xs) ∙ ap (nat_lt 0) (sym (sum_by-cons f x xs))
+    ap (λ b. b || list_any test xs) (each x)
+    ∙ ap (λ b. nat_lt 0 (f x) || b) (any_summed test f each xs) ∙ either (f x) (sum_by f xs)
+    ∙ ap (nat_lt 0) (sym (sum_by-cons f x xs))
   where
     either : (a b : ℕ) → (nat_lt 0 a || nat_lt 0 b) ≡ nat_lt 0 (a + b)
     either a b = grind (arith, nat_tests)
@@ -50,7 +66,8 @@ any_summed test f each (x ∷ xs) =
 pub mapped-used : (w : World) (frame : ℕ) → is_mapped w frame ≡ nat_lt 0 (uses_of w frame)
 mapped-used w frame =
     any_summed (maps_frame frame) (λ h. count_by (λ e. e.1.frame == frame) h.space)
-    (λ h. any_summed (λ e. e.1.frame == frame) (λ e. cond (e.1.frame == frame) 1 0) (λ e. one (e.1.frame == frame)) h.space) (all_holdings w.processes)
+    (λ h. any_summed (λ e. e.1.frame == frame) (λ e. cond (e.1.frame == frame) 1 0)
+    (λ e. one (e.1.frame == frame)) h.space) (all_holdings w.processes)
   where
     one : (b : Bool) → b ≡ nat_lt 0 (cond b 1 0)
     one true = refl
@@ -59,7 +76,8 @@ mapped-used w frame =
 -- ---- owners
 
 -- Of u uses k are gone and v are left: who owned the frame owns it as long as some are left.
-pub owner-left : (o : Owner) (u k v : ℕ) → u ≡ v + k → (u ≡ 0 → o ≡ Free) → cond (nat_lt 0 k && (u == k)) Free o ≡ cond (nat_lt 0 v) o Free
+pub owner-left : (o : Owner) (u k v : ℕ) → u ≡ v + k → (u ≡ 0 → o ≡ Free)
+    → cond (nat_lt 0 k && (u == k)) Free o ≡ cond (nat_lt 0 v) o Free
 owner-left o u k zero e free = none k (omega arith)
   where
     none : (k : ℕ) → u ≡ k → cond (nat_lt 0 k && (u == k)) Free o ≡ Free
@@ -71,7 +89,8 @@ owner-left o u k zero e free = none k (omega arith)
 owner-left o u k (suc v) e free =
     let not_all : (u == k) ≡ false = grind (arith, nat_tests) in
     let some : nat_lt 0 (suc v) ≡ true = grind (arith, nat_tests) in
-    ap (λ b. cond (nat_lt 0 k && b) Free o) not_all ∙ never (nat_lt 0 k) ∙ sym (ap (λ b. cond b o Free) some)
+    ap (λ b. cond (nat_lt 0 k && b) Free o) not_all ∙ never (nat_lt 0 k)
+    ∙ sym (ap (λ b. cond b o Free) some)
   where
     never : (b : Bool) → cond (b && false) Free o ≡ o
     never true = refl

@@ -3,63 +3,57 @@ use Rattle.std.specs.Prelude.{◌≡◌, ◌≤◌, ◌++◌, ℕ, min, Bool, Li
 use Rattle.dos_world.specs.World.{World}
 use Rattle.dos_world.specs.Kernel.{all_reach}
 use Rattle.dos_world.specs.Play.{done}
-use Rattle.dos_world.specs.Services.{Call, Service as FlatService, went, refuses, moves, thread_exit, process_exit, thread_new, write, write_output, write_error, get_pid, get_tid, yield, round_number}
+use Rattle.dos_world.specs.Services.{Call, Service as FlatService, went, transfers, write_output, write_error}
 use Rattle.dos_world.specs.declared.Access.TheVariants.{Load}
 use Rattle.dos_world.specs.declared.End.{End}
 use Rattle.dos_world.specs.declared.End.TheVariants.{Input, Output, Error, PipeRead, PipeWrite}
-use Rattle.dos_io.specs.Outside.{grown, Rose}
-use Rattle.proc_table.specs.Tables.{IsThread, thread_in}
+use Rattle.dos_io.specs.Outside.{grown, GrewByFront, Rose}
+use Rattle.proc_table.specs.Tables.{Tables, IsThread, thread_in}
 use Rattle.kernel_calls.specs.Serving.{world_of, sent, way_in}
 use Rattle.kernel_calls.specs.declared.state.State.{State}
 use Rattle.kernel_calls.specs.declared.state.Asked.{Asked}
 use Rattle.kernel_calls.specs.declared.state.Served.{Served}
 use Rattle.kernel_calls.specs.declared.state.RunStop.{RunStop}
 use Rattle.kernel_calls.specs.declared.state.RunStop.TheVariants.{OutFault, ErrFault}
-use Rattle.kernel_calls.specs.declared.naming.Service.{Service}
-use Rattle.kernel_calls.specs.declared.naming.Service.TheVariants.{ThreadExit, ProcessExit, ThreadNew, Write, GetPid, GetTid, Yield, RoundNumber}
 use Rattle.kernel_calls.specs.declared.writing.Target.{Target}
 use Rattle.kernel_calls.specs.declared.writing.Target.TheVariants.{Output as output_target, Error as error_target}
 
 -- these arguments, asked in this world
 abbrev pub call_in : World → Asked → Call
-call_in w a = record { world = w; thread = a.thread; process = a.process; a0 = a.a0; a1 = a.a1; a2 = a.a2 }
+call_in w a = record {
+  world = w;
+  thread = a.thread;
+  process = a.process;
+  a0 = a.a0;
+  a1 = a.a1;
+  a2 =
+      a.a2;
+}
 
 -- the thread that asks lives, and its process is the one that is said
 pub record AreAsked (s : State) (a : Asked) : Type 0 where
   pub live : IsThread s.table.threads a.thread
   pub process : IfSome (thread_in s.table.threads a.thread) (λ thread. a.process ≡ thread.process)
 
--- ---- which service
-
--- what each service that is built does
-abbrev pub deed : Service → FlatService
-deed ThreadExit = thread_exit
-deed ProcessExit = process_exit
-deed ThreadNew = thread_new
-deed Write = write
-deed GetPid = get_pid
-deed GetTid = get_tid
-deed Yield = yield
-deed RoundNumber = round_number
-
--- the service of a call; without one the call is refused
-abbrev pub meaning : Option Service → FlatService
-meaning None = refuses 38
-meaning (Some service) = deed service
-
 -- ---- what it does
 
--- From the old state's world it goes on this way in the new state's world. It asks nothing and sends nothing.
+-- From the old state's world it goes on this way in the new state's world. It asks nothing and
+-- sends nothing.
 abbrev pub GoesOn : FlatService → State → Asked → Served → State → Type 0
-GoesOn service old a way new = (q : ℕ) (o e : List ℕ) → service (call_in (sent o e (world_of q old)) a) ≡ done (way_in way (sent o e (world_of q new)))
+GoesOn service old a way new = (q : ℕ) (o e : List ℕ)
+    → service (call_in (sent o e (world_of q old)) a)
+    ≡ done (way_in way (sent o e (world_of q new)))
 
 -- It goes on so, and the sinks tell of the bytes that it sends.
-pub record Sends (service : FlatService) (old : State) (a : Asked) (way : Served) (new : State) (out out_after err err_after : Option (List ℕ)) : Type 0 where
+pub record Sends (service : FlatService) (old : State) (a : Asked) (way : Served) (new : State)
+    (out out_after err err_after : Option (List ℕ)) : Type 0 where
   pub output : List ℕ
   pub error : List ℕ
   pub out_is : out_after ≡ grown out output
   pub err_is : err_after ≡ grown err error
-  pub sends : (q : ℕ) (o e : List ℕ) → service (call_in (sent o e (world_of q old)) a) ≡ done (way_in way (sent (o ++ output) (e ++ error) (world_of q new)))
+  pub sends : (q : ℕ) (o e : List ℕ)
+      → service (call_in (sent o e (world_of q old)) a)
+      ≡ done (way_in way (sent (o ++ output) (e ++ error) (world_of q new)))
 
 -- a stop that is a sink's fault, and that sink's count rose
 abbrev pub IsSinkFault : RunStop → (out out_after err err_after : ℕ) → Type 0
@@ -68,7 +62,8 @@ IsSinkFault ErrFault out out_after err err_after = Rose err err_after
 IsSinkFault _ out out_after err err_after = ⊥
 
 -- No count falls, and it stops by a sink's fault alone.
-pub record HasSinkCauses {T : Type 0} (result : Result T RunStop) (out out_after err err_after : ℕ) : Type 0 where
+pub record HasSinkCauses {T : Type 0} (result : Result T RunStop)
+    (out out_after err err_after : ℕ) : Type 0 where
   pub out_later : out ≤ out_after
   pub err_later : err ≤ err_after
   pub sinks : IfErr result (λ stop. IsSinkFault stop out out_after err err_after)
@@ -92,14 +87,27 @@ asked_count a = min a.a2 4096
 abbrev pub are_readable : World → Asked → Bool
 are_readable w a = all_reach w a.thread a.a1 (asked_count a) Load
 
--- The bytes of a call that moves them are told by a sink: that of the output, or that of the error.
-pub record IsSent (old : State) (a : Asked) (new : State) (told told_after : Option (List ℕ)) : Type 0 where
-  pub bytes : List ℕ
-  pub told_is : told_after ≡ grown told bytes
-  pub output : (q : ℕ) (o e : List ℕ) → moves write_output (are_readable (sent o e (world_of q old)) a) (call_in (sent o e (world_of q old)) a) ≡ done (went (sent (o ++ bytes) e (world_of q new)))
-  pub error : (q : ℕ) (o e : List ℕ) → moves write_error (are_readable (sent o e (world_of q old)) a) (call_in (sent o e (world_of q old)) a) ≡ done (went (sent o (e ++ bytes) (world_of q new)))
+-- A call that transfers these bytes goes on in this state's world, with them sent to output, or to
+-- error.
+pub record Transfers (old : State) (a : Asked) (bytes : List ℕ) (new : State) : Type 0 where
+  pub output : (q : ℕ) (o e : List ℕ)
+      → transfers write_output (are_readable (sent o e (world_of q old)) a)
+      (call_in (sent o e (world_of q old)) a) ≡ done (went (sent (o ++ bytes) e (world_of q new)))
+  pub error : (q : ℕ) (o e : List ℕ)
+      → transfers write_error (are_readable (sent o e (world_of q old)) a)
+      (call_in (sent o e (world_of q old)) a) ≡ done (went (sent o (e ++ bytes) (world_of q new)))
 
--- what a sink tells is what it told, with more bytes behind it
-pub record HasGrown (told told_after : Option (List ℕ)) : Type 0 where
+-- a sink, that of the output or that of the error, tells the bytes of a call that transfers them
+pub record IsSent (old : State) (a : Asked) (new : State)
+    (told told_after : Option (List ℕ)) : Type 0 where
   pub bytes : List ℕ
   pub told_is : told_after ≡ grown told bytes
+  pub transfers : Transfers old a bytes new
+
+-- It tells a front of them alone. The call would have gone on with its answer in the table.
+pub record IsCutOff (old : State) (a : Asked) (new : State) (told told_after : Option (List ℕ)) :
+    Type 0 where
+  pub bytes : List ℕ
+  pub front : GrewByFront told told_after bytes
+  pub table : Tables
+  pub transfers : Transfers old a bytes (record new { table = table })

@@ -1,3 +1,4 @@
+pub mod Built
 pub mod Serving
 pub mod Calling
-pub mod Small
+pub mod Ending

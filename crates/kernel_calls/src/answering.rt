@@ -12,7 +12,11 @@ use proc_table::Table;
 pub(crate) fn answer(state: &mut State, tid: u32, value: u32)
     requires sound { IsSound state.old }
     requires live { IsThread state.old.table.threads tid }
-    ensures answers { state.new ≡ record state.old { table = thread_by (registers_by (answered value)) state.old.table tid } }
+    ensures answers { state.new
+        ≡ record state.old {
+          table =
+              thread_by (registers_by (answered value)) state.old.table tid;
+        } }
     ensures sound { IsSound state.new }
 {
     answer_in(&mut state.table, tid, value);
@@ -23,7 +27,11 @@ pub(crate) fn refuse(state: &mut State, tid: u32, number: u8)
     requires sound { IsSound state.old }
     requires live { IsThread state.old.table.threads tid }
     requires number { 0 < number }
-    ensures answers { state.new ≡ record state.old { table = thread_by (registers_by (answered (minus number))) state.old.table tid } }
+    ensures answers { state.new
+        ≡ record state.old {
+          table =
+              thread_by (registers_by (answered (minus number))) state.old.table tid;
+        } }
     ensures sound { IsSound state.new }
 {
     answer(state, tid, 0u32.wrapping_sub(u32::from(number)));

@@ -1,7 +1,7 @@
 //! The services over the kernel's state: what an ecall of a thread does.
 //!
-//! Each call is stated over the flat world of the state (`specs/Serving`), whatever the quantum and the bytes sent
-//! before, and keeps the state sound.
+//! Each call is stated over the flat world of the state (`specs/Serving`), whatever the quantum and
+//! the bytes sent before, and keeps the state sound.
 #![tactic(auto)]
 
 mod answering;
@@ -15,6 +15,3 @@ mod writing;
 pub use ending::end_process;
 pub use serving::serve;
 pub use state::{RunStop, Served, State, count_round, new_state};
-
-#[cfg(test)]
-mod tests;

@@ -1,9 +1,8 @@
 // The services that there are, by number.
 ghost use Rattle.std.specs.Prelude.{◌≡◌};
-ghost use Rattle.dos_world.specs.Services.{Call, built_service, services_today};
-ghost use Rattle.kernel_calls.specs.Calling.{meaning};
+ghost use Rattle.kernel_calls.specs.Built.{named};
 
-/// The services that are built.
+/// The services that are built; `specs/Built` has their numbers and what they do.
 #[derive(Clone, Copy)]
 pub(crate) enum Service {
     ThreadExit,
@@ -18,7 +17,7 @@ pub(crate) enum Service {
 
 /// The service of this number, where it is built.
 pub(crate) fn service_named(number: u32) -> Option<Service>
-    ensures { (c : Call) → built_service services_today number c ≡ meaning result c }
+    ensures { result ≡ named number }
 {
     if number == 1 {
         return Some(Service::ThreadExit);

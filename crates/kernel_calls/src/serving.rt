@@ -4,8 +4,9 @@ ghost use Rattle.dos_world.specs.Lawful.{AreRegisters};
 ghost use Rattle.dos_world.specs.Services.{charged, service};
 ghost use Rattle.dos_io.specs.Shims.{HasNoEnd};
 ghost use Rattle.proc_table.specs.Tables.{IsThread, ran, thread_by, thread_in};
-ghost use Rattle.kernel_calls.specs.Serving.{Answers, Asks, HasCauses, HaveGrown, IsSound, Stands, shim_stop};
-ghost use Rattle.kernel_calls.specs.Calling.{AreAsked, HasSinkCauses, Sends, deed, meaning};
+ghost use Rattle.kernel_calls.specs.Serving.{Answers, Asks, HasCauses, HasFaulted, HaveGrown, IsSound, Stands, shim_stop};
+ghost use Rattle.kernel_calls.specs.Built.{definition_by, definition_of};
+ghost use Rattle.kernel_calls.specs.Calling.{AreAsked, HasSinkCauses, Sends, call_in};
 
 use crate::answering::{answer, refuse};
 use crate::ending::end_process;
@@ -15,13 +16,16 @@ use crate::threads::{thread_exit, thread_new};
 use crate::writing::write;
 use dos_io::{Shim, Sink};
 use dos_world::Regs;
+use dos_world::errors::ENOSYS;
 
-/// Serves a live thread that has a budget: the service that its x17 names, which costs one of the budget.
+/// Serves a live thread that has a budget: the service that its x17 names, which costs one of the
+/// budget.
 ///
-/// After an `Err` the run is over, and nothing is served or paid for: each process and thread is as before the call,
-/// this thread's registers and budget too. Of the frames owners alone may differ: a page whose bytes were read before
-/// the sink failed may be shared now. The shim tells no more then, and of what
-/// the sinks tell only more bytes behind it.
+/// After an `Err` the run is over, and nothing is served or paid for: each process and thread is as
+/// before the call, this thread's registers and budget too. Of the frames owners alone may differ:
+/// a page whose bytes were read before the sink failed may be shared now. The shim tells no more
+/// then. The sink that failed tells a front of the bytes that the service sends to it, and the
+/// other no more; where the shim stops, neither does.
 pub fn serve<S: Shim, O: Sink, E: Sink>(
     state: &mut State,
     tid: u32,
@@ -33,14 +37,25 @@ pub fn serve<S: Shim, O: Sink, E: Sink>(
     requires live { IsThread state.old.table.threads tid }
     requires budget { IfSome (thread_in state.old.table.threads tid) (λ thread. 0 < thread.budget) }
     requires told { HasNoEnd (S.state shim.old).told }
-    ensures runs { IfOk result (λ way. Answers (λ w. service w tid) state.old (S.state shim.old).told (S.state shim.new).told way state.new (O.told out.old) (O.told out.new) (E.told err.old) (E.told err.new)) }
+    ensures runs { IfOk result
+        (λ way. Answers (λ w. service w tid) state.old (S.state shim.old).told
+        (S.state shim.new).told way state.new (O.told out.old) (O.told out.new)
+        (E.told err.old) (E.told err.new)) }
     ensures sound { IsSound state.new }
     ensures stands { OnErr result (Stands state.old state.new) }
     ensures round { state.new.round ≡ state.old.round }
-    ensures asks { IfErr result (λ stop. IfSome (shim_stop stop) (λ s. Asks (λ w. service w tid) state.old (S.state shim.old) s (S.state shim.new) (O.told out.old) (O.told out.new) (E.told err.old) (E.told err.new))) }
+    ensures asks { IfErr result
+        (λ stop. IfSome (shim_stop stop)
+        (λ s. Asks (λ w. service w tid) state.old (S.state shim.old) s
+        (S.state shim.new) (O.told out.old) (O.told out.new) (E.told err.old)
+        (E.told err.new))) }
     ensures told { OnErr result ((S.state shim.new).told ≡ (S.state shim.old).told) }
-    ensures grows { OnErr result (HaveGrown (O.told out.old) (O.told out.new) (E.told err.old) (E.told err.new)) }
-    ensures causes { HasCauses result (S.state shim.old) (S.state shim.new) (O.faults out.old) (O.faults out.new) (E.faults err.old) (E.faults err.new) }
+    ensures grows { OnErr result
+        (HaveGrown (O.told out.old) (O.told out.new) (E.told err.old) (E.told err.new)) }
+    ensures faults { IfErr result (λ stop. HasFaulted stop (λ w. service w tid) state.old state.new
+        (O.told out.old) (O.told out.new) (E.told err.old) (E.told err.new)) }
+    ensures causes { HasCauses result (S.state shim.old) (S.state shim.new) (O.faults out.old)
+        (O.faults out.new) (E.faults err.old) (E.faults err.new) }
     ensures follows { S.follows shim.old shim.new }
 {
     let regs = *state.table.regs(tid);
@@ -67,7 +82,8 @@ fn charge(state: &mut State, tid: u32)
     requires sound { IsSound state.old }
     requires live { IsThread state.old.table.threads tid }
     requires budget { IfSome (thread_in state.old.table.threads tid) (λ thread. 0 < thread.budget) }
-    ensures charges { state.new ≡ record state.old { table = thread_by charged state.old.table tid } }
+    ensures charges { state.new
+        ≡ record state.old { table = thread_by charged state.old.table tid } }
     ensures sound { IsSound state.new }
 {
     state.table.charge(tid);
@@ -78,7 +94,8 @@ fn restore(state: &mut State, tid: u32, regs: Regs, budget: u32)
     requires sound { IsSound state.old }
     requires live { IsThread state.old.table.threads tid }
     requires range { AreRegisters regs }
-    ensures restores { state.new ≡ record state.old { table = thread_by (ran regs budget) state.old.table tid } }
+    ensures restores { state.new
+        ≡ record state.old { table = thread_by (ran regs budget) state.old.table tid } }
     ensures sound { IsSound state.new }
 {
     state.table.set_run(tid, regs, budget);
@@ -94,17 +111,24 @@ fn dispatch<O: Sink, E: Sink>(
 ) -> Result<Served, RunStop>
     requires sound { IsSound state.old }
     requires asked { AreAsked state.old asked.now }
-    ensures sends { IfOk result (λ way. Sends (meaning service) state.old asked.now way state.new (O.told out.old) (O.told out.new) (E.told err.old) (E.told err.new)) }
+    ensures sends { IfOk result
+        (λ way. Sends (definition_by service) state.old asked.now way state.new
+        (O.told out.old) (O.told out.new) (E.told err.old) (E.told err.new)) }
     ensures sound { IsSound state.new }
     ensures stands { OnErr result (Stands state.old state.new) }
     ensures round { state.new.round ≡ state.old.round }
-    ensures grows { OnErr result (HaveGrown (O.told out.old) (O.told out.new) (E.told err.old) (E.told err.new)) }
-    ensures causes { HasSinkCauses result (O.faults out.old) (O.faults out.new) (E.faults err.old) (E.faults err.new) }
+    ensures grows { OnErr result
+        (HaveGrown (O.told out.old) (O.told out.new) (E.told err.old) (E.told err.new)) }
+    ensures faults { IfErr result
+        (λ stop. HasFaulted stop (λ w. definition_by service (call_in w asked.now))
+        state.old state.new (O.told out.old) (O.told out.new) (E.told err.old) (E.told err.new)) }
+    ensures causes { HasSinkCauses result (O.faults out.old) (O.faults out.new) (E.faults err.old)
+        (E.faults err.new) }
 {
     match service {
         Some(service) => perform(state, service, asked, out, err),
         None => {
-            refuse(state, asked.thread, 38);
+            refuse(state, asked.thread, ENOSYS);
             Ok(Served::Went)
         }
     }
@@ -119,12 +143,19 @@ fn perform<O: Sink, E: Sink>(
 ) -> Result<Served, RunStop>
     requires sound { IsSound state.old }
     requires asked { AreAsked state.old asked.now }
-    ensures sends { IfOk result (λ way. Sends (deed service) state.old asked.now way state.new (O.told out.old) (O.told out.new) (E.told err.old) (E.told err.new)) }
+    ensures sends { IfOk result
+        (λ way. Sends (definition_of service) state.old asked.now way state.new
+        (O.told out.old) (O.told out.new) (E.told err.old) (E.told err.new)) }
     ensures sound { IsSound state.new }
     ensures stands { OnErr result (Stands state.old state.new) }
     ensures round { state.new.round ≡ state.old.round }
-    ensures grows { OnErr result (HaveGrown (O.told out.old) (O.told out.new) (E.told err.old) (E.told err.new)) }
-    ensures causes { HasSinkCauses result (O.faults out.old) (O.faults out.new) (E.faults err.old) (E.faults err.new) }
+    ensures grows { OnErr result
+        (HaveGrown (O.told out.old) (O.told out.new) (E.told err.old) (E.told err.new)) }
+    ensures faults { IfErr result
+        (λ stop. HasFaulted stop (λ w. definition_of service (call_in w asked.now))
+        state.old state.new (O.told out.old) (O.told out.new) (E.told err.old) (E.told err.new)) }
+    ensures causes { HasSinkCauses result (O.faults out.old) (O.faults out.new) (E.faults err.old)
+        (E.faults err.new) }
 {
     match service {
         Service::Write => match write(state, asked, out, err) {

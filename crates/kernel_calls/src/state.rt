@@ -3,6 +3,7 @@ ghost use Rattle.std.specs.Prelude.{◌≡◌, ◌+◌, ◌≤◌, replicate};
 ghost use Rattle.kernel_calls.specs.Serving.{IsSound};
 
 use dos_world::Misfit;
+use kernel_objects::{FutexQueue, Pipes};
 use page_store::Frames;
 use proc_table::Table;
 
@@ -13,6 +14,10 @@ pub struct State {
     pub frames: Frames,
     /// The processes and threads.
     pub table: Table,
+    /// The pipes.
+    pub pipes: Pipes,
+    /// The threads that sleep on words.
+    pub futexes: FutexQueue,
     /// The round that is being run, or is to be run next, from 1.
     pub round: u32,
     /// Where the bytes of one call lie on their way. Nothing rests on what is left there.
@@ -59,13 +64,22 @@ pub enum RunStop {
     Memory,
 }
 
-/// These frames and this table, before the first round.
-pub fn new_state(frames: Frames, table: Table) -> State
-    ensures { result ≡ record { frames = frames; table = table; round = 1; buffer = replicate 4096 0 } }
+/// These frames, this table, these pipes and this queue, before the first round.
+pub fn new_state(frames: Frames, table: Table, pipes: Pipes, futexes: FutexQueue) -> State
+    ensures { result ≡ record {
+      frames = frames;
+      table = table;
+      pipes = pipes;
+      futexes = futexes;
+      round = 1;
+      buffer = replicate 4096 0;
+    } }
 {
     State {
         frames,
         table,
+        pipes,
+        futexes,
         round: 1,
         buffer: [0; 4096],
     }

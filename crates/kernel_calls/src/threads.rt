@@ -11,13 +11,14 @@ use crate::answering::{answer, refuse};
 use crate::ending::end_process;
 use crate::state::{Asked, State};
 use dos_world::Regs;
+use dos_world::errors::{EAGAIN, EINVAL};
 use proc_table::Table;
 
 // How much an instruction's address is a multiple of.
 const CODE_UNIT: u32 = 4;
 
-/// A new thread at a0, with stack a1 and argument a2: its number. Refusals: 22 where a0 is no place for an instruction,
-/// 11 where no more threads can be made.
+/// A new thread at a0, with stack a1 and argument a2: its number. Refusals: 22 where a0 is no place
+/// for an instruction, 11 where no more threads can be made.
 pub(crate) fn thread_new(state: &mut State, asked: &Asked)
     requires sound { IsSound state.old }
     requires asked { AreAsked state.old asked.now }
@@ -26,14 +27,14 @@ pub(crate) fn thread_new(state: &mut State, asked: &Asked)
     ensures round { state.new.round ≡ state.old.round }
 {
     if asked.a0 % CODE_UNIT != 0 {
-        refuse(state, asked.thread, 22);
+        refuse(state, asked.thread, EINVAL);
         return;
     }
     let mask = state.table.mask(asked.thread);
     let regs = new_registers(asked.a0, asked.a1, asked.a2);
     match state.table.add_thread(asked.process, regs, mask) {
         Ok(number) => answer(state, asked.thread, number),
-        Err(_) => refuse(state, asked.thread, 11),
+        Err(_) => refuse(state, asked.thread, EAGAIN),
     }
 }
 

@@ -1,5 +1,5 @@
 // Writing to output and error.
-ghost use Rattle.std.specs.Prelude.{◌≡◌, ◌≤◌, ℕ, List, take, true, OnErr, OnOk};
+ghost use Rattle.std.specs.Prelude.{◌≡◌, ◌≤◌, ℕ, List, take, true, IfErr, OnErr, OnOk};
 ghost use Rattle.dos_world.specs.World.{World};
 ghost use Rattle.dos_world.specs.declared.Access.TheVariants.{Load};
 ghost use Rattle.dos_world.specs.Kernel.{all_reach, copied_in};
@@ -7,14 +7,15 @@ ghost use Rattle.dos_world.specs.Services.{write};
 ghost use Rattle.dos_io.specs.Outside.{HasCause};
 ghost use Rattle.kernel_mem.specs.Seen.{in_world, AreMapped, IsCaller, IsHome, KeepsUses};
 ghost use Rattle.page_store.specs.Store.{Store as Held};
-ghost use Rattle.kernel_calls.specs.Serving.{HaveGrown, IsSound, Stands};
-ghost use Rattle.kernel_calls.specs.Calling.{AreAsked, HasGrown, HasSinkCauses, IsSent, Sends, target_of};
+ghost use Rattle.kernel_calls.specs.Serving.{HasFaulted, HaveGrown, IsSound, Stands};
+ghost use Rattle.kernel_calls.specs.Calling.{AreAsked, HasSinkCauses, IsCutOff, IsSent, Sends, call_in, target_of};
 ghost use Rattle.kernel_calls.specs.declared.state.Served.TheVariants.{Went};
 
 use crate::answering::{answer, refuse};
 use crate::state::{Asked, RunStop, State};
 use dos_io::{Sink, SinkFault};
 use dos_world::End;
+use dos_world::errors::EBADF;
 use kernel_mem::{check, copy_in};
 use page_store::Frames;
 use proc_table::Table;
@@ -26,7 +27,8 @@ pub(crate) enum Target {
     Error,
 }
 
-/// Bytes to output or error: how many. Refusals: 9 where a0 names neither, 14 where one of the bytes isn't mapped.
+/// Bytes to output or error: how many. Refusals: 9 where a0 names neither, 14 where one of the
+/// bytes isn't mapped.
 pub(crate) fn write<O: Sink, E: Sink>(
     state: &mut State,
     asked: &Asked,
@@ -35,12 +37,18 @@ pub(crate) fn write<O: Sink, E: Sink>(
 ) -> Result<(), RunStop>
     requires sound { IsSound state.old }
     requires asked { AreAsked state.old asked.now }
-    ensures sends { OnOk result (Sends write state.old asked.now Went state.new (O.told out.old) (O.told out.new) (E.told err.old) (E.told err.new)) }
+    ensures sends { OnOk result
+        (Sends write state.old asked.now Went state.new (O.told out.old) (O.told out.new)
+        (E.told err.old) (E.told err.new)) }
     ensures sound { IsSound state.new }
     ensures stands { OnErr result (Stands state.old state.new) }
     ensures round { state.new.round ≡ state.old.round }
-    ensures grows { OnErr result (HaveGrown (O.told out.old) (O.told out.new) (E.told err.old) (E.told err.new)) }
-    ensures causes { HasSinkCauses result (O.faults out.old) (O.faults out.new) (E.faults err.old) (E.faults err.new) }
+    ensures grows { OnErr result
+        (HaveGrown (O.told out.old) (O.told out.new) (E.told err.old) (E.told err.new)) }
+    ensures faults { IfErr result (λ stop. HasFaulted stop (λ w. write (call_in w asked.now))
+        state.old state.new (O.told out.old) (O.told out.new) (E.told err.old) (E.told err.new)) }
+    ensures causes { HasSinkCauses result (O.faults out.old) (O.faults out.new) (E.faults err.old)
+        (E.faults err.new) }
 {
     match target_of(state.table.descriptor(asked.process, asked.a0)) {
         Some(Target::Output) => match send(state, asked, out) {
@@ -52,7 +60,7 @@ pub(crate) fn write<O: Sink, E: Sink>(
             Err(SinkFault) => Err(RunStop::ErrFault),
         },
         None => {
-            refuse(state, asked.thread, 9);
+            refuse(state, asked.thread, EBADF);
             Ok(())
         }
     }
@@ -73,11 +81,13 @@ fn target_of(end: Option<End>) -> Option<Target>
 fn send<S: Sink>(state: &mut State, asked: &Asked, sink: &mut S) -> Result<(), SinkFault>
     requires sound { IsSound state.old }
     requires asked { AreAsked state.old asked.now }
-    ensures sends { OnOk result (IsSent state.old asked.now state.new (S.told sink.old) (S.told sink.new)) }
+    ensures sends { OnOk result
+        (IsSent state.old asked.now state.new (S.told sink.old) (S.told sink.new)) }
     ensures sound { IsSound state.new }
     ensures stands { OnErr result (Stands state.old state.new) }
     ensures round { state.new.round ≡ state.old.round }
-    ensures grows { OnErr result (HasGrown (S.told sink.old) (S.told sink.new)) }
+    ensures cut { OnErr result
+        (IsCutOff state.old asked.now state.new (S.told sink.old) (S.told sink.new)) }
     ensures cause { HasCause (S.faults sink.old) (S.faults sink.new) result }
 {
     let count = asked.a2.min(4096);
@@ -108,8 +118,12 @@ fn take_in(state: &mut State, asked: &Asked, count: u32)
     requires sound { IsSound state.old }
     requires asked { AreAsked state.old asked.now }
     requires few { count ≤ 4096 }
-    requires reach { (w : World) (s : Held) → all_reach (in_world w s state.old.table) asked.now.thread asked.now.a1 count Load ≡ true }
-    ensures copies { (w : World) → copied_in (in_world w state.old.frames state.old.table) asked.now.thread asked.now.a1 count ≡ (in_world w state.new.frames state.new.table, take count state.new.buffer) }
+    requires reach { (w : World) (s : Held)
+        → all_reach (in_world w s state.old.table) asked.now.thread asked.now.a1 count Load
+        ≡ true }
+    ensures copies { (w : World)
+        → copied_in (in_world w state.old.frames state.old.table) asked.now.thread asked.now.a1
+        count ≡ (in_world w state.new.frames state.new.table, take count state.new.buffer) }
     ensures sound { IsSound state.new }
     ensures stands { Stands state.old state.new }
     ensures round { state.new.round ≡ state.old.round }
@@ -128,8 +142,11 @@ fn fill(frames: &mut Frames, table: &Table, asked: &Asked, buffer: &mut [u8; 409
     requires mapped { AreMapped table.now frames.old asked.now.thread }
     requires home { IsHome frames.old }
     requires few { count ≤ 4096 }
-    requires reach { (w : World) (s : Held) → all_reach (in_world w s table.now) asked.now.thread asked.now.a1 count Load ≡ true }
-    ensures copies { (w : World) → copied_in (in_world w frames.old table.now) asked.now.thread asked.now.a1 count ≡ (in_world w frames.new table.now, take count buffer.new) }
+    requires reach { (w : World) (s : Held)
+        → all_reach (in_world w s table.now) asked.now.thread asked.now.a1 count Load ≡ true }
+    ensures copies { (w : World)
+        → copied_in (in_world w frames.old table.now) asked.now.thread asked.now.a1 count
+        ≡ (in_world w frames.new table.now, take count buffer.new) }
     ensures stays { KeepsUses frames.old frames.new }
 {
     copy_in(

@@ -7,6 +7,8 @@ use Rattle.dos_cmd.proofs.inspect.inspect.Given as goal
 -- the lines so far
 abbrev pub invariant-loop-part : goal.invariant-loop-part
 invariant-loop-part g l = record {
-  told : g.O.Sink.told l.out ≡ grown (g.O.Sink.told l.fn.out) (entry_line l.fn.image.entry ++ flat_map part_line (take l.part-index l.fn.image.parts));
+  told : g.O.Sink.told l.out
+      ≡ grown (g.O.Sink.told l.fn.out)
+      (entry_line l.fn.image.entry ++ flat_map part_line (take l.part-index l.fn.image.parts));
   later : g.O.Sink.faults l.fn.out ≤ g.O.Sink.faults l.out;
 }

@@ -5,7 +5,8 @@ use Rattle.dos_cmd.proofs.request.read_run.Given as goal
 
 -- What is left asks for what the words ask for.
 abbrev pub invariant-loop-rest : goal.invariant-loop-rest
-invariant-loop-rest l = asked_from l.options (texts l.rest) ≡ asked_from no_options (texts l.fn.words)
+invariant-loop-rest l = asked_from l.options (texts l.rest)
+    ≡ asked_from no_options (texts l.fn.words)
 
 abbrev pub decreases-loop-rest : goal.decreases-loop-rest
 decreases-loop-rest l = length l.rest

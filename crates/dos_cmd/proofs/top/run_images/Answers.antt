@@ -7,7 +7,8 @@ pub returns-in_err-images-clause-fails : goal.returns-in_err-images-clause-fails
 returns-in_err-images-clause-fails g c =
     let p = err_from_is_err_and c.from_residual.result c.from_residual.ensures.1 in
     let load = c.in_err-images.ensures in
-    rw (p.1, p.2) (fails_reading (g.F.Files.content c.args.files.now) (runs c.args.config (texts c.args.names.now)) _ _ _ _ (record {
+    rw (p.1, p.2) (fails_reading (g.F.Files.content c.args.files.now)
+    (runs c.args.config (texts c.args.names.now)) _ _ _ _ (record {
       refused = λ q. group_refused c.args.config _ _ (load.refused q);
       fault = λ q. load.fault (is_err_of _ _ q);
       words = λ q. load.words (is_err_of _ _ q);
@@ -15,7 +16,14 @@ returns-in_err-images-clause-fails g c =
     }) (stays_here _ _))
 
 pub returns-clause-did : goal.returns-clause-did
-returns-clause-did g c = run_did (g.F.Files.content c.args.files.now) c.args.config (texts c.args.names.now) c.deref.result.now _ c.execute.result (told_same _ _ _ c.deref.ensures.value c.in_ok-images.ensures.accepted) c.execute.ensures.fits c.execute.ensures.ran
+returns-clause-did g c = run_did (g.F.Files.content c.args.files.now) c.args.config
+    (texts c.args.names.now) c.deref.result.now _ c.execute.result
+    (told_same _ _ _ c.deref.ensures.value c.in_ok-images.ensures.accepted)
+    c.execute.ensures.fits c.execute.ensures.ran
 
 pub returns-clause-fails : goal.returns-clause-fails
-returns-clause-fails g c = run_fails (g.F.Files.content c.args.files.now) c.args.config (texts c.args.names.now) c.deref.result.now _ _ _ c.execute.result (told_same _ _ _ c.deref.ensures.value c.in_ok-images.ensures.accepted) c.execute.ensures.fails
+returns-clause-fails g c =
+    run_fails (g.F.Files.content c.args.files.now) c.args.config
+    (texts c.args.names.now) c.deref.result.now _ _ _ c.execute.result
+    (told_same _ _ _ c.deref.ensures.value c.in_ok-images.ensures.accepted)
+    c.execute.ensures.fails

@@ -8,30 +8,56 @@ use Rattle.dpg_run.proofs.report.put_lines.Goals as goal
 pub returns-in_err-put-clause-front : goal.returns-in_err-put-clause-front
 returns-in_err-put-clause-front g c =
     let processes = c.args.table.now.processes in
-    let status = status_at processes c.loop-place.place c.status.result (omega arith) c.status.ensures in
+    let status = status_at processes c.loop-place.place c.status.result
+    (omega arith) c.status.ensures in
     on_err c.from_residual.result _
-    (front_more (g.S.Sink.told c.args.sink.now) (g.S.Sink.told c.loop-place.sink) (g.S.Sink.told c.put.new.self) (map status_in processes) c.args.rounds c.args.ending c.loop-place.place c.status.result c.as_bytes.result.now
-    (omega (arith, length-map processes status_in)) status c.loop-place.invariant.told (same_text c.as_bytes.result.now c.as_str.result.now c.process_line.result.bytes (process_line (c.loop-place.place + 1) c.status.result) c.as_bytes.ensures.value c.as_str.ensures.value c.process_line.ensures) c.in_err-put.ensures.err)
+    (front_more (g.S.Sink.told c.args.sink.now) (g.S.Sink.told c.loop-place.sink)
+    (g.S.Sink.told c.put.new.self)
+    (map status_in processes) c.args.rounds c.args.ending c.loop-place.place
+    c.status.result c.as_bytes.result.now
+    (omega (arith, length-map processes status_in)) status c.loop-place.invariant.told
+    (same_text c.as_bytes.result.now c.as_str.result.now c.process_line.result.bytes
+    (process_line (c.loop-place.place + 1) c.status.result) c.as_bytes.ensures.value
+    c.as_str.ensures.value c.process_line.ensures) c.in_err-put.ensures.err)
 
 pub loop-place-preserved : goal.loop-place-preserved
 loop-place-preserved g c =
     let processes = c.args.table.now.processes in
-    let status = status_at processes c.loop-place.place c.status.result (omega arith) c.status.ensures in
+    let status = status_at processes c.loop-place.place c.status.result
+    (omega arith) c.status.ensures in
     let later = c.put.ensures.cause.later in
     record {
-      told = told_more (g.S.Sink.told c.args.sink.now) (g.S.Sink.told c.loop-place.sink) (g.S.Sink.told c.put.new.self) (map status_in processes) c.loop-place.place c.status.result c.as_bytes.result.now
-          (omega (arith, length-map processes status_in)) status c.loop-place.invariant.told (same_text c.as_bytes.result.now c.as_str.result.now c.process_line.result.bytes (process_line (c.loop-place.place + 1) c.status.result) c.as_bytes.ensures.value c.as_str.ensures.value c.process_line.ensures) c.in_ok-put.ensures.ok;
+      told = told_more (g.S.Sink.told c.args.sink.now) (g.S.Sink.told c.loop-place.sink)
+          (g.S.Sink.told c.put.new.self)
+          (map status_in processes) c.loop-place.place c.status.result c.as_bytes.result.now
+          (omega (arith, length-map processes status_in)) status c.loop-place.invariant.told
+          (same_text c.as_bytes.result.now c.as_str.result.now c.process_line.result.bytes
+          (process_line (c.loop-place.place + 1) c.status.result)
+          c.as_bytes.ensures.value c.as_str.ensures.value c.process_line.ensures)
+          c.in_ok-put.ensures.ok;
       later = omega (arith, c.loop-place.invariant.later, later);
     }
 
 pub returns-clause-told : goal.returns-clause-told
 returns-clause-told g c =
     let processes = c.args.table.now.processes in
-    told_all c.put-2.result (g.S.Sink.told c.args.sink.now) (g.S.Sink.told c.loop-place.sink) (g.S.Sink.told c.put-2.new.self) (map status_in processes) c.args.rounds c.args.ending c.loop-place.place c.as_bytes-2.result.now
-    (omega (arith, length-map processes status_in)) c.loop-place.invariant.told (same_text c.as_bytes-2.result.now c.as_str-2.result.now c.rounds_line.result.bytes (rounds_line c.args.rounds c.args.ending) c.as_bytes-2.ensures.value c.as_str-2.ensures.value c.rounds_line.ensures) c.put-2.ensures.ok
+    told_all c.put-2.result (g.S.Sink.told c.args.sink.now) (g.S.Sink.told c.loop-place.sink)
+    (g.S.Sink.told c.put-2.new.self)
+    (map status_in processes) c.args.rounds c.args.ending c.loop-place.place
+    c.as_bytes-2.result.now
+    (omega (arith, length-map processes status_in)) c.loop-place.invariant.told
+    (same_text c.as_bytes-2.result.now c.as_str-2.result.now c.rounds_line.result.bytes
+    (rounds_line c.args.rounds c.args.ending) c.as_bytes-2.ensures.value
+    c.as_str-2.ensures.value c.rounds_line.ensures) c.put-2.ensures.ok
 
 pub returns-clause-front : goal.returns-clause-front
 returns-clause-front g c =
     let processes = c.args.table.now.processes in
-    front_all c.put-2.result (g.S.Sink.told c.args.sink.now) (g.S.Sink.told c.loop-place.sink) (g.S.Sink.told c.put-2.new.self) (map status_in processes) c.args.rounds c.args.ending c.loop-place.place c.as_bytes-2.result.now
-    (omega (arith, length-map processes status_in)) c.loop-place.invariant.told (same_text c.as_bytes-2.result.now c.as_str-2.result.now c.rounds_line.result.bytes (rounds_line c.args.rounds c.args.ending) c.as_bytes-2.ensures.value c.as_str-2.ensures.value c.rounds_line.ensures) c.put-2.ensures.err
+    front_all c.put-2.result (g.S.Sink.told c.args.sink.now) (g.S.Sink.told c.loop-place.sink)
+    (g.S.Sink.told c.put-2.new.self)
+    (map status_in processes) c.args.rounds c.args.ending c.loop-place.place
+    c.as_bytes-2.result.now
+    (omega (arith, length-map processes status_in)) c.loop-place.invariant.told
+    (same_text c.as_bytes-2.result.now c.as_str-2.result.now c.rounds_line.result.bytes
+    (rounds_line c.args.rounds c.args.ending) c.as_bytes-2.ensures.value
+    c.as_str-2.ensures.value c.rounds_line.ensures) c.put-2.ensures.err

@@ -7,6 +7,7 @@ use Rattle.dpg_run.proofs.report.put_lines.Given as goal
 -- the lines so far
 abbrev pub invariant-loop-place : goal.invariant-loop-place
 invariant-loop-place g l = record {
-  told : g.S.Sink.told l.sink ≡ grown (g.S.Sink.told l.fn.sink) (process_lines 1 (take l.place (map status_in l.fn.table.processes)));
+  told : g.S.Sink.told l.sink ≡ grown (g.S.Sink.told l.fn.sink)
+      (process_lines 1 (take l.place (map status_in l.fn.table.processes)));
   later : g.S.Sink.faults l.fn.sink ≤ g.S.Sink.faults l.sink;
 }

@@ -10,65 +10,115 @@ use Rattle.dpg_run.proofs.RoundsRun.{ran_none, round_more, round_ends, round_sta
 use Rattle.dpg_run.proofs.run.run_rounds.Goals as goal
 
 -- a round of the loop is one that the configuration allows
-below : (config read : Config) (round : ℕ) → read ≡ config → round < read.rounds → round < config.rounds
+below : (config read : Config) (round : ℕ) → read ≡ config → round < read.rounds
+    → round < config.rounds
 below config read round same lt = subst (λ (c : Config). round < c.rounds) same lt
 
 pub loop-round-init : goal.loop-round-init
 loop-round-init g c = record {
-  runs = ran_none c.args.kernel.now.config c.args.kernel.now.config.rounds (c.args.kernel.now.config.rounds - 0) c.args.kernel.now.state _ (omega arith);
+  runs = ran_none c.args.kernel.now.config c.args.kernel.now.config.rounds
+      (c.args.kernel.now.config.rounds - 0) c.args.kernel.now.state _ (omega arith);
   running = c.requires.running;
   round = c.requires.fresh;
   config = refl;
   told = c.requires.told;
-  stood = stood_yet (g.S.Shim.state c.args.shim.now) (g.O.Sink.faults c.args.out.now) (g.E.Sink.faults c.args.err.now);
+  stood = stood_yet (g.S.Shim.state c.args.shim.now) (g.O.Sink.faults c.args.out.now)
+      (g.E.Sink.faults c.args.err.now);
   follows = g.met.S.Shim.reflexive c.args.shim.now;
 }
 
 pub returns-in_err-run_round-clause-asks : goal.returns-in_err-run_round-clause-asks
 returns-in_err-run_round-clause-asks g c =
     let p = err_from_is_err_and c.from_residual.result c.from_residual.ensures.1 in
-    rw (p.1, p.2) (some_weaker _ (λ stopped. round_stops c.args.kernel.now.config c.args.kernel.now.config.rounds _ c.args.kernel.now.state c.loop-round.kernel.state _ _
-    (some_at c.args.kernel.now.config c.args.kernel.now.config.rounds c.loop-round._round c.args.kernel.now.state c.loop-round.kernel.state _ _ (below c.args.kernel.now.config c.config-rounds.result c.loop-round._round c.config-rounds.ensures c.loop-round-test.true) c.loop-round.invariant.runs)
-    c.requires.fresh refl _ _ (stopped_so c.args.kernel.now.config c.loop-round.kernel.config c.loop-round.kernel.state _ _ _ c.loop-round.invariant.config stopped)) c.in_err-run_round.ensures.asks)
+    rw (p.1, p.2) (some_weaker _
+    (λ stopped.
+    round_stops c.args.kernel.now.config c.args.kernel.now.config.rounds _
+    c.args.kernel.now.state c.loop-round.kernel.state _ _
+    (some_at c.args.kernel.now.config c.args.kernel.now.config.rounds c.loop-round._round
+    c.args.kernel.now.state c.loop-round.kernel.state _ _
+    (below c.args.kernel.now.config c.config-rounds.result c.loop-round._round
+    c.config-rounds.ensures c.loop-round-test.true) c.loop-round.invariant.runs)
+    c.requires.fresh refl _ _
+    (stopped_so c.args.kernel.now.config c.loop-round.kernel.config
+    c.loop-round.kernel.state _ _ _ c.loop-round.invariant.config stopped))
+    c.in_err-run_round.ensures.asks)
 
 pub returns-in_err-run_round-clause-cut : goal.returns-in_err-run_round-clause-cut
 returns-in_err-run_round-clause-cut g c =
     on_err c.from_residual.result _
-    (round_cut c.args.kernel.now.config c.args.kernel.now.config.rounds _ c.args.kernel.now.state c.loop-round.kernel.state _ _
-    (some_at c.args.kernel.now.config c.args.kernel.now.config.rounds c.loop-round._round c.args.kernel.now.state c.loop-round.kernel.state _ _ (below c.args.kernel.now.config c.config-rounds.result c.loop-round._round c.config-rounds.ensures c.loop-round-test.true) c.loop-round.invariant.runs)
-    c.requires.fresh refl _ (cut_so c.args.kernel.now.config c.loop-round.kernel.config c.loop-round.kernel.state _ _ c.loop-round.invariant.config c.in_err-run_round.ensures.cut))
+    (round_cut c.args.kernel.now.config c.args.kernel.now.config.rounds _ c.args.kernel.now.state
+    c.loop-round.kernel.state _ _
+    (some_at c.args.kernel.now.config c.args.kernel.now.config.rounds c.loop-round._round
+    c.args.kernel.now.state c.loop-round.kernel.state _ _
+    (below c.args.kernel.now.config c.config-rounds.result c.loop-round._round
+    c.config-rounds.ensures c.loop-round-test.true) c.loop-round.invariant.runs)
+    c.requires.fresh refl _
+    (cut_so c.args.kernel.now.config c.loop-round.kernel.config c.loop-round.kernel.state _
+    _ c.loop-round.invariant.config c.in_err-run_round.ensures.cut))
 
 pub returns-in-Done-clause-runs : goal.returns-in-Done-clause-runs
 returns-in-Done-clause-runs g c =
-    round_ends c.args.kernel.now.config c.args.kernel.now.config.rounds _ c.args.kernel.now.state c.loop-round.kernel.state _ _
-    (some_at c.args.kernel.now.config c.args.kernel.now.config.rounds c.loop-round._round c.args.kernel.now.state c.loop-round.kernel.state _ _ (below c.args.kernel.now.config c.config-rounds.result c.loop-round._round c.config-rounds.ensures c.loop-round-test.true) c.loop-round.invariant.runs)
-    c.requires.fresh refl c.run_round.new.kernel.state _ (round_so c.args.kernel.now.config c.loop-round.kernel.config c.loop-round.kernel.state c.run_round.new.kernel.state _ _ c.in_ok-run_round.field-0 Done c.loop-round.invariant.config c.in-Done.is c.in_ok-run_round.ensures.runs)
+    round_ends c.args.kernel.now.config c.args.kernel.now.config.rounds _ c.args.kernel.now.state
+    c.loop-round.kernel.state _ _
+    (some_at c.args.kernel.now.config c.args.kernel.now.config.rounds c.loop-round._round
+    c.args.kernel.now.state c.loop-round.kernel.state _ _
+    (below c.args.kernel.now.config c.config-rounds.result c.loop-round._round
+    c.config-rounds.ensures c.loop-round-test.true) c.loop-round.invariant.runs)
+    c.requires.fresh refl c.run_round.new.kernel.state _
+    (round_so c.args.kernel.now.config c.loop-round.kernel.config c.loop-round.kernel.state
+    c.run_round.new.kernel.state _ _ c.in_ok-run_round.field-0 Done
+    c.loop-round.invariant.config c.in-Done.is c.in_ok-run_round.ensures.runs)
 
 pub returns-in-Stalled-clause-runs : goal.returns-in-Stalled-clause-runs
 returns-in-Stalled-clause-runs g c =
-    round_stalls c.args.kernel.now.config c.args.kernel.now.config.rounds _ c.args.kernel.now.state c.loop-round.kernel.state _ _
-    (some_at c.args.kernel.now.config c.args.kernel.now.config.rounds c.loop-round._round c.args.kernel.now.state c.loop-round.kernel.state _ _ (below c.args.kernel.now.config c.config-rounds.result c.loop-round._round c.config-rounds.ensures c.loop-round-test.true) c.loop-round.invariant.runs)
-    c.requires.fresh refl c.run_round.new.kernel.state _ (round_so c.args.kernel.now.config c.loop-round.kernel.config c.loop-round.kernel.state c.run_round.new.kernel.state _ _ c.in_ok-run_round.field-0 Stalled c.loop-round.invariant.config c.in-Stalled.is c.in_ok-run_round.ensures.runs)
+    round_stalls c.args.kernel.now.config c.args.kernel.now.config.rounds _ c.args.kernel.now.state
+    c.loop-round.kernel.state _ _
+    (some_at c.args.kernel.now.config c.args.kernel.now.config.rounds c.loop-round._round
+    c.args.kernel.now.state c.loop-round.kernel.state _ _
+    (below c.args.kernel.now.config c.config-rounds.result c.loop-round._round
+    c.config-rounds.ensures c.loop-round-test.true) c.loop-round.invariant.runs)
+    c.requires.fresh refl c.run_round.new.kernel.state _
+    (round_so c.args.kernel.now.config c.loop-round.kernel.config c.loop-round.kernel.state
+    c.run_round.new.kernel.state _ _ c.in_ok-run_round.field-0 Stalled
+    c.loop-round.invariant.config c.in-Stalled.is c.in_ok-run_round.ensures.runs)
 
 pub loop-round-preserved : goal.loop-round-preserved
 loop-round-preserved g c = record {
   runs =
-      round_more c.args.kernel.now.config c.args.kernel.now.config.rounds _ c.args.kernel.now.state c.loop-round.kernel.state _ _
-      (some_at c.args.kernel.now.config c.args.kernel.now.config.rounds c.loop-round._round c.args.kernel.now.state c.loop-round.kernel.state _ _ (below c.args.kernel.now.config c.config-rounds.result c.loop-round._round c.config-rounds.ensures c.loop-round-test.true) c.loop-round.invariant.runs)
-      c.run_round.new.kernel.state _ (round_so c.args.kernel.now.config c.loop-round.kernel.config c.loop-round.kernel.state c.run_round.new.kernel.state _ _ c.in_ok-run_round.field-0 Went c.loop-round.invariant.config c.in-Went.is c.in_ok-run_round.ensures.runs);
+      round_more c.args.kernel.now.config c.args.kernel.now.config.rounds _ c.args.kernel.now.state
+      c.loop-round.kernel.state _ _
+      (some_at c.args.kernel.now.config c.args.kernel.now.config.rounds c.loop-round._round
+      c.args.kernel.now.state c.loop-round.kernel.state _ _
+      (below c.args.kernel.now.config c.config-rounds.result c.loop-round._round
+      c.config-rounds.ensures c.loop-round-test.true) c.loop-round.invariant.runs)
+      c.run_round.new.kernel.state _
+      (round_so c.args.kernel.now.config c.loop-round.kernel.config
+      c.loop-round.kernel.state c.run_round.new.kernel.state _ _
+      c.in_ok-run_round.field-0 Went c.loop-round.invariant.config c.in-Went.is
+      c.in_ok-run_round.ensures.runs);
   running = c.run_round.ensures.failed ∙ ap is_err c.in_ok-run_round.was;
-  round = c.in_ok-run_round.ensures.round ∙ ap (λ end. next_round end c.loop-round.kernel.state.round) c.in-Went.is ∙ ap (λ n. n + 1) c.loop-round.invariant.round;
+  round = c.in_ok-run_round.ensures.round
+      ∙ ap (λ end. next_round end c.loop-round.kernel.state.round) c.in-Went.is
+      ∙ ap (λ n. n + 1) c.loop-round.invariant.round;
   config = c.run_round.ensures.config ∙ c.loop-round.invariant.config;
   told = c.in_ok-run_round.ensures.told;
-  stood = stood_then c.in_ok-run_round.field-0 _ _ _ _ _ _ _ _ _ c.loop-round.invariant.stood c.in_ok-run_round.ensures.causes;
-  follows = g.met.S.Shim.transitive _ _ _ c.loop-round.invariant.follows c.run_round.ensures.follows;
+  stood = stood_then c.in_ok-run_round.field-0 _ _ _ _ _ _ _ _ _ c.loop-round.invariant.stood
+      c.in_ok-run_round.ensures.causes;
+  follows = g.met.S.Shim.transitive _ _ _ c.loop-round.invariant.follows
+      c.run_round.ensures.follows;
 }
 
 -- no round of the configuration is left
-past : (config read : Config) (round : ℕ) → read ≡ config → read.rounds ≤ round → config.rounds ≤ round
+past : (config read : Config) (round : ℕ) → read ≡ config → read.rounds ≤ round
+    → config.rounds ≤ round
 past config read round same le = subst (λ (c : Config). c.rounds ≤ round) same le
 
 pub returns-clause-runs : goal.returns-clause-runs
 returns-clause-runs g c =
-    rounds_over c.args.kernel.now.config c.args.kernel.now.config.rounds c.args.kernel.now.state c.loop-round.kernel.state _ _ c.limit_ending.result c.requires.fresh refl c.limit_ending.ensures.ending
-    (none_left c.args.kernel.now.config c.args.kernel.now.config.rounds c.loop-round._round c.args.kernel.now.state c.loop-round.kernel.state _ _ (past c.args.kernel.now.config c.config-rounds.result c.loop-round._round c.config-rounds.ensures c.loop-round-test.false) c.loop-round.invariant.runs)
+    rounds_over c.args.kernel.now.config c.args.kernel.now.config.rounds c.args.kernel.now.state
+    c.loop-round.kernel.state _ _ c.limit_ending.result c.requires.fresh refl
+    c.limit_ending.ensures.ending
+    (none_left c.args.kernel.now.config c.args.kernel.now.config.rounds c.loop-round._round
+    c.args.kernel.now.state c.loop-round.kernel.state _ _
+    (past c.args.kernel.now.config c.config-rounds.result c.loop-round._round
+    c.config-rounds.ensures c.loop-round-test.false) c.loop-round.invariant.runs)

@@ -7,11 +7,15 @@ use Rattle.dpg_run.proofs.run.run_rounds.Given as goal
 
 abbrev pub invariant-loop-round : goal.invariant-loop-round
 invariant-loop-round g l = record {
-  runs : RanSome l.fn.kernel.config l.fn.kernel.config.rounds l.fn.kernel.state (telling (g.S.Shim.state l.fn.shim).told (g.O.Sink.told l.fn.out) (g.E.Sink.told l.fn.err)) (l.fn.kernel.config.rounds - l._round) l.kernel.state (telling (g.S.Shim.state l.shim).told (g.O.Sink.told l.out) (g.E.Sink.told l.err));
+  runs : RanSome l.fn.kernel.config l.fn.kernel.config.rounds l.fn.kernel.state
+      (telling (g.S.Shim.state l.fn.shim).told (g.O.Sink.told l.fn.out)
+      (g.E.Sink.told l.fn.err)) (l.fn.kernel.config.rounds - l._round) l.kernel.state
+      (telling (g.S.Shim.state l.shim).told (g.O.Sink.told l.out) (g.E.Sink.told l.err));
   running : l.kernel.failed ≡ false;
   round : l.kernel.state.round ≡ l._round + 1;
   config : l.kernel.config ≡ l.fn.kernel.config;
   told : HasNoEnd (g.S.Shim.state l.shim).told;
-  stood : HaveStood (g.S.Shim.state l.fn.shim) (g.S.Shim.state l.shim) (g.O.Sink.faults l.fn.out) (g.O.Sink.faults l.out) (g.E.Sink.faults l.fn.err) (g.E.Sink.faults l.err);
+  stood : HaveStood (g.S.Shim.state l.fn.shim) (g.S.Shim.state l.shim) (g.O.Sink.faults l.fn.out)
+      (g.O.Sink.faults l.out) (g.E.Sink.faults l.fn.err) (g.E.Sink.faults l.err);
   follows : g.S.Shim.follows l.fn.shim l.shim;
 }

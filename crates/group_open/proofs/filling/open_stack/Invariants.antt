@@ -5,4 +5,5 @@ use Rattle.group_open.proofs.filling.open_stack.Given as goal
 
 -- the pages so far
 abbrev pub invariant-loop-page : goal.invariant-loop-page
-invariant-loop-page l = OpensStack l.fn.frames l.frames l.fn.table l.table l.opened.pid l.opened.tid (run_of 0xEFFF0 (l.page - 0xEFFF0))
+invariant-loop-page l = OpensStack l.fn.frames l.frames l.fn.table l.table l.opened.pid l.opened.tid
+    (run_of 0xEFFF0 (l.page - 0xEFFF0))

@@ -7,11 +7,17 @@ use Rattle.group_open.proofs.filling.take_filled.Goals as goal
 
 pub lend_mut-requires : goal.lend_mut-requires
 lend_mut-requires c =
-    let frame = c.take_frame-frame.result in
-    (zero_page, ap (λ (s : Store). slice_get s.pages frame) c.take_frame-frame.ensures.becomes ∙ taken_is_zero c.args.frames.now c.args.tid frame c.requires.room c.take_frame-frame.ensures.lowest)
+    let frame = c.take_frame-frame.result in (
+      zero_page,
+      ap (λ (s : Store). slice_get s.pages frame) c.take_frame-frame.ensures.becomes
+          ∙ taken_is_zero c.args.frames.now c.args.tid frame c.requires.room
+          c.take_frame-frame.ensures.lowest,
+    )
 
 pub fill_page-requires-clause-zero : goal.fill_page-requires-clause-zero
 fill_page-requires-clause-zero c =
     let frame = c.take_frame-frame.result in
-    zero_shown c.lend_mut.result.now c.args.frames.now c.args.tid frame c.requires.room c.take_frame-frame.ensures.lowest
-    (sym (ap (λ (s : Store). slice_get s.pages frame) c.take_frame-frame.ensures.becomes) ∙ c.lend_mut.ensures.page)
+    zero_shown c.lend_mut.result.now c.args.frames.now c.args.tid frame c.requires.room
+    c.take_frame-frame.ensures.lowest
+    (sym (ap (λ (s : Store). slice_get s.pages frame) c.take_frame-frame.ensures.becomes)
+    ∙ c.lend_mut.ensures.page)

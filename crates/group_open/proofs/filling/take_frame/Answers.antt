@@ -4,4 +4,6 @@ use Rattle.group_open.proofs.FillingLaws.{has_lowest}
 use Rattle.group_open.proofs.filling.take_frame.Goals as goal
 
 pub unreachable-requires : goal.unreachable-requires
-unreachable-requires c = false≢true (subst IsSome (sym c.fresh.ensures.found ∙ c.in-None.is) (has_lowest c.args.frames.now c.requires))
+unreachable-requires c = false≢true
+    (subst IsSome (sym c.fresh.ensures.found ∙ c.in-None.is)
+    (has_lowest c.args.frames.now c.requires))

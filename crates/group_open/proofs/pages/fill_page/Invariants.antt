@@ -6,4 +6,7 @@ use Rattle.group_open.proofs.pages.fill_page.Given as goal
 
 -- the bytes of the parts so far
 abbrev pub invariant-loop-part : goal.invariant-loop-part
-invariant-loop-part l = (k : ℕ) → k < 4096 → get_or (whole l.target) k 0 ≡ part_byte (4096 * l.page + k) (find (covers (4096 * l.page + k)) (take l.part-index l.part-items))
+invariant-loop-part l = (k : ℕ) → k < 4096
+    → get_or (whole l.target) k 0
+    ≡ part_byte (4096 * l.page + k)
+    (find (covers (4096 * l.page + k)) (take l.part-index l.part-items))

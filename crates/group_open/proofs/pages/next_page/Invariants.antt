@@ -6,4 +6,5 @@ use Rattle.group_open.proofs.pages.next_page.Given as goal
 
 -- the least page of the parts so far
 abbrev pub invariant-loop-part : goal.invariant-loop-part
-invariant-loop-part l = l.next ≡ least_from l.from (flat_map pages_touched (take l.part-index l.part-items))
+invariant-loop-part l = l.next
+    ≡ least_from l.from (flat_map pages_touched (take l.part-index l.part-items))

@@ -1,16 +1,46 @@
 use Rattle.std.proofs.Common.{ℕ, List, subst}
-use Rattle.std.proofs.lemmas.Result.{on_ok_weaker}
+use Rattle.std.proofs.lemmas.Result.{on_ok_weaker, on_err_weaker}
 use Rattle.dos_world.specs.Play.{done}
 use Rattle.round_core.specs.Rest.{serial_of}
+use Rattle.group_rounds.specs.Fronts.{CutPlay}
 use Rattle.group_rounds.specs.Going.{GoesTo, telling}
 use Rattle.group_rounds.specs.Kernels.{Held}
+use Rattle.group_rounds.proofs.FrontLaws.{cut_grew}
 use Rattle.group_rounds.proofs.kernel.serial_phase.Goals as goal
 
 pub returns-clause-goes : goal.returns-clause-goes
 returns-clause-goes g c =
-    let before = telling (g.S.Shim.state c.args.shim.now).told (g.O.Sink.told c.args.out.now) (g.E.Sink.told c.args.err.now) in
-    let after = telling (g.S.Shim.state c.serial_phase-served.new.shim).told (g.O.Sink.told c.serial_phase-served.new.out) (g.E.Sink.told c.serial_phase-served.new.err) in
+    let before = telling (g.S.Shim.state c.args.shim.now).told (g.O.Sink.told c.args.out.now)
+    (g.E.Sink.told c.args.err.now) in
+    let after = telling (g.S.Shim.state c.serial_phase-served.new.shim).told
+    (g.O.Sink.told c.serial_phase-served.new.out)
+    (g.E.Sink.told c.serial_phase-served.new.err) in
     on_ok_weaker c.serial_phase-served.result (λ goes.
-    subst (λ (k : Held). GoesTo k.config.quantum (λ w. serial_of w k.starters) k.state before (λ w. done w) c.serial_phase-served.new.state after) c.kernel.view_is
-    (subst (λ (starters : List ℕ). GoesTo c.kernel.inside.config.quantum (λ w. serial_of w starters) c.kernel.inside.state before (λ w. done w) c.serial_phase-served.new.state after) c.as_slice-starters.ensures.value
+    subst (λ (k : Held). GoesTo k.config.quantum (λ w. serial_of w k.starters) k.state before
+    (λ w. done w) c.serial_phase-served.new.state after) c.kernel.view_is
+    (subst (λ (starters : List ℕ). GoesTo c.kernel.inside.config.quantum
+    (λ w. serial_of w starters) c.kernel.inside.state before
+    (λ w. done w) c.serial_phase-served.new.state after)
+    c.as_slice-starters.ensures.value
     (goes c.kernel.inside.config.quantum))) c.serial_phase-served.ensures.goes
+
+pub returns-clause-cut : goal.returns-clause-cut
+returns-clause-cut g c =
+    let before =
+    telling (g.S.Shim.state c.args.shim.now).told (g.O.Sink.told c.args.out.now)
+    (g.E.Sink.told c.args.err.now) in
+    let after =
+    telling (g.S.Shim.state c.serial_phase-served.new.shim).told
+    (g.O.Sink.told c.serial_phase-served.new.out) (g.E.Sink.told c.serial_phase-served.new.err) in
+    on_err_weaker c.serial_phase-served.result (λ cut.
+    subst (λ (k : Held). CutPlay k.config.quantum (λ w. w) (λ w. serial_of w k.starters) k.state
+    before after) c.kernel.view_is
+    (subst (λ (starters : List ℕ). CutPlay c.kernel.inside.config.quantum (λ w. w)
+    (λ w. serial_of w starters) c.kernel.inside.state before after)
+    c.as_slice-starters.ensures.value
+    (cut c.kernel.inside.config.quantum))) c.serial_phase-served.ensures.cut
+
+pub returns-clause-grows : goal.returns-clause-grows
+returns-clause-grows g c = on_err_weaker c.serial_phase-served.result
+    (λ cut. cut_grew 0 (λ w. w) _ c.kernel.inside.state _ _ (cut 0))
+    c.serial_phase-served.ensures.cut

@@ -11,28 +11,50 @@ use Rattle.group_rounds.proofs.Sound.{sound_like, lives_by}
 use Rattle.group_rounds.proofs.part.begin.Goals as goal
 
 -- the budget of a thread whose registers change
-budget_stays : (o : Option Thread) → (elim (option_map (registers_by released) o) as (λ _. ℕ) [ None ↦ 0 | Some thread ↦ thread.budget ]) ≡ elim o as (λ _. ℕ) [ None ↦ 0 | Some thread ↦ thread.budget ]
+budget_stays : (o : Option Thread)
+    → (elim (option_map (registers_by released) o) as (λ _. ℕ) [
+      | None ↦ 0
+      | Some thread ↦ thread.budget
+    ])
+    ≡ elim o as (λ _. ℕ) [ None ↦ 0 | Some thread ↦ thread.budget ]
 budget_stays None = refl
 budget_stays (Some thread) = refl
 
 pub returns-clause-budget : goal.returns-clause-budget
 returns-clause-budget c =
     let s : State = c.args.state.now in
-    ap (λ (table : Tables). budget_in (record s { table = table }) c.args.tid) c.empty_reservation.ensures
-    ∙ ap (λ o. elim o as (λ _. ℕ) [ None ↦ 0 | Some thread ↦ thread.budget ]) (thread_in-by (registers_by released) s.table.threads c.args.tid)
+    ap (λ (table : Tables). budget_in (record s { table = table }) c.args.tid)
+    c.empty_reservation.ensures
+    ∙ ap (λ o. elim o as (λ _. ℕ) [ None ↦ 0 | Some thread ↦ thread.budget ])
+    (thread_in-by (registers_by released) s.table.threads c.args.tid)
     ∙ budget_stays (thread_in s.table.threads c.args.tid)
 
 pub returns-clause-sound : goal.returns-clause-sound
 returns-clause-sound c =
     let s : State = c.args.state.now in
     let home = c.requires.sound.home in
-    subst (λ (table : Tables). IsSound (record s { table = table })) (sym c.empty_reservation.ensures)
-    (sound_like s (record s { table = thread_by (registers_by released) s.table c.args.tid }) c.requires.sound (record { home = home; round = refl; room = refl; count = refl; uses = refl; processes = refl })
+    subst (λ (table : Tables). IsSound (record s { table = table }))
+    (sym c.empty_reservation.ensures)
+    (sound_like s (record s { table = thread_by (registers_by released) s.table c.args.tid })
+    c.requires.sound
+    (record {
+      home = home;
+      round = refl;
+      room = refl;
+      count = refl;
+      uses = refl;
+      processes = refl;
+      pipes = refl;
+    })
     (λ q both. record {
-      lawful = lawful-with_thread (registers_by released) released_change (world_of q s) c.args.tid both.lawful;
-      plain = plain-with_thread (registers_by released) released_change (world_of q s) c.args.tid both.plain;
+      lawful = lawful-with_thread (registers_by released) released_change
+          (world_of q s) c.args.tid both.lawful;
+      plain = plain-with_thread (registers_by released) released_change
+          (world_of q s) c.args.tid both.plain;
     }))
 
 pub returns-clause-live : goal.returns-clause-live
 returns-clause-live c =
-    subst (λ (table : Tables). IsThread table.threads c.args.tid) (sym c.empty_reservation.ensures) (lives_by (registers_by released) c.args.state.now.table.threads c.args.tid c.args.tid c.requires.live)
+    subst (λ (table : Tables). IsThread table.threads c.args.tid) (sym c.empty_reservation.ensures)
+    (lives_by (registers_by released) c.args.state.now.table.threads c.args.tid c.args.tid
+    c.requires.live)

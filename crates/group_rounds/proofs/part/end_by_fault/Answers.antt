@@ -8,9 +8,14 @@ use Rattle.group_rounds.proofs.part.end_by_fault.Goals as goal
 pub returns-clause-ends : goal.returns-clause-ends
 returns-clause-ends c = λ q o e.
     let here = seen c.args.state.now c.args.tid c.requires.sound c.requires.live in
-    let pid : c.process_of-pid.result ≡ here.thread.process = process_is c.args.state.now c.args.tid c.requires.sound c.requires.live c.process_of-pid.result c.process_of-pid.ensures in
-    ap (λ p. process_ended (sent o e (world_of q c.args.state.now)) p (128 + c.args.number)) (ap (λ o. elim o as (λ _. ℕ) [ None ↦ 0 | Some thread ↦ thread.process ]) here.is ∙ sym pid)
+    let pid : c.process_of-pid.result ≡ here.thread.process =
+    process_is c.args.state.now c.args.tid c.requires.sound c.requires.live
+    c.process_of-pid.result c.process_of-pid.ensures in
+    ap (λ p. process_ended (sent o e (world_of q c.args.state.now)) p (128 + c.args.number))
+    (ap (λ o. elim o as (λ _. ℕ) [ None ↦ 0 | Some thread ↦ thread.process ]) here.is
+    ∙ sym pid)
     ∙ c.end_process.ensures.ends q o e
 
 pub returns-clause-count : goal.returns-clause-count
-returns-clause-count c = fault_count c.args.state.now c.end_process.new.state c.process_of-pid.result (128 + c.args.number) (c.end_process.ensures.ends 0 [] [])
+returns-clause-count c = fault_count c.args.state.now c.end_process.new.state
+    c.process_of-pid.result (128 + c.args.number) (c.end_process.ensures.ends 0 [] [])

@@ -13,9 +13,13 @@ invariant-loop-reason g l = record {
   live : IsThread l.state.table.threads l.fn.tid;
   round : l.state.round ≡ l.fn.state.round;
   count : KeepsCount l.fn.state l.state;
-  goes : (q : ℕ) → GoesTo q (λ w. rest_of w l.fn.tid) l.fn.state (telling (g.S.Shim.state l.fn.shim).told (g.O.Sink.told l.fn.out) (g.E.Sink.told l.fn.err)) (turns_left l.fn.tid) l.state (telling (g.S.Shim.state l.shim).told (g.O.Sink.told l.out) (g.E.Sink.told l.err));
+  goes : (q : ℕ) → GoesTo q (λ w. rest_of w l.fn.tid) l.fn.state
+      (telling (g.S.Shim.state l.fn.shim).told (g.O.Sink.told l.fn.out)
+      (g.E.Sink.told l.fn.err)) (turns_left l.fn.tid) l.state
+      (telling (g.S.Shim.state l.shim).told (g.O.Sink.told l.out) (g.E.Sink.told l.err));
   told : (g.S.Shim.state l.shim).told ≡ (g.S.Shim.state l.fn.shim).told;
-  stood : HaveStood (g.S.Shim.state l.fn.shim) (g.S.Shim.state l.shim) (g.O.Sink.faults l.fn.out) (g.O.Sink.faults l.out) (g.E.Sink.faults l.fn.err) (g.E.Sink.faults l.err);
+  stood : HaveStood (g.S.Shim.state l.fn.shim) (g.S.Shim.state l.shim) (g.O.Sink.faults l.fn.out)
+      (g.O.Sink.faults l.out) (g.E.Sink.faults l.fn.err) (g.E.Sink.faults l.err);
   follows : g.S.Shim.follows l.fn.shim l.shim;
 }
 

@@ -6,26 +6,36 @@ use Rattle.group_rounds.proofs.part.grant.Goals as goal
 
 pub grant-requires : goal.grant-requires
 grant-requires c =
-    owned_one c.args.state.now c.args.tid c.requires.sound c.requires.live c.args.address c.args.access c.space.result.now.entries
-    (space_is c.args.state.now c.args.tid c.requires.sound c.requires.live c.process_of-pid.result c.space.result.now.entries c.process_of-pid.ensures c.space.ensures.entries)
+    owned_one c.args.state.now c.args.tid c.requires.sound c.requires.live c.args.address
+    c.args.access c.space.result.now.entries
+    (space_is c.args.state.now c.args.tid c.requires.sound c.requires.live c.process_of-pid.result
+    c.space.result.now.entries c.process_of-pid.ensures c.space.ensures.entries)
     c.in-Some.entry (sym c.look.ensures ∙ c.in-Some.is)
 
 pub returns-in-Some-clause-grants : goal.returns-in-Some-clause-grants
 returns-in-Some-clause-grants c = λ q o e.
-    granted_one c.args.state.now c.args.tid c.requires.sound c.requires.live c.args.address c.args.access c.space.result.now.entries
-    (space_is c.args.state.now c.args.tid c.requires.sound c.requires.live c.process_of-pid.result c.space.result.now.entries c.process_of-pid.ensures c.space.ensures.entries)
+    granted_one c.args.state.now c.args.tid c.requires.sound c.requires.live c.args.address
+    c.args.access c.space.result.now.entries
+    (space_is c.args.state.now c.args.tid c.requires.sound c.requires.live c.process_of-pid.result
+    c.space.result.now.entries c.process_of-pid.ensures c.space.ensures.entries)
     c.in-Some.entry (sym c.look.ensures ∙ c.in-Some.is) q o e
-    ∙ ap (λ (frames : Store). sent o e (world_of q (record c.args.state.now { frames = frames }))) (sym c.grant.ensures)
+    ∙ ap (λ (frames : Store). sent o e (world_of q (record c.args.state.now { frames = frames })))
+    (sym c.grant.ensures)
 
 pub returns-in-Some-clause-sound : goal.returns-in-Some-clause-sound
 returns-in-Some-clause-sound c =
-    subst (λ (frames : Store). IsSound (record c.args.state.now { frames = frames })) (sym c.grant.ensures)
-    (sound_granted c.args.state.now c.args.tid c.requires.sound c.requires.live c.args.address c.args.access c.space.result.now.entries
-    (space_is c.args.state.now c.args.tid c.requires.sound c.requires.live c.process_of-pid.result c.space.result.now.entries c.process_of-pid.ensures c.space.ensures.entries)
+    subst (λ (frames : Store). IsSound (record c.args.state.now { frames = frames }))
+    (sym c.grant.ensures)
+    (sound_granted c.args.state.now c.args.tid c.requires.sound c.requires.live c.args.address
+    c.args.access c.space.result.now.entries
+    (space_is c.args.state.now c.args.tid c.requires.sound c.requires.live c.process_of-pid.result
+    c.space.result.now.entries c.process_of-pid.ensures c.space.ensures.entries)
     c.in-Some.entry (sym c.look.ensures ∙ c.in-Some.is))
 
 pub returns-in_default-clause-grants : goal.returns-in_default-clause-grants
 returns-in_default-clause-grants c =
-    granted_none c.args.state.now c.args.tid c.requires.sound c.requires.live c.args.address c.args.access c.space.result.now.entries
-    (space_is c.args.state.now c.args.tid c.requires.sound c.requires.live c.process_of-pid.result c.space.result.now.entries c.process_of-pid.ensures c.space.ensures.entries)
+    granted_none c.args.state.now c.args.tid c.requires.sound c.requires.live c.args.address
+    c.args.access c.space.result.now.entries
+    (space_is c.args.state.now c.args.tid c.requires.sound c.requires.live c.process_of-pid.result
+    c.space.result.now.entries c.process_of-pid.ensures c.space.ensures.entries)
     (sym c.look.ensures ∙ c.in_default.is)

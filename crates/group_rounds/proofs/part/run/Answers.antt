@@ -4,24 +4,40 @@ use Rattle.group_rounds.proofs.part.run.Goals as goal
 
 pub run_until_stop-reason-requires-clause-mapped : goal.run_until_stop-reason-requires-clause-mapped
 run_until_stop-reason-requires-clause-mapped c =
-    mapped c.args.state.now c.args.tid c.requires.sound c.requires.live c.space-space.result.now.entries
-    (space_is c.args.state.now c.args.tid c.requires.sound c.requires.live c.process_of-pid.result c.space-space.result.now.entries c.process_of-pid.ensures c.space-space.ensures.entries)
+    mapped c.args.state.now c.args.tid c.requires.sound c.requires.live
+    c.space-space.result.now.entries
+    (space_is c.args.state.now c.args.tid c.requires.sound c.requires.live c.process_of-pid.result
+    c.space-space.result.now.entries c.process_of-pid.ensures
+    c.space-space.ensures.entries)
 
 -- ---- what was read of the thread
 
-its_space : (c : goal.After-set_run) → c.space-space.result.now.entries ≡ (seen c.args.state.now c.args.tid c.requires.sound c.requires.live).holdings.space
-its_space c = space_is c.args.state.now c.args.tid c.requires.sound c.requires.live c.process_of-pid.result c.space-space.result.now.entries c.process_of-pid.ensures c.space-space.ensures.entries
+its_space : (c : goal.After-set_run)
+    → c.space-space.result.now.entries
+    ≡ (seen c.args.state.now c.args.tid c.requires.sound c.requires.live).holdings.space
+its_space c = space_is c.args.state.now c.args.tid c.requires.sound c.requires.live
+    c.process_of-pid.result c.space-space.result.now.entries c.process_of-pid.ensures
+    c.space-space.ensures.entries
 
-its_registers : (c : goal.After-set_run) → c.regs.result.now ≡ (seen c.args.state.now c.args.tid c.requires.sound c.requires.live).thread.registers
-its_registers c = registers_is c.args.state.now c.args.tid c.requires.sound c.requires.live c.regs.result.now c.regs.ensures
+its_registers : (c : goal.After-set_run)
+    → c.regs.result.now ≡
+    (seen c.args.state.now c.args.tid c.requires.sound c.requires.live).thread.registers
+its_registers c = registers_is c.args.state.now c.args.tid c.requires.sound c.requires.live
+    c.regs.result.now c.regs.ensures
 
-its_budget : (c : goal.After-set_run) → c.budget-budget.result ≡ (seen c.args.state.now c.args.tid c.requires.sound c.requires.live).thread.budget
-its_budget c = own_budget c.args.state.now c.args.tid c.requires.sound c.requires.live c.budget-budget.result c.budget-budget.ensures
+its_budget : (c : goal.After-set_run)
+    → c.budget-budget.result
+    ≡ (seen c.args.state.now c.args.tid c.requires.sound c.requires.live).thread.budget
+its_budget c = own_budget c.args.state.now c.args.tid c.requires.sound c.requires.live
+    c.budget-budget.result c.budget-budget.ensures
 
 -- ---- what the calls leave
 
 left : (c : goal.After-set_run)
-    → IsRunFrom c.args.state.now c.args.tid c.space-space.result.now.entries c.regs.result.now c.budget-budget.result c.run_until_stop-reason.new.frames c.set_run.new.self c.run_until_stop-reason.new.regs c.run_until_stop-reason.new.budget c.run_until_stop-reason.result
+    → IsRunFrom c.args.state.now c.args.tid c.space-space.result.now.entries c.regs.result.now
+    c.budget-budget.result c.run_until_stop-reason.new.frames c.set_run.new.self
+    c.run_until_stop-reason.new.regs c.run_until_stop-reason.new.budget
+    c.run_until_stop-reason.result
 left c = record {
   runs = c.run_until_stop-reason.ensures.runs;
   stop = c.run_until_stop-reason.ensures.stop;
@@ -34,10 +50,16 @@ left c = record {
 }
 
 pub returns-clause-ran : goal.returns-clause-ran
-returns-clause-ran c = run_after c.args.state.now c.args.tid c.requires.sound c.requires.live c.space-space.result.now.entries c.regs.result.now c.budget-budget.result _ _ _ _ _ (its_space c) (its_registers c) (its_budget c) (left c)
+returns-clause-ran c = run_after c.args.state.now c.args.tid c.requires.sound c.requires.live
+    c.space-space.result.now.entries c.regs.result.now c.budget-budget.result _ _ _ _ _
+    (its_space c) (its_registers c) (its_budget c) (left c)
 
 pub returns-clause-sound : goal.returns-clause-sound
-returns-clause-sound c = sound_after c.args.state.now c.args.tid c.requires.sound c.requires.live c.space-space.result.now.entries c.regs.result.now c.budget-budget.result _ _ _ _ _ (its_space c) (its_registers c) (its_budget c) (left c)
+returns-clause-sound c = sound_after c.args.state.now c.args.tid c.requires.sound c.requires.live
+    c.space-space.result.now.entries c.regs.result.now c.budget-budget.result _ _ _ _ _
+    (its_space c) (its_registers c) (its_budget c) (left c)
 
 pub returns-clause-live : goal.returns-clause-live
-returns-clause-live c = live_after c.args.state.now c.args.tid c.requires.sound c.requires.live c.space-space.result.now.entries c.regs.result.now c.budget-budget.result _ _ _ _ _ (its_space c) (its_registers c) (its_budget c) (left c)
+returns-clause-live c = live_after c.args.state.now c.args.tid c.requires.sound c.requires.live
+    c.space-space.result.now.entries c.regs.result.now c.budget-budget.result _ _ _ _ _
+    (its_space c) (its_registers c) (its_budget c) (left c)

@@ -1,37 +1,48 @@
 use Rattle.std.proofs.Common.{◌∙◌, refl}
 use Rattle.group_rounds.specs.Going.{telling}
-use Rattle.group_rounds.proofs.GoingLaws.{grown_behind, on_err}
+use Rattle.group_rounds.proofs.GoingLaws.{on_err}
 use Rattle.group_rounds.proofs.CauseLaws.{stood_yet, stood_then}
-use Rattle.group_rounds.proofs.PhaseLaws.{serial_starts, serial_next, serial_ends}
+use Rattle.group_rounds.proofs.PhaseLaws.{serial_starts, serial_next, serial_ends, serial_cut}
 use Rattle.group_rounds.proofs.phases.serial_phase.Goals as goal
 
 pub loop-tid-init : goal.loop-tid-init
 loop-tid-init g c = record {
-  goes = λ q. serial_starts q c.args.state.now (telling (g.S.Shim.state c.args.shim.now).told (g.O.Sink.told c.args.out.now) (g.E.Sink.told c.args.err.now)) c.args.starters.now;
+  goes = λ q. serial_starts q c.args.state.now
+      (telling (g.S.Shim.state c.args.shim.now).told (g.O.Sink.told c.args.out.now)
+      (g.E.Sink.told c.args.err.now)) c.args.starters.now;
   sound = c.requires.sound;
   round = refl;
   count = refl;
   told = refl;
-  stood = stood_yet (g.S.Shim.state c.args.shim.now) (g.O.Sink.faults c.args.out.now) (g.E.Sink.faults c.args.err.now);
+  stood = stood_yet (g.S.Shim.state c.args.shim.now) (g.O.Sink.faults c.args.out.now)
+      (g.E.Sink.faults c.args.err.now);
   follows = g.met.S.Shim.reflexive c.args.shim.now;
 }
 
 pub loop-tid-preserved : goal.loop-tid-preserved
 loop-tid-preserved g c = record {
   goes = λ q.
-      serial_next q c.args.state.now c.loop-tid.state c.finish_if_live.new.state _ _ _ _ c.args.starters.now c.loop-tid.tid-index c.loop-tid-test.true refl (c.loop-tid.invariant.goes q) (c.in_ok-finish_if_live.ensures.goes q);
+      serial_next q c.args.state.now c.loop-tid.state c.finish_if_live.new.state _ _ _ _
+      c.args.starters.now c.loop-tid.tid-index c.loop-tid-test.true refl
+      (c.loop-tid.invariant.goes q) (c.in_ok-finish_if_live.ensures.goes q);
   sound = c.in_ok-finish_if_live.ensures.sound;
   round = c.finish_if_live.ensures.round ∙ c.loop-tid.invariant.round;
   count = c.in_ok-finish_if_live.ensures.count ∙ c.loop-tid.invariant.count;
   told = c.finish_if_live.ensures.told ∙ c.loop-tid.invariant.told;
-  stood = stood_then c.in_ok-finish_if_live.field-0 _ _ _ _ _ _ _ _ _ c.loop-tid.invariant.stood c.in_ok-finish_if_live.ensures.causes;
-  follows = g.met.S.Shim.transitive _ _ _ c.loop-tid.invariant.follows c.finish_if_live.ensures.follows;
+  stood = stood_then c.in_ok-finish_if_live.field-0 _ _ _ _ _ _ _ _ _ c.loop-tid.invariant.stood
+      c.in_ok-finish_if_live.ensures.causes;
+  follows = g.met.S.Shim.transitive _ _ _ c.loop-tid.invariant.follows
+      c.finish_if_live.ensures.follows;
 }
 
 pub returns-clause-goes : goal.returns-clause-goes
-returns-clause-goes g c = λ q. serial_ends q c.args.state.now c.loop-tid.state _ _ c.args.starters.now c.loop-tid.tid-index c.loop-tid-test.false (c.loop-tid.invariant.goes q)
+returns-clause-goes g c =
+    λ q. serial_ends q c.args.state.now c.loop-tid.state _ _ c.args.starters.now
+    c.loop-tid.tid-index c.loop-tid-test.false (c.loop-tid.invariant.goes q)
 
-pub returns-in_err-finish_if_live-clause-grows : goal.returns-in_err-finish_if_live-clause-grows
-returns-in_err-finish_if_live-clause-grows g c =
+pub returns-in_err-finish_if_live-clause-cut : goal.returns-in_err-finish_if_live-clause-cut
+returns-in_err-finish_if_live-clause-cut g c =
     on_err c.from_residual.result _
-    (grown_behind 0 _ _ c.args.state.now c.loop-tid.state _ _ _ _ (c.loop-tid.invariant.goes 0) c.in_err-finish_if_live.ensures.grows)
+    (λ q. serial_cut q c.args.state.now c.loop-tid.state _ _ _ _ c.args.starters.now
+    c.loop-tid.tid-index c.loop-tid-test.true refl (c.loop-tid.invariant.goes q)
+    (c.in_err-finish_if_live.ensures.cut q))

@@ -8,11 +8,15 @@ use Rattle.group_rounds.proofs.phases.serial_phase.Given as goal
 
 abbrev pub invariant-loop-tid : goal.invariant-loop-tid
 invariant-loop-tid g l = record {
-  goes : (q : ℕ) → GoesTo q (λ w. serial_of w l.fn.starters) l.fn.state (telling (g.S.Shim.state l.fn.shim).told (g.O.Sink.told l.fn.out) (g.E.Sink.told l.fn.err)) (λ w. serial_of w (drop l.tid-index l.fn.starters)) l.state (telling (g.S.Shim.state l.shim).told (g.O.Sink.told l.out) (g.E.Sink.told l.err));
+  goes : (q : ℕ) → GoesTo q (λ w. serial_of w l.fn.starters) l.fn.state
+      (telling (g.S.Shim.state l.fn.shim).told (g.O.Sink.told l.fn.out)
+      (g.E.Sink.told l.fn.err)) (λ w. serial_of w (drop l.tid-index l.fn.starters)) l.state
+      (telling (g.S.Shim.state l.shim).told (g.O.Sink.told l.out) (g.E.Sink.told l.err));
   sound : IsSound l.state;
   round : l.state.round ≡ l.fn.state.round;
   count : KeepsCount l.fn.state l.state;
   told : (g.S.Shim.state l.shim).told ≡ (g.S.Shim.state l.fn.shim).told;
-  stood : HaveStood (g.S.Shim.state l.fn.shim) (g.S.Shim.state l.shim) (g.O.Sink.faults l.fn.out) (g.O.Sink.faults l.out) (g.E.Sink.faults l.fn.err) (g.E.Sink.faults l.err);
+  stood : HaveStood (g.S.Shim.state l.fn.shim) (g.S.Shim.state l.shim) (g.O.Sink.faults l.fn.out)
+      (g.O.Sink.faults l.out) (g.E.Sink.faults l.fn.err) (g.E.Sink.faults l.err);
   follows : g.S.Shim.follows l.fn.shim l.shim;
 }

@@ -7,7 +7,8 @@ use Rattle.group_rounds.proofs.phases.set_budgets.Given as goal
 
 abbrev pub invariant-loop-tid : goal.invariant-loop-tid
 invariant-loop-tid l = record {
-  sets : (o e : List ℕ) → with_budgets (sent o e (world_of l.fn.quantum l.fn.state)) l.fn.starters ≡ with_budgets (sent o e (world_of l.fn.quantum l.state)) (drop l.tid-index l.fn.starters);
+  sets : (o e : List ℕ) → with_budgets (sent o e (world_of l.fn.quantum l.fn.state)) l.fn.starters
+      ≡ with_budgets (sent o e (world_of l.fn.quantum l.state)) (drop l.tid-index l.fn.starters);
   sound : IsSound l.state;
   round : l.state.round ≡ l.fn.state.round;
   count : KeepsCount l.fn.state l.state;

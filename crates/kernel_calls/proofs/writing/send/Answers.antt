@@ -4,27 +4,68 @@ use Rattle.dos_world.specs.declared.Access.TheVariants.{Load}
 use Rattle.kernel_mem.specs.Seen.{in_world}
 use Rattle.kernel_calls.specs.Serving.{base, sent}
 use Rattle.kernel_calls.specs.Calling.{asked_count}
-use Rattle.kernel_calls.proofs.Sending.{sent-nothing, sent-refusal, sent-bytes, answering, front_grown}
+use Rattle.kernel_calls.proofs.Sending.{sent-nothing, sent-refusal, sent-bytes, cut-bytes, answering}
 use Rattle.kernel_calls.proofs.writing.send.Goals as goal
 
 pub returns-then-count-eq0-clause-sends : goal.returns-then-count-eq0-clause-sends
-returns-then-count-eq0-clause-sends g c = sent-nothing c.args.state.now c.answer.new.state c.args.asked.now _ (sym c.min-count.ensures ∙ c.if-count-eq0.true) c.answer.ensures.answers
+returns-then-count-eq0-clause-sends g c =
+    sent-nothing c.args.state.now c.answer.new.state c.args.asked.now _
+    (sym c.min-count.ensures ∙ c.if-count-eq0.true) c.answer.ensures.answers
 
 pub returns-in-Ok-put-clause-sends : goal.returns-in-Ok-put-clause-sends
 returns-in-Ok-put-clause-sends g c =
     let same : c.min-count.result ≡ asked_count c.args.asked.now = c.min-count.ensures in
-    sent-bytes c.args.state.now c.take_in.new.state c.answer-in-Ok-put.new.state c.args.asked.now _ _ _ (λ e. c.if-count-eq0.false (same ∙ e))
-    (λ q o e. ap (λ n. all_reach (in_world (sent o e (base q c.args.state.now.round)) c.args.state.now.frames c.args.state.now.table) c.args.asked.now.thread c.args.asked.now.a1 n Load) (sym same) ∙ sym (c.in-Ok.ensures.reach (sent o e (base q c.args.state.now.round)) c.args.state.now.frames))
-    (λ w. ap (λ n. copied_in (in_world w c.args.state.now.frames c.args.state.now.table) c.args.asked.now.thread c.args.asked.now.a1 n) (sym same) ∙ c.take_in.ensures.copies w)
-    c.take_in.ensures.round c.in-Ok-put.ensures.ok
-    (c.answer-in-Ok-put.ensures.answers ∙ ap (answering c.take_in.new.state c.args.asked.now.thread) same)
+    sent-bytes c.args.state.now c.take_in.new.state c.answer-in-Ok-put.new.state c.args.asked.now _
+    _ _ (λ e. c.if-count-eq0.false (same ∙ e))
+    (λ q o e. ap (λ n. all_reach
+    (in_world
+    (sent o e
+    (base q c.args.state.now.round c.args.state.now.pipes.bytes
+    c.args.state.now.futexes)) c.args.state.now.frames
+    c.args.state.now.table) c.args.asked.now.thread c.args.asked.now.a1 n Load)
+    (sym same)
+    ∙ sym (c.in-Ok.ensures.reach
+    (sent o e
+    (base q c.args.state.now.round c.args.state.now.pipes.bytes
+    c.args.state.now.futexes)) c.args.state.now.frames))
+    (λ w. ap (λ n. copied_in
+    (in_world w c.args.state.now.frames c.args.state.now.table)
+    c.args.asked.now.thread c.args.asked.now.a1 n) (sym same)
+    ∙ c.take_in.ensures.copies w)
+    c.take_in.ensures.round c.take_in.ensures.stands c.in-Ok-put.ensures.ok
+    (c.answer-in-Ok-put.ensures.answers
+    ∙ ap (answering c.take_in.new.state c.args.asked.now.thread) same)
 
 pub returns-in-Err-clause-sends : goal.returns-in-Err-clause-sends
 returns-in-Err-clause-sends g c =
     let same : c.min-count.result ≡ asked_count c.args.asked.now = c.min-count.ensures in
-    sent-refusal c.args.state.now c.refuse.new.state c.args.asked.now _ (λ e. c.if-count-eq0.false (same ∙ e))
-    (λ q o e. ap (λ n. all_reach (in_world (sent o e (base q c.args.state.now.round)) c.args.state.now.frames c.args.state.now.table) c.args.asked.now.thread c.args.asked.now.a1 n Load) (sym same) ∙ sym (c.in-Err.ensures.reach (sent o e (base q c.args.state.now.round)) c.args.state.now.frames))
-    (let is : c.in-Err.number ≡ 14 = cc (c.in-Err.ensures.refusal) in c.refuse.ensures.answers ∙ ap (λ n. answering c.args.state.now c.args.asked.now.thread (minus n)) is)
+    sent-refusal c.args.state.now c.refuse.new.state c.args.asked.now _
+    (λ e. c.if-count-eq0.false (same ∙ e))
+    (λ q o e. ap (λ n. all_reach
+    (in_world
+    (sent o e
+    (base q c.args.state.now.round c.args.state.now.pipes.bytes
+    c.args.state.now.futexes)) c.args.state.now.frames
+    c.args.state.now.table) c.args.asked.now.thread c.args.asked.now.a1 n Load)
+    (sym same)
+    ∙ sym (c.in-Err.ensures.reach
+    (sent o e
+    (base q c.args.state.now.round c.args.state.now.pipes.bytes
+    c.args.state.now.futexes)) c.args.state.now.frames))
+    (let is : c.in-Err.number ≡ 14 = cc (c.in-Err.ensures.refusal) in
+    c.refuse.ensures.answers
+    ∙ ap (λ n. answering c.args.state.now c.args.asked.now.thread (minus n)) is)
 
-pub returns-in-Err-put-clause-grows : goal.returns-in-Err-put-clause-grows
-returns-in-Err-put-clause-grows g c = front_grown _ _ _ c.in-Err-put.ensures.err
+pub returns-in-Err-put-clause-cut : goal.returns-in-Err-put-clause-cut
+returns-in-Err-put-clause-cut g c =
+    let same : c.min-count.result ≡ asked_count c.args.asked.now = c.min-count.ensures in
+    cut-bytes c.args.state.now c.take_in.new.state c.args.asked.now _ _ _
+    (λ e. c.if-count-eq0.false (same ∙ e))
+    (λ q o e. ap (λ n. all_reach (in_world (sent o e (base q c.args.state.now.round
+    c.args.state.now.pipes.bytes c.args.state.now.futexes)) c.args.state.now.frames
+    c.args.state.now.table) c.args.asked.now.thread c.args.asked.now.a1 n Load) (sym same)
+    ∙ sym (c.in-Ok.ensures.reach (sent o e (base q c.args.state.now.round
+    c.args.state.now.pipes.bytes c.args.state.now.futexes)) c.args.state.now.frames))
+    (λ w. ap (λ n. copied_in (in_world w c.args.state.now.frames c.args.state.now.table)
+    c.args.asked.now.thread c.args.asked.now.a1 n) (sym same) ∙ c.take_in.ensures.copies w)
+    c.take_in.ensures.round c.take_in.ensures.stands c.in-Err-put.ensures.err

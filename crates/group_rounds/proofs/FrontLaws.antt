@@ -1,0 +1,223 @@
+-- The machine sends its bytes behind those that it has sent. So what is a front of them stays one,
+-- over any answers; and where a play was cut off, the sinks hold fronts of what the whole sends.
+use Rattle.std.proofs.Common.{ℕ, ◌≡◌, sym, ap, ◌∙◌, subst, List, [], ◌∷◌, ◌++◌, append-nil, append_assoc, Option, None}
+use Rattle.std.specs.Prelude.{map, ⊤}
+use Rattle.std.proofs.lemmas.List.{map-append}
+use Rattle.dos_world.specs.World.{World}
+use Rattle.dos_world.specs.Play.{Play, Answer, done, ask, ◌>>=◌, Outcome, gives, asks, over}
+use Rattle.dos_world.specs.Services.{Served as FlatServed, went, waits, yields, gone, service}
+use Rattle.dos_io.specs.declared.exchange.Exchange.{Exchange}
+use Rattle.dos_io.specs.Exchanges.{answer_of}
+use Rattle.dos_io.specs.Outside.{IsFront}
+use Rattle.dos_io.proofs.OutsideLaws.{grown-nothing, grown-front, front-behind, front-more, front-nothing}
+use Rattle.dos_laws.specs.Plays.{world_served, world_ended}
+use Rattle.round_core.specs.Rest.{turns, after_service, serial_of}
+use Rattle.round_core.specs.Round.{RoundEnd as FlatEnd, round_of}
+use Rattle.round_core.specs.Round.{went as went_on, finished, stalled}
+use Rattle.round_core.specs.Invariants.{Keeps, LeavesEnd}
+use Rattle.round_core.specs.Protocol.{Protocol, Allows}
+use Rattle.round_core.proofs.Allowed.{Comes, allows_less, over_comes}
+use Rattle.round_core.proofs.Keeps.{turns_keep, serial_keeps, round_keeps}
+use Rattle.round_core.proofs.SameRun.{sent_kept}
+use Rattle.round_core.proofs.Turning.{goes_on}
+use Rattle.kernel_calls.specs.Serving.{FaultsIn, HasFaulted, HaveGrown, sent, shim_stop, to_output, to_error, world_of}
+use Rattle.kernel_calls.specs.declared.state.RunStop.{RunStop}
+use Rattle.kernel_calls.specs.declared.state.RunStop.TheVariants.{HostFault, LogFull, Misfit, OutFault, ErrFault, Memory}
+use Rattle.kernel_calls.specs.declared.state.State.{State}
+use Rattle.group_rounds.specs.Fronts.{AreFrontsOf, CutPlay}
+use Rattle.group_rounds.specs.Going.{Telling, telling, GoesTo}
+use Rattle.group_rounds.proofs.GoesLaws.{goes-over_more}
+use Rattle.group_rounds.proofs.GoingLaws.{told_then}
+
+-- ---- the machine
+
+module _ (o e : List ℕ) where
+  -- By any question these bytes were sent, and maybe more behind them.
+  abbrev pub sending : Protocol
+  sending = record {
+    may = λ question output error. IsFront o output × IsFront e error;
+    answers = λ answer. ⊤;
+    posts = λ post. ⊤;
+    brings = λ answer is k d lt. tt;
+  }
+
+  abbrev pub HasSent : List ℕ → World → Type 0
+  HasSent ts w = IsFront o w.output × IsFront e w.error
+
+  pub fronts_kept : Keeps sending HasSent
+  fronts_kept =
+      sent_kept (λ q n built output error. IsFront o output × IsFront e error)
+      (record {
+        more_output = λ q n built output error bytes h. (front-more o output bytes h.0, h.1);
+        more_error = λ q n built output error bytes h. (h.0, front-more e error bytes h.1);
+      })
+      sending (λ number asks w h is question. h)
+
+  -- what a play comes to that sends them
+  pub fronts_over : {A : Type 0} (world : A → World) (given : List Answer) (play : Play A)
+      → Allows sending (λ a. HasSent [] (world a)) play → AreFrontsOf world o e (over given play)
+  fronts_over {A} world given play h =
+      by_outcome (over given play)
+      (over_comes sending (λ a. HasSent [] (world a)) given play h (λ k d lt. tt))
+    where
+      by_outcome : (x : Outcome A) → Comes sending (λ a. HasSent [] (world a)) x
+          → AreFrontsOf world o e x
+      by_outcome (gives a rest) h = h
+      by_outcome (asks question output error) h = h
+
+  -- one play and then another
+  pub fronts_then : {A B : Type 0} (world : A → World) (next_world : B → World)
+      (given : List Answer) (play : Play A) (next : A → Play B)
+      → AreFrontsOf world o e (over given play)
+      → ((a : A) (more : List Answer) → HasSent [] (world a)
+      → AreFrontsOf next_world o e (over more (next a)))
+      → AreFrontsOf next_world o e (over given (play >>= next))
+  fronts_then world next_world given (done a) next h each = each a given h
+  fronts_then world next_world [] (ask question output error after) next h each = h
+  fronts_then world next_world (answer ∷ given) (ask question output error after) next h each =
+      fronts_then world next_world given (after answer) next h each
+
+  -- what follows a service
+  pub fronts_after_service : (n t : ℕ) (served : FlatServed) (more : List Answer)
+      → HasSent [] (world_served served)
+      → AreFrontsOf (λ w. w) o e (over more (goes_on n t (after_service served)))
+  fronts_after_service n t (went w) more h =
+      fronts_over (λ w. w) more (turns n w t) (turns_keep sending HasSent fronts_kept n [] w t h)
+  fronts_after_service n t (waits w) more h = h
+  fronts_after_service n t (yields w) more h = h
+  fronts_after_service n t (gone w) more h = h
+
+  -- the serial parts of these threads
+  pub fronts_serial : (ts : List ℕ) (w : World) (more : List Answer) → HasSent [] w
+      → AreFrontsOf (λ w. w) o e (over more (serial_of w ts))
+  fronts_serial ts w more h =
+      fronts_over (λ w. w) more (serial_of w ts) (serial_keeps sending HasSent fronts_kept w ts h)
+
+  -- a round
+  pub fronts_round : (w : World) (more : List Answer) → HasSent [] w
+      → AreFrontsOf world_ended o e (over more (round_of w))
+  fronts_round w more h =
+      fronts_over world_ended more (round_of w)
+      (allows_less sending (LeavesEnd (HasSent [])) (λ end. HasSent [] (world_ended end))
+      (round_of w) by_end
+      (round_keeps sending HasSent fronts_kept w h h))
+    where
+      by_end : (end : FlatEnd) → LeavesEnd (HasSent []) end → HasSent [] (world_ended end)
+      by_end (went_on w work) h = subst (HasSent []) (sym h.1) h.2
+      by_end (finished w) h = h
+      by_end (stalled w) h = h
+
+-- ---- where a play was cut off
+
+-- after a play that went on
+pub cut_behind : {A : Type 0} (q : ℕ) (world : A → World) (play left : World → Play A)
+    (s s' : State) (t t' t'' : Telling)
+    → GoesTo q play s t left s' t' → CutPlay q world left s' t' t'' → CutPlay q world play s t t''
+cut_behind {A} q world play left s s' t t' t'' h k = record {
+  more = told_then t t' t'' h.more k.more;
+  fronts = λ o e.
+      subst (λ x. AreFrontsOf world x (e ++ (h.more.error ++ k.more.error)) (whole o e))
+      (append_assoc o h.more.output k.more.output)
+      (subst (λ x. AreFrontsOf world ((o ++ h.more.output) ++ k.more.output) x (whole o e))
+      (append_assoc e h.more.error k.more.error)
+      (subst (AreFrontsOf world ((o ++ h.more.output) ++ k.more.output)
+      ((e ++ h.more.error) ++ k.more.error))
+      (sym (whole_is o e)) (k.fronts (o ++ h.more.output) (e ++ h.more.error))));
+}
+  where
+    whole : (o e : List ℕ) → Outcome A
+    whole o e = over (map answer_of (h.more.exchanges ++ k.more.exchanges))
+        (play (sent o e (world_of q s)))
+
+    whole_is : (o e : List ℕ)
+        → whole o e
+        ≡ over (map answer_of k.more.exchanges)
+        (left (sent (o ++ h.more.output) (e ++ h.more.error) (world_of q s')))
+    whole_is o e =
+        ap (λ answers. over answers (play (sent o e (world_of q s))))
+        (map-append answer_of h.more.exchanges k.more.exchanges)
+        ∙ goes-over_more h.more.exchanges (map answer_of k.more.exchanges)
+        (play (sent o e (world_of q s)))
+        (left (sent (o ++ h.more.output) (e ++ h.more.error) (world_of q s'))) (h.goes o e)
+
+-- before another play
+pub cut_then : {A B : Type 0} (q : ℕ) (world : A → World) (next_world : B → World)
+    (play : World → Play A) (next : A → Play B) (s : State) (t t' : Telling)
+    → ((o e : List ℕ) (a : A) (more : List Answer) → HasSent o e [] (world a)
+    → AreFrontsOf next_world o e (over more (next a)))
+    → CutPlay q world play s t t' → CutPlay q next_world (λ w. play w >>= next) s t t'
+cut_then q world next_world play next s t t' each k = record {
+  more = k.more;
+  fronts = λ o e.
+      fronts_then (o ++ k.more.output) (e ++ k.more.error) world next_world
+      (map answer_of k.more.exchanges) (play (sent o e (world_of q s))) next
+      (k.fronts o e) (each (o ++ k.more.output) (e ++ k.more.error));
+}
+
+-- another play that is the same from this state
+pub cut_from : {A : Type 0} (q : ℕ) (world : A → World) (play same : World → Play A) (s : State)
+    (t t' : Telling)
+    → ((o e : List ℕ) → play (sent o e (world_of q s)) ≡ same (sent o e (world_of q s)))
+    → CutPlay q world same s t t' → CutPlay q world play s t t'
+cut_from q world play same s t t' is k = record {
+  more = k.more;
+  fronts = λ o e. subst (λ x. AreFrontsOf world (o ++ k.more.output) (e ++ k.more.error)
+      (over (map answer_of k.more.exchanges) x)) (sym (is o e)) (k.fronts o e);
+}
+
+-- what the sinks tell of it
+pub cut_grew : {A : Type 0} (q : ℕ) (world : A → World) (play : World → Play A) (s : State)
+    (t t' : Telling)
+    → CutPlay q world play s t t' → HaveGrown t.output t'.output t.error t'.error
+cut_grew q world play s t t' k = record {
+  output = k.more.output;
+  error = k.more.error;
+  out_is = k.more.output_is;
+  err_is = k.more.error_is;
+}
+
+-- ---- a service in which a sink failed
+
+module _ (q : ℕ) (s s' : State) (t : ℕ) (told told' : List Exchange) (same : told' ≡ told)
+    (out out' err err' : Option (List ℕ)) where
+  -- that of the output
+  output_cut : FaultsIn to_output (λ w. service w t) s s' out out' err err'
+      → CutPlay q world_served (λ w. service w t) s (telling told out err) (telling told' out' err')
+  output_cut h = let grew = grown-front out out' h.bytes h.front in record {
+    more = record {
+      exchanges = [];
+      output = grew.0;
+      error = [];
+      exchanges_are = same ∙ sym (append-nil told);
+      output_is = grew.1;
+      error_is = h.stays ∙ grown-nothing err;
+    };
+    fronts = λ o e. subst (AreFrontsOf world_served (o ++ grew.0) (e ++ [])) (sym (h.goes q o e))
+        (front-behind o grew.0 h.bytes grew.2, front-nothing e);
+  }
+
+  -- that of the error output
+  error_cut : FaultsIn to_error (λ w. service w t) s s' err err' out out'
+      → CutPlay q world_served (λ w. service w t) s (telling told out err) (telling told' out' err')
+  error_cut h = let grew = grown-front err err' h.bytes h.front in record {
+    more = record {
+      exchanges = [];
+      output = [];
+      error = grew.0;
+      exchanges_are = same ∙ sym (append-nil told);
+      output_is = h.stays ∙ grown-nothing out;
+      error_is = grew.1;
+    };
+    fronts = λ o e. subst (AreFrontsOf world_served (o ++ []) (e ++ grew.0)) (sym (h.goes q o e))
+        (front-nothing o, front-behind e grew.0 h.bytes grew.2);
+  }
+
+  pub service_cut : (stop : RunStop) → shim_stop stop ≡ None
+      → HasFaulted stop (λ w. service w t) s s' out out' err err'
+      → CutPlay q world_served (λ w. service w t) s (telling told out err) (telling told' out' err')
+  service_cut OutFault is h = output_cut h
+  service_cut ErrFault is h = error_cut h
+  service_cut HostFault is h = cc
+  service_cut LogFull is h = cc
+  service_cut (Misfit m) is h = cc
+  service_cut Memory is h = cc

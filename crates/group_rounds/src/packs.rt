@@ -1,0 +1,324 @@
+// The parallel phase over packs: their pages go out, they run, and all comes back.
+ghost use Rattle.std.specs.Prelude.{◌≡◌, ◌≢◌, ◌+◌, ◌≤◌, ◌<◌, ◌++◌, ◌∷◌, ◌⊎◌, [], ℕ, List, Some, IfOk, MatchOption, length, map, slice_get};
+ghost use Rattle.std.specs.Vec.{vec_capacity};
+ghost use Rattle.page_store.specs.Store.{AreHome, IsAway, IsHome};
+ghost use Rattle.proc_table.specs.Tables.{IsThread};
+ghost use Rattle.quantum_run.specs.Shows.{Pack as pack_value};
+ghost use Rattle.quantum_run.specs.Packs.{HoldsNo, seen};
+ghost use Rattle.kernel_calls.specs.Serving.{IsSound, sent, world_of};
+ghost use Rattle.round_core.specs.Round.{all_alone};
+ghost use Rattle.group_rounds.specs.Parts.{KeepsCount};
+ghost use Rattle.group_rounds.specs.Phases.{AreLive};
+ghost use Rattle.group_rounds.specs.Handing.{In, all_pages, AreApart, AreOthers, AllCanRun, AllRan, AreBegun, AreSpare, GoesOut, Handing, PutBack, AreSet, Stays, pack_of, view_of};
+
+use dos_world::Owner;
+use kernel_calls::State;
+use page_store::Frames;
+use proc_table::Table;
+use quantum_run::{Pack, View, run_pack};
+use std::alloc::{AllocError, Global};
+use std::marker::Model;
+
+// at most so many threads live
+const THREADS: usize = 64;
+
+/// The packs of a kernel between two phases: all are spare. Contracts see for how many frames each
+/// has room.
+#[derive(Drop)]
+pub(crate) struct Packs {
+    frames: u32,
+    spare: Vec<Pack>,
+    out: Vec<Pack>,
+}
+
+impl Model for Packs {
+    ghost use Rattle.std.specs.Prelude.{ℕ};
+    ghost use Rattle.std.specs.Vec.{vec_capacity};
+    ghost use Rattle.group_rounds.specs.Handing.{ArePacks};
+
+    ghost Value = { ℕ };
+
+    ghost view = { λ p. p.frames };
+
+    ghost invariant = { λ p. ArePacks p.frames p.spare.items p.out.items (vec_capacity p.spare)
+        (vec_capacity p.out) };
+}
+
+// so many packs, and room for them
+fn spare_packs(alloc: Global, frames: u32) -> Result<Vec<Pack>, AllocError>
+    ensures { IfOk result (λ packs. AreSpare frames packs.items × (length packs.items ≡ 64)
+        × (64 ≤ vec_capacity packs)) }
+{
+    let mut packs = Vec::with_capacity(alloc, THREADS)?;
+    for _place in 0..THREADS {
+        packs.push(Pack::reserve(alloc, frames)?)?;
+    }
+    Ok(packs)
+}
+
+impl Packs {
+    /// The packs of a kernel with `frames` frames. All their memory is taken here.
+    pub(crate) fn reserve(alloc: Global, frames: u32) -> Result<Packs, AllocError>
+        ensures { IfOk result (λ p. p ≡ frames) }
+    {
+        Ok(Packs {
+            frames,
+            spare: spare_packs(alloc, frames)?,
+            out: Vec::with_capacity(alloc, THREADS)?,
+        })
+    }
+
+    /// The parallel phase: each starter by itself, over its own pages.
+    pub(crate) fn run(&mut self, state: &mut State, starters: &[u32])
+        requires sound { IsSound state.old }
+        requires live { AreLive state.old.table.threads starters.now }
+        requires apart { (i j t : ℕ) → slice_get starters.now i ≡ Some t
+            → slice_get starters.now j ≡ Some t → i ≡ j }
+        requires few { length starters.now ≤ 64 }
+        requires level { self.old ≡ length state.old.frames.owners }
+        ensures runs { (q : ℕ) (o e : List ℕ)
+            → all_alone (sent o e (world_of q state.old)) starters.now
+            ≡ sent o e (world_of q state.new) }
+        ensures sound { IsSound state.new }
+        ensures round { state.new.round ≡ state.old.round }
+        ensures count { KeepsCount state.old state.new }
+        ensures packs { self.new ≡ self.old }
+    {
+        parallel_packs(state, starters, &mut self.spare, &mut self.out);
+    }
+}
+
+// where a thread stands among the starters
+fn place_of(starters: &[u32], tid: u32) -> Option<usize>
+    ensures { MatchOption result ((place : ℕ) → slice_get starters.now place ≢ Some tid)
+        (λ place. slice_get starters.now place ≡ Some tid) }
+{
+    for place in 0..starters.len() {
+        if starters[place] == tid {
+            return Some(place);
+        }
+    }
+    None
+}
+
+// a starter's pack, before its pages come
+fn fill_next(table: &Table, tid: u32, spare: &mut Vec<Pack>, packs: &mut Vec<Pack>)
+    requires live { IsThread table.now.threads tid }
+    requires some { 0 < length spare.old.items }
+    requires room { length packs.old.items + 1 ≤ vec_capacity packs.old }
+    requires empty { (p : pack_value) → In spare.old.items p → p.pages ≡ [] }
+    ensures fills { (room : ℕ) → AreSpare room spare.old.items
+        → packs.new.items ≡ packs.old.items ++ pack_of table.now room tid ∷ [] }
+    ensures spare { (room : ℕ) → AreSpare room spare.old.items → AreSpare room spare.new.items }
+    ensures less { length spare.new.items + 1 ≡ length spare.old.items }
+    ensures empty { (p : pack_value) → In spare.new.items p → p.pages ≡ [] }
+    ensures room { vec_capacity packs.old ≤ vec_capacity packs.new }
+    ensures same_room { vec_capacity spare.new ≡ vec_capacity spare.old }
+{
+    match spare.pop() {
+        Some(mut pack) => {
+            pack.fill(
+                tid,
+                table.process_of(tid),
+                *table.regs(tid),
+                table.budget(tid),
+            );
+            keep(packs, pack);
+        }
+        None => unreachable!(),
+    }
+}
+
+// the page of a frame goes into its owner's pack, where the owner starts
+fn hand_page(frames: &mut Frames, starters: &[u32], packs: &mut Vec<Pack>, frame: u32)
+    requires within { frame < length frames.old.owners }
+    requires home { IsHome frames.old frame }
+    requires level { length packs.old.items ≡ length starters.now }
+    requires room { (i : ℕ) (p : pack_value) → slice_get packs.old.items i ≡ Some p
+        → (frame < p.room) × HoldsNo p frame }
+    ensures goes { Stays starters.now frames.old packs.old.items frame frames.new packs.new.items
+        ⊎ GoesOut starters.now frames.old packs.old.items frame frames.new packs.new.items }
+    ensures room { vec_capacity packs.new ≡ vec_capacity packs.old }
+{
+    let Owner::Of(tid) = frames.owner(frame) else {
+        return;
+    };
+    let Some(place) = place_of(starters, tid) else {
+        return;
+    };
+    let page = frames.take(frame);
+    packs[place].add_page(frame, page);
+}
+
+// the pages of the starters' frames go into their packs
+fn hand_pages(frames: &mut Frames, starters: &[u32], packs: &mut Vec<Pack>)
+    requires home { AreHome frames.old }
+    requires apart { (i j t : ℕ) → slice_get starters.now i ≡ Some t
+        → slice_get starters.now j ≡ Some t → i ≡ j }
+    requires level { length packs.old.items ≡ length starters.now }
+    requires begun { AreBegun frames.old packs.old.items }
+    ensures hands { Handing starters.now packs.old.items frames.old frames.new packs.new.items
+        (length frames.old.pages) }
+    ensures room { vec_capacity packs.new ≡ vec_capacity packs.old }
+{
+    // that each page has an owner is known of the frames themselves
+    let _count = frames.count();
+    for frame in 0..frames.high() {
+        hand_page(frames, starters, packs, frame);
+    }
+}
+
+/// Each starter has a pack, with the pages of its frames.
+pub(crate) fn hand_out(
+    state: &mut State,
+    starters: &[u32],
+    spare: &mut Vec<Pack>,
+    packs: &mut Vec<Pack>,
+)
+    requires sound { IsSound state.old }
+    requires live { AreLive state.old.table.threads starters.now }
+    requires apart { (i j t : ℕ) → slice_get starters.now i ≡ Some t
+        → slice_get starters.now j ≡ Some t → i ≡ j }
+    requires none { packs.old.items ≡ [] }
+    requires room { length starters.now ≤ vec_capacity packs.old }
+    requires enough { length starters.now ≤ length spare.old.items }
+    requires spare { AreSpare (length state.old.frames.pages) spare.old.items }
+    ensures hands { Handing starters.now
+        (map (pack_of state.old.table (length state.old.frames.pages)) starters.now)
+        state.old.frames state.new.frames packs.new.items (length state.old.frames.pages) }
+    ensures table { state.new.table ≡ state.old.table }
+    ensures round { state.new.round ≡ state.old.round }
+    ensures pipes { state.new.pipes ≡ state.old.pipes }
+    ensures futexes { state.new.futexes ≡ state.old.futexes }
+    ensures spare { AreSpare (length state.old.frames.pages) spare.new.items }
+    ensures less { length spare.new.items + length starters.now ≡ length spare.old.items }
+    ensures spare_room { vec_capacity spare.new ≡ vec_capacity spare.old }
+    ensures room { vec_capacity packs.old ≤ vec_capacity packs.new }
+{
+    for &tid in starters {
+        fill_next(&state.table, tid, spare, packs);
+    }
+    hand_pages(&mut state.frames, starters, packs);
+}
+
+// each pack by itself, in order
+fn run_all(packs: &mut Vec<Pack>, view: &View<'_>)
+    requires can { AllCanRun (seen view.now) packs.old.items }
+    ensures runs { AllRan (seen view.now) packs.old.items packs.new.items }
+    ensures room { vec_capacity packs.new ≡ vec_capacity packs.old }
+{
+    for place in 0..packs.len() {
+        run_pack(&mut packs[place], view);
+    }
+}
+
+// the pages of a pack come home
+fn put_pages(frames: &mut Frames, pack: &mut Pack)
+    requires away { (frame : ℕ) (page : List ℕ) → In pack.old.pages (frame, page)
+        → IsAway frames.old frame }
+    requires apart { AreApart pack.old.pages }
+    ensures back { PutBack pack.old.pages frames.old frames.new }
+    ensures pack { pack.new ≡ record pack.old { pages = [] } }
+{
+    while let Some((frame, page)) = pack.take_page() {
+        frames.put_back(frame, page);
+    }
+}
+
+// the registers, the budget and the pages of a pack come back
+fn take_back(state: &mut State, pack: &mut Pack)
+    requires away { (frame : ℕ) (page : List ℕ) → In pack.old.pages (frame, page)
+        → IsAway state.old.frames frame }
+    requires apart { AreApart pack.old.pages }
+    requires live { IsThread state.old.table.threads pack.old.thread }
+    ensures back { PutBack pack.old.pages state.old.frames state.new.frames }
+    ensures set { AreSet (pack.old ∷ []) state.old.table state.new.table }
+    ensures round { state.new.round ≡ state.old.round }
+    ensures pipes { state.new.pipes ≡ state.old.pipes }
+    ensures futexes { state.new.futexes ≡ state.old.futexes }
+    ensures pack { pack.new ≡ record pack.old { pages = [] } }
+{
+    state.table.set_run(pack.tid(), *pack.regs(), pack.budget());
+    put_pages(&mut state.frames, pack);
+}
+
+// for which there is room
+fn keep(spare: &mut Vec<Pack>, pack: Pack)
+    requires room { length spare.old.items + 1 ≤ vec_capacity spare.old }
+    ensures items { spare.new.items ≡ spare.old.items ++ pack ∷ [] }
+    ensures room { vec_capacity spare.old ≤ vec_capacity spare.new }
+{
+    match spare.push(pack) {
+        Ok(()) => {}
+        Err(_) => unreachable!(),
+    }
+}
+
+/// Each pack runs, with the frames and the table lent.
+pub(crate) fn run_parts(state: &State, packs: &mut Vec<Pack>)
+    requires can { AllCanRun (view_of state.now.frames state.now.table) packs.old.items }
+    ensures runs { AllRan (view_of state.now.frames state.now.table) packs.old.items packs.new.items }
+    ensures room { vec_capacity packs.new ≡ vec_capacity packs.old }
+{
+    let view = View {
+        frames: &state.frames,
+        table: &state.table,
+    };
+    run_all(packs, &view);
+}
+
+/// All pages, registers and budgets of the packs come back, and the packs are spare.
+pub(crate) fn take_in(state: &mut State, packs: &mut Vec<Pack>, spare: &mut Vec<Pack>)
+    requires away { (frame : ℕ) (page : List ℕ) → In (all_pages packs.old.items) (frame, page)
+        → IsAway state.old.frames frame }
+    requires apart { AreApart (all_pages packs.old.items) }
+    requires live { (p : pack_value) → In packs.old.items p
+        → IsThread state.old.table.threads p.thread }
+    requires others { AreOthers packs.old.items }
+    requires room { length spare.old.items + length packs.old.items ≤ vec_capacity spare.old }
+    ensures back { PutBack (all_pages packs.old.items) state.old.frames state.new.frames }
+    ensures set { AreSet packs.old.items state.old.table state.new.table }
+    ensures round { state.new.round ≡ state.old.round }
+    ensures pipes { state.new.pipes ≡ state.old.pipes }
+    ensures futexes { state.new.futexes ≡ state.old.futexes }
+    ensures packs { packs.new.items ≡ [] }
+    ensures spare { length spare.new.items ≡ length spare.old.items + length packs.old.items }
+    ensures all_spare { (room : ℕ) → AreSpare room spare.old.items
+        → ((p : pack_value) → In packs.old.items p → p.room ≡ room)
+        → AreSpare room spare.new.items }
+    ensures spare_room { vec_capacity spare.old ≤ vec_capacity spare.new }
+    ensures packs_room { vec_capacity packs.new ≡ vec_capacity packs.old }
+{
+    while let Some(mut pack) = packs.pop() {
+        take_back(state, &mut pack);
+        keep(spare, pack);
+    }
+}
+
+// The parallel phase: each starter by itself, over its own pages.
+fn parallel_packs(state: &mut State, starters: &[u32], spare: &mut Vec<Pack>, packs: &mut Vec<Pack>)
+    requires sound { IsSound state.old }
+    requires live { AreLive state.old.table.threads starters.now }
+    requires apart { (i j t : ℕ) → slice_get starters.now i ≡ Some t
+        → slice_get starters.now j ≡ Some t → i ≡ j }
+    requires none { packs.old.items ≡ [] }
+    requires room { length starters.now ≤ vec_capacity packs.old }
+    requires enough { length starters.now ≤ length spare.old.items }
+    requires spare { AreSpare (length state.old.frames.pages) spare.old.items }
+    requires spare_room { length spare.old.items ≤ vec_capacity spare.old }
+    ensures runs { (q : ℕ) (o e : List ℕ)
+        → all_alone (sent o e (world_of q state.old)) starters.now
+        ≡ sent o e (world_of q state.new) }
+    ensures sound { IsSound state.new }
+    ensures round { state.new.round ≡ state.old.round }
+    ensures count { KeepsCount state.old state.new }
+    ensures none { packs.new.items ≡ [] }
+    ensures room { vec_capacity packs.old ≤ vec_capacity packs.new }
+    ensures enough { length spare.new.items ≡ length spare.old.items }
+    ensures spare { AreSpare (length state.old.frames.pages) spare.new.items }
+    ensures spare_room { vec_capacity spare.old ≤ vec_capacity spare.new }
+{
+    hand_out(state, starters, spare, packs);
+    run_parts(state, packs);
+    take_in(state, packs, spare);
+}
