@@ -36,7 +36,8 @@ untold_input : after_input 64 None ≡ None
 untold_input = refl
 
 -- a reading leaves the front
-reading_leaves : before_reading 5 (Some (record { pieces = pieces; readings = 7 ∷ [] })) ≡ Some (record { pieces = pieces; readings = 5 ∷ 7 ∷ [] })
+reading_leaves : before_reading 5 (Some (record { pieces = pieces; readings = 7 ∷ [] }))
+    ≡ Some (record { pieces = pieces; readings = 5 ∷ 7 ∷ [] })
 reading_leaves = refl
 
 -- ---- posts of a round, in the order of the words
@@ -70,7 +71,8 @@ wrapped_reading = refl
 -- ---- a short run
 
 abbrev run : List Exchange
-run = Signals 1 [] ∷ Input 1 1 3 (codes "012") ∷ Clock 1 1 5 ∷ Signals 2 (first ∷ []) ∷ Input 2 1 3 (codes "3") ∷ Clock 2 1 6 ∷ End Done 2 ∷ []
+run = Signals 1 [] ∷ Input 1 1 3 (codes "012") ∷ Clock 1 1 5 ∷ Signals 2 (first ∷ []) ∷ Input 2 1 3
+    (codes "3") ∷ Clock 2 1 6 ∷ End Done 2 ∷ []
 
 abbrev before : Told
 before = record { pieces = codes "0123" ∷ codes "4" ∷ []; readings = 5 ∷ 6 ∷ 9 ∷ [] }
@@ -83,11 +85,20 @@ run_readings = refl
 
 -- its answers are the host's and the words', and what they took is gone
 given_by_host : Given ((2, first) ∷ []) FromHost 0 (Some before) (Some after) run
-given_by_host = record { signals = (refl, (refl, tt)); counted = tt; host = (after, refl, (refl, (refl, refl)), refl) }
+given_by_host = record {
+  signals = (refl, (refl, tt));
+  counted = tt;
+  host = (after, refl, (refl, (refl, refl)), refl);
+}
 
 -- under a counted clock, where five readings were given before, the host's readings stay
-given_counted : Given ((2, first) ∷ []) (Counted 0 1) 5 (Some before) (Some (record after { readings = before.readings })) run
-given_counted = record { signals = (refl, (refl, tt)); counted = (refl, (refl, tt)); host = (record after { readings = before.readings }, refl, (refl, (refl, refl)), refl) }
+given_counted : Given ((2, first) ∷ []) (Counted 0 1) 5 (Some before)
+    (Some (record after { readings = before.readings })) run
+given_counted = record {
+  signals = (refl, (refl, tt));
+  counted = (refl, (refl, tt));
+  host = (record after { readings = before.readings }, refl, (refl, (refl, refl)), refl);
+}
 
 -- of a host that tells nothing only the posts and the counted clock are asked
 given_untold : Given ((2, first) ∷ []) (Counted 5 1) 0 None None run

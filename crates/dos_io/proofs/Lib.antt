@@ -2,4 +2,5 @@ mod Examples
 pub mod OutsideLaws
 pub mod GivenLaws
 pub mod InputLaws
+pub mod PieceLaws
 pub mod QuietAnswers

@@ -18,15 +18,19 @@ quiet_no_posts (Clock round tid n ∷ es) p = quiet_no_posts es p.1
 quiet_no_posts (End ending rounds ∷ es) p = quiet_no_posts es p.1
 
 -- What was told more is determined, so whoever says what it is learns that it is quiet.
-pub quiet_more : (old new : ShimState) (es : List Exchange) → FollowsQuietly old new → new.told ≡ old.told ++ es → AreQuiet es
-quiet_more old new es f told = subst AreQuiet (append_cancel_left old.told f.more es (sym f.told ∙ told)) f.quiet
+pub quiet_more : (old new : ShimState) (es : List Exchange) → FollowsQuietly old new
+    → new.told ≡ old.told ++ es → AreQuiet es
+quiet_more old new es f told = subst AreQuiet
+    (append_cancel_left old.told f.more es (sym f.told ∙ told)) f.quiet
 
-pub no_posts_more : (old new : ShimState) (es : List Exchange) → FollowsQuietly old new → new.told ≡ old.told ++ es → HaveNoPosts es
+pub no_posts_more : (old new : ShimState) (es : List Exchange) → FollowsQuietly old new
+    → new.told ≡ old.told ++ es → HaveNoPosts es
 no_posts_more old new es f told = quiet_no_posts es (quiet_more old new es f told)
 
 -- its last stop, where it has one
 pub last_is_memory : (shim : Quietness) → IfSome (shown shim).last (λ stop. stop ≡ Memory)
-last_is_memory shim = elim (nat_eq shim.stops 0) as (λ b. IfSome (cond b None (Some Memory)) (λ stop. stop ≡ Memory)) [ true ↦ tt | false ↦ refl ]
+last_is_memory shim = elim (nat_eq shim.stops 0) as
+    (λ b. IfSome (cond b None (Some Memory)) (λ stop. stop ≡ Memory)) [ true ↦ tt | false ↦ refl ]
 
 is_quiet : (question : Question) → IsQuiet (quiet_exchange question)
 is_quiet (signals_question round) = refl
@@ -35,9 +39,12 @@ is_quiet (clock_question round tid) = refl
 is_quiet (end_question ending rounds) = tt
 
 -- an answer more
-pub follows_answer : (old new : Quietness) (question : Question) → new ≡ record old { questions = old.questions ++ question ∷ []; asked = None } → FollowsQuietly (shown old) (shown new)
+pub follows_answer : (old new : Quietness) (question : Question)
+    → new ≡ record old { questions = old.questions ++ question ∷ []; asked = None }
+    → FollowsQuietly (shown old) (shown new)
 follows_answer old new question e = record {
   more = quiet_exchange question ∷ [];
-  told = ap (λ (q : Quietness). map quiet_exchange q.questions) e ∙ map-append quiet_exchange old.questions (question ∷ []);
+  told = ap (λ (q : Quietness). map quiet_exchange q.questions) e
+      ∙ map-append quiet_exchange old.questions (question ∷ []);
   quiet = (is_quiet question, tt);
 }

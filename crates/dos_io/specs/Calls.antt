@@ -1,4 +1,5 @@
--- The calls of an object in memory, which fail at the numbers that it is given: this project's own rules.
+-- The calls of an object in memory, which fail at the numbers that it is given: this project's own
+-- rules.
 use Rattle.std.specs.Prelude.{ℕ, ◌-◌, Bool, not, ◌&&◌, ◌==◌, nat_le, if◌then◌else◌, List, ◌++◌, length}
 use Rattle.std.specs.List.{list_any}
 use Rattle.dos_io.specs.Outside.{counted}
@@ -24,7 +25,11 @@ succeeds calls possible = not (next_is_to_fail calls) && possible
 -- after one call more, which succeeded or failed
 abbrev pub after_call : CallState → Bool → CallState
 after_call calls success =
-    record { failing = calls.failing; made = counted calls.made; faults = if success then calls.faults else counted calls.faults }
+    record {
+      failing = calls.failing;
+      made = counted calls.made;
+      faults = if success then calls.faults else counted calls.faults;
+    }
 
 -- a sink in memory: its bytes, how many it has room for in all, and its calls
 pub record SinkState : Type 0 where
@@ -34,7 +39,8 @@ pub record SinkState : Type 0 where
 
 -- the next put succeeds, with this piece: it fits into the room that is left
 abbrev pub put_succeeds : SinkState → List ℕ → Bool
-put_succeeds sink piece = succeeds sink.calls (nat_le (length piece) (sink.room - length sink.bytes))
+put_succeeds sink piece = succeeds sink.calls
+    (nat_le (length piece) (sink.room - length sink.bytes))
 
 -- after a put of this piece, of which a put that fails keeps nothing
 abbrev pub after_put : SinkState → List ℕ → SinkState

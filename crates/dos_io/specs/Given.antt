@@ -1,4 +1,5 @@
--- The answers of these exchanges are those that the words and the host give, none skipped and none invented. This project's own rule.
+-- The answers of these exchanges are those that the words and the host give, none skipped and none
+-- invented. This project's own rule.
 use Rattle.std.specs.Prelude.{ℕ, suc, ◌≡◌, ◌+◌, ◌*◌, ◌%◌, ◌^◌, List, [], ◌∷◌, ◌++◌, map, filter, Option, Some, None, ◌==◌, ⊤}
 use Rattle.dos_world.specs.declared.Post.{Post}
 use Rattle.dos_io.specs.declared.exchange.Exchange.{Exchange}
@@ -21,13 +22,15 @@ GivesPosts all (Input round tid max bytes ∷ es) = GivesPosts all es
 GivesPosts all (Clock round tid n ∷ es) = GivesPosts all es
 GivesPosts all (End ending rounds ∷ es) = GivesPosts all es
 
--- ---- input: the answers leave the front of the pieces before, one after another, and those after are left
+-- ---- input: the answers leave the front of the pieces before, one after another, and those after
+-- are left
 
 -- so for each input
 abbrev pub GivesInputs : List (List ℕ) → List (List ℕ) → List Exchange → Type 0
 GivesInputs before after [] = after ≡ before
 GivesInputs before after (Signals round list ∷ es) = GivesInputs before after es
-GivesInputs before after (Input round tid max bytes ∷ es) = (bytes ≡ (taken max before).0) × GivesInputs (taken max before).1 after es
+GivesInputs before after (Input round tid max bytes ∷ es) =
+    (bytes ≡ (taken max before).0) × GivesInputs (taken max before).1 after es
 GivesInputs before after (Clock round tid n ∷ es) = GivesInputs before after es
 GivesInputs before after (End ending rounds ∷ es) = GivesInputs before after es
 
@@ -48,7 +51,8 @@ counted_reading start step k = (start + k * step) % 2 ^ 64
 -- the readings k, k + 1 and on
 abbrev pub AreCountedFrom : (start step k : ℕ) → List ℕ → Type 0
 AreCountedFrom start step k [] = ⊤
-AreCountedFrom start step k (n ∷ ns) = (n ≡ counted_reading start step k) × AreCountedFrom start step (suc k) ns
+AreCountedFrom start step k (n ∷ ns) = (n ≡ counted_reading start step k)
+    × AreCountedFrom start step (suc k) ns
 
 -- what is said of them whatever the host tells: a counted clock goes on from number k
 abbrev pub GivesCounted : ClockRule → ℕ → List Exchange → Type 0
@@ -65,10 +69,13 @@ GivesReadings (Counted start step) before after es = after ≡ before
 -- A host that tells nothing goes on so, and nothing is said of its answers.
 abbrev pub GivesHost : ClockRule → Option Told → Option Told → List Exchange → Type 0
 GivesHost clock None after es = after ≡ None
-GivesHost clock (Some b) after es = (a : Told) × (after ≡ Some a) × GivesInputs b.pieces a.pieces es × GivesReadings clock b.readings a.readings es
+GivesHost clock (Some b) after es = (a : Told) × (after ≡ Some a) × GivesInputs b.pieces a.pieces es
+    × GivesReadings clock b.readings a.readings es
 
--- The exchanges es are given by the words' posts and clock, where k readings were given before them and the host told `before` and then `after`.
-pub record Given (posts : List (ℕ × Post)) (clock : ClockRule) (k : ℕ) (before after : Option Told) (es : List Exchange) : Type 0 where
+-- The exchanges es are given by the words' posts and clock, where k readings were given before them
+-- and the host told `before` and then `after`.
+pub record Given (posts : List (ℕ × Post)) (clock : ClockRule) (k : ℕ) (before after : Option Told)
+    (es : List Exchange) : Type 0 where
   pub signals : GivesPosts posts es
   pub counted : GivesCounted clock k es
   pub host : GivesHost clock before after es

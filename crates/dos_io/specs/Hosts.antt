@@ -12,10 +12,12 @@ AreFilled [] = ⊤
 AreFilled ([] ∷ pieces) = ⊥
 AreFilled ((b ∷ bytes) ∷ pieces) = AreFilled pieces
 
--- The answer to a question for at most max bytes: the front of the first piece. Beside it the pieces that are left, where an emptied one goes.
+-- The answer to a question for at most max bytes: the front of the first piece. Beside it the
+-- pieces that are left, where an emptied one goes.
 abbrev pub taken : ℕ → List (List ℕ) → List ℕ × List (List ℕ)
 taken max [] = ([], [])
-taken max (piece ∷ pieces) = if nat_le (length piece) max then (piece, pieces) else (take max piece, drop max piece ∷ pieces)
+taken max (piece ∷ pieces) = if nat_le (length piece) max then (piece, pieces) else
+    (take max piece, drop max piece ∷ pieces)
 
 -- what is told after an input of at most max bytes; a host that tells nothing goes on so
 abbrev pub after_input : ℕ → Option Told → Option Told

@@ -1,5 +1,7 @@
 pub mod Calls
 pub mod Memory
+pub mod HostMemory
+pub mod HostFilled
 pub mod Outside
 pub mod Posts
 pub mod Hosts

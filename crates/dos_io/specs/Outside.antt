@@ -19,6 +19,10 @@ abbrev pub grown : Option (List ℕ) → List ℕ → Option (List ℕ)
 grown None piece = None
 grown (Some told) piece = Some (told ++ piece)
 
+-- the one is what the other begins with
+abbrev pub IsFront : List ℕ → List ℕ → Type 0
+IsFront short long = (rest : List ℕ) × (long ≡ short ++ rest)
+
 -- what is told after a front of these bytes more
 abbrev pub GrewByFront : Option (List ℕ) → Option (List ℕ) → List ℕ → Type 0
 GrewByFront old new piece = (k : ℕ) × (new ≡ grown old (take k piece))

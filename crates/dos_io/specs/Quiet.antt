@@ -31,7 +31,8 @@ AreQuiet = AllByRecursion IsQuiet
 
 -- ---- what it shows
 
--- the questions that it answered, in order; how often it stopped; the question of its last call where that call stopped
+-- the questions that it answered, in order; how often it stopped; the question of its last call
+-- where that call stopped
 pub record Quietness : Type 0 where
   pub questions : List Question
   pub stops : ℕ
@@ -43,7 +44,12 @@ last_stop stops = if stops == 0 then None else Some Memory
 
 -- as of every shim
 abbrev pub shown : Quietness → ShimState
-shown q = record { told = map quiet_exchange q.questions; stops = q.stops; last = last_stop q.stops; asked = q.asked }
+shown q = record {
+  told = map quiet_exchange q.questions;
+  stops = q.stops;
+  last = last_stop q.stops;
+  asked = q.asked;
+}
 
 -- From old to new it told these exchanges more, each with its quiet answer.
 pub record FollowsQuietly (old new : ShimState) : Type 0 where

@@ -15,6 +15,7 @@ follows_itself s = record { more = []; told = sym (append-nil s.told); quiet = t
 pub follows_on : (s t u : ShimState) → FollowsQuietly s t → FollowsQuietly t u → FollowsQuietly s u
 follows_on s t u p q = record {
   more = p.more ++ q.more;
-  told = q.told ∙ ap (λ (x : List Exchange). x ++ q.more) p.told ∙ append_assoc s.told p.more q.more;
+  told = q.told ∙ ap (λ (x : List Exchange). x ++ q.more) p.told
+      ∙ append_assoc s.told p.more q.more;
   quiet = quiet_then p.more q.more p.quiet q.quiet;
 }

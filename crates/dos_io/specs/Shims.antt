@@ -6,7 +6,8 @@ use Rattle.dos_io.specs.declared.exchange.Exchange.TheVariants.{Signals, Input, 
 use Rattle.dos_io.specs.declared.shim.ShimStop.{ShimStop}
 use Rattle.dos_io.specs.Outside.{counted}
 
--- The exchanges so far, how often it has stopped, its last stop, and the question of its last call where that call stopped.
+-- The exchanges so far, how often it has stopped, its last stop, and the question of its last call
+-- where that call stopped.
 pub record ShimState : Type 0 where
   pub told : List Exchange
   pub stops : ℕ
@@ -17,8 +18,10 @@ pub record ShimState : Type 0 where
 abbrev pub answered : ShimState → Exchange → ShimState
 answered s exchange = record s { told = s.told ++ exchange ∷ []; asked = None }
 
--- From old to new it stopped, so, at this question. A stop is counted once; the count stands still at 2^64 - 1.
-pub record Stopped (old : ShimState) (question : Question) (stop : ShimStop) (new : ShimState) : Type 0 where
+-- From old to new it stopped, so, at this question. A stop is counted once; the count stands still
+-- at 2^64 - 1.
+pub record Stopped (old : ShimState) (question : Question) (stop : ShimStop) (new : ShimState) :
+    Type 0 where
   pub told : new.told ≡ old.told
   pub stops : new.stops ≡ counted old.stops
   pub last : new.last ≡ Some stop

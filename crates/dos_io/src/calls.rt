@@ -5,7 +5,8 @@ ghost use Rattle.dos_io.specs.Calls.{no_calls, next_is_to_fail, succeeds, after_
 use std::alloc::{AllocError, Global};
 use std::marker::Model;
 
-/// The calls of an object in memory: the numbers of those that are to fail, and how many were made and failed.
+/// The calls of an object in memory: the numbers of those that are to fail, and how many were made
+/// and failed.
 #[derive(Debug, Drop)]
 pub(crate) struct Calls {
     failing: Vec<u32>,
@@ -33,7 +34,8 @@ impl Calls {
         })
     }
 
-    /// Counts a call, and says whether it succeeds. It fails also where what it asks for isn't possible.
+    /// Counts a call, and says whether it succeeds. It fails also where what it asks for isn't
+    /// possible.
     pub(crate) fn count(&mut self, possible: bool) -> bool
         ensures answer { result ≡ succeeds self.old possible }
         ensures counted { self.new ≡ after_call self.old result }

@@ -41,7 +41,8 @@ pub trait Files {
     /// The content of a name, where it is told.
     ghost content: { Self → List ℕ → Option (List ℕ) };
 
-    /// Whether the files tell of each name what it holds; a name of which they then tell nothing holds nothing.
+    /// Whether the files tell of each name what it holds; a name of which they then tell nothing
+    /// holds nothing.
     ghost tells: { Self → Bool };
 
     /// How often a call has failed by a fault. It never falls, and stands still at 2^64 - 1.
@@ -50,9 +51,11 @@ pub trait Files {
     /// The content of a name, if it has at most `limit` bytes.
     fn get(&mut self, name: &str, limit: u64) -> Result<Vec<u8>, FileError>
         ensures bytes { IfOk result (λ v. IfSome (content self.old name.now) (λ t. v.items ≡ t)) }
-        ensures held { IfOk result (λ v. IsTrue (tells self.old) → content self.old name.now ≡ Some v.items) }
+        ensures held { IfOk result (λ v. IsTrue (tells self.old)
+            → content self.old name.now ≡ Some v.items) }
         ensures within { IfOk result (λ v. length v.items ≤ limit) }
-        ensures too_long { IsErrOf result FileError.TooLong → IfSome (content self.old name.now) (λ t. limit < length t) }
+        ensures too_long { IsErrOf result FileError.TooLong → IfSome (content self.old name.now)
+            (λ t. limit < length t) }
         ensures fault { IsErrOf result FileError.Fault → Rose (faults self.old) (faults self.new) }
 
         ensures stays { (n : List ℕ) → content self.new n ≡ content self.old n }
@@ -61,9 +64,12 @@ pub trait Files {
 
     /// Gives a name these bytes as its content. After a fault the name may hold anything.
     fn set(&mut self, name: &str, bytes: &[u8]) -> Result<(), FileError>
-        ensures content { OnOk result (IfSome (content self.old name.now) (λ _. content self.new name.now ≡ Some bytes.now)) }
-        ensures holds { OnOk result (IsTrue (tells self.old) → content self.new name.now ≡ Some bytes.now) }
-        ensures memory { IsErrOf result FileError.Memory → content self.new name.now ≡ content self.old name.now }
+        ensures content { OnOk result (IfSome (content self.old name.now)
+            (λ _. content self.new name.now ≡ Some bytes.now)) }
+        ensures holds { OnOk result (IsTrue (tells self.old) → content self.new name.now
+            ≡ Some bytes.now) }
+        ensures memory { IsErrOf result FileError.Memory
+            → content self.new name.now ≡ content self.old name.now }
         ensures never { result ≢ Err FileError.TooLong }
         ensures fault { IsErrOf result FileError.Fault → Rose (faults self.old) (faults self.new) }
 

@@ -15,14 +15,16 @@ pub trait Host {
     /// How often it has failed.
     ghost faults: { Self → ℕ };
 
-    /// The next input: bytes from the front of `buf`, as many as the answer says, and 0 where the input is at its end.
-    /// The rest of `buf` stays. On a fault nothing is taken.
+    /// The next input: bytes from the front of `buf`, as many as the answer says, and 0 where the
+    /// input is at its end. The rest of `buf` stays. On a fault nothing is taken.
     fn input(&mut self, buf: &mut [u8]) -> Result<usize, HostFault>
         requires { 0 < length buf.old }
         ensures short { IfOk result (λ k. k ≤ length buf.old) }
-        ensures bytes { IfOk result (λ k. IfSome (told self.old) (λ t. take k buf.new ≡ (taken (length buf.old) t.pieces).0)) }
+        ensures bytes { IfOk result (λ k. IfSome (told self.old)
+            (λ t. take k buf.new ≡ (taken (length buf.old) t.pieces).0)) }
         ensures rest { IfOk result (λ k. drop k buf.new ≡ drop k buf.old) }
-        ensures told_ok { OnOk result (told self.new ≡ after_input (length buf.old) (told self.old)) }
+        ensures told_ok { OnOk result (told self.new ≡ after_input (length buf.old)
+            (told self.old)) }
         ensures told_err { OnErr result (told self.new ≡ told self.old) }
         ensures cause { HasCause (faults self.old) (faults self.new) result };
 

@@ -10,26 +10,39 @@ ghost use Rattle.dos_io.specs.Quiet.{Quietness, shown, FollowsQuietly};
 ghost use Rattle.dos_io.specs.declared.shim.ShimStop.{ShimStop};
 ghost use Rattle.dos_io.specs.Given.{Given, readings};
 
-/// Where the host tells, what it and the words give is determined by the questions: no answer is invented.
+/// Where the host tells, what it and the words give is determined by the questions: no answer is
+/// invented.
 pub fn given_is_determined()
-    ensures { (posts : List (ℕ × Post)) (clock : ClockRule) (k : ℕ) (before : Told) (after other : Option Told) (es fs : List Exchange) →
-        Given posts clock k (Some before) after es → Given posts clock k (Some before) other fs → map question_of es ≡ map question_of fs → es ≡ fs }
+    ensures { (posts : List (ℕ × Post)) (clock : ClockRule) (k : ℕ) (before : Told)
+        (after other : Option Told) (es fs : List Exchange)
+        → Given posts clock k (Some before) after es
+        → Given posts clock k (Some before) other fs
+        → map question_of es ≡ map question_of fs → es ≡ fs }
 {}
 
 /// What was given in two stretches was given in both together.
 pub fn given_goes_on()
-    ensures { (posts : List (ℕ × Post)) (clock : ClockRule) (k : ℕ) (before between after : Option Told) (es fs : List Exchange) →
-        Given posts clock k before between es → Given posts clock (k + length (readings es)) between after fs → Given posts clock k before after (es ++ fs) }
+    ensures { (posts : List (ℕ × Post)) (clock : ClockRule) (k : ℕ)
+        (before between after : Option Told) (es fs : List Exchange)
+        → Given posts clock k before between es
+        → Given posts clock (k + length (readings es)) between after fs
+        → Given posts clock k before after (es ++ fs) }
 {}
 
-/// Where no piece of input is empty, none that is left is, and an empty answer means that none is left.
+/// Where no piece of input is empty, none that is left is, and an empty answer means that none is
+/// left.
 pub fn empty_answers_are_the_end()
-    ensures filled { (max : ℕ) (pieces : List (List ℕ)) → AreFilled pieces → AreFilled (taken max pieces).1 }
-    ensures end { (max : ℕ) (pieces : List (List ℕ)) → 0 < max → AreFilled pieces → (taken max pieces).0 ≡ [] → pieces ≡ [] }
+    ensures filled { (max : ℕ) (pieces : List (List ℕ)) → AreFilled pieces
+        → AreFilled (taken max pieces).1 }
+    ensures end { (max : ℕ) (pieces : List (List ℕ)) → 0 < max → AreFilled pieces
+        → (taken max pieces).0 ≡ []
+        → pieces ≡ [] }
 {}
 
-/// What a quiet shim told between two moments brought no signal, and it never stopped but for want of memory.
+/// What a quiet shim told between two moments brought no signal, and it never stopped but for want
+/// of memory.
 pub fn quiet_shims_bring_no_signals()
-    ensures posts { (old new : ShimState) (more : List Exchange) → FollowsQuietly old new → new.told ≡ old.told ++ more → HaveNoPosts more }
+    ensures posts { (old new : ShimState) (more : List Exchange) → FollowsQuietly old new
+        → new.told ≡ old.told ++ more → HaveNoPosts more }
     ensures last { (shim : Quietness) → IfSome (shown shim).last (λ stop. stop ≡ ShimStop.Memory) }
 {}

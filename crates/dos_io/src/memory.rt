@@ -10,8 +10,8 @@ use std::alloc::{AllocError, Global};
 use std::collections::BTreeMap;
 use std::marker::Model;
 
-/// A sink in memory. It fails at the calls whose numbers it is given, and where a piece is longer than the room
-/// that is left, and at no other call.
+/// A sink in memory. It fails at the calls whose numbers it is given, and where a piece is longer
+/// than the room that is left, and at no other call.
 #[derive(Debug, Drop)]
 pub struct MemorySink {
     bytes: Vec<u8>,
@@ -31,10 +31,14 @@ impl Model for MemorySink {
 }
 
 impl MemorySink {
-    /// An empty sink with room for `room` bytes in all. `failing` has the numbers of the puts that are to fail,
-    /// counted from 1.
+    /// An empty sink with room for `room` bytes in all. `failing` has the numbers of the puts that
+    /// are to fail, counted from 1.
     pub fn new(alloc: Global, room: u32, failing: &[u32]) -> Result<MemorySink, AllocError>
-        ensures { IfOk result (λ sink. sink ≡ record { bytes = []; room = room; calls = no_calls failing.now }) }
+        ensures { IfOk result (λ sink. sink ≡ record {
+          bytes = [];
+          room = room;
+          calls = no_calls failing.now;
+        }) }
     {
         let room = room as usize;
         Ok(MemorySink {
@@ -65,7 +69,8 @@ impl Sink for MemorySink {
 
         // As of every sink.
         ensures ok { OnOk result (Some self.new.bytes ≡ grown (Some self.old.bytes) piece.now) }
-        ensures err { OnErr result (GrewByFront (Some self.old.bytes) (Some self.new.bytes) piece.now) }
+        ensures err { OnErr result (GrewByFront (Some self.old.bytes) (Some self.new.bytes)
+            piece.now) }
         ensures cause { HasCause self.old.calls.faults self.new.calls.faults result }
     {
         let fits = piece.len() <= self.room - self.bytes.len();
@@ -77,7 +82,8 @@ impl Sink for MemorySink {
     }
 }
 
-/// Files in memory. A call fails by a fault where it is told to, and a get also where the name isn't held.
+/// Files in memory. A call fails by a fault where it is told to, and a get also where the name
+/// isn't held.
 #[derive(Drop)]
 pub struct MemoryFiles {
     alloc: Global,
@@ -86,8 +92,8 @@ pub struct MemoryFiles {
 }
 
 impl MemoryFiles {
-    /// Files that hold nothing. `failing` has the numbers of the gets and sets that are to fail, counted
-    /// together from 1.
+    /// Files that hold nothing. `failing` has the numbers of the gets and sets that are to fail,
+    /// counted together from 1.
     pub fn new(alloc: Global, failing: &[u32]) -> Result<MemoryFiles, AllocError>
         ensures empty { IfOk result (λ files. (n : List ℕ) → held files n ≡ None) }
         ensures calls { IfOk result (λ files. calls_of files ≡ no_calls failing.now) }
@@ -121,14 +127,18 @@ impl Files for MemoryFiles {
     ghost faults = { λ s. (calls_of s).faults };
 
     fn get(&mut self, name: &str, limit: u64) -> Result<Vec<u8>, FileError>
-        ensures answer { IsErrOf result FileError.Fault ↔ IsTrue (not (get_succeeds self.old name.now)) }
-        ensures calls { calls_of self.new ≡ after_call (calls_of self.old) (get_succeeds self.old name.now) }
+        ensures answer { IsErrOf result FileError.Fault
+            ↔ IsTrue (not (get_succeeds self.old name.now)) }
+        ensures calls { calls_of self.new ≡ after_call (calls_of self.old)
+            (get_succeeds self.old name.now) }
         ensures bytes { IfOk result (λ v. held self.old name.now ≡ Some v.items) }
 
         // As of all files.
         ensures within { IfOk result (λ v. length v.items ≤ limit) }
-        ensures too_long { IsErrOf result FileError.TooLong → IfSome (held self.old name.now) (λ t. limit < length t) }
-        ensures fault { IsErrOf result FileError.Fault → Rose (calls_of self.old).faults (calls_of self.new).faults }
+        ensures too_long { IsErrOf result FileError.TooLong → IfSome (held self.old name.now)
+            (λ t. limit < length t) }
+        ensures fault { IsErrOf result FileError.Fault → Rose (calls_of self.old).faults
+            (calls_of self.new).faults }
         ensures stays { (n : List ℕ) → held self.new n ≡ held self.old n }
         ensures later { (calls_of self.old).faults ≤ (calls_of self.new).faults }
     {
@@ -151,7 +161,8 @@ impl Files for MemoryFiles {
 
         // As of all files.
         ensures never { result ≢ Err FileError.TooLong }
-        ensures fault { IsErrOf result FileError.Fault → Rose (calls_of self.old).faults (calls_of self.new).faults }
+        ensures fault { IsErrOf result FileError.Fault → Rose (calls_of self.old).faults
+            (calls_of self.new).faults }
         ensures others { (n : List ℕ) → n ≢ name.now → held self.new n ≡ held self.old n }
         ensures later { (calls_of self.old).faults ≤ (calls_of self.new).faults }
     {
@@ -161,38 +172,6 @@ impl Files for MemoryFiles {
         let name = String::from_str(self.alloc, name)?;
         let content = Vec::from_slice(self.alloc, bytes)?;
         self.contents.insert(name, content)?;
-        Ok(())
-    }
-}
-
-#[cfg(test)]
-mod tests {
-    use super::*;
-    use std::test::Fail;
-
-    #[test]
-    fn a_sink_fails_where_it_is_told_to_and_where_it_is_full(rt: HostRuntime) -> Result<(), Fail> {
-        let mut sink = MemorySink::new(rt.alloc(), 5, &[2])?;
-        assert_eq!(rt; sink.put(b"abc"), Ok(()));
-        assert_eq!(rt; sink.put(b"d"), Err(SinkFault));
-        assert_eq!(rt; sink.put(b"def"), Err(SinkFault));
-        assert_eq!(rt; sink.put(b"de"), Ok(()));
-        assert_eq!(rt; sink.bytes(), b"abcde".as_slice());
-        Ok(())
-    }
-
-    #[test]
-    fn files_give_what_they_were_given(rt: HostRuntime) -> Result<(), Fail> {
-        let mut files = MemoryFiles::new(rt.alloc(), &[3, 5])?;
-        files.add("a", b"abc")?;
-        assert_eq!(rt; files.get("a", 3)?.as_slice(), b"abc".as_slice());
-        assert_eq!(rt; files.get("a", 2).err(), Some(FileError::TooLong));
-        assert_eq!(rt; files.get("a", 3).err(), Some(FileError::Fault));
-        assert_eq!(rt; files.get("b", 3).err(), Some(FileError::Fault));
-        assert_eq!(rt; files.set("b", b"x"), Err(FileError::Fault));
-        assert_eq!(rt; files.set("b", b"xy"), Ok(()));
-        assert_eq!(rt; files.get("b", 3)?.as_slice(), b"xy".as_slice());
-        assert_eq!(rt; files.get("a", 3)?.as_slice(), b"abc".as_slice());
         Ok(())
     }
 }

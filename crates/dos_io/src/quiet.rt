@@ -8,8 +8,8 @@ use dos_world::{Ending, Question};
 use std::alloc::Global;
 use std::marker::Model;
 
-/// Answers each question for signals by the empty list, for input by 0 bytes, and for the clock by 0. It stops only for
-/// want of memory, where it can't keep what it was asked.
+/// Answers each question for signals by the empty list, for input by 0 bytes, and for the clock by
+/// 0. It stops only for want of memory, where it can't keep what it was asked.
 ///
 /// It keeps the questions, since these answers have no more in them.
 #[derive(Drop)]
@@ -24,14 +24,24 @@ impl Model for Quiet {
 
     ghost Value = { Quietness };
 
-    ghost view = { λ q. record { questions = q.questions.items; stops = q.stops; asked = q.asked } };
+    ghost view = { λ q. record {
+      questions = q.questions.items;
+      stops = q.stops;
+      asked =
+          q.asked;
+    } };
 }
 
 impl Quiet {
     /// A shim that was asked nothing yet, and keeps what it is asked in memory of `alloc`.
     pub fn new(alloc: Global) -> Quiet
         ensures questions { result ≡ record { questions = []; stops = 0; asked = None } }
-        ensures state { ⟦<Quiet as Shim>⟧.state result ≡ record { told = []; stops = 0; last = None; asked = None } }
+        ensures state { ⟦<Quiet as Shim>⟧.state result ≡ record {
+          told = [];
+          stops = 0;
+          last = None;
+          asked = None;
+        } }
     {
         Quiet {
             questions: Vec::new(alloc),
@@ -42,8 +52,15 @@ impl Quiet {
 
     // Keeps a question as answered, where there is memory for it.
     fn keep(&mut self, question: Question) -> Result<(), ShimStop>
-        ensures ok { OnOk result (self.new ≡ record self.old { questions = self.old.questions ++ question ∷ []; asked = None }) }
-        ensures err { IfErr result (λ stop. (stop ≡ ShimStop.Memory) × (self.new ≡ record self.old { stops = counted self.old.stops; asked = Some question })) }
+        ensures ok { OnOk result (self.new ≡ record self.old {
+          questions = self.old.questions ++ question ∷ [];
+          asked = None;
+        }) }
+        ensures err { IfErr result (λ stop. (stop ≡ ShimStop.Memory)
+            × (self.new ≡ record self.old {
+              stops = counted self.old.stops;
+              asked = Some question;
+            })) }
     {
         if self.questions.push(question).is_err() {
             self.stops = self.stops.saturating_add(1);
@@ -88,40 +105,4 @@ impl Shim for Quiet {
     ghost reflexive = { λ s. follows_itself (shown s) };
 
     ghost transitive = { λ s t u p q. follows_on (shown s) (shown t) (shown u) p q };
-}
-
-#[cfg(test)]
-mod tests {
-    use super::*;
-    use dos_world::Post;
-
-    #[test]
-    fn no_signal_comes(rt: HostRuntime) {
-        let mut shim = Quiet::new(rt.alloc());
-        let mut list = SignalList::new();
-        list.push(Post { pid: 1, signal: 9 });
-        assert_eq!(rt; shim.signals(1, &mut list), Ok(()));
-        assert_eq!(rt; list.len(), 0);
-    }
-
-    #[test]
-    fn the_input_is_at_its_end(rt: HostRuntime) {
-        let mut shim = Quiet::new(rt.alloc());
-        let mut buf = [7; 4];
-        assert_eq!(rt; shim.input(1, 1, &mut buf), Ok(0));
-        assert_eq!(rt; buf, [7; 4]);
-    }
-
-    #[test]
-    fn the_clock_stands_still(rt: HostRuntime) {
-        let mut shim = Quiet::new(rt.alloc());
-        assert_eq!(rt; shim.clock(1, 1), Ok(0));
-        assert_eq!(rt; shim.clock(2, 1), Ok(0));
-    }
-
-    #[test]
-    fn the_end_is_taken(rt: HostRuntime) {
-        let mut shim = Quiet::new(rt.alloc());
-        assert_eq!(rt; shim.end(Ending::Done, 3), Ok(()));
-    }
 }

@@ -17,7 +17,8 @@ pub trait Sink {
     /// How often a put has failed. It never falls, and stands still at 2^64 - 1.
     ghost faults: { Self → ℕ };
 
-    /// Puts the piece behind the bytes so far. After a fault a front of it may have been put, of any length.
+    /// Puts the piece behind the bytes so far. After a fault a front of it may have been put, of
+    /// any length.
     fn put(&mut self, piece: &[u8]) -> Result<(), SinkFault>
         ensures ok { OnOk result (told self.new ≡ grown (told self.old) piece.now) }
         ensures err { OnErr result (GrewByFront (told self.old) (told self.new) piece.now) }

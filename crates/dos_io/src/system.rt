@@ -1,4 +1,5 @@
-// The outside over std. It tells nothing that all sinks and files tell; what its writers and readers did stands in its own clauses.
+// The outside over std. It tells nothing that all sinks and files tell; what its writers and
+// readers did stands in its own clauses.
 ghost use Rattle.std.specs.Prelude.{◌≡◌, ◌≢◌, None, false, ◌<◌, ◌≤◌, ◌+◌, ℕ, List, length, IfOk, OnOk, OnErr, IfErr, IfSome, IsErrOf};
 ghost use Rattle.std.specs.Io.KnownBytes.{Appends, Consumes, IsAtEnd};
 ghost use Rattle.dos_io.specs.Outside.{HasCause, counted};
@@ -9,8 +10,9 @@ use std::alloc::Global;
 use std::fs;
 use std::io::{Read, Write};
 
-/// A standard stream of the process, over a writer to it. What a guest writes need not be text, and of a writer a
-/// clause can say that it took the bytes; std's own traits for the streams say nothing.
+/// A standard stream of the process, over a writer to it. What a guest writes need not be text, and
+/// of a writer a clause can say that it took the bytes; std's own traits for the streams say
+/// nothing.
 #[derive(Drop)]
 pub struct StdStream<W: Write> {
     writer: W,
@@ -34,20 +36,26 @@ impl<W: Write> StdStream<W> {
 }
 
 impl<W: Write> Sink for StdStream<W> {
-    // A writer of which nothing is known may come to be known at any call, so it is no sink that tells.
+    // A writer of which nothing is known may come to be known at any call, so it is no sink that
+    // tells.
     ghost told = { λ _. None };
 
     ghost faults = { λ s. s.faults };
 
-    /// Where it is known what the writer holds, that grew by the piece. The count of faults rises by one at a fault,
-    /// and at no other call.
+    /// Where it is known what the writer holds, that grew by the piece. The count of faults rises
+    /// by one at a fault, and at no other call.
     fn put(&mut self, piece: &[u8]) -> Result<(), SinkFault>
-        ensures written { OnOk result (Appends (written W.contents self.old) (written W.contents self.new) piece.now) }
-        ensures steady { OnOk result (⟦<StdStream<W> as Sink>⟧.faults self.new ≡ ⟦<StdStream<W> as Sink>⟧.faults self.old) }
-        ensures counted { OnErr result (⟦<StdStream<W> as Sink>⟧.faults self.new ≡ counted (⟦<StdStream<W> as Sink>⟧.faults self.old)) }
+        ensures written { OnOk result (Appends (written W.contents self.old)
+            (written W.contents self.new)
+            piece.now) }
+        ensures steady { OnOk result (⟦<StdStream<W> as Sink>⟧.faults self.new
+            ≡ ⟦<StdStream<W> as Sink>⟧.faults self.old) }
+        ensures counted { OnErr result (⟦<StdStream<W> as Sink>⟧.faults self.new
+            ≡ counted (⟦<StdStream<W> as Sink>⟧.faults self.old)) }
 
         // As of every sink.
-        ensures cause { HasCause (⟦<StdStream<W> as Sink>⟧.faults self.old) (⟦<StdStream<W> as Sink>⟧.faults self.new) result }
+        ensures cause { HasCause (⟦<StdStream<W> as Sink>⟧.faults self.old)
+            (⟦<StdStream<W> as Sink>⟧.faults self.new) result }
     {
         match self.writer.write_all(piece) {
             Ok(()) => Ok(()),
@@ -94,11 +102,14 @@ const PIECE: usize = 4096;
 
 // All that a reader has left, where that is at most the limit. It takes at most one byte more.
 fn read_whole<I: Read>(alloc: Global, input: &mut I, limit: u64) -> Result<Vec<u8>, FileError>
-    ensures bytes { IfOk result (λ v. Consumes (I.remaining input.old) (I.remaining input.new) v.items) }
+    ensures bytes { IfOk result (λ v. Consumes (I.remaining input.old)
+        (I.remaining input.new) v.items) }
     ensures end { OnOk result (IsAtEnd (I.remaining input.new)) }
     ensures within { IfOk result (λ v. length v.items ≤ limit) }
-    ensures too_long { IsErrOf result FileError.TooLong → IfSome (I.remaining input.old) (λ had. limit < length had) }
-    ensures taken { (bs : List ℕ) × Consumes (I.remaining input.old) (I.remaining input.new) bs × (length bs ≤ limit + 1) }
+    ensures too_long { IsErrOf result FileError.TooLong → IfSome (I.remaining input.old)
+        (λ had. limit < length had) }
+    ensures taken { (bs : List ℕ) × Consumes (I.remaining input.old) (I.remaining input.new) bs
+        × (length bs ≤ limit + 1) }
 {
     let mut bytes = Vec::new(alloc);
     let mut piece = [0; PIECE];
@@ -123,15 +134,20 @@ impl<'a, R: fs::Files> Files for StdFiles<'a, R> {
 
     ghost faults = { λ s. s.faults };
 
-    /// What a file gave, to its end, of which it takes at most one byte more than the limit. The count of faults rises
-    /// by one at a fault, and at no other answer.
+    /// What a file gave, to its end, of which it takes at most one byte more than the limit. The
+    /// count of faults rises by one at a fault, and at no other answer.
     fn get(&mut self, name: &str, limit: u64) -> Result<Vec<u8>, FileError>
         ensures gave { IfOk result (λ v. Gave R.File.remaining v.items) }
         ensures within { IfOk result (λ v. length v.items ≤ limit) }
         ensures longer { IsErrOf result FileError.TooLong → GaveMore R.File.remaining limit }
-        ensures counted { IsErrOf result FileError.Fault → ⟦<StdFiles<'a, R> as Files>⟧.faults self.new ≡ counted (⟦<StdFiles<'a, R> as Files>⟧.faults self.old) }
-        ensures steady { result ≢ Err FileError.Fault → ⟦<StdFiles<'a, R> as Files>⟧.faults self.new ≡ ⟦<StdFiles<'a, R> as Files>⟧.faults self.old }
-        ensures later { ⟦<StdFiles<'a, R> as Files>⟧.faults self.old ≤ ⟦<StdFiles<'a, R> as Files>⟧.faults self.new }
+        ensures counted { IsErrOf result FileError.Fault
+            → ⟦<StdFiles<'a, R> as Files>⟧.faults self.new
+            ≡ counted (⟦<StdFiles<'a, R> as Files>⟧.faults self.old) }
+        ensures steady { result ≢ Err FileError.Fault → ⟦<StdFiles<'a, R> as Files>⟧.faults self.new
+            ≡ ⟦<StdFiles<'a, R> as Files>⟧.faults self.old }
+        ensures later { ⟦<StdFiles<'a, R> as Files>⟧.faults self.old
+            ≤ ⟦<StdFiles<'a, R> as Files>⟧.faults
+            self.new }
     {
         let Ok(mut file) = fs::open(self.rt, name) else {
             return self.fault();
@@ -142,13 +158,18 @@ impl<'a, R: fs::Files> Files for StdFiles<'a, R> {
         }
     }
 
-    /// A file took the bytes, or it is a fault. The count of faults rises by one at a fault, and at no other answer.
+    /// A file took the bytes, or it is a fault. The count of faults rises by one at a fault, and at
+    /// no other answer.
     fn set(&mut self, name: &str, bytes: &[u8]) -> Result<(), FileError>
         ensures took { OnOk result (Took R.File.contents bytes.now) }
-        ensures steady { OnOk result (⟦<StdFiles<'a, R> as Files>⟧.faults self.new ≡ ⟦<StdFiles<'a, R> as Files>⟧.faults self.old) }
+        ensures steady { OnOk result (⟦<StdFiles<'a, R> as Files>⟧.faults self.new
+            ≡ ⟦<StdFiles<'a, R> as Files>⟧.faults self.old) }
         ensures fault { IfErr result (λ e. e ≡ FileError.Fault) }
-        ensures counted { OnErr result (⟦<StdFiles<'a, R> as Files>⟧.faults self.new ≡ counted (⟦<StdFiles<'a, R> as Files>⟧.faults self.old)) }
-        ensures later { ⟦<StdFiles<'a, R> as Files>⟧.faults self.old ≤ ⟦<StdFiles<'a, R> as Files>⟧.faults self.new }
+        ensures counted { OnErr result (⟦<StdFiles<'a, R> as Files>⟧.faults self.new
+            ≡ counted (⟦<StdFiles<'a, R> as Files>⟧.faults self.old)) }
+        ensures later { ⟦<StdFiles<'a, R> as Files>⟧.faults self.old
+            ≤ ⟦<StdFiles<'a, R> as Files>⟧.faults
+            self.new }
     {
         let Ok(mut file) = fs::create(self.rt, name) else {
             return self.fault();
@@ -157,61 +178,5 @@ impl<'a, R: fs::Files> Files for StdFiles<'a, R> {
             Ok(()) => Ok(()),
             Err(_) => self.fault(),
         }
-    }
-}
-
-#[cfg(test)]
-mod tests {
-    use super::*;
-    use std::io;
-    use std::test::Fail;
-
-    // A writer that takes `room` bytes, and refuses the next.
-    #[derive(Drop)]
-    struct Full {
-        room: usize,
-    }
-
-    impl Write for Full {
-        fn write(&mut self, piece: &[u8]) -> io::Result<usize> {
-            if self.room == 0 {
-                return Err(io::ErrorKind::StorageFull.into());
-            }
-            let count = piece.len().min(self.room);
-            self.room -= count;
-            Ok(count)
-        }
-
-        fn flush(&mut self) -> io::Result<()> {
-            Ok(())
-        }
-    }
-
-    #[test]
-    fn the_standard_sinks_take_bytes(rt: HostRuntime) {
-        assert_eq!(rt; StdOut::new(rt.stdout()).put(b"out\xff\n"), Ok(()));
-        assert_eq!(rt; StdErr::new(rt.stderr()).put(b"err\xff\n"), Ok(()));
-    }
-
-    #[test]
-    fn a_writer_that_is_full_is_a_fault(rt: HostRuntime) {
-        let mut sink = StdErr::new(Full { room: 3 });
-        assert_eq!(rt; sink.put(b"ab"), Ok(()));
-        assert_eq!(rt; sink.put(b"cd"), Err(SinkFault));
-    }
-
-    #[test]
-    fn files_are_read_within_their_limit(rt: HostRuntime) -> Result<(), Fail> {
-        let mut files = StdFiles::new(&rt, rt.alloc());
-        assert_eq!(rt; files.get("none", 9).err(), Some(FileError::Fault));
-        let content = vec![in rt.alloc(); 7u8; 9000]?;
-        files.set("nine", &content)?;
-        assert_eq!(rt; files.get("nine", 9000)?.as_slice(), content.as_slice());
-        assert_eq!(rt; files.get("nine", 8999).err(), Some(FileError::TooLong));
-        assert_eq!(rt; files.get("nine", 0).err(), Some(FileError::TooLong));
-        assert_eq!(rt; files.set("no/such/folder", b"x"), Err(FileError::Fault));
-        files.set("nine", b"")?;
-        assert_eq!(rt; files.get("nine", 0)?.len(), 0);
-        Ok(())
     }
 }

@@ -23,22 +23,37 @@ pub record Spells (kind : ℕ) (bytes : List ℕ) (x : Exchange × List ℕ) : T
   pub takes : Takes (kind ∷ bytes) (entry_text x.0) x.1
   pub fits : InRange x.0
 
-behind : (kind : ℕ) (bytes text rest : List ℕ) → Takes bytes text rest → Takes (kind ∷ bytes) (kind ∷ text) rest
-behind kind bytes text rest t = record { parts = ap (λ (w : List ℕ). kind ∷ w) t.parts; rest_fits = t.rest_fits }
+behind : (kind : ℕ) (bytes text rest : List ℕ) → Takes bytes text rest
+    → Takes (kind ∷ bytes) (kind ∷ text) rest
+behind kind bytes text rest t = record {
+  parts = ap (λ (w : List ℕ). kind ∷ w) t.parts;
+  rest_fits = t.rest_fits;
+}
 
-clock_takes : (end : ℕ) (bytes : List ℕ) (x : Exchange × List ℕ) → IsBytes bytes → clock_at end bytes ≡ Ok x → Spells 3 bytes x
+clock_takes : (end : ℕ) (bytes : List ℕ) (x : Exchange × List ℕ) → IsBytes bytes
+    → clock_at end bytes ≡ Ok x → Spells 3 bytes x
 unfolding clock_at
 clock_takes end bytes x fits e =
     let a = number_then w32 _ wide32 end bytes _ x fits e in
     let b = number_then w32 _ wide32 end a.rest _ x a.takes.rest_fits a.more in
     let c = number_then w64 _ wide64 end b.rest _ x b.takes.rest_fits b.more in
     subst (Spells 3 bytes) (ok_is (Clock a.n b.n c.n, c.rest) x c.more)
-    (record { takes = behind 3 _ _ _ (then _ _ _ _ _ a.takes (then _ _ _ _ _ b.takes c.takes)); fits = record { round_fits = a.most; tid_fits = b.most; reading = c.most } })
+    (record {
+      takes = behind 3 _ _ _ (then _ _ _ _ _ a.takes (then _ _ _ _ _ b.takes c.takes));
+      fits = record { round_fits = a.most; tid_fits = b.most; reading = c.most };
+    })
 
-clock_again : (end round tid n : ℕ) (rest : List ℕ) → FitsClock round tid n → clock_at end (behind_kind (Clock round tid n) ++ rest) ≡ Ok (Clock round tid n, rest)
+clock_again : (end round tid n : ℕ) (rest : List ℕ) → FitsClock round tid n
+    → clock_at end (behind_kind (Clock round tid n) ++ rest) ≡ Ok (Clock round tid n, rest)
 unfolding clock_at
 clock_again end round tid n rest fits =
-    rw (number_again w32 _ wide32 end round (to_le_bytes w32 tid ++ (to_le_bytes w64 n ++ rest)) fits.round_fits, number_again w32 _ wide32 end tid (to_le_bytes w64 n ++ rest) fits.tid_fits, number_again w64 _ wide64 end n rest fits.reading) refl
+    rw (
+      number_again w32 _ wide32 end round (to_le_bytes w32 tid ++ (to_le_bytes w64 n ++ rest))
+          fits.round_fits,
+      number_again w32 _ wide32 end tid (to_le_bytes w64 n ++ rest)
+          fits.tid_fits,
+      number_again w64 _ wide64 end n rest fits.reading,
+    ) refl
 
 -- ---- the end
 
@@ -58,7 +73,8 @@ code_low Done = omega arith
 code_low Limit = omega arith
 code_low Stalled = omega arith
 
-end_takes : (end : ℕ) (bytes : List ℕ) (x : Exchange × List ℕ) → IsBytes bytes → end_at end bytes ≡ Ok x → Spells 0 bytes x
+end_takes : (end : ℕ) (bytes : List ℕ) (x : Exchange × List ℕ) → IsBytes bytes
+    → end_at end bytes ≡ Ok x → Spells 0 bytes x
 unfolding end_at
 end_takes end bytes x fits e =
     let a = ranged_byte_then 0 2 end bytes _ x fits e in
@@ -66,47 +82,93 @@ end_takes end bytes x fits e =
     let code : ending_code (ending_by a.n) ≡ a.n = ending_back a.n a.most in
     let text = behind 0 _ _ _ (then _ _ _ _ _ a.takes b.takes) in
     subst (Spells 0 bytes) (ok_is (End (ending_by a.n) b.n, b.rest) x b.more)
-    (record { takes = subst (λ (k : ℕ). Takes (0 ∷ bytes) (0 ∷ (one k ++ to_le_bytes w32 b.n)) b.rest) (sym code) text; fits = b.most })
+    (record {
+      takes = subst (λ (k : ℕ). Takes (0 ∷ bytes) (0 ∷ (one k ++ to_le_bytes w32 b.n)) b.rest)
+          (sym code)
+          text;
+      fits = b.most;
+    })
 
-end_again : (end : ℕ) (ending : Ending) (rounds : ℕ) (rest : List ℕ) → rounds < 2 ^ 32 → end_at end (behind_kind (End ending rounds) ++ rest) ≡ Ok (End ending rounds, rest)
+end_again : (end : ℕ) (ending : Ending) (rounds : ℕ) (rest : List ℕ) → rounds < 2 ^ 32
+    → end_at end (behind_kind (End ending rounds) ++ rest) ≡ Ok (End ending rounds, rest)
 unfolding end_at
 end_again end ending rounds rest lt =
-    rw (ranged_byte_again 0 2 end (ending_code ending) (to_le_bytes w32 rounds ++ rest) (omega arith) (code_low ending), number_again w32 _ wide32 end rounds rest lt, ending_again ending) refl
+    rw (
+      ranged_byte_again 0 2 end (ending_code ending) (to_le_bytes w32 rounds ++ rest)
+          (omega arith) (code_low ending),
+      number_again w32 _ wide32 end rounds rest lt,
+      ending_again
+          ending,
+    ) refl
 
 -- ---- signals
 
-post_takes : (end : ℕ) (bytes : List ℕ) (x : Post × List ℕ) → IsBytes bytes → post_at end bytes ≡ Ok x → Takes bytes (post_text x.0) x.1 × FitsPost x.0
+post_takes : (end : ℕ) (bytes : List ℕ) (x : Post × List ℕ) → IsBytes bytes
+    → post_at end bytes ≡ Ok x → Takes bytes (post_text x.0) x.1 × FitsPost x.0
 unfolding post_at
 post_takes end bytes x fits e =
     let a = number_then w32 _ wide32 end bytes _ x fits e in
     let b = ranged_byte_then 1 31 end a.rest _ x a.takes.rest_fits a.more in
-    subst (λ (y : Post × List ℕ). Takes bytes (post_text y.0) y.1 × FitsPost y.0) (ok_is (record { pid = a.n; signal = b.n }, b.rest) x b.more)
-    (then _ _ _ _ _ a.takes b.takes, record { pid = a.most; low = b.least; high = omega (arith, b.most) })
+    subst (λ (y : Post × List ℕ). Takes bytes (post_text y.0) y.1 × FitsPost y.0)
+    (ok_is (record { pid = a.n; signal = b.n }, b.rest) x b.more) (
+      then _ _ _ _ _ a.takes b.takes,
+      record {
+        pid = a.most;
+        low = b.least;
+        high = omega (arith, b.most);
+      },
+    )
 
-post_again : (end : ℕ) (post : Post) (rest : List ℕ) → FitsPost post → post_at end (post_text post ++ rest) ≡ Ok (post, rest)
+post_again : (end : ℕ) (post : Post) (rest : List ℕ) → FitsPost post
+    → post_at end (post_text post ++ rest) ≡ Ok (post, rest)
 unfolding post_at
 post_again end post rest fits =
-    rw (number_again w32 _ wide32 end post.pid (post.signal ∷ rest) fits.pid, ranged_byte_again 1 31 end post.signal rest fits.low fits.high) refl
+    rw (
+      number_again w32 _ wide32 end post.pid (post.signal ∷ rest) fits.pid,
+      ranged_byte_again 1 31
+          end post.signal rest fits.low fits.high,
+    ) refl
 
-signals_take : (end : ℕ) (bytes : List ℕ) (x : Exchange × List ℕ) → IsBytes bytes → signals_at end bytes ≡ Ok x → Spells 1 bytes x
+signals_take : (end : ℕ) (bytes : List ℕ) (x : Exchange × List ℕ) → IsBytes bytes
+    → signals_at end bytes ≡ Ok x → Spells 1 bytes x
 unfolding signals_at
 signals_take end bytes x fits e =
     let a = number_then w32 _ wide32 end bytes _ x fits e in
     let b = ranged_byte_then 0 32 end a.rest _ x a.takes.rest_fits a.more in
     let c = bind_ok (many_at post_at b.n end b.rest) _ x b.more in
-    let p = many_take post_at post_text FitsPost post_takes b.n end b.rest c.0 b.takes.rest_fits c.1 in
+    let p = many_take post_at post_text FitsPost post_takes b.n end b.rest c.0 b.takes.rest_fits
+    c.1 in
     let text = behind 1 _ _ _ (then _ _ _ _ _ a.takes (then _ _ _ _ _ b.takes p.takes)) in
     subst (Spells 1 bytes) (ok_is (Signals a.n c.0.0, c.0.1) x c.2)
-    (record { takes = subst (λ (k : ℕ). Takes (1 ∷ bytes) (1 ∷ (to_le_bytes w32 a.n ++ (one k ++ flat_map post_text c.0.0))) c.0.1) (sym p.count) text; fits = record { round_fits = a.most; count = omega (arith, b.most, p.count); posts = p.fits } })
+    (record {
+      takes = subst (λ (k : ℕ).
+          Takes (1 ∷ bytes) (1 ∷ (to_le_bytes w32 a.n ++ (one k ++ flat_map post_text c.0.0)))
+          c.0.1)
+          (sym p.count) text;
+      fits = record {
+        round_fits = a.most;
+        count = omega (arith, b.most, p.count);
+        posts = p.fits;
+      };
+    })
 
-signals_again : (end round : ℕ) (list : List Post) (rest : List ℕ) → FitsSignals round list → signals_at end (behind_kind (Signals round list) ++ rest) ≡ Ok (Signals round list, rest)
+signals_again : (end round : ℕ) (list : List Post) (rest : List ℕ) → FitsSignals round list
+    → signals_at end (behind_kind (Signals round list) ++ rest) ≡ Ok (Signals round list, rest)
 unfolding signals_at
 signals_again end round list rest fits =
-    rw (number_again w32 _ wide32 end round (length list ∷ (flat_map post_text list ++ rest)) fits.round_fits, ranged_byte_again 0 32 end (length list) (flat_map post_text list ++ rest) (omega arith) fits.count, many_again post_at post_text FitsPost post_again end list rest fits.posts) refl
+    rw (
+      number_again w32 _ wide32 end round (length list ∷ (flat_map post_text list ++ rest))
+          fits.round_fits,
+      ranged_byte_again 0 32 end (length list) (flat_map post_text list ++ rest)
+          (omega arith) fits.count,
+      many_again post_at post_text FitsPost post_again end list rest
+          fits.posts,
+    ) refl
 
 -- ---- an input
 
-input_takes : (end : ℕ) (bytes : List ℕ) (x : Exchange × List ℕ) → IsBytes bytes → input_at end bytes ≡ Ok x → Spells 2 bytes x
+input_takes : (end : ℕ) (bytes : List ℕ) (x : Exchange × List ℕ) → IsBytes bytes
+    → input_at end bytes ≡ Ok x → Spells 2 bytes x
 unfolding input_at
 input_takes end bytes x fits e =
     let a = number_then w32 _ wide32 end bytes _ x fits e in
@@ -115,14 +177,26 @@ input_takes end bytes x fits e =
     let d = ranged_then w16 _ wide16 0 c.n end c.rest _ x c.takes.rest_fits c.more in
     let f = bind_ok (bytes_at d.n end d.rest) _ x d.more in
     let p = bytes_take d.n end d.rest f.0.0 f.0.1 d.takes.rest_fits f.1 in
-    let text = behind 2 _ _ _ (then _ _ _ _ _ a.takes (then _ _ _ _ _ b.takes (then _ _ _ _ _ c.takes (then _ _ _ _ _ d.takes p.0)))) in
+    let text = behind 2 _ _ _ (then _ _ _ _ _ a.takes
+    (then _ _ _ _ _ b.takes (then _ _ _ _ _ c.takes (then _ _ _ _ _ d.takes p.0)))) in
     subst (Spells 2 bytes) (ok_is (Input a.n b.n c.n f.0.0, f.0.1) x f.2)
     (record {
-      takes = subst (λ (k : ℕ). Takes (2 ∷ bytes) (2 ∷ (to_le_bytes w32 a.n ++ (to_le_bytes w32 b.n ++ (to_le_bytes w16 c.n ++ (to_le_bytes w16 k ++ f.0.0))))) f.0.1) (sym p.1) text;
-      fits = record { round_fits = a.most; tid_fits = b.most; max_fits = (c.least, omega (arith, c.most)); short = omega (arith, d.most, p.1); bytes_fit = p.2 };
+      takes = subst (λ (k : ℕ). Takes (2 ∷ bytes)
+          (2 ∷ (to_le_bytes w32 a.n ++ (to_le_bytes w32
+          b.n ++ (to_le_bytes w16 c.n ++ (to_le_bytes w16 k ++ f.0.0))))) f.0.1) (sym p.1) text;
+      fits = record {
+        round_fits = a.most;
+        tid_fits = b.most;
+        max_fits = (c.least, omega (arith, c.most));
+        short =
+            omega (arith, d.most, p.1);
+        bytes_fit = p.2;
+      };
     })
 
-input_again : (end round tid max : ℕ) (bytes rest : List ℕ) → FitsInput round tid max bytes → input_at end (behind_kind (Input round tid max bytes) ++ rest) ≡ Ok (Input round tid max bytes, rest)
+input_again : (end round tid max : ℕ) (bytes rest : List ℕ) → FitsInput round tid max bytes
+    → input_at end (behind_kind (Input round tid max bytes) ++ rest)
+    ≡ Ok (Input round tid max bytes, rest)
 unfolding input_at
 input_again end round tid max bytes rest fits =
     let r3 : List ℕ = to_le_bytes w16 (length bytes) ++ (bytes ++ rest) in
@@ -130,8 +204,10 @@ input_again end round tid max bytes rest fits =
     rw (
       number_again w32 _ wide32 end round (to_le_bytes w32 tid ++ r2) fits.round_fits,
       number_again w32 _ wide32 end tid r2 fits.tid_fits,
-      ranged_again w16 _ wide16 1 4096 end max r3 (omega (arith, fits.max_fits.1)) fits.max_fits.0 fits.max_fits.1,
-      ranged_again w16 _ wide16 0 max end (length bytes) (bytes ++ rest) (omega (arith, fits.max_fits.1, fits.short)) (omega arith) fits.short,
+      ranged_again w16 _ wide16 1 4096 end max r3 (omega (arith, fits.max_fits.1)) fits.max_fits.0
+          fits.max_fits.1,
+      ranged_again w16 _ wide16 0 max end (length bytes) (bytes ++ rest)
+          (omega (arith, fits.max_fits.1, fits.short)) (omega arith) fits.short,
       bytes_again end bytes rest,
     ) refl
 
@@ -141,23 +217,27 @@ pub record SpellsEntry (bytes : List ℕ) (x : Exchange × List ℕ) : Type 0 wh
   pub takes : Takes bytes (entry_text x.0) x.1
   pub fits : InRange x.0
 
-of_kind : (at kind end : ℕ) (bytes : List ℕ) (x : Exchange × List ℕ) → IsBytes bytes → entry_of_kind at kind end bytes ≡ Ok x → Spells kind bytes x
+of_kind : (at kind end : ℕ) (bytes : List ℕ) (x : Exchange × List ℕ) → IsBytes bytes
+    → entry_of_kind at kind end bytes ≡ Ok x → Spells kind bytes x
 of_kind at zero end bytes x fits e = end_takes end bytes x fits e
 of_kind at (suc zero) end bytes x fits e = signals_take end bytes x fits e
 of_kind at (suc (suc zero)) end bytes x fits e = input_takes end bytes x fits e
 of_kind at (suc (suc (suc zero))) end bytes x fits e = clock_takes end bytes x fits e
 of_kind at (suc (suc (suc (suc n)))) end bytes x fits e = absurd cc
 
-pub entry_takes : (end : ℕ) (bytes : List ℕ) (x : Exchange × List ℕ) → IsBytes bytes → entry_at end bytes ≡ Ok x → SpellsEntry bytes x
+pub entry_takes : (end : ℕ) (bytes : List ℕ) (x : Exchange × List ℕ) → IsBytes bytes
+    → entry_at end bytes ≡ Ok x → SpellsEntry bytes x
 unfolding entry_at
 entry_takes end [] x fits e = absurd cc
 entry_takes end (kind ∷ bytes) x fits e =
     let s = of_kind (place end (kind ∷ bytes)) kind end bytes x (λ i. fits (suc i)) e in
     record { takes = s.takes; fits = s.fits }
 
-pub entry_again : (end : ℕ) (e : Exchange) (rest : List ℕ) → InRange e → entry_at end (entry_text e ++ rest) ≡ Ok (e, rest)
+pub entry_again : (end : ℕ) (e : Exchange) (rest : List ℕ) → InRange e
+    → entry_at end (entry_text e ++ rest) ≡ Ok (e, rest)
 unfolding entry_at
 entry_again end (Signals round list) rest fits = signals_again end round list rest fits
-entry_again end (Input round tid max bytes) rest fits = input_again end round tid max bytes rest fits
+entry_again end (Input round tid max bytes) rest fits =
+    input_again end round tid max bytes rest fits
 entry_again end (Clock round tid n) rest fits = clock_again end round tid n rest fits
 entry_again end (End ending rounds) rest fits = end_again end ending rounds rest fits

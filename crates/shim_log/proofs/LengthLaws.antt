@@ -16,31 +16,45 @@ use Rattle.shim_log.proofs.LogLaws.{log_takes, log_again, entries_short}
 
 posts_length : (list : List Post) → length (flat_map post_text list) ≡ 5 * length list
 posts_length [] = refl
-posts_length (post ∷ list) = ap length (flat_map-cons post_text post list) ∙ length-append (post_text post) (flat_map post_text list) ∙ omega (arith, posts_length list)
+posts_length (post ∷ list) = ap length (flat_map-cons post_text post list)
+    ∙ length-append (post_text post) (flat_map post_text list) ∙ omega (arith, posts_length list)
 
-digests_length : (digests : List (List ℕ)) → AreDigests digests → length (concat digests) ≡ 32 * length digests
+digests_length : (digests : List (List ℕ)) → AreDigests digests
+    → length (concat digests) ≡ 32 * length digests
 digests_length [] fits = refl
-digests_length (d ∷ ds) fits = length-append d (concat ds) ∙ omega (arith, fits.0.len, digests_length ds fits.1)
+digests_length (d ∷ ds) fits = length-append d (concat ds)
+    ∙ omega (arith, fits.0.len, digests_length ds fits.1)
 
-pub header_length : (h : LogHeader) → AreDigests h.digests → length (header_text h) ≡ 20 + 32 * length h.digests
+pub header_length : (h : LogHeader) → AreDigests h.digests
+    → length (header_text h) ≡ 20 + 32 * length h.digests
 header_length h fits = omega (arith, digests_length h.digests fits)
 
-pub signals_length : (round : ℕ) (list : List Post) → length (entry_text (Signals round list)) ≡ 6 + 5 * length list
+pub signals_length : (round : ℕ) (list : List Post)
+    → length (entry_text (Signals round list)) ≡ 6 + 5 * length list
 signals_length round list = omega (arith, posts_length list)
 
-pub input_length : (round tid max : ℕ) (bytes : List ℕ) → length (entry_text (Input round tid max bytes)) ≡ 13 + length bytes
+pub input_length : (round tid max : ℕ) (bytes : List ℕ)
+    → length (entry_text (Input round tid max bytes)) ≡ 13 + length bytes
 input_length round tid max bytes = omega arith
 
-pub text_length : (log : Log) → length (logtext log) ≡ length (header_text log.header) + length (entries_text log.entries) + 6
+pub text_length : (log : Log) → length (logtext log)
+    ≡ length (header_text log.header) + length (entries_text log.entries) + 6
 text_length log =
     let last : List ℕ = entry_text (End log.ending log.rounds) in
-    length-append (header_text log.header ++ entries_text log.entries) last ∙ ap (λ (n : ℕ). n + 6) (length-append (header_text log.header) (entries_text log.entries))
+    length-append (header_text log.header ++ entries_text log.entries) last
+    ∙ ap (λ (n : ℕ). n + 6) (length-append (header_text log.header) (entries_text log.entries))
 
 -- Each entry has a byte at least.
-pub ranges_of_read : (bytes : List ℕ) (log : Log) → IsBytes bytes → length bytes ≤ most_bytes → log_at bytes ≡ Ok log → FitsLog log
+pub ranges_of_read : (bytes : List ℕ) (log : Log) → IsBytes bytes → length bytes ≤ most_bytes
+    → log_at bytes ≡ Ok log → FitsLog log
 ranges_of_read bytes log fits short read =
     let s = log_takes bytes log fits read in
-    record { header = s.header; entries = s.entries; few = omega (arith, ap length s.text, text_length log, entries_short log.entries); rounds = s.rounds }
+    record {
+      header = s.header;
+      entries = s.entries;
+      few = omega (arith, ap length s.text, text_length log, entries_short log.entries);
+      rounds = s.rounds;
+    }
 
 pub one_log : (a b : Log) → FitsLog a → FitsLog b → logtext a ≡ logtext b → a ≡ b
 one_log a b p q same = ok_is a b (sym (log_again a p) ∙ ap log_at same ∙ log_again b q)

@@ -6,3 +6,11 @@ mod Texts
 mod Refused
 mod Rooms
 mod Lengths
+pub mod EntriesTextLaws
+pub mod PostLoop
+pub mod TailLoop
+pub mod WholeLaws
+pub mod ReplayLaws
+pub mod PostLaws
+pub mod LedgerLaws
+pub mod RecorderLaws

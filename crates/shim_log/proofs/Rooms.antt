@@ -15,17 +15,21 @@ abbrev IsFull : ℕ → Type 0
 IsFull bytes = most_bytes < 52 + 21 + bytes + 6
 
 -- signals of a round count with the round's posts
-signals_room : NoRoom smallest.header posts (Signals 1 [] ∷ Input 1 1 64 (codes "ab") ∷ []) (signals_question 2) ≡ IsFull 16
+signals_room : NoRoom smallest.header posts (Signals 1 [] ∷ Input 1 1 64 (codes "ab") ∷ [])
+    (signals_question 2) ≡ IsFull 16
 signals_room = refl
 
-quiet_room : NoRoom smallest.header posts (Signals 1 [] ∷ Input 1 1 64 (codes "ab") ∷ []) (signals_question 3) ≡ IsFull 6
+quiet_room : NoRoom smallest.header posts (Signals 1 [] ∷ Input 1 1 64 (codes "ab") ∷ [])
+    (signals_question 3) ≡ IsFull 6
 quiet_room = refl
 
 -- an input counts with all that was asked for
-input_room : NoRoom smallest.header posts (Signals 1 [] ∷ Input 1 1 64 (codes "ab") ∷ []) (input_question 1 1 4096) ≡ IsFull 4109
+input_room : NoRoom smallest.header posts (Signals 1 [] ∷ Input 1 1 64 (codes "ab") ∷ [])
+    (input_question 1 1 4096) ≡ IsFull 4109
 input_room = refl
 
-clock_room : NoRoom smallest.header posts (Signals 1 [] ∷ Input 1 1 64 (codes "ab") ∷ []) (clock_question 1 1) ≡ IsFull 17
+clock_room : NoRoom smallest.header posts (Signals 1 [] ∷ Input 1 1 64 (codes "ab") ∷ [])
+    (clock_question 1 1) ≡ IsFull 17
 clock_room = refl
 
 -- for the end there is always room

@@ -3,3 +3,10 @@ pub mod LogText
 pub mod Ranges
 pub mod Reading
 pub mod Room
+pub mod EntriesText
+pub mod Ledger
+pub mod RecorderFollows
+pub mod Gives
+pub mod Views
+pub mod Replay
+pub mod ReplayerFollows

@@ -53,7 +53,7 @@ impl Digests {
         self.len += 1;
     }
 
-    /// How many there are, at most 8.
+    /// How many there are, 0 to 8.
     pub fn len(&self) -> usize
         ensures value { result ≡ length self.now }
         ensures few { result ≤ 8 }

@@ -15,10 +15,13 @@ pub fn texts_are_read()
     ensures { (log : Log) → FitsLog log → log_at (logtext log) ≡ Ok log }
 {}
 
-/// Only the text of a log is read as it, so each log has one spelling. What is read of a text of at most 64 MiB is in its ranges.
+/// Only the text of a log is read as it, so each log has one spelling. What is read of a text of at
+/// most 64 MiB is in its ranges.
 pub fn only_texts_are_read()
-    ensures text { (bytes : List ℕ) (log : Log) → IsBytes bytes → log_at bytes ≡ Ok log → bytes ≡ logtext log }
-    ensures ranges { (bytes : List ℕ) (log : Log) → IsBytes bytes → length bytes ≤ most_bytes → log_at bytes ≡ Ok log → FitsLog log }
+    ensures text { (bytes : List ℕ) (log : Log) → IsBytes bytes → log_at bytes ≡ Ok log
+        → bytes ≡ logtext log }
+    ensures ranges { (bytes : List ℕ) (log : Log) → IsBytes bytes → length bytes ≤ most_bytes
+        → log_at bytes ≡ Ok log → FitsLog log }
 {}
 
 /// Different logs have different texts.
@@ -26,12 +29,18 @@ pub fn texts_differ()
     ensures { (a b : Log) → FitsLog a → FitsLog b → logtext a ≡ logtext b → a ≡ b }
 {}
 
-/// A text has the length of its header, its entries and the end; what a log has room for goes by these lengths.
+/// A text has the length of its header, its entries and the end; what a log has room for goes by
+/// these lengths.
 pub fn text_lengths()
-    ensures whole { (log : Log) → length (logtext log) ≡ length (header_text log.header) + length (entries_text log.entries) + 6 }
-    ensures header { (h : LogHeader) → AreDigests h.digests → length (header_text h) ≡ 20 + 32 * length h.digests }
-    ensures signals { (round : ℕ) (list : List Post) → length (entry_text (Signals round list)) ≡ 6 + 5 * length list }
-    ensures input { (round tid max : ℕ) (bytes : List ℕ) → length (entry_text (Input round tid max bytes)) ≡ 13 + length bytes }
+    ensures whole { (log : Log) → length (logtext log) ≡ length (header_text log.header) + length
+        (entries_text log.entries) + 6 }
+    ensures header { (h : LogHeader) → AreDigests h.digests
+        → length (header_text h) ≡ 20 + 32 * length h.digests }
+    ensures signals { (round : ℕ) (list : List Post) → length (entry_text (Signals round list))
+        ≡ 6 + 5 * length list }
+    ensures input { (round tid max : ℕ) (bytes : List ℕ)
+        → length (entry_text (Input round tid max bytes))
+        ≡ 13 + length bytes }
     ensures clock { (round tid n : ℕ) → length (entry_text (Clock round tid n)) ≡ 17 }
     ensures end { (ending : Ending) (rounds : ℕ) → length (entry_text (End ending rounds)) ≡ 6 }
 {}

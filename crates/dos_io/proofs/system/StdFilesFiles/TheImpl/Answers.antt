@@ -28,10 +28,13 @@ get-tells g c = record {
 pub set-tells : goal.set-tells
 set-tells g c = record {
   content = nothing_told c.result;
-  holds = never_told c.result (λ _. let untold : Option (List ℕ) = None in untold ≡ Some c.args.bytes.now);
+  holds = never_told c.result (λ _. let untold : Option (List ℕ) =
+      None in untold ≡ Some c.args.bytes.now);
   memory = λ _. refl;
-  never = λ is. let other : TooLong ≡ Fault = IfErr-at_err (λ e. e ≡ Fault) is c.ensures.fault in cc;
-  fault = λ is. let rose : c.new.self.now.faults ≡ counted c.args.self.now.faults = IfErr-at_err _ is c.ensures.counted in omega arith;
+  never = λ is. let other : TooLong ≡ Fault =
+      IfErr-at_err (λ e. e ≡ Fault) is c.ensures.fault in cc;
+  fault = λ is. let rose : c.new.self.now.faults ≡ counted c.args.self.now.faults =
+      IfErr-at_err _ is c.ensures.counted in omega arith;
   others = λ _ _. refl;
   tells = refl;
   later = c.ensures.later;

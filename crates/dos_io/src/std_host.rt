@@ -1,0 +1,114 @@
+// The host over std: a reader, and the system's clock.
+ghost use Rattle.std.specs.Prelude.{◌≡◌, ◌≤◌, ◌<◌, None, take, drop, length, IfOk, OnOk, OnErr};
+ghost use Rattle.std.specs.Io.KnownBytes.{Consumes, IsAtEnd, Keeps};
+ghost use Rattle.dos_io.specs.Outside.{HasCause, Rose, counted};
+ghost use Rattle.dos_io.specs.System.{unread};
+
+use crate::{Host, HostFault};
+use std::io::Read;
+use std::time::{Clock, SystemTime, UNIX_EPOCH};
+
+/// The most bytes that one question for input takes.
+const MOST: usize = 4096;
+
+/// The host of a real run: input from a reader, which is `rt.stdin()`, and the system's clock.
+///
+/// It tells nothing, since nobody knows what a terminal will give. What its reader gave stands in
+/// the clauses of `input`; std's clock says nothing of what it reads.
+#[derive(Drop)]
+pub struct StdHost<'a, R: Clock, I: Read> {
+    clock: &'a R,
+    reader: I,
+    faults: u64,
+}
+
+impl<'a, R: Clock, I: Read> StdHost<'a, R, I> {
+    /// A host over a reader and a clock, with no fault so far.
+    pub fn new(reader: I, clock: &'a R) -> StdHost<'a, R, I>
+        ensures reader { unread I.remaining result ≡ I.remaining reader }
+        ensures faults { ⟦<StdHost<'a, R, I> as Host>⟧.faults result ≡ 0 }
+    {
+        StdHost {
+            clock,
+            reader,
+            faults: 0,
+        }
+    }
+
+    // Counts a fault and answers it.
+    fn fault(&mut self) -> HostFault
+        ensures count { self.new.faults ≡ counted self.old.faults }
+        ensures later { self.old.faults ≤ self.new.faults }
+        ensures rose { Rose self.old.faults self.new.faults }
+        ensures reader { self.new.reader ≡ self.old.reader }
+    {
+        self.faults = self.faults.saturating_add(1);
+        HostFault {}
+    }
+}
+
+// Nanoseconds since 1970 by this clock; none before 1970, from 2^64 nanoseconds on, and where the
+// clock can't be read.
+fn nanoseconds(clock: &impl Clock) -> Option<u64> {
+    let now = SystemTime::now(clock).ok()?;
+    let since = now.duration_since(UNIX_EPOCH).ok()?;
+    u64::try_from(since.as_nanos()).ok()
+}
+
+impl<'a, R: Clock, I: Read> Host for StdHost<'a, R, I> {
+    // A reader of which nothing is known may come to be known at any call, so it is no host that
+    // tells.
+    ghost told = { λ _. None };
+
+    ghost faults = { λ s. s.faults };
+
+    /// One read of the reader, for as many bytes as `buf` has, and 4096 at most: so a piece of the
+    /// input is what the system gives at once. The count of faults rises by one at a fault, and at
+    /// no other answer.
+    fn input(&mut self, buf: &mut [u8]) -> Result<usize, HostFault>
+        requires { 0 < length buf.old }
+
+        // Where it is known what the reader has left, its front went into `buf`, and an answer of 0
+        // means that nothing is left; a fault takes nothing.
+        ensures gave { IfOk result (λ k. Consumes (unread I.remaining self.old)
+            (unread I.remaining self.new)
+            (take k buf.new)) }
+        ensures end { IfOk result (λ k. k ≡ 0 → IsAtEnd (unread I.remaining self.new)) }
+        ensures kept { OnErr result (Keeps (unread I.remaining self.old)
+            (unread I.remaining self.new)) }
+
+        ensures steady { OnOk result (self.new.faults ≡ self.old.faults) }
+        ensures counted { OnErr result (self.new.faults ≡ counted self.old.faults) }
+
+        // As of every host.
+        ensures short { IfOk result (λ k. k ≤ length buf.old) }
+        ensures rest { IfOk result (λ k. drop k buf.new ≡ drop k buf.old) }
+        ensures cause { HasCause self.old.faults self.new.faults result }
+    {
+        let mut piece = [0; MOST];
+        let wanted = buf.len().min(MOST);
+        let Ok(count) = self.reader.read(&mut piece[..wanted]) else {
+            return Err(self.fault());
+        };
+        buf[..count].copy_from_slice(&piece[..count]);
+        Ok(count)
+    }
+
+    /// Nanoseconds since 1970. It is a fault where the clock can't be read, before 1970, and from
+    /// 2^64 nanoseconds on. The count of faults rises by one at a fault, and at no other answer.
+    fn clock(&mut self) -> Result<u64, HostFault>
+        ensures reader { unread I.remaining self.new ≡ unread I.remaining self.old }
+        ensures steady { OnOk result (self.new.faults ≡ self.old.faults) }
+        ensures counted { OnErr result (self.new.faults ≡ counted self.old.faults) }
+
+        // As of every host.
+        ensures cause { HasCause self.old.faults self.new.faults result }
+    {
+        match nanoseconds(self.clock) {
+            Some(reading) => Ok(reading),
+            None => Err(self.fault()),
+        }
+    }
+
+    ghost filled = { λ _. tt };
+}

@@ -1,0 +1,31 @@
+//! A log cut at every length.
+use crate::texts::EACH_KIND;
+use shim_log::{LogError, ReadError, read_log};
+
+/// Where the fields of `EACH_KIND` begin.
+const FIELDS: [u64; 25] = [
+    0, 4, 6, 8, 12, 16, 20, 52, 53, 57, 58, 62, 63, 64, 68, 72, 74, 76, 78, 79, 83, 87, 95, 96, 97,
+];
+
+/// Where the field begins in which a text of this length ends.
+fn last_field(length: u64) -> u64 {
+    let mut place = 0;
+    for field in FIELDS {
+        if field <= length {
+            place = field;
+        }
+    }
+    place
+}
+
+#[test]
+fn a_log_cut_at_any_length_is_short_at_the_field_that_is_cut(rt: HostRuntime) {
+    for length in 0..EACH_KIND.len() {
+        let short = ReadError::Refused(LogError::Short(last_field(length as u64)));
+        assert_eq!(rt;
+            read_log(rt.alloc(), &EACH_KIND[..length]).err(),
+            Some(short)
+        );
+    }
+    assert_eq!(rt; read_log(rt.alloc(), &EACH_KIND).err(), None);
+}

@@ -1,0 +1,81 @@
+//! Each field of a log at and past each end of its range.
+use crate::texts::EACH_KIND;
+use shim_log::{LogError, ReadError, read_log};
+use std::alloc::Global;
+
+/// How `EACH_KIND` is read where the bytes from a place on are others; none where it is a log.
+fn refusal(alloc: Global, place: usize, bytes: &[u8]) -> Option<ReadError> {
+    let mut text = EACH_KIND;
+    for (to, from) in text.iter_mut().skip(place).zip(bytes) {
+        *to = *from;
+    }
+    read_log(alloc, &text).err()
+}
+
+/// Texts that are refused: the place, the bytes that stand there, and the refusal.
+const REFUSED: [(usize, &[u8], LogError); 25] = [
+    (0, &[0x43], LogError::Magic),
+    (3, &[0x4d], LogError::Magic),
+    (4, &[0, 0], LogError::Version(0)),
+    (4, &[2, 0], LogError::Version(2)),
+    (4, &[1, 1], LogError::Version(257)),
+    (6, &[0, 0], LogError::Header(6)),
+    (6, &[8, 0], LogError::Short(84)),
+    (6, &[9, 0], LogError::Header(6)),
+    (8, &[15, 0, 0, 0], LogError::Header(8)),
+    (8, &[1, 0, 1, 0], LogError::Header(8)),
+    (12, &[0, 0, 0, 0], LogError::Header(12)),
+    (12, &[0x41, 0x42, 0x0f, 0], LogError::Header(12)),
+    (16, &[15, 0, 0, 0], LogError::Header(16)),
+    (16, &[1, 0x40, 0, 0], LogError::Header(16)),
+    (52, &[4], LogError::Entry(52)),
+    (52, &[0], LogError::AfterEnd(58)),
+    (57, &[32], LogError::Entry(67)),
+    (57, &[33], LogError::Entry(57)),
+    (62, &[0], LogError::Entry(62)),
+    (62, &[32], LogError::Entry(62)),
+    (72, &[0, 0], LogError::Entry(72)),
+    (72, &[1, 0x10], LogError::Entry(72)),
+    (74, &[4, 0], LogError::Entry(74)),
+    (74, &[3, 0], LogError::AfterEnd(91)),
+    (96, &[3], LogError::Entry(96)),
+];
+
+/// Texts that are logs: the place, and the bytes that stand there.
+const READ: [(usize, &[u8]); 18] = [
+    (8, &[16, 0, 0, 0]),
+    (8, &[0, 0, 1, 0]),
+    (12, &[1, 0, 0, 0]),
+    (12, &[0x40, 0x42, 0x0f, 0]),
+    (16, &[16, 0, 0, 0]),
+    (16, &[0, 0x40, 0, 0]),
+    (20, &[0xff]),
+    (53, &[0xff, 0xff, 0xff, 0xff]),
+    (58, &[0xff, 0xff, 0xff, 0xff]),
+    (62, &[1]),
+    (62, &[31]),
+    (64, &[0xff, 0xff, 0xff, 0xff, 0xff, 0xff, 0xff, 0xff]),
+    (72, &[2, 0]),
+    (72, &[0, 0x10]),
+    (87, &[0xff, 0xff, 0xff, 0xff, 0xff, 0xff, 0xff, 0xff]),
+    (96, &[1]),
+    (96, &[2]),
+    (97, &[0xff, 0xff, 0xff, 0xff]),
+];
+
+#[test]
+fn what_is_out_of_its_range_is_refused_with_its_place(rt: HostRuntime) {
+    for (place, bytes, wrong) in REFUSED {
+        assert_eq!(rt;
+            refusal(rt.alloc(), place, bytes),
+            Some(ReadError::Refused(wrong))
+        );
+    }
+}
+
+#[test]
+fn each_end_of_each_range_is_read(rt: HostRuntime) {
+    for (place, bytes) in READ {
+        assert_eq!(rt; refusal(rt.alloc(), place, bytes), None);
+    }
+}

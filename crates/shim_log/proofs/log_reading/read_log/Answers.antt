@@ -1,0 +1,17 @@
+use Rattle.std.proofs.Common.{◌∙◌, ap, subst, arith}
+use Rattle.shim_log.specs.Gives.{ReadsAs}
+use Rattle.shim_log.specs.Reading.{log_at}
+use Rattle.shim_log.proofs.LogLaws.{log_again}
+use Rattle.shim_log.proofs.WholeLaws.{is_found}
+use Rattle.shim_log.proofs.log_reading.read_log.Goals as goal
+
+pub returns-clause-found : goal.returns-clause-found
+returns-clause-found c =
+    is_found c.args.bytes.now c.read_whole.result (λ i. omega (arith, c.type_inv.bytes i))
+    c.requires
+    c.read_whole.ensures
+
+pub returns-clause-only : goal.returns-clause-only
+returns-clause-only c = λ log fits e.
+    subst (λ read. ReadsAs c.read_whole.result read) (ap log_at e ∙ log_again log fits)
+    c.read_whole.ensures

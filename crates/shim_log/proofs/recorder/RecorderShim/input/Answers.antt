@@ -1,0 +1,32 @@
+use Rattle.std.proofs.Common.{arith, refl}
+use Rattle.shim_log.proofs.RecorderLaws.{adds_ok, adds_follow, given_input, stops_follow}
+use Rattle.shim_log.proofs.recorder.RecorderShim.input.Goals as goal
+
+pub returns-in-Ok-clause-ok : goal.returns-in-Ok-clause-ok
+returns-in-Ok-clause-ok g c = adds_ok c.args.self.now.ledger c.make_room.new.self _ _ _ _
+    c.requires.told c.in_ok-make_room.ensures.same c.add_input.ensures
+
+pub returns-in-Ok-clause-follows : goal.returns-in-Ok-clause-follows
+returns-in-Ok-clause-follows g c = (
+  refl,
+  adds_follow _ _ _ _ _ _ _ _ _ _ c.requires.told c.in_ok-make_room.ensures.same
+      c.add_input.ensures c.input.ensures.cause.later
+      (given_input _ _ _ _ _ _ _ _ _ c.in-Ok.ensures.told_ok c.in-Ok.ensures.bytes),
+)
+
+pub returns-in-Err-clause-follows : goal.returns-in-Err-clause-follows
+returns-in-Err-clause-follows g c = (
+  refl,
+  stops_follow c.args.self.now.ledger c.make_room.new.self c.stop.new.self
+      c.make_room.new.self.room _ _ _ _ _ _ c.in_ok-make_room.ensures.same c.stop.ensures.after
+      c.in-Err.ensures.told_err c.input.ensures.cause.later (λ _. c.in-Err.ensures.cause.failed),
+)
+
+pub returns-in_err-make_room-clause-follows : goal.returns-in_err-make_room-clause-follows
+returns-in_err-make_room-clause-follows g c = (
+  refl,
+  stops_follow c.args.self.now.ledger
+      (record c.args.self.now.ledger { room = c.make_room.new.self.room }) c.make_room.new.self
+      c.make_room.new.self.room _ _ _ _ _ _ refl c.in_err-make_room.ensures.err.1 refl (omega arith)
+      (λ e. absurd (c.in_err-make_room.ensures.err.0 e)),
+)

@@ -1,0 +1,56 @@
+-- What a replayer keeps, and what it makes of it. This project's own rule.
+use Rattle.std.specs.Prelude.{◌≡◌, ◌≢◌, ◌≤◌, ◌+◌, ℕ, take, length, Option, Some, None, option_map, IfSome}
+use Rattle.std.specs.List.{slice_get}
+use Rattle.dos_world.specs.declared.Question.{Question}
+use Rattle.dos_io.specs.declared.shim.ShimStop.{ShimStop}
+use Rattle.dos_io.specs.declared.shim.ShimStop.TheVariants.{Misfit}
+use Rattle.dos_io.specs.Exchanges.{question_of}
+use Rattle.dos_io.specs.Outside.{counted}
+use Rattle.dos_io.specs.Shims.{ShimState}
+use Rattle.shim_log.specs.LogText.{Log, exchanges}
+
+-- the log, how many of its exchanges were answered, and the stops
+pub record ReplayState : Type 0 where
+  pub log : Log
+  pub answered : ℕ
+  pub stops : ℕ
+  pub last : Option ShimStop
+  pub asked : Option Question
+
+-- as of every shim: it tells the log's exchanges, as many as were answered
+abbrev pub replayer_state : ReplayState → ShimState
+replayer_state p = record {
+  told = take p.answered (exchanges p.log);
+  stops = p.stops;
+  last = p.last;
+  asked = p.asked;
+}
+
+-- the question of the next entry
+abbrev pub kept_question : ReplayState → Option Question
+kept_question p = option_map question_of (slice_get (exchanges p.log) p.answered)
+
+-- A stop is the misfit of the next entry and the question that was asked, which differ.
+pub record IsMisfitOf (p : ReplayState) (asked : Question) (stop : ShimStop) : Type 0 where
+  pub kept : Question
+  pub next : kept_question p ≡ Some kept
+  pub says : stop ≡ Misfit (record { entry = p.answered; kept = kept; asked = asked })
+  pub differ : kept ≢ asked
+
+-- what a replayer keeps in its type
+pub record IsReplay (p : ReplayState) : Type 0 where
+  pub few : p.answered ≤ length p.log.entries + 1
+  pub stop : IfSome p.asked (λ q. IfSome p.last (IsMisfitOf p q))
+
+-- after a stop
+abbrev pub replay_stopped : ReplayState → Question → ShimStop → ReplayState
+replay_stopped p q stop = record p { stops = counted p.stops; last = Some stop; asked = Some q }
+
+-- after an answer
+abbrev pub replay_advanced : ReplayState → ReplayState
+replay_advanced p = record p { answered = p.answered + 1; asked = None }
+
+-- From s to t: the same log, and no fewer exchanges of it were answered.
+pub record FollowsLog (s t : ReplayState) : Type 0 where
+  pub log_same : t.log ≡ s.log
+  pub answered_more : s.answered ≤ t.answered

@@ -1,0 +1,34 @@
+-- What an entry and a log stand for, as they are read.
+use Rattle.std.specs.Prelude.{ℕ, Option, Some, None}
+use Rattle.dos_world.specs.declared.Ending.{Ending}
+use Rattle.dos_io.specs.declared.exchange.Exchange.{Exchange}
+use Rattle.dos_io.specs.declared.exchange.Exchange.TheVariants as exchange
+use Rattle.shim_log.specs.declared.entry.Entry.{Entry}
+use Rattle.shim_log.specs.declared.entry.Entry.TheVariants.{Signals, Input, Clock, End}
+use Rattle.shim_log.specs.declared.header.LogHeader.{LogHeader}
+use Rattle.shim_log.specs.declared.log_reading.Tail.{Tail}
+use Rattle.shim_log.specs.LogText.{Log}
+use Rattle.shim_log.specs.EntriesText.{entries_of}
+
+abbrev pub exchange_of : Entry → Exchange
+exchange_of (Signals round list) = exchange.Signals round list
+exchange_of (Input round tid max bytes) = exchange.Input round tid max bytes.now
+exchange_of (Clock round tid n) = exchange.Clock round tid n
+exchange_of (End ending rounds) = exchange.End ending rounds
+
+-- how the run ended, and after how many rounds, where it is the end
+abbrev pub ending_of : Exchange → Option (Ending × ℕ)
+ending_of (exchange.Signals round list) = None
+ending_of (exchange.Input round tid max bytes) = None
+ending_of (exchange.Clock round tid n) = None
+ending_of (exchange.End ending rounds) = Some (ending, rounds)
+
+-- a log of this header, and of what stands behind it
+abbrev pub log_of : LogHeader → Tail → Log
+log_of header tail =
+    record {
+      header = header;
+      entries = entries_of tail.text.now;
+      ending = tail.ending;
+      rounds = tail.rounds;
+    }

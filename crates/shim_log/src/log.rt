@@ -1,0 +1,89 @@
+// A log in memory.
+ghost use Rattle.std.specs.Prelude.{◌≡◌, ◌+◌, ◌≤◌, length};
+
+use crate::entries::Entries;
+use crate::header::LogHeader;
+use dos_world::Ending;
+use std::marker::Model;
+
+/// A log: what its run is of, the exchanges, and how it ended. Contracts see the plain log; it is
+/// in its ranges.
+///
+/// It keeps the exchanges as their text.
+#[derive(Drop)]
+pub struct Log {
+    pub(crate) header: LogHeader,
+    pub(crate) entries: Entries,
+    pub(crate) ending: Ending,
+    pub(crate) rounds: u32,
+}
+
+impl Model for Log {
+    ghost use Rattle.shim_log.specs.LogText.{Log as LogValue};
+    ghost use Rattle.shim_log.specs.Ranges.{FitsLog};
+
+    ghost Value = { LogValue };
+
+    ghost view = { λ s. record {
+      header = s.header;
+      entries = s.entries.list;
+      ending = s.ending;
+      rounds = s.rounds;
+    } };
+
+    ghost invariant = { λ s. FitsLog (record {
+      header = s.header;
+      entries = s.entries.list;
+      ending = s.ending;
+      rounds = s.rounds;
+    }) };
+}
+
+impl Log {
+    ghost use Rattle.shim_log.specs.LogText.{exchanges, entries_text};
+    ghost use Rattle.shim_log.specs.Ranges.{FitsLog, AreEntries};
+
+    /// What the run is of.
+    pub fn header(&self) -> &LogHeader
+        ensures { result.now ≡ self.now.header }
+    {
+        &self.header
+    }
+
+    /// How many exchanges it has, with the end: 1 to 2^32 - 1.
+    pub fn len(&self) -> u32
+        ensures value { result ≡ length (exchanges self.now) }
+        ensures fits { FitsLog self.now }
+    {
+        self.entries.len() + 1
+    }
+
+    // The exchanges but the end, as their text.
+    pub(crate) fn text(&self) -> &[u8]
+        ensures text { result.now ≡ entries_text self.now.entries }
+        ensures fits { AreEntries self.now.entries }
+    {
+        self.entries.text()
+    }
+
+    // How many these are.
+    pub(crate) fn count(&self) -> u32
+        ensures { result ≡ length self.now.entries }
+    {
+        self.entries.len()
+    }
+
+    // How the run ended.
+    pub(crate) fn ending(&self) -> Ending
+        ensures { result ≡ self.now.ending }
+    {
+        self.ending
+    }
+
+    // How many rounds were run.
+    pub(crate) fn rounds(&self) -> u32
+        ensures { result ≡ self.now.rounds }
+    {
+        self.rounds
+    }
+}

@@ -1,0 +1,181 @@
+// Reading a log, from left to right. What decides takes no memory, so a refusal is never hidden by
+// the want of it.
+ghost use Rattle.std.specs.Prelude.{◌≡◌, ◌≤◌, ◌<◌, ℕ, List, length, take, IfOk, Ok};
+ghost use Rattle.shim_log.specs.declared.header.LogHeader.{LogHeader};
+ghost use Rattle.shim_log.specs.EntriesText.{IsEntriesText};
+ghost use Rattle.shim_log.specs.Gives.{Gives, ReadsAs};
+ghost use Rattle.shim_log.specs.Reading.{magic_at, version_at, header_at, bytes_at, many_at, tail_at, log_at};
+ghost use Rattle.shim_log.specs.Views.{log_of};
+ghost use Rattle.shim_log.specs.LogText.{Log as LogValue, logtext};
+ghost use Rattle.shim_log.specs.Ranges.{FitsHeader, FitsLog};
+
+use crate::entries::Entries;
+use crate::entry_reading::read_entry;
+use crate::field_reading::{place, read_bytes, read_header_u16, read_header_u32, read_u16};
+use crate::header::{Digests, LogHeader};
+use crate::log::Log;
+use crate::refusal::{LogError, ReadError};
+use dos_world::Ending;
+use std::alloc::Global;
+
+/// What stands behind a header: the text of the entries, how many they are, and the end.
+#[derive(Drop)]
+pub(crate) struct Tail<'a> {
+    text: &'a [u8],
+    count: u32,
+    ending: Ending,
+    rounds: u32,
+}
+
+// The first `count` bytes.
+fn front(bytes: &[u8], count: usize) -> &[u8]
+    requires { count ≤ length bytes.now }
+    ensures { result.now ≡ take count bytes.now }
+{
+    &bytes[..count]
+}
+
+// The entries and the end, and the bytes behind it.
+fn read_tail(end: usize, bytes: &[u8]) -> Result<(Tail<'_>, &[u8]), LogError>
+    requires { length bytes.now ≤ 67108864 }
+    ensures value { (header : LogHeader) → Gives (λ x. (log_of header x.0, x.1.now)) result
+        (tail_at (length bytes.now) header end bytes.now) }
+    ensures text { IfOk result (λ x. IsEntriesText x.0.text.now x.0.count) }
+{
+    let mut rest = bytes;
+    for count in 0..bytes.len() {
+        let (entry, after) = read_entry(end, rest)?;
+        match entry.end() {
+            Some((ending, rounds)) => {
+                let tail = Tail {
+                    text: front(bytes, bytes.len() - rest.len()),
+                    count: count as u32,
+                    ending,
+                    rounds,
+                };
+                return Ok((tail, after));
+            }
+            None => {}
+        }
+        rest = after;
+    }
+    Err(LogError::Short(place(end, rest)))
+}
+
+#[tactic(auto, unfolding(crate::specs::Reading::magic_at))]
+fn read_magic(end: usize, bytes: &[u8]) -> Result<&[u8], LogError>
+    ensures { Gives (λ x. x.now) result (magic_at end bytes.now) }
+{
+    let (front, rest) = read_bytes(4, end, bytes)?;
+    if front == b"DPGL".as_slice() {
+        return Ok(rest);
+    }
+    Err(LogError::Magic)
+}
+
+#[tactic(auto, unfolding(crate::specs::Reading::version_at))]
+fn read_version(end: usize, bytes: &[u8]) -> Result<&[u8], LogError>
+    ensures { Gives (λ x. x.now) result (version_at end bytes.now) }
+{
+    let (version, rest) = read_u16(end, bytes)?;
+    if version == 1 {
+        return Ok(rest);
+    }
+    Err(LogError::Version(version))
+}
+
+// A digest of its 32 bytes.
+fn digest_of(bytes: &[u8]) -> [u8; 32]
+    requires { length bytes.now ≡ 32 }
+    ensures { result ≡ bytes.now }
+{
+    let mut digest = [0; 32];
+    digest.copy_from_slice(bytes);
+    digest
+}
+
+fn read_digests(count: u16, end: usize, bytes: &[u8]) -> Result<(Digests, &[u8]), LogError>
+    requires { count ≤ 8 }
+    ensures { Gives (λ x. (x.0, x.1.now)) result (many_at (bytes_at 32) count end bytes.now) }
+{
+    let mut digests = Digests::new();
+    let mut rest = bytes;
+    for _ in 0..count {
+        let (digest, after) = read_bytes(32, end, rest)?;
+        digests.push(digest_of(digest));
+        rest = after;
+    }
+    Ok((digests, rest))
+}
+
+#[tactic(auto, unfolding(crate::specs::Reading::header_at))]
+fn read_header(end: usize, bytes: &[u8]) -> Result<(LogHeader, &[u8]), LogError>
+    ensures { Gives (λ x. (x.0, x.1.now)) result (header_at end bytes.now) }
+{
+    let rest = read_magic(end, bytes)?;
+    let rest = read_version(end, rest)?;
+    let (images, rest) = read_header_u16(1, 8, end, rest)?;
+    let (quantum, rest) = read_header_u32(16, 65536, end, rest)?;
+    let (rounds, rest) = read_header_u32(1, 1000000, end, rest)?;
+    let (frames, rest) = read_header_u32(16, 16384, end, rest)?;
+    let (digests, rest) = read_digests(images, end, rest)?;
+    let header = LogHeader {
+        quantum,
+        rounds,
+        frames,
+        digests,
+    };
+    Ok((header, rest))
+}
+
+// The header, and what stands behind it up to the last byte.
+#[tactic(auto, unfolding(crate::specs::Reading::log_at))]
+fn read_parts(bytes: &[u8]) -> Result<(LogHeader, Tail<'_>), LogError>
+    requires { length bytes.now ≤ 67108864 }
+    ensures value { Gives (λ x. log_of x.0 x.1) result (log_at bytes.now) }
+    ensures header { IfOk result (λ x. FitsHeader x.0) }
+    ensures text { IfOk result (λ x. IsEntriesText x.1.text.now x.1.count) }
+{
+    let (header, rest) = read_header(bytes.len(), bytes)?;
+    let (tail, rest) = read_tail(bytes.len(), rest)?;
+    if !rest.is_empty() {
+        return Err(LogError::AfterEnd(place(bytes.len(), rest)));
+    }
+    Ok((header, tail))
+}
+
+// All of it; memory is taken where nothing can be refused any more.
+fn read_whole(alloc: Global, bytes: &[u8]) -> Result<Log, ReadError>
+    requires { length bytes.now ≤ 67108864 }
+    ensures { ReadsAs result (log_at bytes.now) }
+{
+    let (header, tail) = read_parts(bytes)?;
+    let entries = Entries::from_text(alloc, tail.text, tail.count)?;
+    let _count = entries.len();
+    Ok(Log {
+        header,
+        entries,
+        ending: tail.ending,
+        rounds: tail.rounds,
+    })
+}
+
+/// The log that the bytes spell, all of the bytes: at most 64 MiB. It is refused where they spell
+/// none, with the first thing that is wrong; it is want of memory only where they spell one.
+///
+/// It takes a time that grows with the length of the text alone.
+pub fn read_log(alloc: Global, bytes: &[u8]) -> Result<Log, ReadError>
+    requires { length bytes.now ≤ 67108864 }
+
+    // The log, or which refusal it is.
+    ensures exact { ReadsAs result (log_at bytes.now) }
+
+    // What is read is spelled so, and is in its ranges.
+    ensures found { IfOk result (λ log. (bytes.now ≡ logtext log) × FitsLog log) }
+
+    // What is spelled so is read, unless memory runs out.
+    ensures only { (log : LogValue) → FitsLog log → bytes.now ≡ logtext log
+        → ReadsAs result (Ok log) }
+{
+    read_whole(alloc, bytes)
+}

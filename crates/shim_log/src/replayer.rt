@@ -1,0 +1,214 @@
+// A shim that answers out of a log.
+ghost use Rattle.std.specs.Prelude.{◌≡◌, ◌≢◌, ◌≤◌, ◌<◌, ◌+◌, length, drop, slice_get, Some, None, OnOk, IfErr, IfOk, IsTrue, ◌↔◌};
+ghost use Rattle.shim_log.specs.LogText.{entries_text, exchanges};
+ghost use Rattle.shim_log.specs.Ranges.{InRange};
+ghost use Rattle.shim_log.specs.Views.{exchange_of};
+ghost use Rattle.shim_log.specs.Replay.{ReplayState, IsReplay, IsMisfitOf, kept_question, replayer_state, replay_stopped, replay_advanced};
+
+use crate::entry::Entry;
+use crate::entry_reading::read_entry;
+use crate::log::Log;
+use dos_io::{Shim, ShimStop, SignalList};
+use dos_world::{Ending, Misfit, Question};
+use std::marker::Model;
+
+/// Answers each question by the next entry of a log, and stops where that entry is of another
+/// question. It takes no memory.
+#[derive(Drop)]
+pub struct Replayer {
+    log: Log,
+    place: usize,
+    answered: u32,
+    stops: u64,
+    last: Option<ShimStop>,
+    asked: Option<Question>,
+}
+
+impl Model for Replayer {
+    ghost use Rattle.std.specs.Prelude.{◌≡◌, ◌≤◌, length, drop};
+    ghost use Rattle.shim_log.specs.LogText.{entries_text};
+    ghost use Rattle.shim_log.specs.Replay.{ReplayState, IsReplay};
+
+    ghost Value = { ReplayState };
+
+    ghost view = { λ s. record {
+      log = s.log;
+      answered = s.answered;
+      stops = s.stops;
+      last = s.last;
+      asked = s.asked;
+    } };
+
+    ghost invariant = { λ s. IsReplay (record {
+      log = s.log;
+      answered = s.answered;
+      stops = s.stops;
+      last = s.last;
+      asked = s.asked;
+    })
+        × (s.place ≤ length (entries_text s.log.entries))
+        × (drop s.place (entries_text s.log.entries)
+        ≡ entries_text (drop s.answered s.log.entries)) };
+}
+
+// The bytes from a place on.
+fn behind(text: &[u8], place: usize) -> &[u8]
+    requires { place ≤ length text.now }
+    ensures { result.now ≡ drop place text.now }
+{
+    &text[place..]
+}
+
+impl Replayer {
+    /// A replayer that was asked nothing yet.
+    pub fn new(log: Log) -> Replayer
+        ensures { result ≡ record {
+          log = log;
+          answered = 0;
+          stops = 0;
+          last = None;
+          asked =
+              None;
+        } }
+    {
+        Replayer {
+            log,
+            place: 0,
+            answered: 0,
+            stops: 0,
+            last: None,
+            asked: None,
+        }
+    }
+
+    /// What it kept all along: where its last call stopped, it stopped by the misfit of the next
+    /// entry and the question that was asked, which differ.
+    pub fn look(&self)
+        ensures { IsReplay self.now }
+    {
+        let _answered = self.answered;
+    }
+
+    // The next entry, and where the one behind it begins.
+    fn next(&self) -> (Entry<'_>, usize)
+        requires { self.now.answered ≤ length self.now.log.entries }
+        ensures entry { slice_get (exchanges self.now.log) self.now.answered
+            ≡ Some (exchange_of result.0) }
+        ensures fits { InRange (exchange_of result.0) }
+        ensures within { result.1 ≤ length (entries_text self.now.log.entries) }
+        ensures place { drop result.1 (entries_text self.now.log.entries)
+            ≡ entries_text (drop (self.now.answered + 1) self.now.log.entries) }
+    {
+        let text = self.log.text();
+        if self.answered == self.log.count() {
+            let end = Entry::End {
+                ending: self.log.ending(),
+                rounds: self.log.rounds(),
+            };
+            return (end, text.len());
+        }
+        let left = behind(text, self.place);
+        match read_entry(text.len(), left) {
+            Ok((entry, rest)) => (entry, text.len() - rest.len()),
+            Err(_) => unreachable!(),
+        }
+    }
+
+    // Stops where the next entry is of another question.
+    fn fit(&mut self, asked: Question) -> Result<(), ShimStop>
+        requires { self.old.answered ≤ length self.old.log.entries }
+        ensures ok { OnOk result (self.new ≡ self.old) }
+        ensures fits { OnOk result (kept_question self.old ≡ Some asked) }
+        ensures err { IfErr result (λ stop. self.new ≡ replay_stopped self.old asked stop) }
+        ensures misfit { IfErr result (IsMisfitOf self.old asked) }
+    {
+        let (entry, _) = self.next();
+        let kept = entry.question();
+        if kept == asked {
+            return Ok(());
+        }
+        let stop = ShimStop::Misfit(Misfit {
+            entry: self.answered,
+            kept,
+            asked,
+        });
+        self.stops = self.stops.saturating_add(1);
+        self.last = Some(stop);
+        self.asked = Some(asked);
+        Err(stop)
+    }
+
+    // Goes on behind the next entry.
+    fn advance(&mut self, place: usize)
+        requires more { self.old.answered ≤ length self.old.log.entries }
+        requires within { place ≤ length (entries_text self.old.log.entries) }
+        requires place { drop place (entries_text self.old.log.entries)
+            ≡ entries_text (drop (self.old.answered + 1) self.old.log.entries) }
+        ensures { self.new ≡ replay_advanced self.old }
+    {
+        let _len = self.log.len();
+        self.place = place;
+        self.answered += 1;
+        self.asked = None;
+    }
+}
+
+impl Shim for Replayer {
+    ghost use Rattle.shim_log.specs.Replay.{replayer_state, FollowsLog};
+    ghost use Rattle.shim_log.specs.ReplayerFollows.{log_itself, log_on};
+
+    ghost state = { replayer_state };
+
+    ghost follows = { λ s t. FollowsLog s t };
+
+    fn signals(&mut self, round: u32, list: &mut SignalList) -> Result<(), ShimStop> {
+        self.fit(Question::Signals { round })?;
+        let (entry, place) = self.next();
+        match entry {
+            Entry::Signals { list: posts, .. } => *list = posts,
+            _ => unreachable!(),
+        }
+        self.advance(place);
+        Ok(())
+    }
+
+    fn input(&mut self, round: u32, tid: u32, buf: &mut [u8]) -> Result<usize, ShimStop> {
+        self.fit(Question::Input {
+            round,
+            tid,
+            max: buf.len() as u32,
+        })?;
+        let (entry, place) = self.next();
+        let count = match entry {
+            Entry::Input { bytes, .. } => {
+                buf[..bytes.len()].copy_from_slice(bytes);
+                bytes.len()
+            }
+            _ => unreachable!(),
+        };
+        self.advance(place);
+        Ok(count)
+    }
+
+    fn clock(&mut self, round: u32, tid: u32) -> Result<u64, ShimStop> {
+        self.fit(Question::Clock { round, tid })?;
+        let (entry, place) = self.next();
+        let reading = match entry {
+            Entry::Clock { reading, .. } => reading,
+            _ => unreachable!(),
+        };
+        self.advance(place);
+        Ok(reading)
+    }
+
+    fn end(&mut self, ending: Ending, rounds: u32) -> Result<(), ShimStop> {
+        self.fit(Question::End { ending, rounds })?;
+        let (_, place) = self.next();
+        self.advance(place);
+        Ok(())
+    }
+
+    ghost reflexive = { log_itself };
+
+    ghost transitive = { log_on };
+}
