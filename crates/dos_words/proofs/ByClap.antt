@@ -8,22 +8,26 @@ use Rattle.dos_words.specs.Clap.{clap_request}
 -- ---- taken
 
 -- an option and its value in one word
-attached : request (codes "run" ∷ codes "--log=l" ∷ codes "a" ∷ []) ≡ Some (Run 1000 100000 4096 4 [] None 1 (codes "l") (codes "a" ∷ []))
+attached : request (codes "run" ∷ codes "--log=l" ∷ codes "a" ∷ [])
+    ≡ Some (Run 1000 100000 4096 4 [] None 1 (codes "l") (codes "a" ∷ []))
 unfolding clap_on_literals
 attached = refl
 
 -- an option behind the names
-names_first : request (codes "run" ∷ codes "a" ∷ codes "--log" ∷ codes "l" ∷ []) ≡ Some (Run 1000 100000 4096 4 [] None 1 (codes "l") (codes "a" ∷ []))
+names_first : request (codes "run" ∷ codes "a" ∷ codes "--log" ∷ codes "l" ∷ [])
+    ≡ Some (Run 1000 100000 4096 4 [] None 1 (codes "l") (codes "a" ∷ []))
 unfolding clap_on_literals
 names_first = refl
 
 -- behind `--` a name may begin with `-`
-dash_name : request (codes "run" ∷ codes "--log" ∷ codes "l" ∷ codes "--" ∷ codes "-a" ∷ []) ≡ Some (Run 1000 100000 4096 4 [] None 1 (codes "l") (codes "-a" ∷ []))
+dash_name : request (codes "run" ∷ codes "--log" ∷ codes "l" ∷ codes "--" ∷ codes "-a" ∷ [])
+    ≡ Some (Run 1000 100000 4096 4 [] None 1 (codes "l") (codes "-a" ∷ []))
 unfolding clap_on_literals
 dash_name = refl
 
 -- the ranges are the same
-attached_range : request (codes "run" ∷ codes "--log=l" ∷ codes "--quantum=15" ∷ codes "a" ∷ []) ≡ None
+attached_range : request (codes "run" ∷ codes "--log=l" ∷ codes "--quantum=15" ∷ codes "a" ∷ [])
+    ≡ None
 unfolding clap_on_literals
 attached_range = refl
 
@@ -37,22 +41,26 @@ unknown_command : request (codes "walk" ∷ codes "a" ∷ []) ≡ None
 unfolding clap_on_literals
 unknown_command = refl
 
-unknown_option : request (codes "run" ∷ codes "--log" ∷ codes "l" ∷ codes "--speed" ∷ codes "1" ∷ codes "a" ∷ []) ≡ None
+unknown_option : request (codes "run" ∷ codes "--log" ∷ codes "l" ∷ codes "--speed" ∷ codes "1"
+    ∷ codes "a" ∷ []) ≡ None
 unfolding clap_on_literals
 unknown_option = refl
 
 -- an option of another command
-other_option : request (codes "replay" ∷ codes "--log" ∷ codes "l" ∷ codes "--quantum" ∷ codes "16" ∷ codes "a" ∷ []) ≡ None
+other_option : request (codes "replay" ∷ codes "--log" ∷ codes "l" ∷ codes "--quantum" ∷ codes "16"
+    ∷ codes "a" ∷ []) ≡ None
 unfolding clap_on_literals
 other_option = refl
 
 -- an option given twice
-twice : request (codes "run" ∷ codes "--log" ∷ codes "l" ∷ codes "--log" ∷ codes "l" ∷ codes "a" ∷ []) ≡ None
+twice : request (codes "run" ∷ codes "--log" ∷ codes "l" ∷ codes "--log" ∷ codes "l" ∷ codes "a"
+    ∷ []) ≡ None
 unfolding clap_on_literals
 twice = refl
 
 -- an option between names
-between : request (codes "run" ∷ codes "--log" ∷ codes "l" ∷ codes "a" ∷ codes "--workers" ∷ codes "2" ∷ codes "b" ∷ []) ≡ None
+between : request (codes "run" ∷ codes "--log" ∷ codes "l" ∷ codes "a" ∷ codes "--workers"
+    ∷ codes "2" ∷ codes "b" ∷ []) ≡ None
 unfolding clap_on_literals
 between = refl
 
@@ -78,7 +86,9 @@ unfolding clap_on_literals
 version_flag = refl
 
 -- canonical words come to the same by clap
-agree : clap_request (codes "run" ∷ codes "--signals" ∷ codes "2:1:15" ∷ codes "--log" ∷ codes "l" ∷ codes "a" ∷ codes "b" ∷ [])
-    ≡ request (codes "run" ∷ codes "--signals" ∷ codes "2:1:15" ∷ codes "--log" ∷ codes "l" ∷ codes "a" ∷ codes "b" ∷ [])
+agree : clap_request (codes "run" ∷ codes "--signals" ∷ codes "2:1:15" ∷ codes "--log" ∷ codes "l"
+    ∷ codes "a" ∷ codes "b" ∷ [])
+    ≡ request (codes "run" ∷ codes "--signals" ∷ codes "2:1:15" ∷ codes "--log" ∷ codes "l"
+    ∷ codes "a" ∷ codes "b" ∷ [])
 unfolding clap_on_literals
 agree = refl

@@ -19,17 +19,19 @@ use Rattle.dos_words.specs.Ranges.{FitsAskedPost, FitsRequest}
 
 -- ---- what some value came of
 
-abbrev some : {A : Type 0} → A → Option A
+abbrev pub some : {A : Type 0} → A → Option A
 some x = Some x
 
-some_is : {A : Type 0} (x y : A) → some x ≡ some y → x ≡ y
+pub some_is : {A : Type 0} (x y : A) → some x ≡ some y → x ≡ y
 some_is x y e = cc
 
-bind_some : {A B : Type 0} (o : Option A) (f : A → Option B) (y : B) → option_and_then f o ≡ Some y → (x : A) × (o ≡ Some x) × (f x ≡ Some y)
+pub bind_some : {A B : Type 0} (o : Option A) (f : A → Option B) (y : B)
+    → option_and_then f o ≡ Some y → (x : A) × (o ≡ Some x) × (f x ≡ Some y)
 bind_some (Some x) f y e = (x, refl, e)
 bind_some None f y e = absurd cc
 
-guard_some : {A : Type 0} (b : Bool) (x y : A) → cond b (Some x) None ≡ Some y → (b ≡ true) × (x ≡ y)
+pub guard_some : {A : Type 0} (b : Bool) (x y : A) → cond b (Some x) None ≡ Some y
+    → (b ≡ true) × (x ≡ y)
 guard_some true x y e = (refl, some_is x y e)
 guard_some false x y e = absurd cc
 
@@ -41,23 +43,32 @@ is_within low high n m e =
     let b = and_parts (leb low n) (leb n high) g.0 in
     subst (IsInRange low high) g.1 (leb-true _ _ b.0, leb-true _ _ b.1)
 
-number_fits : (low high : ℕ) (text : Text) (n : ℕ) → number_within low high text ≡ Some n → IsInRange low high n
-number_fits low high text n e = let b = bind_some (number text) (where_within low high) n e in is_within low high b.0 n b.2
+number_fits : (low high : ℕ) (text : Text) (n : ℕ) → number_within low high text ≡ Some n
+    → IsInRange low high n
+number_fits low high text n e = let b = bind_some (number text) (where_within low high) n e in
+    is_within low high b.0 n b.2
 
-number_or_fits : (low high default : ℕ) (given : Option Text) (n : ℕ) → IsInRange low high default → number_or given low high default ≡ Some n → IsInRange low high n
-number_or_fits low high default None n fits e = subst (IsInRange low high) (some_is default n e) fits
+number_or_fits : (low high default : ℕ) (given : Option Text) (n : ℕ) → IsInRange low high default
+    → number_or given low high default ≡ Some n → IsInRange low high n
+number_or_fits low high default None n fits e =
+    subst (IsInRange low high) (some_is default n e) fits
 number_or_fits low high default (Some text) n fits e = number_fits low high text n e
 
-if_given_fits : (high : ℕ) (given : Option Text) (o : Option ℕ) → number_if_given given 0 high ≡ Some o → IfSome o (λ n. n ≤ high)
-if_given_fits high None o e = subst (λ (x : Option ℕ). IfSome x (λ n. n ≤ high)) (some_is None o e) tt
+if_given_fits : (high : ℕ) (given : Option Text) (o : Option ℕ)
+    → number_if_given given 0 high ≡ Some o → IfSome o (λ n. n ≤ high)
+if_given_fits high None o e =
+    subst (λ (x : Option ℕ). IfSome x (λ n. n ≤ high)) (some_is None o e) tt
 if_given_fits high (Some text) o e =
     let b = bind_some (number_within 0 high text) (λ n. Some (Some n)) o e in
-    subst (λ (x : Option ℕ). IfSome x (λ n. n ≤ high)) (some_is (Some b.0) o b.2) (number_fits 0 high text b.0 b.1).1
+    subst (λ (x : Option ℕ). IfSome x (λ n. n ≤ high)) (some_is (Some b.0) o b.2)
+    (number_fits 0 high text b.0 b.1).1
 
 workers_fit : (value : Values) (n : ℕ) → workers_of value ≡ Some n → IsInRange 1 32 n
-workers_fit value n e = number_or_fits 1 32 4 (value (codes "workers")) n (omega arith, omega arith) e
+workers_fit value n e = number_or_fits 1 32 4 (value (codes "workers")) n
+    (omega arith, omega arith) e
 
-images_fit : (names images : List Text) → images_of names ≡ Some images → IsInRange 1 8 (length images)
+images_fit : (names images : List Text) → images_of names ≡ Some images
+    → IsInRange 1 8 (length images)
 images_fit names images e =
     let g = guard_some (leb 1 (length names) && leb (length names) 8) names images e in
     let b = and_parts (leb 1 (length names)) (leb (length names) 8) g.0 in
@@ -71,7 +82,12 @@ post_fits (round ∷ pid ∷ signal ∷ []) post e =
     let p = bind_some (number_within 1 65535 pid) _ post r.2 in
     let s = bind_some (number_within 1 31 signal) _ post p.2 in
     subst FitsAskedPost (some_is (r.0, record { pid = p.0; signal = s.0 }) post s.2)
-    (record { round = number_fits 1 1000000 round r.0 r.1; process = number_fits 1 65535 pid p.0 p.1; signal = number_fits 1 31 signal s.0 s.1 })
+    (record {
+      round = number_fits 1 1000000 round r.0 r.1;
+      process =
+          number_fits 1 65535 pid p.0 p.1;
+      signal = number_fits 1 31 signal s.0 s.1;
+    })
 post_fits [] post e = absurd cc
 post_fits (a ∷ []) post e = absurd cc
 post_fits (a ∷ b ∷ []) post e = absurd cc
@@ -81,30 +97,41 @@ record FitPosts (items : List Text) (posts : List (ℕ × Post)) : Type 0 where
   fit : AllByRecursion FitsAskedPost posts
   count : length posts ≡ length items
 
-posts_fit : (items : List Text) (posts : List (ℕ × Post)) → posts_in_all items ≡ Some posts → FitPosts items posts
+posts_fit : (items : List Text) (posts : List (ℕ × Post)) → posts_in_all items ≡ Some posts
+    → FitPosts items posts
 posts_fit [] posts e = subst (FitPosts []) (some_is [] posts e) (record { fit = tt; count = refl })
 posts_fit (item ∷ items) posts e =
     let p = bind_some (post_in (parts_by colon item)) _ posts e in
     let q = bind_some (posts_in_all items) _ posts p.2 in
     let more = posts_fit items q.0 q.1 in
-    subst (FitPosts (item ∷ items)) (some_is (p.0 ∷ q.0) posts q.2) (record { fit = (post_fits (parts_by colon item) p.0 p.1, more.fit); count = ap (λ (n : ℕ). suc n) more.count })
+    subst (FitPosts (item ∷ items)) (some_is (p.0 ∷ q.0) posts q.2)
+    (record {
+      fit = (post_fits (parts_by colon item) p.0 p.1, more.fit);
+      count =
+          ap (λ (n : ℕ). suc n) more.count;
+    })
 
 record FewPosts (posts : List (ℕ × Post)) : Type 0 where
   fit : AllByRecursion FitsAskedPost posts
   few : length posts ≤ 32
 
-posts_or_none_fit : (given : Option Text) (posts : List (ℕ × Post)) → posts_or_none given ≡ Some posts → FewPosts posts
-posts_or_none_fit None posts e = subst FewPosts (some_is [] posts e) (record { fit = tt; few = omega arith })
+posts_or_none_fit : (given : Option Text) (posts : List (ℕ × Post))
+    → posts_or_none given ≡ Some posts → FewPosts posts
+posts_or_none_fit None posts e =
+    subst FewPosts (some_is [] posts e) (record { fit = tt; few = omega arith })
 posts_or_none_fit (Some text) posts e = go (leb (length (parts_by comma text)) 32) refl e
   where
-    go : (b : Bool) → leb (length (parts_by comma text)) 32 ≡ b → cond b (posts_in_all (parts_by comma text)) None ≡ Some posts → FewPosts posts
-    go true is e = let all = posts_fit (parts_by comma text) posts e in record { fit = all.fit; few = omega (arith, all.count, leb-true _ _ is) }
+    go : (b : Bool) → leb (length (parts_by comma text)) 32 ≡ b
+        → cond b (posts_in_all (parts_by comma text)) None ≡ Some posts → FewPosts posts
+    go true is e = let all = posts_fit (parts_by comma text) posts e in
+        record { fit = all.fit; few = omega (arith, all.count, leb-true _ _ is) }
     go false is e = absurd cc
 
 -- ---- the commands
 
 abbrev AsksInRange : (Values → List Text → Option Request) → Type 0
-AsksInRange asked = (value : Values) (names : List Text) (r : Request) → asked value names ≡ Some r → FitsRequest r
+AsksInRange asked = (value : Values) (names : List Text) (r : Request) → asked value names ≡ Some r
+    → FitsRequest r
 
 run_fits : AsksInRange run_asked
 run_fits value names r e =
@@ -118,16 +145,22 @@ run_fits value names r e =
     let log = bind_some (value (codes "log")) _ r step.2 in
     let images = bind_some (images_of names) _ r log.2 in
     let few = posts_or_none_fit (value (codes "signals")) posts.0 posts.1 in
-    subst FitsRequest (some_is (Run quantum.0 rounds.0 frames.0 workers.0 posts.0 start.0 step.0 log.0 images.0) r images.2)
+    subst FitsRequest (some_is
+    (Run quantum.0 rounds.0 frames.0 workers.0 posts.0 start.0 step.0 log.0 images.0) r
+    images.2)
     (record {
-      quantum_fits = number_or_fits 16 65536 1000 (value (codes "quantum")) quantum.0 (omega arith, omega arith) quantum.1;
-      rounds_fit = number_or_fits 1 1000000 100000 (value (codes "rounds")) rounds.0 (omega arith, omega arith) rounds.1;
-      frames_fit = number_or_fits 16 16384 4096 (value (codes "frames")) frames.0 (omega arith, omega arith) frames.1;
+      quantum_fits = number_or_fits 16 65536 1000 (value (codes "quantum")) quantum.0
+          (omega arith, omega arith) quantum.1;
+      rounds_fit = number_or_fits 1 1000000 100000 (value (codes "rounds")) rounds.0
+          (omega arith, omega arith) rounds.1;
+      frames_fit = number_or_fits 16 16384 4096 (value (codes "frames")) frames.0
+          (omega arith, omega arith) frames.1;
       workers_fit = workers_fit value workers.0 workers.1;
       posts_fit = few.fit;
       few_posts = few.few;
       clock_from_fits = if_given_fits most_u64 (value (codes "clock-from")) start.0 start.1;
-      clock_step_fits = (number_or_fits 0 most_u64 1 (value (codes "clock-step")) step.0 (omega arith, omega arith) step.1).1;
+      clock_step_fits = (number_or_fits 0 most_u64 1 (value (codes "clock-step")) step.0
+          (omega arith, omega arith) step.1).1;
       names_fit = images_fit names images.0 images.1;
     })
 
@@ -136,7 +169,8 @@ replay_fits value names r e =
     let workers = bind_some (workers_of value) _ r e in
     let log = bind_some (value (codes "log")) _ r workers.2 in
     let images = bind_some (images_of names) _ r log.2 in
-    subst FitsRequest (some_is (Replay workers.0 log.0 images.0) r images.2) (workers_fit value workers.0 workers.1, images_fit names images.0 images.1)
+    subst FitsRequest (some_is (Replay workers.0 log.0 images.0) r images.2)
+    (workers_fit value workers.0 workers.1, images_fit names images.0 images.1)
 
 inspect_fits : AsksInRange inspect_asked
 inspect_fits value [] r e = absurd cc
@@ -151,27 +185,41 @@ gen_fits value [] r e =
     let count = bind_some (value (codes "threads")) _ r n.2 in
     let threads = bind_some (number_within 1 32 count.0) _ r count.2 in
     let workers = bind_some (workers_of value) _ r threads.2 in
-    subst FitsRequest (some_is (Gen n.0 threads.0 workers.0) r workers.2)
-    ((number_fits 0 4294967295 text.0 n.0 n.1).1, number_fits 1 32 count.0 threads.0 threads.1, workers_fit value workers.0 workers.1)
+    subst FitsRequest (some_is (Gen n.0 threads.0 workers.0) r workers.2) (
+      (number_fits 0 4294967295 text.0 n.0 n.1).1,
+      number_fits 1 32 count.0 threads.0 threads.1,
+      workers_fit value workers.0 workers.1,
+    )
 
-by_name : (a b c d : Bool) (command : Command) → cond a (some run) (cond b (some replay) (cond c (some inspect) (cond d (some gen) None))) ≡ Some command → AsksInRange command.asked
-by_name true b c d command e = subst (λ (x : Command). AsksInRange x.asked) (some_is run command e) run_fits
-by_name false true c d command e = subst (λ (x : Command). AsksInRange x.asked) (some_is replay command e) replay_fits
-by_name false false true d command e = subst (λ (x : Command). AsksInRange x.asked) (some_is inspect command e) inspect_fits
-by_name false false false true command e = subst (λ (x : Command). AsksInRange x.asked) (some_is gen command e) gen_fits
+by_name : (a b c d : Bool) (command : Command)
+    → cond a (some run) (cond b (some replay) (cond c (some inspect) (cond d (some gen) None)))
+    ≡ Some command → AsksInRange command.asked
+by_name true b c d command e =
+    subst (λ (x : Command). AsksInRange x.asked) (some_is run command e) run_fits
+by_name false true c d command e =
+    subst (λ (x : Command). AsksInRange x.asked) (some_is replay command e) replay_fits
+by_name false false true d command e =
+    subst (λ (x : Command). AsksInRange x.asked) (some_is inspect command e) inspect_fits
+by_name false false false true command e =
+    subst (λ (x : Command). AsksInRange x.asked) (some_is gen command e) gen_fits
 by_name false false false false command e = absurd cc
 
-named_fits : (name : Text) (command : Command) → command_named name ≡ Some command → AsksInRange command.asked
-named_fits name command e = by_name (bytes_eq name run.name) (bytes_eq name replay.name) (bytes_eq name inspect.name) (bytes_eq name gen.name) command e
+named_fits : (name : Text) (command : Command) → command_named name ≡ Some command
+    → AsksInRange command.asked
+named_fits name command e =
+    by_name (bytes_eq name run.name) (bytes_eq name replay.name) (bytes_eq name inspect.name)
+    (bytes_eq name gen.name) command e
 
 -- ---- both readings
 
-canonical_fits : (words : List Text) (asked : Option Request) (r : Request) → canonical words ≡ Some asked → asked ≡ Some r → FitsRequest r
+canonical_fits : (words : List Text) (asked : Option Request) (r : Request)
+    → canonical words ≡ Some asked → asked ≡ Some r → FitsRequest r
 canonical_fits [] asked r is e = absurd cc
 canonical_fits (name ∷ words) asked r is e =
     let command = bind_some (command_named name) _ asked is in
     let parts = bind_some (pairs_and_names words) _ asked command.2 in
-    let g = guard_some (are_allowed command.0.options parts.0.0) (command.0.asked (values_in parts.0.0) parts.0.1) asked parts.2 in
+    let g = guard_some (are_allowed command.0.options parts.0.0)
+    (command.0.asked (values_in parts.0.0) parts.0.1) asked parts.2 in
     named_fits name command.0 command.1 (values_in parts.0.0) parts.0.1 r (g.1 ∙ e)
 
 asked_by_fits : (found : Text × List Row) (r : Request) → asked_by found ≡ Some r → FitsRequest r
@@ -179,17 +227,20 @@ asked_by_fits found r e =
     let command = bind_some (command_named found.0) _ r e in
     named_fits found.0 command.0 command.1 (values_among found.1) (names_among found.1) r command.2
 
-taken_is : (kinds : Kinds) (asked : Option Request) (r : Request) → where_taken kinds asked ≡ Some r → asked ≡ Some r
+taken_is : (kinds : Kinds) (asked : Option Request) (r : Request) → where_taken kinds asked ≡ Some r
+    → asked ≡ Some r
 taken_is [] asked r e = e
 taken_is (kind ∷ kinds) asked r e = absurd cc
 
 clap_fits : (words : List Text) (r : Request) → clap_request words ≡ Some r → FitsRequest r
 clap_fits words r e =
     let asked : Option Request = option_and_then asked_by (subcommand_of words_app words) in
-    let found = bind_some (subcommand_of words_app words) asked_by r (taken_is (fault_of words_app words) asked r e) in
+    let found = bind_some (subcommand_of words_app words) asked_by r
+    (taken_is (fault_of words_app words) asked r e) in
     asked_by_fits found.0 r found.2
 
-either_fits : (c : Option (Option Request)) (words : List Text) (r : Request) → canonical words ≡ c → request_by c words ≡ Some r → FitsRequest r
+either_fits : (c : Option (Option Request)) (words : List Text) (r : Request) → canonical words ≡ c
+    → request_by c words ≡ Some r → FitsRequest r
 either_fits None words r is e = clap_fits words r e
 either_fits (Some asked) words r is e = canonical_fits words asked r is e
 

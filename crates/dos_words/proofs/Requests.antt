@@ -7,191 +7,273 @@ use Rattle.dos_words.specs.Numbers.{posts_from}
 
 -- ---- run
 
-defaults : request (codes "run" ∷ codes "--log" ∷ codes "l" ∷ codes "a" ∷ []) ≡ Some (Run 1000 100000 4096 4 [] None 1 (codes "l") (codes "a" ∷ []))
+defaults : request (codes "run" ∷ codes "--log" ∷ codes "l" ∷ codes "a" ∷ [])
+    ≡ Some (Run 1000 100000 4096 4 [] None 1 (codes "l") (codes "a" ∷ []))
 defaults = refl
 
-all_options : request (codes "run" ∷ codes "--quantum" ∷ codes "16" ∷ codes "--rounds" ∷ codes "1" ∷ codes "--frames" ∷ codes "17" ∷ codes "--workers" ∷ codes "2" ∷ codes "--signals" ∷ codes "1:1:15,2:3:9" ∷ codes "--clock-from" ∷ codes "5" ∷ codes "--clock-step" ∷ codes "7" ∷ codes "--log" ∷ codes "l" ∷ codes "a" ∷ codes "b" ∷ []) ≡ Some (Run 16 1 17 2 ((1, record { pid = 1; signal = 15 }) ∷ (2, record { pid = 3; signal = 9 }) ∷ []) (Some 5) 7 (codes "l") (codes "a" ∷ codes "b" ∷ []))
+all_options : request (codes "run" ∷ codes "--quantum" ∷ codes "16" ∷ codes "--rounds" ∷ codes "1"
+    ∷ codes "--frames" ∷ codes "17" ∷ codes "--workers" ∷ codes "2" ∷ codes "--signals"
+    ∷ codes "1:1:15,2:3:9" ∷ codes "--clock-from" ∷ codes "5" ∷ codes "--clock-step" ∷ codes "7"
+    ∷ codes "--log" ∷ codes "l" ∷ codes "a" ∷ codes "b" ∷ [])
+    ≡ Some (Run 16 1 17 2
+    ((1, record { pid = 1; signal = 15 }) ∷ (2, record { pid = 3; signal = 9 }) ∷ [])
+    (Some 5) 7 (codes "l") (codes "a" ∷ codes "b" ∷ []))
 all_options = refl
 
-any_order : request (codes "run" ∷ codes "--workers" ∷ codes "2" ∷ codes "--log" ∷ codes "l" ∷ codes "--quantum" ∷ codes "16" ∷ codes "a" ∷ []) ≡ Some (Run 16 100000 4096 2 [] None 1 (codes "l") (codes "a" ∷ []))
+any_order : request (codes "run" ∷ codes "--workers" ∷ codes "2" ∷ codes "--log" ∷ codes "l"
+    ∷ codes "--quantum" ∷ codes "16" ∷ codes "a" ∷ [])
+    ≡ Some (Run 16 100000 4096 2 [] None 1 (codes "l") (codes "a" ∷ []))
 any_order = refl
 
 -- the step may be given without a start; the host's clock is read then
-step_alone : request (codes "run" ∷ codes "--clock-step" ∷ codes "9" ∷ codes "--log" ∷ codes "l" ∷ codes "a" ∷ []) ≡ Some (Run 1000 100000 4096 4 [] None 9 (codes "l") (codes "a" ∷ []))
+step_alone : request (codes "run" ∷ codes "--clock-step" ∷ codes "9" ∷ codes "--log" ∷ codes "l"
+    ∷ codes "a" ∷ []) ≡ Some (Run 1000 100000 4096 4 [] None 9 (codes "l") (codes "a" ∷ []))
 step_alone = refl
 
-eight_names : request (codes "run" ∷ codes "--log" ∷ codes "l" ∷ codes "a" ∷ codes "b" ∷ codes "c" ∷ codes "d" ∷ codes "e" ∷ codes "f" ∷ codes "g" ∷ codes "h" ∷ []) ≡ Some (Run 1000 100000 4096 4 [] None 1 (codes "l") (codes "a" ∷ codes "b" ∷ codes "c" ∷ codes "d" ∷ codes "e" ∷ codes "f" ∷ codes "g" ∷ codes "h" ∷ []))
+eight_names : request (codes "run" ∷ codes "--log" ∷ codes "l" ∷ codes "a" ∷ codes "b" ∷ codes "c"
+    ∷ codes "d" ∷ codes "e" ∷ codes "f" ∷ codes "g" ∷ codes "h" ∷ [])
+    ≡ Some (Run 1000 100000 4096 4 [] None 1 (codes "l")
+    (codes "a" ∷ codes "b" ∷ codes "c" ∷ codes "d" ∷ codes "e" ∷ codes "f" ∷ codes "g"
+    ∷ codes "h" ∷ []))
 eight_names = refl
 
-nine_names : request (codes "run" ∷ codes "--log" ∷ codes "l" ∷ codes "a" ∷ codes "b" ∷ codes "c" ∷ codes "d" ∷ codes "e" ∷ codes "f" ∷ codes "g" ∷ codes "h" ∷ codes "i" ∷ []) ≡ None
+nine_names : request (codes "run" ∷ codes "--log" ∷ codes "l" ∷ codes "a" ∷ codes "b" ∷ codes "c"
+    ∷ codes "d" ∷ codes "e" ∷ codes "f" ∷ codes "g" ∷ codes "h" ∷ codes "i" ∷ []) ≡ None
 nine_names = refl
 
 -- ---- replay, inspect and gen
 
-replay_defaults : request (codes "replay" ∷ codes "--log" ∷ codes "l" ∷ codes "a" ∷ []) ≡ Some (Replay 4 (codes "l") (codes "a" ∷ []))
+replay_defaults : request (codes "replay" ∷ codes "--log" ∷ codes "l" ∷ codes "a" ∷ [])
+    ≡ Some (Replay 4 (codes "l") (codes "a" ∷ []))
 replay_defaults = refl
 
-replay_options : request (codes "replay" ∷ codes "--workers" ∷ codes "32" ∷ codes "--log" ∷ codes "l" ∷ codes "a" ∷ codes "b" ∷ []) ≡ Some (Replay 32 (codes "l") (codes "a" ∷ codes "b" ∷ []))
+replay_options : request (codes "replay" ∷ codes "--workers" ∷ codes "32" ∷ codes "--log"
+    ∷ codes "l" ∷ codes "a" ∷ codes "b" ∷ [])
+    ≡ Some (Replay 32 (codes "l") (codes "a" ∷ codes "b" ∷ []))
 replay_options = refl
 
 inspect_one : request (codes "inspect" ∷ codes "a" ∷ []) ≡ Some (Inspect (codes "a"))
 inspect_one = refl
 
-gen_defaults : request (codes "gen" ∷ codes "--number" ∷ codes "1" ∷ codes "--threads" ∷ codes "2" ∷ []) ≡ Some (Gen 1 2 4)
+gen_defaults : request (codes "gen" ∷ codes "--number" ∷ codes "1" ∷ codes "--threads" ∷ codes "2"
+    ∷ []) ≡ Some (Gen 1 2 4)
 gen_defaults = refl
 
-gen_options : request (codes "gen" ∷ codes "--workers" ∷ codes "1" ∷ codes "--threads" ∷ codes "32" ∷ codes "--number" ∷ codes "4294967295" ∷ []) ≡ Some (Gen 4294967295 32 1)
+gen_options : request (codes "gen" ∷ codes "--workers" ∷ codes "1" ∷ codes "--threads" ∷ codes "32"
+    ∷ codes "--number" ∷ codes "4294967295" ∷ []) ≡ Some (Gen 4294967295 32 1)
 gen_options = refl
 
 -- ---- the bounds of each number: the lowest and the highest, and one past them
 
-quantum_below : request (codes "run" ∷ codes "--quantum" ∷ codes "15" ∷ codes "--log" ∷ codes "l" ∷ codes "a" ∷ []) ≡ None
+quantum_below : request (codes "run" ∷ codes "--quantum" ∷ codes "15" ∷ codes "--log" ∷ codes "l"
+    ∷ codes "a" ∷ []) ≡ None
 quantum_below = refl
 
-quantum_lowest : request (codes "run" ∷ codes "--quantum" ∷ codes "16" ∷ codes "--log" ∷ codes "l" ∷ codes "a" ∷ []) ≡ Some (Run 16 100000 4096 4 [] None 1 (codes "l") (codes "a" ∷ []))
+quantum_lowest : request (codes "run" ∷ codes "--quantum" ∷ codes "16" ∷ codes "--log" ∷ codes "l"
+    ∷ codes "a" ∷ []) ≡ Some (Run 16 100000 4096 4 [] None 1 (codes "l") (codes "a" ∷ []))
 quantum_lowest = refl
 
-quantum_highest : request (codes "run" ∷ codes "--quantum" ∷ codes "65536" ∷ codes "--log" ∷ codes "l" ∷ codes "a" ∷ []) ≡ Some (Run 65536 100000 4096 4 [] None 1 (codes "l") (codes "a" ∷ []))
+quantum_highest : request
+    (codes "run" ∷ codes "--quantum" ∷ codes "65536" ∷ codes "--log" ∷ codes "l" ∷ codes "a"
+    ∷ []) ≡ Some (Run 65536 100000 4096 4 [] None 1 (codes "l") (codes "a" ∷ []))
 quantum_highest = refl
 
-quantum_above : request (codes "run" ∷ codes "--quantum" ∷ codes "65537" ∷ codes "--log" ∷ codes "l" ∷ codes "a" ∷ []) ≡ None
+quantum_above : request (codes "run" ∷ codes "--quantum" ∷ codes "65537" ∷ codes "--log" ∷ codes "l"
+    ∷ codes "a" ∷ []) ≡ None
 quantum_above = refl
 
-rounds_below : request (codes "run" ∷ codes "--rounds" ∷ codes "0" ∷ codes "--log" ∷ codes "l" ∷ codes "a" ∷ []) ≡ None
+rounds_below : request (codes "run" ∷ codes "--rounds" ∷ codes "0" ∷ codes "--log" ∷ codes "l"
+    ∷ codes "a" ∷ []) ≡ None
 rounds_below = refl
 
-rounds_lowest : request (codes "run" ∷ codes "--rounds" ∷ codes "1" ∷ codes "--log" ∷ codes "l" ∷ codes "a" ∷ []) ≡ Some (Run 1000 1 4096 4 [] None 1 (codes "l") (codes "a" ∷ []))
+rounds_lowest : request (codes "run" ∷ codes "--rounds" ∷ codes "1" ∷ codes "--log" ∷ codes "l"
+    ∷ codes "a" ∷ []) ≡ Some (Run 1000 1 4096 4 [] None 1 (codes "l") (codes "a" ∷ []))
 rounds_lowest = refl
 
-rounds_highest : request (codes "run" ∷ codes "--rounds" ∷ codes "1000000" ∷ codes "--log" ∷ codes "l" ∷ codes "a" ∷ []) ≡ Some (Run 1000 1000000 4096 4 [] None 1 (codes "l") (codes "a" ∷ []))
+rounds_highest : request (codes "run" ∷ codes "--rounds" ∷ codes "1000000" ∷ codes "--log"
+    ∷ codes "l" ∷ codes "a" ∷ [])
+    ≡ Some (Run 1000 1000000 4096 4 [] None 1 (codes "l") (codes "a" ∷ []))
 rounds_highest = refl
 
-rounds_above : request (codes "run" ∷ codes "--rounds" ∷ codes "1000001" ∷ codes "--log" ∷ codes "l" ∷ codes "a" ∷ []) ≡ None
+rounds_above : request (codes "run" ∷ codes "--rounds" ∷ codes "1000001" ∷ codes "--log" ∷ codes "l"
+    ∷ codes "a" ∷ []) ≡ None
 rounds_above = refl
 
-frames_below : request (codes "run" ∷ codes "--frames" ∷ codes "15" ∷ codes "--log" ∷ codes "l" ∷ codes "a" ∷ []) ≡ None
+frames_below : request (codes "run" ∷ codes "--frames" ∷ codes "15" ∷ codes "--log" ∷ codes "l"
+    ∷ codes "a" ∷ []) ≡ None
 frames_below = refl
 
-frames_lowest : request (codes "run" ∷ codes "--frames" ∷ codes "16" ∷ codes "--log" ∷ codes "l" ∷ codes "a" ∷ []) ≡ Some (Run 1000 100000 16 4 [] None 1 (codes "l") (codes "a" ∷ []))
+frames_lowest : request (codes "run" ∷ codes "--frames" ∷ codes "16" ∷ codes "--log" ∷ codes "l"
+    ∷ codes "a" ∷ []) ≡ Some (Run 1000 100000 16 4 [] None 1 (codes "l") (codes "a" ∷ []))
 frames_lowest = refl
 
-frames_highest : request (codes "run" ∷ codes "--frames" ∷ codes "16384" ∷ codes "--log" ∷ codes "l" ∷ codes "a" ∷ []) ≡ Some (Run 1000 100000 16384 4 [] None 1 (codes "l") (codes "a" ∷ []))
+frames_highest : request (codes "run" ∷ codes "--frames" ∷ codes "16384" ∷ codes "--log" ∷ codes "l"
+    ∷ codes "a" ∷ []) ≡ Some (Run 1000 100000 16384 4 [] None 1 (codes "l") (codes "a" ∷ []))
 frames_highest = refl
 
-frames_above : request (codes "run" ∷ codes "--frames" ∷ codes "16385" ∷ codes "--log" ∷ codes "l" ∷ codes "a" ∷ []) ≡ None
+frames_above : request (codes "run" ∷ codes "--frames" ∷ codes "16385" ∷ codes "--log" ∷ codes "l"
+    ∷ codes "a" ∷ []) ≡ None
 frames_above = refl
 
-workers_below : request (codes "run" ∷ codes "--workers" ∷ codes "0" ∷ codes "--log" ∷ codes "l" ∷ codes "a" ∷ []) ≡ None
+workers_below : request (codes "run" ∷ codes "--workers" ∷ codes "0" ∷ codes "--log" ∷ codes "l"
+    ∷ codes "a" ∷ []) ≡ None
 workers_below = refl
 
-workers_lowest : request (codes "run" ∷ codes "--workers" ∷ codes "1" ∷ codes "--log" ∷ codes "l" ∷ codes "a" ∷ []) ≡ Some (Run 1000 100000 4096 1 [] None 1 (codes "l") (codes "a" ∷ []))
+workers_lowest : request (codes "run" ∷ codes "--workers" ∷ codes "1" ∷ codes "--log" ∷ codes "l"
+    ∷ codes "a" ∷ []) ≡ Some (Run 1000 100000 4096 1 [] None 1 (codes "l") (codes "a" ∷ []))
 workers_lowest = refl
 
-workers_highest : request (codes "run" ∷ codes "--workers" ∷ codes "32" ∷ codes "--log" ∷ codes "l" ∷ codes "a" ∷ []) ≡ Some (Run 1000 100000 4096 32 [] None 1 (codes "l") (codes "a" ∷ []))
+workers_highest : request (codes "run" ∷ codes "--workers" ∷ codes "32" ∷ codes "--log" ∷ codes "l"
+    ∷ codes "a" ∷ []) ≡ Some (Run 1000 100000 4096 32 [] None 1 (codes "l") (codes "a" ∷ []))
 workers_highest = refl
 
-workers_above : request (codes "run" ∷ codes "--workers" ∷ codes "33" ∷ codes "--log" ∷ codes "l" ∷ codes "a" ∷ []) ≡ None
+workers_above : request (codes "run" ∷ codes "--workers" ∷ codes "33" ∷ codes "--log" ∷ codes "l"
+    ∷ codes "a" ∷ []) ≡ None
 workers_above = refl
 
-clock_from_lowest : request (codes "run" ∷ codes "--clock-from" ∷ codes "0" ∷ codes "--log" ∷ codes "l" ∷ codes "a" ∷ []) ≡ Some (Run 1000 100000 4096 4 [] (Some 0) 1 (codes "l") (codes "a" ∷ []))
+clock_from_lowest : request
+    (codes "run" ∷ codes "--clock-from" ∷ codes "0" ∷ codes "--log" ∷ codes "l" ∷ codes "a"
+    ∷ []) ≡ Some (Run 1000 100000 4096 4 [] (Some 0) 1 (codes "l") (codes "a" ∷ []))
 clock_from_lowest = refl
 
-clock_from_highest : request (codes "run" ∷ codes "--clock-from" ∷ codes "18446744073709551615" ∷ codes "--log" ∷ codes "l" ∷ codes "a" ∷ []) ≡ Some (Run 1000 100000 4096 4 [] (Some 18446744073709551615) 1 (codes "l") (codes "a" ∷ []))
+clock_from_highest : request (codes "run" ∷ codes "--clock-from" ∷ codes "18446744073709551615"
+    ∷ codes "--log" ∷ codes "l" ∷ codes "a" ∷ [])
+    ≡ Some (Run 1000 100000 4096 4 [] (Some 18446744073709551615) 1 (codes "l") (codes "a" ∷ []))
 clock_from_highest = refl
 
-clock_from_above : request (codes "run" ∷ codes "--clock-from" ∷ codes "18446744073709551616" ∷ codes "--log" ∷ codes "l" ∷ codes "a" ∷ []) ≡ None
+clock_from_above : request (codes "run" ∷ codes "--clock-from" ∷ codes "18446744073709551616"
+    ∷ codes "--log" ∷ codes "l" ∷ codes "a" ∷ []) ≡ None
 clock_from_above = refl
 
-clock_step_lowest : request (codes "run" ∷ codes "--clock-step" ∷ codes "0" ∷ codes "--log" ∷ codes "l" ∷ codes "a" ∷ []) ≡ Some (Run 1000 100000 4096 4 [] None 0 (codes "l") (codes "a" ∷ []))
+clock_step_lowest : request
+    (codes "run" ∷ codes "--clock-step" ∷ codes "0" ∷ codes "--log" ∷ codes "l" ∷ codes "a"
+    ∷ []) ≡ Some (Run 1000 100000 4096 4 [] None 0 (codes "l") (codes "a" ∷ []))
 clock_step_lowest = refl
 
-clock_step_highest : request (codes "run" ∷ codes "--clock-step" ∷ codes "18446744073709551615" ∷ codes "--log" ∷ codes "l" ∷ codes "a" ∷ []) ≡ Some (Run 1000 100000 4096 4 [] None 18446744073709551615 (codes "l") (codes "a" ∷ []))
+clock_step_highest : request (codes "run" ∷ codes "--clock-step" ∷ codes "18446744073709551615"
+    ∷ codes "--log" ∷ codes "l" ∷ codes "a" ∷ [])
+    ≡ Some (Run 1000 100000 4096 4 [] None 18446744073709551615 (codes "l") (codes "a" ∷ []))
 clock_step_highest = refl
 
-clock_step_above : request (codes "run" ∷ codes "--clock-step" ∷ codes "18446744073709551616" ∷ codes "--log" ∷ codes "l" ∷ codes "a" ∷ []) ≡ None
+clock_step_above : request (codes "run" ∷ codes "--clock-step" ∷ codes "18446744073709551616"
+    ∷ codes "--log" ∷ codes "l" ∷ codes "a" ∷ []) ≡ None
 clock_step_above = refl
 
-number_lowest : request (codes "gen" ∷ codes "--number" ∷ codes "0" ∷ codes "--threads" ∷ codes "1" ∷ []) ≡ Some (Gen 0 1 4)
+number_lowest : request (codes "gen" ∷ codes "--number" ∷ codes "0" ∷ codes "--threads" ∷ codes "1"
+    ∷ []) ≡ Some (Gen 0 1 4)
 number_lowest = refl
 
-number_above : request (codes "gen" ∷ codes "--number" ∷ codes "4294967296" ∷ codes "--threads" ∷ codes "1" ∷ []) ≡ None
+number_above : request (codes "gen" ∷ codes "--number" ∷ codes "4294967296" ∷ codes "--threads"
+    ∷ codes "1" ∷ []) ≡ None
 number_above = refl
 
-threads_below : request (codes "gen" ∷ codes "--number" ∷ codes "0" ∷ codes "--threads" ∷ codes "0" ∷ []) ≡ None
+threads_below : request (codes "gen" ∷ codes "--number" ∷ codes "0" ∷ codes "--threads" ∷ codes "0"
+    ∷ []) ≡ None
 threads_below = refl
 
-threads_above : request (codes "gen" ∷ codes "--number" ∷ codes "0" ∷ codes "--threads" ∷ codes "33" ∷ []) ≡ None
+threads_above : request (codes "gen" ∷ codes "--number" ∷ codes "0" ∷ codes "--threads" ∷ codes "33"
+    ∷ []) ≡ None
 threads_above = refl
 
 -- ---- posts
 
-post_lowest : request (codes "run" ∷ codes "--signals" ∷ codes "1:1:1" ∷ codes "--log" ∷ codes "l" ∷ codes "a" ∷ []) ≡ Some (Run 1000 100000 4096 4 ((1, record { pid = 1; signal = 1 }) ∷ []) None 1 (codes "l") (codes "a" ∷ []))
+post_lowest : request (codes "run" ∷ codes "--signals" ∷ codes "1:1:1" ∷ codes "--log" ∷ codes "l"
+    ∷ codes "a" ∷ [])
+    ≡ Some (Run 1000 100000 4096 4 ((1, record { pid = 1; signal = 1 }) ∷ []) None 1 (codes "l")
+    (codes "a" ∷ []))
 post_lowest = refl
 
-post_highest : request (codes "run" ∷ codes "--signals" ∷ codes "1000000:65535:31" ∷ codes "--log" ∷ codes "l" ∷ codes "a" ∷ []) ≡ Some (Run 1000 100000 4096 4 ((1000000, record { pid = 65535; signal = 31 }) ∷ []) None 1 (codes "l") (codes "a" ∷ []))
+post_highest : request (codes "run" ∷ codes "--signals" ∷ codes "1000000:65535:31" ∷ codes "--log"
+    ∷ codes "l" ∷ codes "a" ∷ [])
+    ≡ Some (Run 1000 100000 4096 4 ((1000000, record { pid = 65535; signal = 31 }) ∷ []) None 1
+    (codes "l") (codes "a" ∷ []))
 post_highest = refl
 
-post_round_below : request (codes "run" ∷ codes "--signals" ∷ codes "0:1:1" ∷ codes "--log" ∷ codes "l" ∷ codes "a" ∷ []) ≡ None
+post_round_below : request
+    (codes "run" ∷ codes "--signals" ∷ codes "0:1:1" ∷ codes "--log" ∷ codes "l" ∷ codes "a"
+    ∷ []) ≡ None
 post_round_below = refl
 
-post_round_above : request (codes "run" ∷ codes "--signals" ∷ codes "1000001:1:1" ∷ codes "--log" ∷ codes "l" ∷ codes "a" ∷ []) ≡ None
+post_round_above : request (codes "run" ∷ codes "--signals" ∷ codes "1000001:1:1" ∷ codes "--log"
+    ∷ codes "l" ∷ codes "a" ∷ []) ≡ None
 post_round_above = refl
 
-post_process_below : request (codes "run" ∷ codes "--signals" ∷ codes "1:0:1" ∷ codes "--log" ∷ codes "l" ∷ codes "a" ∷ []) ≡ None
+post_process_below : request
+    (codes "run" ∷ codes "--signals" ∷ codes "1:0:1" ∷ codes "--log" ∷ codes "l" ∷ codes "a"
+    ∷ []) ≡ None
 post_process_below = refl
 
-post_process_above : request (codes "run" ∷ codes "--signals" ∷ codes "1:65536:1" ∷ codes "--log" ∷ codes "l" ∷ codes "a" ∷ []) ≡ None
+post_process_above : request (codes "run" ∷ codes "--signals" ∷ codes "1:65536:1" ∷ codes "--log"
+    ∷ codes "l" ∷ codes "a" ∷ []) ≡ None
 post_process_above = refl
 
-post_signal_below : request (codes "run" ∷ codes "--signals" ∷ codes "1:1:0" ∷ codes "--log" ∷ codes "l" ∷ codes "a" ∷ []) ≡ None
+post_signal_below : request
+    (codes "run" ∷ codes "--signals" ∷ codes "1:1:0" ∷ codes "--log" ∷ codes "l" ∷ codes "a"
+    ∷ []) ≡ None
 post_signal_below = refl
 
-post_signal_above : request (codes "run" ∷ codes "--signals" ∷ codes "1:1:32" ∷ codes "--log" ∷ codes "l" ∷ codes "a" ∷ []) ≡ None
+post_signal_above : request
+    (codes "run" ∷ codes "--signals" ∷ codes "1:1:32" ∷ codes "--log" ∷ codes "l" ∷ codes "a"
+    ∷ []) ≡ None
 post_signal_above = refl
 
-post_of_two : request (codes "run" ∷ codes "--signals" ∷ codes "1:1" ∷ codes "--log" ∷ codes "l" ∷ codes "a" ∷ []) ≡ None
+post_of_two : request (codes "run" ∷ codes "--signals" ∷ codes "1:1" ∷ codes "--log" ∷ codes "l"
+    ∷ codes "a" ∷ []) ≡ None
 post_of_two = refl
 
-post_of_four : request (codes "run" ∷ codes "--signals" ∷ codes "1:1:1:1" ∷ codes "--log" ∷ codes "l" ∷ codes "a" ∷ []) ≡ None
+post_of_four : request (codes "run" ∷ codes "--signals" ∷ codes "1:1:1:1" ∷ codes "--log"
+    ∷ codes "l" ∷ codes "a" ∷ []) ≡ None
 post_of_four = refl
 
-last_comma : request (codes "run" ∷ codes "--signals" ∷ codes "1:1:1," ∷ codes "--log" ∷ codes "l" ∷ codes "a" ∷ []) ≡ None
+last_comma : request (codes "run" ∷ codes "--signals" ∷ codes "1:1:1," ∷ codes "--log" ∷ codes "l"
+    ∷ codes "a" ∷ []) ≡ None
 last_comma = refl
 
 abbrev one_post : ℕ × Post
 one_post = (1, record { pid = 1; signal = 1 })
 
 -- 32 posts are the most
-posts_32 : posts_from (flat_map (λ (text : List ℕ). text) (replicate 31 (codes "1:1:1,")) ++ codes "1:1:1") ≡ Some (replicate 32 one_post)
+posts_32 : posts_from (flat_map (λ (text : List ℕ). text) (replicate 31 (codes "1:1:1,"))
+    ++ codes "1:1:1") ≡ Some (replicate 32 one_post)
 posts_32 = refl
 
-posts_33 : posts_from (flat_map (λ (text : List ℕ). text) (replicate 32 (codes "1:1:1,")) ++ codes "1:1:1") ≡ None
+posts_33 : posts_from (flat_map (λ (text : List ℕ). text) (replicate 32 (codes "1:1:1,"))
+    ++ codes "1:1:1") ≡ None
 posts_33 = refl
 
 -- ---- how a number is spelled
 
-zero : request (codes "run" ∷ codes "--clock-step" ∷ codes "0" ∷ codes "--log" ∷ codes "l" ∷ codes "a" ∷ []) ≡ Some (Run 1000 100000 4096 4 [] None 0 (codes "l") (codes "a" ∷ []))
+zero : request (codes "run" ∷ codes "--clock-step" ∷ codes "0" ∷ codes "--log" ∷ codes "l"
+    ∷ codes "a" ∷ []) ≡ Some (Run 1000 100000 4096 4 [] None 0 (codes "l") (codes "a" ∷ []))
 zero = refl
 
-leading_zero : request (codes "run" ∷ codes "--clock-step" ∷ codes "01" ∷ codes "--log" ∷ codes "l" ∷ codes "a" ∷ []) ≡ None
+leading_zero : request (codes "run" ∷ codes "--clock-step" ∷ codes "01" ∷ codes "--log" ∷ codes "l"
+    ∷ codes "a" ∷ []) ≡ None
 leading_zero = refl
 
-two_zeros : request (codes "run" ∷ codes "--clock-step" ∷ codes "00" ∷ codes "--log" ∷ codes "l" ∷ codes "a" ∷ []) ≡ None
+two_zeros : request (codes "run" ∷ codes "--clock-step" ∷ codes "00" ∷ codes "--log" ∷ codes "l"
+    ∷ codes "a" ∷ []) ≡ None
 two_zeros = refl
 
-digits_20 : request (codes "run" ∷ codes "--clock-step" ∷ codes "10000000000000000000" ∷ codes "--log" ∷ codes "l" ∷ codes "a" ∷ []) ≡ Some (Run 1000 100000 4096 4 [] None 10000000000000000000 (codes "l") (codes "a" ∷ []))
+digits_20 : request (codes "run" ∷ codes "--clock-step" ∷ codes "10000000000000000000"
+    ∷ codes "--log" ∷ codes "l" ∷ codes "a" ∷ [])
+    ≡ Some (Run 1000 100000 4096 4 [] None 10000000000000000000 (codes "l") (codes "a" ∷ []))
 digits_20 = refl
 
-digits_21 : request (codes "run" ∷ codes "--clock-step" ∷ codes "100000000000000000000" ∷ codes "--log" ∷ codes "l" ∷ codes "a" ∷ []) ≡ None
+digits_21 : request (codes "run" ∷ codes "--clock-step" ∷ codes "100000000000000000000"
+    ∷ codes "--log" ∷ codes "l" ∷ codes "a" ∷ []) ≡ None
 digits_21 = refl
 
-plus : request (codes "run" ∷ codes "--clock-step" ∷ codes "+1" ∷ codes "--log" ∷ codes "l" ∷ codes "a" ∷ []) ≡ None
+plus : request (codes "run" ∷ codes "--clock-step" ∷ codes "+1" ∷ codes "--log" ∷ codes "l"
+    ∷ codes "a" ∷ []) ≡ None
 plus = refl
 
-letter : request (codes "run" ∷ codes "--clock-step" ∷ codes "1a" ∷ codes "--log" ∷ codes "l" ∷ codes "a" ∷ []) ≡ None
+letter : request (codes "run" ∷ codes "--clock-step" ∷ codes "1a" ∷ codes "--log" ∷ codes "l"
+    ∷ codes "a" ∷ []) ≡ None
 letter = refl
 
-hexadecimal : request (codes "run" ∷ codes "--clock-step" ∷ codes "0x10" ∷ codes "--log" ∷ codes "l" ∷ codes "a" ∷ []) ≡ None
+hexadecimal : request (codes "run" ∷ codes "--clock-step" ∷ codes "0x10" ∷ codes "--log" ∷ codes "l"
+    ∷ codes "a" ∷ []) ≡ None
 hexadecimal = refl
 
 -- ---- canonical words that are refused
@@ -217,5 +299,6 @@ gen_no_number = refl
 gen_no_threads : request (codes "gen" ∷ codes "--number" ∷ codes "1" ∷ []) ≡ None
 gen_no_threads = refl
 
-gen_name : request (codes "gen" ∷ codes "--number" ∷ codes "1" ∷ codes "--threads" ∷ codes "1" ∷ codes "a" ∷ []) ≡ None
+gen_name : request (codes "gen" ∷ codes "--number" ∷ codes "1" ∷ codes "--threads" ∷ codes "1"
+    ∷ codes "a" ∷ []) ≡ None
 gen_name = refl

@@ -5,3 +5,4 @@ pub mod Canonical
 pub mod Clap
 pub mod Request
 pub mod Ranges
+pub mod Reads

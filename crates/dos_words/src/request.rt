@@ -1,7 +1,8 @@
 // What the words ask for.
-ghost use Rattle.std.specs.Prelude.{◌≡◌, ◌<◌, length, slice_get, Some};
+ghost use Rattle.std.specs.Prelude.{◌≡◌, ◌<◌, [], length, map, slice_get, Some, IfOk};
 
 use dos_world::Post;
+use std::alloc::{AllocError, Global};
 use std::marker::Model;
 
 /// An owned text. Contracts see its bytes.
@@ -19,6 +20,14 @@ impl Model for Text {
 }
 
 impl Text {
+    /// An owned copy.
+    pub(crate) fn copy_of(alloc: Global, text: &str) -> Result<Text, AllocError>
+        ensures { IfOk result (λ t. t ≡ text.now) }
+    {
+        let text = String::from_str(alloc, text)?;
+        Ok(Text { text })
+    }
+
     /// The text.
     pub fn as_str(&self) -> &str
         ensures { result.now ≡ self.now }
@@ -42,6 +51,17 @@ impl Model for Names {
 }
 
 impl Names {
+    /// An owned copy.
+    pub(crate) fn copy_of(alloc: Global, texts: &[&str]) -> Result<Names, AllocError>
+        ensures { IfOk result (λ t. t ≡ map (λ s. s.now) texts.now) }
+    {
+        let mut names = Vec::new(alloc);
+        for text in texts {
+            names.push(String::from_str(alloc, text)?)?;
+        }
+        Ok(Names { names })
+    }
+
     /// How many there are.
     pub fn len(&self) -> usize
         ensures { result ≡ length self.now }
@@ -74,6 +94,22 @@ impl Model for Posts {
 }
 
 impl Posts {
+    /// No posts.
+    pub(crate) fn none(alloc: Global) -> Posts
+        ensures { result ≡ [] }
+    {
+        Posts {
+            posts: Vec::new(alloc),
+        }
+    }
+
+    /// These posts.
+    pub(crate) fn of(posts: Vec<(u32, Post)>) -> Posts
+        ensures { result ≡ posts.items }
+    {
+        Posts { posts }
+    }
+
     /// The posts, in the order of the words.
     pub fn as_slice(&self) -> &[(u32, Post)]
         ensures { result.now ≡ self.now }
