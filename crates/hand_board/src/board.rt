@@ -1,0 +1,296 @@
+// The board, and what a seat does at it.
+ghost use Rattle.std.specs.Prelude.{◌≡◌, ◌<◌, ◌≤◌, ◌+◌, ◌-◌, ◌/◌, ◌^◌, ◌∷◌, ◌++◌, ◌||◌, [], ℕ};
+ghost use Rattle.std.specs.Prelude.{true, false, length, max, vec_len, vec_capacity};
+ghost use Rattle.std.specs.Prelude.{IfSome, IfNone, IfOk, IfErr, Some};
+ghost use mathlib.Core.Option.{some};
+ghost use lib.ListN.{get_elem?};
+ghost use Rattle.hand_board.specs.Placed.{times, without, whole};
+ghost use Rattle.hand_board.specs.Seating.{Has, AllFinished};
+
+use crate::rule::{Bring, Claim, Give, Halve, Knows, Merge, Once, Part, Weigh};
+use crate::seat::{BoardSeat, Job};
+use crate::slots::{empty, fill, take_all};
+use atomic_table::{Refused, Table};
+use std::alloc::Global;
+use std::marker::Model;
+use std::snapshot::Snapshot;
+
+/// The share of a seat that is the only one.
+const WHOLE: u64 = 1 << 32;
+
+/// Packs that threads take, each once, and give back. Contracts see which board it is, the packs as
+/// it opened, and the room of the vector that they came in.
+#[derive(Drop)]
+pub struct Board<T: Part> {
+    // Word 0 isn't used; word i + 1 and slot i are those of number i.
+    table: Table<Option<T>, Knows<T>, Snapshot<Vec<T>>, Once<T>, Global>,
+    count: u32,
+    // The vector that the packs came in, now without them: they come home into it.
+    room: Vec<T>,
+}
+
+impl<T: Part> Model for Board<T> {
+    ghost use Rattle.std.specs.Prelude.{vec_len, vec_capacity};
+    ghost use Rattle.hand_board.specs.Seating.{Standing, Stands, standing};
+
+    ghost Value = { Standing T };
+
+    ghost view = { λ b. standing b.table.shared.table_id b.table.shared.key.value.items
+        (vec_capacity b.room) };
+
+    ghost invariant = { λ b. Stands b.table.shared.table_id b.table.shared.key.value.items b.count
+        (vec_len b.room) (vec_capacity b.room) };
+}
+
+fn later(a: u32, b: u32) -> u32
+    ensures { result ≡ max a b }
+{
+    if a < b { b } else { a }
+}
+
+// a value, since `a || b` among the fields of a struct would be two ways through the function
+fn one_of(a: bool, b: bool) -> bool
+    ensures { result ≡ (a || b) }
+{
+    a || b
+}
+
+impl<T: Part> Board<T> {
+    /// A board of fewer than 2^32 packs, and its first seat, which has the whole share, 2^32,
+    /// nothing in hand and nothing found. Err is want of memory, and hands all packs back. No other
+    /// call of a board takes memory.
+    pub fn new(alloc: Global, mut packs: Vec<T>) -> Result<(Board<T>, BoardSeat<T>), Vec<T>>
+        requires { vec_len packs < 2 ^ 32 }
+        ensures seat { IfOk result
+            (λ r. r.1
+            ≡ record {
+              board = r.0.id;
+              opened = packs.items;
+              share = whole;
+              found = [];
+              hand = [];
+              next = 0;
+              ended = false;
+            }) }
+        ensures board { IfOk result
+            (λ r. (r.0.opened ≡ packs.items) × (r.0.room ≡ vec_capacity packs)) }
+        ensures err { IfErr result
+            (λ v. (v.items ≡ packs.items) × (vec_capacity v ≡ vec_capacity packs)) }
+    {
+        let count = packs.len();
+        let Ok(words) = (vec![in alloc; 0; count + 1]) else {
+            return Err(packs);
+        };
+        let Ok(mut slots) = Vec::with_capacity(alloc, count) else {
+            return Err(packs);
+        };
+        let opened = Snapshot::of(&packs);
+        fill(&mut packs, &mut slots);
+        match Table::new(alloc, words.as_slice(), slots, &opened) {
+            Ok((table, seat)) => Ok((
+                Board {
+                    table,
+                    count: count as u32,
+                    room: packs,
+                },
+                BoardSeat {
+                    seat,
+                    share: WHOLE,
+                    next: 0,
+                    ended: false,
+                },
+            )),
+            Err(Refused { slots }) => {
+                empty(slots, &mut packs);
+                Err(packs)
+            }
+        }
+    }
+
+    /// How many packs the board was made of.
+    pub fn count(&self) -> u32
+        ensures { result ≡ length self.now.opened }
+    {
+        self.count
+    }
+
+    /// The pack of this number, as the board opened, where its word was 0 at this call's one
+    /// exchange: no other hand has it. Else None: the pack is or was in a hand. Either way the
+    /// number is found afterwards.
+    pub fn claim(&self, seat: &mut BoardSeat<T>, number: u32) -> Option<Job<T>>
+        requires board { seat.old.board ≡ self.now.id }
+        requires number { number < length self.now.opened }
+        ensures some { IfSome result
+            (λ j. (j.number ≡ number) × (get_elem? seat.old.opened number ≡ some j.pack)
+            × (times number seat.old.found ≡ 0)
+            × (seat.new
+            ≡ record seat.old {
+              found = number ∷ seat.old.found;
+              hand = number ∷ seat.old.hand;
+            })) }
+        ensures none { IfNone result
+            (seat.new ≡ record seat.old { found = number ∷ seat.old.found }) }
+    {
+        let shared = &self.table.shared;
+        let index = number as usize;
+        let found = shared.compare_exchange::<Claim>(&mut seat.seat, index + 1, 0, 1);
+        if found != 0 {
+            return None;
+        }
+        match shared.exchange(&mut seat.seat, index, None) {
+            Some(pack) => Some(Job { number, pack }),
+            None => unreachable!(),
+        }
+    }
+
+    /// A pack that this seat didn't know to be begun, as the board opened; no other hand has it.
+    /// None exactly where each number was found begun, by this call or before: the seat has then
+    /// ended, and its draws answer None without a step. Numbers are tried in rising order, from
+    /// after the last one that was drawn.
+    pub fn draw(&self, seat: &mut BoardSeat<T>) -> Option<Job<T>>
+        requires board { seat.old.board ≡ self.now.id }
+        ensures seat { (seat.new.board ≡ seat.old.board) × (seat.new.opened ≡ seat.old.opened)
+            × (seat.new.share ≡ seat.old.share) }
+        ensures some { IfSome result
+            (λ j. (seat.old.ended ≡ false)
+            × (get_elem? seat.old.opened j.number ≡ some j.pack)
+            × (times j.number seat.old.found ≡ 0) × Has j.number seat.new.found
+            × (seat.new.hand ≡ j.number ∷ seat.old.hand) × (seat.new.ended ≡ false)) }
+        ensures next { IfSome result
+            (λ j. (seat.old.next ≤ j.number) × (seat.new.next ≡ j.number + 1)
+            × (j.number < length self.now.opened)) }
+        ensures none { IfNone result ((seat.new.ended ≡ true) × (seat.new.hand ≡ seat.old.hand)
+            × ((k : ℕ) → k < length self.now.opened → Has k seat.new.found)) }
+        ensures found { (k : ℕ) → Has k seat.old.found → Has k seat.new.found }
+    {
+        let count = self.count;
+        if seat.ended {
+            return None;
+        }
+        let mut number = seat.next;
+        while number < count {
+            if let Some(job) = self.claim(seat, number) {
+                seat.next = number + 1;
+                return Some(job);
+            }
+            number += 1;
+        }
+        seat.ended = true;
+        None
+    }
+
+    /// A pack goes home, finished. Its number is in this seat's hand, which may have others, and
+    /// leaves it.
+    pub fn give(&self, seat: &mut BoardSeat<T>, job: Job<T>)
+        requires board { seat.old.board ≡ self.now.id }
+        requires hand { 0 < times job.number seat.old.hand }
+        requires finished { (x : T) → get_elem? seat.old.opened job.number ≡ some x
+            → T.finished x job.pack }
+        ensures { seat.new ≡ record seat.old { hand = without job.number seat.old.hand } }
+    {
+        let Job { number, pack } = job;
+        let shared = &self.table.shared;
+        let index = number as usize;
+        shared.load::<Bring>(&mut seat.seat, index + 1);
+        match shared.exchange(&mut seat.seat, index, Some(pack)) {
+            None => {}
+            Some(_) => unreachable!(),
+        }
+        shared.store::<Give>(&mut seat.seat, index + 1, 2);
+    }
+
+    /// Two seats of one with a share of at least 2. The first keeps the hand and half of the share,
+    /// rounded down; the second has nothing in hand, and the rest. Both have found what the seat
+    /// had, and both have ended where it had.
+    pub fn split(&self, seat: BoardSeat<T>) -> (BoardSeat<T>, BoardSeat<T>)
+        requires board { seat.board ≡ self.now.id }
+        requires share { 2 ≤ seat.share }
+        ensures first { result.0 ≡ record seat { share = seat.share / 2 } }
+        ensures second { result.1 ≡ record seat { share = seat.share - seat.share / 2; hand = [] } }
+    {
+        let BoardSeat {
+            mut seat,
+            share,
+            next,
+            ended,
+        } = seat;
+        let other = self.table.shared.split_seat::<Halve>(&mut seat);
+        let half = share / 2;
+        (
+            BoardSeat {
+                seat,
+                share: half,
+                next,
+                ended,
+            },
+            BoardSeat {
+                seat: other,
+                share: share - half,
+                next,
+                ended,
+            },
+        )
+    }
+
+    /// One seat of two that have nothing in hand. It has both shares, has found what either had,
+    /// and has ended where either had.
+    pub fn join(&self, left: BoardSeat<T>, right: BoardSeat<T>) -> BoardSeat<T>
+        requires left { left.board ≡ self.now.id }
+        requires right { right.board ≡ self.now.id }
+        requires hands { (left.hand ≡ []) × (right.hand ≡ []) }
+        ensures { result ≡ record left {
+          share = left.share + right.share;
+          found = left.found ++ right.found;
+          next = max left.next right.next;
+          ended = left.ended || right.ended;
+        } }
+    {
+        let BoardSeat {
+            mut seat,
+            share,
+            next,
+            ended,
+        } = left;
+        let BoardSeat {
+            seat: other,
+            share: more,
+            next: other_next,
+            ended: other_ended,
+        } = right;
+        let shared = &self.table.shared;
+        shared.join_seat::<Merge>(&mut seat, other);
+        // that the sum is a share too, since no share is above the whole
+        shared.load::<Weigh>(&mut seat, 0);
+        BoardSeat {
+            seat,
+            share: share + more,
+            next: later(next, other_next),
+            ended: one_of(ended, other_ended),
+        }
+    }
+
+    /// All packs, in order, each finished from its opening, in the vector that they came in. The
+    /// seat has the whole share, has ended, and has nothing in hand.
+    pub fn close(self, seat: BoardSeat<T>) -> Vec<T>
+        requires board { seat.board ≡ self.id }
+        requires whole { (seat.share ≡ whole) × (seat.ended ≡ true) × (seat.hand ≡ []) }
+        ensures finished { AllFinished T.finished self.opened result.items }
+        ensures capacity { vec_capacity result ≡ self.room }
+    {
+        let BoardSeat {
+            seat,
+            share: _,
+            next: _,
+            ended: _,
+        } = seat;
+        let Board {
+            table,
+            count: _,
+            mut room,
+        } = self;
+        let mut closed = table.close_with(seat);
+        take_all(&mut closed, &mut room);
+        closed.free();
+        room
+    }
+}

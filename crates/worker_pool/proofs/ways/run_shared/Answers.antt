@@ -1,0 +1,35 @@
+use Rattle.std.proofs.Common.{length, sym, subst, ap, arith, List}
+use Rattle.quantum_run.specs.Packs.{seen}
+use Rattle.quantum_run.specs.Shows.{Pack}
+use Rattle.worker_pool.specs.Lending.{packs_of, IsFinished}
+use Rattle.worker_pool.specs.Ran.{AllRunnable, EachRan}
+use Rattle.worker_pool.proofs.Running.{ready-of, as-many, finished-ran, packs-length}
+use Rattle.worker_pool.proofs.ways.run_shared.Goals as goal
+
+pub run_each-requires-clause-ready : goal.run_each-requires-clause-ready
+run_each-requires-clause-ready g c κs within =
+    ready-of (seen c.args.view.now) _
+    (subst (AllRunnable (seen c.args.view.now)) (sym c.lend.ensures.packs) c.requires.can)
+    c.lend.ensures.views
+
+pub take_back-requires : goal.take_back-requires
+take_back-requires g c =
+    let f = as-many IsFinished _ _ c.in-Ok-run_each.ensures.ok.0 in
+    let a = c.lend.ensures.len in let b = c.lend.ensures.capacity in let e = c.lend.ensures.empty in
+    let x = c.in-Ok-run_each.lent.ok in let y = c.lend.new.lent.ok in let z = c.args.packs.now.ok in
+    (e, omega arith)
+
+pub returns-in-Ok-run_each-clause-each : goal.returns-in-Ok-run_each-clause-each
+returns-in-Ok-run_each-clause-each g c =
+    let v = seen c.args.view.now in
+    let ran = finished-ran v _ _ c.in-Ok-run_each.ensures.ok.0 c.lend.ensures.views in
+    subst (λ l. EachRan v c.args.packs.now.items l) (sym c.take_back.ensures.packs)
+    (subst (λ l. EachRan v l (packs_of c.in-Ok-run_each.lent.items)) c.lend.ensures.packs ran)
+
+pub returns-in-Ok-run_each-clause-number : goal.returns-in-Ok-run_each-clause-number
+returns-in-Ok-run_each-clause-number g c =
+    let f = as-many IsFinished _ _ c.in-Ok-run_each.ensures.ok.0 in let a = c.lend.ensures.len in
+    let y = c.lend.new.lent.ok in let w = c.take_back.new.packs.ok in
+    let n = ap (λ (l : List Pack). length l) c.take_back.ensures.packs in
+    let m = packs-length c.in-Ok-run_each.lent.items in
+    omega arith

@@ -1,0 +1,36 @@
+-- What workers need of packs, and what they leave. This project's own rules.
+use Rattle.std.specs.Prelude.{ℕ, ◌≡◌, ◌+◌, ◌<◌, ◌≤◌, List, [], ◌∷◌, All, length, Some}
+use Rattle.std.specs.Prelude.{slice_get, slice_index_or}
+use Rattle.quantum_run.specs.Shows.{Pack, View, CanRun, Finished, frames_of}
+
+-- the pack as its thread's whole part has left it
+pub record HasRun (v : View) (p q : Pack) : Type 0 where
+  pub finished : Finished p v q
+  pub thread : q.thread ≡ p.thread
+  pub process : q.process ≡ p.process
+  pub frames : frames_of q.pages ≡ frames_of p.pages
+  pub budget : q.budget ≤ p.budget
+  pub room : q.room ≡ p.room
+
+-- as many packs, each run, in order
+pub record AllRan (v : View) (old new : List Pack) : Type 0 where
+  pub level : length new ≡ length old
+  pub each : (i : ℕ) (p : Pack) → slice_get old i ≡ Some p → (q : Pack) × (slice_get new i ≡ Some q)
+      × HasRun v p q
+
+abbrev pub AllCanRun : View → List Pack → Type 0
+AllCanRun v packs = (i : ℕ) (p : Pack) → slice_get packs i ≡ Some p → CanRun p v
+
+-- what is left of all budgets
+abbrev pub budgets : List Pack → ℕ
+budgets [] = 0
+budgets (p ∷ ps) = p.budget + budgets ps
+
+-- ---- the same by index, as std's calls over slices say it
+
+abbrev pub AllRunnable : View → List Pack → Type 0
+AllRunnable v = All (λ p. CanRun p v)
+
+abbrev pub EachRan : View → List Pack → List Pack → Type 0
+EachRan v old new = (i : ℕ) (d : Pack) → i < length old
+    → HasRun v (slice_index_or old i d) (slice_index_or new i d)
