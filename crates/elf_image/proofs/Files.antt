@@ -9,15 +9,20 @@ half_bytes n = to_le_bytes w16 n
 abbrev pub word_bytes : ℕ → List ℕ
 word_bytes n = to_le_bytes w32 n
 
--- the file header of an executable for RISC-V, whose table of so many program headers stands right behind it
+-- the file header of an executable for RISC-V, whose table of so many program headers stands right
+-- behind it
 abbrev pub file_header : (entry headers : ℕ) → List ℕ
 file_header entry headers =
     (0x7F ∷ 0x45 ∷ 0x4C ∷ 0x46 ∷ 1 ∷ 1 ∷ 1 ∷ 0 ∷ 0 ∷ 0 ∷ 0 ∷ 0 ∷ 0 ∷ 0 ∷ 0 ∷ 0 ∷ [])
-    ++ half_bytes 2 ++ half_bytes 243 ++ word_bytes 1 ++ word_bytes entry ++ word_bytes 52 ++ word_bytes 0 ++ word_bytes 0 ++ half_bytes 52 ++ half_bytes 32 ++ half_bytes headers ++ half_bytes 0 ++ half_bytes 0 ++ half_bytes 0
+    ++ half_bytes 2 ++ half_bytes 243 ++ word_bytes 1 ++ word_bytes entry ++ word_bytes 52
+    ++ word_bytes 0 ++ word_bytes 0 ++ half_bytes 52 ++ half_bytes 32 ++ half_bytes headers
+    ++ half_bytes 0 ++ half_bytes 0 ++ half_bytes 0
 
 -- a program header, with the physical address 0
 abbrev pub program_header : (type offset address file memory flags : ℕ) → List ℕ
-program_header type offset address file memory flags = word_bytes type ++ word_bytes offset ++ word_bytes address ++ word_bytes 0 ++ word_bytes file ++ word_bytes memory ++ word_bytes flags ++ word_bytes 4096
+program_header type offset address file memory flags = word_bytes type ++ word_bytes offset
+    ++ word_bytes address ++ word_bytes 0 ++ word_bytes file ++ word_bytes memory
+    ++ word_bytes flags ++ word_bytes 4096
 
 -- three instructions: process_exit with status 7
 abbrev pub code : List ℕ

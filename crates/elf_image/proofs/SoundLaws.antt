@@ -30,7 +30,8 @@ option_map_none : {A B : Type 0} (f : A → B) (o : Option A) → option_map f o
 option_map_none f (Some x) h = absurd cc
 option_map_none f None h = refl
 
-cond_none : {X : Type 0} (t : Bool) (x : X) (rest : Option X) → cond t (Some x) rest ≡ None → (t ≡ false) × (rest ≡ None)
+cond_none : {X : Type 0} (t : Bool) (x : X) (rest : Option X) → cond t (Some x) rest ≡ None
+    → (t ≡ false) × (rest ≡ None)
 cond_none true x rest h = absurd cc
 cond_none false x rest h = (refl, h)
 
@@ -64,19 +65,23 @@ few_headers bytes h =
     let both = or_parts (nat_lt 64 (e_phnum bytes)) _ bad in
     ltb-false _ _ both.0
 
-sound_segments : (file_len : ℕ) (hs : List Header) → segment_refusal file_len hs ≡ None → All (λ h. is_segment_bad file_len h ≡ false) hs
+sound_segments : (file_len : ℕ) (hs : List Header) → segment_refusal file_len hs ≡ None
+    → All (λ h. is_segment_bad file_len h ≡ false) hs
 unfolding segment_refusal
 sound_segments file_len hs h =
     let both = otherwise_none _ _ h in
     find_none (is_segment_bad file_len) hs (option_map_none segment_error _ both.1)
 
-loadable_parts : (file_len : ℕ) (hs : List Header) → segment_refusal file_len hs ≡ None → All (IsLoadable file_len) (filter is_part hs)
+loadable_parts : (file_len : ℕ) (hs : List Header) → segment_refusal file_len hs ≡ None
+    → All (IsLoadable file_len) (filter is_part hs)
 loadable_parts file_len hs h =
-    let sound = All-filter is_part (λ x. is_segment_bad file_len x ≡ false) hs (sound_segments file_len hs h) in
+    let sound = All-filter is_part (λ x. is_segment_bad file_len x ≡ false) hs
+    (sound_segments file_len hs h) in
     let part = filter_passes is_part hs in
     λ k d lt. record { part = part k d lt; sound = sound k d lt }
 
-pub loadable : (bytes : List ℕ) → refusal bytes ≡ None → All (IsLoadable (length bytes)) (part_headers bytes)
+pub loadable : (bytes : List ℕ) → refusal bytes ≡ None
+    → All (IsLoadable (length bytes)) (part_headers bytes)
 loadable bytes h = loadable_parts (length bytes) (headers bytes) (no_refusal bytes h).segments
 
 -- ---- one part
@@ -88,13 +93,21 @@ record Placed (file_len : ℕ) (h : Header) : Type 0 where
   above : 0x1000 ≤ h.address
   below : h.address + h.memory_size ≤ 0xEFFF0000
 
-in_file_of : (file_len : ℕ) (h : Header) → leaves_file file_len h ≡ false → (h.file_size ≡ 0) ⊎ (h.offset + h.file_size ≤ file_len)
-in_file_of file_len h e = elim (and_cases (nat_lt 0 h.file_size) _ e) [ inl none ↦ inl (omega (arith, ltb-false 0 h.file_size none)) | inr inside ↦ inr (ltb-false _ _ inside) ]
+in_file_of : (file_len : ℕ) (h : Header) → leaves_file file_len h ≡ false
+    → (h.file_size ≡ 0) ⊎ (h.offset + h.file_size ≤ file_len)
+in_file_of file_len h e =
+    elim (and_cases (nat_lt 0 h.file_size) _ e) [
+      | inl none ↦
+          inl (omega (arith, ltb-false 0 h.file_size none))
+      | inr inside ↦ inr (ltb-false _ _ inside)
+    ]
 
-in_space_of : (h : Header) → 1 ≤ h.memory_size → leaves_space h ≡ false → (0x1000 ≤ h.address) × (h.address + h.memory_size ≤ 0xEFFF0000)
+in_space_of : (h : Header) → 1 ≤ h.memory_size → leaves_space h ≡ false
+    → (0x1000 ≤ h.address) × (h.address + h.memory_size ≤ 0xEFFF0000)
 in_space_of h lt e = elim (and_cases (nat_lt 0 h.memory_size) _ e) [
   | inl none ↦ absurd (omega (arith, ltb-false 0 h.memory_size none))
-  | inr inside ↦ let both = or_parts (nat_lt h.address 0x1000) _ inside in (ltb-false _ _ both.0, ltb-false _ _ both.1)
+  | inr inside ↦ let both = or_parts (nat_lt h.address 0x1000) _ inside in
+      (ltb-false _ _ both.0, ltb-false _ _ both.1)
 ]
 
 placed_of : (file_len : ℕ) (h : Header) → IsLoadable file_len h → Placed file_len h
@@ -104,18 +117,32 @@ placed_of file_len h l =
     elim (and_cases (is_load h) _ l.sound) [
       | inl other ↦ absurd (let no : true ≡ false = sym part.0 ∙ other in cc)
       | inr good ↦
-          let one = or_parts (nat_lt h.memory_size h.file_size || leaves_file file_len h) (leaves_space h) good in
+          let one = or_parts (nat_lt h.memory_size h.file_size || leaves_file file_len h)
+          (leaves_space h) good in
           let two = or_parts (nat_lt h.memory_size h.file_size) (leaves_file file_len h) one.0 in
           let space = in_space_of h sized one.1 in
-          record { sized = sized; within = ltb-false _ _ two.0; in_file = in_file_of file_len h two.1; above = space.0; below = space.1 }
+          record {
+            sized = sized;
+            within = ltb-false _ _ two.0;
+            in_file =
+                in_file_of file_len h two.1;
+            above = space.0;
+            below = space.1;
+          }
     ]
 
 -- its bytes and zeros are as many as the header says
-size_is : (bytes : List ℕ) (h : Header) → Placed (length bytes) h → size_of (part_of bytes h) ≡ h.memory_size
+size_is : (bytes : List ℕ) (h : Header) → Placed (length bytes) h
+    → size_of (part_of bytes h) ≡ h.memory_size
 size_is bytes h p =
     let len : length (take h.file_size (drop h.offset bytes)) ≡ h.file_size = elim p.in_file [
-      | inl none ↦ omega (arith, length-take h.file_size (drop h.offset bytes), length-drop h.offset bytes)
-      | inr inside ↦ omega (arith, length-take h.file_size (drop h.offset bytes), length-drop h.offset bytes)
+      | inl none ↦ omega (
+        arith,
+        length-take h.file_size (drop h.offset bytes),
+        length-drop h.offset bytes,
+      )
+      | inr inside ↦ omega
+          (arith, length-take h.file_size (drop h.offset bytes), length-drop h.offset bytes)
     ] in
     let within = p.within in
     omega arith
@@ -124,9 +151,15 @@ placed : (bytes : List ℕ) (h : Header) → IsLoadable (length bytes) h → IsP
 placed bytes h l =
     let p = placed_of (length bytes) h l in
     let size = size_is bytes h p in
-    record { sized = omega (arith, size, p.sized); above = p.above; below = omega (arith, size, p.below) }
+    record {
+      sized = omega (arith, size, p.sized);
+      above = p.above;
+      below =
+          omega (arith, size, p.below);
+    }
 
-apart : (bytes : List ℕ) (a b : Header) → IsLoadable (length bytes) a → IsLoadable (length bytes) b → do_meet a b ≡ false → IsApart (part_of bytes a) (part_of bytes b)
+apart : (bytes : List ℕ) (a b : Header) → IsLoadable (length bytes) a → IsLoadable (length bytes) b
+    → do_meet a b ≡ false → IsApart (part_of bytes a) (part_of bytes b)
 apart bytes a b la lb e =
     let size_a = size_is bytes a (placed_of (length bytes) a la) in
     let size_b = size_is bytes b (placed_of (length bytes) b lb) in
@@ -135,31 +168,50 @@ apart bytes a b la lb e =
       | inr below ↦ inl (omega (arith, size_a, ltb-false b.address (end_of a) below))
     ]
 
-held : (bytes : List ℕ) (entry : ℕ) (h : Header) → IsLoadable (length bytes) h → holds_entry entry h ≡ true → HoldsEntry entry (part_of bytes h)
+held : (bytes : List ℕ) (entry : ℕ) (h : Header) → IsLoadable (length bytes) h
+    → holds_entry entry h ≡ true → HoldsEntry entry (part_of bytes h)
 held bytes entry h l e =
     let size = size_is bytes h (placed_of (length bytes) h l) in
     let two = and_parts (is_executable h && nat_le h.address entry) _ e in
     let one = and_parts (is_executable h) _ two.0 in
-    record { executable = one.0; above = leb-true _ _ one.1; below = omega (arith, size, ltb-true _ _ two.1) }
+    record {
+      executable = one.0;
+      above = leb-true _ _ one.1;
+      below =
+          omega (arith, size, ltb-true _ _ two.1);
+    }
 
 -- ---- all of them
 
-apart_from : (bytes : List ℕ) (hs : List Header) → All (IsLoadable (length bytes)) hs → overlap_refusal hs ≡ None → AllPairs IsApart (map (part_of bytes) hs)
+apart_from : (bytes : List ℕ) (hs : List Header) → All (IsLoadable (length bytes)) hs
+    → overlap_refusal hs ≡ None → AllPairs IsApart (map (part_of bytes) hs)
 unfolding overlap_refusal
 apart_from bytes [] l h = λ i j d lt in_list. absurd (omega arith)
 apart_from bytes (first ∷ others) l h =
     let both = otherwise_none _ _ h in
     let clear = find_none (do_meet first) others (option_map_none (overlap_error first) _ both.0) in
     let rest = All-tail (IsLoadable (length bytes)) first others l in
-    let from_first : All (λ h. IsApart (part_of bytes first) (part_of bytes h)) others = λ k d lt. apart bytes first (get_or others k d) (All-head (IsLoadable (length bytes)) first others l) (rest k d lt) (clear k d lt) in
-    AllPairs-cons IsApart (part_of bytes first) (map (part_of bytes) others) (All-map (IsApart (part_of bytes first)) (part_of bytes) others from_first) (apart_from bytes others rest both.1)
+    let from_first : All (λ h. IsApart (part_of bytes first) (part_of bytes h)) others =
+    λ k d lt. apart bytes first (get_or others k d)
+    (All-head (IsLoadable (length bytes)) first others l) (rest k d lt) (clear k d lt) in
+    AllPairs-cons IsApart (part_of bytes first) (map (part_of bytes) others)
+    (All-map (IsApart (part_of bytes first)) (part_of bytes) others from_first)
+    (apart_from bytes others rest both.1)
 
-held_by : (bytes : List ℕ) (entry : ℕ) (hs : List Header) → All (IsLoadable (length bytes)) hs → list_any (holds_entry entry) hs ≡ true → Any (HoldsEntry entry) (map (part_of bytes) hs)
+held_by : (bytes : List ℕ) (entry : ℕ) (hs : List Header) → All (IsLoadable (length bytes)) hs
+    → list_any (holds_entry entry) hs ≡ true → Any (HoldsEntry entry) (map (part_of bytes) hs)
 held_by bytes entry hs l e =
     let any = Any-from_list_any (holds_entry entry) hs e in
     let part : Header → Part = part_of bytes in
-    let its : IsLoadable (length bytes) any.1 = subst (λ (h : Header). IsLoadable (length bytes) h) any.3 (l any.0 any.1 any.2) in
-    (any.0, part any.1, omega (arith, length-map hs part, any.2), get_or-map part hs any.0 any.1 (part any.1) any.2 ∙ ap part any.3, held bytes entry any.1 its any.4)
+    let its : IsLoadable (length bytes) any.1 =
+    subst (λ (h : Header). IsLoadable (length bytes) h) any.3 (l any.0 any.1 any.2) in (
+      any.0,
+      part any.1,
+      omega (arith, length-map hs part, any.2),
+      get_or-map part hs any.0 any.1 (part any.1) any.2
+          ∙ ap part any.3,
+      held bytes entry any.1 its any.4,
+    )
 
 record EntryIsGood (entry : ℕ) (hs : List Header) : Type 0 where
   some : 1 ≤ length hs
@@ -172,7 +224,12 @@ good_entry entry hs h =
     let both = otherwise_none _ _ h in
     let some : ¬ (length hs ≡ 0) = eqb-false (length hs) 0 (when_none error.NoLoad _ both.0) in
     let good = or_parts (not (entry % code_unit == 0)) _ (when_none error.Entry _ both.1) in
-    record { some = omega (arith, some); aligned = eqb-true _ _ (not-false _ good.0); held = not-false _ good.1 }
+    record {
+      some = omega (arith, some);
+      aligned = eqb-true _ _ (not-false _ good.0);
+      held =
+          not-false _ good.1;
+    }
 
 pub sound : (bytes : List ℕ) → refusal bytes ≡ None → IsSound (image_of bytes)
 unfolding image_of
@@ -181,8 +238,16 @@ sound bytes h =
     let all = loadable bytes h in
     let good = good_entry (e_entry bytes) (part_headers bytes) none.entry in
     record {
-      few = omega (arith, length-map (part_headers bytes) (part_of bytes), length-filter is_part (headers bytes), count_by-le-length is_part (headers bytes), length-headers bytes, few_headers bytes none.table);
-      placed = All-map IsPlaced (part_of bytes) (part_headers bytes) (λ k d lt. placed bytes (get_or (part_headers bytes) k d) (all k d lt));
+      few = omega (
+        arith,
+        length-map (part_headers bytes) (part_of bytes),
+        length-filter is_part (headers bytes),
+        count_by-le-length is_part (headers bytes),
+        length-headers bytes,
+        few_headers bytes none.table,
+      );
+      placed = All-map IsPlaced (part_of bytes) (part_headers bytes)
+          (λ k d lt. placed bytes (get_or (part_headers bytes) k d) (all k d lt));
       apart = apart_from bytes (part_headers bytes) all none.overlaps;
       some = omega (arith, length-map (part_headers bytes) (part_of bytes), good.some);
       aligned = good.aligned;

@@ -2,7 +2,8 @@
 
 use thiserror::Error;
 
-/// Why a file was refused. The first fourteen are tested in this order, and the first that holds is answered.
+/// Why a file was refused. The first fourteen are tested in this order, and the first that holds is
+/// answered.
 #[derive(Clone, Copy, Debug, PartialEq, Eq, Hash, Error)]
 pub enum ImageError {
     /// The file has fewer than 52 bytes, so it has no file header.
@@ -29,13 +30,15 @@ pub enum ImageError {
     /// `e_flags` asks for instructions or registers that guests have not.
     #[error("the file asks for an extension")]
     Flags,
-    /// There are over 64 program headers, or their table is not of entries of 32 bytes within the file.
+    /// There are over 64 program headers, or their table is not of entries of 32 bytes within the
+    /// file.
     #[error("the table of program headers is unsound")]
     HeaderTable,
     /// The file wants a dynamic linker or an interpreter.
     #[error("the file is not static")]
     Dynamic,
-    /// The segment with this index in the table has more bytes than memory, or leaves the file or a guest's addresses.
+    /// The segment with this index in the table has more bytes than memory, or leaves the file or a
+    /// guest's addresses.
     #[error("segment {0} does not fit")]
     Segment(u32),
     /// The segments with these two indexes share an address; the first is the lower.
@@ -56,7 +59,8 @@ impl ImageError {
     ghost use Rattle.std.specs.Prelude.{◌≡◌};
     ghost use Rattle.elf_image.specs.Image.{refusal_number};
 
-    /// The refusal's number, from 1 to 14 in the order of the tests. `Memory` is no refusal, and has 0.
+    /// The refusal's number, from 1 to 14 in the order of the tests. `Memory` is no refusal, and
+    /// has 0.
     pub fn number(&self) -> u32
         ensures { result ≡ refusal_number self.now }
     {

@@ -1,7 +1,8 @@
 //! Executable files: static ELF32 files for RISC-V, as a linker makes them.
 //!
-//! [`read_image`] reads a file whole and answers with its [`Image`], or with the first of fourteen refusals that holds
-//! of it ([`ImageError`]). The crate looks at no section, runs nothing, and opens no file.
+//! [`read_image`] reads a file whole and answers with its [`Image`], or with the first of fourteen
+//! refusals that holds of it ([`ImageError`]). The crate looks at no section, runs nothing, and
+//! opens no file.
 #![tactic(auto)]
 
 mod check;
@@ -17,6 +18,3 @@ pub use error::ImageError;
 pub use image::Image;
 pub use part::{Bytes, Part, Parts};
 pub use read::read_image;
-
-#[cfg(test)]
-mod tests;

@@ -73,11 +73,12 @@ fn accepted_headers(bytes: &[u8]) -> Result<Headers, ImageError>
     Ok(parts)
 }
 
-/// Reads an ELF32 executable. An `Err` other than `Memory` is the first refusal that holds of the file; `Memory` comes
-/// only where there was no room for the parts.
+/// Reads an ELF32 executable. An `Err` other than `Memory` is the first refusal that holds of the
+/// file; `Memory` comes only where there was no room for the parts.
 pub fn read_image(alloc: Global, bytes: &[u8]) -> Result<Image, ImageError>
     ensures accepted { IfOk result (λ read. image bytes.now ≡ Ok read) }
-    ensures refused { IfErr result (λ error. error ≢ ImageError.Memory → image bytes.now ≡ Err error) }
+    ensures refused { IfErr result (λ error. error ≢ ImageError.Memory
+        → image bytes.now ≡ Err error) }
 
     // A file that is refused takes no memory, so that want of memory hides no refusal.
     ensures certain { IfErr (image bytes.now) (λ error. result ≡ Err error) }

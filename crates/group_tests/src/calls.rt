@@ -20,7 +20,8 @@ fn words_of(alloc: Global, texts: &[&str]) -> Result<Vec<String>, AllocError> {
     Ok(words)
 }
 
-/// Calls the program with these words. Both sinks have room for 5000 bytes, and the puts to output of these numbers fail.
+/// Calls the program with these words. Both sinks have room for 5000 bytes, and the puts to output
+/// of these numbers fail.
 pub fn call(
     alloc: Global,
     texts: &[&str],

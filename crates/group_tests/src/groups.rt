@@ -1,6 +1,7 @@
 //! Groups of several images, room for them, and sinks that fail.
 use crate::calls::{call, call_failing};
-use crate::files::{HI, SEVEN, file, linked_file};
+use crate::files::linked_file;
+use crate::guests::{LONG_WRITE, PRINTS, SEVEN, file, file_with};
 use dos_io::MemoryFiles;
 use std::test::Fail;
 
@@ -9,7 +10,7 @@ fn two_images_are_two_processes(rt: HostRuntime) -> Result<(), Fail> {
     let alloc = rt.alloc();
     let mut files = MemoryFiles::new(alloc, &[])?;
     files.add("a", &file(alloc, &SEVEN)?)?;
-    files.add("b", &file(alloc, &HI)?)?;
+    files.add("b", &file_with(alloc, &PRINTS, b"Hi\n", 0)?)?;
     call(alloc, &["run", "a", "b"], &mut files, &[])?.expect(
         0,
         "Hi\n",
@@ -21,7 +22,7 @@ fn two_images_are_two_processes(rt: HostRuntime) -> Result<(), Fail> {
 fn one_file_may_be_run_twice(rt: HostRuntime) -> Result<(), Fail> {
     let alloc = rt.alloc();
     let mut files = MemoryFiles::new(alloc, &[])?;
-    files.add("b", &file(alloc, &HI)?)?;
+    files.add("b", &file_with(alloc, &PRINTS, b"Hi\n", 0)?)?;
     call(alloc, &["run", "b", "b"], &mut files, &[])?.expect(
         0,
         "Hi\nHi\n",
@@ -67,7 +68,7 @@ fn images_without_room_are_refused(rt: HostRuntime) -> Result<(), Fail> {
 fn an_output_that_fails_gives_six(rt: HostRuntime) -> Result<(), Fail> {
     let alloc = rt.alloc();
     let mut files = MemoryFiles::new(alloc, &[])?;
-    files.add("b", &file(alloc, &HI)?)?;
+    files.add("b", &file_with(alloc, &PRINTS, b"Hi\n", 0)?)?;
     call(alloc, &["run", "b"], &mut files, &[1])?.expect(6, "", "")?;
     call(alloc, &["run", "b", "b"], &mut files, &[2])?.expect(6, "Hi\n", "")
 }
@@ -77,12 +78,17 @@ fn an_output_that_fails_gives_six(rt: HostRuntime) -> Result<(), Fail> {
 fn an_error_output_that_fails_gives_six(rt: HostRuntime) -> Result<(), Fail> {
     let alloc = rt.alloc();
     let mut files = MemoryFiles::new(alloc, &[])?;
-    files.add("b", &file(alloc, &HI)?)?;
+    files.add("b", &file_with(alloc, &PRINTS, b"Hi\n", 0)?)?;
     call_failing(alloc, &["run", "b"], &mut files, &[], &[1])?.expect(6, "Hi\n", "")?;
     call_failing(alloc, &["run", "b"], &mut files, &[], &[2])?.expect(
         6,
         "Hi\n",
         "process 1 status 0\n",
+    )?;
+    call_failing(alloc, &["run", "b", "b"], &mut files, &[], &[3])?.expect(
+        6,
+        "Hi\nHi\n",
+        "process 1 status 0\nprocess 2 status 0\n",
     )
 }
 
@@ -94,28 +100,11 @@ fn a_refusal_that_fails_gives_six(rt: HostRuntime) -> Result<(), Fail> {
     call_failing(alloc, &["run"], &mut files, &[], &[1])?.expect(6, "", "")
 }
 
-// li a7, 8; li a0, 1; auipc a1, 0; lui a2, 1; addi a2, a2, 904; ecall: writes 5000 bytes from
-// its third word on. Then li a7, 2; ecall: ends with the answer.
-const LONG: [u32; 8] = [
-    0x0080_0893,
-    0x0010_0513,
-    0x0000_0597,
-    0x0000_1637,
-    0x3886_0613,
-    0x0000_0073,
-    0x0020_0893,
-    0x0000_0073,
-];
-
 #[test]
 fn a_write_puts_at_most_4096_bytes(rt: HostRuntime) -> Result<(), Fail> {
     let alloc = rt.alloc();
     let mut files = MemoryFiles::new(alloc, &[])?;
-    let mut code = Vec::from_slice(alloc, &LONG)?;
-    for _ in 0..1020 {
-        code.push(0)?;
-    }
-    files.add("a", &file(alloc, &code)?)?;
+    files.add("a", &file_with(alloc, &LONG_WRITE, b"", 5000)?)?;
     let left = call(alloc, &["run", "a"], &mut files, &[])?;
     // 4096 modulo 256 is 0, and 5000 modulo 256 is not
     assert_eq!(rt;

@@ -1,12 +1,17 @@
-//! Tests of the whole program over files and sinks in memory: guests are run from the words to the status.
+//! Tests of the whole program over files and sinks in memory: guests are run from the words to the
+//! status.
 #![tactic(auto)]
 
 #[cfg(test)]
 mod calls;
 #[cfg(test)]
+mod failing;
+#[cfg(test)]
 mod files;
 #[cfg(test)]
 mod groups;
+#[cfg(test)]
+mod guests;
 #[cfg(test)]
 mod refusals;
 #[cfg(test)]

@@ -1,6 +1,7 @@
 //! Calls that run no guest.
 use crate::calls::call;
-use crate::files::{SEVEN, file, linked_file, no_headers, sized_file};
+use crate::files::{cut_file, linked_file, no_headers};
+use crate::guests::{SEVEN, file};
 use dos_io::MemoryFiles;
 use std::test::Fail;
 
@@ -46,7 +47,7 @@ fn other_files_are_refused(rt: HostRuntime) -> Result<(), Fail> {
     files.add("a", &whole)?;
     files.add("short", whole.get(..51).ok_or("an image has more bytes")?)?;
     files.add("empty", &no_headers(alloc)?)?;
-    files.add("cut", &sized_file(alloc, &SEVEN, 13)?)?;
+    files.add("cut", &cut_file(alloc)?)?;
     let cases: [(&[&str], u8, &str); 6] = [
         (&["run", "short"], 3, "dos: image 1 refused 1\n"),
         (&["run", "empty"], 3, "dos: image 1 refused 13\n"),

@@ -1,14 +1,17 @@
 //! Guests of one image.
 use crate::calls::call;
-use crate::files::{ENDLESS, HI, SEVEN, file};
+use crate::guests;
 use dos_io::MemoryFiles;
+use rv_isa::Instr;
 use std::alloc::Global;
 use std::test::Fail;
 
-// A guest, which is named `a`, the words that it is run with, and what the call leaves.
+// A guest, which is named `a`, with its text; the words that it is run with; and what the call
+// leaves.
 struct Row {
     words: &'static [&'static str],
-    code: &'static [u32],
+    code: &'static [Instr],
+    text: &'static [u8],
     status: u8,
     out: &'static str,
     err: &'static str,
@@ -17,7 +20,7 @@ struct Row {
 fn run_rows(alloc: Global, rows: &[Row]) -> Result<(), Fail> {
     for row in rows {
         let mut files = MemoryFiles::new(alloc, &[])?;
-        files.add("a", &file(alloc, row.code)?)?;
+        files.add("a", &guests::file_with(alloc, row.code, row.text, 0)?)?;
         call(alloc, row.words, &mut files, &[])?.expect(row.status, row.out, row.err)?;
     }
     Ok(())
@@ -26,7 +29,8 @@ fn run_rows(alloc: Global, rows: &[Row]) -> Result<(), Fail> {
 const ENDS: [Row; 5] = [
     Row {
         words: &["run", "a"],
-        code: &SEVEN,
+        code: &guests::SEVEN,
+        text: b"",
         status: 0,
         out: "",
         err: "process 1 status 7\nrounds 1 done\n",
@@ -43,227 +47,248 @@ const ENDS: [Row; 5] = [
             "16384",
             "a",
         ],
-        code: &SEVEN,
+        code: &guests::SEVEN,
+        text: b"",
         status: 0,
         out: "",
         err: "process 1 status 7\nrounds 1 done\n",
     },
     Row {
         words: &["run", "--frames", "17", "--quantum", "16", "a"],
-        code: &SEVEN,
+        code: &guests::SEVEN,
+        text: b"",
         status: 0,
         out: "",
         err: "process 1 status 7\nrounds 1 done\n",
     },
     Row {
         words: &["run", "a"],
-        code: &HI,
+        code: &guests::PRINTS,
+        text: b"Hi\n",
         status: 0,
         out: "Hi\n",
         err: "process 1 status 0\nrounds 1 done\n",
     },
-    // j 0, which no round ends
+    // no round ends it
     Row {
         words: &["run", "--rounds", "1", "a"],
-        code: &ENDLESS,
+        code: &guests::ENDLESS,
+        text: b"",
         status: 7,
         out: "",
         err: "process 1 live\nrounds 1 limit\n",
     },
 ];
 
-const FAULTS: [Row; 6] = [
-    // auipc t0, 0; sw zero, 2(t0): a word at 0x00010002
-    Row {
-        words: &["run", "a"],
-        code: &[0x0000_0297, 0x0002_a123],
-        status: 0,
-        out: "",
+// A guest that faults, and what the call leaves in error.
+struct Fault {
+    code: &'static [Instr],
+    err: &'static str,
+}
+
+const FAULTS: [Fault; 6] = [
+    Fault {
+        code: &guests::MISALIGNED_STORE,
         err: "process 1 status 135\nrounds 1 done\n",
     },
-    // sw zero, 0(zero): no page
-    Row {
-        words: &["run", "a"],
-        code: &[0x0000_2023],
-        status: 0,
-        out: "",
+    Fault {
+        code: &guests::STORE_AT_0,
         err: "process 1 status 139\nrounds 1 done\n",
     },
-    // j 6: the target isn't a multiple of 4
-    Row {
-        words: &["run", "a"],
-        code: &[0x0060_006f, 0],
-        status: 0,
-        out: "",
+    Fault {
+        code: &guests::MISALIGNED_JUMP,
         err: "process 1 status 135\nrounds 1 done\n",
     },
-    // a word of zeros is no instruction
-    Row {
-        words: &["run", "a"],
-        code: &[0],
-        status: 0,
-        out: "",
+    Fault {
+        code: &guests::INTO_ZEROS,
         err: "process 1 status 132\nrounds 1 done\n",
     },
-    // ebreak
-    Row {
-        words: &["run", "a"],
-        code: &[0x0010_0073],
-        status: 0,
-        out: "",
+    Fault {
+        code: &guests::BREAKS,
         err: "process 1 status 133\nrounds 1 done\n",
     },
-    // j -4: the address below the image isn't mapped
-    Row {
-        words: &["run", "a"],
-        code: &[0xffdf_f06f],
-        status: 0,
-        out: "",
+    Fault {
+        code: &guests::JUMP_BELOW,
         err: "process 1 status 139\nrounds 1 done\n",
     },
 ];
 
-const WRITES: [Row; 5] = [
-    // as HI with li a0, 2: the bytes go to error, before the report
+const SENDS: [Row; 3] = [
+    // the bytes go to error, before the report
     Row {
         words: &["run", "a"],
-        code: &[
-            0x0080_0893,
-            0x0020_0513,
-            0x0000_0597,
-            0x01c5_8593,
-            0x0030_0613,
-            0x0000_0073,
-            0x0020_0893,
-            0x0000_0513,
-            0x0000_0073,
-            0x000a_6948,
-        ],
+        code: &guests::PRINTS_TO_ERROR,
+        text: b"Hi\n",
         status: 0,
         out: "",
         err: "Hi\nprocess 1 status 0\nrounds 1 done\n",
     },
-    // li a7, 8; li a0, 0; auipc a1, 0; li a2, 3; ecall: writes to descriptor 0, which answers -9.
-    // Then li a7, 2; ecall: ends with the answer.
+    // the word is the text "0" at first
     Row {
         words: &["run", "a"],
-        code: &[
-            0x0080_0893,
-            0x0000_0513,
-            0x0000_0597,
-            0x0030_0613,
-            0x0000_0073,
-            0x0020_0893,
-            0x0000_0073,
-        ],
+        code: &guests::RACE,
+        text: b"0\0\0\0",
         status: 0,
-        out: "",
-        err: "process 1 status 247\nrounds 1 done\n",
+        out: "11",
+        err: "process 1 status 0\nrounds 4 done\n",
     },
-    // li a7, 8; li a0, 1; li a2, 3; ecall: writes 3 bytes at 0, which answers -14. Then as above.
+    // numbers 2 to 64, then -11
     Row {
         words: &["run", "a"],
-        code: &[
-            0x0080_0893,
-            0x0010_0513,
-            0x0030_0613,
-            0x0000_0073,
-            0x0020_0893,
-            0x0000_0073,
-        ],
+        code: &guests::MAKES_THREADS,
+        text: b"",
         status: 0,
         out: "",
-        err: "process 1 status 242\nrounds 1 done\n",
+        err: "process 1 status 245\nrounds 1 done\n",
     },
-    // the same without li a2, 3: writes no byte at 0, which answers 0
-    Row {
-        words: &["run", "a"],
-        code: &[
-            0x0080_0893,
-            0x0010_0513,
-            0x0000_0073,
-            0x0020_0893,
-            0x0000_0073,
-        ],
-        status: 0,
-        out: "",
-        err: "process 1 status 0\nrounds 1 done\n",
+];
+
+// A call of a service with its arguments, and what the call of the program leaves in error, where
+// the guest ends with the low byte of the answer.
+struct Answer {
+    number: u32,
+    arguments: (u32, u32, u32),
+    err: &'static str,
+}
+
+const NUMBERS: [Answer; 8] = [
+    // the only process, its only thread, and the first round
+    Answer {
+        number: 20,
+        arguments: (0, 0, 0),
+        err: "process 1 status 1\nrounds 1 done\n",
     },
-    // li a7, 99; ecall: there is no service 99, which answers -38. Then as above.
-    Row {
-        words: &["run", "a"],
-        code: &[0x0630_0893, 0x0000_0073, 0x0020_0893, 0x0000_0073],
-        status: 0,
-        out: "",
+    Answer {
+        number: 21,
+        arguments: (0, 0, 0),
+        err: "process 1 status 1\nrounds 1 done\n",
+    },
+    Answer {
+        number: 24,
+        arguments: (0, 0, 0),
+        err: "process 1 status 1\nrounds 1 done\n",
+    },
+    // a yield answers 0, and ends the thread's round
+    Answer {
+        number: 23,
+        arguments: (5, 0, 0),
+        err: "process 1 status 0\nrounds 2 done\n",
+    },
+    // there is no such service: -38
+    Answer {
+        number: 0,
+        arguments: (0, 0, 0),
+        err: "process 1 status 218\nrounds 1 done\n",
+    },
+    Answer {
+        number: 25,
+        arguments: (0, 0, 0),
+        err: "process 1 status 218\nrounds 1 done\n",
+    },
+    Answer {
+        number: 99,
+        arguments: (0, 0, 0),
+        err: "process 1 status 218\nrounds 1 done\n",
+    },
+    Answer {
+        number: 0x1_0014,
+        arguments: (0, 0, 0),
         err: "process 1 status 218\nrounds 1 done\n",
     },
 ];
 
-// Two threads load one word, yield, add 1 and store: one addition is lost. Then the first prints the word.
-const RACE: [Row; 1] = [Row {
-    words: &["run", "a"],
-    code: &[
-        0x0030_0893,
-        0x0000_0517,
-        0x0145_0513,
-        0x0000_0073,
-        0x0170_0893,
-        0x0000_0073,
-        0x0000_0417,
-        0x0384_2283,
-        0x0170_0893,
-        0x0000_0073,
-        0x0012_8293,
-        0x0254_2c23,
-        0x0000_0073,
-        0x0080_0893,
-        0x0010_0513,
-        0x0384_0593,
-        0x0010_0613,
-        0x0000_0073,
-        0x0010_0893,
-        0x0000_0073,
-        0x0000_0030,
-    ],
-    status: 0,
-    out: "11",
-    err: "process 1 status 0\nrounds 4 done\n",
-}];
+const ENDINGS: [Answer; 4] = [
+    // a status is taken modulo 256
+    Answer {
+        number: 2,
+        arguments: (0x1234, 0, 0),
+        err: "process 1 status 52\nrounds 1 done\n",
+    },
+    // the last thread ends its process with 0
+    Answer {
+        number: 1,
+        arguments: (9, 0, 0),
+        err: "process 1 status 0\nrounds 1 done\n",
+    },
+    // a new thread begins at a multiple of 4, else -22; it may begin where nothing is mapped
+    Answer {
+        number: 3,
+        arguments: (0x1_0002, 0, 0),
+        err: "process 1 status 234\nrounds 1 done\n",
+    },
+    Answer {
+        number: 3,
+        arguments: (0xffff_fffc, 0, 0),
+        err: "process 1 status 2\nrounds 1 done\n",
+    },
+];
 
-// makes threads until it is refused: numbers 2 to 64, then -11, with which it ends
-const THREADS: [Row; 1] = [Row {
-    words: &["run", "a"],
-    code: &[
-        0x0000_0417,
-        0x0204_0413,
-        0x0030_0893,
-        0x0004_0513,
-        0x0000_0073,
-        0xfe05_5ae3,
-        0x0020_0893,
-        0x0000_0073,
-        0x0000_006f,
-    ],
-    status: 0,
-    out: "",
-    err: "process 1 status 245\nrounds 1 done\n",
-}];
+const REFUSED_WRITES: [Answer; 9] = [
+    // neither output nor error, whatever else is wrong: -9
+    Answer {
+        number: 8,
+        arguments: (0, 0x1_0000, 3),
+        err: "process 1 status 247\nrounds 1 done\n",
+    },
+    Answer {
+        number: 8,
+        arguments: (3, 0x1_0000, 0),
+        err: "process 1 status 247\nrounds 1 done\n",
+    },
+    Answer {
+        number: 8,
+        arguments: (32, 0, 1),
+        err: "process 1 status 247\nrounds 1 done\n",
+    },
+    // no byte, wherever it isn't
+    Answer {
+        number: 8,
+        arguments: (1, 0, 0),
+        err: "process 1 status 0\nrounds 1 done\n",
+    },
+    // a byte that isn't mapped, -14: all of them, the last, the first, and at the end of the
+    // addresses
+    Answer {
+        number: 8,
+        arguments: (1, 0, 3),
+        err: "process 1 status 242\nrounds 1 done\n",
+    },
+    Answer {
+        number: 8,
+        arguments: (1, 0x1_0fff, 2),
+        err: "process 1 status 242\nrounds 1 done\n",
+    },
+    Answer {
+        number: 8,
+        arguments: (1, 0xffff, 2),
+        err: "process 1 status 242\nrounds 1 done\n",
+    },
+    Answer {
+        number: 8,
+        arguments: (2, 0x1_1000, 1),
+        err: "process 1 status 242\nrounds 1 done\n",
+    },
+    Answer {
+        number: 8,
+        arguments: (1, 0xffff_ffff, 4096),
+        err: "process 1 status 242\nrounds 1 done\n",
+    },
+];
 
-// auipc t0, 0; lr.w t1, (t0); sc.w a0, t1, (t0): the store is made, within one part. Then li a7, 2; ecall: ends with the
-// answer.
-const RESERVATION: [Row; 1] = [Row {
-    words: &["run", "a"],
-    code: &[
-        0x0000_0297,
-        0x1002_a32f,
-        0x1862_a52f,
-        0x0020_0893,
-        0x0000_0073,
-    ],
-    status: 0,
-    out: "",
-    err: "process 1 status 0\nrounds 1 done\n",
-}];
+// Runs code that sends nothing.
+fn run_silent(alloc: Global, words: &[&str], code: &[Instr], err: &str) -> Result<(), Fail> {
+    let mut files = MemoryFiles::new(alloc, &[])?;
+    files.add("a", &guests::file(alloc, code)?)?;
+    call(alloc, words, &mut files, &[])?.expect(0, "", err)
+}
+
+fn run_answers(alloc: Global, answers: &[Answer]) -> Result<(), Fail> {
+    for answer in answers {
+        let code = guests::calls(alloc, answer.number, answer.arguments)?;
+        run_silent(alloc, &["run", "a"], &code, answer.err)?;
+    }
+    Ok(())
+}
 
 #[test]
 fn guests_end(rt: HostRuntime) -> Result<(), Fail> {
@@ -272,65 +297,74 @@ fn guests_end(rt: HostRuntime) -> Result<(), Fail> {
 
 #[test]
 fn faults_end_the_process(rt: HostRuntime) -> Result<(), Fail> {
-    run_rows(rt.alloc(), &FAULTS)
-}
-
-#[test]
-fn writes_are_answered(rt: HostRuntime) -> Result<(), Fail> {
-    run_rows(rt.alloc(), &WRITES)
-}
-
-#[test]
-fn a_race_loses_one_addition(rt: HostRuntime) -> Result<(), Fail> {
-    run_rows(rt.alloc(), &RACE)
-}
-
-#[test]
-fn threads_are_made_until_64_live(rt: HostRuntime) -> Result<(), Fail> {
-    run_rows(rt.alloc(), &THREADS)
-}
-
-#[test]
-fn a_reservation_stands_within_a_part(rt: HostRuntime) -> Result<(), Fail> {
-    run_rows(rt.alloc(), &RESERVATION)
-}
-
-// Code of these words, then so many that do nothing, then others.
-fn padded(alloc: Global, first: &[u32], nothing: usize, last: &[u32]) -> Result<Vec<u32>, Fail> {
-    let mut words = Vec::from_slice(alloc, first)?;
-    for _ in 0..nothing {
-        words.push(0x0000_0013)?;
+    for fault in &FAULTS {
+        run_silent(rt.alloc(), &["run", "a"], fault.code, fault.err)?;
     }
-    words.extend_from_slice(last)?;
-    Ok(words)
+    Ok(())
+}
+
+#[test]
+fn a_race_loses_one_addition_and_64_threads_live(rt: HostRuntime) -> Result<(), Fail> {
+    run_rows(rt.alloc(), &SENDS)
+}
+
+#[test]
+fn services_answer_by_their_numbers(rt: HostRuntime) -> Result<(), Fail> {
+    run_answers(rt.alloc(), &NUMBERS)
+}
+
+#[test]
+fn threads_and_processes_end(rt: HostRuntime) -> Result<(), Fail> {
+    run_answers(rt.alloc(), &ENDINGS)
+}
+
+#[test]
+fn writes_are_refused(rt: HostRuntime) -> Result<(), Fail> {
+    run_answers(rt.alloc(), &REFUSED_WRITES)
+}
+
+// Code, then so many instructions that do nothing, then the rest.
+fn padded(
+    alloc: Global,
+    first: &[Instr],
+    nothing: usize,
+    last: &[Instr],
+) -> Result<Vec<Instr>, Fail> {
+    let mut code = Vec::from_slice(alloc, first)?;
+    for _ in 0..nothing {
+        code.push(guests::NOP)?;
+    }
+    code.extend_from_slice(last)?;
+    Ok(code)
 }
 
 // runs code under a quantum of 16
-fn run_short(alloc: Global, code: &[u32], err: &str) -> Result<(), Fail> {
-    let mut files = MemoryFiles::new(alloc, &[])?;
-    files.add("a", &file(alloc, code)?)?;
-    let words = ["run", "--quantum", "16", "a"];
-    call(alloc, &words, &mut files, &[])?.expect(0, "", err)
+fn run_short(alloc: Global, code: &[Instr], err: &str) -> Result<(), Fail> {
+    run_silent(alloc, &["run", "--quantum", "16", "a"], code, err)
 }
 
 #[test]
 fn a_quantum_ends_a_round(rt: HostRuntime) -> Result<(), Fail> {
     let alloc = rt.alloc();
-    // li a7, 2; nothing; ecall: the ecall is unit 17, or 16
-    let longer = padded(alloc, &[0x0020_0893], 15, &[0x0000_0073])?;
+    // its ecall is unit 17, or 16
+    let longer = padded(alloc, &[], 15, &guests::ENDS)?;
     run_short(alloc, &longer, "process 1 status 0\nrounds 2 done\n")?;
-    let shorter = padded(alloc, &[0x0020_0893], 14, &[0x0000_0073])?;
+    let shorter = padded(alloc, &[], 14, &guests::ENDS)?;
     run_short(alloc, &shorter, "process 1 status 0\nrounds 1 done\n")
 }
 
+// The store is made within one part, and not in the next.
 #[test]
 fn a_reservation_ends_with_its_part(rt: HostRuntime) -> Result<(), Fail> {
     let alloc = rt.alloc();
-    let code = padded(
+    let (first, last) = (&guests::RESERVES, &guests::STORES_IF_RESERVED);
+    let whole = padded(alloc, first, 0, last)?;
+    run_silent(
         alloc,
-        &[0x0000_0297, 0x1002_a32f],
-        14,
-        &[0x1862_a52f, 0x0020_0893, 0x0000_0073],
+        &["run", "a"],
+        &whole,
+        "process 1 status 0\nrounds 1 done\n",
     )?;
-    run_short(alloc, &code, "process 1 status 1\nrounds 2 done\n")
+    let parted = padded(alloc, first, 14, last)?;
+    run_short(alloc, &parted, "process 1 status 1\nrounds 2 done\n")
 }

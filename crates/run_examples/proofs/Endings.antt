@@ -1,4 +1,5 @@
--- Small programs, computed by the checker: how a process ends, budgets, room. What they come to was worked out by hand.
+-- Small programs, computed by the checker: how a process ends, budgets, room. What they come to was
+-- worked out by hand.
 use Rattle.std.specs.Prelude.{[], ◌∷◌, ◌++◌, replicate, Some, None, ◌≡◌, refl}
 use Rattle.dos_world.specs.Play.{posts}
 use Rattle.dos_world.specs.declared.Question.TheVariants.{Signals, End}
@@ -14,7 +15,16 @@ abbrev pub exits_with_7 : Image
 exits_with_7 = program (0x00200893 ∷ 0x00700513 ∷ 0x00000073 ∷ [])
 
 a_process_exits : machine (exits_with_7 ∷ []) (with_frames 17) (posts [] ∷ [])
-    ≡ ends (record { questions = Signals 1 ∷ End Done 1 ∷ []; output = []; error = []; statuses = Some 7 ∷ []; ending = Done; rounds = 1; work = 2 })
+    ≡ ends (record {
+      questions = Signals 1 ∷ End Done 1 ∷ [];
+      output = [];
+      error = [];
+      statuses =
+          Some 7 ∷ [];
+      ending = Done;
+      rounds = 1;
+      work = 2;
+    })
 unfolding computing
 a_process_exits = refl
 
@@ -24,25 +34,29 @@ unfolding computing
 the_shim_is_asked = refl
 
 -- auipc x5, 0; sw x0, 2(x5)
-a_store_is_misaligned : without_work (machine (program (0x00000297 ∷ 0x0002A123 ∷ []) ∷ []) (with_frames 17) (posts [] ∷ []))
+a_store_is_misaligned : without_work
+    (machine (program (0x00000297 ∷ 0x0002A123 ∷ []) ∷ []) (with_frames 17) (posts [] ∷ []))
     ≡ ended (Signals 1 ∷ End Done 1 ∷ []) [] (Some 135 ∷ []) Done 1
 unfolding computing
 a_store_is_misaligned = refl
 
 -- sw x0, 0(x0)
-a_store_hits_no_page : without_work (machine (program (0x00002023 ∷ []) ∷ []) (with_frames 17) (posts [] ∷ []))
+a_store_hits_no_page : without_work
+    (machine (program (0x00002023 ∷ []) ∷ []) (with_frames 17) (posts [] ∷ []))
     ≡ ended (Signals 1 ∷ End Done 1 ∷ []) [] (Some 139 ∷ []) Done 1
 unfolding computing
 a_store_hits_no_page = refl
 
 -- jal x0, 6
-a_jump_is_misaligned : without_work (machine (program (0x0060006F ∷ 0x00000000 ∷ []) ∷ []) (with_frames 17) (posts [] ∷ []))
+a_jump_is_misaligned : without_work
+    (machine (program (0x0060006F ∷ 0x00000000 ∷ []) ∷ []) (with_frames 17) (posts [] ∷ []))
     ≡ ended (Signals 1 ∷ End Done 1 ∷ []) [] (Some 135 ∷ []) Done 1
 unfolding computing
 a_jump_is_misaligned = refl
 
 -- the all-zero word means no instruction, and 0x00100073 is ebreak
-a_word_means_nothing : without_work (machine (program (0x00000000 ∷ []) ∷ []) (with_frames 17) (posts [] ∷ []))
+a_word_means_nothing : without_work
+    (machine (program (0x00000000 ∷ []) ∷ []) (with_frames 17) (posts [] ∷ []))
     ≡ ended (Signals 1 ∷ End Done 1 ∷ []) [] (Some 132 ∷ []) Done 1
 unfolding computing
 a_word_means_nothing = refl
@@ -52,20 +66,52 @@ an_ebreak : without_work (machine (program (0x00100073 ∷ []) ∷ []) (with_fra
 unfolding computing
 an_ebreak = refl
 
--- A quantum of 16: with 16 instructions before its ecall a program needs a second round, with 15 it doesn't.
-the_budget_is_short : machine (program ((0x00200893 ∷ []) ++ replicate 15 0x00000013 ++ (0x00000073 ∷ [])) ∷ []) (with_quantum 16 17) (posts [] ∷ posts [] ∷ [])
-    ≡ ends (record { questions = Signals 1 ∷ Signals 2 ∷ End Done 2 ∷ []; output = []; error = []; statuses = Some 0 ∷ []; ending = Done; rounds = 2; work = 16 })
+-- A quantum of 16: with 16 instructions before its ecall a program needs a second round, with 15 it
+-- doesn't.
+the_budget_is_short : machine
+    (program ((0x00200893 ∷ []) ++ replicate 15 0x00000013 ++ (0x00000073 ∷ [])) ∷ [])
+    (with_quantum 16 17) (posts [] ∷ posts [] ∷ [])
+    ≡ ends (record {
+      questions = Signals 1 ∷ Signals 2 ∷ End Done 2 ∷ [];
+      output = [];
+      error = [];
+      statuses = Some 0 ∷ [];
+      ending = Done;
+      rounds = 2;
+      work = 16;
+    })
 unfolding computing
 the_budget_is_short = refl
 
-the_budget_is_enough : machine (program ((0x00200893 ∷ []) ++ replicate 14 0x00000013 ++ (0x00000073 ∷ [])) ∷ []) (with_quantum 16 17) (posts [] ∷ [])
-    ≡ ends (record { questions = Signals 1 ∷ End Done 1 ∷ []; output = []; error = []; statuses = Some 0 ∷ []; ending = Done; rounds = 1; work = 15 })
+the_budget_is_enough : machine
+    (program ((0x00200893 ∷ []) ++ replicate 14 0x00000013 ++ (0x00000073 ∷ [])) ∷ [])
+    (with_quantum 16 17) (posts [] ∷ [])
+    ≡ ends (record {
+      questions = Signals 1 ∷ End Done 1 ∷ [];
+      output = [];
+      error = [];
+      statuses =
+          Some 0 ∷ [];
+      ending = Done;
+      rounds = 1;
+      work = 15;
+    })
 unfolding computing
 the_budget_is_enough = refl
 
 -- jal x0, 0, for one round of 1000
-the_rounds_run_out : machine (program (0x0000006F ∷ []) ∷ []) (record { quantum = 1000; rounds = 1; frames = 17 }) (posts [] ∷ [])
-    ≡ ends (record { questions = Signals 1 ∷ End Limit 1 ∷ []; output = []; error = []; statuses = None ∷ []; ending = Limit; rounds = 1; work = 1000 })
+the_rounds_run_out : machine (program (0x0000006F ∷ []) ∷ [])
+    (record { quantum = 1000; rounds = 1; frames = 17 }) (posts [] ∷ [])
+    ≡ ends (record {
+      questions = Signals 1 ∷ End Limit 1 ∷ [];
+      output = [];
+      error = [];
+      statuses =
+          None ∷ [];
+      ending = Limit;
+      rounds = 1;
+      work = 1000;
+    })
 unfolding computing
 the_rounds_run_out = refl
 
@@ -75,12 +121,15 @@ the_frames_needed = refl
 
 -- map of one page: refused with 12 where no frame is free
 abbrev maps_a_page : Image
-maps_a_page = program (0x00D00893 ∷ 0x00020537 ∷ 0x00100593 ∷ 0x00600613 ∷ 0x00000073 ∷ 0x00200893 ∷ 0x00000073 ∷ [])
+maps_a_page = program (0x00D00893 ∷ 0x00020537 ∷ 0x00100593 ∷ 0x00600613 ∷ 0x00000073 ∷ 0x00200893
+    ∷ 0x00000073 ∷ [])
 
-no_frame_is_free : without_work (whole_machine (maps_a_page ∷ []) (with_frames 17) (posts [] ∷ [])) ≡ ended (Signals 1 ∷ End Done 1 ∷ []) [] (Some 244 ∷ []) Done 1
+no_frame_is_free : without_work (whole_machine (maps_a_page ∷ []) (with_frames 17) (posts [] ∷ []))
+    ≡ ended (Signals 1 ∷ End Done 1 ∷ []) [] (Some 244 ∷ []) Done 1
 unfolding computing
 no_frame_is_free = refl
 
-a_frame_is_free : without_work (whole_machine (maps_a_page ∷ []) (with_frames 18) (posts [] ∷ [])) ≡ ended (Signals 1 ∷ End Done 1 ∷ []) [] (Some 0 ∷ []) Done 1
+a_frame_is_free : without_work (whole_machine (maps_a_page ∷ []) (with_frames 18) (posts [] ∷ []))
+    ≡ ended (Signals 1 ∷ End Done 1 ∷ []) [] (Some 0 ∷ []) Done 1
 unfolding computing
 a_frame_is_free = refl

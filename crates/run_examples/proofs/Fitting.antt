@@ -19,17 +19,31 @@ unfolding computing
 no_misfit = refl
 
 -- the signals of round 2 in place of those of round 1
-another_round : misfit (exits_with_7 ∷ []) (with_frames 17) (Signals 2 [] ∷ End Done 1 ∷ []) ≡ Some (record { entry = 0; kept = signals_question 2; asked = signals_question 1 })
+another_round : misfit (exits_with_7 ∷ []) (with_frames 17) (Signals 2 [] ∷ End Done 1 ∷ [])
+    ≡ Some (record { entry = 0; kept = signals_question 2; asked = signals_question 1 })
 unfolding computing
 another_round = refl
 
 -- an input that the run doesn't ask for
-an_input_too_many : misfit (exits_with_7 ∷ []) (with_frames 17) (Signals 1 [] ∷ Input 1 1 64 [] ∷ End Done 1 ∷ []) ≡ Some (record { entry = 1; kept = input_question 1 1 64; asked = end_question Done 1 })
+an_input_too_many : misfit (exits_with_7 ∷ []) (with_frames 17)
+    (Signals 1 [] ∷ Input 1 1 64 [] ∷ End Done 1 ∷ [])
+    ≡ Some (record { entry = 1; kept = input_question 1 1 64; asked = end_question Done 1 })
 unfolding computing
 an_input_too_many = refl
 
 -- two processes, one of which lives
-two_lines_and_the_rounds : report (record { questions = []; output = []; error = []; statuses = Some 7 ∷ None ∷ []; ending = Limit; rounds = 12; work = 0 })
-    ≡ codes "process 1 status 7" ++ 10 ∷ codes "process 2 live" ++ 10 ∷ codes "rounds 12 limit" ++ 10 ∷ []
+two_lines_and_the_rounds : report
+    (record {
+      questions = [];
+      output = [];
+      error = [];
+      statuses = Some 7 ∷ None ∷ [];
+      ending =
+          Limit;
+      rounds = 12;
+      work = 0;
+    })
+    ≡ codes "process 1 status 7" ++ 10 ∷ codes "process 2 live" ++ 10 ∷ codes "rounds 12 limit"
+    ++ 10 ∷ []
 unfolding digits
 two_lines_and_the_rounds = refl

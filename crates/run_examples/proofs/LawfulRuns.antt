@@ -1,4 +1,5 @@
--- The openings of small programs, and the worlds in which their runs end, are lawful: tested by the checker.
+-- The openings of small programs, and the worlds in which their runs end, are lawful: tested by the
+-- checker.
 use Rattle.std.specs.Prelude.{List, [], ◌∷◌, ◌≡◌, refl, Bool, true, false, IsTrue}
 use Rattle.dos_world.specs.World.{World}
 use Rattle.dos_world.specs.Lawful.{Lawful}
@@ -32,21 +33,25 @@ ends_in test (asks question output error) = false
 
 -- the same of the run of these images over these answers
 abbrev run_ends_in : (World → Bool) → List Image → Config → List Answer → Bool
-run_ends_in test images config answers = ends_in test (over answers (rounds_from (whole_opening images config) config))
+run_ends_in test images config answers =
+    ends_in test (over answers (rounds_from (whole_opening images config) config))
 
 -- one thread that sleeps for ever
-with_a_sleeper : IsTrue (run_ends_in is_lawful (sleeps ∷ []) (with_frames 17) (posts [] ∷ posts [] ∷ []))
+with_a_sleeper : IsTrue (run_ends_in is_lawful (sleeps ∷ []) (with_frames 17)
+    (posts [] ∷ posts [] ∷ []))
 unfolding computing
 with_a_sleeper = refl
 
 -- All but the frames of a run that forks; the bytes of its 34 frames take the checker too long.
 
 -- after its first round: a child that lives, and a parent that waits for it
-parent_and_child : run_ends_in is_lawful_but_for_frames (forks ∷ []) (record { quantum = 1000; rounds = 1; frames = 34 }) (posts [] ∷ []) ≡ true
+parent_and_child : run_ends_in is_lawful_but_for_frames (forks ∷ [])
+    (record { quantum = 1000; rounds = 1; frames = 34 }) (posts [] ∷ []) ≡ true
 unfolding computing
 parent_and_child = refl
 
 -- at its end: two processes that have ended
-all_ended : run_ends_in is_lawful_but_for_frames (forks ∷ []) (with_frames 34) (posts [] ∷ posts [] ∷ posts [] ∷ []) ≡ true
+all_ended : run_ends_in is_lawful_but_for_frames (forks ∷ []) (with_frames 34)
+    (posts [] ∷ posts [] ∷ posts [] ∷ []) ≡ true
 unfolding computing
 all_ended = refl

@@ -11,10 +11,23 @@ use Rattle.elf_image.specs.Image.{Image}
 use Rattle.group_open.specs.Opening.{opening_with}
 use Rattle.dpg_run.specs.Machine.{Ran, ends, needs, machine_from}
 
--- an image of these instruction words at 0x10000, readable, writable and executable, entered at the first
+-- an image of these instruction words at 0x10000, readable, writable and executable, entered at the
+-- first
 abbrev pub program : List ℕ → Image
 program words =
-    record { entry = 0x10000; parts = record { address = 0x10000; bytes = flat_map (bytes_of 4) words; zeros = 0; write = true; exec = true; index = 0 } ∷ [] }
+    record {
+      entry = 0x10000;
+      parts =
+          record {
+            address = 0x10000;
+            bytes = flat_map (bytes_of 4) words;
+            zeros = 0;
+            write =
+                true;
+            exec = true;
+            index = 0;
+          } ∷ [];
+    }
 
 -- at most 100000 rounds
 abbrev pub with_quantum : ℕ → ℕ → Config
@@ -26,14 +39,24 @@ with_frames frames = with_quantum 1000 frames
 -- what is seen of a run whose guests sent nothing to error, but for its work
 abbrev pub ended : List Question → List ℕ → List (Option ℕ) → Ending → ℕ → Ran
 ended questions output statuses ending rounds =
-    ends (record { questions = questions; output = output; error = []; statuses = statuses; ending = ending; rounds = rounds; work = 0 })
+    ends (record {
+      questions = questions;
+      output = output;
+      error = [];
+      statuses = statuses;
+      ending =
+          ending;
+      rounds = rounds;
+      work = 0;
+    })
 
 -- a run without its work
 abbrev pub without_work : Ran → Ran
 without_work (ends s) = ends (record s { work = 0 })
 without_work (needs question output error) = needs question output error
 
--- the opening with every service there may be, and the run from it: for services that the kernel hasn't today
+-- the opening with every service there may be, and the run from it: for services that the kernel
+-- hasn't today
 abbrev pub whole_opening : List Image → Config → World
 whole_opening images config = opening_with all_services images config
 

@@ -14,7 +14,8 @@ one base flags size = file_header base 1 ++ program_header 84 base size size fla
 
 abbrev pub two : (base flags size offset address file_size memory_size : ℕ) → List ℕ
 two base flags size offset address file_size memory_size =
-    file_header base 2 ++ program_header 116 base size size flags ++ program_header offset address file_size memory_size 6
+    file_header base 2 ++ program_header 116 base size size flags
+    ++ program_header offset address file_size memory_size 6
 
 -- the file header is one of so many program headers
 pub record HasHeader (file : List ℕ) (entry count : ℕ) : Type 0 where
@@ -32,7 +33,8 @@ pub record HasHeader (file : List ℕ) (entry count : ℕ) : Type 0 where
   pub header_size : fields.half file 42 ≡ 32
   pub count_is : fields.half file 44 ≡ count
 
-pub one-header : (base flags size : ℕ) (rest : List ℕ) → base < 2 ^ 32 → HasHeader (one base flags size ++ rest) base 1
+pub one-header : (base flags size : ℕ) (rest : List ℕ) → base < 2 ^ 32
+    → HasHeader (one base flags size ++ rest) base 1
 unfolding fields.half fields.word
 one-header base flags size rest fits = record {
   long = omega (arith, length-append (one base flags size) rest);
@@ -50,10 +52,16 @@ one-header base flags size rest fits = record {
   count_is = refl;
 }
 
-pub two-header : (base flags size offset address file_size memory_size : ℕ) (rest : List ℕ) → base < 2 ^ 32 → HasHeader (two base flags size offset address file_size memory_size ++ rest) base 2
+pub two-header : (base flags size offset address file_size memory_size : ℕ) (rest : List ℕ)
+    → base < 2 ^ 32 → HasHeader (two base flags size offset address file_size memory_size ++ rest)
+    base 2
 unfolding fields.half fields.word
 two-header base flags size offset address file_size memory_size rest fits = record {
-  long = omega (arith, length-append (two base flags size offset address file_size memory_size) rest);
+  long = omega (
+    arith,
+    length-append
+        (two base flags size offset address file_size memory_size) rest,
+  );
   magic_is = refl;
   class = refl;
   order = refl;
@@ -71,30 +79,61 @@ two-header base flags size offset address file_size memory_size rest fits = reco
 -- ---- the program headers
 
 abbrev pub loads : (index offset address file_size memory_size flags : ℕ) → Header
-loads index offset address file_size memory_size flags = record { index = index; kind = 1; offset = offset; address = address; file_size = file_size; memory_size = memory_size; flags = flags }
+loads index offset address file_size memory_size flags =
+    record {
+      index = index;
+      kind = 1;
+      offset = offset;
+      address = address;
+      file_size = file_size;
+      memory_size = memory_size;
+      flags = flags;
+    }
 
-loads-at : (index o o' a a' f f' m m' l l' : ℕ) → o ≡ o' → a ≡ a' → f ≡ f' → m ≡ m' → l ≡ l' → loads index o a f m l ≡ loads index o' a' f' m' l'
+loads-at : (index o o' a a' f f' m m' l l' : ℕ) → o ≡ o' → a ≡ a' → f ≡ f' → m ≡ m' → l ≡ l'
+    → loads index o a f m l ≡ loads index o' a' f' m' l'
 loads-at index o o' a a' f f' m m' l l' eo ea ef em el = rw (eo, ea, ef, em, el) refl
 
-pub one-headers : (base flags size : ℕ) (rest : List ℕ) → base < 2 ^ 32 → flags < 2 ^ 32 → size < 2 ^ 32 → fields.headers (one base flags size ++ rest) ≡ loads 0 84 base size size flags ∷ []
+pub one-headers : (base flags size : ℕ) (rest : List ℕ) → base < 2 ^ 32 → flags < 2 ^ 32
+    → size < 2 ^ 32 → fields.headers (one base flags size ++ rest) ≡ loads 0 84 base size size flags
+    ∷ []
 unfolding fields.half fields.word fields.header_at fields.headers_from fields.headers
 one-headers base flags size rest fits_base fits_flags fits_size =
-    ap (λ (h : Header). h ∷ []) (loads-at 0 84 84 _ base _ size _ size _ flags refl (from_le_bytes-to_le_bytes_4 base fits_base) (from_le_bytes-to_le_bytes_4 size fits_size) (from_le_bytes-to_le_bytes_4 size fits_size) (from_le_bytes-to_le_bytes_4 flags fits_flags))
+    ap (λ (h : Header). h ∷ [])
+    (loads-at 0 84 84 _ base _ size _ size _ flags refl
+    (from_le_bytes-to_le_bytes_4 base fits_base)
+    (from_le_bytes-to_le_bytes_4 size fits_size)
+    (from_le_bytes-to_le_bytes_4 size fits_size)
+    (from_le_bytes-to_le_bytes_4 flags fits_flags))
 
 pair-at : (a a' b b' : Header) → a ≡ a' → b ≡ b' → (a ∷ b ∷ []) ≡ (a' ∷ b' ∷ [])
 pair-at a a' b b' ea eb = rw (ea, eb) refl
 
-pub two-headers : (base flags size offset address file_size memory_size : ℕ) (rest : List ℕ) → base < 2 ^ 32 → flags < 2 ^ 32 → size < 2 ^ 32 → offset < 2 ^ 32 → address < 2 ^ 32 → file_size < 2 ^ 32 → memory_size < 2 ^ 32 → fields.headers (two base flags size offset address file_size memory_size ++ rest) ≡ loads 0 116 base size size flags ∷ loads 1 offset address file_size memory_size 6 ∷ []
+pub two-headers : (base flags size offset address file_size memory_size : ℕ) (rest : List ℕ)
+    → base < 2 ^ 32 → flags < 2 ^ 32 → size < 2 ^ 32 → offset < 2 ^ 32 → address < 2 ^ 32
+    → file_size < 2 ^ 32 → memory_size < 2 ^ 32
+    → fields.headers (two base flags size offset address file_size memory_size ++ rest)
+    ≡ loads 0 116 base size size flags ∷ loads 1 offset address file_size memory_size 6 ∷ []
 unfolding fields.half fields.word fields.header_at fields.headers_from fields.headers
-two-headers base flags size offset address file_size memory_size rest fits_base fits_flags fits_size fits_offset fits_address fits_file fits_memory =
+two-headers base flags size offset address file_size memory_size rest fits_base fits_flags fits_size
+    fits_offset fits_address fits_file fits_memory =
     pair-at _ _ _ _
-    (loads-at 0 116 116 _ base _ size _ size _ flags refl (from_le_bytes-to_le_bytes_4 base fits_base) (from_le_bytes-to_le_bytes_4 size fits_size) (from_le_bytes-to_le_bytes_4 size fits_size) (from_le_bytes-to_le_bytes_4 flags fits_flags))
-    (loads-at 1 _ offset _ address _ file_size _ memory_size 6 6 (from_le_bytes-to_le_bytes_4 offset fits_offset) (from_le_bytes-to_le_bytes_4 address fits_address) (from_le_bytes-to_le_bytes_4 file_size fits_file) (from_le_bytes-to_le_bytes_4 memory_size fits_memory) refl)
+    (loads-at 0 116 116 _ base _ size _ size _ flags refl
+    (from_le_bytes-to_le_bytes_4 base fits_base)
+    (from_le_bytes-to_le_bytes_4 size fits_size)
+    (from_le_bytes-to_le_bytes_4 size fits_size)
+    (from_le_bytes-to_le_bytes_4 flags fits_flags))
+    (loads-at 1 _ offset _ address _ file_size _ memory_size 6 6
+    (from_le_bytes-to_le_bytes_4 offset fits_offset)
+    (from_le_bytes-to_le_bytes_4 address fits_address)
+    (from_le_bytes-to_le_bytes_4 file_size fits_file)
+    (from_le_bytes-to_le_bytes_4 memory_size fits_memory) refl)
 
 -- ---- what stands behind them
 
 pub one-rest : (base flags size : ℕ) (rest : List ℕ) → drop 84 (one base flags size ++ rest) ≡ rest
 one-rest base flags size rest = refl
 
-pub two-rest : (base flags size offset address file_size memory_size : ℕ) (rest : List ℕ) → drop 116 (two base flags size offset address file_size memory_size ++ rest) ≡ rest
+pub two-rest : (base flags size offset address file_size memory_size : ℕ) (rest : List ℕ)
+    → drop 116 (two base flags size offset address file_size memory_size ++ rest) ≡ rest
 two-rest base flags size offset address file_size memory_size rest = refl

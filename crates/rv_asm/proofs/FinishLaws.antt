@@ -31,7 +31,11 @@ data_placed_of s h =
     let size : ℕ = data_size s.data_part in
     let both = and_parts (is_placed s.data_part.address (data_size s.data_part)) _ h in
     let ends = and_parts (nat_le 0x1000 s.data_part.address) _ both.0 in
-    record { above = leb-true 0x1000 s.data_part.address ends.0; below = leb-true _ _ ends.1; apart = not-true _ both.1 }
+    record {
+      above = leb-true 0x1000 s.data_part.address ends.0;
+      below = leb-true _ _ ends.1;
+      apart = not-true _ both.1;
+    }
 
 pub placed_of : (s : Source) → is_in_range s ≡ true → IsPlaced s (length s.items)
 placed_of s h =
@@ -43,7 +47,11 @@ placed_of s h =
       some = omega (arith, some);
       above = leb-true 0x1000 s.base ends.0;
       below = leb-true _ _ ends.1;
-      data_placed = elim (or_cases (not (has_data s)) (is_data_placed s) both.1) [ inl none ↦ inl (not-true _ none) | inr placed ↦ inr (data_placed_of s placed) ];
+      data_placed = elim (or_cases (not (has_data s)) (is_data_placed s) both.1) [
+        | inl none ↦
+            inl (not-true _ none)
+        | inr placed ↦ inr (data_placed_of s placed)
+      ];
     }
 
 -- so there are few words and few bytes
@@ -62,7 +70,9 @@ length-code_of : (words : List ℕ) → length (code_of words) ≡ 4 * length wo
 length-code_of [] = refl
 length-code_of (word ∷ words) = let rest = length-code_of words in omega arith
 
-length-before : (first : Result ℕ AsmError) (rest : Result (List ℕ) AsmError) (count : ℕ) (words : List ℕ) → ((others : List ℕ) → rest ≡ Ok others → length others ≡ count) → before first rest ≡ Ok words → length words ≡ suc count
+length-before : (first : Result ℕ AsmError) (rest : Result (List ℕ) AsmError) (count : ℕ)
+    (words : List ℕ) → ((others : List ℕ) → rest ≡ Ok others → length others ≡ count)
+    → before first rest ≡ Ok words → length words ≡ suc count
 length-before (Err e) rest count words known h = absurd cc
 length-before (Ok word) (Err e) count words known h = absurd cc
 length-before (Ok word) (Ok others) count words known h =
@@ -70,33 +80,68 @@ length-before (Ok word) (Ok others) count words known h =
     sym (ap length same) ∙ ap suc (known others refl)
 
 -- as many as there are items
-pub length-words_from : (labels : List (Option ℕ)) (place : ℕ) (items : List Item) (words : List ℕ) → words_from labels place items ≡ Ok words → length words ≡ length items
+pub length-words_from : (labels : List (Option ℕ)) (place : ℕ) (items : List Item) (words : List ℕ)
+    → words_from labels place items ≡ Ok words → length words ≡ length items
 unfolding words_from
 length-words_from labels place [] words h = let none : [] ≡ words = cc in sym (ap length none)
 length-words_from labels place (item ∷ items) words h =
-    length-before (word_of labels place item) (words_from labels (suc place) items) (length items) words (length-words_from labels (suc place) items) h
+    length-before (word_of labels place item) (words_from labels (suc place) items)
+    (length items) words (length-words_from labels (suc place) items) h
 
 -- ---- the image
 
-code_placed : (s : Source) (words : List ℕ) → IsPlaced s (length words) → s.base % 4096 ≡ 0 → IsCode s.base (4 * length words) (code_of words)
-code_placed s words p aligned = record { aligned = omega (arith, aligned); some = omega (arith, p.some); len = length-code_of words; above = p.above; below = p.below }
+code_placed : (s : Source) (words : List ℕ) → IsPlaced s (length words) → s.base % 4096 ≡ 0
+    → IsCode s.base (4 * length words) (code_of words)
+code_placed s words p aligned =
+    record {
+      aligned = omega (arith, aligned);
+      some = omega (arith, p.some);
+      len =
+          length-code_of words;
+      above = p.above;
+      below = p.below;
+    }
 
-image_by : (s : Source) (words : List ℕ) (with_data : Bool) → has_data s ≡ with_data → IsPlaced s (length words) → s.base % 4096 ≡ 0 → image (headers_by with_data s (length words) ++ code_of words ++ s.data_part.bytes) ≡ Ok (record { entry = s.base; parts = code_part s words ∷ data_parts with_data s.data_part })
+image_by : (s : Source) (words : List ℕ) (with_data : Bool) → has_data s ≡ with_data
+    → IsPlaced s (length words) → s.base % 4096 ≡ 0
+    → image (headers_by with_data s (length words) ++ code_of words ++ s.data_part.bytes)
+    ≡ Ok (record { entry = s.base; parts = code_part s words ∷ data_parts with_data s.data_part })
 image_by s words false e p aligned =
-    ap image (append_assoc (one s.base (code_flags s.write) (4 * length words)) (code_of words) s.data_part.bytes)
-    ∙ image-code s.base (4 * length words) s.write (code_of words) s.data_part.bytes (code_placed s words p aligned)
+    ap image (append_assoc (one s.base (code_flags s.write) (4 * length words))
+    (code_of words) s.data_part.bytes)
+    ∙ image-code s.base (4 * length words) s.write (code_of words) s.data_part.bytes
+    (code_placed s words p aligned)
 image_by s words true e p aligned = elim p.data_placed [
   | inl none ↦ absurd (let no : true ≡ false = sym e ∙ none in cc)
   | inr d ↦
-      ap image (append_assoc (two s.base (code_flags s.write) (4 * length words) (116 + 4 * length words) s.data_part.address (length s.data_part.bytes) (data_size s.data_part)) (code_of words) s.data_part.bytes)
-      ∙ image-both s.base (4 * length words) s.write (code_of words) (116 + 4 * length words) s.data_part.address (length s.data_part.bytes) (data_size s.data_part) s.data_part.zeros s.data_part.bytes (code_placed s words p aligned)
-      (record { behind_code = refl; len = refl; whole = refl; some = omega (arith, ltb-true 0 (data_size s.data_part) e); above = d.above; below = d.below; apart = d.apart })
+      ap image (append_assoc
+      (two s.base (code_flags s.write) (4 * length words)
+      (116 + 4 * length words) s.data_part.address (length s.data_part.bytes)
+      (data_size s.data_part)) (code_of words) s.data_part.bytes)
+      ∙ image-both s.base (4 * length words) s.write (code_of words)
+      (116 + 4 * length words) s.data_part.address (length s.data_part.bytes)
+      (data_size s.data_part) s.data_part.zeros s.data_part.bytes
+      (code_placed s words p aligned)
+      (record {
+        behind_code = refl;
+        len = refl;
+        whole = refl;
+        some =
+            omega (arith, ltb-true 0 (data_size s.data_part) e);
+        above = d.above;
+        below =
+            d.below;
+        apart = d.apart;
+      })
 ]
 
-pub image-file_of : (s : Source) (words : List ℕ) → is_in_range s ≡ true → s.base % 4096 ≡ 0 → assembled s ≡ Ok words → image (file_of s words) ≡ Ok (image_of s words)
+pub image-file_of : (s : Source) (words : List ℕ) → is_in_range s ≡ true → s.base % 4096 ≡ 0
+    → assembled s ≡ Ok words → image (file_of s words) ≡ Ok (image_of s words)
 unfolding file_of
 image-file_of s words range aligned made =
-    image_by s words (has_data s) refl (subst (λ (n : ℕ). IsPlaced s n) (sym (length-words_from s.labels 0 s.items words made)) (placed_of s range)) aligned
+    image_by s words (has_data s) refl
+    (subst (λ (n : ℕ). IsPlaced s n) (sym (length-words_from s.labels 0 s.items words made))
+    (placed_of s range)) aligned
 
 -- ---- the answer
 
@@ -104,30 +149,46 @@ pub finished-range : (s : Source) → is_in_range s ≡ false → finished s ≡
 unfolding finished
 finished-range s e = rw e refl
 
-pub finished-refused : (s : Source) (refusal : AsmError) → is_in_range s ≡ true → assembled s ≡ Err refusal → finished s ≡ Err refusal
+pub finished-refused : (s : Source) (refusal : AsmError) → is_in_range s ≡ true
+    → assembled s ≡ Err refusal → finished s ≡ Err refusal
 unfolding finished
 finished-refused s refusal e made = rw (e, made) refl
 
-pub finished-made : (s : Source) (words : List ℕ) → is_in_range s ≡ true → assembled s ≡ Ok words → finished s ≡ Ok (file_of s words)
+pub finished-made : (s : Source) (words : List ℕ) → is_in_range s ≡ true → assembled s ≡ Ok words
+    → finished s ≡ Ok (file_of s words)
 unfolding finished
 finished-made s words e made = rw (e, made) refl
 
 -- ---- of the code, whose labels and items are the builder's
 
-same_words : (s : Source) (labels : List (Option ℕ)) (items : List Item) (answer : Result (List ℕ) AsmError) → labels ≡ s.labels → items ≡ s.items → words_from labels 0 items ≡ answer → assembled s ≡ answer
+same_words : (s : Source) (labels : List (Option ℕ)) (items : List Item)
+    (answer : Result (List ℕ) AsmError) → labels ≡ s.labels → items ≡ s.items
+    → words_from labels 0 items ≡ answer → assembled s ≡ answer
 same_words s labels items answer l i made = rw (← l, ← i) made
 
-pub refused_by : (s : Source) (labels : List (Option ℕ)) (items : List Item) (refusal : AsmError) → labels ≡ s.labels → items ≡ s.items → is_in_range s ≡ true → words_from labels 0 items ≡ Err refusal → finished s ≡ Err refusal
-refused_by s labels items refusal l i range made = finished-refused s refusal range (same_words s labels items (Err refusal) l i made)
+pub refused_by : (s : Source) (labels : List (Option ℕ)) (items : List Item) (refusal : AsmError)
+    → labels ≡ s.labels → items ≡ s.items → is_in_range s ≡ true
+    → words_from labels 0 items ≡ Err refusal → finished s ≡ Err refusal
+refused_by s labels items refusal l i range made =
+    finished-refused s refusal range (same_words s labels items (Err refusal) l i made)
 
-pub file_made : (s : Source) (labels : List (Option ℕ)) (items : List Item) (words given file : List ℕ) → labels ≡ s.labels → items ≡ s.items → is_in_range s ≡ true → words_from labels 0 items ≡ Ok words → given ≡ words → file ≡ file_of s given → finished s ≡ Ok file
+pub file_made : (s : Source) (labels : List (Option ℕ)) (items : List Item)
+    (words given file : List ℕ) → labels ≡ s.labels → items ≡ s.items → is_in_range s ≡ true
+    → words_from labels 0 items ≡ Ok words → given ≡ words → file ≡ file_of s given
+    → finished s ≡ Ok file
 file_made s labels items words given file l i range made g f =
     rw (f, g) (finished-made s words range (same_words s labels items (Ok words) l i made))
 
-pub file_read : (s : Source) (labels : List (Option ℕ)) (items : List Item) (words given file : List ℕ) → labels ≡ s.labels → items ≡ s.items → is_in_range s ≡ true → s.base % 4096 ≡ 0 → words_from labels 0 items ≡ Ok words → given ≡ words → file ≡ file_of s given → IsOkAnd (assembled s) (λ ws. image file ≡ Ok (image_of s ws))
+pub file_read : (s : Source) (labels : List (Option ℕ)) (items : List Item)
+    (words given file : List ℕ) → labels ≡ s.labels → items ≡ s.items → is_in_range s ≡ true
+    → s.base % 4096 ≡ 0 → words_from labels 0 items ≡ Ok words → given ≡ words
+    → file ≡ file_of s given → IsOkAnd (assembled s) (λ ws. image file ≡ Ok (image_of s ws))
 file_read s labels items words given file l i range aligned made g f =
     let all = same_words s labels items (Ok words) l i made in
     rw (f, g, all) (image-file_of s words range aligned all)
 
-pub count_made : (s : Source) (labels : List (Option ℕ)) (items : List Item) (words given : List ℕ) → items ≡ s.items → words_from labels 0 items ≡ Ok words → given ≡ words → length given ≡ length s.items
-count_made s labels items words given i made g = ap length g ∙ length-words_from labels 0 items words made ∙ ap length i
+pub count_made : (s : Source) (labels : List (Option ℕ)) (items : List Item) (words given : List ℕ)
+    → items ≡ s.items → words_from labels 0 items ≡ Ok words → given ≡ words
+    → length given ≡ length s.items
+count_made s labels items words given i made g =
+    ap length g ∙ length-words_from labels 0 items words made ∙ ap length i

@@ -1,4 +1,5 @@
--- The file of a builder, an ELF32 executable for RISC-V, field by field (System V ABI, "ELF Header" and "Program Header").
+-- The file of a builder, an ELF32 executable for RISC-V, field by field (System V ABI, "ELF Header"
+-- and "Program Header").
 use Rattle.std.specs.Prelude.{ℕ, ◌+◌, ◌*◌, Bool, true, false, not, ◌&&◌, ◌||◌, ◌==◌, nat_lt, nat_le, List, [], ◌∷◌, ◌++◌, length, flat_map, Result, Ok, Err, if◌then◌else◌}
 use Rattle.std.specs.Int.{w16, w32, to_le_bytes}
 use Rattle.elf_image.specs.Image.{Image}
@@ -47,7 +48,8 @@ program_header p_offset address p_filesz p_memsz p_flags =
     let p_vaddr = word address in
     let p_paddr = word address in
     let p_align = word 0x1000 in
-    p_type ++ word p_offset ++ p_vaddr ++ p_paddr ++ word p_filesz ++ word p_memsz ++ word p_flags ++ p_align
+    p_type ++ word p_offset ++ p_vaddr ++ p_paddr ++ word p_filesz ++ word p_memsz ++ word p_flags
+    ++ p_align
 
 -- PF_R + PF_X, and PF_W where asked
 abbrev pub code_flags : Bool → ℕ
@@ -59,7 +61,8 @@ data_flags = 6
 
 -- of so many words from a place in the file on
 abbrev pub code_header : Source → (p_offset count : ℕ) → List ℕ
-code_header source p_offset count = program_header p_offset source.base (4 * count) (4 * count) (code_flags source.write)
+code_header source p_offset count =
+    program_header p_offset source.base (4 * count) (4 * count) (code_flags source.write)
 
 abbrev pub data_header : Data → (p_offset : ℕ) → List ℕ
 data_header d p_offset = program_header p_offset d.address (length d.bytes) (data_size d) data_flags
@@ -67,10 +70,12 @@ data_header d p_offset = program_header p_offset d.address (length d.bytes) (dat
 -- all headers, with a data part or without; then comes the code of so many words, then the data
 abbrev pub headers_by : Bool → Source → ℕ → List ℕ
 headers_by false source count = file_header source.base 1 ++ code_header source 84 count
-headers_by true source count = file_header source.base 2 ++ code_header source 116 count ++ data_header source.data_part (116 + 4 * count)
+headers_by true source count = file_header source.base 2 ++ code_header source 116 count
+    ++ data_header source.data_part (116 + 4 * count)
 
 unfoldable pub file_of : Source → List ℕ → List ℕ
-file_of source words = headers_by (has_data source) source (length words) ++ code_of words ++ source.data_part.bytes
+file_of source words = headers_by (has_data source) source (length words) ++ code_of words
+    ++ source.data_part.bytes
 
 -- ---- where parts may be: from 0x1000 on, below the stack at 0xEFFF0000, and apart
 
@@ -78,15 +83,18 @@ abbrev pub is_placed : (address size : ℕ) → Bool
 is_placed address size = nat_le 0x1000 address && nat_le (address + size) 0xEFFF0000
 
 abbrev pub do_meet : (address size other other_size : ℕ) → Bool
-do_meet address size other other_size = nat_lt address (other + other_size) && nat_lt other (address + size)
+do_meet address size other other_size = nat_lt address (other + other_size)
+    && nat_lt other (address + size)
 
 abbrev pub is_code_placed : Source → Bool
-is_code_placed source = not (length source.items == 0) && is_placed source.base (4 * length source.items)
+is_code_placed source = not (length source.items == 0)
+    && is_placed source.base (4 * length source.items)
 
 abbrev pub is_data_placed : Source → Bool
 is_data_placed source =
     let d = source.data_part in
-    is_placed d.address (data_size d) && not (do_meet source.base (4 * length source.items) d.address (data_size d))
+    is_placed d.address (data_size d)
+    && not (do_meet source.base (4 * length source.items) d.address (data_size d))
 
 -- there is code, and what there is can be where it is to be
 abbrev pub is_in_range : Source → Bool
@@ -104,12 +112,31 @@ finished source = if is_in_range source then file_by source (assembled source) e
 -- ---- what an image of the file has
 
 abbrev pub code_part : Source → List ℕ → Part
-code_part source words = record { address = source.base; bytes = code_of words; zeros = 0; write = source.write; exec = true; index = 0 }
+code_part source words = record {
+  address = source.base;
+  bytes = code_of words;
+  zeros = 0;
+  write =
+      source.write;
+  exec = true;
+  index = 0;
+}
 
 abbrev pub data_parts : Bool → Data → List Part
 data_parts false d = []
-data_parts true d = record { address = d.address; bytes = d.bytes; zeros = d.zeros; write = true; exec = false; index = 1 } ∷ []
+data_parts true d = record {
+  address = d.address;
+  bytes = d.bytes;
+  zeros = d.zeros;
+  write = true;
+  exec = false;
+  index = 1;
+} ∷ []
 
 -- it is entered at the base, which is the first word
 abbrev pub image_of : Source → List ℕ → Image
-image_of source words = record { entry = source.base; parts = code_part source words ∷ data_parts (has_data source) source.data_part }
+image_of source words = record {
+  entry = source.base;
+  parts =
+      code_part source words ∷ data_parts (has_data source) source.data_part;
+}

@@ -4,13 +4,15 @@ use Rattle.rv_isa.specs.Valid.{IsRegister}
 use Rattle.rv_asm.specs.declared.item.Item.{Item}
 use Rattle.rv_asm.specs.declared.item.Item.TheVariants.{Word, Jump, Branch}
 
--- the data part: bytes at an address, then so many zeros; where both are none, there is no data part
+-- the data part: bytes at an address, then so many zeros; where both are none, there is no data
+-- part
 pub record Data : Type 0 where
   pub address : ℕ
   pub bytes : List ℕ
   pub zeros : ℕ
 
--- where the code begins and whether it may be written, what its words are made of, for each label the place of the word
+-- where the code begins and whether it may be written, what its words are made of, for each label
+-- the place of the word
 -- that it stands before, and the data part
 pub record Source : Type 0 where
   pub base : ℕ
@@ -24,7 +26,14 @@ no_data = record { address = 0; bytes = []; zeros = 0 }
 
 -- nothing was told yet
 abbrev pub empty_at : ℕ → Bool → Source
-empty_at base write = record { base = base; write = write; items = []; labels = []; data_part = no_data }
+empty_at base write = record {
+  base = base;
+  write = write;
+  items = [];
+  labels = [];
+  data_part =
+      no_data;
+}
 
 -- one word more
 abbrev pub with_item : Source → Item → Source
@@ -36,10 +45,14 @@ with_label source = record source { labels = source.labels ++ None ∷ [] }
 
 -- the label stands before the next word
 abbrev pub with_here : Source → ℕ → Source
-with_here source label = record source { labels = slice_set source.labels label (Some (length source.items)) }
+with_here source label = record source {
+  labels =
+      slice_set source.labels label (Some (length source.items));
+}
 
 abbrev pub with_data : Source → ℕ → List ℕ → ℕ → Source
-with_data source address bytes zeros = record source { data_part = record { address = address; bytes = bytes; zeros = zeros } }
+with_data source address bytes zeros =
+    record source { data_part = record { address = address; bytes = bytes; zeros = zeros } }
 
 -- the place that a label stands before, if it was made and set
 abbrev pub place_of : List (Option ℕ) → ℕ → Option ℕ

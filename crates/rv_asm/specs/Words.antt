@@ -1,4 +1,5 @@
--- The words of a builder: an item stands at a place, counted from 0, and a jump or a branch goes to the place of its label.
+-- The words of a builder: an item stands at a place, counted from 0, and a jump or a branch goes to
+-- the place of its label.
 use Rattle.std.specs.Prelude.{ℕ, suc, ◌*◌, ◌^◌, ◌-ℤ◌, ℤ, pos, negsuc, Bool, nat_lt, List, [], ◌∷◌, Option, Some, None, Result, Ok, Err, if◌then◌else◌}
 use Rattle.rv_isa.specs.Encoding.{encoding}
 use Rattle.rv_isa.specs.declared.BranchOp.{BranchOp}
@@ -18,7 +19,8 @@ abbrev pub fits : ℕ → ℤ → Bool
 fits limit (pos n) = nat_lt n limit
 fits limit (negsuc n) = nat_lt n limit
 
--- the offset of a jump has 21 bits and that of a branch 13, both signed (the RISC-V unprivileged manual, formats J and B)
+-- the offset of a jump has 21 bits and that of a branch 13, both signed (the RISC-V unprivileged
+-- manual, formats J and B)
 abbrev pub jump_limit : ℕ
 jump_limit = 2 ^ 20
 
@@ -26,10 +28,13 @@ abbrev pub branch_limit : ℕ
 branch_limit = 2 ^ 12
 
 abbrev pub jump_by : (place rd : ℕ) → ℤ → Result ℕ AsmError
-jump_by place rd offset = if fits jump_limit offset then Ok (encoding (instr.Jal rd offset)) else Err (error.Reach place)
+jump_by place rd offset =
+    if fits jump_limit offset then Ok (encoding (instr.Jal rd offset)) else Err (error.Reach place)
 
 abbrev pub branch_by : (place : ℕ) → BranchOp → (rs1 rs2 : ℕ) → ℤ → Result ℕ AsmError
-branch_by place op rs1 rs2 offset = if fits branch_limit offset then Ok (encoding (instr.Branch op rs1 rs2 offset)) else Err (error.Reach place)
+branch_by place op rs1 rs2 offset =
+    if fits branch_limit offset then Ok (encoding (instr.Branch op rs1 rs2 offset)) else Err
+    (error.Reach place)
 
 -- what a function makes of the distance to a label that stands before this place, if it is set
 abbrev pub towards : (place label : ℕ) → (ℤ → Result ℕ AsmError) → Option ℕ → Result ℕ AsmError
@@ -39,8 +44,10 @@ towards place label make (Some target) = make (distance place target)
 -- the word of an item at a place
 abbrev pub word_of : List (Option ℕ) → ℕ → Item → Result ℕ AsmError
 word_of labels place (Word value) = Ok value
-word_of labels place (Jump rd label) = towards place label (jump_by place rd) (place_of labels label)
-word_of labels place (Branch op rs1 rs2 label) = towards place label (branch_by place op rs1 rs2) (place_of labels label)
+word_of labels place (Jump rd label) =
+    towards place label (jump_by place rd) (place_of labels label)
+word_of labels place (Branch op rs1 rs2 label) =
+    towards place label (branch_by place op rs1 rs2) (place_of labels label)
 
 -- a word before others; of two errors the first
 abbrev pub before : Result ℕ AsmError → Result (List ℕ) AsmError → Result (List ℕ) AsmError
@@ -51,7 +58,8 @@ before (Ok word) (Ok words) = Ok (word ∷ words)
 -- the words of items from a place on
 unfoldable pub words_from : List (Option ℕ) → ℕ → List Item → Result (List ℕ) AsmError
 words_from labels place [] = Ok []
-words_from labels place (item ∷ items) = before (word_of labels place item) (words_from labels (suc place) items)
+words_from labels place (item ∷ items) =
+    before (word_of labels place item) (words_from labels (suc place) items)
 
 abbrev pub assembled : Source → Result (List ℕ) AsmError
 assembled source = words_from source.labels 0 source.items

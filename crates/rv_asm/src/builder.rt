@@ -15,8 +15,8 @@ use std::marker::Model;
 /// How many words fit before a builder takes more memory.
 const FIRST_WORDS: usize = 64;
 
-/// A file in the making. Contracts see what it was told: the base, the right to write, the items, for each label the place
-/// that it stands before, and the data part.
+/// A file in the making. Contracts see what it was told: the base, the right to write, the items,
+/// for each label the place that it stands before, and the data part.
 #[derive(Drop)]
 pub struct Builder {
     alloc: Global,
@@ -34,13 +34,22 @@ impl Model for Builder {
 
     ghost Value = { Source };
 
-    ghost view = { λ b. record { base = b.base; write = b.write; items = b.items.items; labels = b.labels.items; data_part = record { address = b.address; bytes = b.bytes.items; zeros = b.zeros } } };
+    ghost view = { λ b. record {
+      base = b.base;
+      write = b.write;
+      items = b.items.items;
+      labels =
+          b.labels.items;
+      data_part =
+          record { address = b.address; bytes = b.bytes.items; zeros = b.zeros };
+    } };
 
     ghost invariant = { λ b. IsSource b.base b.items.items };
 }
 
 impl Builder {
-    /// Nothing yet, for code from `base` on, a multiple of 4096, that may be executed and, where `write`, written.
+    /// Nothing yet, for code from `base` on, a multiple of 4096, that may be executed and, where
+    /// `write`, written.
     pub fn new(alloc: Global, base: u32, write: bool) -> Result<Builder, AllocError>
         requires { base % 4096 ≡ 0 }
         ensures { IfOk result (λ builder. builder ≡ empty_at base write) }
@@ -129,7 +138,8 @@ impl Builder {
     pub fn branch(&mut self, op: BranchOp, rs1: u8, rs2: u8, label: Label) -> Result<(), AllocError>
         requires rs1 { rs1 < 32 }
         requires rs2 { rs2 < 32 }
-        ensures ok { OnOk result (self.new ≡ with_item self.old (Item.Branch op rs1 rs2 label.number)) }
+        ensures ok { OnOk result
+            (self.new ≡ with_item self.old (Item.Branch op rs1 rs2 label.number)) }
         ensures err { OnErr result (self.new ≡ self.old) }
     {
         self.add(Item::Branch {
@@ -140,8 +150,8 @@ impl Builder {
         })
     }
 
-    /// The data part is these bytes at the address and then so many zeros, in place of an earlier one. No bytes and no
-    /// zeros mean that there is none.
+    /// The data part is these bytes at the address and then so many zeros, in place of an earlier
+    /// one. No bytes and no zeros mean that there is none.
     pub fn data(&mut self, address: u32, bytes: &[u8], zeros: u32) -> Result<(), AllocError>
         ensures ok { OnOk result (self.new ≡ with_data self.old address bytes.now zeros) }
         ensures err { OnErr result (self.new ≡ self.old) }

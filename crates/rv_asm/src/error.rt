@@ -2,7 +2,8 @@
 
 use std::alloc::AllocError;
 
-/// Why a builder has no file. The first three are tested in this order, and the last two of them word by word.
+/// Why a builder has no file. The first three are tested in this order, and the last two of them
+/// word by word.
 #[derive(Clone, Copy, Debug, PartialEq, Eq)]
 pub enum AsmError {
     /// There is no code, a part is not within 0x1000 to 0xEFFEFFFF, or the two parts meet.

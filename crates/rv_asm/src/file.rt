@@ -73,7 +73,10 @@ pub fn put_file_header(file: &mut Vec<u8>, entry: u32, headers: u16) -> Result<(
 
 /// Adds a program header.
 pub fn put_program_header(file: &mut Vec<u8>, segment: &Segment) -> Result<(), AllocError>
-    ensures { OnOk result (file.new.items ≡ file.old.items ++ program_header segment.now.offset segment.now.address segment.now.file_size segment.now.memory_size segment.now.flags) }
+    ensures { OnOk result
+        (file.new.items ≡ file.old.items
+        ++ program_header segment.now.offset segment.now.address segment.now.file_size
+        segment.now.memory_size segment.now.flags) }
 {
     put_words(
         file,

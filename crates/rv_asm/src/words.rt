@@ -116,7 +116,8 @@ pub fn words_of(
     requires few { length items.now < 2 ^ 32 }
     requires registers { All HasRegisters items.now }
     ensures ok { IfOk result (λ words. words_from labels.now 0 items.now ≡ Ok words.items) }
-    ensures refused { IfErr result (λ error. error ≢ AsmError.Memory → words_from labels.now 0 items.now ≡ Err error) }
+    ensures refused { IfErr result (λ error. error ≢ AsmError.Memory
+        → words_from labels.now 0 items.now ≡ Err error) }
 {
     let mut words = Vec::with_capacity(alloc, items.len())?;
     for (place, item) in items.iter().enumerate() {

@@ -17,7 +17,8 @@ pub record Fields (w opcode funct3 funct7 d s1 s2 : ℕ) : Type 0 where
   pub rs2_is : rs2 w ≡ s2
   pub funct7_is : field 31 25 w ≡ funct7
 
-pub r_fields : (opcode funct3 funct7 d s1 s2 : ℕ) → opcode < 128 → funct3 < 8 → funct7 < 128 → d < 32 → s1 < 32 → s2 < 32
+pub r_fields : (opcode funct3 funct7 d s1 s2 : ℕ) → opcode < 128 → funct3 < 8 → funct7 < 128
+    → d < 32 → s1 < 32 → s2 < 32
     → Fields (r_type opcode funct3 funct7 d s1 s2) opcode funct3 funct7 d s1 s2
 r_fields opcode funct3 funct7 d s1 s2 a b c e f g = record {
   below = omega arith;
@@ -79,7 +80,8 @@ pub i_parts : (w opcode funct3 : ℕ) → w < 2 ^ 32 → field 6 0 w ≡ opcode 
     → i_type opcode funct3 (rd w) (rs1 w) (field 31 20 w) ≡ w
 i_parts w opcode funct3 h o f = omega arith
 
-pub r_parts : (w opcode funct3 funct7 : ℕ) → w < 2 ^ 32 → field 6 0 w ≡ opcode → field 14 12 w ≡ funct3 → field 31 25 w ≡ funct7
+pub r_parts : (w opcode funct3 funct7 : ℕ) → w < 2 ^ 32 → field 6 0 w ≡ opcode
+    → field 14 12 w ≡ funct3 → field 31 25 w ≡ funct7
     → r_type opcode funct3 funct7 (rd w) (rs1 w) (rs2 w) ≡ w
 r_parts w opcode funct3 funct7 h o f g = omega arith
 
@@ -96,18 +98,22 @@ record BParts (a b c d n : ℕ) : Type 0 where
   high : field 10 5 n ≡ c
   low : field 4 1 n ≡ d
 
-b_split : (a b c d : ℕ) → a < 2 → b < 2 → c < 64 → d < 16 → BParts a b c d (a * 2 ^ 12 + b * 2 ^ 11 + c * 2 ^ 5 + d * 2)
-b_split a b c d e f g h = record { top = omega arith; next = omega arith; high = omega arith; low = omega arith }
+b_split : (a b c d : ℕ) → a < 2 → b < 2 → c < 64 → d < 16
+    → BParts a b c d (a * 2 ^ 12 + b * 2 ^ 11 + c * 2 ^ 5 + d * 2)
+b_split a b c d e f g h =
+    record { top = omega arith; next = omega arith; high = omega arith; low = omega arith }
 
 pub b_parts : (w opcode funct3 : ℕ) → w < 2 ^ 32 → field 6 0 w ≡ opcode → field 14 12 w ≡ funct3
     → b_type opcode funct3 (rs1 w) (rs2 w) (bits_b w) ≡ w
 b_parts w opcode funct3 h o f =
-    let p = b_split (field 31 31 w) (field 7 7 w) (field 30 25 w) (field 11 8 w) (omega arith) (omega arith) (omega arith) (omega arith) in
+    let p = b_split (field 31 31 w) (field 7 7 w) (field 30 25 w) (field 11 8 w) (omega arith)
+    (omega arith) (omega arith) (omega arith) in
     let a : field 31 31 w * 2 ^ 6 + field 30 25 w ≡ field 31 25 w = omega arith in
     let b : field 11 8 w * 2 + field 7 7 w ≡ field 11 7 w = omega arith in
     rw (p.top, p.next, p.high, p.low, a, b) (r_parts w opcode funct3 (field 31 25 w) h o f refl)
 
-pub u_parts : (w opcode : ℕ) → w < 2 ^ 32 → field 6 0 w ≡ opcode → u_type opcode (rd w) (imm_u w) ≡ w
+pub u_parts : (w opcode : ℕ) → w < 2 ^ 32 → field 6 0 w ≡ opcode
+    → u_type opcode (rd w) (imm_u w) ≡ w
 u_parts w opcode h o = omega arith
 
 record JParts (a b c d n : ℕ) : Type 0 where
@@ -116,15 +122,20 @@ record JParts (a b c d n : ℕ) : Type 0 where
   next : field 11 11 n ≡ c
   low : field 10 1 n ≡ d
 
-j_split : (a b c d : ℕ) → a < 2 → b < 256 → c < 2 → d < 1024 → JParts a b c d (a * 2 ^ 20 + b * 2 ^ 12 + c * 2 ^ 11 + d * 2)
-j_split a b c d e f g h = record { top = omega arith; high = omega arith; next = omega arith; low = omega arith }
+j_split : (a b c d : ℕ) → a < 2 → b < 256 → c < 2 → d < 1024
+    → JParts a b c d (a * 2 ^ 20 + b * 2 ^ 12 + c * 2 ^ 11 + d * 2)
+j_split a b c d e f g h =
+    record { top = omega arith; high = omega arith; next = omega arith; low = omega arith }
 
-pub j_parts : (w opcode : ℕ) → w < 2 ^ 32 → field 6 0 w ≡ opcode → j_type opcode (rd w) (bits_j w) ≡ w
+pub j_parts : (w opcode : ℕ) → w < 2 ^ 32 → field 6 0 w ≡ opcode
+    → j_type opcode (rd w) (bits_j w) ≡ w
 j_parts w opcode h o =
-    let p = j_split (field 31 31 w) (field 19 12 w) (field 20 20 w) (field 30 21 w) (omega arith) (omega arith) (omega arith) (omega arith) in
+    let p = j_split (field 31 31 w) (field 19 12 w) (field 20 20 w) (field 30 21 w) (omega arith)
+    (omega arith) (omega arith) (omega arith) in
     rw (p.top, p.next, p.high, p.low) (omega arith)
 
-pub i_fields : (opcode funct3 d s1 n : ℕ) → opcode < 128 → funct3 < 8 → d < 32 → s1 < 32 → n < 2 ^ 12
+pub i_fields : (opcode funct3 d s1 n : ℕ) → opcode < 128 → funct3 < 8 → d < 32 → s1 < 32
+    → n < 2 ^ 12
     → Fields (i_type opcode funct3 d s1 n) opcode funct3 (n / 2 ^ 5) d s1 (n % 2 ^ 5)
 i_fields opcode funct3 d s1 n a b c e f = record {
   below = omega arith;

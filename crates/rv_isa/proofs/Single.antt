@@ -18,26 +18,33 @@ all_apart (r ∷ rs) = apart_from r rs && all_apart rs
 
 same_bits : (w m n a b : ℕ) → bit_and w m ≡ a → bit_and w n ≡ b → bit_and a n ≡ bit_and b m
 same_bits w m n a b e f =
-    sym (ap (λ v. bit_and v n) e) ∙ and_assoc n w m ∙ ap (λ v. bit_and w v) (and_comm m n) ∙ sym (and_assoc m w n) ∙ ap (λ v. bit_and v m) f
+    sym (ap (λ v. bit_and v n) e) ∙ and_assoc n w m ∙ ap (λ v. bit_and w v) (and_comm m n)
+    ∙ sym (and_assoc m w n) ∙ ap (λ v. bit_and v m) f
 
 module _ {A : Type 0} (w : ℕ) where
   not_both : (r s : Row A) → apart r s ≡ true → fits w r ≡ true → fits w s ≡ false
   not_both r s p h = false_from_ne_true (fits w s) (λ k.
-      both_ways (bit_and r.value s.mask == bit_and s.value r.mask) (not-true (bit_and r.value s.mask == bit_and s.value r.mask) p)
+      both_ways (bit_and r.value s.mask == bit_and s.value r.mask)
+      (not-true (bit_and r.value s.mask == bit_and s.value r.mask) p)
       (eq-eqb (bit_and r.value s.mask) (bit_and s.value r.mask)
-      (same_bits w r.mask s.mask r.value s.value (eqb-true (bit_and w r.mask) r.value h) (eqb-true (bit_and w s.mask) s.value k))))
+      (same_bits w r.mask s.mask r.value s.value (eqb-true (bit_and w r.mask) r.value h)
+      (eqb-true (bit_and w s.mask) s.value k))))
 
-  skipped : (s : Row A) (ss : List (Row A)) (b : Bool) → b ≡ false → filter (λ row. fits w row) ss ≡ [] → (if b then s ∷ filter (λ row. fits w row) ss else filter (λ row. fits w row) ss) ≡ []
+  skipped : (s : Row A) (ss : List (Row A)) (b : Bool) → b ≡ false
+      → filter (λ row. fits w row) ss ≡ []
+      → (if b then s ∷ filter (λ row. fits w row) ss else filter (λ row. fits w row) ss) ≡ []
   skipped s ss true e h = absurd (both_ways true e refl)
   skipped s ss false e h = h
 
-  none_fits : (r : Row A) (ss : List (Row A)) → apart_from r ss ≡ true → fits w r ≡ true → filter (λ row. fits w row) ss ≡ []
+  none_fits : (r : Row A) (ss : List (Row A)) → apart_from r ss ≡ true → fits w r ≡ true
+      → filter (λ row. fits w row) ss ≡ []
   none_fits r [] p h = refl
   none_fits r (s ∷ ss) p h =
       let q = and_parts (apart r s) (apart_from r ss) p in
       skipped s ss (fits w s) (not_both r s q.0 h) (none_fits r ss q.1 h)
 
-  one_more : (r : Row A) (rs : List (Row A)) (b : Bool) → (b ≡ true → filter (λ row. fits w row) rs ≡ []) → length (filter (λ row. fits w row) rs) ≤ 1
+  one_more : (r : Row A) (rs : List (Row A)) (b : Bool)
+      → (b ≡ true → filter (λ row. fits w row) rs ≡ []) → length (filter (λ row. fits w row) rs) ≤ 1
       → length (if b then r ∷ filter (λ row. fits w row) rs else filter (λ row. fits w row) rs) ≤ 1
   one_more r rs true f h = rw (f refl) (lit≤ tt)
   one_more r rs false f h = h

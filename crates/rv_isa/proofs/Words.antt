@@ -1,4 +1,5 @@
--- A word for each row of the table, as GNU's assembler gives it: the definitions say what it stands for, and give the word back.
+-- A word for each row of the table, as GNU's assembler gives it: the definitions say what it stands
+-- for, and give the word back.
 use Rattle.std.specs.Prelude.{◌≡◌, refl, ℕ, pos, negsuc, Some, None, Bool, true, false, List, [], ◌∷◌, map, if◌then◌else◌}
 use Rattle.rv_isa.specs.Meaning.{Row, fits, meaning, rows, base_rows, found}
 use Rattle.rv_isa.specs.Encoding.{encoding}
@@ -90,7 +91,8 @@ unfoldable fit_in_order : {A : Type 0} → List (Row A) → List (ℕ × Instr) 
 fit_in_order [] [] = true
 fit_in_order [] (_ ∷ _) = false
 fit_in_order (_ ∷ _) [] = false
-fit_in_order (row ∷ others) (line ∷ lines) = if fits line.0 row then fit_in_order others lines else false
+fit_in_order (row ∷ others) (line ∷ lines) =
+    if fits line.0 row then fit_in_order others lines else false
 
 no_row_is_left_out : fit_in_order rows words ≡ true
 unfolding fit_in_order words rows base_rows

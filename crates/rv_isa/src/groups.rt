@@ -1,4 +1,5 @@
-// The operation that a word stands for within its opcode. Each looks at the opcode too, so another opcode's word has none.
+// The operation that a word stands for within its opcode. Each looks at the opcode too, so another
+// opcode's word has none.
 ghost use Rattle.std.specs.Prelude.{◌≡◌, ◌==◌, ◌<◌, Some, bit_and};
 ghost use Rattle.rv_isa.specs.Groups.{by_fields, arithmetic_by, register_by};
 ghost use Rattle.rv_isa.specs.Meaning.{branch_rows, load_rows, store_rows, branch_in, load_in, store_in, arithmetic_in, register_in, amo_in, fence_in, system_in};
@@ -234,7 +235,8 @@ pub fn reg_op(word: u32) -> Option<RegOp>
     register_by(funct7(word), funct3(word))
 }
 
-/// The atomic operation, opcode 0x2F; None for any other word, and for an lr.w that names a second register.
+/// The atomic operation, opcode 0x2F; None for any other word, and for an lr.w that names a second
+/// register.
 #[inline]
 #[tactic(auto, unfolding(crate::specs::Meaning::amo_in, crate::specs::Meaning::found))]
 pub fn amo_op(word: u32) -> Option<AmoOp>

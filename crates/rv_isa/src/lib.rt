@@ -1,16 +1,15 @@
-//! The instructions of RV32I with the extensions M, A and Zifencei: what a word stands for, and the word of an
-//! instruction. Source: the RISC-V unprivileged manual, its instruction listings.
+//! The instructions of RV32I with the extensions M, A and Zifencei: what a word stands for, and the
+//! word of an instruction. Source: the RISC-V unprivileged manual, its instruction listings.
 //!
-//! `decode` is the table of the manual, row by row (`specs/Meaning.antt`), and `encode` is its way back. An interpreter
-//! that wants no enum in memory takes the fields and the operation of one opcode by themselves, as `rd` and `branch_op`.
+//! `decode` is the table of the manual, row by row (`specs/Meaning.antt`), and `encode` is its way
+//! back. An interpreter that wants no enum in memory takes the fields and the operation of one
+//! opcode by themselves, as `rd` and `branch_op`.
 #![tactic(auto)]
 
 mod decoding;
 mod encoding;
 mod fields;
 mod groups;
-#[cfg(test)]
-mod tests;
 mod valid;
 
 pub use decoding::decode;
@@ -195,7 +194,8 @@ pub enum Instr {
         aq: bool,
         rl: bool,
     },
-    /// fence.i where `fetch`, else fence. The other fields are kept as they stand: `imm` is bits 31:20.
+    /// fence.i where `fetch`, else fence. The other fields are kept as they stand: `imm` is bits
+    /// 31:20.
     Fence {
         fetch: bool,
         rd: u8,

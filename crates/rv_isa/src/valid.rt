@@ -38,9 +38,10 @@ fn is_second(op: AmoOp, rs2: u8) -> bool
 }
 
 impl Instr {
-    /// Whether each field is in its range: registers and amounts below 32, immediates and offsets in their format's range
-    /// (and even where the format has no bit 0), the low 12 bits of `Upper` 0, `Fence`'s bits below 4096, and no second
-    /// register in lr.w. Exactly the valid instructions have a word.
+    /// Whether each field is in its range: registers and amounts below 32, immediates and offsets
+    /// in their format's range (and even where the format has no bit 0), the low 12 bits of `Upper`
+    /// 0, `Fence`'s bits below 4096, and no second register in lr.w. Exactly the valid instructions
+    /// have a word.
     pub fn is_valid(&self) -> bool
         ensures { IsTrue result ↔ IsValid self.now }
     {

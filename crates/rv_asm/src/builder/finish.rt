@@ -94,7 +94,9 @@ impl Builder {
     // The header of the code, whose words begin at this place in the file.
     fn put_code_header(&self, file: &mut Vec<u8>, offset: u32) -> Result<(), AllocError>
         requires { length self.now.items ≤ 0x3BFF_C000 }
-        ensures { OnOk result (file.new.items ≡ file.old.items ++ code_header self.now offset (length self.now.items)) }
+        ensures { OnOk result
+            (file.new.items ≡ file.old.items
+            ++ code_header self.now offset (length self.now.items)) }
     {
         let size = 4 * self.items.len() as u32;
         put_program_header(
@@ -116,7 +118,8 @@ impl Builder {
     // The header of the data, whose bytes begin at this place in the file.
     fn put_data_header(&self, file: &mut Vec<u8>, offset: u32) -> Result<(), AllocError>
         requires { data_size self.now.data_part < 2 ^ 32 }
-        ensures { OnOk result (file.new.items ≡ file.old.items ++ data_header self.now.data_part offset) }
+        ensures { OnOk result
+            (file.new.items ≡ file.old.items ++ data_header self.now.data_part offset) }
     {
         let memory_size = self.data_size() as u32;
         put_program_header(
@@ -134,7 +137,9 @@ impl Builder {
     // The headers where there is no data part.
     fn put_one(&self, file: &mut Vec<u8>) -> Result<(), AllocError>
         requires { length self.now.items ≤ 0x3BFF_C000 }
-        ensures { OnOk result (file.new.items ≡ file.old.items ++ headers_by false self.now (length self.now.items)) }
+        ensures { OnOk result
+            (file.new.items ≡ file.old.items
+            ++ headers_by false self.now (length self.now.items)) }
     {
         put_file_header(file, self.base, 1)?;
         self.put_code_header(file, FILE_HEADER + PROGRAM_HEADER)?;
@@ -145,7 +150,9 @@ impl Builder {
     fn put_two(&self, file: &mut Vec<u8>) -> Result<(), AllocError>
         requires few { length self.now.items ≤ 0x3BFF_C000 }
         requires small { data_size self.now.data_part < 2 ^ 32 }
-        ensures { OnOk result (file.new.items ≡ file.old.items ++ headers_by true self.now (length self.now.items)) }
+        ensures { OnOk result
+            (file.new.items ≡ file.old.items
+            ++ headers_by true self.now (length self.now.items)) }
     {
         let code = FILE_HEADER + 2 * PROGRAM_HEADER;
         put_file_header(file, self.base, 2)?;
@@ -158,7 +165,9 @@ impl Builder {
     fn put_headers(&self, file: &mut Vec<u8>) -> Result<(), AllocError>
         requires few { length self.now.items ≤ 0x3BFF_C000 }
         requires small { data_size self.now.data_part < 2 ^ 32 }
-        ensures { OnOk result (file.new.items ≡ file.old.items ++ headers_by (has_data self.now) self.now (length self.now.items)) }
+        ensures { OnOk result
+            (file.new.items ≡ file.old.items
+            ++ headers_by (has_data self.now) self.now (length self.now.items)) }
     {
         if self.has_data() {
             self.put_two(file)
@@ -182,14 +191,19 @@ impl Builder {
         Ok(file)
     }
 
-    /// The file. An `Err` other than `Memory` is the first of these that holds: `Range` where there is no code, a part is
-    /// not within 0x1000 to 0xEFFEFFFF, or the parts meet; then word by word `Unset` with the number of the label that the
-    /// word names, where that is not set, and `Reach` with the word's place, where its distance does not fit its format.
-    /// Read as an image, the file is entered at the base and has the words, and the data where there is some.
+    /// The file. An `Err` other than `Memory` is the first of these that holds: `Range` where there
+    /// is no code, a part is not within 0x1000 to 0xEFFEFFFF, or the parts meet; then word by word
+    /// `Unset` with the number of the label that the word names, where that is not set, and `Reach`
+    /// with the word's place, where its distance does not fit its format. Read as an image, the
+    /// file is entered at the base and has the words, and the data where there is some.
     pub fn finish(self) -> Result<Vec<u8>, AsmError>
         ensures file { IfOk result (λ file. finished self ≡ Ok file.items) }
-        ensures refused { IfErr result (λ error. error ≢ AsmError.Memory → finished self ≡ Err error) }
-        ensures read { IfOk result (λ file. IsOkAnd (assembled self) (λ words. image file.items ≡ Ok (image_of self words))) }
+        ensures refused { IfErr result (λ error. error ≢ AsmError.Memory
+            → finished self ≡ Err error) }
+        ensures read { IfOk result
+            (λ file.
+            IsOkAnd (assembled self)
+            (λ words. image file.items ≡ Ok (image_of self words))) }
     {
         if !self.is_in_range() {
             return Err(AsmError::Range);

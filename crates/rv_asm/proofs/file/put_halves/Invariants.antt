@@ -4,4 +4,5 @@ use Rattle.rv_asm.proofs.file.put_halves.Given as goal
 
 -- the values so far are written
 abbrev pub invariant-loop-value : goal.invariant-loop-value
-invariant-loop-value l = l.file.items ≡ l.fn.file.items ++ flat_map half (take l.value-index l.values)
+invariant-loop-value l = l.file.items ≡ l.fn.file.items
+    ++ flat_map half (take l.value-index l.values)

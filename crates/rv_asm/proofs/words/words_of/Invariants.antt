@@ -5,4 +5,5 @@ use Rattle.rv_asm.proofs.words.words_of.Given as goal
 
 -- what was made, with what is left, is the answer
 abbrev pub invariant-loop-place : goal.invariant-loop-place
-invariant-loop-place l = after l.words.items (words_from l.labels l.place (drop l.place l.items)) ≡ words_from l.labels 0 l.items
+invariant-loop-place l = after l.words.items (words_from l.labels l.place (drop l.place l.items))
+    ≡ words_from l.labels 0 l.items

@@ -5,4 +5,8 @@ use Rattle.rv_asm.proofs.Added.{two_added}
 use Rattle.rv_asm.proofs.builder.Builder.put_one.Goals as goal
 
 pub returns : goal.returns
-returns c = two_added c.args.file.now.items c.put_file_header.new.file.items c.put_code_header.new.file.items _ (file_header c.args.self.now.base 1) (code_header c.args.self.now 84 (length c.args.self.now.items)) c.in_ok-put_file_header.ensures (ap (λ (s : Source). file_header s.base 1) c.self.view_is) c.in_ok-put_code_header.ensures
+returns c = two_added c.args.file.now.items c.put_file_header.new.file.items
+    c.put_code_header.new.file.items _ (file_header c.args.self.now.base 1)
+    (code_header c.args.self.now 84 (length c.args.self.now.items))
+    c.in_ok-put_file_header.ensures
+    (ap (λ (s : Source). file_header s.base 1) c.self.view_is) c.in_ok-put_code_header.ensures

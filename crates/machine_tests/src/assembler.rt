@@ -1,12 +1,13 @@
 ghost use Rattle.std.specs.Prelude.{◌≡◌, ◌%◌, OnOk, OnErr};
 
-use crate::{AsmError, Builder};
 use elf_image::read_image;
+use rv_asm::{AsmError, Builder};
 use rv_isa::{BranchOp, ImmOp, Instr};
 use std::alloc::{AllocError, Global};
 use std::test::Fail;
 
-/// Three instructions that end a process, at 0x00010000 with all rights: one program header, and the code behind it.
+/// Three instructions that end a process, at 0x00010000 with all rights: one program header, and
+/// the code behind it.
 const SMALLEST: [u8; 96] = [
     0x7F, 0x45, 0x4C, 0x46, 1, 1, 1, 0, 0, 0, 0, 0, 0, 0, 0, 0, // e_ident
     2, 0, 243, 0, 1, 0, 0, 0, 0x00, 0x00, 1, 0, 52, 0, 0, 0, // e_type to e_phoff

@@ -1,8 +1,9 @@
-use crate::{Image, ImageError, read_image};
+use elf_image::{Image, ImageError, read_image};
 use std::alloc::Global;
 use std::test::Fail;
 
-/// Three instructions that end the process, at 0x00010000 with all rights: one program header, and the code behind it.
+/// Three instructions that end the process, at 0x00010000 with all rights: one program header, and
+/// the code behind it.
 const SMALLEST: [u8; 96] = [
     0x7F, 0x45, 0x4C, 0x46, 1, 1, 1, 0, 0, 0, 0, 0, 0, 0, 0, 0, // e_ident
     2, 0, 243, 0, 1, 0, 0, 0, 0x00, 0x00, 1, 0, 52, 0, 0, 0, // e_type to e_phoff

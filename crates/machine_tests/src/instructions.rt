@@ -1,5 +1,6 @@
-// One word for each row of the table, and the edges of each immediate. GNU as and objdump agree on each.
-use crate::{AmoOp, BranchOp, ImmOp, Instr, LoadOp, RegOp, ShiftOp, StoreOp, decode, encode};
+// One word for each row of the table, and the edges of each immediate. GNU as and objdump agree on
+// each.
+use rv_isa::{AmoOp, BranchOp, ImmOp, Instr, LoadOp, RegOp, ShiftOp, StoreOp, decode, encode};
 use std::process::Abort;
 
 fn both_ways(rt: &impl Abort, word: u32, instr: Instr) {
@@ -248,7 +249,8 @@ fn fences_and_calls(rt: HostRuntime) {
 
 #[test]
 fn words_without_a_meaning(rt: HostRuntime) {
-    // lr.w with a second register; jalr with funct3 1; ecall with rd 1; slli with funct7 0x20; a branch with funct3 2
+    // lr.w with a second register; jalr with funct3 1; ecall with rd 1; slli with funct7 0x20; a
+    // branch with funct3 2
     for word in [
         0xffff_ffff,
         0x0000_0000,

@@ -1,5 +1,5 @@
 use Rattle.std.proofs.Common.{◌≡◌}
-use Rattle.rv_asm.proofs.tests.fill.Given as goal
+use Rattle.machine_tests.proofs.assembler.fill.Given as goal
 
 -- the labels stand
 abbrev pub invariant-loop : goal.invariant-loop

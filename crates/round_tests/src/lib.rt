@@ -1,0 +1,12 @@
+//! Tests of rounds: a thread's quantum, the opening of a group, and the phases. Nothing stands on
+//! it.
+#![tactic(auto)]
+
+#[cfg(test)]
+mod guests;
+#[cfg(test)]
+mod opening;
+#[cfg(test)]
+mod quanta;
+#[cfg(test)]
+mod rounds;

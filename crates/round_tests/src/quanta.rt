@@ -1,0 +1,307 @@
+// Small programs, assembled by hand, over four pages; what they leave is worked out from the
+// manual.
+ghost use Rattle.std.specs.Prelude.{◌≡◌, ◌∷◌, [], false, true, length, IfOk, IfSome};
+ghost use Rattle.dos_world.specs.declared.Owner.TheVariants.{Of, Shared};
+ghost use Rattle.page_store.specs.Store.{AreHome};
+ghost use Rattle.quantum_run.specs.Running.{AreMapped};
+
+use dos_world::{Access, Entry, Reason, Regs, Size};
+use page_store::Frames;
+use quantum_run::run_until_stop;
+use space_map::Space;
+use std::alloc::{AllocError, Global};
+use std::test::Fail;
+
+/// Frames 0 and 1 of thread 1, frame 2 of thread 2, and frame 3, which is shared.
+fn four_frames(alloc: Global) -> Result<Frames, AllocError>
+    ensures home { IfOk result (λ f. AreHome f) }
+    ensures count { IfOk result (λ f. length f.pages ≡ 4) }
+    ensures owners { IfOk result (λ f. f.owners ≡ Of 1 ∷ Of 1 ∷ Of 2 ∷ Shared ∷ []) }
+{
+    let mut frames = Frames::reserve(alloc, 4)?;
+    let _ = frames.fresh(1);
+    let _ = frames.fresh(1);
+    let _ = frames.fresh(2);
+    let _ = frames.fresh(1);
+    frames.grant(3, 1, Access::Load);
+    Ok(frames)
+}
+
+fn entry(frame: u32, exec: bool) -> Entry
+    ensures { result ≡ record { frame = frame; write = true; exec = exec; shared = false } }
+{
+    Entry {
+        frame,
+        write: true,
+        exec,
+        shared: false,
+    }
+}
+
+/// The pages from 0x10 on, by frame; the last can't be executed.
+fn four_pages(alloc: Global) -> Result<Space, AllocError>
+    ensures { IfOk result (λ s. s.entries ≡
+        (0x10, record { frame = 0; write = true; exec = true; shared = false }) ∷
+        (0x11, record { frame = 1; write = true; exec = true; shared = false }) ∷
+        (0x12, record { frame = 2; write = true; exec = true; shared = false }) ∷
+        (0x13, record { frame = 3; write = true; exec = false; shared = false }) ∷ []) }
+{
+    let mut space = Space::reserve(alloc, 4)?;
+    space.put(0x10, entry(0, true));
+    space.put(0x11, entry(1, true));
+    space.put(0x12, entry(2, true));
+    space.put(0x13, entry(3, false));
+    Ok(space)
+}
+
+/// Words at addresses of the pages 0x10 and 0x11.
+fn write_words(frames: &mut Frames, words: &[(u32, u32)])
+    requires home { AreHome frames.old }
+    requires count { length frames.old.pages ≡ 4 }
+    ensures home { AreHome frames.new }
+    ensures count { length frames.new.pages ≡ 4 }
+    ensures owners { frames.new.owners ≡ frames.old.owners }
+{
+    for (address, word) in words {
+        let frame = address / 4096 % 2;
+        let offset = address % 4096 / 4 * 4;
+        frames.lend_mut(frame).write(offset, Size::Word, *word);
+    }
+}
+
+/// The frames with a program in them, and the space.
+fn loaded(alloc: Global, words: &[(u32, u32)]) -> Result<(Frames, Space), AllocError>
+    ensures home { IfOk result (λ made. AreHome made.0) }
+    ensures mapped { IfOk result (λ made. AreMapped made.0 made.1.entries) }
+{
+    let mut frames = four_frames(alloc)?;
+    write_words(&mut frames, words);
+    Ok((frames, four_pages(alloc)?))
+}
+
+/// The word at an address of one of the pages.
+fn word_at(frames: &Frames, address: u32) -> Option<u32> {
+    let frame = address / 4096 % 16;
+    if frame < frames.count() && frames.is_home(frame) {
+        return Some(frames.lend(frame).read(address % 4096 / 4 * 4, Size::Word));
+    }
+    None
+}
+
+/// The registers of a thread at pc: x5, x6 and x8 are the pages 0x11, 0x12 and 0x13, x10 is 0x10,
+/// and x11 isn't mapped.
+fn registers(pc: u32, x7: u32) -> Regs {
+    let mut regs = Regs::new(pc);
+    for (index, value) in [
+        (5, 0x11000),
+        (6, 0x12000),
+        (7, x7),
+        (8, 0x13000),
+        (9, 9),
+        (10, 0x10000),
+        (11, 0x14000),
+    ] {
+        regs.set(index, value);
+    }
+    regs
+}
+
+/// A run of thread 1 from pc with a budget of 10: why it stops, what is left of the budget, pc, and
+/// x9.
+struct Run {
+    name: &'static str,
+    words: &'static [(u32, u32)],
+    x7: u32,
+    pc: u32,
+    stop: Reason,
+    left: u32,
+    end: u32,
+    x9: u32,
+}
+
+const RUNS: [Run; 10] = [
+    Run {
+        name: "what is stored is loaded",
+        words: &[
+            (0x10000, 0x0072_a423), // sw x7, 8(x5)
+            (0x10004, 0x0082_a483), // lw x9, 8(x5)
+            (0x10008, 0x0000_0073), // ecall
+        ],
+        x7: 42,
+        pc: 0x10000,
+        stop: Reason::Service,
+        left: 8,
+        end: 0x10008,
+        x9: 42,
+    },
+    Run {
+        name: "a halfword is stored beside another",
+        words: &[
+            (0x10000, 0x0072_9323), // sh x7, 6(x5)
+            (0x10004, 0x0042_a483), // lw x9, 4(x5)
+            (0x10008, 0x0000_0073), // ecall
+            (0x11004, 0x1122_3344),
+        ],
+        x7: 0xaaaa_5566,
+        pc: 0x10000,
+        stop: Reason::Service,
+        left: 8,
+        end: 0x10008,
+        x9: 0x5566_3344,
+    },
+    Run {
+        name: "an instruction that was stored is run",
+        words: &[
+            (0x10000, 0x0075_2423), // sw x7, 8(x10)
+            (0x10004, 0x0000_0013), // nop
+            (0x10008, 0x0000_0073), // ecall, over which addi x9, x0, 7 is stored
+            (0x1000c, 0x0010_0073), // ebreak
+        ],
+        x7: 0x0070_0493,
+        pc: 0x10000,
+        stop: Reason::Fault(5),
+        left: 7,
+        end: 0x1000c,
+        x9: 7,
+    },
+    Run {
+        name: "an instruction that lies on two pages",
+        words: &[
+            (0x10ffc, 0x0493_0000), // addi x9, x0, 42, its lower half
+            (0x11000, 0x0000_02a0), // and its upper half; then a halfword that is none
+        ],
+        x7: 0,
+        pc: 0x10ffe,
+        stop: Reason::Fault(4),
+        left: 9,
+        end: 0x11002,
+        x9: 42,
+    },
+    Run {
+        name: "an instruction whose upper half is on another's page",
+        words: &[(0x11ffc, 0x0493_0000)],
+        x7: 0,
+        pc: 0x11ffe,
+        stop: Reason::Page {
+            address: 0x12000,
+            access: Access::Fetch,
+        },
+        left: 10,
+        end: 0x11ffe,
+        x9: 9,
+    },
+    Run {
+        name: "a load from another's page",
+        words: &[
+            (0x10000, 0x0002_a483), // lw x9, 0(x5)
+            (0x10004, 0x0003_2483), // lw x9, 0(x6)
+        ],
+        x7: 0,
+        pc: 0x10000,
+        stop: Reason::Page {
+            address: 0x12000,
+            access: Access::Load,
+        },
+        left: 9,
+        end: 0x10004,
+        x9: 0,
+    },
+    Run {
+        name: "a shared page is loaded from and not stored to",
+        words: &[
+            (0x10000, 0x0004_2483), // lw x9, 0(x8)
+            (0x10004, 0x0074_2023), // sw x7, 0(x8)
+        ],
+        x7: 1,
+        pc: 0x10000,
+        stop: Reason::Page {
+            address: 0x13000,
+            access: Access::Store,
+        },
+        left: 9,
+        end: 0x10004,
+        x9: 0,
+    },
+    Run {
+        name: "its own word is claimed, and a shared one isn't",
+        words: &[
+            (0x10000, 0x0072_a4af), // amoadd.w x9, x7, (x5)
+            (0x10004, 0x0072_a4af), // amoadd.w x9, x7, (x5)
+            (0x10008, 0x0074_24af), // amoadd.w x9, x7, (x8)
+        ],
+        x7: 3,
+        pc: 0x10000,
+        stop: Reason::Page {
+            address: 0x13000,
+            access: Access::Claim,
+        },
+        left: 8,
+        end: 0x10008,
+        x9: 3,
+    },
+    Run {
+        name: "a page that isn't mapped",
+        words: &[(0x10000, 0x0005_a483)], // lw x9, 0(x11)
+        x7: 0,
+        pc: 0x10000,
+        stop: Reason::Fault(11),
+        left: 10,
+        end: 0x10000,
+        x9: 9,
+    },
+    Run {
+        name: "a page that can't be executed",
+        words: &[],
+        x7: 0,
+        pc: 0x13000,
+        stop: Reason::Fault(11),
+        left: 10,
+        end: 0x13000,
+        x9: 9,
+    },
+];
+
+#[test]
+fn runs_stop(rt: HostRuntime) -> Result<(), Fail> {
+    for run in &RUNS {
+        let (mut frames, space) = loaded(rt.alloc(), run.words)?;
+        let mut regs = registers(run.pc, run.x7);
+        let mut budget = 10;
+        let stop = run_until_stop(&mut frames, &space, 1, &mut regs, &mut budget);
+        assert_eq!(rt; stop, Some(run.stop), "{}", run.name);
+        assert_eq!(rt;
+            (budget, regs.pc(), regs.get(9)),
+            (run.left, run.end, run.x9),
+            "{}",
+            run.name
+        );
+    }
+    Ok(())
+}
+
+#[test]
+fn a_budget_is_used_up(rt: HostRuntime) -> Result<(), Fail> {
+    let words = [
+        (0x10000, 0x0072_a023), // sw x7, 0(x5)
+        (0x10004, 0x0073_8393), // addi x7, x7, 7
+        (0x10008, 0xff9f_f06f), // jal x0, -8
+    ];
+    for (given, pc, x7, stored) in [
+        (0, 0x10000, 1, 0),
+        (1, 0x10004, 1, 1),
+        (3, 0x10000, 8, 1),
+        (300, 0x10000, 701, 694),
+    ] {
+        let (mut frames, space) = loaded(rt.alloc(), &words)?;
+        let mut regs = registers(0x10000, 1);
+        let mut budget = given;
+        let stop = run_until_stop(&mut frames, &space, 1, &mut regs, &mut budget);
+        assert_eq!(rt; (stop, budget), (None, 0), "{given} instructions");
+        assert_eq!(rt;
+            (regs.pc(), regs.get(7), word_at(&frames, 0x11000)),
+            (pc, x7, Some(stored)),
+            "{given} instructions"
+        );
+    }
+    Ok(())
+}

@@ -1,0 +1,167 @@
+// What services do to the memory of process 1, whose first thread calls. The helpers ask first.
+ghost use Rattle.std.specs.Prelude.{◌≡◌, IfOk, MatchBool, true, false};
+ghost use Rattle.kernel_mem.specs.Seen.{IsCaller, IsHome};
+
+use dos_world::{Entry, Owner, Regs, Size};
+use kernel_mem::{map_pages, share};
+use page_store::Frames;
+use proc_table::{SignalState, Table};
+use std::alloc::{AllocError, Global};
+use std::test::Fail;
+
+// a table with process 1 and its thread 1, and room for 4 pages
+fn one_process(alloc: Global) -> Result<Table, AllocError>
+    ensures { IfOk result (λ t. t.room ≡ 4) }
+{
+    let mut table = Table::reserve(alloc, 4)?;
+    match table.add_process(0, Regs::new(0x1_0000), SignalState::new(0)) {
+        Ok(_) => {}
+        Err(_) => unreachable!(),
+    }
+    Ok(table)
+}
+
+fn four_frames(alloc: Global) -> Result<Frames, AllocError>
+    ensures { IfOk result (λ f. IsHome f) }
+{
+    Frames::reserve(alloc, 4)
+}
+
+// Whether the thread lives, and so does its process.
+fn is_caller(table: &Table, tid: u32) -> bool
+    ensures { MatchBool result (IsCaller table.now tid) (Unit {0}) }
+{
+    if !table.is_thread(tid) {
+        return false;
+    }
+    table.is_live(table.process_of(tid))
+}
+
+// Maps writable pages for thread 1. None where it doesn't live, or its space could become full.
+fn map(frames: &mut Frames, table: &mut Table, address: u32, pages: u32) -> Option<Result<(), u8>>
+    requires home { IsHome frames.old }
+    requires room { table.old.room ≡ 4 }
+    ensures home { IsHome frames.new }
+    ensures room { table.new.room ≡ 4 }
+{
+    if !is_caller(table, 1) {
+        return None;
+    }
+    let mapped = table.space(table.process_of(1)).len();
+    if frames.free_count() > 4 - mapped {
+        return None;
+    }
+    Some(map_pages(frames, table, 1, address, pages, 6))
+}
+
+// None where thread 1 doesn't live.
+fn share_pages(table: &mut Table, address: u32, pages: u32) -> Option<Result<(), u8>>
+    ensures { table.new.room ≡ table.old.room }
+{
+    if !is_caller(table, 1) {
+        return None;
+    }
+    Some(share(table, 1, address, pages))
+}
+
+// A process's entry of a page.
+pub(crate) fn entry(table: &Table, pid: u32, page: u32) -> Option<Entry> {
+    if !table.is_live(pid) {
+        return None;
+    }
+    table.space(pid).look(page)
+}
+
+// A frame's owner and uses, and the word that its page begins with.
+pub(crate) fn frame(frames: &Frames, frame: u32) -> Option<(Owner, u32, u32)> {
+    if frame >= frames.count() {
+        return None;
+    }
+    if !frames.is_home(frame) {
+        return None;
+    }
+    Some((
+        frames.owner(frame),
+        frames.uses(frame),
+        frames.lend(frame).read(0, Size::Word),
+    ))
+}
+
+pub(crate) fn writable(frame: u32, shared: bool) -> Entry
+    ensures { result ≡ record { frame = frame; write = true; exec = false; shared = shared } }
+{
+    Entry {
+        frame,
+        write: true,
+        exec: false,
+        shared,
+    }
+}
+
+#[test]
+fn pages_are_mapped_in_fresh_frames(rt: HostRuntime) -> Result<(), Fail> {
+    let mut frames = four_frames(rt.alloc())?;
+    let mut table = one_process(rt.alloc())?;
+    assert_eq!(rt; map(&mut frames, &mut table, 0x1_0001, 1), Some(Err(22)));
+    assert_eq!(rt; map(&mut frames, &mut table, 0x1_0000, 2), Some(Ok(())));
+    for number in 0..2 {
+        assert_eq!(rt;
+            entry(&table, 1, 0x10 + number),
+            Some(writable(number, false))
+        );
+        assert_eq!(rt; frame(&frames, number), Some((Owner::Of(1), 1, 0)));
+    }
+    Ok(())
+}
+
+#[test]
+fn mapped_pages_and_too_many_are_refused(rt: HostRuntime) -> Result<(), Fail> {
+    let mut frames = four_frames(rt.alloc())?;
+    let mut table = one_process(rt.alloc())?;
+    assert_eq!(rt; map(&mut frames, &mut table, 0x1_0000, 2), Some(Ok(())));
+    assert_eq!(rt; map(&mut frames, &mut table, 0xf000, 2), Some(Err(22)));
+    assert_eq!(rt; map(&mut frames, &mut table, 0x2_0000, 3), Some(Err(12)));
+    assert_eq!(rt; entry(&table, 1, 0x20), None);
+    assert_eq!(rt; frames.free_count(), 2);
+    Ok(())
+}
+
+#[test]
+fn a_range_is_shared_where_all_of_it_is_mapped(rt: HostRuntime) -> Result<(), Fail> {
+    let mut frames = four_frames(rt.alloc())?;
+    let mut table = one_process(rt.alloc())?;
+    assert_eq!(rt; map(&mut frames, &mut table, 0x1_0000, 2), Some(Ok(())));
+    assert_eq!(rt; share_pages(&mut table, 0x1_1000, 2), Some(Err(22)));
+    assert_eq!(rt; entry(&table, 1, 0x11), Some(writable(1, false)));
+    assert_eq!(rt; share_pages(&mut table, 0x1_1000, 1), Some(Ok(())));
+    assert_eq!(rt; entry(&table, 1, 0x10), Some(writable(0, false)));
+    assert_eq!(rt; entry(&table, 1, 0x11), Some(writable(1, true)));
+    Ok(())
+}
+
+// Shares those of a run of pages that process 1 maps.
+fn share_run(table: &mut Table, page: u32, count: u32) {
+    if table.is_live(1) {
+        table.share_run(1, page, count);
+    }
+}
+
+// Unmaps those of a run of pages that process 1 maps.
+fn remove_run(table: &mut Table, page: u32, count: u32) {
+    if table.is_live(1) {
+        table.remove_run(1, page, count);
+    }
+}
+
+#[test]
+fn a_run_is_shared_and_unmapped_where_it_is_mapped(rt: HostRuntime) -> Result<(), Fail> {
+    let mut frames = four_frames(rt.alloc())?;
+    let mut table = one_process(rt.alloc())?;
+    assert_eq!(rt; map(&mut frames, &mut table, 0x1_0000, 3), Some(Ok(())));
+    share_run(&mut table, 0xf, 2);
+    remove_run(&mut table, 0x12, 2);
+    assert_eq!(rt; entry(&table, 1, 0x10), Some(writable(0, true)));
+    assert_eq!(rt; entry(&table, 1, 0x11), Some(writable(1, false)));
+    assert_eq!(rt; entry(&table, 1, 0x12), None);
+    Ok(())
+}
