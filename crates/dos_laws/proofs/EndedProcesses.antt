@@ -1,17 +1,16 @@
 -- The processes after the end of one: who lives still, and what they have.
-use Rattle.std.proofs.Common.{ℕ, zero, suc, ◌<◌, ◌≡◌, ◌≢◌, refl, sym, ap, ◌∙◌, subst, Bool, true, false, cond, not, List, [], ◌∷◌, length, map, Option, Some, None, option_map, option_and_then, arith}
-use Rattle.std.specs.Prelude.{All, IfSome, slice_get, ◌==◌, ◌&&◌}
+use Rattle.std.proofs.Common.{ℕ, zero, suc, ◌<◌, ◌≡◌, ◌≢◌, refl, sym, ap, ◌∙◌, subst, List, [], ◌∷◌, length, map, Option, Some, None, option_map, option_and_then}
+use Rattle.std.specs.Prelude.{All, slice_get}
 use Rattle.std.proofs.lemmas.List.{length-map}
-use Rattle.std.proofs.lemmas.List.Elements.{All-nil, All-cons, All-head, All-tail, All-map, All-weaker}
+use Rattle.std.proofs.lemmas.List.Elements.{All-nil, All-cons, All-head, All-tail}
 use Rattle.std.proofs.lemmas.Option.{slice_get-map}
 use Rattle.dos_world.specs.Numbered.{numbered, changed, changed_at}
-use Rattle.dos_world.specs.World.{Process, Holdings, holdings_of, all_holdings, was_collected}
+use Rattle.dos_world.specs.World.{Process, Holdings, holdings_of, all_holdings}
 use Rattle.dos_world.specs.Kernel.{orphaned, ended_by}
 use Rattle.dos_world.specs.Lawful.{HasStatus}
 use Rattle.dos_world.proofs.Numbers.{changed_other}
-use Rattle.dos_laws.specs.Plain.{IsOrphan}
 use Rattle.dos_laws.specs.Ends.{ended_processes}
-use Rattle.dos_laws.proofs.Numbers.{length-changed, numbered_all}
+use Rattle.dos_laws.proofs.Numbers.{length-changed}
 use Rattle.dos_laws.proofs.Parts.{IsPart, nothing, left_out, kept, whole_part}
 
 -- ---- what they have
@@ -99,46 +98,6 @@ module _ (ps : List Process) (p status : ℕ) where
           at [] i = refl
           at (x ∷ ps) zero = refl
           at (x ∷ ps) (suc i) = at ps i
-
-  -- ---- parents
-
-  still_orphan : (x : Process) → IsOrphan x → IsOrphan (orphaned p x)
-  still_orphan x h = either ((x.parent == p) && not (was_collected x))
-    where
-      either : (b : Bool) → cond b 0 x.parent ≡ 0
-      either true = refl
-      either false = h
-
-  changed_orphans : (i : ℕ) → (xs : List Process) → All IsOrphan xs
-      → All IsOrphan (changed_at (ended_by status) xs i)
-  changed_orphans i [] all = All-nil IsOrphan
-  changed_orphans zero (x ∷ xs) all =
-      All-cons IsOrphan (ended_by status x) xs (All-head IsOrphan x xs all)
-      (All-tail IsOrphan x xs all)
-  changed_orphans (suc i) (x ∷ xs) all =
-      All-cons IsOrphan x (changed_at (ended_by status) xs i) (All-head IsOrphan x xs all)
-      (changed_orphans i xs (All-tail IsOrphan x xs all))
-
-  -- Nobody gets a parent.
-  pub ended_orphans : All IsOrphan ps → All IsOrphan (ended_processes ps p status)
-  ended_orphans all =
-      All-map IsOrphan (orphaned p) (changed (ended_by status) ps p)
-      (All-weaker IsOrphan (λ x. IsOrphan (orphaned p x)) still_orphan
-      (changed (ended_by status) ps p) (of_changed p))
-    where
-      of_changed : (p : ℕ) → All IsOrphan (changed (ended_by status) ps p)
-      of_changed zero = all
-      of_changed (suc i) = changed_orphans i ps all
-
--- Who has no parent has one of a lower number.
-pub orphans_parents : (ps : List Process) (q : ℕ) → All IsOrphan ps
-    → IfSome (numbered ps q) (λ process. process.parent < q)
-orphans_parents ps zero all = tt
-orphans_parents ps (suc i) all = go (numbered ps (suc i)) (numbered_all IsOrphan ps (suc i) all)
-  where
-    go : (o : Option Process) → IfSome o IsOrphan → IfSome o (λ process. process.parent < suc i)
-    go None h = tt
-    go (Some x) h = omega arith
 
 -- ---- statuses
 

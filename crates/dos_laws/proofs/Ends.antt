@@ -5,8 +5,6 @@ use Rattle.std.proofs.lemmas.Bool.{cases_eq, cases_Bool, false≢true, eqb-true,
 use Rattle.dos_world.specs.Numbered.{map_from, places_from}
 use Rattle.dos_world.specs.World.{Thread, belongs_to}
 use Rattle.dos_world.specs.Kernel.{unless_of}
-use Rattle.dos_world.specs.Lawful.{turns_asleep}
-use Rattle.dos_laws.specs.Plain.{IsPlainThread}
 
 -- ---- lists
 
@@ -86,7 +84,3 @@ module _ (p : ℕ) where
           (f thread another h)
 
 -- ---- the world
-
--- a plain thread isn't asleep
-pub plain_thread_awake : (thread : Thread) → IsPlainThread thread → turns_asleep (Some thread) ≡ 0
-plain_thread_awake thread is = ap (λ s. turns_asleep (Some (record thread { state = s }))) is.state

@@ -15,7 +15,6 @@ use Rattle.dos_world.specs.declared.Access.{Access}
 use Rattle.dos_world.specs.declared.Access.TheVariants.{Fetch, Load, Store, Claim}
 use Rattle.dos_world.specs.declared.Owner.{Owner}
 use Rattle.dos_world.specs.declared.Owner.TheVariants.{Free, Shared, Of}
-use Rattle.dos_laws.specs.Plain.{IsPlain}
 use Rattle.dos_laws.proofs.Mapped.{IsTaken}
 
 -- ---- other owners and bytes
@@ -66,18 +65,6 @@ lawful-with_frames w owners bytes are l = record {
   };
   run = l.run;
 }
-
-pub plain-with_frames : (w : World) (owners : List Owner) (bytes : List ℕ) → IsPlain w
-    → IsPlain (record w { owners = owners; bytes = bytes })
-plain-with_frames w owners bytes p =
-    record {
-      built = p.built;
-      parents = p.parents;
-      threads = p.threads;
-      sleepers = p.sleepers;
-      pipes = p.pipes;
-      descriptors = p.descriptors;
-    }
 
 -- ---- a grant
 
@@ -153,9 +140,6 @@ module _ (w : World) (t frame : ℕ) (access : Access) where
           l.frames.owned f s
           (sym (get_or-set_other w.owners frame f (granted t access) Free other.1) ∙ e)
 
-  pub plain-grant : IsPlain w → IsPlain (grant w t frame access)
-  plain-grant p = plain-with_frames w owners_after w.bytes p
-
 -- the number of a live thread was given
 pub thread_given : (w : World) (t : ℕ) (thread : Thread) → thread_at w t ≡ Some thread
     → (1 ≤ t) × (t ≤ length w.threads)
@@ -198,6 +182,3 @@ module _ (w : World) (place : ℕ) (new : List ℕ) where
         free = l.frames.free;
         owned = l.frames.owned;
       }) l
-
-  pub plain-stored : IsPlain w → IsPlain (stored w place new)
-  plain-stored p = plain-with_frames w w.owners (written w.bytes place new) p

@@ -1,6 +1,5 @@
 pub mod Numbers
 pub mod Mapped
-pub mod Quiet
 pub mod Threads
 pub mod RegisterRanges
 pub mod Outside
@@ -13,7 +12,6 @@ pub mod Ends
 pub mod Words
 pub mod Numerals
 pub mod Effects
-mod PlainExamples
 pub mod Stands
 pub mod StandsSignals
 pub mod StandsTidy
@@ -39,7 +37,3 @@ pub mod StandsSteps
 pub mod StandsKeeps
 pub mod LawfulRounds
 mod NotKept
-pub mod PlainEnds
-pub mod PlainRows
-pub mod PlainServices
-pub mod PlainKeeps

@@ -1,4 +1,4 @@
--- A thread more keeps a world lawful and plain.
+-- A thread more keeps a world lawful.
 use Rattle.std.proofs.Common.{ℕ, zero, suc, ◌+◌, ◌<◌, ◌≤◌, ◌≡◌, ◌≢◌, refl, Bool, true, false, cond, List, [], ◌∷◌, ◌++◌, length, Option, Some, None, option_and_then, arith, length-append}
 use Rattle.std.specs.Prelude.{IfSome, IsTrue, slice_get, is_some, nat_le}
 use Rattle.std.proofs.lemmas.Bool.{or_parts, leb-false}
@@ -7,8 +7,7 @@ use Rattle.dos_world.specs.Numbered.{numbered, places_from, numbers_of}
 use Rattle.dos_world.specs.World.{World, Process, Thread, Registers, holdings_of, flat, belongs_to}
 use Rattle.dos_world.specs.ThreadCalls.{with_new_thread, are_threads_full, ready_thread}
 use Rattle.dos_world.specs.Lawful.{Lawful, IsThread, IsSaved, AreRegisters, turns_asleep}
-use Rattle.dos_laws.specs.Plain.{IsPlain, IsPlainThread}
-use Rattle.dos_laws.proofs.Threads.{lawful-with_threads, plain-with_threads}
+use Rattle.dos_laws.proofs.Threads.{lawful-with_threads}
 
 -- ---- an element more
 
@@ -96,15 +95,6 @@ module _ (w : World) (thread : Thread) where
         asleep = seen_more turns_asleep w.threads (Some thread) awake;
         limits = (omega (arith, one_more is_some 1 w.threads (Some thread), live), omega arith);
       }) l
-
-  pub plain-with_new_thread : IsPlainThread thread → IsPlain w → IsPlain (with_new_thread w thread)
-  plain-with_new_thread is p =
-      plain-with_threads w threads_after
-      (each_more IsPlainThread w.threads (Some thread) p.threads is) p
-
--- a thread that begins with no mask is plain
-pub ready_is_plain : (p : ℕ) (r : Registers) → IsPlainThread (ready_thread p r 0 [])
-ready_is_plain p r = record { state = refl; pending = refl; mask = refl; saved = refl }
 
 -- it is in range, where its process lives and its registers are
 pub ready_in_range : (ps : List Process) (p : ℕ) (r : Registers)

@@ -4,7 +4,6 @@ use Rattle.std.proofs.Common.{ℕ, ◌+◌, ◌<◌, ◌≤◌, List, arith}
 use Rattle.dos_world.specs.World.{World}
 use Rattle.dos_world.specs.Lawful.{Lawful, IsWithinRun}
 use Rattle.round_core.specs.Round.{counted}
-use Rattle.dos_laws.specs.Plain.{IsPlain}
 
 -- ---- all of it at once
 
@@ -40,27 +39,12 @@ module _ (w : World) (quantum rounds : ℕ) (output error : List ℕ) where
     run = run;
   }
 
-  pub plain-outside : IsPlain w → IsPlain outside
-  plain-outside p = record {
-    built = p.built;
-    parents = p.parents;
-    threads = p.threads;
-    sleepers =
-        p.sleepers;
-    pipes = p.pipes;
-    descriptors = p.descriptors;
-  }
-
 -- ---- one thing
 
 -- bytes that were sent
 pub lawful-sent : (w : World) (output error : List ℕ) → Lawful w
     → Lawful (record w { output = output; error = error })
 lawful-sent w output error l = lawful-outside w w.quantum w.rounds output error w.built l.run l
-
-pub plain-sent : (w : World) (output error : List ℕ) → IsPlain w
-    → IsPlain (record w { output = output; error = error })
-plain-sent w output error p = plain-outside w w.quantum w.rounds output error p
 
 -- another quantum
 pub lawful-with_quantum : (w : World) (quantum : ℕ) → 16 ≤ quantum → quantum ≤ 65536 → Lawful w
@@ -69,15 +53,8 @@ lawful-with_quantum w quantum low high l =
     lawful-outside w quantum w.rounds w.output w.error w.built
     (record { turn = (low, high); count = l.run.count }) l
 
-pub plain-with_quantum : (w : World) (quantum : ℕ) → IsPlain w
-    → IsPlain (record w { quantum = quantum })
-plain-with_quantum w quantum p = plain-outside w quantum w.rounds w.output w.error p
-
 -- a round more
 pub lawful-counted : (w : World) → w.rounds < 1000000 → Lawful w → Lawful (counted w)
 lawful-counted w few l =
     lawful-outside w w.quantum (w.rounds + 1) w.output w.error w.built
     (record { turn = l.run.turn; count = omega arith }) l
-
-pub plain-counted : (w : World) → IsPlain w → IsPlain (counted w)
-plain-counted w p = plain-outside w w.quantum (w.rounds + 1) w.output w.error p

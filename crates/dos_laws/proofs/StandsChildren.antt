@@ -33,7 +33,7 @@ use Rattle.dos_laws.proofs.StandsCalls.{StandsCall, Leaves, law, held, held_is, 
 
 -- ---- one more at the end
 
-all_holdings-push : (ps : List Process) (x : Process) (h : Holdings) → holdings_of x ≡ Some h
+pub all_holdings-push : (ps : List Process) (x : Process) (h : Holdings) → holdings_of x ≡ Some h
     → all_holdings (ps ++ x ∷ []) ≡ all_holdings ps ++ h ∷ []
 all_holdings-push [] x h e = ap (λ o. in_front o []) e
 all_holdings-push (y ∷ ps) x h e =

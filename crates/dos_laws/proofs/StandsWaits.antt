@@ -44,7 +44,7 @@ place_is {A} test n (x ∷ xs) k p e =
     by_test rest false is k q =
         let r = rest k q in (suc r.0, r.1, omega (arith, r.2), r.3, r.4, omega (arith, r.5))
 
-filtered_at : (test : ℕ → Bool) (xs : List ℕ) (k p : ℕ) → slice_get (filter test xs) k ≡ Some p
+pub filtered_at : (test : ℕ → Bool) (xs : List ℕ) (k p : ℕ) → slice_get (filter test xs) k ≡ Some p
     → (j : ℕ) × (slice_get xs j ≡ Some p)
 filtered_at test [] k p e = cc
 filtered_at test (x ∷ xs) k p e = by_test (λ i q. filtered_at test xs i p q) (test x) k e
@@ -74,7 +74,7 @@ module _ (w : World) (i : ℕ) (x : Process) (is : slice_get w.processes i ≡ S
       by_life (live h) e = absurd (true≢false (sym e))
       by_life (ended status was) e = refl
 
-  held_same : all_holdings v.processes ≡ all_holdings w.processes
+  pub held_same : all_holdings v.processes ≡ all_holdings w.processes
   held_same = at w.processes i is
     where
       at : (ps : List Process) (i : ℕ) → slice_get ps i ≡ Some x

@@ -1,4 +1,4 @@
--- A thread that goes, and isn't its process's last, leaves a world lawful and plain.
+-- A thread that goes, and isn't its process's last, leaves a world lawful.
 use Rattle.std.proofs.Common.{ℕ, zero, suc, ◌≤◌, ◌≡◌, ◌≢◌, ◌⊎◌, inl, inr, refl, sym, ap, ◌∙◌, subst, Bool, true, false, cond, List, [], ◌∷◌, length, Option, Some, None, arith}
 use Rattle.std.specs.Prelude.{IfSome, IsTrue, slice_get, is_some, ◌==◌}
 use Rattle.std.proofs.lemmas.Bool.{cases_Bool, cases_eq, eqb-true}
@@ -6,9 +6,8 @@ use Rattle.dos_world.specs.Numbered.{numbered, changed, changed_at, places_from,
 use Rattle.dos_world.specs.World.{World, Thread, flat, none_of, thread_at, threads_of, live_process, belongs_to, without_thread}
 use Rattle.dos_world.specs.Lawful.{Lawful, IsThread, turns_asleep}
 use Rattle.dos_world.proofs.Numbers.{changed_other}
-use Rattle.dos_laws.specs.Plain.{IsPlain, IsPlainThread}
 use Rattle.dos_laws.proofs.Numbers.{length-changed}
-use Rattle.dos_laws.proofs.Threads.{lawful-with_threads, plain-with_threads}
+use Rattle.dos_laws.proofs.Threads.{lawful-with_threads}
 
 -- ---- an element that goes
 
@@ -136,9 +135,3 @@ module _ (w : World) (t : ℕ) (thread : Thread) (is : thread_at w t ≡ Some th
       populated p lives (inr other) e =
           l.processes.populated p lives
           (sym (none_less (belongs_to p) refl w.threads t (ap (belongs_to p) is ∙ other)) ∙ e)
-
--- whichever it is
-pub plain-without_thread : (w : World) (t : ℕ) → IsPlain w → IsPlain (without_thread w t)
-plain-without_thread w t p =
-    plain-with_threads w (changed none_of w.threads t)
-    (each_left IsPlainThread w.threads t p.threads) p

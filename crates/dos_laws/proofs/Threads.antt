@@ -5,9 +5,7 @@ use Rattle.std.specs.Prelude.{All, option_and_then, IfSome, IsTrue, is_some, ◌
 use Rattle.dos_world.specs.Numbered.{numbered, changed, numbers_of}
 use Rattle.dos_world.specs.World.{World, Process, holdings_of, Thread, flat, thread_at, live_process, belongs_to, with_thread}
 use Rattle.dos_world.specs.Lawful.{Lawful, IsThread, AreRegisters, IsPending, IsMask, IsSaved, turns_asleep}
-use Rattle.dos_world.specs.declared.ThreadState.TheVariants.{Ready}
 use Rattle.quantum_run.specs.Laws.{without_run}
-use Rattle.dos_laws.specs.Plain.{IsPlain, IsPlainThread}
 use Rattle.dos_laws.proofs.Numbers.{length-changed, numbers_same, each_kept, each_same}
 
 -- ---- other threads
@@ -53,20 +51,6 @@ lawful-with_threads w ts kept l = record {
   run = l.run;
 }
 
-pub plain-with_threads : (w : World) (ts : List (Option Thread))
-    → ((t : ℕ) → IfSome (flat (numbered ts t)) IsPlainThread) → IsPlain w
-    → IsPlain (record w { threads = ts })
-plain-with_threads w ts threads p =
-    record {
-      built = p.built;
-      parents = p.parents;
-      threads = threads;
-      sleepers = p.sleepers;
-      pipes =
-          p.pipes;
-      descriptors = p.descriptors;
-    }
-
 -- ---- a change of one thread
 
 -- a change that leaves all of a thread but its registers and its budget, and its registers in range
@@ -79,26 +63,6 @@ of_rest : (P : Thread → Type 0) (f : Thread → Thread)
     → ((thread : Thread) → without_run (f thread) ≡ without_run thread) → (thread : Thread)
     → P (without_run thread) → P (without_run (f thread))
 of_rest P f rest thread h = subst P (sym (rest thread)) h
-
--- It leaves a plain world plain, whatever the registers.
-pub plain-changed : (f : Thread → Thread)
-    → ((thread : Thread) → without_run (f thread) ≡ without_run thread)
-    → (w : World) (t : ℕ) → IsPlain w → IsPlain (with_thread w t f)
-plain-changed f rest w t p =
-    plain-with_threads w (changed (option_map f) w.threads t)
-    (each_kept IsPlainThread f plain_kept w.threads t p.threads) p
-  where
-    plain_kept : (thread : Thread) → IsPlainThread thread → IsPlainThread (f thread)
-    plain_kept thread is = record {
-      state = of_rest (λ x. x.state ≡ Ready) f rest thread is.state;
-      pending = of_rest (λ x. x.pending ≡ 0) f rest thread is.pending;
-      mask = of_rest (λ x. x.mask ≡ 0) f rest thread is.mask;
-      saved = of_rest (λ x. x.saved ≡ []) f rest thread is.saved;
-    }
-
-pub plain-with_thread : (f : Thread → Thread) → ChangesRun f → (w : World) (t : ℕ) → IsPlain w
-    → IsPlain (with_thread w t f)
-plain-with_thread f c w t p = plain-changed f c.rest w t p
 
 module _ (f : Thread → Thread) (c : ChangesRun f) where
   belonging : (p : ℕ) (o : Option Thread) → belongs_to p (option_map f o) ≡ belongs_to p o

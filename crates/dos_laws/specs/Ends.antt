@@ -1,23 +1,12 @@
--- What the end of a process leaves of a plain world. This project's own rule.
+-- What the end of a process leaves, before frames and pipes are looked at. This project's own rule.
 use Rattle.std.specs.Prelude.{ℕ, List, map, filter}
-use Rattle.dos_world.specs.Numbered.{changed, map_from}
+use Rattle.dos_world.specs.Numbered.{changed}
 use Rattle.dos_world.specs.World.{World, Process, threads_of}
 use Rattle.dos_world.specs.Kernel.{orphaned, ended_by, unless_of, is_none_of_these}
-use Rattle.dos_world.specs.Counts.{owner_if_mapped}
 
 -- the processes after the end of p with this status
 abbrev pub ended_processes : List Process → ℕ → ℕ → List Process
 ended_processes processes p status = map (orphaned p) (changed (ended_by status) processes p)
-
--- p has ended, its threads are gone, and what nothing maps any more is Free. Nobody is told, and no
--- pipe closes.
-abbrev pub ended_world : World → ℕ → ℕ → World
-ended_world w p status =
-    let left : World = record w { processes = ended_processes w.processes p status } in
-    record left {
-      owners = map_from 0 (owner_if_mapped left) w.owners;
-      threads = map (unless_of p) w.threads;
-    }
 
 -- the world without a process and its threads, whose frames it still owns
 abbrev pub closed : World → ℕ → ℕ → World

@@ -1,6 +1,5 @@
 // Laws of the definitions, as contracts of functions that do nothing.
 ghost use Rattle.dos_laws.specs.Laws.{EntriesAreTaken, ForksKeep, LawfulnessIsKept, NoPageIsLeft, ParallelPhasesKeep, ProcessEndsKeep, RipeningKeeps, RoundsKeep, SerialPhasesKeep, ServicesKeep, SignalPointsKeep, StepsKeep, ThreadEndsKeep, ThreadsHaveProcesses};
-ghost use Rattle.dos_laws.specs.PlainLaws.{NobodyIsSignalled, PlainEndsKeep, PlainRoundsKeep, PlainnessIsKept};
 
 // ---- what holds in a lawful world
 
@@ -79,28 +78,4 @@ pub fn ripening_keeps()
 /// rounds were run.
 pub fn rounds_keep()
     ensures { RoundsKeep }
-{}
-
-// ---- plain worlds, to which today's services come
-
-/// In a plain world a signal point without posts, and the ripening of waiting threads, do nothing.
-pub fn nobody_is_signalled()
-    ensures { NobodyIsSignalled }
-{}
-
-/// All that a round does but count itself leaves a lawful and plain world so, in the same round of
-/// the same run, and asks nothing but its signals.
-pub fn plainness_is_kept()
-    ensures { PlainnessIsKept }
-{}
-
-/// The end of a process leaves a lawful and plain world so, in the same round of the same run.
-pub fn plain_ends_keep()
-    ensures { PlainEndsKeep }
-{}
-
-/// A round leaves a lawful and plain world so, where the shim posts no signal and fewer than
-/// 1000000 rounds were run.
-pub fn plain_rounds_keep()
-    ensures { PlainRoundsKeep }
 {}
