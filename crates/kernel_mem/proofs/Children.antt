@@ -26,7 +26,7 @@ held_before ps x (suc i) h = ap (option_and_then holdings_of) (at ps i h)
     at (y ∷ ps) zero h = refl
     at (y ∷ ps) (suc i) h = at ps i h
 
-held_last : (ps : List Process) (x : Process) (p : ℕ) → p ≡ length ps + 1
+pub held_last : (ps : List Process) (x : Process) (p : ℕ) → p ≡ length ps + 1
     → held_in (ps ++ x ∷ []) p ≡ holdings_of x
 held_last ps x zero e = absurd (omega arith)
 held_last ps x (suc i) e = ap (option_and_then holdings_of) (at ps i (omega arith))

@@ -1,13 +1,18 @@
 -- The uses and owners of frames, as a space's entries go one after another.
-use Rattle.std.proofs.Common.{◌≡◌, ◌≢◌, ℕ, zero, suc, ◌+◌, ◌-◌, ◌<◌, ◌≤◌, Bool, true, false, cond, ◌⊎◌, inl, inr, List, [], ◌∷◌, length, get_or, set, take, length-set, get_or-set_same, get_or-set_other, refl, sym, ap, ◌∙◌, arith}
-use Rattle.std.specs.Prelude.{◌==◌, ◌&&◌, nat_lt}
+use Rattle.std.proofs.Common.{◌≡◌, ◌≢◌, ℕ, zero, suc, ◌+◌, ◌-◌, ◌<◌, ◌≤◌, Bool, true, false, cond, ◌⊎◌, inl, inr, List, [], ◌∷◌, ◌++◌, length, get_or, set, take, append-nil, Some, subst, length-set, get_or-set_same, get_or-set_other, refl, sym, ap, ◌∙◌, arith}
+use Rattle.std.specs.Prelude.{◌==◌, ◌&&◌, not, nat_lt, filter, slice_get}
 use Rattle.std.proofs.lemmas.Bool.{cases_eq, ne_eqb}
 use Rattle.std.proofs.lemmas.Bool.Decides.{nat_tests}
-use Rattle.std.proofs.lemmas.List.Sums.{count_by_more_no, count_by_more_yes, sum_by-take-drop}
+use Rattle.std.proofs.lemmas.List.{take_more}
+use Rattle.std.proofs.lemmas.Option.{get_or_from_slice_get}
+use Rattle.std.proofs.lemmas.List.Elements.{filter-append}
+use Rattle.std.proofs.lemmas.List.Filters.{sum_by-filter_both}
+use Rattle.std.proofs.lemmas.List.Sums.{count_by_more_no, count_by_more_yes, sum_by-append, sum_by-cons, sum_by-take-drop}
 use Rattle.dos_world.specs.declared.Owner.{Owner}
 use Rattle.dos_world.specs.declared.Owner.TheVariants.{Free}
 use Rattle.dos_world.specs.declared.Entry.{Entry}
 use Rattle.page_store.specs.Store.{Store, with_less, owner_at, uses_at}
+use Rattle.page_store.proofs.Counts.{used-within}
 use Rattle.kernel_mem.specs.Memory.{entries_of, IsDropped, AreUsed}
 
 -- ---- one entry more
@@ -18,10 +23,14 @@ one_if b = cond b 1 0
 abbrev pub no_entry : ℕ × Entry
 no_entry = (0, record { frame = 0; write = false; exec = false; shared = false })
 
-entries-more : (es : List (ℕ × Entry)) (i : ℕ) (e : ℕ × Entry) (f : ℕ) → i < length es
-    → get_or es i no_entry ≡ e
-    → entries_of (take (i + 1) es) f ≡ entries_of (take i es) f + one_if (e.1.frame == f)
-entries-more es i e f h q = by (e.1.frame == f) refl
+-- one more of these entries is among those that are gone
+abbrev IsOneMore : List (ℕ × Entry) → (ℕ × Entry) → List (ℕ × Entry) → Type 0
+IsOneMore gone e more = (f : ℕ) → entries_of more f ≡ entries_of gone f + one_if (e.1.frame == f)
+
+-- the next in a space
+one-taken : (es : List (ℕ × Entry)) (i : ℕ) (e : ℕ × Entry) → i < length es
+    → get_or es i no_entry ≡ e → IsOneMore (take i es) e (take (i + 1) es)
+one-taken es i e h q f = by (e.1.frame == f) refl
   where
     by : (b : Bool) → (e.1.frame == f) ≡ b
         → entries_of (take (i + 1) es) f ≡ entries_of (take i es) f + one_if b
@@ -30,23 +39,53 @@ entries-more es i e f h q = by (e.1.frame == f) refl
     by false t = count_by_more_no (λ (x : ℕ × Entry). x.1.frame == f) es i no_entry h
         (ap (λ (x : ℕ × Entry). x.1.frame == f) q ∙ t) ∙ omega arith
 
-entries-front : (es : List (ℕ × Entry)) (i f : ℕ) → entries_of (take i es) f ≤ entries_of es f
-entries-front es i f = omega
-    (arith, sum_by-take-drop (λ (x : ℕ × Entry). one_if (x.1.frame == f)) es i)
+used-front : (s : Store) (es : List (ℕ × Entry)) (i : ℕ) → AreUsed es s → AreUsed (take i es) s
+used-front s es i used f = omega
+    (arith, used f, sum_by-take-drop (λ (x : ℕ × Entry). one_if (x.1.frame == f)) es i)
+
+-- ---- those of a space that pass a test
+
+module _ (test : ℕ × Entry → Bool) (es : List (ℕ × Entry)) (i : ℕ) (e : ℕ × Entry)
+    (h : i < length es) (q : get_or es i no_entry ≡ e) where
+  one-appended : filter test (take (i + 1) es) ≡ filter test (take i es) ++ filter test (e ∷ [])
+  one-appended = ap (filter test) (take_more es i no_entry h)
+      ∙ filter-append test (take i es) (get_or es i no_entry ∷ [])
+      ∙ ap (λ (x : ℕ × Entry). filter test (take i es) ++ filter test (x ∷ [])) q
+
+  -- the next one doesn't
+  none-passed : test e ≡ false → filter test (take (i + 1) es) ≡ filter test (take i es)
+  none-passed fails = one-appended
+      ∙ ap (λ b. filter test (take i es) ++ cond b (e ∷ []) []) fails
+      ∙ append-nil (filter test (take i es))
+
+  -- the next one does
+  one-passed : test e ≡ true
+      → IsOneMore (filter test (take i es)) e (filter test (take (i + 1) es))
+  one-passed passes f =
+      let one : ℕ × Entry → ℕ = λ x. one_if (x.1.frame == f) in
+      ap (λ xs. entries_of xs f) (one-appended
+      ∙ ap (λ b. filter test (take i es) ++ cond b (e ∷ []) []) passes)
+      ∙ omega (
+        arith,
+        sum_by-append one (filter test (take i es)) (e ∷ []),
+        sum_by-cons one e [],
+      )
+
+used-passed : (s : Store) (test : ℕ × Entry → Bool) (es : List (ℕ × Entry)) → AreUsed es s
+    → AreUsed (filter test es) s
+used-passed s test es used f = omega (
+  arith,
+  used f,
+  sum_by-filter_both test (λ e. not (test e)) (λ e. refl)
+      (λ (x : ℕ × Entry). one_if (x.1.frame == f)) es,
+)
 
 -- an entry that is still to go is a use
-pub still-used : (s t : Store) (es : List (ℕ × Entry)) (i : ℕ) (e : ℕ × Entry) → AreUsed es s
-    → IsDropped (take i es) s t → i < length es → get_or es i no_entry ≡ e → 0 < uses_at t e.1.frame
-still-used s t es i e used dropped h q =
+still-used : (s t : Store) (gone more : List (ℕ × Entry)) (e : ℕ × Entry) → AreUsed more s
+    → IsDropped gone s t → IsOneMore gone e more → 0 < uses_at t e.1.frame
+still-used s t gone more e used dropped one =
     let here : (e.1.frame == e.1.frame) ≡ true = eqb_same e.1.frame in
-    omega (
-      arith,
-      used e.1.frame,
-      dropped.uses e.1.frame,
-      entries-more es i e e.1.frame h q,
-      ap one_if here,
-      entries-front es (i + 1) e.1.frame,
-    )
+    omega (arith, used e.1.frame, dropped.uses e.1.frame, one e.1.frame, ap one_if here)
   where
     eqb_same : (n : ℕ) → (n == n) ≡ true
     eqb_same n = grind (arith, nat_tests)
@@ -133,29 +172,70 @@ both-owners o u k false h =
     ap (λ n. cond (nat_lt 0 n && (u == n)) Free o) same
 
 -- one entry more is gone
-pub dropped-more : (s t new : Store) (es : List (ℕ × Entry)) (i : ℕ) (e : ℕ × Entry) → AreUsed es s
-    → IsDropped (take i es) s t → i < length es → get_or es i no_entry ≡ e
-    → new ≡ with_less t e.1.frame → e.1.frame < length t.uses
-    → IsDropped (take (i + 1) es) s new
-dropped-more s t new es i e used dropped h q is within = record {
+dropped-more : (s t new : Store) (gone more : List (ℕ × Entry)) (e : ℕ × Entry)
+    → AreUsed more s → IsDropped gone s t → IsOneMore gone e more
+    → new ≡ with_less t e.1.frame → e.1.frame < length t.uses → IsDropped more s new
+dropped-more s t new gone more e used dropped one is within = record {
   pages = ap (λ (x : Store). x.pages) is ∙ dropped.pages;
   count = ap (λ (x : Store). length x.owners) is ∙ lengths (uses_at t e.1.frame == 1)
       ∙ dropped.count;
   uses = λ f. ap (λ x. uses_at x f) is ∙ less-uses t e.1.frame f within
       ∙ ap (λ u. u - one_if (e.1.frame == f)) (dropped.uses f)
-      ∙ omega (arith, entries-more es i e f h q);
+      ∙ omega (arith, one f);
   owners = λ f.
-      let few : entries_of (take i es) f + one_if (e.1.frame == f) ≤ uses_at s f =
-      omega (arith, used f, entries-more es i e f h q, entries-front es (i + 1) f) in
+      let few : entries_of gone f + one_if (e.1.frame == f) ≤ uses_at s f =
+      omega (arith, used f, one f) in
       ap (λ x. owner_at x f) is ∙ less-owner t e.1.frame f
       ∙ ap (λ (u : ℕ). cond ((e.1.frame == f) && (u == 1)) Free (owner_at t f)) (dropped.uses f)
-      ∙ ap (λ o. cond ((e.1.frame == f) && (uses_at s f - entries_of (take i es) f == 1)) Free o)
+      ∙ ap (λ o. cond ((e.1.frame == f) && (uses_at s f - entries_of gone f == 1)) Free o)
       (dropped.owners f)
-      ∙ both-owners (owner_at s f) (uses_at s f) (entries_of (take i es) f) (e.1.frame == f) few
-      ∙ ap (λ n. cond (nat_lt 0 n && (uses_at s f == n)) Free (owner_at s f))
-      (sym (entries-more es i e f h q));
+      ∙ both-owners (owner_at s f) (uses_at s f) (entries_of gone f) (e.1.frame == f) few
+      ∙ ap (λ n. cond (nat_lt 0 n && (uses_at s f == n)) Free (owner_at s f)) (sym (one f));
 }
   where
     lengths : (b : Bool) → length (cond b (set t.owners e.1.frame Free) t.owners) ≡ length t.owners
     lengths true = length-set t.owners e.1.frame Free
     lengths false = refl
+
+-- ---- a space's entries in their order
+
+-- all of them
+module _ (s t : Store) (es : List (ℕ × Entry)) (i : ℕ) (e : ℕ × Entry) (used : AreUsed es s)
+    (dropped : IsDropped (take i es) s t) (h : i < length es) (here : slice_get es i ≡ Some e) where
+  one : IsOneMore (take i es) e (take (i + 1) es)
+  one = one-taken es i e h (get_or_from_slice_get es i e no_entry here)
+
+  pub next-used : 0 < uses_at t e.1.frame
+  next-used =
+      still-used s t (take i es) (take (i + 1) es) e (used-front s es (i + 1) used) dropped one
+
+  pub next-dropped : (new : Store) → new ≡ with_less t e.1.frame
+      → IsDropped (take (i + 1) es) s new
+  next-dropped new is =
+      dropped-more s t new (take i es) (take (i + 1) es) e (used-front s es (i + 1) used) dropped
+      one is (used-within t.uses e.1.frame next-used)
+
+-- those that pass a test
+module _ (s t : Store) (test : ℕ × Entry → Bool) (es : List (ℕ × Entry)) (i : ℕ) (e : ℕ × Entry)
+    (used : AreUsed es s) (dropped : IsDropped (filter test (take i es)) s t) (h : i < length es)
+    (here : slice_get es i ≡ Some e) where
+  at : get_or es i no_entry ≡ e
+  at = get_or_from_slice_get es i e no_entry here
+
+  pub skipped : test e ≡ false → IsDropped (filter test (take (i + 1) es)) s t
+  skipped fails = subst (λ xs. IsDropped xs s t) (sym (none-passed test es i e h at fails)) dropped
+
+  module _ (passes : test e ≡ true) where
+    still : AreUsed (filter test (take (i + 1) es)) s
+    still = used-passed s test (take (i + 1) es) (used-front s es (i + 1) used)
+
+    pub passed-used : 0 < uses_at t e.1.frame
+    passed-used =
+        still-used s t (filter test (take i es)) (filter test (take (i + 1) es)) e still dropped
+        (one-passed test es i e h at passes)
+
+    pub passed-dropped : (new : Store) → new ≡ with_less t e.1.frame
+        → IsDropped (filter test (take (i + 1) es)) s new
+    passed-dropped new is =
+        dropped-more s t new (filter test (take i es)) (filter test (take (i + 1) es)) e still
+        dropped (one-passed test es i e h at passes) is (used-within t.uses e.1.frame passed-used)

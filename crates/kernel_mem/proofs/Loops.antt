@@ -354,12 +354,18 @@ same-space ps (suc i) es h = at ps i h
     at (x ∷ ps) zero h = ap (λ y. y ∷ ps) (one x x.life h)
     at (x ∷ ps) (suc i) h = ap (λ ys. x ∷ ys) (at ps i h)
 
+-- its own space is no change
+pub own-space : (T : Tables) (p : ℕ) → T ≡ held_by (with_space (space_in T p)) T p
+own-space T p = ap (λ ps. with_processes ps)
+    (sym (same-space T.processes p (space_in T p) (of-space (λ es. space_in T p ≡ es) T p refl)))
+  where
+    with_processes : List Process → Tables
+    with_processes ps = record T { processes = ps }
+
 pub copying-none : (s : Store) (T : Tables) (pid child tid : ℕ) → IsHome s → space_in T child ≡ []
     → IsCopying s T pid child tid 0 s T
 copying-none s T pid child tid home empty = record {
-  table = ap (λ ps. with_processes ps)
-      (sym (same-space T.processes child (space_in T child)
-      (of-space (λ es. space_in T child ≡ es) T child refl)));
+  table = own-space T child;
   copies = λ w U. ap (λ (es : List (ℕ × Entry)). pair (in_world w s U) es) (sym empty);
   home = home;
   count = refl;
@@ -370,8 +376,5 @@ copying-none s T pid child tid home empty = record {
   free = omega arith;
 }
   where
-    with_processes : List Process → Tables
-    with_processes ps = record T { processes = ps }
-
     pair : World → List (ℕ × Entry) → World × List (ℕ × Entry)
     pair x ys = (x, ys)

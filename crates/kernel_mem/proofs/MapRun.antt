@@ -18,7 +18,8 @@ use Rattle.kernel_mem.specs.Memory.{HasUsesOf, entries_of}
 use Rattle.kernel_mem.specs.Ranges.{maps_any, range_call}
 use Rattle.kernel_mem.specs.Seen.{in_world, space_in, IsHome}
 use Rattle.kernel_mem.proofs.Copies.{first_use}
-use Rattle.kernel_mem.proofs.Loops.{space-put, still-live}
+use Rattle.kernel_mem.specs.Forking.{with_space}
+use Rattle.kernel_mem.proofs.Loops.{own-space, space-put, still-live, table-put}
 
 -- ---- a page put into a space
 
@@ -134,6 +135,7 @@ pub record IsMapping (s0 : Store) (old_table : Tables) (t p page rights count i 
       → mapped_fresh (range_call (in_world w s0 old_table) t p address pages rights)
       (in_world w s0 old_table)
       (run_of page i) ≡ in_world w s T
+  pub table : T ≡ held_by (with_space (space_in T p)) old_table p
   pub home : IsHome s
   pub live : IsProcess T.processes p
   pub fresh : (k : ℕ) → i ≤ k → k < count → look (space_in T p) (page + k) ≡ None
@@ -148,6 +150,7 @@ pub mapping-none : (s : Store) (T : Tables) (t p page rights count : ℕ) → Is
     → IsMapping s T t p page rights count 0 s T
 mapping-none s T t p page rights count home live none = record {
   maps = λ w address pages. refl;
+  table = own-space T p;
   home = home;
   live = live;
   fresh = λ k low h. none_mapped (space_in T p) page count k none h;
@@ -179,6 +182,8 @@ mapping-more s0 s s1 old_table T next_table t p page rights count i frame so_far
           (in_world w s0 old_table) page i
           ∙ ap (λ v. page_mapped t p rights v (page + i)) (so_far.maps w address pages)
           ∙ sym (one w);
+      table = table-put T next_table old_table p (page + i) entry (space_in T p) so_far.table table
+          ∙ ap (λ es. held_by (with_space es) old_table p) (sym space);
       home = home;
       live = still-live (with_entry (page + i) entry) next_table T p table so_far.live;
       fresh = λ k low h. ap (λ es. look es (page + k)) space

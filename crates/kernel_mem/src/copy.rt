@@ -145,7 +145,13 @@ fn write_stretch(frames: &mut Frames, table: &Table, tid: u32, address: u64, par
 }
 
 // The frame of the page that the address lies in, granted where it was foreign.
-fn open(frames: &mut Frames, table: &Table, tid: u32, address: u64, access: Access) -> u32
+pub(crate) fn open(
+    frames: &mut Frames,
+    table: &Table,
+    tid: u32,
+    address: u64,
+    access: Access,
+) -> u32
     requires caller { IsCaller table.now tid }
     requires address { address < 2 ^ 33 }
     requires mapped { AreMapped table.now frames.old tid }
@@ -164,7 +170,7 @@ fn open(frames: &mut Frames, table: &Table, tid: u32, address: u64, access: Acce
     }
 }
 
-fn entry_of(table: &Table, tid: u32, address: u64) -> Option<Entry>
+pub(crate) fn entry_of(table: &Table, tid: u32, address: u64) -> Option<Entry>
     requires caller { IsCaller table.now tid }
     requires address { address < 2 ^ 33 }
     ensures { result ≡ entry_in table.now tid address }

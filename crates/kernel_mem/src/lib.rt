@@ -10,9 +10,11 @@ mod drop;
 mod forking;
 mod map;
 mod ranges;
+mod words;
 
 pub use copy::{check, copy_in, copy_out};
-pub use drop::drop_space;
+pub use drop::{drop_space, unmap};
 pub use forking::fork;
 pub use map::{map_page, map_pages};
 pub use ranges::share;
+pub use words::{entry_at, grant_load, word_at};

@@ -1,5 +1,5 @@
 // Fresh pages.
-ghost use Rattle.std.specs.Prelude.{◌≡◌, ◌≢◌, ◌<◌, ◌≤◌, ◌+◌, ◌/◌, ◌^◌, ℕ, false, None, Some, IfSome, OnErr, length, position};
+ghost use Rattle.std.specs.Prelude.{◌≡◌, ◌≢◌, ◌<◌, ◌≤◌, ◌+◌, ◌/◌, ◌^◌, ℕ, false, None, Some, IfSome, OnErr, OnOk, length, position};
 ghost use Rattle.dos_world.specs.Numbered.{run_of};
 ghost use Rattle.dos_world.specs.World.{World, is_free, look};
 ghost use Rattle.dos_world.specs.Kernel.{with_entry};
@@ -9,6 +9,7 @@ ghost use Rattle.page_store.specs.Store.{IsUnused, free_count, uses_at, with_own
 ghost use Rattle.proc_table.specs.Tables.{IsProcess, held_by, thread_in};
 ghost use Rattle.kernel_mem.specs.Seen.{space_in, in_world, IsCaller, IsHome};
 ghost use Rattle.kernel_mem.specs.Memory.{HasUsesOf};
+ghost use Rattle.kernel_mem.specs.Forking.{with_space};
 ghost use Rattle.kernel_mem.specs.Ranges.{maps_any, range_call, result_in};
 
 use crate::ranges::{any_mapped, is_range};
@@ -76,6 +77,9 @@ pub fn map_pages(
     ensures uses { IfSome (thread_in table.old.threads tid)
         (λ thread. HasUsesOf (space_in table.old thread.process) frames.old
         (space_in table.new thread.process) frames.new) }
+    ensures table { OnOk result (IfSome (thread_in table.old.threads tid)
+        (λ thread. table.new ≡ held_by (with_space (space_in table.new thread.process)) table.old
+        thread.process)) }
     ensures stays { OnErr result ((frames.new ≡ frames.old) × (table.new ≡ table.old)) }
     ensures home { IsHome frames.new }
     ensures room { table.new.room ≡ table.old.room }
@@ -121,6 +125,7 @@ fn map_run(
         ≡ in_world w frames.new table.new }
     ensures uses { HasUsesOf (space_in table.old pid) frames.old
         (space_in table.new pid) frames.new }
+    ensures table { table.new ≡ held_by (with_space (space_in table.new pid)) table.old pid }
     ensures home { IsHome frames.new }
     ensures room { table.new.room ≡ table.old.room }
     ensures count { length frames.new.owners ≡ length frames.old.owners }

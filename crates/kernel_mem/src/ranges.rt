@@ -1,9 +1,9 @@
 // Runs of pages: which are mapped, and sharing.
-ghost use Rattle.std.specs.Prelude.{◌≡◌, ◌<◌, ◌≤◌, ◌+◌, ◌/◌, ◌&&◌, ◌^◌, ℕ, IfSome, OnErr};
+ghost use Rattle.std.specs.Prelude.{◌≡◌, ◌<◌, ◌≤◌, ◌+◌, ◌/◌, ◌&&◌, ◌^◌, ℕ, IfSome, OnErr, OnOk};
 ghost use Rattle.dos_world.specs.World.{World};
 ghost use Rattle.dos_world.specs.MemoryCalls.{shared};
 ghost use Rattle.page_store.specs.Store.{Store as Held};
-ghost use Rattle.proc_table.specs.Tables.{IsProcess, thread_in};
+ghost use Rattle.proc_table.specs.Tables.{IsProcess, held_by, run_shared, thread_in};
 ghost use Rattle.kernel_mem.specs.Seen.{in_world, space_in, IsCaller};
 ghost use Rattle.kernel_mem.specs.Ranges.{are_range, maps_all, maps_any, range_call, result_in};
 
@@ -18,6 +18,9 @@ pub fn share(table: &mut Table, tid: u32, address: u32, pages: u32) -> Result<()
     ensures shares { IfSome (thread_in table.old.threads tid) (λ thread. (w : World) (s : Held)
         → shared (range_call (in_world w s table.old) tid thread.process address pages 0)
         ≡ result_in result (in_world w s table.new)) }
+    ensures table { OnOk result (IfSome (thread_in table.old.threads tid)
+        (λ thread. table.new
+        ≡ held_by (run_shared (address / 4096) pages) table.old thread.process)) }
     ensures stays { OnErr result (table.new ≡ table.old) }
     ensures room { table.new.room ≡ table.old.room }
 {
