@@ -1,12 +1,10 @@
 -- The world of the state that a group begins with, and that it is sound.
 use Rattle.std.proofs.Common.{Bool, true, false, cond, ℕ, zero, suc, ◌+◌, ◌-◌, ◌*◌, ◌<◌, ◌≤◌, ◌≡◌, ◌⊎◌, inl, inr, refl, sym, ap, ◌∙◌, subst, List, [], ◌∷◌, ◌++◌, length, replicate, Option, Some, None, All, arith}
 use Rattle.std.proofs.lemmas.List.Sums.{sum_by-cons}
-use Rattle.std.specs.Prelude.{count_by, IfSome, flat_map, slice_get, slice_index}
+use Rattle.std.specs.Prelude.{count_by, flat_map, slice_index}
 use Rattle.std.proofs.lemmas.Bool.{cases_lt}
 use Rattle.std.proofs.lemmas.List.{get_or-append_right, get_or_append_left, get_or-replicate, length-append, length-replicate}
-use Rattle.std.proofs.lemmas.List.Elements.{All-cons, All-nil, All-replicate}
-use Rattle.dos_world.specs.Numbered.{map_from}
-use Rattle.dos_world.specs.World.{World, Process, Thread, Holdings, all_holdings, flat, thread_at}
+use Rattle.dos_world.specs.World.{World, Process, Thread, Holdings, all_holdings}
 use Rattle.dos_world.specs.Counts.{reads_pipe, writes_pipe}
 use Rattle.dos_world.specs.declared.End.{End}
 use Rattle.dos_world.specs.Lawful.{IsConfig, Lawful, uses_of}
@@ -15,13 +13,12 @@ use Rattle.dos_world.specs.declared.Config.{Config}
 use Rattle.dos_world.specs.declared.End.TheVariants.{Input, Output, Error}
 use Rattle.dos_world.specs.declared.Owner.{Owner}
 use Rattle.dos_world.specs.declared.Owner.TheVariants.{Free}
-use Rattle.dos_laws.specs.Plain.{HasNoPipe, IsNoPipe, IsOrphan, IsPlain, IsPlainThread}
 use Rattle.elf_image.specs.Image.{Image}
-use Rattle.kernel_objects.specs.Pipework.{Pipework, none_open, ends_at}
+use Rattle.kernel_objects.specs.Pipework.{Pipework, ends_at}
 use Rattle.kernel_calls.specs.Serving.{IsSound, AreCounted, ends_of, world_of}
 use Rattle.kernel_calls.specs.declared.state.State.{State}
 use Rattle.page_store.specs.Store.{joined, uses_at}
-use Rattle.group_open.specs.Opening.{image_bytes, needed, opening, opening_descriptors, opening_thread, owners_from, page_count, processes_from}
+use Rattle.group_open.specs.Opening.{image_bytes, needed, opening, opening_descriptors, owners_from, page_count, processes_from}
 use Rattle.group_open.specs.Group.{IsStateOf}
 use Rattle.group_open.specs.Laws.{IsAccepted}
 use Rattle.group_open.proofs.OpeningLaws.{every_opening, one_use, owners_length, uses_after}
@@ -80,49 +77,6 @@ module _ (images : List Image) (config : Config) (s : State)
       (flat_map image_bytes images ++ replicate (4096 * (config.frames - needed images)) 0)
       (owners_from 1 images ++ replicate (config.frames - needed images) Free)
       (processes_from 0 images) t) is.opened.threads
-
--- ---- an opening is plain
-
-orphans : (f : ℕ) (images : List Image) → All IsOrphan (processes_from f images)
-orphans f [] = All-nil IsOrphan
-orphans f (image ∷ images) =
-    All-cons IsOrphan _ (processes_from (f + page_count image) images) refl
-    (orphans (f + page_count image) images)
-
-no_pipe_end : All IsNoPipe opening_descriptors
-no_pipe_end =
-    All-cons IsNoPipe (Some Input) (Some Output ∷ Some Error ∷ replicate 29 None) tt
-    (All-cons IsNoPipe (Some Output) (Some Error ∷ replicate 29 None) tt
-    (All-cons IsNoPipe (Some Error) (replicate 29 None) tt
-    (All-replicate IsNoPipe 29 None tt)))
-
-no_pipes : (f : ℕ) (images : List Image) → All HasNoPipe (all_holdings (processes_from f images))
-no_pipes f [] = All-nil HasNoPipe
-no_pipes f (image ∷ images) =
-    All-cons HasNoPipe _ (all_holdings (processes_from (f + page_count image) images)) no_pipe_end
-    (no_pipes (f + page_count image) images)
-
-plain_thread : (k i : ℕ) (images : List Image)
-    → IfSome (flat (slice_get (map_from k opening_thread images) i)) IsPlainThread
-plain_thread k i [] = tt
-plain_thread k zero (image ∷ images) =
-    record { state = refl; pending = refl; mask = refl; saved = refl }
-plain_thread k (suc i) (image ∷ images) = plain_thread (suc k) i images
-
-plain_threads : (images : List Image) (config : Config) (t : ℕ)
-    → IfSome (thread_at (opening images config) t) IsPlainThread
-plain_threads images config zero = tt
-plain_threads images config (suc i) = plain_thread 1 i images
-
-opening_is_plain : (images : List Image) (config : Config) → IsPlain (opening images config)
-opening_is_plain images config = record {
-  built = refl;
-  parents = orphans 0 images;
-  threads = plain_threads images config;
-  sleepers = refl;
-  pipes = refl;
-  descriptors = no_pipes 0 images;
-}
 
 -- ---- uses
 
@@ -229,15 +183,17 @@ pub state_is_sound : (images : List Image) (config : Config) (s : State)
 state_is_sound images config s is some few accepted within fits =
     let frames = frames_are config.frames images s is in
     record {
-      home = record {
-        home = is.opened.filled.home;
-        owners =
-            omega (arith, frames, is.opened.count_is);
+      counted = record {
+        home = record {
+          home = is.opened.filled.home;
+          owners =
+              omega (arith, frames, is.opened.count_is);
+        };
+        round = omega (arith, is.round);
+        room = omega (arith, frames, is.opened.room);
+        uses = uses_are config.frames images s is;
+        ends = ends_are config.frames images s is;
       };
-      round = omega (arith, is.round);
-      room = omega (arith, frames, is.opened.room);
-      uses = uses_are config.frames images s is;
-      ends = ends_are config.frames images s is;
       lawful = λ q least most. subst Lawful (sym (state_world images config s is q))
           (every_opening images (record config { quantum = q }) some few accepted
           (record {
@@ -246,6 +202,4 @@ state_is_sound images config s is some few accepted within fits =
             frames =
                 within.frames;
           }) fits);
-      plain = λ q. subst IsPlain (sym (state_world images config s is q))
-          (opening_is_plain images (record config { quantum = q }));
     }

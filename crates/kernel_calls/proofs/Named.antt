@@ -1,47 +1,65 @@
--- The kernel's list of services agrees with the definition's table.
-use Rattle.std.proofs.Common.{◌≡◌, ℕ, Bool, true, false, cond, List, [], ◌∷◌, map, Some, refl, sym, ap, ◌∙◌, eqb-true}
+-- The kernel's list of services is the definition's.
+use Rattle.std.proofs.Common.{◌≡◌, ℕ, Bool, true, false, cond, List, [], ◌∷◌, map, Some, None, refl, sym, ap, ◌∙◌}
 use Rattle.std.specs.Prelude.{◌==◌, ◌||◌, find}
 use Rattle.std.specs.List.{list_any}
 use Rattle.dos_world.specs.Errors.{enosys}
-use Rattle.dos_world.specs.Services.{Service as FlatService, services, service_of, built_service, refuses}
-use Rattle.kernel_calls.specs.Built.{number_of, definition_of, services_built, built_services, named, definition_by}
+use Rattle.dos_world.specs.Services.{Service as FlatService, services, service_by, service_of, built_service, refuses}
+use Rattle.kernel_calls.specs.Built.{row_of, number_of, services_built, built_services, named, definition_by}
 use Rattle.kernel_calls.specs.declared.naming.Service.{Service}
-use Rattle.kernel_calls.specs.declared.naming.Service.TheVariants.{ThreadExit, ProcessExit, ThreadNew, Write, GetPid, GetTid, Yield, RoundNumber}
 
 -- each row is the definition's own
-row_is : (service : Service) → service_of (number_of service) ≡ definition_of service
+rows_are : services ≡ map row_of built_services
 unfolding services
-row_is ThreadExit = refl
-row_is ProcessExit = refl
-row_is ThreadNew = refl
-row_is Write = refl
-row_is GetPid = refl
-row_is GetTid = refl
-row_is Yield = refl
-row_is RoundNumber = refl
+rows_are = refl
 
--- so is what is done for a call of any number
 module _ (number : ℕ) where
-  -- these names agree with the definition
-  abbrev Agree : List Service → Type 0
-  Agree names =
-      ◌≡◌ {A = FlatService}
-      (cond (list_any (λ n. n == number) (map number_of names)) (service_of number)
-      (refuses enosys))
-      (definition_by (find (λ service. number_of service == number) names))
+  abbrev has_number : Service → Bool
+  has_number service = number_of service == number
 
-  among : (names : List Service) → Agree names
-  among [] = refl
-  among (name ∷ names) = by_first (among names) (number_of name == number) refl
+  -- the service of a number in a list of rows
+  row_found : (names : List Service)
+      → ◌≡◌ {A = FlatService}
+      (service_by (find (λ row. row.0 == number) (map row_of names)))
+      (definition_by (find has_number names))
+  row_found [] = refl
+  row_found (name ∷ names) = by (row_found names) (has_number name)
     where
-      by_first : Agree names → (b : Bool) → (number_of name == number) ≡ b
+      by : ◌≡◌ {A = FlatService}
+          (service_by (find (λ row. row.0 == number) (map row_of names)))
+          (definition_by (find has_number names))
+          → (b : Bool)
           → ◌≡◌ {A = FlatService}
-          (cond (b || list_any (λ n. n == number) (map number_of names)) (service_of number)
-          (refuses enosys))
-          (definition_by (cond b (Some name) (find (λ service. number_of service == number) names)))
-      by_first others true same = ap service_of (sym (eqb-true (number_of name) number same))
-          ∙ row_is name
-      by_first others false other = others
+          (service_by (cond b (Some (row_of name))
+          (find (λ row. row.0 == number) (map row_of names))))
+          (definition_by (cond b (Some name) (find has_number names)))
+      by others true = refl
+      by others false = others
 
+  pub named_is : service_of number ≡ definition_by (named number)
+  named_is = ap (λ rows. service_by (find (λ row. row.0 == number) rows)) rows_are
+      ∙ row_found built_services
+
+  none_named : (names : List Service) → list_any (λ n. n == number) (map number_of names) ≡ false
+      → find has_number names ≡ None
+  none_named [] e = refl
+  none_named (name ∷ names) e = by (none_named names) (has_number name) e
+    where
+      by : (list_any (λ n. n == number) (map number_of names) ≡ false
+          → find has_number names ≡ None)
+          → (b : Bool) → (b || list_any (λ n. n == number) (map number_of names)) ≡ false
+          → cond b (Some name) (find has_number names) ≡ None
+      by others true e = cc
+      by others false e = others e
+
+  -- All services are built.
+  pub all_built : built_service services_built number ≡ service_of number
+  all_built = by (list_any (λ n. n == number) services_built) refl
+    where
+      by : (b : Bool) → list_any (λ n. n == number) services_built ≡ b
+          → ◌≡◌ {A = FlatService} (cond b (service_of number) (refuses enosys)) (service_of number)
+      by true e = refl
+      by false e = sym (named_is ∙ ap definition_by (none_named built_services e))
+
+  -- what is done for a call of a number
   pub built_is : built_service services_built number ≡ definition_by (named number)
-  built_is = among built_services
+  built_is = all_built ∙ named_is

@@ -39,11 +39,11 @@ bytes-left s left old p within same others was so_far false q pipe = elim (cases
       ∙ so_far pipe ∙ ap (λ b. cond b (bytes_at old pipe) []) (sym (others pipe other))
 ]
 
-open-by : (a b : ℕ) → (0 < a) → not ((a == 0) && (b == 0)) ≡ true
+pub open-by : (a b : ℕ) → (0 < a) → not ((a == 0) && (b == 0)) ≡ true
 open-by a b h = let x : (a == 0) ≡ false = grind (arith, nat_tests) in
     ap (λ k. not (k && (b == 0))) x
 
-open-by-second : (a b : ℕ) → (0 < b) → not ((a == 0) && (b == 0)) ≡ true
+pub open-by-second : (a b : ℕ) → (0 < b) → not ((a == 0) && (b == 0)) ≡ true
 open-by-second a b h = let x : (b == 0) ≡ false = grind (arith, nat_tests) in
     ap (λ k. not ((a == 0) && k)) x ∙ never (a == 0)
   where
@@ -93,7 +93,7 @@ pub dropped-none : (s : Pipework) (ends : List (Option End)) → AreNamed ends s
     → AreDropped (take 0 ends) s s
 dropped-none s ends named = none-dropped s ends named
 
-more-no : (test : Option End → Bool) (ends : List (Option End)) (i : ℕ) (e : Option End)
+pub more-no : (test : Option End → Bool) (ends : List (Option End)) (i : ℕ) (e : Option End)
     → i < length ends → get_or ends i None ≡ e
     → count_by test (take (i + 1) ends) ≡ count_by test (take i ends) + cond (test e) 1 0
 more-no test ends i e h q = by (test e) refl

@@ -1,4 +1,4 @@
--- The end of a process, from a state of any lawful world.
+-- The end of a process.
 use Rattle.std.proofs.Common.{◌≡◌, ℕ, zero, suc, ◌+◌, ◌<◌, Bool, true, false, cond, List, [], ◌∷◌, map, length, Option, Some, None, IsSome, refl, sym, ap, subst, ◌∙◌, arith}
 use Rattle.std.specs.Prelude.{All, IfSome, not, filter, sum_by, count_by, option_and_then, nat_lt, ◌==◌, ◌&&◌, ◌||◌}
 use Rattle.std.specs.List.{list_any}
@@ -13,14 +13,11 @@ use Rattle.dos_world.specs.Kernel.{process_ended, posted, pending_with, orphaned
 use Rattle.dos_world.specs.Counts.{uses_of, is_mapped, is_open, owner_if_mapped, bytes_if_open, reads_pipe, writes_pipe}
 use Rattle.dos_world.specs.declared.Owner.{Owner}
 use Rattle.dos_world.specs.declared.Owner.TheVariants.{Free}
-use Rattle.dos_laws.specs.Plain.{IsPlain}
 use Rattle.dos_laws.specs.Ends.{ended_processes, closed}
 use Rattle.dos_laws.proofs.EveryEnd.{lawful-process_ended}
 use Rattle.dos_laws.proofs.StandsEnds.{among}
 use Rattle.dos_laws.proofs.EndedProcesses.{orphans_have}
 use Rattle.dos_laws.proofs.Ends.{length-map_from, get_or-map_from}
-use Rattle.dos_laws.proofs.PlainEnds.{plain-process_ended}
-use Rattle.dos_laws.proofs.Outside.{plain-with_quantum}
 use Rattle.dos_laws.proofs.Mapped.{some_is, held_all}
 use Rattle.page_store.specs.Store.{Store, joined, uses_at, owner_at}
 use Rattle.proc_table.specs.Tables.{Tables, IsProcess, IsThread, thread_in, held_in, held_by, thread_by, with_ended}
@@ -28,10 +25,10 @@ use Rattle.kernel_mem.specs.Memory.{AreUsed, IsDropped, entries_of}
 use Rattle.kernel_mem.specs.Seen.{space_in}
 use Rattle.kernel_objects.specs.Pipework.{Pipework, bytes_at, ends_at, is_open_at}
 use Rattle.kernel_calls.specs.Ending.{AreDropped, AreNamed, posted_in}
-use Rattle.kernel_calls.specs.Serving.{IsKept, IsSound, AreCounted, ends_of, world_of, sent}
+use Rattle.kernel_calls.specs.Serving.{IsCounted, IsSound, AreCounted, ends_of, world_of, sent}
 use Rattle.kernel_calls.specs.declared.state.State.{State}
-use Rattle.kernel_calls.proofs.Keeping.{lawful_now, sound_of}
-use Rattle.kernel_calls.proofs.Uses.{any_summed, sum_ended, uses-ended, mapped-used, owner-left}
+use Rattle.kernel_calls.proofs.Keeping.{lawful_now}
+use Rattle.kernel_calls.proofs.Uses.{any_summed, sum_ended, uses-ended, mapped-used, owners-dropped}
 
 -- ---- processes
 
@@ -73,8 +70,21 @@ held_is : (T : Tables) (p : ℕ) → IsProcess T.processes p
 held_is T p live = let is = some_is (held_in T.processes p) live in
     (is.0, is.1, ap (λ o. elim o as (λ _. List _) [ None ↦ [] | Some h ↦ h.space ]) is.1)
 
+-- some process has an end where one is counted
+pub some_end : (test : Option End → Bool) (ps : List Process)
+    → list_any (λ (h : Holdings). list_any test h.descriptors) (all_holdings ps)
+    ≡ nat_lt 0 (ends_of test ps)
+some_end test ps = any_summed (λ (h : Holdings). list_any test h.descriptors)
+    (λ h. count_by test h.descriptors)
+    (λ h. any_summed test (λ e. cond (test e) 1 0) (λ e. one (test e)) h.descriptors)
+    (all_holdings ps)
+  where
+    one : (b : Bool) → b ≡ nat_lt 0 (cond b 1 0)
+    one true = refl
+    one false = refl
+
 -- a pipe is open where it has an end that is counted
-open-counted : (ps : List Process) (pipes : Pipework) → AreCounted ps pipes → (v : World)
+pub open-counted : (ps : List Process) (pipes : Pipework) → AreCounted ps pipes → (v : World)
     → v.processes ≡ ps → (pipe : ℕ) → is_open_at pipes pipe ≡ is_open v pipe
 open-counted ps pipes counted v is pipe =
     ap (λ n. not ((n == 0) && (ends_at pipes pipe true == 0))) (counted.readers pipe)
@@ -91,21 +101,42 @@ open-counted ps pipes counted v is pipe =
         by : (x y : Bool) → (a == 0) ≡ x → (b == 0) ≡ y → not (x && y) ≡ (nat_lt 0 a || nat_lt 0 b)
         by x y p q = grind (arith, nat_tests)
 
-    one : (b : Bool) → b ≡ nat_lt 0 (cond b 1 0)
-    one true = refl
-    one false = refl
-
     any : (test : Option End → Bool)
         → list_any (λ (h : Holdings). list_any test h.descriptors) (all_holdings ps)
         ≡ nat_lt 0 (ends_of test ps)
-    any test = any_summed (λ (h : Holdings). list_any test h.descriptors)
-        (λ h. count_by test h.descriptors)
-        (λ h. any_summed test (λ e. cond (test e) 1 0) (λ e. one (test e)) h.descriptors)
-        (all_holdings ps)
+    any test = some_end test ps
 
-module _ (s : State) (kept : IsKept s) (p status : ℕ) (live : IsProcess s.table.processes p) where
+-- nobody owned a frame that nothing used
+pub unused_free : (s : State) → IsSound s → (frame : ℕ) → frame < length s.frames.owners
+    → uses_at s.frames frame ≡ 0 → owner_at s.frames frame ≡ Free
+unused_free s sound frame lt none =
+    let unmapped : is_mapped (world_of 16 s) frame ≡ false =
+    mapped-used (world_of 16 s) frame
+    ∙ ap (nat_lt 0) (sym (sound.counted.uses 16 frame) ∙ none) in
+    ((lawful_now s sound).frames.free frame lt).1 unmapped
+
+-- Where ends are dropped, a pipe that isn't open any more is empty, and the others stay.
+pub pipes_tidied : (ends : List (Option End)) (old new : Pipework) (v : World)
+    → AreDropped ends old new → length old.bytes ≡ 64 → AreCounted v.processes new
+    → new.bytes ≡ map_from 0 (bytes_if_open v) old.bytes
+pipes_tidied ends old new v dropped count counted =
+    ext_get_or [] new.bytes (map_from 0 (bytes_if_open v) old.bytes)
+    (dropped.byte_counts ∙ sym count ∙ sym (length-map_from 0 (bytes_if_open v) old.bytes))
+    (λ pipe lt.
+    let within : pipe < length old.bytes = omega (arith, dropped.byte_counts, count) in
+    let here : 0 + pipe ≡ pipe = omega arith in
+    dropped.bytes pipe
+    ∙ ap (λ b. cond b (bytes_at old pipe) [])
+    (open-counted v.processes new counted v refl pipe)
+    ∙ sym (get_or-map_from 0 (bytes_if_open v) old.bytes pipe [] [] within
+    ∙ ap (λ k. bytes_if_open v k (bytes_at old pipe)) here))
+
+module _ (s : State) (sound : IsSound s) (p status : ℕ) (live : IsProcess s.table.processes p) where
   abbrev w : World
   w = world_of 16 s
+
+  counted : IsCounted s
+  counted = sound.counted
 
   abbrev left : World
   left = record w { processes = ended_processes w.processes p status }
@@ -113,7 +144,7 @@ module _ (s : State) (kept : IsKept s) (p status : ℕ) (live : IsProcess s.tabl
   uses-left : (frame : ℕ)
       → uses_at s.frames frame ≡ uses_of left frame + entries_of (space_in s.table p) frame
   uses-left frame = let is = held_is s.table p live in
-      kept.uses 16 frame ∙ uses-ended w p status frame is.0 is.1
+      counted.uses 16 frame ∙ uses-ended w p status frame is.0 is.1
       ∙ ap (λ space. uses_of left frame + entries_of space frame) (sym is.2)
 
   -- each of its entries is a use
@@ -139,23 +170,23 @@ module _ (s : State) (kept : IsKept s) (p status : ℕ) (live : IsProcess s.tabl
   named = subst (λ (o : Option Holdings). IfSome o (λ h. AreNamed h.descriptors s.pipes))
       (sym had.1) (record {
         few = in_range.descriptors.1;
-        readers = λ pipe. omega (arith, kept.ends.readers pipe, ends-left (reads_pipe pipe));
-        writers = λ pipe. omega (arith, kept.ends.writers pipe, ends-left (writes_pipe pipe));
-        reader_counts = kept.ends.reader_counts;
-        writer_counts = kept.ends.writer_counts;
-        byte_counts = (lawful_now s kept).pipes.ranges.0;
-        empty = λ pipe shut. (lawful_now s kept).pipes.closed pipe
-            (sym (open-counted s.table.processes s.pipes kept.ends w refl pipe) ∙ shut);
+        readers = λ pipe. omega (arith, counted.ends.readers pipe, ends-left (reads_pipe pipe));
+        writers = λ pipe. omega (arith, counted.ends.writers pipe, ends-left (writes_pipe pipe));
+        reader_counts = counted.ends.reader_counts;
+        writer_counts = counted.ends.writer_counts;
+        byte_counts = (lawful_now s sound).pipes.ranges.0;
+        empty = λ pipe shut. (lawful_now s sound).pipes.closed pipe
+            (sym (open-counted s.table.processes s.pipes counted.ends w refl pipe) ∙ shut);
       })
     where
       in_range : AreHoldings (length s.frames.owners) had.0
       in_range = held_all (AreHoldings (length s.frames.owners)) s.table.processes p had.0
-          (lawful_now s kept).processes.holdings had.1
+          (lawful_now s sound).processes.holdings had.1
 
   pub named-count : IfSome (held_in s.table.processes p) (λ h. length h.descriptors ≡ 32)
   named-count = subst (λ (o : Option Holdings). IfSome o (λ h. length h.descriptors ≡ 32))
       (sym had.1) (held_all (AreHoldings (length s.frames.owners)) s.table.processes p had.0
-      (lawful_now s kept).processes.holdings had.1).descriptors.0
+      (lawful_now s sound).processes.holdings had.1).descriptors.0
 
   module _ (frames : Store) (dropped : IsDropped (space_in s.table p) s.frames frames)
       (pipes : Pipework)
@@ -182,28 +213,9 @@ module _ (s : State) (kept : IsKept s) (p status : ℕ) (live : IsProcess s.tabl
     uses_new : (frame : ℕ) → uses_at frames frame ≡ uses_of left frame
     uses_new frame = dropped.uses frame ∙ omega (arith, uses-left frame)
 
-    -- nobody owned a frame that nothing used
-    unused_free : (frame : ℕ) → frame < length s.frames.owners → uses_at s.frames frame ≡ 0
-        → owner_at s.frames frame ≡ Free
-    unused_free frame lt none =
-        let unmapped : is_mapped w frame ≡ false =
-        mapped-used w frame ∙ ap (nat_lt 0) (sym (kept.uses 16 frame) ∙ none) in
-        ((lawful_now s kept).frames.free frame lt).1 unmapped
-
     owners_is : frames.owners ≡ map_from 0 (owner_if_mapped left) s.frames.owners
-    owners_is =
-        ext_get_or Free frames.owners (map_from 0 (owner_if_mapped left) s.frames.owners)
-        (dropped.count ∙ sym (length-map_from 0 (owner_if_mapped left) s.frames.owners))
-        (λ frame lt.
-        let within : frame < length s.frames.owners = omega (arith, dropped.count) in
-        let here : 0 + frame ≡ frame = omega arith in
-        dropped.owners frame
-        ∙ owner-left (owner_at s.frames frame) (uses_at s.frames frame)
-        (entries_of (space_in s.table p) frame) (uses_of left frame) (uses-left frame)
-        (unused_free frame within)
-        ∙ ap (λ b. cond b (owner_at s.frames frame) Free) (sym (mapped-used left frame))
-        ∙ sym (get_or-map_from 0 (owner_if_mapped left) s.frames.owners frame Free Free within
-        ∙ ap (λ k. owner_if_mapped left k (owner_at s.frames frame)) here))
+    owners_is = owners-dropped left (space_in s.table p) s.frames frames dropped uses-left
+        (unused_free s sound)
 
     dropped_ends : AreDropped had.0.descriptors s.pipes pipes
     dropped_ends = subst (λ (o : Option Holdings). IfSome o
@@ -214,13 +226,13 @@ module _ (s : State) (kept : IsKept s) (p status : ℕ) (live : IsProcess s.tabl
       readers = λ pipe. omega (
         arith,
         dropped_ends.readers pipe,
-        kept.ends.readers pipe,
+        counted.ends.readers pipe,
         ends-left (reads_pipe pipe),
       );
       writers = λ pipe. omega (
         arith,
         dropped_ends.writers pipe,
-        kept.ends.writers pipe,
+        counted.ends.writers pipe,
         ends-left (writes_pipe pipe),
       );
       reader_counts = dropped_ends.reader_counts;
@@ -229,17 +241,8 @@ module _ (s : State) (kept : IsKept s) (p status : ℕ) (live : IsProcess s.tabl
 
     pipes_is : pipes.bytes ≡ map_from 0 (bytes_if_open left) s.pipes.bytes
     pipes_is =
-        ext_get_or [] pipes.bytes (map_from 0 (bytes_if_open left) s.pipes.bytes)
-        (dropped_ends.byte_counts ∙ sym ((lawful_now s kept).pipes.ranges.0)
-        ∙ sym (length-map_from 0 (bytes_if_open left) s.pipes.bytes)) (λ pipe lt.
-        let within : pipe < length s.pipes.bytes =
-        omega (arith, dropped_ends.byte_counts, (lawful_now s kept).pipes.ranges.0) in
-        let here : 0 + pipe ≡ pipe = omega arith in
-        dropped_ends.bytes pipe
-        ∙ ap (λ b. cond b (bytes_at s.pipes pipe) [])
-        (open-counted left.processes pipes counted_left left refl pipe)
-        ∙ sym (get_or-map_from 0 (bytes_if_open left) s.pipes.bytes pipe [] [] within
-        ∙ ap (λ k. bytes_if_open left k (bytes_at s.pipes pipe)) here))
+        pipes_tidied had.0.descriptors s.pipes pipes left dropped_ends
+        (lawful_now s sound).pipes.ranges.0 counted_left
 
     abbrev shown : World → List ℕ → List Owner → List Process → List (List ℕ) → World
     shown v bytes owners processes held =
@@ -336,34 +339,28 @@ module _ (s : State) (kept : IsKept s) (p status : ℕ) (live : IsProcess s.tabl
           by None = refl
           by (Some t) = refl
 
-      pub kept-ended : status < 256 → IsKept (new parent)
-      kept-ended small = record {
-        home = record {
-          home =
-              subst (λ (ps : List (Option (List ℕ))). All IsSome ps)
-              (sym dropped.pages) kept.home.home;
-          owners = dropped.count ∙ kept.home.owners
-              ∙ ap length (sym dropped.pages);
+      pub sound-ended : status < 256 → IsSound (new parent)
+      sound-ended small = record {
+        counted = record {
+          home = record {
+            home =
+                subst (λ (ps : List (Option (List ℕ))). All IsSome ps)
+                (sym dropped.pages) counted.home.home;
+            owners = dropped.count ∙ counted.home.owners
+                ∙ ap length (sym dropped.pages);
+          };
+          round = counted.round;
+          room = omega (arith, dropped.count, counted.room, posted_room);
+          uses = λ q frame. uses_new frame
+              ∙ ap (λ ps. uses_of (record left { processes = ps }) frame)
+              (sym (posted_processes ∙ processes_is));
+          ends = subst (λ ps. AreCounted ps pipes)
+              (sym (posted_processes ∙ processes_is)) counted_left;
         };
-        round = kept.round;
-        room = omega (arith, dropped.count, kept.room, posted_room);
-        uses = λ q frame. uses_new frame
-            ∙ ap (λ ps. uses_of (record left { processes = ps }) frame)
-            (sym (posted_processes ∙ processes_is));
-        ends = subst (λ ps. AreCounted ps pipes)
-            (sym (posted_processes ∙ processes_is)) counted_left;
         lawful = λ q low high.
             subst Lawful (ends q [] [])
-            (lawful-process_ended (world_of q s) p status small (kept.lawful q low high));
-        plain = λ q. tt;
+            (lawful-process_ended (world_of q s) p status small (sound.lawful q low high));
       }
-
-      -- and plain, where it was
-      pub sound-ended : status < 256 → IsSound s → IsSound (new parent)
-      sound-ended small sound = sound_of (new parent) (kept-ended small) (λ q.
-          plain-with_quantum (world_of 16 (new parent)) q
-          (subst IsPlain (ends 16 [] [])
-          (plain-process_ended w (lawful_now s kept) (sound.plain 16) p status)))
 
 -- ---- who is told
 

@@ -3,25 +3,25 @@ use Rattle.std.proofs.Common.{◌≡◌, ◌≢◌, ℕ, Bool, true, false, cond
 use Rattle.std.specs.Prelude.{unwrap_or, slice_get}
 use Rattle.std.proofs.lemmas.Bool.{ne_eqb}
 use Rattle.dos_world.specs.World.{World, Holdings, live_process, registers_by}
-use Rattle.dos_world.specs.Kernel.{all_reach, copied_in, answered, minus}
+use Rattle.dos_world.specs.Kernel.{copied_in, answered, minus}
 use Rattle.dos_world.specs.Play.{Play, done, over}
-use Rattle.dos_world.specs.Services.{Service, Served as FlatServed, Call, went, transfers, returns, returns_in, refuses, count_of, write_output, write_error, write_by, descriptor}
-use Rattle.dos_world.specs.declared.Access.TheVariants.{Load}
+use Rattle.dos_world.specs.Services.{Service, Served as FlatServed, Call, went, transfers, returns, returns_in, refuses, count_of, write_output, write_error, write, write_by, descriptor}
 use Rattle.dos_world.specs.declared.End.{End}
 use Rattle.dos_world.specs.declared.End.TheVariants.{Input, Output, Error, PipeRead, PipeWrite}
-use Rattle.dos_laws.specs.Plain.{IsNoPipe}
 use Rattle.dos_io.specs.Outside.{grown, GrewByFront}
 use Rattle.dos_io.proofs.OutsideLaws.{grown-nothing}
-use Rattle.proc_table.specs.Tables.{thread_by, end_in}
+use Rattle.proc_table.specs.Tables.{thread_by, held_in, end_in}
 use Rattle.kernel_mem.specs.Seen.{in_world}
 use Rattle.kernel_objects.specs.Pipework.{Pipework}
-use Rattle.kernel_calls.specs.Serving.{Stands, world_of, base, sent, way_in, FaultsIn, HaveGrown, to_output, to_error}
-use Rattle.kernel_calls.specs.Calling.{call_in, GoesOn, Sends, Transfers, IsSent, IsCutOff, asked_count, are_readable, target_of}
+use Rattle.kernel_calls.specs.Serving.{IsSound, Stands, world_of, base, sent, way_in, FaultsIn, HaveGrown, to_output, to_error}
+use Rattle.kernel_calls.specs.Calling.{AreAsked, call_in, GoesOn, Sends, Transfers, IsSent, IsCutOff, asked_count, are_readable, target_of}
 use Rattle.kernel_calls.specs.declared.state.State.{State}
 use Rattle.kernel_calls.specs.declared.state.Asked.{Asked}
 use Rattle.kernel_calls.specs.declared.state.Served.{Served}
 use Rattle.kernel_calls.specs.declared.state.Served.TheVariants.{Went}
-use Rattle.kernel_calls.specs.declared.writing.Target.TheVariants.{Output as output_target, Error as error_target}
+use Rattle.kernel_calls.specs.declared.writing.Target.{Target}
+use Rattle.kernel_calls.specs.declared.writing.Target.TheVariants.{Output as output_target, Error as error_target, Pipe as pipe_target}
+use Rattle.kernel_calls.proofs.Keeping.{process_alive}
 
 -- the state after an answer
 abbrev pub answering : State → ℕ → ℕ → State
@@ -29,11 +29,12 @@ answering s t value = record s { table = thread_by (registers_by (answered value
 
 -- ---- which branch
 
-zero_moves : (s : Service) (b : Bool) (c : Call) → count_of c ≡ 0 → transfers s b c ≡ returns 0 c
+pub zero_moves : (s : Service) (b : Bool) (c : Call) → count_of c ≡ 0
+    → transfers s b c ≡ returns 0 c
 zero_moves s b c e = ap (λ (t : Bool). cond t (returns 0 c) (cond b (s c) (refuses 14 c)))
     (eq-eqb (count_of c) 0 e)
 
-moved : (s : Service) (b d : Bool) (c : Call) → count_of c ≢ 0 → b ≡ d
+pub moved : (s : Service) (b d : Bool) (c : Call) → count_of c ≢ 0 → b ≡ d
     → transfers s b c ≡ cond d (s c) (refuses 14 c)
 moved s b d c e is = ap (λ (t : Bool). cond t (returns 0 c) (cond b (s c) (refuses 14 c)))
     (ne_eqb (count_of c) 0 e) ∙ ap (λ (t : Bool). cond t (s c) (refuses 14 c)) is
@@ -155,32 +156,42 @@ descriptor_is w a d live is = by (live_process w a.process) live is
     by None l e = cc
     by (Some h) l e = sym e
 
-pub writes-output : (d : Option End) (c : Call) → target_of d ≡ Some output_target
-    → write_by d c ≡ transfers write_output (all_reach c.world c.thread c.a1 (count_of c) Load) c
-writes-output (Some Output) c e = refl
-writes-output (Some Error) c e = cc
-writes-output (Some Input) c e = cc
-writes-output (Some (PipeRead p)) c e = cc
-writes-output (Some (PipeWrite p)) c e = cc
-writes-output None c e = cc
+-- so the call writes what a write to that end writes
+pub writes_as : (s : State) (sound : IsSound s) (a : Asked) → AreAsked s a → (d end : Option End)
+    → IfSome (held_in s.table.processes a.process) (λ h. d ≡ end_in h a.a0) → d ≡ end
+    → (q : ℕ) (o e : List ℕ)
+    → write (call_in (sent o e (world_of q s)) a)
+    ≡ write_by end (call_in (sent o e (world_of q s)) a)
+writes_as s sound a are d end is same q o e =
+    let w : World = sent o e (world_of q s) in
+    ap (λ x. write_by x (call_in w a))
+    (descriptor_is w a d (process_alive s sound a.thread a.process are.live are.process) is ∙ same)
 
-pub writes-error : (d : Option End) (c : Call) → target_of d ≡ Some error_target
-    → write_by d c ≡ transfers write_error (all_reach c.world c.thread c.a1 (count_of c) Load) c
-writes-error (Some Output) c e = cc
-writes-error (Some Error) c e = refl
-writes-error (Some Input) c e = cc
-writes-error (Some (PipeRead p)) c e = cc
-writes-error (Some (PipeWrite p)) c e = cc
-writes-error None c e = cc
+-- the end that a target is
+abbrev pub end_of : Target → End
+end_of output_target = Output
+end_of error_target = Error
+end_of (pipe_target pipe) = PipeWrite pipe
 
-pub writes-none : (d : Option End) (c : Call) → IsNoPipe d → target_of d ≡ None
-    → write_by d c ≡ refuses 9 c
-writes-none (Some Output) c h e = cc
-writes-none (Some Error) c h e = cc
-writes-none (Some Input) c h e = refl
-writes-none (Some (PipeRead p)) c h e = refl
-writes-none (Some (PipeWrite p)) c h e = absurd h
-writes-none None c h e = refl
+pub target_end : (d : Option End) (target : Target) → target_of d ≡ Some target
+    → d ≡ Some (end_of target)
+target_end (Some Output) target e =
+    let same : output_target ≡ target = cc in ap (λ k. Some (end_of k)) same
+target_end (Some Error) target e =
+    let same : error_target ≡ target = cc in ap (λ k. Some (end_of k)) same
+target_end (Some (PipeWrite p)) target e =
+    let same : pipe_target p ≡ target = cc in ap (λ k. Some (end_of k)) same
+target_end (Some Input) target e = cc
+target_end (Some (PipeRead p)) target e = cc
+target_end None target e = cc
+
+pub writes_none : (d : Option End) (c : Call) → target_of d ≡ None → write_by d c ≡ refuses 9 c
+writes_none (Some Output) c e = cc
+writes_none (Some Error) c e = cc
+writes_none (Some Input) c e = refl
+writes_none (Some (PipeRead p)) c e = refl
+writes_none (Some (PipeWrite p)) c e = cc
+writes_none None c e = refl
 
 -- ---- what a service sends
 

@@ -1,19 +1,23 @@
--- The uses of frames, counted again when a process has ended.
-use Rattle.std.proofs.Common.{◌≡◌, ℕ, zero, suc, ◌+◌, Bool, true, false, cond, List, [], ◌∷◌, Option, Some, None, refl, sym, ap, ◌∙◌, arith}
+-- The uses of frames, counted again when a process has ended or pages are unmapped.
+use Rattle.std.proofs.Common.{◌≡◌, ℕ, zero, suc, ◌+◌, ◌<◌, Bool, true, false, cond, List, [], ◌∷◌, length, Option, Some, None, refl, sym, ap, ◌∙◌, arith}
 use Rattle.std.specs.Prelude.{◌==◌, ◌&&◌, ◌||◌, nat_lt, count_by, sum_by}
 use Rattle.std.specs.List.{list_any}
+use Rattle.std.proofs.lemmas.List.{ext_get_or}
 use Rattle.std.proofs.lemmas.List.Sums.{sum_by-cons}
 use Rattle.std.proofs.lemmas.Bool.Decides.{nat_tests}
-use Rattle.dos_world.specs.Numbered.{changed, changed_at}
+use Rattle.dos_world.specs.Numbered.{changed, changed_at, map_from}
 use Rattle.dos_world.specs.World.{World, Process, Holdings, holdings_of, all_holdings}
 use Rattle.dos_world.specs.Kernel.{ended_by}
-use Rattle.dos_world.specs.Counts.{uses_of, is_mapped, maps_frame}
+use Rattle.dos_world.specs.Counts.{uses_of, is_mapped, maps_frame, owner_if_mapped}
+use Rattle.dos_world.specs.declared.Entry.{Entry}
 use Rattle.dos_world.specs.declared.Owner.{Owner}
 use Rattle.dos_world.specs.declared.Owner.TheVariants.{Free}
 use Rattle.dos_laws.specs.Ends.{ended_processes}
 use Rattle.dos_laws.proofs.EndedProcesses.{before, orphans_have}
+use Rattle.dos_laws.proofs.Ends.{length-map_from, get_or-map_from}
+use Rattle.page_store.specs.Store.{Store, owner_at, uses_at}
 use Rattle.proc_table.specs.Tables.{held_in}
-use Rattle.kernel_mem.specs.Memory.{entries_of}
+use Rattle.kernel_mem.specs.Memory.{IsDropped, entries_of}
 
 -- ---- sums over what the live processes have
 
@@ -95,3 +99,23 @@ owner-left o u k (suc v) e free =
     never : (b : Bool) → cond (b && false) Free o ≡ o
     never true = refl
     never false = refl
+
+-- Where entries are gone, each frame has the owner that it had, but for those that nothing maps any
+-- more.
+pub owners-dropped : (left : World) (gone : List (ℕ × Entry)) (old new : Store)
+    → IsDropped gone old new
+    → ((frame : ℕ) → uses_at old frame ≡ uses_of left frame + entries_of gone frame)
+    → ((frame : ℕ) → frame < length old.owners → uses_at old frame ≡ 0 → owner_at old frame ≡ Free)
+    → new.owners ≡ map_from 0 (owner_if_mapped left) old.owners
+owners-dropped left gone old new dropped uses free =
+    ext_get_or Free new.owners (map_from 0 (owner_if_mapped left) old.owners)
+    (dropped.count ∙ sym (length-map_from 0 (owner_if_mapped left) old.owners))
+    (λ frame lt.
+    let within : frame < length old.owners = omega (arith, dropped.count) in
+    let here : 0 + frame ≡ frame = omega arith in
+    dropped.owners frame
+    ∙ owner-left (owner_at old frame) (uses_at old frame) (entries_of gone frame)
+    (uses_of left frame) (uses frame) (free frame within)
+    ∙ ap (λ b. cond b (owner_at old frame) Free) (sym (mapped-used left frame))
+    ∙ sym (get_or-map_from 0 (owner_if_mapped left) old.owners frame Free Free within
+    ∙ ap (λ k. owner_if_mapped left k (owner_at old frame)) here))

@@ -2,25 +2,51 @@
 -- project's own; the definitions are those of dos_world.
 use Rattle.std.specs.Prelude.{ℕ, List, [], ◌∷◌, map, find, Option, Some, None, ◌==◌}
 use Rattle.dos_world.specs.Errors.{enosys}
-use Rattle.dos_world.specs.Services.{Service as FlatService, refuses, thread_exit, process_exit, thread_new, write, get_pid, get_tid, yield, round_number}
+use Rattle.dos_world.specs.Services.{Service as FlatService, refuses, thread_exit, process_exit, thread_new, fork, wait, pipe, read, write, close, dup, futex_wait, futex_wake, map_pages, unmap, share, sig_handler, sig_mask, sig_return, kill, get_pid, get_tid, clock, yield, round_number}
 use Rattle.kernel_calls.specs.declared.naming.Service.{Service}
-use Rattle.kernel_calls.specs.declared.naming.Service.TheVariants.{ThreadExit, ProcessExit, ThreadNew, Write, GetPid, GetTid, Yield, RoundNumber}
+use Rattle.kernel_calls.specs.declared.naming.Service.TheVariants.{Quiet, Read, Write, Clock}
+use Rattle.kernel_calls.specs.declared.naming.QuietService.{QuietService}
+use Rattle.kernel_calls.specs.declared.naming.QuietService.TheVariants.{ThreadExit, ProcessExit, ThreadNew, Fork, Wait, Pipe, Close, Dup, FutexWait, FutexWake, MapPages, Unmap, Share, SigHandler, SigMask, SigReturn, Kill, GetPid, GetTid, Yield, RoundNumber}
 
--- each service, with its number and what it does
+-- each service that asks nothing and sends nothing, with its number and what it does
+abbrev pub quiet_row_of : QuietService → ℕ × FlatService
+quiet_row_of ThreadExit = (1, thread_exit)
+quiet_row_of ProcessExit = (2, process_exit)
+quiet_row_of ThreadNew = (3, thread_new)
+quiet_row_of Fork = (4, fork)
+quiet_row_of Wait = (5, wait)
+quiet_row_of Pipe = (6, pipe)
+quiet_row_of Close = (9, close)
+quiet_row_of Dup = (10, dup)
+quiet_row_of FutexWait = (11, futex_wait)
+quiet_row_of FutexWake = (12, futex_wake)
+quiet_row_of MapPages = (13, map_pages)
+quiet_row_of Unmap = (14, unmap)
+quiet_row_of Share = (15, share)
+quiet_row_of SigHandler = (16, sig_handler)
+quiet_row_of SigMask = (17, sig_mask)
+quiet_row_of SigReturn = (18, sig_return)
+quiet_row_of Kill = (19, kill)
+quiet_row_of GetPid = (20, get_pid)
+quiet_row_of GetTid = (21, get_tid)
+quiet_row_of Yield = (23, yield)
+quiet_row_of RoundNumber = (24, round_number)
+
+-- each service
 abbrev pub row_of : Service → ℕ × FlatService
-row_of ThreadExit = (1, thread_exit)
-row_of ProcessExit = (2, process_exit)
-row_of ThreadNew = (3, thread_new)
+row_of (Quiet service) = quiet_row_of service
+row_of Read = (7, read)
 row_of Write = (8, write)
-row_of GetPid = (20, get_pid)
-row_of GetTid = (21, get_tid)
-row_of Yield = (23, yield)
-row_of RoundNumber = (24, round_number)
+row_of Clock = (22, clock)
 
 -- the services that are built
 abbrev pub built_services : List Service
 built_services =
-    ThreadExit ∷ ProcessExit ∷ ThreadNew ∷ Write ∷ GetPid ∷ GetTid ∷ Yield ∷ RoundNumber ∷ []
+    Quiet ThreadExit ∷ Quiet ProcessExit ∷ Quiet ThreadNew ∷ Quiet Fork ∷ Quiet Wait ∷
+    Quiet Pipe ∷ Read ∷ Write ∷ Quiet Close ∷ Quiet Dup ∷ Quiet FutexWait ∷ Quiet FutexWake ∷
+    Quiet MapPages ∷ Quiet Unmap ∷ Quiet Share ∷ Quiet SigHandler ∷ Quiet SigMask ∷
+    Quiet SigReturn ∷ Quiet Kill ∷ Quiet GetPid ∷ Quiet GetTid ∷ Clock ∷ Quiet Yield ∷
+    Quiet RoundNumber ∷ []
 
 -- ---- what follows from them
 
@@ -31,6 +57,10 @@ number_of service = (row_of service).0
 -- what it does
 abbrev pub definition_of : Service → FlatService
 definition_of service = (row_of service).1
+
+-- what one does that asks nothing and sends nothing
+abbrev pub quiet_definition_of : QuietService → FlatService
+quiet_definition_of service = (quiet_row_of service).1
 
 -- the numbers of all that are built, as a world lists them
 abbrev pub services_built : List ℕ

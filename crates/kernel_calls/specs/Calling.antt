@@ -1,22 +1,27 @@
 -- What a call of a service comes to, once it is paid for. This project's own rules.
-use Rattle.std.specs.Prelude.{◌≡◌, ◌≤◌, ◌++◌, ℕ, min, Bool, List, Option, None, Some, Result, IfErr, IfSome}
+use Rattle.std.specs.Prelude.{◌≡◌, ◌≤◌, ◌++◌, ℕ, min, Bool, List, Option, None, Some, Result, IfErr, IfSome, All, map, []}
 use Rattle.dos_world.specs.World.{World}
 use Rattle.dos_world.specs.Kernel.{all_reach}
-use Rattle.dos_world.specs.Play.{done}
-use Rattle.dos_world.specs.Services.{Call, Service as FlatService, went, transfers, write_output, write_error}
+use Rattle.dos_world.specs.Play.{done, over, questions, gives}
+use Rattle.dos_world.specs.Services.{charged, Call, Service as FlatService, went, transfers, write_output, write_error}
 use Rattle.dos_world.specs.declared.Access.TheVariants.{Load}
 use Rattle.dos_world.specs.declared.End.{End}
 use Rattle.dos_world.specs.declared.End.TheVariants.{Input, Output, Error, PipeRead, PipeWrite}
+use Rattle.dos_io.specs.Exchanges.{answer_of, question_of}
+use Rattle.dos_io.specs.declared.exchange.Exchange.{Exchange}
+use Rattle.dos_laws.specs.Standing.{IsFit}
 use Rattle.dos_io.specs.Outside.{grown, GrewByFront, Rose}
-use Rattle.proc_table.specs.Tables.{Tables, IsThread, thread_in}
-use Rattle.kernel_calls.specs.Serving.{world_of, sent, way_in}
+use Rattle.proc_table.specs.Tables.{Tables, IsThread, thread_by, thread_in}
+use Rattle.kernel_calls.specs.Serving.{IsReady, world_of, sent, way_in}
 use Rattle.kernel_calls.specs.declared.state.State.{State}
 use Rattle.kernel_calls.specs.declared.state.Asked.{Asked}
 use Rattle.kernel_calls.specs.declared.state.Served.{Served}
 use Rattle.kernel_calls.specs.declared.state.RunStop.{RunStop}
 use Rattle.kernel_calls.specs.declared.state.RunStop.TheVariants.{OutFault, ErrFault}
+use Rattle.kernel_calls.specs.declared.reading.Source.{Source}
+use Rattle.kernel_calls.specs.declared.reading.Source.TheVariants.{Input as input_source, Pipe as pipe_source}
 use Rattle.kernel_calls.specs.declared.writing.Target.{Target}
-use Rattle.kernel_calls.specs.declared.writing.Target.TheVariants.{Output as output_target, Error as error_target}
+use Rattle.kernel_calls.specs.declared.writing.Target.TheVariants.{Output as output_target, Error as error_target, Pipe as pipe_target}
 
 -- these arguments, asked in this world
 abbrev pub call_in : World → Asked → Call
@@ -30,9 +35,14 @@ call_in w a = record {
       a.a2;
 }
 
--- the thread that asks lives, and its process is the one that is said
+-- the state once t's call is paid for
+abbrev pub paid : State → ℕ → State
+paid s t = record s { table = thread_by charged s.table t }
+
+-- the thread that asks lives and is ready, and its process is the one that is said
 pub record AreAsked (s : State) (a : Asked) : Type 0 where
   pub live : IsThread s.table.threads a.thread
+  pub ready : IsReady s.table.threads a.thread
   pub process : IfSome (thread_in s.table.threads a.thread) (λ thread. a.process ≡ thread.process)
 
 -- ---- what it does
@@ -55,6 +65,20 @@ pub record Sends (service : FlatService) (old : State) (a : Asked) (way : Served
       → service (call_in (sent o e (world_of q old)) a)
       ≡ done (way_in way (sent (o ++ output) (e ++ error) (world_of q new)))
 
+-- Over the answers of these exchanges, which fit, it goes on this way in the new state's world. It
+-- asked what they asked, and sends nothing.
+pub record Consults (service : FlatService) (old : State) (a : Asked)
+    (told told_after : List Exchange) (way : Served) (new : State) : Type 0 where
+  pub exchanges : List Exchange
+  pub told_is : told_after ≡ told ++ exchanges
+  pub fits : All IsFit (map answer_of exchanges)
+  pub gives : (q : ℕ) (o e : List ℕ)
+      → over (map answer_of exchanges) (service (call_in (sent o e (world_of q old)) a))
+      ≡ gives (way_in way (sent o e (world_of q new))) []
+  pub asks : (q : ℕ) (o e : List ℕ)
+      → questions (map answer_of exchanges) (service (call_in (sent o e (world_of q old)) a))
+      ≡ map question_of exchanges
+
 -- a stop that is a sink's fault, and that sink's count rose
 abbrev pub IsSinkFault : RunStop → (out out_after err err_after : ℕ) → Type 0
 IsSinkFault OutFault out out_after err err_after = Rose out out_after
@@ -68,16 +92,25 @@ pub record HasSinkCauses {T : Type 0} (result : Result T RunStop)
   pub err_later : err ≤ err_after
   pub sinks : IfErr result (λ stop. IsSinkFault stop out out_after err err_after)
 
--- ---- writing
+-- ---- reading and writing
 
--- where a descriptor writes to, if it is one of the group's own outputs
+-- where a descriptor writes to: one of the group's own outputs, or a pipe
 abbrev pub target_of : Option End → Option Target
 target_of (Some Output) = Some output_target
 target_of (Some Error) = Some error_target
 target_of (Some Input) = None
 target_of (Some (PipeRead pipe)) = None
-target_of (Some (PipeWrite pipe)) = None
+target_of (Some (PipeWrite pipe)) = Some (pipe_target pipe)
 target_of None = None
+
+-- where a descriptor reads from: the input, or a pipe
+abbrev pub source_of : Option End → Option Source
+source_of (Some Input) = Some input_source
+source_of (Some (PipeRead pipe)) = Some (pipe_source pipe)
+source_of (Some Output) = None
+source_of (Some Error) = None
+source_of (Some (PipeWrite pipe)) = None
+source_of None = None
 
 -- how many bytes are asked for
 abbrev pub asked_count : Asked → ℕ

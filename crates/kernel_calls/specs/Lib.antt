@@ -2,3 +2,8 @@ pub mod Built
 pub mod Serving
 pub mod Calling
 pub mod Ending
+pub mod Queued
+pub mod Memory
+pub mod Ends
+pub mod Waits
+pub mod Children

@@ -1,7 +1,7 @@
 -- The flat world of a state, what a sound state is, and what it means to have served. This
 -- project's own rules.
-use Rattle.std.specs.Prelude.{◌≡◌, ◌≤◌, ◌-◌, ◌++◌, ℕ, Bool, true, false, List, [], map, length, sum_by, count_by, Option, None, Some, Result, Ok, Err, IfErr, ⊤}
-use Rattle.dos_world.specs.World.{World, Process, Sleeper, all_holdings}
+use Rattle.std.specs.Prelude.{◌≡◌, ◌≤◌, ◌-◌, ◌++◌, ℕ, Bool, true, false, List, [], ◌∷◌, map, length, sum_by, count_by, Option, None, Some, Result, Ok, Err, IfErr, IfSome, All}
+use Rattle.dos_world.specs.World.{World, Process, Thread, Sleeper, all_holdings}
 use Rattle.dos_world.specs.Counts.{reads_pipe, writes_pipe}
 use Rattle.dos_world.specs.declared.End.{End}
 use Rattle.kernel_objects.specs.Pipework.{Pipework, ends_at}
@@ -9,15 +9,16 @@ use Rattle.dos_world.specs.Lawful.{Lawful, uses_of}
 use Rattle.dos_world.specs.Play.{Play, over, questions, gives, asks}
 use Rattle.dos_world.specs.Services.{Served as FlatServed, went, waits, yields, gone}
 use Rattle.dos_world.specs.declared.Question.{Question}
+use Rattle.dos_world.specs.declared.ThreadState.TheVariants.{Ready}
 use Rattle.dos_io.specs.Exchanges.{answer_of, question_of}
 use Rattle.dos_io.specs.Outside.{grown, GrewByFront, Rose}
 use Rattle.dos_io.specs.Shims.{ShimState, Stopped}
 use Rattle.dos_io.specs.declared.exchange.Exchange.{Exchange}
 use Rattle.dos_io.specs.declared.shim.ShimStop.{ShimStop}
 use Rattle.dos_io.specs.declared.shim.ShimStop.TheVariants.{HostFault as host_fault, LogFull as log_full, Misfit as misfit, Memory as memory}
-use Rattle.dos_laws.specs.Plain.{IsPlain}
+use Rattle.dos_laws.specs.Standing.{AreAwake, AreApart, IsFit}
 use Rattle.page_store.specs.Store.{uses_at}
-use Rattle.proc_table.specs.Tables.{Tables}
+use Rattle.proc_table.specs.Tables.{Tables, thread_in}
 use Rattle.kernel_mem.specs.Seen.{in_world, IsHome, KeepsUses}
 use Rattle.kernel_calls.specs.Built.{services_built}
 use Rattle.kernel_calls.specs.declared.state.State.{State}
@@ -66,9 +67,8 @@ pub record AreCounted (processes : List Process) (pipes : Pipework) : Type 0 whe
   pub reader_counts : length pipes.readers ≡ 64
   pub writer_counts : length pipes.writers ≡ 64
 
--- What the kept numbers of a state are, and which worlds it may be of: lawful ones, of which this
--- is so besides.
-pub record IsKeptWith (IsSo : World → Type 0) (s : State) : Type 0 where
+-- The kept numbers of a state are those of its world.
+pub record IsCounted (s : State) : Type 0 where
   -- every page is home
   pub home : IsHome s.frames
   -- rounds are numbered from 1
@@ -79,18 +79,31 @@ pub record IsKeptWith (IsSo : World → Type 0) (s : State) : Type 0 where
   pub uses : (q frame : ℕ) → uses_at s.frames frame ≡ uses_of (world_of q s) frame
   -- the kept ends of pipes are those that processes have
   pub ends : AreCounted s.table.processes s.pipes
-  -- its world is lawful, under every quantum that a run may have
+
+-- A sound state: its kept numbers are those of its world, and that is lawful under every quantum
+-- that a run may have.
+pub record IsSound (s : State) : Type 0 where
+  pub counted : IsCounted s
   pub lawful : (q : ℕ) → 16 ≤ q → q ≤ 65536 → Lawful (world_of q s)
-  -- and this is so of it
-  pub plain : (q : ℕ) → IsSo (world_of q s)
 
--- A state of any lawful world: processes may have parents and ends of pipes, and threads may sleep.
-abbrev pub IsKept : State → Type 0
-IsKept s = IsKeptWith (λ w. ⊤) s
+-- a live thread that neither waits nor sleeps; so is every caller
+abbrev pub IsReady : List (Option Thread) → ℕ → Type 0
+IsReady threads t = IfSome (thread_in threads t) (λ thread. thread.state ≡ Ready)
 
--- A state of a lawful world that is plain.
-abbrev pub IsSound : State → Type 0
-IsSound s = IsKeptWith IsPlain s
+-- ---- who has a part
+
+-- These threads may have their serial parts, one after another: each is ready, or gone, and stands
+-- here once.
+pub record HaveParts (ts : List ℕ) (s : State) : Type 0 where
+  pub awake : AreAwake (world_of 0 s) ts
+  pub apart : AreApart ts
+
+-- who has a part left after a service of t's: where it goes on, t is the first
+abbrev pub left_after : Served → ℕ → List ℕ → List ℕ
+left_after Went t ts = t ∷ ts
+left_after Waits t ts = ts
+left_after Yields t ts = ts
+left_after Gone t ts = ts
 
 -- ---- having served
 
@@ -102,7 +115,7 @@ way_in Yields w = yields w
 way_in Gone w = gone w
 
 -- From the world of the old state, with any bytes sent before, a play asks what these exchanges
--- added asked, and over their answers it goes on this way:
+-- added asked, and over their answers, which fit, it goes on this way:
 -- in the world of the new state, with the bytes sent before and those that the sinks now tell more.
 pub record Answers (play : World → Play FlatServed) (old : State) (told told_after : List Exchange)
     (way : Served) (new : State) (out out_after err err_after : Option (List ℕ)) : Type 0 where
@@ -112,6 +125,7 @@ pub record Answers (play : World → Play FlatServed) (old : State) (told told_a
   pub told_is : told_after ≡ told ++ exchanges
   pub out_is : out_after ≡ grown out output
   pub err_is : err_after ≡ grown err error
+  pub fits : All IsFit (map answer_of exchanges)
   pub gives : (q : ℕ) (o e : List ℕ)
       → over (map answer_of exchanges) (play (sent o e (world_of q old)))
       ≡ gives (way_in way (sent (o ++ output) (e ++ error) (world_of q new))) []
@@ -130,13 +144,24 @@ shim_stop Memory = Some memory
 shim_stop OutFault = None
 shim_stop ErrFault = None
 
--- The shim stopped at the play's first question; no byte was sent by then.
-pub record Asks (play : World → Play FlatServed) (old : State) (before : ShimState)
-    (stop : ShimStop) (after : ShimState)
-    (out out_after err err_after : Option (List ℕ)) : Type 0 where
+-- The shim stopped at the play's first question.
+pub record AsksFirst (play : World → Play FlatServed) (old : State) (before : ShimState)
+    (stop : ShimStop) (after : ShimState) : Type 0 where
   pub question : Question
   pub asks : (q : ℕ) (o e : List ℕ) → over [] (play (sent o e (world_of q old))) ≡ asks question o e
   pub stopped : Stopped before question stop after
+
+-- A run that ends so was stopped by the shim, at the play's first question.
+abbrev pub StopsAsking : RunStop → (World → Play FlatServed) → State → (before after : ShimState)
+    → Type 0
+StopsAsking stop play old before after =
+    elim (shim_stop stop) [ None ↦ ⊥ | Some s ↦ AsksFirst play old before s after ]
+
+-- It did, and no byte was sent by then.
+pub record Asks (play : World → Play FlatServed) (old : State) (before : ShimState)
+    (stop : ShimStop) (after : ShimState)
+    (out out_after err err_after : Option (List ℕ)) : Type 0 where
+  pub first : AsksFirst play old before stop after
   pub out_is : out_after ≡ out
   pub err_is : err_after ≡ err
 

@@ -3,8 +3,9 @@ ghost use Rattle.std.specs.Prelude.{◌≡◌, ◌<◌, ℕ, List, length, IfSom
 ghost use Rattle.dos_world.specs.Kernel.{process_ended};
 ghost use Rattle.proc_table.specs.Tables.{IsProcess, held_in};
 ghost use Rattle.kernel_calls.specs.Ending.{AreDropped, AreNamed, IsNamed, posted_in, without_end};
-ghost use Rattle.kernel_calls.specs.Serving.{IsKept, IsSound, sent, world_of};
+ghost use Rattle.kernel_calls.specs.Serving.{IsSound, sent, world_of};
 
+use crate::signalling::post_to;
 use crate::state::State;
 use dos_world::End;
 use kernel_mem::drop_space;
@@ -13,15 +14,14 @@ use proc_table::Table;
 
 /// A live process ends with this status: its threads are gone, sleepers too, its descriptors are
 /// closed, its pages unmapped. Its children have no parent, and its parent, if that lives, gets
-/// signal 17. So it is in every lawful world, plain or not; a sound state stays sound.
+/// signal 17.
 pub fn end_process(state: &mut State, pid: u32, status: u8)
-    requires kept { IsKept state.old }
+    requires sound { IsSound state.old }
     requires live { IsProcess state.old.table.processes pid }
     ensures ends { (q : ℕ) (o e : List ℕ)
         → process_ended (sent o e (world_of q state.old)) pid status
         ≡ sent o e (world_of q state.new) }
-    ensures kept { IsKept state.new }
-    ensures sound { IsSound state.old → IsSound state.new }
+    ensures sound { IsSound state.new }
     ensures round { state.new.round ≡ state.old.round }
 {
     let parent = state.table.parent(pid);
@@ -37,10 +37,7 @@ pub fn end_process(state: &mut State, pid: u32, status: u8)
 fn post_ended(table: &mut Table, pid: u32)
     ensures { table.new ≡ posted_in table.old pid 17 }
 {
-    match table.first_thread(pid) {
-        Some(tid) => table.post(tid, 17),
-        None => {}
-    }
+    post_to(table, pid, 17);
 }
 
 // All ends of pipes that the process's descriptors name.

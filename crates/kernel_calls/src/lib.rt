@@ -5,13 +5,23 @@
 #![tactic(auto)]
 
 mod answering;
+mod children;
+mod clock;
+mod descriptors;
 mod ending;
+mod memory;
 mod naming;
+mod piping;
+mod reading;
 mod serving;
+mod signalling;
+mod sleeping;
 mod state;
 mod threads;
+mod waiting;
 mod writing;
 
 pub use ending::end_process;
 pub use serving::serve;
-pub use state::{RunStop, Served, State, count_round, new_state};
+pub use state::{RunStop, Served, State, count_round, new_state, run_stop};
+pub use waiting::would_wait;

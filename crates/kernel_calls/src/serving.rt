@@ -1,25 +1,30 @@
 // The services by number.
-ghost use Rattle.std.specs.Prelude.{◌≡◌, ◌<◌, IfSome, IfOk, IfErr, OnErr};
-ghost use Rattle.dos_world.specs.Lawful.{AreRegisters};
-ghost use Rattle.dos_world.specs.Services.{charged, service};
+ghost use Rattle.std.specs.Prelude.{◌≡◌, ◌<◌, ℕ, List, ◌∷◌, IfSome, IfOk, IfErr, OnErr, OnOk};
+ghost use Rattle.dos_world.specs.Services.{service};
 ghost use Rattle.dos_io.specs.Shims.{HasNoEnd};
 ghost use Rattle.proc_table.specs.Tables.{IsThread, ran, thread_by, thread_in};
-ghost use Rattle.kernel_calls.specs.Serving.{Answers, Asks, HasCauses, HasFaulted, HaveGrown, IsSound, Stands, shim_stop};
-ghost use Rattle.kernel_calls.specs.Built.{definition_by, definition_of};
-ghost use Rattle.kernel_calls.specs.Calling.{AreAsked, HasSinkCauses, Sends, call_in};
+ghost use Rattle.kernel_calls.specs.Serving.{Answers, Asks, HasCauses, HasFaulted, HaveGrown, HaveParts, IsCounted, IsReady, IsSound, Stands, left_after, sent, shim_stop, world_of};
+ghost use Rattle.kernel_calls.specs.Built.{definition_by, definition_of, quiet_definition_of};
+ghost use Rattle.kernel_calls.specs.Calling.{AreAsked, GoesOn, call_in, paid};
 
-use crate::answering::{answer, refuse};
-use crate::ending::end_process;
-use crate::naming::{Service, service_named};
+use crate::answering::{refuse_call, reply};
+use crate::children::{fork, wait};
+use crate::clock::clock;
+use crate::descriptors::{close, dup, pipe};
+use crate::memory::{map, share, unmap};
+use crate::naming::{QuietService, Service, service_named};
+use crate::reading::read;
+use crate::signalling::{kill, sig_handler, sig_mask, sig_return};
+use crate::sleeping::{futex_wait, futex_wake};
 use crate::state::{Asked, RunStop, Served, State};
-use crate::threads::{thread_exit, thread_new};
+use crate::threads::{process_exit, round_number, thread_exit, thread_new};
 use crate::writing::write;
 use dos_io::{Shim, Sink};
 use dos_world::Regs;
 use dos_world::errors::ENOSYS;
 
-/// Serves a live thread that has a budget: the service that its x17 names, which costs one of the
-/// budget.
+/// Serves a live thread that is ready and has a budget: the service that its x17 names, which costs
+/// one of the budget.
 ///
 /// After an `Err` the run is over, and nothing is served or paid for: each process and thread is as
 /// before the call, this thread's registers and budget too. Of the frames owners alone may differ:
@@ -35,6 +40,7 @@ pub fn serve<S: Shim, O: Sink, E: Sink>(
 ) -> Result<Served, RunStop>
     requires sound { IsSound state.old }
     requires live { IsThread state.old.table.threads tid }
+    requires ready { IsReady state.old.table.threads tid }
     requires budget { IfSome (thread_in state.old.table.threads tid) (λ thread. 0 < thread.budget) }
     requires told { HasNoEnd (S.state shim.old).told }
     ensures runs { IfOk result
@@ -42,6 +48,9 @@ pub fn serve<S: Shim, O: Sink, E: Sink>(
         (S.state shim.new).told way state.new (O.told out.old) (O.told out.new)
         (E.told err.old) (E.told err.new)) }
     ensures sound { IsSound state.new }
+    ensures parts { IfOk result
+        (λ way. (ts : List ℕ) → HaveParts (tid ∷ ts) state.old
+        → HaveParts (left_after way tid ts) state.new) }
     ensures stands { OnErr result (Stands state.old state.new) }
     ensures round { state.new.round ≡ state.old.round }
     ensures asks { IfErr result
@@ -59,16 +68,10 @@ pub fn serve<S: Shim, O: Sink, E: Sink>(
     ensures follows { S.follows shim.old shim.new }
 {
     let regs = *state.table.regs(tid);
-    let asked = Asked {
-        thread: tid,
-        process: state.table.process_of(tid),
-        a0: regs.get(10),
-        a1: regs.get(11),
-        a2: regs.get(12),
-    };
     let budget = state.table.budget(tid);
+    let (service, asked) = call_by(state, tid);
     charge(state, tid);
-    match dispatch(state, service_named(regs.get(17)), &asked, out, err) {
+    match dispatch(state, service, &asked, shim, out, err) {
         Ok(way) => Ok(way),
         Err(stop) => {
             restore(state, tid, regs, budget);
@@ -77,13 +80,32 @@ pub fn serve<S: Shim, O: Sink, E: Sink>(
     }
 }
 
+// The service that the thread's registers name, where it is built, and what they ask it.
+fn call_by(state: &State, tid: u32) -> (Option<Service>, Asked)
+    requires live { IsThread state.now.table.threads tid }
+    requires ready { IsReady state.now.table.threads tid }
+    ensures asked { AreAsked (paid state.now tid) result.1 }
+    ensures calls { (q : ℕ) (o e : List ℕ)
+        → service (sent o e (world_of q state.now)) tid
+        ≡ definition_by result.0 (call_in (sent o e (world_of q (paid state.now tid))) result.1) }
+{
+    let regs = *state.table.regs(tid);
+    let asked = Asked {
+        thread: tid,
+        process: state.table.process_of(tid),
+        a0: regs.get(10),
+        a1: regs.get(11),
+        a2: regs.get(12),
+    };
+    (service_named(regs.get(17)), asked)
+}
+
 // One of the thread's budget goes, and its reservation.
 fn charge(state: &mut State, tid: u32)
     requires sound { IsSound state.old }
     requires live { IsThread state.old.table.threads tid }
     requires budget { IfSome (thread_in state.old.table.threads tid) (λ thread. 0 < thread.budget) }
-    ensures charges { state.new
-        ≡ record state.old { table = thread_by charged state.old.table tid } }
+    ensures charges { state.new ≡ paid state.old tid }
     ensures sound { IsSound state.new }
 {
     state.table.charge(tid);
@@ -91,105 +113,192 @@ fn charge(state: &mut State, tid: u32)
 
 // The thread's registers and budget are these again.
 fn restore(state: &mut State, tid: u32, regs: Regs, budget: u32)
-    requires sound { IsSound state.old }
-    requires live { IsThread state.old.table.threads tid }
-    requires range { AreRegisters regs }
-    ensures restores { state.new
+    requires { IsThread state.old.table.threads tid }
+    ensures { state.new
         ≡ record state.old { table = thread_by (ran regs budget) state.old.table tid } }
-    ensures sound { IsSound state.new }
 {
     state.table.set_run(tid, regs, budget);
 }
 
 // The service, once it is paid for.
-fn dispatch<O: Sink, E: Sink>(
+fn dispatch<S: Shim, O: Sink, E: Sink>(
     state: &mut State,
     service: Option<Service>,
     asked: &Asked,
+    shim: &mut S,
     out: &mut O,
     err: &mut E,
 ) -> Result<Served, RunStop>
     requires sound { IsSound state.old }
     requires asked { AreAsked state.old asked.now }
-    ensures sends { IfOk result
-        (λ way. Sends (definition_by service) state.old asked.now way state.new
-        (O.told out.old) (O.told out.new) (E.told err.old) (E.told err.new)) }
-    ensures sound { IsSound state.new }
+    requires told { HasNoEnd (S.state shim.old).told }
+    ensures runs { IfOk result
+        (λ way. Answers (λ w. definition_by service (call_in w asked.now)) state.old
+        (S.state shim.old).told (S.state shim.new).told way state.new (O.told out.old)
+        (O.told out.new) (E.told err.old) (E.told err.new)) }
+    ensures counted { OnOk result (IsCounted state.new) }
     ensures stands { OnErr result (Stands state.old state.new) }
     ensures round { state.new.round ≡ state.old.round }
+    ensures asks { IfErr result
+        (λ stop. IfSome (shim_stop stop)
+        (λ s. Asks (λ w. definition_by service (call_in w asked.now)) state.old (S.state shim.old) s
+        (S.state shim.new) (O.told out.old) (O.told out.new) (E.told err.old)
+        (E.told err.new))) }
+    ensures told { OnErr result ((S.state shim.new).told ≡ (S.state shim.old).told) }
     ensures grows { OnErr result
         (HaveGrown (O.told out.old) (O.told out.new) (E.told err.old) (E.told err.new)) }
     ensures faults { IfErr result
         (λ stop. HasFaulted stop (λ w. definition_by service (call_in w asked.now))
         state.old state.new (O.told out.old) (O.told out.new) (E.told err.old) (E.told err.new)) }
-    ensures causes { HasSinkCauses result (O.faults out.old) (O.faults out.new) (E.faults err.old)
-        (E.faults err.new) }
+    ensures causes { HasCauses result (S.state shim.old) (S.state shim.new) (O.faults out.old)
+        (O.faults out.new) (E.faults err.old) (E.faults err.new) }
+    ensures follows { S.follows shim.old shim.new }
 {
     match service {
-        Some(service) => perform(state, service, asked, out, err),
+        Some(service) => perform(state, service, asked, shim, out, err),
         None => {
-            refuse(state, asked.thread, ENOSYS);
+            refuse_call(state, asked.thread, ENOSYS);
             Ok(Served::Went)
         }
     }
 }
 
-fn perform<O: Sink, E: Sink>(
+fn perform<S: Shim, O: Sink, E: Sink>(
     state: &mut State,
     service: Service,
     asked: &Asked,
+    shim: &mut S,
     out: &mut O,
     err: &mut E,
 ) -> Result<Served, RunStop>
     requires sound { IsSound state.old }
     requires asked { AreAsked state.old asked.now }
-    ensures sends { IfOk result
-        (λ way. Sends (definition_of service) state.old asked.now way state.new
-        (O.told out.old) (O.told out.new) (E.told err.old) (E.told err.new)) }
-    ensures sound { IsSound state.new }
+    requires told { HasNoEnd (S.state shim.old).told }
+    ensures runs { IfOk result
+        (λ way. Answers (λ w. definition_of service (call_in w asked.now)) state.old
+        (S.state shim.old).told (S.state shim.new).told way state.new (O.told out.old)
+        (O.told out.new) (E.told err.old) (E.told err.new)) }
+    ensures counted { OnOk result (IsCounted state.new) }
     ensures stands { OnErr result (Stands state.old state.new) }
     ensures round { state.new.round ≡ state.old.round }
+    ensures asks { IfErr result
+        (λ stop. IfSome (shim_stop stop)
+        (λ s. Asks (λ w. definition_of service (call_in w asked.now)) state.old (S.state shim.old) s
+        (S.state shim.new) (O.told out.old) (O.told out.new) (E.told err.old)
+        (E.told err.new))) }
+    ensures told { OnErr result ((S.state shim.new).told ≡ (S.state shim.old).told) }
     ensures grows { OnErr result
         (HaveGrown (O.told out.old) (O.told out.new) (E.told err.old) (E.told err.new)) }
     ensures faults { IfErr result
         (λ stop. HasFaulted stop (λ w. definition_of service (call_in w asked.now))
         state.old state.new (O.told out.old) (O.told out.new) (E.told err.old) (E.told err.new)) }
-    ensures causes { HasSinkCauses result (O.faults out.old) (O.faults out.new) (E.faults err.old)
-        (E.faults err.new) }
+    ensures causes { HasCauses result (S.state shim.old) (S.state shim.new) (O.faults out.old)
+        (O.faults out.new) (E.faults err.old) (E.faults err.new) }
+    ensures follows { S.follows shim.old shim.new }
 {
     match service {
+        Service::Quiet(service) => Ok(perform_quietly(state, service, asked)),
+        Service::Read => match read(state, asked, shim) {
+            Ok(way) => Ok(way),
+            Err(stop) => Err(stop),
+        },
         Service::Write => match write(state, asked, out, err) {
+            Ok(way) => Ok(way),
+            Err(stop) => Err(stop),
+        },
+        Service::Clock => match clock(state, asked, shim) {
             Ok(()) => Ok(Served::Went),
             Err(stop) => Err(stop),
         },
-        Service::ThreadExit => {
+    }
+}
+
+// A service that asks nothing and sends nothing.
+fn perform_quietly(state: &mut State, service: QuietService, asked: &Asked) -> Served
+    requires sound { IsSound state.old }
+    requires asked { AreAsked state.old asked.now }
+    ensures goes_on { GoesOn (quiet_definition_of service) state.old asked.now result state.new }
+    ensures counted { IsCounted state.new }
+    ensures round { state.new.round ≡ state.old.round }
+{
+    match service {
+        QuietService::ThreadExit => {
             thread_exit(state, asked);
-            Ok(Served::Gone)
+            Served::Gone
         }
-        Service::ProcessExit => {
-            end_process(state, asked.process, (asked.a0 % 256) as u8);
-            Ok(Served::Gone)
+        QuietService::ProcessExit => {
+            process_exit(state, asked);
+            Served::Gone
         }
-        Service::ThreadNew => {
+        QuietService::ThreadNew => {
             thread_new(state, asked);
-            Ok(Served::Went)
+            Served::Went
         }
-        Service::GetPid => {
-            answer(state, asked.thread, asked.process);
-            Ok(Served::Went)
+        QuietService::Fork => {
+            fork(state, asked);
+            Served::Went
         }
-        Service::GetTid => {
-            answer(state, asked.thread, asked.thread);
-            Ok(Served::Went)
+        QuietService::Wait => wait(state, asked),
+        QuietService::Pipe => {
+            pipe(state, asked);
+            Served::Went
         }
-        Service::Yield => {
-            answer(state, asked.thread, 0);
-            Ok(Served::Yields)
+        QuietService::Close => {
+            close(state, asked);
+            Served::Went
         }
-        Service::RoundNumber => {
-            let round = state.round;
-            answer(state, asked.thread, round);
-            Ok(Served::Went)
+        QuietService::Dup => {
+            dup(state, asked);
+            Served::Went
+        }
+        QuietService::FutexWait => futex_wait(state, asked),
+        QuietService::FutexWake => {
+            futex_wake(state, asked);
+            Served::Went
+        }
+        QuietService::MapPages => {
+            map(state, asked);
+            Served::Went
+        }
+        QuietService::Unmap => {
+            unmap(state, asked);
+            Served::Went
+        }
+        QuietService::Share => {
+            share(state, asked);
+            Served::Went
+        }
+        QuietService::SigHandler => {
+            sig_handler(state, asked);
+            Served::Went
+        }
+        QuietService::SigMask => {
+            sig_mask(state, asked);
+            Served::Went
+        }
+        QuietService::SigReturn => {
+            sig_return(state, asked);
+            Served::Went
+        }
+        QuietService::Kill => {
+            kill(state, asked);
+            Served::Went
+        }
+        QuietService::GetPid => {
+            reply(state, asked.thread, asked.process);
+            Served::Went
+        }
+        QuietService::GetTid => {
+            reply(state, asked.thread, asked.thread);
+            Served::Went
+        }
+        QuietService::Yield => {
+            reply(state, asked.thread, 0);
+            Served::Yields
+        }
+        QuietService::RoundNumber => {
+            round_number(state, asked);
+            Served::Went
         }
     }
 }

@@ -1,7 +1,8 @@
 // What the services work on, and how they end.
-ghost use Rattle.std.specs.Prelude.{◌≡◌, ◌+◌, ◌≤◌, replicate};
-ghost use Rattle.kernel_calls.specs.Serving.{IsSound};
+ghost use Rattle.std.specs.Prelude.{◌≡◌, ◌+◌, ◌≤◌, Some, replicate};
+ghost use Rattle.kernel_calls.specs.Serving.{IsSound, shim_stop};
 
+use dos_io::ShimStop;
 use dos_world::Misfit;
 use kernel_objects::{FutexQueue, Pipes};
 use page_store::Frames;
@@ -62,6 +63,18 @@ pub enum RunStop {
     ErrFault,
     /// Want of memory.
     Memory,
+}
+
+/// Why the run can't go on, where the shim doesn't answer.
+pub fn run_stop(stop: ShimStop) -> RunStop
+    ensures { shim_stop result ≡ Some stop }
+{
+    match stop {
+        ShimStop::HostFault => RunStop::HostFault,
+        ShimStop::LogFull => RunStop::LogFull,
+        ShimStop::Misfit(misfit) => RunStop::Misfit(misfit),
+        ShimStop::Memory => RunStop::Memory,
+    }
 }
 
 /// These frames, this table, these pipes and this queue, before the first round.

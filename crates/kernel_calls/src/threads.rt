@@ -2,12 +2,12 @@
 ghost use Rattle.std.specs.Prelude.{◌≡◌, ◌==◌, length};
 ghost use Rattle.dos_world.specs.Numbered.{numbers_of};
 ghost use Rattle.dos_world.specs.World.{belongs_to};
-ghost use Rattle.dos_world.specs.Services.{new_registers, thread_exit, thread_new};
-ghost use Rattle.kernel_calls.specs.Serving.{IsSound};
+ghost use Rattle.dos_world.specs.Services.{new_registers, process_exit, round_number, thread_exit, thread_new};
+ghost use Rattle.kernel_calls.specs.Serving.{IsCounted, IsSound};
 ghost use Rattle.kernel_calls.specs.Calling.{AreAsked, GoesOn};
 ghost use Rattle.kernel_calls.specs.declared.state.Served.TheVariants.{Gone, Went};
 
-use crate::answering::{answer, refuse};
+use crate::answering::{refuse_call, reply};
 use crate::ending::end_process;
 use crate::state::{Asked, State};
 use dos_world::Regs;
@@ -23,18 +23,18 @@ pub(crate) fn thread_new(state: &mut State, asked: &Asked)
     requires sound { IsSound state.old }
     requires asked { AreAsked state.old asked.now }
     ensures goes_on { GoesOn thread_new state.old asked.now Went state.new }
-    ensures sound { IsSound state.new }
+    ensures counted { IsCounted state.new }
     ensures round { state.new.round ≡ state.old.round }
 {
     if asked.a0 % CODE_UNIT != 0 {
-        refuse(state, asked.thread, EINVAL);
+        refuse_call(state, asked.thread, EINVAL);
         return;
     }
     let mask = state.table.mask(asked.thread);
     let regs = new_registers(asked.a0, asked.a1, asked.a2);
     match state.table.add_thread(asked.process, regs, mask) {
-        Ok(number) => answer(state, asked.thread, number),
-        Err(_) => refuse(state, asked.thread, EAGAIN),
+        Ok(number) => reply(state, asked.thread, number),
+        Err(_) => refuse_call(state, asked.thread, EAGAIN),
     }
 }
 
@@ -53,7 +53,7 @@ pub(crate) fn thread_exit(state: &mut State, asked: &Asked)
     requires sound { IsSound state.old }
     requires asked { AreAsked state.old asked.now }
     ensures goes_on { GoesOn thread_exit state.old asked.now Gone state.new }
-    ensures sound { IsSound state.new }
+    ensures counted { IsCounted state.new }
     ensures round { state.new.round ≡ state.old.round }
 {
     if has_one_thread(&state.table, asked.process) {
@@ -67,4 +67,27 @@ fn has_one_thread(table: &Table, pid: u32) -> bool
     ensures { result ≡ (length (numbers_of (belongs_to pid) table.now.threads) == 1) }
 {
     table.threads_of(pid) == 1
+}
+
+/// The process has ended, with its status a0 modulo 256.
+pub(crate) fn process_exit(state: &mut State, asked: &Asked)
+    requires sound { IsSound state.old }
+    requires asked { AreAsked state.old asked.now }
+    ensures goes_on { GoesOn process_exit state.old asked.now Gone state.new }
+    ensures counted { IsCounted state.new }
+    ensures round { state.new.round ≡ state.old.round }
+{
+    end_process(state, asked.process, (asked.a0 % 256) as u8);
+}
+
+/// The number of the round that is being run.
+pub(crate) fn round_number(state: &mut State, asked: &Asked)
+    requires sound { IsSound state.old }
+    requires asked { AreAsked state.old asked.now }
+    ensures goes_on { GoesOn round_number state.old asked.now Went state.new }
+    ensures counted { IsCounted state.new }
+    ensures round { state.new.round ≡ state.old.round }
+{
+    let round = state.round;
+    reply(state, asked.thread, round);
 }

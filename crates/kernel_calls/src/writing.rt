@@ -1,5 +1,5 @@
-// Writing to output and error.
-ghost use Rattle.std.specs.Prelude.{◌≡◌, ◌≤◌, ℕ, List, take, true, IfErr, OnErr, OnOk};
+// Writing.
+ghost use Rattle.std.specs.Prelude.{◌≡◌, ◌≤◌, ℕ, List, take, true, IfErr, IfOk, OnErr, OnOk};
 ghost use Rattle.dos_world.specs.World.{World};
 ghost use Rattle.dos_world.specs.declared.Access.TheVariants.{Load};
 ghost use Rattle.dos_world.specs.Kernel.{all_reach, copied_in};
@@ -7,12 +7,13 @@ ghost use Rattle.dos_world.specs.Services.{write};
 ghost use Rattle.dos_io.specs.Outside.{HasCause};
 ghost use Rattle.kernel_mem.specs.Seen.{in_world, AreMapped, IsCaller, IsHome, KeepsUses};
 ghost use Rattle.page_store.specs.Store.{Store as Held};
-ghost use Rattle.kernel_calls.specs.Serving.{HasFaulted, HaveGrown, IsSound, Stands};
+ghost use Rattle.kernel_calls.specs.Serving.{HasFaulted, HaveGrown, IsCounted, IsSound, Stands};
 ghost use Rattle.kernel_calls.specs.Calling.{AreAsked, HasSinkCauses, IsCutOff, IsSent, Sends, call_in, target_of};
 ghost use Rattle.kernel_calls.specs.declared.state.Served.TheVariants.{Went};
 
-use crate::answering::{answer, refuse};
-use crate::state::{Asked, RunStop, State};
+use crate::answering::{refuse_call, reply};
+use crate::piping::write_pipe;
+use crate::state::{Asked, RunStop, Served, State};
 use dos_io::{Sink, SinkFault};
 use dos_world::End;
 use dos_world::errors::EBADF;
@@ -25,22 +26,22 @@ use proc_table::Table;
 pub(crate) enum Target {
     Output,
     Error,
+    Pipe(u8),
 }
 
-/// Bytes to output or error: how many. Refusals: 9 where a0 names neither, 14 where one of the
-/// bytes isn't mapped.
+/// Bytes to output, error or a pipe: how many. A full pipe makes the call wait. Refusals: 9 where
+/// a0 names none of them, 14 where one of the bytes isn't mapped, 32 where a pipe has no reader.
 pub(crate) fn write<O: Sink, E: Sink>(
     state: &mut State,
     asked: &Asked,
     out: &mut O,
     err: &mut E,
-) -> Result<(), RunStop>
+) -> Result<Served, RunStop>
     requires sound { IsSound state.old }
     requires asked { AreAsked state.old asked.now }
-    ensures sends { OnOk result
-        (Sends write state.old asked.now Went state.new (O.told out.old) (O.told out.new)
-        (E.told err.old) (E.told err.new)) }
-    ensures sound { IsSound state.new }
+    ensures sends { IfOk result (λ way. Sends write state.old asked.now way state.new
+        (O.told out.old) (O.told out.new) (E.told err.old) (E.told err.new)) }
+    ensures counted { OnOk result (IsCounted state.new) }
     ensures stands { OnErr result (Stands state.old state.new) }
     ensures round { state.new.round ≡ state.old.round }
     ensures grows { OnErr result
@@ -52,28 +53,30 @@ pub(crate) fn write<O: Sink, E: Sink>(
 {
     match target_of(state.table.descriptor(asked.process, asked.a0)) {
         Some(Target::Output) => match send(state, asked, out) {
-            Ok(()) => Ok(()),
+            Ok(()) => Ok(Served::Went),
             Err(SinkFault) => Err(RunStop::OutFault),
         },
         Some(Target::Error) => match send(state, asked, err) {
-            Ok(()) => Ok(()),
+            Ok(()) => Ok(Served::Went),
             Err(SinkFault) => Err(RunStop::ErrFault),
         },
+        Some(Target::Pipe(pipe)) => Ok(write_pipe(state, asked, pipe)),
         None => {
-            refuse(state, asked.thread, EBADF);
-            Ok(())
+            refuse_call(state, asked.thread, EBADF);
+            Ok(Served::Went)
         }
     }
 }
 
-// Where a descriptor writes to, if it is one of the group's own outputs.
+// Where a descriptor writes to: one of the group's own outputs, or a pipe.
 fn target_of(end: Option<End>) -> Option<Target>
     ensures { result ≡ target_of end }
 {
     match end {
         Some(End::Output) => Some(Target::Output),
         Some(End::Error) => Some(Target::Error),
-        Some(End::Input) | Some(End::PipeRead(_)) | Some(End::PipeWrite(_)) | None => None,
+        Some(End::PipeWrite(pipe)) => Some(Target::Pipe(pipe)),
+        Some(End::Input) | Some(End::PipeRead(_)) | None => None,
     }
 }
 
@@ -83,7 +86,7 @@ fn send<S: Sink>(state: &mut State, asked: &Asked, sink: &mut S) -> Result<(), S
     requires asked { AreAsked state.old asked.now }
     ensures sends { OnOk result
         (IsSent state.old asked.now state.new (S.told sink.old) (S.told sink.new)) }
-    ensures sound { IsSound state.new }
+    ensures counted { IsCounted state.new }
     ensures stands { OnErr result (Stands state.old state.new) }
     ensures round { state.new.round ≡ state.old.round }
     ensures cut { OnErr result
@@ -92,7 +95,7 @@ fn send<S: Sink>(state: &mut State, asked: &Asked, sink: &mut S) -> Result<(), S
 {
     let count = asked.a2.min(4096);
     if count == 0 {
-        answer(state, asked.thread, 0);
+        reply(state, asked.thread, 0);
         return Ok(());
     }
     match check(&state.table, asked.thread, asked.a1, count, false) {
@@ -100,14 +103,14 @@ fn send<S: Sink>(state: &mut State, asked: &Asked, sink: &mut S) -> Result<(), S
             take_in(state, asked, count);
             match sink.put(&state.buffer[..count as usize]) {
                 Ok(()) => {
-                    answer(state, asked.thread, count);
+                    reply(state, asked.thread, count);
                     Ok(())
                 }
                 Err(fault) => Err(fault),
             }
         }
         Err(number) => {
-            refuse(state, asked.thread, number);
+            refuse_call(state, asked.thread, number);
             Ok(())
         }
     }
@@ -124,7 +127,7 @@ fn take_in(state: &mut State, asked: &Asked, count: u32)
     ensures copies { (w : World)
         → copied_in (in_world w state.old.frames state.old.table) asked.now.thread asked.now.a1
         count ≡ (in_world w state.new.frames state.new.table, take count state.new.buffer) }
-    ensures sound { IsSound state.new }
+    ensures counted { IsCounted state.new }
     ensures stands { Stands state.old state.new }
     ensures round { state.new.round ≡ state.old.round }
 {
@@ -137,7 +140,13 @@ fn take_in(state: &mut State, asked: &Asked, count: u32)
     );
 }
 
-fn fill(frames: &mut Frames, table: &Table, asked: &Asked, buffer: &mut [u8; 4096], count: u32)
+pub(crate) fn fill(
+    frames: &mut Frames,
+    table: &Table,
+    asked: &Asked,
+    buffer: &mut [u8; 4096],
+    count: u32,
+)
     requires caller { IsCaller table.now asked.now.thread }
     requires mapped { AreMapped table.now frames.old asked.now.thread }
     requires home { IsHome frames.old }

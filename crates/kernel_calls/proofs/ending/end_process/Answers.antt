@@ -5,22 +5,22 @@ use Rattle.dos_world.specs.Numbered.{numbers_of}
 use Rattle.dos_world.specs.Kernel.{is_none_of_these, without_entries}
 use Rattle.proc_table.specs.Tables.{Tables, IsProcess, with_ended, held_by}
 use Rattle.kernel_calls.specs.Ending.{posted_in}
-use Rattle.kernel_calls.specs.Serving.{IsKept, IsSound, sent, world_of}
+use Rattle.kernel_calls.specs.Serving.{IsSound, sent, world_of}
 use Rattle.kernel_calls.specs.declared.state.State.{State}
-use Rattle.kernel_calls.proofs.ProcessEnds.{are_used, ends, kept-ended, named, named-count, sound-ended, still_live}
+use Rattle.kernel_calls.proofs.ProcessEnds.{are_used, ends, named, named-count, sound-ended, still_live}
 use Rattle.kernel_calls.proofs.ending.end_process.Goals as goal
 
 pub drop_ends-requires-clause-count : goal.drop_ends-requires-clause-count
 drop_ends-requires-clause-count c =
-    named-count c.args.state.now c.requires.kept c.args.pid c.args.status c.requires.live
+    named-count c.args.state.now c.requires.sound c.args.pid c.args.status c.requires.live
 
 pub drop_ends-requires-clause-named : goal.drop_ends-requires-clause-named
 drop_ends-requires-clause-named c =
-    named c.args.state.now c.requires.kept c.args.pid c.args.status c.requires.live
+    named c.args.state.now c.requires.sound c.args.pid c.args.status c.requires.live
 
 pub drop_space-requires-clause-used : goal.drop_space-requires-clause-used
 drop_space-requires-clause-used c =
-    are_used c.args.state.now c.requires.kept c.args.pid c.args.status c.requires.live
+    are_used c.args.state.now c.requires.sound c.args.pid c.args.status c.requires.live
 
 pub end_process-requires : goal.end_process-requires
 end_process-requires c = subst (λ (T : Tables). IsProcess T.processes c.args.pid)
@@ -71,19 +71,13 @@ left c =
 
 pub returns-clause-ends : goal.returns-clause-ends
 returns-clause-ends c = λ q o e.
-    ends c.args.state.now c.requires.kept c.args.pid c.args.status c.requires.live
+    ends c.args.state.now c.requires.sound c.args.pid c.args.status c.requires.live
     c.drop_space.new.frames c.drop_space.ensures.frames c.drop_ends.new.pipes
     c.drop_ends.ensures c.parent-parent.result c.parent-parent.ensures q o e
     ∙ ap (λ (x : State). sent o e (world_of q x)) (left c)
 
-pub returns-clause-kept : goal.returns-clause-kept
-returns-clause-kept c = subst IsKept (left c)
-    (kept-ended c.args.state.now c.requires.kept c.args.pid c.args.status c.requires.live
+pub returns-clause-sound : goal.returns-clause-sound
+returns-clause-sound c = subst IsSound (left c)
+    (sound-ended c.args.state.now c.requires.sound c.args.pid c.args.status c.requires.live
     c.drop_space.new.frames c.drop_space.ensures.frames c.drop_ends.new.pipes
     c.drop_ends.ensures c.parent-parent.result c.parent-parent.ensures c.ranges.status.fits)
-
-pub returns-clause-sound : goal.returns-clause-sound
-returns-clause-sound c = λ sound. subst IsSound (left c)
-    (sound-ended c.args.state.now c.requires.kept c.args.pid c.args.status c.requires.live
-    c.drop_space.new.frames c.drop_space.ensures.frames c.drop_ends.new.pipes
-    c.drop_ends.ensures c.parent-parent.result c.parent-parent.ensures c.ranges.status.fits sound)

@@ -1,68 +1,53 @@
-use Rattle.std.proofs.Common.{◌≡◌, ◌+◌, ◌-◌, sym, ap, ◌∙◌, arith}
-use Rattle.dos_world.specs.Play.{done}
-use Rattle.dos_world.specs.World.{with_registers}
-use Rattle.dos_world.specs.Kernel.{answered}
-use Rattle.dos_world.specs.Services.{went, yields, gone}
-use Rattle.kernel_calls.specs.Serving.{sent, world_of}
-use Rattle.kernel_calls.specs.Built.{definition_of}
+use Rattle.std.proofs.Common.{sym, ap, subst}
+use Rattle.dos_world.specs.Services.{Service as FlatService, read, write, clock}
+use Rattle.kernel_calls.specs.Built.{definition_of, quiet_definition_of}
+use Rattle.kernel_calls.specs.Serving.{HasFaulted}
 use Rattle.kernel_calls.specs.Calling.{call_in}
-use Rattle.kernel_calls.proofs.Sending.{quietly}
+use Rattle.kernel_calls.specs.declared.state.Served.TheVariants.{Went}
+use Rattle.kernel_calls.proofs.Rows.{answers_consults, answers_goes, answers_sends, none_grown, stops_asks}
 use Rattle.kernel_calls.proofs.serving.perform.Goals as goal
 
-pub returns-in-ThreadExit-clause-sends : goal.returns-in-ThreadExit-clause-sends
-returns-in-ThreadExit-clause-sends g c =
-    quietly (definition_of c.args.service) c.args.state.now c.args.asked.now _
-    c.thread_exit.new.state _ _ (λ q o e.
-    ap (λ s. definition_of s (call_in (sent o e (world_of q c.args.state.now)) c.args.asked.now))
-    c.in-ThreadExit.is ∙ c.thread_exit.ensures.goes_on q o e)
+pub returns-in-Quiet-clause-runs : goal.returns-in-Quiet-clause-runs
+returns-in-Quiet-clause-runs g c =
+    answers_goes (definition_of c.args.service) (quiet_definition_of c.in-Quiet.service)
+    (ap definition_of c.in-Quiet.is) c.args.state.now c.perform_quietly.new.state c.args.asked.now
+    c.perform_quietly.result _ _ _ c.perform_quietly.ensures.goes_on
 
-pub returns-in-ProcessExit-clause-sends : goal.returns-in-ProcessExit-clause-sends
-returns-in-ProcessExit-clause-sends g c =
-    quietly (definition_of c.args.service) c.args.state.now c.args.asked.now _
-    c.end_process.new.state _ _ (λ q o e.
-    ap (λ s. definition_of s (call_in (sent o e (world_of q c.args.state.now)) c.args.asked.now))
-    c.in-ProcessExit.is ∙ ap (λ w. done (gone w)) (c.end_process.ensures.ends q o e))
+pub returns-in-Ok-clause-runs : goal.returns-in-Ok-clause-runs
+returns-in-Ok-clause-runs g c =
+    answers_consults (definition_of c.args.service) read (ap definition_of c.in-Read.is)
+    c.args.state.now c.read.new.state c.args.asked.now c.in-Ok.way _ _ _ _ c.in-Ok.ensures.consults
 
-pub returns-in-ThreadNew-clause-sends : goal.returns-in-ThreadNew-clause-sends
-returns-in-ThreadNew-clause-sends g c =
-    quietly (definition_of c.args.service) c.args.state.now c.args.asked.now _
-    c.thread_new.new.state _ _ (λ q o e.
-    ap (λ s. definition_of s (call_in (sent o e (world_of q c.args.state.now)) c.args.asked.now))
-    c.in-ThreadNew.is ∙ c.thread_new.ensures.goes_on q o e)
+pub returns-in-Err-clause-asks : goal.returns-in-Err-clause-asks
+returns-in-Err-clause-asks g c =
+    stops_asks (definition_of c.args.service) read (ap definition_of c.in-Read.is)
+    c.args.state.now c.args.asked.now _ _ c.in-Err.stop _ _ c.in-Err.ensures.asks
 
-pub returns-in-GetPid-clause-sends : goal.returns-in-GetPid-clause-sends
-returns-in-GetPid-clause-sends g c =
-    quietly (definition_of c.args.service) c.args.state.now c.args.asked.now _ c.answer.new.state _
-    _ (λ q o e.
-    ap (λ s. definition_of s (call_in (sent o e (world_of q c.args.state.now)) c.args.asked.now))
-    c.in-GetPid.is
-    ∙ ap (λ s. done (went (sent o e (world_of q s)))) (sym c.answer.ensures.answers))
+pub returns-in-Err-clause-grows : goal.returns-in-Err-clause-grows
+returns-in-Err-clause-grows g c = none_grown _ _
 
-pub returns-in-GetTid-clause-sends : goal.returns-in-GetTid-clause-sends
-returns-in-GetTid-clause-sends g c =
-    quietly (definition_of c.args.service) c.args.state.now c.args.asked.now _
-    c.answer-in-GetTid.new.state _ _ (λ q o e.
-    ap (λ s. definition_of s (call_in (sent o e (world_of q c.args.state.now)) c.args.asked.now))
-    c.in-GetTid.is
-    ∙ ap (λ s. done (went (sent o e (world_of q s)))) (sym c.answer-in-GetTid.ensures.answers))
+pub returns-in-Ok-write-clause-runs : goal.returns-in-Ok-write-clause-runs
+returns-in-Ok-write-clause-runs g c =
+    answers_sends (definition_of c.args.service) write (ap definition_of c.in-Write.is)
+    c.args.state.now c.write.new.state c.args.asked.now c.in-Ok-write.way _ _ _ _ _
+    c.in-Ok-write.ensures.sends
 
-pub returns-in-Yield-clause-sends : goal.returns-in-Yield-clause-sends
-returns-in-Yield-clause-sends g c =
-    quietly (definition_of c.args.service) c.args.state.now c.args.asked.now _
-    c.answer-in-Yield.new.state _ _ (λ q o e.
-    ap (λ s. definition_of s (call_in (sent o e (world_of q c.args.state.now)) c.args.asked.now))
-    c.in-Yield.is
-    ∙ ap (λ s. done (yields (sent o e (world_of q s)))) (sym c.answer-in-Yield.ensures.answers))
+pub returns-in-Err-write-clause-faults : goal.returns-in-Err-write-clause-faults
+returns-in-Err-write-clause-faults g c =
+    subst (λ (f : FlatService). HasFaulted c.in-Err-write.stop (λ w. f (call_in w c.args.asked.now))
+    c.args.state.now c.write.new.state (g.O.Sink.told c.args.out.now)
+    (g.O.Sink.told c.write.new.out) (g.E.Sink.told c.args.err.now) (g.E.Sink.told c.write.new.err))
+    (sym (ap definition_of c.in-Write.is)) c.in-Err-write.ensures.faults
 
-pub returns-in-RoundNumber-clause-sends : goal.returns-in-RoundNumber-clause-sends
-returns-in-RoundNumber-clause-sends g c =
-    quietly (definition_of c.args.service) c.args.state.now c.args.asked.now _
-    c.answer-in-RoundNumber.new.state _ _ (λ q o e.
-    let now : c.args.state.now.round - 1 + 1 ≡ c.args.state.now.round =
-    omega (arith, c.requires.sound.round) in
-    ap (λ s. definition_of s (call_in (sent o e (world_of q c.args.state.now)) c.args.asked.now))
-    c.in-RoundNumber.is
-    ∙ ap (λ n. done (went
-    (with_registers (sent o e (world_of q c.args.state.now)) c.args.asked.now.thread
-    (answered n)))) now
-    ∙ ap (λ s. done (went (sent o e (world_of q s)))) (sym c.answer-in-RoundNumber.ensures.answers))
+pub returns-in-Ok-clock-clause-runs : goal.returns-in-Ok-clock-clause-runs
+returns-in-Ok-clock-clause-runs g c =
+    answers_consults (definition_of c.args.service) clock (ap definition_of c.in-Clock.is)
+    c.args.state.now c.clock.new.state c.args.asked.now Went _ _ _ _ c.in-Ok-clock.ensures.consults
+
+pub returns-in-Err-clock-clause-asks : goal.returns-in-Err-clock-clause-asks
+returns-in-Err-clock-clause-asks g c =
+    stops_asks (definition_of c.args.service) clock (ap definition_of c.in-Clock.is)
+    c.args.state.now c.args.asked.now _ _ c.in-Err-clock.stop _ _ c.in-Err-clock.ensures.asks
+
+pub returns-in-Err-clock-clause-grows : goal.returns-in-Err-clock-clause-grows
+returns-in-Err-clock-clause-grows g c = none_grown _ _

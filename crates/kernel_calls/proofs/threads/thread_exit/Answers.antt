@@ -1,12 +1,11 @@
-use Rattle.std.proofs.Common.{Bool, cond, length, sym, ap, ◌∙◌, subst}
-use Rattle.std.proofs.lemmas.Bool.{eqb-false}
-use Rattle.dos_world.specs.World.{World, threads_of, without_thread}
+use Rattle.std.proofs.Common.{Bool, cond, sym, ap, ◌∙◌, subst}
+use Rattle.dos_world.specs.World.{World, without_thread}
 use Rattle.dos_world.specs.Kernel.{process_ended}
 use Rattle.dos_world.specs.Play.{done}
 use Rattle.dos_world.specs.Services.{gone}
 use Rattle.proc_table.specs.Tables.{Tables}
-use Rattle.kernel_calls.specs.Serving.{IsSound, sent, world_of}
-use Rattle.kernel_calls.proofs.Keeping.{sound-thread_gone}
+use Rattle.kernel_calls.specs.Serving.{IsCounted, sent, world_of}
+use Rattle.kernel_calls.proofs.Counted.{counted-threads}
 use Rattle.kernel_calls.proofs.threads.thread_exit.Goals as goal
 
 pub returns-then-has_one_thread-clause-goes_on : goal.returns-then-has_one_thread-clause-goes_on
@@ -18,11 +17,8 @@ returns-then-has_one_thread-clause-goes_on c = λ q o e.
     (sym c.has_one_thread.ensures ∙ c.if-has_one_thread.true)
     ∙ ap (λ v. done (gone v)) (c.end_process.ensures.ends q o e)
 
-pub returns-else-has_one_thread-clause-sound : goal.returns-else-has_one_thread-clause-sound
-returns-else-has_one_thread-clause-sound c =
-    subst (λ (T : Tables). IsSound (record c.args.state.now { table = T }))
+pub returns-else-has_one_thread-clause-counted : goal.returns-else-has_one_thread-clause-counted
+returns-else-has_one_thread-clause-counted c =
+    subst (λ (T : Tables). IsCounted (record c.args.state.now { table = T }))
     (sym c.end_thread.ensures)
-    (sound-thread_gone c.args.state.now c.args.asked.now.thread c.args.asked.now.process
-    c.requires.sound c.requires.asked.live c.requires.asked.process
-    (eqb-false (length (threads_of (world_of 0 c.args.state.now) c.args.asked.now.process)) 1
-    (sym c.has_one_thread.ensures ∙ c.if-has_one_thread.false)))
+    (counted-threads c.args.state.now _ c.requires.sound.counted)

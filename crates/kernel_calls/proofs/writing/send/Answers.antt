@@ -9,13 +9,13 @@ use Rattle.kernel_calls.proofs.writing.send.Goals as goal
 
 pub returns-then-count-eq0-clause-sends : goal.returns-then-count-eq0-clause-sends
 returns-then-count-eq0-clause-sends g c =
-    sent-nothing c.args.state.now c.answer.new.state c.args.asked.now _
-    (sym c.min-count.ensures ∙ c.if-count-eq0.true) c.answer.ensures.answers
+    sent-nothing c.args.state.now c.reply.new.state c.args.asked.now _
+    (sym c.min-count.ensures ∙ c.if-count-eq0.true) c.reply.ensures.answers
 
 pub returns-in-Ok-put-clause-sends : goal.returns-in-Ok-put-clause-sends
 returns-in-Ok-put-clause-sends g c =
     let same : c.min-count.result ≡ asked_count c.args.asked.now = c.min-count.ensures in
-    sent-bytes c.args.state.now c.take_in.new.state c.answer-in-Ok-put.new.state c.args.asked.now _
+    sent-bytes c.args.state.now c.take_in.new.state c.reply-in-Ok-put.new.state c.args.asked.now _
     _ _ (λ e. c.if-count-eq0.false (same ∙ e))
     (λ q o e. ap (λ n. all_reach
     (in_world
@@ -33,13 +33,13 @@ returns-in-Ok-put-clause-sends g c =
     c.args.asked.now.thread c.args.asked.now.a1 n) (sym same)
     ∙ c.take_in.ensures.copies w)
     c.take_in.ensures.round c.take_in.ensures.stands c.in-Ok-put.ensures.ok
-    (c.answer-in-Ok-put.ensures.answers
+    (c.reply-in-Ok-put.ensures.answers
     ∙ ap (answering c.take_in.new.state c.args.asked.now.thread) same)
 
 pub returns-in-Err-clause-sends : goal.returns-in-Err-clause-sends
 returns-in-Err-clause-sends g c =
     let same : c.min-count.result ≡ asked_count c.args.asked.now = c.min-count.ensures in
-    sent-refusal c.args.state.now c.refuse.new.state c.args.asked.now _
+    sent-refusal c.args.state.now c.refuse_call.new.state c.args.asked.now _
     (λ e. c.if-count-eq0.false (same ∙ e))
     (λ q o e. ap (λ n. all_reach
     (in_world
@@ -53,7 +53,7 @@ returns-in-Err-clause-sends g c =
     (base q c.args.state.now.round c.args.state.now.pipes.bytes
     c.args.state.now.futexes)) c.args.state.now.frames))
     (let is : c.in-Err.number ≡ 14 = cc (c.in-Err.ensures.refusal) in
-    c.refuse.ensures.answers
+    c.refuse_call.ensures.answers
     ∙ ap (λ n. answering c.args.state.now c.args.asked.now.thread (minus n)) is)
 
 pub returns-in-Err-put-clause-cut : goal.returns-in-Err-put-clause-cut

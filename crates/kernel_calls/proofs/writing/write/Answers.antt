@@ -1,55 +1,69 @@
-use Rattle.std.proofs.Common.{sym, ap, ◌∙◌}
-use Rattle.dos_world.specs.World.{World}
+use Rattle.std.proofs.Common.{◌≡◌, ℕ, List, Option, Some, IfSome, refl, sym, ap, ◌∙◌}
 use Rattle.dos_world.specs.Play.{done}
 use Rattle.dos_world.specs.Services.{went, write, write_by}
-use Rattle.kernel_calls.specs.Serving.{sent, world_of}
-use Rattle.kernel_calls.specs.Calling.{call_in}
-use Rattle.kernel_calls.proofs.Sending.{descriptor_is, writes-output, writes-error, writes-none, quietly, sends-output, sends-error, faults-output, faults-error, output_grown, error_grown}
-use Rattle.kernel_calls.proofs.Keeping.{process_alive, no_pipe}
+use Rattle.dos_world.specs.declared.End.{End}
+use Rattle.dos_world.specs.declared.End.TheVariants.{PipeWrite}
+use Rattle.proc_table.specs.Tables.{held_in, end_in}
+use Rattle.kernel_calls.specs.Serving.{IsSound, sent, world_of}
+use Rattle.kernel_calls.specs.Calling.{AreAsked, call_in, target_of}
+use Rattle.kernel_calls.specs.declared.state.State.{State}
+use Rattle.kernel_calls.specs.declared.state.Asked.{Asked}
+use Rattle.kernel_calls.specs.declared.writing.Target.{Target}
+use Rattle.kernel_calls.specs.declared.writing.Target.TheVariants.{Output as output_target, Error as error_target, Pipe as pipe_target}
+use Rattle.kernel_calls.proofs.DescriptorRows.{named_range}
+use Rattle.kernel_calls.proofs.Sending.{end_of, target_end, writes_as, writes_none, quietly, sends-output, sends-error, faults-output, faults-error, output_grown, error_grown}
 use Rattle.kernel_calls.proofs.writing.write.Goals as goal
+
+-- a write to a target, where the descriptor names it
+to_target : (s : State) (sound : IsSound s) (a : Asked) → AreAsked s a → (d : Option End)
+    (target : Target) → IfSome (held_in s.table.processes a.process) (λ h. d ≡ end_in h a.a0)
+    → target_of d ≡ Some target → (q : ℕ) (o e : List ℕ)
+    → write (call_in (sent o e (world_of q s)) a)
+    ≡ write_by (Some (end_of target)) (call_in (sent o e (world_of q s)) a)
+to_target s sound a are d target is goes =
+    writes_as s sound a are d (Some (end_of target)) is (target_end d target goes)
+
+pub write_pipe-requires-clause-pipe : goal.write_pipe-requires-clause-pipe
+write_pipe-requires-clause-pipe g c =
+    named_range c.args.state.now c.requires.sound c.args.asked.now c.requires.asked
+    c.descriptor.result
+    (PipeWrite c.in-Some-Pipe.pipe) c.descriptor.ensures
+    (target_end c.descriptor.result (pipe_target c.in-Some-Pipe.pipe)
+    (cc (c.in-Some-Pipe.is, c.in-Some-Pipe.field-0-is, c.target_of.ensures)))
 
 pub returns-in-Ok-clause-sends : goal.returns-in-Ok-clause-sends
 returns-in-Ok-clause-sends g c =
     sends-output write c.args.state.now c.args.asked.now c.send.new.state _ _ _
-    (λ q o e. let w : World = sent o e (world_of q c.args.state.now) in
-    ap (λ d. write_by d (call_in w c.args.asked.now))
-    (descriptor_is w c.args.asked.now c.descriptor.result
-    (process_alive c.args.state.now c.requires.sound c.args.asked.now.thread
-    c.args.asked.now.process c.requires.asked.live c.requires.asked.process)
-    c.descriptor.ensures)
-    ∙ writes-output c.descriptor.result (call_in w c.args.asked.now)
+    (to_target c.args.state.now c.requires.sound c.args.asked.now c.requires.asked
+    c.descriptor.result output_target c.descriptor.ensures
     (cc (c.in-Some-Output.is, c.in-Some-Output.field-0-is, c.target_of.ensures)))
     c.in-Ok.ensures.sends
 
 pub returns-in-Ok-send-clause-sends : goal.returns-in-Ok-send-clause-sends
 returns-in-Ok-send-clause-sends g c =
     sends-error write c.args.state.now c.args.asked.now c.send-in-Some-Error.new.state _ _ _
-    (λ q o e. let w : World = sent o e (world_of q c.args.state.now) in
-    ap (λ d. write_by d (call_in w c.args.asked.now))
-    (descriptor_is w c.args.asked.now c.descriptor.result
-    (process_alive c.args.state.now c.requires.sound c.args.asked.now.thread
-    c.args.asked.now.process c.requires.asked.live c.requires.asked.process)
-    c.descriptor.ensures)
-    ∙ writes-error c.descriptor.result (call_in w c.args.asked.now)
+    (to_target c.args.state.now c.requires.sound c.args.asked.now c.requires.asked
+    c.descriptor.result error_target c.descriptor.ensures
     (cc (c.in-Some-Error.is, c.in-Some-Error.field-0-is, c.target_of.ensures)))
     c.in-Ok-send.ensures.sends
 
+pub returns-in-Some-Pipe-clause-sends : goal.returns-in-Some-Pipe-clause-sends
+returns-in-Some-Pipe-clause-sends g c =
+    quietly write c.args.state.now c.args.asked.now c.write_pipe.result c.write_pipe.new.state _ _
+    (λ q o e. to_target c.args.state.now c.requires.sound c.args.asked.now c.requires.asked
+    c.descriptor.result (pipe_target c.in-Some-Pipe.pipe) c.descriptor.ensures
+    (cc (c.in-Some-Pipe.is, c.in-Some-Pipe.field-0-is, c.target_of.ensures)) q o e
+    ∙ c.write_pipe.ensures.goes_on q o e)
+
 pub returns-in-None-clause-sends : goal.returns-in-None-clause-sends
 returns-in-None-clause-sends g c =
-    quietly write c.args.state.now c.args.asked.now _ c.refuse.new.state _ _
-    (λ q o e. let w : World = sent o e (world_of q c.args.state.now) in
-    ap (λ d. write_by d (call_in w c.args.asked.now))
-    (descriptor_is w c.args.asked.now c.descriptor.result
-    (process_alive c.args.state.now c.requires.sound c.args.asked.now.thread
-    c.args.asked.now.process c.requires.asked.live c.requires.asked.process)
-    c.descriptor.ensures)
-    ∙ writes-none c.descriptor.result (call_in w c.args.asked.now)
-    (no_pipe c.args.state.now c.requires.sound c.args.asked.now.process c.args.asked.now.a0
-    c.descriptor.result
-    (process_alive c.args.state.now c.requires.sound c.args.asked.now.thread
-    c.args.asked.now.process c.requires.asked.live c.requires.asked.process)
-    c.descriptor.ensures) (sym c.target_of.ensures ∙ c.in-None.is)
-    ∙ ap (λ s. done (went (sent o e (world_of q s)))) (sym c.refuse.ensures.answers))
+    quietly write c.args.state.now c.args.asked.now _ c.refuse_call.new.state _ _
+    (λ q o e. writes_as c.args.state.now c.requires.sound c.args.asked.now c.requires.asked
+    c.descriptor.result c.descriptor.result c.descriptor.ensures refl q o e
+    ∙ writes_none c.descriptor.result
+    (call_in (sent o e (world_of q c.args.state.now)) c.args.asked.now)
+    (sym c.target_of.ensures ∙ c.in-None.is)
+    ∙ ap (λ s. done (went (sent o e (world_of q s)))) (sym c.refuse_call.ensures.answers))
 
 pub returns-in-Err-clause-grows : goal.returns-in-Err-clause-grows
 returns-in-Err-clause-grows g c = output_grown _ _ _ _ _ _ c.in-Err.ensures.cut
@@ -59,23 +73,16 @@ returns-in-Err-send-clause-grows g c = error_grown _ _ _ _ _ _ c.in-Err-send.ens
 
 pub returns-in-Err-clause-faults : goal.returns-in-Err-clause-faults
 returns-in-Err-clause-faults g c = faults-output write c.args.state.now c.args.asked.now
-    c.send.new.state _ _ _ (λ q o e. let w : World = sent o e (world_of q c.args.state.now) in
-    ap (λ d. write_by d (call_in w c.args.asked.now))
-    (descriptor_is w c.args.asked.now c.descriptor.result
-    (process_alive c.args.state.now c.requires.sound c.args.asked.now.thread
-    c.args.asked.now.process c.requires.asked.live c.requires.asked.process) c.descriptor.ensures)
-    ∙ writes-output c.descriptor.result (call_in w c.args.asked.now)
+    c.send.new.state _ _ _
+    (to_target c.args.state.now c.requires.sound c.args.asked.now c.requires.asked
+    c.descriptor.result output_target c.descriptor.ensures
     (cc (c.in-Some-Output.is, c.in-Some-Output.field-0-is, c.target_of.ensures)))
     c.in-Err.ensures.cut
 
 pub returns-in-Err-send-clause-faults : goal.returns-in-Err-send-clause-faults
 returns-in-Err-send-clause-faults g c = faults-error write c.args.state.now c.args.asked.now
-    c.send-in-Some-Error.new.state _ _ _ (λ q o e. let w : World = sent o e
-    (world_of q c.args.state.now) in
-    ap (λ d. write_by d (call_in w c.args.asked.now))
-    (descriptor_is w c.args.asked.now c.descriptor.result
-    (process_alive c.args.state.now c.requires.sound c.args.asked.now.thread
-    c.args.asked.now.process c.requires.asked.live c.requires.asked.process) c.descriptor.ensures)
-    ∙ writes-error c.descriptor.result (call_in w c.args.asked.now)
+    c.send-in-Some-Error.new.state _ _ _
+    (to_target c.args.state.now c.requires.sound c.args.asked.now c.requires.asked
+    c.descriptor.result error_target c.descriptor.ensures
     (cc (c.in-Some-Error.is, c.in-Some-Error.field-0-is, c.target_of.ensures)))
     c.in-Err-send.ensures.cut

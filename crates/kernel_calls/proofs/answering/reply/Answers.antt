@@ -1,0 +1,11 @@
+use Rattle.std.proofs.Common.{sym, subst}
+use Rattle.dos_world.specs.World.{registers_by}
+use Rattle.dos_world.specs.Kernel.{answered}
+use Rattle.kernel_calls.specs.Serving.{IsCounted}
+use Rattle.kernel_calls.proofs.Counted.{counted-thread_by}
+use Rattle.kernel_calls.proofs.answering.reply.Goals as goal
+
+pub returns-clause-counted : goal.returns-clause-counted
+returns-clause-counted c counted =
+    subst (λ t. IsCounted (record c.args.state.now { table = t })) (sym c.answer_in.ensures)
+    (counted-thread_by c.args.state.now c.args.tid (registers_by (answered c.args.value)) counted)

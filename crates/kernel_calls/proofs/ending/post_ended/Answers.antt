@@ -1,6 +1,0 @@
-use Rattle.kernel_calls.proofs.ProcessEnds.{first-lives}
-use Rattle.kernel_calls.proofs.ending.post_ended.Goals as goal
-
-pub post-requires-clause-live : goal.post-requires-clause-live
-post-requires-clause-live c =
-    first-lives c.args.table.now.threads c.args.pid c.in-Some.tid c.in-Some.ensures

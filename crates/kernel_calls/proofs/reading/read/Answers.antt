@@ -1,0 +1,66 @@
+use Rattle.std.proofs.Common.{◌≡◌, ℕ, List, Option, Some, IfSome, refl, sym, ap, ◌∙◌}
+use Rattle.dos_world.specs.Play.{done}
+use Rattle.dos_world.specs.Services.{went, read, read_by}
+use Rattle.dos_world.specs.declared.End.{End}
+use Rattle.dos_world.specs.declared.End.TheVariants.{Input, PipeRead}
+use Rattle.proc_table.specs.Tables.{held_in, end_in}
+use Rattle.kernel_calls.specs.Serving.{IsSound, sent, world_of}
+use Rattle.kernel_calls.specs.Calling.{AreAsked, call_in, source_of}
+use Rattle.kernel_calls.specs.declared.state.State.{State}
+use Rattle.kernel_calls.specs.declared.state.Asked.{Asked}
+use Rattle.kernel_calls.specs.declared.reading.Source.{Source}
+use Rattle.kernel_calls.specs.declared.reading.Source.TheVariants.{Input as input_source, Pipe as pipe_source}
+use Rattle.kernel_calls.proofs.DescriptorRows.{named_range}
+use Rattle.kernel_calls.proofs.InputRows.{consults_as, end_of, reads_as, reads_none, source_end, stops_as, unasked}
+use Rattle.kernel_calls.proofs.reading.read.Goals as goal
+
+-- a read from a source, where the descriptor names it
+from_source : (s : State) (sound : IsSound s) (a : Asked) → AreAsked s a → (d : Option End)
+    (source : Source) → IfSome (held_in s.table.processes a.process) (λ h. d ≡ end_in h a.a0)
+    → source_of d ≡ Some source → (q : ℕ) (o e : List ℕ)
+    → read (call_in (sent o e (world_of q s)) a)
+    ≡ read_by (Some (end_of source)) (call_in (sent o e (world_of q s)) a)
+from_source s sound a are d source is goes =
+    reads_as s sound a are d (Some (end_of source)) is (source_end d source goes)
+
+pub read_pipe-requires-clause-pipe : goal.read_pipe-requires-clause-pipe
+read_pipe-requires-clause-pipe g c =
+    named_range c.args.state.now c.requires.sound c.args.asked.now c.requires.asked
+    c.descriptor.result
+    (PipeRead c.in-Some-Pipe.pipe) c.descriptor.ensures
+    (source_end c.descriptor.result (pipe_source c.in-Some-Pipe.pipe)
+    (cc (c.in-Some-Pipe.is, c.in-Some-Pipe.field-0-is, c.source_of.ensures)))
+
+pub returns-in-Ok-clause-consults : goal.returns-in-Ok-clause-consults
+returns-in-Ok-clause-consults g c =
+    consults_as read (read_by (Some Input)) c.args.state.now c.args.asked.now
+    (from_source c.args.state.now c.requires.sound c.args.asked.now c.requires.asked
+    c.descriptor.result input_source c.descriptor.ensures
+    (cc (c.in-Some-Input.is, c.in-Some-Input.field-0-is, c.source_of.ensures)))
+    _ _ _ _ c.in-Ok.ensures.consults
+
+pub returns-in-Err-clause-asks : goal.returns-in-Err-clause-asks
+returns-in-Err-clause-asks g c =
+    stops_as read (read_by (Some Input)) c.args.state.now c.args.asked.now
+    (from_source c.args.state.now c.requires.sound c.args.asked.now c.requires.asked
+    c.descriptor.result input_source c.descriptor.ensures
+    (cc (c.in-Some-Input.is, c.in-Some-Input.field-0-is, c.source_of.ensures)))
+    c.in-Err.stop _ _ c.in-Err.ensures.asks
+
+pub returns-in-Some-Pipe-clause-consults : goal.returns-in-Some-Pipe-clause-consults
+returns-in-Some-Pipe-clause-consults g c =
+    unasked read c.args.state.now c.args.asked.now c.read_pipe.result c.read_pipe.new.state _
+    (λ q o e. from_source c.args.state.now c.requires.sound c.args.asked.now c.requires.asked
+    c.descriptor.result (pipe_source c.in-Some-Pipe.pipe) c.descriptor.ensures
+    (cc (c.in-Some-Pipe.is, c.in-Some-Pipe.field-0-is, c.source_of.ensures)) q o e
+    ∙ c.read_pipe.ensures.goes_on q o e)
+
+pub returns-in-None-clause-consults : goal.returns-in-None-clause-consults
+returns-in-None-clause-consults g c =
+    unasked read c.args.state.now c.args.asked.now _ c.refuse_call.new.state _
+    (λ q o e. reads_as c.args.state.now c.requires.sound c.args.asked.now c.requires.asked
+    c.descriptor.result c.descriptor.result c.descriptor.ensures refl q o e
+    ∙ reads_none c.descriptor.result
+    (call_in (sent o e (world_of q c.args.state.now)) c.args.asked.now)
+    (sym c.source_of.ensures ∙ c.in-None.is)
+    ∙ ap (λ s. done (went (sent o e (world_of q s)))) (sym c.refuse_call.ensures.answers))

@@ -1,0 +1,38 @@
+use Rattle.std.proofs.Common.{◌==◌, ◌∙◌, refl, sym, ap, subst}
+use Rattle.dos_world.specs.Kernel.{pending_with}
+use Rattle.proc_table.specs.Tables.{Tables, IsThread}
+use Rattle.kernel_calls.proofs.Changed.{lives_still}
+use Rattle.kernel_calls.proofs.Counted.{all_counted, counted-table}
+use Rattle.kernel_calls.proofs.Signalled.{post_counted, post_keeps, post_room}
+use Rattle.kernel_calls.proofs.signalling.kill.Goals as goal
+
+pub returns-then-asked-gt-LAST_SIGNAL-clause-counted :
+    goal.returns-then-asked-gt-LAST_SIGNAL-clause-counted
+returns-then-asked-gt-LAST_SIGNAL-clause-counted c =
+    counted-table c.args.state.now c.refuse_call.new.state _
+    c.requires.sound.counted c.refuse_call.ensures.answers refl refl
+
+pub returns-then-not-is_live-clause-counted : goal.returns-then-not-is_live-clause-counted
+returns-then-not-is_live-clause-counted c =
+    counted-table c.args.state.now c.refuse_call-then-not-is_live.new.state _
+    c.requires.sound.counted c.refuse_call-then-not-is_live.ensures.answers refl refl
+
+pub reply-requires : goal.reply-requires
+reply-requires c = record {
+  live = subst (λ (T : Tables). IsThread T.threads c.args.asked.now.thread)
+      (sym c.post_some.ensures)
+      (post_keeps (λ T. IsThread T.threads c.args.asked.now.thread) c.args.state.now.table
+      c.args.asked.now.a0 c.args.asked.now.a1 (c.args.asked.now.a1 == 0) c.requires.asked.live
+      (λ u. lives_still (pending_with c.args.asked.now.a1) c.args.state.now.table.threads u
+      c.args.asked.now.thread c.requires.asked.live));
+}
+
+pub returns-clause-counted : goal.returns-clause-counted
+returns-clause-counted c = counted-table c.args.state.now c.reply.new.state _
+    c.requires.sound.counted c.reply.ensures.answers
+    (ap (λ (T : Tables). all_counted T.processes) c.post_some.ensures
+    ∙ post_counted c.args.state.now.table c.args.asked.now.a0 c.args.asked.now.a1
+    (c.args.asked.now.a1 == 0))
+    (ap (λ (T : Tables). T.room) c.post_some.ensures
+    ∙ post_room c.args.state.now.table c.args.asked.now.a0 c.args.asked.now.a1
+    (c.args.asked.now.a1 == 0))

@@ -1,0 +1,52 @@
+use Rattle.std.proofs.Common.{◌≡◌, ◌≢◌, sym, ap, ◌∙◌, arith}
+use Rattle.std.proofs.lemmas.Bool.Decides.{nat_tests}
+use Rattle.dos_world.specs.Calls.{Service}
+use Rattle.dos_world.specs.Services.{service_of}
+use Rattle.dos_world.specs.Signals.{play_waits}
+use Rattle.kernel_calls.specs.Serving.{sent, world_of}
+use Rattle.kernel_calls.specs.Calling.{call_in, paid}
+use Rattle.kernel_calls.proofs.Patient.{patient, row_5, row_7, row_8, row_11}
+use Rattle.kernel_calls.proofs.waiting.waits.Goals as goal
+
+pub returns-then-number-eq-WAIT : goal.returns-then-number-eq-WAIT
+returns-then-number-eq-WAIT c = λ q o e.
+    let is : c.args.number ≡ 5 = grind (arith, nat_tests, c.if-number-eq-WAIT.true) in
+    c.awaits_child.ensures q o e
+    ∙ ap (λ (f : Service). play_waits (f (call_in
+    (sent o e (world_of q (paid c.args.state.now c.args.asked.now.thread))) c.args.asked.now)))
+    (sym (ap service_of is ∙ row_5))
+
+pub returns-then-number-eq-READ : goal.returns-then-number-eq-READ
+returns-then-number-eq-READ c = λ q o e.
+    let is : c.args.number ≡ 7 = grind (arith, nat_tests, c.if-number-eq-READ.true) in
+    c.awaits_bytes.ensures q o e
+    ∙ ap (λ (f : Service). play_waits (f (call_in
+    (sent o e (world_of q (paid c.args.state.now c.args.asked.now.thread))) c.args.asked.now)))
+    (sym (ap service_of is ∙ row_7))
+
+pub returns-then-number-eq-WRITE : goal.returns-then-number-eq-WRITE
+returns-then-number-eq-WRITE c = λ q o e.
+    let is : c.args.number ≡ 8 = grind (arith, nat_tests, c.if-number-eq-WRITE.true) in
+    c.awaits_room.ensures q o e
+    ∙ ap (λ (f : Service). play_waits (f (call_in
+    (sent o e (world_of q (paid c.args.state.now c.args.asked.now.thread))) c.args.asked.now)))
+    (sym (ap service_of is ∙ row_8))
+
+pub returns-then-number-eq-FUTEX_WAIT : goal.returns-then-number-eq-FUTEX_WAIT
+returns-then-number-eq-FUTEX_WAIT c = λ q o e.
+    let is : c.args.number ≡ 11 = grind (arith, nat_tests, c.if-number-eq-FUTEX_WAIT.true) in
+    c.awaits_waking.ensures q o e
+    ∙ ap (λ (f : Service). play_waits (f (call_in
+    (sent o e (world_of q (paid c.args.state.now c.args.asked.now.thread))) c.args.asked.now)))
+    (sym (ap service_of is ∙ row_11))
+
+pub returns : goal.returns
+returns c = λ q o e.
+    let not_5 : c.args.number ≢ 5 = grind (arith, nat_tests, c.if-number-eq-WAIT.false) in
+    let not_7 : c.args.number ≢ 7 = grind (arith, nat_tests, c.if-number-eq-READ.false) in
+    let not_8 : c.args.number ≢ 8 = grind (arith, nat_tests, c.if-number-eq-WRITE.false) in
+    let not_11 : c.args.number ≢ 11 =
+    grind (arith, nat_tests, c.if-number-eq-FUTEX_WAIT.false) in
+    sym (patient c.args.number (not_5, not_7, not_8, not_11)
+    (call_in (sent o e (world_of q (paid c.args.state.now c.args.asked.now.thread)))
+    c.args.asked.now))
