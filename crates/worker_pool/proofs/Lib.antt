@@ -1,2 +1,3 @@
 pub mod Belows
 pub mod Running
+pub mod Growing

@@ -1,5 +1,5 @@
 -- What workers need of packs, and what they leave. This project's own rules.
-use Rattle.std.specs.Prelude.{ℕ, ◌≡◌, ◌+◌, ◌<◌, ◌≤◌, List, [], ◌∷◌, All, length, Some}
+use Rattle.std.specs.Prelude.{ℕ, ◌≡◌, ◌+◌, ◌%◌, ◌^◌, ◌<◌, ◌≤◌, List, [], ◌∷◌, All, length, Some}
 use Rattle.std.specs.Prelude.{slice_get, slice_index_or}
 use Rattle.quantum_run.specs.Shows.{Pack, View, CanRun, Finished, frames_of}
 
@@ -25,6 +25,10 @@ AllCanRun v packs = (i : ℕ) (p : Pack) → slice_get packs i ≡ Some p → Ca
 abbrev pub budgets : List Pack → ℕ
 budgets [] = 0
 budgets (p ∷ ps) = p.budget + budgets ps
+
+-- A tally, which counts modulo 2^64, has grown by so many instructions.
+abbrev pub GrewBy : (before after work : ℕ) → Type 0
+GrewBy before after work = after % 2 ^ 64 ≡ (before + work) % 2 ^ 64
 
 -- ---- the same by index, as std's calls over slices say it
 

@@ -10,6 +10,7 @@ mod crew;
 mod deques;
 mod gate;
 mod lent;
+mod pace;
 mod pools;
 mod tally;
 mod ways;

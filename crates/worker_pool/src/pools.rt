@@ -74,7 +74,7 @@ pub struct Spread<'a, R, G> {
 
 impl<'a, R, G> Spread<'a, R, G> {
     /// From 1 to 32 workers that hold this tally. One worker, or one pack, runs on the caller's own
-    /// thread.
+    /// thread, and so do later calls after some that took few instructions.
     pub fn new(rt: &'a R, workers: u32, gate: &'a G, tally: &'a mut Tally) -> Spread<'a, R, G>
         requires { (0 < workers) × (workers ≤ 32) }
         ensures same { result.tally.ghost_name ≡ tally.entry.ghost_name }
@@ -112,6 +112,7 @@ impl<'a, R: Threads + Sync, G: Gate + Sync> Workers for Spread<'a, R, G> {
     }
 
     fn add(&mut self, more: u64) {
+        self.hands.note(more);
         self.tally.add(more);
     }
 }
@@ -126,7 +127,8 @@ pub struct Boarded<'a, R, G> {
 
 impl<'a, R, G> Boarded<'a, R, G> {
     /// From 1 to 32 workers that hold this tally, and take memory for a board at each call. One
-    /// worker, or one pack, runs on the caller's own thread.
+    /// worker, or one pack, runs on the caller's own thread, and so do later calls after some that
+    /// took few instructions.
     pub fn new(
         rt: &'a R,
         alloc: Global,
@@ -175,6 +177,7 @@ impl<'a, R: Threads + Sync, G: Gate + Sync> Workers for Boarded<'a, R, G> {
     }
 
     fn add(&mut self, more: u64) {
+        self.hands.note(more);
         self.tally.add(more);
     }
 }
@@ -189,7 +192,8 @@ pub struct Stealing<'a, R, G> {
 
 impl<'a, R, G> Stealing<'a, R, G> {
     /// From 1 to 32 workers that hold this tally, and take memory for a board at each call. One
-    /// worker, or one pack, runs on the caller's own thread.
+    /// worker, or one pack, runs on the caller's own thread, and so do later calls after some that
+    /// took few instructions.
     pub fn new(
         rt: &'a R,
         alloc: Global,
@@ -238,6 +242,7 @@ impl<'a, R: Threads + Sync, G: Gate + Sync> Workers for Stealing<'a, R, G> {
     }
 
     fn add(&mut self, more: u64) {
+        self.hands.note(more);
         self.tally.add(more);
     }
 }

@@ -7,6 +7,7 @@ ghost use Rattle.worker_pool.specs.Ran.{AllCanRun, AllRan, AllRunnable, EachRan,
 use crate::crew::run_each;
 use crate::gate::{Gate, OpenGate};
 use crate::lent::{lend, take_back};
+use crate::pace::Pace;
 use quantum_run::{Pack, View, run_pack};
 use std::alloc::Global;
 use std::thread;
@@ -18,6 +19,7 @@ pub struct Hands<'a, R, G> {
     rt: &'a R,
     workers: u32,
     gate: &'a G,
+    pace: Pace,
     ghost few: { (0 < workers) × (workers ≤ 32) },
 }
 
@@ -27,7 +29,12 @@ impl<'a, R, G> Hands<'a, R, G> {
         requires { (0 < workers) × (workers ≤ 32) }
         ensures { result.workers ≡ workers }
     {
-        Hands { rt, workers, gate }
+        Hands {
+            rt,
+            workers,
+            gate,
+            pace: Pace::new(),
+        }
     }
 
     /// The same for one call.
@@ -38,17 +45,24 @@ impl<'a, R, G> Hands<'a, R, G> {
             rt: self.rt,
             workers: self.workers,
             gate: self.gate,
+            pace: self.pace,
         }
     }
 
-    // no more threads than packs
+    // a call ran so many instructions
+    pub(crate) fn note(&mut self, work: u64) {
+        self.pace.note(work);
+    }
+
+    // no more threads than packs, and no more than pay
     fn enough_for(&self, packs: usize) -> u32
         ensures { (0 < result) × (result ≤ 32) }
     {
-        if packs < self.workers as usize {
+        let most = self.workers.min(self.pace.threads());
+        if packs < most as usize {
             (packs as u32).max(1)
         } else {
-            self.workers
+            most
         }
     }
 }
@@ -105,7 +119,8 @@ fn run_in_place<G: Gate>(gate: &G, packs: &mut Vec<Pack>, view: &View<'_>)
     }
 }
 
-// on threads with an even part each: with one worker, or one pack, on the caller's own
+// on threads with an even part each: with one worker, or one pack, or few instructions of late, on
+// the caller's own
 fn run_spread<R: Threads + Sync, G: Gate + Sync>(
     hands: &Hands<'_, R, G>,
     packs: &mut Vec<Pack>,
@@ -118,10 +133,11 @@ fn run_spread<R: Threads + Sync, G: Gate + Sync>(
     ensures room { vec_capacity packs.new ≡ vec_capacity packs.old }
 {
     let gate = hands.gate;
+    let workers = hands.enough_for(packs.len());
     thread::for_each_mut(
         hands.rt,
         packs.as_mut_slice(),
-        hands.workers as usize,
+        workers as usize,
         &|number, pack| run_gated(gate, number, pack, view),
     );
 }

@@ -1,0 +1,43 @@
+// How many threads the next call is worth, by what the last ones took. No contract speaks of it.
+ghost use Rattle.std.specs.Prelude.{◌<◌, ◌≤◌};
+
+/// So many calls are spread whatever they take.
+const FIRST_CALLS: u32 = 8;
+
+/// A thread that is started and joined costs about as much as so many instructions, or fewer.
+const THREAD_COST: u64 = 8192;
+
+/// What the last calls took.
+#[derive(Clone, Copy)]
+pub struct Pace {
+    calls: u32,
+    work: u64,
+}
+
+impl Pace {
+    /// There was no call yet.
+    pub(crate) fn new() -> Pace {
+        Pace { calls: 0, work: 0 }
+    }
+
+    /// A call ran so many instructions. Older calls count by halves.
+    pub(crate) fn note(&mut self, work: u64) {
+        self.calls = self.calls.saturating_add(1);
+        self.work = work.max(self.work / 2);
+    }
+
+    /// How many threads, of at most 32, the next call is worth.
+    pub(crate) fn threads(&self) -> u32
+        ensures { (0 < result) × (result ≤ 32) }
+    {
+        if self.calls < FIRST_CALLS {
+            return 32;
+        }
+        let threads = self.work / THREAD_COST;
+        if threads > 32 {
+            32
+        } else {
+            (threads as u32).max(1)
+        }
+    }
+}
