@@ -1,6 +1,6 @@
 -- The machine sends its bytes behind those that it has sent. So what is a front of them stays one,
 -- over any answers; and where a play was cut off, the sinks hold fronts of what the whole sends.
-use Rattle.std.proofs.Common.{ℕ, ◌≡◌, sym, ap, ◌∙◌, subst, List, [], ◌∷◌, ◌++◌, append-nil, append_assoc, Option, None}
+use Rattle.std.proofs.Common.{ℕ, ◌≡◌, refl, sym, ap, ◌∙◌, subst, List, [], ◌∷◌, ◌++◌, append-nil, append_assoc, Option, None}
 use Rattle.std.specs.Prelude.{map, ⊤}
 use Rattle.std.proofs.lemmas.List.{map-append}
 use Rattle.dos_world.specs.World.{World}
@@ -25,8 +25,9 @@ use Rattle.kernel_calls.specs.declared.state.RunStop.{RunStop}
 use Rattle.kernel_calls.specs.declared.state.RunStop.TheVariants.{HostFault, LogFull, Misfit, OutFault, ErrFault, Memory}
 use Rattle.kernel_calls.specs.declared.state.State.{State}
 use Rattle.group_rounds.specs.Fronts.{AreFrontsOf, CutPlay}
+use Rattle.group_rounds.specs.Goes.{GoesOn}
 use Rattle.group_rounds.specs.Going.{Telling, telling, GoesTo}
-use Rattle.group_rounds.proofs.GoesLaws.{goes-over_more}
+use Rattle.group_rounds.proofs.GoesLaws.{goes-append, goes-over_more, goes-then}
 use Rattle.group_rounds.proofs.GoingLaws.{told_then}
 
 -- ---- the machine
@@ -115,6 +116,13 @@ pub cut_behind : {A : Type 0} (q : ℕ) (world : A → World) (play left : World
     → GoesTo q play s t left s' t' → CutPlay q world left s' t' t'' → CutPlay q world play s t t''
 cut_behind {A} q world play left s s' t t' t'' h k = record {
   more = told_then t t' t'' h.more k.more;
+  goes = λ o e.
+      let rest = k.goes (o ++ h.more.output) (e ++ h.more.error) in (
+        rest.0,
+        goes-append h.more.exchanges k.more.exchanges (play (sent o e (world_of q s)))
+            (left (sent (o ++ h.more.output) (e ++ h.more.error) (world_of q s'))) rest.0
+            (h.goes o e) rest.1,
+      );
   fronts = λ o e.
       subst (λ x. AreFrontsOf world x (e ++ (h.more.error ++ k.more.error)) (whole o e))
       (append_assoc o h.more.output k.more.output)
@@ -148,6 +156,11 @@ pub cut_then : {A B : Type 0} (q : ℕ) (world : A → World) (next_world : B �
     → CutPlay q world play s t t' → CutPlay q next_world (λ w. play w >>= next) s t t'
 cut_then q world next_world play next s t t' each k = record {
   more = k.more;
+  goes = λ o e.
+      let rest = k.goes o e in (
+        rest.0 >>= next,
+        goes-then k.more.exchanges (play (sent o e (world_of q s))) rest.0 next rest.1,
+      );
   fronts = λ o e.
       fronts_then (o ++ k.more.output) (e ++ k.more.error) world next_world
       (map answer_of k.more.exchanges) (play (sent o e (world_of q s))) next
@@ -161,6 +174,8 @@ pub cut_from : {A : Type 0} (q : ℕ) (world : A → World) (play same : World �
     → CutPlay q world same s t t' → CutPlay q world play s t t'
 cut_from q world play same s t t' is k = record {
   more = k.more;
+  goes = λ o e. let rest = k.goes o e in
+      (rest.0, subst (λ p. GoesOn k.more.exchanges p rest.0) (sym (is o e)) rest.1);
   fronts = λ o e. subst (λ x. AreFrontsOf world (o ++ k.more.output) (e ++ k.more.error)
       (over (map answer_of k.more.exchanges) x)) (sym (is o e)) (k.fronts o e);
 }
@@ -192,6 +207,7 @@ module _ (q : ℕ) (s s' : State) (t : ℕ) (told told' : List Exchange) (same :
       output_is = grew.1;
       error_is = h.stays ∙ grown-nothing err;
     };
+    goes = λ o e. (service (sent o e (world_of q s)) t, refl);
     fronts = λ o e. subst (AreFrontsOf world_served (o ++ grew.0) (e ++ [])) (sym (h.goes q o e))
         (front-behind o grew.0 h.bytes grew.2, front-nothing e);
   }
@@ -208,6 +224,7 @@ module _ (q : ℕ) (s s' : State) (t : ℕ) (told told' : List Exchange) (same :
       output_is = h.stays ∙ grown-nothing out;
       error_is = grew.1;
     };
+    goes = λ o e. (service (sent o e (world_of q s)) t, refl);
     fronts = λ o e. subst (AreFrontsOf world_served (o ++ []) (e ++ grew.0)) (sym (h.goes q o e))
         (front-nothing o, front-behind e grew.0 h.bytes grew.2);
   }

@@ -1,6 +1,6 @@
 -- Laws of plays that go on while the state changes.
 use Rattle.std.proofs.Common.{ℕ, ◌≡◌, sym, ap, ap₂, ◌∙◌, subst, List, [], ◌++◌, append-nil, append_assoc, Option}
-use Rattle.std.specs.Prelude.{Result, Ok, Err, OnErr}
+use Rattle.std.specs.Prelude.{Some, None, Result, Ok, Err, IfErr, IfOk, OnErr, OnOk, OnSome}
 use Rattle.dos_world.specs.World.{World}
 use Rattle.dos_world.specs.Play.{Play, done, ◌>>=◌}
 use Rattle.dos_io.specs.Outside.{grown}
@@ -126,3 +126,18 @@ goes_served q play old new told told_after way out out_after err err_after h = r
 pub on_err : {T E : Type 0} (result : Result T E) (P : Type 0) → P → OnErr result P
 on_err (Ok x) P holds = tt
 on_err (Err e) P holds = holds
+
+-- what follows where there is something
+pub some_weaker : {A : Type 0} (o : Option A) (P R : Type 0) → (P → R) → OnSome o P → OnSome o R
+some_weaker None P R f h = tt
+some_weaker (Some x) P R f h = f h
+
+pub if_err_weaker : {T E : Type 0} (result : Result T E) (P R : E → Type 0)
+    → ((e : E) → P e → R e) → IfErr result P → IfErr result R
+if_err_weaker (Ok x) P R f h = tt
+if_err_weaker (Err e) P R f h = f e h
+
+pub ok_weaker : {T E : Type 0} (result : Result T E) (P : T → Type 0) (R : Type 0)
+    → ((x : T) → P x → R) → IfOk result P → OnOk result R
+ok_weaker (Ok x) P R f h = f x h
+ok_weaker (Err e) P R f h = tt

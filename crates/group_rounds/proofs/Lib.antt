@@ -1,7 +1,8 @@
 pub mod GoesLaws
 pub mod GoingLaws
 pub mod FrontLaws
-pub mod Quiet
+pub mod StopLaws
+pub mod Pays
 pub mod Sound
 pub mod RunningLaws
 pub mod TurnLaws
@@ -9,9 +10,11 @@ pub mod CauseLaws
 pub mod Starters
 pub mod PhaseLaws
 pub mod RoundLaws
-pub mod Ready
 pub mod HandingLaws
 pub mod HandingOut
 pub mod PacksRan
 pub mod PacksShow
 pub mod PacksBack
+pub mod SignalLaws
+pub mod RipenLaws
+pub mod PacksWork

@@ -1,34 +1,33 @@
 -- What the packs bring back makes the world of all parts.
-use Rattle.std.proofs.Common.{ℕ, zero, suc, ◌+◌, ◌-◌, ◌*◌, ◌/◌, ◌%◌, ◌<◌, ◌≤◌, ◌≡◌, ◌≢◌, ◌⊎◌, inl, inr, refl, sym, ap, ◌∙◌, subst, Bool, true, false, List, [], ◌∷◌, ◌++◌, length, map, get_or, Option, Some, None, IsSome, All, option_map, Result, Ok, Err, eqb, eqb-true, arith}
-use Rattle.std.specs.Prelude.{slice_get, slice_index_or}
-use Rattle.std.proofs.lemmas.Bool.{cases_eq, cases_lt}
+use Rattle.std.proofs.Common.{ℕ, zero, suc, ◌-◌, ◌*◌, ◌/◌, ◌%◌, ◌<◌, ◌≤◌, ◌≡◌, ◌≢◌, ◌⊎◌, inl, inr, refl, sym, ap, ◌∙◌, subst, Bool, true, false, List, [], ◌∷◌, ◌++◌, length, map, get_or, Option, Some, None, IsSome, All, option_map, eqb, eqb-true, arith}
+use Rattle.std.specs.Prelude.{slice_get}
 use Rattle.std.proofs.lemmas.List.{get_or_past}
 use Rattle.std.proofs.lemmas.List.Elements.{All-nil, All-cons}
-use Rattle.dos_world.specs.World.{World, Thread, registers_by, released, owner_of, page_of, thread_at}
+use Rattle.dos_world.specs.World.{World}
 use Rattle.dos_world.specs.declared.Owner.{Owner}
 use Rattle.dos_world.specs.declared.Owner.TheVariants.{Free, Shared, Of}
-use Rattle.dos_laws.specs.Plain.{LawfulAndPlain}
-use Rattle.dos_laws.proofs.PlainKeeps.{all_alone-keep}
-use Rattle.dos_laws.proofs.Threads.{lawful-with_thread, plain-with_thread}
+use Rattle.dos_laws.specs.Standing.{LawfulWith}
 use Rattle.dos_laws.proofs.RegisterRanges.{released_change}
 use Rattle.dos_world.specs.declared.Reason.{Reason}
 use Rattle.rv_exec.specs.Runs.{kept}
-use Rattle.rv_exec.specs.Step.{step}
-use Rattle.page_store.specs.Store.{Store, whole, shown, joined, owner_at, IsAway}
+use Rattle.page_store.specs.Store.{Store, joined, owner_at, IsAway}
 use Rattle.page_store.proofs.Joined.{home-at, length-joined, page_of-joined, joined_at}
-use Rattle.quantum_run.specs.Alone.{alone, emptied, steps, budget_of}
-use Rattle.quantum_run.specs.Shows.{Pack, View, Shows, frames_of}
+use Rattle.quantum_run.specs.Alone.{alone}
+use Rattle.quantum_run.specs.Shows.{Pack, Shows}
 use Rattle.round_core.specs.Round.{all_alone}
-use Rattle.round_core.proofs.Commute.{Among, Apart}
+use Rattle.round_core.proofs.Commute.{Among}
 use Rattle.round_core.proofs.Bringing.{DifferIn}
-use Rattle.proc_table.specs.Tables.{Tables, thread_in, IsThread}
+use Rattle.proc_table.specs.Tables.{thread_in, IsThread}
 use Rattle.kernel_calls.specs.Serving.{IsSound, sent, world_of}
 use Rattle.kernel_objects.specs.Pipework.{Pipework}
 use Rattle.kernel_calls.specs.declared.state.State.{State}
-use Rattle.group_rounds.specs.Handing.{In, all_pages, AreApart, AreOthers, IsFor, HasBelow, Handing, HasRun, AllRan, PutBack, AreSet, pack_of, view_of}
+use Rattle.group_rounds.specs.Handing.{In, all_pages, AreApart, AreOthers, IsFor, Handing, PutBack, AreSet, pack_of, view_of}
 use Rattle.group_rounds.specs.Phases.{AreLive}
+use Rattle.worker_pool.specs.Ran.{AllRan, HasRun}
 use Rattle.group_rounds.proofs.HandingLaws.{in-left, in-right, in-either}
-use Rattle.group_rounds.proofs.Sound.{IsLike, sound_like}
+use Rattle.group_rounds.proofs.Sound.{sound_then, alone_keeps}
+use Rattle.kernel_objects.specs.Pipework.{Pipework}
+use Rattle.kernel_calls.proofs.Counted.{all_counted, counted_like}
 use Rattle.group_rounds.proofs.PacksRan.{Went, Back, among-of, among-at, apart-of, brought}
 use Rattle.group_rounds.proofs.PacksShow.{place-of, frames-at, frames-from, some-is, shows-it, below, opened-is, lives, frame-low}
 
@@ -390,7 +389,7 @@ module _ (s : State) (sound : IsSound s) (ts : List ℕ) (live : AreLive s.table
         start-at (x ∷ ts) [] i t e z = absurd (grind arith)
         start-at (x ∷ ts) (q ∷ qs) zero t e z = (q, refl)
         start-at (x ∷ ts) (q ∷ qs) (suc i) t e z = start-at ts qs i t (omega arith) z
-    has-come f low (inr none) = let x = home-at s.frames.pages f sound.home.home low in
+    has-come f low (inr none) = let x = home-at s.frames.pages f sound.counted.home.home low in
         (x.0, frame-same f none ∙ x.1)
 
     home-again : All IsSome s2.frames.pages
@@ -398,25 +397,24 @@ module _ (s : State) (sound : IsSound s) (ts : List ℕ) (live : AreLive s.table
         (λ f low. has-come f (omega (arith, low, level))
         (decide-owner ts (owner_at s.frames f)))
 
-    like : IsLike s s2
-    like = record {
-      home = record {
-        home = home-again;
-        owners = ap length (put.owners ∙ h.owners)
-            ∙ sound.home.owners ∙ sym level;
-      };
-      round = round;
-      room = set.room;
-      count = ap length (put.owners ∙ h.owners);
-      uses = put.uses ∙ h.uses;
-      processes = set.processes;
-      pipes = pipes;
-    }
-
     pub sound-again : IsSound s2
-    sound-again = sound_like s s2 sound like
-        (λ q both. subst LawfulAndPlain (all-runs q [] [])
-        (all_alone-keep ts (world_of q s) both))
+    sound-again = sound_then s s2 sound
+        (counted_like s s2 (record {
+          home = record {
+            home = home-again;
+            owners = ap length (put.owners ∙ h.owners)
+                ∙ sound.counted.home.owners ∙ sym level;
+          };
+          round = round;
+          room = set.room;
+          frames = ap length (put.owners ∙ h.owners);
+          uses = put.uses ∙ h.uses;
+          readers = ap (λ (p : Pipework). p.readers) pipes;
+          writers = ap (λ (p : Pipework). p.writers) pipes;
+          processes = ap all_counted set.processes;
+        }) sound.counted)
+        (λ q k. subst (LawfulWith []) (all-runs q [] [])
+        (alone_keeps [] ts (world_of q s) k))
 
     pub count-again : length s2.frames.owners ≡ length s.frames.owners
     count-again = ap length (put.owners ∙ h.owners)

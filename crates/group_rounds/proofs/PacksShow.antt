@@ -85,13 +85,13 @@ module _ (s : State) (sound : IsSound s) (ts : List ℕ) (live : AreLive s.table
 
   pub frame-low : (frame t : ℕ) → owner_at s.frames frame ≡ Of t → frame < length s.frames.pages
   frame-low frame t mine = let low = of-within s.frames.owners frame t mine in let same =
-      sound.home.owners in omega (arith, low, same)
+      sound.counted.home.owners in omega (arith, low, same)
 
   -- the bytes of a frame
   pub bytes-page : (frame : ℕ) → frame < length s.frames.pages
       → bytes_at s.frames.pages frame ≡ page_of (joined s.frames.pages) frame
   bytes-page frame low =
-      let x = home-at s.frames.pages frame sound.home.home low in
+      let x = home-at s.frames.pages frame sound.counted.home.home low in
       ap (λ o. elim o as (λ _. List ℕ) [ None ↦ shown None | Some y ↦ shown y ]) x.1
       ∙ sym (page_of-joined s.frames.pages frame (Some x.0) x.1)
 
@@ -100,8 +100,8 @@ module _ (s : State) (sound : IsSound s) (ts : List ℕ) (live : AreLive s.table
       ≡ Some (Some (page_of (joined s.frames.pages) frame))
   shared-page frame all =
       let low = shared-within s.frames.owners frame all in
-      let same = sound.home.owners in
-      let x = home-at s.frames.pages frame sound.home.home (omega (arith, low, same)) in
+      let same = sound.counted.home.owners in
+      let x = home-at s.frames.pages frame sound.counted.home.home (omega (arith, low, same)) in
       let here : slice_get new.pages frame ≡ Some (Some x.0) =
       h.home frame (inr (λ place t is. of≢shared t (sym all ∙ is.1))) ∙ x.1 in
       map-at (option_map whole) new.pages frame (Some x.0) here
@@ -174,7 +174,7 @@ module _ (s : State) (sound : IsSound s) (ts : List ℕ) (live : AreLive s.table
           thread = ap (option_map kept) found.is;
           space = space-shown s.table.processes found.thread.process found.holdings found.has
               ∙ ap (λ x. Some (Some x)) (sym (thread_space_is s t sound (lives i t at) q o e));
-          count = length-joined s.frames.pages ∙ ap (λ n. 4096 * n) (sym sound.home.owners);
+          count = length-joined s.frames.pages ∙ ap (λ n. 4096 * n) (sym sound.counted.home.owners);
           mapped = λ page entry has.
               not-free entry page
               (ap (λ x. look x page) (sym (thread_space_is s t sound (lives i t at) q o e)) ∙ has);

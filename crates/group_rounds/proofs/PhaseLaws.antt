@@ -1,26 +1,24 @@
 -- One starter more in a phase.
-use Rattle.std.proofs.Common.{ℕ, suc, ◌+◌, ◌<◌, ◌≤◌, ◌≡◌, ◌≢◌, ◌⊎◌, inl, inr, refl, sym, ap, ◌∙◌, subst, Bool, cond, true, false, List, [], ◌∷◌, length, drop, get_or, drop-cons, Option, Some, None, option_map, arith}
-use Rattle.std.specs.Prelude.{IsSome, is_some}
+use Rattle.std.proofs.Common.{ℕ, suc, ◌+◌, ◌<◌, ◌≤◌, ◌≡◌, refl, sym, ap, ◌∙◌, subst, Bool, cond, true, false, List, [], ◌∷◌, length, drop, get_or, drop-cons, Option, arith}
+use Rattle.std.specs.Prelude.{is_some}
 use Rattle.std.proofs.Math.ListN.{drop_of_length-le}
-use Rattle.std.proofs.lemmas.Bool.{cases_eq}
-use Rattle.dos_world.specs.World.{World, Thread, thread_at}
+use Rattle.dos_world.specs.World.{World}
+use Rattle.dos_world.specs.declared.Question.{Question}
 use Rattle.dos_world.specs.Play.{done, ◌>>=◌}
-use Rattle.dos_laws.proofs.Threads.{lawful-with_thread, plain-with_thread}
-use Rattle.dos_laws.proofs.RegisterRanges.{budget_change}
-use Rattle.quantum_run.specs.Alone.{alone}
-use Rattle.quantum_run.specs.Laws.{without_run}
-use Rattle.quantum_run.proofs.Own.{alone-own}
+use Rattle.dos_laws.specs.Standing.{LawfulWith}
 use Rattle.round_core.specs.Rest.{rest_of, rest_if_live, serial_of}
-use Rattle.round_core.specs.Round.{with_budgets, all_alone}
+use Rattle.round_core.specs.Round.{with_budgets}
 use Rattle.proc_table.specs.Tables.{Tables, IsThread, thread_by, thread_in, with_budget}
-use Rattle.kernel_calls.specs.Serving.{IsSound, sent, world_of}
+use Rattle.kernel_calls.specs.Serving.{HaveParts, IsCounted, IsSound, sent, world_of}
+use Rattle.kernel_calls.proofs.Counted.{counted-thread_by}
 use Rattle.kernel_calls.specs.declared.state.State.{State}
-use Rattle.group_rounds.specs.Fronts.{CutPlay}
+use Rattle.group_rounds.specs.Fronts.{CutPlay, StoppedPlay}
 use Rattle.group_rounds.specs.Going.{GoesTo, Telling}
 use Rattle.group_rounds.specs.Phases.{AreLive}
 use Rattle.group_rounds.proofs.FrontLaws.{cut_behind, cut_then, cut_from, fronts_serial}
+use Rattle.group_rounds.proofs.StopLaws.{stopped_behind, stopped_from, stopped_then}
 use Rattle.group_rounds.proofs.GoingLaws.{goes_still, goes_and, goes_behind, goes_from}
-use Rattle.group_rounds.proofs.Sound.{sound_like, lives_by}
+use Rattle.group_rounds.proofs.Sound.{sound_then, parts_then, budget_keeps, lives_by}
 
 -- ---- the list of starters, from a place on
 
@@ -45,67 +43,28 @@ module _ (s : State) (table : Tables) (quantum t : ℕ)
       (sent o e (world_of quantum (record s { table = table }))) (drop (i + 1) xs))
       (sym set)
 
+  -- who has a part has it, whoever's budget it is
+  budget_stands : (q : ℕ) (ts : List ℕ) → LawfulWith ts (world_of q s)
+      → LawfulWith ts (world_of q (record s { table = table }))
+  budget_stands q ts k =
+      subst (λ (table : Tables). LawfulWith ts (world_of q (record s { table = table }))) (sym set)
+      (budget_keeps ts (world_of q s) t quantum k)
+
   pub budget_sound : IsSound s → IsSound (record s { table = table })
-  budget_sound sound =
-      let home = sound.home in
-      subst (λ (table : Tables). IsSound (record s { table = table })) (sym set)
-      (sound_like s (record s { table = thread_by (with_budget quantum) s.table t }) sound
-      (record {
-        home = home;
-        round = refl;
-        room = refl;
-        count = refl;
-        uses = refl;
-        processes = refl;
-        pipes = refl;
-      })
-      (λ q both. record {
-        lawful =
-            lawful-with_thread (with_budget quantum) (budget_change quantum)
-            (world_of q s) t both.lawful;
-        plain =
-            plain-with_thread (with_budget quantum) (budget_change quantum)
-            (world_of q s) t both.plain;
-      }))
+  budget_sound sound = sound_then s (record s { table = table }) sound
+      (subst (λ (table : Tables). IsCounted (record s { table = table })) (sym set)
+      (counted-thread_by s t (with_budget quantum) sound.counted))
+      (λ q k. budget_stands q [] k)
+
+  pub budget_parts : IsSound s → (ts : List ℕ) → HaveParts ts s
+      → HaveParts ts (record s { table = table })
+  budget_parts sound ts = parts_then s (record s { table = table }) ts ts sound
+      (budget_stands 16 ts)
 
   pub budget_live : (xs : List ℕ) → AreLive s.table.threads xs → AreLive table.threads xs
   budget_live xs live k d lt =
       subst (λ (table : Tables). IsThread table.threads (get_or xs k d)) (sym set)
       (lives_by (with_budget quantum) s.table.threads t (get_or xs k d) (live k d lt))
-
--- ---- the parallel phase
-
--- who lives lives on
-alone_lives : (w : World) (t u : ℕ) → IsSome (thread_at w u) → IsSome (thread_at (alone w t) u)
-alone_lives w t u live = go (cases_eq u t)
-  where
-    same_some : (o p : Option Thread) → option_map without_run o ≡ option_map without_run p
-        → IsSome p → IsSome o
-    same_some None None e h = h
-    same_some None (Some thread) e h = cc
-    same_some (Some thread) p e h = refl
-
-    go : (u ≡ t) ⊎ (u ≢ t) → IsSome (thread_at (alone w t) u)
-    go (inl same) = subst (λ n. IsSome (thread_at (alone w t) n)) (sym same)
-        (same_some (thread_at (alone w t) t) (thread_at w t) (alone-own w t).thread
-        (subst (λ n. IsSome (thread_at w n)) same live))
-    go (inr other) = subst (λ o. IsSome o) (sym ((alone-own w t).others u other)) live
-
-module _ (s s' : State) (t : ℕ) (runs : (q : ℕ) (o e : List ℕ)
-    → alone (sent o e (world_of q s)) t ≡ sent o e (world_of q s')) where
-  pub alone_next : (xs : List ℕ) (i : ℕ) → i < length xs → t ≡ get_or xs i 0
-      → (q : ℕ) (o e : List ℕ)
-      → all_alone (sent o e (world_of q s)) (drop i xs) ≡ all_alone (sent o e (world_of q s'))
-      (drop (i + 1) xs)
-  alone_next xs i lt is q o e =
-      ap (all_alone (sent o e (world_of q s))) (drop_at xs i lt)
-      ∙ ap (λ t. all_alone (sent o e (world_of q s)) (t ∷ drop (i + 1) xs)) (sym is)
-      ∙ ap (λ w. all_alone w (drop (i + 1) xs)) (runs q o e)
-
-  pub alone_live : (xs : List ℕ) → AreLive s.table.threads xs → AreLive s'.table.threads xs
-  alone_live xs live k d lt =
-      subst (λ w. IsSome (thread_at w (get_or xs k d))) (runs 0 [] [])
-      (alone_lives (world_of 0 s) t (get_or xs k d) (live k d lt))
 
 -- ---- the serial phase
 
@@ -157,7 +116,37 @@ serial_cut q start s t₀ t₁ t₂ t xs i lt is h k =
     (cut_then q (λ w. w) (λ w. w) (λ w. rest_if_live w t) (λ next. serial_of next (drop (i + 1) xs))
     s t₁ t₂ (λ o e. fronts_serial o e (drop (i + 1) xs)) k))
 
+-- where the shim stopped in it
+pub serial_stopped : (q : ℕ) (start s : State) (t₀ t₁ t₂ : Telling) (t : ℕ) (xs : List ℕ) (i : ℕ)
+    (asked : Option Question) → i < length xs → t ≡ get_or xs i 0
+    → GoesTo q (λ w. serial_of w xs) start t₀ (λ w. serial_of w (drop i xs)) s t₁
+    → StoppedPlay q (λ w. rest_if_live w t) s t₁ t₂ asked
+    → StoppedPlay q (λ w. serial_of w xs) start t₀ t₂ asked
+serial_stopped q start s t₀ t₁ t₂ t xs i asked lt is h k =
+    stopped_behind q (λ w. serial_of w xs) (λ w. serial_of w (drop i xs)) start s t₀ t₁ t₂ asked h
+    (stopped_from q (λ w. serial_of w (drop i xs))
+    (λ w. rest_if_live w t >>= λ next. serial_of next (drop (i + 1) xs)) s t₁ t₂ asked
+    (λ o e. serial_at xs t i lt is (sent o e (world_of q s)))
+    (stopped_then q (λ w. rest_if_live w t) (λ next. serial_of next (drop (i + 1) xs)) s t₁ t₂
+    asked k))
+
+-- the first of those that have their parts yet
+pub parts_at : (s : State) (xs : List ℕ) (i t : ℕ) → i < length xs → t ≡ get_or xs i 0
+    → HaveParts (drop i xs) s → HaveParts (t ∷ drop (i + 1) xs) s
+parts_at s xs i t lt is h =
+    subst (λ n. HaveParts (n ∷ drop (i + 1) xs) s) (sym is)
+    (subst (λ ts. HaveParts ts s) (drop_at xs i lt) h)
+
 -- a starter that lives, or not
+
+pub rest_stopped_live : (q : ℕ) (s : State) (t₀ t₁ : Telling) (t : ℕ) (asked : Option Question)
+    → true ≡ is_some (thread_in s.table.threads t)
+    → StoppedPlay q (λ w. rest_of w t) s t₀ t₁ asked
+    → StoppedPlay q (λ w. rest_if_live w t) s t₀ t₁ asked
+rest_stopped_live q s t₀ t₁ t asked live k =
+    stopped_from q (λ w. rest_if_live w t) (λ w. rest_of w t) s t₀ t₁ asked
+    (λ o e. ap (λ (b : Bool). cond b (rest_of (sent o e (world_of q s)) t)
+    (done (sent o e (world_of q s)))) (sym live)) k
 
 pub rest_cut_live : (q : ℕ) (s : State) (t₀ t₁ : Telling) (t : ℕ)
     → true ≡ is_some (thread_in s.table.threads t)

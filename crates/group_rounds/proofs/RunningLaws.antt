@@ -8,7 +8,7 @@ use Rattle.dos_world.specs.declared.Access.{Access}
 use Rattle.dos_world.specs.declared.Entry.{Entry}
 use Rattle.dos_world.specs.declared.Reason.{Reason}
 use Rattle.dos_laws.proofs.Mapped.{IsTaken, space_taken, looked, process_lives, not_free}
-use Rattle.dos_laws.proofs.Frames.{lawful-grant, plain-grant, thread_given}
+use Rattle.dos_laws.specs.Standing.{LawfulWith}
 use Rattle.rv_exec.specs.Runs.{kept}
 use Rattle.rv_exec.specs.Step.{step}
 use Rattle.quantum_run.specs.Shows.{thread_space}
@@ -16,10 +16,11 @@ use Rattle.quantum_run.specs.Running.{after_steps, ran, run_to, AreMapped, IsRun
 use Rattle.round_core.specs.Rest.{page_granted, granted_by}
 use Rattle.page_store.specs.Store.{Store, AreHome, IsOwned, with_grant}
 use Rattle.proc_table.specs.Tables.{Tables, thread_in, held_in, thread_by, IsThread, IsProcess}
-use Rattle.kernel_calls.specs.Serving.{IsSound, world_of, sent}
+use Rattle.kernel_calls.specs.Serving.{HaveParts, IsSound, world_of, sent}
 use Rattle.kernel_calls.specs.declared.state.State.{State}
+use Rattle.kernel_calls.proofs.Counted.{all_counted, counted_like}
 use Rattle.group_rounds.specs.Parts.{Ran, budget_in}
-use Rattle.group_rounds.proofs.Sound.{sound_like, sound_one, steps_keep}
+use Rattle.group_rounds.proofs.Sound.{sound_then, parts_then, sound_one, steps_keep, grant_keeps}
 
 -- ---- a live thread
 
@@ -41,7 +42,7 @@ pub record Seen (s : State) (t : ℕ) : Type 0 where
 pub seen : (s : State) (t : ℕ) → IsSound s → IsThread s.table.threads t → Seen s t
 seen s t sound live =
     let found = some_of (thread_in s.table.threads t) live in
-    let had = process_lives (world_of 16 s) t found.0 (sound_one s sound).lawful found.1 in
+    let had = process_lives (world_of 16 s) t found.0 (sound_one s sound) found.1 in
     record { thread = found.0; is = found.1; holdings = had.0; has = had.1 }
 
 -- what is changed is there
@@ -108,7 +109,7 @@ module _ (s : State) (t : ℕ) (sound : IsSound s) (live : IsThread s.table.thre
       let all : All (λ e. IsTaken w e.1.frame) here.holdings.space =
       subst (λ o. All (λ e. IsTaken w e.1.frame)
       (elim o as (λ _. List (ℕ × Entry)) [ None ↦ [] | Some h ↦ h.space ])) here.has
-      (space_taken w here.thread.process (sound_one s sound).lawful) in
+      (space_taken w here.thread.process (sound_one s sound)) in
       (looked (λ e. IsTaken w e.1.frame) here.holdings.space page e all
       (ap (λ es. look es page) (sym same) ∙ found)).1
 
@@ -117,7 +118,7 @@ module _ (s : State) (t : ℕ) (sound : IsSound s) (live : IsThread s.table.thre
   mapped entries same page e found =
       let one = taken entries same page e found in
       let within : e.frame < length s.frames.owners = one.within in
-      let count = sound.home.owners in
+      let count = sound.counted.home.owners in
       (omega (arith, within, count), not_free _ one.owner)
 
   -- the flat world's space of it, whatever was sent
@@ -244,18 +245,25 @@ module _ (s : State) (t : ℕ) (sound : IsSound s) (live : IsThread s.table.thre
     stops = stops_so reason run.stop;
   }
 
-  -- and the state stays sound
+  -- and the state stays sound, with who has a part
   pub sound_after : IsSound after
-  sound_after = sound_like s after sound (record {
-    home = record { home = run.home; owners = run.count };
-    round = refl;
-    room = ap (λ (table : Tables). table.room) run.table_is;
-    count = ap length run.owners;
-    uses = run.uses;
-    processes = ap (λ (table : Tables). table.processes) run.table_is;
-    pipes = refl;
-  }) (λ q both. steps_keep (budget - budget') (world_of q s) (world_of q after) t
-      (runs_so q [] []) both)
+  sound_after = sound_then s after sound
+      (counted_like s after (record {
+        home = record { home = run.home; owners = run.count };
+        round = refl;
+        room = ap (λ (table : Tables). table.room) run.table_is;
+        frames = ap length run.owners;
+        uses = run.uses;
+        readers = refl;
+        writers = refl;
+        processes = ap (λ (table : Tables). all_counted table.processes) run.table_is;
+      }) sound.counted)
+      (λ q k. steps_keep [] (budget - budget') (world_of q s) (world_of q after) t (runs_so q [] [])
+      k)
+
+  pub parts_after : (ts : List ℕ) → HaveParts ts s → HaveParts ts after
+  parts_after ts = parts_then s after ts ts sound
+      (steps_keep ts (budget - budget') (world_of 16 s) (world_of 16 after) t (runs_so 16 [] []))
 
   pub live_after : IsThread table.threads t
   live_after = subst (λ o. IsSome o) (sym thread_after) refl
@@ -295,28 +303,21 @@ module _ (s : State) (t : ℕ) (sound : IsSound s) (live : IsThread s.table.thre
     owned_one = (mapped s t sound live entries es (address / 4096) entry found).1
 
     pub sound_granted : IsSound granted_state
-    sound_granted = sound_like s granted_state sound (record {
-      home = record {
-        home = sound.home.home;
-        owners =
-            length-set s.frames.owners entry.frame (granted t access) ∙ sound.home.owners;
-      };
-      round = refl;
-      room = refl;
-      count = length-set s.frames.owners entry.frame (granted t access);
-      uses = refl;
-      processes = refl;
-      pipes = refl;
-    }) (λ q both. record {
-      lawful =
-          lawful-grant (world_of q s) t entry.frame access given (taken_in q) both.lawful;
-      plain =
-          plain-grant (world_of q s) t entry.frame access both.plain;
-    })
-      where
-        given : (1 ≤ t) × (t ≤ length s.table.threads)
-        given = thread_given (world_of 16 s) t (seen s t sound live).thread (seen s t sound live).is
-
-        taken_in : (q : ℕ) → IsTaken (world_of q s) entry.frame
-        taken_in q = let one = taken s t sound live entries es (address / 4096) entry found in
-            record { within = one.within; owner = one.owner }
+    sound_granted = sound_then s granted_state sound
+        (counted_like s granted_state (record {
+          home = record {
+            home = sound.counted.home.home;
+            owners =
+                length-set s.frames.owners entry.frame (granted t access)
+                ∙ sound.counted.home.owners;
+          };
+          round = refl;
+          room = refl;
+          frames = length-set s.frames.owners entry.frame (granted t access);
+          uses = refl;
+          readers = refl;
+          writers = refl;
+          processes = refl;
+        }) sound.counted)
+        (λ q k. subst (LawfulWith []) (granted_one q [] [])
+        (grant_keeps [] (world_of q s) t address access k))

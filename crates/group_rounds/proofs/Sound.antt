@@ -1,84 +1,162 @@
--- What keeps a state sound.
-use Rattle.std.proofs.Common.{ℕ, zero, suc, ◌≤◌, ◌≡◌, refl, sym, ap, ◌∙◌, subst, List, [], ◌∷◌, length, Option, Some, None, option_map, Result, Ok, Err, arith}
-use Rattle.std.specs.Prelude.{IsSome, slice_get}
-use Rattle.dos_world.specs.Numbered.{changed, changed_at}
-use Rattle.dos_world.specs.World.{World, Thread, Process, flat}
-use Rattle.dos_world.specs.Lawful.{uses_of}
+-- What keeps a state sound, and who has a part in it.
+use Rattle.std.proofs.Common.{ℕ, zero, suc, ◌≤◌, ◌≡◌, refl, subst, Bool, cond, true, false, List, [], ◌∷◌, length, Option, Some, None, option_map, Result, Ok, Err, arith}
+use Rattle.std.specs.Prelude.{IsSome, is_some, slice_get}
+use Rattle.dos_world.specs.Numbered.{changed, changed_at, numbers_of}
+use Rattle.dos_world.specs.World.{World, Thread, flat, entry_at, is_state, with_thread}
+use Rattle.dos_world.specs.declared.ThreadState.TheVariants.{Ready}
+use Rattle.dos_world.specs.Lawful.{Lawful}
+use Rattle.dos_world.specs.declared.Access.{Access}
+use Rattle.dos_world.specs.declared.Entry.{Entry}
 use Rattle.dos_world.specs.declared.Reason.{Reason}
-use Rattle.dos_laws.specs.Plain.{IsPlain, LawfulAndPlain}
-use Rattle.dos_laws.proofs.PlainKeeps.{step_keeps}
+use Rattle.dos_laws.specs.Standing.{AreAwake, LawfulWith, fit_protocol}
+use Rattle.dos_laws.proofs.LawfulRounds.{at_rest}
+use Rattle.dos_laws.proofs.Stands.{stands-with_thread}
+use Rattle.dos_laws.proofs.StandsKeeps.{stands_kept}
 use Rattle.rv_exec.specs.Step.{step}
+use Rattle.quantum_run.specs.Alone.{alone}
 use Rattle.quantum_run.specs.Running.{after_steps}
-use Rattle.page_store.specs.Store.{uses_at}
-use Rattle.proc_table.specs.Tables.{IsThread as Lives}
-use Rattle.kernel_mem.specs.Seen.{IsHome}
-use Rattle.kernel_objects.specs.Pipework.{Pipework}
-use Rattle.kernel_calls.specs.Serving.{IsSound, AreCounted, world_of}
+use Rattle.round_core.specs.Invariants.{IsKept}
+use Rattle.round_core.specs.Rest.{granted_by, page_granted}
+use Rattle.round_core.specs.Round.{all_alone}
+use Rattle.round_core.proofs.Keeps.{kept_throughout}
+use Rattle.proc_table.specs.Tables.{IsThread as Lives, with_budget}
+use Rattle.kernel_calls.specs.Serving.{HaveParts, IsCounted, IsReady, IsSound, sent, world_of}
 use Rattle.kernel_calls.specs.declared.state.State.{State}
 
 -- ---- the world of a sound state
 
-pub sound_both : (s : State) → IsSound s → (q : ℕ) → 16 ≤ q → q ≤ 65536
-    → LawfulAndPlain (world_of q s)
-sound_both s h q low high = record { lawful = h.lawful q low high; plain = h.plain q }
-
 -- under one quantum; for what doesn't depend on it
-pub sound_one : (s : State) → IsSound s → LawfulAndPlain (world_of 16 s)
-sound_one s h = sound_both s h 16 (omega arith) (omega arith)
+pub sound_one : (s : State) → IsSound s → Lawful (world_of 16 s)
+sound_one s h = h.lawful 16 (omega arith) (omega arith)
 
--- a plain world is so under every quantum
-plain_any : (s : State) (q : ℕ) → IsPlain (world_of 16 s) → IsPlain (world_of q s)
-plain_any s q p = record {
-  built = p.built;
-  parents = p.parents;
-  threads = p.threads;
-  sleepers =
-      p.sleepers;
-  pipes = p.pipes;
-  descriptors = p.descriptors;
+-- no more than 64 threads live
+pub few_live : (s : State) → IsSound s → length (numbers_of is_some s.table.threads) ≤ 64
+few_live s h = (sound_one s h).limits.threads.0
+
+-- ---- who has a part
+
+awake_under : (s : State) (q r : ℕ) (ts : List ℕ) → AreAwake (world_of q s) ts
+    → AreAwake (world_of r s) ts
+awake_under s q r [] h = tt
+awake_under s q r (t ∷ ts) h = (h.0, awake_under s q r ts h.1)
+
+-- who has a part stands so in the world
+pub standing : (s : State) (ts : List ℕ) → IsSound s → HaveParts ts s
+    → LawfulWith ts (world_of 16 s)
+standing s ts sound parts = record {
+  lawful = sound_one s sound;
+  awake = awake_under s 0 16 ts parts.awake;
+  apart = parts.apart;
 }
 
--- ---- another state, with the same uses, whose world is lawful and plain
+-- and has it in the state
+pub parts_in : (s : State) (ts : List ℕ) → LawfulWith ts (world_of 16 s) → HaveParts ts s
+parts_in s ts k = record { awake = awake_under s 16 0 ts k.awake; apart = k.apart }
 
-pub record IsLike (s s' : State) : Type 0 where
-  pub home : IsHome s'.frames
-  pub round : s'.round ≡ s.round
-  pub room : s'.table.room ≡ s.table.room
-  pub count : length s'.frames.owners ≡ length s.frames.owners
-  pub uses : s'.frames.uses ≡ s.frames.uses
-  pub processes : s'.table.processes ≡ s.table.processes
-  pub pipes : s'.pipes ≡ s.pipes
+-- a thread that is ready has a part
+pub part_of : (s : State) (t : ℕ) → IsReady s.table.threads t → HaveParts (t ∷ []) s
+part_of s t ready = record { awake = (ready, tt); apart = (tt, tt) }
 
-pub sound_like : (s s' : State) → IsSound s → IsLike s s'
-    → ((q : ℕ) → LawfulAndPlain (world_of q s) → LawfulAndPlain (world_of q s')) → IsSound s'
-sound_like s s' h like keeps = record {
-  home = like.home;
-  round = subst (λ n. 1 ≤ n) (sym like.round) h.round;
-  room = let was = h.room in omega (arith, was, like.count, like.room);
-  uses = λ q frame.
-      ap (λ (uses : List ℕ). uses_at (record s.frames { uses = uses }) frame) like.uses
-      ∙ h.uses q frame
-      ∙ ap (λ (ps : List Process). uses_of (record (world_of q s) { processes = ps }) frame)
-      (sym like.processes);
-  ends = subst (λ ps. AreCounted ps s'.pipes) (sym like.processes)
-      (subst (λ (x : Pipework). AreCounted s.table.processes x) (sym like.pipes) h.ends);
-  lawful = λ q low high. (keeps q (sound_both s h q low high)).lawful;
-  plain = λ q. plain_any s' q (keeps 16 (sound_one s h)).plain;
+-- so a thread is ready that keeps its part
+pub ready_then : (s s' : State) (t : ℕ) → IsReady s.table.threads t
+    → (HaveParts (t ∷ []) s → HaveParts (t ∷ []) s') → IsReady s'.table.threads t
+ready_then s s' t ready keeps = (keeps (part_of s t ready)).awake.0
+
+-- a part that is over
+pub parts_passed : (s : State) (t : ℕ) (ts : List ℕ) → HaveParts (t ∷ ts) s → HaveParts ts s
+parts_passed s t ts h = record { awake = h.awake.1; apart = h.apart.1 }
+
+-- by whether a part goes on
+pub parts_on : (on : Bool) (t : ℕ) (ts : List ℕ) (s : State) → on ≡ true
+    → HaveParts (cond on (t ∷ ts) ts) s → HaveParts (t ∷ ts) s
+parts_on on t ts s is h = subst (λ b. HaveParts (cond b (t ∷ ts) ts) s) is h
+
+pub parts_off : (on : Bool) (t : ℕ) (ts : List ℕ) (s : State) → on ≡ false
+    → HaveParts (cond on (t ∷ ts) ts) s → HaveParts ts s
+parts_off on t ts s is h = subst (λ b. HaveParts (cond b (t ∷ ts) ts) s) is h
+
+-- those that are ready have theirs
+pub parts_begin : (s : State) → IsSound s
+    → HaveParts (numbers_of (is_state Ready) s.table.threads) s
+parts_begin s sound =
+    parts_in s (numbers_of (is_state Ready) s.table.threads)
+    (stands_kept.begins (world_of 16 s) (at_rest (world_of 16 s) (sound_one s sound)))
+
+-- ---- another state, in whose world stands who stood
+
+-- it is sound, if its kept numbers are those of its world
+pub sound_then : (s s' : State) → IsSound s → IsCounted s'
+    → ((q : ℕ) → LawfulWith [] (world_of q s) → LawfulWith [] (world_of q s')) → IsSound s'
+sound_then s s' h counted keeps = record {
+  counted = counted;
+  lawful = λ q low high. (keeps q (at_rest (world_of q s) (h.lawful q low high))).lawful;
 }
 
--- ---- instructions
+-- and those that have a part have theirs
+pub parts_then : (s s' : State) (ts us : List ℕ) → IsSound s
+    → (LawfulWith ts (world_of 16 s) → LawfulWith us (world_of 16 s')) → HaveParts ts s
+    → HaveParts us s'
+parts_then s s' ts us h keeps parts = parts_in s' us (keeps (standing s ts h parts))
 
-pub steps_keep : (n : ℕ) (w w' : World) (t : ℕ) → after_steps n w t ≡ Some w' → LawfulAndPlain w
-    → LawfulAndPlain w'
-steps_keep zero w w' t e l = let same : w ≡ w' = cc in subst LawfulAndPlain same l
-steps_keep (suc n) w w' t e l = go (λ next. steps_keep n next w' t) (step w t) refl e
+-- ---- what leaves who stands standing
+
+pub kept : IsKept fit_protocol LawfulWith
+kept = kept_throughout fit_protocol LawfulWith stands_kept
+
+-- instructions
+pub steps_keep : (ts : List ℕ) (n : ℕ) (w w' : World) (t : ℕ) → after_steps n w t ≡ Some w'
+    → LawfulWith ts w → LawfulWith ts w'
+steps_keep ts zero w w' t e k = let same : w ≡ w' = cc in subst (LawfulWith ts) same k
+steps_keep ts (suc n) w w' t e k = go (λ next. steps_keep ts n next w' t) (step w t) refl e
   where
-    go : ((next : World) → after_steps n next t ≡ Some w' → LawfulAndPlain next → LawfulAndPlain w')
+    go : ((next : World) → after_steps n next t ≡ Some w' → LawfulWith ts next → LawfulWith ts w')
         → (r : Result World Reason) → step w t ≡ r
         → (elim r as (λ _. Option World) [ Ok next ↦ after_steps n next t | Err reason ↦ None ])
-        ≡ Some w' → LawfulAndPlain w'
-    go rest (Ok next) is h = rest next h (step_keeps w next t is l)
+        ≡ Some w' → LawfulWith ts w'
+    go rest (Ok next) is h = rest next h (stands_kept.steps_kept ts w next t is k)
     go rest (Err reason) is h = cc
+
+-- a page that is granted
+pub grant_keeps : (ts : List ℕ) (w : World) (t address : ℕ) (access : Access) → LawfulWith ts w
+    → LawfulWith ts (page_granted w t address access)
+grant_keeps ts w t address access k = go (entry_at w t address) refl
+  where
+    go : (o : Option Entry) → entry_at w t address ≡ o → LawfulWith ts (granted_by w t access o)
+    go None is = k
+    go (Some e) is = stands_kept.grant_kept ts w t address access e is k
+
+-- a budget
+pub budget_keeps : (ts : List ℕ) (w : World) (t quantum : ℕ) → LawfulWith ts w
+    → LawfulWith ts (with_thread w t (with_budget quantum))
+budget_keeps ts w t quantum k =
+    stands-with_thread ts w t (with_budget quantum)
+    (record {
+      process = λ thread. refl;
+      state = λ thread. refl;
+      ranges =
+          λ thread at is. record {
+            process = is.process;
+            registers = is.registers;
+            pending =
+                is.pending;
+            mask = is.mask;
+            saved = is.saved;
+          };
+    })
+    k
+
+-- threads that each run by themselves
+pub alone_keeps : (ts us : List ℕ) (w : World) → LawfulWith ts w → LawfulWith ts (all_alone w us)
+alone_keeps ts [] w k = k
+alone_keeps ts (u ∷ us) w k = alone_keeps ts us (alone w u) (kept.alone_kept ts w u k)
+
+-- so who has a part has it after the parallel phase
+pub parts_alone : (s s' : State) (us : List ℕ) → IsSound s
+    → ((q : ℕ) (o e : List ℕ) → all_alone (sent o e (world_of q s)) us ≡ sent o e (world_of q s'))
+    → (ts : List ℕ) → HaveParts ts s → HaveParts ts s'
+parts_alone s s' us h runs ts =
+    parts_then s s' ts ts h
+    (λ k. subst (LawfulWith ts) (runs 16 [] []) (alone_keeps ts us (world_of 16 s) k))
 
 -- ---- a live thread
 

@@ -1,40 +1,65 @@
--- The ready threads are gathered among the live ones, from one to the next.
+-- Threads are gathered among the live ones, from one to the next.
 use Rattle.std.proofs.Common.{ℕ, suc, ◌+◌, ◌<◌, ◌≤◌, ◌≡◌, refl, sym, ap, ◌∙◌, subst, Bool, cond, true, false, List, [], ◌∷◌, ◌++◌, length, append_assoc, append-nil, length-append, Option, Some, None, arith, ltb-true, ltb-false}
-use Rattle.std.specs.Prelude.{All, IsSome, filter, find, is_some, nat_lt, slice_get, ⊤}
+use Rattle.std.specs.Prelude.{◌&&◌, not, All, IsSome, filter, find, is_some, nat_lt, slice_get, ⊤}
 use Rattle.std.proofs.lemmas.Bool.{true≢false}
-use Rattle.std.proofs.lemmas.List.Elements.{All-nil, All-cons, All-head, All-tail}
+use Rattle.std.proofs.lemmas.List.Elements.{All-nil, All-cons, All-filter, All-head, All-tail}
 use Rattle.dos_world.specs.Numbered.{places_from, numbers_of}
-use Rattle.dos_world.specs.World.{Thread, flat, is_state, first_of}
-use Rattle.dos_world.specs.declared.ThreadState.TheVariants.{Ready}
+use Rattle.dos_world.specs.World.{World, Thread, flat, is_state, first_of}
+use Rattle.dos_world.specs.Signals.{would_wait}
+use Rattle.dos_world.specs.declared.ThreadState.{ThreadState}
+use Rattle.dos_world.specs.declared.ThreadState.TheVariants.{Ready, Retry}
 use Rattle.proc_table.specs.Tables.{IsThread, thread_in, next_in}
-use Rattle.group_rounds.specs.Phases.{AreLive, ready_in, is_ready}
+use Rattle.group_rounds.specs.Phases.{AreLive, ready_in, ripe_in, is_ready, is_ripe}
 
 -- the live threads above a number
 abbrev pub live_above : List (Option Thread) → ℕ → List ℕ
 live_above threads last = filter (nat_lt last) (numbers_of is_some threads)
 
--- ---- the ready ones among the live ones
+-- ---- those in a state among the live ones
 
-filter_places : (n : ℕ) (threads : List (Option Thread)) (test : ℕ → Bool)
-    → ((k : ℕ) → test (n + k) ≡ is_state Ready (flat (slice_get threads k)))
-    → filter test (places_from n is_some threads) ≡ places_from n (is_state Ready) threads
-filter_places n [] test same = refl
-filter_places n (None ∷ threads) test same =
-    filter_places (suc n) threads test
-    (λ k. ap test (let e : suc n + k ≡ n + suc k = omega arith in e) ∙ same (suc k))
-filter_places n (Some thread ∷ threads) test same =
-    let rest = filter_places (suc n) threads test
-    (λ k. ap test (let e : suc n + k ≡ n + suc k = omega arith in e) ∙ same (suc k)) in
-    ap (λ (b : Bool). cond b (n ∷ filter test (places_from (suc n) is_some threads))
-    (filter test (places_from (suc n) is_some threads)))
-    (ap test (let e : n ≡ n + 0 = omega arith in e) ∙ same 0)
-    ∙ ap (λ ts. cond (is_state Ready (Some thread)) (n ∷ ts) ts) rest
+module _ (state : ThreadState) where
+  filter_places : (n : ℕ) (threads : List (Option Thread)) (test : ℕ → Bool)
+      → ((k : ℕ) → test (n + k) ≡ is_state state (flat (slice_get threads k)))
+      → filter test (places_from n is_some threads) ≡ places_from n (is_state state) threads
+  filter_places n [] test same = refl
+  filter_places n (None ∷ threads) test same =
+      filter_places (suc n) threads test
+      (λ k. ap test (let e : suc n + k ≡ n + suc k = omega arith in e) ∙ same (suc k))
+  filter_places n (Some thread ∷ threads) test same =
+      let rest = filter_places (suc n) threads test
+      (λ k. ap test (let e : suc n + k ≡ n + suc k = omega arith in e) ∙ same (suc k)) in
+      ap (λ (b : Bool). cond b (n ∷ filter test (places_from (suc n) is_some threads))
+      (filter test (places_from (suc n) is_some threads)))
+      (ap test (let e : n ≡ n + 0 = omega arith in e) ∙ same 0)
+      ∙ ap (λ ts. cond (is_state state (Some thread)) (n ∷ ts) ts) rest
+
+  state_numbers : (threads : List (Option Thread))
+      → filter (λ t. is_state state (thread_in threads t)) (numbers_of is_some threads)
+      ≡ numbers_of (is_state state) threads
+  state_numbers threads = filter_places 1 threads (λ t. is_state state (thread_in threads t))
+      (λ k. ap (λ n. is_state state (thread_in threads n))
+      (let e : 1 + k ≡ suc k = omega arith in e))
 
 pub ready_numbers : (threads : List (Option Thread))
     → filter (is_ready threads) (numbers_of is_some threads) ≡ ready_in threads
-ready_numbers threads = filter_places 1 threads (is_ready threads)
-    (λ k. ap (λ n. is_state Ready (thread_in threads n)) (let e : 1 + k ≡ suc k = omega arith in
-    e))
+ready_numbers = state_numbers Ready
+
+-- those that pass both tests
+filter_both : (p q : ℕ → Bool) (xs : List ℕ) → filter (λ x. p x && q x) xs ≡ filter q (filter p xs)
+filter_both p q [] = refl
+filter_both p q (x ∷ xs) = by (filter_both p q xs) (p x)
+  where
+    by : filter (λ x. p x && q x) xs ≡ filter q (filter p xs) → (b : Bool)
+        → cond (b && q x) (x ∷ filter (λ x. p x && q x) xs) (filter (λ x. p x && q x) xs)
+        ≡ filter q (cond b (x ∷ filter p xs) (filter p xs))
+    by rest true = ap (λ ys. cond (q x) (x ∷ ys) ys) rest
+    by rest false = rest
+
+pub ripe_numbers : (w : World) → filter (is_ripe w) (numbers_of is_some w.threads) ≡ ripe_in w
+ripe_numbers w =
+    filter_both (λ t. is_state Retry (thread_in w.threads t)) (λ t. not (would_wait w t))
+    (numbers_of is_some w.threads)
+    ∙ ap (filter (λ t. not (would_wait w t))) (state_numbers Retry w.threads)
 
 -- ---- from one live thread to the next
 
@@ -197,64 +222,78 @@ ready_live threads = places_all 1 (is_state Ready) threads (IsThread threads)
     some_ready None h = absurd (true≢false (sym h))
     some_ready (Some thread) h = refl
 
--- ---- the loop: what is gathered, and the ready ones of those that are left
+-- all live threads live, and so do those of them that pass a test
+pub found_live : (threads : List (Option Thread)) (test : ℕ → Bool)
+    → AreLive threads (filter test (numbers_of is_some threads))
+found_live threads test = All-filter test (IsThread threads) (numbers_of is_some threads)
+    (places_all 1 is_some threads (IsThread threads)
+    (λ k o at some. lives_at threads k o at some))
 
-pub record IsGathered (threads : List (Option Thread)) (starters : List ℕ) (last : ℕ) : Type 0 where
-  pub all : starters ++ filter (is_ready threads) (live_above threads last) ≡ ready_in threads
-  pub few : length starters + length (live_above threads last) ≤ 64
+-- ---- the loop: what is gathered, and those that pass of those that are left
 
-pub gathered_none : (threads : List (Option Thread)) (starters : List ℕ) → starters ≡ []
-    → length (numbers_of is_some threads) ≤ 64 → IsGathered threads starters 0
-gathered_none threads starters none few = record {
-  all = ap (λ xs. xs ++ filter (is_ready threads) (live_above threads 0)) none
-      ∙ ap (filter (is_ready threads)) (all_above threads) ∙ ready_numbers threads;
-  few = let empty : length starters ≡ 0 = ap length none in
+-- Those of the live threads that pass a test, from one live thread to the next.
+pub record IsGathered (test : ℕ → Bool) (threads : List (Option Thread)) (found : List ℕ)
+    (last : ℕ) : Type 0 where
+  pub all : found ++ filter test (live_above threads last)
+      ≡ filter test (numbers_of is_some threads)
+  pub few : length found + length (live_above threads last) ≤ 64
+
+pub gathered_none : (test : ℕ → Bool) (threads : List (Option Thread)) (found : List ℕ)
+    → found ≡ [] → length (numbers_of is_some threads) ≤ 64 → IsGathered test threads found 0
+gathered_none test threads found none few = record {
+  all = ap (λ xs. xs ++ filter test (live_above threads 0)) none
+      ∙ ap (filter test) (all_above threads);
+  few = let empty : length found ≡ 0 = ap length none in
       let count : length (live_above threads 0) ≡ length (numbers_of is_some threads) =
       ap length (all_above threads) in omega (arith, empty, count, few);
 }
 
--- the next one is added if it is ready
-pub gathered_next : (threads : List (Option Thread)) (starters after : List ℕ) (last next : ℕ)
-    → next_in threads last ≡ Some next → after ≡ starters ++ filter (is_ready threads) (next ∷ [])
-    → IsGathered threads starters last → IsGathered threads after next
-gathered_next threads starters after last next e added g = record {
-  all = ap (λ xs. xs ++ filter (is_ready threads) (live_above threads next)) added
-      ∙ append_assoc starters (filter (is_ready threads) (next ∷ []))
-      (filter (is_ready threads) (live_above threads next))
-      ∙ ap (λ xs. starters ++ xs) (by_test (is_ready threads next))
-      ∙ ap (λ xs. starters ++ filter (is_ready threads) xs) (sym (above_then threads last next e))
+-- the next one is added if it passes
+pub gathered_next : (test : ℕ → Bool) (threads : List (Option Thread)) (found after : List ℕ)
+    (last next : ℕ)
+    → next_in threads last ≡ Some next → after ≡ found ++ filter test (next ∷ [])
+    → IsGathered test threads found last → IsGathered test threads after next
+gathered_next test threads found after last next e added g = record {
+  all = ap (λ xs. xs ++ filter test (live_above threads next)) added
+      ∙ append_assoc found (filter test (next ∷ [])) (filter test (live_above threads next))
+      ∙ ap (λ xs. found ++ xs) (by_test (test next))
+      ∙ ap (λ xs. found ++ filter test xs) (sym (above_then threads last next e))
       ∙ g.all;
   few =
       let count : length (live_above threads last) ≡ suc (length (live_above threads next)) =
       ap length (above_then threads last next e) in
-      let more : length after ≤ length starters + 1 = few_more in
+      let more : length after ≤ length found + 1 = few_more in
       let were = g.few in
       omega (arith, count, more, were);
 }
   where
-    by_test : (b : Bool) → cond b (next ∷ []) []
-        ++ filter (is_ready threads) (live_above threads next)
-        ≡ cond b (next ∷ filter (is_ready threads) (live_above threads next))
-        (filter (is_ready threads) (live_above threads next))
+    by_test : (b : Bool) → cond b (next ∷ []) [] ++ filter test (live_above threads next)
+        ≡ cond b (next ∷ filter test (live_above threads next))
+        (filter test (live_above threads next))
     by_test true = refl
     by_test false = refl
 
-    few_more : length after ≤ length starters + 1
-    few_more = let is : length after
-        ≡ length starters + length (filter (is_ready threads) (next ∷ [])) =
-        ap length added ∙ length-append starters (filter (is_ready threads) (next ∷ [])) in
-        let one = at_most (is_ready threads next) in omega (arith, is, one)
+    few_more : length after ≤ length found + 1
+    few_more = let is : length after ≡ length found + length (filter test (next ∷ [])) =
+        ap length added ∙ length-append found (filter test (next ∷ [])) in
+        let one = at_most (test next) in omega (arith, is, one)
       where
         at_most : (b : Bool) → length (cond b (next ∷ []) []) ≤ 1
         at_most true = omega arith
         at_most false = omega arith
 
 -- nobody is left
-pub gathered_all : (threads : List (Option Thread)) (starters : List ℕ) (last : ℕ)
-    → next_in threads last ≡ None → IsGathered threads starters last → starters ≡ ready_in threads
-gathered_all threads starters last e g =
-    sym (append-nil starters)
-    ∙ ap (λ xs. starters ++ filter (is_ready threads) xs) (sym (none_above threads last e)) ∙ g.all
+pub gathered_all : (test : ℕ → Bool) (threads : List (Option Thread)) (found : List ℕ) (last : ℕ)
+    → next_in threads last ≡ None → IsGathered test threads found last
+    → found ≡ filter test (numbers_of is_some threads)
+gathered_all test threads found last e g =
+    sym (append-nil found)
+    ∙ ap (λ xs. found ++ filter test xs) (sym (none_above threads last e)) ∙ g.all
+
+-- all pass
+pub filter_every : (xs : List ℕ) → filter (λ t. true) xs ≡ xs
+filter_every [] = refl
+filter_every (x ∷ xs) = ap (λ ys. x ∷ ys) (filter_every xs)
 
 -- fewer are left
 pub fewer_left : (threads : List (Option Thread)) (last next : ℕ) → next_in threads last ≡ Some next
@@ -264,7 +303,10 @@ fewer_left threads last next e =
     ap length (above_then threads last next e) in omega (arith, count)
 
 -- there is room for one more
-pub room_left : (threads : List (Option Thread)) (starters : List ℕ) (last next : ℕ)
-    → next_in threads last ≡ Some next → IsGathered threads starters last → length starters + 1 ≤ 64
-room_left threads starters last next e g = let count = fewer_left threads last next e in let were =
+pub room_left : (test : ℕ → Bool) (threads : List (Option Thread)) (found : List ℕ)
+    (last next : ℕ)
+    → next_in threads last ≡ Some next → IsGathered test threads found last
+    → length found + 1 ≤ 64
+room_left test threads found last next e g = let count = fewer_left threads last next e in
+    let were =
     g.few in omega (arith, count, were)

@@ -1,19 +1,23 @@
 -- What follows a stop of a thread, over the kernel's state.
-use Rattle.std.proofs.Common.{ℕ, zero, suc, ◌+◌, ◌-◌, ◌<◌, ◌≤◌, ◌≡◌, refl, sym, ap, ap₂, ◌∙◌, subst, Bool, true, false, List, [], ◌∷◌, ◌++◌, length, append-nil, Option, Some, None, option_map, arith}
-use Rattle.std.specs.Prelude.{map, Result, Ok, Err, IsSome, IfSome, MatchOption}
+use Rattle.std.proofs.Common.{ℕ, zero, suc, ◌+◌, ◌-◌, ◌<◌, ◌≤◌, ◌≡◌, refl, sym, ap, ap₂, ◌∙◌, subst, Bool, cond, true, false, List, [], ◌∷◌, length, Option, Some, None, option_map, arith}
+use Rattle.std.specs.Prelude.{map, Result, Ok, Err, IsSome, IfSome, OnSome, MatchOption}
 use Rattle.dos_world.specs.World.{World, Thread}
 use Rattle.dos_world.specs.Kernel.{process_ended}
-use Rattle.dos_world.specs.Play.{Play, Answer, done, ◌>>=◌, over, Outcome, gives}
+use Rattle.dos_world.specs.Play.{Play, done, ◌>>=◌}
+use Rattle.dos_world.specs.declared.Question.{Question}
 use Rattle.dos_world.specs.Services.{Served as FlatServed, service}
 use Rattle.dos_world.specs.declared.Access.{Access}
 use Rattle.dos_world.specs.declared.Reason.{Reason}
 use Rattle.dos_world.specs.declared.Reason.TheVariants.{Page, Fault, Service}
 use Rattle.dos_io.specs.declared.exchange.Exchange.{Exchange}
 use Rattle.dos_io.specs.Exchanges.{answer_of}
-use Rattle.dos_io.specs.Shims.{ShimState}
+use Rattle.dos_io.specs.Shims.{HasNoEnd, ShimState}
 use Rattle.dos_io.specs.declared.shim.ShimStop.{ShimStop}
 use Rattle.dos_laws.specs.Plays.{world_served}
+use Rattle.dos_laws.specs.Standing.{LawfulWith}
 use Rattle.dos_laws.proofs.Mapped.{entry_taken}
+use Rattle.dos_laws.proofs.StandsEnds.{stands-process_ended}
+use Rattle.dos_laws.proofs.StandsKeeps.{stands_kept}
 use Rattle.rv_exec.specs.Step.{step}
 use Rattle.quantum_run.specs.Alone.{emptied, steps, alone}
 use Rattle.quantum_run.specs.Running.{after_steps}
@@ -22,19 +26,22 @@ use Rattle.round_core.specs.Laws.{MapsWithin}
 use Rattle.round_core.specs.Rest.{page_granted, process_of, after_service, turns, rest_of}
 use Rattle.round_core.proofs.Turning.{goes_on, turns-granted, turns-fault, turns-service, turns-after_steps, few_grants, needed-granted}
 use Rattle.proc_table.specs.Tables.{thread_in, IsThread}
-use Rattle.kernel_calls.specs.Serving.{IsSound, world_of, sent, way_in, Answers, Asks, HasFaulted, shim_stop}
+use Rattle.kernel_calls.specs.Serving.{HaveParts, IsSound, world_of, sent, way_in, left_after, Answers, Asks, HasFaulted, shim_stop}
 use Rattle.kernel_calls.specs.declared.state.RunStop.{RunStop}
 use Rattle.kernel_calls.specs.declared.state.State.{State}
 use Rattle.kernel_calls.specs.declared.state.Served.{Served}
 use Rattle.kernel_calls.specs.declared.state.Served.TheVariants.{Went, Waits, Yields, Gone}
-use Rattle.group_rounds.specs.Fronts.{CutPlay}
+use Rattle.group_rounds.specs.Fronts.{CutPlay, StoppedPlay}
+use Rattle.group_rounds.specs.Outside.{is_end}
 use Rattle.group_rounds.specs.Going.{Telling, telling, GoesTo}
 use Rattle.group_rounds.specs.Parts.{KeepsCount, Ran, budget_in, goes_on_after, turns_left, part_left, part_measure}
 use Rattle.group_rounds.proofs.FrontLaws.{cut_behind, cut_then, cut_from, fronts_after_service, service_cut}
+use Rattle.group_rounds.proofs.StopLaws.{cut_stopped, service_stopped, stopped_behind, stopped_from, stopped_then}
+use Rattle.group_rounds.proofs.GoesLaws.{goes_by}
 use Rattle.group_rounds.proofs.GoingLaws.{goes_still, goes_behind, goes_from, goes_and, goes_served}
-use Rattle.group_rounds.proofs.Quiet.{IsQuiet, HasLeft, budget_at, service-quiet, quiet-asks_nothing, process_ended-count}
+use Rattle.group_rounds.proofs.Pays.{HasPaid, budget_at, no_end-append, no_end_over, process_ended-count, question_no_end, service_paid, service_pays}
 use Rattle.group_rounds.proofs.RunningLaws.{some_of}
-use Rattle.group_rounds.proofs.Sound.{sound_one}
+use Rattle.group_rounds.proofs.Sound.{parts_then, sound_one}
 
 one_less : (n : ℕ) → 0 < n → n ≡ suc (n - 1)
 one_less n h = omega (arith, h)
@@ -43,7 +50,7 @@ one_less n h = omega (arith, h)
 maps_within : (s : State) (t : ℕ) → IsSound s → (q : ℕ) (o e : List ℕ)
     → MapsWithin (sent o e (world_of q s)) t
 maps_within s t sound q o e address entry found =
-    (entry_taken (world_of 16 s) t address entry (sound_one s sound).lawful found).within
+    (entry_taken (world_of 16 s) t address entry (sound_one s sound) found).within
 
 -- ---- instructions
 
@@ -185,10 +192,6 @@ fault_count s s' p status ends = ap (λ w. length w.owners) (sym ends)
 
 -- ---- a service
 
-gives_same : {A : Type 0} {a b : A} {rest : List Answer}
-    → ◌≡◌ {A = Outcome A} (gives a rest) (gives b []) → (a ≡ b) × (rest ≡ [])
-gives_same e = (cc, cc)
-
 -- what is left is the service, and then the turns with one of the budget less
 turn_serves : (s : State) (t : ℕ) → 0 < budget_in s t
     → ((q : ℕ) (o e : List ℕ) → step (sent o e (world_of q s)) t ≡ Err Service)
@@ -200,14 +203,31 @@ turn_serves s t budget stops q o e =
     ap (λ n. turns n (sent o e (world_of q s)) t) (one_less (budget_in s t) budget)
     ∙ turns-service (sent o e (world_of q s)) t (budget_in s t - 1) (stops q o e)
 
--- where a sink fails in it
-pub turn_cut : (s s' : State) (t : ℕ) → 0 < budget_in s t
+-- where the run stops in it: the shim has come to a question of it
+pub turn_stopped : (s : State) (t : ℕ) → 0 < budget_in s t
+    → ((q : ℕ) (o e : List ℕ) → step (sent o e (world_of q s)) t ≡ Err Service)
+    → (before after : ShimState) (out out' err err' : Option (List ℕ)) (stop : ShimStop)
+    → Asks (λ w. service w t) s before stop after out out' err err'
+    → (q : ℕ) → StoppedPlay q (turns_left t) s (telling before.told out err)
+    (telling after.told out' err') after.asked
+turn_stopped s t budget stops before after out out' err err' stop h q =
+    stopped_from q (turns_left t)
+    (λ w. service w t >>= λ served. goes_on (budget_in s t - 1) t (after_service served))
+    s (telling before.told out err) (telling after.told out' err') after.asked
+    (turn_serves s t budget stops q)
+    (stopped_then q (λ w. service w t)
+    (λ served. goes_on (budget_in s t - 1) t (after_service served)) s (telling before.told out err)
+    (telling after.told out' err') after.asked
+    (service_stopped q s (λ w. service w t) before after stop out out' err err' h))
+
+-- or a sink has failed
+sink_cut : (s s' : State) (t : ℕ) → 0 < budget_in s t
     → ((q : ℕ) (o e : List ℕ) → step (sent o e (world_of q s)) t ≡ Err Service)
     → (told told' : List Exchange) (out out' err err' : Option (List ℕ)) (stop : RunStop)
     → told' ≡ told → shim_stop stop ≡ None
     → HasFaulted stop (λ w. service w t) s s' out out' err err'
     → (q : ℕ) → CutPlay q (λ w. w) (turns_left t) s (telling told out err) (telling told' out' err')
-turn_cut s s' t budget stops told told' out out' err err' stop same is h q =
+sink_cut s s' t budget stops told told' out out' err err' stop same is h q =
     cut_from q (λ w. w) (turns_left t)
     (λ w. service w t >>= λ served. goes_on (budget_in s t - 1) t (after_service served))
     s (telling told out err) (telling told' out' err')
@@ -218,55 +238,117 @@ turn_cut s s' t budget stops told told' out out' err err' stop same is h q =
     (λ o e. fronts_after_service o e (budget_in s t - 1) t)
     (service_cut q s s' t told told' same out out' err err' stop is h))
 
-module _ (s s' : State) (t : ℕ) (sound : IsSound s) (live : IsThread s.table.threads t)
+pub turn_cut : (s s' : State) (t : ℕ) → 0 < budget_in s t
+    → ((q : ℕ) (o e : List ℕ) → step (sent o e (world_of q s)) t ≡ Err Service)
+    → (before after : ShimState) (out out' err err' : Option (List ℕ)) (stop : RunStop)
+    → after.told ≡ before.told
+    → IfSome (shim_stop stop)
+    (λ stop. Asks (λ w. service w t) s before stop after out out' err err')
+    → HasFaulted stop (λ w. service w t) s s' out out' err err'
+    → (q : ℕ) → CutPlay q (λ w. w) (turns_left t) s (telling before.told out err)
+    (telling after.told out' err')
+turn_cut s s' t budget stops before after out out' err err' stop same asks faults q =
+    by_stop (shim_stop stop) refl asks
+  where
+    by_stop : (o : Option ShimStop) → shim_stop stop ≡ o
+        → IfSome o (λ stop. Asks (λ w. service w t) s before stop after out out' err err')
+        → CutPlay q (λ w. w) (turns_left t) s (telling before.told out err)
+        (telling after.told out' err')
+    by_stop None is h =
+        sink_cut s s' t budget stops before.told after.told out out' err err' stop same is faults q
+    by_stop (Some x) is h =
+        cut_stopped q (λ w. w) (turns_left t) s (telling before.told out err)
+        (telling after.told out' err') after.asked
+        (turn_stopped s t budget stops before after out out' err err' x h q)
+
+-- where the shim stops, so does it in the turn
+pub turn_asks : (s : State) (t : ℕ) → 0 < budget_in s t
+    → ((q : ℕ) (o e : List ℕ) → step (sent o e (world_of q s)) t ≡ Err Service)
+    → (before after : ShimState) (out out' err err' : Option (List ℕ)) (stop : RunStop)
+    → IfSome (shim_stop stop)
+    (λ stop. Asks (λ w. service w t) s before stop after out out' err err')
+    → OnSome (shim_stop stop)
+    ((q : ℕ) → StoppedPlay q (turns_left t) s (telling before.told out err)
+    (telling after.told out' err') after.asked)
+turn_asks s t budget stops before after out out' err err' stop h = by_stop (shim_stop stop) h
+  where
+    by_stop : (o : Option ShimStop)
+        → IfSome o (λ stop. Asks (λ w. service w t) s before stop after out out' err err')
+        → OnSome o ((q : ℕ) → StoppedPlay q (turns_left t) s (telling before.told out err)
+        (telling after.told out' err') after.asked)
+    by_stop None h = tt
+    by_stop (Some x) h = turn_stopped s t budget stops before after out out' err err' x h
+
+-- and its question isn't that of the run's end
+pub asks_no_end : (s : State) (t : ℕ) → IsThread s.table.threads t
+    → (before after : ShimState) (out out' err err' : Option (List ℕ)) (stop : RunStop)
+    → IfSome (shim_stop stop)
+    (λ stop. Asks (λ w. service w t) s before stop after out out' err err')
+    → OnSome (shim_stop stop) (is_end after.asked ≡ false)
+asks_no_end s t live before after out out' err err' stop h = by_stop (shim_stop stop) h
+  where
+    by_stop : (o : Option ShimStop)
+        → IfSome o (λ stop. Asks (λ w. service w t) s before stop after out out' err err')
+        → OnSome o (is_end after.asked ≡ false)
+    by_stop None h = tt
+    by_stop (Some x) h =
+        let found = some_of (thread_in s.table.threads t) live in
+        ap is_end h.first.stopped.asked
+        ∙ question_no_end (HasPaid t (found.0.budget - 1) (length s.frames.owners)) []
+        (service (world_of 0 s) t) h.first.question [] []
+        (service_pays (world_of 0 s) t found.0 found.1) (h.first.asks 0 [] [])
+
+module _ (s s' : State) (t : ℕ) (live : IsThread s.table.threads t)
     (told told' : List Exchange) (way : Served) (out out' err err' : Option (List ℕ))
     (answers : Answers (λ w. service w t) s told told' way s' out out' err err') where
   caller : (thread : Thread) × (thread_in s.table.threads t ≡ Some thread)
   caller = some_of (thread_in s.table.threads t) live
 
-  quiet : IsQuiet t (caller.0.budget - 1) (length s.frames.owners) (service (world_of 0 s) t)
-  quiet = service-quiet (world_of 0 s) t caller.0 refl caller.1
-
   -- what the service left
-  left_so : (quiet.served ≡ way_in way (sent answers.output answers.error (world_of 0 s')))
-      × (map answer_of answers.exchanges ≡ [])
-  left_so = gives_same (sym (ap (over (map answer_of answers.exchanges)) quiet.is)
-      ∙ answers.gives 0 [] [])
+  paid : HasPaid t (caller.0.budget - 1) (length s.frames.owners)
+      (way_in way (sent answers.output answers.error (world_of 0 s')))
+  paid = service_paid (world_of 0 s) t caller.0 (map answer_of answers.exchanges) []
+      (way_in way (sent answers.output answers.error (world_of 0 s'))) caller.1
+      (answers.gives 0 [] [])
 
   budget_before : budget_in s t ≡ caller.0.budget
   budget_before = ap (λ o. elim o as (λ _. ℕ) [ None ↦ 0 | Some thread ↦ thread.budget ]) caller.1
 
-  -- nothing was asked
-  pub no_exchange : answers.exchanges ≡ []
-  no_exchange = go answers.exchanges left_so.1
-    where
-      go : (es : List Exchange) → map answer_of es ≡ [] → es ≡ []
-      go [] h = refl
-      go (x ∷ es) h = cc
-
-  pub told_same : told' ≡ told
-  told_same = answers.told_is ∙ ap (λ es. told ++ es) no_exchange ∙ append-nil told
+  -- the run isn't over
+  pub told_on : HasNoEnd told → HasNoEnd told'
+  told_on no_end =
+      subst HasNoEnd (sym answers.told_is)
+      (no_end-append told answers.exchanges no_end
+      (no_end_over (HasPaid t (caller.0.budget - 1) (length s.frames.owners)) answers.exchanges
+      (service (world_of 0 s) t)
+      (done (way_in way (sent answers.output answers.error (world_of 0 s'))))
+      (service_pays (world_of 0 s) t caller.0 caller.1)
+      (goes_by answers.exchanges (service (world_of 0 s) t)
+      (way_in way (sent answers.output answers.error (world_of 0 s')))
+      (answers.gives 0 [] []) (answers.asks 0 [] []))))
 
   -- there are as many frames
   pub served_count : KeepsCount s s'
-  served_count = go way left_so.0
+  served_count = go way paid
     where
       go : (way : Served)
-          → quiet.served ≡ way_in way (sent answers.output answers.error (world_of 0 s'))
+          → HasPaid t (caller.0.budget - 1) (length s.frames.owners)
+          (way_in way (sent answers.output answers.error (world_of 0 s')))
           → length s'.frames.owners ≡ length s.frames.owners
-      go Went h = sym (ap (λ served. length (world_served served).owners) h) ∙ quiet.count
-      go Waits h = sym (ap (λ served. length (world_served served).owners) h) ∙ quiet.count
-      go Yields h = sym (ap (λ served. length (world_served served).owners) h) ∙ quiet.count
-      go Gone h = sym (ap (λ served. length (world_served served).owners) h) ∙ quiet.count
+      go Went h = h.1
+      go Waits h = h
+      go Yields h = h
+      go Gone h = h
 
   -- where it goes on, it lives, with one of its budget less
   on_left : goes_on_after way ≡ true → budget_at s'.table.threads t ≡ Some (caller.0.budget - 1)
-  on_left = go way left_so.0
+  on_left = go way paid
     where
       go : (way : Served)
-          → quiet.served ≡ way_in way (sent answers.output answers.error (world_of 0 s'))
+          → HasPaid t (caller.0.budget - 1) (length s.frames.owners)
+          (way_in way (sent answers.output answers.error (world_of 0 s')))
           → goes_on_after way ≡ true → budget_at s'.table.threads t ≡ Some (caller.0.budget - 1)
-      go Went h on = subst (HasLeft t (caller.0.budget - 1)) h quiet.left
+      go Went h on = h.0
       go Waits h on = cc
       go Yields h on = cc
       go Gone h on = cc
@@ -324,23 +406,26 @@ module _ (s s' : State) (t : ℕ) (sound : IsSound s) (live : IsThread s.table.t
       last Yields less o e = refl
       last Gone less o e = refl
 
--- The stop of a service isn't the shim's: nothing was asked.
-pub never_asks : (s : State) (t : ℕ) → IsSound s → IsThread s.table.threads t
-    → (stop : RunStop) (before after : ShimState) (out out' err err' : Option (List ℕ))
-    → IfSome (shim_stop stop)
-    (λ stop. Asks (λ w. service w t) s before stop after out out' err err')
-    → shim_stop stop ≡ None
-never_asks s t sound live stop before after out out' err err' h = go (shim_stop stop) h
-  where
-    go : (o : Option ShimStop)
-        → IfSome o (λ stop. Asks (λ w. service w t) s before stop after out out' err err')
-        → o ≡ None
-    go None h = refl
-    go (Some x) h =
-        let found = some_of (thread_in s.table.threads t) live in
-        absurd (quiet-asks_nothing t (found.0.budget - 1) (length s.frames.owners)
-        (service (world_of 0 s) t) h.question [] []
-        (service-quiet (world_of 0 s) t found.0 refl found.1) (h.asks 0 [] []))
+-- who has a part after a service of t's
+pub parts_left : (way : Served) (t : ℕ) (ts : List ℕ) (s : State)
+    → HaveParts (left_after way t ts) s → HaveParts (cond (goes_on_after way) (t ∷ ts) ts) s
+parts_left Went t ts s h = h
+parts_left Waits t ts s h = h
+parts_left Yields t ts s h = h
+parts_left Gone t ts s h = h
+
+-- the end of t's process leaves the others theirs
+pub parts_ended : (s s' : State) (t p status : ℕ) (ts : List ℕ) → IsSound s → status < 256
+    → ((q : ℕ) (o e : List ℕ)
+    → process_ended (sent o e (world_of q s)) p status ≡ sent o e (world_of q s'))
+    → HaveParts (t ∷ ts) s → HaveParts ts s'
+parts_ended s s' t p status ts sound small ends =
+    parts_then s s' (t ∷ ts) ts sound
+    (λ k. subst (LawfulWith ts) (ends 16 [] [])
+    (stands-process_ended ts (world_of 16 s) p status small
+    (stands_kept.passes ts (world_of 16 s) t k)))
+
+-- ---- the part
 
 -- From the part's begin over the instructions and then a turn.
 goes_turn : (q : ℕ) (t : ℕ) (start s ran after : State) (t₀ t₁ t₂ : Telling)
@@ -389,5 +474,16 @@ pub rest_cut : (q : ℕ) (t : ℕ) (start s ran : State) (t₀ t₁ t₂ : Telli
     → CutPlay q (λ w. w) (λ w. rest_of w t) start t₀ t₂
 rest_cut q t start s ran t₀ t₁ t₂ reason h run k =
     cut_behind q (λ w. w) (λ w. rest_of w t) (turns_left t) start ran t₀ t₁ t₂
+    (goes_and q (λ w. rest_of w t) (turns_left t) (turns_left t) start s ran t₀ t₁ t₁ h
+    (run_goes s ran t reason run q t₁)) k
+
+-- over the instructions, and then a turn in which the shim stopped
+pub rest_stopped : (q : ℕ) (t : ℕ) (start s ran : State) (t₀ t₁ t₂ : Telling)
+    (reason : Option Reason) (asked : Option Question)
+    → GoesTo q (λ w. rest_of w t) start t₀ (turns_left t) s t₁ → Ran s t ran reason
+    → StoppedPlay q (turns_left t) ran t₁ t₂ asked
+    → StoppedPlay q (λ w. rest_of w t) start t₀ t₂ asked
+rest_stopped q t start s ran t₀ t₁ t₂ reason asked h run k =
+    stopped_behind q (λ w. rest_of w t) (turns_left t) start ran t₀ t₁ t₂ asked
     (goes_and q (λ w. rest_of w t) (turns_left t) (turns_left t) start s ran t₀ t₁ t₁ h
     (run_goes s ran t reason run q t₁)) k

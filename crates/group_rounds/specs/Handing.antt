@@ -1,13 +1,11 @@
 -- Pages that are away with packs, and how they come back. This project's own rules.
-use Rattle.std.specs.Prelude.{ℕ, ◌≡◌, ◌≢◌, ◌⊎◌, ◌<◌, ◌≤◌, List, [], ◌∷◌, ◌++◌, map, length, Option, Some, None, option_map, slice_get, slice_set}
-use Rattle.dos_world.specs.World.{World, Process}
-use Rattle.dos_world.specs.declared.Owner.{Owner}
+use Rattle.std.specs.Prelude.{ℕ, ◌≡◌, ◌≢◌, ◌⊎◌, ◌<◌, ◌≤◌, List, [], ◌∷◌, ◌++◌, map, length, Some, None, option_map, slice_get, slice_set}
 use Rattle.dos_world.specs.declared.Owner.TheVariants.{Of}
 use Rattle.rv_exec.specs.Runs.{kept}
 use Rattle.page_store.specs.Store.{Store, whole, owner_at, with_away}
 use Rattle.quantum_run.specs.Laws.{without_run}
 use Rattle.quantum_run.specs.Packs.{bytes_at, empty_pack, space_in, with_page, with_thread_of}
-use Rattle.quantum_run.specs.Shows.{Pack, View, Finished, CanRun, frames_of}
+use Rattle.quantum_run.specs.Shows.{Pack, View}
 use Rattle.proc_table.specs.Tables.{Tables, thread_in}
 
 -- ---- lists
@@ -129,26 +127,6 @@ pub record Handing (ts : List ℕ) (begun : List Pack) (old new : Store) (packs 
       → slice_get new.pages frame ≡ slice_get old.pages frame
   pub each : (i t : ℕ) (p : Pack) → slice_get ts i ≡ Some t → slice_get packs i ≡ Some p
       → (b : Pack) × (slice_get begun i ≡ Some b) × HasBelow t old n b p
-
--- ---- running
-
--- the pack as its thread's whole part has left it
-pub record HasRun (v : View) (p q : Pack) : Type 0 where
-  pub finished : Finished p v q
-  pub thread : q.thread ≡ p.thread
-  pub process : q.process ≡ p.process
-  pub frames : frames_of q.pages ≡ frames_of p.pages
-  pub budget : q.budget ≤ p.budget
-  pub room : q.room ≡ p.room
-
--- as many packs, each run, in order
-pub record AllRan (v : View) (old new : List Pack) : Type 0 where
-  pub level : length new ≡ length old
-  pub each : (i : ℕ) (p : Pack) → slice_get old i ≡ Some p → (q : Pack) × (slice_get new i ≡ Some q)
-      × HasRun v p q
-
-abbrev pub AllCanRun : View → List Pack → Type 0
-AllCanRun v packs = (i : ℕ) (p : Pack) → slice_get packs i ≡ Some p → CanRun p v
 
 -- ---- between two phases
 

@@ -1,5 +1,5 @@
 -- A thread's part in a round, over the kernel's state. This project's own rules.
-use Rattle.std.specs.Prelude.{ℕ, ◌≡◌, ◌+◌, ◌*◌, ◌<◌, List, length, Option, Some, Err, MatchOption, Bool, true, false}
+use Rattle.std.specs.Prelude.{ℕ, ◌≡◌, ◌+◌, ◌-◌, ◌*◌, ◌<◌, List, length, sum_by, Option, Some, Err, MatchOption, Bool, true, false}
 use Rattle.dos_world.specs.World.{World}
 use Rattle.dos_world.specs.Play.{Play, done}
 use Rattle.dos_world.specs.declared.Reason.{Reason}
@@ -20,6 +20,10 @@ KeepsCount old new = length new.frames.owners ≡ length old.frames.owners
 -- t's budget in a state
 abbrev pub budget_in : State → ℕ → ℕ
 budget_in s t = budget_of (world_of 0 s) t
+
+-- how many instructions these threads did between two states, each for one of its budget
+abbrev pub work_between : State → State → List ℕ → ℕ
+work_between old new ts = sum_by (budget_in old) ts - sum_by (budget_in new) ts
 
 -- From the old state t did so many instructions, each for one of its budget and none of which
 -- stopped, and now its next instruction stops for this reason; or its budget is 0.

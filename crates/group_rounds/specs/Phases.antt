@@ -1,8 +1,9 @@
--- The starters of a round. This project's own words.
-use Rattle.std.specs.Prelude.{ℕ, Bool, List, Option, All}
+-- The starters of a round, and who waits no longer. This project's own words.
+use Rattle.std.specs.Prelude.{ℕ, Bool, List, Option, All, filter, not, ◌&&◌}
 use Rattle.dos_world.specs.Numbered.{numbers_of}
-use Rattle.dos_world.specs.World.{Thread, is_state}
-use Rattle.dos_world.specs.declared.ThreadState.TheVariants.{Ready}
+use Rattle.dos_world.specs.World.{World, Thread, is_state, thread_at}
+use Rattle.dos_world.specs.Signals.{would_wait}
+use Rattle.dos_world.specs.declared.ThreadState.TheVariants.{Ready, Retry}
 use Rattle.proc_table.specs.Tables.{IsThread, thread_in}
 
 -- the numbers of the ready threads, in rising order
@@ -16,3 +17,11 @@ is_ready threads t = is_state Ready (thread_in threads t)
 -- each of these is a live thread
 abbrev pub AreLive : List (Option Thread) → List ℕ → Type 0
 AreLive threads starters = All (IsThread threads) starters
+
+-- whether the thread of this number waits, and its service would not wait any more
+abbrev pub is_ripe : World → ℕ → Bool
+is_ripe w t = is_state Retry (thread_at w t) && not (would_wait w t)
+
+-- the numbers of those threads, in rising order
+abbrev pub ripe_in : World → List ℕ
+ripe_in w = filter (λ t. not (would_wait w t)) (numbers_of (is_state Retry) w.threads)

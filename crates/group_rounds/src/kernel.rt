@@ -1,18 +1,21 @@
 // The kernel: the state, what the run was given, and who starts a round.
-ghost use Rattle.std.specs.Prelude.{◌≡◌, ◌≢◌, ◌≤◌, ◌-◌, [], None, false, is_err, length, IfErr, IfOk, IfSome, IsSome, OnErr, OnOk, OnSome};
+ghost use Rattle.std.specs.Prelude.{ℕ, ◌≡◌, ◌≤◌, ◌-◌, [], false, is_err, length, IfErr, IfOk, IfSome, IsSome, OnErr, OnOk, OnSome};
 ghost use Rattle.dos_world.specs.Numbered.{numbered};
 ghost use Rattle.dos_world.specs.Play.{done};
 ghost use Rattle.dos_io.specs.Shims.{HasNoEnd};
 ghost use Rattle.round_core.specs.Rest.{serial_of};
 ghost use Rattle.proc_table.specs.Tables.{last_status};
 ghost use Rattle.kernel_calls.specs.Serving.{HaveGrown, shim_stop};
-ghost use Rattle.group_rounds.specs.Fronts.{CutPlay};
+ghost use Rattle.group_rounds.specs.Fronts.{CutPlay, StoppedPlay};
 ghost use Rattle.group_rounds.specs.Going.{GoesTo, telling};
 ghost use Rattle.group_rounds.specs.Kernels.{IsBetweenRounds};
 ghost use Rattle.group_rounds.specs.Outside.{HaveCauses, is_end};
-ghost use Rattle.group_rounds.specs.Rounds.{CutRound, RanRound, StoppedRound, next_round, starters_after};
+ghost use Rattle.group_rounds.specs.Phases.{ready_in};
+ghost use Rattle.group_rounds.specs.Rounds.{AreStarters, CutRound, RanRound, StoppedRound, next_round, work_in};
+ghost use Rattle.worker_pool.specs.Ran.{GrewBy};
 
 use crate::packs::Packs;
+use crate::phases::gather;
 use crate::round::play_round;
 use crate::{RoundEnd, phases};
 use dos_io::{Shim, Sink};
@@ -20,6 +23,7 @@ use dos_world::Config;
 use kernel_calls::{RunStop, State};
 use std::alloc::{AllocError, Global};
 use std::marker::Model;
+use worker_pool::Workers;
 
 // at most so many threads live
 const THREADS: usize = 64;
@@ -121,24 +125,25 @@ impl Kernel {
     }
 }
 
-/// Runs one round. After an `Err` the kernel has failed, the round isn't counted, and nothing more
+/// Runs one round: the workers run its parallel phase, and their tally grows by the instructions of
+/// it. After an `Err` the kernel has failed, the round isn't counted, and nothing more
 /// is said of its state; each sink holds a front of what the round sends to it.
-///
-/// Today no signal is delivered, whatever list the shim answers.
-pub fn run_round<S: Shim, O: Sink, E: Sink>(
+pub fn run_round<S: Shim, O: Sink, E: Sink, W: Workers>(
     kernel: &mut Kernel,
     shim: &mut S,
     out: &mut O,
     err: &mut E,
+    workers: &mut W,
 ) -> Result<RoundEnd, RunStop>
     requires running { kernel.old.failed ≡ false }
     requires limit { kernel.old.state.round ≤ kernel.old.config.rounds }
     requires told { HasNoEnd (S.state shim.old).told }
     ensures runs { IfOk result
-        (λ end. RanRound kernel.old.config.quantum kernel.old.state
+        (λ end. (work : ℕ) × RanRound kernel.old.config.quantum kernel.old.state
         (telling (S.state shim.old).told (O.told out.old) (E.told err.old)) end
         kernel.new.state
-        (telling (S.state shim.new).told (O.told out.new) (E.told err.new))) }
+        (telling (S.state shim.new).told (O.told out.new) (E.told err.new)) work
+        × GrewBy (W.tally workers.old) (W.tally workers.new) (work_in end work)) }
     ensures asks { IfErr result
         (λ stop. OnSome (shim_stop stop)
         (StoppedRound kernel.old.config.quantum kernel.old.state
@@ -152,11 +157,10 @@ pub fn run_round<S: Shim, O: Sink, E: Sink>(
         (λ stop. OnSome (shim_stop stop) (is_end (S.state shim.new).asked ≡ false)) }
     ensures round { IfOk result
         (λ end. kernel.new.state.round ≡ next_round end kernel.old.state.round) }
-    ensures starters { IfOk result
-        (λ end. kernel.new.starters
-        ≡ starters_after end kernel.old.state.table.threads kernel.old.starters) }
+    ensures starters { OnOk result
+        (AreStarters kernel.old.state (S.state shim.old).told (S.state shim.new).told
+        kernel.old.starters kernel.new.starters) }
     ensures uncounted { OnErr result (kernel.new.state.round ≡ kernel.old.state.round) }
-    ensures ready { IfOk result (λ end. end ≢ RoundEnd.Stalled) }
     ensures sound { kernel.new.failed ≡ false → IsBetweenRounds kernel.new.state kernel.new.config }
     ensures config { kernel.new.config ≡ kernel.old.config }
     ensures failed { kernel.new.failed ≡ is_err result }
@@ -164,6 +168,7 @@ pub fn run_round<S: Shim, O: Sink, E: Sink>(
     ensures causes { HaveCauses result (S.state shim.old) (S.state shim.new) (O.faults out.old)
         (O.faults out.new) (E.faults err.old) (E.faults err.new) }
     ensures follows { S.follows shim.old shim.new }
+    ensures fixed { W.fixed workers.new ≡ W.fixed workers.old }
 {
     let quantum = kernel.config.quantum;
     let result = play_round(
@@ -174,17 +179,18 @@ pub fn run_round<S: Shim, O: Sink, E: Sink>(
         shim,
         out,
         err,
+        workers,
     );
     kernel.failed = result.is_err();
     result
 }
 
-/// The serial phase: the rest of each starter that still lives, one after another, each under what
-/// is left of its budget.
+/// The serial phase by itself: the rest of each thread that is ready, one after another, each under
+/// what is left of its budget.
 ///
-/// `run_round` has it as its last step. After an `Err` the kernel has failed, and nothing more is
-/// said of its state; each sink holds a front of what the phase sends to it. Today no service asks
-/// the shim, so that only a sink stops it.
+/// `run_round` has it as its last step, over the round's starters. After an `Err` the kernel has
+/// failed, and nothing more is said of its state; each sink holds a front of what the phase sends
+/// to it, and where the shim stopped, the phase has come to a question.
 pub fn serial_phase<S: Shim, O: Sink, E: Sink>(
     kernel: &mut Kernel,
     shim: &mut S,
@@ -195,19 +201,27 @@ pub fn serial_phase<S: Shim, O: Sink, E: Sink>(
     requires told { HasNoEnd (S.state shim.old).told }
     ensures goes { OnOk result
         (GoesTo kernel.old.config.quantum
-        (λ w. serial_of w kernel.old.starters) kernel.old.state
+        (λ w. serial_of w (ready_in kernel.old.state.table.threads)) kernel.old.state
         (telling (S.state shim.old).told (O.told out.old) (E.told err.old))
         (λ w. done w) kernel.new.state
         (telling (S.state shim.new).told (O.told out.new) (E.told err.new))) }
     ensures cut { OnErr result (CutPlay kernel.old.config.quantum (λ w. w)
-        (λ w. serial_of w kernel.old.starters) kernel.old.state
+        (λ w. serial_of w (ready_in kernel.old.state.table.threads)) kernel.old.state
         (telling (S.state shim.old).told (O.told out.old) (E.told err.old))
         (telling (S.state shim.new).told (O.told out.new) (E.told err.new))) }
     ensures grows { OnErr result
         (HaveGrown (O.told out.old) (O.told out.new) (E.told err.old) (E.told err.new)) }
-    ensures sinks { IfErr result (λ stop. shim_stop stop ≡ None) }
-    ensures told { (S.state shim.new).told ≡ (S.state shim.old).told }
-    ensures starters { kernel.new.starters ≡ kernel.old.starters }
+    ensures asks { IfErr result (λ stop. OnSome (shim_stop stop)
+        (StoppedPlay kernel.old.config.quantum
+        (λ w. serial_of w (ready_in kernel.old.state.table.threads))
+        kernel.old.state
+        (telling (S.state shim.old).told (O.told out.old) (E.told err.old))
+        (telling (S.state shim.new).told (O.told out.new) (E.told err.new))
+        (S.state shim.new).asked)) }
+    ensures before_end { IfErr result
+        (λ stop. OnSome (shim_stop stop) (is_end (S.state shim.new).asked ≡ false)) }
+    ensures told { OnOk result (HasNoEnd (S.state shim.new).told) }
+    ensures starters { kernel.new.starters ≡ ready_in kernel.old.state.table.threads }
     ensures round { kernel.new.state.round ≡ kernel.old.state.round }
     ensures sound { kernel.new.failed ≡ false → IsBetweenRounds kernel.new.state kernel.new.config }
     ensures config { kernel.new.config ≡ kernel.old.config }
@@ -216,6 +230,7 @@ pub fn serial_phase<S: Shim, O: Sink, E: Sink>(
         (O.faults out.new) (E.faults err.old) (E.faults err.new) }
     ensures follows { S.follows shim.old shim.new }
 {
+    gather(&kernel.state.table, &mut kernel.starters);
     let starters = kernel.starters.as_slice();
     let served = phases::serial_phase(&mut kernel.state, starters, shim, out, err);
     kernel.failed = served.is_err();

@@ -9,7 +9,9 @@ mod kernel;
 mod packs;
 mod part;
 mod phases;
+mod ripening;
 mod round;
+mod signals;
 
 pub use kernel::{Kernel, run_round, serial_phase};
-pub use round::{RoundEnd, run_stop};
+pub use round::RoundEnd;

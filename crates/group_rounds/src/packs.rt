@@ -1,5 +1,5 @@
 // The parallel phase over packs: their pages go out, they run, and all comes back.
-ghost use Rattle.std.specs.Prelude.{◌≡◌, ◌≢◌, ◌+◌, ◌≤◌, ◌<◌, ◌++◌, ◌∷◌, ◌⊎◌, [], ℕ, List, Some, IfOk, MatchOption, length, map, slice_get};
+ghost use Rattle.std.specs.Prelude.{◌≡◌, ◌≢◌, ◌+◌, ◌-◌, ◌^◌, ◌≤◌, ◌<◌, ◌++◌, ◌∷◌, ◌⊎◌, [], ℕ, List, Some, IfOk, MatchOption, length, map, slice_get};
 ghost use Rattle.std.specs.Vec.{vec_capacity};
 ghost use Rattle.page_store.specs.Store.{AreHome, IsAway, IsHome};
 ghost use Rattle.proc_table.specs.Tables.{IsThread};
@@ -7,17 +7,19 @@ ghost use Rattle.quantum_run.specs.Shows.{Pack as pack_value};
 ghost use Rattle.quantum_run.specs.Packs.{HoldsNo, seen};
 ghost use Rattle.kernel_calls.specs.Serving.{IsSound, sent, world_of};
 ghost use Rattle.round_core.specs.Round.{all_alone};
-ghost use Rattle.group_rounds.specs.Parts.{KeepsCount};
+ghost use Rattle.group_rounds.specs.Parts.{KeepsCount, work_between};
+ghost use Rattle.worker_pool.specs.Ran.{AllCanRun, AllRan, GrewBy, budgets};
 ghost use Rattle.group_rounds.specs.Phases.{AreLive};
-ghost use Rattle.group_rounds.specs.Handing.{In, all_pages, AreApart, AreOthers, AllCanRun, AllRan, AreBegun, AreSpare, GoesOut, Handing, PutBack, AreSet, Stays, pack_of, view_of};
+ghost use Rattle.group_rounds.specs.Handing.{In, all_pages, AreApart, AreOthers, AreBegun, AreSpare, GoesOut, Handing, PutBack, AreSet, Stays, pack_of, view_of};
 
 use dos_world::Owner;
 use kernel_calls::State;
 use page_store::Frames;
 use proc_table::Table;
-use quantum_run::{Pack, View, run_pack};
+use quantum_run::{Pack, View};
 use std::alloc::{AllocError, Global};
 use std::marker::Model;
+use worker_pool::Workers;
 
 // at most so many threads live
 const THREADS: usize = 64;
@@ -68,8 +70,8 @@ impl Packs {
         })
     }
 
-    /// The parallel phase: each starter by itself, over its own pages.
-    pub(crate) fn run(&mut self, state: &mut State, starters: &[u32])
+    /// The parallel phase: each starter by itself, over its own pages, on the workers.
+    pub(crate) fn run<W: Workers>(&mut self, state: &mut State, starters: &[u32], workers: &mut W)
         requires sound { IsSound state.old }
         requires live { AreLive state.old.table.threads starters.now }
         requires apart { (i j t : ℕ) → slice_get starters.now i ≡ Some t
@@ -83,8 +85,11 @@ impl Packs {
         ensures round { state.new.round ≡ state.old.round }
         ensures count { KeepsCount state.old state.new }
         ensures packs { self.new ≡ self.old }
+        ensures tally { GrewBy (W.tally workers.old) (W.tally workers.new)
+            (work_between state.old state.new starters.now) }
+        ensures fixed { W.fixed workers.new ≡ W.fixed workers.old }
     {
-        parallel_packs(state, starters, &mut self.spare, &mut self.out);
+        parallel_packs(state, starters, &mut self.spare, &mut self.out, workers);
     }
 }
 
@@ -201,17 +206,6 @@ pub(crate) fn hand_out(
     hand_pages(&mut state.frames, starters, packs);
 }
 
-// each pack by itself, in order
-fn run_all(packs: &mut Vec<Pack>, view: &View<'_>)
-    requires can { AllCanRun (seen view.now) packs.old.items }
-    ensures runs { AllRan (seen view.now) packs.old.items packs.new.items }
-    ensures room { vec_capacity packs.new ≡ vec_capacity packs.old }
-{
-    for place in 0..packs.len() {
-        run_pack(&mut packs[place], view);
-    }
-}
-
 // the pages of a pack come home
 fn put_pages(frames: &mut Frames, pack: &mut Pack)
     requires away { (frame : ℕ) (page : List ℕ) → In pack.old.pages (frame, page)
@@ -254,17 +248,22 @@ fn keep(spare: &mut Vec<Pack>, pack: Pack)
     }
 }
 
-/// Each pack runs, with the frames and the table lent.
-pub(crate) fn run_parts(state: &State, packs: &mut Vec<Pack>)
+/// Each pack runs on the workers, with the frames and the table lent.
+pub(crate) fn run_parts<W: Workers>(state: &State, packs: &mut Vec<Pack>, workers: &mut W)
+    requires count { length packs.old.items < 2 ^ 32 }
     requires can { AllCanRun (view_of state.now.frames state.now.table) packs.old.items }
-    ensures runs { AllRan (view_of state.now.frames state.now.table) packs.old.items packs.new.items }
-    ensures room { vec_capacity packs.new ≡ vec_capacity packs.old }
+    ensures runs { AllRan (view_of state.now.frames state.now.table) packs.old.items
+        packs.new.items }
+    ensures room { vec_capacity packs.old ≤ vec_capacity packs.new }
+    ensures tally { GrewBy (W.tally workers.old) (W.tally workers.new)
+        (budgets packs.old.items - budgets packs.new.items) }
+    ensures fixed { W.fixed workers.new ≡ W.fixed workers.old }
 {
     let view = View {
         frames: &state.frames,
         table: &state.table,
     };
-    run_all(packs, &view);
+    workers.run_all(packs, &view);
 }
 
 /// All pages, registers and budgets of the packs come back, and the packs are spare.
@@ -296,11 +295,18 @@ pub(crate) fn take_in(state: &mut State, packs: &mut Vec<Pack>, spare: &mut Vec<
 }
 
 // The parallel phase: each starter by itself, over its own pages.
-fn parallel_packs(state: &mut State, starters: &[u32], spare: &mut Vec<Pack>, packs: &mut Vec<Pack>)
+fn parallel_packs<W: Workers>(
+    state: &mut State,
+    starters: &[u32],
+    spare: &mut Vec<Pack>,
+    packs: &mut Vec<Pack>,
+    workers: &mut W,
+)
     requires sound { IsSound state.old }
     requires live { AreLive state.old.table.threads starters.now }
     requires apart { (i j t : ℕ) → slice_get starters.now i ≡ Some t
         → slice_get starters.now j ≡ Some t → i ≡ j }
+    requires few { length starters.now ≤ 64 }
     requires none { packs.old.items ≡ [] }
     requires room { length starters.now ≤ vec_capacity packs.old }
     requires enough { length starters.now ≤ length spare.old.items }
@@ -312,6 +318,9 @@ fn parallel_packs(state: &mut State, starters: &[u32], spare: &mut Vec<Pack>, pa
     ensures sound { IsSound state.new }
     ensures round { state.new.round ≡ state.old.round }
     ensures count { KeepsCount state.old state.new }
+    ensures tally { GrewBy (W.tally workers.old) (W.tally workers.new)
+        (work_between state.old state.new starters.now) }
+    ensures fixed { W.fixed workers.new ≡ W.fixed workers.old }
     ensures none { packs.new.items ≡ [] }
     ensures room { vec_capacity packs.old ≤ vec_capacity packs.new }
     ensures enough { length spare.new.items ≡ length spare.old.items }
@@ -319,6 +328,6 @@ fn parallel_packs(state: &mut State, starters: &[u32], spare: &mut Vec<Pack>, pa
     ensures spare_room { vec_capacity spare.old ≤ vec_capacity spare.new }
 {
     hand_out(state, starters, spare, packs);
-    run_parts(state, packs);
+    run_parts(state, packs, workers);
     take_in(state, packs, spare);
 }

@@ -1,5 +1,5 @@
 // One thread's part in a round.
-ghost use Rattle.std.specs.Prelude.{◌≡◌, ◌+◌, ◌≤◌, ◌<◌, ℕ, List, true, IfOk, IfErr, OnOk, OnErr, None, Err};
+ghost use Rattle.std.specs.Prelude.{◌≡◌, ◌+◌, ◌≤◌, ◌<◌, ◌∷◌, ℕ, List, false, true, IfOk, IfErr, OnOk, OnErr, OnSome, Err, if◌then◌else◌};
 ghost use Rattle.dos_world.specs.Kernel.{process_ended};
 ghost use Rattle.dos_world.specs.Play.{done};
 ghost use Rattle.dos_world.specs.World.{registers_by, released};
@@ -9,10 +9,10 @@ ghost use Rattle.rv_exec.specs.Step.{step};
 ghost use Rattle.quantum_run.specs.Alone.{emptied};
 ghost use Rattle.round_core.specs.Rest.{page_granted, process_of, rest_of};
 ghost use Rattle.proc_table.specs.Tables.{IsThread, thread_by};
-ghost use Rattle.kernel_calls.specs.Serving.{IsSound, sent, shim_stop, world_of};
-ghost use Rattle.group_rounds.specs.Fronts.{CutPlay};
+ghost use Rattle.kernel_calls.specs.Serving.{HaveParts, IsReady, IsSound, sent, shim_stop, world_of};
+ghost use Rattle.group_rounds.specs.Fronts.{CutPlay, StoppedPlay};
 ghost use Rattle.group_rounds.specs.Going.{GoesTo, telling};
-ghost use Rattle.group_rounds.specs.Outside.{HaveCauses};
+ghost use Rattle.group_rounds.specs.Outside.{HaveCauses, is_end};
 ghost use Rattle.group_rounds.specs.Parts.{KeepsCount, Ran, budget_in, goes_on_after, part_left, part_measure, turns_left};
 
 use dos_io::{Shim, Sink};
@@ -39,6 +39,7 @@ pub(crate) fn begin(state: &mut State, tid: u32)
         → emptied (sent o e (world_of q state.old)) tid ≡ sent o e (world_of q state.new) }
     ensures budget { budget_in state.new tid ≡ budget_in state.old tid }
     ensures sound { IsSound state.new }
+    ensures parts { (ts : List ℕ) → HaveParts ts state.old → HaveParts ts state.new }
     ensures round { state.new.round ≡ state.old.round }
     ensures count { KeepsCount state.old state.new }
     ensures live { IsThread state.new.table.threads tid }
@@ -53,6 +54,7 @@ pub(crate) fn run(state: &mut State, tid: u32) -> Option<Reason>
     requires live { IsThread state.old.table.threads tid }
     ensures ran { Ran state.old tid state.new result }
     ensures sound { IsSound state.new }
+    ensures parts { (ts : List ℕ) → HaveParts ts state.old → HaveParts ts state.new }
     ensures round { state.new.round ≡ state.old.round }
     ensures count { KeepsCount state.old state.new }
     ensures live { IsThread state.new.table.threads tid }
@@ -76,6 +78,7 @@ fn grant(state: &mut State, tid: u32, address: u32, access: Access)
         → page_granted (sent o e (world_of q state.old)) tid address access
         ≡ sent o e (world_of q state.new) }
     ensures sound { IsSound state.new }
+    ensures parts { (ts : List ℕ) → HaveParts ts state.old → HaveParts ts state.new }
     ensures table { state.new.table ≡ state.old.table }
     ensures round { state.new.round ≡ state.old.round }
     ensures count { KeepsCount state.old state.new }
@@ -96,6 +99,7 @@ fn end_by_fault(state: &mut State, tid: u32, number: u8)
         (process_of (sent o e (world_of q state.old)) tid) (128 + number)
         ≡ sent o e (world_of q state.new) }
     ensures sound { IsSound state.new }
+    ensures parts { (ts : List ℕ) → HaveParts (tid ∷ ts) state.old → HaveParts ts state.new }
     ensures round { state.new.round ≡ state.old.round }
     ensures count { KeepsCount state.old state.new }
 {
@@ -125,6 +129,7 @@ fn take_turn<S: Shim, O: Sink, E: Sink>(
 ) -> Result<bool, RunStop>
     requires sound { IsSound state.old }
     requires live { IsThread state.old.table.threads tid }
+    requires ready { IsReady state.old.table.threads tid }
     requires budget { 0 < budget_in state.old tid }
     requires stops { (q : ℕ) (o e : List ℕ)
         → step (sent o e (world_of q state.old)) tid ≡ Err reason }
@@ -138,10 +143,18 @@ fn take_turn<S: Shim, O: Sink, E: Sink>(
         → part_measure state.new tid < part_measure state.old tid) }
     ensures live { IfOk result (λ on. on ≡ true → IsThread state.new.table.threads tid) }
     ensures sound { OnOk result (IsSound state.new) }
+    ensures parts { IfOk result (λ on. (ts : List ℕ) → HaveParts (tid ∷ ts) state.old
+        → HaveParts (if on then tid ∷ ts else ts) state.new) }
     ensures round { state.new.round ≡ state.old.round }
     ensures count { OnOk result (KeepsCount state.old state.new) }
-    ensures sinks { IfErr result (λ stop. shim_stop stop ≡ None) }
-    ensures told { (S.state shim.new).told ≡ (S.state shim.old).told }
+    ensures asks { IfErr result (λ stop. OnSome (shim_stop stop)
+        ((q : ℕ) → StoppedPlay q (turns_left tid) state.old
+        (telling (S.state shim.old).told (O.told out.old) (E.told err.old))
+        (telling (S.state shim.new).told (O.told out.new) (E.told err.new))
+        (S.state shim.new).asked)) }
+    ensures before_end { IfErr result
+        (λ stop. OnSome (shim_stop stop) (is_end (S.state shim.new).asked ≡ false)) }
+    ensures told { OnOk result (HasNoEnd (S.state shim.new).told) }
     ensures cut { OnErr result ((q : ℕ) → CutPlay q (λ w. w) (turns_left tid) state.old
         (telling (S.state shim.old).told (O.told out.old) (E.told err.old))
         (telling (S.state shim.new).told (O.told out.new) (E.told err.new))) }
@@ -167,8 +180,8 @@ fn take_turn<S: Shim, O: Sink, E: Sink>(
 
 /// The thread's serial part: until its budget is 0 or it waits, yields or is gone.
 ///
-/// After an `Err` nothing is said of the state but its round. Today no service asks the shim, so
-/// that only a sink stops it.
+/// After an `Err` nothing is said of the state but its round. Where the shim stopped, the part has
+/// come to a question; where a sink failed, both sinks hold fronts of what the part sends.
 pub(crate) fn finish<S: Shim, O: Sink, E: Sink>(
     state: &mut State,
     tid: u32,
@@ -178,6 +191,7 @@ pub(crate) fn finish<S: Shim, O: Sink, E: Sink>(
 ) -> Result<(), RunStop>
     requires sound { IsSound state.old }
     requires live { IsThread state.old.table.threads tid }
+    requires ready { IsReady state.old.table.threads tid }
     requires told { HasNoEnd (S.state shim.old).told }
     ensures goes { OnOk result ((q : ℕ)
         → GoesTo q (λ w. rest_of w tid) state.old
@@ -185,10 +199,18 @@ pub(crate) fn finish<S: Shim, O: Sink, E: Sink>(
         (λ w. done w) state.new
         (telling (S.state shim.new).told (O.told out.new) (E.told err.new))) }
     ensures sound { OnOk result (IsSound state.new) }
+    ensures parts { OnOk result ((ts : List ℕ) → HaveParts (tid ∷ ts) state.old
+        → HaveParts ts state.new) }
     ensures round { state.new.round ≡ state.old.round }
     ensures count { OnOk result (KeepsCount state.old state.new) }
-    ensures sinks { IfErr result (λ stop. shim_stop stop ≡ None) }
-    ensures told { (S.state shim.new).told ≡ (S.state shim.old).told }
+    ensures asks { IfErr result (λ stop. OnSome (shim_stop stop)
+        ((q : ℕ) → StoppedPlay q (λ w. rest_of w tid) state.old
+        (telling (S.state shim.old).told (O.told out.old) (E.told err.old))
+        (telling (S.state shim.new).told (O.told out.new) (E.told err.new))
+        (S.state shim.new).asked)) }
+    ensures before_end { IfErr result
+        (λ stop. OnSome (shim_stop stop) (is_end (S.state shim.new).asked ≡ false)) }
+    ensures told { OnOk result (HasNoEnd (S.state shim.new).told) }
     ensures cut { OnErr result ((q : ℕ) → CutPlay q (λ w. w) (λ w. rest_of w tid) state.old
         (telling (S.state shim.old).told (O.told out.old) (E.told err.old))
         (telling (S.state shim.new).told (O.told out.new) (E.told err.new))) }

@@ -1,16 +1,17 @@
 // The phases of a round, over its starters.
-ghost use Rattle.std.specs.Prelude.{◌≡◌, ◌≤◌, ◌+◌, ◌++◌, ◌∷◌, [], ℕ, List, None, filter, is_some, length, IfErr, OnOk, OnErr};
+ghost use Rattle.std.specs.Prelude.{◌≡◌, ◌≤◌, ◌+◌, ◌++◌, ◌∷◌, [], ℕ, List, false, filter, is_some, length, IfErr, OnOk, OnErr, OnSome};
 ghost use Rattle.std.specs.Vec.{vec_capacity};
 ghost use Rattle.dos_world.specs.Numbered.{numbers_of};
 ghost use Rattle.dos_world.specs.Play.{done};
 ghost use Rattle.dos_io.specs.Shims.{HasNoEnd};
+ghost use Rattle.dos_laws.specs.Standing.{IsAwake};
 ghost use Rattle.round_core.specs.Rest.{rest_if_live, serial_of};
 ghost use Rattle.round_core.specs.Round.{with_budgets};
 ghost use Rattle.proc_table.specs.Tables.{IsThread};
-ghost use Rattle.kernel_calls.specs.Serving.{IsSound, sent, shim_stop, world_of};
-ghost use Rattle.group_rounds.specs.Fronts.{CutPlay};
+ghost use Rattle.kernel_calls.specs.Serving.{HaveParts, IsSound, sent, shim_stop, world_of};
+ghost use Rattle.group_rounds.specs.Fronts.{CutPlay, StoppedPlay};
 ghost use Rattle.group_rounds.specs.Going.{GoesTo, telling};
-ghost use Rattle.group_rounds.specs.Outside.{HaveCauses};
+ghost use Rattle.group_rounds.specs.Outside.{HaveCauses, is_end};
 ghost use Rattle.group_rounds.specs.Parts.{KeepsCount};
 ghost use Rattle.group_rounds.specs.Phases.{AreLive, is_ready, ready_in};
 
@@ -19,6 +20,18 @@ use dos_io::{Shim, Sink};
 use dos_world::ThreadState;
 use kernel_calls::{RunStop, State};
 use proc_table::Table;
+
+/// One more number, for which there is room.
+pub(crate) fn add(found: &mut Vec<u32>, tid: u32)
+    requires { length found.old.items + 1 ≤ vec_capacity found.old }
+    ensures items { found.new.items ≡ found.old.items ++ tid ∷ [] }
+    ensures room { vec_capacity found.old ≤ vec_capacity found.new }
+{
+    match found.push(tid) {
+        Ok(()) => {}
+        Err(_) => unreachable!(),
+    }
+}
 
 // one more starter, for which there is room, if its thread is ready
 fn add_if_ready(table: &Table, starters: &mut Vec<u32>, tid: u32)
@@ -31,9 +44,21 @@ fn add_if_ready(table: &Table, starters: &mut Vec<u32>, tid: u32)
     if table.state(tid) != ThreadState::Ready {
         return;
     }
-    match starters.push(tid) {
-        Ok(()) => {}
-        Err(_) => unreachable!(),
+    add(starters, tid);
+}
+
+/// The numbers of the live threads, in rising order.
+pub(crate) fn gather_live(table: &Table, found: &mut Vec<u32>)
+    requires few { length (numbers_of is_some table.now.threads) ≤ 64 }
+    requires room { 64 ≤ vec_capacity found.old }
+    ensures live { found.new.items ≡ numbers_of is_some table.now.threads }
+    ensures room { 64 ≤ vec_capacity found.new }
+{
+    found.clear();
+    let mut last = 0;
+    while let Some(tid) = table.next_thread(last) {
+        add(found, tid);
+        last = tid;
     }
 }
 
@@ -42,6 +67,7 @@ pub(crate) fn gather(table: &Table, starters: &mut Vec<u32>)
     requires few { length (numbers_of is_some table.now.threads) ≤ 64 }
     requires room { 64 ≤ vec_capacity starters.old }
     ensures ready { starters.new.items ≡ ready_in table.now.threads }
+    ensures few { length starters.new.items ≤ 64 }
     ensures room { 64 ≤ vec_capacity starters.new }
 {
     starters.clear();
@@ -60,6 +86,7 @@ pub(crate) fn set_budgets(state: &mut State, starters: &[u32], quantum: u32)
         → with_budgets (sent o e (world_of quantum state.old)) starters.now
         ≡ sent o e (world_of quantum state.new) }
     ensures sound { IsSound state.new }
+    ensures parts { (ts : List ℕ) → HaveParts ts state.old → HaveParts ts state.new }
     ensures round { state.new.round ≡ state.old.round }
     ensures count { KeepsCount state.old state.new }
     ensures live { AreLive state.new.table.threads starters.now }
@@ -78,6 +105,7 @@ fn finish_if_live<S: Shim, O: Sink, E: Sink>(
     err: &mut E,
 ) -> Result<(), RunStop>
     requires sound { IsSound state.old }
+    requires awake { IsAwake (world_of 0 state.old) tid }
     requires told { HasNoEnd (S.state shim.old).told }
     ensures goes { OnOk result ((q : ℕ)
         → GoesTo q (λ w. rest_if_live w tid) state.old
@@ -85,10 +113,18 @@ fn finish_if_live<S: Shim, O: Sink, E: Sink>(
         (λ w. done w) state.new
         (telling (S.state shim.new).told (O.told out.new) (E.told err.new))) }
     ensures sound { OnOk result (IsSound state.new) }
+    ensures parts { OnOk result ((ts : List ℕ) → HaveParts (tid ∷ ts) state.old
+        → HaveParts ts state.new) }
     ensures round { state.new.round ≡ state.old.round }
     ensures count { OnOk result (KeepsCount state.old state.new) }
-    ensures sinks { IfErr result (λ stop. shim_stop stop ≡ None) }
-    ensures told { (S.state shim.new).told ≡ (S.state shim.old).told }
+    ensures asks { IfErr result (λ stop. OnSome (shim_stop stop)
+        ((q : ℕ) → StoppedPlay q (λ w. rest_if_live w tid) state.old
+        (telling (S.state shim.old).told (O.told out.old) (E.told err.old))
+        (telling (S.state shim.new).told (O.told out.new) (E.told err.new))
+        (S.state shim.new).asked)) }
+    ensures before_end { IfErr result
+        (λ stop. OnSome (shim_stop stop) (is_end (S.state shim.new).asked ≡ false)) }
+    ensures told { OnOk result (HasNoEnd (S.state shim.new).told) }
     ensures cut { OnErr result ((q : ℕ) → CutPlay q (λ w. w) (λ w. rest_if_live w tid) state.old
         (telling (S.state shim.old).told (O.told out.old) (E.told err.old))
         (telling (S.state shim.new).told (O.told out.new) (E.told err.new))) }
@@ -111,6 +147,7 @@ pub(crate) fn serial_phase<S: Shim, O: Sink, E: Sink>(
     err: &mut E,
 ) -> Result<(), RunStop>
     requires sound { IsSound state.old }
+    requires parts { HaveParts starters.now state.old }
     requires told { HasNoEnd (S.state shim.old).told }
     ensures goes { OnOk result ((q : ℕ)
         → GoesTo q (λ w. serial_of w starters.now) state.old
@@ -120,8 +157,14 @@ pub(crate) fn serial_phase<S: Shim, O: Sink, E: Sink>(
     ensures sound { OnOk result (IsSound state.new) }
     ensures round { state.new.round ≡ state.old.round }
     ensures count { OnOk result (KeepsCount state.old state.new) }
-    ensures sinks { IfErr result (λ stop. shim_stop stop ≡ None) }
-    ensures told { (S.state shim.new).told ≡ (S.state shim.old).told }
+    ensures asks { IfErr result (λ stop. OnSome (shim_stop stop)
+        ((q : ℕ) → StoppedPlay q (λ w. serial_of w starters.now) state.old
+        (telling (S.state shim.old).told (O.told out.old) (E.told err.old))
+        (telling (S.state shim.new).told (O.told out.new) (E.told err.new))
+        (S.state shim.new).asked)) }
+    ensures before_end { IfErr result
+        (λ stop. OnSome (shim_stop stop) (is_end (S.state shim.new).asked ≡ false)) }
+    ensures told { OnOk result (HasNoEnd (S.state shim.new).told) }
     ensures cut { OnErr result ((q : ℕ)
         → CutPlay q (λ w. w) (λ w. serial_of w starters.now) state.old
         (telling (S.state shim.old).told (O.told out.old) (E.told err.old))

@@ -1,23 +1,29 @@
 // One round.
-ghost use Rattle.std.specs.Prelude.{◌≡◌, ◌≢◌, ◌≤◌, ◌+◌, ℕ, length, Some, None, false, is_err, IfOk, IfErr, OnErr, OnOk, OnSome};
+ghost use Rattle.std.specs.Prelude.{◌≡◌, ◌≤◌, ◌+◌, ℕ, List, length, Some, false, IfOk, IfErr, OnErr, OnOk, OnSome};
 ghost use Rattle.std.specs.Vec.{vec_capacity};
 ghost use Rattle.dos_world.specs.Play.{done};
+ghost use Rattle.dos_world.specs.Signals.{ripen, signalled};
 ghost use Rattle.dos_world.specs.declared.Question.TheVariants.{Signals as signals_question};
-ghost use Rattle.dos_io.specs.Shims.{HasNoEnd};
+ghost use Rattle.dos_io.specs.Shims.{HasNoEnd, answered};
+ghost use Rattle.dos_io.specs.declared.exchange.Exchange.TheVariants.{Signals as signals_exchange};
 ghost use Rattle.dos_laws.specs.Plays.{world_ended};
-ghost use Rattle.round_core.specs.Round.{phases, went};
-ghost use Rattle.kernel_calls.specs.Serving.{IsSound, shim_stop};
-ghost use Rattle.group_rounds.specs.Fronts.{CutPlay};
+ghost use Rattle.round_core.specs.Round.{begun, phases, went};
+ghost use Rattle.kernel_calls.specs.Serving.{IsSound, sent, shim_stop, world_of};
+ghost use Rattle.group_rounds.specs.Fronts.{CutPlay, StoppedPlay};
 ghost use Rattle.group_rounds.specs.Going.{GoesTo, telling};
 ghost use Rattle.group_rounds.specs.Outside.{HaveCauses, is_end};
 ghost use Rattle.group_rounds.specs.Parts.{KeepsCount};
 ghost use Rattle.group_rounds.specs.Phases.{ready_in};
-ghost use Rattle.group_rounds.specs.Rounds.{AnswersSignals, CutRound, RanRound, StoppedRound, StopsRun, next_round, starters_after};
+ghost use Rattle.group_rounds.specs.Rounds.{AreStarters, CutRound, RanRound, StoppedRound, StopsRun, end_in, next_round, work_in};
+ghost use Rattle.worker_pool.specs.Ran.{GrewBy};
 
 use crate::packs::Packs;
 use crate::phases::{gather, serial_phase, set_budgets};
-use dos_io::{Shim, ShimStop, SignalList, Sink};
-use kernel_calls::{RunStop, State, count_round};
+use crate::ripening::ripen;
+use crate::signals::signal_point;
+use dos_io::{Shim, SignalList, Sink};
+use kernel_calls::{RunStop, State, count_round, run_stop};
+use worker_pool::Workers;
 
 /// How a round ended.
 #[derive(Clone, Copy, Debug, PartialEq, Eq)]
@@ -26,41 +32,49 @@ pub enum RoundEnd {
     Went,
     /// No thread lived.
     Done,
-    /// Threads lived, and none of them was ready. No round of today's services ends so.
+    /// Threads lived, and none of them was ready.
     Stalled,
 }
 
-/// Why the run can't go on, where the shim doesn't answer.
-pub fn run_stop(stop: ShimStop) -> RunStop
-    ensures { shim_stop result ≡ Some stop }
-{
-    match stop {
-        ShimStop::HostFault => RunStop::HostFault,
-        ShimStop::LogFull => RunStop::LogFull,
-        ShimStop::Misfit(misfit) => RunStop::Misfit(misfit),
-        ShimStop::Memory => RunStop::Memory,
-    }
-}
-
-// The shim is asked for the signals of a round. Today none is delivered.
-fn ask_signals<S: Shim>(round: u32, shim: &mut S) -> Result<(), RunStop>
+// the shim is asked for the signals of a round
+fn ask_signals<S: Shim>(round: u32, list: &mut SignalList, shim: &mut S) -> Result<(), RunStop>
     requires { HasNoEnd (S.state shim.old).told }
-    ensures answered { OnOk result (AnswersSignals round (S.state shim.old) (S.state shim.new)) }
+    ensures answered { OnOk result
+        (S.state shim.new ≡ answered (S.state shim.old) (signals_exchange round list.new)) }
     ensures stopped { IfErr result
         (λ stop. StopsRun stop (S.state shim.old) (signals_question round)
         (S.state shim.new)) }
     ensures told { OnOk result (HasNoEnd (S.state shim.new).told) }
     ensures follows { S.follows shim.old shim.new }
 {
-    let mut list = SignalList::new();
-    match shim.signals(round, &mut list) {
+    match shim.signals(round, list) {
         Ok(()) => Ok(()),
         Err(stop) => Err(run_stop(stop)),
     }
 }
 
+// The signal point, and who waits no longer is ready. The starters are the threads that are ready
+// then.
+fn begin_round(state: &mut State, starters: &mut Vec<u32>, list: &SignalList)
+    requires sound { IsSound state.old }
+    requires room { 64 ≤ vec_capacity starters.old }
+    ensures begins { (q : ℕ) (o e : List ℕ)
+        → ripen (signalled (sent o e (world_of q state.old)) list.now)
+        ≡ sent o e (world_of q state.new) }
+    ensures sound { IsSound state.new }
+    ensures starters { starters.new.items ≡ ready_in state.new.table.threads }
+    ensures few { length starters.new.items ≤ 64 }
+    ensures room { 64 ≤ vec_capacity starters.new }
+    ensures round { state.new.round ≡ state.old.round }
+    ensures count { KeepsCount state.old state.new }
+{
+    signal_point(state, starters, list);
+    ripen(state, starters);
+    gather(&state.table, starters);
+}
+
 // the phases of a round with these starters, and the round counted
-fn run_phases<S: Shim, O: Sink, E: Sink>(
+fn run_phases<S: Shim, O: Sink, E: Sink, W: Workers>(
     state: &mut State,
     starters: &[u32],
     packs: &mut Packs,
@@ -68,6 +82,7 @@ fn run_phases<S: Shim, O: Sink, E: Sink>(
     shim: &mut S,
     out: &mut O,
     err: &mut E,
+    workers: &mut W,
 ) -> Result<(), RunStop>
     requires sound { IsSound state.old }
     requires level { packs.old ≡ length state.old.frames.owners }
@@ -80,32 +95,95 @@ fn run_phases<S: Shim, O: Sink, E: Sink>(
         × GoesTo quantum (λ w. phases w starters.now) state.old
         (telling (S.state shim.old).told (O.told out.old) (E.told err.old))
         (λ w. done (went w work)) state.new
-        (telling (S.state shim.new).told (O.told out.new) (E.told err.new))) }
+        (telling (S.state shim.new).told (O.told out.new) (E.told err.new))
+        × GrewBy (W.tally workers.old) (W.tally workers.new) work) }
     ensures sound { OnOk result (IsSound state.new) }
     ensures round { OnOk result (state.new.round ≡ state.old.round + 1) }
     ensures packs { packs.new ≡ packs.old }
     ensures uncounted { OnErr result (state.new.round ≡ state.old.round) }
     ensures count { OnOk result (KeepsCount state.old state.new) }
-    ensures sinks { IfErr result (λ stop. shim_stop stop ≡ None) }
-    ensures told { (S.state shim.new).told ≡ (S.state shim.old).told }
+    ensures asks { IfErr result (λ stop. OnSome (shim_stop stop)
+        (StoppedPlay quantum (λ w. phases w starters.now) state.old
+        (telling (S.state shim.old).told (O.told out.old) (E.told err.old))
+        (telling (S.state shim.new).told (O.told out.new) (E.told err.new))
+        (S.state shim.new).asked)) }
+    ensures before_end { IfErr result
+        (λ stop. OnSome (shim_stop stop) (is_end (S.state shim.new).asked ≡ false)) }
+    ensures told { OnOk result (HasNoEnd (S.state shim.new).told) }
     ensures cut { OnErr result (CutPlay quantum world_ended (λ w. phases w starters.now) state.old
         (telling (S.state shim.old).told (O.told out.old) (E.told err.old))
         (telling (S.state shim.new).told (O.told out.new) (E.told err.new))) }
     ensures causes { HaveCauses result (S.state shim.old) (S.state shim.new) (O.faults out.old)
         (O.faults out.new) (E.faults err.old) (E.faults err.new) }
     ensures follows { S.follows shim.old shim.new }
+    ensures fixed { W.fixed workers.new ≡ W.fixed workers.old }
 {
     set_budgets(state, starters, quantum);
-    packs.run(state, starters);
+    packs.run(state, starters, workers);
     serial_phase(state, starters, shim, out, err)?;
     count_round(state);
     Ok(())
 }
 
+// what follows the signal point, with these starters
+fn play_begun<S: Shim, O: Sink, E: Sink, W: Workers>(
+    state: &mut State,
+    starters: &[u32],
+    packs: &mut Packs,
+    quantum: u32,
+    shim: &mut S,
+    out: &mut O,
+    err: &mut E,
+    workers: &mut W,
+) -> Result<RoundEnd, RunStop>
+    requires sound { IsSound state.old }
+    requires level { packs.old ≡ length state.old.frames.owners }
+    requires few { length starters.now ≤ 64 }
+    requires ready { starters.now ≡ ready_in state.old.table.threads }
+    requires limit { state.old.round ≤ 1000000 }
+    requires told { HasNoEnd (S.state shim.old).told }
+    ensures goes { IfOk result
+        (λ end. (work : ℕ)
+        × GoesTo quantum (λ w. begun w) state.old
+        (telling (S.state shim.old).told (O.told out.old) (E.told err.old))
+        (λ w. done (end_in end work w)) state.new
+        (telling (S.state shim.new).told (O.told out.new) (E.told err.new))
+        × GrewBy (W.tally workers.old) (W.tally workers.new) (work_in end work)) }
+    ensures asks { IfErr result (λ stop. OnSome (shim_stop stop)
+        (StoppedPlay quantum (λ w. begun w) state.old
+        (telling (S.state shim.old).told (O.told out.old) (E.told err.old))
+        (telling (S.state shim.new).told (O.told out.new) (E.told err.new))
+        (S.state shim.new).asked)) }
+    ensures before_end { IfErr result
+        (λ stop. OnSome (shim_stop stop) (is_end (S.state shim.new).asked ≡ false)) }
+    ensures cut { OnErr result (CutPlay quantum world_ended (λ w. begun w) state.old
+        (telling (S.state shim.old).told (O.told out.old) (E.told err.old))
+        (telling (S.state shim.new).told (O.told out.new) (E.told err.new))) }
+    ensures sound { OnOk result (IsSound state.new) }
+    ensures round { IfOk result (λ end. state.new.round ≡ next_round end state.old.round) }
+    ensures packs { packs.new ≡ packs.old }
+    ensures uncounted { OnErr result (state.new.round ≡ state.old.round) }
+    ensures count { OnOk result (KeepsCount state.old state.new) }
+    ensures told { OnOk result (HasNoEnd (S.state shim.new).told) }
+    ensures causes { HaveCauses result (S.state shim.old) (S.state shim.new) (O.faults out.old)
+        (O.faults out.new) (E.faults err.old) (E.faults err.new) }
+    ensures follows { S.follows shim.old shim.new }
+    ensures fixed { W.fixed workers.new ≡ W.fixed workers.old }
+{
+    if state.table.live_threads() == 0 {
+        return Ok(RoundEnd::Done);
+    }
+    if starters.is_empty() {
+        return Ok(RoundEnd::Stalled);
+    }
+    run_phases(state, starters, packs, quantum, shim, out, err, workers)?;
+    Ok(RoundEnd::Went)
+}
+
 /// One round over the state under a quantum, its starters gathered into `starters`.
 ///
 /// After an `Err` nothing is said of the state but that the round isn't counted.
-pub(crate) fn play_round<S: Shim, O: Sink, E: Sink>(
+pub(crate) fn play_round<S: Shim, O: Sink, E: Sink, W: Workers>(
     state: &mut State,
     starters: &mut Vec<u32>,
     packs: &mut Packs,
@@ -113,6 +191,7 @@ pub(crate) fn play_round<S: Shim, O: Sink, E: Sink>(
     shim: &mut S,
     out: &mut O,
     err: &mut E,
+    workers: &mut W,
 ) -> Result<RoundEnd, RunStop>
     requires sound { IsSound state.old }
     requires level { packs.old ≡ length state.old.frames.owners }
@@ -120,9 +199,10 @@ pub(crate) fn play_round<S: Shim, O: Sink, E: Sink>(
     requires limit { state.old.round ≤ 1000000 }
     requires told { HasNoEnd (S.state shim.old).told }
     ensures runs { IfOk result
-        (λ end. RanRound quantum state.old
+        (λ end. (work : ℕ) × RanRound quantum state.old
         (telling (S.state shim.old).told (O.told out.old) (E.told err.old)) end
-        state.new (telling (S.state shim.new).told (O.told out.new) (E.told err.new))) }
+        state.new (telling (S.state shim.new).told (O.told out.new) (E.told err.new)) work
+        × GrewBy (W.tally workers.old) (W.tally workers.new) (work_in end work)) }
     ensures asks { IfErr result
         (λ stop. OnSome (shim_stop stop)
         (StoppedRound quantum state.old
@@ -134,30 +214,35 @@ pub(crate) fn play_round<S: Shim, O: Sink, E: Sink>(
         (telling (S.state shim.new).told (O.told out.new) (E.told err.new))) }
     ensures before_end { IfErr result
         (λ stop. OnSome (shim_stop stop) (is_end (S.state shim.new).asked ≡ false)) }
-    ensures starters { IfOk result
-        (λ end. starters.new.items
-        ≡ starters_after end state.old.table.threads starters.old.items) }
+    ensures starters { OnOk result
+        (AreStarters state.old (S.state shim.old).told (S.state shim.new).told
+        starters.old.items starters.new.items) }
     ensures room { 64 ≤ vec_capacity starters.new }
     ensures sound { OnOk result (IsSound state.new) }
     ensures round { IfOk result (λ end. state.new.round ≡ next_round end state.old.round) }
     ensures packs { packs.new ≡ packs.old }
     ensures uncounted { OnErr result (state.new.round ≡ state.old.round) }
-    ensures ready { IfOk result (λ end. end ≢ RoundEnd.Stalled) }
     ensures count { OnOk result (KeepsCount state.old state.new) }
     ensures told { OnOk result (HasNoEnd (S.state shim.new).told) }
     ensures causes { HaveCauses result (S.state shim.old) (S.state shim.new) (O.faults out.old)
         (O.faults out.new) (E.faults err.old) (E.faults err.new) }
     ensures follows { S.follows shim.old shim.new }
+    ensures fixed { W.fixed workers.new ≡ W.fixed workers.old }
 {
     if state.table.live_threads() == 0 {
         return Ok(RoundEnd::Done);
     }
-    ask_signals(state.round, shim)?;
-    gather(&state.table, starters);
-    let starters = starters.as_slice();
-    if starters.is_empty() {
-        return Ok(RoundEnd::Stalled);
-    }
-    run_phases(state, starters, packs, quantum, shim, out, err)?;
-    Ok(RoundEnd::Went)
+    let mut list = SignalList::new();
+    ask_signals(state.round, &mut list, shim)?;
+    begin_round(state, starters, &list);
+    play_begun(
+        state,
+        starters.as_slice(),
+        packs,
+        quantum,
+        shim,
+        out,
+        err,
+        workers,
+    )
 }

@@ -10,6 +10,7 @@ use group_rounds::{Kernel, RoundEnd, run_round, serial_phase};
 use kernel_calls::RunStop;
 use std::alloc::Global;
 use std::test::Fail;
+use worker_pool::{Serial, Tally};
 
 const CONFIG: Config = Config {
     quantum: 1000,
@@ -52,7 +53,10 @@ fn two_processes_end_in_one_round(rt: HostRuntime) -> Result<(), Fail> {
     let mut shim = Quiet::new(rt.alloc());
     let mut out = MemorySink::new(rt.alloc(), 8, &[])?;
     let mut err = MemorySink::new(rt.alloc(), 8, &[])?;
-    let Ok(RoundEnd::Went) = run_round(&mut kernel, &mut shim, &mut out, &mut err) else {
+    let mut tally = Tally::new();
+    let mut workers: Serial<'_, HostRuntime> = Serial::new(&mut tally);
+    let Ok(RoundEnd::Went) = run_round(&mut kernel, &mut shim, &mut out, &mut err, &mut workers)
+    else {
         return Err("the phases weren't run".into());
     };
     assert_eq!(rt; out.bytes(), b"Hi\n".as_slice());
@@ -73,7 +77,10 @@ fn a_serial_phase_goes_on_where_a_thread_yielded(rt: HostRuntime) -> Result<(), 
     let mut shim = Quiet::new(rt.alloc());
     let mut out = MemorySink::new(rt.alloc(), 8, &[])?;
     let mut err = MemorySink::new(rt.alloc(), 8, &[])?;
-    let Ok(RoundEnd::Went) = run_round(&mut kernel, &mut shim, &mut out, &mut err) else {
+    let mut tally = Tally::new();
+    let mut workers: Serial<'_, HostRuntime> = Serial::new(&mut tally);
+    let Ok(RoundEnd::Went) = run_round(&mut kernel, &mut shim, &mut out, &mut err, &mut workers)
+    else {
         return Err("the phases weren't run".into());
     };
     assert_eq!(rt; out.bytes(), b"".as_slice());
@@ -92,8 +99,10 @@ fn a_sink_that_fails_stops_the_round(rt: HostRuntime) -> Result<(), Fail> {
     let mut shim = Quiet::new(rt.alloc());
     let mut out = MemorySink::new(rt.alloc(), 8, &[1])?;
     let mut err = MemorySink::new(rt.alloc(), 8, &[])?;
+    let mut tally = Tally::new();
+    let mut workers: Serial<'_, HostRuntime> = Serial::new(&mut tally);
     assert_eq!(rt;
-        run_round(&mut kernel, &mut shim, &mut out, &mut err),
+        run_round(&mut kernel, &mut shim, &mut out, &mut err, &mut workers),
         Err(RunStop::OutFault)
     );
     assert!(rt; kernel.is_failed());

@@ -1,9 +1,9 @@
-use Rattle.std.proofs.Common.{rules, refl, ℕ, ◌≡◌, ◌++◌, ◌∷◌, [], ◌∙◌, ap, sym, subst, List, Option, Some, None, IfSome, inl}
-use Rattle.dos_world.specs.World.{Thread, Registers}
+use Rattle.std.proofs.Common.{refl, ℕ, ◌≡◌, ◌++◌, ◌∷◌, [], ◌∙◌, ap, sym, subst, List, Some, None, inl}
+use Rattle.dos_world.specs.World.{Thread}
 use Rattle.quantum_run.specs.Shows.{Pack}
 use Rattle.quantum_run.specs.Packs.{empty_pack, with_thread_of}
-use Rattle.proc_table.specs.Tables.{Tables, thread_in}
-use Rattle.group_rounds.specs.Handing.{In, AreSpare, pack_of}
+use Rattle.proc_table.specs.Tables.{thread_in}
+use Rattle.group_rounds.specs.Handing.{In}
 use Rattle.group_rounds.proofs.HandingLaws.{in-left, in-right}
 use Rattle.group_rounds.proofs.RunningLaws.{some_of, of_some}
 use Rattle.group_rounds.proofs.packs.fill_next.Goals as goal

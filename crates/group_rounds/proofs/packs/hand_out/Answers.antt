@@ -1,8 +1,6 @@
-use Rattle.std.proofs.Common.{ℕ, ◌≡◌, ◌≤◌, ◌+◌, ◌∙◌, ◌++◌, ◌∷◌, [], ap, sym, subst, refl, length, map, take, get_or, slice_get, List, arith}
-use Rattle.quantum_run.specs.Shows.{Pack}
+use Rattle.std.proofs.Common.{◌∙◌, ◌++◌, ◌∷◌, [], ap, sym, length, map, take, get_or, slice_get, arith}
 use Rattle.group_rounds.specs.Handing.{pack_of}
-use Rattle.group_rounds.proofs.PacksBack.{all-runs}
-use Rattle.group_rounds.proofs.PacksShow.{can-run, shows-it, take-more, map-more, pack_of-begun}
+use Rattle.group_rounds.proofs.PacksShow.{take-more, map-more, pack_of-begun}
 use Rattle.group_rounds.proofs.packs.hand_out.Goals as goal
 
 pub loop-tid-preserved : goal.loop-tid-preserved

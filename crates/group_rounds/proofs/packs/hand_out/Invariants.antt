@@ -1,5 +1,4 @@
 use Rattle.std.proofs.Common.{◌≡◌, ◌≤◌, ◌+◌, length, map, take, vec_capacity}
-use Rattle.quantum_run.specs.Shows.{Pack}
 use Rattle.group_rounds.specs.Handing.{AreSpare, pack_of}
 use Rattle.group_rounds.proofs.packs.hand_out.Given as goal
 

@@ -1,4 +1,4 @@
-use Rattle.std.proofs.Common.{◌≡◌, ◌<◌, ◌∙◌, refl, ℕ, ap, sym, subst, length, arith}
+use Rattle.std.proofs.Common.{◌≡◌, ◌∙◌, refl, ap, length, arith}
 use Rattle.group_rounds.proofs.HandingOut.{none-yet, page-home, handing-begins, handing-more, handing-rest}
 use Rattle.group_rounds.proofs.packs.hand_pages.Goals as goal
 

@@ -1,28 +1,28 @@
-use Rattle.std.proofs.Common.{ℕ, ◌≡◌, ◌∙◌, ap, sym, subst, List, Some, length, slice_get}
-use Rattle.quantum_run.specs.Shows.{Pack, CanRun}
+use Rattle.std.proofs.Common.{◌∙◌, sym, subst, length}
+use Rattle.quantum_run.specs.Shows.{CanRun}
 use Rattle.proc_table.specs.Tables.{Tables, IsThread}
 use Rattle.kernel_calls.specs.declared.state.State.{State}
-use Rattle.group_rounds.specs.Handing.{AllRan, AreSet, view_of}
+use Rattle.worker_pool.specs.Ran.{AllRan, GrewBy}
+use Rattle.group_rounds.specs.Handing.{AreSet, view_of}
 use Rattle.group_rounds.proofs.PacksShow.{can-run}
 use Rattle.group_rounds.proofs.PacksBack.{starter-at, others, pages-apart, pages-away, threads-live, rooms, all-runs, sound-again}
+use Rattle.group_rounds.proofs.PacksWork.{work-is}
 use Rattle.group_rounds.proofs.packs.parallel_packs.Goals as goal
 
-pub run_parts-requires : goal.run_parts-requires
-run_parts-requires c =
+pub run_parts-requires-clause-can : goal.run_parts-requires-clause-can
+run_parts-requires-clause-can g c =
     let s : State = c.args.state.now in
     let ts = c.args.starters.now in
     let h = c.hand_out.ensures.hands in
     let new = c.hand_out.new.state.frames in
     let ps = c.hand_out.new.packs.items in
-    record {
-      can = λ i p at.
-          let t = starter-at ts ps i p h.level at in
-          subst (λ (table : Tables). CanRun p (view_of new table)) (sym c.hand_out.ensures.table)
-          (can-run s c.requires.sound ts c.requires.live new ps h i t.0 p t.1 at);
-    }
+    λ κs outlive i p at.
+    let t = starter-at ts ps i p h.level at in
+    subst (λ (table : Tables). CanRun p (view_of new table)) (sym c.hand_out.ensures.table)
+    (can-run s c.requires.sound ts c.requires.live new ps h i t.0 p t.1 at)
 
 pub take_in-requires-clause-away : goal.take_in-requires-clause-away
-take_in-requires-clause-away c =
+take_in-requires-clause-away g c =
     let s : State = c.args.state.now in
     let ts = c.args.starters.now in
     let h = c.hand_out.ensures.hands in
@@ -35,7 +35,7 @@ take_in-requires-clause-away c =
     pages-away s c.requires.sound ts c.requires.live c.requires.apart new ps qs h ran
 
 pub take_in-requires-clause-apart : goal.take_in-requires-clause-apart
-take_in-requires-clause-apart c =
+take_in-requires-clause-apart g c =
     let s : State = c.args.state.now in
     let ts = c.args.starters.now in
     let h = c.hand_out.ensures.hands in
@@ -48,7 +48,7 @@ take_in-requires-clause-apart c =
     pages-apart s c.requires.sound ts c.requires.live c.requires.apart new ps qs h ran
 
 pub take_in-requires-clause-live : goal.take_in-requires-clause-live
-take_in-requires-clause-live c =
+take_in-requires-clause-live g c =
     let s : State = c.args.state.now in
     let ts = c.args.starters.now in
     let h = c.hand_out.ensures.hands in
@@ -64,7 +64,7 @@ take_in-requires-clause-live c =
     k)
 
 pub take_in-requires-clause-others : goal.take_in-requires-clause-others
-take_in-requires-clause-others c =
+take_in-requires-clause-others g c =
     let s : State = c.args.state.now in
     let ts = c.args.starters.now in
     let h = c.hand_out.ensures.hands in
@@ -77,7 +77,7 @@ take_in-requires-clause-others c =
     others s c.requires.sound ts c.requires.live c.requires.apart new ps qs h ran
 
 pub returns-clause-runs : goal.returns-clause-runs
-returns-clause-runs c =
+returns-clause-runs g c =
     let s : State = c.args.state.now in
     let ts = c.args.starters.now in
     let h = c.hand_out.ensures.hands in
@@ -97,7 +97,7 @@ returns-clause-runs c =
     (c.take_in.ensures.futexes ∙ c.hand_out.ensures.futexes)
 
 pub returns-clause-sound : goal.returns-clause-sound
-returns-clause-sound c =
+returns-clause-sound g c =
     let s : State = c.args.state.now in
     let ts = c.args.starters.now in
     let h = c.hand_out.ensures.hands in
@@ -117,7 +117,7 @@ returns-clause-sound c =
     (c.take_in.ensures.futexes ∙ c.hand_out.ensures.futexes)
 
 pub returns-clause-spare : goal.returns-clause-spare
-returns-clause-spare c =
+returns-clause-spare g c =
     let s : State = c.args.state.now in
     let ts = c.args.starters.now in
     let h = c.hand_out.ensures.hands in
@@ -129,3 +129,23 @@ returns-clause-spare c =
     c.run_parts.ensures.runs in
     c.take_in.ensures.all_spare (length s.frames.pages) c.hand_out.ensures.spare
     (rooms s c.requires.sound ts c.requires.live c.requires.apart new ps qs h ran)
+
+pub returns-clause-tally : goal.returns-clause-tally
+returns-clause-tally g c =
+    let s : State = c.args.state.now in
+    let ts = c.args.starters.now in
+    let h = c.hand_out.ensures.hands in
+    let new = c.hand_out.new.state.frames in
+    let ps = c.hand_out.new.packs.items in
+    let qs = c.run_parts.new.packs.items in
+    let ran : AllRan (view_of new s.table) ps qs =
+    subst (λ (t : Tables). AllRan (view_of new t) ps qs) c.hand_out.ensures.table
+    c.run_parts.ensures.runs in
+    let s2 : State = c.take_in.new.state in
+    let set : AreSet qs s.table s2.table =
+    subst (λ (t : Tables). AreSet qs t s2.table) c.hand_out.ensures.table c.take_in.ensures.set
+    in
+    subst (λ work. GrewBy (g.W.Workers.tally c.args.workers.now)
+    (g.W.Workers.tally c.run_parts.new.workers) work)
+    (work-is s c.requires.sound ts c.requires.live c.requires.apart new ps qs h ran s2 set)
+    c.run_parts.ensures.tally

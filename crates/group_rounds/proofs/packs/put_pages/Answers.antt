@@ -1,6 +1,6 @@
-use Rattle.std.proofs.Common.{ap, sym, subst}
+use Rattle.std.proofs.Common.{sym, subst}
 use Rattle.page_store.specs.Store.{Store}
-use Rattle.group_rounds.proofs.HandingLaws.{Putting, putting-begins, putting-more, putting-ends, put-away}
+use Rattle.group_rounds.proofs.HandingLaws.{Putting, putting-begins, putting-more, put-away}
 use Rattle.group_rounds.proofs.packs.put_pages.Goals as goal
 
 pub loop-frame-init : goal.loop-frame-init

@@ -1,13 +1,14 @@
-use Rattle.std.proofs.Common.{◌≡◌, ℕ, refl, sym, ap, ◌∙◌, subst, Option, None, Some, option_map}
+use Rattle.std.proofs.Common.{[], ◌≡◌, ℕ, refl, sym, ap, ◌∙◌, subst, Option, None, Some, option_map}
 use Rattle.dos_world.specs.World.{Thread, registers_by, released}
-use Rattle.dos_laws.proofs.Threads.{lawful-with_thread, plain-with_thread}
-use Rattle.dos_laws.proofs.RegisterRanges.{released_change}
-use Rattle.proc_table.specs.Tables.{Tables, thread_by, thread_in, IsThread}
-use Rattle.kernel_calls.specs.Serving.{IsSound, world_of}
+use Rattle.dos_laws.specs.Standing.{LawfulWith}
+use Rattle.dos_laws.proofs.StandsKeeps.{stands_kept}
+use Rattle.proc_table.specs.Tables.{Tables, thread_in, IsThread}
+use Rattle.kernel_calls.specs.Serving.{world_of}
 use Rattle.kernel_calls.specs.declared.state.State.{State}
 use Rattle.group_rounds.specs.Parts.{budget_in}
 use Rattle.group_rounds.proofs.RunningLaws.{thread_in-by}
-use Rattle.group_rounds.proofs.Sound.{sound_like, lives_by}
+use Rattle.group_rounds.proofs.Sound.{sound_then, parts_then, lives_by}
+use Rattle.group_rounds.proofs.SignalLaws.{thread_counted}
 use Rattle.group_rounds.proofs.part.begin.Goals as goal
 
 -- the budget of a thread whose registers change
@@ -31,27 +32,21 @@ returns-clause-budget c =
 
 pub returns-clause-sound : goal.returns-clause-sound
 returns-clause-sound c =
-    let s : State = c.args.state.now in
-    let home = c.requires.sound.home in
-    subst (λ (table : Tables). IsSound (record s { table = table }))
-    (sym c.empty_reservation.ensures)
-    (sound_like s (record s { table = thread_by (registers_by released) s.table c.args.tid })
-    c.requires.sound
-    (record {
-      home = home;
-      round = refl;
-      room = refl;
-      count = refl;
-      uses = refl;
-      processes = refl;
-      pipes = refl;
-    })
-    (λ q both. record {
-      lawful = lawful-with_thread (registers_by released) released_change
-          (world_of q s) c.args.tid both.lawful;
-      plain = plain-with_thread (registers_by released) released_change
-          (world_of q s) c.args.tid both.plain;
-    }))
+    sound_then c.args.state.now
+    (record c.args.state.now { table = c.empty_reservation.new.table }) c.requires.sound
+    (thread_counted c.args.state.now c.args.state.now.futexes c.empty_reservation.new.table
+    c.args.tid (registers_by released) c.empty_reservation.ensures c.requires.sound.counted)
+    (λ q k. subst (λ (T : Tables). LawfulWith []
+    (world_of q (record c.args.state.now { table = T }))) (sym c.empty_reservation.ensures)
+    (stands_kept.emptied_kept [] (world_of q c.args.state.now) c.args.tid k))
+
+pub returns-clause-parts : goal.returns-clause-parts
+returns-clause-parts c = λ ts.
+    parts_then c.args.state.now
+    (record c.args.state.now { table = c.empty_reservation.new.table }) ts ts c.requires.sound
+    (λ k. subst (λ (T : Tables). LawfulWith ts
+    (world_of 16 (record c.args.state.now { table = T }))) (sym c.empty_reservation.ensures)
+    (stands_kept.emptied_kept ts (world_of 16 c.args.state.now) c.args.tid k))
 
 pub returns-clause-live : goal.returns-clause-live
 returns-clause-live c =

@@ -1,9 +1,12 @@
-use Rattle.std.proofs.Common.{◌<◌, ◌≤◌, refl, ◌∙◌, subst, arith}
+use Rattle.std.proofs.Common.{◌<◌, ◌≤◌, [], ◌∷◌, ◌∙◌, subst, arith}
+use Rattle.std.proofs.lemmas.Result.{err_from_is_err_and}
+use Rattle.kernel_calls.specs.Serving.{shim_stop}
 use Rattle.group_rounds.specs.Going.{telling}
 use Rattle.group_rounds.specs.Parts.{Ran, part_measure}
-use Rattle.group_rounds.proofs.GoingLaws.{on_err}
+use Rattle.group_rounds.proofs.GoingLaws.{on_err, some_weaker}
+use Rattle.group_rounds.proofs.Sound.{parts_passed, parts_on, parts_off, ready_then}
 use Rattle.group_rounds.proofs.CauseLaws.{stood_yet, stood_then}
-use Rattle.group_rounds.proofs.TurnLaws.{rest_begins, run_measure, goes_further, goes_out, goes_over_budget, rest_cut}
+use Rattle.group_rounds.proofs.TurnLaws.{rest_begins, run_measure, goes_further, goes_out, goes_over_budget, rest_cut, rest_stopped}
 use Rattle.group_rounds.proofs.part.finish.Goals as goal
 
 pub loop-reason-init : goal.loop-reason-init
@@ -16,7 +19,10 @@ loop-reason-init g c = record {
       c.begin.ensures.budget q
       (telling (g.S.Shim.state c.args.shim.now).told (g.O.Sink.told c.args.out.now)
       (g.E.Sink.told c.args.err.now));
-  told = refl;
+  ready = ready_then c.args.state.now c.begin.new.state c.args.tid c.requires.ready
+      (c.begin.ensures.parts (c.args.tid ∷ []));
+  parts = λ ts. c.begin.ensures.parts (c.args.tid ∷ ts);
+  told = c.requires.told;
   stood = stood_yet (g.S.Shim.state c.args.shim.now) (g.O.Sink.faults c.args.out.now)
       (g.E.Sink.faults c.args.err.now);
   follows = g.met.S.Shim.reflexive c.args.shim.now;
@@ -42,7 +48,14 @@ loop-reason-preserved g c = record {
       c.take_turn.new.state _ _ _ c.run.result c.in_ok-take_turn.field-0
       c.if-not-branch.false (c.loop-reason.invariant.goes q) c.run.ensures.ran
       (c.in_ok-take_turn.ensures.goes q);
-  told = c.take_turn.ensures.told ∙ c.loop-reason.invariant.told;
+  ready = ready_then c.loop-reason.state c.take_turn.new.state c.args.tid
+      c.loop-reason.invariant.ready
+      (λ parts. parts_on _ c.args.tid [] c.take_turn.new.state c.if-not-branch.false
+      (c.in_ok-take_turn.ensures.parts [] (c.run.ensures.parts (c.args.tid ∷ []) parts)));
+  parts = λ ts parts. parts_on _ c.args.tid ts c.take_turn.new.state c.if-not-branch.false
+      (c.in_ok-take_turn.ensures.parts ts
+      (c.run.ensures.parts (c.args.tid ∷ ts) (c.loop-reason.invariant.parts ts parts)));
+  told = c.in_ok-take_turn.ensures.told;
   stood = stood_then c.in_ok-take_turn.field-0 _ _ _ _ _ _ _ _ _ c.loop-reason.invariant.stood
       c.in_ok-take_turn.ensures.causes;
   follows = g.met.S.Shim.transitive _ _ _ c.loop-reason.invariant.follows
@@ -68,3 +81,29 @@ returns-in_err-take_turn-clause-cut g c =
     (λ q. rest_cut q c.args.tid c.args.state.now c.loop-reason.state c.run.new.state _ _ _
     c.run.result (c.loop-reason.invariant.goes q) c.run.ensures.ran
     (c.in_err-take_turn.ensures.cut q))
+
+-- ---- who has a part
+
+pub take_turn-requires-clause-ready : goal.take_turn-requires-clause-ready
+take_turn-requires-clause-ready g c =
+    ready_then c.loop-reason.state c.run.new.state c.args.tid c.loop-reason.invariant.ready
+    (c.run.ensures.parts (c.args.tid ∷ []))
+
+pub returns-then-not-branch-clause-parts : goal.returns-then-not-branch-clause-parts
+returns-then-not-branch-clause-parts g c = λ ts parts.
+    parts_off _ c.args.tid ts c.take_turn.new.state c.if-not-branch.true
+    (c.in_ok-take_turn.ensures.parts ts
+    (c.run.ensures.parts (c.args.tid ∷ ts) (c.loop-reason.invariant.parts ts parts)))
+
+pub returns-in_default-clause-parts : goal.returns-in_default-clause-parts
+returns-in_default-clause-parts g c = λ ts parts.
+    parts_passed c.run.new.state c.args.tid ts
+    (c.run.ensures.parts (c.args.tid ∷ ts) (c.loop-reason.invariant.parts ts parts))
+
+pub returns-in_err-take_turn-clause-asks : goal.returns-in_err-take_turn-clause-asks
+returns-in_err-take_turn-clause-asks g c =
+    let p = err_from_is_err_and c.from_residual.result c.from_residual.ensures.1 in
+    rw (p.1, p.2) (some_weaker (shim_stop c.in_err-take_turn.field-0.0) _ _
+    (λ k q. rest_stopped q c.args.tid c.args.state.now c.loop-reason.state c.run.new.state _ _ _
+    c.run.result _ (c.loop-reason.invariant.goes q) c.run.ensures.ran (k q))
+    c.in_err-take_turn.ensures.asks)

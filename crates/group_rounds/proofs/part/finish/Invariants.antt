@@ -1,7 +1,8 @@
-use Rattle.std.proofs.Common.{◌≡◌, ℕ}
+use Rattle.std.proofs.Common.{◌≡◌, ◌∷◌, ℕ, List}
 use Rattle.round_core.specs.Rest.{rest_of}
 use Rattle.proc_table.specs.Tables.{IsThread}
-use Rattle.kernel_calls.specs.Serving.{IsSound}
+use Rattle.kernel_calls.specs.Serving.{HaveParts, IsReady, IsSound}
+use Rattle.dos_io.specs.Shims.{HasNoEnd}
 use Rattle.group_rounds.specs.Going.{GoesTo, telling}
 use Rattle.group_rounds.specs.Outside.{HaveStood}
 use Rattle.group_rounds.specs.Parts.{KeepsCount, turns_left, part_measure}
@@ -17,7 +18,10 @@ invariant-loop-reason g l = record {
       (telling (g.S.Shim.state l.fn.shim).told (g.O.Sink.told l.fn.out)
       (g.E.Sink.told l.fn.err)) (turns_left l.fn.tid) l.state
       (telling (g.S.Shim.state l.shim).told (g.O.Sink.told l.out) (g.E.Sink.told l.err));
-  told : (g.S.Shim.state l.shim).told ≡ (g.S.Shim.state l.fn.shim).told;
+  ready : IsReady l.state.table.threads l.fn.tid;
+  parts : (ts : List ℕ) → HaveParts (l.fn.tid ∷ ts) l.fn.state
+      → HaveParts (l.fn.tid ∷ ts) l.state;
+  told : HasNoEnd (g.S.Shim.state l.shim).told;
   stood : HaveStood (g.S.Shim.state l.fn.shim) (g.S.Shim.state l.shim) (g.O.Sink.faults l.fn.out)
       (g.O.Sink.faults l.out) (g.E.Sink.faults l.fn.err) (g.E.Sink.faults l.err);
   follows : g.S.Shim.follows l.fn.shim l.shim;

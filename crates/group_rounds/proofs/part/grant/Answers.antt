@@ -1,6 +1,8 @@
-use Rattle.std.proofs.Common.{sym, ap, ◌∙◌, subst}
+use Rattle.std.proofs.Common.{[], sym, ap, ◌∙◌, subst}
+use Rattle.dos_laws.specs.Standing.{LawfulWith}
 use Rattle.page_store.specs.Store.{Store}
 use Rattle.kernel_calls.specs.Serving.{IsSound, world_of, sent}
+use Rattle.group_rounds.proofs.Sound.{parts_then, grant_keeps}
 use Rattle.group_rounds.proofs.RunningLaws.{space_is, granted_none, granted_one, owned_one, sound_granted}
 use Rattle.group_rounds.proofs.part.grant.Goals as goal
 
@@ -39,3 +41,11 @@ returns-in_default-clause-grants c =
     (space_is c.args.state.now c.args.tid c.requires.sound c.requires.live c.process_of-pid.result
     c.space.result.now.entries c.process_of-pid.ensures c.space.ensures.entries)
     (sym c.look.ensures ∙ c.in_default.is)
+
+-- who has a part has it still
+pub returns-in-Some-clause-parts : goal.returns-in-Some-clause-parts
+returns-in-Some-clause-parts c = λ ts.
+    parts_then c.args.state.now (record c.args.state.now { frames = c.grant.new.self }) ts ts
+    c.requires.sound
+    (λ k. subst (LawfulWith ts) (returns-in-Some-clause-grants c 16 [] [])
+    (grant_keeps ts (world_of 16 c.args.state.now) c.args.tid c.args.address c.args.access k))

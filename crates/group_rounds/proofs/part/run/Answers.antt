@@ -1,5 +1,5 @@
 use Rattle.std.proofs.Common.{◌≡◌, sym, ◌∙◌}
-use Rattle.group_rounds.proofs.RunningLaws.{seen, mapped, space_is, registers_is, own_budget, IsRunFrom, run_after, sound_after, live_after}
+use Rattle.group_rounds.proofs.RunningLaws.{seen, mapped, space_is, registers_is, own_budget, IsRunFrom, run_after, sound_after, parts_after, live_after}
 use Rattle.group_rounds.proofs.part.run.Goals as goal
 
 pub run_until_stop-reason-requires-clause-mapped : goal.run_until_stop-reason-requires-clause-mapped
@@ -61,5 +61,10 @@ returns-clause-sound c = sound_after c.args.state.now c.args.tid c.requires.soun
 
 pub returns-clause-live : goal.returns-clause-live
 returns-clause-live c = live_after c.args.state.now c.args.tid c.requires.sound c.requires.live
+    c.space-space.result.now.entries c.regs.result.now c.budget-budget.result _ _ _ _ _
+    (its_space c) (its_registers c) (its_budget c) (left c)
+
+pub returns-clause-parts : goal.returns-clause-parts
+returns-clause-parts c = parts_after c.args.state.now c.args.tid c.requires.sound c.requires.live
     c.space-space.result.now.entries c.regs.result.now c.budget-budget.result _ _ _ _ _
     (its_space c) (its_registers c) (its_budget c) (left c)

@@ -7,7 +7,7 @@ use Rattle.proc_table.specs.Tables.{thread_in}
 use Rattle.kernel_calls.specs.Serving.{world_of}
 use Rattle.group_rounds.specs.Going.{telling}
 use Rattle.group_rounds.proofs.GoingLaws.{on_err}
-use Rattle.group_rounds.proofs.TurnLaws.{grant_goes, grant_measure, fault_goes, service_goes, on_measure, on_lives, told_same, served_count, never_asks, turn_cut}
+use Rattle.group_rounds.proofs.TurnLaws.{grant_goes, grant_measure, fault_goes, service_goes, on_measure, on_lives, told_on, served_count, parts_left, asks_no_end, turn_asks, turn_cut}
 use Rattle.group_rounds.proofs.part.take_turn.Goals as goal
 
 -- ---- a fault
@@ -57,40 +57,53 @@ serve-requires-clause-budget g c =
     go None h = tt
     go (Some thread) h = h
 
-pub returns-in_err-way-in-Service-clause-sinks : goal.returns-in_err-way-in-Service-clause-sinks
-returns-in_err-way-in-Service-clause-sinks g c =
+pub returns-in_err-way-in-Service-clause-asks : goal.returns-in_err-way-in-Service-clause-asks
+returns-in_err-way-in-Service-clause-asks g c =
     let p = err_from_is_err_and c.from_residual.result c.from_residual.ensures.1 in
-    rw (p.1, p.2) (never_asks c.args.state.now c.args.tid c.requires.sound c.requires.live
-    c.in_err-way-in-Service.field-0.0 _ _ _ _ _ _ c.in_err-way-in-Service.ensures.asks)
+    rw (p.1, p.2) (turn_asks c.args.state.now c.args.tid c.requires.budget
+    (λ q o e. c.requires.stops q o e ∙ ap Err c.in-Service.is) _ _ _ _ _ _
+    c.in_err-way-in-Service.field-0.0 c.in_err-way-in-Service.ensures.asks)
+
+pub returns-in_err-way-in-Service-clause-before_end : goal.returns-in_err-way-in-Service-clause-before_end
+returns-in_err-way-in-Service-clause-before_end g c =
+    let p = err_from_is_err_and c.from_residual.result c.from_residual.ensures.1 in
+    rw (p.1, p.2) (asks_no_end c.args.state.now c.args.tid c.requires.live _ _ _ _ _ _
+    c.in_err-way-in-Service.field-0.0 c.in_err-way-in-Service.ensures.asks)
+
+pub returns-in_ok-way-in-Service-clause-parts : goal.returns-in_ok-way-in-Service-clause-parts
+returns-in_ok-way-in-Service-clause-parts g c = λ ts parts.
+    rw c.goes_on_after.ensures
+    (parts_left c.in_ok-way-in-Service.way c.args.tid ts c.serve.new.state
+    (c.in_ok-way-in-Service.ensures.parts ts parts))
 
 pub returns-in_ok-way-in-Service-clause-goes : goal.returns-in_ok-way-in-Service-clause-goes
 returns-in_ok-way-in-Service-clause-goes g c = λ q.
     rw c.goes_on_after.ensures
-    (service_goes c.args.state.now c.serve.new.state c.args.tid c.requires.sound
+    (service_goes c.args.state.now c.serve.new.state c.args.tid
     c.requires.live _ _ c.in_ok-way-in-Service.way _ _ _ _
     c.in_ok-way-in-Service.ensures.runs c.requires.budget
     (λ q o e. c.requires.stops q o e ∙ ap Err c.in-Service.is) q)
 
 pub returns-in_ok-way-in-Service-clause-less : goal.returns-in_ok-way-in-Service-clause-less
 returns-in_ok-way-in-Service-clause-less g c = λ on.
-    on_measure c.args.state.now c.serve.new.state c.args.tid c.requires.sound c.requires.live _ _
+    on_measure c.args.state.now c.serve.new.state c.args.tid c.requires.live _ _
     c.in_ok-way-in-Service.way _ _ _ _ c.in_ok-way-in-Service.ensures.runs c.requires.budget
     (sym c.goes_on_after.ensures ∙ on)
 
 pub returns-in_ok-way-in-Service-clause-live : goal.returns-in_ok-way-in-Service-clause-live
 returns-in_ok-way-in-Service-clause-live g c = λ on.
-    on_lives c.args.state.now c.serve.new.state c.args.tid c.requires.sound c.requires.live _ _
+    on_lives c.args.state.now c.serve.new.state c.args.tid c.requires.live _ _
     c.in_ok-way-in-Service.way _ _ _ _ c.in_ok-way-in-Service.ensures.runs
     (sym c.goes_on_after.ensures ∙ on)
 
 pub returns-in_ok-way-in-Service-clause-told : goal.returns-in_ok-way-in-Service-clause-told
 returns-in_ok-way-in-Service-clause-told g c =
-    told_same c.args.state.now c.serve.new.state c.args.tid c.requires.sound c.requires.live _ _
-    c.in_ok-way-in-Service.way _ _ _ _ c.in_ok-way-in-Service.ensures.runs
+    told_on c.args.state.now c.serve.new.state c.args.tid c.requires.live _ _
+    c.in_ok-way-in-Service.way _ _ _ _ c.in_ok-way-in-Service.ensures.runs c.requires.told
 
 pub returns-in_ok-way-in-Service-clause-count : goal.returns-in_ok-way-in-Service-clause-count
 returns-in_ok-way-in-Service-clause-count g c =
-    served_count c.args.state.now c.serve.new.state c.args.tid c.requires.sound c.requires.live _ _
+    served_count c.args.state.now c.serve.new.state c.args.tid c.requires.live _ _
     c.in_ok-way-in-Service.way _ _ _ _ c.in_ok-way-in-Service.ensures.runs
 
 pub returns-in_err-way-in-Service-clause-cut : goal.returns-in_err-way-in-Service-clause-cut
@@ -99,6 +112,4 @@ returns-in_err-way-in-Service-clause-cut g c =
     (turn_cut c.args.state.now c.serve.new.state c.args.tid c.requires.budget
     (λ q o e. c.requires.stops q o e ∙ ap Err c.in-Service.is) _ _ _ _ _ _
     c.in_err-way-in-Service.field-0.0 c.in_err-way-in-Service.ensures.told
-    (never_asks c.args.state.now c.args.tid c.requires.sound c.requires.live
-    c.in_err-way-in-Service.field-0.0 _ _ _ _ _ _ c.in_err-way-in-Service.ensures.asks)
-    c.in_err-way-in-Service.ensures.faults)
+    c.in_err-way-in-Service.ensures.asks c.in_err-way-in-Service.ensures.faults)

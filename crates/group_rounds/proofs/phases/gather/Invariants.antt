@@ -1,11 +1,12 @@
 use Rattle.std.proofs.Common.{◌≤◌, length}
 use Rattle.std.specs.Vec.{vec_capacity}
+use Rattle.group_rounds.specs.Phases.{is_ready}
 use Rattle.group_rounds.proofs.Starters.{IsGathered, live_above}
 use Rattle.group_rounds.proofs.phases.gather.Given as goal
 
 abbrev pub invariant-loop-tid : goal.invariant-loop-tid
 invariant-loop-tid l = record {
-  gathered : IsGathered l.table.threads l.starters.items l.last;
+  gathered : IsGathered (is_ready l.table.threads) l.table.threads l.starters.items l.last;
   room : 64 ≤ vec_capacity l.starters;
 }
 

@@ -1,8 +1,10 @@
 use Rattle.std.proofs.Common.{◌∙◌, refl}
 use Rattle.group_rounds.specs.Going.{telling}
-use Rattle.group_rounds.proofs.GoingLaws.{on_err}
+use Rattle.group_rounds.proofs.GoingLaws.{on_err, some_weaker}
+use Rattle.kernel_calls.specs.Serving.{shim_stop}
+use Rattle.std.proofs.lemmas.Result.{err_from_is_err_and}
 use Rattle.group_rounds.proofs.CauseLaws.{stood_yet, stood_then}
-use Rattle.group_rounds.proofs.PhaseLaws.{serial_starts, serial_next, serial_ends, serial_cut}
+use Rattle.group_rounds.proofs.PhaseLaws.{serial_starts, serial_next, serial_ends, serial_cut, serial_stopped, parts_at}
 use Rattle.group_rounds.proofs.phases.serial_phase.Goals as goal
 
 pub loop-tid-init : goal.loop-tid-init
@@ -13,7 +15,8 @@ loop-tid-init g c = record {
   sound = c.requires.sound;
   round = refl;
   count = refl;
-  told = refl;
+  parts = c.requires.parts;
+  told = c.requires.told;
   stood = stood_yet (g.S.Shim.state c.args.shim.now) (g.O.Sink.faults c.args.out.now)
       (g.E.Sink.faults c.args.err.now);
   follows = g.met.S.Shim.reflexive c.args.shim.now;
@@ -28,7 +31,10 @@ loop-tid-preserved g c = record {
   sound = c.in_ok-finish_if_live.ensures.sound;
   round = c.finish_if_live.ensures.round ∙ c.loop-tid.invariant.round;
   count = c.in_ok-finish_if_live.ensures.count ∙ c.loop-tid.invariant.count;
-  told = c.finish_if_live.ensures.told ∙ c.loop-tid.invariant.told;
+  parts = c.in_ok-finish_if_live.ensures.parts _
+      (parts_at c.loop-tid.state c.args.starters.now c.loop-tid.tid-index _ c.loop-tid-test.true
+      refl c.loop-tid.invariant.parts);
+  told = c.in_ok-finish_if_live.ensures.told;
   stood = stood_then c.in_ok-finish_if_live.field-0 _ _ _ _ _ _ _ _ _ c.loop-tid.invariant.stood
       c.in_ok-finish_if_live.ensures.causes;
   follows = g.met.S.Shim.transitive _ _ _ c.loop-tid.invariant.follows
@@ -46,3 +52,16 @@ returns-in_err-finish_if_live-clause-cut g c =
     (λ q. serial_cut q c.args.state.now c.loop-tid.state _ _ _ _ c.args.starters.now
     c.loop-tid.tid-index c.loop-tid-test.true refl (c.loop-tid.invariant.goes q)
     (c.in_err-finish_if_live.ensures.cut q))
+
+pub finish_if_live-requires-clause-awake : goal.finish_if_live-requires-clause-awake
+finish_if_live-requires-clause-awake g c =
+    (parts_at c.loop-tid.state c.args.starters.now c.loop-tid.tid-index _ c.loop-tid-test.true
+    refl c.loop-tid.invariant.parts).awake.0
+
+pub returns-in_err-finish_if_live-clause-asks : goal.returns-in_err-finish_if_live-clause-asks
+returns-in_err-finish_if_live-clause-asks g c =
+    let p = err_from_is_err_and c.from_residual.result c.from_residual.ensures.1 in
+    rw (p.1, p.2) (some_weaker (shim_stop c.in_err-finish_if_live.field-0.0) _ _
+    (λ k q. serial_stopped q c.args.state.now c.loop-tid.state _ _ _ _ c.args.starters.now
+    c.loop-tid.tid-index _ c.loop-tid-test.true refl (c.loop-tid.invariant.goes q) (k q))
+    c.in_err-finish_if_live.ensures.asks)

@@ -1,6 +1,7 @@
 use Rattle.std.proofs.Common.{◌≡◌, ℕ, drop}
 use Rattle.round_core.specs.Rest.{serial_of}
-use Rattle.kernel_calls.specs.Serving.{IsSound}
+use Rattle.kernel_calls.specs.Serving.{HaveParts, IsSound}
+use Rattle.dos_io.specs.Shims.{HasNoEnd}
 use Rattle.group_rounds.specs.Going.{GoesTo, telling}
 use Rattle.group_rounds.specs.Outside.{HaveStood}
 use Rattle.group_rounds.specs.Parts.{KeepsCount}
@@ -15,7 +16,8 @@ invariant-loop-tid g l = record {
   sound : IsSound l.state;
   round : l.state.round ≡ l.fn.state.round;
   count : KeepsCount l.fn.state l.state;
-  told : (g.S.Shim.state l.shim).told ≡ (g.S.Shim.state l.fn.shim).told;
+  parts : HaveParts (drop l.tid-index l.fn.starters) l.state;
+  told : HasNoEnd (g.S.Shim.state l.shim).told;
   stood : HaveStood (g.S.Shim.state l.fn.shim) (g.S.Shim.state l.shim) (g.O.Sink.faults l.fn.out)
       (g.O.Sink.faults l.out) (g.E.Sink.faults l.fn.err) (g.E.Sink.faults l.err);
   follows : g.S.Shim.follows l.fn.shim l.shim;

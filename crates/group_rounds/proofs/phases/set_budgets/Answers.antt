@@ -1,7 +1,7 @@
 use Rattle.std.proofs.Common.{ap, ◌∙◌, refl}
 use Rattle.round_core.specs.Round.{with_budgets}
 use Rattle.kernel_calls.specs.Serving.{sent, world_of}
-use Rattle.group_rounds.proofs.PhaseLaws.{budget_next, budget_sound, budget_live, drop_out}
+use Rattle.group_rounds.proofs.PhaseLaws.{budget_next, budget_sound, budget_parts, budget_live, drop_out}
 use Rattle.group_rounds.proofs.phases.set_budgets.Goals as goal
 
 pub loop-tid-preserved : goal.loop-tid-preserved
@@ -11,6 +11,9 @@ loop-tid-preserved c = record {
       c.args.starters.now c.loop-tid.tid-index c.loop-tid-test.true refl o e;
   sound = budget_sound c.loop-tid.state c.set_budget.new.self c.args.quantum _ c.set_budget.ensures
       c.loop-tid.invariant.sound;
+  parts = λ ts parts.
+      budget_parts c.loop-tid.state c.set_budget.new.self c.args.quantum _ c.set_budget.ensures
+      c.loop-tid.invariant.sound ts (c.loop-tid.invariant.parts ts parts);
   round = c.loop-tid.invariant.round;
   count = c.loop-tid.invariant.count;
   live = budget_live c.loop-tid.state c.set_budget.new.self c.args.quantum _ c.set_budget.ensures

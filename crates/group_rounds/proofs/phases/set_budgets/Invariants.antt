@@ -1,6 +1,6 @@
 use Rattle.std.proofs.Common.{◌≡◌, ℕ, List, drop}
 use Rattle.round_core.specs.Round.{with_budgets}
-use Rattle.kernel_calls.specs.Serving.{IsSound, sent, world_of}
+use Rattle.kernel_calls.specs.Serving.{HaveParts, IsSound, sent, world_of}
 use Rattle.group_rounds.specs.Phases.{AreLive}
 use Rattle.group_rounds.specs.Parts.{KeepsCount}
 use Rattle.group_rounds.proofs.phases.set_budgets.Given as goal
@@ -10,6 +10,7 @@ invariant-loop-tid l = record {
   sets : (o e : List ℕ) → with_budgets (sent o e (world_of l.fn.quantum l.fn.state)) l.fn.starters
       ≡ with_budgets (sent o e (world_of l.fn.quantum l.state)) (drop l.tid-index l.fn.starters);
   sound : IsSound l.state;
+  parts : (ts : List ℕ) → HaveParts ts l.fn.state → HaveParts ts l.state;
   round : l.state.round ≡ l.fn.state.round;
   count : KeepsCount l.fn.state l.state;
   live : AreLive l.state.table.threads l.fn.starters;
