@@ -4,3 +4,4 @@ pub mod RunKeeps
 mod Limits
 pub mod LawfulRuns
 pub mod QuietRuns
+pub mod MisfitLaws

@@ -12,7 +12,7 @@ use Rattle.dos_world.specs.declared.Question.{Question}
 use Rattle.dos_world.specs.declared.Question.TheVariants.{End as end_question}
 use Rattle.dos_io.specs.declared.exchange.Exchange.{Exchange}
 use Rattle.dos_io.specs.declared.exchange.Exchange.TheVariants.{End}
-use Rattle.dos_io.specs.Exchanges.{question_of, answer_of, HaveNoPosts}
+use Rattle.dos_io.specs.Exchanges.{question_of, answer_of}
 use Rattle.dos_laws.specs.Plays.{world_ended}
 use Rattle.round_core.proofs.Allowed.{allows_less}
 use Rattle.round_core.specs.Round.{RoundEnd as FlatEnd, went, finished, stalled, round_of}
@@ -27,7 +27,7 @@ use Rattle.group_rounds.specs.Outside.{is_end}
 use Rattle.group_rounds.specs.Rounds.{CutRound, RanRound, StoppedRound}
 use Rattle.group_rounds.specs.declared.round.RoundEnd.{RoundEnd}
 use Rattle.group_rounds.specs.declared.round.RoundEnd.TheVariants.{Went, Done, Stalled}
-use Rattle.group_rounds.proofs.GoesLaws.{goes-append, goes-then, goes-over, goes-over_more, goes-questions, goes_by, stops_by, no_posts-append}
+use Rattle.group_rounds.proofs.GoesLaws.{goes-append, goes-then, goes-over, goes-over_more, goes-questions, goes_by, stops_by}
 use Rattle.dos_io.proofs.OutsideLaws.{front-whole}
 use Rattle.group_rounds.proofs.GoingLaws.{told_nothing, told_so, told_then}
 use Rattle.group_rounds.proofs.FrontLaws.{HasSent, fronts_kept, fronts_over, fronts_then, sending}
@@ -69,50 +69,46 @@ after_round left work (went next more) = rounds_of left next (work + more)
 after_round left work (finished last) = done (finish_in done_ending last work)
 after_round left work (stalled last) = done (finish_in stalled_ending last work)
 
--- From the start so many rounds were run, and so many are left.
+-- From the start so many rounds were run, with so much work, and so many are left.
 pub record RanSome (config : Config) (rounds : ℕ) (start : State) (before : Telling) (left : ℕ)
-    (s : State) (after : Telling) : Type 0 where
+    (s : State) (after : Telling) (work : ℕ) : Type 0 where
   pub more : ToldMore before after
-  pub work : ℕ
-  pub goes : HaveNoPosts more.exchanges
-      → GoesOn more.exchanges (rounds_of rounds (world_of config.quantum start) 0)
+  pub goes : GoesOn more.exchanges (rounds_of rounds (world_of config.quantum start) 0)
       (rounds_of left (sent more.output more.error (world_of config.quantum s)) work)
 
 pub ran_none : (config : Config) (rounds left : ℕ) (start : State) (tells : Telling) → rounds ≡ left
-    → RanSome config rounds start tells left start tells
+    → RanSome config rounds start tells left start tells 0
 ran_none config rounds left start tells all = record {
   more = told_nothing tells;
-  work = 0;
-  goes = λ without. ap (λ n. rounds_of n (world_of config.quantum start) 0) all;
+  goes = ap (λ n. rounds_of n (world_of config.quantum start) 0) all;
 }
 
-module _ (config : Config) (rounds left : ℕ) (start s : State) (before told : Telling)
-    (some : RanSome config rounds start before (suc left) s told) where
+module _ (config : Config) (rounds left : ℕ) (start s : State) (before told : Telling) (work : ℕ)
+    (some : RanSome config rounds start before (suc left) s told work) where
   -- the world before the round
   abbrev here : World
   here = sent some.more.output some.more.error (world_of config.quantum s)
 
   -- over a round more
-  goes_on : (es : List Exchange) (end : FlatEnd) → HaveNoPosts (some.more.exchanges ++ es)
-      → (HaveNoPosts es → over (map answer_of es) (round_of here) ≡ gives end [])
-      → (HaveNoPosts es → questions (map answer_of es) (round_of here) ≡ map question_of es)
+  goes_on : (es : List Exchange) (end : FlatEnd)
+      → over (map answer_of es) (round_of here) ≡ gives end []
+      → questions (map answer_of es) (round_of here) ≡ map question_of es
       → GoesOn (some.more.exchanges ++ es) (rounds_of rounds (world_of config.quantum start) 0)
-      (after_round left some.work end)
-  goes_on es end without h k =
-      let parts = no_posts-append some.more.exchanges es without in
+      (after_round left work end)
+  goes_on es end h k =
       goes-append some.more.exchanges es (rounds_of rounds (world_of config.quantum start) 0)
-      (rounds_of (suc left) here some.work) (after_round left some.work end) (some.goes parts.0)
-      (goes-then es (round_of here) (done end) (after_round left some.work)
-      (goes_by es (round_of here) end (h parts.1) (k parts.1)))
+      (rounds_of (suc left) here work) (after_round left work end) some.goes
+      (goes-then es (round_of here) (done end) (after_round left work)
+      (goes_by es (round_of here) end h k))
 
-  pub round_more : (s' : State) (after : Telling) → RanRound config.quantum s told Went s' after
-      → RanSome config rounds start before left s' after
-  round_more s' after h = record {
+  pub round_more : (s' : State) (after : Telling) (more : ℕ)
+      → RanRound config.quantum s told Went s' after more
+      → RanSome config rounds start before left s' after (work + more)
+  round_more s' after more h = record {
     more = told_then before told after some.more h.more;
-    work = some.work + h.work;
-    goes = λ without. goes_on h.more.exchanges _ without
-        (λ w. h.gives w some.more.output some.more.error)
-        (λ w. h.asks w some.more.output some.more.error);
+    goes = goes_on h.more.exchanges _
+        (h.gives some.more.output some.more.error)
+        (h.asks some.more.output some.more.error);
   }
 
   module _ (first : start.round ≡ 1) (all : rounds ≡ config.rounds) where
@@ -124,39 +120,38 @@ module _ (config : Config) (rounds left : ℕ) (start s : State) (before told : 
     -- what a round that isn't run comes to, from the run's begin
     from_begin : (es : List Exchange) (last : World) (ending : Ending)
         → GoesOn es (rounds_of rounds (world_of config.quantum start) 0)
-        (done (finish_in ending last some.work))
+        (done (finish_in ending last work))
         → GoesOn es (rounds_from (world_of config.quantum start) config)
-        (done (finish_in ending last some.work))
+        (done (finish_in ending last work))
     from_begin es last ending h =
-        subst (λ play. GoesOn es play (done (finish_in ending last some.work))) from_start h
+        subst (λ play. GoesOn es play (done (finish_in ending last work))) from_start h
 
-    pub round_ends : (s' : State) (after : Telling) → RanRound config.quantum s told Done s' after
-        → RanRounds config start before done_ending s' after
-    round_ends s' after h = record {
+    pub round_ends : (s' : State) (after : Telling) (more : ℕ)
+        → RanRound config.quantum s told Done s' after more
+        → RanRounds config start before done_ending s' after work
+    round_ends s' after more h = record {
       more = told_then before told after some.more h.more;
-      work = some.work;
-      goes = λ without. from_begin (some.more.exchanges ++ h.more.exchanges)
+      goes = from_begin (some.more.exchanges ++ h.more.exchanges)
           (sent (some.more.output ++ h.more.output) (some.more.error ++ h.more.error)
           (world_of config.quantum s')) done_ending
           (goes_on h.more.exchanges (finished (sent (some.more.output ++ h.more.output)
-          (some.more.error ++ h.more.error) (world_of config.quantum s'))) without
-          (λ w. h.gives w some.more.output some.more.error)
-          (λ w. h.asks w some.more.output some.more.error));
+          (some.more.error ++ h.more.error) (world_of config.quantum s')))
+          (h.gives some.more.output some.more.error)
+          (h.asks some.more.output some.more.error));
     }
 
-    pub round_stalls : (s' : State) (after : Telling)
-        → RanRound config.quantum s told Stalled s' after
-        → RanRounds config start before stalled_ending s' after
-    round_stalls s' after h = record {
+    pub round_stalls : (s' : State) (after : Telling) (more : ℕ)
+        → RanRound config.quantum s told Stalled s' after more
+        → RanRounds config start before stalled_ending s' after work
+    round_stalls s' after more h = record {
       more = told_then before told after some.more h.more;
-      work = some.work;
-      goes = λ without. from_begin (some.more.exchanges ++ h.more.exchanges)
+      goes = from_begin (some.more.exchanges ++ h.more.exchanges)
           (sent (some.more.output ++ h.more.output) (some.more.error ++ h.more.error)
           (world_of config.quantum s')) stalled_ending
           (goes_on h.more.exchanges (stalled (sent (some.more.output ++ h.more.output)
-          (some.more.error ++ h.more.error) (world_of config.quantum s'))) without
-          (λ w. h.gives w some.more.output some.more.error)
-          (λ w. h.asks w some.more.output some.more.error));
+          (some.more.error ++ h.more.error) (world_of config.quantum s')))
+          (h.gives some.more.output some.more.error)
+          (h.asks some.more.output some.more.error));
     }
 
     -- the shim stops in the round
@@ -167,39 +162,37 @@ module _ (config : Config) (rounds left : ℕ) (start s : State) (before told : 
       more = told_then before told after some.more h.more;
       question = h.question;
       asked_is = h.asked_is;
-      asks = λ without. let k = stop without in goes-over (some.more.exchanges ++ h.more.exchanges)
+      asks = let k = stop in goes-over (some.more.exchanges ++ h.more.exchanges)
           (run_from (world_of config.quantum start) config)
           (ask h.question (some.more.output ++ h.more.output) (some.more.error ++ h.more.error) k.0)
           k.1;
-      asked_so = λ without. let k = stop without in goes-questions
+      asked_so = let k = stop in goes-questions
           (some.more.exchanges ++ h.more.exchanges)
           (run_from (world_of config.quantum start) config)
           (ask h.question (some.more.output ++ h.more.output) (some.more.error ++ h.more.error) k.0)
           k.1;
     }
       where
-        stop : HaveNoPosts (some.more.exchanges ++ h.more.exchanges)
-            → (next : Answer → Play Finish)
+        stop : (next : Answer → Play Finish)
             × GoesOn (some.more.exchanges ++ h.more.exchanges)
             (run_from (world_of config.quantum start) config)
             (ask h.question (some.more.output ++ h.more.output) (some.more.error ++ h.more.error)
             next)
-        stop without =
-            let parts = no_posts-append some.more.exchanges h.more.exchanges without in
+        stop =
             let at = stops_by h.more.exchanges (round_of here) h.question
             (some.more.output ++ h.more.output) (some.more.error ++ h.more.error)
-            (h.asks parts.1 some.more.output some.more.error)
-            (h.asked_so parts.1 some.more.output some.more.error) in
-            let inner = goes-then h.more.exchanges (round_of here >>= after_round left some.work)
+            (h.asks some.more.output some.more.error)
+            (h.asked_so some.more.output some.more.error) in
+            let inner = goes-then h.more.exchanges (round_of here >>= after_round left work)
             (ask h.question (some.more.output ++ h.more.output)
-            (some.more.error ++ h.more.error) at.0 >>= after_round left some.work) told_end
+            (some.more.error ++ h.more.error) at.0 >>= after_round left work) told_end
             (goes-then h.more.exchanges (round_of here)
             (ask h.question (some.more.output ++ h.more.output) (some.more.error ++ h.more.error)
-            at.0) (after_round left some.work) at.1) in
+            at.0) (after_round left work) at.1) in
             let outer = goes-then some.more.exchanges
             (rounds_of rounds (world_of config.quantum start) 0)
-            (rounds_of (suc left) here some.work) told_end (some.goes parts.0) in
-            let next : Answer → Play Finish = λ answer. (at.0 answer >>= after_round left some.work)
+            (rounds_of (suc left) here work) told_end some.goes in
+            let next : Answer → Play Finish = λ answer. (at.0 answer >>= after_round left work)
             >>= told_end in (
               next,
               subst (λ play. GoesOn (some.more.exchanges ++ h.more.exchanges) (play >>= told_end)
@@ -208,7 +201,7 @@ module _ (config : Config) (rounds left : ℕ) (start s : State) (before told : 
                   next)) from_start
                   (goes-append some.more.exchanges h.more.exchanges
                   (rounds_of rounds (world_of config.quantum start) 0 >>= told_end)
-                  (rounds_of (suc left) here some.work >>= told_end)
+                  (rounds_of (suc left) here work >>= told_end)
                   (ask h.question (some.more.output ++ h.more.output)
                   (some.more.error ++ h.more.error) next) outer inner),
             )
@@ -218,94 +211,90 @@ module _ (config : Config) (rounds left : ℕ) (start s : State) (before told : 
         → CutGroup config start before after
     round_cut after h = record {
       more = told_then before told after some.more h.more;
-      goes = λ without.
-          let parts = no_posts-append some.more.exchanges h.more.exchanges without in
+      goes =
           let at = h.goes some.more.output some.more.error in
-          let inner = goes-then h.more.exchanges (round_of here >>= after_round left some.work)
-          (at.0 >>= after_round left some.work) told_end
-          (goes-then h.more.exchanges (round_of here) at.0 (after_round left some.work) at.1) in
+          let inner = goes-then h.more.exchanges (round_of here >>= after_round left work)
+          (at.0 >>= after_round left work) told_end
+          (goes-then h.more.exchanges (round_of here) at.0 (after_round left work) at.1) in
           let outer = goes-then some.more.exchanges
           (rounds_of rounds (world_of config.quantum start) 0)
-          (rounds_of (suc left) here some.work) told_end (some.goes parts.0) in
-          let last : Play Finish = (at.0 >>= after_round left some.work) >>= told_end in (
+          (rounds_of (suc left) here work) told_end some.goes in
+          let last : Play Finish = (at.0 >>= after_round left work) >>= told_end in (
             last,
             subst (λ play. GoesOn (some.more.exchanges ++ h.more.exchanges) (play >>= told_end)
                 last) from_start
                 (goes-append some.more.exchanges h.more.exchanges
                 (rounds_of rounds (world_of config.quantum start) 0 >>= told_end)
-                (rounds_of (suc left) here some.work >>= told_end) last outer inner),
+                (rounds_of (suc left) here work >>= told_end) last outer inner),
           );
-      fronts = λ without.
-          let parts = no_posts-append some.more.exchanges h.more.exchanges without in
+      fronts =
           seen_fronts (some.more.output ++ h.more.output) (some.more.error ++ h.more.error) _ _
           (subst (AreFrontsOf (λ finish. finish.world) (some.more.output ++ h.more.output)
-          (some.more.error ++ h.more.error)) (sym (whole_is parts.0))
+          (some.more.error ++ h.more.error)) (sym whole_is)
           (fronts_then (some.more.output ++ h.more.output) (some.more.error ++ h.more.error)
           world_ended
           (λ finish. finish.world) (map answer_of h.more.exchanges) (round_of here)
-          (after_round left some.work)
-          (h.fronts parts.1 some.more.output some.more.error) after_fronts));
+          (after_round left work)
+          (h.fronts some.more.output some.more.error) after_fronts));
     }
       where
-        whole_is : HaveNoPosts some.more.exchanges
-            → over (map answer_of (some.more.exchanges ++ h.more.exchanges))
+        whole_is : over (map answer_of (some.more.exchanges ++ h.more.exchanges))
             (rounds_from (world_of config.quantum start) config)
-            ≡ over (map answer_of h.more.exchanges) (round_of here >>= after_round left some.work)
-        whole_is without =
+            ≡ over (map answer_of h.more.exchanges) (round_of here >>= after_round left work)
+        whole_is =
             ap (λ play. over (map answer_of (some.more.exchanges ++ h.more.exchanges)) play)
             (sym from_start)
             ∙ ap (λ answers. over answers (rounds_of rounds (world_of config.quantum start) 0))
             (map-append answer_of some.more.exchanges h.more.exchanges)
             ∙ goes-over_more some.more.exchanges (map answer_of h.more.exchanges)
             (rounds_of rounds (world_of config.quantum start) 0)
-            (rounds_of (suc left) here some.work) (some.goes without)
+            (rounds_of (suc left) here work) some.goes
 
         after_fronts : (end : FlatEnd) (more : List Answer)
             → HasSent (some.more.output ++ h.more.output) (some.more.error ++ h.more.error) []
             (world_ended end)
             → AreFrontsOf (λ finish. finish.world) (some.more.output ++ h.more.output)
             (some.more.error ++ h.more.error)
-            (over more (after_round left some.work end))
+            (over more (after_round left work end))
         after_fronts (went next more_work) more k =
             fronts_rounds (some.more.output ++ h.more.output) (some.more.error ++ h.more.error) left
-            (some.work + more_work) next more k
+            (work + more_work) next more k
         after_fronts (finished last) more k = k
         after_fronts (stalled last) more k = k
 
 -- no round is left
 pub rounds_over : (config : Config) (rounds : ℕ) (start s : State) (before told : Telling)
-    (ending : Ending) → start.round ≡ 1 → rounds ≡ config.rounds
+    (work : ℕ) (ending : Ending) → start.round ≡ 1 → rounds ≡ config.rounds
     → ending ≡ (if length
     (numbers_of is_some s.table.threads) == 0 then done_ending else limit_ending)
-    → RanSome config rounds start before 0 s told → RanRounds config start before ending s told
-rounds_over config rounds start s before told ending first all is some = record {
+    → RanSome config rounds start before 0 s told work
+    → RanRounds config start before ending s told work
+rounds_over config rounds start s before told work ending first all is some = record {
   more = some.more;
-  work = some.work;
-  goes = λ without.
+  goes =
       subst (λ play. GoesOn some.more.exchanges play (done (finish_in ending
-      (sent some.more.output some.more.error (world_of config.quantum s)) some.work)))
+      (sent some.more.output some.more.error (world_of config.quantum s)) work)))
       (ap (λ n. rounds_of n (world_of config.quantum start) 0)
       (let e : rounds ≡ config.rounds - (start.round - 1) = omega (arith, first, all) in
       e))
       (subst (λ ending. GoesOn some.more.exchanges (rounds_of rounds (world_of config.quantum start)
       0) (done (finish_in ending (sent some.more.output some.more.error (world_of config.quantum s))
-      some.work))) (sym is) (some.goes without));
+      work))) (sym is) some.goes);
 }
 
 -- ---- the end
 
-module _ (config : Config) (start s : State) (before told : Telling) (ending : Ending)
-    (ran : RanRounds config start before ending s told) where
+module _ (config : Config) (start s : State) (before told : Telling) (ending : Ending) (work : ℕ)
+    (ran : RanRounds config start before ending s told work) where
   -- what the rounds have come to
   abbrev finish : Finish
   finish = finish_in ending (sent ran.more.output ran.more.error (world_of config.quantum s))
-      ran.work
+      work
 
-  to_end : HaveNoPosts ran.more.exchanges
-      → GoesOn ran.more.exchanges (run_from (world_of config.quantum start) config)
+  to_end : GoesOn ran.more.exchanges (run_from (world_of config.quantum start) config)
       (told_end finish)
-  to_end without = goes-then ran.more.exchanges (rounds_from (world_of config.quantum start) config)
-      (done finish) told_end (ran.goes without)
+  to_end = goes-then ran.more.exchanges (rounds_from (world_of config.quantum start) config)
+      (done finish) told_end ran.goes
 
   -- the shim stops at it
   pub end_stops : (after : Telling) (asked : Option Question) → after.exchanges ≡ told.exchanges
@@ -316,10 +305,10 @@ module _ (config : Config) (start s : State) (before told : Telling) (ending : E
     more = told_so before told after ran.more told_is out err;
     question = end_question ending (s.round - 1);
     asked_is = is;
-    asks = λ without. goes-over ran.more.exchanges (run_from (world_of config.quantum start) config)
-        (told_end finish) (to_end without);
-    asked_so = λ without. goes-questions ran.more.exchanges
-        (run_from (world_of config.quantum start) config) (told_end finish) (to_end without);
+    asks = goes-over ran.more.exchanges (run_from (world_of config.quantum start) config)
+        (told_end finish) to_end;
+    asked_so = goes-questions ran.more.exchanges
+        (run_from (world_of config.quantum start) config) (told_end finish) to_end;
   }
 
   -- it is cut off there
@@ -327,12 +316,12 @@ module _ (config : Config) (start s : State) (before told : Telling) (ending : E
       → after.error ≡ told.error → CutGroup config start before after
   end_cut after told_is out err = record {
     more = told_so before told after ran.more told_is out err;
-    goes = λ without. (told_end finish, to_end without);
-    fronts = λ without.
+    goes = (told_end finish, to_end);
+    fronts =
         seen_fronts ran.more.output ran.more.error _ _
         (subst (AreFrontsOf (λ finish. finish.world) ran.more.output ran.more.error)
         (sym (goes-over ran.more.exchanges (rounds_from (world_of config.quantum start) config)
-        (done finish) (ran.goes without)))
+        (done finish) ran.goes))
         (front-whole ran.more.output, front-whole ran.more.error));
   }
 
@@ -340,7 +329,7 @@ module _ (config : Config) (start s : State) (before told : Telling) (ending : E
   pub end_told : (after : Telling)
       → after.exchanges ≡ told.exchanges ++ End ending (s.round - 1) ∷ []
       → after.output ≡ told.output → after.error ≡ told.error
-      → RanGroup config start before ending s after
+      → RanGroup config start before ending s after work
   end_told after told_is out err = record {
     more = record {
       exchanges = ran.more.exchanges ++ End ending (s.round - 1) ∷ [];
@@ -352,59 +341,54 @@ module _ (config : Config) (start s : State) (before told : Telling) (ending : E
       output_is = out ∙ ran.more.output_is;
       error_is = err ∙ ran.more.error_is;
     };
-    work = ran.work;
     fits = fits;
-    ends = λ without. ap₂ result_of (fits without) (over_is without);
+    ends = ap₂ result_of fits over_is;
   }
     where
-      fits : HaveNoPosts (ran.more.exchanges ++ End ending (s.round - 1) ∷ [])
-          → questions (map answer_of (ran.more.exchanges ++ End ending (s.round - 1) ∷ []))
+      fits : questions (map answer_of (ran.more.exchanges ++ End ending (s.round - 1) ∷ []))
           (run_from (world_of config.quantum start) config)
           ≡ map question_of (ran.more.exchanges ++ End ending (s.round - 1) ∷ [])
-      fits without =
-          let parts = no_posts-append ran.more.exchanges (End ending (s.round - 1) ∷ []) without in
+      fits =
           goes-questions (ran.more.exchanges ++ End ending (s.round - 1) ∷ [])
           (run_from (world_of config.quantum start) config) (done finish)
           (goes-append ran.more.exchanges (End ending (s.round - 1) ∷ [])
           (run_from (world_of config.quantum start) config) (told_end finish) (done finish)
-          (to_end parts.0) (refl, refl))
+          to_end (refl, refl))
           ∙ append-nil (map question_of (ran.more.exchanges ++ End ending (s.round - 1) ∷ []))
 
-      over_is : HaveNoPosts (ran.more.exchanges ++ End ending (s.round - 1) ∷ [])
-          → over (map answer_of (ran.more.exchanges ++ End ending (s.round - 1) ∷ []))
+      over_is : over (map answer_of (ran.more.exchanges ++ End ending (s.round - 1) ∷ []))
           (rounds_from (world_of config.quantum start) config) ≡ gives finish (posts [] ∷ [])
-      over_is without =
-          let parts = no_posts-append ran.more.exchanges (End ending (s.round - 1) ∷ []) without in
+      over_is =
           ap (λ answers. over answers (rounds_from (world_of config.quantum start) config))
           (map-append answer_of ran.more.exchanges (End ending (s.round - 1) ∷ []))
           ∙ goes-over_more ran.more.exchanges (posts [] ∷ [])
-          (rounds_from (world_of config.quantum start) config) (done finish) (ran.goes parts.0)
+          (rounds_from (world_of config.quantum start) config) (done finish) ran.goes
 
 -- ---- in a loop that counts the rounds
 
 -- before the round of this index one more than those after it are left
-pub some_at : (config : Config) (rounds i : ℕ) (start s : State) (before told : Telling)
-    → i < rounds → RanSome config rounds start before (rounds - i) s told
-    → RanSome config rounds start before (suc (rounds - (i + 1))) s told
-some_at config rounds i start s before told lt some =
-    subst (λ n. RanSome config rounds start before n s told)
+pub some_at : (config : Config) (rounds i : ℕ) (start s : State) (before told : Telling) (work : ℕ)
+    → i < rounds → RanSome config rounds start before (rounds - i) s told work
+    → RanSome config rounds start before (suc (rounds - (i + 1))) s told work
+some_at config rounds i start s before told work lt some =
+    subst (λ n. RanSome config rounds start before n s told work)
     (let e : rounds - i ≡ suc (rounds - (i + 1)) = omega (arith, lt) in e) some
 
 -- after the last none is left
 pub none_left : (config : Config) (rounds i : ℕ) (start s : State) (before told : Telling)
-    → rounds ≤ i → RanSome config rounds start before (rounds - i) s told
-    → RanSome config rounds start before 0 s told
-none_left config rounds i start s before told le some =
-    subst (λ n. RanSome config rounds start before n s told)
+    (work : ℕ) → rounds ≤ i → RanSome config rounds start before (rounds - i) s told work
+    → RanSome config rounds start before 0 s told work
+none_left config rounds i start s before told work le some =
+    subst (λ n. RanSome config rounds start before n s told work)
     (let e : rounds - i ≡ 0 = omega (arith, le) in e) some
 
 -- the same configuration, and what the end is
 pub round_so : (config other : Config) (s s' : State) (before after : Telling) (end so : RoundEnd)
-    → other ≡ config → end ≡ so → RanRound other.quantum s before end s' after
-    → RanRound config.quantum s before so s' after
-round_so config other s s' before after end so same is h =
-    subst (λ (c : Config). RanRound c.quantum s before so s' after) same
-    (subst (λ e. RanRound other.quantum s before e s' after) is h)
+    (work : ℕ) → other ≡ config → end ≡ so → RanRound other.quantum s before end s' after work
+    → RanRound config.quantum s before so s' after work
+round_so config other s s' before after end so work same is h =
+    subst (λ (c : Config). RanRound c.quantum s before so s' after work) same
+    (subst (λ e. RanRound other.quantum s before e s' after work) is h)
 
 pub stopped_so : (config other : Config) (s : State) (before after : Telling)
     (asked : Option Question) → other ≡ config → StoppedRound other.quantum s before after asked

@@ -1,8 +1,8 @@
 -- Laws of a whole run; the functions of the module laws promise them.
-use Rattle.std.specs.Prelude.{ℕ, ◌+◌, ◌<◌, ◌≡◌, ◌≤◌, List, [], length, All}
+use Rattle.std.specs.Prelude.{ℕ, ◌+◌, ◌<◌, ◌≡◌, ◌≤◌, List, [], length, All, ◌≢◌, ◌∷◌, ◌++◌, map, Some, None}
 use Rattle.dos_world.specs.World.{World}
 use Rattle.dos_world.specs.Lawful.{Lawful, IsConfig}
-use Rattle.dos_world.specs.Play.{Answer, gives, over}
+use Rattle.dos_world.specs.Play.{Answer, gives, over, questions}
 use Rattle.dos_world.specs.declared.Config.{Config}
 use Rattle.dos_world.specs.declared.Question.TheVariants.{Signals}
 use Rattle.round_core.specs.Protocol.{Protocol, Allows}
@@ -12,7 +12,11 @@ use Rattle.dos_laws.specs.Standing.{IsFit}
 use Rattle.elf_image.specs.Image.{Image}
 use Rattle.group_open.specs.Laws.{IsAccepted}
 use Rattle.group_open.specs.Opening.{opening_with, needed}
-use Rattle.dpg_run.specs.Machine.{Finish, Seen, ends, machine, rounds_of, rounds_from}
+use Rattle.dos_world.specs.declared.Question.{Question}
+use Rattle.dos_io.specs.declared.exchange.Exchange.{Exchange}
+use Rattle.dos_io.specs.Exchanges.{question_of, answer_of}
+use Rattle.dpg_run.specs.Fits.{Fits, misfit}
+use Rattle.dpg_run.specs.Machine.{Finish, Seen, ends, machine, rounds_of, rounds_from, group}
 
 -- ---- invariants of a run, one for each count of its rounds
 
@@ -60,3 +64,21 @@ abbrev pub RunsKeepTheirLimit : Type 0
 RunsKeepTheirLimit =
     (images : List Image) (config : Config) (answers : List Answer) (s : Seen)
     → machine images config answers ≡ ends s → s.rounds ≤ config.rounds
+
+-- ---- exchanges that don't fit
+
+-- Where a run has asked what some exchanges answer, and then another question than the next one's,
+-- that one is the misfit.
+abbrev pub MisfitsAreFirst : Type 0
+MisfitsAreFirst =
+    (images : List Image) (config : Config) (before : List Exchange) (next : Exchange)
+    (behind : List Exchange) (asked : Question)
+    → questions (map answer_of before) (group images config)
+    ≡ map question_of before ++ asked ∷ [] → question_of next ≢ asked
+    → misfit images config (before ++ next ∷ behind)
+    ≡ Some (record { entry = length before; kept = question_of next; asked = asked })
+
+-- Exchanges that fit have none.
+abbrev pub FitsHaveNoMisfit : Type 0
+FitsHaveNoMisfit = (images : List Image) (config : Config) (exchanges : List Exchange)
+    → Fits images config exchanges → misfit images config exchanges ≡ None

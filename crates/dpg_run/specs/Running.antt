@@ -6,7 +6,7 @@ use Rattle.dos_world.specs.Play.{Play, done, over, questions, asks}
 use Rattle.dos_world.specs.declared.Config.{Config}
 use Rattle.dos_world.specs.declared.Ending.{Ending}
 use Rattle.dos_world.specs.declared.Question.{Question}
-use Rattle.dos_io.specs.Exchanges.{question_of, answer_of, HaveNoPosts}
+use Rattle.dos_io.specs.Exchanges.{question_of, answer_of}
 use Rattle.dos_io.specs.Outside.{IsFront}
 use Rattle.dos_io.specs.Shims.{HasNoEnd}
 use Rattle.dos_io.specs.declared.exchange.Exchange.{Exchange}
@@ -25,25 +25,20 @@ abbrev pub finish_in : Ending → World → ℕ → Finish
 finish_in ending w work = record { ending = ending; world = w; work = work }
 
 -- The rounds of the machine from the old state's world, over the exchanges that are told more, have
--- ended so, in the new state's world with the bytes that are told more. No signal came.
+-- ended so, in the new state's world with the bytes that are told more, after so much work.
 pub record RanRounds (config : Config) (old : State) (before : Telling) (ending : Ending)
-    (new : State) (after : Telling) : Type 0 where
+    (new : State) (after : Telling) (work : ℕ) : Type 0 where
   pub more : ToldMore before after
-  pub work : ℕ
-  pub goes : HaveNoPosts more.exchanges
-      → GoesOn more.exchanges (rounds_from (world_of config.quantum old) config)
+  pub goes : GoesOn more.exchanges (rounds_from (world_of config.quantum old) config)
       (done (finish_in ending (sent more.output more.error (world_of config.quantum new)) work))
 
 -- The machine from the old state's world, over the exchanges that are told more, has sent what is
--- told more, has these statuses and has ended so. The exchanges fit. No signal came.
+-- told more, has these statuses and has ended so, after so much work. The exchanges fit.
 pub record RanGroup (config : Config) (old : State) (before : Telling) (ending : Ending)
-    (new : State) (after : Telling) : Type 0 where
+    (new : State) (after : Telling) (work : ℕ) : Type 0 where
   pub more : ToldMore before after
-  pub work : ℕ
-  pub fits : HaveNoPosts more.exchanges
-      → FitsFrom (world_of config.quantum old) config more.exchanges
-  pub ends : HaveNoPosts more.exchanges
-      → machine_from (world_of config.quantum old) config (map answer_of more.exchanges)
+  pub fits : FitsFrom (world_of config.quantum old) config more.exchanges
+  pub ends : machine_from (world_of config.quantum old) config (map answer_of more.exchanges)
       ≡ ends (record {
         questions = map question_of more.exchanges;
         output = more.output;
@@ -61,11 +56,9 @@ pub record StoppedGroup (config : Config) (old : State) (before after : Telling)
   pub more : ToldMore before after
   pub question : Question
   pub asked_is : asked ≡ Some question
-  pub asks : HaveNoPosts more.exchanges
-      → over (map answer_of more.exchanges) (run_from (world_of config.quantum old) config)
+  pub asks : over (map answer_of more.exchanges) (run_from (world_of config.quantum old) config)
       ≡ asks question more.output more.error
-  pub asked_so : HaveNoPosts more.exchanges
-      → questions (map answer_of more.exchanges) (run_from (world_of config.quantum old) config)
+  pub asked_so : questions (map answer_of more.exchanges) (run_from (world_of config.quantum old) config)
       ≡ map question_of more.exchanges ++ question ∷ []
 
 -- These are fronts of what a run sends to output and to error, whether it ends or needs an answer.
@@ -76,13 +69,12 @@ AreFronts output error (needs question all_output all_error) =
 
 -- The run was cut off: it has asked what the exchanges that are told more asked, and would go on.
 -- The bytes that the sinks tell more are fronts of what the machine sends over the answers of those
--- exchanges. No signal came.
+-- exchanges.
 pub record CutGroup (config : Config) (old : State) (before after : Telling) : Type 0 where
   pub more : ToldMore before after
-  pub goes : HaveNoPosts more.exchanges → (left : Play Finish)
+  pub goes : (left : Play Finish)
       × GoesOn more.exchanges (run_from (world_of config.quantum old) config) left
-  pub fronts : HaveNoPosts more.exchanges →
-      AreFronts more.output more.error (machine_from (world_of config.quantum old) config
+  pub fronts : AreFronts more.output more.error (machine_from (world_of config.quantum old) config
       (map answer_of more.exchanges))
 
 -- The last of these exchanges is the end of a run that ended so, after so many rounds, and none

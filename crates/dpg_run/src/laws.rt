@@ -1,6 +1,7 @@
 //! Laws of the definitions, as contracts of functions that do nothing.
 
-ghost use Rattle.dpg_run.specs.Laws.{GroupsEndLawful, RunIsKept, RunOwes, RunsEndLawful, RunsKeepTheirLimit};
+ghost use Rattle.dpg_run.specs.QuietRuns.{QuietRunsAreOne};
+ghost use Rattle.dpg_run.specs.Laws.{FitsHaveNoMisfit, GroupsEndLawful, MisfitsAreFirst, RunIsKept, RunOwes, RunsEndLawful, RunsKeepTheirLimit};
 
 /// An invariant of a run: for each count of rounds, what holds in each world of the next one.
 pub trait RunInvariant {
@@ -40,4 +41,18 @@ pub fn groups_end_lawful()
 /// whatever the shim answers, signals too.
 pub fn runs_keep_their_limit()
     ensures { RunsKeepTheirLimit }
+{}
+
+/// What is seen of a run that nothing reaches from outside is determined by the images and the
+/// configuration: one whose questions bring no signal, no byte of input and a clock that stands
+/// at 0.
+pub fn quiet_runs_are_one()
+    ensures { QuietRunsAreOne }
+{}
+
+/// The misfit of a log is the first of its entries that is of another question than the run asks;
+/// a log that fits has none.
+pub fn misfits_are_first()
+    ensures first { MisfitsAreFirst }
+    ensures none { FitsHaveNoMisfit }
 {}

@@ -1,8 +1,9 @@
 // A whole run.
-ghost use Rattle.std.specs.Prelude.{◌≡◌, ◌≢◌, ◌≤◌, ◌-◌, ◌==◌, false, if◌then◌else◌, is_err, is_some, length, IfOk, IfErr, OnErr, OnOk, OnSome};
+ghost use Rattle.std.specs.Prelude.{ℕ, ◌≡◌, ◌≤◌, ◌-◌, ◌==◌, false, if◌then◌else◌, is_err, is_some, length, IfOk, IfErr, OnErr, OnOk, OnSome};
 ghost use Rattle.dos_world.specs.Numbered.{numbers_of};
 ghost use Rattle.dos_io.specs.Shims.{HasNoEnd};
 ghost use Rattle.kernel_calls.specs.Serving.{shim_stop};
+ghost use Rattle.worker_pool.specs.Ran.{GrewBy};
 ghost use Rattle.group_rounds.specs.Going.{telling};
 ghost use Rattle.group_rounds.specs.Outside.{HaveCauses, is_end};
 ghost use Rattle.dpg_run.specs.Running.{AreEnded, CutGroup, RanGroup, RanRounds, StoppedGroup, has_failed};
@@ -10,15 +11,15 @@ ghost use Rattle.group_rounds.specs.Kernels.{IsBetweenRounds};
 
 use dos_io::{Shim, Sink};
 use dos_world::Ending;
-use group_rounds::{Kernel, RoundEnd, run_round, run_stop};
-use kernel_calls::RunStop;
+use group_rounds::{Kernel, RoundEnd, run_round};
+use kernel_calls::{RunStop, run_stop};
+use worker_pool::Workers;
 
 // how a run ends where no round is left
 fn limit_ending(kernel: &Kernel) -> Ending
     ensures ending { result
         ≡ (if length (numbers_of is_some kernel.now.state.table.threads) == 0 then
         Ending.Done else Ending.Limit) }
-    ensures ready { result ≢ Ending.Stalled }
     ensures sound { kernel.now.failed ≡ false → IsBetweenRounds kernel.now.state kernel.now.config }
 {
     if kernel.state().table.live_threads() == 0 {
@@ -29,21 +30,22 @@ fn limit_ending(kernel: &Kernel) -> Ending
 }
 
 // the rounds of a run, as many as its configuration allows
-fn run_rounds<S: Shim, O: Sink, E: Sink>(
+fn run_rounds<S: Shim, O: Sink, E: Sink, W: Workers>(
     kernel: &mut Kernel,
     shim: &mut S,
     out: &mut O,
     err: &mut E,
+    workers: &mut W,
 ) -> Result<Ending, RunStop>
     requires running { kernel.old.failed ≡ false }
     requires fresh { kernel.old.state.round ≡ 1 }
     requires told { HasNoEnd (S.state shim.old).told }
     ensures runs { IfOk result
-        (λ ending. RanRounds kernel.old.config kernel.old.state
+        (λ ending. (work : ℕ) × RanRounds kernel.old.config kernel.old.state
         (telling (S.state shim.old).told (O.told out.old) (E.told err.old)) ending
         kernel.new.state
-        (telling (S.state shim.new).told (O.told out.new) (E.told err.new))) }
-    ensures ready { IfOk result (λ ending. ending ≢ Ending.Stalled) }
+        (telling (S.state shim.new).told (O.told out.new) (E.told err.new)) work
+        × GrewBy (W.tally workers.old) (W.tally workers.new) work) }
     ensures sound { kernel.new.failed ≡ false → IsBetweenRounds kernel.new.state kernel.new.config }
     ensures asks { IfErr result
         (λ stop. OnSome (shim_stop stop)
@@ -63,10 +65,11 @@ fn run_rounds<S: Shim, O: Sink, E: Sink>(
     ensures causes { HaveCauses result (S.state shim.old) (S.state shim.new) (O.faults out.old)
         (O.faults out.new) (E.faults err.old) (E.faults err.new) }
     ensures follows { S.follows shim.old shim.new }
+    ensures fixed { W.fixed workers.new ≡ W.fixed workers.old }
 {
     let rounds = kernel.config().rounds;
     for _round in 0..rounds {
-        match run_round(kernel, shim, out, err)? {
+        match run_round(kernel, shim, out, err, workers)? {
             RoundEnd::Went => {}
             RoundEnd::Done => return Ok(Ending::Done),
             RoundEnd::Stalled => return Ok(Ending::Stalled),
@@ -75,26 +78,28 @@ fn run_rounds<S: Shim, O: Sink, E: Sink>(
     Ok(limit_ending(kernel))
 }
 
-/// Runs a group that has run no round to its end, and tells the shim the end.
+/// Runs a group that has run no round to its end, and tells the shim the end. The workers' tally
+/// grows by the run's work, the instructions of all parallel phases.
 ///
 /// After a stop at the end the kernel hasn't failed; after any other it has, and nothing more is
 /// said of it. After any stop each sink holds a front of what the machine sends to it; after the
 /// shim's, all that it has sent by then.
-pub fn run_group<S: Shim, O: Sink, E: Sink>(
+pub fn run_group<S: Shim, O: Sink, E: Sink, W: Workers>(
     kernel: &mut Kernel,
     shim: &mut S,
     out: &mut O,
     err: &mut E,
+    workers: &mut W,
 ) -> Result<Ending, RunStop>
     requires running { kernel.old.failed ≡ false }
     requires fresh { kernel.old.state.round ≡ 1 }
     requires told { HasNoEnd (S.state shim.old).told }
     ensures runs { IfOk result
-        (λ ending. RanGroup kernel.old.config kernel.old.state
+        (λ ending. (work : ℕ) × RanGroup kernel.old.config kernel.old.state
         (telling (S.state shim.old).told (O.told out.old) (E.told err.old)) ending
         kernel.new.state
-        (telling (S.state shim.new).told (O.told out.new) (E.told err.new))) }
-    ensures ready { IfOk result (λ ending. ending ≢ Ending.Stalled) }
+        (telling (S.state shim.new).told (O.told out.new) (E.told err.new)) work
+        × GrewBy (W.tally workers.old) (W.tally workers.new) work) }
     ensures sound { kernel.new.failed ≡ false → IsBetweenRounds kernel.new.state kernel.new.config }
     ensures limit { OnOk result (kernel.new.state.round - 1 ≤ kernel.old.config.rounds) }
     ensures asks { IfErr result
@@ -114,8 +119,9 @@ pub fn run_group<S: Shim, O: Sink, E: Sink>(
     ensures causes { HaveCauses result (S.state shim.old) (S.state shim.new) (O.faults out.old)
         (O.faults out.new) (E.faults err.old) (E.faults err.new) }
     ensures follows { S.follows shim.old shim.new }
+    ensures fixed { W.fixed workers.new ≡ W.fixed workers.old }
 {
-    let ending = run_rounds(kernel, shim, out, err)?;
+    let ending = run_rounds(kernel, shim, out, err, workers)?;
     match shim.end(ending, kernel.rounds()) {
         Ok(()) => Ok(ending),
         Err(stop) => Err(run_stop(stop)),

@@ -8,18 +8,21 @@ use Rattle.dpg_run.proofs.RoundsRun.{end_told, end_stops, end_cut, failed_before
 use Rattle.dpg_run.proofs.run.run_group.Goals as goal
 
 pub returns-in-Ok-clause-runs : goal.returns-in-Ok-clause-runs
-returns-in-Ok-clause-runs g c =
-    end_told c.args.kernel.now.config c.args.kernel.now.state c.run_rounds.new.kernel.state _ _
-    c.in_ok-ending.ending c.in_ok-ending.ensures.runs _
-    (ap (λ (s : ShimState). s.told) c.in-Ok.ensures.ok
-    ∙ ap (λ n. (g.S.Shim.state c.run_rounds.new.shim).told ++ End c.in_ok-ending.ending n
-    ∷ []) c.rounds.ensures) refl refl
+returns-in-Ok-clause-runs g c = (
+  c.in_ok-ending.ensures.runs.0,
+  end_told c.args.kernel.now.config c.args.kernel.now.state c.run_rounds.new.kernel.state _ _
+      c.in_ok-ending.ending _ c.in_ok-ending.ensures.runs.1 _
+      (ap (λ (s : ShimState). s.told) c.in-Ok.ensures.ok
+      ∙ ap (λ n. (g.S.Shim.state c.run_rounds.new.shim).told ++ End c.in_ok-ending.ending n
+      ∷ []) c.rounds.ensures) refl refl,
+  c.in_ok-ending.ensures.runs.2,
+)
 
 pub returns-in-Err-clause-asks : goal.returns-in-Err-clause-asks
 returns-in-Err-clause-asks g c =
     rw c.run_stop.ensures
     (end_stops c.args.kernel.now.config c.args.kernel.now.state c.run_rounds.new.kernel.state _ _
-    c.in_ok-ending.ending c.in_ok-ending.ensures.runs _ _ c.in-Err.ensures.err.told refl
+    c.in_ok-ending.ending _ c.in_ok-ending.ensures.runs.1 _ _ c.in-Err.ensures.err.told refl
     refl
     (c.in-Err.ensures.err.asked
     ∙ ap (λ n. Some (end_question c.in_ok-ending.ending n)) c.rounds.ensures))
@@ -34,7 +37,7 @@ returns-in_err-ending-clause-failed g c =
 pub returns-in-Err-clause-cut : goal.returns-in-Err-clause-cut
 returns-in-Err-clause-cut g c =
     end_cut c.args.kernel.now.config c.args.kernel.now.state c.run_rounds.new.kernel.state _ _
-    c.in_ok-ending.ending c.in_ok-ending.ensures.runs _ c.in-Err.ensures.err.told refl refl
+    c.in_ok-ending.ending _ c.in_ok-ending.ensures.runs.1 _ c.in-Err.ensures.err.told refl refl
 
 pub returns-in-Err-clause-failed : goal.returns-in-Err-clause-failed
 returns-in-Err-clause-failed g c =

@@ -1,0 +1,113 @@
+-- Where a run asks another question than some exchanges have.
+use Rattle.std.proofs.Common.{◌≡◌, ◌≢◌, ◌∙◌, ℕ, suc, ◌+◌, Bool, true, false, ◌&&◌, eqb, List, [], ◌∷◌, ◌++◌, map, length, Option, Some, None, refl, sym, ap, subst, arith}
+use Rattle.std.proofs.lemmas.Bool.{and_parts, eqb-true, eq-eqb}
+use Rattle.dos_world.specs.Play.{Play, done, ask, questions}
+use Rattle.dos_world.specs.declared.Ending.{Ending}
+use Rattle.dos_world.specs.declared.Ending.TheVariants.{Done, Limit, Stalled}
+use Rattle.dos_world.specs.declared.Question.{Question}
+use Rattle.dos_world.specs.declared.Question.TheVariants.{Signals, Input, Clock, End}
+use Rattle.dos_io.specs.declared.exchange.Exchange.{Exchange}
+use Rattle.dos_io.specs.Exchanges.{question_of, answer_of}
+use Rattle.dpg_run.specs.Fits.{same_ending, same_question, misfit_from}
+
+ending_with_itself : (e : Ending) → same_ending e e ≡ true
+ending_with_itself Done = refl
+ending_with_itself Limit = refl
+ending_with_itself Stalled = refl
+
+with_itself : (q : Question) → same_question q q ≡ true
+with_itself (Signals r) = eq-eqb r r refl
+with_itself (Input r t m) = rw (eq-eqb r r refl, eq-eqb t t refl, eq-eqb m m refl) refl
+with_itself (Clock r t) = rw (eq-eqb r r refl, eq-eqb t t refl) refl
+with_itself (End e r) = rw (ending_with_itself e, eq-eqb r r refl) refl
+
+one_ending : (e f : Ending) → same_ending e f ≡ true → e ≡ f
+one_ending Done Done is = refl
+one_ending Done Limit is = absurd cc
+one_ending Done Stalled is = absurd cc
+one_ending Limit Done is = absurd cc
+one_ending Limit Limit is = refl
+one_ending Limit Stalled is = absurd cc
+one_ending Stalled Done is = absurd cc
+one_ending Stalled Limit is = absurd cc
+one_ending Stalled Stalled is = refl
+
+one_question : (q r : Question) → same_question q r ≡ true → q ≡ r
+one_question (Signals r) (Signals s) is = ap Signals (eqb-true r s is)
+one_question (Input r t m) (Input s u n) is =
+    let a = and_parts (eqb r s && eqb t u) (eqb m n) is in
+    let b = and_parts (eqb r s) (eqb t u) a.0 in
+    rw (eqb-true r s b.0, eqb-true t u b.1, eqb-true m n a.1) refl
+one_question (Clock r t) (Clock s u) is =
+    let a = and_parts (eqb r s) (eqb t u) is in
+    rw (eqb-true r s a.0, eqb-true t u a.1) refl
+one_question (End e r) (End f s) is =
+    let a = and_parts (same_ending e f) (eqb r s) is in
+    rw (one_ending e f a.0, eqb-true r s a.1) refl
+one_question (Signals r) (Input s u n) is = absurd cc
+one_question (Signals r) (Clock s u) is = absurd cc
+one_question (Signals r) (End f s) is = absurd cc
+one_question (Input r t m) (Signals s) is = absurd cc
+one_question (Input r t m) (Clock s u) is = absurd cc
+one_question (Input r t m) (End f s) is = absurd cc
+one_question (Clock r t) (Signals s) is = absurd cc
+one_question (Clock r t) (Input s u n) is = absurd cc
+one_question (Clock r t) (End f s) is = absurd cc
+one_question (End e r) (Signals s) is = absurd cc
+one_question (End e r) (Input s u n) is = absurd cc
+one_question (End e r) (Clock s u) is = absurd cc
+
+differ : (q r : Question) → q ≢ r → same_question q r ≡ false
+differ q r not = differ_by (same_question q r) (λ is. not (one_question q r is))
+  where
+    differ_by : (b : Bool) → (b ≡ true → ⊥) → b ≡ false
+    differ_by true never = absurd (never refl)
+    differ_by false _ = refl
+
+-- ---- questions of a play
+
+abbrev some_questions : List Question → Option (List Question)
+some_questions qs = Some qs
+
+-- equal lists have equal heads and equal rests
+heads : (q r : Question) (qs rs : List Question) → q ∷ qs ≡ r ∷ rs → (q ≡ r) × (qs ≡ rs)
+heads q r qs rs is = (cc, cc)
+
+-- The run has asked what these exchanges answer, and then another question than the next one's.
+pub misfit_at : {A : Type 0} (n m : ℕ) (es : List Exchange) (e : Exchange) (rest : List Exchange)
+    (asked : Question) (p : Play A) → m ≡ n + length es
+    → questions (map answer_of es) p ≡ map question_of es ++ asked ∷ [] → question_of e ≢ asked
+    → misfit_from n (es ++ e ∷ rest) p
+    ≡ Some (record { entry = m; kept = question_of e; asked = asked })
+misfit_at n m [] e rest asked (done a) count is other = absurd cc
+misfit_at n m (x ∷ es) e rest asked (done a) count is other = absurd cc
+misfit_at n m [] e rest asked (ask question output error next) count is other =
+    let h = heads question asked [] [] is in
+    let f : same_question (question_of e) question ≡ false =
+    differ (question_of e) question (λ same. other (same ∙ h.0)) in
+    let place : n ≡ m = omega (arith, count) in
+    rw (f, misfit_from)
+    (ap (λ (q : Question). Some (record { entry = n; kept = question_of e; asked = q })) h.0
+    ∙ ap (λ (i : ℕ). Some (record { entry = i; kept = question_of e; asked = asked })) place)
+misfit_at n m (x ∷ es) e rest asked (ask question output error next) count is other =
+    let h = heads question (question_of x) (questions (map answer_of es) (next (answer_of x)))
+    (map question_of es ++ asked ∷ []) is in
+    let t : same_question (question_of x) question ≡ true =
+    subst (λ (q : Question). same_question (question_of x) q ≡ true) (sym h.0)
+    (with_itself (question_of x)) in
+    rw (t, misfit_from)
+    (misfit_at (suc n) m es e rest asked (next (answer_of x)) (omega (arith, count)) h.1 other)
+
+-- Exchanges that a whole run asks for have no misfit.
+pub fits_have_none : {A : Type 0} (n : ℕ) (es : List Exchange) (p : Play A)
+    → questions (map answer_of es) p ≡ map question_of es → misfit_from n es p ≡ None
+fits_have_none n [] (done a) is = refl
+fits_have_none n (x ∷ es) (done a) is = refl
+fits_have_none n [] (ask question output error next) is = absurd cc
+fits_have_none n (x ∷ es) (ask question output error next) is =
+    let h = heads question (question_of x) (questions (map answer_of es) (next (answer_of x)))
+    (map question_of es) is in
+    let t : same_question (question_of x) question ≡ true =
+    subst (λ (q : Question). same_question (question_of x) q ≡ true) (sym h.0)
+    (with_itself (question_of x)) in
+    rw (t, misfit_from) (fits_have_none (suc n) es (next (answer_of x)) h.1)
