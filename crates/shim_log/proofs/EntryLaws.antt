@@ -103,7 +103,7 @@ end_again end ending rounds rest lt =
 
 -- ---- signals
 
-post_takes : (end : ℕ) (bytes : List ℕ) (x : Post × List ℕ) → IsBytes bytes
+pub post_takes : (end : ℕ) (bytes : List ℕ) (x : Post × List ℕ) → IsBytes bytes
     → post_at end bytes ≡ Ok x → Takes bytes (post_text x.0) x.1 × FitsPost x.0
 unfolding post_at
 post_takes end bytes x fits e =

@@ -15,13 +15,13 @@ use Rattle.dos_io.specs.Shims.{Stopped, HasNoEnd}
 use Rattle.dos_io.specs.Outside.{Rose}
 use Rattle.dos_io.proofs.GivenLaws.{given_none}
 use Rattle.shim_log.specs.declared.header.LogHeader.{LogHeader}
-use Rattle.shim_log.specs.LogText.{entry_text, entries_text}
+use Rattle.shim_log.specs.LogText.{entry_text, entries_text, logtext}
 use Rattle.shim_log.specs.Ranges.{FitsHeader, FitsLog, InRange, NotEnd, AreEntries, FitsInput, FitsClock}
-use Rattle.shim_log.proofs.LengthLaws.{header_length, signals_length, input_length}
+use Rattle.shim_log.proofs.LengthLaws.{header_length, signals_length, input_length, text_length}
 use Rattle.dos_io.specs.declared.exchange.Exchange.TheVariants.{Signals, Input, Clock, End}
 use Rattle.dos_io.specs.Posts.{ArePosts}
 use Rattle.dos_io.specs.Given.{posts_in}
-use Rattle.shim_log.specs.Room.{IsOver, NoRoom, HadRoom}
+use Rattle.shim_log.specs.Room.{most_bytes, IsOver, NoRoom, HadRoom}
 use Rattle.shim_log.specs.Ledger.{LedgerState, ArePlanned, end_of, recorder_state, MayStop, IsNoMisfit, IsLedger, stopped, added, closed, Follows}
 use Rattle.shim_log.proofs.EntriesTextLaws.{all_push, text_push}
 use Rattle.shim_log.proofs.LogLaws.{entries_short}
@@ -233,3 +233,23 @@ log_fits b ending rounds is low = record {
   few = omega (arith, few_entries b is);
   rounds = low;
 }
+
+-- the log of its entries is no longer than a log may be
+pub small_text : (b : LedgerState) (ending : Ending) (rounds : ℕ) → IsLedger b
+    → length (logtext (record {
+      header = b.header;
+      entries = b.entries;
+      ending = ending;
+      rounds = rounds;
+    })) ≤ most_bytes
+small_text b ending rounds is =
+    omega (
+      arith,
+      text_length (record {
+        header = b.header;
+        entries = b.entries;
+        ending = ending;
+        rounds = rounds;
+      }),
+      is.small,
+    )

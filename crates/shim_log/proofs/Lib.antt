@@ -8,6 +8,7 @@ mod Rooms
 mod Lengths
 pub mod EntriesTextLaws
 pub mod PostLoop
+pub mod PostTexts
 pub mod TailLoop
 pub mod WholeLaws
 pub mod ReplayLaws

@@ -14,7 +14,8 @@ use Rattle.dos_io.specs.declared.shim.ShimStop.{ShimStop}
 use Rattle.dos_io.specs.declared.shim.ShimStop.TheVariants.{HostFault}
 use Rattle.dos_io.specs.Given.{posts_in, readings, Given, GivesHost, GivesCounted}
 use Rattle.dos_io.specs.Shims.{answered, HasNoEnd}
-use Rattle.shim_log.specs.Ledger.{LedgerState, end_of, recorder_state, added, stopped, closed, Follows, next_reading}
+use Rattle.shim_log.specs.declared.header.LogHeader.{LogHeader}
+use Rattle.shim_log.specs.Ledger.{LedgerState, end_of, recorder_state, empty_ledger, added, stopped, closed, Follows, next_reading}
 use Rattle.shim_log.proofs.LedgerLaws.{follows_adds, follows_stop}
 
 pub readings_short : (es : List Exchange) → length (readings es) ≤ length es
@@ -204,3 +205,12 @@ stops_follow b b' n r q stop a c l m same is told le rose =
     subst (λ (x : Option Told). Follows b n a x l m) (sym told)
     (subst (λ (x : LedgerState). Follows b x a a l m)
     (sym (is ∙ ap (λ (x : LedgerState). stopped x q stop) same)) g)
+
+-- ---- from the first question on
+
+pub recording_given : (posts : List (ℕ × Post)) (clock : ClockRule) (header : LogHeader) (room : ℕ)
+    (after : LedgerState) (a b : Option Told) (m n : ℕ)
+    → Follows (empty_ledger posts clock header room) after a b m n
+    → Given posts clock 0 a b (recorder_state after).told
+recording_given posts clock header room after a b m n follows =
+    subst (λ (es : List Exchange). Given posts clock 0 a b es) (sym follows.told_is) follows.given

@@ -1,7 +1,6 @@
 -- The next entry of a log, where so many were answered.
-use Rattle.std.proofs.Common.{◌≡◌, ◌≤◌, ◌<◌, ◌∙◌, ◌+◌, ◌-◌, ℕ, zero, suc, List, [], ◌∷◌, ◌++◌, length, take, drop, Option, Some, None, Ok, Err, refl, sym, ap, subst, append_assoc, arith}
+use Rattle.std.proofs.Common.{◌≡◌, ◌≤◌, ◌<◌, ◌∙◌, ◌+◌, ◌-◌, ℕ, zero, suc, List, [], ◌∷◌, ◌++◌, length, take, drop, Some, None, Ok, Err, refl, sym, ap, append_assoc, arith, Option, option_map}
 use Rattle.std.specs.List.{slice_get}
-use Rattle.std.specs.Prelude.{option_map}
 use Rattle.std.proofs.lemmas.List.{take_more, take-append-drop, drop_at, length-append}
 use Rattle.std.proofs.lemmas.List.Concat.{flat_map-cons}
 use Rattle.std.proofs.lemmas.Option.{get_or_from_slice_get, slice_get_within}
@@ -11,13 +10,14 @@ use Rattle.dos_world.specs.declared.Question.{Question}
 use Rattle.dos_world.specs.declared.Question.TheVariants.{Signals as signals_question, Input as input_question, Clock as clock_question, End as end_question}
 use Rattle.dos_io.specs.declared.exchange.Exchange.{Exchange}
 use Rattle.dos_io.specs.declared.exchange.Exchange.TheVariants.{Signals, Input, Clock, End}
+use Rattle.dos_io.specs.declared.shim.ShimStop.{ShimStop}
 use Rattle.dos_io.specs.Exchanges.{question_of}
 use Rattle.dos_io.specs.Shims.{answered, HasNoEnd}
 use Rattle.shim_log.specs.declared.refusal.LogError.{LogError}
 use Rattle.shim_log.specs.LogText.{entry_text, entries_text, exchanges}
 use Rattle.shim_log.specs.Ranges.{AreEntries}
 use Rattle.shim_log.specs.Reading.{entry_at}
-use Rattle.shim_log.specs.Replay.{ReplayState, replayer_state, kept_question, replay_advanced}
+use Rattle.shim_log.specs.Replay.{ReplayState, StandsNext, IsMisfitOf, replayer_state, replay_advanced}
 use Rattle.shim_log.proofs.FieldLaws.{ok_is}
 use Rattle.shim_log.proofs.EntryLaws.{entry_again}
 
@@ -106,12 +106,9 @@ rest_is text front rest place is =
 
 -- ---- what it tells after an answer
 
-pub plays : (p p' n : ReplayState) (e : Exchange) → p' ≡ p
-    → slice_get (exchanges p'.log) p'.answered ≡ Some e → n ≡ replay_advanced p'
-    → replayer_state n ≡ answered (replayer_state p) e
-plays p p' n e same got is =
-    let at : slice_get (exchanges p.log) p.answered ≡ Some e =
-    subst (λ (x : ReplayState). slice_get (exchanges x.log) x.answered ≡ Some e) same got in
+pub plays : (p n : ReplayState) (e : Exchange) → slice_get (exchanges p.log) p.answered ≡ Some e
+    → n ≡ replay_advanced p → replayer_state n ≡ answered (replayer_state p) e
+plays p n e at is =
     let within : p.answered < length (exchanges p.log) =
     slice_get_within (exchanges p.log) p.answered e at in
     let more : take (p.answered + 1) (exchanges p.log)
@@ -119,26 +116,13 @@ plays p p' n e same got is =
     take_more (exchanges p.log) p.answered e within
     ∙ ap (λ (x : Exchange). take p.answered (exchanges p.log) ++ x ∷ [])
     (get_or_from_slice_get (exchanges p.log) p.answered e e at) in
-    ap replayer_state is ∙ ap (λ (x : ReplayState). replayer_state (replay_advanced x)) same
+    ap replayer_state is
     ∙ ap (λ (x : List Exchange). record {
       told = x;
       stops = p.stops;
       last = p.last;
       asked = None;
     }) more
-
-abbrev some_question : Question → Option Question
-some_question q = Some q
-
-question_is : (q r : Question) → some_question q ≡ some_question r → q ≡ r
-question_is q r e = cc
-
-pub asks : (p p' : ReplayState) (q : Question) (e : Exchange) → p' ≡ p → kept_question p ≡ Some q
-    → slice_get (exchanges p'.log) p'.answered ≡ Some e → question_of e ≡ q
-asks p p' q e same kept got =
-    let at : slice_get (exchanges p.log) p.answered ≡ Some e =
-    subst (λ (x : ReplayState). slice_get (exchanges x.log) x.answered ≡ Some e) same got in
-    question_is (question_of e) q (sym (ap (option_map question_of) at) ∙ kept)
 
 pub signals_is : (r round : ℕ) (list : List Post) → signals_question r ≡ signals_question round
     → Signals r list ≡ Signals round list
@@ -170,3 +154,72 @@ end_is (End e r) ending rounds is =
     let h : e ≡ ending = cc in
     let g : r ≡ rounds = cc in
     rw (h, g) refl
+
+-- ---- the whole log, and where it was left
+
+nothing_left : (n : ℕ) (none : List Exchange) → none ≡ [] → take n none ≡ []
+nothing_left zero none is = refl
+nothing_left (suc n) none is = rw is refl
+
+pub ends_whole : (es : List Exchange) (ending : Ending) (rounds n : ℕ) → AreEntries es
+    → (HasNoEnd (take n (es ++ End ending rounds ∷ [])) → ⊥)
+    → take n (es ++ End ending rounds ∷ []) ≡ es ++ End ending rounds ∷ []
+ends_whole es ending rounds zero fits ended = absurd (ended tt)
+ends_whole [] ending rounds (suc n) fits ended =
+    ap (λ (xs : List Exchange). End ending rounds ∷ xs) (nothing_left n [] refl)
+ends_whole (Signals round list ∷ es) ending rounds (suc n) fits ended =
+    ap (λ (xs : List Exchange). Signals round list ∷ xs)
+    (ends_whole es ending rounds n fits.1 ended)
+ends_whole (Input round tid max bytes ∷ es) ending rounds (suc n) fits ended =
+    ap (λ (xs : List Exchange). Input round tid max bytes ∷ xs)
+    (ends_whole es ending rounds n fits.1 ended)
+ends_whole (Clock round tid k ∷ es) ending rounds (suc n) fits ended =
+    ap (λ (xs : List Exchange). Clock round tid k ∷ xs)
+    (ends_whole es ending rounds n fits.1 ended)
+ends_whole (End e r ∷ es) ending rounds (suc n) fits ended = absurd fits.0.1
+
+abbrev some_question : Question → Option Question
+some_question q = Some q
+
+question_is : (q r : Question) → some_question q ≡ some_question r → q ≡ r
+question_is q r e = cc
+
+record Parted (xs : List Exchange) (n : ℕ) (kept : Question) : Type 0 where
+  pub next : Exchange
+  pub behind : List Exchange
+  pub whole : xs ≡ take n xs ++ next ∷ behind
+  pub question : question_of next ≡ kept
+  pub count : length (take n xs) ≡ n
+
+part_at : (xs : List Exchange) (n : ℕ) (kept : Question)
+    → option_map question_of (slice_get xs n) ≡ Some kept → Parted xs n kept
+part_at [] n kept is = absurd cc
+part_at (x ∷ xs) zero kept is =
+    record {
+      next = x;
+      behind = xs;
+      whole = refl;
+      question = question_is (question_of x) kept is;
+      count = refl;
+    }
+part_at (x ∷ xs) (suc n) kept is =
+    let p = part_at xs n kept is in
+    record {
+      next = p.next;
+      behind = p.behind;
+      whole = ap (λ (ys : List Exchange). x ∷ ys) p.whole;
+      question = p.question;
+      count = ap suc p.count;
+    }
+
+pub stands_next : (p : ReplayState) (asked : Question) (stop : ShimStop)
+    (misfit : IsMisfitOf p asked stop) → StandsNext p misfit.kept
+stands_next p asked stop misfit =
+    let parted = part_at (exchanges p.log) p.answered misfit.kept misfit.next in
+    record {
+      next = parted.next;
+      behind = parted.behind;
+      log_is = parted.whole;
+      question = parted.question;
+      count = parted.count;
+    }

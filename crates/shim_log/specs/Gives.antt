@@ -1,5 +1,5 @@
 -- What a reader that runs answers, beside what reading is. This project's own rule.
-use Rattle.std.specs.Prelude.{◌≡◌, Result, Ok, Err, IsOk}
+use Rattle.std.specs.Prelude.{◌≡◌, ℕ, List, Result, Ok, Err, IsOk}
 use Rattle.shim_log.specs.declared.refusal.ReadError.{ReadError}
 use Rattle.shim_log.specs.declared.refusal.ReadError.TheVariants.{Refused, Memory}
 use Rattle.shim_log.specs.declared.refusal.LogError.{LogError}
@@ -18,3 +18,8 @@ FailsAs Memory read = IsOk read
 abbrev pub ReadsAs : {Y : Type 0} → Result Y ReadError → Result Y LogError → Type 0
 ReadsAs (Ok x) read = read ≡ Ok x
 ReadsAs (Err e) read = FailsAs e read
+
+-- the bytes behind what is read
+abbrev pub behind : {Y : Type 0} → Result (Y × List ℕ) LogError → Result (List ℕ) LogError
+behind (Ok y) = Ok y.1
+behind (Err e) = Err e

@@ -59,13 +59,18 @@ AsksHost (Counted start step) (Clock round tid) = ⊥
 AsksHost clock (Signals round) = ⊥
 AsksHost clock (end_question ending rounds) = ⊥
 
+-- The answer is kept as an entry. The end has its room from the beginning, and takes no memory.
+abbrev pub AddsEntry : Question → Type 0
+AddsEntry (end_question ending rounds) = ⊥
+AddsEntry _ = ⊤
+
 -- It may stop so at this question. The log is full exactly where there is no room: where there is
 -- none, neither the host's fault nor want of memory is answered. The host fails only where it is
--- asked, and there is never a misfit.
+-- asked, memory runs out only where an entry is to be added, and there is never a misfit.
 abbrev pub MayStop : LedgerState → Question → ShimStop → Type 0
 MayStop s q LogFull = NoRoom s.header s.posts s.entries q
 MayStop s q HostFault = AsksHost s.clock q × (NoRoom s.header s.posts s.entries q → ⊥)
-MayStop s q Memory = NoRoom s.header s.posts s.entries q → ⊥
+MayStop s q Memory = AddsEntry q × (NoRoom s.header s.posts s.entries q → ⊥)
 MayStop s q (Misfit misfit) = ⊥
 
 abbrev pub IsNoMisfit : ShimStop → Type 0

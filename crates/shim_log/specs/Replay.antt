@@ -1,7 +1,8 @@
 -- What a replayer keeps, and what it makes of it. This project's own rule.
-use Rattle.std.specs.Prelude.{◌≡◌, ◌≢◌, ◌≤◌, ◌+◌, ℕ, take, length, Option, Some, None, option_map, IfSome}
+use Rattle.std.specs.Prelude.{◌≡◌, ◌≢◌, ◌≤◌, ◌+◌, ◌++◌, ◌∷◌, ℕ, List, take, length, Option, Some, None, option_map, IfSome}
 use Rattle.std.specs.List.{slice_get}
 use Rattle.dos_world.specs.declared.Question.{Question}
+use Rattle.dos_io.specs.declared.exchange.Exchange.{Exchange}
 use Rattle.dos_io.specs.declared.shim.ShimStop.{ShimStop}
 use Rattle.dos_io.specs.declared.shim.ShimStop.TheVariants.{Misfit}
 use Rattle.dos_io.specs.Exchanges.{question_of}
@@ -36,6 +37,14 @@ pub record IsMisfitOf (p : ReplayState) (asked : Question) (stop : ShimStop) : T
   pub next : kept_question p ≡ Some kept
   pub says : stop ≡ Misfit (record { entry = p.answered; kept = kept; asked = asked })
   pub differ : kept ≢ asked
+
+-- The log is what was told, then an exchange of this question, and what is behind it.
+pub record StandsNext (p : ReplayState) (kept : Question) : Type 0 where
+  pub next : Exchange
+  pub behind : List Exchange
+  pub log_is : exchanges p.log ≡ (replayer_state p).told ++ next ∷ behind
+  pub question : question_of next ≡ kept
+  pub count : length (replayer_state p).told ≡ p.answered
 
 -- what a replayer keeps in its type
 pub record IsReplay (p : ReplayState) : Type 0 where

@@ -1,5 +1,7 @@
 -- What an entry and a log stand for, as they are read.
-use Rattle.std.specs.Prelude.{ℕ, Option, Some, None}
+use Rattle.std.specs.Prelude.{ℕ, List, [], ◌∷◌, Option, Some, None}
+use Rattle.std.specs.Int.{w32, from_le_bytes}
+use Rattle.dos_world.specs.declared.Post.{Post}
 use Rattle.dos_world.specs.declared.Ending.{Ending}
 use Rattle.dos_io.specs.declared.exchange.Exchange.{Exchange}
 use Rattle.dos_io.specs.declared.exchange.Exchange.TheVariants as exchange
@@ -10,8 +12,14 @@ use Rattle.shim_log.specs.declared.log_reading.Tail.{Tail}
 use Rattle.shim_log.specs.LogText.{Log}
 use Rattle.shim_log.specs.EntriesText.{entries_of}
 
+-- The posts of these bytes, one behind the other: a process in four bytes and a signal in one.
+abbrev pub posts_in_text : List ℕ → List Post
+posts_in_text (a ∷ b ∷ c ∷ d ∷ signal ∷ bytes) =
+    record { pid = from_le_bytes w32 (a ∷ b ∷ c ∷ d ∷ []); signal = signal } ∷ posts_in_text bytes
+posts_in_text bytes = []
+
 abbrev pub exchange_of : Entry → Exchange
-exchange_of (Signals round list) = exchange.Signals round list
+exchange_of (Signals round posts) = exchange.Signals round (posts_in_text posts.now)
 exchange_of (Input round tid max bytes) = exchange.Input round tid max bytes.now
 exchange_of (Clock round tid n) = exchange.Clock round tid n
 exchange_of (End ending rounds) = exchange.End ending rounds

@@ -3,15 +3,14 @@ ghost use Rattle.std.specs.Prelude.{◌≡◌};
 ghost use Rattle.dos_io.specs.Exchanges.{question_of};
 ghost use Rattle.shim_log.specs.Views.{exchange_of, ending_of};
 
-use dos_io::SignalList;
 use dos_world::{Ending, Question};
 
-/// An entry as it is read: its bytes are those of the text.
+/// An entry as it is read: the bytes of its posts and of its input are those of the text.
 #[derive(Drop)]
 pub(crate) enum Entry<'a> {
     Signals {
         round: u32,
-        list: SignalList,
+        posts: &'a [u8],
     },
     Input {
         round: u32,

@@ -1,9 +1,9 @@
 // Entries, from left to right.
 
 ghost use Rattle.std.specs.Prelude.{◌≡◌, ◌≤◌, ◌++◌, ℕ, List, length, IfOk};
-ghost use Rattle.shim_log.specs.Gives.{Gives};
+ghost use Rattle.shim_log.specs.Gives.{Gives, behind};
 ghost use Rattle.shim_log.specs.Reading.{post_at, many_at, signals_at, input_at, clock_at, end_at, ending_by, entry_at};
-ghost use Rattle.shim_log.specs.Views.{exchange_of};
+ghost use Rattle.shim_log.specs.Views.{posts_in_text, exchange_of};
 ghost use Rattle.shim_log.specs.LogText.{entry_text};
 ghost use Rattle.shim_log.specs.Ranges.{InRange};
 
@@ -12,31 +12,35 @@ use crate::field_reading::{
     place, read_byte, read_byte_within, read_bytes, read_u16_within, read_u32, read_u64,
 };
 use crate::refusal::LogError;
-use dos_io::SignalList;
 use dos_world::{Ending, Post};
 
 #[tactic(auto, unfolding(crate::specs::Reading::post_at))]
 fn read_post(end: usize, bytes: &[u8]) -> Result<(Post, &[u8]), LogError>
-    ensures value { Gives (λ x. (x.0, x.1.now)) result (post_at end bytes.now) }
-    ensures signal { IfOk result (λ x. (1 ≤ x.0.signal) × (x.0.signal ≤ 31)) }
+    ensures { Gives (λ x. (x.0, x.1.now)) result (post_at end bytes.now) }
 {
     let (pid, rest) = read_u32(end, bytes)?;
     let (signal, rest) = read_byte_within(1, 31, end, rest)?;
     Ok((Post { pid, signal }, rest))
 }
 
-fn read_posts(count: u8, end: usize, bytes: &[u8]) -> Result<(SignalList, &[u8]), LogError>
-    requires { count ≤ 32 }
-    ensures { Gives (λ x. (x.0, x.1.now)) result (many_at post_at count end bytes.now) }
+// The bytes behind so many posts, each of which is tested.
+fn pass_posts(count: u8, end: usize, bytes: &[u8]) -> Result<&[u8], LogError>
+    ensures { Gives (λ rest. rest.now) result (behind (many_at post_at count end bytes.now)) }
 {
-    let mut list = SignalList::new();
     let mut rest = bytes;
     for _ in 0..count {
-        let (post, after) = read_post(end, rest)?;
-        list.push(post);
+        let (_, after) = read_post(end, rest)?;
         rest = after;
     }
-    Ok((list, rest))
+    Ok(rest)
+}
+
+fn read_posts(count: u8, end: usize, bytes: &[u8]) -> Result<(&[u8], &[u8]), LogError>
+    ensures { Gives (λ x. (posts_in_text x.0.now, x.1.now)) result
+        (many_at post_at count end bytes.now) }
+{
+    let rest = pass_posts(count, end, bytes)?;
+    Ok(bytes.split_at(bytes.len() - rest.len()))
 }
 
 #[tactic(auto, unfolding(crate::specs::Reading::signals_at))]
@@ -45,8 +49,8 @@ fn read_signals(end: usize, bytes: &[u8]) -> Result<(Entry<'_>, &[u8]), LogError
 {
     let (round, rest) = read_u32(end, bytes)?;
     let (count, rest) = read_byte_within(0, 32, end, rest)?;
-    let (list, rest) = read_posts(count, end, rest)?;
-    Ok((Entry::Signals { round, list }, rest))
+    let (posts, rest) = read_posts(count, end, rest)?;
+    Ok((Entry::Signals { round, posts }, rest))
 }
 
 #[tactic(auto, unfolding(crate::specs::Reading::input_at))]

@@ -1,14 +1,22 @@
 //! Laws of the log. The functions do nothing; their contracts are the laws.
-ghost use Rattle.std.specs.Prelude.{◌≡◌, ◌≤◌, ◌+◌, ◌*◌, ℕ, List, length, Ok};
+ghost use Rattle.std.specs.Prelude.{◌≡◌, ◌≤◌, ◌+◌, ◌*◌, ℕ, List, Option, length, Ok};
 ghost use Rattle.dos_world.specs.declared.Post.{Post};
 ghost use Rattle.dos_world.specs.declared.Ending.{Ending};
 ghost use Rattle.dos_io.specs.declared.exchange.Exchange.TheVariants.{Signals, Input, Clock, End};
+ghost use Rattle.dos_world.specs.declared.Question.{Question};
+ghost use Rattle.dos_io.specs.declared.exchange.ClockRule.{ClockRule};
+ghost use Rattle.dos_io.specs.declared.shim.ShimStop.{ShimStop};
+ghost use Rattle.dos_io.specs.Hosts.{Told};
+ghost use Rattle.dos_io.specs.Given.{Given};
+ghost use Rattle.dos_io.specs.Shims.{HasNoEnd};
 ghost use Rattle.shim_log.specs.declared.header.LogHeader.{LogHeader};
 ghost use Rattle.shim_log.specs.Bytes.{IsBytes, AreDigests};
-ghost use Rattle.shim_log.specs.LogText.{Log, header_text, entry_text, entries_text, logtext};
+ghost use Rattle.shim_log.specs.LogText.{Log, header_text, entry_text, entries_text, exchanges, logtext};
 ghost use Rattle.shim_log.specs.Ranges.{FitsLog};
 ghost use Rattle.shim_log.specs.Reading.{log_at};
 ghost use Rattle.shim_log.specs.Room.{most_bytes};
+ghost use Rattle.shim_log.specs.Ledger.{LedgerState, Follows, empty_ledger, recorder_state};
+ghost use Rattle.shim_log.specs.Replay.{ReplayState, StandsNext, IsMisfitOf, replayer_state};
 
 /// The text of a log is read as that log.
 pub fn texts_are_read()
@@ -43,4 +51,28 @@ pub fn text_lengths()
         ≡ 13 + length bytes }
     ensures clock { (round tid n : ℕ) → length (entry_text (Clock round tid n)) ≡ 17 }
     ensures end { (ending : Ending) (rounds : ℕ) → length (entry_text (End ending rounds)) ≡ 6 }
+{}
+
+/// All that a recorder has told since it was asked nothing is given by its words and its host, and
+/// its header is the one that it was made with.
+pub fn recordings_are_given()
+    ensures given { (posts : List (ℕ × Post)) (clock : ClockRule) (header : LogHeader) (room : ℕ)
+        (after : LedgerState) (a b : Option Told) (m n : ℕ)
+        → Follows (empty_ledger posts clock header room) after a b m n
+        → Given posts clock 0 a b (recorder_state after).told }
+    ensures header { (posts : List (ℕ × Post)) (clock : ClockRule) (header : LogHeader) (room : ℕ)
+        (after : LedgerState) (a b : Option Told) (m n : ℕ)
+        → Follows (empty_ledger posts clock header room) after a b m n → after.header ≡ header }
+{}
+
+/// A replayer that has told an end has told its whole log.
+pub fn replays_end_whole()
+    ensures { (p : ReplayState) → FitsLog p.log → (HasNoEnd (replayer_state p).told → ⊥)
+        → (replayer_state p).told ≡ exchanges p.log }
+{}
+
+/// Where a replayer stopped, the kept question is that of the exchange behind those that it told.
+pub fn misfits_stand_next()
+    ensures { (p : ReplayState) (asked : Question) (stop : ShimStop)
+        (misfit : IsMisfitOf p asked stop) → StandsNext p misfit.kept }
 {}

@@ -3,10 +3,10 @@ ghost use Rattle.std.specs.Prelude.{◌≡◌, ◌≤◌, ◌<◌, ◌+◌, ◌*
 ghost use Rattle.dos_io.specs.declared.exchange.Exchange.TheVariants.{Signals as signals, Input as input, Clock as clock_exchange};
 ghost use Rattle.dos_io.specs.Given.{readings, posts_in};
 ghost use Rattle.dos_io.specs.Shims.{HasNoEnd};
-ghost use Rattle.shim_log.specs.LogText.{exchanges};
+ghost use Rattle.shim_log.specs.LogText.{exchanges, logtext};
 ghost use Rattle.shim_log.specs.Ranges.{FitsHeader};
 ghost use Rattle.shim_log.specs.Room.{IsOver, NoRoom};
-ghost use Rattle.shim_log.specs.Ledger.{LedgerState, IsLedger, recorder_state, ArePlanned, MayStop, stopped, added, closed, empty_ledger, next_reading};
+ghost use Rattle.shim_log.specs.Ledger.{LedgerState, IsLedger, recorder_state, ArePlanned, AddsEntry, MayStop, stopped, added, closed, empty_ledger, next_reading};
 
 use crate::entries::Entries;
 use crate::header::LogHeader;
@@ -161,6 +161,7 @@ impl Ledger {
     /// stops, before anything is asked of the host.
     pub(crate) fn make_room(&mut self, question: Question, bytes: usize) -> Result<(), ShimStop>
         requires few { bytes ≤ 8192 }
+        requires adds { AddsEntry question }
         requires over { IsOver self.old.header self.old.entries bytes
             → NoRoom self.old.header self.old.posts self.old.entries question }
         requires free { NoRoom self.old.header self.old.posts self.old.entries question
@@ -255,6 +256,7 @@ impl Ledger {
         requires { HasNoEnd (recorder_state self).told → ⊥ }
         ensures header { result.header ≡ self.header }
         ensures log { exchanges result ≡ (recorder_state self).told }
+        ensures small { length (logtext result) ≤ 67108864 }
     {
         let Ledger {
             header,

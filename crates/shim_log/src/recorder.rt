@@ -1,7 +1,7 @@
 // A shim that asks a host, and keeps what it answered.
 ghost use Rattle.std.specs.Prelude.{◌≡◌, ◌≤◌, ◌<◌, ℕ, List, [], length, None, IfOk, IfSome};
 ghost use Rattle.dos_io.specs.Shims.{HasNoEnd};
-ghost use Rattle.shim_log.specs.LogText.{exchanges};
+ghost use Rattle.shim_log.specs.LogText.{exchanges, logtext};
 ghost use Rattle.shim_log.specs.Ranges.{FitsHeader};
 ghost use Rattle.shim_log.specs.Ledger.{LedgerState, IsLedger, ArePlanned, recorder_state, empty_ledger, Follows};
 
@@ -150,13 +150,15 @@ impl<'h, H: Host> Recorder<'h, H> {
         self.ledger.look();
     }
 
-    /// The host, and the log. The end must have been told.
+    /// The host, and the log, whose text is no longer than a log may be. The end must have been
+    /// told.
     pub fn into_parts(self) -> (&'h mut H, Log)
         requires ended { HasNoEnd (recorder_state self.ledger).told → ⊥ }
         ensures same { result.0.ghost_name ≡ self.entry.host.ghost_name }
         ensures value { result.0.now ≡ self.entry.host.now }
         ensures header { result.1.header ≡ self.entry.ledger.header }
         ensures log { exchanges result.1 ≡ (recorder_state self.entry.ledger).told }
+        ensures small { length (logtext result.1) ≤ 67108864 }
     {
         let Recorder { host, ledger } = self;
         (host, ledger.into_log())

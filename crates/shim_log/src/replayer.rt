@@ -1,15 +1,17 @@
 // A shim that answers out of a log.
-ghost use Rattle.std.specs.Prelude.{◌≡◌, ◌≢◌, ◌≤◌, ◌<◌, ◌+◌, length, drop, slice_get, Some, None, OnOk, IfErr, IfOk, IsTrue, ◌↔◌};
+ghost use Rattle.std.specs.Prelude.{◌≡◌, ◌≢◌, ◌≤◌, ◌<◌, ◌+◌, length, drop, ◌∷◌, slice_get, Some, None, OnOk, IfErr, IfOk, IsTrue, ◌↔◌};
+ghost use Rattle.dos_io.specs.Exchanges.{question_of};
+ghost use Rattle.dos_io.specs.Posts.{ArePosts};
 ghost use Rattle.shim_log.specs.LogText.{entries_text, exchanges};
 ghost use Rattle.shim_log.specs.Ranges.{InRange};
-ghost use Rattle.shim_log.specs.Views.{exchange_of};
-ghost use Rattle.shim_log.specs.Replay.{ReplayState, IsReplay, IsMisfitOf, kept_question, replayer_state, replay_stopped, replay_advanced};
+ghost use Rattle.shim_log.specs.Views.{posts_in_text, exchange_of};
+ghost use Rattle.shim_log.specs.Replay.{ReplayState, IsReplay, IsMisfitOf, replayer_state, replay_stopped, replay_advanced};
 
 use crate::entry::Entry;
 use crate::entry_reading::read_entry;
 use crate::log::Log;
 use dos_io::{Shim, ShimStop, SignalList};
-use dos_world::{Ending, Misfit, Question};
+use dos_world::{Ending, Misfit, Post, Question};
 use std::marker::Model;
 
 /// Answers each question by the next entry of a log, and stops where that entry is of another
@@ -57,6 +59,36 @@ fn behind(text: &[u8], place: usize) -> &[u8]
     ensures { result.now ≡ drop place text.now }
 {
     &text[place..]
+}
+
+// The first of the posts that these bytes spell, and the bytes of the others.
+fn first_post(posts: &[u8]) -> (Post, &[u8])
+    requires { 5 ≤ length posts.now }
+    ensures value { posts_in_text posts.now ≡ result.0 ∷ posts_in_text result.1.now }
+    ensures len { length posts.now ≡ 5 + length result.1.now }
+{
+    let (front, rest) = posts.split_at(5);
+    let pid = u32::from_le_bytes([front[0], front[1], front[2], front[3]]);
+    let post = Post {
+        pid,
+        signal: front[4],
+    };
+    (post, rest)
+}
+
+// The posts that these bytes spell, into `list`.
+fn fill(list: &mut SignalList, posts: &[u8])
+    requires few { length (posts_in_text posts.now) ≤ 32 }
+    requires fits { ArePosts (posts_in_text posts.now) }
+    ensures { list.new ≡ posts_in_text posts.now }
+{
+    list.clear();
+    let mut rest = posts;
+    for _ in 0..posts.len() / 5 {
+        let (post, after) = first_post(rest);
+        list.push(post);
+        rest = after;
+    }
 }
 
 impl Replayer {
@@ -114,28 +146,43 @@ impl Replayer {
         }
     }
 
-    // Stops where the next entry is of another question.
-    fn fit(&mut self, asked: Question) -> Result<(), ShimStop>
-        requires { self.old.answered ≤ length self.old.log.entries }
-        ensures ok { OnOk result (self.new ≡ self.old) }
-        ensures fits { OnOk result (kept_question self.old ≡ Some asked) }
-        ensures err { IfErr result (λ stop. self.new ≡ replay_stopped self.old asked stop) }
-        ensures misfit { IfErr result (IsMisfitOf self.old asked) }
+    // The next entry, which is of this question, and where the one behind it begins; or the misfit.
+    fn fit(&self, asked: Question) -> Result<(Entry<'_>, usize), Misfit>
+        requires { self.now.answered ≤ length self.now.log.entries }
+        ensures entry { IfOk result (λ x. slice_get (exchanges self.now.log) self.now.answered
+            ≡ Some (exchange_of x.0)) }
+        ensures asked { IfOk result (λ x. question_of (exchange_of x.0) ≡ asked) }
+        ensures fits { IfOk result (λ x. InRange (exchange_of x.0)) }
+        ensures within { IfOk result (λ x. x.1 ≤ length (entries_text self.now.log.entries)) }
+        ensures place { IfOk result (λ x. drop x.1 (entries_text self.now.log.entries)
+            ≡ entries_text (drop (self.now.answered + 1) self.now.log.entries)) }
+        ensures misfit { IfErr result
+            (λ misfit. IsMisfitOf self.now asked (ShimStop.Misfit misfit)) }
+        ensures question { IfErr result (λ misfit. misfit.asked ≡ asked) }
     {
-        let (entry, _) = self.next();
+        let (entry, place) = self.next();
         let kept = entry.question();
         if kept == asked {
-            return Ok(());
+            return Ok((entry, place));
         }
-        let stop = ShimStop::Misfit(Misfit {
+        Err(Misfit {
             entry: self.answered,
             kept,
             asked,
-        });
+        })
+    }
+
+    // Stops by this misfit.
+    fn stop(&mut self, misfit: Misfit) -> ShimStop
+        requires { IsMisfitOf self.old misfit.asked (ShimStop.Misfit misfit) }
+        ensures stop { result ≡ ShimStop.Misfit misfit }
+        ensures after { self.new ≡ replay_stopped self.old misfit.asked result }
+    {
+        let stop = ShimStop::Misfit(misfit);
         self.stops = self.stops.saturating_add(1);
         self.last = Some(stop);
-        self.asked = Some(asked);
-        Err(stop)
+        self.asked = Some(misfit.asked);
+        stop
     }
 
     // Goes on behind the next entry.
@@ -162,50 +209,62 @@ impl Shim for Replayer {
     ghost follows = { λ s t. FollowsLog s t };
 
     fn signals(&mut self, round: u32, list: &mut SignalList) -> Result<(), ShimStop> {
-        self.fit(Question::Signals { round })?;
-        let (entry, place) = self.next();
-        match entry {
-            Entry::Signals { list: posts, .. } => *list = posts,
-            _ => unreachable!(),
+        match self.fit(Question::Signals { round }) {
+            Ok((entry, place)) => {
+                match entry {
+                    Entry::Signals { posts, .. } => fill(list, posts),
+                    _ => unreachable!(),
+                }
+                self.advance(place);
+                Ok(())
+            }
+            Err(misfit) => Err(self.stop(misfit)),
         }
-        self.advance(place);
-        Ok(())
     }
 
     fn input(&mut self, round: u32, tid: u32, buf: &mut [u8]) -> Result<usize, ShimStop> {
-        self.fit(Question::Input {
+        match self.fit(Question::Input {
             round,
             tid,
             max: buf.len() as u32,
-        })?;
-        let (entry, place) = self.next();
-        let count = match entry {
-            Entry::Input { bytes, .. } => {
-                buf[..bytes.len()].copy_from_slice(bytes);
-                bytes.len()
+        }) {
+            Ok((entry, place)) => {
+                let count = match entry {
+                    Entry::Input { bytes, .. } => {
+                        buf[..bytes.len()].copy_from_slice(bytes);
+                        bytes.len()
+                    }
+                    _ => unreachable!(),
+                };
+                self.advance(place);
+                Ok(count)
             }
-            _ => unreachable!(),
-        };
-        self.advance(place);
-        Ok(count)
+            Err(misfit) => Err(self.stop(misfit)),
+        }
     }
 
     fn clock(&mut self, round: u32, tid: u32) -> Result<u64, ShimStop> {
-        self.fit(Question::Clock { round, tid })?;
-        let (entry, place) = self.next();
-        let reading = match entry {
-            Entry::Clock { reading, .. } => reading,
-            _ => unreachable!(),
-        };
-        self.advance(place);
-        Ok(reading)
+        match self.fit(Question::Clock { round, tid }) {
+            Ok((entry, place)) => {
+                let reading = match entry {
+                    Entry::Clock { reading, .. } => reading,
+                    _ => unreachable!(),
+                };
+                self.advance(place);
+                Ok(reading)
+            }
+            Err(misfit) => Err(self.stop(misfit)),
+        }
     }
 
     fn end(&mut self, ending: Ending, rounds: u32) -> Result<(), ShimStop> {
-        self.fit(Question::End { ending, rounds })?;
-        let (_, place) = self.next();
-        self.advance(place);
-        Ok(())
+        match self.fit(Question::End { ending, rounds }) {
+            Ok((_, place)) => {
+                self.advance(place);
+                Ok(())
+            }
+            Err(misfit) => Err(self.stop(misfit)),
+        }
     }
 
     ghost reflexive = { log_itself };

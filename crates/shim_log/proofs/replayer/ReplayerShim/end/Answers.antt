@@ -1,26 +1,18 @@
-use Rattle.std.proofs.Common.{◌≤◌, ◌∙◌, length, sym, ap, subst}
+use Rattle.std.proofs.Common.{◌∙◌, ap}
 use Rattle.dos_io.specs.declared.exchange.Exchange.{Exchange}
 use Rattle.dos_io.specs.Shims.{answered}
-use Rattle.shim_log.specs.Replay.{ReplayState, replayer_state}
-use Rattle.shim_log.proofs.ReplayLaws.{is_next, plays, asks, end_is}
+use Rattle.shim_log.specs.Replay.{replayer_state}
+use Rattle.shim_log.proofs.ReplayLaws.{is_next, plays, end_is}
 use Rattle.shim_log.proofs.replayer.ReplayerShim.end.Goals as goal
 
 pub fit-requires : goal.fit-requires
 fit-requires c = is_next c.args.self.now c.requires
 
-pub next-place-requires : goal.next-place-requires
-next-place-requires c = subst (λ (p : ReplayState). p.answered ≤ length p.log.entries)
-    (sym c.in_ok-fit.ensures.ok) (is_next c.args.self.now c.requires)
-
 pub advance-requires-clause-more : goal.advance-requires-clause-more
-advance-requires-clause-more c = subst (λ (p : ReplayState). p.answered ≤ length p.log.entries)
-    (sym c.in_ok-fit.ensures.ok) (is_next c.args.self.now c.requires)
+advance-requires-clause-more c = is_next c.args.self.now c.requires
 
-pub returns-clause-ok : goal.returns-clause-ok
-returns-clause-ok c =
-    let got = c.next-place.ensures.entry in
-    let q = asks c.args.self.now c.fit.new.self _ _ c.in_ok-fit.ensures.ok c.in_ok-fit.ensures.fits
-    got in
-    plays c.args.self.now c.fit.new.self c.advance.new.self _ c.in_ok-fit.ensures.ok got
-    c.advance.ensures ∙ ap (λ (e : Exchange). answered (replayer_state c.args.self.now) e)
-    (end_is _ _ _ q)
+pub returns-in-Ok-clause-ok : goal.returns-in-Ok-clause-ok
+returns-in-Ok-clause-ok c =
+    plays c.args.self.now c.advance.new.self _ c.in-Ok.ensures.entry c.advance.ensures
+    ∙ ap (λ (e : Exchange). answered (replayer_state c.args.self.now) e)
+    (end_is _ _ _ c.in-Ok.ensures.asked)

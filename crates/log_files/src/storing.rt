@@ -1,0 +1,36 @@
+// A log, written to its file.
+ghost use Rattle.std.specs.Prelude.{◌≡◌, ◌≢◌, ◌≤◌, ℕ, List, IsTrue, IfSome, IsErrOf, OnOk, Some, Err};
+ghost use Rattle.dos_io.specs.Outside.{Rose};
+ghost use Rattle.shim_log.specs.LogText.{logtext};
+
+use dos_io::{FileError, Files};
+use shim_log::{Log, write_log};
+use std::alloc::Global;
+
+/// Gives the file of this name the text of the log as its content. All other names stay. After a
+/// fault, which comes only where the count of `files` rose, the name may hold anything; for want
+/// of memory it holds what it held.
+pub fn store_log<F: Files>(
+    alloc: Global,
+    files: &mut F,
+    name: &str,
+    log: &Log,
+) -> Result<(), FileError>
+    ensures content { OnOk result (IfSome (F.content files.old name.now)
+        (λ _. F.content files.new name.now ≡ Some (logtext log.now))) }
+    ensures holds { OnOk result (IsTrue (F.tells files.old)
+        → F.content files.new name.now ≡ Some (logtext log.now)) }
+    ensures memory { IsErrOf result FileError.Memory
+        → F.content files.new name.now ≡ F.content files.old name.now }
+    ensures never { result ≢ Err FileError.TooLong }
+    ensures fault { IsErrOf result FileError.Fault
+        → Rose (F.faults files.old) (F.faults files.new) }
+    ensures others { (n : List ℕ) → n ≢ name.now → F.content files.new n ≡ F.content files.old n }
+    ensures tells { F.tells files.new ≡ F.tells files.old }
+    ensures later { F.faults files.old ≤ F.faults files.new }
+{
+    match write_log(alloc, log) {
+        Ok(text) => files.set(name, &text),
+        Err(_) => Err(FileError::Memory),
+    }
+}
