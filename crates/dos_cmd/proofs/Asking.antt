@@ -6,7 +6,7 @@ use Rattle.std.specs.Prelude.{nat_le, String, string_bytes}
 use Rattle.std.specs.declared.alloc.Global.{Global}
 use Rattle.std.specs.List.{list_all}
 use Rattle.dos_cmd.specs.declared.request.Options.{Options}
-use Rattle.dos_cmd.specs.Words.{Text, texts, Pairs, ◌>>=◌, is_plain, with_pair, pairs_and_names, with_option, config_of, Asked, runs, image_names, run_from}
+use Rattle.dos_cmd.specs.Words.{Text, texts, Pairs, ◌>>=◌, is_plain, with_pair, pairs_and_names, with_option, config_of, workers_of, Asked, runs, image_names, run_from}
 
 -- what words ask for, where these options are given already
 abbrev pub asked_from : Options → List Text → Option Asked
@@ -50,7 +50,7 @@ value_refused o word value words w v = rw (w, v) refl
 
 -- what is asked for where names alone are left
 abbrev pub named : Options → List Text → Bool → Option Asked
-named o words are = cond are (Some (runs (config_of o) words)) None
+named o words are = cond are (Some (runs (config_of o) (workers_of o) words)) None
 
 names_if : (o : Options) (words : List Text) (plain few : Bool)
     → image_names words ≡ cond few (Some words) None
@@ -203,6 +203,6 @@ none_named o words total end refused h =
 
 pub some_named : (o : Options) (words : List Text) (total : Option Asked) → HasNoOption words
     → true ≡ (nat_le 1 (length words) && nat_le (length words) 8 && list_all is_plain words)
-    → asked_from o words ≡ total → Some (runs (config_of o) words) ≡ total
+    → asked_from o words ≡ total → Some (runs (config_of o) (workers_of o) words) ≡ total
 some_named o words total end taken h = sym (names_left o words end ∙ ap (named o words) (sym taken))
     ∙ h

@@ -127,20 +127,22 @@ group_taken config told images fits h =
     judged_by config told (Ok images) (Ok images) (room_ok config images fits) h
 
 -- a group that isn't run to its end, where its images were read
-group_fails : (contents : Text → Option (List ℕ)) (config : Config) (names : List Text)
+group_fails : (contents : Text → Option (List ℕ)) (config : Config) (workers : ℕ)
+    (names : List Text)
     (images : List Image) (fr sr : Type 0) (s : Sinks) (why : Refusal)
     → IfSome (images_from 1 (map contents names)) (λ j. j ≡ Ok images)
-    → FailsRunning images config sr s why → FailsAsked contents (runs config names) fr sr s why
-group_fails contents config names images fr sr s refusals.Words t h = h
-group_fails contents config names images fr sr s (refusals.TooLong image) t h = absurd h
-group_fails contents config names images fr sr s (refusals.Image image error) t h = absurd h
-group_fails contents config names images fr sr s (refusals.NoRoom n frames) t h =
+    → FailsRunning images config sr s why
+    → FailsAsked contents (runs config workers names) fr sr s why
+group_fails contents config workers names images fr sr s refusals.Words t h = h
+group_fails contents config workers names images fr sr s (refusals.TooLong image) t h = absurd h
+group_fails contents config workers names images fr sr s (refusals.Image image error) t h = absurd h
+group_fails contents config workers names images fr sr s (refusals.NoRoom n frames) t h =
     let j : with_room config (Ok images) ≡ Err (refusals.NoRoom n frames) =
     room_not config images h.2 ∙ sym (ap (λ x. Err (refusals.NoRoom x config.frames)) h.0)
     ∙ sym (ap (λ x. Err (refusals.NoRoom n x)) h.1) in
     (judged_by config (images_from 1 (map contents names)) (Ok images) _ j t, h.3)
-group_fails contents config names images fr sr s refusals.Files t h = absurd h
-group_fails contents config names images fr sr s refusals.Sink t h = (
+group_fails contents config workers names images fr sr s refusals.Files t h = absurd h
+group_fails contents config workers names images fr sr s refusals.Sink t h = (
   h.0,
   record {
     images = images;
@@ -148,9 +150,10 @@ group_fails contents config names images fr sr s refusals.Sink t h = (
     with_images = elim h.2 [ inl run ↦ inl run | inr report ↦ inr (inl report) ];
   },
 )
-group_fails contents config names images fr sr s refusals.Memory t (inl k) = inl k
-group_fails contents config names images fr sr s refusals.Memory t (inr k) = inr (record {
+group_fails contents config workers names images fr sr s refusals.Memory t (inl k) = inl k
+group_fails contents config workers names images fr sr s refusals.Memory t (inr k) = inr (record {
   config = config;
+  workers = workers;
   names = names;
   runs_images = refl;
   images = images;
@@ -162,19 +165,20 @@ pub run_fails : (contents : Text → Option (List ℕ)) (config : Config) (names
     (images : List Image) (fr sr : Type 0) (s : Sinks) (r : Result Ending Refusal)
     → IfSome (images_from 1 (map contents names)) (λ j. j ≡ Ok images)
     → IfErr r (FailsRunning images config sr s)
-    → IfErr r (FailsAsked contents (runs config names) fr sr s)
+    → IfErr r (λ why. (workers : ℕ) → FailsAsked contents (runs config workers names) fr sr s why)
 run_fails contents config names images fr sr s (Ok ending) t h = tt
-run_fails contents config names images fr sr s (Err why) t h =
-    group_fails contents config names images fr sr s why t h
+run_fails contents config names images fr sr s (Err why) t h = λ workers.
+    group_fails contents config workers names images fr sr s why t h
 
 pub run_did : (contents : Text → Option (List ℕ)) (config : Config) (names : List Text)
     (images : List Image) (s : Sinks) (r : Result Ending Refusal)
     → IfSome (images_from 1 (map contents names)) (λ j. j ≡ Ok images)
     → OnOk r (needed images ≤ config.frames)
     → IfOk r (λ ending. Ran images config (ending_status ending) s)
-    → IfOk r (λ ending. Did contents (runs config names) (ending_status ending) s)
+    → IfOk r (λ ending. (workers : ℕ)
+    → Did contents (runs config workers names) (ending_status ending) s)
 run_did contents config names images s (Err why) t fits h = tt
-run_did contents config names images s (Ok ending) t fits h =
+run_did contents config names images s (Ok ending) t fits h = λ workers.
     record {
       images = images;
       taken = group_taken config (images_from 1 (map contents names)) images

@@ -50,7 +50,8 @@ memory_cut contents asked o e o1 e1 e2 run front =
       taken = run.taken;
       with_images = subst (λ (a : Asked). CutWith a run.images (sinks o e o1 e2))
           (sym run.runs_images) (inr (inr (record {
-            answers = last.answers;
+            exchanges = last.exchanges;
+            front = last.front;
             output = last.output;
             error = last.error;
             until = last.until;

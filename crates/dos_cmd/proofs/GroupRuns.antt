@@ -1,19 +1,21 @@
 -- What a run over a quiet shim comes to, in the terms of a call.
-use Rattle.std.proofs.Common.{ℕ, ◌-◌, ◌≤◌, ◌≡◌, sym, ap, ◌∙◌, subst, List, [], length, replicate, Option, Some, Result, Ok, Err, append-nil, arith}
+use Rattle.std.proofs.Common.{ℕ, ◌-◌, ◌≤◌, ◌≡◌, sym, ap, ◌∙◌, subst, List, [], ◌∷◌, map, Option, Some, Result, Ok, Err, append-nil, arith}
 use Rattle.std.specs.Prelude.{IfSome, IfOk, IfErr}
 use Rattle.dos_world.specs.World.{World}
 use Rattle.dos_world.specs.Lawful.{IsConfig}
-use Rattle.dos_world.specs.Play.{posts, Outcome, gives, asks, over, questions}
+use Rattle.dos_world.specs.Play.{Play, Answer, Outcome, gives, asks, over, questions}
 use Rattle.dos_world.specs.declared.Config.{Config}
 use Rattle.dos_world.specs.declared.Ending.{Ending}
 use Rattle.dos_world.specs.declared.Question.{Question}
 use Rattle.dos_io.specs.Outside.{grown}
-use Rattle.dos_io.specs.Exchanges.{HaveNoPosts}
+use Rattle.dos_io.specs.Exchanges.{answer_of}
+use Rattle.dos_io.specs.declared.exchange.Exchange.{Exchange}
+use Rattle.group_rounds.specs.Goes.{GoesOn}
 use Rattle.dos_io.specs.Shims.{ShimState}
 use Rattle.dos_io.specs.Quiet.{Quietness, shown, FollowsQuietly}
 use Rattle.dos_io.specs.declared.shim.ShimStop.{ShimStop}
 use Rattle.dos_io.specs.declared.shim.ShimStop.TheVariants as stops
-use Rattle.dos_io.proofs.QuietAnswers.{no_posts_more, last_is_memory}
+use Rattle.dos_io.proofs.QuietAnswers.{quiet_more, last_is_memory}
 use Rattle.elf_image.specs.Image.{Image}
 use Rattle.group_open.specs.Opening.{needed, opening}
 use Rattle.dpg_run.specs.Machine.{Finish, result_of, run_from, rounds_from, machine_from}
@@ -29,7 +31,7 @@ use Rattle.kernel_calls.specs.Serving.{IsSound}
 use Rattle.kernel_calls.specs.declared.state.RunStop.{RunStop}
 use Rattle.kernel_calls.specs.declared.state.RunStop.TheVariants.{HostFault, LogFull, Misfit, OutFault, ErrFault, Memory}
 use Rattle.dos_cmd.specs.declared.exit.Refusal.{Refusal}
-use Rattle.dpg_run.proofs.QuietRuns.{RanUntil, quiet_until}
+use Rattle.dpg_run.proofs.QuietRuns.{RanUntil, asked_front, ran_until}
 
 -- ---- what the shim does
 
@@ -61,39 +63,34 @@ pub interrupted : (k : Held) (before after : Quietness) (o e o1 e1 : Option (Lis
     → StoppedGroup k.config k.state (telling (shown before).told o e)
     (telling (shown after).told o1 e1) (shown after).asked
     → FollowsQuietly (shown before) (shown after) → (images : List Image) (config : Config)
-    → IsConfig config → IsOpened k images config
-    → Interrupted images config [] (sinks o e o1 e1)
-interrupted k before after o e o1 e1 run follows images config range opened =
-    let none : HaveNoPosts run.more.exchanges =
-    no_posts_more (shown before)
-    (shown after) run.more.exchanges follows run.more.exchanges_are in
-    let first : (kernel_world k).rounds ≡ 0 = ap (λ (x : World). x.rounds) opened.world in
-    let most : k.config.rounds ≤ 1000000 =
-    subst (λ (c : Config). c.rounds ≤ 1000000) (sym opened.config_is) range.rounds.1 in
-    let until = quiet_until (k.config.rounds - (kernel_world k).rounds)
-    (kernel_world k) 0 run.more.exchanges run.question run.more.output run.more.error
-    (omega arith) opened.both none (run.asks none) (run.asked_so none) in
-    let here = until_is (questions (replicate (length run.more.exchanges) (posts []))
-    (run_from (kernel_world k) k.config))
-    (over (replicate (length run.more.exchanges) (posts []))
-    (rounds_from (kernel_world k) k.config)) run.more.output run.more.error until in
-    record {
-      answers = length run.more.exchanges;
+    → IsOpened k images config → Interrupted images config [] (sinks o e o1 e1)
+interrupted k before after o e o1 e1 run follows images config opened =
+    let es : List Exchange = run.more.exchanges in
+    let answers : List Answer = map answer_of es in record {
+      exchanges = es;
+      front = record {
+        quiet = quiet_more (shown before) (shown after) es follows run.more.exchanges_are;
+        asked = from_opening (λ w c. (left : Play Finish) × GoesOn es (run_from w c) left)
+            (asked_front es (run.question ∷ []) (run_from (kernel_world k) k.config) run.asked_so);
+      };
       output = run.more.output;
       error = run.more.error;
-      until = subst (λ (w : World). IsUntil
-          (machine_from w config (replicate (length run.more.exchanges) (posts [])))
-          run.more.output run.more.error) opened.world
-          (subst (λ (c : Config). IsUntil
-          (machine_from (kernel_world k) c
-          (replicate (length run.more.exchanges) (posts []))) run.more.output
-          run.more.error) opened.config_is here);
+      until = from_opening
+          (λ w c. IsUntil (machine_from w c answers) run.more.output run.more.error)
+          (until_is (questions answers (run_from (kernel_world k) k.config))
+          (over answers (rounds_from (kernel_world k) k.config)) run.more.output run.more.error
+          (ran_until answers (rounds_from (kernel_world k) k.config) run.question run.more.output
+          run.more.error run.asks));
       grew = record {
         out_is = run.more.output_is;
-        err_is =
-            run.more.error_is ∙ ap (grown e) (sym (append-nil run.more.error));
+        err_is = run.more.error_is ∙ ap (grown e) (sym (append-nil run.more.error));
       };
     }
+  where
+    from_opening : (P : World → Config → Type 0) → P (kernel_world k) k.config
+        → P (opening images config) config
+    from_opening P h = subst (λ (w : World). P w config) opened.world
+        (subst (λ (c : Config). P (kernel_world k) c) opened.config_is h)
 
 pub fails_as : (images : List Image) (config : Config) (sr : Type 0) (s : Sinks) (r t : Refusal)
     → r ≡ t → FailsRunning images config sr s t → FailsRunning images config sr s r
@@ -103,20 +100,8 @@ fails_as images config sr s r t q h =
 -- ---- a group that was opened
 
 pub opened_so : (k : Held) (images : List Image) (config : Config)
-    → kernel_world k ≡ opening images config → k.config ≡ config → IsSound k.state → IsConfig config
-    → IsOpened k images config
-opened_so k images config world same sound range =
-    let quantum : k.config.quantum ≡ config.quantum = ap (λ (c : Config). c.quantum) same in
-    record {
-      world = world;
-      both = record {
-        lawful =
-            sound.lawful k.config.quantum (omega (arith, quantum, range.quantum.0))
-            (omega (arith, quantum, range.quantum.1));
-        plain = sound.plain k.config.quantum;
-      };
-      config_is = same;
-    }
+    → kernel_world k ≡ opening images config → k.config ≡ config → IsOpened k images config
+opened_so k images config world same = record { world = world; config_is = same }
 
 pub ran_so : (k : Held) (images : List Image) (config : Config) (s : Sinks)
     (r : Result Ending Refusal) → IsConfig config → IsOpened k images config

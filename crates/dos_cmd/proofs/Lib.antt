@@ -12,5 +12,5 @@ pub mod Refusals
 pub mod Failing
 pub mod GroupRuns
 pub mod RunResults
-pub mod Ready
 pub mod Fronts
+pub mod Tallies

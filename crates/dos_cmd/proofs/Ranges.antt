@@ -5,7 +5,7 @@ use Rattle.std.specs.Prelude.{nat_le, IfSome, option_map, codes, bytes_eq, unwra
 use Rattle.dos_world.specs.Lawful.{IsConfig}
 use Rattle.dos_cmd.specs.declared.request.Options.{Options}
 use Rattle.dos_cmd.specs.declared.request.Request.{Request}
-use Rattle.dos_cmd.specs.Words.{Text, Pairs, ◌>>=◌, is_plain, number, where_within, given_once, with_option, options_from, no_options, config_of, Asked, inspects, image_names, run_from, pairs_and_names, run_asked, inspect_asked, request}
+use Rattle.dos_cmd.specs.Words.{Text, Pairs, ◌>>=◌, is_plain, number, where_within, given_once, with_option, options_from, no_options, config_of, workers_of, Asked, inspects, image_names, run_from, pairs_and_names, run_asked, inspect_asked, request}
 use Rattle.dos_cmd.specs.Shown.{asked_by, IsInRange}
 
 -- ---- what holds of what may be there
@@ -52,6 +52,7 @@ record AreWithin (o : Options) : Type 0 where
   quantum : IfSome o.quantum (IsWithin 16 65536)
   rounds : IfSome o.rounds (IsWithin 1 1000000)
   frames : IfSome o.frames (IsWithin 16 16384)
+  workers : IfSome o.workers (IsWithin 1 32)
 
 option_within : (o : Options) (word value : Text) → AreWithin o
     → IfSome (with_option o word value) AreWithin
@@ -59,16 +60,20 @@ option_within o word value h =
     some_cond (bytes_eq word (codes "--quantum")) _ _ AreWithin
     (some_then (given_once o.quantum 16 65536 value) _ (IsWithin 16 65536) AreWithin
     (once_within o.quantum 16 65536 value)
-    (λ n k. record { quantum = k; rounds = h.rounds; frames = h.frames }))
+    (λ n k. record { quantum = k; rounds = h.rounds; frames = h.frames; workers = h.workers }))
     (some_cond (bytes_eq word (codes "--rounds")) _ _ AreWithin
     (some_then (given_once o.rounds 1 1000000 value) _ (IsWithin 1 1000000) AreWithin
     (once_within o.rounds 1 1000000 value)
-    (λ n k. record { quantum = h.quantum; rounds = k; frames = h.frames }))
+    (λ n k. record { quantum = h.quantum; rounds = k; frames = h.frames; workers = h.workers }))
     (some_cond (bytes_eq word (codes "--frames")) _ _ AreWithin
     (some_then (given_once o.frames 16 16384 value) _ (IsWithin 16 16384) AreWithin
     (once_within o.frames 16 16384 value)
-    (λ n k. record { quantum = h.quantum; rounds = h.rounds; frames = k }))
-    tt))
+    (λ n k. record { quantum = h.quantum; rounds = h.rounds; frames = k; workers = h.workers }))
+    (some_cond (bytes_eq word (codes "--workers")) _ _ AreWithin
+    (some_then (given_once o.workers 1 32 value) _ (IsWithin 1 32) AreWithin
+    (once_within o.workers 1 32 value)
+    (λ n k. record { quantum = h.quantum; rounds = h.rounds; frames = h.frames; workers = k }))
+    tt)))
 
 options_within : (o : Options) (pairs : Pairs) → AreWithin o
     → IfSome (options_from o pairs) AreWithin
@@ -89,6 +94,9 @@ config_within o h =
     let f = or_default o.frames 16 16384 4096 h.frames (omega arith, omega arith) in
     record { quantum = q; rounds = r; frames = f }
 
+workers_within : (o : Options) → AreWithin o → IsWithin 1 32 (workers_of o)
+workers_within o h = or_default o.workers 1 32 4 h.workers (omega arith, omega arith)
+
 -- ---- requests
 
 names_within : (names : List Text)
@@ -99,10 +107,11 @@ names_within names = some_if (nat_le 1 (length names) && nat_le (length names) 8
 run_in_range : (words : List Text) → IfSome (run_asked words) IsInRange
 run_in_range words = some_any (pairs_and_names words) (run_from no_options) IsInRange (λ r.
     some_then (options_from no_options r.0) _ AreWithin IsInRange
-    (options_within no_options r.0 (record { quantum = tt; rounds = tt; frames = tt }))
+    (options_within no_options r.0
+    (record { quantum = tt; rounds = tt; frames = tt; workers = tt }))
     (λ all h.
     some_then (image_names r.1) _ _ IsInRange (names_within r.1)
-    (λ images k. (config_within all h, k.0, k.1))))
+    (λ images k. let w = workers_within all h in (config_within all h, k.0, k.1, w.0, w.1))))
 
 inspect_in_range : (words : List Text) → IfSome (inspect_asked words) IsInRange
 inspect_in_range [] = tt

@@ -109,7 +109,7 @@ ending_ends endings.Stalled = inr (inr refl)
 
 did_ends : (asked : Asked) (images : List Image) (n : ℕ) (s : Sinks) → DidWith asked images n s
     → EndsAs n
-did_ends (runs config names) images n s h =
+did_ends (runs config workers names) images n s h =
     subst EndsAs (sym h.status_is) (ending_ends h.seen.ending)
 did_ends (inspects name) images n s h = inl h.status_is
 
@@ -281,12 +281,14 @@ memory_fails contents words fr sr o e o1 e1 e2 r n line told l (inr k) = elim k.
     k.1,
     record {
       config = run.config;
+      workers = run.workers;
       names = run.names;
       runs_images = run.runs_images;
       images = run.images;
       taken = run.taken;
       interrupted = record {
-        answers = run.interrupted.answers;
+        exchanges = run.interrupted.exchanges;
+        front = run.interrupted.front;
         output = run.interrupted.output;
         error = run.interrupted.error;
         until = run.interrupted.until;

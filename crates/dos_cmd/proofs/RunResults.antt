@@ -4,29 +4,32 @@ use Rattle.std.specs.Prelude.{OnSome}
 use Rattle.std.proofs.Math.Seq.{take-append_seam}
 use Rattle.dos_world.specs.World.{World}
 use Rattle.dos_world.specs.Lawful.{IsConfig}
-use Rattle.dos_world.specs.Play.{Answer, posts, questions}
+use Rattle.dos_world.specs.Play.{Play}
 use Rattle.dos_world.specs.declared.Config.{Config}
 use Rattle.dos_world.specs.declared.Ending.{Ending}
 use Rattle.dos_world.specs.declared.Question.{Question}
 use Rattle.dos_io.specs.Outside.{grown, IsFront, GrewByFront, Rose}
-use Rattle.dos_io.specs.Exchanges.{question_of, HaveNoPosts}
+use Rattle.dos_io.specs.Exchanges.{question_of, answer_of}
+use Rattle.dos_io.specs.declared.exchange.Exchange.{Exchange}
 use Rattle.dos_io.specs.Quiet.{Quietness, shown, FollowsQuietly}
-use Rattle.dos_io.proofs.QuietAnswers.{no_posts_more}
+use Rattle.dos_io.proofs.QuietAnswers.{quiet_more}
 use Rattle.elf_image.specs.Image.{Image}
-use Rattle.group_open.specs.Opening.{needed}
+use Rattle.group_open.specs.Opening.{needed, opening}
+use Rattle.group_rounds.specs.Goes.{GoesOn}
 use Rattle.group_rounds.specs.Going.{Telling, telling}
 use Rattle.group_rounds.specs.Kernels.{Held, kernel_world}
 use Rattle.kernel_calls.specs.Serving.{shim_stop, HasSinkCause}
 use Rattle.kernel_calls.specs.declared.state.RunStop.{RunStop}
 use Rattle.kernel_calls.specs.declared.state.RunStop.TheVariants.{HostFault, LogFull, Misfit, OutFault, ErrFault, Memory}
-use Rattle.dpg_run.specs.Machine.{Seen, Ran as Outcome, ends, needs, run_from, machine_from, machine, status_in}
+use Rattle.dpg_run.specs.Machine.{Finish, Seen, Ran as Outcome, ends, needs, run_from, machine_from, machine, status_in}
 use Rattle.dpg_run.specs.Running.{RanGroup, StoppedGroup, CutGroup, AreFronts}
 use Rattle.dpg_run.specs.Report.{report, report_in}
 use Rattle.dos_cmd.specs.Exit.{ending_status}
-use Rattle.dos_cmd.specs.Results.{Sinks, sinks, Grew, Ran, quiet_run, IsUntil, CutInRun, CutInReport, FailsRunning}
+use Rattle.dos_cmd.specs.Results.{Sinks, sinks, Grew, Ran, IsUntil, CutInRun, CutInReport, FailsRunning}
 use Rattle.dos_cmd.specs.Stops.{IsOpened, IsQuietStop, refusal_by}
 use Rattle.dos_cmd.proofs.GroupRuns.{interrupted}
-use Rattle.dpg_run.proofs.QuietRuns.{AreEmpty, quiet_answers, quiet_machine, with_questions}
+use Rattle.dpg_run.specs.QuietRuns.{IsQuietFront, RunsQuietly}
+use Rattle.dpg_run.specs.Fits.{FitsFrom}
 use Rattle.dos_io.proofs.OutsideLaws.{grown-twice}
 
 -- ---- fronts
@@ -39,13 +42,14 @@ grew_front old new front whole is h =
     (length front, is ∙ ap (grown old) (sym same))
 
 -- what a run sends is by its outcome
-cut_at : (images : List Image) (config : Config) (answers : ℕ) (s : Sinks)
-    (output error : List ℕ) (outcome : Outcome)
-    → machine images config (replicate answers (posts [])) ≡ outcome
+cut_at : (images : List Image) (config : Config) (es : List Exchange) (s : Sinks)
+    (output error : List ℕ) (outcome : Outcome) → IsQuietFront images config es
+    → machine images config (map answer_of es) ≡ outcome
     → AreFronts output error outcome → s.out_now ≡ grown s.out_before output
     → s.err_now ≡ grown s.err_before error → CutInRun images config s
-cut_at images config answers s output error (ends seen) is fronts out err = record {
-  answers = answers;
+cut_at images config es s output error (ends seen) front is fronts out err = record {
+  exchanges = es;
+  front = front;
   output = seen.output;
   error = seen.error;
   until = subst (λ x. IsUntil x seen.output seen.error) (sym is) (refl, refl);
@@ -54,9 +58,10 @@ cut_at images config answers s output error (ends seen) is fronts out err = reco
     err_is = grew_front s.err_before s.err_now error seen.error err fronts.1;
   };
 }
-cut_at images config answers s output error (needs question all_out all_err) is fronts out err =
+cut_at images config es s output error (needs question all_out all_err) front is fronts out err =
     record {
-      answers = answers;
+      exchanges = es;
+      front = front;
       output = all_out;
       error = all_err;
       until = subst (λ x. IsUntil x all_out all_err) (sym is) (refl, refl);
@@ -69,17 +74,18 @@ cut_at images config answers s output error (needs question all_out all_err) is 
 -- ---- a group that was opened and run
 
 -- What is seen of a run that has ended, and what the sinks tell before its report is put.
-pub record Saw (k' : Held) (images : List Image) (config : Config) (ending : Ending) (s : Sinks)
-    : Type 0 where
+pub record Saw (k' : Held) (images : List Image) (config : Config) (ending : Ending) (work : ℕ)
+    (s : Sinks) : Type 0 where
   pub seen : Seen
-  pub is : quiet_run images config ≡ ends seen
+  pub is : RunsQuietly images config seen
+  pub work_is : seen.work ≡ work
   pub ending_is : ending ≡ seen.ending
   pub report_is : report_in (kernel_world k') ending ≡ report seen
   pub grew : Grew s seen.output seen.error
 
 module _ (k : Held) (before after : Quietness) (o e o1 e1 : Option (List ℕ))
     (follows : FollowsQuietly (shown before) (shown after))
-    (images : List Image) (config : Config) (range : IsConfig config)
+    (images : List Image) (config : Config)
     (opened : IsOpened k images config) where
   abbrev pub tells : Telling
   tells = telling (shown before).told o e
@@ -90,44 +96,35 @@ module _ (k : Held) (before after : Quietness) (o e o1 e1 : Option (List ℕ))
   abbrev pub start : World
   start = kernel_world k
 
-  first : start.rounds ≡ 0
-  first = ap (λ (w : World). w.rounds) opened.world
-
-  most : k.config.rounds ≤ 1000000
-  most = subst (λ (c : Config). c.rounds ≤ 1000000) (sym opened.config_is) range.rounds.1
+  -- what holds from the kernel's world holds from the opening
+  from_opening : (P : World → Config → Type 0) → P start k.config → P (opening images config) config
+  from_opening P h = subst (λ (w : World). P w config) opened.world
+      (subst (λ (c : Config). P start c) opened.config_is h)
 
   -- it came to its ending
-  pub group_saw : (k' : Held) (ending : Ending)
-      → RanGroup k.config k.state tells ending k'.state told
-      → Saw k' images config ending (sinks o e o1 e1)
-  group_saw k' ending run =
-      let none : HaveNoPosts run.more.exchanges =
-      no_posts_more (shown before)
-      (shown after) run.more.exchanges follows run.more.exchanges_are in
-      let ran : Seen = record {
-        questions = map question_of run.more.exchanges;
+  pub group_saw : (k' : Held) (ending : Ending) (work : ℕ)
+      → RanGroup k.config k.state tells ending k'.state told work
+      → Saw k' images config ending work (sinks o e o1 e1)
+  group_saw k' ending work run =
+      let es : List Exchange = run.more.exchanges in
+      let seen : Seen = record {
+        questions = map question_of es;
         output = run.more.output;
         error = run.more.error;
         statuses = map status_in k'.state.table.processes;
         ending = ending;
         rounds = k'.state.round - 1;
-        work = run.work;
+        work = work;
       } in
-      let asked : List Question =
-      questions (replicate k.config.rounds (posts [])) (run_from start k.config) in
-      let seen : Seen = with_questions asked ran in
-      let here : machine_from start k.config (replicate k.config.rounds (posts [])) ≡ ends seen =
-      quiet_machine start k.config run.more.exchanges ran first most opened.both none
-      (run.ends none)
-      (run.fits none) in
-      let asked_for : machine_from start config (replicate config.rounds (posts [])) ≡ ends seen =
-      subst (λ (c : Config). machine_from start c (replicate c.rounds (posts [])) ≡ ends seen)
-      opened.config_is here in
       record {
         seen = seen;
-        is = subst
-            (λ (w : World). machine_from w config (replicate config.rounds (posts [])) ≡ ends seen)
-            opened.world asked_for;
+        is = record {
+          exchanges = es;
+          quiet = quiet_more (shown before) (shown after) es follows run.more.exchanges_are;
+          fits = from_opening (λ w c. FitsFrom w c es) run.fits;
+          is = from_opening (λ w c. machine_from w c (map answer_of es) ≡ ends seen) run.ends;
+        };
+        work_is = refl;
         ending_is = refl;
         report_is = refl;
         grew = record { out_is = run.more.output_is; err_is = run.more.error_is };
@@ -136,30 +133,15 @@ module _ (k : Held) (before after : Quietness) (o e o1 e1 : Option (List ℕ))
   -- it was cut off
   run_cut : CutGroup k.config k.state tells told → CutInRun images config (sinks o e o1 e1)
   run_cut cut =
-      let none : HaveNoPosts cut.more.exchanges =
-      no_posts_more (shown before)
-      (shown after) cut.more.exchanges follows cut.more.exchanges_are in
-      let goes = cut.goes none in
-      let empty : AreEmpty cut.more.exchanges =
-      quiet_answers (k.config.rounds - start.rounds) start 0 cut.more.exchanges goes.0
-      (omega (arith, first, most))
-      opened.both none goes.1 in
-      let answers : List Answer = replicate (length cut.more.exchanges) (posts []) in
-      let quiet : AreFronts cut.more.output cut.more.error (machine_from start k.config answers) =
-      subst (λ (x : List Answer). AreFronts cut.more.output cut.more.error
-      (machine_from start k.config x))
-      empty (cut.fronts none) in
-      let here : AreFronts cut.more.output cut.more.error (machine_from start config answers) =
-      subst (λ (c : Config). AreFronts cut.more.output cut.more.error
-      (machine_from start c answers))
-      opened.config_is quiet in
-      let whole : AreFronts cut.more.output cut.more.error (machine images config answers) =
-      subst (λ (w : World). AreFronts cut.more.output cut.more.error
-      (machine_from w config answers))
-      opened.world here in
-      cut_at images config (length cut.more.exchanges)
-      (sinks o e o1 e1) cut.more.output cut.more.error
-      (machine images config answers) refl whole cut.more.output_is cut.more.error_is
+      let es : List Exchange = cut.more.exchanges in
+      cut_at images config es (sinks o e o1 e1) cut.more.output cut.more.error
+      (machine images config (map answer_of es)) (record {
+        quiet = quiet_more (shown before) (shown after) es follows cut.more.exchanges_are;
+        asked = from_opening (λ w c. (left : Play Finish) × GoesOn es (run_from w c) left) cut.goes;
+      }) refl
+      (from_opening (λ w c. AreFronts cut.more.output cut.more.error
+      (machine_from w c (map answer_of es))) cut.fronts)
+      cut.more.output_is cut.more.error_is
 
   -- it stopped for this reason
   pub group_stopped : (stop : RunStop) (a b m n : ℕ)
@@ -173,12 +155,13 @@ module _ (k : Held) (before after : Quietness) (o e o1 e1 : Option (List ℕ))
   group_stopped OutFault a b m n run cut cause quiet fits = (inl cause, fits, inl (run_cut cut))
   group_stopped ErrFault a b m n run cut cause quiet fits = (inr cause, fits, inl (run_cut cut))
   group_stopped Memory a b m n run cut cause quiet fits =
-      inr (fits, interrupted k before after o e o1 e1 run follows images config range opened)
+      inr (fits, interrupted k before after o e o1 e1 run follows images config opened)
 
 -- ---- the report
 
 module _ (k' : Held) (images : List Image) (config : Config) (ending : Ending)
-    (o e o1 e1 e2 : Option (List ℕ)) (saw : Saw k' images config ending (sinks o e o1 e1)) where
+    (work : ℕ) (o e o1 e1 e2 : Option (List ℕ))
+    (saw : Saw k' images config ending work (sinks o e o1 e1)) where
   -- it was put
   pub reported : e2 ≡ grown e1 (report_in (kernel_world k') ending)
       → Ran images config (ending_status ending) (sinks o e o1 e2)

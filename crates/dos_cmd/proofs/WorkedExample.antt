@@ -9,12 +9,15 @@ use Rattle.dos_world.specs.declared.Question.TheVariants.{Signals, End}
 use Rattle.rv_exec.specs.Computing.{computing}
 use Rattle.elf_image.specs.Image.{Image, image, image_of, refusal, format_refusal, machine_refusal, table_refusal, segment_refusal, overlap_refusal, entry_refusal}
 use Rattle.elf_image.specs.Fields.{headers, headers_from, header_at, half, word}
-use Rattle.dpg_run.specs.Machine.{Seen, ends}
+use Rattle.dos_io.specs.declared.exchange.Exchange.TheVariants.{Signals as signals, End as end}
+use Rattle.dpg_run.specs.Machine.{Seen}
+use Rattle.dpg_run.specs.QuietRuns.{RunsQuietly}
+use Rattle.dpg_run.proofs.QuietRuns.{one_run}
 use Rattle.dpg_run.specs.Report.{report, line_feed}
 use Rattle.dos_cmd.specs.Words.{Text, Asked, runs, request}
 use Rattle.dos_cmd.specs.Images.{judgement, verdict}
 use Rattle.dos_cmd.specs.Exit.{ending_status}
-use Rattle.dos_cmd.specs.Results.{Sinks, Grew, DidWith, quiet_run}
+use Rattle.dos_cmd.specs.Results.{Sinks, Grew, DidWith}
 
 -- ---- the words
 
@@ -25,7 +28,7 @@ abbrev config : Config
 config = record { quantum = 1000; rounds = 2; frames = 17 }
 
 abbrev asked : Asked
-asked = runs config (codes "a" ∷ [])
+asked = runs config 4 (codes "a" ∷ [])
 
 asks : request words ≡ Some asked
 asks = refl
@@ -92,9 +95,15 @@ seen = record {
   work = 2;
 }
 
-run_is : quiet_run (parsed ∷ []) config ≡ ends seen
+-- its two questions, for the signals of the round and at the end
+run_is : RunsQuietly (parsed ∷ []) config seen
 unfolding computing
-run_is = refl
+run_is = record {
+  exchanges = signals 1 [] ∷ end Done 1 ∷ [];
+  quiet = (refl, (tt, tt));
+  fits = refl;
+  is = refl;
+}
 
 -- ---- what is left behind
 
@@ -115,8 +124,7 @@ pub left_behind : (status : ℕ) (s : Sinks)
     → status ≢ 5 → status ≢ 6 → status ≢ 9 → (status ≡ 0) × Grew s [] reported
 left_behind status s does no_file no_sink no_memory =
     let ran = does asked (parsed ∷ []) asks taken no_file no_sink no_memory in
-    let both : ends ran.seen ≡ ends seen = sym ran.is ∙ run_is in
-    let same : ran.seen ≡ seen = cc in (
+    let same : ran.seen ≡ seen = one_run (parsed ∷ []) config ran.seen seen ran.is run_is in (
       ran.status_is ∙ ap (λ (x : Seen). ending_status x.ending) same,
       subst (λ error. Grew s [] error) report_is
           (subst (λ (x : Seen). Grew s x.output (x.error ++ report x)) same ran.grew),

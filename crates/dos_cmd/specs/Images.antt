@@ -59,6 +59,6 @@ with_room config (Ok images) =
 -- what is asked for is judged by what the files tell under its names; None where that leaves it
 -- open
 abbrev pub judgement : (Text → Option (List ℕ)) → Asked → Option Judgement
-judgement contents (runs config names) =
+judgement contents (runs config workers names) =
     option_map (with_room config) (images_from 1 (map contents names))
 judgement contents (inspects name) = images_from 1 (contents name ∷ [])

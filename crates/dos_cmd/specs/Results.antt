@@ -1,13 +1,16 @@
 -- What a call leaves behind, by how it ended. This project's own rules. "Sinks" are what output and
 -- error tell before the call, and after it.
-use Rattle.std.specs.Prelude.{◌≡◌, ◌≤◌, ◌<◌, ◌⊎◌, ⊤, ℕ, List, [], ◌∷◌, ◌++◌, replicate, Option, Some, None, IfSome, Ok, Err}
-use Rattle.dos_world.specs.Play.{posts}
+use Rattle.std.specs.Prelude.{◌≡◌, ◌≤◌, ◌<◌, ◌⊎◌, ⊤, ℕ, List, [], ◌∷◌, ◌++◌, map, Option, Some, None, IfSome, Ok, Err}
 use Rattle.dos_world.specs.declared.Config.{Config}
 use Rattle.dos_io.specs.Outside.{grown, GrewByFront}
+use Rattle.dos_io.specs.Exchanges.{answer_of}
+use Rattle.dos_io.specs.declared.exchange.Exchange.{Exchange}
 use Rattle.elf_image.specs.Image.{Image}
 use Rattle.group_open.specs.Opening.{needed}
 use Rattle.dpg_run.specs.Machine.{Seen, Ran as Outcome, ends, needs, machine}
+use Rattle.dpg_run.specs.QuietRuns.{IsQuietFront, RunsQuietly}
 use Rattle.dpg_run.specs.Report.{report}
+use Rattle.worker_pool.specs.Ran.{GrewBy}
 use Rattle.dos_cmd.specs.Words.{Text, Asked, runs, inspects, request}
 use Rattle.dos_cmd.specs.Images.{judgement}
 use Rattle.dos_cmd.specs.Exit.{line, line_of, ending_status, refusal_status}
@@ -49,15 +52,11 @@ pub record SaysOnly (s : Sinks) (line : List ℕ) : Type 0 where
 
 -- ---- a call that does what it is asked for
 
--- the run of a group that no signal reaches: each question for signals is answered with none
-abbrev pub quiet_run : List Image → Config → Outcome
-quiet_run images config = machine images config (replicate config.rounds (posts []))
-
--- The images were run as one group. The run tells the status and what the sinks grew by: its
--- output; its error bytes and then its report.
+-- The images were run as one group that nothing reaches from outside. The run tells the status and
+-- what the sinks grew by: its output; its error bytes and then its report.
 pub record Ran (images : List Image) (config : Config) (status : ℕ) (s : Sinks) : Type 0 where
   pub seen : Seen
-  pub is : quiet_run images config ≡ ends seen
+  pub is : RunsQuietly images config seen
   pub status_is : status ≡ ending_status seen.ending
   pub grew : Grew s seen.output (seen.error ++ report seen)
 
@@ -70,7 +69,7 @@ pub record Inspected (images : List Image) (status : ℕ) (s : Sinks) : Type 0 w
 
 -- what was asked for was done with these images
 abbrev pub DidWith : Asked → List Image → ℕ → Sinks → Type 0
-DidWith (runs config names) images status s = Ran images config status s
+DidWith (runs config workers names) images status s = Ran images config status s
 DidWith (inspects name) images status s = Inspected images status s
 
 -- What was asked for was done with images that the files are, as far as they tell.
@@ -86,6 +85,24 @@ pub record Finished (contents : Text → Option (List ℕ)) (words : List Text) 
   pub asked : Asked
   pub asks : request words ≡ Some asked
   pub did : Did contents asked status s
+
+-- ---- the tally
+
+-- It grew by the work of the run of these images, where that comes to its end.
+abbrev pub CountsRun : List Image → Config → (before after : ℕ) → Type 0
+CountsRun images config before after = (seen : Seen) → RunsQuietly images config seen
+    → GrewBy before after seen.work
+
+-- so for what was done with these images; nothing is counted where no group is run
+abbrev pub CountsWith : Asked → List Image → (before after : ℕ) → Type 0
+CountsWith (runs config workers names) images before after = CountsRun images config before after
+CountsWith (inspects name) images before after = after ≡ before
+
+-- so for what the words ask for, with images that the files are told to be
+abbrev pub Counts : (Text → Option (List ℕ)) → List Text → (before after : ℕ) → Type 0
+Counts contents words before after = (asked : Asked) (images : List Image)
+    → request words ≡ Some asked → judgement contents asked ≡ Some (Ok images)
+    → CountsWith asked images before after
 
 -- ---- a call that is refused
 
@@ -110,22 +127,24 @@ abbrev pub IsUntil : Outcome → List ℕ → List ℕ → Type 0
 IsUntil (needs question o e) output error = (o ≡ output) × (e ≡ error)
 IsUntil (ends seen) output error = (seen.output ≡ output) × (seen.error ≡ error)
 
--- The group was run until a question for signals, so many of which had been answered with none, or
+-- The group was run until one of its questions, those before which had their quiet answers, or
 -- until its end. Then error grew by the last bytes.
 pub record Interrupted (images : List Image) (config : Config) (last : List ℕ)
     (s : Sinks) : Type 0 where
-  pub answers : ℕ
+  pub exchanges : List Exchange
+  pub front : IsQuietFront images config exchanges
   pub output : List ℕ
   pub error : List ℕ
-  pub until : IsUntil (machine images config (replicate answers (posts []))) output error
+  pub until : IsUntil (machine images config (map answer_of exchanges)) output error
   pub grew : Grew s output (error ++ last)
 
 -- so for what is asked for, with images that the files are, as far as they tell
 pub record RanOutOfMemory (contents : Text → Option (List ℕ)) (asked : Asked) (last : List ℕ)
     (s : Sinks) : Type 0 where
   pub config : Config
+  pub workers : ℕ
   pub names : List Text
-  pub runs_images : asked ≡ runs config names
+  pub runs_images : asked ≡ runs config workers names
   pub images : List Image
   pub taken : IfSome (judgement contents asked) (λ j. j ≡ Ok images)
   pub interrupted : Interrupted images config last s
@@ -160,27 +179,29 @@ pub record GrewUpToLast (s : Sinks) (out err last : List ℕ) : Type 0 where
   pub out_is : s.out_now ≡ grown s.out_before out
   pub err_is : GrewByFront (grown s.err_before err) s.err_now last
 
--- A put of the run failed. So many questions for signals had been answered with none; the machine's
--- bytes are those until its next question, or until its end.
+-- A put of the run failed. The questions until there had their quiet answers; the machine's bytes
+-- are those until its next question, or until its end.
 pub record CutInRun (images : List Image) (config : Config) (s : Sinks) : Type 0 where
-  pub answers : ℕ
+  pub exchanges : List Exchange
+  pub front : IsQuietFront images config exchanges
   pub output : List ℕ
   pub error : List ℕ
-  pub until : IsUntil (machine images config (replicate answers (posts []))) output error
+  pub until : IsUntil (machine images config (map answer_of exchanges)) output error
   pub grew : GrewByFronts s output error
 
 -- The group was run to its end, and a put of the report failed.
 pub record CutInReport (images : List Image) (config : Config) (s : Sinks) : Type 0 where
   pub seen : Seen
-  pub is : quiet_run images config ≡ ends seen
+  pub is : RunsQuietly images config seen
   pub grew : GrewUpToLast s seen.output seen.error (report seen)
 
 -- Want of memory ended the run at a question, or at its end, and the put of the line failed.
 pub record CutInLine (images : List Image) (config : Config) (s : Sinks) : Type 0 where
-  pub answers : ℕ
+  pub exchanges : List Exchange
+  pub front : IsQuietFront images config exchanges
   pub output : List ℕ
   pub error : List ℕ
-  pub until : IsUntil (machine images config (replicate answers (posts []))) output error
+  pub until : IsUntil (machine images config (map answer_of exchanges)) output error
   pub grew : GrewUpToLast s output error (line out_of_memory)
 
 -- A put of the one image's lines failed.
@@ -192,7 +213,7 @@ pub record CutInLines (images : List Image) (s : Sinks) : Type 0 where
 
 -- what was asked for was begun with these images
 abbrev pub CutWith : Asked → List Image → Sinks → Type 0
-CutWith (runs config names) images s =
+CutWith (runs config workers names) images s =
     CutInRun images config s ⊎ CutInReport images config s ⊎ CutInLine images config s
 CutWith (inspects name) images s = CutInLines images s
 

@@ -1,7 +1,6 @@
 -- A group that is run over a quiet shim, and how such a run stops. This project's own rules.
 use Rattle.std.specs.Prelude.{◌≡◌, List, ⊤}
 use Rattle.dos_world.specs.declared.Config.{Config}
-use Rattle.dos_laws.specs.Plain.{LawfulAndPlain}
 use Rattle.elf_image.specs.Image.{Image}
 use Rattle.group_open.specs.Opening.{opening}
 use Rattle.group_rounds.specs.Kernels.{Held, kernel_world}
@@ -13,7 +12,6 @@ use Rattle.kernel_calls.specs.declared.state.RunStop.TheVariants.{HostFault, Log
 -- The kernel was opened with these images and this configuration, and no round has been run.
 pub record IsOpened (k : Held) (images : List Image) (config : Config) : Type 0 where
   pub world : kernel_world k ≡ opening images config
-  pub both : LawfulAndPlain (kernel_world k)
   pub config_is : k.config ≡ config
 
 -- no host, no log, and no other run

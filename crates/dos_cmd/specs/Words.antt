@@ -81,7 +81,7 @@ pairs_and_names (word ∷ value ∷ words) =
 
 -- none is given
 abbrev pub no_options : Options
-no_options = record { quantum = None; rounds = None; frames = None }
+no_options = record { quantum = None; rounds = None; frames = None; workers = None }
 
 -- A number is given at most once, in its range.
 abbrev pub given_once : Option ℕ → (low high : ℕ) → Text → Option ℕ
@@ -97,7 +97,9 @@ with_option o word value =
     >>= (λ n. Some (record o { rounds = Some n }))
     else (if bytes_eq word (codes "--frames") then given_once o.frames 16 16384 value
     >>= (λ n. Some (record o { frames = Some n }))
-    else None))
+    else (if bytes_eq word (codes "--workers") then given_once o.workers 1 32 value
+    >>= (λ n. Some (record o { workers = Some n }))
+    else None)))
 
 -- the options of these pairs, behind those that are given already
 abbrev pub options_from : Options → Pairs → Option Options
@@ -112,11 +114,15 @@ config_of o = record {
   frames = unwrap_or o.frames 4096;
 }
 
+-- what isn't given is 4 workers
+abbrev pub workers_of : Options → ℕ
+workers_of o = unwrap_or o.workers 4
+
 -- ---- the commands
 
--- what is asked for: the run of these images, or the parts of one
+-- what is asked for: the run of these images, by so many threads of the host, or the parts of one
 pub data Asked : Type 0 where
-  runs : Config → (names : List Text) → Asked
+  runs : Config → (workers : ℕ) → (names : List Text) → Asked
   inspects : (name : Text) → Asked
 
 -- one to eight names
@@ -125,7 +131,7 @@ image_names names = if nat_le 1 (length names) && nat_le (length names) 8 then S
 
 -- a run, by its options and its names
 abbrev pub run_with : Options → List Text → Option Asked
-run_with o names = image_names names >>= (λ images. Some (runs (config_of o) images))
+run_with o names = image_names names >>= (λ images. Some (runs (config_of o) (workers_of o) images))
 
 -- the same, where these options are given and pairs and names follow
 abbrev pub run_from : Options → Pairs × List Text → Option Asked

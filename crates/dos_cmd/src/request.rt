@@ -1,7 +1,7 @@
 //! What the words of the command line ask for.
 ghost use Rattle.std.specs.Prelude.{◌≡◌, ◌≤◌, ◌&&◌, ℕ, List, map, length, option_map, nat_le, string_bytes, codes, bytes_eq, IfSome};
 ghost use Rattle.std.specs.List.{list_all};
-ghost use Rattle.dos_cmd.specs.Words.{texts, is_plain, no_options, given_once, with_option, config_of, run_with, run_asked, inspect_asked, request};
+ghost use Rattle.dos_cmd.specs.Words.{texts, is_plain, no_options, given_once, with_option, config_of, workers_of, run_with, run_asked, inspect_asked, request};
 ghost use Rattle.dos_cmd.specs.Shown.{asked_by, IsInRange};
 
 use crate::number::number_within;
@@ -14,6 +14,8 @@ pub enum Request<'a> {
     Run {
         /// What the run is given.
         config: Config,
+        /// How many threads of the host run its rounds: 1 to 32.
+        workers: u32,
         /// The names of the images' files.
         names: &'a [String],
     },
@@ -30,6 +32,7 @@ struct Options {
     quantum: Option<u32>,
     rounds: Option<u32>,
     frames: Option<u32>,
+    workers: Option<u32>,
 }
 
 /// The number of an option that may be given once.
@@ -66,6 +69,7 @@ impl Options {
             quantum: None,
             rounds: None,
             frames: None,
+            workers: None,
         }
     }
 
@@ -94,6 +98,13 @@ impl Options {
                 ..self
             });
         }
+        if is_text(word, "--workers") {
+            let workers = given_once(self.workers, 1, 32, value)?;
+            return Some(Options {
+                workers: Some(workers),
+                ..self
+            });
+        }
         None
     }
 
@@ -106,6 +117,13 @@ impl Options {
             rounds: self.rounds.unwrap_or(100000),
             frames: self.frames.unwrap_or(4096),
         }
+    }
+
+    /// How many workers run it: 4 where the option isn't given.
+    fn workers(self) -> u32
+        ensures { result ≡ workers_of self }
+    {
+        self.workers.unwrap_or(4)
     }
 }
 
@@ -156,6 +174,7 @@ fn read_run(words: &[String]) -> Option<Request<'_>>
     }
     Some(Request::Run {
         config: options.config(),
+        workers: options.workers(),
         names: rest,
     })
 }

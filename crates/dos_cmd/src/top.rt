@@ -9,7 +9,7 @@ ghost use Rattle.dos_cmd.specs.Shown.{asked_by, IsInRange};
 ghost use Rattle.dos_cmd.specs.Images.{judgement};
 ghost use Rattle.dos_cmd.specs.Lines.{words_refused, file_fault, out_of_memory};
 ghost use Rattle.dos_cmd.specs.Exit.{line, line_of, ending_status, refusal_status, IsStatus};
-ghost use Rattle.dos_cmd.specs.Results.{sinks, SaysFront, SaysFrontOf, SaysOnly, Ran, Did, DidWith, Finished, Refused, EndsForMemory, EndsForSink, FailsRunning, FailsAsked, Fails};
+ghost use Rattle.dos_cmd.specs.Results.{Counts, CountsRun, CountsWith, sinks, SaysFront, SaysFrontOf, SaysOnly, Ran, Did, DidWith, Finished, Refused, EndsForMemory, EndsForSink, FailsRunning, FailsAsked, Fails};
 ghost use Rattle.dos_cmd.specs.Stops.{IsOpened, IsQuietStop, refusal_by};
 
 use crate::exit::{Refusal, ending_status};
@@ -24,6 +24,8 @@ use group_open::OpenError;
 use group_rounds::Kernel;
 use kernel_calls::RunStop;
 use std::alloc::Global;
+use std::thread::Threads;
+use worker_pool::{Gate, Stealing, Tally, Workers};
 
 /// Why a run over a quiet shim comes to no ending. Such a shim stops for want of memory alone.
 fn stop_refusal(stop: RunStop) -> Refusal
@@ -41,28 +43,32 @@ fn stop_refusal(stop: RunStop) -> Refusal
 }
 
 /// Runs a group that was opened, and puts its report.
-fn run_opened<O: Sink, E: Sink>(
+fn run_opened<O: Sink, E: Sink, W: Workers>(
     alloc: Global,
     kernel: &mut Kernel,
     out: &mut O,
     err: &mut E,
+    workers: &mut W,
 ) -> Result<Ending, Refusal>
     requires running { kernel.old.failed ≡ false }
     requires fresh { kernel.old.state.round ≡ 1 }
     ensures ran { IfOk result (λ ending. (images : List Parsed) (config : Config) → IsConfig config
         → IsOpened kernel.old images config → Ran images config (ending_status ending)
         (sinks (O.told out.old) (E.told err.old) (O.told out.new) (E.told err.new))) }
-    ensures ready { IfOk result (λ ending. ending ≢ Ending.Stalled) }
     ensures fails { IfErr result (λ why. (images : List Parsed) (config : Config) → IsConfig config
         → IsOpened kernel.old images config → needed images ≤ config.frames
         → FailsRunning images config (Rose (O.faults out.old) (O.faults out.new)
         ⊎ Rose (E.faults err.old) (E.faults err.new))
         (sinks (O.told out.old) (E.told err.old) (O.told out.new) (E.told err.new)) why) }
+    ensures counts { OnOk result ((images : List Parsed) (config : Config) → IsConfig config
+        → IsOpened kernel.old images config
+        → CountsRun images config (W.tally workers.old) (W.tally workers.new)) }
+    ensures fixed { W.fixed workers.new ≡ W.fixed workers.old }
     ensures out_later { O.faults out.old ≤ O.faults out.new }
     ensures err_later { E.faults err.old ≤ E.faults err.new }
 {
     let mut shim = Quiet::new(alloc);
-    let ending = match run_group(kernel, &mut shim, out, err) {
+    let ending = match run_group(kernel, &mut shim, out, err, workers) {
         Ok(ending) => ending,
         Err(stop) => return Err(stop_refusal(stop)),
     };
@@ -73,24 +79,27 @@ fn run_opened<O: Sink, E: Sink>(
 }
 
 /// Runs the images as one group, and puts its report.
-fn execute<O: Sink, E: Sink>(
+fn execute<O: Sink, E: Sink, W: Workers>(
     alloc: Global,
     images: &[Image],
     config: Config,
     out: &mut O,
     err: &mut E,
+    workers: &mut W,
 ) -> Result<Ending, Refusal>
     requires some { 1 ≤ length images.now }
     requires few { length images.now ≤ 8 }
     requires range { IsConfig config }
     ensures ran { IfOk result (λ ending. Ran images.now config (ending_status ending)
         (sinks (O.told out.old) (E.told err.old) (O.told out.new) (E.told err.new))) }
-    ensures ready { IfOk result (λ ending. ending ≢ Ending.Stalled) }
     ensures fits { OnOk result (needed images.now ≤ config.frames) }
     ensures fails { IfErr result
         (FailsRunning images.now config (Rose (O.faults out.old) (O.faults out.new)
         ⊎ Rose (E.faults err.old) (E.faults err.new))
         (sinks (O.told out.old) (E.told err.old) (O.told out.new) (E.told err.new))) }
+    ensures counts { OnOk result
+        (CountsRun images.now config (W.tally workers.old) (W.tally workers.new)) }
+    ensures fixed { W.fixed workers.new ≡ W.fixed workers.old }
     ensures out_later { O.faults out.old ≤ O.faults out.new }
     ensures err_later { E.faults err.old ≤ E.faults err.new }
 {
@@ -99,36 +108,44 @@ fn execute<O: Sink, E: Sink>(
         Err(OpenError::NoRoom { needed, frames }) => return Err(Refusal::NoRoom(needed, frames)),
         Err(OpenError::Memory) => return Err(Refusal::Memory),
     };
-    run_opened(alloc, &mut kernel, out, err)
+    run_opened(alloc, &mut kernel, out, err, workers)
 }
 
-/// Runs the images of these names as one group.
-fn run_images<F: Files, O: Sink, E: Sink>(
+/// Runs the images of these names as one group, with any number of workers.
+fn run_images<F: Files, O: Sink, E: Sink, W: Workers>(
     alloc: Global,
     files: &mut F,
     config: Config,
     names: &[String],
     out: &mut O,
     err: &mut E,
+    workers: &mut W,
 ) -> Result<Ending, Refusal>
-    requires { IsInRange (runs config (texts names.now)) }
-    ensures did { IfOk result (λ ending. Did (F.content files.old) (runs config (texts names.now))
-        (ending_status ending) (sinks (O.told out.old) (E.told err.old) (O.told out.new)
+    requires range { IsConfig config }
+    requires some { 1 ≤ length (texts names.now) }
+    requires few { length (texts names.now) ≤ 8 }
+    ensures did { IfOk result (λ ending. (n : ℕ)
+        → Did (F.content files.old) (runs config n (texts names.now)) (ending_status ending)
+        (sinks (O.told out.old) (E.told err.old) (O.told out.new)
         (E.told err.new))) }
-    ensures ready { IfOk result (λ ending. ending ≢ Ending.Stalled) }
     ensures fails { IfErr result
-        (FailsAsked (F.content files.old) (runs config (texts names.now))
+        (λ why. (n : ℕ) → FailsAsked (F.content files.old) (runs config n (texts names.now))
         (Rose (F.faults files.old) (F.faults files.new))
         (Rose (O.faults out.old) (O.faults out.new)
         ⊎ Rose (E.faults err.old) (E.faults err.new))
-        (sinks (O.told out.old) (E.told err.old) (O.told out.new) (E.told err.new))) }
+        (sinks (O.told out.old) (E.told err.old) (O.told out.new) (E.told err.new)) why) }
+    ensures counts { OnOk result ((n : ℕ) (images : List Parsed)
+        → judgement (F.content files.old) (runs config n (texts names.now)) ≡ Some (Ok images)
+        → CountsWith (runs config n (texts names.now)) images (W.tally workers.old)
+        (W.tally workers.new)) }
+    ensures fixed { W.fixed workers.new ≡ W.fixed workers.old }
     ensures stays { (n : List ℕ) → F.content files.new n ≡ F.content files.old n }
     ensures files_later { F.faults files.old ≤ F.faults files.new }
     ensures out_later { O.faults out.old ≤ O.faults out.new }
     ensures err_later { E.faults err.old ≤ E.faults err.new }
 {
     let images = load_all(alloc, files, names)?;
-    execute(alloc, &images, config, out, err)
+    execute(alloc, &images, config, out, err, workers)
 }
 
 /// Prints the parts of the image of this name.
@@ -142,7 +159,6 @@ fn inspect_image<F: Files, O: Sink>(
     ensures did { IfOk result (λ ending. (e : Option (List ℕ))
         → Did (F.content files.old) (inspects name.now) (ending_status ending)
         (sinks (O.told out.old) e (O.told out.new) e)) }
-    ensures ready { IfOk result (λ ending. ending ≢ Ending.Stalled) }
     ensures fails { IfErr result (λ why. (e : Option (List ℕ)) (m n : ℕ)
         → FailsAsked (F.content files.old) (inspects name.now)
         (Rose (F.faults files.old) (F.faults files.new))
@@ -157,23 +173,27 @@ fn inspect_image<F: Files, O: Sink>(
 }
 
 /// Does what the words ask for.
-fn command<F: Files, O: Sink, E: Sink>(
+fn command<R: Threads + Sync, F: Files, O: Sink, E: Sink, G: Gate + Sync>(
+    rt: &R,
     alloc: Global,
     words: &[String],
     files: &mut F,
     out: &mut O,
     err: &mut E,
+    gate: &G,
+    tally: &mut Tally,
 ) -> Result<Ending, Refusal>
     ensures finished { IfOk result (λ ending. Finished (F.content files.old) (texts words.now)
         (ending_status ending) (sinks (O.told out.old) (E.told err.old) (O.told out.new)
         (E.told err.new))) }
-    ensures ready { IfOk result (λ ending. ending ≢ Ending.Stalled) }
     ensures fails { IfErr result
         (Fails (F.content files.old) (texts words.now)
         (Rose (F.faults files.old) (F.faults files.new))
         (Rose (O.faults out.old) (O.faults out.new)
         ⊎ Rose (E.faults err.old) (E.faults err.new))
         (sinks (O.told out.old) (E.told err.old) (O.told out.new) (E.told err.new))) }
+    ensures counts { OnOk result
+        (Counts (F.content files.old) (texts words.now) tally.old.count tally.new.count) }
     ensures stays { (n : List ℕ) → F.content files.new n ≡ F.content files.old n }
     ensures files_later { F.faults files.old ≤ F.faults files.new }
     ensures out_later { O.faults out.old ≤ O.faults out.new }
@@ -183,7 +203,16 @@ fn command<F: Files, O: Sink, E: Sink>(
         return Err(Refusal::Words);
     };
     match request {
-        Request::Run { config, names } => run_images(alloc, files, config, names, out, err),
+        Request::Run {
+            config,
+            workers,
+            names,
+        } => {
+            let mut pool = Stealing::new(rt, alloc, workers, gate, tally);
+            let ran = run_images(alloc, files, config, names, out, err, &mut pool);
+            pool.finish();
+            ran
+        }
         Request::Inspect { name } => inspect_image(alloc, files, name, out),
     }
 }
@@ -214,10 +243,16 @@ pub fn refuse<E: Sink>(refusal: Refusal, err: &mut E) -> u8
 /// The words are those behind the program's name: a command, its options as two words each, and
 /// names of files. No value or name is empty or begins with `-`.
 ///
-/// `run` takes `--quantum` (1000; 16 to 65536), `--rounds` (100000; 1 to 1000000) and `--frames`
-/// (4096; 16 to 16384), each at most once and in any order, and then 1 to 8 names of images. It
-/// runs them as one group, and puts its report to `err`. `inspect` takes one name, and prints its
-/// entry and its parts to `out`.
+/// `run` takes `--quantum` (1000; 16 to 65536), `--rounds` (100000; 1 to 1000000), `--frames`
+/// (4096;
+/// 16 to 16384) and `--workers` (4; 1 to 32), each at most once and in any order, and then 1 to 8
+/// names of images. It runs them as one group, and puts its report to `err`. `inspect` takes one
+/// name, and prints its entry and its parts to `out`.
+///
+/// Up to so many threads as there are workers, the caller's among them, run a round's packs, each
+/// of
+/// which passes `gate` as it begins. What the call does is the same with any number of them.
+/// `tally` grows by the instructions that the packs run; no other call makes it grow.
 ///
 /// | Status | Comes |
 /// |---|---|
@@ -228,7 +263,7 @@ pub fn refuse<E: Sink>(refusal: Refusal, err: &mut E) -> u8
 /// | 5 | only where the count of `files` rose |
 /// | 6 | only where the count of `out` or `err` rose |
 /// | 7 | processes live after as many rounds as were asked for |
-/// | 8 | processes live, and none of them can go on; with the services of today it never comes |
+/// | 8 | processes live, and none of their threads can go on |
 /// | 9 | only for want of memory |
 ///
 /// A put that fails gives 6 in place of any other status, and nothing is put after it: each sink
@@ -236,16 +271,17 @@ pub fn refuse<E: Sink>(refusal: Refusal, err: &mut E) -> u8
 /// may also give 5 or 9 in place of 0, 3 and 7. With 2, 3, 5 and 9 `err` grows by one line, and but
 /// for 9 `out` stays. Want of memory may also end a run between two rounds; its bytes so far stand
 /// then.
-pub fn dos_main<F: Files, O: Sink, E: Sink>(
+pub fn dos_main<R: Threads + Sync, F: Files, O: Sink, E: Sink, G: Gate + Sync>(
+    rt: &R,
     alloc: Global,
     words: &[String],
     files: &mut F,
     out: &mut O,
     err: &mut E,
+    gate: &G,
+    tally: &mut Tally,
 ) -> u8
     ensures statuses { IsStatus result }
-    // No group of today's services stalls.
-    ensures ready { result ≢ 8 }
 
     // What the words ask for is done, with images that the files are.
     ensures finished { (result ≡ 0) ⊎ (result ≡ 7) ⊎ (result ≡ 8)
@@ -256,6 +292,8 @@ pub fn dos_main<F: Files, O: Sink, E: Sink>(
         → result ≢ 9
         → DidWith asked images result
         (sinks (O.told out.old) (E.told err.old) (O.told out.new) (E.told err.new)) }
+    ensures tally { (result ≡ 0) ⊎ (result ≡ 7) ⊎ (result ≡ 8)
+        → Counts (F.content files.old) (texts words.now) tally.old.count tally.new.count }
 
     // The words ask for nothing.
     ensures two { result ≡ 2 → request (texts words.now) ≡ None }
@@ -298,7 +336,7 @@ pub fn dos_main<F: Files, O: Sink, E: Sink>(
     ensures out_later { O.faults out.old ≤ O.faults out.new }
     ensures err_later { E.faults err.old ≤ E.faults err.new }
 {
-    match command(alloc, words, files, out, err) {
+    match command(rt, alloc, words, files, out, err, gate, tally) {
         Ok(ending) => ending_status(ending),
         Err(refusal) => refuse(refusal, err),
     }

@@ -6,6 +6,8 @@ use dos_io::{StdErr, StdFiles, StdOut};
 use std::env;
 use std::io::ErrorKind;
 use std::process::ExitCode;
+use std::thread::Threads;
+use worker_pool::{OpenGate, Tally};
 
 /// The words behind the program's name. Words that are no text are refused.
 fn words(rt: &HostRuntime) -> Result<Vec<String>, Refusal> {
@@ -25,19 +27,24 @@ fn words(rt: &HostRuntime) -> Result<Vec<String>, Refusal> {
     Ok(words)
 }
 
-fn run(rt: &HostRuntime) -> u8 {
+/// `threads` is the same runtime, which starts them.
+fn run(rt: &HostRuntime, threads: &(impl Threads + Sync)) -> u8 {
     let alloc = rt.alloc();
     let mut err = StdErr::new(rt.stderr());
     match words(rt) {
         Ok(words) => {
             let mut files = StdFiles::new(rt, alloc);
             let mut out = StdOut::new(rt.stdout());
-            dos_main(alloc, &words, &mut files, &mut out, &mut err)
+            let gate = OpenGate::new();
+            let mut tally = Tally::new();
+            dos_main(
+                threads, alloc, &words, &mut files, &mut out, &mut err, &gate, &mut tally,
+            )
         }
         Err(refusal) => refuse(refusal, &mut err),
     }
 }
 
 fn main(rt: HostRuntime) -> ExitCode {
-    ExitCode::from(run(&rt))
+    ExitCode::from(run(&rt, &rt))
 }

@@ -3,6 +3,8 @@ use dos_cmd::dos_main;
 use dos_io::{MemoryFiles, MemorySink};
 use std::alloc::{AllocError, Global};
 use std::test::Fail;
+use std::thread::Threads;
+use worker_pool::{OpenGate, Tally};
 
 /// What a call left.
 #[derive(Drop)]
@@ -10,6 +12,8 @@ pub struct Left {
     pub status: u8,
     pub out: MemorySink,
     pub err: MemorySink,
+    /// By how much the tally grew.
+    pub work: u64,
 }
 
 fn words_of(alloc: Global, texts: &[&str]) -> Result<Vec<String>, AllocError> {
@@ -22,17 +26,19 @@ fn words_of(alloc: Global, texts: &[&str]) -> Result<Vec<String>, AllocError> {
 
 /// Calls the program with these words. Both sinks have room for 5000 bytes, and the puts to output
 /// of these numbers fail.
-pub fn call(
+pub fn call<R: Threads + Sync>(
+    rt: &R,
     alloc: Global,
     texts: &[&str],
     files: &mut MemoryFiles,
     failing: &[u32],
 ) -> Result<Left, AllocError> {
-    call_failing(alloc, texts, files, failing, &[])
+    call_failing(rt, alloc, texts, files, failing, &[])
 }
 
 /// The same, where the puts to error of the last numbers fail too.
-pub fn call_failing(
+pub fn call_failing<R: Threads + Sync>(
+    rt: &R,
     alloc: Global,
     texts: &[&str],
     files: &mut MemoryFiles,
@@ -42,8 +48,24 @@ pub fn call_failing(
     let words = words_of(alloc, texts)?;
     let mut out = MemorySink::new(alloc, 5000, out_failing)?;
     let mut err = MemorySink::new(alloc, 5000, err_failing)?;
-    let status = dos_main(alloc, &words, files, &mut out, &mut err);
-    Ok(Left { status, out, err })
+    let mut tally = Tally::new();
+    let status = dos_main(
+        rt,
+        alloc,
+        &words,
+        files,
+        &mut out,
+        &mut err,
+        &OpenGate::new(),
+        &mut tally,
+    );
+    let work = tally.count();
+    Ok(Left {
+        status,
+        out,
+        err,
+        work,
+    })
 }
 
 impl Left {

@@ -74,9 +74,15 @@ fn each_put_of_a_run_fails_in_turn(rt: HostRuntime) -> Result<(), Fail> {
     files.add("a", &file_with(alloc, &PRINTS_TO_BOTH, b"abcdefgh\n", 0)?)?;
     for row in &PUTS {
         let words = &["run", "a"];
-        call_failing(alloc, words, &mut files, row.out_failing, row.err_failing)?.expect(
-            row.status, row.out, row.err,
-        )?;
+        call_failing(
+            &rt,
+            alloc,
+            words,
+            &mut files,
+            row.out_failing,
+            row.err_failing,
+        )?
+        .expect(row.status, row.out, row.err)?;
     }
     Ok(())
 }
@@ -113,9 +119,15 @@ fn each_line_of_an_image_fails_in_turn(rt: HostRuntime) -> Result<(), Fail> {
     files.add("a", &file(alloc, &SEVEN)?)?;
     for row in &LINES {
         let words = &["inspect", "a"];
-        call_failing(alloc, words, &mut files, row.out_failing, row.err_failing)?.expect(
-            row.status, row.out, row.err,
-        )?;
+        call_failing(
+            &rt,
+            alloc,
+            words,
+            &mut files,
+            row.out_failing,
+            row.err_failing,
+        )?
+        .expect(row.status, row.out, row.err)?;
     }
     Ok(())
 }

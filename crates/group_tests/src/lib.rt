@@ -16,3 +16,5 @@ mod guests;
 mod refusals;
 #[cfg(test)]
 mod rows;
+#[cfg(test)]
+mod workers;

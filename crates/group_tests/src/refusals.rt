@@ -34,7 +34,7 @@ fn other_words_are_refused(rt: HostRuntime) -> Result<(), Fail> {
         &["run", "a", "a", "a", "a", "a", "a", "a", "a", "a"],
     ];
     for texts in others {
-        call(alloc, texts, &mut files, &[])?.expect(2, "", "dos: words refused\n")?;
+        call(&rt, alloc, texts, &mut files, &[])?.expect(2, "", "dos: words refused\n")?;
     }
     Ok(())
 }
@@ -57,7 +57,7 @@ fn other_files_are_refused(rt: HostRuntime) -> Result<(), Fail> {
         (&["inspect", "short"], 3, "dos: image 1 refused 1\n"),
     ];
     for (texts, status, line) in cases {
-        call(alloc, texts, &mut files, &[])?.expect(status, "", line)?;
+        call(&rt, alloc, texts, &mut files, &[])?.expect(status, "", line)?;
     }
     Ok(())
 }
@@ -68,9 +68,13 @@ fn the_longest_file_has_4_mebibytes(rt: HostRuntime) -> Result<(), Fail> {
     let mut files = MemoryFiles::new(alloc, &[])?;
     files.add("a", &file(alloc, &SEVEN)?)?;
     files.add("long", &vec![in alloc; 0u8; 4194305]?)?;
-    call(alloc, &["run", "long"], &mut files, &[])?.expect(3, "", "dos: image 1 too long\n")?;
-    call(alloc, &["run", "a", "long"], &mut files, &[])?.expect(3, "", "dos: image 2 too long\n")?;
-    call(alloc, &["run", "none"], &mut files, &[])?.expect(5, "", "dos: file fault\n")
+    call(&rt, alloc, &["run", "long"], &mut files, &[])?.expect(3, "", "dos: image 1 too long\n")?;
+    call(&rt, alloc, &["run", "a", "long"], &mut files, &[])?.expect(
+        3,
+        "",
+        "dos: image 2 too long\n",
+    )?;
+    call(&rt, alloc, &["run", "none"], &mut files, &[])?.expect(5, "", "dos: file fault\n")
 }
 
 #[test]
@@ -79,12 +83,12 @@ fn images_are_inspected(rt: HostRuntime) -> Result<(), Fail> {
     let mut files = MemoryFiles::new(alloc, &[])?;
     files.add("flat", &file(alloc, &SEVEN)?)?;
     files.add("linked", &linked_file(alloc)?)?;
-    call(alloc, &["inspect", "flat"], &mut files, &[])?.expect(
+    call(&rt, alloc, &["inspect", "flat"], &mut files, &[])?.expect(
         0,
         "entry 00010000\nload 00010000 file 12 memory 12 rights rwx\n",
         "",
     )?;
-    call(alloc, &["inspect", "linked"], &mut files, &[])?.expect(
+    call(&rt, alloc, &["inspect", "linked"], &mut files, &[])?.expect(
         0,
         "entry 000100b4\nload 00010000 file 192 memory 192 rights r-x\nload 000110c0 file 4 memory 64 rights rw-\n",
         "",
@@ -96,5 +100,5 @@ fn a_line_that_fails_gives_six(rt: HostRuntime) -> Result<(), Fail> {
     let alloc = rt.alloc();
     let mut files = MemoryFiles::new(alloc, &[])?;
     files.add("a", &file(alloc, &SEVEN)?)?;
-    call(alloc, &["inspect", "a"], &mut files, &[2])?.expect(6, "entry 00010000\n", "")
+    call(&rt, alloc, &["inspect", "a"], &mut files, &[2])?.expect(6, "entry 00010000\n", "")
 }

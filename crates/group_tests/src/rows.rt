@@ -5,6 +5,7 @@ use dos_io::MemoryFiles;
 use rv_isa::Instr;
 use std::alloc::Global;
 use std::test::Fail;
+use std::thread::Threads;
 
 // A guest, which is named `a`, with its text; the words that it is run with; and what the call
 // leaves.
@@ -17,11 +18,11 @@ struct Row {
     err: &'static str,
 }
 
-fn run_rows(alloc: Global, rows: &[Row]) -> Result<(), Fail> {
+fn run_rows<R: Threads + Sync>(rt: &R, alloc: Global, rows: &[Row]) -> Result<(), Fail> {
     for row in rows {
         let mut files = MemoryFiles::new(alloc, &[])?;
         files.add("a", &guests::file_with(alloc, row.code, row.text, 0)?)?;
-        call(alloc, row.words, &mut files, &[])?.expect(row.status, row.out, row.err)?;
+        call(rt, alloc, row.words, &mut files, &[])?.expect(row.status, row.out, row.err)?;
     }
     Ok(())
 }
@@ -276,55 +277,61 @@ const REFUSED_WRITES: [Answer; 9] = [
 ];
 
 // Runs code that sends nothing.
-fn run_silent(alloc: Global, words: &[&str], code: &[Instr], err: &str) -> Result<(), Fail> {
+fn run_silent<R: Threads + Sync>(
+    rt: &R,
+    alloc: Global,
+    words: &[&str],
+    code: &[Instr],
+    err: &str,
+) -> Result<(), Fail> {
     let mut files = MemoryFiles::new(alloc, &[])?;
     files.add("a", &guests::file(alloc, code)?)?;
-    call(alloc, words, &mut files, &[])?.expect(0, "", err)
+    call(rt, alloc, words, &mut files, &[])?.expect(0, "", err)
 }
 
-fn run_answers(alloc: Global, answers: &[Answer]) -> Result<(), Fail> {
+fn run_answers<R: Threads + Sync>(rt: &R, alloc: Global, answers: &[Answer]) -> Result<(), Fail> {
     for answer in answers {
         let code = guests::calls(alloc, answer.number, answer.arguments)?;
-        run_silent(alloc, &["run", "a"], &code, answer.err)?;
+        run_silent(rt, alloc, &["run", "a"], &code, answer.err)?;
     }
     Ok(())
 }
 
 #[test]
 fn guests_end(rt: HostRuntime) -> Result<(), Fail> {
-    run_rows(rt.alloc(), &ENDS)
+    run_rows(&rt, rt.alloc(), &ENDS)
 }
 
 #[test]
 fn faults_end_the_process(rt: HostRuntime) -> Result<(), Fail> {
     for fault in &FAULTS {
-        run_silent(rt.alloc(), &["run", "a"], fault.code, fault.err)?;
+        run_silent(&rt, rt.alloc(), &["run", "a"], fault.code, fault.err)?;
     }
     Ok(())
 }
 
 #[test]
 fn a_race_loses_one_addition_and_64_threads_live(rt: HostRuntime) -> Result<(), Fail> {
-    run_rows(rt.alloc(), &SENDS)
+    run_rows(&rt, rt.alloc(), &SENDS)
 }
 
 #[test]
 fn services_answer_by_their_numbers(rt: HostRuntime) -> Result<(), Fail> {
-    run_answers(rt.alloc(), &NUMBERS)
+    run_answers(&rt, rt.alloc(), &NUMBERS)
 }
 
 #[test]
 fn threads_and_processes_end(rt: HostRuntime) -> Result<(), Fail> {
-    run_answers(rt.alloc(), &ENDINGS)
+    run_answers(&rt, rt.alloc(), &ENDINGS)
 }
 
 #[test]
 fn writes_are_refused(rt: HostRuntime) -> Result<(), Fail> {
-    run_answers(rt.alloc(), &REFUSED_WRITES)
+    run_answers(&rt, rt.alloc(), &REFUSED_WRITES)
 }
 
 // Code, then so many instructions that do nothing, then the rest.
-fn padded(
+pub fn padded(
     alloc: Global,
     first: &[Instr],
     nothing: usize,
@@ -339,8 +346,13 @@ fn padded(
 }
 
 // runs code under a quantum of 16
-fn run_short(alloc: Global, code: &[Instr], err: &str) -> Result<(), Fail> {
-    run_silent(alloc, &["run", "--quantum", "16", "a"], code, err)
+fn run_short<R: Threads + Sync>(
+    rt: &R,
+    alloc: Global,
+    code: &[Instr],
+    err: &str,
+) -> Result<(), Fail> {
+    run_silent(rt, alloc, &["run", "--quantum", "16", "a"], code, err)
 }
 
 #[test]
@@ -348,9 +360,9 @@ fn a_quantum_ends_a_round(rt: HostRuntime) -> Result<(), Fail> {
     let alloc = rt.alloc();
     // its ecall is unit 17, or 16
     let longer = padded(alloc, &[], 15, &guests::ENDS)?;
-    run_short(alloc, &longer, "process 1 status 0\nrounds 2 done\n")?;
+    run_short(&rt, alloc, &longer, "process 1 status 0\nrounds 2 done\n")?;
     let shorter = padded(alloc, &[], 14, &guests::ENDS)?;
-    run_short(alloc, &shorter, "process 1 status 0\nrounds 1 done\n")
+    run_short(&rt, alloc, &shorter, "process 1 status 0\nrounds 1 done\n")
 }
 
 // The store is made within one part, and not in the next.
@@ -360,11 +372,12 @@ fn a_reservation_ends_with_its_part(rt: HostRuntime) -> Result<(), Fail> {
     let (first, last) = (&guests::RESERVES, &guests::STORES_IF_RESERVED);
     let whole = padded(alloc, first, 0, last)?;
     run_silent(
+        &rt,
         alloc,
         &["run", "a"],
         &whole,
         "process 1 status 0\nrounds 1 done\n",
     )?;
     let parted = padded(alloc, first, 14, last)?;
-    run_short(alloc, &parted, "process 1 status 1\nrounds 2 done\n")
+    run_short(&rt, alloc, &parted, "process 1 status 1\nrounds 2 done\n")
 }

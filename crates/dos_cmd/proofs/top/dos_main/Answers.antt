@@ -1,7 +1,6 @@
 use Rattle.std.proofs.Common.{arith, inl, inr, refl, sym, ◌∙◌}
 use Rattle.dos_cmd.specs.Words.{texts}
 use Rattle.dos_cmd.proofs.Fronts.{ends_for_sink, front_two, front_three}
-use Rattle.dos_cmd.proofs.Ready.{ready_status}
 use Rattle.dos_cmd.proofs.Refusals.{finished_as, finished_ends, finished_does, finished_not_refused, finished_not_none, ends_not, ends_not_nine, refusal_told, refusal_ends_not, fails_two, fails_none, fails_three, fails_five, sinks_fail, fails_nine, fails_refused, judged_not, ends_not_six, rose_then, then_rose}
 use Rattle.dos_cmd.proofs.top.dos_main.Goals as goal
 
@@ -68,10 +67,6 @@ returns-in-Ok-clause-three_only g c = λ asked why ask told a b d. absurd
     (finished_not_refused _ _ _ _ asked why
     (finished_as _ _ _ _ _ c.ending_status.ensures c.in-Ok.ensures.finished) ask told)
 
-pub returns-in-Ok-clause-ready : goal.returns-in-Ok-clause-ready
-returns-in-Ok-clause-ready g c = ready_status _ c.in-Ok.ending c.ending_status.ensures
-    c.in-Ok.ensures.ready
-
 pub returns-in-Ok-clause-two_front : goal.returns-in-Ok-clause-two_front
 returns-in-Ok-clause-two_front g c = λ none q. absurd
     (finished_not_none _ _ _ _ (finished_as _ _ _ _ _ c.ending_status.ensures
@@ -86,6 +81,11 @@ returns-in-Ok-clause-three_front g c = λ asked why ask told q. absurd
 
 pub returns-in-Err-clause-finished : goal.returns-in-Err-clause-finished
 returns-in-Err-clause-finished g c =
+    λ q. let r = refusal_told _ _ _ _ c.refuse.ensures.told (ends_not_six _ q) in
+    absurd (refusal_ends_not _ _ r.number q)
+
+pub returns-in-Err-clause-tally : goal.returns-in-Err-clause-tally
+returns-in-Err-clause-tally g c =
     λ q. let r = refusal_told _ _ _ _ c.refuse.ensures.told (ends_not_six _ q) in
     absurd (refusal_ends_not _ _ r.number q)
 
@@ -157,11 +157,6 @@ returns-in-Err-clause-nine g c =
     λ q. let r = refusal_told _ _ _ _ c.refuse.ensures.told (λ s. absurd (omega arith)) in
     fails_nine (g.F.Files.content c.args.files.now) (texts c.args.words.now) _ _ _ _ _ _ _ _ _
     c.in-Err.ensures.fails r q
-
-pub returns-in-Err-clause-ready : goal.returns-in-Err-clause-ready
-returns-in-Err-clause-ready g c =
-    λ q. let r = refusal_told _ _ _ _ c.refuse.ensures.told (λ s. absurd (omega arith)) in
-    refusal_ends_not _ _ r.number (inr (inr q))
 
 pub returns-in-Err-clause-six_fronts : goal.returns-in-Err-clause-six_fronts
 returns-in-Err-clause-six_fronts g c = λ q.
