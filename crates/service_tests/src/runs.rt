@@ -1,0 +1,202 @@
+//! Runs of guests, each a group of its own.
+ghost use Rattle.std.specs.Prelude.{◌≡◌, false, IfOk};
+ghost use Rattle.dos_world.specs.Lawful.{IsConfig};
+ghost use Rattle.dos_io.specs.Shims.{HasNoEnd};
+ghost use Rattle.shim_log.specs.Ledger.{recorder_state};
+ghost use Rattle.shim_log.specs.Ranges.{FitsHeader};
+
+use crate::guests::{Step, file};
+use dos_io::{ClockRule, MemoryHost, MemorySink, Shim, Sink};
+use dos_world::{Config, Ending, Post};
+use dpg_run::{open_group, put_report, run_group};
+use elf_image::read_image;
+use group_rounds::Kernel;
+use shim_log::{Digests, LogHeader, Recorder};
+use std::alloc::{AllocError, Global};
+use std::test::Fail;
+use std::thread::Threads;
+use worker_pool::{Serial, Tally, Workers};
+
+/// What comes to input, in pieces of four bytes.
+const INPUT: &[u8] = b"0123456789";
+
+/// What the clock reads.
+const READINGS: [u64; 2] = [0x1_0000_0002, 0xffff_ffff];
+
+/// In each of these rounds the signal, 1 to 31, is posted to the process. No round is 0.
+#[derive(Clone, Copy)]
+pub struct Posts {
+    pub rounds: [u32; 5],
+    pub pid: u32,
+    pub signal: u8,
+}
+
+/// No post.
+pub const NOTHING: Posts = Posts {
+    rounds: [0; 5],
+    pid: 1,
+    signal: 1,
+};
+
+/// Signal 10 in round 2.
+pub const IN_2: Posts = Posts {
+    rounds: [2, 0, 0, 0, 0],
+    pid: 1,
+    signal: 10,
+};
+
+/// Signal 10 in each of the rounds 2 to 6.
+pub const IN_2_TO_6: Posts = Posts {
+    rounds: [2, 3, 4, 5, 6],
+    pid: 1,
+    signal: 10,
+};
+
+/// A guest; how it is run; and what it leaves: the words that it tells, and the report.
+#[derive(Clone, Copy)]
+pub struct Row {
+    pub quantum: u32,
+    pub frames: u32,
+    pub posts: Posts,
+    pub guest: &'static [&'static [Step]],
+    pub told: &'static [i32],
+    pub ending: Ending,
+    pub report: &'static str,
+}
+
+/// A row of a guest that does and tells nothing, under the usual numbers.
+pub const USUAL: Row = Row {
+    quantum: 1000,
+    frames: 4096,
+    posts: NOTHING,
+    guest: &[],
+    told: &[],
+    ending: Ending::Done,
+    report: "",
+};
+
+fn config_of(row: &Row) -> Config
+    ensures { IsConfig result }
+{
+    Config {
+        quantum: row.quantum.clamp(16, 65536),
+        rounds: 100_000,
+        frames: row.frames.clamp(16, 16384),
+    }
+}
+
+fn header() -> LogHeader
+    ensures { FitsHeader result }
+{
+    let mut digests = Digests::new();
+    digests.push([0; 32]);
+    LogHeader {
+        quantum: 1000,
+        rounds: 100_000,
+        frames: 4096,
+        digests,
+    }
+}
+
+fn recorder<'h>(
+    alloc: Global,
+    host: &'h mut MemoryHost,
+    posts: &Posts,
+) -> Result<Recorder<'h, MemoryHost>, Fail>
+    ensures { IfOk result (λ shim. HasNoEnd (recorder_state shim.ledger).told) }
+{
+    let Posts {
+        rounds,
+        pid,
+        signal,
+    } = *posts;
+    if signal < 1 || signal > 31 || pid > 65535 {
+        return Err("no signal or no process has this number".into());
+    }
+    let post = Post { pid, signal };
+    let planned = [
+        (rounds[0], post),
+        (rounds[1], post),
+        (rounds[2], post),
+        (rounds[3], post),
+        (rounds[4], post),
+    ];
+    let shim = Recorder::new(alloc, host, &planned, ClockRule::FromHost, header())?;
+    Ok(shim)
+}
+
+// the words, each little-endian
+fn bytes_of(alloc: Global, words: &[i32]) -> Result<Vec<u8>, AllocError> {
+    let mut bytes = Vec::new(alloc);
+    for word in words {
+        bytes.extend_from_slice(&word.to_le_bytes())?;
+    }
+    Ok(bytes)
+}
+
+// the guest's group, which has run no round
+fn opened(alloc: Global, row: &Row) -> Result<Kernel, Fail>
+    ensures running { IfOk result (λ kernel. kernel.failed ≡ false) }
+    ensures fresh { IfOk result (λ kernel. kernel.state.round ≡ 1) }
+{
+    let images = [read_image(alloc, &file(alloc, row.guest)?)?];
+    let kernel = open_group(alloc, &images, config_of(row))?;
+    Ok(kernel)
+}
+
+fn reported<E: Sink>(kernel: &Kernel, ending: Ending, err: &mut E) -> Option<Ending> {
+    match put_report(kernel, ending, err) {
+        Ok(()) => Some(ending),
+        Err(_) => None,
+    }
+}
+
+// the run of a group, with its report
+fn play<S: Shim, O: Sink, E: Sink, W: Workers>(
+    kernel: &mut Kernel,
+    shim: &mut S,
+    out: &mut O,
+    err: &mut E,
+    workers: &mut W,
+) -> Option<Ending>
+    requires running { kernel.old.failed ≡ false }
+    requires fresh { kernel.old.state.round ≡ 1 }
+    requires told { HasNoEnd (S.state shim.old).told }
+{
+    match run_group(kernel, shim, out, err, workers) {
+        Ok(ending) => reported(kernel, ending, err),
+        Err(_) => None,
+    }
+}
+
+fn are_left(
+    alloc: Global,
+    row: &Row,
+    out: &MemorySink,
+    err: &MemorySink,
+) -> Result<bool, AllocError> {
+    let told = bytes_of(alloc, row.told)?;
+    Ok(out.bytes() == told.as_slice() && err.bytes() == row.report.as_bytes())
+}
+
+fn run_row<R: Threads + Sync>(alloc: Global, row: &Row, tally: &mut Tally) -> Result<bool, Fail> {
+    let mut kernel = opened(alloc, row)?;
+    let mut host = MemoryHost::new(alloc, INPUT, 4, &READINGS, &[])?;
+    let mut shim = recorder(alloc, &mut host, &row.posts)?;
+    let mut out = MemorySink::new(alloc, 4096, &[])?;
+    let mut err = MemorySink::new(alloc, 4096, &[])?;
+    let mut workers: Serial<'_, R> = Serial::new(tally);
+    let ending = play(&mut kernel, &mut shim, &mut out, &mut err, &mut workers);
+    Ok(ending == Some(row.ending) && are_left(alloc, row, &out, &err)?)
+}
+
+/// Runs the guests of these rows, one after another. The first that leaves something else fails.
+pub fn run_rows<R: Threads + Sync>(alloc: Global, rows: &[Row]) -> Result<(), Fail> {
+    for row in rows {
+        let mut tally = Tally::new();
+        if !run_row::<R>(alloc, row, &mut tally)? {
+            return Err(Fail::from(row.report));
+        }
+    }
+    Ok(())
+}
