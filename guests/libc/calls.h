@@ -1,5 +1,4 @@
-/* The services as the C library here calls them. guests/runtime/services.h has those that there are
-   today by name. */
+/* The services as the C library here calls them. guests/runtime/services.h says what each does. */
 #ifndef LIBC_CALLS_H
 #define LIBC_CALLS_H
 
@@ -16,6 +15,8 @@ enum call {
   CALL_WRITE = 8,
   CALL_CLOSE = 9,
   CALL_DUP = 10,
+  CALL_FUTEX_WAIT = 11,
+  CALL_FUTEX_WAKE = 12,
   CALL_MAP = 13,
   CALL_KILL = 19,
   CALL_GET_PID = 20,
@@ -25,7 +26,7 @@ enum call {
   CALL_ROUND = 24
 };
 
-/* What a service that the kernel doesn't have answers. */
+/* What a service that isn't there answers. */
 enum { NO_CALL = -38 };
 
 /* What a service gives back in a0 and a1. A service that answers one number leaves a1 as it was. */

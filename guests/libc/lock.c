@@ -17,9 +17,11 @@ bool lock_try(struct __lock *lock) {
                                      __ATOMIC_SEQ_CST);
 }
 
+/* Who draws a number after the look at `drawn` finds it called already. */
 void lock_release(struct __lock *lock) {
-  __atomic_store_n(&lock->called, lock->called + 1, __ATOMIC_SEQ_CST);
-  wake_all(&lock->called);
+  uint32_t next = lock->called + 1;
+  __atomic_store_n(&lock->called, next, __ATOMIC_SEQ_CST);
+  if (__atomic_load_n(&lock->drawn, __ATOMIC_SEQ_CST) != next) wake_all(&lock->called);
 }
 
 /* A thread's tp is its own, and no two threads that live have the same. */

@@ -1,7 +1,6 @@
-/* What a C library asks of a system: a start, an end, a heap and the calls of POSIX. Most of these
-   services the kernel doesn't have yet. It answers -38 to them, and here that becomes -1 with errno
-   ENOSYS; when it has them, the same files use them, linked anew. Files, arguments and an
-   environment there will not be. */
+/* What a C library asks of a system: a start, an end, a heap and the calls of POSIX, of which the
+   kernel's services do what they can. Where one isn't there it answers -38, and here that becomes -1
+   with errno ENOSYS. Files, arguments and an environment there are none. */
 #include <errno.h>
 #include <fcntl.h>
 #include <signal.h>
@@ -93,7 +92,7 @@ void *sbrk(ptrdiff_t change) {
 
 /* ---- descriptors ---- */
 
-/* Which of the three standard descriptors were closed, while the kernel has no service for that. */
+/* Which of the three standard descriptors were closed where nobody serves that call. */
 static bool is_closed[3];
 
 static bool is_closed_here(int descriptor) {
@@ -196,11 +195,13 @@ pid_t wait(int *status) {
   return waitpid(-1, status, 0);
 }
 
-/* Without the service, abort still ends with the status that its signal gives: raise sends it by
-   this call. */
+/* A signal that the process sends to itself comes before this returns, as POSIX has it: at the next
+   round's start, so the thread yields. That of abort ends the process with 134; so it does where
+   nobody serves the call. */
 int kill(pid_t process, int signal) {
   int32_t answer = call(CALL_KILL, (uint32_t)process, (uint32_t)signal, 0);
   if (answer == NO_CALL && signal == SIGABRT && process == getpid()) _exit(128 + SIGABRT);
+  if (answer == 0 && process == getpid()) call(CALL_YIELD, 0, 0, 0);
   return or_errno(answer);
 }
 

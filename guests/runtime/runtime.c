@@ -1,5 +1,7 @@
 #include "runtime.h"
 
+#include <stdarg.h>
+
 /* ---- what the compiler calls by itself ---- */
 
 void *memset(void *to, int byte, size_t length) {
@@ -66,6 +68,49 @@ void print_hexadecimal(uint32_t number) {
   print_bytes(digits, sizeof digits);
 }
 
+/* Puts the digits of the number into the line, and answers where they end. */
+static char *put_number(char *end, uint32_t number, uint32_t base, uint32_t least) {
+  char digits[10];
+  uint32_t count = 0;
+  do {
+    digits[count++] = "0123456789abcdef"[number % base];
+    number /= base;
+  } while (number > 0 || count < least);
+  while (count > 0) *end++ = digits[--count];
+  return end;
+}
+
+/* Puts what stands behind a % into the line, and answers where it ends. */
+static char *put_argument(char *end, char kind, va_list *arguments) {
+  if (kind == 's') {
+    for (const char *text = va_arg(*arguments, const char *); *text != 0; text++) *end++ = *text;
+    return end;
+  }
+  if (kind != 'd' && kind != 'x') {
+    *end++ = kind;
+    return end;
+  }
+  uint32_t number = va_arg(*arguments, uint32_t);
+  if (kind == 'x') {
+    *end++ = '0';
+    *end++ = 'x';
+    return put_number(end, number, 16, 8);
+  }
+  if ((int32_t)number < 0) *end++ = '-';
+  return put_number(end, (int32_t)number < 0 ? -number : number, 10, 1);
+}
+
+void print_line(const char *format, ...) {
+  char line[256], *end = line;
+  va_list arguments;
+  va_start(arguments, format);
+  for (; *format != 0; format++)
+    if (*format == '%') end = put_argument(end, *++format, &arguments);
+    else *end++ = *format;
+  va_end(arguments);
+  print_bytes(line, (uint32_t)(end - line));
+}
+
 /* ---- locks ---- */
 
 void lock_take(struct lock *lock) {
@@ -87,8 +132,8 @@ struct place {
   volatile uint32_t state;
 };
 
-/* The pool fills a page of its own. Who waits looks there in each round and takes the page from whoever writes to it, so
-   nothing else may stand on it. */
+/* The pool fills a page of its own. Who waits looks there in each round and takes the page from whoever writes to it,
+   so nothing else may stand on it. */
 static union {
   struct place places[POOL_THREADS];
   unsigned char page[PAGE_SIZE];
@@ -140,4 +185,48 @@ bool run_threads(uint32_t count, void (*run)(uintptr_t number)) {
   }
   for (uint32_t i = 0; i < started; i++) thread_join(places[i]);
   return started == count;
+}
+
+/* ---- processes and signals ---- */
+
+int32_t wait_for(int32_t process, int32_t *status) {
+  int32_t answer;
+  do answer = dos_wait(process, status);
+  while (answer == INTERRUPTED);
+  return answer;
+}
+
+int32_t read_all(uint32_t descriptor, void *bytes, uint32_t length) {
+  uint32_t done = 0;
+  while (done < length) {
+    int32_t answer = dos_read(descriptor, (char *)bytes + done, length - done);
+    if (answer == INTERRUPTED) continue;
+    if (answer < 0) return answer;
+    if (answer == 0) break;
+    done += (uint32_t)answer;
+  }
+  return (int32_t)done;
+}
+
+int32_t write_all(uint32_t descriptor, const void *bytes, uint32_t length) {
+  uint32_t done = 0;
+  while (done < length) {
+    int32_t answer = dos_write(descriptor, (const char *)bytes + done, length - done);
+    if (answer == INTERRUPTED) continue;
+    if (answer < 0) return answer;
+    done += (uint32_t)answer;
+  }
+  return (int32_t)done;
+}
+
+/* What signal_entry calls, by the signal. */
+void (*signal_handlers[32])(uint32_t signal);
+
+/* In start.S: calls the handler of the signal in a0, and then dos_sig_return. */
+extern void signal_entry(void);
+
+int32_t catch_signal(uint32_t signal, void (*handler)(uint32_t signal)) {
+  if (signal > 31) return BAD_ARGUMENT;
+  signal_handlers[signal] = handler;
+  return dos_sig_handler(signal, (uint32_t)(uintptr_t)signal_entry);
 }

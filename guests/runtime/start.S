@@ -24,3 +24,19 @@ _start:
 thread_entry:
     set_gp
     tail    thread_body
+
+# Where each signal's handler begins: a0 is the signal, and all other registers are those of the thread that it came to,
+# wherever it was. sig_return gives all of them back, so none is saved here; sp is made a multiple of 16, as C wants it.
+    .section .text.signal_entry, "ax", @progbits
+    .globl  signal_entry
+    .balign 4
+signal_entry:
+    set_gp
+    andi    sp, sp, -16
+    la      t0, signal_handlers
+    slli    t1, a0, 2
+    add     t0, t0, t1
+    lw      t0, 0(t0)
+    jalr    t0
+    li      a7, 18
+    ecall
