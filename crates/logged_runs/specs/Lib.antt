@@ -1,0 +1,4 @@
+pub mod Opened
+pub mod Runs
+pub mod Recording
+pub mod Replaying

@@ -1,0 +1,71 @@
+-- A run that is recorded. This project's own rules.
+use Rattle.std.specs.Prelude.{◌≡◌, ◌≤◌, ◌×◌, ℕ, List, [], length, Option}
+use Rattle.dos_world.specs.declared.Config.{Config}
+use Rattle.dos_world.specs.declared.Post.{Post}
+use Rattle.dos_world.specs.declared.Question.{Question}
+use Rattle.dos_io.specs.Given.{Given}
+use Rattle.dos_io.specs.Hosts.{Told}
+use Rattle.dos_io.specs.declared.exchange.ClockRule.{ClockRule}
+use Rattle.dos_io.specs.declared.exchange.Exchange.{Exchange}
+use Rattle.dos_io.specs.declared.shim.ShimStop.{ShimStop}
+use Rattle.elf_image.specs.Image.{Image}
+use Rattle.shim_log.specs.declared.header.LogHeader.{LogHeader}
+use Rattle.shim_log.specs.Ledger.{LedgerState, MayStop, empty_ledger}
+use Rattle.shim_log.specs.LogText.{Log, exchanges, logtext}
+use Rattle.shim_log.specs.Ranges.{FitsLog}
+use Rattle.shim_log.specs.Room.{HadRoom, most_bytes}
+use Rattle.dpg_run.specs.Machine.{Seen}
+use Rattle.logged_runs.specs.Runs.{RanWhole, RanUntil, RanAhead}
+
+-- what a recorded run is given beside its host
+pub record Plan : Type 0 where
+  pub images : List Image
+  pub config : Config
+  pub posts : List (ℕ × Post)
+  pub clock : ClockRule
+  pub header : LogHeader
+
+-- with these images and this configuration, what a ledger says of the rest
+abbrev pub plan_of : List Image → Config → LedgerState → Plan
+plan_of images config ledger = record {
+  images = images;
+  config = config;
+  posts = ledger.posts;
+  clock = ledger.clock;
+  header = ledger.header;
+}
+
+-- a recorder's ledger after these exchanges, none of which is the end
+abbrev pub ledger_after : Plan → List Exchange → LedgerState
+ledger_after plan es =
+    record (empty_ledger plan.posts plan.clock plan.header 0) { entries = es }
+
+-- The run came to its end, and this log has all of its exchanges: they were given by the plan and
+-- the host, none skipped and none invented, and each had room.
+pub record Recorded (plan : Plan) (host host_after : Option Told) (log : Log) (seen : Seen) :
+    Type 0 where
+  pub ran : RanWhole plan.images plan.config (exchanges log) seen
+  pub given : Given plan.posts plan.clock 0 host host_after (exchanges log)
+  pub header : log.header ≡ plan.header
+  pub ranges : FitsLog log
+  pub room : HadRoom plan.header plan.posts [] log.entries
+  pub small : length (logtext log) ≤ most_bytes
+
+-- The run was recorded until a question at which the recorder stopped so, which it may; by then it
+-- had sent these bytes.
+pub record RecordedUntil (plan : Plan) (host host_after : Option Told) (stop : ShimStop)
+    (output error : List ℕ) : Type 0 where
+  pub before : List Exchange
+  pub question : Question
+  pub ran : RanUntil plan.images plan.config before question output error
+  pub given : Given plan.posts plan.clock 0 host host_after before
+  pub room : HadRoom plan.header plan.posts [] before
+  pub stops : MayStop (ledger_after plan before) question stop
+
+-- The run was recorded until an output failed; these are fronts of what it sends until its next
+-- question, or its end.
+pub record RecordedAhead (plan : Plan) (host host_after : Option Told) (output error : List ℕ) :
+    Type 0 where
+  pub before : List Exchange
+  pub ran : RanAhead plan.images plan.config before output error
+  pub given : Given plan.posts plan.clock 0 host host_after before

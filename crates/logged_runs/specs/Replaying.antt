@@ -1,0 +1,39 @@
+-- A run that is replayed. This project's own rules.
+use Rattle.std.specs.Prelude.{◌≡◌, ⊤, ⊥, ℕ, List, Option, Some, take}
+use Rattle.dos_world.specs.declared.Config.{Config}
+use Rattle.dos_world.specs.declared.Misfit.{Misfit}
+use Rattle.elf_image.specs.Image.{Image}
+use Rattle.kernel_calls.specs.declared.state.RunStop.{RunStop}
+use Rattle.kernel_calls.specs.declared.state.RunStop.TheVariants.{HostFault, LogFull, Misfit as MisfitFound, OutFault, ErrFault, Memory}
+use Rattle.dpg_run.specs.Fits.{misfit}
+use Rattle.dpg_run.specs.Machine.{Seen}
+use Rattle.shim_log.specs.declared.header.LogHeader.{LogHeader}
+use Rattle.shim_log.specs.LogText.{Log, exchanges}
+use Rattle.logged_runs.specs.Runs.{RanWhole, RanUntil, RanAhead}
+
+-- the configuration that a log's header has
+abbrev pub config_of : LogHeader → Config
+config_of h = record { quantum = h.quantum; rounds = h.rounds; frames = h.frames }
+
+-- The run of these images asked exactly the questions of this log, which answered it.
+abbrev pub Replayed : List Image → Log → Seen → Type 0
+Replayed images log seen = RanWhole images (config_of log.header) (exchanges log) seen
+
+-- The run of these images came to the log's misfit; by then it had sent these bytes.
+pub record ReplayedUntil (images : List Image) (log : Log) (found : Misfit)
+    (output error : List ℕ) : Type 0 where
+  pub is : misfit images (config_of log.header) (exchanges log) ≡ Some found
+  pub ran : RanUntil images (config_of log.header) (take found.entry (exchanges log)) found.asked
+      output error
+
+-- The run of these images over so many of the log's exchanges was cut off as an output failed.
+pub record ReplayedAhead (images : List Image) (log : Log) (output error : List ℕ) : Type 0 where
+  pub answered : ℕ
+  pub ran : RanAhead images (config_of log.header) (take answered (exchanges log)) output error
+
+-- It has no host, writes no log, and takes no memory.
+abbrev pub StopsReplay : RunStop → Type 0
+StopsReplay HostFault = ⊥
+StopsReplay LogFull = ⊥
+StopsReplay Memory = ⊥
+StopsReplay _ = ⊤

@@ -1,0 +1,8 @@
+//! Runs of a group that was opened, recorded in a log or replayed from one.
+#![tactic(auto)]
+
+mod recording;
+mod replaying;
+
+pub use recording::record_group;
+pub use replaying::replay_group;

@@ -1,0 +1,61 @@
+// A run that is replayed.
+ghost use Rattle.std.specs.Prelude.{◌≡◌, ◌≤◌, ℕ, List, false, IfOk, IfErr, IsErrOf, OnErr};
+ghost use Rattle.dos_world.specs.declared.Misfit.{Misfit};
+ghost use Rattle.elf_image.specs.Image.{Image};
+ghost use Rattle.dpg_run.specs.Machine.{Seen};
+ghost use Rattle.kernel_calls.specs.Serving.{HasSinkCause};
+ghost use Rattle.kernel_calls.specs.declared.state.RunStop.TheVariants as stops;
+ghost use Rattle.logged_runs.specs.Opened.{IsOpened};
+ghost use Rattle.logged_runs.specs.Runs.{Ended, Put};
+ghost use Rattle.logged_runs.specs.Replaying.{Replayed, ReplayedAhead, ReplayedUntil, StopsReplay, config_of};
+
+use dos_io::Sink;
+use dos_world::Ending;
+use dpg_run::run_group;
+use group_rounds::Kernel;
+use kernel_calls::RunStop;
+use shim_log::{Log, Replayer};
+use worker_pool::Workers;
+
+/// Runs a group that was opened by the answers of a log, of which it asks nothing else.
+///
+/// It stops where the log has an exchange of another question than the run asks, by that misfit, or
+/// where an output fails, and by nothing else: it takes no memory.
+pub fn replay_group<O: Sink, E: Sink, W: Workers>(
+    kernel: &mut Kernel,
+    log: Log,
+    out: &mut O,
+    err: &mut E,
+    workers: &mut W,
+) -> Result<Ending, RunStop>
+    requires running { kernel.old.failed ≡ false }
+    requires fresh { kernel.old.state.round ≡ 1 }
+    ensures ran { IfOk result (λ ending. (images : List Image)
+        → IsOpened kernel.old images (config_of log.header)
+        → (seen : Seen) × Replayed images log seen
+        × Ended kernel.new ending seen (O.told out.old) (E.told err.old) (O.told out.new)
+        (E.told err.new) (W.tally workers.old) (W.tally workers.new)) }
+    ensures misfit { (found : Misfit) → IsErrOf result (stops.Misfit found) → (images : List Image)
+        → IsOpened kernel.old images (config_of log.header)
+        → (output : List ℕ) × (error : List ℕ) × ReplayedUntil images log found output error
+        × Put (O.told out.old) (E.told err.old) (O.told out.new) (E.told err.new) output error }
+    ensures cut { OnErr result ((images : List Image)
+        → IsOpened kernel.old images (config_of log.header)
+        → (output : List ℕ) × (error : List ℕ) × ReplayedAhead images log output error
+        × Put (O.told out.old) (E.told err.old) (O.told out.new) (E.told err.new) output error) }
+    ensures only { IfErr result StopsReplay }
+    ensures sinks { IfErr result (λ stop. HasSinkCause stop (O.faults out.old) (O.faults out.new)
+        (E.faults err.old) (E.faults err.new)) }
+    ensures out_later { O.faults out.old ≤ O.faults out.new }
+    ensures err_later { E.faults err.old ≤ E.faults err.new }
+    ensures fixed { W.fixed workers.new ≡ W.fixed workers.old }
+{
+    let mut shim = Replayer::new(log);
+    match run_group(kernel, &mut shim, out, err, workers) {
+        Ok(ending) => Ok(ending),
+        Err(stop) => {
+            shim.look();
+            Err(stop)
+        }
+    }
+}
