@@ -1,27 +1,14 @@
--- A group that is run over a quiet shim, and how such a run stops. This project's own rules.
-use Rattle.std.specs.Prelude.{◌≡◌, List, ⊤}
-use Rattle.dos_world.specs.declared.Config.{Config}
-use Rattle.elf_image.specs.Image.{Image}
-use Rattle.group_open.specs.Opening.{opening}
-use Rattle.group_rounds.specs.Kernels.{Held, kernel_world}
-use Rattle.dos_cmd.specs.declared.exit.Refusal.{Refusal}
-use Rattle.dos_cmd.specs.declared.exit.Refusal.TheVariants as refusals
+-- How a run that stops ends its call. This project's own rule.
 use Rattle.kernel_calls.specs.declared.state.RunStop.{RunStop}
-use Rattle.kernel_calls.specs.declared.state.RunStop.TheVariants.{HostFault, LogFull, Misfit, Memory}
-
--- The kernel was opened with these images and this configuration, and no round has been run.
-pub record IsOpened (k : Held) (images : List Image) (config : Config) : Type 0 where
-  pub world : kernel_world k ≡ opening images config
-  pub config_is : k.config ≡ config
-
--- no host, no log, and no other run
-abbrev pub IsQuietStop : RunStop → Type 0
-IsQuietStop HostFault = ⊥
-IsQuietStop LogFull = ⊥
-IsQuietStop (Misfit m) = ⊥
-IsQuietStop _ = ⊤
+use Rattle.kernel_calls.specs.declared.state.RunStop.TheVariants.{HostFault, LogFull, Misfit, OutFault, ErrFault, Memory}
+use Rattle.dos_texts.specs.declared.refusal.Refusal.{Refusal}
+use Rattle.dos_texts.specs.declared.refusal.Refusal.TheVariants as refusals
 
 -- why the call comes to no report then
 abbrev pub refusal_by : RunStop → Refusal
+refusal_by OutFault = refusals.Sink
+refusal_by ErrFault = refusals.Sink
+refusal_by HostFault = refusals.Host
+refusal_by LogFull = refusals.LogFull
+refusal_by (Misfit found) = refusals.Misfit found
 refusal_by Memory = refusals.Memory
-refusal_by _ = refusals.Sink
