@@ -8,5 +8,8 @@
 mod code;
 mod image;
 mod program;
+mod sinks;
+mod trail;
 
 pub use image::generated_image;
+pub use sinks::{DigestSink, DropSink};
