@@ -1,5 +1,5 @@
 -- A run over a recorder that was asked nothing before.
-use Rattle.std.proofs.Common.{ℕ, ◌≡◌, ◌⊎◌, inl, inr, refl, sym, ap, ◌∙◌, subst, List, [], ◌∷◌, ◌++◌, append-nil, Option, Some, None}
+use Rattle.std.proofs.Common.{ℕ, ◌≡◌, ◌⊎◌, inl, inr, refl, sym, ap, ◌∙◌, subst, List, [], ◌∷◌, ◌++◌, append-nil, Option, Some, None, Err, IsErrOf}
 use Rattle.std.specs.Prelude.{IfSome, OnSome}
 use Rattle.dos_world.specs.declared.Config.{Config}
 use Rattle.dos_world.specs.declared.Ending.{Ending}
@@ -95,6 +95,25 @@ stops_so asked last question stop P at so h =
     subst (λ (o : Option ShimStop). IfSome o (P question)) so
     (subst (λ (o : Option Question). IfSome o (λ q. IfSome last (P q))) at h)
 
+-- ---- the host, from one moment to another at which it is the same
+
+pub followed : {H : Type 0} (told : H → Option Told) (faults : H → ℕ) (start after : LedgerState)
+    (h h' i i' : H) → h ≡ h' → i' ≡ i
+    → Follows start after (told h) (told i) (faults h) (faults i)
+    → Follows start after (told h') (told i') (faults h') (faults i')
+followed told faults start after h h' i i' before left follows =
+    subst (λ x. Follows start after (told x) (told i') (faults x) (faults i')) before
+    (subst (λ x. Follows start after (told h) (told x) (faults h) (faults x)) (sym left) follows)
+
+pub no_end_told : (start start' : LedgerState) → start ≡ start'
+    → start' ≡ empty_ledger start'.posts start'.clock start'.header start'.room
+    → HasNoEnd (recorder_state start).told
+no_end_told start start' same begins =
+    subst (λ (s : LedgerState). HasNoEnd (recorder_state s).told) (sym (same ∙ begins)) tt
+
+pub this_stop : (stop other : RunStop) → IsErrOf {T = Ending × Log} (Err stop) other → stop ≡ other
+this_stop stop other is = cc
+
 -- ---- the run
 
 module _ (k : Held) (start after : LedgerState) (a b : Option Told) (m n : ℕ)
@@ -118,7 +137,7 @@ module _ (k : Held) (start after : LedgerState) (a b : Option Told) (m n : ℕ)
       kept.had_room)
 
   -- it came to its end, and made this log
-  pub recorded : (log : Log) (k' : Held) (ending : Ending) (tally tally' work : ℕ)
+  of_start : (log : Log) (k' : Held) (ending : Ending) (tally tally' work : ℕ)
       → RanGroup k.config k.state (telling (recorder_state start).told o e) ending k'.state
       (telling told o1 e1) work → GrewBy tally tally' work → IsLedger after
       → exchanges log ≡ told → log.header ≡ after.header → FitsLog log
@@ -126,7 +145,7 @@ module _ (k : Held) (start after : LedgerState) (a b : Option Told) (m n : ℕ)
       → IsOpened k images config
       → (seen : Seen) × Recorded (plan_of images config start) a b log seen
       × Ended k' ending seen o e o1 e1 tally tally'
-  recorded log k' ending tally tally' work run grew kept is header fits small images config opened =
+  of_start log k' ending tally tally' work run grew kept is header fits small images config opened =
       let ran = ran_whole k (recorder_state start).told told o e o1 e1 nothing_told images config
       opened k' ending tally tally' work run grew in
       let entries : log.entries ≡ after.entries =
@@ -180,7 +199,7 @@ module _ (k : Held) (start after : LedgerState) (a b : Option Told) (m n : ℕ)
             after.asked run,
       )
 
-  pub stopped : (stop : RunStop)
+  stopped_start : (stop : RunStop)
       → OnSome (shim_stop stop) (StoppedGroup k.config k.state
       (telling (recorder_state start).told o e) (telling told o1 e1) after.asked)
       → HasShimCause stop (recorder_state start) (recorder_state after) → IsLedger after
@@ -188,20 +207,20 @@ module _ (k : Held) (start after : LedgerState) (a b : Option Told) (m n : ℕ)
       → IsOpened k images config → (output : List ℕ) × (error : List ℕ)
       × RecordedUntil (plan_of images config start) a b why output error
       × Put o e o1 e1 output error)
-  stopped HostFault run cause kept = until stops.HostFault run cause.1 kept
-  stopped LogFull run cause kept = until stops.LogFull run cause.1 kept
-  stopped (Misfit x) run cause kept = until (stops.Misfit x) run cause.1 kept
-  stopped OutFault run cause kept = tt
-  stopped ErrFault run cause kept = tt
-  stopped Memory run cause kept = until stops.Memory run cause.1 kept
+  stopped_start HostFault run cause kept = until stops.HostFault run cause.1 kept
+  stopped_start LogFull run cause kept = until stops.LogFull run cause.1 kept
+  stopped_start (Misfit x) run cause kept = until (stops.Misfit x) run cause.1 kept
+  stopped_start OutFault run cause kept = tt
+  stopped_start ErrFault run cause kept = tt
+  stopped_start Memory run cause kept = until stops.Memory run cause.1 kept
 
   -- it was cut off
-  pub recorded_ahead : CutGroup k.config k.state (telling (recorder_state start).told o e)
+  ahead_start : CutGroup k.config k.state (telling (recorder_state start).told o e)
       (telling told o1 e1) → (images : List Image) (config : Config) → IsOpened k images config
       → (output : List ℕ) × (error : List ℕ)
       × RecordedAhead (plan_of images config start) a b output error
       × Put o e o1 e1 output error
-  recorded_ahead cut images config opened = (
+  ahead_start cut images config opened = (
     cut.more.output,
     cut.more.error,
     record {
@@ -214,9 +233,9 @@ module _ (k : Held) (start after : LedgerState) (a b : Option Told) (m n : ℕ)
   )
 
   -- its host failed
-  pub host_rose : (stop : RunStop) → HasShimCause stop (recorder_state start) (recorder_state after)
+  rose_start : (stop : RunStop) → HasShimCause stop (recorder_state start) (recorder_state after)
       → stop ≡ HostFault → Rose m n
-  host_rose stop cause is = by_cause follows.cause
+  rose_start stop cause is = by_cause follows.cause
     where
       last : after.last ≡ Some stops.HostFault
       last = (subst (λ (x : RunStop). HasShimCause x (recorder_state start) (recorder_state after))
@@ -230,3 +249,57 @@ module _ (k : Held) (start after : LedgerState) (a b : Option Told) (m n : ℕ)
           sym never ∙ sym same.1 ∙ last in
           absurd cc
       by_cause (inr rose) = rose last
+
+-- ---- the same, of the ledger that the recorder was made of
+
+module _ (k : Held) (ledger start after : LedgerState) (a b : Option Told) (m n : ℕ)
+    (o e o1 e1 : Option (List ℕ)) (same : start ≡ ledger)
+    (begins : ledger ≡ empty_ledger ledger.posts ledger.clock ledger.header ledger.room)
+    (follows : Follows start after a b m n) where
+  begun : start ≡ empty_ledger start.posts start.clock start.header start.room
+  begun = subst (λ (s : LedgerState). s ≡ empty_ledger s.posts s.clock s.header s.room) (sym same)
+      begins
+
+  pub recorded : (log : Log) (k' : Held) (ending : Ending) (tally tally' work : ℕ)
+      → RanGroup k.config k.state (telling (recorder_state start).told o e) ending k'.state
+      (telling (recorder_state after).told o1 e1) work → GrewBy tally tally' work
+      → IsLedger after → exchanges log ≡ (recorder_state after).told → log.header ≡ after.header
+      → FitsLog log → length (logtext log) ≤ most_bytes → (images : List Image)
+      (config : Config) → IsOpened k images config
+      → (seen : Seen) × Recorded (plan_of images config ledger) a b log seen
+      × Ended k' ending seen o e o1 e1 tally tally'
+  recorded log k' ending tally tally' work run grew kept is header fits small images config opened =
+      subst (λ (s : LedgerState). (seen : Seen) × Recorded (plan_of images config s) a b log seen
+      × Ended k' ending seen o e o1 e1 tally tally') same
+      (of_start k start after a b m n o e o1 e1 follows begun log k' ending tally tally' work run
+      grew kept is header fits small images config opened)
+
+  pub stopped : (stop : RunStop)
+      → OnSome (shim_stop stop) (StoppedGroup k.config k.state
+      (telling (recorder_state start).told o e) (telling (recorder_state after).told o1 e1)
+      after.asked) → HasShimCause stop (recorder_state start) (recorder_state after)
+      → IsLedger after → IfSome (shim_stop stop) (λ why. (images : List Image) (config : Config)
+      → IsOpened k images config → (output : List ℕ) × (error : List ℕ)
+      × RecordedUntil (plan_of images config ledger) a b why output error
+      × Put o e o1 e1 output error)
+  stopped stop run cause kept =
+      subst (λ (s : LedgerState). IfSome (shim_stop stop) (λ why. (images : List Image)
+      (config : Config) → IsOpened k images config → (output : List ℕ) × (error : List ℕ)
+      × RecordedUntil (plan_of images config s) a b why output error
+      × Put o e o1 e1 output error)) same
+      (stopped_start k start after a b m n o e o1 e1 follows begun stop run cause kept)
+
+  pub recorded_ahead : CutGroup k.config k.state (telling (recorder_state start).told o e)
+      (telling (recorder_state after).told o1 e1) → (images : List Image) (config : Config)
+      → IsOpened k images config → (output : List ℕ) × (error : List ℕ)
+      × RecordedAhead (plan_of images config ledger) a b output error
+      × Put o e o1 e1 output error
+  recorded_ahead cut images config opened =
+      subst (λ (s : LedgerState). (output : List ℕ) × (error : List ℕ)
+      × RecordedAhead (plan_of images config s) a b output error
+      × Put o e o1 e1 output error) same
+      (ahead_start k start after a b m n o e o1 e1 follows begun cut images config opened)
+
+  pub host_rose : (stop : RunStop) → HasShimCause stop (recorder_state start) (recorder_state after)
+      → stop ≡ HostFault → Rose m n
+  host_rose = rose_start k start after a b m n o e o1 e1 follows begun

@@ -30,7 +30,6 @@ fn hand_back<H: Host>(host: &mut H)
 ///
 /// It stops where the host fails, where the log has no room, where an output fails, or for want of
 /// memory; there is no log then, and nothing is said of the kernel but that it has failed.
-#[tactic(none)]
 pub fn record_group<H: Host, O: Sink, E: Sink, W: Workers>(
     kernel: &mut Kernel,
     host: &mut H,
