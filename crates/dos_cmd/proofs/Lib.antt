@@ -1,2 +1,4 @@
 mod Saying
 mod Calls
+mod RunFiles
+mod RunEnds
