@@ -7,6 +7,7 @@
 
 mod code;
 mod image;
+pub mod laws;
 mod program;
 mod sinks;
 mod trail;
