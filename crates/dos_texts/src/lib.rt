@@ -2,6 +2,17 @@
 //! report; and what `inspect` and `gen` print.
 #![tactic(auto)]
 
+mod image_lines;
+mod inspect;
+mod line;
+mod log_lines;
+mod misfit_line;
 mod refusal;
+mod report;
+mod summary;
 
-pub use refusal::Refusal;
+pub use inspect::put_inspect;
+pub use line::LINE;
+pub use refusal::{Refusal, ending_status, put_refusal};
+pub use report::{ending_word, process_line, rounds_line};
+pub use summary::put_summary;

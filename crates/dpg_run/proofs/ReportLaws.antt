@@ -1,8 +1,7 @@
 -- The lines of a report, one after another.
-use Rattle.std.proofs.Common.{ℕ, zero, suc, ◌+◌, ◌<◌, ◌≤◌, ◌≡◌, min, refl, sym, ap, ◌∙◌, subst, List, [], ◌∷◌, ◌++◌, length, take, drop, map, get_or, Option, Some, None, Result, Ok, Err, arith}
+use Rattle.std.proofs.Common.{ℕ, zero, suc, ◌+◌, ◌<◌, ◌≤◌, ◌≡◌, sym, ap, ◌∙◌, subst, List, [], ◌∷◌, ◌++◌, length, take, drop, map, get_or, Option, Result, Ok, Err, arith}
 use Rattle.std.specs.Prelude.{IfSome, OnErr, OnOk, slice_get}
-use Rattle.std.proofs.lemmas.List.{append-nil, append_assoc, length-take, take-append-drop, take-append-le, take_all, take_min, take_more}
-use Rattle.std.proofs.Math.Seq.{take-append-add}
+use Rattle.std.proofs.lemmas.List.{append-nil, append_assoc, length-take, take-append-drop, take_all, take_more}
 use Rattle.dos_world.specs.Numbered.{numbered}
 use Rattle.dos_world.specs.World.{Process}
 use Rattle.dos_world.specs.declared.Ending.{Ending}
@@ -10,31 +9,8 @@ use Rattle.dos_io.specs.Outside.{grown, GrewByFront}
 use Rattle.dos_io.proofs.OutsideLaws.{grown-twice}
 use Rattle.proc_table.specs.Tables.{last_status}
 use Rattle.dpg_run.specs.Machine.{status_in}
-use Rattle.dpg_run.specs.Report.{process_line, process_lines, report_of, rounds_line}
-
--- ---- what is told
-
-pub on_err : {T E : Type 0} (result : Result T E) (P : Type 0) → P → OnErr result P
-on_err (Ok x) P holds = tt
-on_err (Err e) P holds = holds
-
--- a front of what comes next is a front of the whole
-take_next : (first next rest : List ℕ) (k : ℕ)
-    → take (length first + min k (length next)) (first ++ (next ++ rest)) ≡ first ++ take k next
-take_next first next rest k =
-    take-append-add first (next ++ rest) (min k (length next))
-    ∙ ap (λ xs. first ++ xs)
-    (take-append-le (min k (length next)) next rest (omega arith) ∙ take_min k next)
-
-pub front_of_whole : (told before new : Option (List ℕ)) (first next rest whole : List ℕ)
-    → before ≡ grown told first → GrewByFront before new next → whole ≡ first ++ (next ++ rest)
-    → GrewByFront told new whole
-front_of_whole told before new first next rest whole b front w = (
-  length first + min front.0 (length next),
-  front.1 ∙ ap (λ t. grown t (take front.0 next)) b ∙ grown-twice told first (take front.0 next)
-      ∙ ap (grown told) (sym (take_next first next rest front.0))
-      ∙ ap (λ xs. grown told (take (length first + min front.0 (length next)) xs)) (sym w),
-)
+use Rattle.dos_texts.specs.Report.{process_line, process_lines, report_of, rounds_line}
+use Rattle.dos_texts.proofs.Pieces.{front_of_whole}
 
 -- ---- the lines
 
@@ -122,10 +98,6 @@ front_all (Err e) told before new all rounds ending i line past so_far line_is f
     front_of_whole told before new (process_lines 1 all) line [] (report_of all rounds ending)
     (so_far_all told before all i past so_far) front
     (ap (λ l. process_lines 1 all ++ l) (sym line_is ∙ sym (append-nil line)))
-
--- the bytes of a text that was made as a line
-pub same_text : (bytes text line is : List ℕ) → bytes ≡ text → text ≡ line → line ≡ is → bytes ≡ is
-same_text bytes text line is e f g = e ∙ f ∙ g
 
 -- ---- the status of a process
 

@@ -1,8 +1,9 @@
 use Rattle.std.proofs.Common.{◌+◌, map, arith}
 use Rattle.std.proofs.lemmas.List.{length-map}
 use Rattle.dpg_run.specs.Machine.{status_in}
-use Rattle.dpg_run.specs.Report.{process_line, rounds_line}
-use Rattle.dpg_run.proofs.ReportLaws.{front_all, front_more, on_err, same_text, status_at, told_all, told_more}
+use Rattle.dos_texts.specs.Report.{process_line, rounds_line}
+use Rattle.dos_texts.proofs.Pieces.{on_err, same_text}
+use Rattle.dpg_run.proofs.ReportLaws.{front_all, front_more, status_at, told_all, told_more}
 use Rattle.dpg_run.proofs.report.put_lines.Goals as goal
 
 pub returns-in_err-put-clause-front : goal.returns-in_err-put-clause-front
