@@ -3,7 +3,7 @@ use Rattle.std.specs.Prelude.{◌≡◌, ◌++◌, ◌⊎◌, ℕ, List, [], ◌
 use Rattle.dos_world.specs.declared.Config.{Config}
 use Rattle.dos_world.specs.declared.Post.{Post}
 use Rattle.dos_io.specs.declared.exchange.ClockRule.{ClockRule}
-use Rattle.dos_io.specs.declared.exchange.ClockRule.TheVariants.{FromHost, Counted}
+use Rattle.dos_io.specs.declared.exchange.ClockRule.TheVariants as clocks
 use Rattle.dos_io.specs.declared.shim.ShimStop.{ShimStop}
 use Rattle.elf_image.specs.Image.{Image}
 use Rattle.dpg_run.specs.Machine.{Seen}
@@ -27,8 +27,8 @@ pub record RunAsked : Type 0 where
 
 -- a counted clock where its first reading is given, else the host's
 abbrev pub clock_rule : Option ℕ → ℕ → ClockRule
-clock_rule None step = FromHost
-clock_rule (Some start) step = Counted start step
+clock_rule None step = clocks.FromHost
+clock_rule (Some start) step = clocks.Counted start step
 
 -- the header of the log: the run's numbers, and the digests of its images
 abbrev pub header_of : Config → List (List ℕ) → LogHeader

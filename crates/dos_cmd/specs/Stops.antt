@@ -1,4 +1,8 @@
--- How a run that stops ends its call. This project's own rule.
+-- How a group that isn't opened, or a run that stops, ends its call. This project's own rules.
+use Rattle.std.specs.Prelude.{◌≡◌, ◌<◌, List, ⊤}
+use Rattle.dos_world.specs.declared.Config.{Config}
+use Rattle.elf_image.specs.Image.{Image}
+use Rattle.group_open.specs.Opening.{needed}
 use Rattle.kernel_calls.specs.declared.state.RunStop.{RunStop}
 use Rattle.kernel_calls.specs.declared.state.RunStop.TheVariants.{HostFault, LogFull, Misfit, OutFault, ErrFault, Memory}
 use Rattle.dos_texts.specs.declared.refusal.Refusal.{Refusal}
@@ -12,3 +16,11 @@ refusal_by HostFault = refusals.Host
 refusal_by LogFull = refusals.LogFull
 refusal_by (Misfit found) = refusals.Misfit found
 refusal_by Memory = refusals.Memory
+
+-- The group isn't opened: the images need more frames than there are, and both numbers are told; or
+-- memory ran out.
+abbrev pub IsNotOpened : List Image → Config → Refusal → Type 0
+IsNotOpened images config (refusals.NoRoom n frames) =
+    (n ≡ needed images) × (frames ≡ config.frames) × (config.frames < needed images)
+IsNotOpened images config refusals.Memory = ⊤
+IsNotOpened images config _ = ⊥

@@ -1,5 +1,5 @@
 // The command `run`.
-ghost use Rattle.std.specs.Prelude.{◌≡◌, ◌≤◌, ℕ, List, length, IfOk, IfErr, false};
+ghost use Rattle.std.specs.Prelude.{◌≡◌, ◌≤◌, ℕ, List, length, IfOk, IfErr, false, []};
 ghost use Rattle.dos_world.specs.Lawful.{IsConfig};
 ghost use Rattle.elf_image.specs.Image.{Image as Parsed};
 ghost use Rattle.group_open.specs.Opening.{needed};
@@ -10,6 +10,7 @@ ghost use Rattle.dos_cmd.specs.Outside.{outside, faults};
 ghost use Rattle.dos_cmd.specs.Running.{clock_rule, header_of};
 ghost use Rattle.dos_cmd.specs.Results.{Begun, Did, Leaves};
 ghost use Rattle.dos_cmd.specs.Requests.{run_request};
+ghost use Rattle.dos_cmd.specs.Stops.{IsNotOpened};
 
 use crate::images::load_all;
 use crate::stops::refusal_by;
