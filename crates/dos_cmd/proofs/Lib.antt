@@ -1,1 +1,2 @@
+mod RunFiles
 pub mod ReplayLeaves

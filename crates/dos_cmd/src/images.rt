@@ -2,7 +2,7 @@
 ghost use Rattle.std.specs.Prelude.{◌≡◌, ◌≢◌, ◌≤◌, ◌⊎◌, ℕ, List, map, length, IfOk, IfErr, IfSome, IsErrOf};
 ghost use Rattle.dos_io.specs.Outside.{Rose};
 ghost use Rattle.sha2.specs.Sha256.{sha256};
-ghost use Rattle.shim_log.specs.Bytes.{AreDigests};
+ghost use Rattle.shim_log.specs.Bytes.{AreDigests, FitsDigest};
 ghost use Rattle.dos_cmd.specs.Judging.{verdict, images_from, digests_of, OfFiles};
 
 use dos_io::{FileError, Files};
@@ -29,6 +29,7 @@ fn refusal_of(image: u32, error: ImageError) -> Refusal
 }
 
 /// Reads the file of a name as the image of this number; beside it the file's digest.
+#[tactic(auto, using(crate::proofs::RunFiles::told_long))]
 pub(crate) fn load<F: Files>(
     alloc: Global,
     files: &mut F,
@@ -39,6 +40,7 @@ pub(crate) fn load<F: Files>(
         (λ file. verdict image file ≡ Ok x.0)) }
     ensures digest { IfOk result (λ x. IfSome (F.content files.old name.now)
         (λ file. x.1 ≡ sha256 file)) }
+    ensures fits { IfOk result (λ x. FitsDigest x.1) }
     ensures refused { IfErr result (λ why. OfFiles why (λ why. IfSome
         (F.content files.old name.now) (λ file. verdict image file ≡ Err why))) }
     ensures fault { IsErrOf result Refusal.Files → Rose (F.faults files.old) (F.faults files.new) }
