@@ -1,2 +1,3 @@
 mod RunFiles
 pub mod ReplayLeaves
+pub mod ReplayTaking
