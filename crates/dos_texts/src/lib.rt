@@ -7,12 +7,12 @@ mod inspect;
 mod line;
 mod log_lines;
 mod misfit_line;
+mod output;
 mod refusal;
 mod report;
-mod summary;
 
 pub use inspect::put_inspect;
 pub use line::LINE;
+pub use output::put_output;
 pub use refusal::{Refusal, ending_status, put_refusal};
 pub use report::{ending_word, process_line, rounds_line};
-pub use summary::put_summary;
