@@ -2,3 +2,5 @@ mod Saying
 mod Calls
 mod RunFiles
 mod RunEnds
+pub mod ReplayLeaves
+pub mod ReplayTaking
