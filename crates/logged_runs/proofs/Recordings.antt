@@ -43,7 +43,7 @@ no_end_entry : (es : List Exchange) (ending : Ending) (rounds : ℕ)
 no_end_entry [] ending rounds h = h.0.1
 no_end_entry (e ∷ es) ending rounds h = no_end_entry es ending rounds h.1
 
-fronts_same : (es fs : List Exchange) (e f : Exchange) → es ++ e ∷ [] ≡ fs ++ f ∷ [] → es ≡ fs
+pub fronts_same : (es fs : List Exchange) (e f : Exchange) → es ++ e ∷ [] ≡ fs ++ f ∷ [] → es ≡ fs
 fronts_same [] [] e f is = refl
 fronts_same [] (y ∷ []) e f is = absurd cc
 fronts_same [] (y ∷ z ∷ fs) e f is = absurd cc

@@ -1,0 +1,23 @@
+-- Laws of recorded and replayed runs; the functions of the module laws promise them.
+use Rattle.std.specs.Prelude.{◌≡◌, Option, Some, None}
+use Rattle.dos_io.specs.Hosts.{Told}
+use Rattle.shim_log.specs.LogText.{Log, exchanges}
+use Rattle.dpg_run.specs.Fits.{misfit}
+use Rattle.dpg_run.specs.Machine.{Seen}
+use Rattle.logged_runs.specs.Recording.{Plan, Recorded}
+use Rattle.logged_runs.specs.Replaying.{Replayed, config_of}
+
+-- Where the header has the configuration, a replay asks exactly what was recorded, shows the same,
+-- and finds no misfit.
+abbrev pub RecordingsReplay : Type 0
+RecordingsReplay = (plan : Plan) (host host_after : Option Told) (log : Log) (seen : Seen)
+    → Recorded plan host host_after log seen → plan.config ≡ config_of plan.header
+    → Replayed plan.images log seen
+    × (misfit plan.images (config_of log.header) (exchanges log) ≡ None)
+
+-- Two recordings of one plan, over hosts that tell the same before, are one.
+abbrev pub RecordedRunsAreOne : Type 0
+RecordedRunsAreOne = (plan : Plan) (host : Told) (after other_after : Option Told)
+    (log other : Log) (seen other_seen : Seen) → Recorded plan (Some host) after log seen
+    → Recorded plan (Some host) other_after other other_seen
+    → (log ≡ other) × (seen ≡ other_seen)
