@@ -16,9 +16,10 @@ use Rattle.dos_io.specs.declared.exchange.Exchange.TheVariants.{Clock, End, Inpu
 use Rattle.dos_io.proofs.GivenLaws.{given_once, readings_append}
 use Rattle.shim_log.specs.declared.header.LogHeader.{LogHeader}
 use Rattle.shim_log.specs.LogText.{Log, exchanges}
+use Rattle.shim_log.specs.Room.{HadRoom, NoRoom}
 use Rattle.dpg_run.specs.Machine.{Ran, Seen, ends, group, machine}
 use Rattle.dpg_run.proofs.MisfitLaws.{fits_have_none}
-use Rattle.logged_runs.specs.Laws.{RecordedRunsAreOne, RecordingsReplay}
+use Rattle.logged_runs.specs.Laws.{FullRunsNeverEnd, RecordedRunsAreOne, RecordingsReplay}
 use Rattle.logged_runs.specs.Replaying.{config_of}
 use Rattle.logged_runs.specs.Runs.{RanWhole}
 use Rattle.logged_runs.proofs.Recordings.{fronts_same}
@@ -183,3 +184,80 @@ recording_replays plan host after log seen recorded is =
     let ran = subst (λ (c : Config). RanWhole plan.images c (exchanges log) seen) config
     recorded.ran in
     (ran, fits_have_none 0 (exchanges log) (group plan.images (config_of log.header)) ran.fits)
+
+-- ---- where a recorder stops, and where it doesn't
+
+-- Behind what a play asked of some exchanges, a list that it asks whole has one of its next question.
+record Parted (es fs : List Exchange) (question : Question) : Type 0 where
+  pub next : Exchange
+  pub rest : List Exchange
+  pub whole : es ≡ fs ++ next ∷ rest
+  pub asks : question_of next ≡ question
+
+module _ (posts : List (ℕ × Post)) (clock : ClockRule) (host : Told) where
+  parted : {A : Type 0} (seen es fs : List Exchange) (question : Question) (play : Play A)
+      (after other : Option Told) → Given posts clock 0 (Some host) after (seen ++ es)
+      → Given posts clock 0 (Some host) other (seen ++ fs)
+      → questions (map answer_of es) play ≡ map question_of es
+      → questions (map answer_of fs) play ≡ map question_of fs ++ question ∷ []
+      → Parted es fs question
+  parted seen [] [] question (done a) after other g h p q = absurd cc
+  parted seen (e ∷ es) [] question (done a) after other g h p q = absurd cc
+  parted seen [] [] question (ask first o e next) after other g h p q = absurd cc
+  parted seen (e ∷ es) [] question (ask first o n next) after other g h p q =
+      let at = heads first (question_of e) (questions (map answer_of es) (next (answer_of e)))
+      (map question_of es) p in
+      let at' = heads first question [] [] q in
+      record { next = e; rest = es; whole = refl; asks = sym at.0 ∙ at'.0 }
+  parted seen [] (f ∷ fs) question (done a) after other g h p q = absurd cc
+  parted seen [] (f ∷ fs) question (ask first o e next) after other g h p q = absurd cc
+  parted seen (e ∷ es) (f ∷ fs) question (done a) after other g h p q = absurd cc
+  parted seen (e ∷ es) (f ∷ fs) question (ask first o n next) after other g h p q =
+      let at = heads first (question_of e) (questions (map answer_of es) (next (answer_of e)))
+      (map question_of es) p in
+      let at' = heads first (question_of f) (questions (map answer_of fs) (next (answer_of f)))
+      (map question_of fs ++ question ∷ []) q in
+      let same : e ≡ f =
+      next_same posts clock host seen e f es fs after other g h (sym at.0 ∙ at'.0) in
+      let behind = parted (seen ++ e ∷ []) es fs question (next (answer_of e)) after other
+      (subst (Given posts clock 0 (Some host) after) (sym (append_assoc seen (e ∷ []) es)) g)
+      (subst (Given posts clock 0 (Some host) other)
+      (ap (λ x. seen ++ x ∷ fs) (sym same) ∙ sym (append_assoc seen (e ∷ []) fs)) h) at.1
+      (subst (λ x. questions (map answer_of fs) (next (answer_of x))
+      ≡ map question_of fs ++ question ∷ []) (sym same) at'.1) in
+      record {
+        next = behind.next;
+        rest = behind.rest;
+        whole = ap (λ x. x ∷ es) same ∙ ap (λ xs. f ∷ xs) behind.whole;
+        asks = behind.asks;
+      }
+
+-- each exchange that has a log had room, and the end needs none
+room_at : (header : LogHeader) (posts : List (ℕ × Post)) (seen es fs : List Exchange)
+    (next : Exchange) (rest : List Exchange) (ending : Ending) (rounds : ℕ)
+    → es ++ End ending rounds ∷ [] ≡ fs ++ next ∷ rest → HadRoom header posts seen es
+    → NoRoom header posts (seen ++ fs) (question_of next) → ⊥
+room_at header posts seen [] [] next rest ending rounds is had none =
+    let last : End ending rounds ≡ next = cc in
+    subst (λ e. NoRoom header posts (seen ++ []) (question_of e)) (sym last) none
+room_at header posts seen [] (f ∷ []) next rest ending rounds is had none = absurd cc
+room_at header posts seen [] (f ∷ g ∷ fs) next rest ending rounds is had none = absurd cc
+room_at header posts seen (e ∷ es) [] next rest ending rounds is had none =
+    let first : e ≡ next = cc in
+    had.0 (subst (λ x. NoRoom header posts x (question_of e)) (append-nil seen)
+    (subst (λ x. NoRoom header posts (seen ++ []) (question_of x)) (sym first) none))
+room_at header posts seen (e ∷ es) (f ∷ fs) next rest ending rounds is had none =
+    let first : e ≡ f = cc in
+    let left : es ++ End ending rounds ∷ [] ≡ fs ++ next ∷ rest = cc in
+    room_at header posts (seen ++ e ∷ []) es fs next rest ending rounds left had.1
+    (subst (λ x. NoRoom header posts x (question_of next))
+    (ap (λ x. seen ++ x ∷ fs) (sym first) ∙ sym (append_assoc seen (e ∷ []) fs)) none)
+
+pub full_never_ends : FullRunsNeverEnd
+full_never_ends plan host after other_after log seen output error whole full =
+    let parts = parted plan.posts plan.clock host [] (exchanges log) full.before full.question
+    (group plan.images plan.config) after other_after whole.given full.given whole.ran.fits
+    full.ran.asked in
+    room_at plan.header plan.posts [] log.entries full.before parts.next parts.rest log.ending
+    log.rounds parts.whole whole.room
+    (subst (λ q. NoRoom plan.header plan.posts full.before q) (sym parts.asks) full.stops)

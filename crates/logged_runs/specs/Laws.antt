@@ -1,10 +1,11 @@
 -- Laws of recorded and replayed runs; the functions of the module laws promise them.
-use Rattle.std.specs.Prelude.{◌≡◌, Option, Some, None}
+use Rattle.std.specs.Prelude.{◌≡◌, ℕ, List, Option, Some, None}
 use Rattle.dos_io.specs.Hosts.{Told}
+use Rattle.dos_io.specs.declared.shim.ShimStop.TheVariants.{LogFull}
 use Rattle.shim_log.specs.LogText.{Log, exchanges}
 use Rattle.dpg_run.specs.Fits.{misfit}
 use Rattle.dpg_run.specs.Machine.{Seen}
-use Rattle.logged_runs.specs.Recording.{Plan, Recorded}
+use Rattle.logged_runs.specs.Recording.{Plan, Recorded, RecordedUntil}
 use Rattle.logged_runs.specs.Replaying.{Replayed, config_of}
 
 -- Where the header has the configuration, a replay asks exactly what was recorded, shows the same,
@@ -21,3 +22,10 @@ RecordedRunsAreOne = (plan : Plan) (host : Told) (after other_after : Option Tol
     (log other : Log) (seen other_seen : Seen) → Recorded plan (Some host) after log seen
     → Recorded plan (Some host) other_after other other_seen
     → (log ≡ other) × (seen ≡ other_seen)
+
+-- A run that has no room for its log comes to no end: over a host that tells the same before, the
+-- same plan has no whole log.
+abbrev pub FullRunsNeverEnd : Type 0
+FullRunsNeverEnd = (plan : Plan) (host : Told) (after other_after : Option Told) (log : Log)
+    (seen : Seen) (output error : List ℕ) → Recorded plan (Some host) after log seen
+    → RecordedUntil plan (Some host) other_after LogFull output error → ⊥

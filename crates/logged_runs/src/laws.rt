@@ -1,5 +1,5 @@
 //! Laws of recorded and replayed runs, as contracts of functions that do nothing.
-ghost use Rattle.logged_runs.specs.Laws.{RecordedRunsAreOne, RecordingsReplay};
+ghost use Rattle.logged_runs.specs.Laws.{FullRunsNeverEnd, RecordedRunsAreOne, RecordingsReplay};
 
 /// The log of a recorded run fits its images, and its replay shows what the run showed.
 pub fn recordings_replay()
@@ -10,4 +10,10 @@ pub fn recordings_replay()
 /// that is seen of it.
 pub fn recorded_runs_are_one()
     ensures { RecordedRunsAreOne }
+{}
+
+/// A run that stopped since its log had no room can't be recorded whole, over a host that tells the
+/// same before.
+pub fn full_runs_never_end()
+    ensures { FullRunsNeverEnd }
 {}
