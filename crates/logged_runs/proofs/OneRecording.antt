@@ -1,5 +1,5 @@
 -- What the words and the host give determines a recorded run.
-use Rattle.std.proofs.Common.{ℕ, suc, ◌≡◌, refl, sym, ap, ◌∙◌, subst, List, [], ◌∷◌, ◌++◌, map, append_assoc, append-nil, Option, Some, None}
+use Rattle.std.proofs.Common.{ℕ, suc, ◌≡◌, refl, sym, ap, ◌∙◌, subst, List, [], ◌∷◌, ◌++◌, map, append_assoc, append-nil, Option, Some}
 use Rattle.std.proofs.lemmas.List.{append_cancel_left, map-append}
 use Rattle.dos_world.specs.Play.{Play, done, ask, questions}
 use Rattle.dos_world.specs.declared.Config.{Config}

@@ -21,7 +21,8 @@ returns-in-Ok-clause-ran g c =
     let follows = followed g.H.Host.told g.H.Host.faults _ _ _ _ _ _ c.of-shim.ensures.value left
     run.follows.1 in
     recorded c.args.kernel.now c.args.ledger c.of-shim.result.ledger
-    c.run_group.new.shim.ledger _ _ _ _ _ _ _ _ c.of-shim.ensures.ledger c.requires.begins follows c.into_parts-host.result.1
+    c.run_group.new.shim.ledger _ _ _ _ _ _ _ _ c.of-shim.ensures.ledger c.requires.begins
+    follows c.into_parts-host.result.1
     c.run_group.new.kernel c.in-Ok.ending _ _ run.runs.0 run.runs.1 run.runs.2 c.look.ensures
     parts.log parts.header c.len-exchanges.ensures.fits parts.small
 
@@ -44,7 +45,8 @@ returns-in-Err-clause-stopped g c =
     let follows = followed g.H.Host.told g.H.Host.faults _ _ _ _ _ _ c.of-shim.ensures.value left
     run.follows.1 in
     stopped c.args.kernel.now c.args.ledger c.of-shim.result.ledger
-    c.run_group.new.shim.ledger _ _ _ _ _ _ _ _ c.of-shim.ensures.ledger c.requires.begins follows c.in-Err.stop run.asks
+    c.run_group.new.shim.ledger _ _ _ _ _ _ _ _ c.of-shim.ensures.ledger c.requires.begins
+    follows c.in-Err.stop run.asks
     run.causes.shim c.look-in-Err.ensures
 
 pub returns-in-Err-clause-cut : goal.returns-in-Err-clause-cut
@@ -56,7 +58,8 @@ returns-in-Err-clause-cut g c =
     let follows = followed g.H.Host.told g.H.Host.faults _ _ _ _ _ _ c.of-shim.ensures.value left
     run.follows.1 in
     recorded_ahead c.args.kernel.now c.args.ledger c.of-shim.result.ledger
-    c.run_group.new.shim.ledger _ _ _ _ _ _ _ _ c.of-shim.ensures.ledger c.requires.begins follows run.cut
+    c.run_group.new.shim.ledger _ _ _ _ _ _ _ _ c.of-shim.ensures.ledger c.requires.begins
+    follows run.cut
 
 pub returns-in-Err-clause-host_cause : goal.returns-in-Err-clause-host_cause
 returns-in-Err-clause-host_cause g c = λ is.
@@ -67,7 +70,8 @@ returns-in-Err-clause-host_cause g c = λ is.
     let follows = followed g.H.Host.told g.H.Host.faults _ _ _ _ _ _ c.of-shim.ensures.value left
     run.follows.1 in
     host_rose c.args.kernel.now c.args.ledger c.of-shim.result.ledger
-    c.run_group.new.shim.ledger _ _ _ _ (g.O.Sink.told c.args.out.now) (g.E.Sink.told c.args.err.now) (g.O.Sink.told c.args.out.now)
+    c.run_group.new.shim.ledger _ _ _ _ (g.O.Sink.told c.args.out.now) (g.E.Sink.told
+    c.args.err.now) (g.O.Sink.told c.args.out.now)
     (g.E.Sink.told c.args.err.now) c.of-shim.ensures.ledger c.requires.begins follows
     c.in-Err.stop run.causes.shim (this_stop _ _ is)
 
