@@ -2,3 +2,4 @@ pub mod RoundsAsk
 pub mod FromOpening
 pub mod Recordings
 pub mod Replays
+pub mod OneRecording

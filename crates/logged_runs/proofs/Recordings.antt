@@ -8,7 +8,7 @@ use Rattle.dos_world.specs.declared.Question.{Question}
 use Rattle.dos_io.specs.Given.{Given}
 use Rattle.dos_io.specs.Hosts.{Told}
 use Rattle.dos_io.specs.Outside.{Rose}
-use Rattle.dos_io.specs.Shims.{HasNoEnd, ShimState}
+use Rattle.dos_io.specs.Shims.{HasNoEnd}
 use Rattle.dos_io.specs.declared.exchange.ClockRule.{ClockRule}
 use Rattle.dos_io.specs.declared.exchange.Exchange.{Exchange}
 use Rattle.dos_io.specs.declared.exchange.Exchange.TheVariants.{End}
@@ -32,7 +32,7 @@ use Rattle.dpg_run.specs.Machine.{Seen}
 use Rattle.dpg_run.specs.Running.{CutGroup, RanGroup, StoppedGroup}
 use Rattle.logged_runs.specs.Opened.{IsOpened}
 use Rattle.logged_runs.specs.Runs.{Ended, Put, RanUntil, RanWhole}
-use Rattle.logged_runs.specs.Recording.{Recorded, RecordedAhead, RecordedUntil, ledger_after, plan_of}
+use Rattle.logged_runs.specs.Recording.{Recorded, RecordedAhead, RecordedUntil, plan_of}
 use Rattle.logged_runs.proofs.FromOpening.{ran_ahead, ran_until, ran_whole, put_ahead, put_until, until_no_end}
 use Rattle.std.proofs.Common.{◌≤◌, length}
 
@@ -43,7 +43,7 @@ no_end_entry : (es : List Exchange) (ending : Ending) (rounds : ℕ)
 no_end_entry [] ending rounds h = h.0.1
 no_end_entry (e ∷ es) ending rounds h = no_end_entry es ending rounds h.1
 
-fronts_same : (es fs : List Exchange) (e f : Exchange) → es ++ e ∷ [] ≡ fs ++ f ∷ [] → es ≡ fs
+pub fronts_same : (es fs : List Exchange) (e f : Exchange) → es ++ e ∷ [] ≡ fs ++ f ∷ [] → es ≡ fs
 fronts_same [] [] e f is = refl
 fronts_same [] (y ∷ []) e f is = absurd cc
 fronts_same [] (y ∷ z ∷ fs) e f is = absurd cc

@@ -1,7 +1,6 @@
 -- A run over a replayer that was asked nothing before.
-use Rattle.std.proofs.Common.{ℕ, ◌≡◌, refl, sym, ap, ◌∙◌, subst, List, [], ◌∷◌, ◌++◌, length, take, Option, Some, None, Result, Err, IsErrOf, arith}
+use Rattle.std.proofs.Common.{ℕ, ◌≡◌, sym, ap, ◌∙◌, subst, List, [], length, Option, Some, None, Err, IsErrOf, arith}
 use Rattle.std.specs.Prelude.{IfSome, OnSome}
-use Rattle.dos_world.specs.declared.Config.{Config}
 use Rattle.dos_world.specs.declared.Ending.{Ending}
 use Rattle.dos_world.specs.declared.Misfit.{Misfit}
 use Rattle.dos_world.specs.declared.Question.{Question}
@@ -27,7 +26,7 @@ use Rattle.dpg_run.specs.Machine.{Seen, group}
 use Rattle.dpg_run.specs.Running.{CutGroup, RanGroup, StoppedGroup}
 use Rattle.dpg_run.proofs.MisfitLaws.{misfit_at}
 use Rattle.logged_runs.specs.Opened.{IsOpened}
-use Rattle.logged_runs.specs.Runs.{Ended, Put, RanUntil, RanWhole}
+use Rattle.logged_runs.specs.Runs.{Ended, Put, RanWhole}
 use Rattle.logged_runs.specs.Replaying.{Replayed, ReplayedAhead, ReplayedUntil, StopsReplay, config_of}
 use Rattle.logged_runs.proofs.FromOpening.{ran_ahead, ran_until, ran_whole, put_ahead, put_until}
 

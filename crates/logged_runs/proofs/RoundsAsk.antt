@@ -3,7 +3,6 @@ use Rattle.std.proofs.Common.{ℕ, zero, suc, ◌+◌, ◌≡◌, refl, sym, ap,
 use Rattle.std.specs.Prelude.{is_some, ⊤}
 use Rattle.std.proofs.lemmas.Bool.{cond_both}
 use Rattle.dos_world.specs.World.{World, Thread, thread_at, live_threads, ready_threads}
-use Rattle.dos_world.specs.Calls.{Served}
 use Rattle.dos_world.specs.Play.{Play, done, ask, ◌>>=◌, posts_of, questions}
 use Rattle.dos_world.specs.Services.{service, service_for}
 use Rattle.dos_world.specs.Signals.{signalled, ripen}

@@ -2,3 +2,4 @@ pub mod Opened
 pub mod Runs
 pub mod Recording
 pub mod Replaying
+pub mod Laws

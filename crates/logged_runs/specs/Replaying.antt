@@ -1,10 +1,10 @@
 -- A run that is replayed. This project's own rules.
-use Rattle.std.specs.Prelude.{◌≡◌, ⊤, ℕ, List, Option, Some, take}
+use Rattle.std.specs.Prelude.{◌≡◌, ⊤, ℕ, List, Some, take}
 use Rattle.dos_world.specs.declared.Config.{Config}
 use Rattle.dos_world.specs.declared.Misfit.{Misfit}
 use Rattle.elf_image.specs.Image.{Image}
 use Rattle.kernel_calls.specs.declared.state.RunStop.{RunStop}
-use Rattle.kernel_calls.specs.declared.state.RunStop.TheVariants.{HostFault, LogFull, Misfit as MisfitFound, OutFault, ErrFault, Memory}
+use Rattle.kernel_calls.specs.declared.state.RunStop.TheVariants.{HostFault, LogFull, Memory}
 use Rattle.dpg_run.specs.Fits.{misfit}
 use Rattle.dpg_run.specs.Machine.{Seen}
 use Rattle.shim_log.specs.declared.header.LogHeader.{LogHeader}

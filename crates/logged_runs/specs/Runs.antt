@@ -23,8 +23,8 @@ pub record RanWhole (images : List Image) (config : Config) (exchanges : List Ex
   pub fits : Fits images config exchanges
   pub is : machine images config (map answer_of exchanges) ≡ ends seen
 
--- The run asked the questions of these exchanges and then this one, which may be its end; by then it
--- had sent these bytes.
+-- The run asked the questions of these exchanges and then this one, which may be its end; by then
+-- it had sent these bytes.
 pub record RanUntil (images : List Image) (config : Config) (exchanges : List Exchange)
     (question : Question) (output error : List ℕ) : Type 0 where
   pub asks : over (map answer_of exchanges) (group images config) ≡ asks question output error

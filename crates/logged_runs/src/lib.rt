@@ -1,6 +1,7 @@
 //! Runs of a group that was opened, recorded in a log or replayed from one.
 #![tactic(auto)]
 
+pub mod laws;
 mod recording;
 mod replaying;
 

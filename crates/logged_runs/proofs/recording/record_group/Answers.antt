@@ -20,8 +20,9 @@ returns-in-Ok-clause-ran g c =
     ∙ c.hand_back.ensures ∙ parts.value in
     let follows = followed g.H.Host.told g.H.Host.faults _ _ _ _ _ _ c.of-shim.ensures.value left
     run.follows.1 in
-    recorded c.args.kernel.now c.args.ledger c.of-shim.result.ledger c.run_group.new.shim.ledger _ _ _ _
-    _ _ _ _ c.of-shim.ensures.ledger c.requires.begins follows c.into_parts-host.result.1
+    recorded c.args.kernel.now c.args.ledger c.of-shim.result.ledger
+    c.run_group.new.shim.ledger _ _ _ _ _ _ _ _ c.of-shim.ensures.ledger c.requires.begins
+    follows c.into_parts-host.result.1
     c.run_group.new.kernel c.in-Ok.ending _ _ run.runs.0 run.runs.1 run.runs.2 c.look.ensures
     parts.log parts.header c.len-exchanges.ensures.fits parts.small
 
@@ -43,8 +44,9 @@ returns-in-Err-clause-stopped g c =
     ∙ c.hand_back-in-Err.ensures ∙ host.value in
     let follows = followed g.H.Host.told g.H.Host.faults _ _ _ _ _ _ c.of-shim.ensures.value left
     run.follows.1 in
-    stopped c.args.kernel.now c.args.ledger c.of-shim.result.ledger c.run_group.new.shim.ledger _ _ _ _
-    _ _ _ _ c.of-shim.ensures.ledger c.requires.begins follows c.in-Err.stop run.asks
+    stopped c.args.kernel.now c.args.ledger c.of-shim.result.ledger
+    c.run_group.new.shim.ledger _ _ _ _ _ _ _ _ c.of-shim.ensures.ledger c.requires.begins
+    follows c.in-Err.stop run.asks
     run.causes.shim c.look-in-Err.ensures
 
 pub returns-in-Err-clause-cut : goal.returns-in-Err-clause-cut
@@ -55,8 +57,9 @@ returns-in-Err-clause-cut g c =
     ∙ c.hand_back-in-Err.ensures ∙ host.value in
     let follows = followed g.H.Host.told g.H.Host.faults _ _ _ _ _ _ c.of-shim.ensures.value left
     run.follows.1 in
-    recorded_ahead c.args.kernel.now c.args.ledger c.of-shim.result.ledger c.run_group.new.shim.ledger _ _ _ _
-    _ _ _ _ c.of-shim.ensures.ledger c.requires.begins follows run.cut
+    recorded_ahead c.args.kernel.now c.args.ledger c.of-shim.result.ledger
+    c.run_group.new.shim.ledger _ _ _ _ _ _ _ _ c.of-shim.ensures.ledger c.requires.begins
+    follows run.cut
 
 pub returns-in-Err-clause-host_cause : goal.returns-in-Err-clause-host_cause
 returns-in-Err-clause-host_cause g c = λ is.
@@ -66,8 +69,9 @@ returns-in-Err-clause-host_cause g c = λ is.
     ∙ c.hand_back-in-Err.ensures ∙ host.value in
     let follows = followed g.H.Host.told g.H.Host.faults _ _ _ _ _ _ c.of-shim.ensures.value left
     run.follows.1 in
-    host_rose c.args.kernel.now c.args.ledger c.of-shim.result.ledger c.run_group.new.shim.ledger _ _ _ _
-    (g.O.Sink.told c.args.out.now) (g.E.Sink.told c.args.err.now) (g.O.Sink.told c.args.out.now)
+    host_rose c.args.kernel.now c.args.ledger c.of-shim.result.ledger
+    c.run_group.new.shim.ledger _ _ _ _ (g.O.Sink.told c.args.out.now) (g.E.Sink.told
+    c.args.err.now) (g.O.Sink.told c.args.out.now)
     (g.E.Sink.told c.args.err.now) c.of-shim.ensures.ledger c.requires.begins follows
     c.in-Err.stop run.causes.shim (this_stop _ _ is)
 

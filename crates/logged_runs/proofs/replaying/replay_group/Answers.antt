@@ -1,10 +1,6 @@
-use Rattle.std.proofs.Common.{refl, sym, ap, subst, ◌≡◌, ◌∙◌, ℕ, take, [], List, Err, IsErrOf}
+use Rattle.std.proofs.Common.{sym, subst}
 use Rattle.dos_io.specs.Shims.{HasNoEnd}
-use Rattle.dos_io.specs.declared.exchange.Exchange.{Exchange}
-use Rattle.kernel_calls.specs.declared.state.RunStop.{RunStop}
-use Rattle.kernel_calls.specs.declared.state.RunStop.TheVariants as stops
-use Rattle.shim_log.specs.Replay.{ReplayState, replayer_state}
-use Rattle.shim_log.specs.LogText.{exchanges}
+use Rattle.shim_log.specs.Replay.{replayer_state}
 use Rattle.logged_runs.proofs.FromOpening.{is_told}
 use Rattle.logged_runs.proofs.Replays.{only, replayed, replayed_ahead, replayed_until, nothing_told, same_log, this_stop}
 use Rattle.logged_runs.proofs.replaying.replay_group.Goals as goal

@@ -1,0 +1,263 @@
+-- What the words and the host give determines a recorded run.
+use Rattle.std.proofs.Common.{ℕ, suc, ◌≡◌, refl, sym, ap, ◌∙◌, subst, List, [], ◌∷◌, ◌++◌, map, append_assoc, append-nil, Option, Some}
+use Rattle.std.proofs.lemmas.List.{append_cancel_left, map-append}
+use Rattle.dos_world.specs.Play.{Play, done, ask, questions}
+use Rattle.dos_world.specs.declared.Config.{Config}
+use Rattle.dos_world.specs.declared.Ending.{Ending}
+use Rattle.dos_world.specs.declared.Post.{Post}
+use Rattle.dos_world.specs.declared.Question.{Question}
+use Rattle.dos_io.specs.Exchanges.{answer_of, question_of}
+use Rattle.dos_io.specs.Given.{AreCountedFrom, Given, GivesCounted, GivesHost, GivesInputs, GivesPosts, readings}
+use Rattle.dos_io.specs.Hosts.{Told, taken}
+use Rattle.dos_io.specs.declared.exchange.ClockRule.{ClockRule}
+use Rattle.dos_io.specs.declared.exchange.ClockRule.TheVariants.{Counted, FromHost}
+use Rattle.dos_io.specs.declared.exchange.Exchange.{Exchange}
+use Rattle.dos_io.specs.declared.exchange.Exchange.TheVariants.{Clock, End, Input, Signals}
+use Rattle.dos_io.proofs.GivenLaws.{given_once, readings_append}
+use Rattle.shim_log.specs.declared.header.LogHeader.{LogHeader}
+use Rattle.shim_log.specs.LogText.{Log, exchanges}
+use Rattle.shim_log.specs.Room.{HadRoom, NoRoom}
+use Rattle.dpg_run.specs.Machine.{Ran, Seen, ends, group, machine}
+use Rattle.dpg_run.proofs.MisfitLaws.{fits_have_none}
+use Rattle.logged_runs.specs.Laws.{FullRunsNeverEnd, RecordedRunsAreOne, RecordingsReplay}
+use Rattle.logged_runs.specs.Replaying.{config_of}
+use Rattle.logged_runs.specs.Runs.{RanWhole}
+use Rattle.logged_runs.proofs.Recordings.{fronts_same}
+
+-- ---- the front of what was given
+
+posts_front : (posts : List (ℕ × Post)) (es fs : List Exchange) → GivesPosts posts (es ++ fs)
+    → GivesPosts posts es
+posts_front posts [] fs h = tt
+posts_front posts (Signals round list ∷ es) fs h = (h.0, posts_front posts es fs h.1)
+posts_front posts (Input round tid max bytes ∷ es) fs h = posts_front posts es fs h
+posts_front posts (Clock round tid n ∷ es) fs h = posts_front posts es fs h
+posts_front posts (End ending rounds ∷ es) fs h = posts_front posts es fs h
+
+inputs_front : (before after : List (List ℕ)) (es fs : List Exchange)
+    → GivesInputs before after (es ++ fs) → (left : List (List ℕ)) × GivesInputs before left es
+inputs_front before after [] fs h = (before, refl)
+inputs_front before after (Signals round list ∷ es) fs h = inputs_front before after es fs h
+inputs_front before after (Input round tid max bytes ∷ es) fs h =
+    let rest = inputs_front (taken max before).1 after es fs h.1 in (rest.0, (h.0, rest.1))
+inputs_front before after (Clock round tid n ∷ es) fs h = inputs_front before after es fs h
+inputs_front before after (End ending rounds ∷ es) fs h = inputs_front before after es fs h
+
+counted_front : (start step k : ℕ) (ns ms : List ℕ) → AreCountedFrom start step k (ns ++ ms)
+    → AreCountedFrom start step k ns
+counted_front start step k [] ms h = tt
+counted_front start step k (n ∷ ns) ms h = (h.0, counted_front start step (suc k) ns ms h.1)
+
+rule_front : (clock : ClockRule) (k : ℕ) (es fs : List Exchange)
+    → GivesCounted clock k (es ++ fs) → GivesCounted clock k es
+rule_front FromHost k es fs h = tt
+rule_front (Counted start step) k es fs h =
+    counted_front start step k (readings es) (readings fs)
+    (subst (AreCountedFrom start step k) (readings_append es fs) h)
+
+host_front : (clock : ClockRule) (before : Told) (after : Option Told) (es fs : List Exchange)
+    → GivesHost clock (Some before) after (es ++ fs)
+    → (left : Option Told) × GivesHost clock (Some before) left es
+host_front FromHost before after es fs h =
+    let pieces = inputs_front before.pieces h.0.pieces es fs h.2 in
+    let left : Told =
+    record { pieces = pieces.0; readings = readings fs ++ h.0.readings } in (
+      Some left,
+      (
+        left,
+        refl,
+        pieces.1,
+        sym (append_assoc (readings es) (readings fs) h.0.readings)
+            ∙ ap (λ ns. ns ++ h.0.readings) (sym (readings_append es fs)) ∙ h.3,
+      ),
+    )
+host_front (Counted start step) before after es fs h =
+    let pieces = inputs_front before.pieces h.0.pieces es fs h.2 in
+    let left : Told = record { pieces = pieces.0; readings = h.0.readings } in
+    (Some left, (left, refl, pieces.1, h.3))
+
+given_front : (posts : List (ℕ × Post)) (clock : ClockRule) (k : ℕ) (before : Told)
+    (after : Option Told) (es fs : List Exchange)
+    → Given posts clock k (Some before) after (es ++ fs)
+    → (left : Option Told) × Given posts clock k (Some before) left es
+given_front posts clock k before after es fs g =
+    let host = host_front clock before after es fs g.host in (
+      host.0,
+      record {
+        signals = posts_front posts es fs g.signals;
+        counted = rule_front clock k es fs g.counted;
+        host = host.1;
+      },
+    )
+
+-- ---- one list
+
+heads : (q r : Question) (qs rs : List Question) → q ∷ qs ≡ r ∷ rs → (q ≡ r) × (qs ≡ rs)
+heads q r qs rs is = (cc, cc)
+
+lasts_same : (es : List Exchange) (e f : Exchange) → es ++ e ∷ [] ≡ es ++ f ∷ [] → e ≡ f
+lasts_same es e f is =
+    let last : e ∷ [] ≡ f ∷ [] = append_cancel_left es (e ∷ []) (f ∷ []) is in cc
+
+module _ (posts : List (ℕ × Post)) (clock : ClockRule) (host : Told) where
+  -- behind the same exchanges, the same question has the same answer
+  next_same : (seen : List Exchange) (e f : Exchange) (es fs : List Exchange)
+      (after other : Option Told) → Given posts clock 0 (Some host) after (seen ++ e ∷ es)
+      → Given posts clock 0 (Some host) other (seen ++ f ∷ fs)
+      → question_of e ≡ question_of f → e ≡ f
+  next_same seen e f es fs after other g h same =
+      let left = given_front posts clock 0 host after (seen ++ e ∷ []) es
+      (subst (Given posts clock 0 (Some host) after) (sym (append_assoc seen (e ∷ []) es)) g) in
+      let right = given_front posts clock 0 host other (seen ++ f ∷ []) fs
+      (subst (Given posts clock 0 (Some host) other) (sym (append_assoc seen (f ∷ []) fs)) h) in
+      lasts_same seen e f
+      (given_once posts clock 0 host left.0 right.0 (seen ++ e ∷ []) (seen ++ f ∷ []) left.1
+      right.1 (map-append question_of seen (e ∷ [])
+      ∙ ap (λ q. map question_of seen ++ q ∷ []) same
+      ∙ sym (map-append question_of seen (f ∷ []))))
+
+  -- behind the same exchanges a play asks one list
+  one_list : {A : Type 0} (seen es fs : List Exchange) (play : Play A) (after other : Option Told)
+      → Given posts clock 0 (Some host) after (seen ++ es)
+      → Given posts clock 0 (Some host) other (seen ++ fs)
+      → questions (map answer_of es) play ≡ map question_of es
+      → questions (map answer_of fs) play ≡ map question_of fs → es ≡ fs
+  one_list seen [] [] play after other g h p q = refl
+  one_list seen [] (f ∷ fs) (done a) after other g h p q = absurd cc
+  one_list seen [] (f ∷ fs) (ask question o e next) after other g h p q = absurd cc
+  one_list seen (e ∷ es) [] (done a) after other g h p q = absurd cc
+  one_list seen (e ∷ es) [] (ask question o n next) after other g h p q = absurd cc
+  one_list seen (e ∷ es) (f ∷ fs) (done a) after other g h p q = absurd cc
+  one_list seen (e ∷ es) (f ∷ fs) (ask question o n next) after other g h p q =
+      let at = heads question (question_of e) (questions (map answer_of es) (next (answer_of e)))
+      (map question_of es) p in
+      let at' = heads question (question_of f) (questions (map answer_of fs) (next (answer_of f)))
+      (map question_of fs) q in
+      let first : e ≡ f =
+      next_same seen e f es fs after other g h (sym at.0 ∙ at'.0) in
+      ap (λ x. x ∷ es) first
+      ∙ ap (λ xs. f ∷ xs)
+      (one_list (seen ++ e ∷ []) es fs (next (answer_of e)) after other
+      (subst (Given posts clock 0 (Some host) after) (sym (append_assoc seen (e ∷ []) es)) g)
+      (subst (Given posts clock 0 (Some host) other)
+      (ap (λ x. seen ++ x ∷ fs) (sym first) ∙ sym (append_assoc seen (e ∷ []) fs)) h) at.1
+      (subst (λ x. questions (map answer_of fs) (next (answer_of x)) ≡ map question_of fs)
+      (sym first) at'.1))
+
+-- ---- one log
+
+abbrev log_of : LogHeader → List Exchange → Ending → ℕ → Log
+log_of header entries ending rounds =
+    record { header = header; entries = entries; ending = ending; rounds = rounds }
+
+one_log : (a b : Log) → a.header ≡ b.header → exchanges a ≡ exchanges b → a ≡ b
+one_log a b header same =
+    let entries : a.entries ≡ b.entries =
+    fronts_same a.entries b.entries (End a.ending a.rounds) (End b.ending b.rounds) same in
+    let last : End a.ending a.rounds ≡ End b.ending b.rounds =
+    lasts_same a.entries (End a.ending a.rounds) (End b.ending b.rounds)
+    (same ∙ ap (λ es. es ++ End b.ending b.rounds ∷ []) (sym entries)) in
+    let ending : a.ending ≡ b.ending = cc in
+    let rounds : a.rounds ≡ b.rounds = cc in
+    ap (λ (h : LogHeader). log_of h a.entries a.ending a.rounds) header
+    ∙ ap (λ (es : List Exchange). log_of b.header es a.ending a.rounds) entries
+    ∙ ap (λ (e : Ending). log_of b.header b.entries e a.rounds) ending
+    ∙ ap (λ (n : ℕ). log_of b.header b.entries b.ending n) rounds
+
+one_seen : {a b : Seen} → ◌≡◌ {A = Ran} (ends a) (ends b) → a ≡ b
+one_seen is = cc
+
+pub recorded_once : RecordedRunsAreOne
+recorded_once plan host after other_after log other seen other_seen a b =
+    let same : exchanges log ≡ exchanges other =
+    one_list plan.posts plan.clock host [] (exchanges log) (exchanges other)
+    (group plan.images plan.config) after other_after a.given b.given a.ran.fits b.ran.fits in (
+      one_log log other (a.header ∙ sym b.header) same,
+      one_seen (sym a.ran.is
+          ∙ ap (λ es. machine plan.images plan.config (map answer_of es)) same ∙ b.ran.is),
+    )
+
+pub recording_replays : RecordingsReplay
+recording_replays plan host after log seen recorded is =
+    let config : plan.config ≡ config_of log.header =
+    is ∙ ap config_of (sym recorded.header) in
+    let ran = subst (λ (c : Config). RanWhole plan.images c (exchanges log) seen) config
+    recorded.ran in
+    (ran, fits_have_none 0 (exchanges log) (group plan.images (config_of log.header)) ran.fits)
+
+-- ---- where a recorder stops, and where it doesn't
+
+-- Behind what a play asked of some exchanges, a list that it asks whole has one of its next question.
+record Parted (es fs : List Exchange) (question : Question) : Type 0 where
+  pub next : Exchange
+  pub rest : List Exchange
+  pub whole : es ≡ fs ++ next ∷ rest
+  pub asks : question_of next ≡ question
+
+module _ (posts : List (ℕ × Post)) (clock : ClockRule) (host : Told) where
+  parted : {A : Type 0} (seen es fs : List Exchange) (question : Question) (play : Play A)
+      (after other : Option Told) → Given posts clock 0 (Some host) after (seen ++ es)
+      → Given posts clock 0 (Some host) other (seen ++ fs)
+      → questions (map answer_of es) play ≡ map question_of es
+      → questions (map answer_of fs) play ≡ map question_of fs ++ question ∷ []
+      → Parted es fs question
+  parted seen [] [] question (done a) after other g h p q = absurd cc
+  parted seen (e ∷ es) [] question (done a) after other g h p q = absurd cc
+  parted seen [] [] question (ask first o e next) after other g h p q = absurd cc
+  parted seen (e ∷ es) [] question (ask first o n next) after other g h p q =
+      let at = heads first (question_of e) (questions (map answer_of es) (next (answer_of e)))
+      (map question_of es) p in
+      let at' = heads first question [] [] q in
+      record { next = e; rest = es; whole = refl; asks = sym at.0 ∙ at'.0 }
+  parted seen [] (f ∷ fs) question (done a) after other g h p q = absurd cc
+  parted seen [] (f ∷ fs) question (ask first o e next) after other g h p q = absurd cc
+  parted seen (e ∷ es) (f ∷ fs) question (done a) after other g h p q = absurd cc
+  parted seen (e ∷ es) (f ∷ fs) question (ask first o n next) after other g h p q =
+      let at = heads first (question_of e) (questions (map answer_of es) (next (answer_of e)))
+      (map question_of es) p in
+      let at' = heads first (question_of f) (questions (map answer_of fs) (next (answer_of f)))
+      (map question_of fs ++ question ∷ []) q in
+      let same : e ≡ f =
+      next_same posts clock host seen e f es fs after other g h (sym at.0 ∙ at'.0) in
+      let behind = parted (seen ++ e ∷ []) es fs question (next (answer_of e)) after other
+      (subst (Given posts clock 0 (Some host) after) (sym (append_assoc seen (e ∷ []) es)) g)
+      (subst (Given posts clock 0 (Some host) other)
+      (ap (λ x. seen ++ x ∷ fs) (sym same) ∙ sym (append_assoc seen (e ∷ []) fs)) h) at.1
+      (subst (λ x. questions (map answer_of fs) (next (answer_of x))
+      ≡ map question_of fs ++ question ∷ []) (sym same) at'.1) in
+      record {
+        next = behind.next;
+        rest = behind.rest;
+        whole = ap (λ x. x ∷ es) same ∙ ap (λ xs. f ∷ xs) behind.whole;
+        asks = behind.asks;
+      }
+
+-- each exchange that has a log had room, and the end needs none
+room_at : (header : LogHeader) (posts : List (ℕ × Post)) (seen es fs : List Exchange)
+    (next : Exchange) (rest : List Exchange) (ending : Ending) (rounds : ℕ)
+    → es ++ End ending rounds ∷ [] ≡ fs ++ next ∷ rest → HadRoom header posts seen es
+    → NoRoom header posts (seen ++ fs) (question_of next) → ⊥
+room_at header posts seen [] [] next rest ending rounds is had none =
+    let last : End ending rounds ≡ next = cc in
+    subst (λ e. NoRoom header posts (seen ++ []) (question_of e)) (sym last) none
+room_at header posts seen [] (f ∷ []) next rest ending rounds is had none = absurd cc
+room_at header posts seen [] (f ∷ g ∷ fs) next rest ending rounds is had none = absurd cc
+room_at header posts seen (e ∷ es) [] next rest ending rounds is had none =
+    let first : e ≡ next = cc in
+    had.0 (subst (λ x. NoRoom header posts x (question_of e)) (append-nil seen)
+    (subst (λ x. NoRoom header posts (seen ++ []) (question_of x)) (sym first) none))
+room_at header posts seen (e ∷ es) (f ∷ fs) next rest ending rounds is had none =
+    let first : e ≡ f = cc in
+    let left : es ++ End ending rounds ∷ [] ≡ fs ++ next ∷ rest = cc in
+    room_at header posts (seen ++ e ∷ []) es fs next rest ending rounds left had.1
+    (subst (λ x. NoRoom header posts x (question_of next))
+    (ap (λ x. seen ++ x ∷ fs) (sym first) ∙ sym (append_assoc seen (e ∷ []) fs)) none)
+
+pub full_never_ends : FullRunsNeverEnd
+full_never_ends plan host after other_after log seen output error whole full =
+    let parts = parted plan.posts plan.clock host [] (exchanges log) full.before full.question
+    (group plan.images plan.config) after other_after whole.given full.given whole.ran.fits
+    full.ran.asked in
+    room_at plan.header plan.posts [] log.entries full.before parts.next parts.rest log.ending
+    log.rounds parts.whole whole.room
+    (subst (λ q. NoRoom plan.header plan.posts full.before q) (sym parts.asks) full.stops)
