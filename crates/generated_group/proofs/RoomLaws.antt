@@ -30,7 +30,12 @@ length-rising (n ∷ ns) =
 length-rising_two : (ns ms : List ℕ)
     → length (rising (ns ++ (ms ++ []))) ≤ length ns + length ms
 length-rising_two ns ms =
-    omega (arith, length-rising (ns ++ (ms ++ [])), length-append ns (ms ++ []), length-append ms [])
+    omega (
+      arith,
+      length-rising (ns ++ (ms ++ [])),
+      length-append ns (ms ++ []),
+      length-append ms [],
+    )
 
 -- ---- the pages of the two parts
 

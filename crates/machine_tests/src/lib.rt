@@ -1,9 +1,11 @@
-//! Tests of one machine: instructions and what they do, executable files, and the assembler.
-//! Nothing stands on it.
+//! Tests of one machine: instructions and what they do, executable files, the assembler, and the
+//! image that is made from a number. Nothing stands on it.
 #![tactic(auto)]
 
 #[cfg(test)]
 mod assembler;
+#[cfg(test)]
+mod generated;
 #[cfg(test)]
 mod images;
 #[cfg(test)]
