@@ -1,8 +1,8 @@
-pub mod Words
-pub mod Shown
-pub mod Lines
-pub mod Printed
-pub mod Images
-pub mod Exit
-pub mod Results
+pub mod Outside
+pub mod Judging
+pub mod Running
+pub mod Replaying
+pub mod Printing
 pub mod Stops
+pub mod Requests
+pub mod Results

@@ -1,13 +1,16 @@
-//! The images of a call, read from their files.
-ghost use Rattle.std.specs.Prelude.{◌≡◌, ◌≢◌, ◌≤◌, ◌<◌, ◌^◌, ◌⊎◌, ℕ, List, map, length, IfOk, IfErr, IfSome, IsErrOf};
+// The images of a call, read from their files.
+ghost use Rattle.std.specs.Prelude.{◌≡◌, ◌≢◌, ◌≤◌, ◌⊎◌, ℕ, List, map, length, IfOk, IfErr, IfSome, IsErrOf};
 ghost use Rattle.dos_io.specs.Outside.{Rose};
-ghost use Rattle.dos_cmd.specs.Words.{texts};
-ghost use Rattle.dos_cmd.specs.Images.{verdict, images_from};
-ghost use Rattle.dos_cmd.specs.Exit.{refusal_status};
+ghost use Rattle.sha2.specs.Sha256.{sha256};
+ghost use Rattle.shim_log.specs.Bytes.{AreDigests, FitsDigest};
+ghost use Rattle.dos_cmd.specs.Judging.{verdict, images_from, digests_of, OfFiles};
 
-use crate::exit::Refusal;
 use dos_io::{FileError, Files};
+use dos_texts::Refusal;
+use dos_words::Names;
 use elf_image::{Image, ImageError, read_image};
+use log_files::digest_of;
+use shim_log::Digests;
 use std::alloc::Global;
 
 /// The longest file that is read.
@@ -25,24 +28,25 @@ fn refusal_of(image: u32, error: ImageError) -> Refusal
     }
 }
 
-/// Reads the file of a name as the image of this number.
-#[tactic(auto, using(crate::proofs::Verdicts::told_long), unfolding(crate::specs::Exit::refusal_status))]
-pub fn load<F: Files>(
+/// Reads the file of a name as the image of this number; beside it the file's digest.
+#[tactic(auto, using(crate::proofs::RunFiles::told_long))]
+pub(crate) fn load<F: Files>(
     alloc: Global,
     files: &mut F,
     image: u32,
     name: &str,
-) -> Result<Image, Refusal>
-    ensures accepted { IfOk result
-        (λ parsed. IfSome (F.content files.old name.now)
-        (λ file. verdict image file ≡ Ok parsed)) }
-    ensures refused { IfErr result (λ why. refusal_status why ≡ 3
-        → IfSome (F.content files.old name.now) (λ file. verdict image file ≡ Err why)) }
+) -> Result<(Image, [u8; 32]), Refusal>
+    ensures accepted { IfOk result (λ x. IfSome (F.content files.old name.now)
+        (λ file. verdict image file ≡ Ok x.0)) }
+    ensures digest { IfOk result (λ x. IfSome (F.content files.old name.now)
+        (λ file. x.1 ≡ sha256 file)) }
+    ensures fits { IfOk result (λ x. FitsDigest x.1) }
+    ensures refused { IfErr result (λ why. OfFiles why (λ why. IfSome
+        (F.content files.old name.now) (λ file. verdict image file ≡ Err why))) }
     ensures fault { IsErrOf result Refusal.Files → Rose (F.faults files.old) (F.faults files.new) }
-    ensures words { ¬ IsErrOf result Refusal.Words }
-    ensures sink { ¬ IsErrOf result Refusal.Sink }
     ensures later { F.faults files.old ≤ F.faults files.new }
     ensures stays { (n : List ℕ) → F.content files.new n ≡ F.content files.old n }
+    ensures tells { F.tells files.new ≡ F.tells files.old }
 {
     let bytes = match files.get(name, LIMIT) {
         Ok(bytes) => bytes,
@@ -51,36 +55,38 @@ pub fn load<F: Files>(
         Err(FileError::Memory) => return Err(Refusal::Memory),
     };
     match read_image(alloc, &bytes) {
-        Ok(parsed) => Ok(parsed),
+        Ok(parsed) => Ok((parsed, digest_of(&bytes))),
         Err(error) => Err(refusal_of(image, error)),
     }
 }
 
-/// Reads the files of these names as images, one after another.
-pub fn load_all<F: Files>(
+/// Reads the files of these names as images, one after another; beside them the files' digests.
+pub(crate) fn load_all<F: Files>(
     alloc: Global,
     files: &mut F,
-    names: &[String],
-) -> Result<Vec<Image>, Refusal>
+    names: &Names,
+) -> Result<(Vec<Image>, Digests), Refusal>
     requires { length names.now ≤ 8 }
-    ensures accepted { IfOk result
-        (λ images. IfSome (images_from 1 (map (F.content files.old) (texts names.now)))
-        (λ j. j ≡ Ok images.items)) }
-    ensures count { IfOk result (λ images. length images.items ≡ length names.now) }
-    ensures refused { IfErr result (λ why. refusal_status why ≡ 3
-        → IfSome (images_from 1 (map (F.content files.old) (texts names.now))) (λ j. j ≡ Err why)) }
+    ensures accepted { IfOk result (λ x. IfSome
+        (images_from 1 (map (F.content files.old) names.now)) (λ j. j ≡ Ok x.0.items)) }
+    ensures digests { IfOk result (λ x. IfSome
+        (digests_of (map (F.content files.old) names.now)) (λ digests. x.1 ≡ digests)) }
+    ensures count { IfOk result (λ x. length x.0.items ≡ length names.now) }
+    ensures digest_count { IfOk result (λ x. length x.1 ≡ length names.now) }
+    ensures are_digests { IfOk result (λ x. AreDigests x.1) }
+    ensures refused { IfErr result (λ why. OfFiles why (λ why. IfSome
+        (images_from 1 (map (F.content files.old) names.now)) (λ j. j ≡ Err why))) }
     ensures fault { IsErrOf result Refusal.Files → Rose (F.faults files.old) (F.faults files.new) }
-    ensures words { ¬ IsErrOf result Refusal.Words }
-    ensures sink { ¬ IsErrOf result Refusal.Sink }
     ensures later { F.faults files.old ≤ F.faults files.new }
     ensures stays { (n : List ℕ) → F.content files.new n ≡ F.content files.old n }
+    ensures tells { F.tells files.new ≡ F.tells files.old }
 {
     let mut images = Vec::new(alloc);
-    let mut number = 1;
-    for name in names {
-        let image = load(alloc, files, number, name.as_str())?;
+    let mut digests = Digests::new();
+    for index in 0..names.len() {
+        let (image, digest) = load(alloc, files, index as u32 + 1, names.at(index))?;
         images.push(image)?;
-        number += 1;
+        digests.push(digest);
     }
-    Ok(images)
+    Ok((images, digests))
 }

@@ -1,86 +1,44 @@
-//! What `inspect` prints, a line for the entry and one for each part.
-ghost use Rattle.std.specs.Prelude.{◌≡◌, ◌≤◌, IfOk, IfErr, OnOk, OnErr};
-ghost use Rattle.dos_io.specs.Outside.{grown, GrewByFront, HasCause};
-ghost use Rattle.elf_image.specs.Image.{size_of};
-ghost use Rattle.dos_cmd.specs.Printed.{rights, entry_line, part_line, inspect_lines};
+// The command `inspect`.
+ghost use Rattle.std.specs.Prelude.{◌≤◌, ℕ, List, Option, [], IfOk, IfErr};
+ghost use Rattle.dos_io.specs.Hosts.{Told};
+ghost use Rattle.dos_texts.specs.Exit.{ending_status};
+ghost use Rattle.dos_words.specs.declared.request.Request.TheVariants as requests;
+ghost use Rattle.dos_cmd.specs.Outside.{outside, faults};
+ghost use Rattle.dos_cmd.specs.Results.{Begun, Did, Leaves};
 
-use crate::exit::Refusal;
-use crate::line::{LINE, push_hex};
-use arrayvec::ArrayString;
-use dos_io::Sink;
+use crate::images::load;
+use dos_io::{Files, Sink};
+use dos_texts::{Refusal, put_inspect};
 use dos_world::Ending;
-use elf_image::{Image, Part};
-use itoa::Buffer;
+use std::alloc::Global;
 
-#[tactic(auto, unfolding(crate::specs::Printed::entry_line))]
-fn entry_line(entry: u32) -> ArrayString<LINE>
-    ensures { result.bytes ≡ entry_line entry }
+/// Does what `inspect` is asked for.
+pub(crate) fn inspect<F: Files, O: Sink>(
+    alloc: Global,
+    name: &str,
+    files: &mut F,
+    out: &mut O,
+) -> Result<Ending, Refusal>
+    // whatever a host and error tell, and however often they failed
+    ensures did { IfOk result (λ ending. (h : Option Told) (e : Option (List ℕ)) (t : ℕ)
+        → Begun (requests.Inspect name.now)
+        (outside (F.tells files.old) (F.content files.old) (F.content files.new) h h
+        (O.told out.old) (O.told out.new) e e t t)
+        (λ taken. Did (requests.Inspect name.now) taken (ending_status ending)
+        (outside (F.tells files.old) (F.content files.old) (F.content files.new) h h
+        (O.told out.old) (O.told out.new) e e t t))) }
+    ensures leaves { IfErr result (λ why. (h : Option Told) (e : Option (List ℕ)) (t m n : ℕ)
+        → Leaves (requests.Inspect name.now)
+        (outside (F.tells files.old) (F.content files.old) (F.content files.new) h h
+        (O.told out.old) (O.told out.new) e e t t)
+        (faults (F.faults files.old) (F.faults files.new) m m
+        (O.faults out.old) (O.faults out.new) n n) why []) }
+    ensures files_later { F.faults files.old ≤ F.faults files.new }
+    ensures out_later { O.faults out.old ≤ O.faults out.new }
 {
-    let mut line = ArrayString::new();
-    line.push_str("entry ");
-    push_hex(&mut line, 8, entry);
-    line.push_str("\n");
-    line
-}
-
-fn rights(part: &Part) -> &'static str
-    ensures { result.now ≡ rights part.now }
-{
-    match (part.write, part.exec) {
-        (true, true) => "rwx",
-        (true, false) => "rw-",
-        (false, true) => "r-x",
-        (false, false) => "r--",
-    }
-}
-
-#[tactic(auto, unfolding(crate::specs::Printed::part_line))]
-fn part_line(part: &Part) -> ArrayString<LINE>
-    requires { size_of part.now ≤ 0xffffffff }
-    ensures { result.bytes ≡ part_line part.now }
-{
-    let mut number = Buffer::new();
-    let mut line = ArrayString::new();
-    line.push_str("load ");
-    push_hex(&mut line, 8, part.address);
-    line.push_str(" file ");
-    line.push_str(number.format(part.bytes.len()));
-    line.push_str(" memory ");
-    line.push_str(number.format(part.bytes.len() + part.zeros as usize));
-    line.push_str(" rights ");
-    line.push_str(rights(part));
-    line.push_str("\n");
-    line
-}
-
-/// Puts a line by one put. Where that fails a front of it was put.
-fn put_line<O: Sink>(line: &ArrayString<LINE>, out: &mut O) -> Result<(), Refusal>
-    ensures told { OnOk result (O.told out.new ≡ grown (O.told out.old) line.now.bytes) }
-    ensures front { OnErr result (GrewByFront (O.told out.old) (O.told out.new) line.now.bytes) }
-    ensures sink { IfErr result (λ e. e ≡ Refusal.Sink) }
-    ensures cause { HasCause (O.faults out.old) (O.faults out.new) result }
-{
-    match out.put(line.as_str().as_bytes()) {
-        Ok(()) => Ok(()),
+    let (image, _digest) = load(alloc, files, 1, name)?;
+    match put_inspect(&image, out) {
+        Ok(()) => Ok(Ending::Done),
         Err(_) => Err(Refusal::Sink),
     }
-}
-
-/// Prints an image's entry and parts, one put for each line. Where a put fails a front of the
-/// lines was put.
-pub fn inspect<O: Sink>(image: &Image, out: &mut O) -> Result<Ending, Refusal>
-    ensures done { IfOk result (λ ending. ending ≡ Ending.Done) }
-    ensures told { OnOk result (O.told out.new ≡ grown (O.told out.old) (inspect_lines image.now)) }
-    ensures front { OnErr result (GrewByFront (O.told out.old) (O.told out.new)
-        (inspect_lines image.now)) }
-    ensures sink { IfErr result (λ e. e ≡ Refusal.Sink) }
-    ensures cause { HasCause (O.faults out.old) (O.faults out.new) result }
-{
-    let first = entry_line(image.entry());
-    put_line(&first, out)?;
-    for part in image.parts() {
-        let next = part_line(part);
-        put_line(&next, out)?;
-    }
-    Ok(Ending::Done)
 }

@@ -1,15 +1,15 @@
-//! The commands of `dos`: `run` reads 1 to 8 images, runs them as one group and reports; `inspect
-//! NAME` reads one and prints its parts.
+//! The commands of `dos`: `run` reads 1 to 8 images, runs them as one group, records the run in a
+//! log and reports; `replay` runs them again by the answers of such a log; `inspect` prints the
+//! parts of an image; `gen` runs an image that is made from a number.
 #![tactic(auto)]
 
-mod exit;
+mod generate;
 mod images;
 mod inspect;
-mod line;
-mod number;
-mod request;
+mod replay;
+mod run;
+mod stops;
 mod top;
+mod words;
 
-pub use exit::Refusal;
-pub use request::Request;
-pub use top::{dos_main, refuse};
+pub use top::dos_main;

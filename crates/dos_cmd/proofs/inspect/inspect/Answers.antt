@@ -1,43 +1,46 @@
-use Rattle.std.proofs.Common.{arith, ap, ◌∙◌}
-use Rattle.dpg_run.proofs.ReportLaws.{on_err}
-use Rattle.dos_cmd.specs.Printed.{entry_line}
-use Rattle.dos_cmd.proofs.Parts.{parts_start, parts_more, parts_all, front_first, front_part}
+use Rattle.std.proofs.Common.{inl, refl}
+use Rattle.std.proofs.lemmas.Result.{err_from_is_err_and}
+use Rattle.dos_io.proofs.OutsideLaws.{grown-nothing}
+use Rattle.dos_words.specs.declared.request.Request.TheVariants as requests
+use Rattle.dos_cmd.specs.Outside.{outside}
+use Rattle.dos_cmd.proofs.ReplayLeaves.{one_image}
 use Rattle.dos_cmd.proofs.inspect.inspect.Goals as goal
 
-pub loop-part-init : goal.loop-part-init
-loop-part-init g c =
-    let line = c.entry_line-first.ensures ∙ ap entry_line c.entry.ensures.entry in
-    record {
-      told = parts_start _ _ _ _ c.args.image.now.parts line c.in_ok-put_line.ensures.told;
-      later = c.put_line.ensures.cause.later;
-    }
+pub put_inspect-requires : goal.put_inspect-requires
+put_inspect-requires g c = ?
 
-pub loop-part-preserved : goal.loop-part-preserved
-loop-part-preserved g c =
-    let cause = c.put_line-in-loop-part.ensures.cause in
-    record {
-      told = parts_more _ _ _ _ _ _ c.args.image.now.parts c.loop-part.part-index c.part-item.result
-          c.parts-part-items.ensures.parts
-          (omega arith) c.part-item.is c.part_line-next.ensures c.loop-part.invariant.told
-          c.in_ok-put_line-2.ensures.told;
-      later = omega (arith, c.loop-part.invariant.later, cause.later);
-    }
+pub returns-in-Ok-clause-did : goal.returns-in-Ok-clause-did
+returns-in-Ok-clause-did g c = λ h e t. record {
+  taken = _;
+  is = one_image (g.F.Files.content c.args.files.now) c.args.name.now c.in_ok-image.image
+      c.in_ok-image.ensures.accepted;
+  so = record {
+    parsed = c.in_ok-image.image;
+    only = refl;
+    status_is = refl;
+    grew = record { out_is = c.in-Ok.ensures.told; err_is = grown-nothing e };
+    files_stay = c.load.ensures.stays;
+    host_stays = refl;
+  };
+}
 
-pub returns-clause-told : goal.returns-clause-told
-returns-clause-told g c =
-    parts_all _ _ (entry_line c.args.image.now.entry) _ _ _ c.parts-part-items.ensures.parts
-    c.loop-part-test.false c.loop-part.invariant.told
-
-pub returns-in_err-put_line-clause-front : goal.returns-in_err-put_line-clause-front
-returns-in_err-put_line-clause-front g c =
-    on_err c.from_residual.result _
-    (front_first _ _ _ _ c.args.image.now.parts
-    (c.entry_line-first.ensures ∙ ap entry_line c.entry.ensures.entry)
-    c.in_err-put_line.ensures.front)
-
-pub returns-in_err-put_line-2-clause-front : goal.returns-in_err-put_line-2-clause-front
-returns-in_err-put_line-2-clause-front g c =
-    on_err c.from_residual-in_err-put_line-2.result _
-    (front_part _ _ _ _ _ _ c.args.image.now.parts c.loop-part.part-index c.part-item.result
-    c.parts-part-items.ensures.parts (omega arith) c.part-item.is c.part_line-next.ensures
-    c.loop-part.invariant.told c.in_err-put_line-2.ensures.front)
+pub returns-clause-leaves : goal.returns-clause-leaves
+returns-clause-leaves g c = λ h e t m n. (
+  inl c.in-Err.ensures.cause.failed,
+  refl,
+  record {
+    taken = _;
+    is = one_image (g.F.Files.content c.args.files.now) c.args.name.now c.in_ok-image.image
+        c.in_ok-image.ensures.accepted;
+    so = record {
+      parsed = c.in_ok-image.image;
+      only = refl;
+      cut = record {
+        out_is = c.in-Err.ensures.front;
+        err_stays = refl;
+        files_stay = c.load.ensures.stays;
+        host_stays = refl;
+      };
+    };
+  },
+)

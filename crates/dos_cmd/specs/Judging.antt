@@ -1,0 +1,138 @@
+-- Which files are taken for what the words ask for, or why they aren't. This project's own rules.
+use Rattle.std.specs.Prelude.{⊤, ℕ, suc, List, [], ◌∷◌, length, map, Option, Some, None, option_map, option_and_then, Result, Ok, Err, nat_lt, if◌then◌else◌}
+use Rattle.dos_world.specs.declared.Config.{Config}
+use Rattle.elf_image.specs.declared.error.ImageError.{ImageError}
+use Rattle.elf_image.specs.Image.{Image, image}
+use Rattle.generated_group.specs.Generated.{generated}
+use Rattle.group_open.specs.Opening.{needed}
+use Rattle.log_files.specs.Judging.{disagreement, log_verdict}
+use Rattle.log_files.specs.declared.refusal.LogRefusal.{LogRefusal}
+use Rattle.logged_runs.specs.Replaying.{config_of}
+use Rattle.sha2.specs.Sha256.{sha256}
+use Rattle.shim_log.specs.LogText.{Log}
+use Rattle.dos_texts.specs.declared.refusal.Refusal.{Refusal}
+use Rattle.dos_texts.specs.declared.refusal.Refusal.TheVariants as refusals
+use Rattle.dos_words.specs.Numbers.{Text}
+use Rattle.dos_words.specs.declared.request.Request.{Request}
+use Rattle.dos_words.specs.declared.request.Request.TheVariants.{Run, Replay, Inspect, Gen}
+
+-- ---- one image; images are counted from 1 in the order of the words
+
+-- the longest file that is read: 4 MiB
+abbrev pub limit : ℕ
+limit = 4194304
+
+-- what is said of a file that is read
+abbrev pub judged : ℕ → Result Image ImageError → Result Image Refusal
+judged number (Ok parsed) = Ok parsed
+judged number (Err error) = Err (refusals.Image number error)
+
+-- the image that a file is, or why it is refused
+unfoldable pub verdict : ℕ → List ℕ → Result Image Refusal
+verdict number file = if nat_lt limit (length file) then Err
+    (refusals.TooLong number) else judged number (image file)
+
+-- ---- all of them, in order: the first refusal counts
+
+-- what all the files are taken for, or what comes first against them
+abbrev pub Images : Type 0
+Images = Result (List Image) Refusal
+
+-- with an image in front
+abbrev pub with_image : Image → Images → Images
+with_image parsed (Ok images) = Ok (parsed ∷ images)
+with_image parsed (Err why) = Err why
+
+-- an image, and those behind it, where they are told
+abbrev pub then_images : Result Image Refusal → Option Images → Option Images
+then_images (Err why) others = Some (Err why)
+then_images (Ok parsed) others = option_map (with_image parsed) others
+
+-- Files that aren't told, before the first refusal, leave it open.
+abbrev pub images_from : ℕ → List (Option (List ℕ)) → Option Images
+images_from number [] = Some (Ok [])
+images_from number (None ∷ files) = None
+images_from number (Some file ∷ files) = let others : Option Images =
+    images_from (suc number) files in then_images (verdict number file) others
+
+-- the digests of files (SHA-256, FIPS 180-4), where all are told
+abbrev pub digests_of : List (Option (List ℕ)) → Option (List (List ℕ))
+digests_of [] = Some []
+digests_of (None ∷ files) = None
+digests_of (Some file ∷ files) = option_map (λ others. sha256 file ∷ others) (digests_of files)
+
+-- A group needs its images' pages, with 16 for each stack.
+abbrev pub with_room : Config → Images → Images
+with_room config (Err why) = Err why
+with_room config (Ok images) =
+    if nat_lt config.frames (needed images) then Err
+    (refusals.NoRoom (needed images) config.frames) else Ok images
+
+-- ---- a replay: the log, the images, whether the log is of them, and room
+
+-- what a call is done with: a log where it is a replay, and images
+pub record Taken : Type 0 where
+  pub log : Option Log
+  pub images : List Image
+
+abbrev pub Judgement : Type 0
+Judgement = Result Taken Refusal
+
+-- without a log
+abbrev pub of_images : Images → Judgement
+of_images (Ok images) = Ok (record { log = None; images = images })
+of_images (Err why) = Err why
+
+-- with a log
+abbrev pub of_log : Log → Images → Judgement
+of_log log (Ok images) = Ok (record { log = Some log; images = images })
+of_log log (Err why) = Err why
+
+-- The log is of images with these digests, or the first difference counts; then there is room or
+-- not.
+abbrev pub agreed : Log → List Image → Option LogRefusal → Judgement
+agreed log images (Some why) = Err (refusals.Log why)
+agreed log images None = of_log log (with_room (config_of log.header) (Ok images))
+
+-- a log, and the images
+abbrev pub with_images : Log → Option (List (List ℕ)) → Images → Option Judgement
+with_images log digests (Err why) = Some (Err why)
+with_images log digests (Ok images) =
+    option_map (λ given. agreed log images (disagreement given log.header.digests)) digests
+
+-- the log's file, and the images' files
+abbrev pub replay_judgement : Option (List ℕ) → List (Option (List ℕ)) → Option Judgement
+replay_judgement None files = None
+replay_judgement (Some file) files =
+    elim (log_verdict file) [
+      | Err why ↦ Some (Err (refusals.Log why))
+      | Ok log ↦ option_and_then (with_images log (digests_of files)) (images_from 1 files)
+    ]
+
+-- ---- what the words ask for
+
+-- what `gen` runs with
+abbrev pub gen_config : Config
+gen_config = record { quantum = 1000; rounds = 100000; frames = 4096 }
+
+-- It is judged by what the files tell under its names; None where that leaves it open. The image
+-- that is generated is never refused.
+abbrev pub judgement : (Text → Option (List ℕ)) → Request → Option Judgement
+judgement contents (Run quantum rounds frames workers posts clock_from clock_step log names) =
+    option_map (λ images. of_images
+    (with_room (record { quantum = quantum; rounds = rounds; frames = frames }) images))
+    (images_from 1 (map contents names))
+judgement contents (Replay workers log names) =
+    replay_judgement (contents log) (map contents names)
+judgement contents (Inspect name) = option_map of_images (images_from 1 (contents name ∷ []))
+judgement contents (Gen number threads workers) =
+    Some (Ok (record { log = None; images = generated number threads ∷ [] }))
+
+-- A refusal that reading files may come to: of an image, by what its file tells; or a fault of the
+-- files, or want of memory.
+abbrev pub OfFiles : Refusal → (Refusal → Type 0) → Type 0
+OfFiles (refusals.TooLong image) P = P (refusals.TooLong image)
+OfFiles (refusals.Image image error) P = P (refusals.Image image error)
+OfFiles refusals.Files P = ⊤
+OfFiles refusals.Memory P = ⊤
+OfFiles _ P = ⊥

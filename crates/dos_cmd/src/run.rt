@@ -1,0 +1,240 @@
+// The command `run`.
+ghost use Rattle.std.specs.Prelude.{◌≡◌, ◌≢◌, ◌≤◌, ◌⊎◌, ℕ, List, [], length, IfOk, IfErr, IfSome, IsErrOf, IsTrue, OnOk, OnErr, Some, false};
+ghost use Rattle.dos_world.specs.Lawful.{IsConfig};
+ghost use Rattle.dos_io.specs.Outside.{GrewByFront, HasCause, Rose, grown};
+ghost use Rattle.dpg_run.specs.Report.{report_in};
+ghost use Rattle.group_rounds.specs.Kernels.{kernel_world};
+ghost use Rattle.shim_log.specs.LogText.{logtext};
+ghost use Rattle.elf_image.specs.Image.{Image as Parsed};
+ghost use Rattle.group_open.specs.Opening.{needed};
+ghost use Rattle.logged_runs.specs.Opened.{IsOpened};
+ghost use Rattle.shim_log.specs.Ledger.{ArePlanned, empty_ledger};
+ghost use Rattle.dos_texts.specs.Exit.{ending_status};
+ghost use Rattle.dos_cmd.specs.Outside.{outside, faults};
+ghost use Rattle.dos_cmd.specs.Running.{DidRun, IsPrepared, RunAsked, clock_rule, header_of};
+ghost use Rattle.dos_cmd.specs.Results.{Begun, Did, Leaves};
+ghost use Rattle.dos_cmd.specs.Requests.{run_request};
+ghost use Rattle.dos_cmd.specs.Stops.{IsNotOpened, LeavesRun};
+
+use crate::images::load_all;
+use crate::stops::refusal_by;
+use dos_io::{ClockRule, FileError, Files, Host, Sink};
+use dos_texts::Refusal;
+use dos_words::{Names, Posts};
+use dos_world::{Config, Ending};
+use dpg_run::{open_group, put_report};
+use elf_image::Image;
+use group_open::OpenError;
+use group_rounds::Kernel;
+use log_files::store_log;
+use logged_runs::record_group;
+use shim_log::{Digests, Ledger, Log, LogHeader};
+use std::alloc::Global;
+use worker_pool::Workers;
+
+/// What `run` is asked for, but for its workers.
+pub(crate) struct RunRequest<'a> {
+    pub(crate) config: Config,
+    pub(crate) posts: &'a Posts,
+    pub(crate) clock_from: Option<u64>,
+    pub(crate) clock_step: u64,
+    pub(crate) log: &'a str,
+    pub(crate) names: &'a Names,
+}
+
+impl RunRequest<'_> {
+    /// A counted clock where its first reading is given, else the host's.
+    fn clock(&self) -> ClockRule
+        ensures { result ≡ clock_rule self.now.clock_from self.now.clock_step }
+    {
+        match self.clock_from {
+            Some(from) => ClockRule::Counted {
+                from,
+                step: self.clock_step,
+            },
+            None => ClockRule::FromHost,
+        }
+    }
+
+    /// The header of the log.
+    fn header(&self, digests: Digests) -> LogHeader
+        ensures { result ≡ header_of self.now.config digests }
+    {
+        LogHeader {
+            quantum: self.config.quantum,
+            rounds: self.config.rounds,
+            frames: self.config.frames,
+            digests,
+        }
+    }
+}
+
+/// Opens the group of these images.
+pub(crate) fn open(alloc: Global, images: &[Image], config: Config) -> Result<Kernel, Refusal>
+    requires some { 1 ≤ length images.now }
+    requires few { length images.now ≤ 8 }
+    requires config { IsConfig config }
+    ensures opened { IfOk result (λ kernel. IsOpened kernel images.now config) }
+    ensures running { IfOk result (λ kernel. kernel.failed ≡ false) }
+    ensures fresh { IfOk result (λ kernel. kernel.state.round ≡ 1) }
+    ensures room { IfOk result (λ kernel. needed images.now ≤ config.frames) }
+    // for want of room, with both numbers, or for want of memory
+    ensures refused { IfErr result (IsNotOpened images.now config) }
+{
+    match open_group(alloc, images, config) {
+        Ok(kernel) => Ok(kernel),
+        Err(OpenError::NoRoom { needed, frames }) => Err(Refusal::NoRoom(needed, frames)),
+        Err(OpenError::Memory) => Err(Refusal::Memory),
+    }
+}
+
+/// Writes the log of a run to its file.
+fn store<F: Files>(alloc: Global, files: &mut F, name: &str, log: &Log) -> Result<(), Refusal>
+    ensures content { OnOk result (IfSome (F.content files.old name.now)
+        (λ _. F.content files.new name.now ≡ Some (logtext log.now))) }
+    ensures holds { OnOk result (IsTrue (F.tells files.old)
+        → F.content files.new name.now ≡ Some (logtext log.now)) }
+    ensures fault { IfErr result (λ why. (why ≡ Refusal.Files)
+        ⊎ ((why ≡ Refusal.Memory)
+        × (F.content files.new name.now ≡ F.content files.old name.now))) }
+    ensures cause { IsErrOf result Refusal.Files → Rose (F.faults files.old) (F.faults files.new) }
+    ensures others { (n : List ℕ) → n ≢ name.now → F.content files.new n ≡ F.content files.old n }
+    ensures tells { F.tells files.new ≡ F.tells files.old }
+    ensures later { F.faults files.old ≤ F.faults files.new }
+{
+    match store_log(alloc, files, name, log) {
+        Ok(()) => Ok(()),
+        Err(FileError::Memory) => Err(Refusal::Memory),
+        Err(FileError::Fault) => Err(Refusal::Files),
+        Err(FileError::TooLong) => unreachable!(),
+    }
+}
+
+/// Puts the report of a run that ended so.
+pub(crate) fn report<E: Sink>(
+    kernel: &Kernel,
+    ending: Ending,
+    err: &mut E,
+) -> Result<Ending, Refusal>
+    ensures same { IfOk result (λ ended. ended ≡ ending) }
+    ensures told { OnOk result (E.told err.new
+        ≡ grown (E.told err.old) (report_in (kernel_world kernel.now) ending)) }
+    ensures front { OnErr result (GrewByFront (E.told err.old) (E.told err.new)
+        (report_in (kernel_world kernel.now) ending)) }
+    ensures sink { IfErr result (λ why. why ≡ Refusal.Sink) }
+    ensures cause { HasCause (E.faults err.old) (E.faults err.new) result }
+{
+    match put_report(kernel, ending, err) {
+        Ok(()) => Ok(ending),
+        Err(_) => Err(Refusal::Sink),
+    }
+}
+
+/// Runs a group that was opened, writes its log and puts its report.
+fn run_opened<F: Files, H: Host, O: Sink, E: Sink, W: Workers>(
+    alloc: Global,
+    kernel: &mut Kernel,
+    ledger: Ledger,
+    name: &str,
+    files: &mut F,
+    host: &mut H,
+    out: &mut O,
+    err: &mut E,
+    workers: &mut W,
+) -> Result<Ending, Refusal>
+    requires running { kernel.old.failed ≡ false }
+    requires fresh { kernel.old.state.round ≡ 1 }
+    requires begins { ledger
+        ≡ empty_ledger ledger.posts ledger.clock ledger.header ledger.room }
+    ensures did { IfOk result (λ ending. (asked : RunAsked) (images : List Parsed)
+        → IsPrepared asked images kernel.old ledger name.now
+        (outside (F.tells files.old) (F.content files.old) (F.content files.new) (H.told host.old)
+        (H.told host.new) (O.told out.old) (O.told out.new) (E.told err.old) (E.told err.new)
+        (W.tally workers.old) (W.tally workers.new))
+        → DidRun asked images (ending_status ending)
+        (outside (F.tells files.old) (F.content files.old) (F.content files.new) (H.told host.old)
+        (H.told host.new) (O.told out.old) (O.told out.new) (E.told err.old) (E.told err.new)
+        (W.tally workers.old) (W.tally workers.new))) }
+    ensures leaves { IfErr result (λ why. (asked : RunAsked) (images : List Parsed)
+        → IsPrepared asked images kernel.old ledger name.now
+        (outside (F.tells files.old) (F.content files.old) (F.content files.new) (H.told host.old)
+        (H.told host.new) (O.told out.old) (O.told out.new) (E.told err.old) (E.told err.new)
+        (W.tally workers.old) (W.tally workers.new))
+        → LeavesRun asked images
+        (outside (F.tells files.old) (F.content files.old) (F.content files.new) (H.told host.old)
+        (H.told host.new) (O.told out.old) (O.told out.new) (E.told err.old) (E.told err.new)
+        (W.tally workers.old) (W.tally workers.new))
+        (faults (F.faults files.old) (F.faults files.new) (H.faults host.old) (H.faults host.new)
+        (O.faults out.old) (O.faults out.new) (E.faults err.old) (E.faults err.new)) why) }
+    ensures files_later { F.faults files.old ≤ F.faults files.new }
+    ensures host_later { H.faults host.old ≤ H.faults host.new }
+    ensures out_later { O.faults out.old ≤ O.faults out.new }
+    ensures err_later { E.faults err.old ≤ E.faults err.new }
+    ensures fixed { W.fixed workers.new ≡ W.fixed workers.old }
+{
+    let (ending, log) = match record_group(kernel, host, ledger, out, err, workers) {
+        Ok(recorded) => recorded,
+        Err(stop) => return Err(refusal_by(stop)),
+    };
+    store(alloc, files, name, &log)?;
+    report(kernel, ending, err)
+}
+
+/// Does what `run` is asked for.
+pub(crate) fn run<F: Files, H: Host, O: Sink, E: Sink, W: Workers>(
+    alloc: Global,
+    request: &RunRequest<'_>,
+    files: &mut F,
+    host: &mut H,
+    out: &mut O,
+    err: &mut E,
+    workers: &mut W,
+) -> Result<Ending, Refusal>
+    requires range { IsConfig request.now.config }
+    requires some { 1 ≤ length request.now.names.now }
+    requires few { length request.now.names.now ≤ 8 }
+    requires few_posts { length request.now.posts.now ≤ 32 }
+    requires planned { ArePlanned request.now.posts.now }
+    ensures did { IfOk result (λ ending. (n : ℕ) → Begun (run_request request.now n)
+        (outside (F.tells files.old) (F.content files.old) (F.content files.new) (H.told host.old)
+        (H.told host.new) (O.told out.old) (O.told out.new) (E.told err.old) (E.told err.new)
+        (W.tally workers.old) (W.tally workers.new))
+        (λ taken. Did (run_request request.now n) taken (ending_status ending)
+        (outside (F.tells files.old) (F.content files.old) (F.content files.new) (H.told host.old)
+        (H.told host.new) (O.told out.old) (O.told out.new) (E.told err.old) (E.told err.new)
+        (W.tally workers.old) (W.tally workers.new)))) }
+    ensures leaves { IfErr result (λ why. (n : ℕ) → Leaves (run_request request.now n)
+        (outside (F.tells files.old) (F.content files.old) (F.content files.new) (H.told host.old)
+        (H.told host.new) (O.told out.old) (O.told out.new) (E.told err.old) (E.told err.new)
+        (W.tally workers.old) (W.tally workers.new))
+        (faults (F.faults files.old) (F.faults files.new) (H.faults host.old) (H.faults host.new)
+        (O.faults out.old) (O.faults out.new) (E.faults err.old) (E.faults err.new)) why []) }
+    ensures files_later { F.faults files.old ≤ F.faults files.new }
+    ensures host_later { H.faults host.old ≤ H.faults host.new }
+    ensures out_later { O.faults out.old ≤ O.faults out.new }
+    ensures err_later { E.faults err.old ≤ E.faults err.new }
+    ensures fixed { W.fixed workers.new ≡ W.fixed workers.old }
+{
+    let (images, digests) = load_all(alloc, files, request.names)?;
+    let mut kernel = open(alloc, &images, request.config)?;
+    let ledger = match Ledger::new(
+        alloc,
+        request.posts.as_slice(),
+        request.clock(),
+        request.header(digests),
+    ) {
+        Ok(ledger) => ledger,
+        Err(_) => return Err(Refusal::Memory),
+    };
+    run_opened(
+        alloc,
+        &mut kernel,
+        ledger,
+        request.log,
+        files,
+        host,
+        out,
+        err,
+        workers,
+    )
+}
