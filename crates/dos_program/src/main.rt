@@ -1,8 +1,9 @@
-//! The program `dos`: the top call over the real files and streams.
+//! The program `dos`: the top call over the real files, streams and clock.
 #![tactic(auto)]
 
-use dos_cmd::{Refusal, dos_main, refuse};
-use dos_io::{StdErr, StdFiles, StdOut};
+use dos_cmd::dos_main;
+use dos_io::{StdErr, StdFiles, StdHost, StdOut};
+use dos_texts::{Refusal, put_refusal};
 use std::env;
 use std::io::ErrorKind;
 use std::process::ExitCode;
@@ -34,14 +35,16 @@ fn run(rt: &HostRuntime, threads: &(impl Threads + Sync)) -> u8 {
     match words(rt) {
         Ok(words) => {
             let mut files = StdFiles::new(rt, alloc);
+            let mut host = StdHost::new(rt.stdin(), rt);
             let mut out = StdOut::new(rt.stdout());
             let gate = OpenGate::new();
             let mut tally = Tally::new();
             dos_main(
-                threads, alloc, &words, &mut files, &mut out, &mut err, &gate, &mut tally,
+                threads, alloc, &words, &mut files, &mut host, &mut out, &mut err, &gate,
+                &mut tally,
             )
         }
-        Err(refusal) => refuse(refusal, &mut err),
+        Err(refusal) => put_refusal(refusal, &mut err),
     }
 }
 
