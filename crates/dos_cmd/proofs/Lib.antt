@@ -1,2 +1,3 @@
 mod RunFiles
 mod RunEnds
+mod RunCalls
