@@ -1,10 +1,14 @@
 -- What `inspect` and `gen` leave: lines on output. This project's own rules.
-use Rattle.std.specs.Prelude.{◌≡◌, ℕ, List, [], ◌∷◌, ◌^◌, ◌-◌, min, length}
+use Rattle.std.specs.Prelude.{◌≡◌, ℕ, List, [], ◌∷◌, ◌^◌, ◌-◌, min, map, length}
+use Rattle.dos_world.specs.declared.Config.{Config}
+use Rattle.dos_world.specs.declared.Ending.{Ending}
 use Rattle.dos_io.specs.Outside.{GrewByFront}
 use Rattle.elf_image.specs.Image.{Image}
-use Rattle.dpg_run.specs.Machine.{Seen}
+use Rattle.group_rounds.specs.Kernels.{Held}
+use Rattle.dpg_run.specs.Machine.{Seen, status_in}
 use Rattle.dpg_run.specs.QuietRuns.{RunsQuietly}
 use Rattle.sha2.specs.Sha256.{sha256}
+use Rattle.worker_pool.specs.Ran.{GrewBy}
 use Rattle.dos_texts.specs.Exit.{ending_status}
 use Rattle.dos_texts.specs.Printed.{inspect_lines, summary_of}
 use Rattle.dos_cmd.specs.Judging.{gen_config}
@@ -57,3 +61,16 @@ pub record CutSummary (images : List Image) (o : Outside) : Type 0 where
   pub seen : Seen
   pub is : RunsQuietly images gen_config seen
   pub cut : CutLines (summary seen) o
+
+-- ---- from part to whole
+
+-- The group was run so, and this is seen of it: the kernel, the ending, the count of bytes and their
+-- digest give its summary.
+pub record RanQuietly (images : List Image) (config : Config) (kernel : Held) (ending : Ending)
+    (count : ℕ) (digest : List ℕ) (tally tally_after : ℕ) : Type 0 where
+  pub seen : Seen
+  pub is : RunsQuietly images config seen
+  pub ending_is : seen.ending ≡ ending
+  pub summary_is : summary_of (map status_in kernel.state.table.processes) (kernel.state.round - 1)
+      ending count digest ≡ summary seen
+  pub counted : GrewBy tally tally_after seen.work

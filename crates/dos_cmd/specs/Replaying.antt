@@ -1,13 +1,18 @@
 -- What `replay` leaves. This project's own rules.
-use Rattle.std.specs.Prelude.{◌≡◌, ◌++◌, ℕ, List}
+use Rattle.std.specs.Prelude.{◌≡◌, ◌⊎◌, ◌<◌, ◌≤◌, ◌++◌, ⊤, ℕ, List, []}
 use Rattle.dos_world.specs.declared.Misfit.{Misfit}
 use Rattle.elf_image.specs.Image.{Image}
+use Rattle.group_open.specs.Opening.{needed}
+use Rattle.log_files.specs.declared.refusal.LogRefusal.{LogRefusal}
 use Rattle.dpg_run.specs.Machine.{Seen}
 use Rattle.dpg_run.specs.Report.{report}
 use Rattle.shim_log.specs.LogText.{Log}
 use Rattle.logged_runs.specs.Replaying.{Replayed, ReplayedUntil, ReplayedAhead}
 use Rattle.dos_texts.specs.Exit.{ending_status}
-use Rattle.dos_cmd.specs.Outside.{Outside, Counted, Grew, GrewUpToLast, FilesStay, HostStays}
+use Rattle.dos_texts.specs.declared.refusal.Refusal.{Refusal}
+use Rattle.dos_texts.specs.declared.refusal.Refusal.TheVariants as refusals
+use Rattle.dos_cmd.specs.Judging.{OfFiles}
+use Rattle.dos_cmd.specs.Outside.{Outside, Faults, Counted, Grew, GrewUpToLast, FilesStay, HostStays, OutputFailed, Says}
 
 -- Files and host stay.
 pub record StaysAll (o : Outside) : Type 0 where
@@ -47,3 +52,32 @@ pub record CutReplayReport (log : Log) (images : List Image) (o : Outside) : Typ
   pub replayed : Replayed images log seen
   pub grew : GrewUpToLast o seen.output seen.error (report seen)
   pub stays : StaysAll o
+
+-- ---- from part to whole
+
+-- A refusal that reading the log may come to: of the log, by what its file tells; or a fault of the
+-- files, or want of memory.
+abbrev pub OfLogFile : Refusal → (LogRefusal → Type 0) → Type 0
+OfLogFile (refusals.Log why) P = P why
+OfLogFile refusals.Files P = ⊤
+OfLogFile refusals.Memory P = ⊤
+OfLogFile _ P = ⊥
+
+-- The same of reading the log and the images, and agreeing them.
+abbrev pub OfReading : Refusal → (Refusal → Type 0) → Type 0
+OfReading (refusals.Log why) P = P (refusals.Log why)
+OfReading why P = OfFiles why P
+
+-- Why a log that is of these images came to no report, and what stands then: there was no room; or
+-- the run came to the log's misfit, or an output failed in it. Want of memory comes before the run.
+abbrev pub LeavesTaken : Log → List Image → Outside → Faults → Refusal → Type 0
+LeavesTaken log images o f (refusals.NoRoom n frames) =
+    (n ≡ needed images) × (frames ≡ log.header.frames) × (log.header.frames < needed images)
+    × Says o []
+LeavesTaken log images o f (refusals.Misfit found) =
+    (needed images ≤ log.header.frames) × Misfitted log images found [] o
+LeavesTaken log images o f refusals.Sink =
+    (needed images ≤ log.header.frames) × OutputFailed f
+    × (CutReplay log images o ⊎ CutReplayReport log images o)
+LeavesTaken log images o f refusals.Memory = Says o []
+LeavesTaken log images o f _ = ⊥

@@ -1,13 +1,29 @@
 // The command `gen`.
+ghost use Rattle.std.specs.Prelude.{◌≡◌, ◌≤◌, ◌-◌, ℕ, Bool, List, Option, [], ◌∷◌, map, false, IfOk, IfErr, OnOk, OnErr};
+ghost use Rattle.sha2.specs.Sha256.{sha256};
+ghost use Rattle.dos_world.specs.declared.Config.{Config};
+ghost use Rattle.dos_io.specs.Hosts.{Told};
+ghost use Rattle.dos_io.specs.Outside.{grown, GrewByFront, HasCause};
+ghost use Rattle.elf_image.specs.Image.{Image};
+ghost use Rattle.dpg_run.specs.Machine.{Seen, status_in};
+ghost use Rattle.logged_runs.specs.Opened.{IsOpened};
+ghost use Rattle.dos_texts.specs.Exit.{ending_status};
+ghost use Rattle.dos_texts.specs.Printed.{summary_of};
+ghost use Rattle.dos_texts.specs.Report.{process_lines};
+ghost use Rattle.dos_words.specs.declared.request.Request.TheVariants as requests;
+ghost use Rattle.dos_cmd.specs.Outside.{outside, faults};
+ghost use Rattle.dos_cmd.specs.Printing.{RanQuietly};
+ghost use Rattle.dos_cmd.specs.Results.{Begun, Did, Leaves};
 
 use crate::run::open;
-use dos_io::{Quiet, Sink};
-use dos_texts::{Refusal, put_summary};
+use dos_io::{Quiet, Sink, SinkFault};
+use dos_texts::{Refusal, process_line, put_output, rounds_line};
 use dos_world::{Config, Ending};
 use dpg_run::run_group;
 use generated_group::{DigestSink, DropSink, generated_image};
 use group_rounds::Kernel;
 use kernel_calls::RunStop;
+use proc_table::Table;
 use std::alloc::Global;
 use std::slice;
 use worker_pool::Workers;
@@ -19,23 +35,74 @@ const CONFIG: Config = Config {
     frames: 4096,
 };
 
-/// Runs the generated image; its output is counted and hashed, its error output is dropped.
-fn run_generated<W: Workers>(
+/// How a run over sinks of its own ended, how many bytes it printed, and their digest.
+#[derive(Drop)]
+struct Ran {
+    ending: Ending,
+    count: u64,
+    digest: [u8; 32],
+}
+
+/// Runs a group that was opened; its output is counted and hashed, its error output is dropped.
+fn run_quietly<W: Workers>(
     alloc: Global,
     kernel: &mut Kernel,
     workers: &mut W,
-) -> Result<(Ending, u64, [u8; 32]), Refusal> {
+) -> Result<Ran, Refusal>
+    requires running { kernel.old.failed ≡ false }
+    requires fresh { kernel.old.state.round ≡ 1 }
+    ensures ran { IfOk result (λ ran. (images : List Image) (config : Config)
+        → IsOpened kernel.old images config
+        → RanQuietly images config kernel.new ran.ending ran.count ran.digest
+        (W.tally workers.old) (W.tally workers.new)) }
+    ensures refused { IfErr result (λ why. why ≡ Refusal.Memory) }
+    ensures fixed { W.fixed workers.new ≡ W.fixed workers.old }
+{
     let mut shim = Quiet::new(alloc);
     let mut output = DigestSink::new();
-    let mut error = DropSink::new();
+    let mut error = DropSink;
     match run_group(kernel, &mut shim, &mut output, &mut error, workers) {
         Ok(ending) => {
             let (count, digest) = output.finish();
-            Ok((ending, count, digest))
+            Ok(Ran {
+                ending,
+                count,
+                digest,
+            })
         }
         Err(RunStop::Memory) => Err(Refusal::Memory),
         Err(_) => unreachable!(),
     }
+}
+
+/// Puts a line for each process, one put for each line. After a fault a front of them was put.
+fn put_processes<O: Sink>(table: &Table, out: &mut O) -> Result<(), SinkFault>
+    ensures told { OnOk result (O.told out.new
+        ≡ grown (O.told out.old) (process_lines 1 (map status_in table.now.processes))) }
+    ensures front { OnErr result (GrewByFront (O.told out.old) (O.told out.new)
+        (process_lines 1 (map status_in table.now.processes))) }
+    ensures cause { HasCause (O.faults out.old) (O.faults out.new) result }
+{
+    for place in 0..table.processes() {
+        let pid = place + 1;
+        out.put(process_line(pid, table.status(pid)).as_str().as_bytes())?;
+    }
+    Ok(())
+}
+
+/// Puts the summary of a run. After a fault a front of it was put.
+fn put_summary<O: Sink>(kernel: &Kernel, ran: &Ran, out: &mut O) -> Result<(), SinkFault>
+    ensures told { OnOk result (O.told out.new ≡ grown (O.told out.old)
+        (summary_of (map status_in kernel.now.state.table.processes) (kernel.now.state.round - 1)
+        ran.now.ending ran.now.count ran.now.digest)) }
+    ensures front { OnErr result (GrewByFront (O.told out.old) (O.told out.new)
+        (summary_of (map status_in kernel.now.state.table.processes) (kernel.now.state.round - 1)
+        ran.now.ending ran.now.count ran.now.digest)) }
+    ensures cause { HasCause (O.faults out.old) (O.faults out.new) result }
+{
+    out.put(rounds_line(kernel.rounds(), ran.ending).as_str().as_bytes())?;
+    put_processes(&kernel.state().table, out)?;
+    put_output(ran.count, &ran.digest, out)
 }
 
 /// Does what `gen` is asked for.
@@ -45,15 +112,32 @@ pub(crate) fn generate<O: Sink, W: Workers>(
     threads: u32,
     out: &mut O,
     workers: &mut W,
-) -> Result<Ending, Refusal> {
+) -> Result<Ending, Refusal>
+    requires some { 1 ≤ threads }
+    requires few { threads ≤ 32 }
+    // whatever files, a host and error tell, and however often they failed
+    ensures did { IfOk result (λ ending. (n : ℕ) (tells : Bool) (f : List ℕ → Option (List ℕ))
+        (h : Option Told) (e : Option (List ℕ)) → Begun (requests.Gen number threads n)
+        (outside tells f f h h (O.told out.old) (O.told out.new) e e
+        (W.tally workers.old) (W.tally workers.new))
+        (λ taken. Did (requests.Gen number threads n) taken (ending_status ending)
+        (outside tells f f h h (O.told out.old) (O.told out.new) e e
+        (W.tally workers.old) (W.tally workers.new)))) }
+    ensures leaves { IfErr result (λ why. (n : ℕ) (tells : Bool) (f : List ℕ → Option (List ℕ))
+        (h : Option Told) (e : Option (List ℕ)) (k l m : ℕ) → Leaves (requests.Gen number threads n)
+        (outside tells f f h h (O.told out.old) (O.told out.new) e e
+        (W.tally workers.old) (W.tally workers.new))
+        (faults k k l l (O.faults out.old) (O.faults out.new) m m) why []) }
+    ensures out_later { O.faults out.old ≤ O.faults out.new }
+    ensures fixed { W.fixed workers.new ≡ W.fixed workers.old }
+{
     let Ok(image) = generated_image(alloc, number, threads) else {
         return Err(Refusal::Memory);
     };
     let mut kernel = open(alloc, slice::from_ref(&image), CONFIG)?;
-    let (ending, count, digest) = run_generated(alloc, &mut kernel, workers)?;
-    let status = kernel.state().table.status(1);
-    match put_summary(ending, kernel.rounds(), status, count, &digest, out) {
-        Ok(()) => Ok(ending),
+    let ran = run_quietly(alloc, &mut kernel, workers)?;
+    match put_summary(&kernel, &ran, out) {
+        Ok(()) => Ok(ran.ending),
         Err(_) => Err(Refusal::Sink),
     }
 }

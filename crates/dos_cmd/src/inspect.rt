@@ -1,4 +1,10 @@
 // The command `inspect`.
+ghost use Rattle.std.specs.Prelude.{◌≤◌, ℕ, List, Option, [], IfOk, IfErr};
+ghost use Rattle.dos_io.specs.Hosts.{Told};
+ghost use Rattle.dos_texts.specs.Exit.{ending_status};
+ghost use Rattle.dos_words.specs.declared.request.Request.TheVariants as requests;
+ghost use Rattle.dos_cmd.specs.Outside.{outside, faults};
+ghost use Rattle.dos_cmd.specs.Results.{Begun, Did, Leaves};
 
 use crate::images::load;
 use dos_io::{Files, Sink};
@@ -12,7 +18,24 @@ pub(crate) fn inspect<F: Files, O: Sink>(
     name: &str,
     files: &mut F,
     out: &mut O,
-) -> Result<Ending, Refusal> {
+) -> Result<Ending, Refusal>
+    // whatever a host and error tell, and however often they failed
+    ensures did { IfOk result (λ ending. (h : Option Told) (e : Option (List ℕ)) (t : ℕ)
+        → Begun (requests.Inspect name.now)
+        (outside (F.tells files.old) (F.content files.old) (F.content files.new) h h
+        (O.told out.old) (O.told out.new) e e t t)
+        (λ taken. Did (requests.Inspect name.now) taken (ending_status ending)
+        (outside (F.tells files.old) (F.content files.old) (F.content files.new) h h
+        (O.told out.old) (O.told out.new) e e t t))) }
+    ensures leaves { IfErr result (λ why. (h : Option Told) (e : Option (List ℕ)) (t m n : ℕ)
+        → Leaves (requests.Inspect name.now)
+        (outside (F.tells files.old) (F.content files.old) (F.content files.new) h h
+        (O.told out.old) (O.told out.new) e e t t)
+        (faults (F.faults files.old) (F.faults files.new) m m
+        (O.faults out.old) (O.faults out.new) n n) why []) }
+    ensures files_later { F.faults files.old ≤ F.faults files.new }
+    ensures out_later { O.faults out.old ≤ O.faults out.new }
+{
     let (image, _digest) = load(alloc, files, 1, name)?;
     match put_inspect(&image, out) {
         Ok(()) => Ok(Ending::Done),

@@ -1,4 +1,17 @@
-// The command `replay`. Its contract is as that of `run`, over `replay_request`; it is lent no host.
+// The command `replay`. It is lent no host.
+ghost use Rattle.std.specs.Prelude.{◌≡◌, ◌≤◌, ℕ, Bool, List, Option, [], length, map, IfOk, IfErr, IfSome, IsErrOf, OnOk, Ok, Err, None};
+ghost use Rattle.dos_world.specs.Lawful.{IsConfig};
+ghost use Rattle.dos_io.specs.Hosts.{Told};
+ghost use Rattle.dos_io.specs.Outside.{Rose};
+ghost use Rattle.group_open.specs.Opening.{needed};
+ghost use Rattle.log_files.specs.Judging.{log_verdict};
+ghost use Rattle.logged_runs.specs.Replaying.{config_of};
+ghost use Rattle.dos_texts.specs.Exit.{ending_status};
+ghost use Rattle.dos_words.specs.declared.request.Request.TheVariants as requests;
+ghost use Rattle.dos_cmd.specs.Judging.{agreed, replay_judgement};
+ghost use Rattle.dos_cmd.specs.Outside.{outside, faults};
+ghost use Rattle.dos_cmd.specs.Replaying.{DidReplay, LeavesTaken, OfLogFile, OfReading};
+ghost use Rattle.dos_cmd.specs.Results.{Begun, Did, Leaves};
 
 use crate::images::load_all;
 use crate::run::{open, report};
@@ -15,7 +28,15 @@ use std::alloc::Global;
 use worker_pool::Workers;
 
 /// Reads the log.
-fn read<F: Files>(alloc: Global, files: &mut F, name: &str) -> Result<Log, Refusal> {
+fn read<F: Files>(alloc: Global, files: &mut F, name: &str) -> Result<Log, Refusal>
+    ensures accepted { IfOk result (λ log. IfSome (F.content files.old name.now)
+        (λ file. log_verdict file ≡ Ok log)) }
+    ensures refused { IfErr result (λ why. OfLogFile why (λ found. IfSome
+        (F.content files.old name.now) (λ file. log_verdict file ≡ Err found))) }
+    ensures fault { IsErrOf result Refusal.Files → Rose (F.faults files.old) (F.faults files.new) }
+    ensures later { F.faults files.old ≤ F.faults files.new }
+    ensures stays { (n : List ℕ) → F.content files.new n ≡ F.content files.old n }
+{
     match load_log(alloc, files, name) {
         Ok(log) => Ok(log),
         Err(LoadError::Log(why)) => Err(Refusal::Log(why)),
@@ -25,7 +46,11 @@ fn read<F: Files>(alloc: Global, files: &mut F, name: &str) -> Result<Log, Refus
 }
 
 /// What a log's run was given.
-fn config_of(log: &Log) -> Config {
+fn config_of(log: &Log) -> Config
+    ensures config { result ≡ config_of log.now.header }
+    ensures range { IsConfig result }
+{
+    let _len = log.len();
     let header = log.header();
     Config {
         quantum: header.quantum,
@@ -40,9 +65,22 @@ fn take<F: Files>(
     files: &mut F,
     log: &str,
     names: &Names,
-) -> Result<(Log, Vec<Image>), Refusal> {
+) -> Result<(Log, Vec<Image>), Refusal>
+    requires { length names.now ≤ 8 }
+    // but for room, which isn't tried yet
+    ensures taken { IfOk result (λ x. IfSome (replay_judgement (F.content files.old log.now)
+        (map (F.content files.old) names.now)) (λ j. j ≡ agreed x.0 x.1.items None)) }
+    ensures some { IfOk result (λ x. 1 ≤ length x.1.items) }
+    ensures few { IfOk result (λ x. length x.1.items ≤ 8) }
+    ensures refused { IfErr result (λ why. OfReading why (λ why. IfSome (replay_judgement
+        (F.content files.old log.now) (map (F.content files.old) names.now)) (λ j. j ≡ Err why))) }
+    ensures fault { IsErrOf result Refusal.Files → Rose (F.faults files.old) (F.faults files.new) }
+    ensures later { F.faults files.old ≤ F.faults files.new }
+    ensures stays { (n : List ℕ) → F.content files.new n ≡ F.content files.old n }
+{
     let log = read(alloc, files, log)?;
     let (images, digests) = load_all(alloc, files, names)?;
+    let _len = log.len();
     match agree(&digests, &log.header().digests) {
         Ok(()) => Ok((log, images)),
         Err(why) => Err(Refusal::Log(why)),
@@ -57,7 +95,27 @@ fn replay_taken<O: Sink, E: Sink, W: Workers>(
     out: &mut O,
     err: &mut E,
     workers: &mut W,
-) -> Result<Ending, Refusal> {
+) -> Result<Ending, Refusal>
+    requires some { 1 ≤ length images.now }
+    requires few { length images.now ≤ 8 }
+    // whatever files and a host tell, where they stay
+    ensures did { IfOk result (λ ending. (tells : Bool) (f f' : List ℕ → Option (List ℕ))
+        (h : Option Told) → ((n : List ℕ) → f' n ≡ f n)
+        → DidReplay log images.now (ending_status ending)
+        (outside tells f f' h h (O.told out.old) (O.told out.new) (E.told err.old) (E.told err.new)
+        (W.tally workers.old) (W.tally workers.new))) }
+    ensures room { OnOk result (needed images.now ≤ log.header.frames) }
+    ensures leaves { IfErr result (λ why. (tells : Bool) (f f' : List ℕ → Option (List ℕ))
+        (h : Option Told) (k k' m : ℕ) → ((n : List ℕ) → f' n ≡ f n)
+        → LeavesTaken log images.now
+        (outside tells f f' h h (O.told out.old) (O.told out.new) (E.told err.old) (E.told err.new)
+        (W.tally workers.old) (W.tally workers.new))
+        (faults k k' m m (O.faults out.old) (O.faults out.new) (E.faults err.old)
+        (E.faults err.new)) why) }
+    ensures out_later { O.faults out.old ≤ O.faults out.new }
+    ensures err_later { E.faults err.old ≤ E.faults err.new }
+    ensures fixed { W.fixed workers.new ≡ W.fixed workers.old }
+{
     let mut kernel = open(alloc, images, config_of(&log))?;
     match replay_group(&mut kernel, log, out, err, workers) {
         Ok(ending) => report(&kernel, ending, err),
@@ -74,7 +132,30 @@ pub(crate) fn replay<F: Files, O: Sink, E: Sink, W: Workers>(
     out: &mut O,
     err: &mut E,
     workers: &mut W,
-) -> Result<Ending, Refusal> {
+) -> Result<Ending, Refusal>
+    requires { length names.now ≤ 8 }
+    // whatever a host tells, and however often it failed
+    ensures did { IfOk result (λ ending. (n : ℕ) (h : Option Told)
+        → Begun (requests.Replay n log.now names.now)
+        (outside (F.tells files.old) (F.content files.old) (F.content files.new) h h
+        (O.told out.old) (O.told out.new) (E.told err.old) (E.told err.new)
+        (W.tally workers.old) (W.tally workers.new))
+        (λ taken. Did (requests.Replay n log.now names.now) taken (ending_status ending)
+        (outside (F.tells files.old) (F.content files.old) (F.content files.new) h h
+        (O.told out.old) (O.told out.new) (E.told err.old) (E.told err.new)
+        (W.tally workers.old) (W.tally workers.new)))) }
+    ensures leaves { IfErr result (λ why. (n : ℕ) (h : Option Told) (m : ℕ)
+        → Leaves (requests.Replay n log.now names.now)
+        (outside (F.tells files.old) (F.content files.old) (F.content files.new) h h
+        (O.told out.old) (O.told out.new) (E.told err.old) (E.told err.new)
+        (W.tally workers.old) (W.tally workers.new))
+        (faults (F.faults files.old) (F.faults files.new) m m (O.faults out.old) (O.faults out.new)
+        (E.faults err.old) (E.faults err.new)) why []) }
+    ensures files_later { F.faults files.old ≤ F.faults files.new }
+    ensures out_later { O.faults out.old ≤ O.faults out.new }
+    ensures err_later { E.faults err.old ≤ E.faults err.new }
+    ensures fixed { W.fixed workers.new ≡ W.fixed workers.old }
+{
     let (log, images) = take(alloc, files, log, names)?;
     replay_taken(alloc, log, &images, out, err, workers)
 }

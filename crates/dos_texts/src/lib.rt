@@ -2,6 +2,17 @@
 //! report; and what `inspect` and `gen` print.
 #![tactic(auto)]
 
+mod image_lines;
+mod inspect;
+mod line;
+mod log_lines;
+mod misfit_line;
+mod output;
 mod refusal;
+mod report;
 
-pub use refusal::Refusal;
+pub use inspect::put_inspect;
+pub use line::LINE;
+pub use output::put_output;
+pub use refusal::{Refusal, ending_status, put_refusal};
+pub use report::{ending_word, process_line, rounds_line};

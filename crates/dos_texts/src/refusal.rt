@@ -1,9 +1,30 @@
-//! Why a call comes to no report.
+//! How a call ends: its status, and the line that says so.
 
-use dos_world::Misfit;
+ghost use Rattle.std.specs.Prelude.{◌≡◌, ◌≢◌, ◌≤◌, ◌⊎◌};
+ghost use Rattle.dos_io.specs.Outside.{GrewByFront, Rose, grown};
+ghost use Rattle.dos_texts.specs.Exit.{IsStatus, ending_status, line_of, refusal_status};
+
+use crate::image_lines::{long_line, refused_line, room_line};
+use crate::line::{LINE, text_line};
+use crate::log_lines::log_line;
+use crate::misfit_line::misfit_line;
+use arrayvec::ArrayString;
+use dos_io::Sink;
+use dos_world::{Ending, Misfit};
 use elf_image::ImageError;
 use log_files::LogRefusal;
 use std::alloc::AllocFailed;
+
+/// The exit status of a call whose run ended so. An inspected image is done.
+pub fn ending_status(ending: Ending) -> u8
+    ensures { result ≡ ending_status ending }
+{
+    match ending {
+        Ending::Done => 0,
+        Ending::Limit => 7,
+        Ending::Stalled => 8,
+    }
+}
 
 /// Why a call came to no report. Images are counted from 1, in the order of the words.
 #[derive(Clone, Copy, Debug, PartialEq, Eq)]
@@ -40,5 +61,68 @@ impl<T: Drop> From<AllocFailed<T>> for Refusal {
 
     fn from(_failed: AllocFailed<T>) -> Refusal {
         Refusal::Memory
+    }
+}
+
+impl Refusal {
+    /// The exit status then.
+    #[tactic(auto, unfolding(crate::specs::Exit::refusal_status))]
+    pub fn status(self) -> u8
+        ensures { result ≡ refusal_status self }
+    {
+        match self {
+            Refusal::Words => 2,
+            Refusal::TooLong(_) => 3,
+            Refusal::Image(_, _) => 3,
+            Refusal::NoRoom(_, _) => 3,
+            Refusal::Log(_) => 4,
+            Refusal::Misfit(_) => 4,
+            Refusal::Files => 5,
+            Refusal::Host => 5,
+            Refusal::Sink => 6,
+            Refusal::LogFull => 10,
+            Refusal::Memory => 9,
+        }
+    }
+
+    /// The line that says so. Where a sink failed there is none, since nothing more is written.
+    #[tactic(auto, unfolding(crate::specs::Exit::line_of))]
+    pub fn line(self) -> ArrayString<LINE>
+        ensures { result.bytes ≡ line_of self }
+    {
+        match self {
+            Refusal::Words => text_line("dos: words refused\n"),
+            Refusal::TooLong(image) => long_line(image),
+            Refusal::Image(image, error) => refused_line(image, error),
+            Refusal::NoRoom(needed, frames) => room_line(needed, frames),
+            Refusal::Log(why) => log_line(why),
+            Refusal::Misfit(found) => misfit_line(found),
+            Refusal::Files => text_line("dos: file fault\n"),
+            Refusal::Host => text_line("dos: host fault\n"),
+            Refusal::Sink => text_line(""),
+            Refusal::LogFull => text_line("dos: log full\n"),
+            Refusal::Memory => text_line("dos: out of memory\n"),
+        }
+    }
+}
+
+/// Puts a refusal's line to `err` by one put, and answers the exit status. Where a sink has failed
+/// already, or this put fails, that is 6; of the line a front was put then, of any length.
+#[tactic(auto, using(crate::proofs::Statuses::status_of_sink, crate::proofs::Statuses::front_of_sink), unfolding(crate::specs::Exit::refusal_status))]
+pub fn put_refusal<E: Sink>(refusal: Refusal, err: &mut E) -> u8
+    ensures told { result ≢ 6 → (refusal ≢ Refusal.Sink) × (result ≡ refusal_status refusal)
+        × (E.told err.new ≡ grown (E.told err.old) (line_of refusal)) }
+    ensures sink { result ≡ 6 → (refusal ≡ Refusal.Sink)
+        ⊎ Rose (E.faults err.old) (E.faults err.new) }
+    ensures front { result ≡ 6 → GrewByFront (E.told err.old) (E.told err.new) (line_of refusal) }
+    ensures statuses { IsStatus result }
+    ensures later { E.faults err.old ≤ E.faults err.new }
+{
+    if refusal == Refusal::Sink {
+        return Refusal::Sink.status();
+    }
+    match err.put(refusal.line().as_str().as_bytes()) {
+        Ok(()) => refusal.status(),
+        Err(_) => Refusal::Sink.status(),
     }
 }

@@ -1,5 +1,5 @@
 -- A run leads from a lawful world to a lawful world, over all answers that fit, with any services.
-use Rattle.std.proofs.Common.{ℕ, ◌+◌, ◌-◌, ◌<◌, ◌≤◌, ◌≡◌, refl, ap, List, [], length, arith}
+use Rattle.std.proofs.Common.{ℕ, ◌+◌, ◌-◌, ◌≤◌, ◌≡◌, refl, ap, List, length, arith}
 use Rattle.std.specs.Prelude.{All}
 use Rattle.dos_world.specs.World.{World}
 use Rattle.dos_world.specs.Play.{Answer, gives, over}
@@ -12,7 +12,7 @@ use Rattle.group_open.proofs.OpeningLaws.{every_opening}
 use Rattle.round_core.specs.Round.{counted}
 use Rattle.round_core.specs.Invariants.{IsOf}
 use Rattle.round_core.proofs.Allowed.{over_allows}
-use Rattle.round_core.proofs.KeepsBoth.{Both, both_kept}
+use Rattle.round_core.proofs.KeepsBoth.{both_kept}
 use Rattle.round_core.proofs.SameRun.{same_run_kept}
 use Rattle.dos_laws.specs.Standing.{LawfulWith, IsFit, fit_protocol}
 use Rattle.dos_laws.proofs.LawfulRounds.{at_rest}

@@ -1,11 +1,9 @@
 -- A run has no more rounds than its configuration allows.
-use Rattle.std.proofs.Common.{ℕ, ◌+◌, ◌-◌, ◌<◌, ◌≤◌, ◌≡◌, refl, ap, subst, List, arith}
+use Rattle.std.proofs.Common.{ℕ, ◌+◌, ◌-◌, ◌≤◌, ◌≡◌, refl, ap, subst, List, arith}
 use Rattle.dos_world.specs.World.{World}
-use Rattle.kernel_calls.specs.Built.{services_built}
 use Rattle.dos_world.specs.Play.{Answer, Outcome, gives, asks, over}
 use Rattle.dos_world.specs.declared.Config.{Config}
 use Rattle.dos_world.specs.declared.Question.{Question}
-use Rattle.round_core.specs.Round.{counted}
 use Rattle.round_core.specs.Protocol.{any_protocol}
 use Rattle.round_core.specs.Invariants.{IsOf}
 use Rattle.round_core.proofs.Allowed.{over_allows}

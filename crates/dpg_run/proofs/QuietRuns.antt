@@ -1,13 +1,11 @@
 -- The questions of a run determine its quiet answers, and what was sent by then.
 use Rattle.std.proofs.Common.{ℕ, ◌≡◌, refl, sym, ap, ap₂, ◌∙◌, subst, List, [], ◌∷◌, ◌++◌, map}
 use Rattle.dos_world.specs.Play.{Play, Answer, Outcome, gives, asks, done, ask, ◌>>=◌, over, questions}
-use Rattle.dos_world.specs.declared.Config.{Config}
 use Rattle.dos_world.specs.declared.Question.{Question}
 use Rattle.dos_io.specs.declared.exchange.Exchange.{Exchange}
 use Rattle.dos_io.specs.declared.exchange.Exchange.TheVariants.{Signals, Input, Clock, End}
 use Rattle.dos_io.specs.Exchanges.{question_of, answer_of}
 use Rattle.dos_io.specs.Quiet.{quiet_exchange, IsQuiet, AreQuiet}
-use Rattle.elf_image.specs.Image.{Image}
 use Rattle.group_rounds.specs.Goes.{GoesOn}
 use Rattle.dpg_run.specs.Machine.{Finish, Seen, Ran, ends, group, machine, told_end}
 use Rattle.dpg_run.specs.QuietRuns.{QuietRunsAreOne}

@@ -1,40 +1,15 @@
 -- The lines of a report, one after another.
-use Rattle.std.proofs.Common.{ℕ, zero, suc, ◌+◌, ◌<◌, ◌≤◌, ◌≡◌, min, refl, sym, ap, ◌∙◌, subst, List, [], ◌∷◌, ◌++◌, length, take, drop, map, get_or, Option, Some, None, Result, Ok, Err, arith}
-use Rattle.std.specs.Prelude.{IfSome, OnErr, OnOk, slice_get}
-use Rattle.std.proofs.lemmas.List.{append-nil, append_assoc, length-take, take-append-drop, take-append-le, take_all, take_min, take_more}
-use Rattle.std.proofs.Math.Seq.{take-append-add}
+use Rattle.std.proofs.Common.{ℕ, zero, suc, ◌+◌, ◌<◌, ◌≤◌, ◌≡◌, sym, ap, ◌∙◌, subst, List, [], ◌∷◌, ◌++◌, length, take, drop, map, get_or, Option, arith}
+use Rattle.std.specs.Prelude.{IfSome, slice_get}
+use Rattle.std.proofs.lemmas.List.{append-nil, append_assoc, length-take, take-append-drop, take_all, take_more}
 use Rattle.dos_world.specs.Numbered.{numbered}
 use Rattle.dos_world.specs.World.{Process}
-use Rattle.dos_world.specs.declared.Ending.{Ending}
 use Rattle.dos_io.specs.Outside.{grown, GrewByFront}
 use Rattle.dos_io.proofs.OutsideLaws.{grown-twice}
 use Rattle.proc_table.specs.Tables.{last_status}
 use Rattle.dpg_run.specs.Machine.{status_in}
-use Rattle.dpg_run.specs.Report.{process_line, process_lines, report_of, rounds_line}
-
--- ---- what is told
-
-pub on_err : {T E : Type 0} (result : Result T E) (P : Type 0) → P → OnErr result P
-on_err (Ok x) P holds = tt
-on_err (Err e) P holds = holds
-
--- a front of what comes next is a front of the whole
-take_next : (first next rest : List ℕ) (k : ℕ)
-    → take (length first + min k (length next)) (first ++ (next ++ rest)) ≡ first ++ take k next
-take_next first next rest k =
-    take-append-add first (next ++ rest) (min k (length next))
-    ∙ ap (λ xs. first ++ xs)
-    (take-append-le (min k (length next)) next rest (omega arith) ∙ take_min k next)
-
-pub front_of_whole : (told before new : Option (List ℕ)) (first next rest whole : List ℕ)
-    → before ≡ grown told first → GrewByFront before new next → whole ≡ first ++ (next ++ rest)
-    → GrewByFront told new whole
-front_of_whole told before new first next rest whole b front w = (
-  length first + min front.0 (length next),
-  front.1 ∙ ap (λ t. grown t (take front.0 next)) b ∙ grown-twice told first (take front.0 next)
-      ∙ ap (grown told) (sym (take_next first next rest front.0))
-      ∙ ap (λ xs. grown told (take (length first + min front.0 (length next)) xs)) (sym w),
-)
+use Rattle.dos_texts.specs.Report.{process_line, process_lines}
+use Rattle.dos_texts.proofs.Pieces.{front_of_whole}
 
 -- ---- the lines
 
@@ -70,62 +45,25 @@ told_more told before new all i status line lt is so_far line_is put =
     ∙ grown-twice told (process_lines 1 (take i all)) (process_line (i + 1) status)
     ∙ ap (grown told) (sym (lines_more all i status lt is))
 
-pub front_more : (told before new : Option (List ℕ)) (all : List (Option ℕ)) (rounds : ℕ)
-    (ending : Ending) (i : ℕ) (status : Option ℕ) (line : List ℕ) → i < length all
-    → status ≡ get_or all i status
-    → before ≡ grown told (process_lines 1 (take i all)) → line ≡ process_line (i + 1) status
-    → GrewByFront before new line → GrewByFront told new (report_of all rounds ending)
-front_more told before new all rounds ending i status line lt is so_far line_is front =
-    let left : List ℕ = process_lines (1 + length (take (i + 1) all)) (drop (i + 1) all) in
-    let whole : report_of all rounds ending ≡ process_lines 1 (take i all)
-    ++ (line ++ (left ++ rounds_line rounds ending)) =
-    ap (λ xs. process_lines 1 xs ++ rounds_line rounds ending) (sym (take-append-drop (i + 1) all))
-    ∙ ap (λ lines. lines ++ rounds_line rounds ending)
-    (lines-append 1 (take (i + 1) all) (drop (i + 1) all)
-    ∙ ap (λ lines. lines ++ left) (lines_more all i status lt is))
-    ∙ append_assoc (process_lines 1 (take i all) ++ process_line (i + 1) status) left
-    (rounds_line rounds ending)
-    ∙ append_assoc (process_lines 1 (take i all)) (process_line (i + 1) status)
-    (left ++ rounds_line rounds ending)
-    ∙ ap (λ l. process_lines 1 (take i all) ++ (l ++ (left ++ rounds_line rounds ending)))
-    (sym line_is) in
-    front_of_whole told before new (process_lines 1 (take i all)) line
-    (left ++ rounds_line rounds ending) (report_of all rounds ending) so_far front whole
-
--- ---- the last line
-
-so_far_all : (told before : Option (List ℕ)) (all : List (Option ℕ)) (i : ℕ) → length all ≤ i
+pub told_all : (told before : Option (List ℕ)) (all : List (Option ℕ)) (i : ℕ) → length all ≤ i
     → before ≡ grown told (process_lines 1 (take i all)) → before ≡ grown told (process_lines 1 all)
-so_far_all told before all i past so_far =
+told_all told before all i past so_far =
     so_far ∙ ap (λ xs. grown told (process_lines 1 xs)) (take_all i all past)
 
-pub told_all : {T E : Type 0} (result : Result T E) (told before new : Option (List ℕ))
-    (all : List (Option ℕ)) (rounds : ℕ) (ending : Ending) (i : ℕ) (line : List ℕ)
-    → length all ≤ i
-    → before ≡ grown told (process_lines 1 (take i all)) → line ≡ rounds_line rounds ending
-    → OnOk result (new ≡ grown before line)
-    → OnOk result (new ≡ grown told (report_of all rounds ending))
-told_all (Ok x) told before new all rounds ending i line past so_far line_is put =
-    put ∙ ap (λ t. grown t line) (so_far_all told before all i past so_far)
-    ∙ ap (grown (grown told (process_lines 1 all))) line_is
-    ∙ grown-twice told (process_lines 1 all) (rounds_line rounds ending)
-told_all (Err e) told before new all rounds ending i line past so_far line_is put = tt
-
-pub front_all : {T E : Type 0} (result : Result T E) (told before new : Option (List ℕ))
-    (all : List (Option ℕ)) (rounds : ℕ) (ending : Ending) (i : ℕ) (line : List ℕ)
-    → length all ≤ i
-    → before ≡ grown told (process_lines 1 (take i all)) → line ≡ rounds_line rounds ending
-    → OnErr result (GrewByFront before new line)
-    → OnErr result (GrewByFront told new (report_of all rounds ending))
-front_all (Ok x) told before new all rounds ending i line past so_far line_is front = tt
-front_all (Err e) told before new all rounds ending i line past so_far line_is front =
-    front_of_whole told before new (process_lines 1 all) line [] (report_of all rounds ending)
-    (so_far_all told before all i past so_far) front
-    (ap (λ l. process_lines 1 all ++ l) (sym line_is ∙ sym (append-nil line)))
-
--- the bytes of a text that was made as a line
-pub same_text : (bytes text line is : List ℕ) → bytes ≡ text → text ≡ line → line ≡ is → bytes ≡ is
-same_text bytes text line is e f g = e ∙ f ∙ g
+pub front_more : (told before new : Option (List ℕ)) (all : List (Option ℕ)) (i : ℕ)
+    (status : Option ℕ) (line : List ℕ) → i < length all → status ≡ get_or all i status
+    → before ≡ grown told (process_lines 1 (take i all)) → line ≡ process_line (i + 1) status
+    → GrewByFront before new line → GrewByFront told new (process_lines 1 all)
+front_more told before new all i status line lt is so_far line_is front =
+    let left : List ℕ = process_lines (1 + length (take (i + 1) all)) (drop (i + 1) all) in
+    let whole : process_lines 1 all ≡ process_lines 1 (take i all) ++ (line ++ left) =
+    ap (process_lines 1) (sym (take-append-drop (i + 1) all))
+    ∙ lines-append 1 (take (i + 1) all) (drop (i + 1) all)
+    ∙ ap (λ lines. lines ++ left) (lines_more all i status lt is)
+    ∙ append_assoc (process_lines 1 (take i all)) (process_line (i + 1) status) left
+    ∙ ap (λ l. process_lines 1 (take i all) ++ (l ++ left)) (sym line_is) in
+    front_of_whole told before new (process_lines 1 (take i all)) line left (process_lines 1 all)
+    so_far front whole
 
 -- ---- the status of a process
 

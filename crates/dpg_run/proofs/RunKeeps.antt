@@ -1,6 +1,6 @@
 -- What every change of a round keeps, and a round more, a run keeps, after as many rounds as it
 -- ran.
-use Rattle.std.proofs.Common.{ℕ, zero, suc, ◌+◌, ◌<◌, ◌≤◌, sym, subst, List, [], arith}
+use Rattle.std.proofs.Common.{ℕ, zero, suc, ◌+◌, sym, subst, [], arith}
 use Rattle.dos_world.specs.World.{World}
 use Rattle.dos_world.specs.Play.{Play, done}
 use Rattle.dos_world.specs.declared.Ending.TheVariants.{Done, Stalled}

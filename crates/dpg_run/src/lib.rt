@@ -7,5 +7,5 @@ mod report;
 mod run;
 
 pub use open::open_group;
-pub use report::put_report;
+pub use report::{put_processes, put_report};
 pub use run::run_group;

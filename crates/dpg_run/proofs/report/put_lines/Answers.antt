@@ -1,63 +1,32 @@
-use Rattle.std.proofs.Common.{◌+◌, map, arith}
-use Rattle.std.proofs.lemmas.List.{length-map}
+use Rattle.std.proofs.Common.{map, refl}
 use Rattle.dpg_run.specs.Machine.{status_in}
-use Rattle.dpg_run.specs.Report.{process_line, rounds_line}
-use Rattle.dpg_run.proofs.ReportLaws.{front_all, front_more, on_err, same_text, status_at, told_all, told_more}
+use Rattle.dos_texts.specs.Report.{process_lines, rounds_line}
+use Rattle.dos_texts.proofs.Pieces.{on_err, same_text, first_fails, both_told, second_fails}
 use Rattle.dpg_run.proofs.report.put_lines.Goals as goal
 
-pub returns-in_err-put-clause-front : goal.returns-in_err-put-clause-front
-returns-in_err-put-clause-front g c =
-    let processes = c.args.table.now.processes in
-    let status = status_at processes c.loop-place.place c.status.result
-    (omega arith) c.status.ensures in
+pub returns-in_err-put_processes-clause-front : goal.returns-in_err-put_processes-clause-front
+returns-in_err-put_processes-clause-front g c =
+    let lines = process_lines 1 (map status_in c.args.table.now.processes) in
     on_err c.from_residual.result _
-    (front_more (g.S.Sink.told c.args.sink.now) (g.S.Sink.told c.loop-place.sink)
-    (g.S.Sink.told c.put.new.self)
-    (map status_in processes) c.args.rounds c.args.ending c.loop-place.place
-    c.status.result c.as_bytes.result.now
-    (omega (arith, length-map processes status_in)) status c.loop-place.invariant.told
-    (same_text c.as_bytes.result.now c.as_str.result.now c.process_line.result.bytes
-    (process_line (c.loop-place.place + 1) c.status.result) c.as_bytes.ensures.value
-    c.as_str.ensures.value c.process_line.ensures) c.in_err-put.ensures.err)
-
-pub loop-place-preserved : goal.loop-place-preserved
-loop-place-preserved g c =
-    let processes = c.args.table.now.processes in
-    let status = status_at processes c.loop-place.place c.status.result
-    (omega arith) c.status.ensures in
-    let later = c.put.ensures.cause.later in
-    record {
-      told = told_more (g.S.Sink.told c.args.sink.now) (g.S.Sink.told c.loop-place.sink)
-          (g.S.Sink.told c.put.new.self)
-          (map status_in processes) c.loop-place.place c.status.result c.as_bytes.result.now
-          (omega (arith, length-map processes status_in)) status c.loop-place.invariant.told
-          (same_text c.as_bytes.result.now c.as_str.result.now c.process_line.result.bytes
-          (process_line (c.loop-place.place + 1) c.status.result)
-          c.as_bytes.ensures.value c.as_str.ensures.value c.process_line.ensures)
-          c.in_ok-put.ensures.ok;
-      later = omega (arith, c.loop-place.invariant.later, later);
-    }
+    (first_fails _ _ lines lines (rounds_line c.args.rounds c.args.ending) refl
+    c.in_err-put_processes.ensures.front)
 
 pub returns-clause-told : goal.returns-clause-told
 returns-clause-told g c =
-    let processes = c.args.table.now.processes in
-    told_all c.put-2.result (g.S.Sink.told c.args.sink.now) (g.S.Sink.told c.loop-place.sink)
-    (g.S.Sink.told c.put-2.new.self)
-    (map status_in processes) c.args.rounds c.args.ending c.loop-place.place
-    c.as_bytes-2.result.now
-    (omega (arith, length-map processes status_in)) c.loop-place.invariant.told
-    (same_text c.as_bytes-2.result.now c.as_str-2.result.now c.rounds_line.result.bytes
-    (rounds_line c.args.rounds c.args.ending) c.as_bytes-2.ensures.value
-    c.as_str-2.ensures.value c.rounds_line.ensures) c.put-2.ensures.ok
+    let lines = process_lines 1 (map status_in c.args.table.now.processes) in
+    both_told c.put.result _ _ _ lines lines c.as_bytes.result.now
+    (rounds_line c.args.rounds c.args.ending) refl
+    (same_text c.as_bytes.result.now c.as_str.result.now c.rounds_line.result.bytes
+    (rounds_line c.args.rounds c.args.ending) c.as_bytes.ensures.value c.as_str.ensures.value
+    c.rounds_line.ensures)
+    c.in_ok-put_processes.ensures.told c.put.ensures.ok
 
 pub returns-clause-front : goal.returns-clause-front
 returns-clause-front g c =
-    let processes = c.args.table.now.processes in
-    front_all c.put-2.result (g.S.Sink.told c.args.sink.now) (g.S.Sink.told c.loop-place.sink)
-    (g.S.Sink.told c.put-2.new.self)
-    (map status_in processes) c.args.rounds c.args.ending c.loop-place.place
-    c.as_bytes-2.result.now
-    (omega (arith, length-map processes status_in)) c.loop-place.invariant.told
-    (same_text c.as_bytes-2.result.now c.as_str-2.result.now c.rounds_line.result.bytes
-    (rounds_line c.args.rounds c.args.ending) c.as_bytes-2.ensures.value
-    c.as_str-2.ensures.value c.rounds_line.ensures) c.put-2.ensures.err
+    let lines = process_lines 1 (map status_in c.args.table.now.processes) in
+    second_fails c.put.result _ _ _ lines lines c.as_bytes.result.now
+    (rounds_line c.args.rounds c.args.ending) refl
+    (same_text c.as_bytes.result.now c.as_str.result.now c.rounds_line.result.bytes
+    (rounds_line c.args.rounds c.args.ending) c.as_bytes.ensures.value c.as_str.ensures.value
+    c.rounds_line.ensures)
+    c.in_ok-put_processes.ensures.told c.put.ensures.err

@@ -1,8 +1,8 @@
 use Rattle.std.proofs.Common.{◌≡◌, ◌≤◌, map, take}
 use Rattle.dos_io.specs.Outside.{grown}
 use Rattle.dpg_run.specs.Machine.{status_in}
-use Rattle.dpg_run.specs.Report.{process_lines}
-use Rattle.dpg_run.proofs.report.put_lines.Given as goal
+use Rattle.dos_texts.specs.Report.{process_lines}
+use Rattle.dpg_run.proofs.report.put_processes.Given as goal
 
 -- the lines so far
 abbrev pub invariant-loop-place : goal.invariant-loop-place

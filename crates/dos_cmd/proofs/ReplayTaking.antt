@@ -1,0 +1,137 @@
+-- What a replay takes its files for, from part to whole.
+use Rattle.std.proofs.Common.{◌≡◌, ◌≤◌, ◌<◌, refl, sym, ap, ap₂, ◌∙◌, subst, ℕ, Bool, true, false, List, [], ◌∷◌, length, map, Option, Some, None, Result, Ok, Err, arith}
+use Rattle.std.specs.Prelude.{IfSome, nat_lt, option_and_then, ◌==◌, if◌then◌else◌}
+use Rattle.std.proofs.lemmas.Bool.{le-ltb}
+use Rattle.std.proofs.lemmas.Bool.Decides.{nat_tests}
+use Rattle.elf_image.specs.Image.{Image}
+use Rattle.group_open.specs.Opening.{needed}
+use Rattle.log_files.specs.Judging.{log_verdict, disagreement, first_other}
+use Rattle.log_files.specs.declared.refusal.LogRefusal.{LogRefusal}
+use Rattle.log_files.specs.declared.refusal.LogRefusal.TheVariants as log_refusals
+use Rattle.logged_runs.specs.Replaying.{config_of}
+use Rattle.shim_log.specs.LogText.{Log}
+use Rattle.shim_log.specs.Ranges.{FitsLog}
+use Rattle.dos_texts.specs.declared.refusal.Refusal.{Refusal}
+use Rattle.dos_texts.specs.declared.refusal.Refusal.TheVariants as refusals
+use Rattle.dos_words.specs.Numbers.{Text}
+use Rattle.dos_cmd.specs.Judging.{Images, Judgement, Taken, agreed, digests_of, images_from, of_log, replay_judgement, with_images, with_room}
+use Rattle.dos_cmd.specs.Replaying.{OfLogFile, OfReading}
+
+-- ---- files that stay
+
+same_told : (f f' : Text → Option (List ℕ)) → ((name : Text) → f' name ≡ f name)
+    → (names : List Text) → map f' names ≡ map f names
+same_told f f' stays [] = refl
+same_told f f' stays (name ∷ names) = ap₂ (λ a b. a ∷ b) (stays name) (same_told f f' stays names)
+
+-- what holds of files as they are told later, holds as they are told before
+pub told_before : (f f' : Text → Option (List ℕ)) (names : List Text)
+    (P : List (Option (List ℕ)) → Type 0) → ((name : Text) → f' name ≡ f name)
+    → P (map f' names) → P (map f names)
+told_before f f' names P stays h = subst P (same_told f f' stays names) h
+
+-- ---- the log
+
+pub log_refused : (told : Option (List ℕ)) (files : List (Option (List ℕ))) (why : LogRefusal)
+    → IfSome told (λ file. log_verdict file ≡ Err why)
+    → IfSome (replay_judgement told files) (λ j. j ≡ Err (refusals.Log why))
+log_refused None files why h = tt
+log_refused (Some file) files why h = rw h refl
+
+pub reading_refused : (told : Option (List ℕ)) (files : List (Option (List ℕ))) (why : Refusal)
+    → OfLogFile why (λ found. IfSome told (λ file. log_verdict file ≡ Err found))
+    → OfReading why (λ w. IfSome (replay_judgement told files) (λ j. j ≡ Err w))
+reading_refused told files refusals.Words h = absurd h
+reading_refused told files (refusals.TooLong image) h = absurd h
+reading_refused told files (refusals.Image image error) h = absurd h
+reading_refused told files (refusals.NoRoom n frames) h = absurd h
+reading_refused told files (refusals.Log why) h = log_refused told files why h
+reading_refused told files (refusals.Misfit found) h = absurd h
+reading_refused told files refusals.Files h = tt
+reading_refused told files refusals.Host h = absurd h
+reading_refused told files refusals.Sink h = absurd h
+reading_refused told files refusals.LogFull h = absurd h
+reading_refused told files refusals.Memory h = tt
+
+-- ---- the images
+
+-- with a log
+with_log : (told : Option (List ℕ)) (files : List (Option (List ℕ))) (log : Log) (j : Judgement)
+    → IfSome told (λ file. log_verdict file ≡ Ok log)
+    → IfSome (option_and_then (with_images log (digests_of files)) (images_from 1 files))
+    (λ k. k ≡ j) → IfSome (replay_judgement told files) (λ k. k ≡ j)
+with_log None files log j h k = tt
+with_log (Some file) files log j h k = rw h k
+
+pub images_refused : (told : Option (List ℕ)) (files : List (Option (List ℕ))) (log : Log)
+    (why : Refusal) → IfSome told (λ file. log_verdict file ≡ Ok log)
+    → IfSome (images_from 1 files) (λ j. j ≡ Err why)
+    → IfSome (replay_judgement told files) (λ j. j ≡ Err why)
+images_refused told files log why h k =
+    with_log told files log (Err why) h (refused (images_from 1 files) k)
+  where
+    refused : (images : Option Images) → IfSome images (λ j. j ≡ Err why)
+        → IfSome (option_and_then (with_images log (digests_of files)) images) (λ k. k ≡ Err why)
+    refused None k = tt
+    refused (Some images) k = rw k refl
+
+-- ---- whether they agree
+
+pub taken_so : (told : Option (List ℕ)) (files : List (Option (List ℕ))) (log : Log)
+    (images : List Image) (given : List (List ℕ)) (found : Option LogRefusal)
+    → IfSome told (λ file. log_verdict file ≡ Ok log)
+    → IfSome (images_from 1 files) (λ j. j ≡ Ok images)
+    → IfSome (digests_of files) (λ digests. given ≡ digests)
+    → disagreement given log.header.digests ≡ found
+    → IfSome (replay_judgement told files) (λ j. j ≡ agreed log images found)
+taken_so told files log images given found h k d e =
+    with_log told files log (agreed log images found) h
+    (both (images_from 1 files) (digests_of files) k d)
+  where
+    both : (read : Option Images) (digests : Option (List (List ℕ)))
+        → IfSome read (λ j. j ≡ Ok images) → IfSome digests (λ x. given ≡ x)
+        → IfSome (option_and_then (with_images log digests) read)
+        (λ j. j ≡ agreed log images found)
+    both None digests k d = tt
+    both (Some read) None k d = rw k tt
+    both (Some read) (Some digests) k d = rw k (ap (agreed log images)
+        (ap (λ x. disagreement x log.header.digests) (sym d) ∙ e))
+
+-- Where they agree, there are as many.
+pub same_count : (given logged : List (List ℕ)) → disagreement given logged ≡ None
+    → length given ≡ length logged
+same_count given logged h = by_test (length given == length logged) refl h
+  where
+    by_test : (b : Bool) → (length given == length logged) ≡ b
+        → (if b then first_other 1 given logged
+        else Some (log_refusals.Images (length logged) (length given))) ≡ None
+        → length given ≡ length logged
+    by_test true same h = grind (arith, nat_tests)
+    by_test false same h = cc
+
+-- ---- room
+
+room_ok : (log : Log) (images : List Image) → needed images ≤ log.header.frames
+    → agreed log images None ≡ Ok (record { log = Some log; images = images })
+room_ok log images fits = rw (le-ltb log.header.frames (needed images) fits) refl
+
+room_not : (log : Log) (images : List Image) → log.header.frames < needed images
+    → agreed log images None ≡ Err (refusals.NoRoom (needed images) log.header.frames)
+room_not log images over =
+    let more : nat_lt log.header.frames (needed images) ≡ true = grind (arith, nat_tests) in
+    rw more refl
+
+pub with_this : (told : Option Judgement) (j k : Judgement) → j ≡ k
+    → IfSome told (λ x. x ≡ j) → IfSome told (λ x. x ≡ k)
+with_this None j k e h = tt
+with_this (Some x) j k e h = h ∙ e
+
+pub room_taken : (told : Option Judgement) (log : Log) (images : List Image)
+    → needed images ≤ log.header.frames → IfSome told (λ j. j ≡ agreed log images None)
+    → IfSome told (λ j. j ≡ Ok (record { log = Some log; images = images }))
+room_taken told log images fits h = with_this told _ _ (room_ok log images fits) h
+
+pub room_refused : (told : Option Judgement) (log : Log) (images : List Image)
+    → log.header.frames < needed images → IfSome told (λ j. j ≡ agreed log images None)
+    → IfSome told (λ j. j ≡ Err (refusals.NoRoom (needed images) log.header.frames))
+room_refused told log images over h = with_this told _ _ (room_not log images over) h

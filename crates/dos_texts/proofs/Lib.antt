@@ -1,0 +1,7 @@
+pub mod Pieces
+pub mod Lines
+pub mod Questions
+pub mod Parts
+mod LineExamples
+mod PrintedExamples
+pub mod Statuses

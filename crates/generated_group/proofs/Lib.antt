@@ -1,0 +1,4 @@
+pub mod CodeLaws
+pub mod WorkLaws
+pub mod FileLaws
+pub mod RoomLaws
