@@ -2,5 +2,6 @@ mod Saying
 mod Calls
 mod RunFiles
 mod RunEnds
+mod RunCalls
 pub mod ReplayLeaves
 pub mod ReplayTaking

@@ -55,9 +55,9 @@ Did (Gen number threads workers) taken status o = Generated taken.images status 
 
 -- A recorded run was stopped so.
 abbrev pub Stopped : Request → Taken → ShimStop → (last : List ℕ) → Outside → Type 0
-Stopped (Run quantum rounds frames workers posts clock_from clock_step log names) taken stop last o =
-    StoppedRun (run_asked quantum rounds frames posts clock_from clock_step log names) taken.images
-    stop last o
+Stopped (Run quantum rounds frames workers posts clock_from clock_step log names) taken stop last
+    o = StoppedRun (run_asked quantum rounds frames posts clock_from clock_step log names)
+    taken.images stop last o
 Stopped _ taken stop last o = ⊥
 
 -- A recorded run's log couldn't be written.
@@ -110,10 +110,12 @@ Leaves asked o f (refusals.Log why) last = NotTaken asked o (refusals.Log why) l
 Leaves asked o f (refusals.Misfit found) last =
     Begun asked o (λ taken. HasMisfit asked taken found last o)
 Leaves asked o f refusals.Files last =
-    Rose f.files f.files_after × (Says o last ⊎ Begun asked o (λ taken. Unwritten asked taken last o))
+    Rose f.files f.files_after
+    × (Says o last ⊎ Begun asked o (λ taken. Unwritten asked taken last o))
 Leaves asked o f refusals.Host last =
     Rose f.host f.host_after × Begun asked o (λ taken. Stopped asked taken stops.HostFault last o)
-Leaves asked o f refusals.Sink last = OutputFailed f × (last ≡ []) × Begun asked o (λ taken. Cut asked taken o)
+Leaves asked o f refusals.Sink last =
+    OutputFailed f × (last ≡ []) × Begun asked o (λ taken. Cut asked taken o)
 Leaves asked o f refusals.LogFull last =
     Begun asked o (λ taken. Stopped asked taken stops.LogFull last o)
 Leaves asked o f refusals.Memory last =

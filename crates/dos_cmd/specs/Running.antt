@@ -43,8 +43,8 @@ header_of config digests = record {
 }
 
 -- The run that is asked for, of these images, whose files have these digests, as far as they tell.
-pub record IsPlanned (asked : RunAsked) (images : List Image) (o : Outside) (plan : Plan) : Type 0
-    where
+pub record IsPlanned (asked : RunAsked) (images : List Image) (o : Outside) (plan : Plan) :
+    Type 0 where
   pub images_are : plan.images ≡ images
   pub config_is : plan.config ≡ asked.config
   pub posts_are : plan.posts ≡ asked.posts
@@ -60,16 +60,16 @@ pub record IsPrepared (asked : RunAsked) (images : List Image) (kernel : Held)
   pub planned : IsPlanned asked images o (plan_of images asked.config ledger)
   pub log_is : asked.log ≡ name
 
--- The group was run to its end, by this plan and the host, and recorded in this log; this is seen of
--- it.
+-- The group was run to its end, by this plan and the host, and recorded in this log; this is seen
+-- of it.
 pub record WasRecorded (asked : RunAsked) (images : List Image) (o : Outside) (log : Log)
     (seen : Seen) : Type 0 where
   pub plan : Plan
   pub planned : IsPlanned asked images o plan
   pub recorded : Recorded plan o.host o.host_after log seen
 
--- It was done: the outputs grew by the run's bytes and the report, the log's file holds the log, and
--- no other file changed.
+-- It was done: the outputs grew by the run's bytes and the report, the log's file holds the log,
+-- and no other file changed.
 pub record DidRun (asked : RunAsked) (images : List Image) (status : ℕ) (o : Outside) : Type 0 where
   pub log : Log
   pub seen : Seen
@@ -92,8 +92,8 @@ pub record StoppedRun (asked : RunAsked) (images : List Image) (stop : ShimStop)
   pub grew : Grew o output (error ++ last)
   pub files_stay : FilesStay o
 
--- It came to its end, and the log couldn't be written. The outputs grew by the run's bytes, and then
--- error by the last ones, with no report; no other file changed.
+-- It came to its end, and the log couldn't be written. The outputs grew by the run's bytes, and
+-- then error by the last ones, with no report; no other file changed.
 pub record UnwrittenRun (asked : RunAsked) (images : List Image) (last : List ℕ) (o : Outside) :
     Type 0 where
   pub log : Log
@@ -102,8 +102,8 @@ pub record UnwrittenRun (asked : RunAsked) (images : List Image) (last : List �
   pub grew : Grew o seen.output (seen.error ++ last)
   pub others : OthersStay o asked.log
 
--- An output failed in the run. Each holds a front of what the run would have given it until its next
--- question, or its end; no file changed.
+-- An output failed in the run. Each holds a front of what the run would have given it until its
+-- next question, or its end; no file changed.
 pub record CutRun (asked : RunAsked) (images : List Image) (o : Outside) : Type 0 where
   pub plan : Plan
   pub planned : IsPlanned asked images o plan

@@ -1,4 +1,4 @@
-use Rattle.std.proofs.Common.{◌∙◌, arith, refl}
+use Rattle.std.proofs.Common.{◌∙◌, arith}
 use Rattle.std.proofs.lemmas.Result.{err_from_is_err_and}
 use Rattle.dos_cmd.proofs.RunFiles.{none_read, reads_more}
 use Rattle.dos_cmd.proofs.images.load_all.Goals as goal
