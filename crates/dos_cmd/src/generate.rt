@@ -9,7 +9,6 @@ ghost use Rattle.dpg_run.specs.Machine.{Seen, status_in};
 ghost use Rattle.logged_runs.specs.Opened.{IsOpened};
 ghost use Rattle.dos_texts.specs.Exit.{ending_status};
 ghost use Rattle.dos_texts.specs.Printed.{summary_of};
-ghost use Rattle.dos_texts.specs.Report.{process_lines};
 ghost use Rattle.dos_words.specs.declared.request.Request.TheVariants as requests;
 ghost use Rattle.dos_cmd.specs.Outside.{outside, faults};
 ghost use Rattle.dos_cmd.specs.Printing.{RanQuietly};
@@ -17,13 +16,12 @@ ghost use Rattle.dos_cmd.specs.Results.{Begun, Did, Leaves};
 
 use crate::run::open;
 use dos_io::{Quiet, Sink, SinkFault};
-use dos_texts::{Refusal, process_line, put_output, rounds_line};
+use dos_texts::{Refusal, put_output, rounds_line};
 use dos_world::{Config, Ending};
-use dpg_run::run_group;
+use dpg_run::{put_processes, run_group};
 use generated_group::{DigestSink, DropSink, generated_image};
 use group_rounds::Kernel;
 use kernel_calls::RunStop;
-use proc_table::Table;
 use std::alloc::Global;
 use std::slice;
 use worker_pool::Workers;
@@ -73,21 +71,6 @@ fn run_quietly<W: Workers>(
         Err(RunStop::Memory) => Err(Refusal::Memory),
         Err(_) => unreachable!(),
     }
-}
-
-/// Puts a line for each process, one put for each line. After a fault a front of them was put.
-fn put_processes<O: Sink>(table: &Table, out: &mut O) -> Result<(), SinkFault>
-    ensures told { OnOk result (O.told out.new
-        ≡ grown (O.told out.old) (process_lines 1 (map status_in table.now.processes))) }
-    ensures front { OnErr result (GrewByFront (O.told out.old) (O.told out.new)
-        (process_lines 1 (map status_in table.now.processes))) }
-    ensures cause { HasCause (O.faults out.old) (O.faults out.new) result }
-{
-    for place in 0..table.processes() {
-        let pid = place + 1;
-        out.put(process_line(pid, table.status(pid)).as_str().as_bytes())?;
-    }
-    Ok(())
 }
 
 /// Puts the summary of a run. After a fault a front of it was put.
