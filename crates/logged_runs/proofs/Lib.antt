@@ -1,0 +1,4 @@
+pub mod RoundsAsk
+pub mod FromOpening
+pub mod Recordings
+pub mod Replays

@@ -1,5 +1,5 @@
 -- A run that is recorded. This project's own rules.
-use Rattle.std.specs.Prelude.{◌≡◌, ◌≤◌, ◌×◌, ℕ, List, [], length, Option}
+use Rattle.std.specs.Prelude.{◌≡◌, ◌≤◌, ℕ, List, [], length, Option}
 use Rattle.dos_world.specs.declared.Config.{Config}
 use Rattle.dos_world.specs.declared.Post.{Post}
 use Rattle.dos_world.specs.declared.Question.{Question}

@@ -1,5 +1,5 @@
 -- A run that is replayed. This project's own rules.
-use Rattle.std.specs.Prelude.{◌≡◌, ⊤, ⊥, ℕ, List, Option, Some, take}
+use Rattle.std.specs.Prelude.{◌≡◌, ⊤, ℕ, List, Option, Some, take}
 use Rattle.dos_world.specs.declared.Config.{Config}
 use Rattle.dos_world.specs.declared.Misfit.{Misfit}
 use Rattle.elf_image.specs.Image.{Image}

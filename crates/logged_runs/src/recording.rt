@@ -18,6 +18,13 @@ use kernel_calls::RunStop;
 use shim_log::{Ledger, Log, Recorder};
 use worker_pool::Workers;
 
+// The host as the recorder leaves it.
+fn hand_back<H: Host>(host: &mut H)
+    ensures { host.new ≡ host.old }
+{
+    let _host = host;
+}
+
 /// Runs a group that was opened over a recorder, which asks this host and goes on in this ledger of
 /// nothing yet, and gives the log of the run.
 ///
@@ -66,12 +73,14 @@ pub fn record_group<H: Host, O: Sink, E: Sink, W: Workers>(
     match run_group(kernel, &mut shim, out, err, workers) {
         Ok(ending) => {
             shim.look();
-            let (_host, log) = shim.into_parts();
+            let (host, log) = shim.into_parts();
+            hand_back(host);
+            let _exchanges = log.len();
             Ok((ending, log))
         }
         Err(stop) => {
             shim.look();
-            let _host = shim.into_host();
+            hand_back(shim.into_host());
             Err(stop)
         }
     }

@@ -50,6 +50,7 @@ pub fn replay_group<O: Sink, E: Sink, W: Workers>(
     ensures err_later { E.faults err.old ≤ E.faults err.new }
     ensures fixed { W.fixed workers.new ≡ W.fixed workers.old }
 {
+    let _exchanges = log.len();
     let mut shim = Replayer::new(log);
     match run_group(kernel, &mut shim, out, err, workers) {
         Ok(ending) => Ok(ending),

@@ -1,0 +1,124 @@
+-- A run of a kernel in which no round was run is one of its images.
+use Rattle.std.proofs.Common.{ℕ, ◌-◌, ◌≡◌, refl, sym, ap, ◌∙◌, subst, List, [], ◌∷◌, ◌++◌, map, Option, Some}
+use Rattle.dos_world.specs.Play.{Play, over, questions, asks}
+use Rattle.dos_world.specs.World.{World}
+use Rattle.dos_world.specs.declared.Config.{Config}
+use Rattle.dos_world.specs.declared.Ending.{Ending}
+use Rattle.dos_world.specs.declared.Question.{Question}
+use Rattle.dos_io.specs.Exchanges.{question_of, answer_of}
+use Rattle.dos_io.specs.Shims.{HasNoEnd}
+use Rattle.dos_io.specs.declared.exchange.Exchange.{Exchange}
+use Rattle.dos_io.specs.declared.exchange.Exchange.TheVariants.{Signals, Input, Clock, End}
+use Rattle.elf_image.specs.Image.{Image}
+use Rattle.group_open.specs.Opening.{opening}
+use Rattle.group_rounds.specs.Goes.{GoesOn}
+use Rattle.group_rounds.specs.Going.{telling, ToldMore}
+use Rattle.group_rounds.specs.Kernels.{Held, kernel_world}
+use Rattle.worker_pool.specs.Ran.{GrewBy}
+use Rattle.dpg_run.specs.Fits.{FitsFrom}
+use Rattle.dpg_run.specs.Machine.{Finish, Seen, ends, machine_from, rounds_from, run_from, status_in}
+use Rattle.dpg_run.specs.Running.{AreEnded, AreFronts, CutGroup, RanGroup, StoppedGroup}
+use Rattle.logged_runs.specs.Opened.{IsOpened}
+use Rattle.logged_runs.specs.Runs.{Ended, Put, RanAhead, RanUntil, RanWhole}
+use Rattle.logged_runs.proofs.RoundsAsk.{no_end_before, rounds_never}
+
+-- ---- what is told has its end
+
+has_end : (es : List Exchange) (ending : Ending) (rounds : ℕ)
+    → HasNoEnd (es ++ End ending rounds ∷ []) → ⊥
+has_end [] ending rounds h = h
+has_end (Signals round list ∷ es) ending rounds h = has_end es ending rounds h
+has_end (Input round tid max bytes ∷ es) ending rounds h = has_end es ending rounds h
+has_end (Clock round tid n ∷ es) ending rounds h = has_end es ending rounds h
+has_end (End other count ∷ es) ending rounds h = h
+
+pub is_told : (ending : Ending) (rounds : ℕ) (told : List Exchange) → AreEnded ending rounds told
+    → HasNoEnd told → ⊥
+is_told ending rounds told ended none =
+    has_end ended.before ending rounds (subst HasNoEnd ended.told_is none)
+
+-- ---- from the kernel's world to the opening
+
+-- The shim had told nothing before.
+module _ (k : Held) (before told : List Exchange) (o e o1 e1 : Option (List ℕ))
+    (fresh : before ≡ []) (images : List Image) (config : Config)
+    (opened : IsOpened k images config) where
+  abbrev More : Type 0
+  More = ToldMore (telling before o e) (telling told o1 e1)
+
+  all_told : (more : More) → more.exchanges ≡ told
+  all_told more = sym (more.exchanges_are ∙ ap (λ es. es ++ more.exchanges) fresh)
+
+  from_opening : (P : World → Config → List Exchange → Type 0) (more : More)
+      → P (kernel_world k) k.config more.exchanges → P (opening images config) config told
+  from_opening P more h = subst (λ (w : World). P w config told) opened.world
+      (subst (λ (c : Config). P (kernel_world k) c told) opened.config_is
+      (subst (λ (es : List Exchange). P (kernel_world k) k.config es) (all_told more) h))
+
+  -- it came to its end
+  pub ran_whole : (k' : Held) (ending : Ending) (tally tally' work : ℕ)
+      → RanGroup k.config k.state (telling before o e) ending k'.state (telling told o1 e1) work
+      → GrewBy tally tally' work
+      → (seen : Seen) × RanWhole images config told seen
+      × Ended k' ending seen o e o1 e1 tally tally'
+  ran_whole k' ending tally tally' work run grew =
+      let seen : Seen = record {
+        questions = map question_of run.more.exchanges;
+        output = run.more.output;
+        error = run.more.error;
+        statuses = map status_in k'.state.table.processes;
+        ending = ending;
+        rounds = k'.state.round - 1;
+        work = work;
+      } in (
+        seen,
+        record {
+          fits = from_opening (λ w c es. FitsFrom w c es) run.more run.fits;
+          is = from_opening (λ w c es. machine_from w c (map answer_of es) ≡ ends seen) run.more
+              run.ends;
+        },
+        record {
+          shows = record { ending_is = refl; report_is = refl };
+          put = record { out_is = run.more.output_is; err_is = run.more.error_is };
+          counted = grew;
+        },
+      )
+
+  -- it came to a question
+  pub ran_until : (asked : Option Question)
+      (run : StoppedGroup k.config k.state (telling before o e) (telling told o1 e1) asked)
+      → RanUntil images config told run.question run.more.output run.more.error
+  ran_until asked run = record {
+    asks = from_opening (λ w c es. over (map answer_of es) (run_from w c)
+        ≡ asks run.question run.more.output run.more.error) run.more run.asks;
+    asked = from_opening (λ w c es. questions (map answer_of es) (run_from w c)
+        ≡ map question_of es ++ run.question ∷ []) run.more run.asked_so;
+  }
+
+  pub put_until : (asked : Option Question)
+      (run : StoppedGroup k.config k.state (telling before o e) (telling told o1 e1) asked)
+      → Put o e o1 e1 run.more.output run.more.error
+  put_until asked run = record { out_is = run.more.output_is; err_is = run.more.error_is }
+
+  -- and was told no end by then
+  pub until_no_end : (question : Question) (output error : List ℕ)
+      → RanUntil images config told question output error → HasNoEnd told
+  until_no_end question output error ran =
+      no_end_before told question (rounds_from (opening images config) config)
+      (rounds_never (config.rounds - (opening images config).rounds) (opening images config) 0)
+      ran.asked
+
+  -- it was cut off
+  pub ran_ahead :
+      (cut : CutGroup k.config k.state (telling before o e) (telling told o1 e1))
+      → RanAhead images config told cut.more.output cut.more.error
+  ran_ahead cut = record {
+    goes = from_opening (λ w c es. (left : Play Finish) × GoesOn es (run_from w c) left) cut.more
+        cut.goes;
+    fronts = from_opening (λ w c es. AreFronts cut.more.output cut.more.error
+        (machine_from w c (map answer_of es))) cut.more cut.fronts;
+  }
+
+  pub put_ahead : (cut : CutGroup k.config k.state (telling before o e) (telling told o1 e1))
+      → Put o e o1 e1 cut.more.output cut.more.error
+  put_ahead cut = record { out_is = cut.more.output_is; err_is = cut.more.error_is }

@@ -1,0 +1,305 @@
+-- A run over a recorder that was asked nothing before.
+use Rattle.std.proofs.Common.{ℕ, ◌≡◌, ◌⊎◌, inl, inr, refl, sym, ap, ◌∙◌, subst, List, [], ◌∷◌, ◌++◌, append-nil, Option, Some, None, Err, IsErrOf}
+use Rattle.std.specs.Prelude.{IfSome, OnSome}
+use Rattle.dos_world.specs.declared.Config.{Config}
+use Rattle.dos_world.specs.declared.Ending.{Ending}
+use Rattle.dos_world.specs.declared.Post.{Post}
+use Rattle.dos_world.specs.declared.Question.{Question}
+use Rattle.dos_io.specs.Given.{Given}
+use Rattle.dos_io.specs.Hosts.{Told}
+use Rattle.dos_io.specs.Outside.{Rose}
+use Rattle.dos_io.specs.Shims.{HasNoEnd, ShimState}
+use Rattle.dos_io.specs.declared.exchange.ClockRule.{ClockRule}
+use Rattle.dos_io.specs.declared.exchange.Exchange.{Exchange}
+use Rattle.dos_io.specs.declared.exchange.Exchange.TheVariants.{End}
+use Rattle.dos_io.specs.declared.shim.ShimStop.{ShimStop}
+use Rattle.dos_io.specs.declared.shim.ShimStop.TheVariants as stops
+use Rattle.elf_image.specs.Image.{Image}
+use Rattle.group_rounds.specs.Going.{telling}
+use Rattle.group_rounds.specs.Kernels.{Held}
+use Rattle.group_rounds.specs.Outside.{HasShimCause}
+use Rattle.kernel_calls.specs.Serving.{shim_stop}
+use Rattle.kernel_calls.specs.declared.state.RunStop.{RunStop}
+use Rattle.kernel_calls.specs.declared.state.RunStop.TheVariants.{HostFault, LogFull, Misfit, OutFault, ErrFault, Memory}
+use Rattle.worker_pool.specs.Ran.{GrewBy}
+use Rattle.shim_log.specs.declared.header.LogHeader.{LogHeader}
+use Rattle.shim_log.specs.Ledger.{Follows, IsLedger, LedgerState, MayStop, empty_ledger, end_of, recorder_state}
+use Rattle.shim_log.specs.LogText.{Log, exchanges, logtext}
+use Rattle.shim_log.specs.Ranges.{AreEntries, FitsLog}
+use Rattle.shim_log.specs.Room.{HadRoom, most_bytes}
+use Rattle.shim_log.proofs.RecorderLaws.{no_end, recording_given}
+use Rattle.dpg_run.specs.Machine.{Seen}
+use Rattle.dpg_run.specs.Running.{CutGroup, RanGroup, StoppedGroup}
+use Rattle.logged_runs.specs.Opened.{IsOpened}
+use Rattle.logged_runs.specs.Runs.{Ended, Put, RanUntil, RanWhole}
+use Rattle.logged_runs.specs.Recording.{Recorded, RecordedAhead, RecordedUntil, ledger_after, plan_of}
+use Rattle.logged_runs.proofs.FromOpening.{ran_ahead, ran_until, ran_whole, put_ahead, put_until, until_no_end}
+use Rattle.std.proofs.Common.{◌≤◌, length}
+
+-- ---- the entries of a log, and those of the ledger that it was made of
+
+no_end_entry : (es : List Exchange) (ending : Ending) (rounds : ℕ)
+    → AreEntries (es ++ End ending rounds ∷ []) → ⊥
+no_end_entry [] ending rounds h = h.0.1
+no_end_entry (e ∷ es) ending rounds h = no_end_entry es ending rounds h.1
+
+fronts_same : (es fs : List Exchange) (e f : Exchange) → es ++ e ∷ [] ≡ fs ++ f ∷ [] → es ≡ fs
+fronts_same [] [] e f is = refl
+fronts_same [] (y ∷ []) e f is = absurd cc
+fronts_same [] (y ∷ z ∷ fs) e f is = absurd cc
+fronts_same (x ∷ []) [] e f is = absurd cc
+fronts_same (x ∷ z ∷ es) [] e f is = absurd cc
+fronts_same (x ∷ es) (y ∷ fs) e f is =
+    let first : x ≡ y = cc in
+    let rest : es ++ e ∷ [] ≡ fs ++ f ∷ [] = cc in
+    ap (λ z. z ∷ es) first ∙ ap (λ zs. y ∷ zs) (fronts_same es fs e f rest)
+
+entries_of : (es : List Exchange) (ending : Ending) (rounds : ℕ) (entries : List Exchange)
+    (ended : Option (Ending × ℕ)) → AreEntries entries
+    → es ++ End ending rounds ∷ [] ≡ entries ++ end_of ended → es ≡ entries
+entries_of es ending rounds entries None fits is =
+    absurd (no_end_entry es ending rounds
+    (subst AreEntries (sym (append-nil entries) ∙ sym is ∙ refl) fits))
+entries_of es ending rounds entries (Some e) fits is =
+    fronts_same es entries (End ending rounds) (End e.0 e.1) is
+
+-- ---- how a recorder may stop
+
+same_stop : (s : LedgerState) (question : Question) (stop : ShimStop) → MayStop s question stop
+    → MayStop (record (empty_ledger s.posts s.clock s.header 0) { entries = s.entries }) question
+    stop
+same_stop s question stops.HostFault h = h
+same_stop s question stops.LogFull h = h
+same_stop s question (stops.Misfit m) h = h
+same_stop s question stops.Memory h = h
+
+may_stop : (s t : LedgerState) (question : Question) (stop : ShimStop) → t.header ≡ s.header
+    → t.posts ≡ s.posts → t.clock ≡ s.clock → MayStop t question stop
+    → MayStop (record (empty_ledger s.posts s.clock s.header 0) { entries = t.entries }) question
+    stop
+may_stop s t question stop header posts clock h =
+    subst (λ (x : LogHeader).
+    MayStop (record (empty_ledger s.posts s.clock x 0) { entries = t.entries }) question stop)
+    header
+    (subst (λ (x : List (ℕ × Post)).
+    MayStop (record (empty_ledger x s.clock t.header 0) { entries = t.entries }) question stop)
+    posts
+    (subst (λ (x : ClockRule).
+    MayStop (record (empty_ledger t.posts x t.header 0) { entries = t.entries }) question stop)
+    clock (same_stop t question stop h)))
+
+stops_so : (asked : Option Question) (last : Option ShimStop) (question : Question)
+    (stop : ShimStop) (P : Question → ShimStop → Type 0) → asked ≡ Some question → last ≡ Some stop
+    → IfSome asked (λ q. IfSome last (P q)) → P question stop
+stops_so asked last question stop P at so h =
+    subst (λ (o : Option ShimStop). IfSome o (P question)) so
+    (subst (λ (o : Option Question). IfSome o (λ q. IfSome last (P q))) at h)
+
+-- ---- the host, from one moment to another at which it is the same
+
+pub followed : {H : Type 0} (told : H → Option Told) (faults : H → ℕ) (start after : LedgerState)
+    (h h' i i' : H) → h ≡ h' → i' ≡ i
+    → Follows start after (told h) (told i) (faults h) (faults i)
+    → Follows start after (told h') (told i') (faults h') (faults i')
+followed told faults start after h h' i i' before left follows =
+    subst (λ x. Follows start after (told x) (told i') (faults x) (faults i')) before
+    (subst (λ x. Follows start after (told h) (told x) (faults h) (faults x)) (sym left) follows)
+
+pub no_end_told : (start start' : LedgerState) → start ≡ start'
+    → start' ≡ empty_ledger start'.posts start'.clock start'.header start'.room
+    → HasNoEnd (recorder_state start).told
+no_end_told start start' same begins =
+    subst (λ (s : LedgerState). HasNoEnd (recorder_state s).told) (sym (same ∙ begins)) tt
+
+pub this_stop : (stop other : RunStop) → IsErrOf {T = Ending × Log} (Err stop) other → stop ≡ other
+this_stop stop other is = cc
+
+-- ---- the run
+
+module _ (k : Held) (start after : LedgerState) (a b : Option Told) (m n : ℕ)
+    (o e o1 e1 : Option (List ℕ)) (follows : Follows start after a b m n)
+    (begins : start ≡ empty_ledger start.posts start.clock start.header start.room) where
+  abbrev told : List Exchange
+  told = (recorder_state after).told
+
+  nothing_told : (recorder_state start).told ≡ []
+  nothing_told = ap (λ (s : LedgerState). (recorder_state s).told) begins
+
+  all_given : Given start.posts start.clock 0 a b told
+  all_given =
+      recording_given start.posts start.clock start.header start.room after a b m n
+      (subst (λ (s : LedgerState). Follows s after a b m n) begins follows)
+
+  had_room : IsLedger after → HadRoom start.header start.posts [] after.entries
+  had_room kept =
+      subst (λ (x : LogHeader). HadRoom x start.posts [] after.entries) follows.header_same
+      (subst (λ (x : List (ℕ × Post)). HadRoom after.header x [] after.entries) follows.posts_same
+      kept.had_room)
+
+  -- it came to its end, and made this log
+  of_start : (log : Log) (k' : Held) (ending : Ending) (tally tally' work : ℕ)
+      → RanGroup k.config k.state (telling (recorder_state start).told o e) ending k'.state
+      (telling told o1 e1) work → GrewBy tally tally' work → IsLedger after
+      → exchanges log ≡ told → log.header ≡ after.header → FitsLog log
+      → length (logtext log) ≤ most_bytes → (images : List Image) (config : Config)
+      → IsOpened k images config
+      → (seen : Seen) × Recorded (plan_of images config start) a b log seen
+      × Ended k' ending seen o e o1 e1 tally tally'
+  of_start log k' ending tally tally' work run grew kept is header fits small images config opened =
+      let ran = ran_whole k (recorder_state start).told told o e o1 e1 nothing_told images config
+      opened k' ending tally tally' work run grew in
+      let entries : log.entries ≡ after.entries =
+      entries_of log.entries log.ending log.rounds after.entries after.ended kept.entries is in (
+        ran.0,
+        record {
+          ran = subst (λ es. RanWhole images config es ran.0) (sym is) ran.1;
+          given = subst (λ es. Given start.posts start.clock 0 a b es) (sym is) all_given;
+          header = header ∙ follows.header_same;
+          ranges = fits;
+          room = subst (λ es. HadRoom start.header start.posts [] es) (sym entries)
+              (had_room kept);
+          small = small;
+        },
+        ran.2,
+      )
+
+  -- it came to a question, at which the recorder stopped so
+  until : (stop : ShimStop)
+      → StoppedGroup k.config k.state (telling (recorder_state start).told o e)
+      (telling told o1 e1) after.asked → after.last ≡ Some stop → IsLedger after
+      → (images : List Image) (config : Config) → IsOpened k images config
+      → (output : List ℕ) × (error : List ℕ)
+      × RecordedUntil (plan_of images config start) a b stop output error
+      × Put o e o1 e1 output error
+  until stop run last kept images config opened =
+      let ran = ran_until k (recorder_state start).told told o e o1 e1 nothing_told images config
+      opened after.asked run in
+      let none : HasNoEnd told =
+      until_no_end k (recorder_state start).told told o e o1 e1 nothing_told images config
+      opened run.question run.more.output run.more.error ran in
+      let entries : told ≡ after.entries =
+      ap (λ (x : Option (Ending × ℕ)). after.entries ++ end_of x) (no_end after none)
+      ∙ append-nil after.entries in (
+        run.more.output,
+        run.more.error,
+        record {
+          before = after.entries;
+          question = run.question;
+          ran = subst
+              (λ es. RanUntil images config es run.question run.more.output run.more.error) entries
+              ran;
+          given = subst (λ es. Given start.posts start.clock 0 a b es) entries all_given;
+          room = had_room kept;
+          stops = may_stop start after run.question stop follows.header_same follows.posts_same
+              follows.clock_same
+              (stops_so after.asked after.last run.question stop (MayStop after) run.asked_is last
+              kept.stop);
+        },
+        put_until k (recorder_state start).told told o e o1 e1 nothing_told images config opened
+            after.asked run,
+      )
+
+  stopped_start : (stop : RunStop)
+      → OnSome (shim_stop stop) (StoppedGroup k.config k.state
+      (telling (recorder_state start).told o e) (telling told o1 e1) after.asked)
+      → HasShimCause stop (recorder_state start) (recorder_state after) → IsLedger after
+      → IfSome (shim_stop stop) (λ why. (images : List Image) (config : Config)
+      → IsOpened k images config → (output : List ℕ) × (error : List ℕ)
+      × RecordedUntil (plan_of images config start) a b why output error
+      × Put o e o1 e1 output error)
+  stopped_start HostFault run cause kept = until stops.HostFault run cause.1 kept
+  stopped_start LogFull run cause kept = until stops.LogFull run cause.1 kept
+  stopped_start (Misfit x) run cause kept = until (stops.Misfit x) run cause.1 kept
+  stopped_start OutFault run cause kept = tt
+  stopped_start ErrFault run cause kept = tt
+  stopped_start Memory run cause kept = until stops.Memory run cause.1 kept
+
+  -- it was cut off
+  ahead_start : CutGroup k.config k.state (telling (recorder_state start).told o e)
+      (telling told o1 e1) → (images : List Image) (config : Config) → IsOpened k images config
+      → (output : List ℕ) × (error : List ℕ)
+      × RecordedAhead (plan_of images config start) a b output error
+      × Put o e o1 e1 output error
+  ahead_start cut images config opened = (
+    cut.more.output,
+    cut.more.error,
+    record {
+      before = told;
+      ran = ran_ahead k (recorder_state start).told told o e o1 e1 nothing_told images config
+          opened cut;
+      given = all_given;
+    },
+    put_ahead k (recorder_state start).told told o e o1 e1 nothing_told images config opened cut,
+  )
+
+  -- its host failed
+  rose_start : (stop : RunStop) → HasShimCause stop (recorder_state start) (recorder_state after)
+      → stop ≡ HostFault → Rose m n
+  rose_start stop cause is = by_cause follows.cause
+    where
+      last : after.last ≡ Some stops.HostFault
+      last = (subst (λ (x : RunStop). HasShimCause x (recorder_state start) (recorder_state after))
+          is cause).1
+
+      by_cause : ((after.stops ≡ start.stops) × (after.last ≡ start.last))
+          ⊎ (after.last ≡ Some stops.HostFault → Rose m n) → Rose m n
+      by_cause (inl same) =
+          let never : start.last ≡ None = ap (λ (s : LedgerState). s.last) begins in
+          let both : ◌≡◌ {A = Option ShimStop} None (Some stops.HostFault) =
+          sym never ∙ sym same.1 ∙ last in
+          absurd cc
+      by_cause (inr rose) = rose last
+
+-- ---- the same, of the ledger that the recorder was made of
+
+module _ (k : Held) (ledger start after : LedgerState) (a b : Option Told) (m n : ℕ)
+    (o e o1 e1 : Option (List ℕ)) (same : start ≡ ledger)
+    (begins : ledger ≡ empty_ledger ledger.posts ledger.clock ledger.header ledger.room)
+    (follows : Follows start after a b m n) where
+  begun : start ≡ empty_ledger start.posts start.clock start.header start.room
+  begun = subst (λ (s : LedgerState). s ≡ empty_ledger s.posts s.clock s.header s.room) (sym same)
+      begins
+
+  pub recorded : (log : Log) (k' : Held) (ending : Ending) (tally tally' work : ℕ)
+      → RanGroup k.config k.state (telling (recorder_state start).told o e) ending k'.state
+      (telling (recorder_state after).told o1 e1) work → GrewBy tally tally' work
+      → IsLedger after → exchanges log ≡ (recorder_state after).told → log.header ≡ after.header
+      → FitsLog log → length (logtext log) ≤ most_bytes → (images : List Image)
+      (config : Config) → IsOpened k images config
+      → (seen : Seen) × Recorded (plan_of images config ledger) a b log seen
+      × Ended k' ending seen o e o1 e1 tally tally'
+  recorded log k' ending tally tally' work run grew kept is header fits small images config opened =
+      subst (λ (s : LedgerState). (seen : Seen) × Recorded (plan_of images config s) a b log seen
+      × Ended k' ending seen o e o1 e1 tally tally') same
+      (of_start k start after a b m n o e o1 e1 follows begun log k' ending tally tally' work run
+      grew kept is header fits small images config opened)
+
+  pub stopped : (stop : RunStop)
+      → OnSome (shim_stop stop) (StoppedGroup k.config k.state
+      (telling (recorder_state start).told o e) (telling (recorder_state after).told o1 e1)
+      after.asked) → HasShimCause stop (recorder_state start) (recorder_state after)
+      → IsLedger after → IfSome (shim_stop stop) (λ why. (images : List Image) (config : Config)
+      → IsOpened k images config → (output : List ℕ) × (error : List ℕ)
+      × RecordedUntil (plan_of images config ledger) a b why output error
+      × Put o e o1 e1 output error)
+  stopped stop run cause kept =
+      subst (λ (s : LedgerState). IfSome (shim_stop stop) (λ why. (images : List Image)
+      (config : Config) → IsOpened k images config → (output : List ℕ) × (error : List ℕ)
+      × RecordedUntil (plan_of images config s) a b why output error
+      × Put o e o1 e1 output error)) same
+      (stopped_start k start after a b m n o e o1 e1 follows begun stop run cause kept)
+
+  pub recorded_ahead : CutGroup k.config k.state (telling (recorder_state start).told o e)
+      (telling (recorder_state after).told o1 e1) → (images : List Image) (config : Config)
+      → IsOpened k images config → (output : List ℕ) × (error : List ℕ)
+      × RecordedAhead (plan_of images config ledger) a b output error
+      × Put o e o1 e1 output error
+  recorded_ahead cut images config opened =
+      subst (λ (s : LedgerState). (output : List ℕ) × (error : List ℕ)
+      × RecordedAhead (plan_of images config s) a b output error
+      × Put o e o1 e1 output error) same
+      (ahead_start k start after a b m n o e o1 e1 follows begun cut images config opened)
+
+  pub host_rose : (stop : RunStop) → HasShimCause stop (recorder_state start) (recorder_state after)
+      → stop ≡ HostFault → Rose m n
+  host_rose = rose_start k start after a b m n o e o1 e1 follows begun
