@@ -1,3 +1,7 @@
+mod Saying
+mod Calls
 mod RunFiles
+mod RunEnds
+mod RunCalls
 pub mod ReplayLeaves
 pub mod ReplayTaking

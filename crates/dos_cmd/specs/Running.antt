@@ -10,9 +10,12 @@ use Rattle.dpg_run.specs.Machine.{Seen}
 use Rattle.dpg_run.specs.Report.{report}
 use Rattle.shim_log.specs.LogText.{Log, logtext}
 use Rattle.shim_log.specs.declared.header.LogHeader.{LogHeader}
-use Rattle.logged_runs.specs.Recording.{Plan, Recorded, RecordedUntil, RecordedAhead}
+use Rattle.logged_runs.specs.Recording.{Plan, Recorded, RecordedUntil, RecordedAhead, plan_of}
 use Rattle.dos_texts.specs.Exit.{ending_status}
 use Rattle.dos_words.specs.Numbers.{Text}
+use Rattle.group_rounds.specs.Kernels.{Held}
+use Rattle.logged_runs.specs.Opened.{IsOpened}
+use Rattle.shim_log.specs.Ledger.{LedgerState}
 use Rattle.dos_cmd.specs.Judging.{digests_of}
 use Rattle.dos_cmd.specs.Outside.{Outside, Counted, Grew, GrewUpToLast, FilesStay, OthersStay, Holds}
 
@@ -49,6 +52,13 @@ pub record IsPlanned (asked : RunAsked) (images : List Image) (o : Outside) (pla
   pub header_is : plan.header ≡ header_of asked.config plan.header.digests
   pub digests_are : IfSome (digests_of (map o.files asked.names))
       (λ digests. plan.header.digests ≡ digests)
+
+-- All is at hand for it: a kernel that was opened with these images, a ledger, and the log's name.
+pub record IsPrepared (asked : RunAsked) (images : List Image) (kernel : Held)
+    (ledger : LedgerState) (name : Text) (o : Outside) : Type 0 where
+  pub opened : IsOpened kernel images asked.config
+  pub planned : IsPlanned asked images o (plan_of images asked.config ledger)
+  pub log_is : asked.log ≡ name
 
 -- The group was run to its end, by this plan and the host, and recorded in this log; this is seen of
 -- it.

@@ -1,12 +1,16 @@
 -- How a group that isn't opened, or a run that stops, ends its call. This project's own rules.
-use Rattle.std.specs.Prelude.{◌≡◌, ◌<◌, List, ⊤}
+use Rattle.std.specs.Prelude.{◌≡◌, ◌<◌, ◌⊎◌, List, [], ⊤}
 use Rattle.dos_world.specs.declared.Config.{Config}
 use Rattle.elf_image.specs.Image.{Image}
 use Rattle.group_open.specs.Opening.{needed}
+use Rattle.dos_io.specs.Outside.{Rose}
+use Rattle.dos_io.specs.declared.shim.ShimStop.TheVariants as shims
 use Rattle.kernel_calls.specs.declared.state.RunStop.{RunStop}
 use Rattle.kernel_calls.specs.declared.state.RunStop.TheVariants.{HostFault, LogFull, Misfit, OutFault, ErrFault, Memory}
 use Rattle.dos_texts.specs.declared.refusal.Refusal.{Refusal}
 use Rattle.dos_texts.specs.declared.refusal.Refusal.TheVariants as refusals
+use Rattle.dos_cmd.specs.Outside.{Outside, Faults, FilesStay, OutputFailed}
+use Rattle.dos_cmd.specs.Running.{RunAsked, StoppedRun, UnwrittenRun, CutRun, CutRunReport}
 
 -- why the call comes to no report then
 abbrev pub refusal_by : RunStop → Refusal
@@ -24,3 +28,16 @@ IsNotOpened images config (refusals.NoRoom n frames) =
     (n ≡ needed images) × (frames ≡ config.frames) × (config.frames < needed images)
 IsNotOpened images config refusals.Memory = ⊤
 IsNotOpened images config _ = ⊥
+
+-- why a recorded run that was begun comes to no report, and what stands then
+abbrev pub LeavesRun : RunAsked → List Image → Outside → Faults → Refusal → Type 0
+LeavesRun asked images o f refusals.Files =
+    Rose f.files f.files_after × UnwrittenRun asked images [] o
+LeavesRun asked images o f refusals.Host =
+    Rose f.host f.host_after × StoppedRun asked images shims.HostFault [] o
+LeavesRun asked images o f refusals.Sink =
+    OutputFailed f × (CutRun asked images o ⊎ CutRunReport asked images o)
+LeavesRun asked images o f refusals.LogFull = StoppedRun asked images shims.LogFull [] o
+LeavesRun asked images o f refusals.Memory =
+    StoppedRun asked images shims.Memory [] o ⊎ (FilesStay o × UnwrittenRun asked images [] o)
+LeavesRun asked images o f _ = ⊥

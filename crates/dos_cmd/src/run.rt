@@ -1,16 +1,20 @@
 // The command `run`.
-ghost use Rattle.std.specs.Prelude.{◌≡◌, ◌≤◌, ℕ, List, length, IfOk, IfErr, false, []};
+ghost use Rattle.std.specs.Prelude.{◌≡◌, ◌≢◌, ◌≤◌, ◌⊎◌, ℕ, List, [], length, IfOk, IfErr, IfSome, IsErrOf, IsTrue, OnOk, OnErr, Some, false};
 ghost use Rattle.dos_world.specs.Lawful.{IsConfig};
+ghost use Rattle.dos_io.specs.Outside.{GrewByFront, HasCause, Rose, grown};
+ghost use Rattle.dpg_run.specs.Report.{report_in};
+ghost use Rattle.group_rounds.specs.Kernels.{kernel_world};
+ghost use Rattle.shim_log.specs.LogText.{logtext};
 ghost use Rattle.elf_image.specs.Image.{Image as Parsed};
 ghost use Rattle.group_open.specs.Opening.{needed};
 ghost use Rattle.logged_runs.specs.Opened.{IsOpened};
 ghost use Rattle.shim_log.specs.Ledger.{ArePlanned, empty_ledger};
 ghost use Rattle.dos_texts.specs.Exit.{ending_status};
 ghost use Rattle.dos_cmd.specs.Outside.{outside, faults};
-ghost use Rattle.dos_cmd.specs.Running.{clock_rule, header_of};
+ghost use Rattle.dos_cmd.specs.Running.{DidRun, IsPrepared, RunAsked, clock_rule, header_of};
 ghost use Rattle.dos_cmd.specs.Results.{Begun, Did, Leaves};
 ghost use Rattle.dos_cmd.specs.Requests.{run_request};
-ghost use Rattle.dos_cmd.specs.Stops.{IsNotOpened};
+ghost use Rattle.dos_cmd.specs.Stops.{IsNotOpened, LeavesRun};
 
 use crate::images::load_all;
 use crate::stops::refusal_by;
@@ -85,7 +89,19 @@ pub(crate) fn open(alloc: Global, images: &[Image], config: Config) -> Result<Ke
 }
 
 /// Writes the log of a run to its file.
-fn store<F: Files>(alloc: Global, files: &mut F, name: &str, log: &Log) -> Result<(), Refusal> {
+fn store<F: Files>(alloc: Global, files: &mut F, name: &str, log: &Log) -> Result<(), Refusal>
+    ensures content { OnOk result (IfSome (F.content files.old name.now)
+        (λ _. F.content files.new name.now ≡ Some (logtext log.now))) }
+    ensures holds { OnOk result (IsTrue (F.tells files.old)
+        → F.content files.new name.now ≡ Some (logtext log.now)) }
+    ensures fault { IfErr result (λ why. (why ≡ Refusal.Files)
+        ⊎ ((why ≡ Refusal.Memory)
+        × (F.content files.new name.now ≡ F.content files.old name.now))) }
+    ensures cause { IsErrOf result Refusal.Files → Rose (F.faults files.old) (F.faults files.new) }
+    ensures others { (n : List ℕ) → n ≢ name.now → F.content files.new n ≡ F.content files.old n }
+    ensures tells { F.tells files.new ≡ F.tells files.old }
+    ensures later { F.faults files.old ≤ F.faults files.new }
+{
     match store_log(alloc, files, name, log) {
         Ok(()) => Ok(()),
         Err(FileError::Memory) => Err(Refusal::Memory),
@@ -95,7 +111,19 @@ fn store<F: Files>(alloc: Global, files: &mut F, name: &str, log: &Log) -> Resul
 }
 
 /// Puts the report of a run that ended so.
-pub(crate) fn report<E: Sink>(kernel: &Kernel, ending: Ending, err: &mut E) -> Result<Ending, Refusal> {
+pub(crate) fn report<E: Sink>(
+    kernel: &Kernel,
+    ending: Ending,
+    err: &mut E,
+) -> Result<Ending, Refusal>
+    ensures same { IfOk result (λ ended. ended ≡ ending) }
+    ensures told { OnOk result (E.told err.new
+        ≡ grown (E.told err.old) (report_in (kernel_world kernel.now) ending)) }
+    ensures front { OnErr result (GrewByFront (E.told err.old) (E.told err.new)
+        (report_in (kernel_world kernel.now) ending)) }
+    ensures sink { IfErr result (λ why. why ≡ Refusal.Sink) }
+    ensures cause { HasCause (E.faults err.old) (E.faults err.new) result }
+{
     match put_report(kernel, ending, err) {
         Ok(()) => Ok(ending),
         Err(_) => Err(Refusal::Sink),
@@ -113,7 +141,37 @@ fn run_opened<F: Files, H: Host, O: Sink, E: Sink, W: Workers>(
     out: &mut O,
     err: &mut E,
     workers: &mut W,
-) -> Result<Ending, Refusal> {
+) -> Result<Ending, Refusal>
+    requires running { kernel.old.failed ≡ false }
+    requires fresh { kernel.old.state.round ≡ 1 }
+    requires begins { ledger
+        ≡ empty_ledger ledger.posts ledger.clock ledger.header ledger.room }
+    ensures did { IfOk result (λ ending. (asked : RunAsked) (images : List Parsed)
+        → IsPrepared asked images kernel.old ledger name.now
+        (outside (F.tells files.old) (F.content files.old) (F.content files.new) (H.told host.old)
+        (H.told host.new) (O.told out.old) (O.told out.new) (E.told err.old) (E.told err.new)
+        (W.tally workers.old) (W.tally workers.new))
+        → DidRun asked images (ending_status ending)
+        (outside (F.tells files.old) (F.content files.old) (F.content files.new) (H.told host.old)
+        (H.told host.new) (O.told out.old) (O.told out.new) (E.told err.old) (E.told err.new)
+        (W.tally workers.old) (W.tally workers.new))) }
+    ensures leaves { IfErr result (λ why. (asked : RunAsked) (images : List Parsed)
+        → IsPrepared asked images kernel.old ledger name.now
+        (outside (F.tells files.old) (F.content files.old) (F.content files.new) (H.told host.old)
+        (H.told host.new) (O.told out.old) (O.told out.new) (E.told err.old) (E.told err.new)
+        (W.tally workers.old) (W.tally workers.new))
+        → LeavesRun asked images
+        (outside (F.tells files.old) (F.content files.old) (F.content files.new) (H.told host.old)
+        (H.told host.new) (O.told out.old) (O.told out.new) (E.told err.old) (E.told err.new)
+        (W.tally workers.old) (W.tally workers.new))
+        (faults (F.faults files.old) (F.faults files.new) (H.faults host.old) (H.faults host.new)
+        (O.faults out.old) (O.faults out.new) (E.faults err.old) (E.faults err.new)) why) }
+    ensures files_later { F.faults files.old ≤ F.faults files.new }
+    ensures host_later { H.faults host.old ≤ H.faults host.new }
+    ensures out_later { O.faults out.old ≤ O.faults out.new }
+    ensures err_later { E.faults err.old ≤ E.faults err.new }
+    ensures fixed { W.fixed workers.new ≡ W.fixed workers.old }
+{
     let (ending, log) = match record_group(kernel, host, ledger, out, err, workers) {
         Ok(recorded) => recorded,
         Err(stop) => return Err(refusal_by(stop)),

@@ -1,11 +1,12 @@
 //! The top call: from the words to the exit status.
 ghost use Rattle.std.specs.Prelude.{◌≡◌, ◌≢◌, ◌≤◌, ◌⊎◌, ℕ, None, Some, Ok, Err, IfOk, IfErr, map, string_bytes};
 ghost use Rattle.dos_words.specs.declared.request.Request.{Request as Asked};
+ghost use Rattle.dos_words.specs.Ranges.{FitsRequest};
 ghost use Rattle.dos_words.specs.Request.{request};
 ghost use Rattle.dos_texts.specs.Exit.{IsStatus, ending_status, refusal_status};
 ghost use Rattle.dos_cmd.specs.Judging.{Taken, judgement};
 ghost use Rattle.dos_cmd.specs.Outside.{outside, faults};
-ghost use Rattle.dos_cmd.specs.Results.{CutShort, Fails, Finished, MustDo, Refused};
+ghost use Rattle.dos_cmd.specs.Results.{Begun, CutShort, Did, Fails, Finished, Leaves, MustDo, Refused};
 
 use crate::generate::generate;
 use crate::inspect::inspect;
@@ -31,7 +32,27 @@ fn execute<R: Threads + Sync, F: Files, H: Host, O: Sink, E: Sink, G: Gate + Syn
     err: &mut E,
     gate: &G,
     tally: &mut Tally,
-) -> Result<Ending, Refusal> {
+) -> Result<Ending, Refusal>
+    requires { FitsRequest request.now }
+    ensures did { IfOk result (λ ending. Begun request.now
+        (outside (F.tells files.old) (F.content files.old) (F.content files.new) (H.told host.old)
+        (H.told host.new) (O.told out.old) (O.told out.new) (E.told err.old) (E.told err.new)
+        tally.old.count tally.new.count)
+        (λ taken. Did request.now taken (ending_status ending)
+        (outside (F.tells files.old) (F.content files.old) (F.content files.new) (H.told host.old)
+        (H.told host.new) (O.told out.old) (O.told out.new) (E.told err.old) (E.told err.new)
+        tally.old.count tally.new.count))) }
+    ensures leaves { IfErr result (λ why. Leaves request.now
+        (outside (F.tells files.old) (F.content files.old) (F.content files.new) (H.told host.old)
+        (H.told host.new) (O.told out.old) (O.told out.new) (E.told err.old) (E.told err.new)
+        tally.old.count tally.new.count)
+        (faults (F.faults files.old) (F.faults files.new) (H.faults host.old) (H.faults host.new)
+        (O.faults out.old) (O.faults out.new) (E.faults err.old) (E.faults err.new)) why []) }
+    ensures files_later { F.faults files.old ≤ F.faults files.new }
+    ensures host_later { H.faults host.old ≤ H.faults host.new }
+    ensures out_later { O.faults out.old ≤ O.faults out.new }
+    ensures err_later { E.faults err.old ≤ E.faults err.new }
+{
     match request {
         Request::Run {
             quantum,

@@ -1,10 +1,13 @@
 //! Calls of the program.
 use dos_cmd::dos_main;
-use dos_io::{MemoryFiles, MemorySink};
+use dos_io::{MemoryFiles, MemoryHost, MemorySink};
 use std::alloc::{AllocError, Global};
 use std::test::Fail;
 use std::thread::Threads;
 use worker_pool::{OpenGate, Tally};
+
+/// The file of the log, which each run writes.
+pub const LOG: &str = "log";
 
 /// What a call left.
 #[derive(Drop)]
@@ -16,16 +19,83 @@ pub struct Left {
     pub work: u64,
 }
 
+/// What comes from outside, and which calls fail, by their numbers from 1.
+#[derive(Clone, Copy)]
+pub struct Outside<'a> {
+    /// The input, in pieces of `piece` bytes.
+    pub input: &'a [u8],
+    pub piece: u32,
+    pub clocks: &'a [u64],
+    pub host_failing: &'a [u32],
+    pub out_failing: &'a [u32],
+    pub err_failing: &'a [u32],
+}
+
+/// Nothing comes, and nothing fails.
+pub const NOTHING: Outside<'static> = Outside {
+    input: b"",
+    piece: 1,
+    clocks: &[],
+    host_failing: &[],
+    out_failing: &[],
+    err_failing: &[],
+};
+
+// The words, where `run` also says where its log goes.
 fn words_of(alloc: Global, texts: &[&str]) -> Result<Vec<String>, AllocError> {
     let mut words = Vec::new(alloc);
     for text in texts {
         words.push(String::from_str(alloc, text)?)?;
+        if *text == "run" {
+            words.push(String::from_str(alloc, "--log")?)?;
+            words.push(String::from_str(alloc, LOG)?)?;
+        }
     }
     Ok(words)
 }
 
-/// Calls the program with these words. Both sinks have room for 5000 bytes, and the puts to output
-/// of these numbers fail.
+/// Calls the program with these words, and `--log log` behind the word `run`. Both sinks have room
+/// for 40000 bytes.
+pub fn call_over<R: Threads + Sync>(
+    rt: &R,
+    alloc: Global,
+    texts: &[&str],
+    files: &mut MemoryFiles,
+    outside: &Outside<'_>,
+) -> Result<Left, AllocError> {
+    let words = words_of(alloc, texts)?;
+    let piece = if outside.piece == 0 { 1 } else { outside.piece };
+    let mut host = MemoryHost::new(
+        alloc,
+        outside.input,
+        piece,
+        outside.clocks,
+        outside.host_failing,
+    )?;
+    let mut out = MemorySink::new(alloc, 40000, outside.out_failing)?;
+    let mut err = MemorySink::new(alloc, 40000, outside.err_failing)?;
+    let mut tally = Tally::new();
+    let status = dos_main(
+        rt,
+        alloc,
+        &words,
+        files,
+        &mut host,
+        &mut out,
+        &mut err,
+        &OpenGate::new(),
+        &mut tally,
+    );
+    let work = tally.count();
+    Ok(Left {
+        status,
+        out,
+        err,
+        work,
+    })
+}
+
+/// The same with nothing from outside, where the puts to output of these numbers fail.
 pub fn call<R: Threads + Sync>(
     rt: &R,
     alloc: Global,
@@ -45,27 +115,60 @@ pub fn call_failing<R: Threads + Sync>(
     out_failing: &[u32],
     err_failing: &[u32],
 ) -> Result<Left, AllocError> {
-    let words = words_of(alloc, texts)?;
-    let mut out = MemorySink::new(alloc, 5000, out_failing)?;
-    let mut err = MemorySink::new(alloc, 5000, err_failing)?;
-    let mut tally = Tally::new();
-    let status = dos_main(
-        rt,
-        alloc,
-        &words,
-        files,
-        &mut out,
-        &mut err,
-        &OpenGate::new(),
-        &mut tally,
-    );
-    let work = tally.count();
-    Ok(Left {
-        status,
-        out,
-        err,
-        work,
-    })
+    let outside = Outside {
+        out_failing,
+        err_failing,
+        ..NOTHING
+    };
+    call_over(rt, alloc, texts, files, &outside)
+}
+
+// The names of a run's words, which stand behind its options.
+fn names<'a>(texts: &'a [&'a str]) -> &'a [&'a str] {
+    let mut rest = texts.get(1..).unwrap_or(&[]);
+    while let [option, _value, others @ ..] = rest {
+        if !option.starts_with("--") {
+            break;
+        }
+        rest = others;
+    }
+    rest
+}
+
+/// Replays the log of a run of these words, and compares it with what the run left.
+pub fn expect_again<R: Threads + Sync>(
+    rt: &R,
+    alloc: Global,
+    texts: &[&str],
+    files: &mut MemoryFiles,
+    ran: &Left,
+) -> Result<(), Fail> {
+    let mut words = Vec::new(alloc);
+    words.extend_from_slice(&["replay", "--log", LOG])?;
+    words.extend_from_slice(names(texts))?;
+    let again = call(rt, alloc, &words, files, &[])?;
+    if again.status != ran.status || again.work != ran.work {
+        return Err(Fail::from("a replay with another status or tally"));
+    }
+    if again.out.bytes() != ran.out.bytes() || again.err.bytes() != ran.err.bytes() {
+        return Err(Fail::from("a replay with other bytes"));
+    }
+    Ok(())
+}
+
+/// Runs with these words, which leave this, and then replays the log.
+pub fn run_twice<R: Threads + Sync>(
+    rt: &R,
+    alloc: Global,
+    texts: &[&str],
+    files: &mut MemoryFiles,
+    status: u8,
+    out: &str,
+    err: &str,
+) -> Result<(), Fail> {
+    let left = call(rt, alloc, texts, files, &[])?;
+    left.expect(status, out, err)?;
+    expect_again(rt, alloc, texts, files, &left)
 }
 
 impl Left {

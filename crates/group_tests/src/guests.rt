@@ -307,3 +307,12 @@ pub fn file_with(alloc: Global, code: &[Instr], text: &[u8], zeros: u32) -> Resu
     builder.data(TEXT, text, zeros)?;
     Ok(builder.finish()?)
 }
+
+/// The file of an image of these words, which may be written and executed.
+pub fn words_file(alloc: Global, words: &[u32]) -> Result<Vec<u8>, Fail> {
+    let mut builder = Builder::new(alloc, CODE, true)?;
+    for word in words {
+        builder.word(*word)?;
+    }
+    Ok(builder.finish()?)
+}

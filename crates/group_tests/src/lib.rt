@@ -13,6 +13,8 @@ mod groups;
 #[cfg(test)]
 mod guests;
 #[cfg(test)]
+mod logs;
+#[cfg(test)]
 mod refusals;
 #[cfg(test)]
 mod rows;

@@ -10,13 +10,27 @@ fn other_words_are_refused(rt: HostRuntime) -> Result<(), Fail> {
     let alloc = rt.alloc();
     let mut files = MemoryFiles::new(alloc, &[])?;
     files.add("a", &file(alloc, &SEVEN)?)?;
-    let others: [&[&str]; 21] = [
+    let others: [&[&str]; 36] = [
         &[],
         &["run"],
         &["a"],
         &["run", "-x"],
         &["run", ""],
         &["run", "a", "-x"],
+        &["replay", "a"],
+        &["replay", "--log", "a"],
+        &["replay", "--log", "a", "--quantum", "1000", "a"],
+        &["gen", "--number", "7"],
+        &["gen", "--number", "7", "--threads", "33"],
+        &["gen", "--number", "4294967296", "--threads", "1"],
+        &["gen", "--number", "7", "--threads", "1", "a"],
+        &["run", "--workers", "33", "a"],
+        &["run", "--signals", "1:1:32", "a"],
+        &["run", "--signals", "0:1:1", "a"],
+        &["run", "--clock-from", "18446744073709551616", "a"],
+        &["--help"],
+        &["run", "--help"],
+        &["--version"],
         &["walk", "a"],
         &["inspect"],
         &["inspect", "a", "b"],

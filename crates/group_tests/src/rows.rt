@@ -1,5 +1,5 @@
 //! Guests of one image.
-use crate::calls::call;
+use crate::calls::run_twice;
 use crate::guests;
 use dos_io::MemoryFiles;
 use rv_isa::Instr;
@@ -22,7 +22,7 @@ fn run_rows<R: Threads + Sync>(rt: &R, alloc: Global, rows: &[Row]) -> Result<()
     for row in rows {
         let mut files = MemoryFiles::new(alloc, &[])?;
         files.add("a", &guests::file_with(alloc, row.code, row.text, 0)?)?;
-        call(rt, alloc, row.words, &mut files, &[])?.expect(row.status, row.out, row.err)?;
+        run_twice(rt, alloc, row.words, &mut files, row.status, row.out, row.err)?;
     }
     Ok(())
 }
@@ -286,7 +286,7 @@ fn run_silent<R: Threads + Sync>(
 ) -> Result<(), Fail> {
     let mut files = MemoryFiles::new(alloc, &[])?;
     files.add("a", &guests::file(alloc, code)?)?;
-    call(rt, alloc, words, &mut files, &[])?.expect(0, "", err)
+    run_twice(rt, alloc, words, &mut files, 0, "", err)
 }
 
 fn run_answers<R: Threads + Sync>(rt: &R, alloc: Global, answers: &[Answer]) -> Result<(), Fail> {

@@ -1,0 +1,325 @@
+-- What follows for a call from how it ended.
+use Rattle.std.proofs.Common.{ℕ, zero, suc, ◌≡◌, ◌≢◌, ◌≤◌, ◌⊎◌, refl, sym, ap, ◌∙◌, subst, inl, inr, arith, List, [], ◌∷◌, ◌++◌, take, drop, Option, Some, None, IfSome, Result, Ok, Err}
+use Rattle.std.proofs.lemmas.List.{take-append-drop}
+use Rattle.dos_io.specs.Outside.{grown, GrewByFront, IsFront, Rose}
+use Rattle.dos_world.specs.declared.Ending.{Ending}
+use Rattle.dos_world.specs.declared.Ending.TheVariants as endings
+use Rattle.dos_world.specs.declared.Misfit.{Misfit}
+use Rattle.dpg_run.specs.Fits.{misfit}
+use Rattle.dpg_run.specs.Machine.{group}
+use Rattle.dpg_run.proofs.MisfitLaws.{fits_have_none}
+use Rattle.dos_io.specs.declared.shim.ShimStop.TheVariants as stops
+use Rattle.shim_log.specs.LogText.{Log, exchanges}
+use Rattle.logged_runs.specs.Replaying.{config_of}
+use Rattle.dos_texts.specs.Exit.{IsStatus, ending_status, refusal_status, line_of}
+use Rattle.dos_texts.specs.declared.refusal.Refusal.{Refusal}
+use Rattle.dos_texts.specs.declared.refusal.Refusal.TheVariants as refusals
+use Rattle.dos_words.specs.Numbers.{Text}
+use Rattle.dos_words.specs.Request.{request}
+use Rattle.dos_words.specs.declared.request.Request.{Request}
+use Rattle.dos_words.specs.declared.request.Request.TheVariants.{Run, Replay, Inspect, Gen}
+use Rattle.dos_cmd.specs.Judging.{Taken, Judgement, judgement}
+use Rattle.dos_cmd.specs.Outside.{Outside, Faults, OutputFailed}
+use Rattle.dos_cmd.specs.Replaying.{DidReplay, Misfitted}
+use Rattle.dos_cmd.specs.Results.{Begun, NotTaken, OfLog, Did, HasMisfit, Stopped, Leaves, Finished, Fails, Refused, CutShort, MustDo}
+use Rattle.dos_cmd.proofs.Saying.{with_error, with_faults, output_failed, fails_more}
+
+-- ---- statuses
+
+-- the status of a call that did what it was asked for
+abbrev pub EndsAs : ℕ → Type 0
+EndsAs n = (n ≡ 0) ⊎ (n ≡ 7) ⊎ (n ≡ 8)
+
+pub ending_ends : (ending : Ending) → EndsAs (ending_status ending)
+ending_ends endings.Done = inl refl
+ending_ends endings.Limit = inr (inl refl)
+ending_ends endings.Stalled = inr (inr refl)
+
+pub refusal_ends_not : (n : ℕ) (why : Refusal) → n ≡ refusal_status why → EndsAs n → ⊥
+unfolding refusal_status
+refusal_ends_not n refusals.Words is h = omega arith
+refusal_ends_not n (refusals.TooLong image) is h = omega arith
+refusal_ends_not n (refusals.Image image error) is h = omega arith
+refusal_ends_not n (refusals.NoRoom needed frames) is h = omega arith
+refusal_ends_not n (refusals.Log log) is h = omega arith
+refusal_ends_not n (refusals.Misfit found) is h = omega arith
+refusal_ends_not n refusals.Files is h = omega arith
+refusal_ends_not n refusals.Host is h = omega arith
+refusal_ends_not n refusals.Sink is h = omega arith
+refusal_ends_not n refusals.LogFull is h = omega arith
+refusal_ends_not n refusals.Memory is h = omega arith
+
+pub ends_not_six : (n : ℕ) → EndsAs n → n ≡ 6 → ⊥
+ends_not_six n h six = omega arith
+
+pub ends_or_not : (n : ℕ) → EndsAs n → n ≢ 0 → n ≢ 7 → n ≢ 8 → ⊥
+ends_or_not n (inl h) a b d = a h
+ends_or_not n (inr (inl h)) a b d = b h
+ends_or_not n (inr (inr h)) a b d = d h
+
+-- ---- what was told
+
+told_as : {A : Type 0} (told : Option A) (x : A) (P : A → Type 0) → told ≡ Some x → IfSome told P
+    → P x
+told_as None x P is h = absurd cc
+told_as (Some y) x P is h = let same : y ≡ x = cc in subst P same h
+
+-- two requests that the words ask for are one
+asked_once : (words : List Text) (a b : Request) → request words ≡ Some a → request words ≡ Some b
+    → a ≡ b
+asked_once words a b p q = let both : Some a ≡ Some b = sym p ∙ q in cc
+
+not_none : (words : List Text) (a : Request) → request words ≡ Some a → request words ≡ None → ⊥
+not_none words a p q = let both : Some a ≡ None = sym p ∙ q in cc
+
+-- what was taken is what the files are told to be taken for
+taken_is : (o : Outside) (asked : Request) (P : Taken → Type 0) (taken : Taken)
+    (begun : Begun asked o P) → judgement o.files asked ≡ Some (Ok taken) → begun.taken ≡ taken
+taken_is o asked P taken begun told =
+    let is : Ok taken ≡ Ok begun.taken =
+    told_as (judgement o.files asked) (Ok taken) (λ j. j ≡ Ok begun.taken) told begun.is in cc
+
+taken_not : (o : Outside) (asked : Request) (P : Taken → Type 0) (why : Refusal) → Begun asked o P
+    → judgement o.files asked ≡ Some (Err why) → ⊥
+taken_not o asked P why begun told =
+    let is : Err why ≡ Ok begun.taken =
+    told_as (judgement o.files asked) (Err why) (λ j. j ≡ Ok begun.taken) told begun.is in cc
+
+refused_not : (o : Outside) (asked : Request) (why : Refusal) (last : List ℕ) (taken : Taken)
+    → NotTaken asked o why last → judgement o.files asked ≡ Some (Ok taken) → ⊥
+refused_not o asked why last taken h told =
+    let is : Ok taken ≡ Err why =
+    told_as (judgement o.files asked) (Ok taken) (λ j. j ≡ Err why) told h.is in cc
+
+refused_is : (o : Outside) (asked : Request) (why other : Refusal) (last : List ℕ)
+    → NotTaken asked o why last → judgement o.files asked ≡ Some (Err other) → other ≡ why
+refused_is o asked why other last h told =
+    let is : Err other ≡ Err why =
+    told_as (judgement o.files asked) (Err other) (λ j. j ≡ Err why) told h.is in cc
+
+-- ---- a call that did what it was asked for
+
+pub finished_not_none : (words : List Text) (n : ℕ) (o : Outside) → Finished words n o
+    → request words ≡ None → ⊥
+finished_not_none words n o h none = not_none words h.asked h.asks none
+
+pub finished_not_refused : (words : List Text) (n : ℕ) (o : Outside) (asked : Request)
+    (why : Refusal) → Finished words n o → request words ≡ Some asked
+    → judgement o.files asked ≡ Some (Err why) → ⊥
+finished_not_refused words n o asked why h ask told =
+    taken_not o h.asked (λ taken. Did h.asked taken n o) why h.begun
+    (ap (judgement o.files) (asked_once words h.asked asked h.asks ask) ∙ told)
+
+-- a log that fits has no misfit, so what was replayed had to be
+replayed_must : (words : List Text) (w : ℕ) (log : Text) (names : List Text) (taken : Taken) (n : ℕ)
+    (o : Outside) → Did (Replay w log names) taken n o → MustDo (Replay w log names) taken n o
+replayed_must words w log names taken n o h = of_log taken.log h
+  where
+    of_log : (read : Option Log) → OfLog read (λ l. DidReplay l taken.images n o)
+        → OfLog read (λ l.
+        elim (misfit taken.images (config_of l.header) (exchanges l)) [
+          | None ↦ DidReplay l taken.images n o
+          | Some found ↦ (n ≡ refusal_status (refusals.Misfit found))
+              × Misfitted l taken.images found (line_of (refusals.Misfit found)) o
+        ])
+    of_log None h = absurd h
+    of_log (Some l) h =
+        let none : misfit taken.images (config_of l.header) (exchanges l) ≡ None =
+        fits_have_none 0 (exchanges l) (group taken.images (config_of l.header)) h.replayed.fits in
+        subst (λ (m : Option Misfit).
+        elim m [
+          | None ↦ DidReplay l taken.images n o
+          | Some found ↦ (n ≡ refusal_status (refusals.Misfit found))
+              × Misfitted l taken.images found (line_of (refusals.Misfit found)) o
+        ]) (sym none) h
+
+did_must : (words : List Text) (asked : Request) (taken : Taken) (n : ℕ) (o : Outside)
+    → Did asked taken n o → MustDo asked taken n o
+did_must words (Run q r f w posts from step log names) taken n o h = λ full. h
+did_must words (Replay w log names) taken n o h = replayed_must words w log names taken n o h
+did_must words (Inspect name) taken n o h = λ full. h
+did_must words (Gen number threads w) taken n o h = λ full. h
+
+pub finished_must : (words : List Text) (n : ℕ) (o : Outside) (asked : Request) (taken : Taken)
+    → Finished words n o → request words ≡ Some asked → judgement o.files asked ≡ Some (Ok taken)
+    → MustDo asked taken n o
+finished_must words n o asked taken h ask told =
+    let same = asked_once words h.asked asked h.asks ask in
+    let is = taken_is o h.asked (λ t. Did h.asked t n o) taken h.begun
+    (ap (judgement o.files) same ∙ told) in
+    subst (λ (a : Request). MustDo a taken n o) same
+    (subst (λ (t : Taken). MustDo h.asked t n o) is
+    (did_must words h.asked h.begun.taken n o h.begun.so))
+
+-- ---- a call that came to no report
+
+-- Its status is a refusal's; want of memory, a fault of the outside and a full log say nothing of
+-- what the files are taken for.
+leaves_status : (asked : Request) (o : Outside) (f : Faults) (why other : Refusal) (last : List ℕ)
+    → Leaves asked o f why last → judgement o.files asked ≡ Some (Err other)
+    → refusal_status why ≢ 5 → refusal_status why ≢ 6 → refusal_status why ≢ 9
+    → refusal_status why ≡ refusal_status other
+unfolding refusal_status
+leaves_status asked o f refusals.Words other last h told a b d = absurd h
+leaves_status asked o f (refusals.TooLong image) other last h told a b d =
+    ap refusal_status (sym (refused_is o asked (refusals.TooLong image) other last h told))
+leaves_status asked o f (refusals.Image image error) other last h told a b d =
+    ap refusal_status (sym (refused_is o asked (refusals.Image image error) other last h told))
+leaves_status asked o f (refusals.NoRoom needed frames) other last h told a b d =
+    ap refusal_status (sym (refused_is o asked (refusals.NoRoom needed frames) other last h told))
+leaves_status asked o f (refusals.Log log) other last h told a b d =
+    ap refusal_status (sym (refused_is o asked (refusals.Log log) other last h told))
+leaves_status asked o f (refusals.Misfit found) other last h told a b d =
+    absurd (taken_not o asked (λ taken. HasMisfit asked taken found last o) other h told)
+leaves_status asked o f refusals.Files other last h told a b d = absurd (a refl)
+leaves_status asked o f refusals.Host other last h told a b d = absurd (a refl)
+leaves_status asked o f refusals.Sink other last h told a b d = absurd (b refl)
+leaves_status asked o f refusals.LogFull other last h told a b d =
+    absurd (taken_not o asked (λ taken. Stopped asked taken stops.LogFull last o) other h told)
+leaves_status asked o f refusals.Memory other last h told a b d = absurd (d refl)
+
+-- of a misfit, in a replay
+misfit_must : (asked : Request) (taken : Taken) (found : Misfit) (n : ℕ) (o : Outside)
+    → n ≡ refusal_status (refusals.Misfit found)
+    → HasMisfit asked taken found (line_of (refusals.Misfit found)) o → MustDo asked taken n o
+misfit_must (Run q r f w posts from step log names) taken found n o is h = absurd h
+misfit_must (Replay w log names) taken found n o is h = of_log taken.log h
+  where
+    of_log : (read : Option Log)
+        → OfLog read (λ l. Misfitted l taken.images found (line_of (refusals.Misfit found)) o)
+        → OfLog read (λ l.
+        elim (misfit taken.images (config_of l.header) (exchanges l)) [
+          | None ↦ DidReplay l taken.images n o
+          | Some m ↦ (n ≡ refusal_status (refusals.Misfit m))
+              × Misfitted l taken.images m (line_of (refusals.Misfit m)) o
+        ])
+    of_log None h = absurd h
+    of_log (Some l) h =
+        subst (λ (m : Option Misfit).
+        elim m [
+          | None ↦ DidReplay l taken.images n o
+          | Some other ↦ (n ≡ refusal_status (refusals.Misfit other))
+              × Misfitted l taken.images other (line_of (refusals.Misfit other)) o
+        ]) (sym h.replayed.is) (is, h)
+misfit_must (Inspect name) taken found n o is h = absurd h
+misfit_must (Gen number threads w) taken found n o is h = absurd h
+
+-- of a log that is full, in a run
+full_must : (asked : Request) (taken : Taken) (last : List ℕ) (n : ℕ) (o : Outside) → n ≡ 10
+    → Stopped asked taken stops.LogFull last o → MustDo asked taken n o
+full_must (Run q r f w posts from step log names) taken last n o is h = λ full. absurd (full is)
+full_must (Replay w log names) taken last n o is h = absurd h
+full_must (Inspect name) taken last n o is h = absurd h
+full_must (Gen number threads w) taken last n o is h = absurd h
+
+leaves_must : (asked : Request) (taken : Taken) (o : Outside) (f : Faults) (why : Refusal) (n : ℕ)
+    → n ≡ refusal_status why → Leaves asked o f why (line_of why)
+    → judgement o.files asked ≡ Some (Ok taken) → n ≢ 5 → n ≢ 6 → n ≢ 9 → MustDo asked taken n o
+unfolding refusal_status
+leaves_must asked taken o f refusals.Words n is h told a b d = absurd h
+leaves_must asked taken o f (refusals.TooLong image) n is h told a b d =
+    absurd (refused_not o asked (refusals.TooLong image) _ taken h told)
+leaves_must asked taken o f (refusals.Image image error) n is h told a b d =
+    absurd (refused_not o asked (refusals.Image image error) _ taken h told)
+leaves_must asked taken o f (refusals.NoRoom needed frames) n is h told a b d =
+    absurd (refused_not o asked (refusals.NoRoom needed frames) _ taken h told)
+leaves_must asked taken o f (refusals.Log log) n is h told a b d =
+    absurd (refused_not o asked (refusals.Log log) _ taken h told)
+leaves_must asked taken o f (refusals.Misfit found) n is h told a b d =
+    let same = taken_is o asked
+    (λ t. HasMisfit asked t found (line_of (refusals.Misfit found)) o) taken h told in
+    subst (λ (t : Taken). MustDo asked t n o) same
+    (misfit_must asked h.taken found n o is h.so)
+leaves_must asked taken o f refusals.Files n is h told a b d = absurd (a is)
+leaves_must asked taken o f refusals.Host n is h told a b d = absurd (a is)
+leaves_must asked taken o f refusals.Sink n is h told a b d = absurd (b is)
+leaves_must asked taken o f refusals.LogFull n is h told a b d =
+    let same = taken_is o asked
+    (λ t. Stopped asked t stops.LogFull (line_of refusals.LogFull) o) taken h told in
+    subst (λ (t : Taken). MustDo asked t n o) same
+    (full_must asked h.taken (line_of refusals.LogFull) n o is h.so)
+leaves_must asked taken o f refusals.Memory n is h told a b d = absurd (d is)
+
+memory_status : (n : ℕ) (why : Refusal) → n ≡ refusal_status why → why ≡ refusals.Memory → n ≡ 9
+unfolding refusal_status
+memory_status n why is memory = is ∙ ap refusal_status memory
+
+words_status : (n : ℕ) (why : Refusal) → n ≡ refusal_status why → why ≡ refusals.Words → n ≡ 2
+unfolding refusal_status
+words_status n why is words = is ∙ ap refusal_status words
+
+pub fails_none : (words : List Text) (o : Outside) (f : Faults) (why : Refusal) (last : List ℕ)
+    (n : ℕ) → n ≡ refusal_status why → Fails words o f why last → request words ≡ None → n ≢ 9
+    → n ≡ 2
+fails_none words o f why last n is (inl h) none d = words_status n why is h.1
+fails_none words o f why last n is (inr (inl h)) none d = absurd (d (memory_status n why is h.0))
+fails_none words o f why last n is (inr (inr h)) none d = absurd (not_none words h.0 h.1 none)
+
+pub fails_refused : (words : List Text) (o : Outside) (f : Faults) (why other : Refusal)
+    (last : List ℕ) (n : ℕ) (asked : Request) → n ≡ refusal_status why → Fails words o f why last
+    → request words ≡ Some asked → judgement o.files asked ≡ Some (Err other)
+    → n ≢ 5 → n ≢ 6 → n ≢ 9 → n ≡ refusal_status other
+fails_refused words o f why other last n asked is (inl h) ask told a b d =
+    absurd (not_none words asked ask h.0)
+fails_refused words o f why other last n asked is (inr (inl h)) ask told a b d =
+    absurd (d (memory_status n why is h.0))
+fails_refused words o f why other last n asked is (inr (inr h)) ask told a b d =
+    is ∙ leaves_status h.0 o f why other last h.2
+    (ap (judgement o.files) (asked_once words h.0 asked h.1 ask) ∙ told)
+    (λ e. a (is ∙ e)) (λ e. b (is ∙ e)) (λ e. d (is ∙ e))
+
+pub fails_must : (words : List Text) (o : Outside) (f : Faults) (why : Refusal) (n : ℕ)
+    (asked : Request) (taken : Taken) → n ≡ refusal_status why
+    → Fails words o f why (line_of why) → request words ≡ Some asked
+    → judgement o.files asked ≡ Some (Ok taken) → n ≢ 5 → n ≢ 6 → n ≢ 9 → MustDo asked taken n o
+fails_must words o f why n asked taken is (inl h) ask told a b d =
+    absurd (not_none words asked ask h.0)
+fails_must words o f why n asked taken is (inr (inl h)) ask told a b d =
+    absurd (d (memory_status n why is h.0))
+fails_must words o f why n asked taken is (inr (inr h)) ask told a b d =
+    let same = asked_once words h.0 asked h.1 ask in
+    subst (λ (x : Request). MustDo x taken n o) same
+    (leaves_must h.0 taken o f why n is h.2 (ap (judgement o.files) same ∙ told) a b d)
+
+-- ---- an output that failed
+
+no_line : (why : Refusal) → why ≡ refusals.Sink → line_of why ≡ []
+unfolding line_of
+no_line why is = ap line_of is
+
+take_nothing : (k : ℕ) → take {A = ℕ} k [] ≡ []
+take_nothing zero = refl
+take_nothing (suc k) = refl
+
+front_nothing : (why : Refusal) (k : ℕ) → why ≡ refusals.Sink → take k (line_of why) ≡ []
+front_nothing why k is = ap (take k) (no_line why is) ∙ take_nothing k
+
+take_is_front : (k : ℕ) (xs : List ℕ) → IsFront (take k xs) xs
+take_is_front k xs = (drop k xs, sym (take-append-drop k xs))
+
+-- an output has failed where the reason is that
+sink_failed : (words : List Text) (o : Outside) (f : Faults) (why : Refusal) (last : List ℕ)
+    → why ≡ refusals.Sink → Fails words o f why last → OutputFailed f
+sink_failed words o f why last is (inl h) =
+    let clash : refusals.Sink ≡ refusals.Words = sym is ∙ h.1 in absurd cc
+sink_failed words o f why last is (inr (inl h)) =
+    let clash : refusals.Sink ≡ refusals.Memory = sym is ∙ h.0 in absurd cc
+sink_failed words o f why last is (inr (inr h)) =
+    (subst (λ (w : Refusal). Leaves h.0 o f w last) is h.2).0
+
+pub cut_short : (words : List Text) (o : Outside) (f : Faults) (n : ℕ) (e : Option (List ℕ))
+    (why : Refusal) (before : ℕ) → f.err_after ≤ n → before ≤ f.err_after → f.err ≡ before
+    → Fails words o f why []
+    → (why ≡ refusals.Sink) ⊎ Rose f.err_after n → GrewByFront o.err_after e (line_of why)
+    → CutShort words (with_error o e) (with_faults f n)
+cut_short words o f n e why before later grows is fails failed front = record {
+  failed = elim failed [
+    | inl sink ↦ output_failed f n later (sink_failed words o f why [] sink fails)
+    | inr rose ↦ inr (omega (arith, grows, is, rose))
+  ];
+  why = why;
+  put = take front.0 (line_of why);
+  front = take_is_front front.0 (line_of why);
+  fails = fails_more words o f n e why (take front.0 (line_of why)) later
+      (front_nothing why front.0) front.1 fails;
+}

@@ -1,0 +1,289 @@
+-- What a recorded run leaves, by how it ends.
+use Rattle.std.proofs.Common.{◌≡◌, ◌≢◌, ◌⊎◌, ◌≤◌, inl, inr, ℕ, List, [], ◌++◌, append-nil, Bool, true, false, Option, Result, Ok, Err, IsErrOf, sym, ap, ◌∙◌, subst, refl, arith}
+use Rattle.std.specs.Prelude.{IfSome, IfOk, IfErr, OnOk, OnErr, IsTrue, None, Some}
+use Rattle.std.specs.Str.{bytes_eq}
+use Rattle.std.proofs.lemmas.Slice.Eq.{bytes_eq-Decides}
+use Rattle.dos_io.specs.Outside.{grown, GrewByFront, HasCause, Rose}
+use Rattle.dos_io.specs.declared.shim.ShimStop.{ShimStop}
+use Rattle.dos_io.specs.declared.shim.ShimStop.TheVariants as shims
+use Rattle.dos_io.proofs.OutsideLaws.{grown_more}
+use Rattle.dos_world.specs.declared.Config.{Config}
+use Rattle.dos_world.specs.declared.Ending.{Ending}
+use Rattle.elf_image.specs.Image.{Image}
+use Rattle.kernel_calls.specs.Serving.{HasSinkCause, shim_stop}
+use Rattle.kernel_calls.specs.declared.state.RunStop.{RunStop}
+use Rattle.kernel_calls.specs.declared.state.RunStop.TheVariants as stops
+use Rattle.group_rounds.specs.Kernels.{Held, kernel_world}
+use Rattle.dpg_run.specs.Machine.{Seen}
+use Rattle.dpg_run.specs.Report.{report, report_in}
+use Rattle.shim_log.specs.Ledger.{LedgerState}
+use Rattle.shim_log.specs.LogText.{Log, logtext}
+use Rattle.logged_runs.specs.Opened.{IsOpened}
+use Rattle.logged_runs.specs.Runs.{Ended, Put}
+use Rattle.logged_runs.specs.Recording.{Plan, Recorded, RecordedAhead, RecordedUntil, plan_of}
+use Rattle.dos_texts.specs.Exit.{ending_status}
+use Rattle.dos_texts.specs.declared.refusal.Refusal.{Refusal}
+use Rattle.dos_texts.specs.declared.refusal.Refusal.TheVariants as refusals
+use Rattle.dos_words.specs.Numbers.{Text}
+use Rattle.dos_cmd.specs.Outside.{Outside, Faults, FilesStay, OthersStay, Grew, Holds}
+use Rattle.dos_cmd.specs.Running.{RunAsked, IsPlanned, IsPrepared, WasRecorded, DidRun, StoppedRun, UnwrittenRun, CutRun, CutRunReport}
+use Rattle.dos_cmd.specs.Stops.{refusal_by, LeavesRun}
+
+-- ---- counts of faults
+
+pub rose_then : (a b d : ℕ) → Rose a b → b ≤ d → Rose a d
+rose_then a b d h k = omega arith
+
+pub then_rose : (a b d : ℕ) → a ≤ b → Rose b d → Rose a d
+then_rose a b d h k = omega arith
+
+pub is_err_of : {T E : Type 0} (x y : E) → x ≡ y → IsErrOf {T = T} {E = E} (Err x) y
+is_err_of x y e = cc
+
+-- ---- a run that stopped
+
+-- with nothing behind
+put_nothing : (told after : Option (List ℕ)) (bytes : List ℕ) → after ≡ grown told bytes
+    → after ≡ grown told (bytes ++ [])
+put_nothing told after bytes e = e ∙ ap (grown told) (sym (append-nil bytes))
+
+-- the run until there, and what was put by then
+abbrev pub Until : Plan → Outside → ShimStop → Type 0
+Until plan o stop = (output : List ℕ) × (error : List ℕ)
+    × RecordedUntil plan o.host o.host_after stop output error
+    × Put o.out o.err o.out_after o.err_after output error
+
+-- so where an output failed
+abbrev pub Ahead : Plan → Outside → Type 0
+Ahead plan o = (output : List ℕ) × (error : List ℕ)
+    × RecordedAhead plan o.host o.host_after output error
+    × Put o.out o.err o.out_after o.err_after output error
+
+stopped_run : (asked : RunAsked) (images : List Image) (o : Outside) (plan : Plan)
+    (stop : ShimStop) → IsPlanned asked images o plan → FilesStay o → Until plan o stop
+    → StoppedRun asked images stop [] o
+stopped_run asked images o plan stop planned stay until = record {
+  plan = plan;
+  planned = planned;
+  output = until.0;
+  error = until.1;
+  recorded = until.2;
+  grew = record {
+    out_is = until.3.out_is;
+    err_is = put_nothing o.err o.err_after until.1 until.3.err_is;
+  };
+  files_stay = stay;
+}
+
+cut_run : (asked : RunAsked) (images : List Image) (o : Outside) (plan : Plan)
+    → IsPlanned asked images o plan → FilesStay o → Ahead plan o → CutRun asked images o
+cut_run asked images o plan planned stay ahead = record {
+  plan = plan;
+  planned = planned;
+  output = ahead.0;
+  error = ahead.1;
+  recorded = ahead.2;
+  grew = record { out_is = ahead.3.out_is; err_is = ahead.3.err_is };
+  files_stay = stay;
+}
+
+stopped_so : (asked : RunAsked) (images : List Image) (o : Outside) (f : Faults) (plan : Plan)
+    (stop : RunStop) → IfSome (shim_stop stop) (Until plan o) → Ahead plan o
+    → (stop ≡ stops.HostFault → Rose f.host f.host_after)
+    → HasSinkCause stop f.out f.out_after f.err f.err_after → IsPlanned asked images o plan
+    → FilesStay o → LeavesRun asked images o f (refusal_by stop)
+stopped_so asked images o f plan stops.OutFault until ahead host sink planned stay =
+    (inl sink, inl (cut_run asked images o plan planned stay ahead))
+stopped_so asked images o f plan stops.ErrFault until ahead host sink planned stay =
+    (inr sink, inl (cut_run asked images o plan planned stay ahead))
+stopped_so asked images o f plan stops.HostFault until ahead host sink planned stay =
+    (host refl, stopped_run asked images o plan shims.HostFault planned stay until)
+stopped_so asked images o f plan stops.LogFull until ahead host sink planned stay =
+    stopped_run asked images o plan shims.LogFull planned stay until
+stopped_so asked images o f plan (stops.Misfit found) until ahead host sink planned stay =
+    absurd until.2.stops
+stopped_so asked images o f plan stops.Memory until ahead host sink planned stay =
+    inl (stopped_run asked images o plan shims.Memory planned stay until)
+
+-- what holds of each images and configuration that a kernel was opened with holds of these
+if_opened : (stop : Option ShimStop) (P : List Image → Config → ShimStop → Type 0)
+    (kernel : Held) (images : List Image) (config : Config) → IsOpened kernel images config
+    → IfSome stop (λ s. (i : List Image) (c : Config) → IsOpened kernel i c → P i c s)
+    → IfSome stop (P images config)
+if_opened None P kernel images config opened h = tt
+if_opened (Some s) P kernel images config opened h = h images config opened
+
+pub run_stopped : (o : Outside) (f : Faults) (kernel : Held) (ledger : LedgerState) (name : Text)
+    (stop : RunStop) (why : Refusal) → why ≡ refusal_by stop
+    → IfSome (shim_stop stop) (λ s. (i : List Image) (c : Config) → IsOpened kernel i c
+    → Until (plan_of i c ledger) o s)
+    → ((i : List Image) (c : Config) → IsOpened kernel i c → Ahead (plan_of i c ledger) o)
+    → (stop ≡ stops.HostFault → Rose f.host f.host_after)
+    → HasSinkCause stop f.out f.out_after f.err f.err_after → FilesStay o → (asked : RunAsked)
+    (images : List Image) → IsPrepared asked images kernel ledger name o
+    → LeavesRun asked images o f why
+run_stopped o f kernel ledger name stop why is until ahead host sink stay asked images p =
+    subst (λ (r : Refusal). LeavesRun asked images o f r) (sym is)
+    (stopped_so asked images o f (plan_of images asked.config ledger) stop
+    (if_opened (shim_stop stop) (λ i c s. Until (plan_of i c ledger) o s) kernel images
+    asked.config p.opened until)
+    (ahead images asked.config p.opened) host sink p.planned stay)
+
+-- ---- a run that came to its end
+
+-- what is seen of it, and what was put by then: error told this
+abbrev pub Whole : (kernel after : Held) (ledger : LedgerState) → Ending → Log
+    → (o : Outside) → (err_then : Option (List ℕ)) → Type 0
+Whole kernel after ledger ending log o err_then = (i : List Image) (c : Config)
+    → IsOpened kernel i c → (seen : Seen)
+    × Recorded (plan_of i c ledger) o.host o.host_after log seen
+    × Ended after ending seen o.out o.err o.out_after err_then o.tally o.tally_after
+
+was_recorded : (asked : RunAsked) (images : List Image) (o : Outside) (kernel : Held)
+    (ledger : LedgerState) (name : Text) (log : Log) (seen : Seen)
+    → IsPrepared asked images kernel ledger name o
+    → Recorded (plan_of images asked.config ledger) o.host o.host_after log seen
+    → WasRecorded asked images o log seen
+was_recorded asked images o kernel ledger name log seen p recorded = record {
+  plan = plan_of images asked.config ledger;
+  planned = p.planned;
+  recorded = recorded;
+}
+
+-- A file that holds what it held, among others that do.
+stays_at : (o : Outside) (name n : Text) (b : Bool) → bytes_eq n name ≡ b
+    → o.files_after name ≡ o.files name → OthersStay o name → o.files_after n ≡ o.files n
+stays_at o name n true same at others =
+    let e : n ≡ name = (bytes_eq-Decides n name).0 same in
+    ap o.files_after e ∙ at ∙ sym (ap o.files e)
+stays_at o name n false other at others =
+    others n (λ e. let same : bytes_eq n name ≡ true = (bytes_eq-Decides n name).1 e in cc)
+
+all_stay : (o : Outside) (name : Text) → o.files_after name ≡ o.files name → OthersStay o name
+    → FilesStay o
+all_stay o name at others = λ n. stays_at o name n (bytes_eq n name) refl at others
+
+unwritten_so : (asked : RunAsked) (images : List Image) (o : Outside) (f : Faults) (name : Text)
+    (why : Refusal) → asked.log ≡ name → UnwrittenRun asked images [] o
+    → (why ≡ refusals.Files) ⊎ ((why ≡ refusals.Memory)
+    × (o.files_after name ≡ o.files name))
+    → (why ≡ refusals.Files → Rose f.files f.files_after) → OthersStay o name
+    → LeavesRun asked images o f why
+unwritten_so asked images o f name why log_is unwritten (inl is) rose others =
+    subst (λ (r : Refusal). LeavesRun asked images o f r) (sym is) (rose is, unwritten)
+unwritten_so asked images o f name why log_is unwritten (inr k) rose others =
+    subst (λ (r : Refusal). LeavesRun asked images o f r) (sym k.0)
+    (inr (all_stay o name k.1 others, unwritten))
+
+pub run_unwritten : (o : Outside) (f : Faults) (kernel after : Held) (ledger : LedgerState)
+    (name : Text) (ending : Ending) (log : Log) (why : Refusal)
+    → Whole kernel after ledger ending log o o.err_after
+    → (why ≡ refusals.Files) ⊎ ((why ≡ refusals.Memory)
+    × (o.files_after name ≡ o.files name))
+    → (why ≡ refusals.Files → Rose f.files f.files_after) → OthersStay o name → (asked : RunAsked)
+    (images : List Image) → IsPrepared asked images kernel ledger name o
+    → LeavesRun asked images o f why
+run_unwritten o f kernel after ledger name ending log why whole is rose others asked images p =
+    let run = whole images asked.config p.opened in
+    unwritten_so asked images o f name why p.log_is (record {
+      log = log;
+      seen = run.0;
+      was = was_recorded asked images o kernel ledger name log run.0 p run.1;
+      grew = record {
+        out_is = run.2.put.out_is;
+        err_is = put_nothing o.err o.err_after run.0.error run.2.put.err_is;
+      };
+      others = subst (OthersStay o) (sym p.log_is) others;
+    }) is rose others
+
+-- what the log's file holds
+holds : (o : Outside) (name : Text) (text : List ℕ)
+    → IfSome (o.files name) (λ _. o.files_after name ≡ Some text)
+    → (IsTrue o.files_tell → o.files_after name ≡ Some text) → Holds o name text
+holds o name text told all = record { where_told = told; where_all_tell = all }
+
+did_so : (o : Outside) (kernel after : Held) (ledger : LedgerState) (name : Text)
+    (ending : Ending) (log : Log) (err_then : Option (List ℕ))
+    → Whole kernel after ledger ending log o err_then → Holds o name (logtext log)
+    → OthersStay o name → o.err_after ≡ grown err_then (report_in (kernel_world after) ending)
+    → (asked : RunAsked) (images : List Image) → IsPrepared asked images kernel ledger name o
+    → DidRun asked images (ending_status ending) o
+did_so o kernel after ledger name ending log err_then whole written others told asked images p =
+    let run = whole images asked.config p.opened in
+    record {
+      log = log;
+      seen = run.0;
+      was = was_recorded asked images o kernel ledger name log run.0 p run.1;
+      written = subst (λ (n : Text). Holds o n (logtext log)) (sym p.log_is) written;
+      others = subst (OthersStay o) (sym p.log_is) others;
+      status_is = ap ending_status (sym run.2.shows.ending_is);
+      counted = run.2.counted;
+      grew = record {
+        out_is = run.2.put.out_is;
+        err_is = grown_more o.err err_then o.err_after run.0.error (report run.0) run.2.put.err_is
+            (told ∙ ap (grown err_then) run.2.shows.report_is);
+      };
+    }
+
+pub run_did : (o : Outside) (kernel after : Held) (ledger : LedgerState) (name : Text)
+    (ending : Ending) (log : Log) (err_then : Option (List ℕ)) (r : Result Ending Refusal)
+    → Whole kernel after ledger ending log o err_then
+    → IfSome (o.files name) (λ _. o.files_after name ≡ Some (logtext log))
+    → (IsTrue o.files_tell → o.files_after name ≡ Some (logtext log)) → OthersStay o name
+    → IfOk r (λ ended. ended ≡ ending)
+    → OnOk r (o.err_after ≡ grown err_then (report_in (kernel_world after) ending))
+    → IfOk r (λ ended. (asked : RunAsked) (images : List Image)
+    → IsPrepared asked images kernel ledger name o
+    → DidRun asked images (ending_status ended) o)
+run_did o kernel after ledger name ending log err_then (Err why) whole content all others same
+    told = tt
+run_did o kernel after ledger name ending log err_then (Ok ended) whole content all others same
+    told = λ asked images p.
+    subst (λ (e : Ending). DidRun asked images (ending_status e) o) (sym same)
+    (did_so o kernel after ledger name ending log err_then whole
+    (holds o name (logtext log) content all) others told asked images p)
+
+cut_so : (o : Outside) (f : Faults) (kernel after : Held) (ledger : LedgerState) (name : Text)
+    (ending : Ending) (log : Log) (err_then : Option (List ℕ))
+    → Whole kernel after ledger ending log o err_then → Holds o name (logtext log)
+    → OthersStay o name → Rose f.err f.err_after
+    → GrewByFront err_then o.err_after (report_in (kernel_world after) ending)
+    → (asked : RunAsked) (images : List Image) → IsPrepared asked images kernel ledger name o
+    → LeavesRun asked images o f refusals.Sink
+cut_so o f kernel after ledger name ending log err_then whole written others rose front asked images
+    p =
+    let run = whole images asked.config p.opened in (
+      inr rose,
+      inr (record {
+        log = log;
+        seen = run.0;
+        was = was_recorded asked images o kernel ledger name log run.0 p run.1;
+        written = subst (λ (n : Text). Holds o n (logtext log)) (sym p.log_is) written;
+        others = subst (OthersStay o) (sym p.log_is) others;
+        grew = record {
+          out_is = run.2.put.out_is;
+          err_is = subst (λ (t : Option (List ℕ)). GrewByFront t o.err_after (report run.0))
+              run.2.put.err_is
+              (subst (λ (r : List ℕ). GrewByFront err_then o.err_after r) run.2.shows.report_is
+              front);
+        };
+      }),
+    )
+
+pub run_cut : (o : Outside) (f : Faults) (kernel after : Held) (ledger : LedgerState) (name : Text)
+    (ending : Ending) (log : Log) (err_then : Option (List ℕ)) (rises : ℕ)
+    (r : Result Ending Refusal) → Whole kernel after ledger ending log o err_then
+    → IfSome (o.files name) (λ _. o.files_after name ≡ Some (logtext log))
+    → (IsTrue o.files_tell → o.files_after name ≡ Some (logtext log)) → OthersStay o name
+    → IfErr r (λ why. why ≡ refusals.Sink) → f.err ≤ rises → HasCause rises f.err_after r
+    → OnErr r (GrewByFront err_then o.err_after (report_in (kernel_world after) ending))
+    → IfErr r (λ why. (asked : RunAsked) (images : List Image)
+    → IsPrepared asked images kernel ledger name o → LeavesRun asked images o f why)
+run_cut o f kernel after ledger name ending log err_then rises (Ok ended) whole content all others
+    sink later cause front = tt
+run_cut o f kernel after ledger name ending log err_then rises (Err why) whole content all others
+    sink later cause front = λ asked images p.
+    subst (λ (w : Refusal). LeavesRun asked images o f w) (sym sink)
+    (cut_so o f kernel after ledger name ending log err_then whole
+    (holds o name (logtext log) content all) others
+    (then_rose f.err rises f.err_after later cause.failed) front asked images p)

@@ -1,0 +1,168 @@
+//! Refusals, each with its status and its line.
+use dos_io::MemorySink;
+use dos_texts::{Refusal, put_refusal};
+use dos_world::{Ending, Misfit, Question};
+use elf_image::ImageError;
+use log_files::LogRefusal;
+use shim_log::LogError;
+use std::alloc::Global;
+use std::process::Abort;
+use std::test::Fail;
+
+/// Puts the line of each refusal to a sink of its own.
+fn say(rt: &impl Abort, alloc: Global, rows: &[(Refusal, u8, &str)]) -> Result<(), Fail> {
+    for (refusal, status, line) in rows {
+        let mut err = MemorySink::new(alloc, 192, &[])?;
+        assert_eq!(rt; put_refusal(*refusal, &mut err), *status);
+        assert_eq!(rt; err.bytes(), line.as_bytes());
+    }
+    Ok(())
+}
+
+#[test]
+fn plain_refusals(rt: HostRuntime) -> Result<(), Fail> {
+    let rows = [
+        (Refusal::Words, 2, "dos: words refused\n"),
+        (Refusal::Files, 5, "dos: file fault\n"),
+        (Refusal::Host, 5, "dos: host fault\n"),
+        (Refusal::Sink, 6, ""),
+        (Refusal::Memory, 9, "dos: out of memory\n"),
+        (Refusal::LogFull, 10, "dos: log full\n"),
+    ];
+    say(&rt, rt.alloc(), &rows)
+}
+
+#[test]
+fn refusals_of_images(rt: HostRuntime) -> Result<(), Fail> {
+    let rows = [
+        (Refusal::TooLong(2), 3, "dos: image 2 too long\n"),
+        (
+            Refusal::Image(1, ImageError::Short),
+            3,
+            "dos: image 1 refused 1\n",
+        ),
+        (
+            Refusal::Image(8, ImageError::Entry),
+            3,
+            "dos: image 8 refused 14\n",
+        ),
+        (
+            Refusal::Image(1, ImageError::Segment(0)),
+            3,
+            "dos: image 1 refused 11 at 0\n",
+        ),
+        (
+            Refusal::Image(4294967295, ImageError::Overlap(62, 63)),
+            3,
+            "dos: image 4294967295 refused 12 at 62 and 63\n",
+        ),
+        (
+            Refusal::NoRoom(18446744073709551615, 16384),
+            3,
+            "dos: needs 18446744073709551615 frames, has 16384\n",
+        ),
+    ];
+    say(&rt, rt.alloc(), &rows)
+}
+
+#[test]
+fn refusals_of_logs(rt: HostRuntime) -> Result<(), Fail> {
+    let rows = [
+        (Refusal::Log(LogRefusal::TooLong), 4, "dos: log too long\n"),
+        (
+            Refusal::Log(LogRefusal::Refused(LogError::Short(58))),
+            4,
+            "dos: log refused: short at 58\n",
+        ),
+        (
+            Refusal::Log(LogRefusal::Refused(LogError::Magic)),
+            4,
+            "dos: log refused: magic\n",
+        ),
+        (
+            Refusal::Log(LogRefusal::Refused(LogError::Version(65535))),
+            4,
+            "dos: log refused: version 65535\n",
+        ),
+        (
+            Refusal::Log(LogRefusal::Refused(LogError::Header(8))),
+            4,
+            "dos: log refused: header at 8\n",
+        ),
+        (
+            Refusal::Log(LogRefusal::Refused(LogError::Entry(52))),
+            4,
+            "dos: log refused: entry at 52\n",
+        ),
+        (
+            Refusal::Log(LogRefusal::Refused(LogError::AfterEnd(64))),
+            4,
+            "dos: log refused: after end at 64\n",
+        ),
+        (
+            Refusal::Log(LogRefusal::Images(1, 2)),
+            4,
+            "dos: log has 1 images, given 2\n",
+        ),
+        (
+            Refusal::Log(LogRefusal::Digest(1, [0x0a; 32], [0x9c; 32])),
+            4,
+            "dos: image 1 has digest 0a0a0a0a0a0a0a0a0a0a0a0a0a0a0a0a0a0a0a0a0a0a0a0a0a0a0a0a0a0a0a0a, log has 9c9c9c9c9c9c9c9c9c9c9c9c9c9c9c9c9c9c9c9c9c9c9c9c9c9c9c9c9c9c9c9c\n",
+        ),
+    ];
+    say(&rt, rt.alloc(), &rows)
+}
+
+/// The refusal of a run that asks for `asked` where its log has `kept`.
+fn differs(entry: u32, kept: Question, asked: Question) -> Refusal {
+    Refusal::Misfit(Misfit { entry, kept, asked })
+}
+
+#[test]
+fn misfits(rt: HostRuntime) -> Result<(), Fail> {
+    let signals = Question::Signals { round: 2 };
+    let clock = Question::Clock { round: 3, tid: 2 };
+    let input = Question::Input {
+        round: 3,
+        tid: 1,
+        max: 64,
+    };
+    let done = Question::End {
+        ending: Ending::Done,
+        rounds: 1,
+    };
+    let limit = Question::End {
+        ending: Ending::Limit,
+        rounds: 100000,
+    };
+    let stalled = Question::End {
+        ending: Ending::Stalled,
+        rounds: 4294967295,
+    };
+    let rows = [
+        (
+            differs(12, input, clock),
+            4,
+            "dos: log entry 12 is input round 3 thread 1 max 64, asked clock round 3 thread 2\n",
+        ),
+        (
+            differs(1, done, limit),
+            4,
+            "dos: log entry 1 is end done rounds 1, asked end limit rounds 100000\n",
+        ),
+        (
+            differs(4294967295, stalled, signals),
+            4,
+            "dos: log entry 4294967295 is end stalled rounds 4294967295, asked signals round 2\n",
+        ),
+    ];
+    say(&rt, rt.alloc(), &rows)
+}
+
+#[test]
+fn a_line_that_is_not_taken_is_a_fault(rt: HostRuntime) -> Result<(), Fail> {
+    let mut err = MemorySink::new(rt.alloc(), 192, &[1])?;
+    assert_eq!(rt; put_refusal(Refusal::Words, &mut err), 6);
+    assert_eq!(rt; err.bytes(), b"".as_slice());
+    Ok(())
+}
