@@ -33,6 +33,7 @@ use std::alloc::Global;
 use worker_pool::Workers;
 
 /// What `run` is asked for, but for its workers.
+#[derive(Drop)]
 pub(crate) struct RunRequest<'a> {
     pub(crate) config: Config,
     pub(crate) posts: &'a Posts,

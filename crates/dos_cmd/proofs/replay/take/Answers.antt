@@ -1,8 +1,7 @@
-use Rattle.std.proofs.Common.{◌≡◌, sym, ◌∙◌, ap, subst, Err}
-use Rattle.std.specs.Prelude.{IfSome}
+use Rattle.std.proofs.Common.{◌≡◌, ap, subst, length, Some, None, arith}
 use Rattle.std.proofs.lemmas.Result.{err_from_is_err_and}
 use Rattle.log_files.specs.Judging.{disagreement}
-use Rattle.dos_cmd.specs.Judging.{images_from}
+use Rattle.shim_log.specs.declared.header.LogHeader.{LogHeader}
 use Rattle.dos_cmd.proofs.ReplayLeaves.{of_files}
 use Rattle.dos_cmd.proofs.ReplayTaking.{images_refused, reading_refused, same_count, taken_after}
 use Rattle.dos_cmd.proofs.replay.take.Goals as goal
@@ -26,20 +25,24 @@ pub returns-in-Ok-clause-taken : goal.returns-in-Ok-clause-taken
 returns-in-Ok-clause-taken g c =
     taken_after (g.F.Files.content c.args.files.now) (g.F.Files.content c.read.new.files)
     c.args.log.now c.args.names.now c.in_ok-log.log c.in_ok-images.images.items
-    c.in_ok-images.digests _ c.read.ensures.stays c.in_ok-log.ensures.accepted
+    c.in_ok-images.digests None c.read.ensures.stays c.in_ok-log.ensures.accepted
     c.in_ok-images.ensures.accepted c.in_ok-images.ensures.digests
-    (subst (λ h. disagreement c.in_ok-images.digests h.digests ≡ _) c.header.ensures c.in-Ok.ensures)
+    (subst (λ (h : LogHeader). disagreement c.in_ok-images.digests h.digests ≡ None)
+    c.header.ensures c.in-Ok.ensures)
 
 pub returns-in-Ok-clause-some : goal.returns-in-Ok-clause-some
-returns-in-Ok-clause-some g c = ?
-
-pub returns-in-Ok-clause-few : goal.returns-in-Ok-clause-few
-returns-in-Ok-clause-few g c = ?
+returns-in-Ok-clause-some g c =
+    let load = c.in_ok-images.ensures in
+    let same = same_count c.in_ok-images.digests c.header.result.now.digests c.in-Ok.ensures in
+    let logged = ap (λ (h : LogHeader). length h.digests) c.header.ensures in
+    let fits = c.len-len.ensures.fits.header.count.0 in
+    omega (arith, same, logged, fits, load.count, load.digest_count)
 
 pub returns-in-Err-clause-refused : goal.returns-in-Err-clause-refused
 returns-in-Err-clause-refused g c =
     taken_after (g.F.Files.content c.args.files.now) (g.F.Files.content c.read.new.files)
     c.args.log.now c.args.names.now c.in_ok-log.log c.in_ok-images.images.items
-    c.in_ok-images.digests _ c.read.ensures.stays c.in_ok-log.ensures.accepted
+    c.in_ok-images.digests (Some c.in-Err.why) c.read.ensures.stays c.in_ok-log.ensures.accepted
     c.in_ok-images.ensures.accepted c.in_ok-images.ensures.digests
-    (subst (λ h. disagreement c.in_ok-images.digests h.digests ≡ _) c.header.ensures c.in-Err.ensures)
+    (subst (λ (h : LogHeader). disagreement c.in_ok-images.digests h.digests ≡ Some c.in-Err.why)
+    c.header.ensures c.in-Err.ensures)
