@@ -5,3 +5,5 @@ mod RunEnds
 mod RunCalls
 pub mod ReplayLeaves
 pub mod ReplayTaking
+pub mod ReplayEnds
+mod GenRuns

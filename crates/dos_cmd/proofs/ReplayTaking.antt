@@ -14,7 +14,7 @@ use Rattle.shim_log.specs.Ranges.{FitsLog}
 use Rattle.dos_texts.specs.declared.refusal.Refusal.{Refusal}
 use Rattle.dos_texts.specs.declared.refusal.Refusal.TheVariants as refusals
 use Rattle.dos_words.specs.Numbers.{Text}
-use Rattle.dos_cmd.specs.Judging.{Images, Judgement, Taken, agreed, digests_of, images_from, of_log, replay_judgement, with_images, with_room}
+use Rattle.dos_cmd.specs.Judging.{Images, Judgement, agreed, by_log, digests_of, images_from, replay_judgement, with_images}
 use Rattle.dos_cmd.specs.Replaying.{OfLogFile, OfReading}
 
 -- ---- files that stay
@@ -25,7 +25,7 @@ same_told f f' stays [] = refl
 same_told f f' stays (name ∷ names) = ap₂ (λ a b. a ∷ b) (stays name) (same_told f f' stays names)
 
 -- what holds of files as they are told later, holds as they are told before
-pub told_before : (f f' : Text → Option (List ℕ)) (names : List Text)
+told_before : (f f' : Text → Option (List ℕ)) (names : List Text)
     (P : List (Option (List ℕ)) → Type 0) → ((name : Text) → f' name ≡ f name)
     → P (map f' names) → P (map f names)
 told_before f f' names P stays h = subst P (same_told f f' stays names) h
@@ -36,7 +36,8 @@ pub log_refused : (told : Option (List ℕ)) (files : List (Option (List ℕ))) 
     → IfSome told (λ file. log_verdict file ≡ Err why)
     → IfSome (replay_judgement told files) (λ j. j ≡ Err (refusals.Log why))
 log_refused None files why h = tt
-log_refused (Some file) files why h = rw h refl
+log_refused (Some file) files why h =
+    subst (λ v. IfSome (by_log v files) (λ j. j ≡ Err (refusals.Log why))) (sym h) refl
 
 pub reading_refused : (told : Option (List ℕ)) (files : List (Option (List ℕ))) (why : Refusal)
     → OfLogFile why (λ found. IfSome told (λ file. log_verdict file ≡ Err found))
@@ -61,23 +62,29 @@ with_log : (told : Option (List ℕ)) (files : List (Option (List ℕ))) (log : 
     → IfSome (option_and_then (with_images log (digests_of files)) (images_from 1 files))
     (λ k. k ≡ j) → IfSome (replay_judgement told files) (λ k. k ≡ j)
 with_log None files log j h k = tt
-with_log (Some file) files log j h k = rw h k
+with_log (Some file) files log j h k =
+    subst (λ v. IfSome (by_log v files) (λ k. k ≡ j)) (sym h) k
 
-pub images_refused : (told : Option (List ℕ)) (files : List (Option (List ℕ))) (log : Log)
-    (why : Refusal) → IfSome told (λ file. log_verdict file ≡ Ok log)
-    → IfSome (images_from 1 files) (λ j. j ≡ Err why)
-    → IfSome (replay_judgement told files) (λ j. j ≡ Err why)
-images_refused told files log why h k =
-    with_log told files log (Err why) h (refused (images_from 1 files) k)
+-- told after the log was read
+pub images_refused : (f f' : Text → Option (List ℕ)) (log_name : Text) (names : List Text)
+    (log : Log) (why : Refusal) → ((name : Text) → f' name ≡ f name)
+    → IfSome (f log_name) (λ file. log_verdict file ≡ Ok log)
+    → IfSome (images_from 1 (map f' names)) (λ j. j ≡ Err why)
+    → IfSome (replay_judgement (f log_name) (map f names)) (λ j. j ≡ Err why)
+images_refused f f' log_name names log why stays h k =
+    with_log (f log_name) (map f names) log (Err why) h (refused (images_from 1 (map f names))
+    (told_before f f' names (λ files. IfSome (images_from 1 files) (λ j. j ≡ Err why)) stays k))
   where
     refused : (images : Option Images) → IfSome images (λ j. j ≡ Err why)
-        → IfSome (option_and_then (with_images log (digests_of files)) images) (λ k. k ≡ Err why)
+        → IfSome (option_and_then (with_images log (digests_of (map f names))) images)
+        (λ k. k ≡ Err why)
     refused None k = tt
-    refused (Some images) k = rw k refl
+    refused (Some images) k = subst (λ x. IfSome (with_images log (digests_of (map f names)) x)
+        (λ j. j ≡ Err why)) (sym k) refl
 
 -- ---- whether they agree
 
-pub taken_so : (told : Option (List ℕ)) (files : List (Option (List ℕ))) (log : Log)
+taken_so : (told : Option (List ℕ)) (files : List (Option (List ℕ))) (log : Log)
     (images : List Image) (given : List (List ℕ)) (found : Option LogRefusal)
     → IfSome told (λ file. log_verdict file ≡ Ok log)
     → IfSome (images_from 1 files) (λ j. j ≡ Ok images)
@@ -93,9 +100,27 @@ taken_so told files log images given found h k d e =
         → IfSome (option_and_then (with_images log digests) read)
         (λ j. j ≡ agreed log images found)
     both None digests k d = tt
-    both (Some read) None k d = rw k tt
-    both (Some read) (Some digests) k d = rw k (ap (agreed log images)
-        (ap (λ x. disagreement x log.header.digests) (sym d) ∙ e))
+    both (Some read) None k d =
+        subst (λ x. IfSome (with_images log None x) (λ j. j ≡ agreed log images found)) (sym k) tt
+    both (Some read) (Some digests) k d =
+        subst (λ x. IfSome (with_images log (Some digests) x) (λ j. j ≡ agreed log images found))
+        (sym k)
+        (ap (agreed log images) (ap (λ x. disagreement x log.header.digests) (sym d) ∙ e))
+
+-- told after the log was read
+pub taken_after : (f f' : Text → Option (List ℕ)) (log_name : Text) (names : List Text) (log : Log)
+    (images : List Image) (given : List (List ℕ)) (found : Option LogRefusal)
+    → ((name : Text) → f' name ≡ f name)
+    → IfSome (f log_name) (λ file. log_verdict file ≡ Ok log)
+    → IfSome (images_from 1 (map f' names)) (λ j. j ≡ Ok images)
+    → IfSome (digests_of (map f' names)) (λ digests. given ≡ digests)
+    → disagreement given log.header.digests ≡ found
+    → IfSome (replay_judgement (f log_name) (map f names)) (λ j. j ≡ agreed log images found)
+taken_after f f' log_name names log images given found stays h k d e =
+    taken_so (f log_name) (map f names) log images given found h
+    (told_before f f' names (λ files. IfSome (images_from 1 files) (λ j. j ≡ Ok images)) stays k)
+    (told_before f f' names (λ files. IfSome (digests_of files) (λ digests. given ≡ digests)) stays
+    d) e
 
 -- Where they agree, there are as many.
 pub same_count : (given logged : List (List ℕ)) → disagreement given logged ≡ None

@@ -100,14 +100,15 @@ with_images log digests (Err why) = Some (Err why)
 with_images log digests (Ok images) =
     option_map (λ given. agreed log images (disagreement given log.header.digests)) digests
 
+-- what the log's file is taken for, and the images' files
+abbrev pub by_log : Result Log LogRefusal → List (Option (List ℕ)) → Option Judgement
+by_log (Err why) files = Some (Err (refusals.Log why))
+by_log (Ok log) files = option_and_then (with_images log (digests_of files)) (images_from 1 files)
+
 -- the log's file, and the images' files
 abbrev pub replay_judgement : Option (List ℕ) → List (Option (List ℕ)) → Option Judgement
 replay_judgement None files = None
-replay_judgement (Some file) files =
-    elim (log_verdict file) [
-      | Err why ↦ Some (Err (refusals.Log why))
-      | Ok log ↦ option_and_then (with_images log (digests_of files)) (images_from 1 files)
-    ]
+replay_judgement (Some file) files = by_log (log_verdict file) files
 
 -- ---- what the words ask for
 

@@ -1,29 +1,27 @@
 // The command `gen`.
-ghost use Rattle.std.specs.Prelude.{◌≡◌, ◌≤◌, ◌-◌, ℕ, Bool, List, Option, [], ◌∷◌, map, false, IfOk, IfErr, OnOk, OnErr};
-ghost use Rattle.sha2.specs.Sha256.{sha256};
+ghost use Rattle.std.specs.Prelude.{◌≡◌, ◌≤◌, ◌-◌, ◌++◌, ℕ, Bool, List, Option, [], map, false, IfOk, IfErr, OnOk, OnErr};
 ghost use Rattle.dos_world.specs.declared.Config.{Config};
 ghost use Rattle.dos_io.specs.Hosts.{Told};
 ghost use Rattle.dos_io.specs.Outside.{grown, GrewByFront, HasCause};
 ghost use Rattle.elf_image.specs.Image.{Image};
-ghost use Rattle.dpg_run.specs.Machine.{Seen, status_in};
+ghost use Rattle.dpg_run.specs.Machine.{status_in};
 ghost use Rattle.logged_runs.specs.Opened.{IsOpened};
 ghost use Rattle.dos_texts.specs.Exit.{ending_status};
 ghost use Rattle.dos_texts.specs.Printed.{summary_of};
-ghost use Rattle.dos_texts.specs.Report.{process_lines};
+ghost use Rattle.dos_texts.specs.Report.{process_lines, rounds_line};
 ghost use Rattle.dos_words.specs.declared.request.Request.TheVariants as requests;
 ghost use Rattle.dos_cmd.specs.Outside.{outside, faults};
 ghost use Rattle.dos_cmd.specs.Printing.{RanQuietly};
 ghost use Rattle.dos_cmd.specs.Results.{Begun, Did, Leaves};
 
 use crate::run::open;
+use crate::stops::refusal_by;
 use dos_io::{Quiet, Sink, SinkFault};
-use dos_texts::{Refusal, process_line, put_output, rounds_line};
+use dos_texts::{Refusal, put_output, rounds_line};
 use dos_world::{Config, Ending};
-use dpg_run::run_group;
+use dpg_run::{put_processes, run_group};
 use generated_group::{DigestSink, DropSink, generated_image};
 use group_rounds::Kernel;
-use kernel_calls::RunStop;
-use proc_table::Table;
 use std::alloc::Global;
 use std::slice;
 use worker_pool::Workers;
@@ -43,7 +41,8 @@ struct Ran {
     digest: [u8; 32],
 }
 
-/// Runs a group that was opened; its output is counted and hashed, its error output is dropped.
+/// Runs a group that was opened; its output is counted and hashed, its error output is dropped. It
+/// stops for want of memory alone, since its shim does, and its sinks never fail.
 fn run_quietly<W: Workers>(
     alloc: Global,
     kernel: &mut Kernel,
@@ -70,24 +69,22 @@ fn run_quietly<W: Workers>(
                 digest,
             })
         }
-        Err(RunStop::Memory) => Err(Refusal::Memory),
-        Err(_) => unreachable!(),
+        Err(stop) => Err(refusal_by(stop)),
     }
 }
 
-/// Puts a line for each process, one put for each line. After a fault a front of them was put.
-fn put_processes<O: Sink>(table: &Table, out: &mut O) -> Result<(), SinkFault>
-    ensures told { OnOk result (O.told out.new
-        ≡ grown (O.told out.old) (process_lines 1 (map status_in table.now.processes))) }
+/// Puts how a run has ended, and a line for each process. After a fault a front of that was put.
+fn put_ending<O: Sink>(kernel: &Kernel, ending: Ending, out: &mut O) -> Result<(), SinkFault>
+    ensures told { OnOk result (O.told out.new ≡ grown (O.told out.old)
+        (rounds_line (kernel.now.state.round - 1) ending
+        ++ process_lines 1 (map status_in kernel.now.state.table.processes))) }
     ensures front { OnErr result (GrewByFront (O.told out.old) (O.told out.new)
-        (process_lines 1 (map status_in table.now.processes))) }
+        (rounds_line (kernel.now.state.round - 1) ending
+        ++ process_lines 1 (map status_in kernel.now.state.table.processes))) }
     ensures cause { HasCause (O.faults out.old) (O.faults out.new) result }
 {
-    for place in 0..table.processes() {
-        let pid = place + 1;
-        out.put(process_line(pid, table.status(pid)).as_str().as_bytes())?;
-    }
-    Ok(())
+    out.put(rounds_line(kernel.rounds(), ending).as_str().as_bytes())?;
+    put_processes(&kernel.state().table, out)
 }
 
 /// Puts the summary of a run. After a fault a front of it was put.
@@ -100,8 +97,7 @@ fn put_summary<O: Sink>(kernel: &Kernel, ran: &Ran, out: &mut O) -> Result<(), S
         ran.now.ending ran.now.count ran.now.digest)) }
     ensures cause { HasCause (O.faults out.old) (O.faults out.new) result }
 {
-    out.put(rounds_line(kernel.rounds(), ran.ending).as_str().as_bytes())?;
-    put_processes(&kernel.state().table, out)?;
+    put_ending(kernel, ran.ending, out)?;
     put_output(ran.count, &ran.digest, out)
 }
 

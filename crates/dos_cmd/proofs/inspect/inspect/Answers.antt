@@ -6,8 +6,7 @@ use Rattle.dos_cmd.specs.Outside.{outside}
 use Rattle.dos_cmd.proofs.ReplayLeaves.{one_image}
 use Rattle.dos_cmd.proofs.inspect.inspect.Goals as goal
 
-pub put_inspect-requires : goal.put_inspect-requires
-put_inspect-requires g c = ?
+
 
 pub returns-in-Ok-clause-did : goal.returns-in-Ok-clause-did
 returns-in-Ok-clause-did g c = λ h e t. record {

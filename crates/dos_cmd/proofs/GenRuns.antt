@@ -1,0 +1,248 @@
+-- What `gen` leaves, from part to whole.
+use Rattle.std.proofs.Common.{◌≡◌, ◌⊎◌, ◌≤◌, ◌-◌, ◌^◌, ◌++◌, inl, inr, ℕ, Bool, List, [], ◌∷◌, length, min, map, Option, Some, None, Result, Ok, Err, sym, ap, ◌∙◌, subst, refl, append_assoc, arith}
+use Rattle.std.specs.Prelude.{IfSome, IfOk, IfErr, OnOk, OnErr}
+use Rattle.sha2.specs.Sha256.{sha256}
+use Rattle.dos_world.specs.World.{World}
+use Rattle.dos_world.specs.declared.Config.{Config}
+use Rattle.dos_world.specs.declared.Ending.{Ending}
+use Rattle.dos_io.specs.Exchanges.{question_of, answer_of}
+use Rattle.dos_io.specs.Hosts.{Told}
+use Rattle.dos_io.specs.Outside.{grown, GrewByFront, HasCause, Rose}
+use Rattle.dos_io.specs.Quiet.{Quietness, shown, FollowsQuietly}
+use Rattle.dos_io.specs.Shims.{ShimState}
+use Rattle.dos_io.specs.declared.exchange.Exchange.{Exchange}
+use Rattle.dos_io.specs.declared.shim.ShimStop.{ShimStop}
+use Rattle.dos_io.specs.declared.shim.ShimStop.TheVariants as shims
+use Rattle.dos_io.proofs.OutsideLaws.{grown-nothing}
+use Rattle.dos_io.proofs.QuietAnswers.{last_is_memory, quiet_more}
+use Rattle.elf_image.specs.Image.{Image}
+use Rattle.group_open.specs.Opening.{needed, opening}
+use Rattle.group_rounds.specs.Going.{telling}
+use Rattle.group_rounds.specs.Kernels.{Held, kernel_world}
+use Rattle.group_rounds.specs.Outside.{HasShimCause}
+use Rattle.kernel_calls.specs.Serving.{HasSinkCause}
+use Rattle.kernel_calls.specs.declared.state.RunStop.{RunStop}
+use Rattle.kernel_calls.specs.declared.state.State.{State}
+use Rattle.kernel_calls.specs.declared.state.RunStop.TheVariants as stops
+use Rattle.worker_pool.specs.Ran.{GrewBy}
+use Rattle.dpg_run.specs.Fits.{FitsFrom}
+use Rattle.dpg_run.specs.Machine.{Seen, ends, machine_from, status_in}
+use Rattle.dpg_run.specs.Running.{RanGroup}
+use Rattle.generated_group.specs.Generated.{generated}
+use Rattle.generated_group.proofs.RoomLaws.{needed-generated}
+use Rattle.logged_runs.specs.Opened.{IsOpened}
+use Rattle.dos_texts.specs.Exit.{ending_status}
+use Rattle.dos_texts.specs.Printed.{output_line, sha256_line, summary_of}
+use Rattle.dos_texts.specs.Report.{process_lines, rounds_line}
+use Rattle.dos_texts.specs.declared.refusal.Refusal.{Refusal}
+use Rattle.dos_texts.specs.declared.refusal.Refusal.TheVariants as refusals
+use Rattle.dos_words.specs.Numbers.{Text}
+use Rattle.dos_words.specs.declared.request.Request.TheVariants as requests
+use Rattle.dos_cmd.specs.Judging.{gen_config}
+use Rattle.dos_cmd.specs.Outside.{Outside, Faults, outside, faults}
+use Rattle.dos_cmd.specs.Printing.{RanQuietly, byte_count, summary}
+use Rattle.dos_cmd.specs.Results.{Begun, Did, Leaves}
+use Rattle.dos_cmd.specs.Stops.{IsNotOpened, refusal_by}
+use Rattle.dos_cmd.proofs.ReplayLeaves.{says_nothing}
+
+-- ---- a run over a quiet shim, and sinks that never fail
+
+-- It stops for want of memory alone.
+pub memory_alone : (stop : RunStop) (before : ShimState) (shim : Quietness)
+    → HasShimCause stop before (shown shim) → HasSinkCause stop 0 0 0 0
+    → refusal_by stop ≡ refusals.Memory
+memory_alone stop before shim h k = by_stop stop h k
+  where
+    of_memory : (s : ShimStop) → (shown shim).last ≡ Some s → s ≡ shims.Memory
+    of_memory s e = subst (λ (o : Option ShimStop). IfSome o (λ x. x ≡ shims.Memory)) e
+        (last_is_memory shim)
+
+    by_stop : (stop : RunStop) → HasShimCause stop before (shown shim)
+        → HasSinkCause stop 0 0 0 0 → refusal_by stop ≡ refusals.Memory
+    by_stop stops.HostFault h k = let same = of_memory shims.HostFault h.1 in cc
+    by_stop stops.LogFull h k = let same = of_memory shims.LogFull h.1 in cc
+    by_stop (stops.Misfit m) h k = let same = of_memory (shims.Misfit m) h.1 in cc
+    by_stop stops.OutFault h k = absurd (omega (arith, k))
+    by_stop stops.ErrFault h k = absurd (omega (arith, k))
+    by_stop stops.Memory h k = refl
+
+told_is : (a b : List ℕ) → ◌≡◌ {A = Option (List ℕ)} (Some a) (Some b) → a ≡ b
+told_is a b q = cc
+
+pub quiet_run : (k k' : Held) (before after : Quietness) (begun bytes : List ℕ) (ending : Ending)
+    (work count : ℕ) (digest : List ℕ) (tally tally' : ℕ)
+    → FollowsQuietly (shown before) (shown after) → begun ≡ []
+    → RanGroup k.config k.state (telling (shown before).told (Some begun) None) ending k'.state
+    (telling (shown after).told (Some bytes) None) work → GrewBy tally tally' work
+    → count ≡ byte_count bytes → digest ≡ sha256 bytes → (images : List Image) (config : Config)
+    → IsOpened k images config
+    → RanQuietly images config k' ending count digest tally tally'
+quiet_run k k' before after begun bytes ending work count digest tally tally' follows none run grew
+    count_is digest_is images config opened =
+    let es : List Exchange = run.more.exchanges in
+    let statuses : List (Option ℕ) = map status_in k'.state.table.processes in
+    let rounds : ℕ = k'.state.round - 1 in
+    let seen : Seen = record {
+      questions = map question_of es;
+      output = run.more.output;
+      error = run.more.error;
+      statuses = statuses;
+      ending = ending;
+      rounds = rounds;
+      work = work;
+    } in
+    let same : bytes ≡ run.more.output =
+    told_is bytes (begun ++ run.more.output) run.more.output_is
+    ∙ ap (λ (x : List ℕ). x ++ run.more.output) none in
+    record {
+      seen = seen;
+      is = record {
+        exchanges = es;
+        quiet = quiet_more (shown before) (shown after) es follows run.more.exchanges_are;
+        fits = from_opening (λ w c. FitsFrom w c es) run.fits;
+        is = from_opening (λ w c. machine_from w c (map answer_of es) ≡ ends seen) run.ends;
+      };
+      ending_is = refl;
+      summary_is =
+          ap (λ (n : ℕ). summary_of statuses rounds ending n digest)
+          (count_is ∙ ap byte_count same)
+          ∙ ap (λ (d : List ℕ). summary_of statuses rounds ending (byte_count run.more.output) d)
+          (digest_is ∙ ap sha256 same);
+      counted = grew;
+    }
+  where
+    from_opening : (P : World → Config → Type 0) → P (kernel_world k) k.config
+        → P (opening images config) config
+    from_opening P h = subst (λ (w : World). P w config) opened.world
+        (subst (λ (c : Config). P (kernel_world k) c) opened.config_is h)
+
+-- ---- the summary
+
+pub summary_is : (statuses : List (Option ℕ)) (rounds : ℕ) (ending : Ending) (count : ℕ)
+    (digest : List ℕ)
+    → (rounds_line rounds ending ++ process_lines 1 statuses)
+    ++ (output_line count ++ sha256_line digest) ≡ summary_of statuses rounds ending count digest
+summary_is statuses rounds ending count digest =
+    sym (append_assoc (rounds_line rounds ending ++ process_lines 1 statuses) (output_line count)
+    (sha256_line digest))
+
+-- what is told, in another spelling
+pub told_by : {T E : Type 0} (r : Result T E) (told now : Option (List ℕ)) (one other : List ℕ)
+    → one ≡ other → OnOk r (now ≡ grown told one) → OnOk r (now ≡ grown told other)
+told_by r told now one other is h = subst (λ (l : List ℕ). OnOk r (now ≡ grown told l)) is h
+
+pub front_by : {T E : Type 0} (r : Result T E) (told now : Option (List ℕ)) (one other : List ℕ)
+    → one ≡ other → OnErr r (GrewByFront told now one) → OnErr r (GrewByFront told now other)
+front_by r told now one other is h =
+    subst (λ (l : List ℕ). OnErr r (GrewByFront told now l)) is h
+
+pub same_rounds : (bytes text line : List ℕ) (rounds count : ℕ) (ending : Ending) → bytes ≡ text
+    → text ≡ line → line ≡ rounds_line rounds ending → rounds ≡ count
+    → bytes ≡ rounds_line count ending
+same_rounds bytes text line rounds count ending a b d e =
+    a ∙ b ∙ d ∙ ap (λ (n : ℕ). rounds_line n ending) e
+
+pub same_lines : (s t : State) → s ≡ t
+    → process_lines 1 (map status_in s.table.processes)
+    ≡ process_lines 1 (map status_in t.table.processes)
+same_lines s t e = ap (λ (x : State). process_lines 1 (map status_in x.table.processes)) e
+
+-- ---- the call
+
+-- The image that is generated has room.
+pub never_without_room : (number threads : ℕ) (images : List Image) (config : Config)
+    (why : Refusal) → images ≡ generated number threads ∷ [] → config ≡ gen_config → threads ≤ 32
+    → IsNotOpened images config why → why ≡ refusals.Memory
+never_without_room number threads images config why these this few h =
+    by_why why (subst (λ (c : Config). IsNotOpened (generated number threads ∷ []) c why) this
+    (subst (λ (i : List Image). IsNotOpened i config why) these h))
+  where
+    by_why : (why : Refusal) → IsNotOpened (generated number threads ∷ []) gen_config why
+        → why ≡ refusals.Memory
+    by_why refusals.Words h = absurd h
+    by_why (refusals.TooLong image) h = absurd h
+    by_why (refusals.Image image error) h = absurd h
+    by_why (refusals.NoRoom n frames) h =
+        absurd (omega (arith, h.2, needed-generated number threads few))
+    by_why (refusals.Log found) h = absurd h
+    by_why (refusals.Misfit found) h = absurd h
+    by_why refusals.Files h = absurd h
+    by_why refusals.Host h = absurd h
+    by_why refusals.Sink h = absurd h
+    by_why refusals.LogFull h = absurd h
+    by_why refusals.Memory h = refl
+
+-- It ran out of memory, and nothing was put.
+pub leaves_memory : (number threads n : ℕ) (tells : Bool) (f : Text → Option (List ℕ))
+    (h : Option Told) (out e : Option (List ℕ)) (tally tally' : ℕ) (counts : Faults)
+    (why : Refusal) → why ≡ refusals.Memory
+    → Leaves (requests.Gen number threads n) (outside tells f f h h out out e e tally tally')
+    counts why []
+leaves_memory number threads n tells f h out e tally tally' counts why is =
+    subst (λ (w : Refusal). Leaves (requests.Gen number threads n)
+    (outside tells f f h h out out e e tally tally') counts w []) (sym is)
+    (inl (says_nothing tells f f h out e tally tally' (λ name. refl)))
+
+-- It was opened with the image that is generated.
+pub opened_with : (number threads : ℕ) (kernel : Held) (images : List Image)
+    → images ≡ generated number threads ∷ [] → IsOpened kernel images gen_config
+    → IsOpened kernel (generated number threads ∷ []) gen_config
+opened_with number threads kernel images these opened =
+    subst (λ (i : List Image). IsOpened kernel i gen_config) these opened
+
+pub one_image : (number threads : ℕ) (images : List Image) (image : Image) → images ≡ image ∷ []
+    → image ≡ generated number threads → images ≡ generated number threads ∷ []
+one_image number threads images image a b = a ∙ ap (λ (x : Image). x ∷ []) b
+
+module _ (number threads : ℕ) (kernel' : Held) (ending : Ending) (count : ℕ)
+    (digest : List ℕ) (out out' : Option (List ℕ)) (tally tally' : ℕ)
+    (ran : RanQuietly (generated number threads ∷ []) gen_config kernel' ending count digest tally
+    tally') where
+  pub gen_did : out' ≡ grown out (summary_of (map status_in kernel'.state.table.processes)
+      (kernel'.state.round - 1) ending count digest)
+      → (n : ℕ) (tells : Bool) (f : Text → Option (List ℕ)) (h : Option Told)
+      (e : Option (List ℕ)) → Begun (requests.Gen number threads n)
+      (outside tells f f h h out out' e e tally tally')
+      (λ taken. Did (requests.Gen number threads n) taken (ending_status ending)
+      (outside tells f f h h out out' e e tally tally'))
+  gen_did told = λ n tells f h e. record {
+    taken = record { log = None; images = generated number threads ∷ [] };
+    is = refl;
+    so = record {
+      seen = ran.seen;
+      is = ran.is;
+      status_is = ap ending_status (sym ran.ending_is);
+      counted = ran.counted;
+      grew = record {
+        out_is = told ∙ ap (grown out) ran.summary_is;
+        err_is = grown-nothing e;
+      };
+      files_stay = λ name. refl;
+      host_stays = refl;
+    };
+  }
+
+  pub gen_cut : (oc oc' : ℕ) → Rose oc oc'
+      → GrewByFront out out' (summary_of (map status_in kernel'.state.table.processes)
+      (kernel'.state.round - 1) ending count digest)
+      → (n : ℕ) (tells : Bool) (f : Text → Option (List ℕ)) (h : Option Told)
+      (e : Option (List ℕ)) (k l m : ℕ) → Leaves (requests.Gen number threads n)
+      (outside tells f f h h out out' e e tally tally') (faults k k l l oc oc' m m) refusals.Sink []
+  gen_cut oc oc' rose front = λ n tells f h e k l m. (
+    inl rose,
+    refl,
+    record {
+      taken = record { log = None; images = generated number threads ∷ [] };
+      is = refl;
+      so = record {
+        seen = ran.seen;
+        is = ran.is;
+        cut = record {
+          out_is = subst (λ (t : List ℕ). GrewByFront out out' t) ran.summary_is front;
+          err_stays = refl;
+          files_stay = λ name. refl;
+          host_stays = refl;
+        };
+      };
+    },
+  )

@@ -1,0 +1,34 @@
+use Rattle.std.proofs.Common.{[], ◌∷◌, refl}
+use Rattle.std.proofs.lemmas.Result.{err_from_is_err_and}
+use Rattle.generated_group.specs.Generated.{generated}
+use Rattle.dos_cmd.specs.Judging.{gen_config}
+use Rattle.dos_cmd.proofs.GenRuns.{gen_cut, gen_did, leaves_memory, never_without_room, one_image, opened_with}
+use Rattle.dos_cmd.proofs.generate.generate.Goals as goal
+
+pub returns-in_err-kernel-clause-leaves : goal.returns-in_err-kernel-clause-leaves
+returns-in_err-kernel-clause-leaves g c =
+    let p = err_from_is_err_and c.from_residual.result c.from_residual.ensures.1 in
+    rw (p.1, p.2) (λ n tells f h e k l m. leaves_memory c.args.number c.args.threads n tells f h _ e
+    _ _ _ _ (never_without_room c.args.number c.args.threads c.from_ref.result.now _ _
+    (one_image c.args.number c.args.threads c.from_ref.result.now c.in-Ok.image
+    c.from_ref.ensures.value c.in-Ok.ensures) refl c.requires.few c.in_err-kernel.ensures.refused))
+
+pub returns-in-Ok-put_summary-clause-did : goal.returns-in-Ok-put_summary-clause-did
+returns-in-Ok-put_summary-clause-did g c =
+    let opened = opened_with c.args.number c.args.threads c.in_ok-kernel.kernel
+    c.from_ref.result.now (one_image c.args.number c.args.threads c.from_ref.result.now
+    c.in-Ok.image c.from_ref.ensures.value c.in-Ok.ensures) c.in_ok-kernel.ensures.opened in
+    gen_did c.args.number c.args.threads c.run_quietly.new.kernel c.in_ok-ran.ran.ending
+    c.in_ok-ran.ran.count c.in_ok-ran.ran.digest _ _ _ _
+    (c.in_ok-ran.ensures.ran (generated c.args.number c.args.threads ∷ []) gen_config opened)
+    c.in-Ok-put_summary.ensures.told
+
+pub returns-clause-leaves : goal.returns-clause-leaves
+returns-clause-leaves g c =
+    let opened = opened_with c.args.number c.args.threads c.in_ok-kernel.kernel
+    c.from_ref.result.now (one_image c.args.number c.args.threads c.from_ref.result.now
+    c.in-Ok.image c.from_ref.ensures.value c.in-Ok.ensures) c.in_ok-kernel.ensures.opened in
+    gen_cut c.args.number c.args.threads c.run_quietly.new.kernel c.in_ok-ran.ran.ending
+    c.in_ok-ran.ran.count c.in_ok-ran.ran.digest _ _ _ _
+    (c.in_ok-ran.ensures.ran (generated c.args.number c.args.threads ∷ []) gen_config opened)
+    _ _ c.in-Err.ensures.cause.failed c.in-Err.ensures.front
