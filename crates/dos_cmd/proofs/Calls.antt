@@ -1,6 +1,11 @@
 -- What follows for a call from how it ended.
 use Rattle.std.proofs.Common.{ℕ, zero, suc, ◌≡◌, ◌≢◌, ◌≤◌, ◌⊎◌, refl, sym, ap, ◌∙◌, subst, inl, inr, arith, List, [], ◌∷◌, ◌++◌, take, drop, Option, Some, None, IfSome, Result, Ok, Err}
 use Rattle.std.proofs.lemmas.List.{take-append-drop}
+use Rattle.std.specs.Prelude.{IfOk}
+use Rattle.std.specs.List.{AllByRecursion}
+use Rattle.dos_world.specs.declared.Post.{Post}
+use Rattle.dos_words.specs.Ranges.{FitsAskedPost, FitsRequest}
+use Rattle.shim_log.specs.Ledger.{ArePlanned}
 use Rattle.dos_io.specs.Outside.{grown, GrewByFront, IsFront, Rose}
 use Rattle.dos_world.specs.declared.Ending.{Ending}
 use Rattle.dos_world.specs.declared.Ending.TheVariants as endings
@@ -12,6 +17,7 @@ use Rattle.dos_io.specs.declared.shim.ShimStop.TheVariants as stops
 use Rattle.shim_log.specs.LogText.{Log, exchanges}
 use Rattle.logged_runs.specs.Replaying.{config_of}
 use Rattle.dos_texts.specs.Exit.{IsStatus, ending_status, refusal_status, line_of}
+use Rattle.dos_texts.proofs.Statuses.{EndsAs, ending_ends}
 use Rattle.dos_texts.specs.declared.refusal.Refusal.{Refusal}
 use Rattle.dos_texts.specs.declared.refusal.Refusal.TheVariants as refusals
 use Rattle.dos_words.specs.Numbers.{Text}
@@ -21,33 +27,13 @@ use Rattle.dos_words.specs.declared.request.Request.TheVariants.{Run, Replay, In
 use Rattle.dos_cmd.specs.Judging.{Taken, Judgement, judgement}
 use Rattle.dos_cmd.specs.Outside.{Outside, Faults, OutputFailed}
 use Rattle.dos_cmd.specs.Replaying.{DidReplay, Misfitted}
-use Rattle.dos_cmd.specs.Results.{Begun, NotTaken, OfLog, Did, HasMisfit, Stopped, Leaves, Finished, Fails, Refused, CutShort, MustDo}
+use Rattle.dos_cmd.specs.Results.{Begun, NotTaken, OfLog, Did, HasMisfit, Stopped, Leaves, Finished, Fails, Refused, CutShort, MustReplay, MustDo}
 use Rattle.dos_cmd.proofs.Saying.{with_error, with_faults, output_failed, fails_more}
 
 -- ---- statuses
 
--- the status of a call that did what it was asked for
-abbrev pub EndsAs : ℕ → Type 0
-EndsAs n = (n ≡ 0) ⊎ (n ≡ 7) ⊎ (n ≡ 8)
-
-pub ending_ends : (ending : Ending) → EndsAs (ending_status ending)
-ending_ends endings.Done = inl refl
-ending_ends endings.Limit = inr (inl refl)
-ending_ends endings.Stalled = inr (inr refl)
-
-pub refusal_ends_not : (n : ℕ) (why : Refusal) → n ≡ refusal_status why → EndsAs n → ⊥
-unfolding refusal_status
-refusal_ends_not n refusals.Words is h = omega arith
-refusal_ends_not n (refusals.TooLong image) is h = omega arith
-refusal_ends_not n (refusals.Image image error) is h = omega arith
-refusal_ends_not n (refusals.NoRoom needed frames) is h = omega arith
-refusal_ends_not n (refusals.Log log) is h = omega arith
-refusal_ends_not n (refusals.Misfit found) is h = omega arith
-refusal_ends_not n refusals.Files is h = omega arith
-refusal_ends_not n refusals.Host is h = omega arith
-refusal_ends_not n refusals.Sink is h = omega arith
-refusal_ends_not n refusals.LogFull is h = omega arith
-refusal_ends_not n refusals.Memory is h = omega arith
+pub status_ends : (n : ℕ) (ending : Ending) → n ≡ ending_status ending → EndsAs n
+status_ends n ending is = subst EndsAs (sym is) (ending_ends ending)
 
 pub ends_not_six : (n : ℕ) → EndsAs n → n ≡ 6 → ⊥
 ends_not_six n h six = omega arith
@@ -99,6 +85,10 @@ refused_is o asked why other last h told =
 
 -- ---- a call that did what it was asked for
 
+pub finished_as : (words : List Text) (n m : ℕ) (o : Outside) → n ≡ m → Finished words m o
+    → Finished words n o
+finished_as words n m o is h = subst (λ (k : ℕ). Finished words k o) (sym is) h
+
 pub finished_not_none : (words : List Text) (n : ℕ) (o : Outside) → Finished words n o
     → request words ≡ None → ⊥
 finished_not_none words n o h none = not_none words h.asked h.asks none
@@ -116,22 +106,13 @@ replayed_must : (words : List Text) (w : ℕ) (log : Text) (names : List Text) (
 replayed_must words w log names taken n o h = of_log taken.log h
   where
     of_log : (read : Option Log) → OfLog read (λ l. DidReplay l taken.images n o)
-        → OfLog read (λ l.
-        elim (misfit taken.images (config_of l.header) (exchanges l)) [
-          | None ↦ DidReplay l taken.images n o
-          | Some found ↦ (n ≡ refusal_status (refusals.Misfit found))
-              × Misfitted l taken.images found (line_of (refusals.Misfit found)) o
-        ])
+        → OfLog read (λ l. MustReplay (misfit taken.images (config_of l.header) (exchanges l)) l
+        taken n o)
     of_log None h = absurd h
     of_log (Some l) h =
         let none : misfit taken.images (config_of l.header) (exchanges l) ≡ None =
         fits_have_none 0 (exchanges l) (group taken.images (config_of l.header)) h.replayed.fits in
-        subst (λ (m : Option Misfit).
-        elim m [
-          | None ↦ DidReplay l taken.images n o
-          | Some found ↦ (n ≡ refusal_status (refusals.Misfit found))
-              × Misfitted l taken.images found (line_of (refusals.Misfit found)) o
-        ]) (sym none) h
+        subst (λ (m : Option Misfit). MustReplay m l taken n o) (sym none) h
 
 did_must : (words : List Text) (asked : Request) (taken : Taken) (n : ℕ) (o : Outside)
     → Did asked taken n o → MustDo asked taken n o
@@ -187,20 +168,11 @@ misfit_must (Replay w log names) taken found n o is h = of_log taken.log h
   where
     of_log : (read : Option Log)
         → OfLog read (λ l. Misfitted l taken.images found (line_of (refusals.Misfit found)) o)
-        → OfLog read (λ l.
-        elim (misfit taken.images (config_of l.header) (exchanges l)) [
-          | None ↦ DidReplay l taken.images n o
-          | Some m ↦ (n ≡ refusal_status (refusals.Misfit m))
-              × Misfitted l taken.images m (line_of (refusals.Misfit m)) o
-        ])
+        → OfLog read (λ l. MustReplay (misfit taken.images (config_of l.header) (exchanges l)) l
+        taken n o)
     of_log None h = absurd h
     of_log (Some l) h =
-        subst (λ (m : Option Misfit).
-        elim m [
-          | None ↦ DidReplay l taken.images n o
-          | Some other ↦ (n ≡ refusal_status (refusals.Misfit other))
-              × Misfitted l taken.images other (line_of (refusals.Misfit other)) o
-        ]) (sym h.replayed.is) (is, h)
+        subst (λ (m : Option Misfit). MustReplay m l taken n o) (sym h.replayed.is) (is, h)
 misfit_must (Inspect name) taken found n o is h = absurd h
 misfit_must (Gen number threads w) taken found n o is h = absurd h
 
@@ -281,6 +253,18 @@ fails_must words o f why n asked taken is (inr (inr h)) ask told a b d =
     subst (λ (x : Request). MustDo x taken n o) same
     (leaves_must h.0 taken o f why n is h.2 (ap (judgement o.files) same ∙ told) a b d)
 
+-- its line was put
+pub refused_as : (words : List Text) (o : Outside) (f : Faults) (n faults : ℕ)
+    (e : Option (List ℕ)) (why : Refusal) → f.err_after ≤ faults
+    → (why ≢ refusals.Sink) × (n ≡ refusal_status why) × (e ≡ grown o.err_after (line_of why))
+    → Fails words o f why [] → Refused words n (with_error o e) (with_faults f faults)
+refused_as words o f n faults e why later told fails = record {
+  why = why;
+  status_is = told.1;
+  fails = fails_more words o f faults e why (line_of why) later (λ sink. absurd (told.0 sink))
+      told.2 fails;
+}
+
 -- ---- an output that failed
 
 no_line : (why : Refusal) → why ≡ refusals.Sink → line_of why ≡ []
@@ -308,14 +292,13 @@ sink_failed words o f why last is (inr (inr h)) =
     (subst (λ (w : Refusal). Leaves h.0 o f w last) is h.2).0
 
 pub cut_short : (words : List Text) (o : Outside) (f : Faults) (n : ℕ) (e : Option (List ℕ))
-    (why : Refusal) (before : ℕ) → f.err_after ≤ n → before ≤ f.err_after → f.err ≡ before
-    → Fails words o f why []
+    (why : Refusal) → f.err_after ≤ n → f.err ≤ f.err_after → Fails words o f why []
     → (why ≡ refusals.Sink) ⊎ Rose f.err_after n → GrewByFront o.err_after e (line_of why)
     → CutShort words (with_error o e) (with_faults f n)
-cut_short words o f n e why before later grows is fails failed front = record {
+cut_short words o f n e why later grows fails failed front = record {
   failed = elim failed [
     | inl sink ↦ output_failed f n later (sink_failed words o f why [] sink fails)
-    | inr rose ↦ inr (omega (arith, grows, is, rose))
+    | inr rose ↦ inr (omega (arith, grows, rose))
   ];
   why = why;
   put = take front.0 (line_of why);
@@ -323,3 +306,52 @@ cut_short words o f n e why before later grows is fails failed front = record {
   fails = fails_more words o f n e why (take front.0 (line_of why)) later
       (front_nothing why front.0) front.1 fails;
 }
+
+-- ---- what is done by each command, as a call of it
+
+-- posts that the words may ask for may be made
+pub are_planned : (posts : List (ℕ × Post)) → AllByRecursion FitsAskedPost posts
+    → ArePlanned posts
+are_planned [] h = tt
+are_planned (post ∷ posts) h = (record {
+  pid = omega (arith, h.0.process);
+  low = omega (arith, h.0.signal);
+  high = omega (arith, h.0.signal);
+}, are_planned posts h.1)
+
+pub planned_of : (asked : Request) (q r f w : ℕ) (posts : List (ℕ × Post)) (start : Option ℕ)
+    (step : ℕ) (log : Text) (names : List Text) → asked ≡ Run q r f w posts start step log names
+    → FitsRequest asked → ArePlanned posts
+planned_of asked q r f w posts start step log names is fits =
+    are_planned posts (subst FitsRequest is fits).posts_fit
+
+-- the same request, and the same outside, by other names
+pub did_as : (r : Result Ending Refusal) (asked other : Request) (o p : Outside)
+    → IfOk r (λ ending. Begun asked o (λ taken. Did asked taken (ending_status ending) o))
+    → other ≡ asked → p ≡ o
+    → IfOk r (λ ending. Begun other p (λ taken. Did other taken (ending_status ending) p))
+did_as r asked other o p h same also = rw (same, also) h
+
+-- with these numbers and what is told
+pub at_one : {A : Type 0} (r : Result Ending Refusal) (P : A → Ending → Type 0) (a : A)
+    → IfOk r (λ ending. (x : A) → P x ending) → IfOk r (P a)
+at_one (Ok ending) P a h = h a
+at_one (Err why) P a h = tt
+
+pub at_two : {A B : Type 0} (r : Result Ending Refusal) (P : A → B → Ending → Type 0) (a : A)
+    (b : B) → IfOk r (λ ending. (x : A) (y : B) → P x y ending) → IfOk r (P a b)
+at_two (Ok ending) P a b h = h a b
+at_two (Err why) P a b h = tt
+
+pub at_three : {A B C : Type 0} (r : Result Ending Refusal) (P : A → B → C → Ending → Type 0)
+    (a : A) (b : B) (x : C) → IfOk r (λ ending. (y : A) (z : B) (w : C) → P y z w ending)
+    → IfOk r (P a b x)
+at_three (Ok ending) P a b x h = h a b x
+at_three (Err why) P a b x h = tt
+
+pub at_five : {A B C D E : Type 0} (r : Result Ending Refusal)
+    (P : A → B → C → D → E → Ending → Type 0) (a : A) (b : B) (x : C) (y : D) (z : E)
+    → IfOk r (λ ending. (k : A) (l : B) (m : C) (n : D) (o : E) → P k l m n o ending)
+    → IfOk r (P a b x y z)
+at_five (Ok ending) P a b x y z h = h a b x y z
+at_five (Err why) P a b x y z h = tt

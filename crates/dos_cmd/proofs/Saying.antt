@@ -1,5 +1,5 @@
 -- What a call leaves after its last line: error has grown by these bytes more.
-use Rattle.std.proofs.Common.{ℕ, ◌≡◌, ◌≤◌, ◌⊎◌, ⊤, refl, sym, ap, ◌∙◌, subst, inl, inr, arith, List, [], ◌++◌, append-nil, Option, Some, None, Ok, Err}
+use Rattle.std.proofs.Common.{ℕ, ◌≡◌, ◌≤◌, ◌⊎◌, refl, sym, ap, ◌∙◌, subst, inl, inr, arith, List, [], ◌++◌, append-nil, Option, Some, None, Ok, Err}
 use Rattle.dos_io.specs.Outside.{grown, Rose}
 use Rattle.dos_io.proofs.OutsideLaws.{grown-nothing, grown-twice}
 use Rattle.dos_io.specs.declared.shim.ShimStop.{ShimStop}

@@ -156,13 +156,15 @@ pub record CutShort (words : List Text) (o : Outside) (f : Faults) : Type 0 wher
 
 -- ---- what must come, where the files tell what the words ask for
 
--- With what is taken it is done; but a replay comes to its log's misfit, if there is one.
+-- A replay comes to its log's misfit, if there is one, and is done else.
+abbrev pub MustReplay : Option Misfit → Log → Taken → ℕ → Outside → Type 0
+MustReplay None log taken status o = DidReplay log taken.images status o
+MustReplay (Some found) log taken status o = (status ≡ refusal_status (refusals.Misfit found))
+    × Misfitted log taken.images found (line_of (refusals.Misfit found)) o
+
+-- With what is taken it is done; but a run's log may be full.
 abbrev pub MustDo : Request → Taken → ℕ → Outside → Type 0
 MustDo (Replay workers log names) taken status o =
-    OfLog taken.log (λ read.
-    elim (misfit taken.images (config_of read.header) (exchanges read)) [
-      | None ↦ DidReplay read taken.images status o
-      | Some found ↦ (status ≡ refusal_status (refusals.Misfit found))
-          × Misfitted read taken.images found (line_of (refusals.Misfit found)) o
-    ])
+    OfLog taken.log (λ read. MustReplay
+    (misfit taken.images (config_of read.header) (exchanges read)) read taken status o)
 MustDo asked taken status o = (status ≢ 10) → Did asked taken status o

@@ -1,5 +1,5 @@
 //! The top call: from the words to the exit status.
-ghost use Rattle.std.specs.Prelude.{◌≡◌, ◌≢◌, ◌≤◌, ◌⊎◌, ℕ, None, Some, Ok, Err, IfOk, IfErr, map, string_bytes};
+ghost use Rattle.std.specs.Prelude.{◌≡◌, ◌≢◌, ◌≤◌, ◌⊎◌, [], ℕ, None, Some, Ok, Err, IfOk, IfErr, map, string_bytes};
 ghost use Rattle.dos_words.specs.declared.request.Request.{Request as Asked};
 ghost use Rattle.dos_words.specs.Ranges.{FitsRequest};
 ghost use Rattle.dos_words.specs.Request.{request};
