@@ -5,14 +5,13 @@ ghost use Rattle.rv_form.specs.Forms.{IsFormOf};
 
 use crate::entry::Entry;
 use crate::{Form, form_of};
-use std::alloc::{AllocError, Global};
 
 /// Forms of words by the places where the words were found. A place remembers the last word that
 /// was asked for there; another word there is decoded anew. So what is remembered is right whatever
 /// is written to memory meanwhile.
 #[derive(Drop)]
 pub struct Memo {
-    entries: Box<[Entry; 1024]>,
+    entries: [Entry; 1024],
 }
 
 #[inline]
@@ -46,11 +45,11 @@ fn remember(entries: &mut [Entry; 1024], place: usize, word: u32)
 }
 
 impl Memo {
-    /// Nothing is remembered yet. All its memory is taken here.
-    pub fn reserve(alloc: Global) -> Result<Memo, AllocError> {
-        Ok(Memo {
-            entries: Box::new(alloc, [entry_of(0); 1024])?,
-        })
+    /// Nothing is remembered yet but what the word 0 stands for.
+    pub fn new() -> Memo {
+        Memo {
+            entries: [entry_of(0); 1024],
+        }
     }
 
     /// The form of the word that was found at an address.
