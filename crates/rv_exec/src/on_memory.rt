@@ -67,7 +67,8 @@ fn put_and_hold(regs: &mut Regs, form: &Form, number: u32, held: Option<u32>)
 fn load_reserved<M: Memory>(regs: &mut Regs, memory: &mut M, form: &Form, address: u32) -> Next
     ensures { (pc : ℕ) → PerformsAt (M.shows memory.old) (M.shows memory.new) pc regs.old regs.new result (λ r. effects.link form.now.rd address (onward 4 r)) }
 {
-    match memory.claim(address) {
+    let claimed = memory.claim(address);
+    match claimed {
         Ok(number) => {
             put_and_hold(regs, form, number, Some(address));
             Next::On
