@@ -11,11 +11,13 @@ use dos_world::{Reason, Regs};
 use rv_form::{Form, Op};
 use rv_isa::{AmoOp, BranchOp, ImmOp, LoadOp, RegOp, ShiftOp, StoreOp};
 
-/// The instruction of a form, at pc: what it does to the registers but pc and to memory, and where it leads.
+/// The instruction of a form, at pc: what it does to the registers but pc and to memory, and where
+/// it leads.
 #[inline(always)]
 #[tactic(auto, unfolding(crate::specs::Effect::effect, rv_form::specs::Forms::instr_of))]
 pub fn perform_form<M: Memory>(regs: &mut Regs, memory: &mut M, form: &Form, pc: u32) -> Next
-    ensures { PerformsAt (M.shows memory.old) (M.shows memory.new) pc regs.old regs.new result (effect_of_form form.now) }
+    ensures { PerformsAt (M.shows memory.old) (M.shows memory.new) pc regs.old regs.new result
+        (effect_of_form form.now) }
 {
     match form.op {
         Op::Illegal => Next::Not(Reason::Fault(4)),

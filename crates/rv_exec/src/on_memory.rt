@@ -28,7 +28,8 @@ fn address_of(regs: &Regs, form: &Form) -> u32
 #[inline]
 #[tactic(auto, unfolding(crate::specs::Effect::effect))]
 pub fn load<M: Memory>(regs: &mut Regs, memory: &mut M, form: &Form, op: LoadOp) -> Next
-    ensures { (pc : ℕ) → PerformsAt (M.shows memory.old) (M.shows memory.new) pc regs.old regs.new result (effect (Load op form.now.rd form.now.rs1 form.now.imm) 4) }
+    ensures { (pc : ℕ) → PerformsAt (M.shows memory.old) (M.shows memory.new) pc regs.old regs.new
+        result (effect (Load op form.now.rd form.now.rs1 form.now.imm) 4) }
 {
     let address = address_of(regs, form);
     match memory.load(address, load_size(op)) {
@@ -43,7 +44,9 @@ pub fn load<M: Memory>(regs: &mut Regs, memory: &mut M, form: &Form, op: LoadOp)
 /// A store of the low bytes of a register.
 #[inline]
 pub fn store<M: Memory>(regs: &Regs, memory: &mut M, form: &Form, op: StoreOp) -> Next
-    ensures { (pc : ℕ) → PerformsAt (M.shows memory.old) (M.shows memory.new) pc regs.now regs.now result (λ r. effects.stores (effects.plus (get r form.now.rs1) form.now.imm) (effects.store_size op) (get r form.now.rs2) (onward 4 r)) }
+    ensures { (pc : ℕ) → PerformsAt (M.shows memory.old) (M.shows memory.new) pc regs.now regs.now
+        result (λ r. effects.stores (effects.plus (get r form.now.rs1) form.now.imm)
+        (effects.store_size op) (get r form.now.rs2) (onward 4 r)) }
 {
     let address = address_of(regs, form);
     let value = second(regs, form);
@@ -56,7 +59,8 @@ pub fn store<M: Memory>(regs: &Regs, memory: &mut M, form: &Form, op: StoreOp) -
 /// A number for the register that is written, and the reservation.
 #[inline]
 fn put_and_hold(regs: &mut Regs, form: &Form, number: u32, held: Option<u32>)
-    ensures { (p : ℕ) → with_pc regs.new p ≡ with_held (set (with_pc regs.old p) form.now.rd number) held }
+    ensures { (p : ℕ) → with_pc regs.new p
+        ≡ with_held (set (with_pc regs.old p) form.now.rd number) held }
 {
     put(regs, form, number);
     regs.set_held(held);
@@ -65,7 +69,8 @@ fn put_and_hold(regs: &mut Regs, form: &Form, number: u32, held: Option<u32>)
 /// lr.w: the word is claimed, and its address is the reservation.
 #[inline]
 fn load_reserved<M: Memory>(regs: &mut Regs, memory: &mut M, form: &Form, address: u32) -> Next
-    ensures { (pc : ℕ) → PerformsAt (M.shows memory.old) (M.shows memory.new) pc regs.old regs.new result (λ r. effects.link form.now.rd address (onward 4 r)) }
+    ensures { (pc : ℕ) → PerformsAt (M.shows memory.old) (M.shows memory.new) pc regs.old regs.new
+        result (λ r. effects.link form.now.rd address (onward 4 r)) }
 {
     let claimed = memory.claim(address);
     match claimed {
@@ -97,7 +102,9 @@ fn store_conditional<M: Memory>(
     address: u32,
     value: u32,
 ) -> Next
-    ensures { (pc : ℕ) → PerformsAt (M.shows memory.old) (M.shows memory.new) pc regs.old regs.new result (λ r. effects.conditional form.now.rd address value (effects.is_held r.held address) (onward 4 r)) }
+    ensures { (pc : ℕ) → PerformsAt (M.shows memory.old) (M.shows memory.new) pc regs.old regs.new
+        result (λ r. effects.conditional form.now.rd address value (effects.is_held r.held address)
+        (onward 4 r)) }
 {
     match memory.claim(address) {
         Err(reason) => Next::Not(reason),
@@ -147,7 +154,9 @@ fn exchange<M: Memory>(
     address: u32,
     value: u32,
 ) -> Next
-    ensures { (pc : ℕ) → PerformsAt (M.shows memory.old) (M.shows memory.new) pc regs.old regs.new result (λ r. effects.exchange form.now.rd address (λ old. combined op old value) (onward 4 r)) }
+    ensures { (pc : ℕ) → PerformsAt (M.shows memory.old) (M.shows memory.new) pc regs.old regs.new
+        result (λ r. effects.exchange form.now.rd address (λ old. combined op old value) (onward 4
+        r)) }
 {
     match memory.claim(address) {
         Err(reason) => Next::Not(reason),
@@ -164,7 +173,9 @@ fn exchange<M: Memory>(
 /// lr.w, sc.w and the nine AMOs.
 #[inline]
 pub fn atomic<M: Memory>(regs: &mut Regs, memory: &mut M, form: &Form, op: AmoOp) -> Next
-    ensures { (pc : ℕ) → PerformsAt (M.shows memory.old) (M.shows memory.new) pc regs.old regs.new result (λ r. effects.atomic op form.now.rd (get r form.now.rs1) (get r form.now.rs2) (onward 4 r)) }
+    ensures { (pc : ℕ) → PerformsAt (M.shows memory.old) (M.shows memory.new) pc regs.old regs.new
+        result (λ r. effects.atomic op form.now.rd (get r form.now.rs1) (get r form.now.rs2)
+        (onward 4 r)) }
 {
     let address = first(regs, form);
     let value = second(regs, form);

@@ -1,4 +1,5 @@
-// What the instructions that touch the registers alone do, by their forms, with pc beside the registers.
+// What the instructions that touch the registers alone do, by their forms, with pc beside the
+// registers.
 ghost use Rattle.std.specs.Prelude.{◌≡◌, ◌+◌, ◌%◌, ◌^◌, ◌<◌, ℕ, true, false};
 ghost use Rattle.dos_world.specs.World.{Registers, get, set, with_pc};
 ghost use Rattle.rv_isa.specs.declared.Instr.TheVariants.{Upper, Jal, Jalr, Branch, Imm, Shift, Reg};
@@ -6,8 +7,8 @@ ghost use Rattle.rv_exec.specs.Effect as effects;
 ghost use Rattle.rv_exec.specs.Effect.{effect};
 ghost use Rattle.rv_exec.specs.Going.{SettlesAt};
 
-use crate::numbers::{immediate_result, is_taken, register_result, shift_result};
 use crate::Next;
+use crate::numbers::{immediate_result, is_taken, register_result, shift_result};
 use dos_world::{Reason, Regs};
 use rv_form::Form;
 use rv_isa::{BranchOp, ImmOp, RegOp, ShiftOp};
@@ -41,7 +42,8 @@ pub fn put(regs: &mut Regs, form: &Form, value: u32)
 #[inline]
 #[tactic(auto, using(crate::proofs::PcBeside::set_beside))]
 fn jump_and_link(regs: &mut Regs, form: &Form, pc: u32, target: u32) -> Next
-    ensures { SettlesAt pc result regs.old regs.new (λ r. effects.jumps target (set r form.now.rd (effects.next_address 4 r))) }
+    ensures { SettlesAt pc result regs.old regs.new (λ r. effects.jumps target
+        (set r form.now.rd (effects.next_address 4 r))) }
 {
     if target % 4 == 0 {
         put(regs, form, pc.wrapping_add(4));
@@ -55,7 +57,8 @@ fn jump_and_link(regs: &mut Regs, form: &Form, pc: u32, target: u32) -> Next
 #[inline]
 #[tactic(auto, unfolding(crate::specs::Effect::effect))]
 pub fn lui(regs: &mut Regs, form: &Form) -> Next
-    ensures { (pc : ℕ) → SettlesAt pc result regs.old regs.new (effect (Upper false form.now.rd (effects.unsigned form.now.imm)) 4) }
+    ensures { (pc : ℕ) → SettlesAt pc result regs.old regs.new
+        (effect (Upper false form.now.rd (effects.unsigned form.now.imm)) 4) }
 {
     put(regs, form, form.imm.cast_unsigned());
     Next::On
@@ -65,7 +68,8 @@ pub fn lui(regs: &mut Regs, form: &Form) -> Next
 #[inline]
 #[tactic(auto, unfolding(crate::specs::Effect::effect))]
 pub fn auipc(regs: &mut Regs, form: &Form, pc: u32) -> Next
-    ensures { SettlesAt pc result regs.old regs.new (effect (Upper true form.now.rd (effects.unsigned form.now.imm)) 4) }
+    ensures { SettlesAt pc result regs.old regs.new
+        (effect (Upper true form.now.rd (effects.unsigned form.now.imm)) 4) }
 {
     put(regs, form, pc.wrapping_add(form.imm.cast_unsigned()));
     Next::On
@@ -84,7 +88,8 @@ pub fn jal(regs: &mut Regs, form: &Form, pc: u32) -> Next
 #[inline]
 #[tactic(auto, unfolding(crate::specs::Effect::effect))]
 pub fn jalr(regs: &mut Regs, form: &Form, pc: u32) -> Next
-    ensures { SettlesAt pc result regs.old regs.new (effect (Jalr form.now.rd form.now.rs1 form.now.imm) 4) }
+    ensures { SettlesAt pc result regs.old regs.new
+        (effect (Jalr form.now.rd form.now.rs1 form.now.imm) 4) }
 {
     let target = first(regs, form).wrapping_add_signed(form.imm) / 2 * 2;
     jump_and_link(regs, form, pc, target)
@@ -94,7 +99,8 @@ pub fn jalr(regs: &mut Regs, form: &Form, pc: u32) -> Next
 #[inline]
 #[tactic(auto, unfolding(crate::specs::Effect::effect))]
 pub fn branch(regs: &Regs, form: &Form, pc: u32, op: BranchOp) -> Next
-    ensures { SettlesAt pc result regs.now regs.now (effect (Branch op form.now.rs1 form.now.rs2 form.now.imm) 4) }
+    ensures { SettlesAt pc result regs.now regs.now
+        (effect (Branch op form.now.rs1 form.now.rs2 form.now.imm) 4) }
 {
     if is_taken(op, first(regs, form), second(regs, form)) {
         let target = pc.wrapping_add_signed(form.imm);
@@ -112,7 +118,8 @@ pub fn branch(regs: &Regs, form: &Form, pc: u32, op: BranchOp) -> Next
 #[inline]
 #[tactic(auto, unfolding(crate::specs::Effect::effect))]
 pub fn immediate(regs: &mut Regs, form: &Form, op: ImmOp) -> Next
-    ensures { (pc : ℕ) → SettlesAt pc result regs.old regs.new (effect (Imm op form.now.rd form.now.rs1 form.now.imm) 4) }
+    ensures { (pc : ℕ) → SettlesAt pc result regs.old regs.new
+        (effect (Imm op form.now.rd form.now.rs1 form.now.imm) 4) }
 {
     let value = immediate_result(op, first(regs, form), form.imm);
     put(regs, form, value);
@@ -123,7 +130,8 @@ pub fn immediate(regs: &mut Regs, form: &Form, op: ImmOp) -> Next
 #[inline]
 #[tactic(auto, unfolding(crate::specs::Effect::effect))]
 pub fn shift(regs: &mut Regs, form: &Form, op: ShiftOp) -> Next
-    ensures { (pc : ℕ) → SettlesAt pc result regs.old regs.new (effect (Shift op form.now.rd form.now.rs1 form.now.rs2) 4) }
+    ensures { (pc : ℕ) → SettlesAt pc result regs.old regs.new
+        (effect (Shift op form.now.rd form.now.rs1 form.now.rs2) 4) }
 {
     let value = shift_result(op, first(regs, form), form.rs2);
     put(regs, form, value);
@@ -134,7 +142,8 @@ pub fn shift(regs: &mut Regs, form: &Form, op: ShiftOp) -> Next
 #[inline]
 #[tactic(auto, unfolding(crate::specs::Effect::effect))]
 pub fn register(regs: &mut Regs, form: &Form, op: RegOp) -> Next
-    ensures { (pc : ℕ) → SettlesAt pc result regs.old regs.new (effect (Reg op form.now.rd form.now.rs1 form.now.rs2) 4) }
+    ensures { (pc : ℕ) → SettlesAt pc result regs.old regs.new
+        (effect (Reg op form.now.rd form.now.rs1 form.now.rs2) 4) }
 {
     let value = register_result(op, first(regs, form), second(regs, form));
     put(regs, form, value);

@@ -11,7 +11,8 @@ use rv_isa::{AmoOp, Arithmetic, BranchOp, ImmOp, LoadOp, RegOp, ShiftOp, StoreOp
 #[inline]
 #[tactic(auto, unfolding(crate::specs::Forms::instr_of))]
 fn op_of_branch(op: BranchOp) -> Op
-    ensures { (rd rs1 rs2 : ℕ) (imm : ℤ) → instr_of result rd rs1 rs2 imm ≡ Some (Branch op rs1 rs2 imm) }
+    ensures { (rd rs1 rs2 : ℕ) (imm : ℤ) → instr_of result rd rs1 rs2 imm
+        ≡ Some (Branch op rs1 rs2 imm) }
 {
     match op {
         BranchOp::Beq => Op::Beq,
@@ -26,7 +27,8 @@ fn op_of_branch(op: BranchOp) -> Op
 #[inline]
 #[tactic(auto, unfolding(crate::specs::Forms::instr_of))]
 fn op_of_load(op: LoadOp) -> Op
-    ensures { (rd rs1 rs2 : ℕ) (imm : ℤ) → instr_of result rd rs1 rs2 imm ≡ Some (Load op rd rs1 imm) }
+    ensures { (rd rs1 rs2 : ℕ) (imm : ℤ) → instr_of result rd rs1 rs2 imm
+        ≡ Some (Load op rd rs1 imm) }
 {
     match op {
         LoadOp::Lb => Op::Lb,
@@ -40,7 +42,8 @@ fn op_of_load(op: LoadOp) -> Op
 #[inline]
 #[tactic(auto, unfolding(crate::specs::Forms::instr_of))]
 fn op_of_store(op: StoreOp) -> Op
-    ensures { (rd rs1 rs2 : ℕ) (imm : ℤ) → instr_of result rd rs1 rs2 imm ≡ Some (Store op rs1 rs2 imm) }
+    ensures { (rd rs1 rs2 : ℕ) (imm : ℤ) → instr_of result rd rs1 rs2 imm
+        ≡ Some (Store op rs1 rs2 imm) }
 {
     match op {
         StoreOp::Sb => Op::Sb,
@@ -52,7 +55,8 @@ fn op_of_store(op: StoreOp) -> Op
 #[inline]
 #[tactic(auto, unfolding(crate::specs::Forms::instr_of))]
 fn op_of_imm(op: ImmOp) -> Op
-    ensures { (rd rs1 rs2 : ℕ) (imm : ℤ) → instr_of result rd rs1 rs2 imm ≡ Some (Imm op rd rs1 imm) }
+    ensures { (rd rs1 rs2 : ℕ) (imm : ℤ) → instr_of result rd rs1 rs2 imm
+        ≡ Some (Imm op rd rs1 imm) }
 {
     match op {
         ImmOp::Addi => Op::Addi,
@@ -67,7 +71,8 @@ fn op_of_imm(op: ImmOp) -> Op
 #[inline]
 #[tactic(auto, unfolding(crate::specs::Forms::instr_of))]
 fn op_of_shift(op: ShiftOp) -> Op
-    ensures { (rd rs1 rs2 : ℕ) (imm : ℤ) → instr_of result rd rs1 rs2 imm ≡ Some (Shift op rd rs1 rs2) }
+    ensures { (rd rs1 rs2 : ℕ) (imm : ℤ) → instr_of result rd rs1 rs2 imm
+        ≡ Some (Shift op rd rs1 rs2) }
 {
     match op {
         ShiftOp::Slli => Op::Slli,
@@ -79,7 +84,8 @@ fn op_of_shift(op: ShiftOp) -> Op
 #[inline]
 #[tactic(auto, unfolding(crate::specs::Forms::instr_of))]
 fn op_of_reg(op: RegOp) -> Op
-    ensures { (rd rs1 rs2 : ℕ) (imm : ℤ) → instr_of result rd rs1 rs2 imm ≡ Some (Reg op rd rs1 rs2) }
+    ensures { (rd rs1 rs2 : ℕ) (imm : ℤ) → instr_of result rd rs1 rs2 imm
+        ≡ Some (Reg op rd rs1 rs2) }
 {
     match op {
         RegOp::Add => Op::Add,
@@ -106,7 +112,8 @@ fn op_of_reg(op: RegOp) -> Op
 #[inline]
 #[tactic(auto, unfolding(crate::specs::Forms::instr_of))]
 fn op_of_amo(op: AmoOp) -> Op
-    ensures { (rd rs1 rs2 : ℕ) (imm : ℤ) → instr_of result rd rs1 rs2 imm ≡ Some (Amo op rd rs1 rs2 false false) }
+    ensures { (rd rs1 rs2 : ℕ) (imm : ℤ) → instr_of result rd rs1 rs2 imm
+        ≡ Some (Amo op rd rs1 rs2 false false) }
 {
     match op {
         AmoOp::LrW => Op::LrW,
@@ -304,7 +311,8 @@ fn other(word: u32) -> Form
     none(word)
 }
 
-/// The form of a word. It does what the word does; a word without a meaning has the form `Op::Illegal`.
+/// The form of a word. It does what the word does; a word without a meaning has the form
+/// `Op::Illegal`.
 #[inline]
 pub fn form_of(word: u32) -> Form
     ensures { IsFormOf word result }

@@ -67,7 +67,8 @@ pub enum Op {
     AmomaxuW,
 }
 
-/// An instruction with the fields of its word. A field that the operation doesn't use is any number.
+/// An instruction with the fields of its word. A field that the operation doesn't use is any
+/// number.
 #[derive(Clone, Copy, Debug, PartialEq, Eq)]
 pub struct Form {
     pub op: Op,
