@@ -119,7 +119,7 @@ struct Run {
     x9: u32,
 }
 
-const RUNS: [Run; 10] = [
+const RUNS: [Run; 12] = [
     Run {
         name: "what is stored is loaded",
         words: &[
