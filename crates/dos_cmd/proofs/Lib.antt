@@ -7,3 +7,5 @@ pub mod ReplayLeaves
 pub mod ReplayTaking
 pub mod ReplayEnds
 mod GenRuns
+mod BareRuns
+mod WorkedExample
