@@ -81,7 +81,7 @@ by_exchanges : (log : Log)
 by_exchanges log =
     let last : List Exchange = End log.ending log.rounds ∷ [] in
     append_assoc (header_text log.header) (entries_text log.entries) (entries_text last)
-    ∙ ap (λ text. header_text log.header ++ text) (sym (flat_map-append entry_text log.entries last))
+    ∙ ap (λ x. header_text log.header ++ x) (sym (flat_map-append entry_text log.entries last))
 
 -- logs of one header and the same exchanges have one text
 pub text_by : (a b : Log) → a.header ≡ b.header → exchanges a ≡ exchanges b

@@ -83,14 +83,16 @@ file = file_header ++ program_header ++ code
 
 -- ---- what the files are taken for
 
+abbrev parsed : Image
+parsed = record {
+  entry = 0x10000;
+  parts =
+      record { address = 0x10000; bytes = code; zeros = 0; write = true; exec = true; index = 0 }
+      ∷ [];
+}
+
 abbrev images : List Image
-images =
-    record {
-      entry = 0x10000;
-      parts =
-          record { address = 0x10000; bytes = code; zeros = 0; write = true; exec = true; index = 0 }
-          ∷ [];
-    } ∷ []
+images = parsed ∷ []
 
 abbrev config : Config
 config = record { quantum = 1000; rounds = 2; frames = 17 }
@@ -112,9 +114,9 @@ run_takes contents a = ap (λ (f : Option (List ℕ)). option_map
 -- the file's digest (SHA-256, FIPS 180-4)
 abbrev digest : List ℕ
 digest =
-    0xAA ∷ 0x52 ∷ 0xB5 ∷ 0xBD ∷ 0xA1 ∷ 0x72 ∷ 0x58 ∷ 0xD4 ∷ 0xFC ∷ 0xF4 ∷ 0x20 ∷ 0x0B ∷ 0xB4 ∷ 0x30
-    ∷ 0x60 ∷ 0xB2 ∷ 0x88 ∷ 0x67 ∷ 0xFC ∷ 0x07 ∷ 0x3D ∷ 0x4F ∷ 0x25 ∷ 0xED ∷ 0x5C ∷ 0xFF ∷ 0xC9 ∷ 0x4B
-    ∷ 0x23 ∷ 0xDF ∷ 0x42 ∷ 0x52 ∷ []
+    0xAA ∷ 0x52 ∷ 0xB5 ∷ 0xBD ∷ 0xA1 ∷ 0x72 ∷ 0x58 ∷ 0xD4 ∷ 0xFC ∷ 0xF4 ∷ 0x20 ∷ 0x0B ∷ 0xB4
+    ∷ 0x30 ∷ 0x60 ∷ 0xB2 ∷ 0x88 ∷ 0x67 ∷ 0xFC ∷ 0x07 ∷ 0x3D ∷ 0x4F ∷ 0x25 ∷ 0xED ∷ 0x5C ∷ 0xFF
+    ∷ 0xC9 ∷ 0x4B ∷ 0x23 ∷ 0xDF ∷ 0x42 ∷ 0x52 ∷ []
 
 digest_is : sha256 file ≡ digest
 unfolding first_words schedule rounds compress hash_after digest_bytes sha256
@@ -153,10 +155,8 @@ report_is : report seen ≡ reported
 unfolding digits
 report_is = refl
 
--- ---- the log's file
-
--- `DPGL`, the version, one image, the three numbers, and the digest; the signals of round 1; and
--- the end, after one round
+-- The log's file: `DPGL`, the version, one image, the three numbers, and the digest; the signals of
+-- round 1; and the end, after one round.
 abbrev text : List ℕ
 text =
     0x44 ∷ 0x50 ∷ 0x47 ∷ 0x4C ∷ 1 ∷ 0 ∷ 1 ∷ 0 ∷ 0xE8 ∷ 3 ∷ 0 ∷ 0 ∷ 2 ∷ 0 ∷ 0 ∷ 0 ∷ 17 ∷ 0 ∷ 0 ∷ 0
@@ -177,7 +177,7 @@ replay_takes : (contents : Text → Option (List ℕ)) → contents (codes "l") 
     → contents (codes "a") ≡ Some file
     → judgement contents replay_asked ≡ Some (Ok replay_taken)
 replay_takes contents l a =
-    ap₂ (λ f g. replay_judgement f (g ∷ [])) l a ∙ ap (λ found. by_log found (Some file ∷ [])) log_is
+    ap₂ (λ f g. replay_judgement f (g ∷ [])) l a ∙ ap (λ x. by_log x (Some file ∷ [])) log_is
     ∙ ap (option_and_then (with_images log (Some (sha256 file ∷ [])))) images_are
     ∙ ap (λ d. Some (agreed log images (disagreement (d ∷ []) (digest ∷ [])))) digest_is
 
