@@ -10,7 +10,7 @@ fn other_words_are_refused(rt: HostRuntime) -> Result<(), Fail> {
     let alloc = rt.alloc();
     let mut files = MemoryFiles::new(alloc, &[])?;
     files.add("a", &file(alloc, &SEVEN)?)?;
-    let others: [&[&str]; 36] = [
+    let others: [&[&str]; 35] = [
         &[],
         &["run"],
         &["a"],
@@ -44,7 +44,7 @@ fn other_words_are_refused(rt: HostRuntime) -> Result<(), Fail> {
         &["run", "--frames", "16385", "a"],
         &["run", "--frames", "a"],
         &["run", "--frames", "16", "--frames", "16", "a"],
-        &["run", "a", "--frames", "16"],
+        &["run", "a", "--frames", "18", "a"],
         &["run", "a", "a", "a", "a", "a", "a", "a", "a", "a"],
     ];
     for texts in others {
