@@ -2,7 +2,7 @@
    run.
 
    Expect: Hello from process 1, thread 1, round 1
-   and `process 1 status 0`, `rounds 1 done`. Given twice, as in `./dos run hello.elf hello.elf`, two processes run, and
+   and `process 1 status 0`, `rounds 1 done`. Given twice, as in `./dos run --log my.log hello.elf hello.elf`, two processes run, and
    the second says process 2, thread 2. */
 #include "runtime.h"
 

@@ -313,11 +313,14 @@ cut_short words o f n e why later grows fails failed front = record {
 pub are_planned : (posts : List (ℕ × Post)) → AllByRecursion FitsAskedPost posts
     → ArePlanned posts
 are_planned [] h = tt
-are_planned (post ∷ posts) h = (record {
-  pid = omega (arith, h.0.process);
-  low = omega (arith, h.0.signal);
-  high = omega (arith, h.0.signal);
-}, are_planned posts h.1)
+are_planned (post ∷ posts) h = (
+  record {
+    pid = omega (arith, h.0.process);
+    low = omega (arith, h.0.signal);
+    high = omega (arith, h.0.signal);
+  },
+  are_planned posts h.1,
+)
 
 pub planned_of : (asked : Request) (q r f w : ℕ) (posts : List (ℕ × Post)) (start : Option ℕ)
     (step : ℕ) (log : Text) (names : List Text) → asked ≡ Run q r f w posts start step log names

@@ -211,10 +211,10 @@ replay_begun log images name names tells f f' out err out1 err1 tally tally1 (Er
     stay did = tt
 replay_begun log images name names tells f f' out err out1 err1 tally tally1 (Ok ended) told fits
     stay did = λ n h. record {
-  taken = record { log = Some log; images = images };
-  is = room_taken (replay_judgement (f name) (map f names)) log images fits told;
-  so = did tells f f' h stay;
-}
+      taken = record { log = Some log; images = images };
+      is = room_taken (replay_judgement (f name) (map f names)) log images fits told;
+      so = did tells f f' h stay;
+    }
 
 no_room_so : (n frames needs has : ℕ) → n ≡ needs → frames ≡ has
     → refusals.NoRoom needs has ≡ refusals.NoRoom n frames

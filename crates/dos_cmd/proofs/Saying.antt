@@ -26,95 +26,95 @@ abbrev pub with_faults : Faults → ℕ → Faults
 with_faults f n = record f { err_after = n }
 
 module _ (o : Outside) (e : Option (List ℕ)) (last : List ℕ) (more : e ≡ grown o.err_after last)
-    where
-  grew_more : (output error : List ℕ) → Grew o output (error ++ [])
-      → Grew (with_error o e) output (error ++ last)
-  grew_more output error g = record {
-    out_is = g.out_is;
-    err_is = more ∙ ap (λ told. grown told last) (g.err_is ∙ ap (grown o.err) (append-nil error))
-        ∙ grown-twice o.err error last;
-  }
+  where
+    grew_more : (output error : List ℕ) → Grew o output (error ++ [])
+        → Grew (with_error o e) output (error ++ last)
+    grew_more output error g = record {
+      out_is = g.out_is;
+      err_is = more ∙ ap (λ told. grown told last) (g.err_is ∙ ap (grown o.err) (append-nil error))
+          ∙ grown-twice o.err error last;
+    }
 
-  says_more : Says o [] → Says (with_error o e) last
-  says_more s = record {
-    out_stays = s.out_stays;
-    err_says = more ∙ ap (λ told. grown told last) (s.err_says ∙ sym (grown-nothing o.err));
-    files_stay = s.files_stay;
-    host_stays = s.host_stays;
-  }
+    says_more : Says o [] → Says (with_error o e) last
+    says_more s = record {
+      out_stays = s.out_stays;
+      err_says = more ∙ ap (λ told. grown told last) (s.err_says ∙ sym (grown-nothing o.err));
+      files_stay = s.files_stay;
+      host_stays = s.host_stays;
+    }
 
-  not_taken_more : (asked : Request) (why : Refusal) → NotTaken asked o why []
-      → NotTaken asked (with_error o e) why last
-  not_taken_more asked why h = record { is = h.is; says = says_more h.says }
+    not_taken_more : (asked : Request) (why : Refusal) → NotTaken asked o why []
+        → NotTaken asked (with_error o e) why last
+    not_taken_more asked why h = record { is = h.is; says = says_more h.says }
 
-  stopped_more : (asked : Request) (taken : Taken) (stop : ShimStop) → Stopped asked taken stop [] o
-      → Stopped asked taken stop last (with_error o e)
-  stopped_more (Run q r f w posts from step log names) taken stop h = record {
-    plan = h.plan;
-    planned = record {
-      images_are = h.planned.images_are;
-      config_is = h.planned.config_is;
-      posts_are = h.planned.posts_are;
-      clock_is = h.planned.clock_is;
-      header_is = h.planned.header_is;
-      digests_are = h.planned.digests_are;
-    };
-    output = h.output;
-    error = h.error;
-    recorded = h.recorded;
-    grew = grew_more h.output h.error h.grew;
-    files_stay = h.files_stay;
-  }
-  stopped_more (Replay w log names) taken stop h = absurd h
-  stopped_more (Inspect name) taken stop h = absurd h
-  stopped_more (Gen number threads w) taken stop h = absurd h
-
-  unwritten_more : (asked : Request) (taken : Taken) → Unwritten asked taken [] o
-      → Unwritten asked taken last (with_error o e)
-  unwritten_more (Run q r f w posts from step log names) taken h = record {
-    log = h.log;
-    seen = h.seen;
-    was = record {
-      plan = h.was.plan;
+    stopped_more : (asked : Request) (taken : Taken) (stop : ShimStop) → Stopped asked taken stop [] o
+        → Stopped asked taken stop last (with_error o e)
+    stopped_more (Run q r f w posts from step log names) taken stop h = record {
+      plan = h.plan;
       planned = record {
-        images_are = h.was.planned.images_are;
-        config_is = h.was.planned.config_is;
-        posts_are = h.was.planned.posts_are;
-        clock_is = h.was.planned.clock_is;
-        header_is = h.was.planned.header_is;
-        digests_are = h.was.planned.digests_are;
+        images_are = h.planned.images_are;
+        config_is = h.planned.config_is;
+        posts_are = h.planned.posts_are;
+        clock_is = h.planned.clock_is;
+        header_is = h.planned.header_is;
+        digests_are = h.planned.digests_are;
       };
-      recorded = h.was.recorded;
-    };
-    grew = grew_more h.seen.output h.seen.error h.grew;
-    others = h.others;
-  }
-  unwritten_more (Replay w log names) taken h = absurd h
-  unwritten_more (Inspect name) taken h = absurd h
-  unwritten_more (Gen number threads w) taken h = absurd h
+      output = h.output;
+      error = h.error;
+      recorded = h.recorded;
+      grew = grew_more h.output h.error h.grew;
+      files_stay = h.files_stay;
+    }
+    stopped_more (Replay w log names) taken stop h = absurd h
+    stopped_more (Inspect name) taken stop h = absurd h
+    stopped_more (Gen number threads w) taken stop h = absurd h
 
-  misfit_more : (asked : Request) (taken : Taken) (found : Misfit) → HasMisfit asked taken found [] o
-      → HasMisfit asked taken found last (with_error o e)
-  misfit_more (Run q r f w posts from step log names) taken found h = absurd h
-  misfit_more (Replay w log names) taken found h = of_log taken.log h
-    where
-      of_log : (read : Option Log) → OfLog read (λ l. Misfitted l taken.images found [] o)
-          → OfLog read (λ l. Misfitted l taken.images found last (with_error o e))
-      of_log None h = absurd h
-      of_log (Some l) h = record {
-        output = h.output;
-        error = h.error;
-        replayed = h.replayed;
-        grew = grew_more h.output h.error h.grew;
-        stays = record { files_stay = h.stays.files_stay; host_stays = h.stays.host_stays };
-      }
-  misfit_more (Inspect name) taken found h = absurd h
-  misfit_more (Gen number threads w) taken found h = absurd h
+    unwritten_more : (asked : Request) (taken : Taken) → Unwritten asked taken [] o
+        → Unwritten asked taken last (with_error o e)
+    unwritten_more (Run q r f w posts from step log names) taken h = record {
+      log = h.log;
+      seen = h.seen;
+      was = record {
+        plan = h.was.plan;
+        planned = record {
+          images_are = h.was.planned.images_are;
+          config_is = h.was.planned.config_is;
+          posts_are = h.was.planned.posts_are;
+          clock_is = h.was.planned.clock_is;
+          header_is = h.was.planned.header_is;
+          digests_are = h.was.planned.digests_are;
+        };
+        recorded = h.was.recorded;
+      };
+      grew = grew_more h.seen.output h.seen.error h.grew;
+      others = h.others;
+    }
+    unwritten_more (Replay w log names) taken h = absurd h
+    unwritten_more (Inspect name) taken h = absurd h
+    unwritten_more (Gen number threads w) taken h = absurd h
 
-  begun_more : (asked : Request) (P Q : Taken → Type 0) → ((taken : Taken) → P taken → Q taken)
-      → Begun asked o P → Begun asked (with_error o e) Q
-  begun_more asked P Q then h =
-      record { taken = h.taken; is = h.is; so = then h.taken h.so }
+    misfit_more : (asked : Request) (taken : Taken) (found : Misfit) → HasMisfit asked taken found [] o
+        → HasMisfit asked taken found last (with_error o e)
+    misfit_more (Run q r f w posts from step log names) taken found h = absurd h
+    misfit_more (Replay w log names) taken found h = of_log taken.log h
+      where
+        of_log : (read : Option Log) → OfLog read (λ l. Misfitted l taken.images found [] o)
+            → OfLog read (λ l. Misfitted l taken.images found last (with_error o e))
+        of_log None h = absurd h
+        of_log (Some l) h = record {
+          output = h.output;
+          error = h.error;
+          replayed = h.replayed;
+          grew = grew_more h.output h.error h.grew;
+          stays = record { files_stay = h.stays.files_stay; host_stays = h.stays.host_stays };
+        }
+    misfit_more (Inspect name) taken found h = absurd h
+    misfit_more (Gen number threads w) taken found h = absurd h
+
+    begun_more : (asked : Request) (P Q : Taken → Type 0) → ((taken : Taken) → P taken → Q taken)
+        → Begun asked o P → Begun asked (with_error o e) Q
+    begun_more asked P Q then h =
+        record { taken = h.taken; is = h.is; so = then h.taken h.so }
 
 -- where nothing more was said
 same_error : (o : Outside) (e : Option (List ℕ)) → e ≡ grown o.err_after [] → e ≡ o.err_after
@@ -147,12 +147,15 @@ leaves_more asked o f n e (refusals.Misfit found) last later none more h =
     begun_more o e last more asked (λ taken. HasMisfit asked taken found [] o)
     (λ taken. HasMisfit asked taken found last (with_error o e))
     (λ taken. misfit_more o e last more asked taken found) h
-leaves_more asked o f n e refusals.Files last later none more h = (h.0, elim h.1 [
-  | inl says ↦ inl (says_more o e last more says)
-  | inr begun ↦ inr (begun_more o e last more asked (λ taken. Unwritten asked taken [] o)
-      (λ taken. Unwritten asked taken last (with_error o e))
-      (unwritten_more o e last more asked) begun)
-])
+leaves_more asked o f n e refusals.Files last later none more h = (
+  h.0,
+  elim h.1 [
+    | inl says ↦ inl (says_more o e last more says)
+    | inr begun ↦ inr (begun_more o e last more asked (λ taken. Unwritten asked taken [] o)
+        (λ taken. Unwritten asked taken last (with_error o e))
+        (unwritten_more o e last more asked) begun)
+  ],
+)
 leaves_more asked o f n e refusals.Host last later none more h = (
   h.0,
   begun_more o e last more asked (λ taken. Stopped asked taken stops.HostFault [] o)

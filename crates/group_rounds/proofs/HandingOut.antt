@@ -1,5 +1,5 @@
 -- Pages that go out, frame by frame.
-use Rattle.std.proofs.Common.{ℕ, zero, suc, ◌+◌, ◌<◌, ◌≤◌, ◌≡◌, ◌≢◌, ◌⊎◌, inl, inr, refl, sym, ap, ◌∙◌, subst, Bool, true, false, eqb, eqb-true, List, [], ◌∷◌, ◌++◌, map, length, set, Option, Some, None, IsSome, All, arith, length-set}
+use Rattle.std.proofs.Common.{ℕ, zero, suc, ◌+◌, ◌<◌, ◌≤◌, ◌≡◌, ◌≢◌, ◌⊎◌, inl, inr, refl, sym, ap, ◌∙◌, subst, true, List, [], ◌∷◌, ◌++◌, length, set, Option, Some, None, IsSome, All, arith, length-set}
 use Rattle.std.specs.Prelude.{slice_get, slice_set, slice_index_or}
 use Rattle.std.proofs.lemmas.Bool.{cases_eq, cases_lt}
 use Rattle.dos_world.specs.declared.Owner.{Owner}
@@ -9,7 +9,6 @@ use Rattle.dos_world.specs.World.{is_free}
 use Rattle.page_store.proofs.Joined.{home-at}
 use Rattle.quantum_run.specs.Packs.{bytes_at, HoldsNo, with_page}
 use Rattle.quantum_run.specs.Shows.{Pack}
-use Rattle.proc_table.specs.Tables.{Tables}
 use Rattle.group_rounds.specs.Handing.{AreBegun, IsFor, GoesOut, Stays, HasBelow, Handing}
 
 -- ---- lists

@@ -18,3 +18,4 @@ pub mod PacksBack
 pub mod SignalLaws
 pub mod RipenLaws
 pub mod PacksWork
+pub mod AwayLaws

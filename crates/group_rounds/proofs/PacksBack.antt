@@ -7,8 +7,6 @@ use Rattle.dos_world.specs.World.{World}
 use Rattle.dos_world.specs.declared.Owner.{Owner}
 use Rattle.dos_world.specs.declared.Owner.TheVariants.{Free, Shared, Of}
 use Rattle.dos_laws.specs.Standing.{LawfulWith}
-use Rattle.dos_laws.proofs.RegisterRanges.{released_change}
-use Rattle.dos_world.specs.declared.Reason.{Reason}
 use Rattle.rv_exec.specs.Runs.{kept}
 use Rattle.page_store.specs.Store.{Store, joined, owner_at, IsAway}
 use Rattle.page_store.proofs.Joined.{home-at, length-joined, page_of-joined, joined_at}
@@ -28,8 +26,8 @@ use Rattle.group_rounds.proofs.HandingLaws.{in-left, in-right, in-either}
 use Rattle.group_rounds.proofs.Sound.{sound_then, alone_keeps}
 use Rattle.kernel_objects.specs.Pipework.{Pipework}
 use Rattle.kernel_calls.proofs.Counted.{all_counted, counted_like}
-use Rattle.group_rounds.proofs.PacksRan.{Went, Back, among-of, among-at, apart-of, brought}
-use Rattle.group_rounds.proofs.PacksShow.{place-of, frames-at, frames-from, some-is, shows-it, below, opened-is, lives, frame-low}
+use Rattle.group_rounds.proofs.PacksRan.{among-of, among-at, apart-of, brought}
+use Rattle.group_rounds.proofs.PacksShow.{frames-at, frames-from, some-is, shows-it, below, opened-is, lives, frame-low}
 
 -- ---- lists
 

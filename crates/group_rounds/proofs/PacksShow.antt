@@ -1,9 +1,9 @@
 -- Packs that were handed out can run, and show the world that they came from.
-use Rattle.std.proofs.Common.{ℕ, zero, suc, ◌+◌, ◌*◌, ◌<◌, ◌≤◌, ◌≡◌, ◌≢◌, ◌⊎◌, inl, inr, refl, sym, ap, ◌∙◌, subst, Bool, true, false, List, [], ◌∷◌, ◌++◌, length, map, take, get_or, Option, Some, None, IsSome, option_map, option_and_then, arith}
+use Rattle.std.proofs.Common.{ℕ, zero, suc, ◌+◌, ◌*◌, ◌<◌, ◌≡◌, ◌≢◌, inr, refl, sym, ap, ◌∙◌, subst, List, [], ◌∷◌, ◌++◌, length, map, take, get_or, Option, Some, None, option_map, arith}
 use Rattle.std.specs.Prelude.{slice_get, slice_index_or}
 use Rattle.std.proofs.lemmas.List.{length-map}
 use Rattle.dos_world.specs.Numbered.{numbered}
-use Rattle.dos_world.specs.World.{World, Thread, Process, Holdings, holdings_of, owner_of, page_of, look, is_free}
+use Rattle.dos_world.specs.World.{Thread, Process, Holdings, page_of, look, is_free}
 use Rattle.dos_world.specs.declared.Entry.{Entry}
 use Rattle.dos_world.specs.declared.Owner.{Owner}
 use Rattle.dos_world.specs.declared.Owner.TheVariants.{Free, Shared, Of}
@@ -12,11 +12,11 @@ use Rattle.page_store.specs.Store.{Store, whole, shown, joined, owner_at}
 use Rattle.page_store.proofs.Joined.{home-at, length-joined, page_of-joined}
 use Rattle.page_store.proofs.Counts.{owned-within}
 use Rattle.quantum_run.specs.Packs.{bytes_at, empty_pack, space_in, with_thread_of}
-use Rattle.quantum_run.specs.Shows.{Pack, View, Shows, CanRun, AreOwn, frames_of, thread_space}
+use Rattle.quantum_run.specs.Shows.{Pack, Shows, CanRun, frames_of}
 use Rattle.proc_table.specs.Tables.{Tables, held_in, thread_in, IsThread}
 use Rattle.kernel_calls.specs.Serving.{IsSound, sent, world_of}
 use Rattle.kernel_calls.specs.declared.state.State.{State}
-use Rattle.group_rounds.specs.Handing.{IsFor, HasBelow, Handing, pack_of, view_of}
+use Rattle.group_rounds.specs.Handing.{HasBelow, Handing, pack_of, view_of}
 use Rattle.group_rounds.specs.Phases.{AreLive}
 use Rattle.group_rounds.proofs.RunningLaws.{Seen, seen, mapped, thread_space_is}
 

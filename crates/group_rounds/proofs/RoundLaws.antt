@@ -26,7 +26,7 @@ use Rattle.group_rounds.specs.declared.round.RoundEnd.TheVariants.{Went, Done, S
 use Rattle.group_rounds.specs.Fronts.{CutPlay, StoppedPlay}
 use Rattle.group_rounds.specs.Goes.{GoesOn}
 use Rattle.group_rounds.specs.Going.{GoesTo, Telling}
-use Rattle.group_rounds.specs.Parts.{budget_in, work_between}
+use Rattle.group_rounds.specs.Parts.{work_between}
 use Rattle.group_rounds.specs.Phases.{ready_in}
 use Rattle.group_rounds.specs.Rounds.{AreStarters, CutRound, RanRound, StoppedRound, end_in}
 use Rattle.group_rounds.proofs.GoesLaws.{goes-over, goes-questions}
@@ -70,7 +70,7 @@ module _ (quantum : ℕ) (start opening halfway : State) (starters : List ℕ)
   abbrev at_last : World → Play FlatEnd
   at_last w = done (went (counted w) work)
 
-  parallel_is : (o e : List ℕ)
+  pub parallel_is : (o e : List ℕ)
       → parallel (sent o e (world_of quantum opening)) ≡ sent o e (world_of quantum halfway)
   parallel_is o e = ap (all_alone (sent o e (world_of quantum opening)))
       (ap ready_threads (sym (sets o e))

@@ -1,3 +1,4 @@
+pub mod Away
 pub mod Goes
 pub mod Going
 pub mod Fronts

@@ -32,11 +32,11 @@ const THREADS: usize = 64;
 /// ready as the last phases began, and whether a round has failed.
 #[derive(Drop)]
 pub struct Kernel {
-    state: State,
-    config: Config,
-    starters: Vec<u32>,
-    packs: Packs,
-    failed: bool,
+    pub(crate) state: State,
+    pub(crate) config: Config,
+    pub(crate) starters: Vec<u32>,
+    pub(crate) packs: Packs,
+    pub(crate) failed: bool,
 }
 
 impl Model for Kernel {

@@ -5,6 +5,7 @@
 //! definitions of `round_core`.
 #![tactic(auto)]
 
+mod away;
 mod kernel;
 mod packs;
 mod part;
@@ -13,5 +14,6 @@ mod ripening;
 mod round;
 mod signals;
 
+pub use away::{HandedOut, PartsRun, hand_out, parallel_phase, run_parts, take_in};
 pub use kernel::{Kernel, run_round, serial_phase};
 pub use round::RoundEnd;

@@ -1,5 +1,5 @@
 // The parallel phase over packs: their pages go out, they run, and all comes back.
-ghost use Rattle.std.specs.Prelude.{◌≡◌, ◌≢◌, ◌+◌, ◌-◌, ◌^◌, ◌≤◌, ◌<◌, ◌++◌, ◌∷◌, ◌⊎◌, [], ℕ, List, Some, IfOk, MatchOption, length, map, slice_get};
+ghost use Rattle.std.specs.Prelude.{◌≡◌, ◌≢◌, true, ◌+◌, ◌-◌, ◌^◌, ◌≤◌, ◌<◌, ◌++◌, ◌∷◌, ◌⊎◌, [], ℕ, List, Some, IfOk, MatchOption, length, map, slice_get};
 ghost use Rattle.std.specs.Vec.{vec_capacity};
 ghost use Rattle.page_store.specs.Store.{AreHome, IsAway, IsHome};
 ghost use Rattle.proc_table.specs.Tables.{IsThread};
@@ -28,9 +28,9 @@ const THREADS: usize = 64;
 /// has room.
 #[derive(Drop)]
 pub(crate) struct Packs {
-    frames: u32,
-    spare: Vec<Pack>,
-    out: Vec<Pack>,
+    pub(crate) frames: u32,
+    pub(crate) spare: Vec<Pack>,
+    pub(crate) out: Vec<Pack>,
 }
 
 impl Model for Packs {
@@ -93,11 +93,33 @@ impl Packs {
     }
 }
 
+// whether a thread stands at this place among the starters; any place
+fn stands_at(starters: &[u32], tid: u32, place: usize) -> bool
+    ensures { result ≡ true → slice_get starters.now place ≡ Some tid }
+{
+    match starters.get(place) {
+        Some(starter) => *starter == tid,
+        None => false,
+    }
+}
+
+// where a thread stands among the starters if all between the first of them and it are
+fn place_from_first(starters: &[u32], tid: u32) -> usize {
+    match starters.first() {
+        Some(first) => (tid as usize).wrapping_sub(*first as usize),
+        None => 0,
+    }
+}
+
 // where a thread stands among the starters
 fn place_of(starters: &[u32], tid: u32) -> Option<usize>
     ensures { MatchOption result ((place : ℕ) → slice_get starters.now place ≢ Some tid)
         (λ place. slice_get starters.now place ≡ Some tid) }
 {
+    let guess = place_from_first(starters, tid);
+    if stands_at(starters, tid, guess) {
+        return Some(guess);
+    }
     for place in 0..starters.len() {
         if starters[place] == tid {
             return Some(place);

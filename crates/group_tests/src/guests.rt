@@ -10,6 +10,9 @@ pub const CODE: u32 = 0x1_0000;
 /// Where a guest's text lies: in the page of its code.
 pub const TEXT: u32 = 0x1_0100;
 
+/// The address behind nine instructions.
+pub const BEHIND_NINE: u32 = 0x1_0024;
+
 /// The offset of the text in its page.
 pub const TEXT_OFFSET: i32 = 0x100;
 
@@ -110,6 +113,23 @@ pub const PRINTS: [Instr; 9] = [
     li!(A0, 1),
     lui!(A1, CODE),
     addi!(A1, A1, TEXT_OFFSET),
+    li!(A2, 3),
+    Instr::Ecall,
+    li!(A7, PROCESS_EXIT),
+    li!(A0, 0),
+    Instr::Ecall,
+];
+
+/// The same with the three bytes that stand right behind its code.
+pub const PRINTS_BEHIND: [Instr; 9] = [
+    li!(A7, WRITE),
+    li!(A0, 1),
+    Instr::Upper {
+        auipc: true,
+        rd: A1,
+        imm: 0,
+    },
+    addi!(A1, A1, 28),
     li!(A2, 3),
     Instr::Ecall,
     li!(A7, PROCESS_EXIT),
@@ -297,6 +317,17 @@ pub fn file(alloc: Global, code: &[Instr]) -> Result<Vec<u8>, Fail> {
 
 /// The file of an image with this code, and behind it this text and so many zeros.
 pub fn file_with(alloc: Global, code: &[Instr], text: &[u8], zeros: u32) -> Result<Vec<u8>, Fail> {
+    file_at(alloc, code, TEXT, text, zeros)
+}
+
+/// The same with the text at this address.
+pub fn file_at(
+    alloc: Global,
+    code: &[Instr],
+    address: u32,
+    text: &[u8],
+    zeros: u32,
+) -> Result<Vec<u8>, Fail> {
     let mut builder = Builder::new(alloc, CODE, true)?;
     for instr in code {
         if !instr.is_valid() {
@@ -304,7 +335,7 @@ pub fn file_with(alloc: Global, code: &[Instr], text: &[u8], zeros: u32) -> Resu
         }
         builder.push(instr)?;
     }
-    builder.data(TEXT, text, zeros)?;
+    builder.data(address, text, zeros)?;
     Ok(builder.finish()?)
 }
 

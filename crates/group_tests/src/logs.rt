@@ -8,8 +8,9 @@ use std::test::*;
 // The log of a run that ends with 7 in its first round. Its digest is that of another program.
 const SEVEN_LOG: [u8; 64] = [
     0x44, 0x50, 0x47, 0x4c, 0x01, 0x00, 0x01, 0x00, 0xe8, 0x03, 0x00, 0x00, 0xa0, 0x86, 0x01, 0x00,
-    0x00, 0x10, 0x00, 0x00, 0x3e, 0x21, 0x5e, 0xaa, 0xc5, 0x7e, 0x12, 0x59, 0xf5, 0x83, 0xad, 0x0a, 0x3d, 0x62, 0x72, 0xda, 0x6e, 0x75, 0xfb, 0xda, 0x72, 0xe3, 0x70, 0x32, 0x7d, 0xf3, 0x11, 0x09, 0x82, 0x4a, 0x6e, 0x5b,
-    0x01, 0x01, 0x00, 0x00, 0x00, 0x00, 0x00, 0x00, 0x01, 0x00, 0x00, 0x00,
+    0x00, 0x10, 0x00, 0x00, 0x3e, 0x21, 0x5e, 0xaa, 0xc5, 0x7e, 0x12, 0x59, 0xf5, 0x83, 0xad, 0x0a,
+    0x3d, 0x62, 0x72, 0xda, 0x6e, 0x75, 0xfb, 0xda, 0x72, 0xe3, 0x70, 0x32, 0x7d, 0xf3, 0x11, 0x09,
+    0x82, 0x4a, 0x6e, 0x5b, 0x01, 0x01, 0x00, 0x00, 0x00, 0x00, 0x00, 0x00, 0x01, 0x00, 0x00, 0x00,
 ];
 
 const SEVEN_DIGEST: &str = "3e215eaac57e1259f583ad0a3d6272da6e75fbda72e370327df31109824a6e5b";
@@ -114,15 +115,36 @@ fn a_log_is_of_its_images(rt: HostRuntime) -> Result<(), Fail> {
     let line = format!(in alloc;
         "dos: image 1 has digest {ZERO_DIGEST}, log has {SEVEN_DIGEST}\n"
     )?;
-    call(&rt, alloc, &["replay", "--log", LOG, "b"], &mut files, &[])?
-        .expect(4, "", line.as_str())?;
-    call(&rt, alloc, &["replay", "--log", LOG, "a", "a"], &mut files, &[])?
-        .expect(4, "", "dos: log has 1 images, given 2\n")?;
+    call(&rt, alloc, &["replay", "--log", LOG, "b"], &mut files, &[])?.expect(
+        4,
+        "",
+        line.as_str(),
+    )?;
+    call(
+        &rt,
+        alloc,
+        &["replay", "--log", LOG, "a", "a"],
+        &mut files,
+        &[],
+    )?
+    .expect(4, "", "dos: log has 1 images, given 2\n")?;
     // the images are read first
-    call(&rt, alloc, &["replay", "--log", LOG, "a", "none"], &mut files, &[])?
-        .expect(5, "", "dos: file fault\n")?;
-    call(&rt, alloc, &["replay", "--log", "none", "a"], &mut files, &[])?
-        .expect(5, "", "dos: file fault\n")
+    call(
+        &rt,
+        alloc,
+        &["replay", "--log", LOG, "a", "none"],
+        &mut files,
+        &[],
+    )?
+    .expect(5, "", "dos: file fault\n")?;
+    call(
+        &rt,
+        alloc,
+        &["replay", "--log", "none", "a"],
+        &mut files,
+        &[],
+    )?
+    .expect(5, "", "dos: file fault\n")
 }
 
 #[test]
@@ -131,19 +153,38 @@ fn the_longest_log_has_64_mebibytes(rt: HostRuntime) -> Result<(), Fail> {
     let mut files = MemoryFiles::new(alloc, &[])?;
     files.add("a", &file(alloc, &SEVEN)?)?;
     files.add(LOG, &vec![in alloc; 0u8; 67108865]?)?;
-    call(&rt, alloc, &["replay", "--log", LOG, "a"], &mut files, &[])?
-        .expect(4, "", "dos: log too long\n")
+    call(&rt, alloc, &["replay", "--log", LOG, "a"], &mut files, &[])?.expect(
+        4,
+        "",
+        "dos: log too long\n",
+    )
 }
 
 // It waits on a word of its own for ever.
 const WAITS: [u32; 6] = [
-    0x00b0_0893, 0x0000_0517, 0x0005_2583, 0x0000_0073, 0x0020_0893, 0x0000_0073,
+    0x00b0_0893,
+    0x0000_0517,
+    0x0005_2583,
+    0x0000_0073,
+    0x0020_0893,
+    0x0000_0073,
 ];
 
 // It sets a handler for signal 15, waits, and ends with what the wait answers.
 const CATCHES: [u32; 13] = [
-    0x0100_0893, 0x00f0_0513, 0x0000_0597, 0x0245_8593, 0x0000_0073, 0x00b0_0893, 0x0000_0517,
-    0x0005_2583, 0x0000_0073, 0x0020_0893, 0x0000_0073, 0x0120_0893, 0x0000_0073,
+    0x0100_0893,
+    0x00f0_0513,
+    0x0000_0597,
+    0x0245_8593,
+    0x0000_0073,
+    0x00b0_0893,
+    0x0000_0517,
+    0x0005_2583,
+    0x0000_0073,
+    0x0020_0893,
+    0x0000_0073,
+    0x0120_0893,
+    0x0000_0073,
 ];
 
 #[test]
@@ -178,8 +219,19 @@ fn signals_of_the_words_are_recorded(rt: HostRuntime) -> Result<(), Fail> {
 
 // It copies its input to output, 64 bytes at a time.
 const ECHOES: [u32; 13] = [
-    0x0070_0893, 0x0000_0513, 0xfc01_0593, 0x0400_0613, 0x0000_0073, 0x0005_0c63, 0x0005_0613,
-    0x0080_0893, 0x0010_0513, 0x0000_0073, 0xfd9f_f06f, 0x0020_0893, 0x0000_0073,
+    0x0070_0893,
+    0x0000_0513,
+    0xfc01_0593,
+    0x0400_0613,
+    0x0000_0073,
+    0x0005_0c63,
+    0x0005_0613,
+    0x0080_0893,
+    0x0010_0513,
+    0x0000_0073,
+    0xfd9f_f06f,
+    0x0020_0893,
+    0x0000_0073,
 ];
 
 const TEN: Outside<'static> = Outside {
@@ -212,8 +264,11 @@ fn a_host_that_fails_gives_five_and_no_log(rt: HostRuntime) -> Result<(), Fail> 
         host_failing: &[2],
         ..TEN
     };
-    call_over(&rt, alloc, &["run", "a"], &mut files, &outside)?
-        .expect(5, "0123456789", "dos: host fault\n")?;
+    call_over(&rt, alloc, &["run", "a"], &mut files, &outside)?.expect(
+        5,
+        "0123456789",
+        "dos: host fault\n",
+    )?;
     assert!(rt; !has_log(&mut files));
     Ok(())
 }
@@ -251,9 +306,22 @@ fn the_log_is_written_before_the_report(rt: HostRuntime) -> Result<(), Fail> {
 
 // It looks at the clock three times, and prints the low word of each reading.
 const CLOCKS: [u32; 16] = [
-    0x0030_0493, 0x0160_0893, 0x0000_0073, 0xff01_0593, 0x00a5_a023, 0x0080_0893, 0x0010_0513,
-    0x0040_0613, 0x0000_0073, 0xfff4_8493, 0xfc04_9ee3, 0x0020_0893, 0x0000_0513, 0x0000_0073,
-    0x0000_0013, 0x0000_0013,
+    0x0030_0493,
+    0x0160_0893,
+    0x0000_0073,
+    0xff01_0593,
+    0x00a5_a023,
+    0x0080_0893,
+    0x0010_0513,
+    0x0040_0613,
+    0x0000_0073,
+    0xfff4_8493,
+    0xfc04_9ee3,
+    0x0020_0893,
+    0x0000_0513,
+    0x0000_0073,
+    0x0000_0013,
+    0x0000_0013,
 ];
 
 #[test]

@@ -22,7 +22,9 @@ fn run_rows<R: Threads + Sync>(rt: &R, alloc: Global, rows: &[Row]) -> Result<()
     for row in rows {
         let mut files = MemoryFiles::new(alloc, &[])?;
         files.add("a", &guests::file_with(alloc, row.code, row.text, 0)?)?;
-        run_twice(rt, alloc, row.words, &mut files, row.status, row.out, row.err)?;
+        run_twice(
+            rt, alloc, row.words, &mut files, row.status, row.out, row.err,
+        )?;
     }
     Ok(())
 }

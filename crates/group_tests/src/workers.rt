@@ -1,6 +1,9 @@
 //! The same with any number of workers: bytes, rounds and the tally.
 use crate::calls::call;
-use crate::guests::{ENDS, MAKES_THREADS, PRINTS, RACE, SEVEN, file, file_with};
+use crate::guests::{
+    BEHIND_NINE, ENDLESS, ENDS, MAKES_THREADS, PRINTS, PRINTS_BEHIND, RACE, SEVEN, file, file_at,
+    file_with,
+};
 use crate::rows::padded;
 use dos_io::MemoryFiles;
 use std::alloc::{AllocError, Global};
@@ -22,7 +25,7 @@ fn words_on<'a>(
     Ok(words)
 }
 
-// Each number of workers leaves this, and the same tally, which is answered.
+// Each number of workers leaves this, with status 0, and the same tally, which is answered.
 fn run_on_each<R: Threads + Sync>(
     rt: &R,
     alloc: Global,
@@ -31,11 +34,24 @@ fn run_on_each<R: Threads + Sync>(
     out: &str,
     err: &str,
 ) -> Result<u64, Fail> {
+    run_on_each_to(rt, alloc, files, rest, 0, out, err)
+}
+
+// the same with this status
+fn run_on_each_to<R: Threads + Sync>(
+    rt: &R,
+    alloc: Global,
+    files: &mut MemoryFiles,
+    rest: &[&str],
+    status: u8,
+    out: &str,
+    err: &str,
+) -> Result<u64, Fail> {
     let mut work = None;
     for workers in &NUMBERS {
         let words = words_on(alloc, workers, rest)?;
         let left = call(rt, alloc, &words, files, &[])?;
-        left.expect(0, out, err)?;
+        left.expect(status, out, err)?;
         if work.unwrap_or(left.work) != left.work {
             return Err(Fail::from("another tally"));
         }
@@ -61,6 +77,36 @@ fn two_images(rt: HostRuntime) -> Result<(), Fail> {
     assert_eq!(rt;
         run_on_each(&rt, alloc, &mut files, &["a", "b"], "Hi\n", err)?,
         7
+    );
+    Ok(())
+}
+
+#[test]
+fn text_behind_the_code(rt: HostRuntime) -> Result<(), Fail> {
+    let alloc = rt.alloc();
+    let mut files = MemoryFiles::new(alloc, &[])?;
+    files.add(
+        "a",
+        &file_at(alloc, &PRINTS_BEHIND, BEHIND_NINE, b"Hi\n", 0)?,
+    )?;
+    let err = "process 1 status 0\nrounds 1 done\n";
+    assert_eq!(rt;
+        run_on_each(&rt, alloc, &mut files, &["a"], "Hi\n", err)?,
+        5
+    );
+    Ok(())
+}
+
+#[test]
+fn a_round_of_a_thread_that_never_ends(rt: HostRuntime) -> Result<(), Fail> {
+    let alloc = rt.alloc();
+    let mut files = MemoryFiles::new(alloc, &[])?;
+    files.add("a", &file(alloc, &ENDLESS)?)?;
+    let rest = ["--rounds", "1", "a"];
+    let err = "process 1 live\nrounds 1 limit\n";
+    assert_eq!(rt;
+        run_on_each_to(&rt, alloc, &mut files, &rest, 7, "", err)?,
+        1000
     );
     Ok(())
 }

@@ -9,6 +9,7 @@ ghost use Rattle.page_store.specs.Lending.{LendsPage, LendsSlot};
 
 use crate::Page;
 use dos_world::{Access, Owner};
+use rv_form::Memo;
 use std::alloc::{AllocError, Global};
 use std::marker::Model;
 
@@ -22,6 +23,8 @@ pub struct Frames {
     free: u32,
     lowest: u32,
     high: u32,
+    // what words stand for, for the thread that runs in place
+    memo: Option<Box<Memo>>,
 }
 
 impl Model for Frames {
@@ -54,6 +57,7 @@ impl Frames {
             free: count,
             lowest: 0,
             high: 0,
+            memo: Some(Box::new(alloc, Memo::new())?),
         })
     }
 
@@ -154,6 +158,20 @@ impl Frames {
         ensures* writes_back { sem 𝓛 (LendsPage self.entry frame result) }
     {
         page_mut(&mut self.pages[frame as usize])
+    }
+
+    /// Gives away what words stand for, for a thread that runs in place; None where it is away.
+    pub fn take_memo(&mut self) -> Option<Box<Memo>>
+        ensures { self.new ≡ self.old }
+    {
+        self.memo.take()
+    }
+
+    /// Keeps what words stand for, for the next thread that runs in place.
+    pub fn keep_memo(&mut self, memo: Box<Memo>)
+        ensures { self.new ≡ self.old }
+    {
+        self.memo = Some(memo);
     }
 
     /// The owner becomes Shared for a fetch or load, and `tid` for a store or claim. Nothing else

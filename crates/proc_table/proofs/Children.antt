@@ -12,6 +12,7 @@ use Rattle.space_map.specs.Mapping.{Mapping}
 use Rattle.proc_table.specs.Children.{children_in, outcome, outcome_by, status_in}
 use Rattle.proc_table.specs.declared.collected.Collected.TheVariants.{Got, Wait, NoChild}
 use Rattle.proc_table.specs.Places.{holdings_in, process_by, shown, has_come, is_child_record, is_collected, first_child, place_kept, place_of, status_or_0}
+use Rattle.proc_table.specs.Links.{passes, passes_at}
 use Rattle.proc_table.specs.declared.record.Belongings.{Belongings}
 use Rattle.proc_table.specs.declared.record.Kept.{Kept}
 use Rattle.proc_table.specs.declared.record.Kept.TheVariants.{Live, Ended}
@@ -165,6 +166,35 @@ lowest_missing asked parent R e =
     ∙ none_at (is_child_record asked parent) 1 R d
     (none_passes (is_child_record asked parent) R d e)))
 
+-- whether the record of a number passes
+passes_get : (test : Record → Bool) (R : List Record) (i : ℕ) (d : Record) → i < length R
+    → passes_at test R (suc i) ≡ test (get_or R i d)
+passes_get test R i d h = ap (passes test) (slice_get-get_or R i d h)
+
+-- the first number that passes, and that none does
+pub lowest_at : (asked : Bool) (parent n : ℕ) (R : List Record)
+    → passes_at (is_child_record asked parent) R n ≡ true → n ≤ length R
+    → ((k : ℕ) → k < n → passes_at (is_child_record asked parent) R k ≡ false)
+    → Some n ≡ first_child asked R parent 0
+lowest_at asked parent zero R t h below = cc
+lowest_at asked parent (suc i) R t h below =
+    let d : Record = record { parent = 0; kept = Live 0 } in
+    let test : Record → Bool = is_child_record asked parent in
+    sym (ap (first_of {A = ℕ}) (names_all (numbers_of test R))
+    ∙ first_at test 1 i R d (omega arith) (sym (passes_get test R i d (omega arith)) ∙ t)
+    (λ k l. sym (passes_get test R k d (omega arith)) ∙ below (suc k) (omega arith))
+    ∙ ap (λ k. Some k) (omega arith))
+
+pub lowest_nowhere : (asked : Bool) (parent : ℕ) (R : List Record)
+    → ((k : ℕ) → k ≤ length R → passes_at (is_child_record asked parent) R k ≡ false)
+    → None ≡ first_child asked R parent 0
+lowest_nowhere asked parent R none =
+    let d : Record = record { parent = 0; kept = Live 0 } in
+    let test : Record → Bool = is_child_record asked parent in
+    sym (ap (first_of {A = ℕ}) (names_all (numbers_of test R)
+    ∙ none_at test 1 R d
+    (λ k l. sym (passes_get test R k d l) ∙ none (suc k) (omega arith))))
+
 pub named_is : (asked : Bool) (parent which : ℕ) (R : List Record) (o : Option Record) → 0 < which
     → slice_get R (which - 1) ≡ o
     → first_child asked R parent which ≡ if_passes (is_child_record asked parent) which o
@@ -239,14 +269,31 @@ module _ (S : List Mapping) (D : List Belongings) (R : List Record) (ps : List P
 
   -- who is found has a record, and has ended
   module _ (p : ℕ) (found : first_child true R parent which ≡ Some p) where
-    passes : Passes (is_child_record true parent) p 1 R
-    passes = first_passes (is_child_record true parent) (names which) 1 p R found
+    found_passes : Passes (is_child_record true parent) p 1 R
+    found_passes = first_passes (is_child_record true parent) (names which) 1 p R found
+
+    pub found_child : passes_at (is_child_record true parent) R p ≡ true
+    found_child = at p found_passes
+      where
+        there : (i : ℕ) (x : Record) → slice_get R i ≡ Some x
+            → ((y : Record) → slice_get R i ≡ Some y → is_child_record true parent y ≡ true)
+            → passes_at (is_child_record true parent) R (suc i) ≡ true
+        there i x is each = ap (passes (is_child_record true parent)) is ∙ each x is
+
+        at : (p : ℕ) → Passes (is_child_record true parent) p 1 R
+            → passes_at (is_child_record true parent) R p ≡ true
+        at zero h = absurd (omega (arith, h.0))
+        at (suc i) h =
+            let same : suc i - 1 ≡ i = omega arith in
+            let d : Record = record { parent = 0; kept = Live 0 } in
+            there i (get_or R i d) (slice_get-get_or R i d (omega (arith, h.1)))
+            (λ y is. h.2 y (ap (slice_get R) same ∙ is))
 
     pub found_from : 1 ≤ p
-    found_from = passes.0
+    found_from = found_passes.0
 
     pub found_within : p - 1 < length R
-    found_within = passes.1
+    found_within = found_passes.1
 
     record_at : (x : Record) → x ≡ get_or R (p - 1) x → slice_get R (p - 1) ≡ Some x
     record_at x read = slice_get-get_or R (p - 1) x found_within ∙ ap (λ r. Some r) (sym read)
@@ -254,7 +301,7 @@ module _ (S : List Mapping) (D : List Belongings) (R : List Record) (ps : List P
     pub found_ended : (x : Record) → x ≡ get_or R (p - 1) x → place_of x ≡ None
     found_ended x read = by x.kept
         (and_parts ((x.parent == parent) && not (is_collected x.kept)) (has_come true x.kept)
-        (passes.2 x (record_at x read))).1
+        (found_passes.2 x (record_at x read))).1
       where
         by : (k : Kept) → has_come true k ≡ true → place_kept k ≡ None
         by (Live place) e = cc

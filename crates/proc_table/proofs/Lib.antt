@@ -6,3 +6,10 @@ pub mod Standing
 pub mod Lowest
 pub mod Known
 pub mod Children
+pub mod Linked
+pub mod Grown
+pub mod Moved
+pub mod Family
+pub mod Added
+pub mod Walked
+pub mod KeptRecords

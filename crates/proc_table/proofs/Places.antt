@@ -1,6 +1,6 @@
 -- Processes by record and place: what the lists show, and what a change at a place, a new record or
 -- an ended one does to it.
-use Rattle.std.proofs.Common.{◌≡◌, ◌≢◌, ℕ, zero, suc, ◌+◌, ◌-◌, ◌<◌, ◌≤◌, Bool, true, false, cond, List, [], ◌∷◌, ◌++◌, map, length, get_or, set, slice_get, count_by, Option, Some, None, option_map, option_and_then, IsSome, refl, sym, ap, ◌∙◌, subst, arith, get_or-set_other, get_or-set_same}
+use Rattle.std.proofs.Common.{◌≡◌, ◌≢◌, ℕ, zero, suc, ◌+◌, ◌-◌, ◌<◌, ◌≤◌, Bool, true, false, cond, List, [], ◌∷◌, ◌++◌, map, length, get_or, set, slice_get, count_by, Option, Some, None, option_map, option_and_then, refl, sym, ap, ◌∙◌, subst, arith, get_or-set_other, get_or-set_same}
 use Rattle.std.specs.Prelude.{is_some, is_none, filter, position, nat_lt, slice_index_or}
 use Rattle.std.specs.List.{position_or_len}
 use Rattle.std.proofs.lemmas.List.Quantifiers.{position-Some}
@@ -59,29 +59,6 @@ pub numbered_shown : (S : List Mapping) (D : List Belongings) (R : List Record) 
     → numbered (shown S D R) p ≡ option_map (process_by (holdings_in S D)) (numbered R p)
 unfolding shown
 numbered_shown S D R p = numbered-map (process_by (holdings_in S D)) R p
-
--- a number that was given has a record
-pub given_read : (S : List Mapping) (D : List Belongings) (R : List Record) (p : ℕ)
-    → IsSome (numbered (shown S D R) p)
-    → (p - 1 < length R) × ((x : Record) → x ≡ get_or R (p - 1) x
-    → numbered (shown S D R) p ≡ Some (process_by (holdings_in S D) x))
-given_read S D R zero h = cc
-given_read S D R (suc i) h =
-    let inside : i < length R =
-    within R i (subst (λ (o : Option Process). IsSome o) (numbered_shown S D R (suc i)) h) in
-    let here : suc i - 1 ≡ i = omega arith in (
-      omega arith,
-      λ x read. numbered_shown S D R (suc i)
-          ∙ ap (option_map (process_by (holdings_in S D)))
-          (slice_get-get_or R i x inside
-          ∙ ap (λ r. Some r) (ap (λ n. get_or R n x) (sym here) ∙ sym read)),
-    )
-  where
-    within : (R : List Record) (i : ℕ)
-        → IsSome (option_map (process_by (holdings_in S D)) (slice_get R i)) → i < length R
-    within [] i h = cc
-    within (r ∷ R) zero h = omega arith
-    within (r ∷ R) (suc i) h = omega (arith, within R i h)
 
 -- what a live process has is what stands at its place
 pub held_shown : (S : List Mapping) (D : List Belongings) (R : List Record) (p : ℕ)

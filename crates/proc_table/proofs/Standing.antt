@@ -1,23 +1,24 @@
 -- What a table's records and places stand for, and what a change there does to it.
-use Rattle.std.proofs.Common.{◌≡◌, ◌≢◌, ℕ, zero, suc, ◌+◌, ◌-◌, ◌<◌, ◌≤◌, Bool, true, false, cond, List, [], ◌∷◌, ◌++◌, map, length, get_or, set, slice_get, replicate, count_by, Option, Some, None, option_map, option_and_then, IsSome, refl, sym, ap, ◌∙◌, subst, arith, length-set, length-append, get_or-set_other, get_or-set_same}
+use Rattle.std.proofs.Common.{◌≡◌, ◌≢◌, ℕ, zero, suc, ◌+◌, ◌-◌, ◌<◌, ◌≤◌, Bool, true, false, cond, List, [], ◌∷◌, ◌++◌, map, length, get_or, set, slice_get, replicate, count_by, inl, inr, Option, Some, None, option_map, option_and_then, IsSome, refl, sym, ap, ◌∙◌, subst, arith, length-set, get_or-set_other, get_or-set_same}
 use Rattle.std.specs.Prelude.{is_some, is_none, nat_le, position, All, slice_index_or}
-use Rattle.std.proofs.lemmas.List.{get_or_read, length-map}
+use Rattle.std.proofs.lemmas.List.{get_or_read}
 use Rattle.std.proofs.lemmas.List.Elements.{All-set, All-get_or, All-replicate}
 use Rattle.std.proofs.lemmas.List.Sums.{sum_by-set, sum_by-append}
 use Rattle.std.proofs.lemmas.Option.{slice_get_within, get_or_from_slice_get}
 use Rattle.std.proofs.lemmas.Bool.Decides.{nat_tests}
 use Rattle.dos_world.specs.Numbered.{numbered, changed, changed_at}
-use Rattle.dos_world.specs.World.{Holdings, all_holdings, on_holdings}
+use Rattle.dos_world.specs.World.{Holdings, Process, all_holdings, on_holdings}
 use Rattle.dos_world.specs.Kernel.{orphaned, ended_by}
 use Rattle.dos_world.specs.ProcessCalls.{collected_by}
 use Rattle.dos_world.specs.declared.Entry.{Entry}
 use Rattle.space_map.specs.Mapping.{Mapping, empty}
-use Rattle.proc_table.specs.Tables.{held_as, held_in, IsProcess, new_process}
-use Rattle.proc_table.specs.Places.{Group, group, first_belongings, holdings_by, holdings_in, no_belongings, process_by, shown, place_of, place_in, is_placed, orphan_record, status_or_0, IsHeld, AreHeld, ArePlaced}
+use Rattle.proc_table.specs.Tables.{held_as, held_in, IsParent, IsProcess, new_process}
+use Rattle.proc_table.specs.Places.{Group, group, kept_as, first_belongings, holdings_by, holdings_in, no_belongings, process_by, shown, place_of, place_in, is_placed, orphan_record, status_or_0, IsHeld, AreHeld, ArePlaced}
 use Rattle.proc_table.specs.declared.record.Record.{Record}
 use Rattle.proc_table.specs.declared.record.Belongings.{Belongings}
 use Rattle.proc_table.specs.declared.record.Kept.TheVariants.{Live, Ended}
-use Rattle.proc_table.proofs.Places.{collected_shown, marked_held, given_read, shown_length, held_shown, held_at, changed_process, holdings_count, orphans_count, ended_held, orphans_held, held_pushed, all_kept, none_free, free_place, get_within, get_placed, get-set_same, shown_ended, shown_added}
+use Rattle.proc_table.proofs.Moved.{changed_is, given_in, live_given, read_again}
+use Rattle.proc_table.proofs.Places.{collected_shown, marked_held, numbered_shown, shown_length, held_shown, held_at, changed_process, holdings_count, orphans_count, ended_held, orphans_held, held_pushed, all_kept, none_free, free_place, get_within, get_placed, get-set_same, shown_ended, shown_added}
 
 abbrev pub spaced_by : (List (ℕ × Entry) → List (ℕ × Entry)) → Holdings → Holdings
 spaced_by f h = record h { space = f h.space }
@@ -30,14 +31,12 @@ pub count_set : {A : Type 0} (test : A → Bool) (xs : List A) (i : ℕ) (y d : 
     ≡ count_by test xs + counted (test y)
 count_set test xs i y d h = sum_by-set (λ x. counted (test x)) xs i y d h
 
--- a place as a function that is lent the records finds it
-pub found_in : (rs R : List Record) (p : ℕ) {o : Option ℕ} → rs ≡ R → place_in rs p ≡ o
-    → place_in R p ≡ o
-found_in rs R p e h = ap (λ xs. place_in xs p) (sym e) ∙ h
+abbrev no_record : Record
+no_record = record { parent = 0; kept = Live 0 }
 
 module _ (R : List Record) (holders : List (Option ℕ)) (S : List Mapping) (D : List Belongings)
-    (count room capacity : ℕ) (now : Group) (shows : group S D R room ≡ now)
-    (placed : ArePlaced R holders S D count room capacity) where
+    (count room : ℕ) (now : Group) (shows : group S D R room ≡ now)
+    (placed : ArePlaced R holders S D count room) where
   processes_shown : shown S D R ≡ now.processes
   processes_shown = ap (λ (g : Group). g.processes) shows
 
@@ -54,28 +53,35 @@ module _ (R : List Record) (holders : List (Option ℕ)) (S : List Mapping) (D :
   pub held_now : (p : ℕ) → held_in now.processes p ≡ option_map (holdings_in S D) (place_in R p)
   held_now p = ap (λ ps. held_in ps p) (sym processes_shown) ∙ held_shown S D R p
 
-  -- a live process has a place, in the records as a function is lent them
-  pub lives_in : (rs : List Record) (p : ℕ) → rs ≡ R → IsProcess now.processes p
-      → IsSome (place_in rs p)
-  lives_in rs p e h = by (place_in rs p)
-      (subst (λ (o : Option Holdings). IsSome o)
-      (held_now p ∙ ap (λ xs. option_map (holdings_in S D) (place_in xs p)) (sym e)) h)
+  -- a live process has a place
+  pub lives : (p : ℕ) → IsProcess now.processes p → IsSome (place_in R p)
+  lives p h = by (place_in R p) (subst (λ (o : Option Holdings). IsSome o) (held_now p) h)
     where
       by : (o : Option ℕ) → IsSome (option_map (holdings_in S D) o) → IsSome o
       by None h = h
       by (Some place) h = refl
 
-  given_here : (p : ℕ) → IsSome (numbered now.processes p) → IsSome (numbered (shown S D R) p)
-  given_here p h = subst (λ ps. IsSome (numbered ps p)) (sym processes_shown) h
-
-  pub given_within : (p : ℕ) → IsSome (numbered now.processes p) → p - 1 < length R
-  given_within p h = (given_read S D R p (given_here p h)).0
+  -- a number that was given has a record
+  pub given_record : (p : ℕ) → IsSome (numbered now.processes p) → IsSome (numbered R p)
+  given_record p h = by (numbered R p) (subst (λ (o : Option Process). IsSome o)
+      (ap (λ ps. numbered ps p) (sym processes_shown) ∙ numbered_shown S D R p) h)
+    where
+      by : (o : Option Record) → IsSome (option_map (process_by (holdings_in S D)) o) → IsSome o
+      by None h = h
+      by (Some r) h = refl
 
   -- what a record says of a process whose number was given
-  pub record_read : (p : ℕ) (x : Record) → IsSome (numbered now.processes p)
-      → x ≡ get_or R (p - 1) x → numbered now.processes p ≡ Some (process_by (holdings_in S D) x)
-  record_read p x h read = ap (λ ps. numbered ps p) (sym processes_shown)
-      ∙ (given_read S D R p (given_here p h)).1 x read
+  pub record_read : (p : ℕ) (x : Record) → numbered R p ≡ Some x
+      → numbered now.processes p ≡ Some (process_by (holdings_in S D) x)
+  record_read p x is = ap (λ ps. numbered ps p) (sym processes_shown) ∙ numbered_shown S D R p
+      ∙ ap (option_map (process_by (holdings_in S D))) is
+
+  -- the parent of a new process was given its number, or is 0
+  pub parent_within : (p : ℕ) → IsParent now.processes p → p ≤ length R
+  parent_within p is = elim is [
+    | inl e ↦ omega arith
+    | inr h ↦ (given_in R p (live_given R p (lives p h))).1
+  ]
 
   -- what stands at a place changes by f
   shown_changed : (place : ℕ) (S' : List Mapping) (D' : List Belongings) (f : Holdings → Holdings)
@@ -146,7 +152,7 @@ module _ (R : List Record) (holders : List (Option ℕ)) (S : List Mapping) (D :
         with_space s q = holdings_by (slice_index_or D q no_belongings) s.entries
 
     pub placed_space : (x y : Mapping) → x ≡ get_or S place x → y.room ≡ x.room
-        → ArePlaced R holders (set S place y) D count room capacity
+        → ArePlaced R holders (set S place y) D count room
     placed_space x y read is = record {
       held = placed.held;
       holding = placed.holding;
@@ -156,8 +162,6 @@ module _ (R : List Record) (holders : List (Option ℕ)) (S : List Mapping) (D :
       belongings_count = placed.belongings_count;
       rooms = All-set (λ (s : Mapping). s.room ≡ room) S place y
           (is ∙ room_read x read ∙ sym room_shown) placed.rooms;
-      few = placed.few;
-      taken = placed.taken;
     }
 
     -- its belongings are written
@@ -190,7 +194,7 @@ module _ (R : List Record) (holders : List (Option ℕ)) (S : List Mapping) (D :
         (omega (arith, low, placed.belongings_count)) is no_belongings))
 
     pub placed_belongings : (y : Belongings)
-        → ArePlaced R holders S (set D place y) count room capacity
+        → ArePlaced R holders S (set D place y) count room
     placed_belongings y = record {
       held = placed.held;
       holding = placed.holding;
@@ -199,8 +203,6 @@ module _ (R : List Record) (holders : List (Option ℕ)) (S : List Mapping) (D :
       spaces_count = placed.spaces_count;
       belongings_count = length-set D place y ∙ placed.belongings_count;
       rooms = placed.rooms;
-      few = placed.few;
-      taken = placed.taken;
     }
 
     -- ---- its end
@@ -220,13 +222,27 @@ module _ (R : List Record) (holders : List (Option ℕ)) (S : List Mapping) (D :
               (omega arith) e,
         )
 
-    pub ended_standing : (status : ℕ) (x y : Record) (new : List Record) → x ≡ get_or R (p - 1) x
-        → y ≡ record x { kept = Ended status false } → new ≡ map (orphan_record p) (set R (p - 1) y)
+    -- its record as it is written when it ends
+    ended_record : ℕ → Record
+    ended_record status = kept_as (Ended status false) (get_or R (p - 1) no_record)
+
+    ended_write : (status : ℕ) → changed (kept_as (Ended status false)) R p
+        ≡ set R (p - 1) (ended_record status)
+    unfolding ended_record
+    ended_write status = sym (changed_is (kept_as (Ended status false)) R p
+        (get_or R (p - 1) no_record) (omega (arith, recorded.0))
+        (omega (arith, recorded.0, recorded.1)) (read_again R (p - 1) no_record recorded.1))
+
+    pub ended_standing : (status : ℕ) (new : List Record)
+        → new ≡ map (orphan_record p) (changed (kept_as (Ended status false)) R p)
         → group S D new room
         ≡ record now { processes = map (orphaned p) (changed (ended_by status) now.processes p) }
-    ended_standing status x y new read is e =
+    unfolding ended_record
+    ended_standing status new e =
         ap (λ ps. let g : Group = record { processes = ps; room = room } in g)
-        (ap (shown S D) e ∙ shown_ended S D p status R x y read is recorded.0 recorded.1)
+        (ap (shown S D) (e ∙ ap (map (orphan_record p)) (ended_write status))
+        ∙ shown_ended S D p status R (get_or R (p - 1) no_record) (ended_record status)
+        (read_again R (p - 1) no_record recorded.1) refl recorded.0 recorded.1)
         ∙ ap (λ (g : Group). let h : Group =
         record g { processes = map (orphaned p) (changed (ended_by status) g.processes p) } in
         h) shows
@@ -258,20 +274,25 @@ module _ (R : List Record) (holders : List (Option ℕ)) (S : List Mapping) (D :
           ap (λ (o : Option ℕ). counted (is_some o)) gone,
         )
 
-    pub placed_ended : (x y : Record) (new : List Record) (same : ℕ) → x ≡ get_or R (p - 1) x
-        → place_of y ≡ None → new ≡ map (orphan_record p) (set R (p - 1) y) → same ≡ capacity
-        → ArePlaced new (set holders place None) S D (count - 1) room same
-    placed_ended x y new same read gone e c =
+    pub placed_ended : (status : ℕ) (new : List Record)
+        → new ≡ map (orphan_record p) (changed (kept_as (Ended status false)) R p)
+        → ArePlaced new (set holders place None) S D (count - 1) room
+    unfolding ended_record
+    placed_ended status new is =
+        let y : Record = ended_record status in
         let ended : List Record = set R (p - 1) y in
+        let e : new ≡ map (orphan_record p) ended =
+        is ∙ ap (map (orphan_record p)) (ended_write status) in
         record {
           held = subst (AreHeld (set holders place None) 1) (sym e)
               (orphans_held (set holders place None) p 1 ended
               (ended_held holders place p 1 (p - 1) R y
-              (omega (arith, recorded.0)) at_place gone placed.held));
+              (omega (arith, recorded.0)) at_place refl placed.held));
           holding = omega (arith, freed, placed.holding);
           living = omega (
             arith,
-            one_ended x y read gone,
+            one_ended (get_or R (p - 1) no_record) y
+                (read_again R (p - 1) no_record recorded.1) refl,
             placed.living,
             ap (count_by is_placed) e,
             orphans_count p ended,
@@ -280,14 +301,6 @@ module _ (R : List Record) (holders : List (Option ℕ)) (S : List Mapping) (D :
           spaces_count = placed.spaces_count;
           belongings_count = placed.belongings_count;
           rooms = placed.rooms;
-          few = omega (
-            arith,
-            placed.few,
-            ap (λ (rs : List Record). length rs) e,
-            length-map ended (orphan_record p),
-            length-set R (p - 1) y,
-          );
-          taken = omega (arith, placed.taken);
         }
 
   -- ---- a child is collected
@@ -295,15 +308,31 @@ module _ (R : List Record) (holders : List (Option ℕ)) (S : List Mapping) (D :
   pub shown_now : shown S D R ≡ now.processes
   shown_now = processes_shown
 
-  module _ (p : ℕ) (x y : Record) (from : 1 ≤ p) (within : p - 1 < length R)
-      (read : x ≡ get_or R (p - 1) x) (gone : place_of x ≡ None) where
-    pub collected_standing : y ≡ record x { kept = Ended (status_or_0 x.kept) true }
-        → group S D (set R (p - 1) y) room
-        ≡ record now { processes = changed collected_by now.processes p }
-    unfolding shown
-    collected_standing is =
+  module _ (p : ℕ) (from : 1 ≤ p) (within : p - 1 < length R)
+      (gone : (x : Record) → x ≡ get_or R (p - 1) x → place_of x ≡ None) where
+    collected_record : ℕ → Record
+    collected_record status = kept_as (Ended status true) (get_or R (p - 1) no_record)
+
+    collected_write : (status : ℕ) → changed (kept_as (Ended status true)) R p
+        ≡ set R (p - 1) (collected_record status)
+    unfolding collected_record
+    collected_write status = sym (changed_is (kept_as (Ended status true)) R p
+        (get_or R (p - 1) no_record) from (omega (arith, within))
+        (read_again R (p - 1) no_record within))
+
+    pub collected_standing : (status : ℕ)
+        → ((x : Record) → x ≡ get_or R (p - 1) x → status ≡ status_or_0 x.kept)
+        → (new : List Record) → new ≡ changed (kept_as (Ended status true)) R p
+        → group S D new room ≡ record now { processes = changed collected_by now.processes p }
+    unfolding shown collected_record
+    collected_standing status is new e =
+        let x : Record = get_or R (p - 1) no_record in
+        let read : x ≡ get_or R (p - 1) x = read_again R (p - 1) no_record within in
         ap (λ ps. let g : Group = record { processes = ps; room = room } in g)
-        (collected_shown (holdings_in S D) (p - 1) R x y read is within ∙ at p from)
+        (ap (map (process_by (holdings_in S D))) (e ∙ collected_write status)
+        ∙ collected_shown (holdings_in S D) (p - 1) R x (collected_record status) read
+        (ap (λ n. let r : Record = record x { kept = Ended n true } in r) (is x read)) within
+        ∙ at p from)
         ∙ ap (λ (g : Group). let h : Group =
         record g { processes = changed collected_by g.processes p } in h) shows
       where
@@ -314,28 +343,29 @@ module _ (R : List Record) (holders : List (Option ℕ)) (S : List Mapping) (D :
         at (suc i) h = ap (changed_at collected_by (map (process_by (holdings_in S D)) R))
             (omega arith)
 
-    pub placed_collected : (same : ℕ) → same ≡ capacity → place_of y ≡ None
-        → ArePlaced (set R (p - 1) y) holders S D count room same
-    placed_collected same c none =
+    pub placed_collected : (status : ℕ) (new : List Record)
+        → new ≡ changed (kept_as (Ended status true)) R p
+        → ArePlaced new holders S D count room
+    unfolding collected_record
+    placed_collected status new e =
+        let y : Record = collected_record status in
         let was : place_of (get_or R (p - 1) y) ≡ None =
-        ap place_of (sym (get_or_read R (p - 1) x within read y)) ∙ gone in
-        record {
-          held = marked_held holders 1 (p - 1) R y none placed.held;
+        gone (get_or R (p - 1) y) (read_again R (p - 1) y within) in
+        subst (λ rs. ArePlaced rs holders S D count room) (sym (e ∙ collected_write status))
+        (record {
+          held = marked_held holders 1 (p - 1) R y refl placed.held;
           holding = placed.holding;
           living = omega (
             arith,
             placed.living,
             count_set is_placed R (p - 1) y y within,
             ap (λ (o : Option ℕ). counted (is_some o)) was,
-            ap (λ (o : Option ℕ). counted (is_some o)) none,
           );
           holders_count = placed.holders_count;
           spaces_count = placed.spaces_count;
           belongings_count = placed.belongings_count;
           rooms = placed.rooms;
-          few = omega (arith, placed.few, length-set R (p - 1) y);
-          taken = omega (arith, placed.taken);
-        }
+        })
 
   -- ---- a new process, at a place that no process holds
 
@@ -373,12 +403,12 @@ module _ (R : List Record) (holders : List (Option ℕ)) (S : List Mapping) (D :
         ∙ ap (λ (g : Group). let h : Group =
         record g { processes = g.processes ++ new_process parent ∷ [] } in h) shows
 
-    pub placed_added : (parent n : ℕ) (x y : Mapping) (new : List Record) (grown : ℕ)
+    pub placed_added : (parent n : ℕ) (x y : Mapping) (new : List Record)
         → n ≡ length R + 1 → length now.processes < 65535 → x ≡ get_or S place x → y.room ≡ x.room
-        → new ≡ R ++ record { parent = parent; kept = Live place } ∷ [] → capacity ≤ grown
+        → new ≡ R ++ record { parent = parent; kept = Live place } ∷ []
         → ArePlaced new (set holders place (Some n)) (set S place y) (set D place first_belongings)
-        (count + 1) room grown
-    placed_added parent n x y new grown number room_left read is e c =
+        (count + 1) room
+    placed_added parent n x y new number room_left read is e =
         let r : Record = record { parent = parent; kept = Live place } in
         let H : List (Option ℕ) = set holders place (Some n) in
         let holder : IsHeld H (place_of r) (1 + length R) =
@@ -411,13 +441,6 @@ module _ (R : List Record) (holders : List (Option ℕ)) (S : List Mapping) (D :
           spaces_count = length-set S place y ∙ placed.spaces_count;
           belongings_count = length-set D place first_belongings ∙ placed.belongings_count;
           rooms = All-set (λ (s : Mapping). s.room ≡ room) S place y same_room placed.rooms;
-          few = omega (
-            arith,
-            given_shown,
-            ap (λ (rs : List Record). length rs) e,
-            length-append R (r ∷ []),
-          );
-          taken = omega (arith, placed.taken);
         }
       where
         never : (m : ℕ) → slice_get holders place ≡ Some (Some m) → ⊥
@@ -432,10 +455,10 @@ none_standing R S D room e =
     ap (λ (rs : List Record). let g : Group =
     record { processes = map (process_by (holdings_in S D)) rs; room = room } in g) e
 
-pub placed_none : (R : List Record) (S : List Mapping) (D : List Belongings) (room capacity : ℕ)
-    → R ≡ [] → S ≡ replicate 32 (empty room) → D ≡ replicate 32 first_belongings → 65535 ≤ capacity
-    → ArePlaced R (replicate 32 None) S D 0 room capacity
-placed_none R S D room capacity none spaces ends taken = record {
+pub placed_none : (R : List Record) (S : List Mapping) (D : List Belongings) (room : ℕ)
+    → R ≡ [] → S ≡ replicate 32 (empty room) → D ≡ replicate 32 first_belongings
+    → ArePlaced R (replicate 32 None) S D 0 room
+placed_none R S D room none spaces ends = record {
   held = subst (AreHeld (replicate 32 None) 1) (sym none) tt;
   holding = refl;
   living = sym (ap (count_by is_placed) none);
@@ -444,6 +467,4 @@ placed_none R S D room capacity none spaces ends taken = record {
   belongings_count = ap (λ (ds : List Belongings). length ds) ends;
   rooms = subst (All (λ (s : Mapping). s.room ≡ room)) (sym spaces)
       (All-replicate (λ (s : Mapping). s.room ≡ room) 32 (empty room) refl);
-  few = omega (arith, ap (λ (rs : List Record). length rs) none);
-  taken = taken;
 }

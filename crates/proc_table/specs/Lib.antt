@@ -4,3 +4,4 @@ pub mod Places
 pub mod Saved
 pub mod Lending
 pub mod Children
+pub mod Links

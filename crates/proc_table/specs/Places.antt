@@ -1,5 +1,5 @@
 -- The processes of a table by number, and the places of those that live. This project's own rules.
-use Rattle.std.specs.Prelude.{◌≡◌, ◌≤◌, ℕ, suc, Bool, List, [], ◌∷◌, map, length, replicate, Option, Some, None, is_some, option_and_then, slice_get, slice_index_or, All, count_by, ◌&&◌, not, ◌||◌, ◌==◌, true, false, filter, if◌then◌else◌}
+use Rattle.std.specs.Prelude.{◌≡◌, ℕ, suc, Bool, List, [], ◌∷◌, map, length, replicate, Option, Some, None, is_some, option_and_then, slice_get, slice_index_or, All, count_by, ◌&&◌, not, ◌||◌, ◌==◌, true, false, filter, if◌then◌else◌}
 use Rattle.dos_world.specs.Numbered.{numbered, numbers_of}
 use Rattle.dos_world.specs.World.{first_of, Process, Holdings, Life, live, ended}
 use Rattle.dos_world.specs.declared.Entry.{Entry}
@@ -71,6 +71,9 @@ abbrev pub status_kept : Kept → Option ℕ
 status_kept (Live place) = None
 status_kept (Ended status collected) = Some status
 
+abbrev pub kept_as : Kept → Record → Record
+kept_as kept r = record r { kept = kept }
+
 -- a child whose parent ends has none, unless it was collected
 abbrev pub orphan_record : ℕ → Record → Record
 orphan_record p r = record r {
@@ -114,10 +117,9 @@ abbrev pub AreHeld : List (Option ℕ) → ℕ → List Record → Type 0
 AreHeld holders n [] = Unit {0}
 AreHeld holders n (r ∷ records) = IsHeld holders (place_of r) n × AreHeld holders (suc n) records
 
--- Each process that lives holds a place of its own, of 32. Live is the count of both, and the
--- memory of the records was taken.
+-- Each process that lives holds a place of its own, of 32. Live is the count of both.
 pub record ArePlaced (records : List Record) (holders : List (Option ℕ)) (spaces : List Mapping)
-    (belongings : List Belongings) (live room capacity : ℕ) : Type 0 where
+    (belongings : List Belongings) (live room : ℕ) : Type 0 where
   pub held : AreHeld holders 1 records
   pub holding : live ≡ count_by is_some holders
   pub living : live ≡ count_by is_placed records
@@ -125,5 +127,3 @@ pub record ArePlaced (records : List Record) (holders : List (Option ℕ)) (spac
   pub spaces_count : length spaces ≡ 32
   pub belongings_count : length belongings ≡ 32
   pub rooms : All (λ s. s.room ≡ room) spaces
-  pub few : length records ≤ 65535
-  pub taken : 65535 ≤ capacity

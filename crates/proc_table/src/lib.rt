@@ -4,6 +4,7 @@
 mod collected;
 mod processes;
 mod record;
+mod records;
 mod signals;
 mod table;
 mod thread;

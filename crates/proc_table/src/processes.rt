@@ -5,29 +5,27 @@ ghost use Rattle.dos_world.specs.World.{all_holdings, look, on_holdings};
 ghost use Rattle.dos_world.specs.Kernel.{ended_by, orphaned, with_entry, without_entries};
 ghost use Rattle.dos_world.specs.DescriptorCalls.{with_end};
 ghost use Rattle.dos_world.specs.SignalCalls.{is_signal, with_action};
-ghost use Rattle.std.specs.Vec.{vec_capacity};
 ghost use Rattle.space_map.specs.Mapping.{empty};
-ghost use Rattle.proc_table.specs.Tables.{IsProcess, end_in, held_as, held_in, last_status, new_process, run_shared, run_unmapped, without_ends};
+ghost use Rattle.proc_table.specs.Tables.{IsParent, IsProcess, end_in, held_as, held_in, last_status, new_process, run_shared, run_unmapped, without_ends};
 ghost use Rattle.proc_table.specs.Children.{after_wait, outcome};
-ghost use Rattle.proc_table.specs.Places.{first_belongings, first_child, has_come, is_child_record, is_collected, status_or_0, orphan_record, place_in};
+ghost use Rattle.proc_table.specs.Places.{first_belongings, status_or_0};
 
 use crate::collected::Collected;
-use crate::record::{Belongings, Kept, Record};
+use crate::record::{Belongings, Kept};
+use crate::records::Records;
 use dos_world::{End, Entry};
 use space_map::Space;
 use std::alloc::{AllocError, Global};
 use std::marker::Model;
 
-// how many processes may live, and the last number that is given
+// how many processes may live
 const MOST_PROCESSES: u32 = 32;
-
-const LAST_NUMBER: u32 = 65535;
 
 // A record for each number that was given. A process that lives holds a place, and what it has
 // stands there.
 #[derive(Drop)]
 pub(crate) struct Processes {
-    records: Vec<Record>,
+    records: Records,
     holders: [Option<u32>; 32],
     spaces: Vec<Space>,
     belongings: Vec<Belongings>,
@@ -36,16 +34,14 @@ pub(crate) struct Processes {
 }
 
 impl Model for Processes {
-    ghost use Rattle.std.specs.Vec.{vec_capacity};
     ghost use Rattle.proc_table.specs.Places.{ArePlaced, Group, group};
 
     ghost Value = { Group };
 
-    ghost view = { λ p. group p.spaces.items p.belongings.items p.records.items p.room };
+    ghost view = { λ p. group p.spaces.items p.belongings.items p.records p.room };
 
     ghost invariant = { λ p.
-        ArePlaced p.records.items p.holders p.spaces.items p.belongings.items p.live p.room
-        (vec_capacity p.records) };
+        ArePlaced p.records p.holders p.spaces.items p.belongings.items p.live p.room };
 }
 
 impl Processes {
@@ -54,7 +50,7 @@ impl Processes {
         ensures { IfOk result (λ p. p ≡ record { processes = []; room = frames }) }
     {
         Ok(Processes {
-            records: Vec::with_capacity(alloc, LAST_NUMBER as usize)?,
+            records: Records::reserve(alloc)?,
             holders: [None; 32],
             spaces: empty_spaces(alloc, frames)?,
             belongings: new_belongings(alloc)?,
@@ -67,7 +63,7 @@ impl Processes {
     pub(crate) fn given(&self) -> u32
         ensures { result ≡ length self.now.processes }
     {
-        self.records.len() as u32
+        self.records.len()
     }
 
     // how many processes live
@@ -87,6 +83,7 @@ impl Processes {
     pub(crate) fn add(&mut self, parent: u32) -> u32
         requires room { nat_le 32 (length (all_holdings self.old.processes)) ≡ false }
         requires numbers { length self.old.processes < 65535 }
+        requires parent { IsParent self.old.processes parent }
         ensures number { result ≡ length self.old.processes + 1 }
         ensures begins { self.new
             ≡ record self.old { processes = self.old.processes ++ new_process parent ∷ [] } }
@@ -95,19 +92,13 @@ impl Processes {
             Some(place) => place,
             None => unreachable!(),
         };
-        let number = self.records.len() as u32 + 1;
+        let number = self.records.len() + 1;
         self.holders[place] = Some(number);
         self.spaces[place].clear();
         self.belongings[place] = first_belongings();
         self.live += 1;
-        let record = Record {
-            parent,
-            kept: Kept::Live(place as u32),
-        };
-        match self.records.push(record) {
-            Ok(()) => number,
-            Err(_) => unreachable!(),
-        }
+        self.records.add(parent, place as u32);
+        number
     }
 
     // The process has ended, and its children have no parent.
@@ -119,20 +110,16 @@ impl Processes {
                   map (orphaned pid) (changed (ended_by status) self.old.processes pid);
             } }
     {
-        let place = place_of(&self.records, pid);
+        let place = self.records.place_of(pid);
         self.holders[place] = None;
         self.live -= 1;
-        self.records[(pid - 1) as usize].kept = Kept::Ended {
-            status,
-            collected: false,
-        };
-        orphan_all(&mut self.records, pid);
+        self.records.end(pid, status);
     }
 
     pub(crate) fn is_live(&self, pid: u32) -> bool
         ensures { result ≡ is_some (held_in self.now.processes pid) }
     {
-        place_in(&self.records, pid).is_some()
+        self.records.place_in(pid).is_some()
     }
 
     pub(crate) fn status(&self, pid: u32) -> Option<u8>
@@ -140,7 +127,7 @@ impl Processes {
         ensures { IfSome (numbered self.now.processes pid)
             (λ process. result ≡ last_status process) }
     {
-        match self.records[(pid - 1) as usize].kept {
+        match self.records.get(pid).kept {
             Kept::Live(_) => None,
             Kept::Ended { status, .. } => Some(status),
         }
@@ -150,20 +137,20 @@ impl Processes {
         requires { IsSome (numbered self.now.processes pid) }
         ensures { IfSome (numbered self.now.processes pid) (λ process. result ≡ process.parent) }
     {
-        self.records[(pid - 1) as usize].parent
+        self.records.get(pid).parent
     }
 
     // what a wait of this process for a child comes to
     pub(crate) fn outcome(&self, parent: u32, which: u32) -> Collected
         ensures { result ≡ outcome self.now.processes parent which }
     {
-        if first_child(&self.records, parent, which, false).is_none() {
+        if self.records.first_child(parent, which, false).is_none() {
             return Collected::NoChild;
         }
-        match first_child(&self.records, parent, which, true) {
+        match self.records.first_child(parent, which, true) {
             Some(pid) => Collected::Got {
                 pid,
-                status: status_of(self.records[(pid - 1) as usize].kept),
+                status: status_of(self.records.get(pid).kept),
             },
             None => Collected::Wait,
         }
@@ -178,10 +165,7 @@ impl Processes {
         let found = self.outcome(parent, which);
         match found {
             Collected::Got { pid, status } => {
-                self.records[(pid - 1) as usize].kept = Kept::Ended {
-                    status,
-                    collected: true,
-                };
+                self.records.collect(parent, pid, status);
                 found
             }
             Collected::Wait => found,
@@ -195,7 +179,7 @@ impl Processes {
             (λ h. result.now.entries ≡ h.space) }
         ensures room { result.now.room ≡ self.now.room }
     {
-        &self.spaces[place_of(&self.records, pid)]
+        &self.spaces[self.records.place_of(pid)]
     }
 
     pub(crate) fn put_entry(&mut self, pid: u32, page: u32, entry: Entry)
@@ -209,7 +193,7 @@ impl Processes {
                   changed (on_holdings (with_entry page entry)) self.old.processes pid;
             } }
     {
-        let place = place_of(&self.records, pid);
+        let place = self.records.place_of(pid);
         self.spaces[place].put(page, entry);
     }
 
@@ -221,7 +205,7 @@ impl Processes {
                   changed (on_holdings without_entries) self.old.processes pid;
             } }
     {
-        let place = place_of(&self.records, pid);
+        let place = self.records.place_of(pid);
         self.spaces[place].clear();
     }
 
@@ -233,7 +217,7 @@ impl Processes {
                   changed (on_holdings (run_unmapped page count)) self.old.processes pid;
             } }
     {
-        let place = place_of(&self.records, pid);
+        let place = self.records.place_of(pid);
         self.spaces[place].remove_run(page, count);
     }
 
@@ -245,7 +229,7 @@ impl Processes {
                   changed (on_holdings (run_shared page count)) self.old.processes pid;
             } }
     {
-        let place = place_of(&self.records, pid);
+        let place = self.records.place_of(pid);
         self.spaces[place].share_run(page, count);
     }
 
@@ -254,7 +238,7 @@ impl Processes {
         ensures { IfSome (held_in self.now.processes pid) (λ h. result ≡ end_in h number) }
     {
         end_at(
-            &self.belongings[place_of(&self.records, pid)].descriptors,
+            &self.belongings[self.records.place_of(pid)].descriptors,
             number,
         )
     }
@@ -265,7 +249,7 @@ impl Processes {
         ensures { IfSome (held_in self.now.processes pid)
             (λ h. result ≡ position is_none h.descriptors) }
     {
-        lowest_none(&self.belongings[place_of(&self.records, pid)].descriptors)
+        lowest_none(&self.belongings[self.records.place_of(pid)].descriptors)
     }
 
     pub(crate) fn set_descriptor(&mut self, pid: u32, number: u32, end: Option<End>)
@@ -276,7 +260,7 @@ impl Processes {
                   changed (on_holdings (with_end number end)) self.old.processes pid;
             } }
     {
-        let place = place_of(&self.records, pid);
+        let place = self.records.place_of(pid);
         set_end(&mut self.belongings[place].descriptors, number, end);
     }
 
@@ -288,7 +272,7 @@ impl Processes {
                   changed (on_holdings without_ends) self.old.processes pid;
             } }
     {
-        let place = place_of(&self.records, pid);
+        let place = self.records.place_of(pid);
         self.belongings[place].descriptors = [None; 32];
     }
 
@@ -299,10 +283,7 @@ impl Processes {
         ensures { IfSome (held_in self.now.processes pid)
             (λ h. result ≡ slice_index h.actions (signal - 1)) }
     {
-        action_at(
-            &self.belongings[place_of(&self.records, pid)].actions,
-            signal,
-        )
+        action_at(&self.belongings[self.records.place_of(pid)].actions, signal)
     }
 
     pub(crate) fn set_action(&mut self, pid: u32, signal: u8, action: u32)
@@ -314,7 +295,7 @@ impl Processes {
                   changed (on_holdings (with_action signal action)) self.old.processes pid;
             } }
     {
-        let place = place_of(&self.records, pid);
+        let place = self.records.place_of(pid);
         set_action_at(&mut self.belongings[place].actions, signal, action);
     }
 
@@ -329,8 +310,8 @@ impl Processes {
                   changed (on_holdings (held_as h)) self.old.processes to;
             }) }
     {
-        let source = place_of(&self.records, from);
-        let place = place_of(&self.records, to);
+        let source = self.records.place_of(from);
+        let place = self.records.place_of(to);
         let belongings = self.belongings[source];
         self.belongings[place] = belongings;
     }
@@ -367,66 +348,6 @@ pub(crate) fn first_none<T>(options: &[Option<T>]) -> Option<usize>
     ensures { result ≡ position is_none options.now }
 {
     options.iter().position(|option| option.is_none())
-}
-
-// the place of a process, where it lives
-fn place_in(records: &[Record], pid: u32) -> Option<u32>
-    ensures { result ≡ place_in records.now pid }
-{
-    if pid == 0 {
-        return None;
-    }
-    match records.get((pid - 1) as usize) {
-        Some(record) => match record.kept {
-            Kept::Live(place) => Some(place),
-            Kept::Ended { .. } => None,
-        },
-        None => None,
-    }
-}
-
-// the place of a process that lives
-fn place_of(records: &[Record], pid: u32) -> usize
-    requires { IsSome (place_in records.now pid) }
-    ensures { place_in records.now pid ≡ Some result }
-{
-    match place_in(records, pid) {
-        Some(place) => place as usize,
-        None => unreachable!(),
-    }
-}
-
-fn orphan_all(records: &mut Vec<Record>, pid: u32)
-    ensures items { records.new.items ≡ map (orphan_record pid) records.old.items }
-    ensures capacity { vec_capacity records.new ≡ vec_capacity records.old }
-{
-    orphan(records, pid);
-}
-
-fn orphan(records: &mut [Record], pid: u32)
-    ensures { records.new ≡ map (orphan_record pid) records.old }
-{
-    for child in records.iter_mut() {
-        *child = orphan_one(*child, pid);
-    }
-}
-
-fn orphan_one(child: Record, pid: u32) -> Record
-    ensures { result ≡ orphan_record pid child }
-{
-    if child.parent == pid && !was_collected(child.kept) {
-        return Record { parent: 0, ..child };
-    }
-    child
-}
-
-fn was_collected(kept: Kept) -> bool
-    ensures { result ≡ is_collected kept }
-{
-    match kept {
-        Kept::Live(_) => false,
-        Kept::Ended { collected, .. } => collected,
-    }
 }
 
 fn end_at(ends: &[Option<End>; 32], number: u32) -> Option<End>
@@ -468,70 +389,6 @@ fn set_action_at(actions: &mut [u32; 31], signal: u8, action: u32)
     ensures { actions.new ≡ slice_set actions.old (signal - 1) action }
 {
     actions[(signal - 1) as usize] = action;
-}
-
-// The lowest child of a process that `which` names, where 0 names all, and that has ended where
-// that is asked.
-fn first_child(records: &[Record], parent: u32, which: u32, ended: bool) -> Option<u32>
-    requires { length records.now ≤ 65535 }
-    ensures { result ≡ first_child ended records.now parent which }
-{
-    if which == 0 {
-        return lowest_child(records, parent, ended);
-    }
-    match record_at(records, (which - 1) as usize) {
-        Some(record) => {
-            if is_child(&record, parent, ended) {
-                Some(which)
-            } else {
-                None
-            }
-        }
-        None => None,
-    }
-}
-
-fn lowest_child(records: &[Record], parent: u32, ended: bool) -> Option<u32>
-    requires { length records.now ≤ 65535 }
-    ensures { result ≡ first_child ended records.now parent 0 }
-{
-    match child_place(records, parent, ended) {
-        Some(place) => Some(place as u32 + 1),
-        None => None,
-    }
-}
-
-fn record_at(records: &[Record], place: usize) -> Option<Record>
-    ensures { result ≡ slice_get records.now place }
-{
-    match records.get(place) {
-        Some(record) => Some(*record),
-        None => None,
-    }
-}
-
-fn child_place(records: &[Record], parent: u32, ended: bool) -> Option<usize>
-    ensures { result ≡ position (is_child_record ended parent) records.now }
-{
-    records
-        .iter()
-        .position(|record| is_child(record, parent, ended))
-}
-
-fn is_child(record: &Record, parent: u32, ended: bool) -> bool
-    ensures { result ≡ is_child_record ended parent record.now }
-{
-    record.parent == parent && !was_collected(record.kept) && has_come(record.kept, ended)
-}
-
-// whether it has ended, where that is asked
-fn has_come(kept: Kept, ended: bool) -> bool
-    ensures { result ≡ has_come ended kept }
-{
-    match kept {
-        Kept::Live(_) => !ended,
-        Kept::Ended { .. } => true,
-    }
 }
 
 fn status_of(kept: Kept) -> u8

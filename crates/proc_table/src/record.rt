@@ -23,3 +23,13 @@ pub(crate) struct Belongings {
     pub(crate) descriptors: [Option<End>; 32],
     pub(crate) actions: [u32; 31],
 }
+
+// The children of a process that weren't collected, by number: its own first and last, and those
+// of its parent before and after it. 0 is before the first, 65536 after the last.
+#[derive(Clone, Copy, Drop)]
+pub(crate) struct Links {
+    pub(crate) first: u32,
+    pub(crate) last: u32,
+    pub(crate) previous: u32,
+    pub(crate) next: u32,
+}

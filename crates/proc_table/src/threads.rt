@@ -1,5 +1,5 @@
 // The threads that live, in rising number.
-ghost use Rattle.std.specs.Prelude.{◌≡◌, ◌==◌, ◌≤◌, filter, find, count_by, slice_get, ◌<◌, ◌+◌, [], ◌∷◌, ◌++◌, length, map, option_map, None, Some, false, is_some, IfOk, IfErr, IsSome, IfSome};
+ghost use Rattle.std.specs.Prelude.{◌≡◌, true, ◌==◌, ◌≤◌, filter, find, count_by, slice_get, ◌<◌, ◌+◌, [], ◌∷◌, ◌++◌, length, map, option_map, None, Some, false, is_some, IfOk, IfErr, IsSome, IfSome};
 ghost use Rattle.dos_world.specs.Numbered.{changed, numbers_of};
 ghost use Rattle.dos_world.specs.World.{belongs_to, first_of, none_of, registers_by};
 ghost use Rattle.dos_world.specs.Kernel.{pending_with, unless_of};
@@ -217,12 +217,42 @@ fn number_in(live: &[(u32, Thread)], place: usize) -> Option<u32>
     }
 }
 
-// where the thread stands, or where it would
+// whether the thread stands at this place; any place
+fn stands_at(live: &[(u32, Thread)], tid: u32, place: usize) -> bool
+    ensures { result ≡ true → IsAt live.now tid place }
+{
+    match live.get(place) {
+        Some(entry) => entry.0 == tid,
+        None => false,
+    }
+}
+
+// where the thread stands if none above it is gone
+fn place_from_end(live: &[(u32, Thread)], tid: u32) -> usize {
+    let last = match live.last() {
+        Some(entry) => entry.0,
+        None => 0,
+    };
+    live.len()
+        .wrapping_sub(1 + last as usize)
+        .wrapping_add(tid as usize)
+}
+
+// Where the thread stands, or where it would. It mostly stands where none below it is gone, or none
+// above it.
 fn search(live: &[(u32, Thread)], tid: u32) -> Result<usize, usize>
     requires { AreInOrder live.now }
     ensures found { IfOk result (IsAt live.now tid) }
     ensures gap { IfErr result (IsGapFor live.now tid) }
 {
+    let first = (tid as usize).wrapping_sub(1);
+    if stands_at(live, tid, first) {
+        return Ok(first);
+    }
+    let second = place_from_end(live, tid);
+    if stands_at(live, tid, second) {
+        return Ok(second);
+    }
     live.binary_search_by_key(&tid, |(number, _)| *number)
 }
 

@@ -8,6 +8,7 @@ use crate::run::run_lent;
 use dos_world::Regs;
 use page_store::{Frames, Page};
 use proc_table::Table;
+use rv_form::Memo;
 use std::alloc::{AllocError, Global};
 use std::marker::Model;
 
@@ -31,6 +32,8 @@ pub struct Pack {
     // by frame
     own: Vec<Option<Page>>,
     held: Vec<u32>,
+    // of no thread: what words stand for
+    memo: Box<Memo>,
 }
 
 impl Model for Pack {
@@ -66,6 +69,7 @@ impl Pack {
             left: 0,
             own: no_pages(alloc, frames)?,
             held: Vec::with_capacity(alloc, frames as usize)?,
+            memo: Box::new(alloc, Memo::new())?,
         })
     }
 
@@ -160,6 +164,7 @@ pub fn run_pack(pack: &mut Pack, view: &View<'_>)
         view.frames,
         space,
         pack.tid,
+        &mut pack.memo,
         &mut regs,
         &mut left,
     );

@@ -12,29 +12,41 @@ use crate::pages::{InPlace, Pages};
 use crate::running::Running;
 use dos_world::{Reason, Regs};
 use page_store::{Frames, Page};
-use rv_exec::{Memory, Went, one};
+use rv_exec::{Memory, Next, one_known};
+use rv_form::Memo;
 use space_map::Space;
 use std::mem;
 
-/// Instructions on a memory, each for one of the budget, until one stops or the budget is 0.
-#[inline]
-fn go<M: Memory>(regs: &mut Regs, memory: &mut M, budget: &mut u32) -> Option<Reason>
+/// Instructions on a memory, each for one of the budget, until one stops or the budget is 0. While
+/// they run, pc stands beside the registers.
+#[inline(always)]
+fn go<M: Memory>(
+    regs: &mut Regs,
+    memory: &mut M,
+    memo: &mut Memo,
+    budget: &mut u32,
+) -> Option<Reason>
     ensures runs { (f : M.Fixed) (t : ℕ) (w : World)
         → Runs (M.shows memory.old f t) w t regs.old budget.old
         → Goes (M.shows memory.new f t) w t regs.new budget.old budget.new result }
     ensures stop { MatchOption result (budget.new ≡ 0) (λ reason. 0 < budget.new) }
     ensures within { budget.new ≤ budget.old }
 {
+    let mut pc = regs.pc();
     let mut left = *budget;
     while left > 0 {
-        match one(regs, memory) {
-            Went::Step => left -= 1,
-            Went::Stop(reason) => {
+        match one_known(regs, memory, memo, pc) {
+            Next::On => pc = pc.wrapping_add(4),
+            Next::To(target) => pc = target,
+            Next::Not(reason) => {
+                regs.set_pc(pc);
                 *budget = left;
                 return Some(reason);
             }
         }
+        left -= 1;
     }
+    regs.set_pc(pc);
     *budget = left;
     None
 }
@@ -43,6 +55,7 @@ fn go<M: Memory>(regs: &mut Regs, memory: &mut M, budget: &mut u32) -> Option<Re
 #[inline(never)]
 pub(crate) fn run<P: Pages>(
     memory: &mut Running<'_, P>,
+    memo: &mut Memo,
     regs: &mut Regs,
     budget: &mut u32,
 ) -> Option<Reason>
@@ -64,7 +77,7 @@ pub(crate) fn run<P: Pages>(
     ensures fixed { P.fixed memory.new.pages ≡ P.fixed memory.old.pages }
 {
     let mut own = *regs;
-    let stop = go(&mut own, memory, budget);
+    let stop = go(&mut own, memory, memo, budget);
     *regs = own;
     stop
 }
@@ -75,6 +88,7 @@ pub(crate) fn run_lent(
     frames: &Frames,
     space: &Space,
     tid: u32,
+    memo: &mut Memo,
     regs: &mut Regs,
     budget: &mut u32,
 ) -> Option<Reason>
@@ -107,9 +121,36 @@ pub(crate) fn run_lent(
         frames,
     };
     let mut memory = Running::new(pages, space, tid);
-    let stop = run(&mut memory, regs, budget);
+    let stop = run(&mut memory, memo, regs, budget);
     *own = memory.pages.own;
     stop
+}
+
+/// The run of a thread in the frames.
+fn run_in_place(
+    frames: &mut Frames,
+    space: &Space,
+    tid: u32,
+    memo: &mut Memo,
+    regs: &mut Regs,
+    budget: &mut u32,
+) -> Option<Reason>
+    requires home { AreHome frames.old }
+    requires mapped { AreMapped frames.old space.now.entries }
+    ensures runs { (w : World) → IsRunOf w frames.old space.now.entries tid regs.old budget.old
+        → after_steps (budget.old - budget.new) w tid
+        ≡ Some (run_to w tid frames.new.pages regs.new budget.new) }
+    ensures stop { MatchOption result (budget.new ≡ 0)
+        (λ reason. (0 < budget.new)
+        × ((w : World) → IsRunOf w frames.old space.now.entries tid regs.old budget.old
+        → step (run_to w tid frames.new.pages regs.new budget.new) tid ≡ Err reason)) }
+    ensures within { budget.new ≤ budget.old }
+    ensures owners { frames.new.owners ≡ frames.old.owners }
+    ensures uses { frames.new.uses ≡ frames.old.uses }
+    ensures home { AreHome frames.new }
+{
+    let mut memory = Running::new(InPlace { frames }, space, tid);
+    run(&mut memory, memo, regs, budget)
 }
 
 /// Runs instructions of thread `tid` in the frames, each for one of the budget, until one stops or
@@ -141,6 +182,15 @@ pub fn run_until_stop(
     ensures uses { frames.new.uses ≡ frames.old.uses }
     ensures home { AreHome frames.new }
 {
-    let mut memory = Running::new(InPlace { frames }, space, tid);
-    run(&mut memory, regs, budget)
+    match frames.take_memo() {
+        Some(mut memo) => {
+            let stop = run_in_place(frames, space, tid, &mut memo, regs, budget);
+            frames.keep_memo(memo);
+            stop
+        }
+        None => {
+            let mut memo = Memo::new();
+            run_in_place(frames, space, tid, &mut memo, regs, budget)
+        }
+    }
 }

@@ -7,7 +7,7 @@ ghost use Rattle.rv_exec.specs.Follows.{word_at};
 ghost use Rattle.quantum_run.specs.Showing.{Still, ShowsBy, Holds, still};
 ghost use Rattle.dos_world.specs.declared.Access.TheVariants.{Fetch, Load, Store};
 ghost use Rattle.page_store.specs.Store.{joined, number_at};
-ghost use Rattle.quantum_run.specs.Finding.{AreFramesOf, IsFrameOf, IsWriting, frame_for, place_in};
+ghost use Rattle.quantum_run.specs.Finding.{AreFramesOf, IsWriting, frame_for, place_in};
 ghost use Rattle.quantum_run.specs.Pages.{AreReached, AreOwn, AreWithin, IsHomeIn};
 
 use crate::pages::Pages;
@@ -44,9 +44,9 @@ fn place_of(address: u32) -> usize
     (address / 4096 % 64) as usize
 }
 
-/// Pages and a space, as the memory of thread `tid`. The page that a fetch found last, and of loads
-/// and of stores or claims the page that was found last in each of 64 slots, are found again
-/// without a search: owners and entries stand still while the thread runs.
+/// Pages and a space, as the memory of thread `tid`. Of fetches, of loads, and of stores or claims
+/// the page that was found last in each of 64 slots is found again without a search: owners and
+/// entries stand still while the thread runs.
 ///
 /// What is refused is rare. A search answers None then and leaves the reason in `refused`, so that
 /// all it gives back to the loop of instructions fits registers.
@@ -55,14 +55,14 @@ pub struct Running<'a, P: Pages> {
     pub pages: P,
     pub space: &'a Space,
     pub tid: u32,
-    pub fetched: Slot,
+    pub fetched: [Slot; 64],
     pub loaded: [Slot; 64],
     pub stored: [Slot; 64],
     pub refused: Reason,
     ghost reached: { AreReached tid (P.owners pages) space.now.entries (P.pages pages) },
     ghost own: { AreOwn tid (P.owners pages) space.now.entries (P.is_own pages) },
     ghost within: { AreWithin (P.owners pages) space.now.entries },
-    ghost fetched_is: { IsFrameOf tid (P.owners pages) space.now.entries Fetch fetched.page fetched.frame },
+    ghost fetched_are: { AreFramesOf tid (P.owners pages) space.now.entries Fetch fetched },
     ghost loaded_are: { AreFramesOf tid (P.owners pages) space.now.entries Load loaded },
     ghost stored_are: { AreFramesOf tid (P.owners pages) space.now.entries Store stored },
 }
@@ -81,7 +81,7 @@ impl<'a, P: Pages> Running<'a, P> {
             pages,
             space,
             tid,
-            fetched: EMPTY,
+            fetched: nothing_found(),
             loaded: nothing_found(),
             stored: nothing_found(),
             refused: Reason::Fault(11),
@@ -161,11 +161,13 @@ impl<'a, P: Pages> Running<'a, P> {
         ensures fixed { P.fixed self.new.pages ≡ P.fixed self.old.pages }
         ensures pages { P.pages self.new.pages ≡ P.pages self.old.pages }
     {
-        if self.fetched.page == address / 4096 {
-            return Some(self.fetched.frame);
+        let place = place_of(address);
+        let slot = self.fetched[place];
+        if slot.page == address / 4096 {
+            return Some(slot.frame);
         }
         let frame = self.find(address, Access::Fetch)?;
-        self.fetched = Slot {
+        self.fetched[place] = Slot {
             page: address / 4096,
             frame,
         };
@@ -199,8 +201,8 @@ impl<'a, P: Pages> Running<'a, P> {
         Some(frame)
     }
 
-    /// The word at an address in the page that was fetched from last, where both halfwords lie
-    /// there and make a word.
+    /// The word at an address in a page that a fetch found, where both halfwords lie there and make a
+    /// word.
     #[inline]
     fn word_found(&self, address: u32) -> Option<u32>
         ensures { IfSome result (λ word. (f : Still) (t : ℕ) (w : World)
@@ -208,8 +210,9 @@ impl<'a, P: Pages> Running<'a, P> {
             → Holds f (P.pages self.now.pages) t w → word_at w t address ≡ Ok word) }
     {
         if address % 4 == 0 {
-            if self.fetched.page == address / 4096 {
-                let word = self.read(self.fetched.frame, address, Size::Word);
+            let slot = self.fetched[place_of(address)];
+            if slot.page == address / 4096 {
+                let word = self.read(slot.frame, address, Size::Word);
                 if word % 4 == 3 {
                     return Some(word);
                 }

@@ -119,7 +119,7 @@ struct Run {
     x9: u32,
 }
 
-const RUNS: [Run; 10] = [
+const RUNS: [Run; 12] = [
     Run {
         name: "what is stored is loaded",
         words: &[
@@ -238,6 +238,35 @@ const RUNS: [Run; 10] = [
         left: 8,
         end: 0x10008,
         x9: 3,
+    },
+    Run {
+        name: "code that stores into its own page, over a word that was done before",
+        words: &[
+            (0x10000, 0x0014_8493), // addi x9, x9, 1
+            (0x10004, 0x0075_2023), // sw x7, 0(x10)
+            (0x10008, 0xff9f_f06f), // jal x0, -8
+        ],
+        x7: 0x0000_0073, // ecall
+        pc: 0x10000,
+        stop: Reason::Service,
+        left: 7,
+        end: 0x10000,
+        x9: 10,
+    },
+    Run {
+        name: "code that stores into another page, over a word that was done before",
+        words: &[
+            (0x11000, 0x0014_8493), // addi x9, x9, 1
+            (0x11004, 0x0005_0067), // jalr x0, 0(x10)
+            (0x10000, 0x0072_a023), // sw x7, 0(x5)
+            (0x10004, 0x0002_8067), // jalr x0, 0(x5)
+        ],
+        x7: 0x0000_0073, // ecall
+        pc: 0x11000,
+        stop: Reason::Service,
+        left: 6,
+        end: 0x11000,
+        x9: 10,
     },
     Run {
         name: "a page that isn't mapped",

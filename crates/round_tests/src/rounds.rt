@@ -6,7 +6,9 @@ use dos_io::{MemorySink, Quiet};
 use dos_world::Config;
 use elf_image::read_image;
 use group_open::open_state;
-use group_rounds::{Kernel, RoundEnd, run_round, serial_phase};
+use group_rounds::{
+    Kernel, RoundEnd, hand_out, parallel_phase, run_parts, run_round, serial_phase, take_in,
+};
 use kernel_calls::RunStop;
 use std::alloc::Global;
 use std::test::Fail;
@@ -107,5 +109,42 @@ fn a_sink_that_fails_stops_the_round(rt: HostRuntime) -> Result<(), Fail> {
     );
     assert!(rt; kernel.is_failed());
     assert_eq!(rt; kernel.rounds(), 0);
+    Ok(())
+}
+
+#[test]
+fn a_parallel_phase_in_three_steps(rt: HostRuntime) -> Result<(), Fail> {
+    let mut tally = Tally::new();
+    let mut workers: Serial<'_, HostRuntime> = Serial::new(&mut tally);
+    let handed = hand_out(group(rt.alloc())?);
+    let ran = run_parts(handed, &mut workers);
+    let mut kernel = take_in(ran);
+    workers.finish();
+    // two instructions of one process and five of the other, each before its first service
+    assert_eq!(rt; tally.count(), 7);
+    assert!(rt; !kernel.is_failed());
+    assert_eq!(rt; kernel.rounds(), 0);
+    let mut shim = Quiet::new(rt.alloc());
+    let mut out = MemorySink::new(rt.alloc(), 8, &[])?;
+    let mut err = MemorySink::new(rt.alloc(), 8, &[])?;
+    assert_eq!(rt;
+        serial_phase(&mut kernel, &mut shim, &mut out, &mut err),
+        Ok(())
+    );
+    assert_eq!(rt; out.bytes(), b"Hi\n".as_slice());
+    assert_eq!(rt; status_at(&kernel, 0), Some(7));
+    assert_eq!(rt; status_at(&kernel, 1), Some(0));
+    Ok(())
+}
+
+#[test]
+fn a_parallel_phase_stops_at_a_service(rt: HostRuntime) -> Result<(), Fail> {
+    let mut tally = Tally::new();
+    let mut workers: Serial<'_, HostRuntime> = Serial::new(&mut tally);
+    let kernel = parallel_phase(yielding(rt.alloc())?, &mut workers);
+    workers.finish();
+    assert_eq!(rt; tally.count(), 1);
+    assert!(rt; !kernel.is_failed());
+    assert_eq!(rt; kernel.state().table.live_threads(), 1);
     Ok(())
 }

@@ -3,6 +3,10 @@ pub mod OverWorld
 pub mod High
 pub mod Whole
 pub mod Atomics
+pub mod Beside
+pub mod ByForm
+pub mod PcBeside
+pub mod Stored
 pub mod Stepping
 pub mod Forms
 pub mod Seen

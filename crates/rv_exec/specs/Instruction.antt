@@ -1,9 +1,11 @@
 -- One instruction by its word. This project's own way to put the manual's instructions.
-use Rattle.std.specs.Prelude.{ℕ, ◌≡◌, ◌≢◌, Option, Some, None}
+use Rattle.std.specs.Prelude.{ℕ, ◌≡◌, Option, Some, None}
 use Rattle.dos_world.specs.World.{World, Registers}
 use Rattle.dos_world.specs.declared.Reason.TheVariants.{Fault}
 use Rattle.rv_isa.specs.declared.Instr.{Instr}
 use Rattle.rv_isa.specs.Meaning.{meaning}
+use Rattle.rv_form.specs.declared.form.Form.{Form}
+use Rattle.rv_form.specs.Forms.{instr_of_form}
 use Rattle.rv_exec.specs.Effect.{Effect, goes, loads, stores, claims, stops, effect}
 use Rattle.rv_exec.specs.Over.{effect_in, world_answers}
 use Rattle.rv_exec.specs.Follows.{Follows}
@@ -19,12 +21,9 @@ effect_by (Some instr) size r = effect instr size r
 abbrev pub effect_of_word : ℕ → Registers → Effect
 effect_of_word word r = effect_by (meaning word) 4 r
 
--- None of the opcodes that RV32I, M, A and Zifencei have. The manual's chapter "RV32/64G
--- Instruction Set Listings".
-abbrev pub IsNoOpcode : ℕ → Type 0
-IsNoOpcode o =
-    (o ≢ 0x37) × (o ≢ 0x17) × (o ≢ 0x6F) × (o ≢ 0x67) × (o ≢ 0x63) × (o ≢ 0x03) × (o ≢ 0x23)
-    × (o ≢ 0x13) × (o ≢ 0x33) × (o ≢ 0x0F) × (o ≢ 0x73) × (o ≢ 0x2F)
+-- what a form does
+abbrev pub effect_of_form : Form → Registers → Effect
+effect_of_form form r = effect_by (instr_of_form form) 4 r
 
 -- The registers old became new with this answer, as an effect says that makes no access to memory.
 abbrev pub Settles : Went → Registers → Registers → Effect → Type 0

@@ -2,18 +2,21 @@
 //! does to registers and memory, and why it stops.
 #![tactic(auto)]
 
-mod access;
+mod form_perform;
 pub mod laws;
-mod local;
 mod memory;
+mod next;
 mod numbers;
+mod on_memory;
+mod on_registers;
 mod one_page;
 mod perform;
 
 use dos_world::Reason;
 pub use memory::Memory;
+pub use next::Next;
 pub use one_page::OnePage;
-pub use perform::one;
+pub use perform::{one, one_known};
 
 /// How one instruction went.
 #[derive(Clone, Copy, Debug, PartialEq, Eq)]

@@ -1,54 +1,52 @@
 // One instruction over any memory.
 ghost use Rattle.std.specs.Prelude.{ℕ};
-ghost use Rattle.dos_world.specs.World.{World};
-ghost use Rattle.rv_exec.specs.Over.{one_in, effect_in, world_answers};
+ghost use Rattle.dos_world.specs.World.{World, with_pc};
+ghost use Rattle.rv_exec.specs.Over.{one_in, world_answers};
 ghost use Rattle.rv_exec.specs.Follows.{Follows};
-ghost use Rattle.rv_exec.specs.Instruction.{Performs, effect_of_word};
+ghost use Rattle.rv_exec.specs.Going.{arrived, went};
 ghost use Rattle.rv_exec.specs.Runs.{Runs, Steps};
 ghost use Rattle.rv_exec.specs.Step.{step};
 
-use crate::access::{atomic, load, store};
-use crate::local::{arithmetic, auipc, branch, fence, illegal, jal, jalr, lui, register, system};
-use crate::{Memory, Went};
-use dos_world::{Reason, Regs};
+use crate::form_perform::{arrive, perform_form};
+use crate::{Memory, Next, Went};
+use dos_world::Regs;
+use rv_form::{Memo, form_of};
 
-/// The instruction of a word, by its opcode. No instruction has opcode 0; its arm keeps the
-/// compiler from numbering the arms anew before it knows the opcode in each of them, where it would
-/// then be tested again.
+/// The word at pc is fetched and decoded, and its instruction done. A lone halfword, whose low two
+/// bits aren't 11, has none of the opcodes, so it is illegal like any other word without one.
 #[inline(always)]
-fn perform<M: Memory>(regs: &mut Regs, memory: &mut M, word: u32) -> Went
-    ensures { Performs (M.shows memory.old) (M.shows memory.new) regs.old regs.new result
-        (effect_of_word word regs.old) }
+fn fetch_and_perform<M: Memory>(regs: &mut Regs, memory: &mut M, pc: u32) -> Next
+    ensures { (f : M.Fixed) (t : ℕ) (w : World) → M.shows memory.old f t w
+        → Follows (M.shows memory.new f t) w (with_pc regs.old pc) (arrived regs.new pc result)
+        (went result) (one_in (world_answers t) (with_pc regs.old pc) w) }
 {
-    match word & 127 {
-        0x13 => arithmetic(regs, word),
-        0x33 => register(regs, word),
-        0x03 => load(regs, memory, word),
-        0x23 => store(regs, memory, word),
-        0x63 => branch(regs, word),
-        0x6f => jal(regs, word),
-        0x67 => jalr(regs, word),
-        0x37 => lui(regs, word),
-        0x17 => auipc(regs, word),
-        0x2f => atomic(regs, memory, word),
-        0x73 => system(word),
-        0x0f => fence(regs, word),
-        0x00 => illegal(word),
-        _ => illegal(word),
+    match memory.fetch_word(pc) {
+        Ok(word) => {
+            let form = form_of(word);
+            perform_form(regs, memory, &form, pc)
+        }
+        Err(reason) => Next::Not(reason),
     }
 }
 
-/// The word at pc is fetched, and its instruction done. A lone halfword, whose low two bits aren't
-/// 11, has none of the opcodes, so it is illegal like any other word without one.
+/// The same, by the form that is remembered of the word.
 #[inline(always)]
-fn fetch_and_perform<M: Memory>(regs: &mut Regs, memory: &mut M) -> Went
+fn fetch_and_perform_known<M: Memory>(
+    regs: &mut Regs,
+    memory: &mut M,
+    memo: &mut Memo,
+    pc: u32,
+) -> Next
     ensures { (f : M.Fixed) (t : ℕ) (w : World) → M.shows memory.old f t w
-        → Follows (M.shows memory.new f t) w regs.old regs.new result
-        (one_in (world_answers t) regs.old w) }
+        → Follows (M.shows memory.new f t) w (with_pc regs.old pc) (arrived regs.new pc result)
+        (went result) (one_in (world_answers t) (with_pc regs.old pc) w) }
 {
-    match memory.fetch_word(regs.pc()) {
-        Ok(word) => perform(regs, memory, word),
-        Err(reason) => Went::Stop(reason),
+    match memory.fetch_word(pc) {
+        Ok(word) => {
+            let form = memo.form(pc, word);
+            perform_form(regs, memory, form, pc)
+        }
+        Err(reason) => Next::Not(reason),
     }
 }
 
@@ -67,5 +65,19 @@ pub fn one<M: Memory>(regs: &mut Regs, memory: &mut M) -> Went
         → Runs (M.shows memory.old f t) w t regs.old budget
         → Steps (M.shows memory.new f t) w t regs.new budget result (step w t) }
 {
-    fetch_and_perform(regs, memory)
+    let pc = regs.pc();
+    let next = fetch_and_perform(regs, memory, pc);
+    arrive(regs, pc, next)
+}
+
+/// One instruction at pc, which stands beside the registers, and where it leads. It is what `one`
+/// does with pc in the registers, by the form that the memo has of its word.
+#[inline(always)]
+pub fn one_known<M: Memory>(regs: &mut Regs, memory: &mut M, memo: &mut Memo, pc: u32) -> Next
+    ensures { (f : M.Fixed) (t : ℕ) (w : World) (budget : ℕ)
+        → Runs (M.shows memory.old f t) w t (with_pc regs.old pc) budget
+        → Steps (M.shows memory.new f t) w t (arrived regs.new pc result) budget (went result)
+        (step w t) }
+{
+    fetch_and_perform_known(regs, memory, memo, pc)
 }

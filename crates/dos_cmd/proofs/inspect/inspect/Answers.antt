@@ -6,8 +6,6 @@ use Rattle.dos_cmd.specs.Outside.{outside}
 use Rattle.dos_cmd.proofs.ReplayLeaves.{one_image}
 use Rattle.dos_cmd.proofs.inspect.inspect.Goals as goal
 
-
-
 pub returns-in-Ok-clause-did : goal.returns-in-Ok-clause-did
 returns-in-Ok-clause-did g c = λ h e t. record {
   taken = _;

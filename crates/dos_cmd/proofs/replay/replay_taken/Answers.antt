@@ -8,12 +8,17 @@ use Rattle.dos_cmd.proofs.replay.replay_taken.Goals as goal
 pub returns-in_err-kernel-clause-leaves : goal.returns-in_err-kernel-clause-leaves
 returns-in_err-kernel-clause-leaves g c =
     let p = err_from_is_err_and c.from_residual.result c.from_residual.ensures.1 in
-    rw (p.1, p.2) (λ tells f f' h k k' m stay. not_opened c.args.log c.args.images.now _ _ _
+    rw (p.1, p.2) (λ tells f f' h k k' m stay. not_opened c.args.log c.args.images.now
+    (outside tells f f' h h (g.O.Sink.told c.args.out.now) (g.O.Sink.told c.args.out.now)
+    (g.E.Sink.told c.args.err.now) (g.E.Sink.told c.args.err.now)
+    (g.W.Workers.tally c.args.workers.now) (g.W.Workers.tally c.args.workers.now))
+    (faults k k' m m (g.O.Sink.faults c.args.out.now) (g.O.Sink.faults c.args.out.now)
+    (g.E.Sink.faults c.args.err.now) (g.E.Sink.faults c.args.err.now)) _
     c.config_of.result c.config_of.ensures.config c.in_err-kernel.ensures.refused
     (says_nothing tells f f' h _ _ _ _ stay))
 
-pub returns-in-Err-clause-leaves : goal.returns-in-Err-clause-leaves
-returns-in-Err-clause-leaves g c = λ tells f f' h k k' m stay.
+pub returns-clause-leaves : goal.returns-clause-leaves
+returns-clause-leaves g c = λ tells f f' h k k' m stay.
     let opening = c.in_ok-kernel.ensures in
     let run = c.in-Err.ensures in
     let is = c.config_of.ensures.config in
@@ -31,8 +36,8 @@ returns-in-Err-clause-leaves g c = λ tells f f' h k k' m stay.
     (run.cut c.args.images.now opened) run.sinks
     (record { files_stay = stay; host_stays = λ i. h })
 
-pub returns-clause-did : goal.returns-clause-did
-returns-clause-did g c =
+pub returns-in-Ok-clause-did : goal.returns-in-Ok-clause-did
+returns-in-Ok-clause-did g c =
     let opening = c.in_ok-kernel.ensures in
     let run = c.in-Ok.ensures in
     let opened = opened_by c.args.log c.args.images.now c.in_ok-kernel.kernel c.config_of.result
@@ -44,13 +49,13 @@ returns-clause-did g c =
     (g.W.Workers.tally c.replay_group.new.workers) opened run.ran c.report.result
     c.report.ensures.same c.report.ensures.told
 
-pub returns-clause-room : goal.returns-clause-room
-returns-clause-room g c = on_ok c.report.result _
+pub returns-in-Ok-clause-room : goal.returns-in-Ok-clause-room
+returns-in-Ok-clause-room g c = on_ok c.report.result _
     (has_room c.args.log c.args.images.now c.config_of.result c.config_of.ensures.config
     c.in_ok-kernel.ensures.room)
 
-pub returns-clause-leaves : goal.returns-clause-leaves
-returns-clause-leaves g c =
+pub returns-in-Ok-clause-leaves : goal.returns-in-Ok-clause-leaves
+returns-in-Ok-clause-leaves g c =
     let opening = c.in_ok-kernel.ensures in
     let run = c.in-Ok.ensures in
     let is = c.config_of.ensures.config in

@@ -1,23 +1,27 @@
-use Rattle.std.proofs.Common.{sym, ap, ◌∙◌, subst}
+use Rattle.std.proofs.Common.{sym, subst}
 use Rattle.std.specs.Prelude.{Result}
-use Rattle.dos_world.specs.World.{World, Registers}
+use Rattle.dos_world.specs.World.{World, Registers, with_pc}
 use Rattle.dos_world.specs.declared.Reason.{Reason}
-use Rattle.rv_exec.specs.Follows.{word_at, Follows}
+use Rattle.rv_exec.specs.Follows.{Follows}
+use Rattle.rv_exec.specs.Going.{arrived, went}
 use Rattle.rv_exec.proofs.Whole.{follows_err, one_err, one_word}
+use Rattle.rv_exec.proofs.ByForm.{of_form}
 use Rattle.rv_exec.proofs.perform.fetch_and_perform.Goals as goal
 
 pub returns-in-Ok : goal.returns-in-Ok
 returns-in-Ok g c = λ f t w shows.
     let fetched = c.in-Ok.ensures f t w shows in
+    let at = with_pc c.args.regs.now c.args.pc in
+    let after = arrived c.perform_form.new.regs c.args.pc c.perform_form.result in
     subst (λ (o : Result (Registers × World) Reason). Follows
-    (g.M.Memory.shows c.perform.new.memory f t) w c.args.regs.now c.perform.new.regs
-    c.perform.result o)
-    (sym (one_word w t c.args.regs.now c.in-Ok.word (fetched.1 ∙ ap (word_at w t) c.pc.ensures)))
-    (c.perform.ensures f t w fetched.0)
+    (g.M.Memory.shows c.perform_form.new.memory f t) w at after (went c.perform_form.result) o)
+    (sym (one_word w t at c.in-Ok.word fetched.1))
+    (of_form (g.M.Memory.shows c.perform_form.new.memory f t) w t at after c.in-Ok.word
+    c.form_of-form.result (went c.perform_form.result) c.form_of-form.ensures
+    (c.perform_form.ensures f t w fetched.0))
 
 pub returns-in-Err : goal.returns-in-Err
 returns-in-Err g c = λ f t w shows.
     let fetched = c.in-Err.ensures f t w shows in
     follows_err _ w _ _ _
-    (one_err w t c.args.regs.now c.in-Err.reason
-    (fetched.1 ∙ ap (word_at w t) c.pc.ensures)) fetched.0
+    (one_err w t (with_pc c.args.regs.now c.args.pc) c.in-Err.reason fetched.1) fetched.0

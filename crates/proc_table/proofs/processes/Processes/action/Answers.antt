@@ -2,14 +2,13 @@ use Rattle.std.proofs.Common.{rules, vec_len, ◌≡◌, ◌∙◌, ◌-◌, len
 use Rattle.std.specs.Prelude.{slice_index}
 use Rattle.dos_world.specs.World.{Holdings}
 use Rattle.proc_table.specs.declared.record.Belongings.{Belongings}
-use Rattle.proc_table.proofs.Standing.{lives_in, found_in, within, holds, belongings_read}
+use Rattle.proc_table.proofs.Standing.{lives, within, holds, belongings_read}
 use Rattle.proc_table.proofs.processes.Processes.action.Goals as goal
 
 pub place_of-requires : goal.place_of-requires
-place_of-requires c = lives_in c.self.inside.records.items c.self.inside.holders
+place_of-requires c = lives c.self.inside.records c.self.inside.holders
     c.self.inside.spaces.items c.self.inside.belongings.items c.self.inside.live
-    c.self.inside.room _ c.args.self.now c.self.view_is c.self.invariant _ c.args.pid
-    c.deref.ensures.value c.requires.live
+    c.self.inside.room c.args.self.now c.self.view_is c.self.invariant c.args.pid c.requires.live
 
 pub index-requires : goal.index-requires
 index-requires c =
@@ -18,24 +17,24 @@ index-requires c =
     omega (
       arith,
       c.self.invariant.belongings_count,
-      within c.self.inside.records.items c.self.inside.holders c.self.inside.spaces.items
-          c.self.inside.belongings.items c.self.inside.live c.self.inside.room _
+      within c.self.inside.records c.self.inside.holders c.self.inside.spaces.items
+          c.self.inside.belongings.items c.self.inside.live c.self.inside.room
           c.args.self.now c.self.view_is c.self.invariant c.args.pid c.place_of.result
-          (found_in _ _ _ c.deref.ensures.value c.place_of.ensures),
+          c.place_of.ensures,
     )
 
 pub returns : goal.returns
 returns c =
     subst (λ (o : Option Holdings). IfSome o
     (λ h. c.action_at.result ≡ slice_index h.actions (c.args.signal - 1)))
-    (sym (holds c.self.inside.records.items c.self.inside.holders c.self.inside.spaces.items
-    c.self.inside.belongings.items c.self.inside.live c.self.inside.room _
+    (sym (holds c.self.inside.records c.self.inside.holders c.self.inside.spaces.items
+    c.self.inside.belongings.items c.self.inside.live c.self.inside.room
     c.args.self.now c.self.view_is c.self.invariant c.args.pid c.place_of.result
-    (found_in _ _ _ c.deref.ensures.value c.place_of.ensures)))
+    c.place_of.ensures))
     (c.action_at.ensures ∙ ap (λ (b : Belongings). slice_index b.actions (c.args.signal - 1))
-    (belongings_read c.self.inside.records.items c.self.inside.holders
+    (belongings_read c.self.inside.records c.self.inside.holders
     c.self.inside.spaces.items c.self.inside.belongings.items c.self.inside.live
-    c.self.inside.room _ c.args.self.now c.self.view_is c.self.invariant c.args.pid
+    c.self.inside.room c.args.self.now c.self.view_is c.self.invariant c.args.pid
     c.place_of.result
-    (found_in _ _ _ c.deref.ensures.value c.place_of.ensures) c.index.result.now
+    c.place_of.ensures c.index.result.now
     c.index.ensures))

@@ -1,13 +1,13 @@
 use Rattle.std.proofs.Common.{rules, vec_len, ◌≡◌, length, refl, arith}
 use Rattle.proc_table.specs.Tables.{without_ends}
-use Rattle.proc_table.proofs.Standing.{lives_in, found_in, within, belongings_written, placed_belongings}
+use Rattle.proc_table.proofs.Standing.{lives, within, belongings_written, placed_belongings}
 use Rattle.proc_table.proofs.processes.Processes.close_all.Goals as goal
 
 pub place_of-place-requires : goal.place_of-place-requires
 place_of-place-requires c =
-    lives_in c.self.inside.records.items c.self.inside.holders c.self.inside.spaces.items
-    c.self.inside.belongings.items c.self.inside.live c.self.inside.room _ c.args.self.now
-    c.self.view_is c.self.invariant _ c.args.pid c.deref.ensures.value c.requires
+    lives c.self.inside.records c.self.inside.holders c.self.inside.spaces.items
+    c.self.inside.belongings.items c.self.inside.live c.self.inside.room c.args.self.now
+    c.self.view_is c.self.invariant c.args.pid c.requires
 
 pub index_mut-requires : goal.index_mut-requires
 index_mut-requires c =
@@ -16,22 +16,22 @@ index_mut-requires c =
     omega (
       arith,
       c.self.invariant.belongings_count,
-      within c.self.inside.records.items c.self.inside.holders c.self.inside.spaces.items
-          c.self.inside.belongings.items c.self.inside.live c.self.inside.room _
+      within c.self.inside.records c.self.inside.holders c.self.inside.spaces.items
+          c.self.inside.belongings.items c.self.inside.live c.self.inside.room
           c.args.self.now c.self.view_is c.self.invariant c.args.pid c.place_of-place.result
-          (found_in _ _ _ c.deref.ensures.value c.place_of-place.ensures),
+          c.place_of-place.ensures,
     )
 
 pub invariant_of-self : goal.invariant_of-self
-invariant_of-self c = placed_belongings c.self.inside.records.items c.self.inside.holders
+invariant_of-self c = placed_belongings c.self.inside.records c.self.inside.holders
     c.self.inside.spaces.items c.self.inside.belongings.items c.self.inside.live
-    c.self.inside.room _ c.args.self.now c.self.view_is c.self.invariant c.args.pid
-    c.place_of-place.result (found_in _ _ _ c.deref.ensures.value c.place_of-place.ensures) _
+    c.self.inside.room c.args.self.now c.self.view_is c.self.invariant c.args.pid
+    c.place_of-place.result c.place_of-place.ensures _
 
 pub returns : goal.returns
-returns c = belongings_written c.self.inside.records.items c.self.inside.holders
+returns c = belongings_written c.self.inside.records c.self.inside.holders
     c.self.inside.spaces.items c.self.inside.belongings.items c.self.inside.live
-    c.self.inside.room _ c.args.self.now c.self.view_is c.self.invariant c.args.pid
+    c.self.inside.room c.args.self.now c.self.view_is c.self.invariant c.args.pid
     c.place_of-place.result
-    (found_in _ _ _ c.deref.ensures.value c.place_of-place.ensures) without_ends
+    c.place_of-place.ensures without_ends
     c.index_mut.result.now _ c.index_mut.ensures.value (λ space. refl)

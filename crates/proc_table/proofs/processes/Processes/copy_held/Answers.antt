@@ -1,18 +1,18 @@
 use Rattle.std.proofs.Common.{rules, vec_len, ◌≡◌, length, arith}
-use Rattle.proc_table.proofs.Standing.{lives_in, found_in, within, holds, belongings_copied, placed_belongings}
+use Rattle.proc_table.proofs.Standing.{lives, within, holds, belongings_copied, placed_belongings}
 use Rattle.proc_table.proofs.processes.Processes.copy_held.Goals as goal
 
 pub place_of-source-requires : goal.place_of-source-requires
 place_of-source-requires c =
-    lives_in c.self.inside.records.items c.self.inside.holders c.self.inside.spaces.items
-    c.self.inside.belongings.items c.self.inside.live c.self.inside.room _ c.args.self.now
-    c.self.view_is c.self.invariant _ c.args.from c.deref.ensures.value c.requires.from
+    lives c.self.inside.records c.self.inside.holders c.self.inside.spaces.items
+    c.self.inside.belongings.items c.self.inside.live c.self.inside.room c.args.self.now
+    c.self.view_is c.self.invariant c.args.from c.requires.from
 
 pub place_of-place-requires : goal.place_of-place-requires
 place_of-place-requires c =
-    lives_in c.self.inside.records.items c.self.inside.holders c.self.inside.spaces.items
-    c.self.inside.belongings.items c.self.inside.live c.self.inside.room _ c.args.self.now
-    c.self.view_is c.self.invariant _ c.args.to c.deref-2.ensures.value c.requires.to
+    lives c.self.inside.records c.self.inside.holders c.self.inside.spaces.items
+    c.self.inside.belongings.items c.self.inside.live c.self.inside.room c.args.self.now
+    c.self.view_is c.self.invariant c.args.to c.requires.to
 
 pub index-belongings-requires : goal.index-belongings-requires
 index-belongings-requires c =
@@ -21,10 +21,10 @@ index-belongings-requires c =
     omega (
       arith,
       c.self.invariant.belongings_count,
-      within c.self.inside.records.items c.self.inside.holders c.self.inside.spaces.items
-          c.self.inside.belongings.items c.self.inside.live c.self.inside.room _
+      within c.self.inside.records c.self.inside.holders c.self.inside.spaces.items
+          c.self.inside.belongings.items c.self.inside.live c.self.inside.room
           c.args.self.now c.self.view_is c.self.invariant c.args.from c.place_of-source.result
-          (found_in _ _ _ c.deref.ensures.value c.place_of-source.ensures),
+          c.place_of-source.ensures,
     )
 
 pub index_mut-requires : goal.index_mut-requires
@@ -34,31 +34,31 @@ index_mut-requires c =
     omega (
       arith,
       c.self.invariant.belongings_count,
-      within c.self.inside.records.items c.self.inside.holders c.self.inside.spaces.items
-          c.self.inside.belongings.items c.self.inside.live c.self.inside.room _
+      within c.self.inside.records c.self.inside.holders c.self.inside.spaces.items
+          c.self.inside.belongings.items c.self.inside.live c.self.inside.room
           c.args.self.now c.self.view_is c.self.invariant c.args.to c.place_of-place.result
-          (found_in _ _ _ c.deref-2.ensures.value c.place_of-place.ensures),
+          c.place_of-place.ensures,
     )
 
 pub invariant_of-self : goal.invariant_of-self
-invariant_of-self c = placed_belongings c.self.inside.records.items c.self.inside.holders
+invariant_of-self c = placed_belongings c.self.inside.records c.self.inside.holders
     c.self.inside.spaces.items c.self.inside.belongings.items c.self.inside.live
-    c.self.inside.room _ c.args.self.now c.self.view_is c.self.invariant c.args.to
-    c.place_of-place.result (found_in _ _ _ c.deref-2.ensures.value c.place_of-place.ensures) _
+    c.self.inside.room c.args.self.now c.self.view_is c.self.invariant c.args.to
+    c.place_of-place.result c.place_of-place.ensures _
 
 pub returns : goal.returns
 returns c =
-    rw (holds c.self.inside.records.items c.self.inside.holders c.self.inside.spaces.items
-    c.self.inside.belongings.items c.self.inside.live c.self.inside.room _
+    rw (holds c.self.inside.records c.self.inside.holders c.self.inside.spaces.items
+    c.self.inside.belongings.items c.self.inside.live c.self.inside.room
     c.args.self.now c.self.view_is c.self.invariant c.args.from c.place_of-source.result
-    (found_in _ _ _ c.deref.ensures.value c.place_of-source.ensures))
-    (belongings_copied c.self.inside.records.items c.self.inside.holders c.self.inside.spaces.items
-    c.self.inside.belongings.items c.self.inside.live c.self.inside.room _
+    c.place_of-source.ensures)
+    (belongings_copied c.self.inside.records c.self.inside.holders c.self.inside.spaces.items
+    c.self.inside.belongings.items c.self.inside.live c.self.inside.room
     c.args.self.now c.self.view_is c.self.invariant c.args.to c.place_of-place.result
-    (found_in _ _ _ c.deref-2.ensures.value c.place_of-place.ensures)
+    c.place_of-place.ensures
     c.place_of-source.result c.index_mut.result.now c.index-belongings.result.now
-    (within c.self.inside.records.items c.self.inside.holders c.self.inside.spaces.items
-    c.self.inside.belongings.items c.self.inside.live c.self.inside.room _
+    (within c.self.inside.records c.self.inside.holders c.self.inside.spaces.items
+    c.self.inside.belongings.items c.self.inside.live c.self.inside.room
     c.args.self.now c.self.view_is c.self.invariant c.args.from c.place_of-source.result
-    (found_in _ _ _ c.deref.ensures.value c.place_of-source.ensures))
+    c.place_of-source.ensures)
     c.index_mut.ensures.value c.index-belongings.ensures)

@@ -1,7 +1,6 @@
-use Rattle.std.proofs.Common.{◌≡◌, ◌∙◌, ℕ, List, Option, option_map, Some, None, refl, sym, ap}
+use Rattle.std.proofs.Common.{◌≡◌, ◌∙◌, ℕ, Option, option_map, Some, None, refl, sym, ap}
 use Rattle.std.specs.Prelude.{is_some}
 use Rattle.proc_table.specs.Places.{holdings_in, place_in}
-use Rattle.proc_table.specs.declared.record.Record.{Record}
 use Rattle.dos_world.specs.World.{Holdings}
 use Rattle.proc_table.proofs.Standing.{held_now}
 use Rattle.proc_table.proofs.processes.Processes.is_live.Goals as goal
@@ -13,10 +12,9 @@ mapped f (Some n) = refl
 pub returns : goal.returns
 returns c =
     c.is_some.ensures ∙ ap is_some
-    (c.place_in.ensures
-    ∙ ap (λ (rs : List Record). place_in rs c.args.pid) c.deref.ensures.value)
+    c.place_in.ensures
     ∙ mapped (holdings_in c.self.inside.spaces.items c.self.inside.belongings.items)
-    (place_in c.self.inside.records.items c.args.pid)
-    ∙ sym (ap is_some (held_now c.self.inside.records.items c.self.inside.holders
+    (place_in c.self.inside.records c.args.pid)
+    ∙ sym (ap is_some (held_now c.self.inside.records c.self.inside.holders
     c.self.inside.spaces.items c.self.inside.belongings.items c.self.inside.live
-    c.self.inside.room _ c.args.self.now c.self.view_is c.self.invariant c.args.pid))
+    c.self.inside.room c.args.self.now c.self.view_is c.self.invariant c.args.pid))

@@ -1,13 +1,13 @@
 use Rattle.std.proofs.Common.{rules, vec_len, ◌≡◌, length, ap, arith}
 use Rattle.space_map.specs.Mapping.{Mapping, with_shared_run}
-use Rattle.proc_table.proofs.Standing.{lives_in, found_in, within, space_written, placed_space}
+use Rattle.proc_table.proofs.Standing.{lives, within, space_written, placed_space}
 use Rattle.proc_table.proofs.processes.Processes.share_run.Goals as goal
 
 pub place_of-place-requires : goal.place_of-place-requires
 place_of-place-requires c =
-    lives_in c.self.inside.records.items c.self.inside.holders c.self.inside.spaces.items
-    c.self.inside.belongings.items c.self.inside.live c.self.inside.room _ c.args.self.now
-    c.self.view_is c.self.invariant _ c.args.pid c.deref.ensures.value c.requires
+    lives c.self.inside.records c.self.inside.holders c.self.inside.spaces.items
+    c.self.inside.belongings.items c.self.inside.live c.self.inside.room c.args.self.now
+    c.self.view_is c.self.invariant c.args.pid c.requires
 
 pub index_mut-requires : goal.index_mut-requires
 index_mut-requires c =
@@ -15,24 +15,24 @@ index_mut-requires c =
     omega (
       arith,
       c.self.invariant.spaces_count,
-      within c.self.inside.records.items c.self.inside.holders c.self.inside.spaces.items
-          c.self.inside.belongings.items c.self.inside.live c.self.inside.room _
+      within c.self.inside.records c.self.inside.holders c.self.inside.spaces.items
+          c.self.inside.belongings.items c.self.inside.live c.self.inside.room
           c.args.self.now c.self.view_is c.self.invariant c.args.pid c.place_of-place.result
-          (found_in _ _ _ c.deref.ensures.value c.place_of-place.ensures),
+          c.place_of-place.ensures,
     )
 
 pub invariant_of-self : goal.invariant_of-self
-invariant_of-self c = placed_space c.self.inside.records.items c.self.inside.holders
+invariant_of-self c = placed_space c.self.inside.records c.self.inside.holders
     c.self.inside.spaces.items c.self.inside.belongings.items c.self.inside.live
-    c.self.inside.room _ c.args.self.now c.self.view_is c.self.invariant c.args.pid
+    c.self.inside.room c.args.self.now c.self.view_is c.self.invariant c.args.pid
     c.place_of-place.result
-    (found_in _ _ _ c.deref.ensures.value c.place_of-place.ensures) c.index_mut.result.now _
+    c.place_of-place.ensures c.index_mut.result.now _
     c.index_mut.ensures.value (ap (λ (s : Mapping). s.room) c.share_run.ensures)
 
 pub returns : goal.returns
-returns c = space_written c.self.inside.records.items c.self.inside.holders
+returns c = space_written c.self.inside.records c.self.inside.holders
     c.self.inside.spaces.items c.self.inside.belongings.items c.self.inside.live
-    c.self.inside.room _ c.args.self.now c.self.view_is c.self.invariant c.args.pid
-    c.place_of-place.result (found_in _ _ _ c.deref.ensures.value c.place_of-place.ensures)
+    c.self.inside.room c.args.self.now c.self.view_is c.self.invariant c.args.pid
+    c.place_of-place.result c.place_of-place.ensures
     (with_shared_run c.args.page c.args.count) c.index_mut.result.now _
     c.index_mut.ensures.value (ap (λ (s : Mapping). s.entries) c.share_run.ensures)

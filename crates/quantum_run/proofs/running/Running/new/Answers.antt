@@ -1,15 +1,21 @@
-use Rattle.dos_world.specs.declared.Access.TheVariants.{Load, Store}
+use Rattle.dos_world.specs.declared.Access.TheVariants.{Fetch, Load, Store}
 use Rattle.quantum_run.proofs.Places.{none-found}
 use Rattle.quantum_run.proofs.running.Running.new.Goals as goal
+
+pub invariant_of-result-clause-fetched_are : goal.invariant_of-result-clause-fetched_are
+invariant_of-result-clause-fetched_are g c =
+    none-found c.args.tid
+    (g.P.Pages.owners c.args.pages) c.args.space.now.entries Fetch c.nothing_found.result
+    c.nothing_found.ensures
 
 pub invariant_of-result-clause-loaded_are : goal.invariant_of-result-clause-loaded_are
 invariant_of-result-clause-loaded_are g c =
     none-found c.args.tid
-    (g.P.Pages.owners c.args.pages) c.args.space.now.entries Load c.nothing_found.result
-    c.nothing_found.ensures
+    (g.P.Pages.owners c.args.pages) c.args.space.now.entries Load c.nothing_found-2.result
+    c.nothing_found-2.ensures
 
 pub invariant_of-result-clause-stored_are : goal.invariant_of-result-clause-stored_are
 invariant_of-result-clause-stored_are g c =
     none-found c.args.tid
-    (g.P.Pages.owners c.args.pages) c.args.space.now.entries Store c.nothing_found-2.result
-    c.nothing_found-2.ensures
+    (g.P.Pages.owners c.args.pages) c.args.space.now.entries Store c.nothing_found-3.result
+    c.nothing_found-3.ensures

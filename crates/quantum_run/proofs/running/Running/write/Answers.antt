@@ -32,9 +32,9 @@ invariant_of-self g c =
           (c.args.self.now.own access address frame writes
           (ap (λ (os : List Owner). frame_for t os entries access address) (sym e) ∙ h));
       within = subst (λ (os : List Owner). AreWithin os entries) (sym e) c.args.self.now.within;
-      fetched_is = λ address fits page.
-          ap (λ (os : List Owner). frame_for t os entries Fetch address) e
-          ∙ c.args.self.now.fetched_is address fits page;
+      fetched_are = subst (λ
+          (os : List Owner). AreFramesOf t os entries Fetch c.args.self.now.fetched)
+          (sym e) c.args.self.now.fetched_are;
       loaded_are = subst (λ (os : List Owner). AreFramesOf t os entries Load c.args.self.now.loaded)
           (sym e) c.args.self.now.loaded_are;
       stored_are = subst (λ

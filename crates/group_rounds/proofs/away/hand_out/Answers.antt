@@ -1,0 +1,102 @@
+use Rattle.std.proofs.Common.{ℕ, List, ◌≤◌, ◌-◌, ◌≡◌, refl, sym, ap, ◌∙◌, subst, length, map, arith}
+use Rattle.round_core.specs.Round.{with_budgets}
+use Rattle.kernel_calls.specs.Serving.{sent, world_of}
+use Rattle.group_rounds.specs.Away.{WentOut, IsHandedOut}
+use Rattle.group_rounds.specs.Handing.{AreSpare, Handing, pack_of}
+use Rattle.group_rounds.specs.Kernels.{Held, IsBetweenRounds}
+use Rattle.group_rounds.specs.Phases.{AreLive}
+use Rattle.group_rounds.proofs.PacksRan.{ready-apart}
+use Rattle.group_rounds.proofs.Starters.{ready_live}
+use Rattle.group_rounds.proofs.away.hand_out.Goals as goal
+
+pub set_budgets-requires-clause-sound : goal.set_budgets-requires-clause-sound
+set_budgets-requires-clause-sound c =
+    (c.kernel.invariant.3 (ap (λ (k : Held). k.failed) c.kernel.view_is ∙ c.requires)).sound
+
+pub set_budgets-requires-clause-live : goal.set_budgets-requires-clause-live
+set_budgets-requires-clause-live c =
+    subst (AreLive c.kernel.inside.state.table.threads)
+    (sym (c.as_slice.ensures.value ∙ c.gather.ensures.ready))
+    (ready_live c.kernel.inside.state.table.threads)
+
+pub hand_out-requires-clause-apart : goal.hand_out-requires-clause-apart
+hand_out-requires-clause-apart c =
+    ready-apart c.kernel.inside.state.table.threads c.as_slice-2.result.now
+    (c.as_slice-2.ensures.value ∙ c.gather.ensures.ready)
+
+-- the state with the budgets set may stand between two rounds
+between-is : (c : goal.After-hand_out)
+    → IsBetweenRounds c.set_budgets.new.state c.kernel.inside.config
+between-is c =
+    let between =
+    c.kernel.invariant.3 (ap (λ (k : Held). k.failed) c.kernel.view_is ∙ c.requires) in
+    record {
+      sound = c.set_budgets.ensures.sound;
+      range = between.range;
+      rounds = subst (λ (n : ℕ). n - 1 ≤ c.kernel.inside.config.rounds)
+          (sym c.set_budgets.ensures.round) between.rounds;
+      frames = c.set_budgets.ensures.count ∙ between.frames;
+    }
+
+went-out : (c : goal.After-hand_out) → WentOut c.set_budgets.new.state (record {
+  state = c.hand_out.new.state;
+  config = c.kernel.inside.config;
+  starters = c.gather.new.starters.items;
+  packs = c.hand_out.new.packs.items;
+})
+went-out c = record {
+  between = between-is c;
+  begun = subst (λ (n : ℕ). 1 ≤ n) (sym c.set_budgets.ensures.round) c.kernel.invariant.1;
+  live = subst (AreLive c.set_budgets.new.state.table.threads) c.as_slice.ensures.value
+      c.set_budgets.ensures.live;
+  apart = ready-apart c.kernel.inside.state.table.threads c.gather.new.starters.items
+      c.gather.ensures.ready;
+  few = c.gather.ensures.few;
+  hands =
+      let s = c.set_budgets.new.state in
+      subst (λ (ts : List ℕ). Handing ts (map (pack_of s.table (length s.frames.pages)) ts) s.frames
+      c.hand_out.new.state.frames c.hand_out.new.packs.items (length s.frames.pages))
+      c.as_slice-2.ensures.value c.hand_out.ensures.hands;
+  table = c.hand_out.ensures.table;
+  round = c.hand_out.ensures.round;
+  pipes = c.hand_out.ensures.pipes;
+  futexes = c.hand_out.ensures.futexes;
+}
+
+pub invariant_of-result : goal.invariant_of-result
+invariant_of-result c =
+    let frames_are = c.packs.view_is ∙ c.kernel.invariant.2 in
+    let between = between-is c in
+    let level = c.hand_out.ensures.hands.level in
+    let less = c.hand_out.ensures.less in (
+      (c.set_budgets.new.state, went-out c),
+      record {
+        frames_are = frames_are;
+        starters_room = c.gather.ensures.room;
+        empty = subst (λ (n : ℕ). AreSpare n c.hand_out.new.spare.items)
+            (sym between.sound.counted.home.owners ∙ between.frames ∙ sym frames_are)
+            c.hand_out.ensures.spare;
+        many = omega (arith, c.packs.invariant.many, level, less);
+        fits = omega (arith, c.packs.invariant.fits, level, less, c.hand_out.ensures.spare_room);
+        room = omega (arith, c.packs.invariant.room, c.hand_out.ensures.room);
+      },
+    )
+
+pub returns : goal.returns
+returns c =
+    subst (λ (k : Held). IsHandedOut k (record {
+      state = c.hand_out.new.state;
+      config = c.kernel.inside.config;
+      starters = c.gather.new.starters.items;
+      packs = c.hand_out.new.packs.items;
+    })) c.kernel.view_is (record {
+      before = c.set_budgets.new.state;
+      begins = λ o e. subst (λ (ts : List ℕ). with_budgets
+          (sent o e (world_of c.kernel.inside.config.quantum c.kernel.inside.state)) ts
+          ≡ sent o e (world_of c.kernel.inside.config.quantum c.set_budgets.new.state))
+          (c.as_slice.ensures.value ∙ c.gather.ensures.ready) (c.set_budgets.ensures.sets o e);
+      out = went-out c;
+      config = refl;
+      starters = c.gather.ensures.ready;
+      round = c.set_budgets.ensures.round;
+    })

@@ -1,0 +1,91 @@
+use Rattle.std.proofs.Common.{ℕ, ◌≤◌, ◌-◌, sym, ◌∙◌, subst, arith, false}
+use Rattle.worker_pool.specs.Ran.{budgets}
+use Rattle.group_rounds.specs.Away.{Away, HaveRun, IsParallelOf}
+use Rattle.group_rounds.proofs.AwayLaws.{are-away, are-apart, are-live, are-others, have-room, between-again, is-parallel}
+use Rattle.group_rounds.proofs.away.take_in.Goals as goal
+
+-- what went out, by the packs before they ran
+abbrev out-of : (c : goal.After-spare-1) → Away
+out-of c = record {
+  state = c.ran.inside.state;
+  config = c.ran.inside.config;
+  starters = c.ran.inside.starters.items;
+  packs = c.ran.invariant.0.1;
+}
+
+pub take_in-requires-clause-away : goal.take_in-requires-clause-away
+take_in-requires-clause-away c =
+    let v = c.ran.invariant.0 in
+    are-away v.0 (out-of c) v.2 c.ran.inside.out.items v.3
+
+pub take_in-requires-clause-apart : goal.take_in-requires-clause-apart
+take_in-requires-clause-apart c =
+    let v = c.ran.invariant.0 in
+    are-apart v.0 (out-of c) v.2 c.ran.inside.out.items v.3
+
+pub take_in-requires-clause-live : goal.take_in-requires-clause-live
+take_in-requires-clause-live c =
+    let v = c.ran.invariant.0 in
+    are-live v.0 (out-of c) v.2 c.ran.inside.out.items v.3
+
+pub take_in-requires-clause-others : goal.take_in-requires-clause-others
+take_in-requires-clause-others c =
+    let v = c.ran.invariant.0 in
+    are-others v.0 (out-of c) v.2 c.ran.inside.out.items v.3
+
+pub invariant_of-result : goal.invariant_of-result
+invariant_of-result c =
+    let v = c.ran.invariant.0 in
+    let room = c.ran.invariant.1 in
+    let a : Away = record {
+      state = c.ran.inside.state;
+      config = c.ran.inside.config;
+      starters = c.ran.inside.starters.items;
+      packs = v.1;
+    } in
+    let spare = c.take_in.ensures.spare in
+    record {
+      empty = c.take_in.ensures.all_spare c.ran.inside.frames room.empty
+          (λ q k. have-room v.0 a v.2 c.ran.inside.out.items v.3 q k ∙ sym room.frames_are);
+      many = omega (arith, room.many, spare);
+      fits = omega (arith, room.fits, spare, c.take_in.ensures.spare_room);
+      none = c.take_in.ensures.packs;
+      room = omega (arith, room.room, c.take_in.ensures.packs_room);
+    }
+
+pub invariant_of-result-2 : goal.invariant_of-result-2
+invariant_of-result-2 c =
+    let v = c.ran.invariant.0 in
+    let room = c.ran.invariant.1 in
+    let a : Away = record {
+      state = c.ran.inside.state;
+      config = c.ran.inside.config;
+      starters = c.ran.inside.starters.items;
+      packs = v.1;
+    } in
+    let e = c.take_in.ensures in (
+      room.starters_room,
+      subst (λ (n : ℕ). 1 ≤ n) (sym (e.round ∙ v.2.round)) v.2.begun,
+      room.frames_are,
+      λ running. between-again v.0 a v.2 c.ran.inside.out.items v.3 c.take_in.new.state e.back e.set
+          e.round e.pipes e.futexes,
+    )
+
+pub returns : goal.returns
+returns c = λ k a out have.
+    let i = c.ran.inside in
+    let ran : Away = record {
+      state = i.state;
+      config = i.config;
+      starters = i.starters.items;
+      packs = i.out.items;
+    } in
+    let e = c.take_in.ensures in
+    subst (λ (x : Away). IsParallelOf k (budgets a.packs - budgets x.packs) (record {
+      state = c.take_in.new.state;
+      config = i.config;
+      starters = i.starters.items;
+      failed = false;
+    })) c.ran.view_is
+    (is-parallel k a ran out (subst (HaveRun a) (sym c.ran.view_is) have) c.take_in.new.state
+    e.back e.set e.round e.pipes e.futexes)

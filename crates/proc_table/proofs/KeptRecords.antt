@@ -1,0 +1,151 @@
+-- Records that are kept with their links: what each change leaves.
+use Rattle.std.proofs.Common.{◌≡◌, ℕ, ◌+◌, ◌<◌, ◌≤◌, Bool, true, false, List, [], ◌∷◌, ◌++◌, map, length, Option, Some, None, IsSome, refl, sym, ap, ◌∙◌, subst, arith, length-append}
+use Rattle.std.specs.Prelude.{not, ◌&&◌, ◌==◌}
+use Rattle.std.proofs.lemmas.Bool.{and_parts}
+use Rattle.std.proofs.lemmas.List.{length-map}
+use Rattle.dos_world.specs.Numbered.{numbered, changed}
+use Rattle.proc_table.specs.declared.record.Kept.TheVariants.{Live, Ended}
+use Rattle.proc_table.specs.declared.record.Links.{Links}
+use Rattle.proc_table.specs.declared.record.Record.{Record}
+use Rattle.proc_table.specs.Places.{has_come, is_child_record, is_collected, kept_as, orphan_record, place_in}
+use Rattle.proc_table.specs.Links.{AreKept, AreLinked, IsLinkable, childless, is_child_at, is_uncollected, next_in, passes, passes_at, previous_in, with_child, with_link}
+use Rattle.proc_table.proofs.Lengths.{changed_length}
+use Rattle.proc_table.proofs.Moved.{child_from, child_to, given_in, live_given}
+use Rattle.proc_table.proofs.Family.{collected_linked, ended_linked, link_length, orphans_linked, others_linkable}
+use Rattle.proc_table.proofs.Added.{added_linked, child_length, last_within}
+
+-- a child that has come is one that wasn't collected
+child_test : (asked : Bool) (p : ℕ) (o : Option Record)
+    → passes (is_child_record asked p) o ≡ true → passes (is_uncollected p) o ≡ true
+child_test asked p None e = cc
+child_test asked p (Some r) e =
+    (and_parts ((r.parent == p) && not (is_collected r.kept)) (has_come asked r.kept) e).0
+
+module _ (R now : List Record) (L : List Links) (room links_room : ℕ)
+    (kept : AreKept R L room links_room) (shows : R ≡ now) where
+  -- ---- a new record
+
+  module _ (p place n : ℕ) (within : p ≤ length now) (left : length now < 65535)
+      (number : n ≡ length L + 1) where
+    low : p ≤ length R
+    low = omega (arith, within, ap (λ (rs : List Record). length rs) shows)
+
+    small : length R < 65535
+    small = omega (arith, left, ap (λ (rs : List Record). length rs) shows)
+
+    pub last_low : previous_in L p 65536 ≤ length L
+    last_low = last_within R L kept.few kept.count kept.linked p place low small
+
+    pub kept_added : (new : List Record) (M : List Links) (grown links_grown : ℕ)
+        → new ≡ R ++ record { parent = p; kept = Live place } ∷ [] → M ≡ with_child L p n
+        → room ≤ grown → links_room ≤ links_grown → AreKept new M grown links_grown
+    kept_added new M grown links_grown is ms more links_more =
+        let r : Record = record { parent = p; kept = Live place } in
+        record {
+          linked = subst (λ K. AreLinked new K) (sym ms)
+              (subst (λ rs. AreLinked rs (with_child L p n)) (sym is)
+              (added_linked R L kept.few kept.count kept.linked p place low small n number));
+          count = omega (
+            arith,
+            kept.count,
+            ap (λ (K : List Links). length K) ms,
+            child_length L p n number (omega (arith, kept.count, low))
+                (omega (arith, kept.count, small)) last_low,
+            ap (λ (rs : List Record). length rs) is,
+            length-append R (r ∷ []),
+          );
+          few = omega (
+            arith,
+            small,
+            ap (λ (rs : List Record). length rs) is,
+            length-append R (r ∷ []),
+          );
+          taken = omega (arith, kept.taken);
+          links_taken = omega (arith, kept.links_taken);
+        }
+
+  -- ---- a child is collected
+
+  module _ (p c : ℕ) (is : passes_at (is_child_record true p) now c ≡ true) where
+    child_is : is_child_at R p c ≡ true
+    child_is = child_test true p (numbered R c)
+        (ap (λ rs. passes_at (is_child_record true p) rs c) shows ∙ is)
+
+    pub linkable_others : IsLinkable (length L) p (previous_in L p c) (next_in L p c)
+    linkable_others = others_linkable R L kept.few kept.count kept.linked p c child_is
+
+    pub child_given : (0 < c) × (c ≤ length R)
+    child_given = (child_from R p c child_is, child_to R p c child_is)
+
+    pub kept_collected : (status : ℕ) (new : List Record) (M : List Links) (same links_same : ℕ)
+        → new ≡ changed (kept_as (Ended status true)) R c
+        → M ≡ with_link L p (previous_in L p c) (next_in L p c) → same ≡ room
+        → links_same ≡ links_room → AreKept new M same links_same
+    kept_collected status new M same links_same ns ms s ls = record {
+      linked = subst (λ K. AreLinked new K) (sym ms)
+          (subst (λ rs. AreLinked rs (with_link L p (previous_in L p c) (next_in L p c))) (sym ns)
+          (collected_linked R L kept.few kept.count kept.linked p c child_is status));
+      count = ap (λ (K : List Links). length K) ms
+          ∙ link_length L p (previous_in L p c) (next_in L p c) linkable_others ∙ kept.count
+          ∙ sym (ap (λ (rs : List Record). length rs) ns
+          ∙ changed_length (kept_as (Ended status true)) R c);
+      few = omega (
+        arith,
+        kept.few,
+        ap (λ (rs : List Record). length rs) ns,
+        changed_length (kept_as (Ended status true)) R c,
+      );
+      taken = omega (arith, kept.taken);
+      links_taken = omega (arith, kept.links_taken);
+    }
+
+  -- ---- the end of a process
+
+  module _ (p status : ℕ) (lives : IsSome (place_in now p)) (ended : List Record)
+      (es : ended ≡ changed (kept_as (Ended status false)) R p) where
+    live_here : IsSome (place_in R p)
+    live_here = subst (λ rs. IsSome (place_in rs p)) (sym shows) lives
+
+    same_length : length ended ≡ length R
+    same_length = ap (λ (rs : List Record). length rs) es
+        ∙ changed_length (kept_as (Ended status false)) R p
+
+    pub ended_few : length ended ≤ 65535
+    ended_few = omega (arith, kept.few, same_length)
+
+    pub ended_count : (M : List Links) → M ≡ L → length M ≡ length ended
+    ended_count M e = ap (λ (K : List Links). length K) e ∙ kept.count ∙ sym same_length
+
+    pub ended_given : (0 < p) × (p ≤ length ended)
+    ended_given =
+        let given = given_in R p (live_given R p live_here) in
+        (given.0, omega (arith, given.1, same_length))
+
+    pub given_links : (0 < p) × (p ≤ length L)
+    given_links = (ended_given.0, omega (arith, ended_given.1, same_length, kept.count))
+
+    pub ended_are_linked : (M : List Links) → M ≡ L → AreLinked ended M
+    ended_are_linked M e = subst (λ K. AreLinked ended K) (sym e)
+        (subst (λ rs. AreLinked rs L) (sym es)
+        (ended_linked R L kept.few kept.count kept.linked p status live_here))
+
+    pub kept_ended : (new : List Record) (M : List Links) (same links_same : ℕ)
+        → new ≡ map (orphan_record p) ended → M ≡ changed childless L p → same ≡ room
+        → links_same ≡ links_room → AreKept new M same links_same
+    kept_ended new M same links_same ns ms s ls = record {
+      linked = subst (λ K. AreLinked new K) (sym ms)
+          (subst (λ rs. AreLinked rs (changed childless L p)) (sym ns)
+          (orphans_linked ended L ended_few (ended_count L refl) (ended_are_linked L refl) p
+          ended_given.0 ended_given.1));
+      count = ap (λ (K : List Links). length K) ms ∙ changed_length childless L p
+          ∙ ended_count L refl
+          ∙ sym (ap (λ (rs : List Record). length rs) ns ∙ length-map ended (orphan_record p));
+      few = omega (
+        arith,
+        ended_few,
+        ap (λ (rs : List Record). length rs) ns,
+        length-map ended (orphan_record p),
+      );
+      taken = omega (arith, kept.taken);
+      links_taken = omega (arith, kept.links_taken);
+    }

@@ -1,0 +1,23 @@
+use Rattle.std.proofs.Common.{rules, ◌∙◌, ap, map, is_some}
+use Rattle.page_store.proofs.Counts.{owned-within}
+use Rattle.quantum_run.proofs.Places.{found-within, home-here, home-kept}
+use Rattle.quantum_run.proofs.run.run_in_place.Goals as goal
+
+pub new-memory-requires-clause-reached : goal.new-memory-requires-clause-reached
+new-memory-requires-clause-reached c = λ access address frame h.
+    home-here c.args.frames.now.pages frame c.requires.home
+    (found-within c.args.tid c.args.frames.now c.args.space.now.entries access address frame
+    c.requires.mapped h)
+
+pub new-memory-requires-clause-own : goal.new-memory-requires-clause-own
+new-memory-requires-clause-own c = λ access address frame writes h.
+    home-here c.args.frames.now.pages frame c.requires.home
+    (found-within c.args.tid c.args.frames.now c.args.space.now.entries access address frame
+    c.requires.mapped h)
+
+pub new-memory-requires-clause-within : goal.new-memory-requires-clause-within
+new-memory-requires-clause-within c =
+    λ page e is. owned-within c.args.frames.now.owners e.frame (c.requires.mapped page e is).1
+
+pub returns-clause-home : goal.returns-clause-home
+returns-clause-home c = home-kept c.args.frames.now.pages _ (search rules) c.requires.home

@@ -1,0 +1,106 @@
+// An instruction by its form.
+ghost use Rattle.std.specs.Prelude.{ℕ};
+ghost use Rattle.rv_exec.specs.Instruction.{effect_of_form};
+ghost use Rattle.rv_exec.specs.Going.{PerformsAt, arrived, went};
+ghost use Rattle.std.specs.Prelude.{◌≡◌};
+
+use crate::on_memory::{atomic, load, store};
+use crate::on_registers::{auipc, branch, immediate, jal, jalr, lui, register, shift};
+use crate::{Memory, Next, Went};
+use dos_world::{Reason, Regs};
+use rv_form::{Form, Op};
+use rv_isa::{AmoOp, BranchOp, ImmOp, LoadOp, RegOp, ShiftOp, StoreOp};
+
+/// The instruction of a form, at pc: what it does to the registers but pc and to memory, and where
+/// it leads.
+#[inline(always)]
+#[tactic(auto, unfolding(crate::specs::Effect::effect, rv_form::specs::Forms::instr_of))]
+pub fn perform_form<M: Memory>(regs: &mut Regs, memory: &mut M, form: &Form, pc: u32) -> Next
+    ensures { PerformsAt (M.shows memory.old) (M.shows memory.new) pc regs.old regs.new result
+        (effect_of_form form.now) }
+{
+    match form.op {
+        Op::Illegal => Next::Not(Reason::Fault(4)),
+        Op::Lui => lui(regs, form),
+        Op::Auipc => auipc(regs, form, pc),
+        Op::Jal => jal(regs, form, pc),
+        Op::Jalr => jalr(regs, form, pc),
+        Op::Beq => branch(regs, form, pc, BranchOp::Beq),
+        Op::Bne => branch(regs, form, pc, BranchOp::Bne),
+        Op::Blt => branch(regs, form, pc, BranchOp::Blt),
+        Op::Bge => branch(regs, form, pc, BranchOp::Bge),
+        Op::Bltu => branch(regs, form, pc, BranchOp::Bltu),
+        Op::Bgeu => branch(regs, form, pc, BranchOp::Bgeu),
+        Op::Lb => load(regs, memory, form, LoadOp::Lb),
+        Op::Lh => load(regs, memory, form, LoadOp::Lh),
+        Op::Lw => load(regs, memory, form, LoadOp::Lw),
+        Op::Lbu => load(regs, memory, form, LoadOp::Lbu),
+        Op::Lhu => load(regs, memory, form, LoadOp::Lhu),
+        Op::Sb => store(regs, memory, form, StoreOp::Sb),
+        Op::Sh => store(regs, memory, form, StoreOp::Sh),
+        Op::Sw => store(regs, memory, form, StoreOp::Sw),
+        Op::Addi => immediate(regs, form, ImmOp::Addi),
+        Op::Slti => immediate(regs, form, ImmOp::Slti),
+        Op::Sltiu => immediate(regs, form, ImmOp::Sltiu),
+        Op::Xori => immediate(regs, form, ImmOp::Xori),
+        Op::Ori => immediate(regs, form, ImmOp::Ori),
+        Op::Andi => immediate(regs, form, ImmOp::Andi),
+        Op::Slli => shift(regs, form, ShiftOp::Slli),
+        Op::Srli => shift(regs, form, ShiftOp::Srli),
+        Op::Srai => shift(regs, form, ShiftOp::Srai),
+        Op::Add => register(regs, form, RegOp::Add),
+        Op::Sub => register(regs, form, RegOp::Sub),
+        Op::Sll => register(regs, form, RegOp::Sll),
+        Op::Slt => register(regs, form, RegOp::Slt),
+        Op::Sltu => register(regs, form, RegOp::Sltu),
+        Op::Xor => register(regs, form, RegOp::Xor),
+        Op::Srl => register(regs, form, RegOp::Srl),
+        Op::Sra => register(regs, form, RegOp::Sra),
+        Op::Or => register(regs, form, RegOp::Or),
+        Op::And => register(regs, form, RegOp::And),
+        Op::Mul => register(regs, form, RegOp::Mul),
+        Op::Mulh => register(regs, form, RegOp::Mulh),
+        Op::Mulhsu => register(regs, form, RegOp::Mulhsu),
+        Op::Mulhu => register(regs, form, RegOp::Mulhu),
+        Op::Div => register(regs, form, RegOp::Div),
+        Op::Divu => register(regs, form, RegOp::Divu),
+        Op::Rem => register(regs, form, RegOp::Rem),
+        Op::Remu => register(regs, form, RegOp::Remu),
+        Op::Fence => Next::On,
+        Op::Ecall => Next::Not(Reason::Service),
+        Op::Ebreak => Next::Not(Reason::Fault(5)),
+        Op::LrW => atomic(regs, memory, form, AmoOp::LrW),
+        Op::ScW => atomic(regs, memory, form, AmoOp::ScW),
+        Op::AmoswapW => atomic(regs, memory, form, AmoOp::AmoswapW),
+        Op::AmoaddW => atomic(regs, memory, form, AmoOp::AmoaddW),
+        Op::AmoxorW => atomic(regs, memory, form, AmoOp::AmoxorW),
+        Op::AmoandW => atomic(regs, memory, form, AmoOp::AmoandW),
+        Op::AmoorW => atomic(regs, memory, form, AmoOp::AmoorW),
+        Op::AmominW => atomic(regs, memory, form, AmoOp::AmominW),
+        Op::AmomaxW => atomic(regs, memory, form, AmoOp::AmomaxW),
+        Op::AmominuW => atomic(regs, memory, form, AmoOp::AmominuW),
+        Op::AmomaxuW => atomic(regs, memory, form, AmoOp::AmomaxuW),
+    }
+}
+
+/// pc goes where an instruction at pc leads.
+#[inline]
+pub fn arrive(regs: &mut Regs, pc: u32, next: Next) -> Went
+    ensures registers { regs.new ≡ arrived regs.old pc next }
+    ensures went { result ≡ went next }
+{
+    match next {
+        Next::On => {
+            regs.set_pc(pc.wrapping_add(4));
+            Went::Step
+        }
+        Next::To(target) => {
+            regs.set_pc(target);
+            Went::Step
+        }
+        Next::Not(reason) => {
+            regs.set_pc(pc);
+            Went::Stop(reason)
+        }
+    }
+}

@@ -1,0 +1,335 @@
+// From a word to its form.
+ghost use Rattle.std.specs.Prelude.{◌≡◌, ◌<◌, ℕ, ℤ, Some, None, false, bit_and};
+ghost use Rattle.rv_isa.specs.Fields as fields;
+ghost use Rattle.rv_isa.specs.Meaning.{meaning};
+ghost use Rattle.rv_isa.specs.declared.Instr.TheVariants.{Branch, Load, Store, Imm, Shift, Reg, Amo};
+ghost use Rattle.rv_form.specs.Forms.{instr_of, IsFormOf, IsNoOpcode};
+
+use crate::{Form, Op};
+use rv_isa::{AmoOp, Arithmetic, BranchOp, ImmOp, LoadOp, RegOp, ShiftOp, StoreOp, SystemOp};
+
+#[inline]
+#[tactic(auto, unfolding(crate::specs::Forms::instr_of))]
+fn op_of_branch(op: BranchOp) -> Op
+    ensures { (rd rs1 rs2 : ℕ) (imm : ℤ) → instr_of result rd rs1 rs2 imm
+        ≡ Some (Branch op rs1 rs2 imm) }
+{
+    match op {
+        BranchOp::Beq => Op::Beq,
+        BranchOp::Bne => Op::Bne,
+        BranchOp::Blt => Op::Blt,
+        BranchOp::Bge => Op::Bge,
+        BranchOp::Bltu => Op::Bltu,
+        BranchOp::Bgeu => Op::Bgeu,
+    }
+}
+
+#[inline]
+#[tactic(auto, unfolding(crate::specs::Forms::instr_of))]
+fn op_of_load(op: LoadOp) -> Op
+    ensures { (rd rs1 rs2 : ℕ) (imm : ℤ) → instr_of result rd rs1 rs2 imm
+        ≡ Some (Load op rd rs1 imm) }
+{
+    match op {
+        LoadOp::Lb => Op::Lb,
+        LoadOp::Lh => Op::Lh,
+        LoadOp::Lw => Op::Lw,
+        LoadOp::Lbu => Op::Lbu,
+        LoadOp::Lhu => Op::Lhu,
+    }
+}
+
+#[inline]
+#[tactic(auto, unfolding(crate::specs::Forms::instr_of))]
+fn op_of_store(op: StoreOp) -> Op
+    ensures { (rd rs1 rs2 : ℕ) (imm : ℤ) → instr_of result rd rs1 rs2 imm
+        ≡ Some (Store op rs1 rs2 imm) }
+{
+    match op {
+        StoreOp::Sb => Op::Sb,
+        StoreOp::Sh => Op::Sh,
+        StoreOp::Sw => Op::Sw,
+    }
+}
+
+#[inline]
+#[tactic(auto, unfolding(crate::specs::Forms::instr_of))]
+fn op_of_imm(op: ImmOp) -> Op
+    ensures { (rd rs1 rs2 : ℕ) (imm : ℤ) → instr_of result rd rs1 rs2 imm
+        ≡ Some (Imm op rd rs1 imm) }
+{
+    match op {
+        ImmOp::Addi => Op::Addi,
+        ImmOp::Slti => Op::Slti,
+        ImmOp::Sltiu => Op::Sltiu,
+        ImmOp::Xori => Op::Xori,
+        ImmOp::Ori => Op::Ori,
+        ImmOp::Andi => Op::Andi,
+    }
+}
+
+#[inline]
+#[tactic(auto, unfolding(crate::specs::Forms::instr_of))]
+fn op_of_shift(op: ShiftOp) -> Op
+    ensures { (rd rs1 rs2 : ℕ) (imm : ℤ) → instr_of result rd rs1 rs2 imm
+        ≡ Some (Shift op rd rs1 rs2) }
+{
+    match op {
+        ShiftOp::Slli => Op::Slli,
+        ShiftOp::Srli => Op::Srli,
+        ShiftOp::Srai => Op::Srai,
+    }
+}
+
+#[inline]
+#[tactic(auto, unfolding(crate::specs::Forms::instr_of))]
+fn op_of_reg(op: RegOp) -> Op
+    ensures { (rd rs1 rs2 : ℕ) (imm : ℤ) → instr_of result rd rs1 rs2 imm
+        ≡ Some (Reg op rd rs1 rs2) }
+{
+    match op {
+        RegOp::Add => Op::Add,
+        RegOp::Sub => Op::Sub,
+        RegOp::Sll => Op::Sll,
+        RegOp::Slt => Op::Slt,
+        RegOp::Sltu => Op::Sltu,
+        RegOp::Xor => Op::Xor,
+        RegOp::Srl => Op::Srl,
+        RegOp::Sra => Op::Sra,
+        RegOp::Or => Op::Or,
+        RegOp::And => Op::And,
+        RegOp::Mul => Op::Mul,
+        RegOp::Mulh => Op::Mulh,
+        RegOp::Mulhsu => Op::Mulhsu,
+        RegOp::Mulhu => Op::Mulhu,
+        RegOp::Div => Op::Div,
+        RegOp::Divu => Op::Divu,
+        RegOp::Rem => Op::Rem,
+        RegOp::Remu => Op::Remu,
+    }
+}
+
+#[inline]
+#[tactic(auto, unfolding(crate::specs::Forms::instr_of))]
+fn op_of_amo(op: AmoOp) -> Op
+    ensures { (rd rs1 rs2 : ℕ) (imm : ℤ) → instr_of result rd rs1 rs2 imm
+        ≡ Some (Amo op rd rs1 rs2 false false) }
+{
+    match op {
+        AmoOp::LrW => Op::LrW,
+        AmoOp::ScW => Op::ScW,
+        AmoOp::AmoswapW => Op::AmoswapW,
+        AmoOp::AmoaddW => Op::AmoaddW,
+        AmoOp::AmoxorW => Op::AmoxorW,
+        AmoOp::AmoandW => Op::AmoandW,
+        AmoOp::AmoorW => Op::AmoorW,
+        AmoOp::AmominW => Op::AmominW,
+        AmoOp::AmomaxW => Op::AmomaxW,
+        AmoOp::AmominuW => Op::AmominuW,
+        AmoOp::AmomaxuW => Op::AmomaxuW,
+    }
+}
+
+/// No instruction.
+#[inline]
+#[tactic(auto, unfolding(crate::specs::Forms::instr_of))]
+fn none(word: u32) -> Form
+    requires { meaning word ≡ None }
+    ensures { IsFormOf word result }
+{
+    let _ = word;
+    Form {
+        op: Op::Illegal,
+        rd: 0,
+        rs1: 0,
+        rs2: 0,
+        imm: 0,
+    }
+}
+
+#[inline]
+fn with_fields(word: u32, op: Op, imm: i32) -> Form
+    ensures op { result.op ≡ op }
+    ensures rd { result.rd ≡ fields.rd word }
+    ensures rs1 { result.rs1 ≡ fields.rs1 word }
+    ensures rs2 { result.rs2 ≡ fields.rs2 word }
+    ensures imm { result.imm ≡ imm }
+{
+    Form {
+        op,
+        rd: rv_isa::rd(word),
+        rs1: rv_isa::rs1(word),
+        rs2: rv_isa::rs2(word),
+        imm,
+    }
+}
+
+#[inline]
+#[tactic(auto, using(rv_isa::proofs::ByOpcode::meaning_branch))]
+fn branch(word: u32) -> Form
+    requires { bit_and word 127 ≡ 0x63 }
+    ensures { IsFormOf word result }
+{
+    match rv_isa::branch_op(word) {
+        Some(op) => with_fields(word, op_of_branch(op), rv_isa::imm_b(word)),
+        None => none(word),
+    }
+}
+
+#[inline]
+#[tactic(auto, using(rv_isa::proofs::ByOpcode::meaning_load))]
+fn load(word: u32) -> Form
+    requires { bit_and word 127 ≡ 0x03 }
+    ensures { IsFormOf word result }
+{
+    match rv_isa::load_op(word) {
+        Some(op) => with_fields(word, op_of_load(op), rv_isa::imm_i(word)),
+        None => none(word),
+    }
+}
+
+#[inline]
+#[tactic(auto, using(rv_isa::proofs::ByOpcode::meaning_store))]
+fn store(word: u32) -> Form
+    requires { bit_and word 127 ≡ 0x23 }
+    ensures { IsFormOf word result }
+{
+    match rv_isa::store_op(word) {
+        Some(op) => with_fields(word, op_of_store(op), rv_isa::imm_s(word)),
+        None => none(word),
+    }
+}
+
+#[inline]
+#[tactic(auto, using(rv_isa::proofs::ByOpcode::meaning_register))]
+fn register(word: u32) -> Form
+    requires { bit_and word 127 ≡ 0x33 }
+    ensures { IsFormOf word result }
+{
+    match rv_isa::reg_op(word) {
+        Some(op) => with_fields(word, op_of_reg(op), rv_isa::imm_i(word)),
+        None => none(word),
+    }
+}
+
+#[inline]
+#[tactic(auto, using(rv_isa::proofs::ByOpcode::meaning_amo))]
+fn amo(word: u32) -> Form
+    requires { bit_and word 127 ≡ 0x2F }
+    ensures { IsFormOf word result }
+{
+    match rv_isa::amo_op(word) {
+        Some(op) => with_fields(word, op_of_amo(op), rv_isa::imm_i(word)),
+        None => none(word),
+    }
+}
+
+#[inline]
+#[tactic(auto, using(rv_isa::proofs::ByOpcode::meaning_arithmetic))]
+fn arithmetic(word: u32) -> Form
+    requires { bit_and word 127 ≡ 0x13 }
+    ensures { IsFormOf word result }
+{
+    match rv_isa::arithmetic_op(word) {
+        Some(Arithmetic::Plain(op)) => with_fields(word, op_of_imm(op), rv_isa::imm_i(word)),
+        Some(Arithmetic::Shifts(op)) => with_fields(word, op_of_shift(op), rv_isa::imm_i(word)),
+        None => none(word),
+    }
+}
+
+#[inline]
+#[tactic(auto, using(rv_isa::proofs::ByOpcode::meaning_fence), unfolding(crate::specs::Forms::instr_of))]
+fn fence(word: u32) -> Form
+    requires { bit_and word 127 ≡ 0x0F }
+    ensures { IsFormOf word result }
+{
+    match rv_isa::fence_op(word) {
+        Some(_) => with_fields(word, Op::Fence, 0),
+        None => none(word),
+    }
+}
+
+#[inline]
+#[tactic(auto, using(rv_isa::proofs::ByOpcode::meaning_system), unfolding(crate::specs::Forms::instr_of))]
+fn system(word: u32) -> Form
+    requires { bit_and word 127 ≡ 0x73 }
+    ensures { IsFormOf word result }
+{
+    match rv_isa::system_op(word) {
+        Some(SystemOp::Ecall) => with_fields(word, Op::Ecall, 0),
+        Some(SystemOp::Ebreak) => with_fields(word, Op::Ebreak, 0),
+        None => none(word),
+    }
+}
+
+#[inline]
+#[tactic(auto, using(rv_isa::proofs::ByOpcode::meaning_jalr), unfolding(crate::specs::Forms::instr_of))]
+fn jalr(word: u32) -> Form
+    requires { bit_and word 127 ≡ 0x67 }
+    ensures { IsFormOf word result }
+{
+    if rv_isa::is_jalr(word) {
+        with_fields(word, Op::Jalr, rv_isa::imm_i(word))
+    } else {
+        none(word)
+    }
+}
+
+#[inline]
+#[tactic(auto, using(rv_isa::proofs::ByOpcode::meaning_jal), unfolding(crate::specs::Forms::instr_of))]
+fn jal(word: u32) -> Form
+    requires { bit_and word 127 ≡ 0x6F }
+    ensures { IsFormOf word result }
+{
+    with_fields(word, Op::Jal, rv_isa::imm_j(word))
+}
+
+#[inline]
+#[tactic(auto, using(rv_isa::proofs::ByOpcode::meaning_lui, crate::proofs::Uppers::upper_back), unfolding(crate::specs::Forms::instr_of))]
+fn lui(word: u32) -> Form
+    requires { bit_and word 127 ≡ 0x37 }
+    ensures { IsFormOf word result }
+{
+    with_fields(word, Op::Lui, rv_isa::imm_u(word).cast_signed())
+}
+
+#[inline]
+#[tactic(auto, using(rv_isa::proofs::ByOpcode::meaning_auipc, crate::proofs::Uppers::upper_back), unfolding(crate::specs::Forms::instr_of))]
+fn auipc(word: u32) -> Form
+    requires { bit_and word 127 ≡ 0x17 }
+    ensures { IsFormOf word result }
+{
+    with_fields(word, Op::Auipc, rv_isa::imm_u(word).cast_signed())
+}
+
+#[inline]
+#[tactic(auto, using(rv_isa::proofs::ByOpcode::meaning_none), unfolding(crate::specs::Forms::instr_of))]
+fn other(word: u32) -> Form
+    requires { IsNoOpcode (bit_and word 127) }
+    ensures { IsFormOf word result }
+{
+    none(word)
+}
+
+/// The form of a word. It does what the word does; a word without a meaning has the form
+/// `Op::Illegal`.
+#[inline]
+pub fn form_of(word: u32) -> Form
+    ensures { IsFormOf word result }
+{
+    match word & 127 {
+        0x13 => arithmetic(word),
+        0x33 => register(word),
+        0x03 => load(word),
+        0x23 => store(word),
+        0x63 => branch(word),
+        0x6f => jal(word),
+        0x67 => jalr(word),
+        0x37 => lui(word),
+        0x17 => auipc(word),
+        0x2f => amo(word),
+        0x73 => system(word),
+        0x0f => fence(word),
+        _ => other(word),
+    }
+}

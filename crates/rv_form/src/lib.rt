@@ -1,0 +1,12 @@
+//! An instruction with its fields, as one number of eight bytes: what a word stands for, once it is
+//! decoded.
+#![tactic(auto)]
+
+mod decoding;
+mod entry;
+mod form;
+mod memo;
+
+pub use decoding::form_of;
+pub use form::{Form, Op};
+pub use memo::Memo;
