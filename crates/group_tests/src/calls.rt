@@ -1,6 +1,6 @@
 //! Calls of the program.
 use dos_cmd::dos_main;
-use dos_io::{MemoryFiles, MemoryHost, MemorySink};
+use dos_io::{Files, MemoryFiles, MemoryHost, MemorySink};
 use std::alloc::{AllocError, Global};
 use std::test::Fail;
 use std::thread::Threads;
@@ -107,13 +107,13 @@ pub fn call<R: Threads + Sync>(
 }
 
 /// The same, where the puts to error of the last numbers fail too.
-pub fn call_failing<R: Threads + Sync>(
+pub fn call_failing<'x, R: Threads + Sync>(
     rt: &R,
     alloc: Global,
     texts: &[&str],
     files: &mut MemoryFiles,
-    out_failing: &[u32],
-    err_failing: &[u32],
+    out_failing: &'x [u32],
+    err_failing: &'x [u32],
 ) -> Result<Left, AllocError> {
     let outside = Outside {
         out_failing,
@@ -169,6 +169,18 @@ pub fn run_twice<R: Threads + Sync>(
     let left = call(rt, alloc, texts, files, &[])?;
     left.expect(status, out, err)?;
     expect_again(rt, alloc, texts, files, &left)
+}
+
+/// The bytes of the log.
+pub fn log_of(files: &mut MemoryFiles) -> Result<Vec<u8>, Fail> {
+    files
+        .get(LOG, 1 << 27)
+        .map_err(|_| Fail::from("there is no log"))
+}
+
+/// Whether there is a log.
+pub fn has_log(files: &mut MemoryFiles) -> bool {
+    files.get(LOG, 1 << 27).is_ok()
 }
 
 impl Left {

@@ -10,12 +10,11 @@ fn other_words_are_refused(rt: HostRuntime) -> Result<(), Fail> {
     let alloc = rt.alloc();
     let mut files = MemoryFiles::new(alloc, &[])?;
     files.add("a", &file(alloc, &SEVEN)?)?;
-    let others: [&[&str]; 35] = [
+    let others: [&[&str]; 34] = [
         &[],
         &["run"],
         &["a"],
         &["run", "-x"],
-        &["run", ""],
         &["run", "a", "-x"],
         &["replay", "a"],
         &["replay", "--log", "a"],
