@@ -123,6 +123,48 @@ pub fn call_failing<'x, R: Threads + Sync>(
     call_over(rt, alloc, texts, files, &outside)
 }
 
+/// The words of a call, the numbers of the puts to output and to error that fail in it, and what it
+/// leaves.
+pub struct Case {
+    pub words: &'static [&'static str],
+    pub out_failing: &'static [u32],
+    pub err_failing: &'static [u32],
+    pub status: u8,
+    pub out: &'static str,
+    pub err: &'static str,
+}
+
+/// A call in which nothing fails, and which leaves nothing.
+pub const SILENT: Case = Case {
+    words: &[],
+    out_failing: &[],
+    err_failing: &[],
+    status: 0,
+    out: "",
+    err: "",
+};
+
+/// Calls the program with the words of each case in turn.
+pub fn call_each<R: Threads + Sync>(
+    rt: &R,
+    alloc: Global,
+    files: &mut MemoryFiles,
+    cases: &[Case],
+) -> Result<(), Fail> {
+    for case in cases {
+        call_failing(
+            rt,
+            alloc,
+            case.words,
+            files,
+            case.out_failing,
+            case.err_failing,
+        )?
+        .expect(case.status, case.out, case.err)?;
+    }
+    Ok(())
+}
+
 // The names of a run's words, which stand behind its options.
 fn names<'a>(texts: &'a [&'a str]) -> &'a [&'a str] {
     let mut rest = texts.get(1..).unwrap_or(&[]);

@@ -1,12 +1,14 @@
 //! The group that is made from a number.
-use crate::calls::{call, call_failing};
+use crate::calls::call;
 use dos_io::MemoryFiles;
 use std::test::Fail;
 
 // What number 7 comes to with one thread and with 8.
-const ONE: &str = "rounds 13 done\nprocess 1 status 0\noutput 4100 bytes\nsha256 e59d0f930d0ea4db1caa85500322a5534b2c60e19a71fb491a8eac6055e8aa34\n";
+const ONE: &str =
+    "rounds 13 done\nprocess 1 status 0\noutput 4100 bytes\nsha256 e59d0f930d0ea4db1caa85500322a5534b2c60e19a71fb491a8eac6055e8aa34\n";
 
-const EIGHT: &str = "rounds 14 done\nprocess 1 status 0\noutput 32800 bytes\nsha256 960b87a6bce3e57eefc45993a88a37a062414cb1d9e710e960a5f06fab696e99\n";
+const EIGHT: &str =
+    "rounds 14 done\nprocess 1 status 0\noutput 32800 bytes\nsha256 960b87a6bce3e57eefc45993a88a37a062414cb1d9e710e960a5f06fab696e99\n";
 
 #[test]
 fn it_is_the_same_with_any_number_of_workers(rt: HostRuntime) -> Result<(), Fail> {
@@ -32,24 +34,4 @@ fn it_is_the_same_with_any_number_of_workers(rt: HostRuntime) -> Result<(), Fail
         call(&rt, alloc, &words, &mut files, &[])?.expect(0, out, "")?;
     }
     Ok(())
-}
-
-#[test]
-fn each_line_fails_in_turn(rt: HostRuntime) -> Result<(), Fail> {
-    let alloc = rt.alloc();
-    let mut files = MemoryFiles::new(alloc, &[])?;
-    let words = ["gen", "--threads", "1", "--number", "7"];
-    for (failing, out) in [
-        (1, ""),
-        (2, "rounds 13 done\n"),
-        (3, "rounds 13 done\nprocess 1 status 0\n"),
-        (
-            4,
-            "rounds 13 done\nprocess 1 status 0\noutput 4100 bytes\n",
-        ),
-    ] {
-        call(&rt, alloc, &words, &mut files, &[failing])?.expect(6, out, "")?;
-    }
-    // there is no other put
-    call_failing(&rt, alloc, &words, &mut files, &[5], &[1])?.expect(0, ONE, "")
 }

@@ -221,11 +221,7 @@ fn a_full_log_gives_ten_and_no_log(rt: HostRuntime) -> Result<(), Fail> {
         piece: 4096,
         ..NOTHING
     };
-    call_over(&rt, alloc, &["run", "a"], &mut files, &outside)?.expect(
-        10,
-        "",
-        "dos: log full\n",
-    )?;
+    call_over(&rt, alloc, &["run", "a"], &mut files, &outside)?.expect(10, "", "dos: log full\n")?;
     assert!(rt; !has_log(&mut files));
     Ok(())
 }
