@@ -1,6 +1,6 @@
 //! Calls of the program.
 use dos_cmd::dos_main;
-use dos_io::{MemoryFiles, MemoryHost, MemorySink};
+use dos_io::{Files, MemoryFiles, MemoryHost, MemorySink};
 use std::alloc::{AllocError, Global};
 use std::test::Fail;
 use std::thread::Threads;
@@ -107,13 +107,13 @@ pub fn call<R: Threads + Sync>(
 }
 
 /// The same, where the puts to error of the last numbers fail too.
-pub fn call_failing<R: Threads + Sync>(
+pub fn call_failing<'x, R: Threads + Sync>(
     rt: &R,
     alloc: Global,
     texts: &[&str],
     files: &mut MemoryFiles,
-    out_failing: &[u32],
-    err_failing: &[u32],
+    out_failing: &'x [u32],
+    err_failing: &'x [u32],
 ) -> Result<Left, AllocError> {
     let outside = Outside {
         out_failing,
@@ -121,6 +121,48 @@ pub fn call_failing<R: Threads + Sync>(
         ..NOTHING
     };
     call_over(rt, alloc, texts, files, &outside)
+}
+
+/// The words of a call, the numbers of the puts to output and to error that fail in it, and what it
+/// leaves.
+pub struct Case {
+    pub words: &'static [&'static str],
+    pub out_failing: &'static [u32],
+    pub err_failing: &'static [u32],
+    pub status: u8,
+    pub out: &'static str,
+    pub err: &'static str,
+}
+
+/// A call in which nothing fails, and which leaves nothing.
+pub const SILENT: Case = Case {
+    words: &[],
+    out_failing: &[],
+    err_failing: &[],
+    status: 0,
+    out: "",
+    err: "",
+};
+
+/// Calls the program with the words of each case in turn.
+pub fn call_each<R: Threads + Sync>(
+    rt: &R,
+    alloc: Global,
+    files: &mut MemoryFiles,
+    cases: &[Case],
+) -> Result<(), Fail> {
+    for case in cases {
+        call_failing(
+            rt,
+            alloc,
+            case.words,
+            files,
+            case.out_failing,
+            case.err_failing,
+        )?
+        .expect(case.status, case.out, case.err)?;
+    }
+    Ok(())
 }
 
 // The names of a run's words, which stand behind its options.
@@ -169,6 +211,18 @@ pub fn run_twice<R: Threads + Sync>(
     let left = call(rt, alloc, texts, files, &[])?;
     left.expect(status, out, err)?;
     expect_again(rt, alloc, texts, files, &left)
+}
+
+/// The bytes of the log.
+pub fn log_of(files: &mut MemoryFiles) -> Result<Vec<u8>, Fail> {
+    files
+        .get(LOG, 1 << 27)
+        .map_err(|_| Fail::from("there is no log"))
+}
+
+/// Whether there is a log.
+pub fn has_log(files: &mut MemoryFiles) -> bool {
+    files.get(LOG, 1 << 27).is_ok()
 }
 
 impl Left {

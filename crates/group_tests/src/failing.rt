@@ -1,133 +1,176 @@
 //! Each put of a call fails in turn: what was put before stands, and nothing follows.
-use crate::calls::call_failing;
-use crate::guests::{PRINTS_TO_BOTH, SEVEN, file, file_with};
-use dos_io::MemoryFiles;
+use crate::calls::{Case, SILENT, call_each};
+use crate::files::usual_files;
+use crate::guests::{PRINTS_TO_BOTH, file_with};
 use std::test::Fail;
 
-/// The numbers of the puts to output and to error that fail, and what the call leaves.
-struct Row {
-    out_failing: &'static [u32],
-    err_failing: &'static [u32],
-    status: u8,
-    out: &'static str,
-    err: &'static str,
-}
-
-/// The guest's four puts and the report's two, in the order in which they come.
-const PUTS: [Row; 7] = [
-    Row {
+// The guest's four puts and the report's two, in the order in which they come.
+const PUTS: [Case; 7] = [
+    Case {
+        words: &["run", "both"],
         out_failing: &[1],
-        err_failing: &[],
         status: 6,
-        out: "",
-        err: "",
+        ..SILENT
     },
-    Row {
-        out_failing: &[],
+    Case {
+        words: &["run", "both"],
         err_failing: &[1],
         status: 6,
         out: "ab",
-        err: "",
+        ..SILENT
     },
-    Row {
+    Case {
+        words: &["run", "both"],
         out_failing: &[2],
-        err_failing: &[],
         status: 6,
         out: "ab",
         err: "cd",
+        ..SILENT
     },
-    Row {
-        out_failing: &[],
+    Case {
+        words: &["run", "both"],
         err_failing: &[2],
         status: 6,
         out: "abef",
         err: "cd",
+        ..SILENT
     },
-    Row {
-        out_failing: &[],
+    Case {
+        words: &["run", "both"],
         err_failing: &[3],
         status: 6,
         out: "abef",
         err: "cdgh\n",
+        ..SILENT
     },
-    Row {
-        out_failing: &[],
+    Case {
+        words: &["run", "both"],
         err_failing: &[4],
         status: 6,
         out: "abef",
         err: "cdgh\nprocess 1 status 0\n",
+        ..SILENT
     },
     // there is no other put
-    Row {
+    Case {
+        words: &["run", "both"],
         out_failing: &[3],
         err_failing: &[5],
-        status: 0,
         out: "abef",
         err: "cdgh\nprocess 1 status 0\nrounds 1 done\n",
+        ..SILENT
     },
 ];
 
-#[test]
-fn each_put_of_a_run_fails_in_turn(rt: HostRuntime) -> Result<(), Fail> {
-    let alloc = rt.alloc();
-    let mut files = MemoryFiles::new(alloc, &[])?;
-    files.add("a", &file_with(alloc, &PRINTS_TO_BOTH, b"abcdefgh\n", 0)?)?;
-    for row in &PUTS {
-        let words = &["run", "a"];
-        call_failing(
-            &rt,
-            alloc,
-            words,
-            &mut files,
-            row.out_failing,
-            row.err_failing,
-        )?
-        .expect(row.status, row.out, row.err)?;
-    }
-    Ok(())
-}
-
-/// The lines of an image's entry and of its one part.
-const LINES: [Row; 3] = [
-    Row {
+// The lines of an image's entry and of its parts.
+const LINES: [Case; 4] = [
+    Case {
+        words: &["inspect", "seven"],
         out_failing: &[1],
-        err_failing: &[],
         status: 6,
-        out: "",
-        err: "",
+        ..SILENT
     },
-    Row {
+    Case {
+        words: &["inspect", "seven"],
         out_failing: &[2],
-        err_failing: &[],
         status: 6,
         out: "entry 00010000\n",
-        err: "",
+        ..SILENT
     },
-    Row {
+    Case {
+        words: &["inspect", "seven"],
         out_failing: &[3],
         err_failing: &[1],
-        status: 0,
         out: "entry 00010000\nload 00010000 file 12 memory 12 rights rwx\n",
-        err: "",
+        ..SILENT
+    },
+    Case {
+        words: &["inspect", "linked"],
+        out: "entry 000100b4\nload 00010000 file 192 memory 192 rights r-x\nload 000110c0 file 4 memory 64 rights rw-\n",
+        ..SILENT
+    },
+];
+
+// The four lines of a group that is made from a number.
+const SUMMARY: [Case; 5] = [
+    Case {
+        words: &["gen", "--threads", "1", "--number", "7"],
+        out_failing: &[1],
+        status: 6,
+        ..SILENT
+    },
+    Case {
+        words: &["gen", "--threads", "1", "--number", "7"],
+        out_failing: &[2],
+        status: 6,
+        out: "rounds 13 done\n",
+        ..SILENT
+    },
+    Case {
+        words: &["gen", "--threads", "1", "--number", "7"],
+        out_failing: &[3],
+        status: 6,
+        out: "rounds 13 done\nprocess 1 status 0\n",
+        ..SILENT
+    },
+    Case {
+        words: &["gen", "--threads", "1", "--number", "7"],
+        out_failing: &[4],
+        status: 6,
+        out: "rounds 13 done\nprocess 1 status 0\noutput 4100 bytes\n",
+        ..SILENT
+    },
+    Case {
+        words: &["gen", "--threads", "1", "--number", "7"],
+        out_failing: &[5],
+        err_failing: &[1],
+        out: "rounds 13 done\nprocess 1 status 0\noutput 4100 bytes\nsha256 e59d0f930d0ea4db1caa85500322a5534b2c60e19a71fb491a8eac6055e8aa34\n",
+        ..SILENT
+    },
+];
+
+const OTHERS: [Case; 4] = [
+    // a refusal is one line
+    Case {
+        words: &["run"],
+        err_failing: &[1],
+        status: 6,
+        ..SILENT
+    },
+    Case {
+        words: &["run", "short"],
+        err_failing: &[1],
+        status: 6,
+        ..SILENT
+    },
+    // of two processes
+    Case {
+        words: &["run", "hi", "hi"],
+        out_failing: &[2],
+        status: 6,
+        out: "Hi\n",
+        ..SILENT
+    },
+    Case {
+        words: &["run", "hi", "hi"],
+        err_failing: &[3],
+        status: 6,
+        out: "Hi\nHi\n",
+        err: "process 1 status 0\nprocess 2 status 0\n",
+        ..SILENT
     },
 ];
 
 #[test]
-fn each_line_of_an_image_fails_in_turn(rt: HostRuntime) -> Result<(), Fail> {
+fn each_put_fails_in_turn(rt: HostRuntime) -> Result<(), Fail> {
     let alloc = rt.alloc();
-    let mut files = MemoryFiles::new(alloc, &[])?;
-    files.add("a", &file(alloc, &SEVEN)?)?;
-    for row in &LINES {
-        let words = &["inspect", "a"];
-        call_failing(
-            &rt,
-            alloc,
-            words,
-            &mut files,
-            row.out_failing,
-            row.err_failing,
-        )?
-        .expect(row.status, row.out, row.err)?;
+    let mut files = usual_files(alloc)?;
+    files.add(
+        "both",
+        &file_with(alloc, &PRINTS_TO_BOTH, b"abcdefgh\n", 0)?,
+    )?;
+    for cases in [PUTS.as_slice(), &LINES, &SUMMARY, &OTHERS] {
+        call_each(&rt, alloc, &mut files, cases)?;
     }
     Ok(())
 }

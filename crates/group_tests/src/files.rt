@@ -1,5 +1,6 @@
 //! Files that the assembler doesn't make.
-use crate::guests::{SEVEN, file};
+use crate::guests::{PRINTS, SEVEN, file, file_with};
+use dos_io::MemoryFiles;
 use std::alloc::Global;
 use std::test::Fail;
 
@@ -49,4 +50,18 @@ pub fn linked_file(alloc: Global) -> Result<Vec<u8>, Fail> {
     bytes.extend_from_slice(code.ok_or("a file has its code")?)?;
     bytes.extend_from_slice(&[1, 2, 3, 4])?;
     Ok(bytes)
+}
+
+/// Files of the names `seven`, which ends with 7, `hi`, which prints `Hi`, `linked`, and `short`,
+/// `empty` and `cut`, which are refused.
+pub fn usual_files(alloc: Global) -> Result<MemoryFiles, Fail> {
+    let mut files = MemoryFiles::new(alloc, &[])?;
+    let whole = file(alloc, &SEVEN)?;
+    files.add("seven", &whole)?;
+    files.add("short", whole.get(..51).ok_or("an image has more bytes")?)?;
+    files.add("hi", &file_with(alloc, &PRINTS, b"Hi\n", 0)?)?;
+    files.add("linked", &linked_file(alloc)?)?;
+    files.add("empty", &no_headers(alloc)?)?;
+    files.add("cut", &cut_file(alloc)?)?;
+    Ok(files)
 }

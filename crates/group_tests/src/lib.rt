@@ -5,15 +5,21 @@
 #[cfg(test)]
 mod calls;
 #[cfg(test)]
+mod clocks;
+#[cfg(test)]
 mod failing;
 #[cfg(test)]
 mod files;
+#[cfg(test)]
+mod generated;
 #[cfg(test)]
 mod groups;
 #[cfg(test)]
 mod guests;
 #[cfg(test)]
 mod logs;
+#[cfg(test)]
+mod recorded;
 #[cfg(test)]
 mod refusals;
 #[cfg(test)]

@@ -1,8 +1,10 @@
 //! What a run writes into its log, byte for byte, and what a replay says of other logs.
-use crate::calls::{LOG, NOTHING, Outside, call, call_over, expect_again};
+use crate::calls::{
+    Case, LOG, NOTHING, Outside, SILENT, call, call_each, call_over, expect_again, log_of,
+};
+use crate::files::usual_files;
 use crate::guests::{SEVEN, file, words_file};
-use dos_io::{Files, MemoryFiles};
-use std::alloc::Global;
+use dos_io::MemoryFiles;
 use std::test::*;
 
 // The log of a run that ends with 7 in its first round. Its digest is that of another program.
@@ -13,19 +15,8 @@ const SEVEN_LOG: [u8; 64] = [
     0x82, 0x4a, 0x6e, 0x5b, 0x01, 0x01, 0x00, 0x00, 0x00, 0x00, 0x00, 0x00, 0x01, 0x00, 0x00, 0x00,
 ];
 
-const SEVEN_DIGEST: &str = "3e215eaac57e1259f583ad0a3d6272da6e75fbda72e370327df31109824a6e5b";
-
-// An image that ends with 0, and its file's digest.
+// An image that ends with 0.
 const ZERO: [u32; 3] = [0x0020_0893, 0x0000_0513, 0x0000_0073];
-
-const ZERO_DIGEST: &str = "1f781d9d639fb03ae3a3faf3687483964a05de01ec4ff7b5437fff003f59ddfa";
-
-// The bytes of the log.
-fn log_of(files: &mut MemoryFiles) -> Result<Vec<u8>, Fail> {
-    files
-        .get(LOG, 1 << 27)
-        .map_err(|_| Fail::from("there is no log"))
-}
 
 #[test]
 fn a_run_writes_its_log(rt: HostRuntime) -> Result<(), Fail> {
@@ -38,108 +29,118 @@ fn a_run_writes_its_log(rt: HostRuntime) -> Result<(), Fail> {
     expect_again(&rt, alloc, &["run", "a"], &mut files, &left)
 }
 
-// A change of the log of a run, and the line of its replay.
+// A change of the log of a run: of one byte of it and a zero behind it, of which so many bytes are
+// left; and the line of its replay.
 struct Change {
     place: usize,
     value: u8,
+    length: usize,
     line: &'static str,
 }
 
-const CHANGES: [Change; 6] = [
+const CHANGES: [Change; 8] = [
     Change {
         place: 53,
         value: 2,
+        length: 64,
         line: "dos: log entry 0 is signals round 2, asked signals round 1\n",
     },
     Change {
         place: 52,
         value: 9,
+        length: 64,
         line: "dos: log refused: entry at 52\n",
     },
     Change {
         place: 0,
         value: 9,
+        length: 64,
         line: "dos: log refused: magic\n",
     },
     Change {
         place: 4,
         value: 2,
+        length: 64,
         line: "dos: log refused: version 2\n",
     },
     Change {
         place: 6,
         value: 9,
+        length: 64,
         line: "dos: log refused: header at 6\n",
     },
     Change {
         place: 59,
         value: 1,
+        length: 64,
         line: "dos: log entry 1 is end limit rounds 1, asked end done rounds 1\n",
+    },
+    Change {
+        place: 0,
+        value: 0x44,
+        length: 58,
+        line: "dos: log refused: short at 58\n",
+    },
+    Change {
+        place: 64,
+        value: 0,
+        length: 65,
+        line: "dos: log refused: after end at 64\n",
     },
 ];
 
 #[test]
 fn other_logs_are_refused(rt: HostRuntime) -> Result<(), Fail> {
     let alloc = rt.alloc();
-    let mut files = MemoryFiles::new(alloc, &[])?;
-    files.add("a", &file(alloc, &SEVEN)?)?;
-    let words = ["replay", "--log", LOG, "a"];
+    let mut files = usual_files(alloc)?;
     for change in &CHANGES {
-        let mut log = SEVEN_LOG;
+        let mut log = Vec::from_slice(alloc, &SEVEN_LOG)?;
+        log.push(0)?;
         if let Some(byte) = log.get_mut(change.place) {
             *byte = change.value;
         }
-        files.add(LOG, &log)?;
+        files.add(LOG, log.get(..change.length).unwrap_or(&[]))?;
+        let words = ["replay", "--log", LOG, "seven"];
         call(&rt, alloc, &words, &mut files, &[])?.expect(4, "", change.line)?;
     }
-    files.add(LOG, SEVEN_LOG.get(..58).unwrap_or(&[]))?;
-    call(&rt, alloc, &words, &mut files, &[])?.expect(4, "", "dos: log refused: short at 58\n")?;
-    let mut longer = Vec::from_slice(alloc, &SEVEN_LOG)?;
-    longer.push(0)?;
-    files.add(LOG, &longer)?;
-    call(&rt, alloc, &words, &mut files, &[])?.expect(4, "", "dos: log refused: after end at 64\n")
+    Ok(())
 }
+
+const IMAGES: [Case; 4] = [
+    Case {
+        words: &["replay", "--log", LOG, "zero"],
+        status: 4,
+        err: "dos: image 1 has digest 1f781d9d639fb03ae3a3faf3687483964a05de01ec4ff7b5437fff003f59ddfa, log has 3e215eaac57e1259f583ad0a3d6272da6e75fbda72e370327df31109824a6e5b\n",
+        ..SILENT
+    },
+    Case {
+        words: &["replay", "--log", LOG, "seven", "seven"],
+        status: 4,
+        err: "dos: log has 1 images, given 2\n",
+        ..SILENT
+    },
+    // the images are read first
+    Case {
+        words: &["replay", "--log", LOG, "seven", "none"],
+        status: 5,
+        err: "dos: file fault\n",
+        ..SILENT
+    },
+    Case {
+        words: &["replay", "--log", "none", "seven"],
+        status: 5,
+        err: "dos: file fault\n",
+        ..SILENT
+    },
+];
 
 #[test]
 fn a_log_is_of_its_images(rt: HostRuntime) -> Result<(), Fail> {
     let alloc = rt.alloc();
-    let mut files = MemoryFiles::new(alloc, &[])?;
-    files.add("a", &file(alloc, &SEVEN)?)?;
-    files.add("b", &words_file(alloc, &ZERO)?)?;
+    let mut files = usual_files(alloc)?;
+    files.add("zero", &words_file(alloc, &ZERO)?)?;
     files.add(LOG, &SEVEN_LOG)?;
-    let line = format!(in alloc;
-        "dos: image 1 has digest {ZERO_DIGEST}, log has {SEVEN_DIGEST}\n"
-    )?;
-    call(&rt, alloc, &["replay", "--log", LOG, "b"], &mut files, &[])?.expect(
-        4,
-        "",
-        line.as_str(),
-    )?;
-    call(
-        &rt,
-        alloc,
-        &["replay", "--log", LOG, "a", "a"],
-        &mut files,
-        &[],
-    )?
-    .expect(4, "", "dos: log has 1 images, given 2\n")?;
-    // the images are read first
-    call(
-        &rt,
-        alloc,
-        &["replay", "--log", LOG, "a", "none"],
-        &mut files,
-        &[],
-    )?
-    .expect(5, "", "dos: file fault\n")?;
-    call(
-        &rt,
-        alloc,
-        &["replay", "--log", "none", "a"],
-        &mut files,
-        &[],
-    )?
-    .expect(5, "", "dos: file fault\n")
+    call_each(&rt, alloc, &mut files, &IMAGES)
 }
 
 #[test]
@@ -155,133 +156,6 @@ fn the_longest_log_has_64_mebibytes(rt: HostRuntime) -> Result<(), Fail> {
     )
 }
 
-// It waits on a word of its own for ever.
-const WAITS: [u32; 6] = [
-    0x00b0_0893,
-    0x0000_0517,
-    0x0005_2583,
-    0x0000_0073,
-    0x0020_0893,
-    0x0000_0073,
-];
-
-// It sets a handler for signal 15, waits, and ends with what the wait answers.
-const CATCHES: [u32; 13] = [
-    0x0100_0893,
-    0x00f0_0513,
-    0x0000_0597,
-    0x0245_8593,
-    0x0000_0073,
-    0x00b0_0893,
-    0x0000_0517,
-    0x0005_2583,
-    0x0000_0073,
-    0x0020_0893,
-    0x0000_0073,
-    0x0120_0893,
-    0x0000_0073,
-];
-
-#[test]
-fn signals_of_the_words_are_recorded(rt: HostRuntime) -> Result<(), Fail> {
-    let alloc = rt.alloc();
-    let mut files = MemoryFiles::new(alloc, &[])?;
-    files.add("a", &words_file(alloc, &WAITS)?)?;
-    files.add("b", &words_file(alloc, &CATCHES)?)?;
-    let cases: [(&[&str], u8, &str, usize); 3] = [
-        (&["run", "a"], 8, "process 1 live\nrounds 1 stalled\n", 70),
-        (
-            &["run", "--signals", "2:1:15", "a"],
-            0,
-            "process 1 status 143\nrounds 1 done\n",
-            75,
-        ),
-        (
-            &["run", "--signals", "2:1:15", "b"],
-            0,
-            "process 1 status 252\nrounds 2 done\n",
-            75,
-        ),
-    ];
-    for (words, status, err, length) in cases {
-        let left = call(&rt, alloc, words, &mut files, &[])?;
-        left.expect(status, "", err)?;
-        assert_eq!(rt; log_of(&mut files)?.len(), length);
-        expect_again(&rt, alloc, words, &mut files, &left)?;
-    }
-    Ok(())
-}
-
-// It copies its input to output, 64 bytes at a time.
-const ECHOES: [u32; 13] = [
-    0x0070_0893,
-    0x0000_0513,
-    0xfc01_0593,
-    0x0400_0613,
-    0x0000_0073,
-    0x0005_0c63,
-    0x0005_0613,
-    0x0080_0893,
-    0x0010_0513,
-    0x0000_0073,
-    0xfd9f_f06f,
-    0x0020_0893,
-    0x0000_0073,
-];
-
-const TEN: Outside<'static> = Outside {
-    input: b"0123456789",
-    piece: 64,
-    ..NOTHING
-};
-
-fn echo(alloc: Global) -> Result<MemoryFiles, Fail> {
-    let mut files = MemoryFiles::new(alloc, &[])?;
-    files.add("a", &words_file(alloc, &ECHOES)?)?;
-    Ok(files)
-}
-
-#[test]
-fn input_is_recorded(rt: HostRuntime) -> Result<(), Fail> {
-    let alloc = rt.alloc();
-    let mut files = echo(alloc)?;
-    let left = call_over(&rt, alloc, &["run", "a"], &mut files, &TEN)?;
-    left.expect(0, "0123456789", "process 1 status 0\nrounds 1 done\n")?;
-    assert_eq!(rt; log_of(&mut files)?.len(), 100);
-    expect_again(&rt, alloc, &["run", "a"], &mut files, &left)
-}
-
-#[test]
-fn a_host_that_fails_gives_five_and_no_log(rt: HostRuntime) -> Result<(), Fail> {
-    let alloc = rt.alloc();
-    let mut files = echo(alloc)?;
-    let outside = Outside {
-        host_failing: &[2],
-        ..TEN
-    };
-    call_over(&rt, alloc, &["run", "a"], &mut files, &outside)?.expect(
-        5,
-        "0123456789",
-        "dos: host fault\n",
-    )?;
-    assert!(rt; log_of(&mut files).is_err());
-    Ok(())
-}
-
-#[test]
-fn an_output_that_fails_in_a_run_gives_six_and_no_log(rt: HostRuntime) -> Result<(), Fail> {
-    let alloc = rt.alloc();
-    let mut files = echo(alloc)?;
-    let outside = Outside {
-        piece: 4,
-        out_failing: &[3],
-        ..TEN
-    };
-    call_over(&rt, alloc, &["run", "a"], &mut files, &outside)?.expect(6, "01234567", "")?;
-    assert!(rt; log_of(&mut files).is_err());
-    Ok(())
-}
-
 // The log stands where a line of the report fails, and not where it can't be written.
 #[test]
 fn the_log_is_written_before_the_report(rt: HostRuntime) -> Result<(), Fail> {
@@ -294,46 +168,13 @@ fn the_log_is_written_before_the_report(rt: HostRuntime) -> Result<(), Fail> {
     };
     call_over(&rt, alloc, &["run", "a"], &mut files, &outside)?.expect(6, "", "")?;
     assert_eq!(rt; log_of(&mut files)?.as_slice(), SEVEN_LOG.as_slice());
-    let mut failing = MemoryFiles::new(alloc, &[2])?;
-    failing.add("a", &file(alloc, &SEVEN)?)?;
-    call(&rt, alloc, &["run", "a"], &mut failing, &[])?.expect(5, "", "dos: file fault\n")
+    Ok(())
 }
 
-// It looks at the clock three times, and prints the low word of each reading.
-const CLOCKS: [u32; 16] = [
-    0x0030_0493,
-    0x0160_0893,
-    0x0000_0073,
-    0xff01_0593,
-    0x00a5_a023,
-    0x0080_0893,
-    0x0010_0513,
-    0x0040_0613,
-    0x0000_0073,
-    0xfff4_8493,
-    0xfc04_9ee3,
-    0x0020_0893,
-    0x0000_0513,
-    0x0000_0073,
-    0x0000_0013,
-    0x0000_0013,
-];
-
 #[test]
-fn readings_are_the_hosts_or_counted(rt: HostRuntime) -> Result<(), Fail> {
+fn a_log_that_cant_be_written_gives_five(rt: HostRuntime) -> Result<(), Fail> {
     let alloc = rt.alloc();
-    let mut files = MemoryFiles::new(alloc, &[])?;
-    files.add("a", &words_file(alloc, &CLOCKS)?)?;
-    let err = "process 1 status 0\nrounds 1 done\n";
-    let words = ["run", "--clock-from", "65", "--clock-step", "3", "a"];
-    let left = call(&rt, alloc, &words, &mut files, &[])?;
-    left.expect(0, "A\0\0\0D\0\0\0G\0\0\0", err)?;
-    expect_again(&rt, alloc, &words, &mut files, &left)?;
-    let outside = Outside {
-        clocks: &[72, 105, 33],
-        ..NOTHING
-    };
-    let left = call_over(&rt, alloc, &["run", "a"], &mut files, &outside)?;
-    left.expect(0, "H\0\0\0i\0\0\0!\0\0\0", err)?;
-    expect_again(&rt, alloc, &["run", "a"], &mut files, &left)
+    let mut files = MemoryFiles::new(alloc, &[2])?;
+    files.add("a", &file(alloc, &SEVEN)?)?;
+    call(&rt, alloc, &["run", "a"], &mut files, &[])?.expect(5, "", "dos: file fault\n")
 }

@@ -1,8 +1,8 @@
 //! The same with any number of workers: bytes, rounds and the tally.
 use crate::calls::call;
+use crate::files::usual_files;
 use crate::guests::{
-    BEHIND_NINE, ENDLESS, ENDS, MAKES_THREADS, PRINTS, PRINTS_BEHIND, RACE, SEVEN, file, file_at,
-    file_with,
+    BEHIND_NINE, ENDLESS, ENDS, MAKES_THREADS, PRINTS_BEHIND, RACE, file, file_at, file_with,
 };
 use crate::rows::padded;
 use dos_io::MemoryFiles;
@@ -25,112 +25,117 @@ fn words_on<'a>(
     Ok(words)
 }
 
-// Each number of workers leaves this, with status 0, and the same tally, which is answered.
+// The words behind the number of workers, what comes, and how much the tally grows where that was
+// worked out.
+struct Row {
+    rest: &'static [&'static str],
+    status: u8,
+    out: &'static str,
+    err: &'static str,
+    work: Option<u64>,
+}
+
+const ROWS: [Row; 8] = [
+    Row {
+        rest: &["seven"],
+        status: 0,
+        out: "",
+        err: "process 1 status 7\nrounds 1 done\n",
+        work: Some(2),
+    },
+    Row {
+        rest: &["hi"],
+        status: 0,
+        out: "Hi\n",
+        err: "process 1 status 0\nrounds 1 done\n",
+        work: Some(5),
+    },
+    Row {
+        rest: &["seven", "hi"],
+        status: 0,
+        out: "Hi\n",
+        err: "process 1 status 7\nprocess 2 status 0\nrounds 1 done\n",
+        work: Some(7),
+    },
+    // its text stands behind its code
+    Row {
+        rest: &["behind"],
+        status: 0,
+        out: "Hi\n",
+        err: "process 1 status 0\nrounds 1 done\n",
+        work: Some(5),
+    },
+    Row {
+        rest: &["--rounds", "1", "endless"],
+        status: 7,
+        out: "",
+        err: "process 1 live\nrounds 1 limit\n",
+        work: Some(1000),
+    },
+    // the quantum ends before its call
+    Row {
+        rest: &["--quantum", "16", "later"],
+        status: 0,
+        out: "",
+        err: "process 1 status 0\nrounds 2 done\n",
+        work: Some(16),
+    },
+    // threads of one process
+    Row {
+        rest: &["race"],
+        status: 0,
+        out: "11",
+        err: "process 1 status 0\nrounds 4 done\n",
+        work: None,
+    },
+    Row {
+        rest: &["threads"],
+        status: 0,
+        out: "",
+        err: "process 1 status 245\nrounds 1 done\n",
+        work: None,
+    },
+];
+
+// Each number of workers leaves this, and the same tally.
 fn run_on_each<R: Threads + Sync>(
     rt: &R,
     alloc: Global,
     files: &mut MemoryFiles,
-    rest: &[&str],
-    out: &str,
-    err: &str,
-) -> Result<u64, Fail> {
-    run_on_each_to(rt, alloc, files, rest, 0, out, err)
-}
-
-// the same with this status
-fn run_on_each_to<R: Threads + Sync>(
-    rt: &R,
-    alloc: Global,
-    files: &mut MemoryFiles,
-    rest: &[&str],
-    status: u8,
-    out: &str,
-    err: &str,
-) -> Result<u64, Fail> {
-    let mut work = None;
+    row: &Row,
+) -> Result<(), Fail> {
+    let mut work = row.work;
     for workers in &NUMBERS {
-        let words = words_on(alloc, workers, rest)?;
+        let words = words_on(alloc, workers, row.rest)?;
         let left = call(rt, alloc, &words, files, &[])?;
-        left.expect(status, out, err)?;
+        left.expect(row.status, row.out, row.err)?;
         if work.unwrap_or(left.work) != left.work {
             return Err(Fail::from("another tally"));
         }
         work = Some(left.work);
     }
-    Ok(work.unwrap_or(0))
-}
-
-#[test]
-fn two_images(rt: HostRuntime) -> Result<(), Fail> {
-    let alloc = rt.alloc();
-    let mut files = MemoryFiles::new(alloc, &[])?;
-    files.add("a", &file(alloc, &SEVEN)?)?;
-    files.add("b", &file_with(alloc, &PRINTS, b"Hi\n", 0)?)?;
-    let err = "process 1 status 7\nrounds 1 done\n";
-    assert_eq!(rt; run_on_each(&rt, alloc, &mut files, &["a"], "", err)?, 2);
-    let err = "process 1 status 0\nrounds 1 done\n";
-    assert_eq!(rt;
-        run_on_each(&rt, alloc, &mut files, &["b"], "Hi\n", err)?,
-        5
-    );
-    let err = "process 1 status 7\nprocess 2 status 0\nrounds 1 done\n";
-    assert_eq!(rt;
-        run_on_each(&rt, alloc, &mut files, &["a", "b"], "Hi\n", err)?,
-        7
-    );
     Ok(())
 }
 
-#[test]
-fn text_behind_the_code(rt: HostRuntime) -> Result<(), Fail> {
-    let alloc = rt.alloc();
-    let mut files = MemoryFiles::new(alloc, &[])?;
+fn guests(alloc: Global) -> Result<MemoryFiles, Fail> {
+    let mut files = usual_files(alloc)?;
     files.add(
-        "a",
+        "behind",
         &file_at(alloc, &PRINTS_BEHIND, BEHIND_NINE, b"Hi\n", 0)?,
     )?;
-    let err = "process 1 status 0\nrounds 1 done\n";
-    assert_eq!(rt;
-        run_on_each(&rt, alloc, &mut files, &["a"], "Hi\n", err)?,
-        5
-    );
-    Ok(())
+    files.add("endless", &file(alloc, &ENDLESS)?)?;
+    files.add("later", &file(alloc, &padded(alloc, &[], 15, &ENDS)?)?)?;
+    files.add("race", &file_with(alloc, &RACE, b"0\0\0\0", 0)?)?;
+    files.add("threads", &file(alloc, &MAKES_THREADS)?)?;
+    Ok(files)
 }
 
 #[test]
-fn a_round_of_a_thread_that_never_ends(rt: HostRuntime) -> Result<(), Fail> {
+fn any_number_of_workers_leaves_the_same(rt: HostRuntime) -> Result<(), Fail> {
     let alloc = rt.alloc();
-    let mut files = MemoryFiles::new(alloc, &[])?;
-    files.add("a", &file(alloc, &ENDLESS)?)?;
-    let rest = ["--rounds", "1", "a"];
-    let err = "process 1 live\nrounds 1 limit\n";
-    assert_eq!(rt;
-        run_on_each_to(&rt, alloc, &mut files, &rest, 7, "", err)?,
-        1000
-    );
-    Ok(())
-}
-
-#[test]
-fn a_quantum_that_ends_before_the_call(rt: HostRuntime) -> Result<(), Fail> {
-    let alloc = rt.alloc();
-    let mut files = MemoryFiles::new(alloc, &[])?;
-    files.add("a", &file(alloc, &padded(alloc, &[], 15, &ENDS)?)?)?;
-    let rest = ["--quantum", "16", "a"];
-    let err = "process 1 status 0\nrounds 2 done\n";
-    assert_eq!(rt; run_on_each(&rt, alloc, &mut files, &rest, "", err)?, 16);
-    Ok(())
-}
-
-#[test]
-fn threads_of_one_process(rt: HostRuntime) -> Result<(), Fail> {
-    let alloc = rt.alloc();
-    let mut files = MemoryFiles::new(alloc, &[])?;
-    files.add("a", &file_with(alloc, &RACE, b"0\0\0\0", 0)?)?;
-    files.add("b", &file(alloc, &MAKES_THREADS)?)?;
-    let err = "process 1 status 0\nrounds 4 done\n";
-    run_on_each(&rt, alloc, &mut files, &["a"], "11", err)?;
-    let err = "process 1 status 245\nrounds 1 done\n";
-    run_on_each(&rt, alloc, &mut files, &["b"], "", err)?;
+    let mut files = guests(alloc)?;
+    for row in &ROWS {
+        run_on_each(&rt, alloc, &mut files, row)?;
+    }
     Ok(())
 }

@@ -1,0 +1,37 @@
+//! The group that is made from a number.
+use crate::calls::call;
+use dos_io::MemoryFiles;
+use std::test::Fail;
+
+// What number 7 comes to with one thread and with 8.
+const ONE: &str =
+    "rounds 13 done\nprocess 1 status 0\noutput 4100 bytes\nsha256 e59d0f930d0ea4db1caa85500322a5534b2c60e19a71fb491a8eac6055e8aa34\n";
+
+const EIGHT: &str =
+    "rounds 14 done\nprocess 1 status 0\noutput 32800 bytes\nsha256 960b87a6bce3e57eefc45993a88a37a062414cb1d9e710e960a5f06fab696e99\n";
+
+#[test]
+fn it_is_the_same_with_any_number_of_workers(rt: HostRuntime) -> Result<(), Fail> {
+    let alloc = rt.alloc();
+    let mut files = MemoryFiles::new(alloc, &[])?;
+    for (threads, workers, out) in [
+        ("1", "1", ONE),
+        ("1", "2", ONE),
+        ("1", "32", ONE),
+        ("8", "1", EIGHT),
+        ("8", "2", EIGHT),
+        ("8", "32", EIGHT),
+    ] {
+        let words = [
+            "gen",
+            "--number",
+            "7",
+            "--threads",
+            threads,
+            "--workers",
+            workers,
+        ];
+        call(&rt, alloc, &words, &mut files, &[])?.expect(0, out, "")?;
+    }
+    Ok(())
+}
