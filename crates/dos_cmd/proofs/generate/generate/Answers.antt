@@ -13,6 +13,13 @@ returns-in_err-kernel-clause-leaves g c =
     (one_image c.args.number c.args.threads c.from_ref.result.now c.in-Ok.image
     c.from_ref.ensures.value c.in-Ok.ensures) refl c.requires.few c.in_err-kernel.ensures.refused))
 
+pub returns-in_err-ran-clause-leaves : goal.returns-in_err-ran-clause-leaves
+returns-in_err-ran-clause-leaves g c =
+    let p = err_from_is_err_and c.from_residual-in_err-ran.result
+    c.from_residual-in_err-ran.ensures.1 in
+    rw (p.1, p.2) (λ n tells f h e k l m. leaves_memory c.args.number c.args.threads n tells f h _ e
+    _ _ _ _ c.in_err-ran.ensures.refused)
+
 pub returns-in-Ok-put_summary-clause-did : goal.returns-in-Ok-put_summary-clause-did
 returns-in-Ok-put_summary-clause-did g c =
     let opened = opened_with c.args.number c.args.threads c.in_ok-kernel.kernel

@@ -1,4 +1,4 @@
-use Rattle.std.proofs.Common.{refl}
+use Rattle.std.proofs.Common.{inl, refl}
 use Rattle.std.proofs.lemmas.Result.{err_from_is_err_and}
 use Rattle.dos_cmd.specs.Outside.{Outside, Faults, outside, faults}
 use Rattle.dos_cmd.specs.Results.{run_asked}
@@ -50,6 +50,17 @@ returns-in_err-kernel-clause-leaves g c =
     rw (p.1, p.2) (λ n. not_opened a n o f c.deref.result.now _
     (same_images _ _ _ c.deref.ensures.value load.accepted) c.in_err-kernel.ensures.refused
     (says_nothing o refl refl load.stays refl))
+
+pub returns-in-Err-clause-leaves : goal.returns-in-Err-clause-leaves
+returns-in-Err-clause-leaves g c =
+    let load = c.in_ok-images.ensures in
+    let o : Outside = outside (g.F.Files.tells c.args.files.now)
+    (g.F.Files.content c.args.files.now) (g.F.Files.content c.load_all.new.files)
+    (g.H.Host.told c.args.host.now) (g.H.Host.told c.args.host.now)
+    (g.O.Sink.told c.args.out.now) (g.O.Sink.told c.args.out.now)
+    (g.E.Sink.told c.args.err.now) (g.E.Sink.told c.args.err.now)
+    (g.W.Workers.tally c.args.workers.now) (g.W.Workers.tally c.args.workers.now) in
+    λ n. inl (says_nothing o refl refl load.stays refl)
 
 pub returns-clause-did : goal.returns-clause-did
 returns-clause-did g c =
