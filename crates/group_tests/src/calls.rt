@@ -168,9 +168,12 @@ pub fn call_each<R: Threads + Sync>(
 // The names of a run's words, which stand behind its options.
 fn names<'a>(texts: &'a [&'a str]) -> &'a [&'a str] {
     let mut rest = texts.get(1..).unwrap_or(&[]);
-    while let [option, _value, others @ ..] = rest {
+    for _ in 0..texts.len() {
+        let [option, _value, others @ ..] = rest else {
+            return rest;
+        };
         if !option.starts_with("--") {
-            break;
+            return rest;
         }
         rest = others;
     }
