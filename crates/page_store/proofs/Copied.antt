@@ -1,7 +1,7 @@
 -- A page copied into another frame.
-use Rattle.std.proofs.Common.{◌≡◌, ◌≢◌, ℕ, zero, suc, ◌+◌, ◌<◌, true, false, List, [], ◌∷◌, length, get_or, set, slice_get, Option, Some, None, IsSome, All, refl, sym, ap, ◌∙◌, arith}
+use Rattle.std.proofs.Common.{◌≡◌, ◌≢◌, ℕ, zero, suc, Bool, true, false, List, [], ◌∷◌, length, get_or, set, Option, Some, None, refl, sym, ap, ◌∙◌, arith}
 use Rattle.std.specs.Prelude.{position}
-use Rattle.std.proofs.lemmas.List.{length-set, length-map, get_or-set_other}
+use Rattle.std.proofs.lemmas.List.{length-map, get_or-set_other}
 use Rattle.std.proofs.lemmas.List.Quantifiers.{position-Some}
 use Rattle.std.proofs.lemmas.Option.{get_or_from_slice_get}
 use Rattle.std.proofs.Math.ListN.{get_or-map}
@@ -36,9 +36,10 @@ copied-page pages from to away here page new source apart home read is wrote = r
 }
 
 -- a Free frame has no use
-pub unused-at : (count : ℕ) (owners : List Owner) (uses : List ℕ) (free lowest i : ℕ)
-    → IsKept count owners uses free lowest → position is_free owners ≡ Some i → get_or uses i 0 ≡ 0
-unused-at count owners uses free lowest i kept found =
+pub unused-at : (count : ℕ) (owners : List Owner) (uses : List ℕ) (free : ℕ)
+    (frames : List Bool) (i : ℕ)
+    → IsKept count owners uses free frames → position is_free owners ≡ Some i → get_or uses i 0 ≡ 0
+unused-at count owners uses free frames i kept found =
     let at = position-Some is_free owners i Free found in
     let none : is_unused (get_or uses i 0) ≡ true = sym (get_or-map is_unused uses i 0)
     ∙ ap (λ bs. get_or bs i true) (sym kept.agree) ∙ get_or-map is_free owners i Free ∙ at.1 in
@@ -54,7 +55,7 @@ owned-apart owners from i owned found e =
     cc
 
 -- a use for each owner
-pub uses-each : (count : ℕ) (owners : List Owner) (uses : List ℕ) (free lowest : ℕ)
-    → IsKept count owners uses free lowest → length uses ≡ length owners
-uses-each count owners uses free lowest kept =
+pub uses-each : (count : ℕ) (owners : List Owner) (uses : List ℕ) (free : ℕ) (frames : List Bool)
+    → IsKept count owners uses free frames → length uses ≡ length owners
+uses-each count owners uses free frames kept =
     sym (length-map uses is_unused) ∙ ap length (sym kept.agree) ∙ length-map owners is_free

@@ -1,9 +1,10 @@
 -- How a write changes what the frames keep.
-use Rattle.std.proofs.Common.{◌≡◌, ◌≢◌, ◌⊎◌, ℕ, zero, suc, ◌+◌, ◌-◌, ◌^◌, ◌<◌, ◌≤◌, min, Bool, true, false, cond, inl, inr, List, [], ◌∷◌, length, get_or, set, map, drop, replicate, count_by, refl, sym, ap, ◌∙◌, arith}
-use Rattle.std.specs.Prelude.{position, Option, Some, None, option_map, nat_lt}
+use Rattle.std.proofs.Common.{◌≡◌, ◌≢◌, ◌⊎◌, ℕ, zero, suc, ◌+◌, ◌-◌, ◌^◌, ◌<◌, ◌≤◌, Bool, true, false, cond, inl, inr, List, [], ◌∷◌, length, get_or, set, map, replicate, count_by, refl, sym, ap, ◌∙◌, arith}
+use Rattle.std.specs.Prelude.{position, Some, None, nat_lt}
 use Rattle.std.specs.List.{position_or_len}
 use Rattle.std.proofs.lemmas.List.Quantifiers.{position-Some}
-use Rattle.std.proofs.lemmas.List.{length-set, length-replicate, map-set, set-get_or, get_or-set_same, get_or-set_other}
+use Rattle.std.proofs.lemmas.List.Recursion.{is_position_or_len}
+use Rattle.std.proofs.lemmas.List.{length-map, length-set, length-replicate, map-set, set-get_or, get_or-set_other}
 use Rattle.std.proofs.Math.ListN.{get_or-map}
 use Rattle.std.proofs.lemmas.List.Sums.{count_by-le-length, sum_by-set}
 use Rattle.std.proofs.lemmas.List.Folds.{sum_by-replicate}
@@ -12,7 +13,8 @@ use Rattle.std.proofs.lemmas.Bool.Decides.{nat_tests}
 use Rattle.dos_world.specs.declared.Owner.{Owner}
 use Rattle.dos_world.specs.declared.Owner.TheVariants.{Free, Shared}
 use Rattle.dos_world.specs.World.{is_free}
-use Rattle.page_store.specs.Store.{is_unused, AreFreeFrom, IsKept, AreOwnedBelow}
+use Rattle.page_store.specs.Store.{is_unused, AreFreeFrom, IsKept}
+use Rattle.hierarchical_bitmap.specs.Levels.{itself}
 
 -- ---- the count of Free owners
 
@@ -56,49 +58,33 @@ used-owned owners uses i e h =
     sym (get_or-map is_free owners i Free) ∙ ap (λ bs. get_or bs i true) e
     ∙ get_or-map is_unused uses i 0 ∙ some
 
--- ---- the search from a frame on
+-- ---- the lowest Free frame
 
-shift_test : (a l : ℕ) → nat_lt (1 + a) (suc l) ≡ nat_lt a l
-shift_test a l = grind (arith, nat_tests)
+places_of : (xs : List Owner) → position_or_len itself (map is_free xs) ≡ position_or_len is_free xs
+places_of xs = is_position_or_len (λ ys. position_or_len itself (map is_free ys)) is_free refl
+    (λ y ys. elim (is_free y) as (λ b. position_or_len itself (b ∷ map is_free ys)
+    ≡ cond b 0 (1 + position_or_len itself (map is_free ys))) [ true ↦ refl | false ↦ refl ]) xs
 
-shifted : (a l : ℕ) → cond (nat_lt (1 + a) (suc l)) (Some (1 + a)) None
-    ≡ option_map (λ i. 1 + i) (cond (nat_lt a l) (Some a) None)
-shifted a l = ap (λ b. cond b (Some (1 + a)) None) (shift_test a l)
-    ∙ elim (nat_lt a l) as (λ b. cond b (Some (1 + a)) None
-    ≡ option_map (λ i. 1 + i) (cond b (Some a) None)) [ true ↦ refl | false ↦ refl ]
+-- the first of the frames that are Free, where the list says of each whether it is
+pub position-frames : (owners : List Owner) (frames : List Bool) → frames ≡ map is_free owners
+    → position itself frames ≡ position is_free owners
+position-frames owners frames are =
+    ap (λ (bs : List Bool). position itself bs) are
+    ∙ ap (λ n. cond (nat_lt n (length (map is_free owners))) (Some n) None) (places_of owners)
+    ∙ ap (λ n. cond (nat_lt (position_or_len is_free owners) n)
+    (Some (position_or_len is_free owners)) None) (length-map owners is_free)
 
-pub position_more : (x : Owner) (xs : List Owner) → is_free x ≡ false
-    → position is_free (x ∷ xs) ≡ option_map (λ i. 1 + i) (position is_free xs)
-position_more x xs e = rw e (shifted (position_or_len is_free xs) (length xs))
+pub length-frames : (owners : List Owner) (frames : List Bool) → frames ≡ map is_free owners
+    → length frames ≡ length owners
+length-frames owners frames are = ap (λ (bs : List Bool). length bs) are ∙ length-map owners is_free
 
-twice : (n : ℕ) (o : Option ℕ)
-    → option_map (λ i. suc n + i) o ≡ option_map (λ i. 1 + i) (option_map (λ i. n + i) o)
-twice n None = refl
-twice n (Some i) = ap (λ m. Some m) (omega arith)
-
-none_added : (o : Option ℕ) → option_map (λ i. 0 + i) o ≡ o
-none_added None = refl
-none_added (Some i) = ap (λ m. Some m) (omega arith)
-
--- where none below n is Free, the search may begin there
-pub position-drop : (xs : List Owner) (n : ℕ) → n ≤ length xs → AreOwnedBelow xs n
-    → option_map (λ i. n + i) (position is_free (drop n xs)) ≡ position is_free xs
-position-drop xs zero h below = none_added (position is_free xs)
-position-drop [] (suc n) h below = absurd (omega arith)
-position-drop (x ∷ xs) (suc n) h below =
-    let rest = position-drop xs n (omega arith) (λ k l. below (suc k) (omega arith)) in
-    twice n (position is_free (drop n xs)) ∙ ap (option_map (λ i. 1 + i)) rest
-    ∙ sym (position_more x xs (below 0 (omega arith)))
+-- the list follows a change of one owner
+frames-set : (owners : List Owner) (frames : List Bool) (i : ℕ) (y : Owner) (b : Bool)
+    → frames ≡ map is_free owners → is_free y ≡ b → set frames i b ≡ map is_free (set owners i y)
+frames-set owners frames i y b are is = ap (λ (bs : List Bool). set bs i b) are
+    ∙ ap (λ c. set (map is_free owners) i c) (sym is) ∙ sym (map-set is_free owners i y)
 
 -- ---- what the frames keep
-
-owned-set : (xs : List Owner) (i k : ℕ) (y : Owner) → is_free y ≡ false
-    → is_free (get_or xs k Free) ≡ false → is_free (get_or (set xs i y) k Free) ≡ false
-owned-set [] i k y e h = h
-owned-set (x ∷ xs) zero zero y e h = e
-owned-set (x ∷ xs) zero (suc k) y e h = h
-owned-set (x ∷ xs) (suc i) zero y e h = h
-owned-set (x ∷ xs) (suc i) (suc k) y e h = owned-set xs i k y e h
 
 bits_agree : (owners : List Owner) (uses : List ℕ) (i : ℕ) (y : Owner) (v : ℕ)
     → map is_free owners ≡ map is_unused uses → is_free y ≡ is_unused v
@@ -121,63 +107,64 @@ agree-uses bs uses i v e h =
     ∙ ap (λ b. set (map is_unused uses) i b) (sym h ∙ sym (get_or-map is_unused uses i 0))
     ∙ set-get_or (map is_unused uses) i true)
 
-pub kept-granted : (count : ℕ) (owners : List Owner) (uses : List ℕ) (free lowest i : ℕ) (y : Owner)
-    → IsKept count owners uses free lowest → is_free (get_or owners i Free) ≡ false
+pub kept-granted : (count : ℕ) (owners : List Owner) (uses : List ℕ) (free : ℕ)
+    (frames : List Bool) (i : ℕ) (y : Owner)
+    → IsKept count owners uses free frames → is_free (get_or owners i Free) ≡ false
     → is_free y ≡ false
-    → IsKept count (set owners i y) uses free lowest
-kept-granted count owners uses free lowest i y k e n = record {
+    → IsKept count (set owners i y) uses free frames
+kept-granted count owners uses free frames i y k e n = record {
   few = k.few;
   each = length-set owners i y ∙ k.each;
   agree = agree-owner owners (map is_unused uses) i y k.agree (e ∙ sym n);
   counted = k.counted ∙ sym (count_by-granted owners i y (owned-within owners i e) e n);
-  within = k.within;
-  below = λ j l. owned-set owners i j y n (k.below j l);
+  frames_are = k.frames_are ∙ sym (agree-owner owners (map is_free owners) i y refl (e ∙ sym n));
 }
 
-pub kept-uses : (count : ℕ) (owners : List Owner) (uses : List ℕ) (free lowest i v : ℕ)
-    → IsKept count owners uses free lowest → is_unused (get_or uses i 0) ≡ is_unused v
-    → IsKept count owners (set uses i v) free lowest
-kept-uses count owners uses free lowest i v k e = record {
+pub kept-uses : (count : ℕ) (owners : List Owner) (uses : List ℕ) (free : ℕ)
+    (frames : List Bool) (i v : ℕ)
+    → IsKept count owners uses free frames → is_unused (get_or uses i 0) ≡ is_unused v
+    → IsKept count owners (set uses i v) free frames
+kept-uses count owners uses free frames i v k e = record {
   few = k.few;
   each = k.each;
   agree = agree-uses (map is_free owners) uses i v k.agree e;
   counted = k.counted;
-  within = k.within;
-  below = k.below;
+  frames_are = k.frames_are;
 }
 
-pub kept-fresh : (count : ℕ) (owners : List Owner) (uses : List ℕ) (free lowest i new_count : ℕ)
-    (y : Owner) → IsKept count owners uses free lowest → position is_free owners ≡ Some i
-    → is_free y ≡ false → new_count ≡ count
-    → IsKept new_count (set owners i y) (set uses i 1) (free - 1) (i + 1)
-kept-fresh count owners uses free lowest i new_count y k e n c =
+pub kept-fresh : (count : ℕ) (owners : List Owner) (uses : List ℕ) (free : ℕ)
+    (frames : List Bool) (i new_count : ℕ)
+    (y : Owner) (new : List Bool) → IsKept count owners uses free frames
+    → position is_free owners ≡ Some i → is_free y ≡ false → new_count ≡ count
+    → new ≡ set frames i false
+    → IsKept new_count (set owners i y) (set uses i 1) (free - 1) new
+kept-fresh count owners uses free frames i new_count y new k e n c m =
     let found = position-Some is_free owners i Free e in
     record {
       few = omega (arith, k.few);
       each = length-set owners i y ∙ k.each ∙ sym c;
       agree = bits_agree owners uses i y 1 k.agree n;
       counted = omega (arith, k.counted, count_by-taken owners i y found.0 found.1 n);
-      within = omega (arith, k.each, found.0);
-      below = λ j l. below_it found.0 found.2 j l;
+      frames_are = m ∙ frames-set owners frames i y false k.frames_are n;
     }
-  where
-    below_it : i < length owners → ((j : ℕ) → j < i → is_free (get_or owners j Free) ≡ false)
-        → (j : ℕ) → j < i + 1 → is_free (get_or (set owners i y) j Free) ≡ false
-    below_it h below j l = elim (cases_eq j i) [
-      | inl same ↦ ap (λ m. is_free (get_or (set owners i y) m Free)) same
-          ∙ ap is_free (get_or-set_same owners i y Free h) ∙ n
-      | inr other ↦ owned-set owners i j y n (below j (omega arith))
-    ]
+
+-- the lowest Free frame is the first of the list
+pub kept-found : (count : ℕ) (owners : List Owner) (uses : List ℕ) (free : ℕ) (frames : List Bool)
+    (i : ℕ) → IsKept count owners uses free frames → Some i ≡ position itself frames
+    → position is_free owners ≡ Some i
+kept-found count owners uses free frames i k found =
+    sym (position-frames owners frames k.frames_are) ∙ sym found
 
 pub kept-some : (owners : List Owner) (free i : ℕ) → free ≡ count_by is_free owners
     → position is_free owners ≡ Some i → 1 ≤ free
 kept-some owners free i k e = let found = position-Some is_free owners i Free e in
     omega (arith, k, count_by-taken owners i Shared found.0 found.1 refl)
 
-pub kept-freed : (count : ℕ) (owners : List Owner) (uses : List ℕ) (free lowest i new : ℕ)
-    → IsKept count owners uses free lowest → 0 < get_or uses i 0 → new ≡ min lowest i
+pub kept-freed : (count : ℕ) (owners : List Owner) (uses : List ℕ) (free : ℕ)
+    (frames : List Bool) (i : ℕ) (new : List Bool)
+    → IsKept count owners uses free frames → 0 < get_or uses i 0 → new ≡ set frames i true
     → IsKept count (set owners i Free) (set uses i 0) (free + 1) new
-kept-freed count owners uses free lowest i new k h m =
+kept-freed count owners uses free frames i new k h m =
     let owned = used-owned owners uses i k.agree h in
     record {
       few = k.few;
@@ -188,14 +175,13 @@ kept-freed count owners uses free lowest i new k h m =
         k.counted,
         count_by-freed owners i (owned-within owners i owned) owned,
       );
-      within = omega (arith, k.within);
-      below = λ j l. ap is_free (get_or-set_other owners i j Free Free (λ e. omega arith))
-          ∙ k.below j (omega arith);
+      frames_are = m ∙ frames-set owners frames i Free true k.frames_are refl;
     }
 
-pub kept-room : (count : ℕ) (owners : List Owner) (uses : List ℕ) (free lowest i : ℕ)
-    → IsKept count owners uses free lowest → 0 < get_or uses i 0 → free + 1 < 2 ^ 32
-kept-room count owners uses free lowest i k h =
+pub kept-room : (count : ℕ) (owners : List Owner) (uses : List ℕ) (free : ℕ)
+    (frames : List Bool) (i : ℕ)
+    → IsKept count owners uses free frames → 0 < get_or uses i 0 → free + 1 < 2 ^ 32
+kept-room count owners uses free frames i k h =
     let owned = used-owned owners uses i k.agree h in
     omega (
       arith,
@@ -207,38 +193,44 @@ kept-room count owners uses free lowest i k h =
       length-set owners i Free,
     )
 
-pub kept-more : (count : ℕ) (owners : List Owner) (uses : List ℕ) (free lowest i v : ℕ)
-    → IsKept count owners uses free lowest → is_free (get_or owners i Free) ≡ false
-    → IsKept count owners (set uses i (v + 1)) free lowest
-kept-more count owners uses free lowest i v k e =
+pub kept-more : (count : ℕ) (owners : List Owner) (uses : List ℕ) (free : ℕ)
+    (frames : List Bool) (i v : ℕ)
+    → IsKept count owners uses free frames → is_free (get_or owners i Free) ≡ false
+    → IsKept count owners (set uses i (v + 1)) free frames
+kept-more count owners uses free frames i v k e =
     let some : is_unused (v + 1) ≡ false = grind (arith, nat_tests) in
-    kept-uses count owners uses free lowest i (v + 1) k
+    kept-uses count owners uses free frames i (v + 1) k
     (sym (get_or-map is_unused uses i 0) ∙ ap (λ bs. get_or bs i true) (sym k.agree)
     ∙ get_or-map is_free owners i Free ∙ e ∙ sym some)
 
-pub kept-fewer : (count : ℕ) (owners : List Owner) (uses : List ℕ) (free lowest i v : ℕ)
-    → IsKept count owners uses free lowest → 0 < get_or uses i 0 → v ≡ get_or uses i 0 → (v ≡ 1 → ⊥)
-    → IsKept count owners (set uses i (v - 1)) free lowest
-kept-fewer count owners uses free lowest i v k h e n =
+pub kept-fewer : (count : ℕ) (owners : List Owner) (uses : List ℕ) (free : ℕ)
+    (frames : List Bool) (i v : ℕ)
+    → IsKept count owners uses free frames → 0 < get_or uses i 0 → v ≡ get_or uses i 0 → (v ≡ 1 → ⊥)
+    → IsKept count owners (set uses i (v - 1)) free frames
+kept-fewer count owners uses free frames i v k h e n =
     let old : is_unused (get_or uses i 0) ≡ false = grind (arith, nat_tests) in
     let new : is_unused (v - 1) ≡ false = grind (arith, nat_tests) in
-    kept-uses count owners uses free lowest i (v - 1) k (old ∙ sym new)
+    kept-uses count owners uses free frames i (v - 1) k (old ∙ sym new)
 
-pub kept-unused : (count : ℕ) (owners : List Owner) (uses : List ℕ) (n : ℕ) → count ≡ n
-    → owners ≡ replicate n Free → uses ≡ replicate n 0 → n < 2 ^ 32 → IsKept count owners uses n 0
-kept-unused count owners uses n e o u h = record {
+pub kept-unused : (count : ℕ) (owners : List Owner) (uses : List ℕ) (frames : List Bool) (n : ℕ)
+    → count ≡ n → owners ≡ replicate n Free → uses ≡ replicate n 0 → frames ≡ replicate n true
+    → n < 2 ^ 32 → IsKept count owners uses n frames
+kept-unused count owners uses frames n e o u f h = record {
   few = omega arith;
   each = ap length o ∙ length-replicate n Free ∙ sym e;
   agree = ap (map is_free) o ∙ both n ∙ sym (ap (map is_unused) u);
   counted = sym (ap (count_by is_free) o ∙ sum_by-replicate (λ x. cond (is_free x) 1 0) n Free
       ∙ omega arith);
-  within = omega arith;
-  below = λ j l. absurd (omega arith);
+  frames_are = f ∙ sym (ap (map is_free) o ∙ all n);
 }
   where
     both : (m : ℕ) → map is_free (replicate m Free) ≡ map is_unused (replicate m 0)
     both zero = refl
     both (suc m) = ap (λ bs. true ∷ bs) (both m)
+
+    all : (m : ℕ) → map is_free (replicate m Free) ≡ replicate m true
+    all zero = refl
+    all (suc m) = ap (λ bs. true ∷ bs) (all m)
 
 -- ---- where all are Free from some frame on
 

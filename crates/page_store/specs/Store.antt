@@ -66,20 +66,15 @@ pub record IsUnused (s : Store) (frame : ℕ) : Type 0 where
 abbrev pub free_count : Store → ℕ
 free_count s = count_by is_free s.owners
 
--- no frame below this one is Free
-abbrev pub AreOwnedBelow : List Owner → ℕ → Type 0
-AreOwnedBelow owners lowest = (frame : ℕ) → frame < lowest
-    → is_free (slice_index_or owners frame Free) ≡ false
-
 -- What the frames keep beside the lists. A frame is Free exactly where it has no use; free is the
--- count of Free owners, and none is below lowest.
-pub record IsKept (count : ℕ) (owners : List Owner) (uses : List ℕ) (free lowest : ℕ) : Type 0 where
+-- count of Free owners, and frames says of each whether it is Free.
+pub record IsKept (count : ℕ) (owners : List Owner) (uses : List ℕ) (free : ℕ)
+    (frames : List Bool) : Type 0 where
   pub few : count < 2 ^ 32
   pub each : length owners ≡ count
   pub agree : map is_free owners ≡ map is_unused uses
   pub counted : free ≡ count_by is_free owners
-  pub within : lowest ≤ count
-  pub below : AreOwnedBelow owners lowest
+  pub frames_are : frames ≡ map is_free owners
 
 -- each frame from this one on is Free
 abbrev pub AreFreeFrom : List Owner → ℕ → Type 0

@@ -4,11 +4,12 @@ ghost use Rattle.std.specs.Borrow.{sem};
 ghost use Rattle.dos_world.specs.World.{is_free};
 ghost use Rattle.dos_world.specs.Kernel.{zero_page};
 ghost use Rattle.dos_world.specs.Reach.{granted};
-ghost use Rattle.page_store.specs.Store.{AreFreeFrom, AreHome, AreOwnedBelow, IsAway, IsCopied, IsHome, IsHomeIn, IsOwned, IsPageCopied, IsUnused, free_count, owner_at, unused, uses_at, with_away, with_owned, with_grant, with_home, with_less, with_more};
+ghost use Rattle.page_store.specs.Store.{AreFreeFrom, AreHome, IsAway, IsCopied, IsHome, IsHomeIn, IsOwned, IsPageCopied, IsUnused, free_count, owner_at, unused, uses_at, with_away, with_owned, with_grant, with_home, with_less, with_more};
 ghost use Rattle.page_store.specs.Lending.{LendsPage, LendsSlot};
 
 use crate::Page;
 use dos_world::{Access, Owner};
+use hierarchical_bitmap::Bitmap;
 use rv_form::Memo;
 use std::alloc::{AllocError, Global};
 use std::marker::Model;
@@ -21,7 +22,8 @@ pub struct Frames {
     owners: Vec<Owner>,
     uses: Vec<u32>,
     free: u32,
-    lowest: u32,
+    // which frames are Free
+    free_frames: Bitmap,
     high: u32,
     // what words stand for, for the thread that runs in place
     memo: Option<Box<Memo>>,
@@ -41,7 +43,7 @@ impl Model for Frames {
     } };
 
     ghost invariant = { λ f.
-        IsKept (length f.pages.items) f.owners.items f.uses.items f.free f.lowest
+        IsKept (length f.pages.items) f.owners.items f.uses.items f.free f.free_frames
         × AreFreeFrom f.owners.items f.high × (f.high ≤ length f.pages.items) };
 }
 
@@ -55,7 +57,7 @@ impl Frames {
             owners: free_owners(alloc, count)?,
             uses: no_uses(alloc, count)?,
             free: count,
-            lowest: 0,
+            free_frames: Bitmap::full(alloc, count)?,
             high: 0,
             memo: Some(Box::new(alloc, Memo::new())?),
         })
@@ -193,15 +195,15 @@ impl Frames {
         ensures one { IfSome result (λ frame. self.new ≡ with_owned self.old frame tid) }
         ensures unused { IfSome result (λ frame. IsUnused self.old frame) }
     {
-        match first_free(&self.owners, self.lowest as usize) {
+        match self.free_frames.lowest() {
             None => None,
-            Some(place) => {
-                let frame = place as u32;
+            Some(frame) => {
+                let place = frame as usize;
                 page_mut(&mut self.pages[place]).clear();
                 self.owners[place] = Owner::Of(tid);
                 self.uses[place] = 1;
                 self.free -= 1;
-                self.lowest = frame + 1;
+                self.free_frames.clear(frame);
                 self.high = self.high.max(frame + 1);
                 Some(frame)
             }
@@ -217,15 +219,15 @@ impl Frames {
         ensures none { result ≡ None → self.new ≡ self.old }
         ensures one { IfSome result (λ frame. IsCopied self.old from frame tid self.new) }
     {
-        match first_free(&self.owners, self.lowest as usize) {
+        match self.free_frames.lowest() {
             None => None,
-            Some(place) => {
-                let frame = place as u32;
+            Some(frame) => {
+                let place = frame as usize;
                 copy_page(&mut self.pages, from as usize, place);
                 self.owners[place] = Owner::Of(tid);
                 self.uses[place] = 1;
                 self.free -= 1;
-                self.lowest = frame + 1;
+                self.free_frames.clear(frame);
                 self.high = self.high.max(frame + 1);
                 Some(frame)
             }
@@ -252,7 +254,7 @@ impl Frames {
             self.owners[place] = Owner::Free;
             self.uses[place] = 0;
             self.free += 1;
-            self.lowest = self.lowest.min(frame);
+            self.free_frames.set(frame);
         } else {
             self.uses[place] -= 1;
         }
@@ -304,24 +306,6 @@ fn no_uses(alloc: Global, count: u32) -> Result<Vec<u32>, AllocError>
     vec![in alloc; 0; count as usize]
 }
 
-// the search begins at `start`, below which no owner is Free
-fn first_free(owners: &[Owner], start: usize) -> Option<usize>
-    requires within { start ≤ length owners.now }
-    requires below { AreOwnedBelow owners.now start }
-    ensures { result ≡ position is_free owners.now }
-{
-    match first_free_in(&owners[start..]) {
-        Some(place) => Some(start + place),
-        None => None,
-    }
-}
-
-fn first_free_in(owners: &[Owner]) -> Option<usize>
-    ensures { result ≡ position is_free owners.now }
-{
-    owners.iter().position(is_free)
-}
-
 fn granted(tid: u32, access: Access) -> Owner
     ensures value { result ≡ granted tid access }
     ensures used { is_free result ≡ false }
@@ -329,15 +313,6 @@ fn granted(tid: u32, access: Access) -> Owner
     match access {
         Access::Fetch | Access::Load => Owner::Shared,
         Access::Store | Access::Claim => Owner::Of(tid),
-    }
-}
-
-fn is_free(owner: &Owner) -> bool
-    ensures { result ≡ is_free owner.now }
-{
-    match owner {
-        Owner::Free => true,
-        Owner::Shared | Owner::Of(_) => false,
     }
 }
 

@@ -11,7 +11,7 @@ overflow_add-self c =
     omega (
       arith,
       kept-room _ c.self.inside.owners.items c.self.inside.uses.items c.self.inside.free
-          c.self.inside.lowest c.args.frame c.self.invariant.0 used,
+          c.self.inside.free_frames c.args.frame c.self.invariant.0 used,
     )
 
 pub invariant_of-self : goal.invariant_of-self
@@ -19,8 +19,8 @@ invariant_of-self c =
     let used : 0 < get_or c.self.inside.uses.items c.args.frame 0 =
     subst (λ (s : Store). 0 < get_or s.uses c.args.frame 0) (sym c.self.view_is) c.requires in (
       kept-freed _ c.self.inside.owners.items c.self.inside.uses.items c.self.inside.free
-          c.self.inside.lowest c.args.frame c.min-self-inside.result c.self.invariant.0 used
-          c.min-self-inside.ensures,
+          c.self.inside.free_frames c.args.frame _ c.self.invariant.0 used
+          c.set.ensures,
       free-freed c.self.inside.owners.items c.self.inside.high c.args.frame
           c.self.invariant.1,
       c.self.invariant.2,
@@ -38,7 +38,7 @@ invariant_of-self-else-index-eq1 c =
     ≡ get_or c.self.inside.uses.items c.args.frame 0 =
     get_or_read _ c.args.frame _ within c.index_mut-else-index-eq1.ensures.value 0 in (
       kept-fewer _ c.self.inside.owners.items c.self.inside.uses.items c.self.inside.free
-          c.self.inside.lowest c.args.frame c.index_mut-else-index-eq1.result.now
+          c.self.inside.free_frames c.args.frame c.index_mut-else-index-eq1.result.now
           c.self.invariant.0 used written
           (λ e. c.if-index-eq1.false (tested ∙ sym written ∙ e)),
       c.self.invariant.1,
