@@ -1,6 +1,6 @@
 // The ways to run packs.
 ghost use Rattle.std.specs.Prelude.{◌≡◌, ◌<◌, ◌≤◌, ◌^◌, All, length, vec_len, vec_capacity};
-ghost use Rattle.quantum_run.specs.Packs.{seen};
+ghost use Rattle.quantum_run.specs.Packs.{seen, seen_in};
 ghost use Rattle.quantum_run.specs.Shows.{CanRun};
 ghost use Rattle.worker_pool.specs.Ran.{AllCanRun, AllRan, AllRunnable, EachRan, HasRun};
 
@@ -8,7 +8,7 @@ use crate::crew::run_each;
 use crate::gate::{Gate, OpenGate};
 use crate::lent::{lend, take_back};
 use crate::pace::Pace;
-use quantum_run::{Pack, View, run_pack};
+use quantum_run::{Pack, Shared, View, run_pack};
 use std::alloc::Global;
 use std::thread;
 use std::thread::Threads;
@@ -49,6 +49,14 @@ impl<'a, R, G> Hands<'a, R, G> {
         }
     }
 
+    /// From now on so many threads, from 1 to 32; the pace is kept.
+    pub fn hire(&mut self, workers: u32)
+        requires { (0 < workers) × (workers ≤ 32) }
+        ensures { self.new.workers ≡ workers }
+    {
+        self.workers = workers;
+    }
+
     // a call ran so many instructions
     pub(crate) fn note(&mut self, work: u64) {
         self.pace.note(work);
@@ -69,11 +77,12 @@ impl<'a, R, G> Hands<'a, R, G> {
 
 /// Threads that stay over many calls. A call may wait where the type's runtime may.
 pub trait Staff {
-    /// Runs each pack, as `run_pack` does.
-    fn run_packs(&self, packs: &mut Vec<Pack>, view: &View<'_>)
+    /// Runs each pack, as `run_pack` does; what they share comes back as it was.
+    fn run_packs(&self, packs: &mut Vec<Pack>, shared: Shared) -> Shared
         requires count { vec_len packs.old < 2 ^ 32 }
-        requires can { AllCanRun (seen view.now) packs.old.items }
-        ensures runs { AllRan (seen view.now) packs.old.items packs.new.items }
+        requires can { AllCanRun (seen_in shared) packs.old.items }
+        ensures runs { AllRan (seen_in shared) packs.old.items packs.new.items }
+        ensures shared { result ≡ shared }
         ensures room { vec_capacity packs.new ≡ vec_capacity packs.old };
 }
 
@@ -180,8 +189,9 @@ fn run_shared<R: Threads + Sync, G: Gate + Sync>(
 }
 
 impl Staff for Nobody {
-    fn run_packs(&self, packs: &mut Vec<Pack>, view: &View<'_>) {
-        run_in_place(&OpenGate::new(), packs, view);
+    fn run_packs(&self, packs: &mut Vec<Pack>, shared: Shared) -> Shared {
+        run_in_place(&OpenGate::new(), packs, &shared.view());
+        shared
     }
 }
 
@@ -189,18 +199,20 @@ impl Staff for Nobody {
 pub(crate) fn run_by<R: Threads + Sync, G: Gate + Sync, S: Staff>(
     way: Way<'_, R, G, S>,
     packs: &mut Vec<Pack>,
-    view: &View<'_>,
-)
+    shared: Shared,
+) -> Shared
     requires count { vec_len packs.old < 2 ^ 32 }
-    requires can { AllCanRun (seen view.now) packs.old.items }
-    ensures runs { AllRan (seen view.now) packs.old.items packs.new.items }
+    requires can { AllCanRun (seen_in shared) packs.old.items }
+    ensures runs { AllRan (seen_in shared) packs.old.items packs.new.items }
+    ensures shared { result ≡ shared }
     ensures room { vec_capacity packs.new ≡ vec_capacity packs.old }
 {
     match way {
-        Way::InPlace(gate) => run_in_place(gate, packs, view),
-        Way::Spread(hands) => run_spread(&hands, packs, view),
-        Way::Boarded(hands, alloc) => run_shared(&hands, alloc, false, packs, view),
-        Way::Stealing(hands, alloc) => run_shared(&hands, alloc, true, packs, view),
-        Way::Staffed(staff) => staff.run_packs(packs, view),
+        Way::InPlace(gate) => run_in_place(gate, packs, &shared.view()),
+        Way::Spread(hands) => run_spread(&hands, packs, &shared.view()),
+        Way::Boarded(hands, alloc) => run_shared(&hands, alloc, false, packs, &shared.view()),
+        Way::Stealing(hands, alloc) => run_shared(&hands, alloc, true, packs, &shared.view()),
+        Way::Staffed(staff) => return staff.run_packs(packs, shared),
     }
+    shared
 }
