@@ -115,8 +115,8 @@ fn run_gated<G: Gate>(gate: &G, number: usize, pack: &mut Pack, view: &View<'_>)
     run_pack(pack, view);
 }
 
-// one after another, on the caller's own thread
-fn run_in_place<G: Gate>(gate: &G, packs: &mut Vec<Pack>, view: &View<'_>)
+/// Runs one pack after another, on the caller's own thread.
+pub fn run_in_place<G: Gate>(gate: &G, packs: &mut Vec<Pack>, view: &View<'_>)
     requires count { vec_len packs.old < 2 ^ 32 }
     requires can { AllRunnable (seen view.now) packs.old.items }
     ensures number { length packs.new.items ≡ length packs.old.items }
