@@ -24,7 +24,7 @@ pub struct Hands<'a, R, G> {
 }
 
 impl<'a, R, G> Hands<'a, R, G> {
-    /// From 1 to 32 threads, the caller's among them.
+    /// From 1 to 32 threads, the caller's among them. The others are started at each call.
     pub fn new(rt: &'a R, workers: u32, gate: &'a G) -> Hands<'a, R, G>
         requires { (0 < workers) × (workers ≤ 32) }
         ensures { result.workers ≡ workers }
@@ -33,7 +33,20 @@ impl<'a, R, G> Hands<'a, R, G> {
             rt,
             workers,
             gate,
-            pace: Pace::new(),
+            pace: Pace::started(),
+        }
+    }
+
+    /// The same where the others stay over the calls, which pay with fewer instructions.
+    pub fn staying(rt: &'a R, workers: u32, gate: &'a G) -> Hands<'a, R, G>
+        requires { (0 < workers) × (workers ≤ 32) }
+        ensures { result.workers ≡ workers }
+    {
+        Hands {
+            rt,
+            workers,
+            gate,
+            pace: Pace::staying(),
         }
     }
 
@@ -57,14 +70,17 @@ impl<'a, R, G> Hands<'a, R, G> {
         self.workers = workers;
     }
 
-    // a call ran so many instructions
-    pub(crate) fn note(&mut self, work: u64) {
+    /// A call ran so many instructions.
+    pub fn note(&mut self, work: u64) {
         self.pace.note(work);
     }
 
-    // no more threads than packs, and no more than pay
-    fn enough_for(&self, packs: usize) -> u32
-        ensures { (0 < result) × (result ≤ 32) }
+    /// How many threads are to run so many packs: no more than packs, and no more than pay by what
+    /// the last calls took.
+    pub fn enough_for(&self, packs: usize) -> u32
+        ensures some { 0 < result }
+        ensures hired { result ≤ self.now.workers }
+        ensures few { result ≤ 32 }
     {
         let most = self.workers.min(self.pace.threads());
         if packs < most as usize {
