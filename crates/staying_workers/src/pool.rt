@@ -11,10 +11,7 @@ use quantum_run::{Pack, Shared};
 use std::alloc::Global;
 use std::sync::{Arc, Wait};
 use std::thread::Threads;
-use worker_pool::{Gate, Pace, Staff, Tally, Way, Workers, run_in_place};
-
-/// A worker that is told of a board costs about as much as so many instructions.
-const ORDER_COST: u64 = 512;
+use worker_pool::{Gate, Hands, Staff, Tally, Way, Workers, run_in_place};
 
 /// The workers of an office, as its pool sees them.
 #[derive(Drop)]
@@ -23,11 +20,12 @@ pub struct Clerks<'a, R, G> {
     alloc: Global,
     office: &'a Office,
     gate: &'a G,
-    // how many desks have a worker, and how many of them are used
+    // the caller, and those at the desks that are used
+    hands: Hands<'a, R, G>,
+    // how many desks have a worker
     staffed: u32,
-    used: u32,
+    // how often the caller looks for a note before it sleeps
     looks: u32,
-    pace: Pace,
 }
 
 // one after another, on the caller's own thread
@@ -41,17 +39,16 @@ fn run_alone<G: Gate>(gate: &G, packs: &mut Vec<Pack>, shared: &Shared)
 }
 
 impl<'a, R, G> Clerks<'a, R, G> {
-    // The desks for so many packs: no more workers than packs, and no more than pay.
+    // the desks whose workers are to run so many packs beside the caller
     fn desks_for(&self, packs: usize) -> &[Desk] {
-        let most = self.used.min(self.pace.threads() - 1) as usize;
         let desks = self.office.desks();
-        let count = most.min(packs.saturating_sub(1)).min(desks.len());
-        desks.split_at(count).0
+        let others = self.hands.enough_for(packs) - 1;
+        desks.split_at(desks.len().min(others as usize)).0
     }
 }
 
 impl<'a, R: Wait, G: Gate> Clerks<'a, R, G> {
-    // from now on so many desks are used, where so many have a worker
+    // from now on so many threads, where there are so many
     fn hire(&mut self, workers: u32)
         requires { (0 < workers) × (workers ≤ 32) }
     {
@@ -62,7 +59,7 @@ impl<'a, R: Wait, G: Gate> Clerks<'a, R, G> {
                 self.looks = hired.looks;
             }
         }
-        self.used = wanted.min(self.staffed);
+        self.hands.hire(wanted.min(self.staffed) + 1);
     }
 
     // by the caller and the workers at these desks; where memory is wanting, by the caller alone
@@ -137,10 +134,9 @@ impl<'a, R, G> Staying<'a, R, G> {
                 alloc,
                 office,
                 gate,
+                hands: Hands::staying(rt, 1, gate),
                 staffed: 0,
-                used: 0,
                 looks: 0,
-                pace: Pace::new(ORDER_COST),
             },
             tally,
         }
@@ -175,7 +171,7 @@ impl<'a, R: Threads + Wait + Sync, G: Gate + Sync> Workers for Staying<'a, R, G>
     }
 
     fn add(&mut self, more: u64) {
-        self.clerks.pace.note(more);
+        self.clerks.hands.note(more);
         self.tally.add(more);
     }
 
