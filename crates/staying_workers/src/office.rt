@@ -128,8 +128,8 @@ fn staff<'s, 'e, R: Threads + Wait + Sync, G: Gate + Sync>(
     staffed
 }
 
-/// Starts workers in this scope as the office's pool hires them, until the office is closed.
-pub fn recruit<'s, 'e, R: Threads + Wait + Sync, G: Gate + Sync>(
+// starts workers as the office's pool hires them, until the office is closed
+fn recruit<'s, 'e, R: Threads + Wait + Sync, G: Gate + Sync>(
     rt: &'s R,
     scope: &'s Scope<'s, &'e ()>,
     office: &'s Office,
@@ -143,5 +143,18 @@ pub fn recruit<'s, 'e, R: Threads + Wait + Sync, G: Gate + Sync>(
         let looks = looks_for(rt, wanted);
         desks = staff(rt, scope, office, gate, desks, looks, wanted);
         office.hired.put(rt, Hired { desks, looks });
+    }
+}
+
+/// Opens the office in this scope, for one pool: workers are started as the pool hires them, and
+/// stay until the office is closed. Where no thread can be made no worker is hired.
+pub fn open<'s, 'e, R: Threads + Wait + Sync, G: Gate + Sync>(
+    rt: &'s R,
+    scope: &'s Scope<'s, &'e ()>,
+    office: &'s Office,
+    gate: &'s G,
+) {
+    if scope.spawn(move || recruit(rt, scope, office, gate)).is_err() {
+        office.hired.close();
     }
 }

@@ -116,8 +116,8 @@ pub struct Staying<'a, R, G> {
 }
 
 impl<'a, R, G> Staying<'a, R, G> {
-    /// Workers that hold this tally. Until some are hired the caller alone runs packs. The office's
-    /// recruiter, `recruit`, runs in another thread until the office is closed.
+    /// Workers that hold this tally, at an office that was opened. Until some are hired the caller
+    /// alone runs packs.
     pub fn new(
         rt: &'a R,
         alloc: Global,
