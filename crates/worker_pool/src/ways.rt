@@ -49,6 +49,14 @@ impl<'a, R, G> Hands<'a, R, G> {
         }
     }
 
+    /// From now on so many threads, from 1 to 32; the pace is kept.
+    pub fn hire(&mut self, workers: u32)
+        requires { (0 < workers) × (workers ≤ 32) }
+        ensures { self.new.workers ≡ workers }
+    {
+        self.workers = workers;
+    }
+
     // a call ran so many instructions
     pub(crate) fn note(&mut self, work: u64) {
         self.pace.note(work);

@@ -36,6 +36,12 @@ pub trait Workers {
         ensures tally { tally self.new ≡ (tally self.old + more) % 2 ^ 64 }
         ensures fixed { fixed self.new ≡ fixed self.old };
 
+    /// From now on at most so many threads run packs, from 1 to 32, the caller's among them.
+    fn hire(&mut self, workers: u32)
+        requires { (0 < workers) × (workers ≤ 32) }
+        ensures tally { tally self.new ≡ tally self.old }
+        ensures fixed { fixed self.new ≡ fixed self.old };
+
     /// Runs each pack as `run_pack` does, in whatever order and on whatever thread; the packs come
     /// back in order, into the same vector. It can't be refused: where memory for the way is
     /// wanting, another is taken. The tally grows by the instructions that were run, which are the
