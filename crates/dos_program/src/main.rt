@@ -8,7 +8,7 @@ use std::env;
 use std::io::ErrorKind;
 use std::process::ExitCode;
 use std::thread::Threads;
-use worker_pool::{OpenGate, Tally};
+use worker_pool::{OpenGate, Stealing, Tally};
 
 /// The words behind the program's name. Words that are no text are refused.
 fn words(rt: &HostRuntime) -> Result<Vec<String>, Refusal> {
@@ -39,9 +39,9 @@ fn run(rt: &HostRuntime, threads: &(impl Threads + Sync)) -> u8 {
             let mut out = StdOut::new(rt.stdout());
             let gate = OpenGate::new();
             let mut tally = Tally::new();
+            let mut workers = Stealing::new(threads, alloc, 1, &gate, &mut tally);
             dos_main(
-                threads, alloc, &words, &mut files, &mut host, &mut out, &mut err, &gate,
-                &mut tally,
+                alloc, &words, &mut files, &mut host, &mut out, &mut err, &mut workers,
             )
         }
         Err(refusal) => put_refusal(refusal, &mut err),
