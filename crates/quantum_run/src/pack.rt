@@ -33,7 +33,7 @@ pub struct Shared {
 impl Shared {
     /// The view of it that each pack is lent.
     pub fn view(&self) -> View<'_>
-        ensures { seen result.now ≡ seen_in self.now }
+        ensures { seen result ≡ seen_in self.now }
     {
         View {
             frames: &self.frames,

@@ -223,11 +223,12 @@ pub(crate) fn run_by<R: Threads + Sync, G: Gate + Sync, S: Staff>(
     ensures shared { result ≡ shared }
     ensures room { vec_capacity packs.new ≡ vec_capacity packs.old }
 {
+    let view = shared.view();
     match way {
-        Way::InPlace(gate) => run_in_place(gate, packs, &shared.view()),
-        Way::Spread(hands) => run_spread(&hands, packs, &shared.view()),
-        Way::Boarded(hands, alloc) => run_shared(&hands, alloc, false, packs, &shared.view()),
-        Way::Stealing(hands, alloc) => run_shared(&hands, alloc, true, packs, &shared.view()),
+        Way::InPlace(gate) => run_in_place(gate, packs, &view),
+        Way::Spread(hands) => run_spread(&hands, packs, &view),
+        Way::Boarded(hands, alloc) => run_shared(&hands, alloc, false, packs, &view),
+        Way::Stealing(hands, alloc) => run_shared(&hands, alloc, true, packs, &view),
         Way::Staffed(staff) => return staff.run_packs(packs, shared),
     }
     shared
