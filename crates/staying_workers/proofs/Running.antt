@@ -1,13 +1,13 @@
 -- Packs that were run over a board, with owners of what they share.
 use Rattle.std.proofs.Common.{◌≡◌, ℕ, zero, suc, ◌<◌, List, [], ◌∷◌, length, refl, sym, ap, subst}
-use Rattle.std.proofs.Common.{arith}
+use Rattle.std.proofs.Common.{arith, ◌∙◌}
 use mathlib.Core.Option.{some, some-injective, some-ne-none}
 use lib.ListN.{get_elem?}
 use Rattle.hand_board.specs.Seating.{AllFinished}
 use Rattle.quantum_run.specs.Packs.{seen_in}
 use Rattle.quantum_run.specs.declared.pack.Shared.{Shared}
-use Rattle.worker_pool.specs.Ran.{AllCanRun, AllRunnable, EachRan, HasRun}
-use Rattle.worker_pool.proofs.Running.{runnable-of}
+use Rattle.worker_pool.specs.Ran.{AllCanRun, AllRan, AllRunnable, EachRan, HasRun}
+use Rattle.worker_pool.proofs.Running.{runnable-of, ran-of, as-many}
 use Rattle.staying_workers.specs.Lending.{packs_of, Share, IsFinished, IsReady}
 use Rattle.staying_workers.specs.Ready.{MayRun}
 use Rattle.staying_workers.specs.declared.held.Held.{Held}
@@ -40,3 +40,11 @@ finished_ran s (h ∷ hs) (m ∷ ms) all same (suc i) d low =
 pub packs_length : (hs : List Held) → length (packs_of hs) ≡ length hs
 packs_length [] = refl
 packs_length (h ∷ hs) = ap suc (packs_length hs)
+
+-- the same as one fact, with the number of packs
+pub all_ran : (s : Shared) (hs ms : List Held) → AllFinished IsFinished hs ms → Share s hs
+    → AllRan (seen_in s) (packs_of hs) (packs_of ms)
+all_ran s hs ms all same =
+    ran-of (seen_in s) (packs_of hs) (packs_of ms)
+    (packs_length ms ∙ as-many IsFinished hs ms all ∙ sym (packs_length hs))
+    (finished_ran s hs ms all same)

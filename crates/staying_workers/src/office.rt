@@ -1,5 +1,4 @@
 // Where workers stay: their desks, and how they come and go.
-ghost use Rattle.std.specs.Prelude.{◌≤◌};
 
 use crate::orders::Order;
 use mailbox::Mailbox;
