@@ -7,7 +7,7 @@ use Rattle.hand_board.specs.Seating.{AllFinished}
 use Rattle.quantum_run.specs.Packs.{seen_in}
 use Rattle.quantum_run.specs.declared.pack.Shared.{Shared}
 use Rattle.worker_pool.specs.Ran.{AllCanRun, AllRan, AllRunnable, EachRan, HasRun}
-use Rattle.worker_pool.proofs.Running.{runnable-of, ran-of, as-many}
+use Rattle.worker_pool.proofs.Running.{runnable-in, ran-in, as-many}
 use Rattle.staying_workers.specs.Lending.{packs_of, Share, IsFinished, IsReady}
 use Rattle.staying_workers.specs.Ready.{MayRun}
 use Rattle.staying_workers.specs.declared.held.Held.{Held}
@@ -26,7 +26,8 @@ ready_by s (x ∷ xs) can same (suc k) h at =
 
 pub ready_of : (s : Shared) (hs : List Held) → AllCanRun (seen_in s) (packs_of hs) → Share s hs
     → (k : ℕ) (h : Held) → get_elem? hs k ≡ some h → IsReady h
-ready_of s hs can = ready_by s hs (runnable-of (seen_in s) (packs_of hs) can)
+ready_of s hs can =
+    ready_by s hs (runnable-in (seen_in s) (seen_in s) (packs_of hs) refl can)
 
 pub finished_ran : (s : Shared) (hs ms : List Held) → AllFinished IsFinished hs ms → Share s hs
     → EachRan (seen_in s) (packs_of hs) (packs_of ms)
@@ -45,6 +46,6 @@ packs_length (h ∷ hs) = ap suc (packs_length hs)
 pub all_ran : (s : Shared) (hs ms : List Held) → AllFinished IsFinished hs ms → Share s hs
     → AllRan (seen_in s) (packs_of hs) (packs_of ms)
 all_ran s hs ms all same =
-    ran-of (seen_in s) (packs_of hs) (packs_of ms)
+    ran-in (seen_in s) (seen_in s) (packs_of hs) (packs_of ms) refl
     (packs_length ms ∙ as-many IsFinished hs ms all ∙ sym (packs_length hs))
     (finished_ran s hs ms all same)

@@ -149,12 +149,3 @@ finished-ran v (l ∷ ls) (m ∷ ms) all see (suc i) d low =
 pub packs-length : (ls : List Lent) → length (packs_of ls) ≡ length ls
 packs-length [] = refl
 packs-length (l ∷ ls) = ap suc (packs-length ls)
-
--- ---- over a view that is the same
-
-pub can-over : (v w : View) → v ≡ w → (ps : List Pack) → AllCanRun w ps → AllRunnable v ps
-can-over v w same ps can = subst (λ z. AllRunnable z ps) (sym same) (runnable-of w ps can)
-
-pub ran-over : (v w : View) → v ≡ w → (ps qs : List Pack) → length qs ≡ length ps
-    → EachRan v ps qs → AllRan w ps qs
-ran-over v w same ps qs level each = subst (λ z. AllRan z ps qs) same (ran-of v ps qs level each)
