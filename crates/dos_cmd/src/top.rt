@@ -18,47 +18,45 @@ use dos_texts::{Refusal, ending_status, put_refusal};
 use dos_words::Request;
 use dos_world::{Config, Ending};
 use std::alloc::Global;
-use std::thread::Threads;
-use worker_pool::{Gate, Stealing, Tally, Workers};
+use worker_pool::Workers;
 
 /// Does what is asked for.
-fn execute<R: Threads + Sync, F: Files, H: Host, O: Sink, E: Sink, G: Gate + Sync>(
-    rt: &R,
+fn execute<F: Files, H: Host, O: Sink, E: Sink, W: Workers>(
     alloc: Global,
     request: &Request,
     files: &mut F,
     host: &mut H,
     out: &mut O,
     err: &mut E,
-    gate: &G,
-    tally: &mut Tally,
+    workers: &mut W,
 ) -> Result<Ending, Refusal>
     requires { FitsRequest request.now }
     ensures did { IfOk result (λ ending. Begun request.now
         (outside (F.tells files.old) (F.content files.old) (F.content files.new) (H.told host.old)
         (H.told host.new) (O.told out.old) (O.told out.new) (E.told err.old) (E.told err.new)
-        tally.old.count tally.new.count)
+        (W.tally workers.old) (W.tally workers.new))
         (λ taken. Did request.now taken (ending_status ending)
         (outside (F.tells files.old) (F.content files.old) (F.content files.new) (H.told host.old)
         (H.told host.new) (O.told out.old) (O.told out.new) (E.told err.old) (E.told err.new)
-        tally.old.count tally.new.count))) }
+        (W.tally workers.old) (W.tally workers.new)))) }
     ensures leaves { IfErr result (λ why. Leaves request.now
         (outside (F.tells files.old) (F.content files.old) (F.content files.new) (H.told host.old)
         (H.told host.new) (O.told out.old) (O.told out.new) (E.told err.old) (E.told err.new)
-        tally.old.count tally.new.count)
+        (W.tally workers.old) (W.tally workers.new))
         (faults (F.faults files.old) (F.faults files.new) (H.faults host.old) (H.faults host.new)
         (O.faults out.old) (O.faults out.new) (E.faults err.old) (E.faults err.new)) why []) }
     ensures files_later { F.faults files.old ≤ F.faults files.new }
     ensures host_later { H.faults host.old ≤ H.faults host.new }
     ensures out_later { O.faults out.old ≤ O.faults out.new }
     ensures err_later { E.faults err.old ≤ E.faults err.new }
+    ensures fixed { W.fixed workers.new ≡ W.fixed workers.old }
 {
     match request {
         Request::Run {
             quantum,
             rounds,
             frames,
-            workers,
+            workers: hired,
             posts,
             clock_from,
             clock_step,
@@ -78,65 +76,58 @@ fn execute<R: Threads + Sync, F: Files, H: Host, O: Sink, E: Sink, G: Gate + Syn
                 log: log.as_str(),
                 names,
             };
-            let mut pool = Stealing::new(rt, alloc, *workers, gate, tally);
-            let ran = run(alloc, &asked, files, host, out, err, &mut pool);
-            pool.finish();
-            ran
+            workers.hire(*hired);
+            run(alloc, &asked, files, host, out, err, workers)
         }
         Request::Replay {
-            workers,
+            workers: hired,
             log,
             names,
         } => {
-            let mut pool = Stealing::new(rt, alloc, *workers, gate, tally);
-            let ran = replay(alloc, log.as_str(), names, files, out, err, &mut pool);
-            pool.finish();
-            ran
+            workers.hire(*hired);
+            replay(alloc, log.as_str(), names, files, out, err, workers)
         }
         Request::Inspect { name } => inspect(alloc, name.as_str(), files, out),
         Request::Gen {
             number,
             threads,
-            workers,
+            workers: hired,
         } => {
-            let mut pool = Stealing::new(rt, alloc, *workers, gate, tally);
-            let ran = generate(alloc, *number, *threads, out, &mut pool);
-            pool.finish();
-            ran
+            workers.hire(*hired);
+            generate(alloc, *number, *threads, out, workers)
         }
     }
 }
 
 /// Does what the words ask for.
-fn command<R: Threads + Sync, F: Files, H: Host, O: Sink, E: Sink, G: Gate + Sync>(
-    rt: &R,
+fn command<F: Files, H: Host, O: Sink, E: Sink, W: Workers>(
     alloc: Global,
     words: &[String],
     files: &mut F,
     host: &mut H,
     out: &mut O,
     err: &mut E,
-    gate: &G,
-    tally: &mut Tally,
+    workers: &mut W,
 ) -> Result<Ending, Refusal>
     ensures finished { IfOk result (λ ending. Finished (map string_bytes words.now)
         (ending_status ending)
         (outside (F.tells files.old) (F.content files.old) (F.content files.new) (H.told host.old)
         (H.told host.new) (O.told out.old) (O.told out.new) (E.told err.old) (E.told err.new)
-        tally.old.count tally.new.count)) }
+        (W.tally workers.old) (W.tally workers.new))) }
     ensures fails { IfErr result (λ why. Fails (map string_bytes words.now)
         (outside (F.tells files.old) (F.content files.old) (F.content files.new) (H.told host.old)
         (H.told host.new) (O.told out.old) (O.told out.new) (E.told err.old) (E.told err.new)
-        tally.old.count tally.new.count)
+        (W.tally workers.old) (W.tally workers.new))
         (faults (F.faults files.old) (F.faults files.new) (H.faults host.old) (H.faults host.new)
         (O.faults out.old) (O.faults out.new) (E.faults err.old) (E.faults err.new)) why []) }
     ensures files_later { F.faults files.old ≤ F.faults files.new }
     ensures host_later { H.faults host.old ≤ H.faults host.new }
     ensures out_later { O.faults out.old ≤ O.faults out.new }
     ensures err_later { E.faults err.old ≤ E.faults err.new }
+    ensures fixed { W.fixed workers.new ≡ W.fixed workers.old }
 {
     let request = read_request(alloc, words)?;
-    execute(rt, alloc, &request, files, host, out, err, gate, tally)
+    execute(alloc, &request, files, host, out, err, workers)
 }
 
 /// Does what the words ask for, and answers the exit status.
@@ -153,9 +144,9 @@ fn command<R: Threads + Sync, F: Files, H: Host, O: Sink, E: Sink, G: Gate + Syn
 /// - `gen --number N --threads N [--workers N]` runs an image that is made from a number, with
 ///   nothing from outside, and prints how it ended, how many bytes it wrote, and their digest.
 ///
-/// Up to so many threads as there are workers, the caller's among them, run a round's packs, each
-/// of which passes `gate` as it begins. What the call does is the same with any number of them.
-/// `tally` grows by the instructions that the packs run.
+/// For `run`, `replay` and `gen` `workers` are hired, as many as the words say: at most so many
+/// threads run a round's packs, the caller's among them. What the call does is the same with any
+/// number of them. Their tally grows by the instructions that the packs run.
 ///
 /// | Status | Comes |
 /// |---|---|
@@ -175,16 +166,14 @@ fn command<R: Threads + Sync, F: Files, H: Host, O: Sink, E: Sink, G: Gate + Syn
 /// "exactly" yields to 5, 6 and 9. With 2, 3, 4, 5, 9 and 10 `err` grows by one line behind what
 /// the run has put by then, and there is no report. The log's file is written only where the run
 /// came to its ending. In a replay want of memory comes only before the run.
-pub fn dos_main<R: Threads + Sync, F: Files, H: Host, O: Sink, E: Sink, G: Gate + Sync>(
-    rt: &R,
+pub fn dos_main<F: Files, H: Host, O: Sink, E: Sink, W: Workers>(
     alloc: Global,
     words: &[String],
     files: &mut F,
     host: &mut H,
     out: &mut O,
     err: &mut E,
-    gate: &G,
-    tally: &mut Tally,
+    workers: &mut W,
 ) -> u8
     ensures statuses { IsStatus result }
 
@@ -193,14 +182,14 @@ pub fn dos_main<R: Threads + Sync, F: Files, H: Host, O: Sink, E: Sink, G: Gate 
         → Finished (map string_bytes words.now) result
         (outside (F.tells files.old) (F.content files.old) (F.content files.new) (H.told host.old)
         (H.told host.new) (O.told out.old) (O.told out.new) (E.told err.old) (E.told err.new)
-        tally.old.count tally.new.count) }
+        (W.tally workers.old) (W.tally workers.new)) }
 
     // It isn't, for a reason that the status and the one line tell.
     ensures refused { result ≢ 0 → result ≢ 6 → result ≢ 7 → result ≢ 8
         → Refused (map string_bytes words.now) result
         (outside (F.tells files.old) (F.content files.old) (F.content files.new) (H.told host.old)
         (H.told host.new) (O.told out.old) (O.told out.new) (E.told err.old) (E.told err.new)
-        tally.old.count tally.new.count)
+        (W.tally workers.old) (W.tally workers.new))
         (faults (F.faults files.old) (F.faults files.new) (H.faults host.old) (H.faults host.new)
         (O.faults out.old) (O.faults out.new) (E.faults err.old) (E.faults err.new)) }
 
@@ -208,7 +197,7 @@ pub fn dos_main<R: Threads + Sync, F: Files, H: Host, O: Sink, E: Sink, G: Gate 
     ensures six { result ≡ 6 → CutShort (map string_bytes words.now)
         (outside (F.tells files.old) (F.content files.old) (F.content files.new) (H.told host.old)
         (H.told host.new) (O.told out.old) (O.told out.new) (E.told err.old) (E.told err.new)
-        tally.old.count tally.new.count)
+        (W.tally workers.old) (W.tally workers.new))
         (faults (F.faults files.old) (F.faults files.new) (H.faults host.old) (H.faults host.new)
         (O.faults out.old) (O.faults out.new) (E.faults err.old) (E.faults err.new)) }
 
@@ -226,14 +215,15 @@ pub fn dos_main<R: Threads + Sync, F: Files, H: Host, O: Sink, E: Sink, G: Gate 
         → MustDo asked taken result
         (outside (F.tells files.old) (F.content files.old) (F.content files.new) (H.told host.old)
         (H.told host.new) (O.told out.old) (O.told out.new) (E.told err.old) (E.told err.new)
-        tally.old.count tally.new.count) }
+        (W.tally workers.old) (W.tally workers.new)) }
 
     ensures files_later { F.faults files.old ≤ F.faults files.new }
     ensures host_later { H.faults host.old ≤ H.faults host.new }
     ensures out_later { O.faults out.old ≤ O.faults out.new }
     ensures err_later { E.faults err.old ≤ E.faults err.new }
+    ensures fixed { W.fixed workers.new ≡ W.fixed workers.old }
 {
-    match command(rt, alloc, words, files, host, out, err, gate, tally) {
+    match command(alloc, words, files, host, out, err, workers) {
         Ok(ending) => ending_status(ending),
         Err(refusal) => put_refusal(refusal, err),
     }

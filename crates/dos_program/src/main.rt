@@ -7,6 +7,9 @@ use dos_texts::{Refusal, put_refusal};
 use std::env;
 use std::io::ErrorKind;
 use std::process::ExitCode;
+use staying_workers::{Office, Staying, open};
+use std::sync::Wait;
+use std::thread;
 use std::thread::Threads;
 use worker_pool::{OpenGate, Tally};
 
@@ -28,23 +31,34 @@ fn words(rt: &HostRuntime) -> Result<Vec<String>, Refusal> {
     Ok(words)
 }
 
-/// `threads` is the same runtime, which starts them.
-fn run(rt: &HostRuntime, threads: &(impl Threads + Sync)) -> u8 {
+/// What the words ask for is done, over workers that stay until then. `threads` is the same runtime,
+/// which starts them; they wait for one another.
+fn work<R: Threads + Wait + Sync>(rt: &HostRuntime, threads: &R, words: &[String]) -> u8 {
     let alloc = rt.alloc();
-    let mut err = StdErr::new(rt.stderr());
+    let gate = OpenGate::new();
+    let office = Office::new(alloc);
+    let (gate, office) = (&gate, &office);
+    thread::scope(thread::scope_env(), threads, |scope| -> u8 {
+        open(threads, scope, office, gate);
+        let mut files = StdFiles::new(rt, alloc);
+        let mut host = StdHost::new(rt.stdin(), rt);
+        let mut out = StdOut::new(rt.stdout());
+        let mut err = StdErr::new(rt.stderr());
+        let mut tally = Tally::new();
+        let mut workers = Staying::new(threads, alloc, office, gate, &mut tally);
+        let status = dos_main(
+            alloc, words, &mut files, &mut host, &mut out, &mut err, &mut workers,
+        );
+        workers.finish();
+        office.close();
+        status
+    })
+}
+
+fn run(rt: &HostRuntime, threads: &(impl Threads + Wait + Sync)) -> u8 {
     match words(rt) {
-        Ok(words) => {
-            let mut files = StdFiles::new(rt, alloc);
-            let mut host = StdHost::new(rt.stdin(), rt);
-            let mut out = StdOut::new(rt.stdout());
-            let gate = OpenGate::new();
-            let mut tally = Tally::new();
-            dos_main(
-                threads, alloc, &words, &mut files, &mut host, &mut out, &mut err, &gate,
-                &mut tally,
-            )
-        }
-        Err(refusal) => put_refusal(refusal, &mut err),
+        Ok(words) => work(rt, threads, &words),
+        Err(refusal) => put_refusal(refusal, &mut StdErr::new(rt.stderr())),
     }
 }
 

@@ -4,7 +4,8 @@ use Rattle.dos_world.specs.declared.Owner.TheVariants.{Of}
 use Rattle.rv_exec.specs.Runs.{kept}
 use Rattle.page_store.specs.Store.{Store, whole, owner_at, with_away}
 use Rattle.quantum_run.specs.Laws.{without_run}
-use Rattle.quantum_run.specs.Packs.{bytes_at, empty_pack, space_in, with_page, with_thread_of}
+use Rattle.quantum_run.specs.Packs.{bytes_at, empty_pack, with_page, with_thread_of}
+pub use Rattle.quantum_run.specs.Packs.{view_of}
 use Rattle.quantum_run.specs.Shows.{Pack, View}
 use Rattle.proc_table.specs.Tables.{Tables, thread_in}
 
@@ -28,15 +29,6 @@ AreApart (x ∷ xs) = ((page : List ℕ) → In xs (x.0, page) → ⊥) × AreAp
 abbrev pub AreOthers : List Pack → Type 0
 AreOthers [] = Unit {0}
 AreOthers (p ∷ ps) = ((q : Pack) → In ps q → q.thread ≢ p.thread) × AreOthers ps
-
--- what the packs are lent
-abbrev pub view_of : Store → Tables → View
-view_of s table = record {
-  owners = s.owners;
-  pages = map (option_map whole) s.pages;
-  spaces =
-      map space_in table.processes;
-}
 
 -- ---- coming back
 

@@ -10,7 +10,7 @@ use crate::packs::Packs;
 use crate::phases::{gather, set_budgets};
 use dos_world::Config;
 use kernel_calls::State;
-use quantum_run::Pack;
+use quantum_run::{Pack, Shared};
 use std::marker::Model;
 use worker_pool::Workers;
 
@@ -24,6 +24,7 @@ pub struct HandedOut {
     frames: u32,
     spare: Vec<Pack>,
     out: Vec<Pack>,
+    stand_in: Shared,
 }
 
 impl Model for HandedOut {
@@ -58,6 +59,7 @@ pub struct PartsRun {
     frames: u32,
     spare: Vec<Pack>,
     out: Vec<Pack>,
+    stand_in: Shared,
 }
 
 impl Model for PartsRun {
@@ -104,7 +106,11 @@ pub fn hand_out(kernel: Kernel) -> HandedOut
         frames,
         mut spare,
         mut out,
+        stand_in,
     } = packs;
+    let Some(stand_in) = stand_in else {
+        unreachable!()
+    };
     gather(&state.table, &mut starters);
     set_budgets(&mut state, starters.as_slice(), config.quantum);
     packs::hand_out(&mut state, starters.as_slice(), &mut spare, &mut out);
@@ -115,10 +121,11 @@ pub fn hand_out(kernel: Kernel) -> HandedOut
         frames,
         spare,
         out,
+        stand_in,
     }
 }
 
-/// Each pack runs on the workers, with the frames and the table lent. Their tally grows by the
+/// Each pack runs on the workers, who have the frames and the table meanwhile. Their tally grows by the
 /// instructions of the packs, each for one of a budget.
 pub fn run_parts<W: Workers>(handed: HandedOut, workers: &mut W) -> PartsRun
     ensures runs { HaveRun handed result }
@@ -127,14 +134,15 @@ pub fn run_parts<W: Workers>(handed: HandedOut, workers: &mut W) -> PartsRun
     ensures fixed { W.fixed workers.new ≡ W.fixed workers.old }
 {
     let HandedOut {
-        state,
+        mut state,
         config,
         starters,
         frames,
         spare,
         mut out,
+        stand_in,
     } = handed;
-    packs::run_parts(&state, &mut out, workers);
+    let stand_in = packs::run_parts(&mut state, stand_in, &mut out, workers);
     PartsRun {
         state,
         config,
@@ -142,6 +150,7 @@ pub fn run_parts<W: Workers>(handed: HandedOut, workers: &mut W) -> PartsRun
         frames,
         spare,
         out,
+        stand_in,
     }
 }
 
@@ -158,13 +167,19 @@ pub fn take_in(ran: PartsRun) -> Kernel
         frames,
         mut spare,
         mut out,
+        stand_in,
     } = ran;
     packs::take_in(&mut state, &mut out, &mut spare);
     Kernel {
         state,
         config,
         starters,
-        packs: Packs { frames, spare, out },
+        packs: Packs {
+            frames,
+            spare,
+            out,
+            stand_in: Some(stand_in),
+        },
         failed: false,
     }
 }

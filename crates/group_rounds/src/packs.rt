@@ -1,5 +1,5 @@
 // The parallel phase over packs: their pages go out, they run, and all comes back.
-ghost use Rattle.std.specs.Prelude.{◌≡◌, ◌≢◌, true, ◌+◌, ◌-◌, ◌^◌, ◌≤◌, ◌<◌, ◌++◌, ◌∷◌, ◌⊎◌, [], ℕ, List, Some, IfOk, MatchOption, length, map, slice_get};
+ghost use Rattle.std.specs.Prelude.{◌≡◌, ◌≢◌, true, ◌+◌, ◌-◌, ◌^◌, ◌≤◌, ◌<◌, ◌++◌, ◌∷◌, ◌⊎◌, [], ℕ, List, Some, IfOk, IsSome, MatchOption, length, map, slice_get};
 ghost use Rattle.std.specs.Vec.{vec_capacity};
 ghost use Rattle.page_store.specs.Store.{AreHome, IsAway, IsHome};
 ghost use Rattle.proc_table.specs.Tables.{IsThread};
@@ -16,9 +16,10 @@ use dos_world::Owner;
 use kernel_calls::State;
 use page_store::Frames;
 use proc_table::Table;
-use quantum_run::{Pack, View};
+use quantum_run::{Pack, Shared};
 use std::alloc::{AllocError, Global};
 use std::marker::Model;
+use std::mem;
 use worker_pool::Workers;
 
 // at most so many threads live
@@ -31,10 +32,12 @@ pub(crate) struct Packs {
     pub(crate) frames: u32,
     pub(crate) spare: Vec<Pack>,
     pub(crate) out: Vec<Pack>,
+    // what stands in for the state's frames and table while the workers have them
+    pub(crate) stand_in: Option<Shared>,
 }
 
 impl Model for Packs {
-    ghost use Rattle.std.specs.Prelude.{ℕ};
+    ghost use Rattle.std.specs.Prelude.{ℕ, IsSome};
     ghost use Rattle.std.specs.Vec.{vec_capacity};
     ghost use Rattle.group_rounds.specs.Handing.{ArePacks};
 
@@ -43,7 +46,7 @@ impl Model for Packs {
     ghost view = { λ p. p.frames };
 
     ghost invariant = { λ p. ArePacks p.frames p.spare.items p.out.items (vec_capacity p.spare)
-        (vec_capacity p.out) };
+        (vec_capacity p.out) × IsSome p.stand_in };
 }
 
 // so many packs, and room for them
@@ -67,6 +70,10 @@ impl Packs {
             frames,
             spare: spare_packs(alloc, frames)?,
             out: Vec::with_capacity(alloc, THREADS)?,
+            stand_in: Some(Shared {
+                frames: Frames::reserve(alloc, 0)?,
+                table: Table::reserve(alloc, 0)?,
+            }),
         })
     }
 
@@ -89,7 +96,15 @@ impl Packs {
             (work_between state.old state.new starters.now) }
         ensures fixed { W.fixed workers.new ≡ W.fixed workers.old }
     {
-        parallel_packs(state, starters, &mut self.spare, &mut self.out, workers);
+        let stand_in = &mut self.stand_in;
+        parallel_packs(
+            state,
+            starters,
+            &mut self.spare,
+            &mut self.out,
+            stand_in,
+            workers,
+        );
     }
 }
 
@@ -270,22 +285,57 @@ fn keep(spare: &mut Vec<Pack>, pack: Pack)
     }
 }
 
-/// Each pack runs on the workers, with the frames and the table lent.
-pub(crate) fn run_parts<W: Workers>(state: &State, packs: &mut Vec<Pack>, workers: &mut W)
+/// Each pack runs on the workers, who have the frames and the table meanwhile. What stands in for
+/// them comes back.
+pub(crate) fn run_parts<W: Workers>(
+    state: &mut State,
+    stand_in: Shared,
+    packs: &mut Vec<Pack>,
+    workers: &mut W,
+) -> Shared
     requires count { length packs.old.items < 2 ^ 32 }
-    requires can { AllCanRun (view_of state.now.frames state.now.table) packs.old.items }
-    ensures runs { AllRan (view_of state.now.frames state.now.table) packs.old.items
+    requires can { AllCanRun (view_of state.old.frames state.old.table) packs.old.items }
+    ensures runs { AllRan (view_of state.old.frames state.old.table) packs.old.items
         packs.new.items }
+    ensures state { state.new ≡ state.old }
     ensures room { vec_capacity packs.old ≤ vec_capacity packs.new }
     ensures tally { GrewBy (W.tally workers.old) (W.tally workers.new)
         (budgets packs.old.items - budgets packs.new.items) }
     ensures fixed { W.fixed workers.new ≡ W.fixed workers.old }
 {
-    let view = View {
-        frames: &state.frames,
-        table: &state.table,
-    };
-    workers.run_all(packs, &view);
+    let Shared { frames, table } = stand_in;
+    let frames = mem::replace(&mut state.frames, frames);
+    let table = mem::replace(&mut state.table, table);
+    let Shared { frames, table } = workers.run_all(packs, Shared { frames, table });
+    Shared {
+        frames: mem::replace(&mut state.frames, frames),
+        table: mem::replace(&mut state.table, table),
+    }
+}
+
+// each pack runs on the workers, with what stands in taken out and put back
+fn run_out<W: Workers>(
+    state: &mut State,
+    stand_in: &mut Option<Shared>,
+    packs: &mut Vec<Pack>,
+    workers: &mut W,
+)
+    requires count { length packs.old.items < 2 ^ 32 }
+    requires can { AllCanRun (view_of state.old.frames state.old.table) packs.old.items }
+    requires stand_in { IsSome stand_in.old }
+    ensures runs { AllRan (view_of state.old.frames state.old.table) packs.old.items
+        packs.new.items }
+    ensures state { state.new ≡ state.old }
+    ensures stand_in { IsSome stand_in.new }
+    ensures room { vec_capacity packs.old ≤ vec_capacity packs.new }
+    ensures tally { GrewBy (W.tally workers.old) (W.tally workers.new)
+        (budgets packs.old.items - budgets packs.new.items) }
+    ensures fixed { W.fixed workers.new ≡ W.fixed workers.old }
+{
+    match stand_in.take() {
+        Some(other) => *stand_in = Some(run_parts(state, other, packs, workers)),
+        None => unreachable!(),
+    }
 }
 
 /// All pages, registers and budgets of the packs come back, and the packs are spare.
@@ -322,6 +372,7 @@ fn parallel_packs<W: Workers>(
     starters: &[u32],
     spare: &mut Vec<Pack>,
     packs: &mut Vec<Pack>,
+    stand_in: &mut Option<Shared>,
     workers: &mut W,
 )
     requires sound { IsSound state.old }
@@ -329,6 +380,7 @@ fn parallel_packs<W: Workers>(
     requires apart { (i j t : ℕ) → slice_get starters.now i ≡ Some t
         → slice_get starters.now j ≡ Some t → i ≡ j }
     requires few { length starters.now ≤ 64 }
+    requires stand_in { IsSome stand_in.old }
     requires none { packs.old.items ≡ [] }
     requires room { length starters.now ≤ vec_capacity packs.old }
     requires enough { length starters.now ≤ length spare.old.items }
@@ -348,8 +400,9 @@ fn parallel_packs<W: Workers>(
     ensures enough { length spare.new.items ≡ length spare.old.items }
     ensures spare { AreSpare (length state.old.frames.pages) spare.new.items }
     ensures spare_room { vec_capacity spare.old ≤ vec_capacity spare.new }
+    ensures stand_in { IsSome stand_in.new }
 {
     hand_out(state, starters, spare, packs);
-    run_parts(state, packs, workers);
+    run_out(state, stand_in, packs, workers);
     take_in(state, packs, spare);
 }

@@ -4,7 +4,7 @@ use dos_io::{Files, MemoryFiles, MemoryHost, MemorySink};
 use std::alloc::{AllocError, Global};
 use std::test::Fail;
 use std::thread::Threads;
-use worker_pool::{OpenGate, Tally};
+use worker_pool::{OpenGate, Stealing, Tally};
 
 /// The file of the log, which each run writes.
 pub const LOG: &str = "log";
@@ -74,18 +74,19 @@ pub fn call_over<R: Threads + Sync>(
     )?;
     let mut out = MemorySink::new(alloc, 40000, outside.out_failing)?;
     let mut err = MemorySink::new(alloc, 40000, outside.err_failing)?;
+    let gate = OpenGate::new();
     let mut tally = Tally::new();
+    let mut workers = Stealing::new(rt, alloc, 1, &gate, &mut tally);
     let status = dos_main(
-        rt,
         alloc,
         &words,
         files,
         &mut host,
         &mut out,
         &mut err,
-        &OpenGate::new(),
-        &mut tally,
+        &mut workers,
     );
+    workers.finish();
     let work = tally.count();
     Ok(Left {
         status,

@@ -23,7 +23,7 @@ const WHOLE: u64 = 1 << 32;
 #[derive(Drop)]
 pub struct Board<T: Part> {
     // Word 0 isn't used; word i + 1 and slot i are those of number i.
-    table: Table<Option<T>, Knows<T>, Snapshot<Vec<T>>, Once<T>, Global>,
+    pub(crate) table: Table<Option<T>, Knows<T>, Snapshot<Vec<T>>, Once<T>, Global>,
     count: u32,
     // The vector that the packs came in, now without them: they come home into it.
     room: Vec<T>,

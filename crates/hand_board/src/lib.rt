@@ -24,13 +24,19 @@
 //! | `Board::draw` | claims, in rising order, until one succeeds |
 //! | `Board::give` | the slot comes to the front of the seat's; the pack goes in; word 1 to 2 |
 //! | `Board::split`, `Board::join` | one load each: shares are divided and added |
+//! | `Chair::leave` | one load, by which the seat forgets what it has found; then it lies in the chair |
+//!
+//! A thread that stays can't hand its seat back as a result: it leaves it in a `Chair`, where the
+//! caller fetches it.
 #![tactic(auto)]
 
 mod board;
+mod chair;
 mod rule;
 mod seat;
 mod slots;
 
 pub use board::Board;
+pub use chair::Chair;
 pub use rule::Part;
 pub use seat::{BoardSeat, Job};

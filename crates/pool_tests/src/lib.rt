@@ -10,3 +10,5 @@ mod gates;
 mod loops;
 #[cfg(test)]
 mod pools;
+#[cfg(test)]
+mod stays;

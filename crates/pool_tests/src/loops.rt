@@ -7,7 +7,7 @@ ghost use Rattle.pool_tests.specs.Loops.{HasOneShared, IsLoop, page_of_code};
 use dos_world::{Access, Entry, Regs, Size};
 use page_store::Frames;
 use proc_table::{SignalState, Table};
-use quantum_run::{Pack, View};
+use quantum_run::{Pack, Shared};
 use std::alloc::{AllocError, Global};
 use worker_pool::Workers;
 
@@ -73,10 +73,6 @@ pub fn run<W: Workers>(alloc: Global, workers: &mut W, count: u32) -> Result<(),
     let frames = one_frame(alloc)?;
     let table = one_process(alloc)?;
     let mut packs = packs(alloc, count)?;
-    let view = View {
-        frames: &frames,
-        table: &table,
-    };
-    workers.run_all(&mut packs, &view);
+    let _shared = workers.run_all(&mut packs, Shared { frames, table });
     Ok(())
 }

@@ -3,9 +3,11 @@ use Rattle.std.specs.Prelude.{ℕ, ◌≡◌, ◌<◌, ◌≤◌, ◌^◌, ◌++
 use Rattle.dos_world.specs.World.{Process, Holdings, holdings_of}
 use Rattle.dos_world.specs.declared.Entry.{Entry}
 use Rattle.dos_world.specs.Registers.{Registers, blank}
-use Rattle.page_store.specs.Store.{whole, shown}
+use Rattle.page_store.specs.Store.{Store, whole, shown}
+use Rattle.proc_table.specs.Tables.{Tables}
 use Rattle.quantum_run.specs.Pages.{is_here}
 use Rattle.quantum_run.specs.Shows.{Pack, View}
+use Rattle.quantum_run.specs.declared.pack.Shared.{Shared as SharedOf}
 use Rattle.quantum_run.specs.declared.pack.View.{View as ViewOf}
 
 -- the bytes that a frame's page shows
@@ -59,10 +61,18 @@ HoldsNo p frame = (i : ℕ) (page : List ℕ) → slice_get p.pages i ≡ Some (
 abbrev pub space_in : Process → Option (List (ℕ × Entry))
 space_in process = option_map (λ (h : Holdings). h.space) (holdings_of process)
 
+-- what packs see of these frames and this table
+abbrev pub view_of : Store → Tables → View
+view_of s table = record {
+  owners = s.owners;
+  pages = map (option_map whole) s.pages;
+  spaces = map space_in table.processes;
+}
+
 -- what a view shows
 abbrev pub seen : ViewOf → View
-seen v = record {
-  owners = v.frames.now.owners;
-  pages = map (option_map whole) v.frames.now.pages;
-  spaces = map space_in v.table.now.processes;
-}
+seen v = view_of v.frames.now v.table.now
+
+-- what is shared shows
+abbrev pub seen_in : SharedOf → View
+seen_in s = view_of s.frames s.table

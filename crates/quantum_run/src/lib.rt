@@ -9,5 +9,5 @@ mod pages;
 mod run;
 mod running;
 
-pub use pack::{Pack, View, run_pack};
+pub use pack::{Pack, Shared, View, run_pack};
 pub use run::run_until_stop;

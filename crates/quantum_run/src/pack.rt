@@ -2,7 +2,7 @@
 ghost use Rattle.std.specs.Prelude.{◌≡◌, ◌<◌, ◌≤◌, ◌++◌, ◌∷◌, [], length, map, replicate, None, IfOk, MatchOption};
 ghost use Rattle.page_store.specs.Store.{whole};
 ghost use Rattle.quantum_run.specs.Shows.{CanRun, Finished, frames_of};
-ghost use Rattle.quantum_run.specs.Packs.{HoldsNo, empty_pack, seen, with_page, with_thread_of};
+ghost use Rattle.quantum_run.specs.Packs.{HoldsNo, empty_pack, seen, seen_in, with_page, with_thread_of};
 
 use crate::run::run_lent;
 use dos_world::Regs;
@@ -19,6 +19,27 @@ pub struct View<'a> {
     pub frames: &'a Frames,
     /// The processes' spaces.
     pub table: &'a Table,
+}
+
+/// What the packs of a phase share, owned: it can be handed to threads that outlive the call.
+#[derive(Drop)]
+pub struct Shared {
+    /// The frames: those of threads that run are away.
+    pub frames: Frames,
+    /// The processes' spaces.
+    pub table: Table,
+}
+
+impl Shared {
+    /// The view of it that each pack is lent.
+    pub fn view(&self) -> View<'_>
+        ensures { seen result ≡ seen_in self.now }
+    {
+        View {
+            frames: &self.frames,
+            table: &self.table,
+        }
+    }
 }
 
 /// A thread's number and its process's, its registers and budget, and the pages of frames that are

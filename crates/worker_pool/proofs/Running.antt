@@ -31,13 +31,13 @@ place-at [] i d low = absurd (omega arith)
 place-at (x ∷ ps) zero d low = refl
 place-at (x ∷ ps) (suc i) d low = place-at ps i d (omega arith)
 
-pub runnable-of : (v : View) (ps : List Pack) → AllCanRun v ps → AllRunnable v ps
+runnable-of : (v : View) (ps : List Pack) → AllCanRun v ps → AllRunnable v ps
 runnable-of v ps can i d low = can i (slice_index_or ps i d) (place-at ps i d low)
 
 pub can-of : (v : View) (ps : List Pack) → AllRunnable v ps → AllCanRun v ps
 can-of v ps can i p at = let r = index-at ps i p p at in subst (λ x. CanRun x v) r.1 (can i p r.0)
 
-pub ran-of : (v : View) (ps qs : List Pack) → length qs ≡ length ps → EachRan v ps qs
+ran-of : (v : View) (ps qs : List Pack) → length qs ≡ length ps → EachRan v ps qs
     → AllRan v ps qs
 ran-of v ps qs level each = record {
   level = level;
@@ -55,6 +55,14 @@ each-of v ps qs ran i d low =
     let r = ran.each i (slice_index_or ps i d) (place-at ps i d low) in
     let q = index-at qs i r.0 d r.1 in
     subst (λ x. HasRun v (slice_index_or ps i d) x) (sym q.1) r.2
+
+-- the same by the view of what is shared
+pub runnable-in : (v s : View) (ps : List Pack) → v ≡ s → AllCanRun s ps → AllRunnable v ps
+runnable-in v s ps same can = subst (λ x. AllRunnable x ps) (sym same) (runnable-of s ps can)
+
+pub ran-in : (v s : View) (ps qs : List Pack) → v ≡ s → length qs ≡ length ps → EachRan v ps qs
+    → AllRan s ps qs
+ran-in v s ps qs same level each = subst (λ x. AllRan x ps qs) same (ran-of v ps qs level each)
 
 -- one pack more was run
 pub one-more : (v : View) (old now : List Pack) (n : ℕ) (p q : Pack) → length now ≡ length old

@@ -22,8 +22,8 @@ pub trait Task: Part + Drop {
         ensures { Self.finished self.old self.new };
 }
 
-// draws, runs and gives back until no part is left
-fn sweep<T: Task, G: Gate>(board: &Board<T>, mut seat: BoardSeat<T>, gate: &G) -> BoardSeat<T>
+/// Draws, runs and gives back until no part is left.
+pub fn sweep<T: Task, G: Gate>(board: &Board<T>, mut seat: BoardSeat<T>, gate: &G) -> BoardSeat<T>
     requires board { seat.board ≡ board.now.id }
     requires free { seat.hand ≡ [] }
     requires ready { AreReady T.ready seat.opened }

@@ -16,9 +16,10 @@ mod tally;
 mod ways;
 mod workers;
 
+pub use crew::{Task, sweep};
 pub use gate::{Gate, OpenGate};
 pub use lent::Lent;
 pub use pools::{Boarded, Serial, Spread, Stealing};
 pub use tally::Tally;
-pub use ways::{Hands, Nobody, Staff, Way};
+pub use ways::{Hands, Nobody, Staff, Way, run_in_place};
 pub use workers::Workers;

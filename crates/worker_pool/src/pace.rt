@@ -5,19 +5,37 @@ ghost use Rattle.std.specs.Prelude.{◌<◌, ◌≤◌};
 const FIRST_CALLS: u32 = 8;
 
 /// A thread that is started and joined costs about as much as so many instructions, or fewer.
-const THREAD_COST: u64 = 8192;
+const STARTED_COST: u64 = 8192;
 
-/// What the last calls took.
+/// And a thread that stays, and is told of a call.
+const STAYING_COST: u64 = 512;
+
+/// What the last calls took, and what a thread costs.
 #[derive(Clone, Copy)]
-pub struct Pace {
+pub(crate) struct Pace {
+    cost: u64,
     calls: u32,
     work: u64,
+    ghost some: { 0 < cost },
 }
 
 impl Pace {
-    /// There was no call yet.
-    pub(crate) fn new() -> Pace {
-        Pace { calls: 0, work: 0 }
+    /// There was no call yet. Threads are started at each.
+    pub(crate) fn started() -> Pace {
+        Pace {
+            cost: STARTED_COST,
+            calls: 0,
+            work: 0,
+        }
+    }
+
+    /// There was no call yet. Threads stay over the calls.
+    pub(crate) fn staying() -> Pace {
+        Pace {
+            cost: STAYING_COST,
+            calls: 0,
+            work: 0,
+        }
     }
 
     /// A call ran so many instructions. Older calls count by halves.
@@ -33,7 +51,7 @@ impl Pace {
         if self.calls < FIRST_CALLS {
             return 32;
         }
-        let threads = self.work / THREAD_COST;
+        let threads = self.work / self.cost;
         if threads > 32 {
             32
         } else {

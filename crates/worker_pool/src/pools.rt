@@ -63,6 +63,8 @@ impl<'a, R: Threads + Sync> Workers for Serial<'a, R> {
     fn add(&mut self, more: u64) {
         self.tally.add(more);
     }
+
+    fn hire(&mut self, _workers: u32) {}
 }
 
 /// Threads run an even part of the packs each, in one piece, decided beforehand.
@@ -114,6 +116,10 @@ impl<'a, R: Threads + Sync, G: Gate + Sync> Workers for Spread<'a, R, G> {
     fn add(&mut self, more: u64) {
         self.hands.note(more);
         self.tally.add(more);
+    }
+
+    fn hire(&mut self, workers: u32) {
+        self.hands.hire(workers);
     }
 }
 
@@ -180,6 +186,10 @@ impl<'a, R: Threads + Sync, G: Gate + Sync> Workers for Boarded<'a, R, G> {
         self.hands.note(more);
         self.tally.add(more);
     }
+
+    fn hire(&mut self, workers: u32) {
+        self.hands.hire(workers);
+    }
 }
 
 /// Threads have a deque of numbers each, and steal from one another; a board says who runs what.
@@ -244,5 +254,9 @@ impl<'a, R: Threads + Sync, G: Gate + Sync> Workers for Stealing<'a, R, G> {
     fn add(&mut self, more: u64) {
         self.hands.note(more);
         self.tally.add(more);
+    }
+
+    fn hire(&mut self, workers: u32) {
+        self.hands.hire(workers);
     }
 }

@@ -1,8 +1,8 @@
 // How much work was done.
 ghost use Rattle.std.specs.Prelude.{◌≡◌, ◌+◌, ◌%◌, ◌^◌};
 
-/// How many instructions workers have run, modulo 2^64. It can't be cloned, and only `run_all` of
-/// `Workers` makes it grow.
+/// How many instructions workers have run, modulo 2^64. It can't be cloned; `Workers::run_all` makes
+/// it grow.
 #[derive(Drop)]
 pub struct Tally {
     count: u64,
@@ -23,7 +23,8 @@ impl Tally {
         self.count
     }
 
-    pub(crate) fn add(&mut self, more: u64)
+    /// So many more were run: for who runs packs by a way of its own.
+    pub fn add(&mut self, more: u64)
         ensures { self.new.count ≡ (self.old.count + more) % 2 ^ 64 }
     {
         self.count = self.count.wrapping_add(more);

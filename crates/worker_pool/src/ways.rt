@@ -1,6 +1,6 @@
 // The ways to run packs.
 ghost use Rattle.std.specs.Prelude.{◌≡◌, ◌<◌, ◌≤◌, ◌^◌, All, length, vec_len, vec_capacity};
-ghost use Rattle.quantum_run.specs.Packs.{seen};
+ghost use Rattle.quantum_run.specs.Packs.{seen, seen_in};
 ghost use Rattle.quantum_run.specs.Shows.{CanRun};
 ghost use Rattle.worker_pool.specs.Ran.{AllCanRun, AllRan, AllRunnable, EachRan, HasRun};
 
@@ -8,7 +8,7 @@ use crate::crew::run_each;
 use crate::gate::{Gate, OpenGate};
 use crate::lent::{lend, take_back};
 use crate::pace::Pace;
-use quantum_run::{Pack, View, run_pack};
+use quantum_run::{Pack, Shared, View, run_pack};
 use std::alloc::Global;
 use std::thread;
 use std::thread::Threads;
@@ -24,7 +24,7 @@ pub struct Hands<'a, R, G> {
 }
 
 impl<'a, R, G> Hands<'a, R, G> {
-    /// From 1 to 32 threads, the caller's among them.
+    /// From 1 to 32 threads, the caller's among them. The others are started at each call.
     pub fn new(rt: &'a R, workers: u32, gate: &'a G) -> Hands<'a, R, G>
         requires { (0 < workers) × (workers ≤ 32) }
         ensures { result.workers ≡ workers }
@@ -33,7 +33,20 @@ impl<'a, R, G> Hands<'a, R, G> {
             rt,
             workers,
             gate,
-            pace: Pace::new(),
+            pace: Pace::started(),
+        }
+    }
+
+    /// The same where the others stay over the calls, which pay with fewer instructions.
+    pub fn staying(rt: &'a R, workers: u32, gate: &'a G) -> Hands<'a, R, G>
+        requires { (0 < workers) × (workers ≤ 32) }
+        ensures { result.workers ≡ workers }
+    {
+        Hands {
+            rt,
+            workers,
+            gate,
+            pace: Pace::staying(),
         }
     }
 
@@ -49,14 +62,25 @@ impl<'a, R, G> Hands<'a, R, G> {
         }
     }
 
-    // a call ran so many instructions
-    pub(crate) fn note(&mut self, work: u64) {
+    /// From now on so many threads, from 1 to 32; the pace is kept.
+    pub fn hire(&mut self, workers: u32)
+        requires { (0 < workers) × (workers ≤ 32) }
+        ensures { self.new.workers ≡ workers }
+    {
+        self.workers = workers;
+    }
+
+    /// A call ran so many instructions.
+    pub fn note(&mut self, work: u64) {
         self.pace.note(work);
     }
 
-    // no more threads than packs, and no more than pay
-    fn enough_for(&self, packs: usize) -> u32
-        ensures { (0 < result) × (result ≤ 32) }
+    /// How many threads are to run so many packs: no more than packs, and no more than pay by what
+    /// the last calls took.
+    pub fn enough_for(&self, packs: usize) -> u32
+        ensures some { 0 < result }
+        ensures hired { result ≤ self.now.workers }
+        ensures few { result ≤ 32 }
     {
         let most = self.workers.min(self.pace.threads());
         if packs < most as usize {
@@ -69,11 +93,12 @@ impl<'a, R, G> Hands<'a, R, G> {
 
 /// Threads that stay over many calls. A call may wait where the type's runtime may.
 pub trait Staff {
-    /// Runs each pack, as `run_pack` does.
-    fn run_packs(&self, packs: &mut Vec<Pack>, view: &View<'_>)
+    /// Runs each pack, as `run_pack` does; what they share comes back as it was.
+    fn run_packs(&self, packs: &mut Vec<Pack>, shared: Shared) -> Shared
         requires count { vec_len packs.old < 2 ^ 32 }
-        requires can { AllCanRun (seen view.now) packs.old.items }
-        ensures runs { AllRan (seen view.now) packs.old.items packs.new.items }
+        requires can { AllCanRun (seen_in shared) packs.old.items }
+        ensures runs { AllRan (seen_in shared) packs.old.items packs.new.items }
+        ensures shared { result ≡ shared }
         ensures room { vec_capacity packs.new ≡ vec_capacity packs.old };
 }
 
@@ -106,8 +131,8 @@ fn run_gated<G: Gate>(gate: &G, number: usize, pack: &mut Pack, view: &View<'_>)
     run_pack(pack, view);
 }
 
-// one after another, on the caller's own thread
-fn run_in_place<G: Gate>(gate: &G, packs: &mut Vec<Pack>, view: &View<'_>)
+/// Runs one pack after another, on the caller's own thread.
+pub fn run_in_place<G: Gate>(gate: &G, packs: &mut Vec<Pack>, view: &View<'_>)
     requires count { vec_len packs.old < 2 ^ 32 }
     requires can { AllRunnable (seen view.now) packs.old.items }
     ensures number { length packs.new.items ≡ length packs.old.items }
@@ -180,8 +205,9 @@ fn run_shared<R: Threads + Sync, G: Gate + Sync>(
 }
 
 impl Staff for Nobody {
-    fn run_packs(&self, packs: &mut Vec<Pack>, view: &View<'_>) {
-        run_in_place(&OpenGate::new(), packs, view);
+    fn run_packs(&self, packs: &mut Vec<Pack>, shared: Shared) -> Shared {
+        run_in_place(&OpenGate::new(), packs, &shared.view());
+        shared
     }
 }
 
@@ -189,18 +215,21 @@ impl Staff for Nobody {
 pub(crate) fn run_by<R: Threads + Sync, G: Gate + Sync, S: Staff>(
     way: Way<'_, R, G, S>,
     packs: &mut Vec<Pack>,
-    view: &View<'_>,
-)
+    shared: Shared,
+) -> Shared
     requires count { vec_len packs.old < 2 ^ 32 }
-    requires can { AllCanRun (seen view.now) packs.old.items }
-    ensures runs { AllRan (seen view.now) packs.old.items packs.new.items }
+    requires can { AllCanRun (seen_in shared) packs.old.items }
+    ensures runs { AllRan (seen_in shared) packs.old.items packs.new.items }
+    ensures shared { result ≡ shared }
     ensures room { vec_capacity packs.new ≡ vec_capacity packs.old }
 {
+    let view = shared.view();
     match way {
-        Way::InPlace(gate) => run_in_place(gate, packs, view),
-        Way::Spread(hands) => run_spread(&hands, packs, view),
-        Way::Boarded(hands, alloc) => run_shared(&hands, alloc, false, packs, view),
-        Way::Stealing(hands, alloc) => run_shared(&hands, alloc, true, packs, view),
-        Way::Staffed(staff) => staff.run_packs(packs, view),
+        Way::InPlace(gate) => run_in_place(gate, packs, &view),
+        Way::Spread(hands) => run_spread(&hands, packs, &view),
+        Way::Boarded(hands, alloc) => run_shared(&hands, alloc, false, packs, &view),
+        Way::Stealing(hands, alloc) => run_shared(&hands, alloc, true, packs, &view),
+        Way::Staffed(staff) => return staff.run_packs(packs, shared),
     }
+    shared
 }

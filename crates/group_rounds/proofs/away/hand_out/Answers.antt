@@ -76,9 +76,9 @@ invariant_of-result c =
         empty = subst (λ (n : ℕ). AreSpare n c.hand_out.new.spare.items)
             (sym between.sound.counted.home.owners ∙ between.frames ∙ sym frames_are)
             c.hand_out.ensures.spare;
-        many = omega (arith, c.packs.invariant.many, level, less);
-        fits = omega (arith, c.packs.invariant.fits, level, less, c.hand_out.ensures.spare_room);
-        room = omega (arith, c.packs.invariant.room, c.hand_out.ensures.room);
+        many = omega (arith, c.packs.invariant.0.many, level, less);
+        fits = omega (arith, c.packs.invariant.0.fits, level, less, c.hand_out.ensures.spare_room);
+        room = omega (arith, c.packs.invariant.0.room, c.hand_out.ensures.room);
       },
     )
 

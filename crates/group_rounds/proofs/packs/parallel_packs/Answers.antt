@@ -1,16 +1,41 @@
-use Rattle.std.proofs.Common.{◌∙◌, sym, subst, length}
+use Rattle.std.proofs.Common.{◌≡◌, ◌∙◌, ap, sym, subst, length}
+use Rattle.page_store.specs.Store.{IsAway}
 use Rattle.quantum_run.specs.Shows.{CanRun}
 use Rattle.proc_table.specs.Tables.{Tables, IsThread}
 use Rattle.kernel_calls.specs.declared.state.State.{State}
 use Rattle.worker_pool.specs.Ran.{AllRan, GrewBy}
-use Rattle.group_rounds.specs.Handing.{AreSet, view_of}
+use Rattle.group_rounds.specs.Handing.{AreSet, PutBack, all_pages, view_of}
 use Rattle.group_rounds.proofs.PacksShow.{can-run}
 use Rattle.group_rounds.proofs.PacksBack.{starter-at, others, pages-apart, pages-away, threads-live, rooms, all-runs, sound-again}
 use Rattle.group_rounds.proofs.PacksWork.{work-is}
 use Rattle.group_rounds.proofs.packs.parallel_packs.Goals as goal
 
-pub run_parts-requires-clause-can : goal.run_parts-requires-clause-can
-run_parts-requires-clause-can g c =
+-- the packs ran over the table that was there before the pages went out
+ran-before : (c : goal.After-run_out) → AllRan
+    (view_of c.hand_out.new.state.frames c.args.state.now.table) c.hand_out.new.packs.items
+    c.run_out.new.packs.items
+ran-before c = subst (λ (t : Tables). AllRan (view_of c.hand_out.new.state.frames t)
+    c.hand_out.new.packs.items c.run_out.new.packs.items) c.hand_out.ensures.table
+    c.run_out.ensures.runs
+
+-- which is the table that is there afterwards
+table-stood : (c : goal.After-run_out) → c.run_out.new.state.table ≡ c.args.state.now.table
+table-stood c = ap (λ (s : State). s.table) c.run_out.ensures.state ∙ c.hand_out.ensures.table
+
+-- the pages come back to the frames that they went out of
+put-back : (c : goal.After-take_in) → PutBack (all_pages c.run_out.new.packs.items)
+    c.hand_out.new.state.frames c.take_in.new.state.frames
+put-back c = subst (λ (s : State). PutBack (all_pages c.run_out.new.packs.items) s.frames
+    c.take_in.new.state.frames) c.run_out.ensures.state c.take_in.ensures.back
+
+-- the registers and budgets to the table that was there before
+set-in : (c : goal.After-take_in) → AreSet c.run_out.new.packs.items c.args.state.now.table
+    c.take_in.new.state.table
+set-in c = subst (λ (t : Tables). AreSet c.run_out.new.packs.items t c.take_in.new.state.table)
+    (table-stood c) c.take_in.ensures.set
+
+pub run_out-requires-clause-can : goal.run_out-requires-clause-can
+run_out-requires-clause-can g c =
     let s : State = c.args.state.now in
     let ts = c.args.starters.now in
     let h = c.hand_out.ensures.hands in
@@ -23,129 +48,69 @@ run_parts-requires-clause-can g c =
 
 pub take_in-requires-clause-away : goal.take_in-requires-clause-away
 take_in-requires-clause-away g c =
-    let s : State = c.args.state.now in
-    let ts = c.args.starters.now in
-    let h = c.hand_out.ensures.hands in
-    let new = c.hand_out.new.state.frames in
-    let ps = c.hand_out.new.packs.items in
-    let qs = c.run_parts.new.packs.items in
-    let ran : AllRan (view_of new s.table) ps qs =
-    subst (λ (t : Tables). AllRan (view_of new t) ps qs) c.hand_out.ensures.table
-    c.run_parts.ensures.runs in
-    pages-away s c.requires.sound ts c.requires.live c.requires.apart new ps qs h ran
+    λ f page k. subst (λ (s : State). IsAway s.frames f) (sym c.run_out.ensures.state)
+    (pages-away c.args.state.now c.requires.sound c.args.starters.now c.requires.live
+    c.requires.apart c.hand_out.new.state.frames c.hand_out.new.packs.items
+    c.run_out.new.packs.items c.hand_out.ensures.hands (ran-before c) f page k)
 
 pub take_in-requires-clause-apart : goal.take_in-requires-clause-apart
 take_in-requires-clause-apart g c =
-    let s : State = c.args.state.now in
-    let ts = c.args.starters.now in
-    let h = c.hand_out.ensures.hands in
-    let new = c.hand_out.new.state.frames in
-    let ps = c.hand_out.new.packs.items in
-    let qs = c.run_parts.new.packs.items in
-    let ran : AllRan (view_of new s.table) ps qs =
-    subst (λ (t : Tables). AllRan (view_of new t) ps qs) c.hand_out.ensures.table
-    c.run_parts.ensures.runs in
-    pages-apart s c.requires.sound ts c.requires.live c.requires.apart new ps qs h ran
+    pages-apart c.args.state.now c.requires.sound c.args.starters.now c.requires.live
+    c.requires.apart c.hand_out.new.state.frames c.hand_out.new.packs.items
+    c.run_out.new.packs.items c.hand_out.ensures.hands (ran-before c)
 
 pub take_in-requires-clause-live : goal.take_in-requires-clause-live
 take_in-requires-clause-live g c =
-    let s : State = c.args.state.now in
-    let ts = c.args.starters.now in
-    let h = c.hand_out.ensures.hands in
-    let new = c.hand_out.new.state.frames in
-    let ps = c.hand_out.new.packs.items in
-    let qs = c.run_parts.new.packs.items in
-    let ran : AllRan (view_of new s.table) ps qs =
-    subst (λ (t : Tables). AllRan (view_of new t) ps qs) c.hand_out.ensures.table
-    c.run_parts.ensures.runs in
-    λ p k. subst (λ (table : Tables). IsThread table.threads p.thread)
-    (sym c.hand_out.ensures.table)
-    (threads-live s c.requires.sound ts c.requires.live c.requires.apart new ps qs h ran p
-    k)
+    λ p k. subst (λ (table : Tables). IsThread table.threads p.thread) (sym (table-stood c))
+    (threads-live c.args.state.now c.requires.sound c.args.starters.now c.requires.live
+    c.requires.apart c.hand_out.new.state.frames c.hand_out.new.packs.items
+    c.run_out.new.packs.items c.hand_out.ensures.hands (ran-before c) p k)
 
 pub take_in-requires-clause-others : goal.take_in-requires-clause-others
 take_in-requires-clause-others g c =
-    let s : State = c.args.state.now in
-    let ts = c.args.starters.now in
-    let h = c.hand_out.ensures.hands in
-    let new = c.hand_out.new.state.frames in
-    let ps = c.hand_out.new.packs.items in
-    let qs = c.run_parts.new.packs.items in
-    let ran : AllRan (view_of new s.table) ps qs =
-    subst (λ (t : Tables). AllRan (view_of new t) ps qs) c.hand_out.ensures.table
-    c.run_parts.ensures.runs in
-    others s c.requires.sound ts c.requires.live c.requires.apart new ps qs h ran
+    others c.args.state.now c.requires.sound c.args.starters.now c.requires.live c.requires.apart
+    c.hand_out.new.state.frames c.hand_out.new.packs.items c.run_out.new.packs.items
+    c.hand_out.ensures.hands (ran-before c)
+
+-- the rest of the state is as it was
+round-stood : (c : goal.After-take_in) → c.take_in.new.state.round ≡ c.args.state.now.round
+round-stood c = c.take_in.ensures.round ∙ ap (λ (s : State). s.round) c.run_out.ensures.state
+    ∙ c.hand_out.ensures.round
+
+pipes-stood : (c : goal.After-take_in) → c.take_in.new.state.pipes ≡ c.args.state.now.pipes
+pipes-stood c = c.take_in.ensures.pipes ∙ ap (λ (s : State). s.pipes) c.run_out.ensures.state
+    ∙ c.hand_out.ensures.pipes
+
+futexes-stood : (c : goal.After-take_in) → c.take_in.new.state.futexes ≡ c.args.state.now.futexes
+futexes-stood c = c.take_in.ensures.futexes ∙ ap (λ (s : State). s.futexes) c.run_out.ensures.state
+    ∙ c.hand_out.ensures.futexes
 
 pub returns-clause-runs : goal.returns-clause-runs
 returns-clause-runs g c =
-    let s : State = c.args.state.now in
-    let ts = c.args.starters.now in
-    let h = c.hand_out.ensures.hands in
-    let new = c.hand_out.new.state.frames in
-    let ps = c.hand_out.new.packs.items in
-    let qs = c.run_parts.new.packs.items in
-    let ran : AllRan (view_of new s.table) ps qs =
-    subst (λ (t : Tables). AllRan (view_of new t) ps qs) c.hand_out.ensures.table
-    c.run_parts.ensures.runs in
-    let s2 : State = c.take_in.new.state in
-    let set : AreSet qs s.table s2.table =
-    subst (λ (t : Tables). AreSet qs t s2.table) c.hand_out.ensures.table c.take_in.ensures.set
-    in
-    all-runs s c.requires.sound ts c.requires.live c.requires.apart new ps qs h ran s2
-    c.take_in.ensures.back set (c.take_in.ensures.round ∙ c.hand_out.ensures.round)
-    (c.take_in.ensures.pipes ∙ c.hand_out.ensures.pipes)
-    (c.take_in.ensures.futexes ∙ c.hand_out.ensures.futexes)
+    all-runs c.args.state.now c.requires.sound c.args.starters.now c.requires.live c.requires.apart
+    c.hand_out.new.state.frames c.hand_out.new.packs.items c.run_out.new.packs.items
+    c.hand_out.ensures.hands (ran-before c) c.take_in.new.state (put-back c) (set-in c)
+    (round-stood c) (pipes-stood c) (futexes-stood c)
 
 pub returns-clause-sound : goal.returns-clause-sound
 returns-clause-sound g c =
-    let s : State = c.args.state.now in
-    let ts = c.args.starters.now in
-    let h = c.hand_out.ensures.hands in
-    let new = c.hand_out.new.state.frames in
-    let ps = c.hand_out.new.packs.items in
-    let qs = c.run_parts.new.packs.items in
-    let ran : AllRan (view_of new s.table) ps qs =
-    subst (λ (t : Tables). AllRan (view_of new t) ps qs) c.hand_out.ensures.table
-    c.run_parts.ensures.runs in
-    let s2 : State = c.take_in.new.state in
-    let set : AreSet qs s.table s2.table =
-    subst (λ (t : Tables). AreSet qs t s2.table) c.hand_out.ensures.table c.take_in.ensures.set
-    in
-    sound-again s c.requires.sound ts c.requires.live c.requires.apart new ps qs h ran s2
-    c.take_in.ensures.back set (c.take_in.ensures.round ∙ c.hand_out.ensures.round)
-    (c.take_in.ensures.pipes ∙ c.hand_out.ensures.pipes)
-    (c.take_in.ensures.futexes ∙ c.hand_out.ensures.futexes)
+    sound-again c.args.state.now c.requires.sound c.args.starters.now c.requires.live
+    c.requires.apart c.hand_out.new.state.frames c.hand_out.new.packs.items
+    c.run_out.new.packs.items c.hand_out.ensures.hands (ran-before c) c.take_in.new.state
+    (put-back c) (set-in c) (round-stood c) (pipes-stood c) (futexes-stood c)
 
 pub returns-clause-spare : goal.returns-clause-spare
 returns-clause-spare g c =
-    let s : State = c.args.state.now in
-    let ts = c.args.starters.now in
-    let h = c.hand_out.ensures.hands in
-    let new = c.hand_out.new.state.frames in
-    let ps = c.hand_out.new.packs.items in
-    let qs = c.run_parts.new.packs.items in
-    let ran : AllRan (view_of new s.table) ps qs =
-    subst (λ (t : Tables). AllRan (view_of new t) ps qs) c.hand_out.ensures.table
-    c.run_parts.ensures.runs in
-    c.take_in.ensures.all_spare (length s.frames.pages) c.hand_out.ensures.spare
-    (rooms s c.requires.sound ts c.requires.live c.requires.apart new ps qs h ran)
+    c.take_in.ensures.all_spare (length c.args.state.now.frames.pages) c.hand_out.ensures.spare
+    (rooms c.args.state.now c.requires.sound c.args.starters.now c.requires.live c.requires.apart
+    c.hand_out.new.state.frames c.hand_out.new.packs.items c.run_out.new.packs.items
+    c.hand_out.ensures.hands (ran-before c))
 
 pub returns-clause-tally : goal.returns-clause-tally
 returns-clause-tally g c =
-    let s : State = c.args.state.now in
-    let ts = c.args.starters.now in
-    let h = c.hand_out.ensures.hands in
-    let new = c.hand_out.new.state.frames in
-    let ps = c.hand_out.new.packs.items in
-    let qs = c.run_parts.new.packs.items in
-    let ran : AllRan (view_of new s.table) ps qs =
-    subst (λ (t : Tables). AllRan (view_of new t) ps qs) c.hand_out.ensures.table
-    c.run_parts.ensures.runs in
-    let s2 : State = c.take_in.new.state in
-    let set : AreSet qs s.table s2.table =
-    subst (λ (t : Tables). AreSet qs t s2.table) c.hand_out.ensures.table c.take_in.ensures.set
-    in
     subst (λ work. GrewBy (g.W.Workers.tally c.args.workers.now)
-    (g.W.Workers.tally c.run_parts.new.workers) work)
-    (work-is s c.requires.sound ts c.requires.live c.requires.apart new ps qs h ran s2 set)
-    c.run_parts.ensures.tally
+    (g.W.Workers.tally c.run_out.new.workers) work)
+    (work-is c.args.state.now c.requires.sound c.args.starters.now c.requires.live
+    c.requires.apart c.hand_out.new.state.frames c.hand_out.new.packs.items
+    c.run_out.new.packs.items c.hand_out.ensures.hands (ran-before c) c.take_in.new.state
+    (set-in c)) c.run_out.ensures.tally

@@ -1,0 +1,91 @@
+// Workers that stay over several calls.
+ghost use Rattle.std.specs.Prelude.{◌<◌, ◌≤◌};
+
+use crate::gates::Holding;
+use crate::loops::run;
+use staying_workers::{Office, Staying, open};
+use std::alloc::{AllocError, Global};
+use std::sync::Wait;
+use std::test::*;
+use std::thread;
+use std::thread::Threads;
+use worker_pool::{Tally, Workers};
+
+// so many packs, three times
+fn rounds<W: Workers>(alloc: Global, workers: &mut W, count: u32) -> Result<(), AllocError> {
+    run(alloc, workers, count)?;
+    run(alloc, workers, count)?;
+    run(alloc, workers, count)
+}
+
+// by so many workers, who end before the call returns
+fn stay<R: Threads + Wait + Sync>(
+    rt: &R,
+    alloc: Global,
+    gate: &Holding,
+    tally: &mut Tally,
+    workers: u32,
+    count: u32,
+) -> Result<(), AllocError>
+    requires { (0 < workers) × (workers ≤ 32) }
+{
+    let office = Office::new(alloc);
+    let office = &office;
+    thread::scope(
+        thread::scope_env(),
+        rt,
+        |scope| -> Result<(), AllocError>
+            requires { (0 < workers) × (workers ≤ 32) }
+        {
+            open(rt, scope, office, gate);
+            let mut pool = Staying::new(rt, alloc, office, gate, tally);
+            pool.hire(workers);
+            let done = rounds(alloc, &mut pool, count);
+            pool.finish();
+            office.close();
+            done
+        },
+    )
+}
+
+// 0 is held until 1 has entered, at the first call; both are in later
+#[test]
+fn two_at_once_staying(rt: HostRuntime) -> Result<(), Fail> {
+    let gate = Holding::until(2);
+    let mut tally = Tally::new();
+    stay(&rt, rt.alloc(), &gate, &mut tally, 2, 2)?;
+    assert_eq!(rt; gate.seen(), (6, 3, 0));
+    assert_eq!(rt; tally.count(), 42);
+    Ok(())
+}
+
+// 0 is held until 1, 2 and 3 have entered: the other worker runs all three
+#[test]
+fn one_goes_round_staying(rt: HostRuntime) -> Result<(), Fail> {
+    let gate = Holding::until(14);
+    let mut tally = Tally::new();
+    stay(&rt, rt.alloc(), &gate, &mut tally, 2, 4)?;
+    assert_eq!(rt; gate.seen(), (12, 15, 0));
+    Ok(())
+}
+
+#[test]
+fn each_number_passes_once_staying(rt: HostRuntime) -> Result<(), Fail> {
+    let gate = Holding::until(0);
+    let mut tally = Tally::new();
+    stay(&rt, rt.alloc(), &gate, &mut tally, 32, 64)?;
+    assert_eq!(rt; gate.seen(), (192, u64::MAX, 0));
+    assert_eq!(rt; tally.count(), 1344);
+    Ok(())
+}
+
+// nobody is hired: the caller runs all
+#[test]
+fn one_alone_staying(rt: HostRuntime) -> Result<(), Fail> {
+    let gate = Holding::until(0);
+    let mut tally = Tally::new();
+    stay(&rt, rt.alloc(), &gate, &mut tally, 1, 3)?;
+    assert_eq!(rt; gate.seen(), (9, 7, 0));
+    assert_eq!(rt; tally.count(), 63);
+    Ok(())
+}

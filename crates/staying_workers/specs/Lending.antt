@@ -1,0 +1,24 @@
+-- Packs with an owner of what they share. This project's own rules.
+use Rattle.std.specs.Prelude.{◌≡◌, List, map, All}
+use mathlib.Core.Option.{some}
+use Rattle.quantum_run.specs.Packs.{seen_in}
+use Rattle.quantum_run.specs.Shows.{Pack}
+use Rattle.quantum_run.specs.declared.pack.Shared.{Shared}
+use Rattle.worker_pool.specs.Ran.{HasRun}
+use Rattle.staying_workers.specs.Ready.{MayRun}
+use Rattle.staying_workers.specs.declared.held.Held.{Held}
+
+abbrev pub packs_of : List Held → List Pack
+packs_of hs = map (λ (h : Held). h.pack) hs
+
+-- all own this
+abbrev pub Share : Shared → List Held → Type 0
+Share s hs = All (λ (h : Held). h.shared.value ≡ s) hs
+
+abbrev pub IsReady : Held → Type 0
+IsReady h = MayRun h.pack (seen_in h.shared.value)
+
+-- the later pack is the earlier one's whole part, and what it shares is as it was
+abbrev pub IsFinished : Held → Held → Type 0
+IsFinished before after = (after.shared.value ≡ before.shared.value)
+    × HasRun (seen_in before.shared.value) before.pack after.pack
