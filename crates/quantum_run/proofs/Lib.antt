@@ -2,6 +2,7 @@ pub mod Threads
 pub mod Own
 pub mod Places
 pub mod Reaching
+pub mod Knowing
 pub mod After
 pub mod Going
 pub mod Witness

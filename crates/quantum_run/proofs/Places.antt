@@ -117,7 +117,7 @@ read-joined pages frame address size page n home aligned is =
     is ∙ sym (joined-number pages frame (address % 4096) (width size) (place_in frame address)
     (Some page) home (aligned-within address size aligned) refl)
 
-length-bytes : (k n : ℕ) → length (bytes_of k n) ≡ k
+pub length-bytes : (k n : ℕ) → length (bytes_of k n) ≡ k
 length-bytes zero n = refl
 length-bytes (suc k) n = ap suc (length-bytes k (n / 256))
 

@@ -2,6 +2,7 @@ pub mod Alone
 pub mod Shows
 pub mod Running
 pub mod Finding
+pub mod Knowing
 pub mod Pages
 pub mod Showing
 pub mod Laws

@@ -1,5 +1,5 @@
 // The memory of one thread over any pages.
-ghost use Rattle.std.specs.Prelude.{◌≡◌, ◌+◌, ◌*◌, ◌%◌, ◌^◌, ◌<◌, ℕ, replicate, Ok, Err, IfSome, true, length};
+ghost use Rattle.std.specs.Prelude.{◌≡◌, ◌+◌, ◌*◌, ◌%◌, ◌^◌, ◌<◌, ℕ, replicate, Ok, Err, IfSome, true, length, slice_set};
 ghost use Rattle.std.specs.Option.{ok_or};
 ghost use Rattle.dos_world.specs.World.{World};
 ghost use Rattle.dos_world.specs.Reach.{bytes_of, width, written};
@@ -8,6 +8,7 @@ ghost use Rattle.quantum_run.specs.Showing.{Still, ShowsBy, Holds, still};
 ghost use Rattle.dos_world.specs.declared.Access.TheVariants.{Fetch, Load, Store};
 ghost use Rattle.page_store.specs.Store.{joined, number_at};
 ghost use Rattle.quantum_run.specs.Finding.{AreFramesOf, IsWriting, frame_for, place_in};
+ghost use Rattle.quantum_run.specs.Knowing.{AreKnown, AreUnknown, IsWord, word_place};
 ghost use Rattle.quantum_run.specs.Pages.{AreReached, AreOwn, AreWithin, IsHomeIn};
 
 use crate::pages::Pages;
@@ -44,9 +45,64 @@ fn place_of(address: u32) -> usize
     (address / 4096 % 64) as usize
 }
 
+/// The word that a fetch found at an address.
+#[derive(Clone, Copy)]
+pub struct Known {
+    pub address: u32,
+    pub word: u32,
+}
+
+/// Which place of 1024 a word is known in, by its address: the same for each page that it may be
+/// written through.
+#[inline]
+fn known_place(address: u32) -> usize
+    ensures place { result ≡ word_place address }
+    ensures small { result < 1024 }
+{
+    (address / 4 % 1024) as usize
+}
+
+/// A word is known at this place.
+#[inline]
+fn put_known(known: &mut [Known; 1024], place: usize, word: Known)
+    requires { place < 1024 }
+    ensures { known.new ≡ slice_set known.old place word }
+{
+    known[place] = word;
+}
+
+/// The address 0 at each place.
+#[inline]
+fn all_first() -> [Known; 1024]
+    ensures { result ≡ replicate 1024 (record { address = 0; word = 0 }) }
+{
+    [Known {
+        address: 0,
+        word: 0,
+    }; 1024]
+}
+
+/// No word is known: each place has an address of another place.
+#[inline]
+fn nothing_known() -> [Known; 1024]
+    ensures { AreUnknown result }
+{
+    let mut known = all_first();
+    let other = Known {
+        address: 4,
+        word: 0,
+    };
+    put_known(&mut known, 0, other);
+    known
+}
+
 /// Pages and a space, as the memory of thread `tid`. Of fetches, of loads, and of stores or claims
 /// the page that was found last in each of 64 slots is found again without a search: owners and
 /// entries stand still while the thread runs.
+///
+/// A word that was fetched is known by its address, and not looked for again until one at its place
+/// is written. Only the thread itself writes while it runs, and a word has the same place in each
+/// page, so that what is known is right whichever page it was written through.
 ///
 /// What is refused is rare. A search answers None then and leaves the reason in `refused`, so that
 /// all it gives back to the loop of instructions fits registers.
@@ -58,6 +114,7 @@ pub struct Running<'a, P: Pages> {
     pub fetched: [Slot; 64],
     pub loaded: [Slot; 64],
     pub stored: [Slot; 64],
+    pub known: [Known; 1024],
     pub refused: Reason,
     ghost reached: { AreReached tid (P.owners pages) space.now.entries (P.pages pages) },
     ghost own: { AreOwn tid (P.owners pages) space.now.entries (P.is_own pages) },
@@ -65,6 +122,7 @@ pub struct Running<'a, P: Pages> {
     ghost fetched_are: { AreFramesOf tid (P.owners pages) space.now.entries Fetch fetched },
     ghost loaded_are: { AreFramesOf tid (P.owners pages) space.now.entries Load loaded },
     ghost stored_are: { AreFramesOf tid (P.owners pages) space.now.entries Store stored },
+    ghost known_are: { AreKnown tid (P.owners pages) space.now.entries (P.pages pages) known },
 }
 
 impl<'a, P: Pages> Running<'a, P> {
@@ -84,6 +142,7 @@ impl<'a, P: Pages> Running<'a, P> {
             fetched: nothing_found(),
             loaded: nothing_found(),
             stored: nothing_found(),
+            known: nothing_known(),
             refused: Reason::Fault(11),
         }
     }
@@ -201,13 +260,27 @@ impl<'a, P: Pages> Running<'a, P> {
         Some(frame)
     }
 
+    /// The word at an address, where it is known.
+    #[inline]
+    fn word_known(&self, address: u32) -> Option<u32>
+        ensures { IfSome result (λ word. IsWord self.now.tid
+            (P.owners self.now.pages) self.now.space.now.entries (P.pages self.now.pages) address
+            word) }
+    {
+        let known = self.known[known_place(address)];
+        if known.address == address {
+            return Some(known.word);
+        }
+        None
+    }
+
     /// The word at an address in a page that a fetch found, where both halfwords lie there and make a
     /// word.
     #[inline]
     fn word_found(&self, address: u32) -> Option<u32>
-        ensures { IfSome result (λ word. (f : Still) (t : ℕ) (w : World)
-            → (still self.now.tid (P.owners self.now.pages) self.now.space.now.entries ≡ f)
-            → Holds f (P.pages self.now.pages) t w → word_at w t address ≡ Ok word) }
+        ensures { IfSome result (λ word. IsWord self.now.tid
+            (P.owners self.now.pages) self.now.space.now.entries (P.pages self.now.pages) address
+            word) }
     {
         if address % 4 == 0 {
             let slot = self.fetched[place_of(address)];
@@ -219,6 +292,40 @@ impl<'a, P: Pages> Running<'a, P> {
             }
         }
         None
+    }
+
+    /// A word that was found is known from now on, until one at its place is written.
+    #[inline]
+    fn know(&mut self, address: u32, word: u32)
+        requires { IsWord self.old.tid
+            (P.owners self.old.pages) self.old.space.now.entries (P.pages self.old.pages) address
+            word }
+        ensures still { still self.new.tid (P.owners self.new.pages) self.new.space.now.entries
+            ≡ still self.old.tid (P.owners self.old.pages) self.old.space.now.entries }
+        ensures fixed { P.fixed self.new.pages ≡ P.fixed self.old.pages }
+        ensures pages { P.pages self.new.pages ≡ P.pages self.old.pages }
+    {
+        let place = known_place(address);
+        put_known(&mut self.known, place, Known { address, word });
+    }
+
+    /// The word at an address, where it lies in a page that a fetch found; it is known then.
+    #[inline]
+    fn word_here(&mut self, address: u32) -> Option<u32>
+        ensures word { IfSome result (λ word. IsWord self.old.tid
+            (P.owners self.old.pages) self.old.space.now.entries (P.pages self.old.pages) address
+            word) }
+        ensures still { still self.new.tid (P.owners self.new.pages) self.new.space.now.entries
+            ≡ still self.old.tid (P.owners self.old.pages) self.old.space.now.entries }
+        ensures fixed { P.fixed self.new.pages ≡ P.fixed self.old.pages }
+        ensures pages { P.pages self.new.pages ≡ P.pages self.old.pages }
+    {
+        if let Some(word) = self.word_known(address) {
+            return Some(word);
+        }
+        let word = self.word_found(address)?;
+        self.know(address, word);
+        Some(word)
     }
 
     /// The number at an aligned address whose page is this frame's.
@@ -244,6 +351,12 @@ impl<'a, P: Pages> Running<'a, P> {
             ≡ still self.old.tid (P.owners self.old.pages) self.old.space.now.entries }
         ensures fixed { P.fixed self.new.pages ≡ P.fixed self.old.pages }
     {
+        let place = known_place(address);
+        let other = Known {
+            address: address.wrapping_add(4),
+            word: 0,
+        };
+        put_known(&mut self.known, place, other);
         self.pages.write(frame, address % 4096, size, value);
     }
 
@@ -299,7 +412,7 @@ impl<'a, P: Pages> Memory for Running<'a, P> {
     // The Ok is made in one place, so that the word stays in one register.
     #[inline]
     fn fetch_word(&mut self, address: u32) -> Result<u32, Reason> {
-        let word = match self.word_found(address) {
+        let word = match self.word_here(address) {
             Some(word) => word,
             None => match self.fetch_halves(address) {
                 Some(word) => word,

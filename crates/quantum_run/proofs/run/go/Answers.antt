@@ -1,5 +1,5 @@
-use Rattle.std.proofs.Common.{ℕ, ◌-◌, ◌≤◌, Some, sym, subst, ap, ◌∙◌, arith}
-use Rattle.dos_world.specs.World.{World, Registers, with_pc}
+use Rattle.std.proofs.Common.{ℕ, ◌-◌, Some, sym, subst, arith}
+use Rattle.dos_world.specs.World.{Registers, with_pc}
 use Rattle.rv_exec.specs.Going.{arrived}
 use Rattle.rv_exec.specs.declared.next.Next.TheVariants.{On, To, Not}
 use Rattle.quantum_run.specs.Running.{Goes, Reaches}

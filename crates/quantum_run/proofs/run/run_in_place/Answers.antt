@@ -1,4 +1,4 @@
-use Rattle.std.proofs.Common.{rules, ◌∙◌, ap, map, is_some}
+use Rattle.std.proofs.Common.{rules}
 use Rattle.page_store.proofs.Counts.{owned-within}
 use Rattle.quantum_run.proofs.Places.{found-within, home-here, home-kept}
 use Rattle.quantum_run.proofs.run.run_in_place.Goals as goal

@@ -1,4 +1,4 @@
-use Rattle.std.proofs.Common.{rules, ◌≡◌, ◌<◌, Ok, length, sym}
+use Rattle.std.proofs.Common.{rules, ◌<◌, length, sym}
 use Rattle.dos_world.specs.declared.Access.TheVariants.{Store}
 use Rattle.quantum_run.proofs.Places.{writes-found}
 use Rattle.quantum_run.proofs.running.Running.frame_to_write.Goals as goal

@@ -1,4 +1,5 @@
 use Rattle.dos_world.specs.declared.Access.TheVariants.{Fetch, Load, Store}
+use Rattle.quantum_run.proofs.Knowing.{unknown-known}
 use Rattle.quantum_run.proofs.Places.{none-found}
 use Rattle.quantum_run.proofs.running.Running.new.Goals as goal
 
@@ -19,3 +20,8 @@ invariant_of-result-clause-stored_are g c =
     none-found c.args.tid
     (g.P.Pages.owners c.args.pages) c.args.space.now.entries Store c.nothing_found-3.result
     c.nothing_found-3.ensures
+
+pub invariant_of-result-clause-known_are : goal.invariant_of-result-clause-known_are
+invariant_of-result-clause-known_are g c =
+    unknown-known c.args.tid (g.P.Pages.owners c.args.pages) c.args.space.now.entries
+    (g.P.Pages.pages c.args.pages) c.nothing_known.result c.nothing_known.ensures
