@@ -1,8 +1,14 @@
+ghost use Rattle.std.specs.Prelude.{◌≡◌, ◌≤◌, ◌+◌, ◌<◌, length};
+ghost use Rattle.dos_world.specs.Reach.{width};
+
 use dos_world::{Config, End, Entry, Owner, Size};
 use elf_image::{Image, ImageError, read_image};
 use group_open::{OpenError, entry_of, fill_page, needed, next_page, open_state, page_count};
-use page_store::Page;
-use std::alloc::Global;
+use kernel_calls::State;
+use page_store::{Frames, Page};
+use proc_table::Table;
+use std::alloc::{AllocError, Global};
+use std::process::Abort;
 use std::test::Fail;
 
 /// Three parts: code in page 0x10 that may be executed, data from the end of that page into the
@@ -21,98 +27,153 @@ const PARTS: [u8; 160] = [
     1, 2, 3, 4, // at 156
 ];
 
+// Of what the helpers give nothing is said: the tests look.
+
+fn read(alloc: Global, file: &[u8]) -> Result<Image, ImageError> {
+    read_image(alloc, file)
+}
+
 fn image(alloc: Global) -> Result<Image, ImageError> {
-    read_image(alloc, &PARTS)
+    read(alloc, &PARTS)
+}
+
+fn check_pages(rt: &impl Abort, image: &Image, rows: &[(u32, Option<u32>)]) {
+    for &(from, page) in rows {
+        assert_eq!(rt; next_page(image, from), page, "from {from}");
+    }
 }
 
 #[test]
 fn pages_come_in_rising_order(rt: HostRuntime) -> Result<(), Fail> {
     let image = image(rt.alloc())?;
-    for (from, page) in [
+    let rows = [
         (0, Some(5)),
         (5, Some(5)),
         (6, Some(0x10)),
         (0x11, Some(0x11)),
         (0x12, None),
-    ] {
-        assert_eq!(rt; next_page(&image, from), page, "from {from}");
-    }
+    ];
+    check_pages(&rt, &image, &rows);
     assert_eq!(rt; page_count(&image), 19);
     assert_eq!(rt; needed(&[image]), 19);
     Ok(())
 }
 
+/// An entry with these rights that isn't shared.
+fn entry(frame: u32, write: bool, exec: bool) -> Entry {
+    Entry {
+        frame,
+        write,
+        exec,
+        shared: false,
+    }
+}
+
+fn check_rights(rt: &impl Abort, image: &Image, rows: &[(u32, bool, bool)]) {
+    for &(page, write, exec) in rows {
+        assert_eq!(rt;
+            entry_of(image, page, 7),
+            entry(7, write, exec),
+            "page {page}"
+        );
+    }
+}
+
 #[test]
 fn a_page_has_the_rights_of_all_its_parts(rt: HostRuntime) -> Result<(), Fail> {
-    let image = image(rt.alloc())?;
-    for (page, write, exec) in [
+    let rows = [
         (5, false, false),
         (0x10, true, true),
         (0x11, true, false),
         (0x12, false, false),
-    ] {
-        let entry = Entry {
-            frame: 7,
-            write,
-            exec,
-            shared: false,
-        };
-        assert_eq!(rt; entry_of(&image, page, 7), entry, "page {page}");
-    }
+    ];
+    check_rights(&rt, &image(rt.alloc())?, &rows);
     Ok(())
+}
+
+/// The image's page with this number, below that of the stack's end.
+fn filled(alloc: Global, image: &Image, number: u32) -> Result<Page, AllocError>
+    requires { number < 0xF0000 }
+{
+    let mut page = Page::new(alloc)?;
+    fill_page(image, number, &mut page);
+    Ok(page)
 }
 
 #[test]
 fn a_part_goes_on_in_the_next_page(rt: HostRuntime) -> Result<(), Fail> {
     let image = image(rt.alloc())?;
-    let mut first = Page::new(rt.alloc())?;
-    fill_page(&image, 0x10, &mut first);
-    assert_eq!(rt;
-        &first.bytes()[..9],
-        [0x73, 0, 0, 0, 0x6F, 0, 0, 0, 0].as_slice()
-    );
-    assert_eq!(rt; &first.bytes()[4093..], [0, 1, 2].as_slice());
-    let mut second = Page::new(rt.alloc())?;
-    fill_page(&image, 0x11, &mut second);
-    assert_eq!(rt; &second.bytes()[..4], [3, 4, 0, 0].as_slice());
+    let first = filled(rt.alloc(), &image, 0x10)?;
+    assert_eq!(rt; first.read(0, Size::Word), 0x73);
+    assert_eq!(rt; first.read(4, Size::Word), 0x6F);
+    assert_eq!(rt; first.read(8, Size::Byte), 0);
+    assert_eq!(rt; first.read(4093, Size::Byte), 0);
+    assert_eq!(rt; first.read(4094, Size::Half), 0x0201);
+    let second = filled(rt.alloc(), &image, 0x11)?;
+    assert_eq!(rt; second.read(0, Size::Word), 0x0403);
     Ok(())
 }
 
-const CONFIG: Config = Config {
-    quantum: 16,
-    rounds: 1,
-    frames: 40,
-};
+/// Why these images aren't opened with so many frames.
+fn refusal(alloc: Global, images: &[Image], frames: u32) -> Option<OpenError>
+    requires some { 1 ≤ length images.now }
+    requires few { length images.now ≤ 8 }
+    requires least { 16 ≤ frames }
+    requires most { frames ≤ 16384 }
+{
+    let config = Config {
+        quantum: 16,
+        rounds: 1,
+        frames,
+    };
+    open_state(alloc, images, &config).err()
+}
 
 #[test]
 fn images_that_need_more_frames_are_refused(rt: HostRuntime) -> Result<(), Fail> {
     let one = [image(rt.alloc())?];
     let two = [image(rt.alloc())?, image(rt.alloc())?];
-    let config = |frames| Config { frames, ..CONFIG };
     let refused = |needed, frames| Some(OpenError::NoRoom { needed, frames });
-    assert_eq!(rt;
-        open_state(rt.alloc(), &one, &config(18)).err(),
-        refused(19, 18)
-    );
-    assert_eq!(rt; open_state(rt.alloc(), &one, &config(19)).err(), None);
-    assert_eq!(rt;
-        open_state(rt.alloc(), &two, &config(37)).err(),
-        refused(38, 37)
-    );
-    assert_eq!(rt; open_state(rt.alloc(), &two, &config(38)).err(), None);
+    assert_eq!(rt; refusal(rt.alloc(), &one, 18), refused(19, 18));
+    assert_eq!(rt; refusal(rt.alloc(), &one, 19), None);
+    assert_eq!(rt; refusal(rt.alloc(), &two, 37), refused(38, 37));
+    assert_eq!(rt; refusal(rt.alloc(), &two, 38), None);
     Ok(())
+}
+
+/// The state of a group of two such images, before its first round.
+fn opened(alloc: Global) -> Result<State, Fail> {
+    let images = [image(alloc)?, image(alloc)?];
+    let config = Config {
+        quantum: 16,
+        rounds: 1,
+        frames: 40,
+    };
+    Ok(open_state(alloc, &images, &config)?)
+}
+
+/// Where a thread lives, its process, its pc and its stack pointer.
+fn thread(table: &Table, tid: u32) -> Option<(u32, u32, u32)> {
+    if !table.is_thread(tid) {
+        return None;
+    }
+    let regs = table.regs(tid);
+    Some((table.process_of(tid), regs.pc(), regs.get(2)))
+}
+
+fn end_of(table: &Table, pid: u32, number: u32) -> Option<End> {
+    if !table.is_live(pid) {
+        return None;
+    }
+    table.descriptor(pid, number)
 }
 
 #[test]
 fn each_image_has_a_process_and_a_thread(rt: HostRuntime) -> Result<(), Fail> {
-    let images = [image(rt.alloc())?, image(rt.alloc())?];
-    let state = open_state(rt.alloc(), &images, &CONFIG)?;
+    let state = opened(rt.alloc())?;
     assert_eq!(rt; state.round, 1);
     assert_eq!(rt; state.table.processes(), 2);
-    assert!(rt; state.table.is_thread(2));
-    assert_eq!(rt; state.table.process_of(2), 2);
-    assert_eq!(rt; state.table.regs(2).pc(), 0x10004);
-    assert_eq!(rt; state.table.regs(2).get(2), 0xefff_fff0);
+    assert_eq!(rt; thread(&state.table, 2), Some((2, 0x10004, 0xefff_fff0)));
     assert!(rt; state.table.is_live(2));
     for (number, end) in [
         (0, Some(End::Input)),
@@ -120,50 +181,84 @@ fn each_image_has_a_process_and_a_thread(rt: HostRuntime) -> Result<(), Fail> {
         (2, Some(End::Error)),
         (3, None),
     ] {
-        assert_eq!(rt; state.table.descriptor(2, number), end);
+        assert_eq!(rt; end_of(&state.table, 2, number), end);
     }
     Ok(())
 }
 
+/// A frame's owner and its uses.
+fn frame(frames: &Frames, frame: u32) -> Option<(Owner, u32)> {
+    if frame >= frames.count() {
+        return None;
+    }
+    Some((frames.owner(frame), frames.uses(frame)))
+}
+
+/// What stands at an offset of a frame's page.
+fn number_at(frames: &Frames, frame: u32, offset: u32, size: Size) -> Option<u32>
+    requires { offset + width size ≤ 4096 }
+{
+    if frame >= frames.count() {
+        return None;
+    }
+    if !frames.is_home(frame) {
+        return None;
+    }
+    Some(frames.lend(frame).read(offset, size))
+}
+
 #[test]
 fn frames_are_taken_in_order(rt: HostRuntime) -> Result<(), Fail> {
-    let images = [image(rt.alloc())?, image(rt.alloc())?];
-    let state = open_state(rt.alloc(), &images, &CONFIG)?;
+    let state = opened(rt.alloc())?;
     assert_eq!(rt; state.frames.count(), 40);
-    assert_eq!(rt; state.frames.owner(18), Owner::Of(1));
-    assert_eq!(rt; state.frames.owner(19), Owner::Of(2));
-    assert_eq!(rt; state.frames.owner(38), Owner::Free);
-    assert_eq!(rt; state.frames.uses(37), 1);
-    assert!(rt; state.frames.is_home(20));
-    assert_eq!(rt; state.frames.lend(20).read(4094, Size::Half), 0x0201);
-    assert!(rt; state.frames.is_home(21));
-    assert_eq!(rt; state.frames.lend(21).read(0, Size::Word), 0x0403);
+    assert_eq!(rt; frame(&state.frames, 18), Some((Owner::Of(1), 1)));
+    assert_eq!(rt; frame(&state.frames, 19), Some((Owner::Of(2), 1)));
+    assert_eq!(rt; frame(&state.frames, 37), Some((Owner::Of(2), 1)));
+    assert_eq!(rt; frame(&state.frames, 38), Some((Owner::Free, 0)));
+    assert_eq!(rt;
+        number_at(&state.frames, 20, 4094, Size::Half),
+        Some(0x0201)
+    );
+    assert_eq!(rt; number_at(&state.frames, 21, 0, Size::Word), Some(0x0403));
     Ok(())
+}
+
+/// How many pages a process has.
+fn pages(table: &Table, pid: u32) -> Option<u32> {
+    if !table.is_live(pid) {
+        return None;
+    }
+    Some(table.space(pid).len())
+}
+
+/// The page at a place of a process's space, and its entry.
+fn page_at(table: &Table, pid: u32, place: u32) -> Option<(u32, Entry)> {
+    if !table.is_live(pid) {
+        return None;
+    }
+    let space = table.space(pid);
+    if place >= space.len() {
+        return None;
+    }
+    Some(space.at(place))
 }
 
 #[test]
 fn the_stack_lies_above_the_parts(rt: HostRuntime) -> Result<(), Fail> {
-    let images = [image(rt.alloc())?, image(rt.alloc())?];
-    let state = open_state(rt.alloc(), &images, &CONFIG)?;
-    assert!(rt; state.table.is_live(2));
-    let space = state.table.space(2);
-    assert_eq!(rt; space.len(), 19);
-    for (index, page, frame, write, exec) in [
-        (0, 5, 19, false, false),
-        (1, 0x10, 20, true, true),
-        (2, 0x11, 21, true, false),
-        (3, 0xe_fff0, 22, true, false),
-        (18, 0xe_ffff, 37, true, false),
+    let state = opened(rt.alloc())?;
+    assert_eq!(rt; pages(&state.table, 2), Some(19));
+    for (place, page, entry) in [
+        (0, 5, entry(19, false, false)),
+        (1, 0x10, entry(20, true, true)),
+        (2, 0x11, entry(21, true, false)),
+        (3, 0xe_fff0, entry(22, true, false)),
+        (18, 0xe_ffff, entry(37, true, false)),
     ] {
-        let entry = Entry {
-            frame,
-            write,
-            exec,
-            shared: false,
-        };
-        if index < space.len() {
-            assert_eq!(rt; space.at(index), (page, entry), "page {page}");
-        }
+        assert_eq!(rt;
+            page_at(&state.table, 2, place),
+            Some((page, entry)),
+            "page {page}"
+        );
     }
     Ok(())
 }

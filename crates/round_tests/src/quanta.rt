@@ -10,6 +10,7 @@ use page_store::Frames;
 use quantum_run::run_until_stop;
 use space_map::Space;
 use std::alloc::{AllocError, Global};
+use std::process::Abort;
 use std::test::Fail;
 
 /// Frames 0 and 1 of thread 1, frame 2 of thread 2, and frame 3, which is shared.
@@ -290,22 +291,27 @@ const RUNS: [Run; 12] = [
     },
 ];
 
-#[test]
-fn runs_stop(rt: HostRuntime) -> Result<(), Fail> {
-    for run in &RUNS {
-        let (mut frames, space) = loaded(rt.alloc(), run.words)?;
-        let mut regs = registers(run.pc, run.x7);
-        let mut budget = 10;
-        let stop = run_until_stop(&mut frames, &space, 1, &mut regs, &mut budget);
-        assert_eq!(rt; stop, Some(run.stop), "{}", run.name);
-        assert_eq!(rt;
-            (budget, regs.pc(), regs.get(9)),
-            (run.left, run.end, run.x9),
-            "{}",
-            run.name
-        );
+// why a run stops, what is left of its budget, pc, and x9
+fn run(alloc: Global, run: &Run) -> Result<(Option<Reason>, [u32; 3]), AllocError> {
+    let (mut frames, space) = loaded(alloc, run.words)?;
+    let mut regs = registers(run.pc, run.x7);
+    let mut budget = 10;
+    let stop = run_until_stop(&mut frames, &space, 1, &mut regs, &mut budget);
+    Ok((stop, [budget, regs.pc(), regs.get(9)]))
+}
+
+fn check_runs(rt: &impl Abort, alloc: Global, runs: &[Run]) -> Result<(), Fail> {
+    for row in runs {
+        let (stop, numbers) = run(alloc, row)?;
+        assert_eq!(rt; stop, Some(row.stop), "{}", row.name);
+        assert_eq!(rt; numbers, [row.left, row.end, row.x9], "{}", row.name);
     }
     Ok(())
+}
+
+#[test]
+fn runs_stop(rt: HostRuntime) -> Result<(), Fail> {
+    check_runs(&rt, rt.alloc(), &RUNS)
 }
 
 #[test]
