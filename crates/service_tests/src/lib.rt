@@ -1,9 +1,11 @@
 //! Tests of the kernel's services and of the signal point, by guests that run as whole groups: the
 //! machine's worked examples, each refusal, what a signal does to a thread in each of its states,
-//! and a fork's copy of many pages. What each is to answer was worked out from the rules of the
-//! machine.
+//! a fork's copy of many pages, and code that is stored while it runs. What each is to answer was
+//! worked out from the rules of the machine.
 #![tactic(auto)]
 
+#[cfg(test)]
+mod code;
 #[cfg(test)]
 mod examples;
 #[cfg(test)]
