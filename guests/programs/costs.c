@@ -1,6 +1,6 @@
-/* One service over and over, to be timed among few and many frames, threads and processes: WORK says which, TURNS how
-   often. Beside that stand OWN pages of this process, OTHER pages of another one, SLEEPERS threads of this process that
-   sleep, and CROWD processes with one thread each that sleep too.
+/* Some services over and over, to be timed among few and many frames, threads and processes: WORK says which, TURNS how
+   often. Beside that there are OWN pages of this process, OTHER pages of another one, SLEEPERS threads of this process
+   that sleep, and CROWD processes of one thread each that sleep too.
 
    Expect: costs 1: 1000 turns
    and `process 1 status 0`, and 137 of the others, with each quantum. */
@@ -45,10 +45,9 @@ static void count_signal(uint32_t signal) {
   ended++;
 }
 
-static bool work(uint32_t turn) {
+static bool work(void) {
   static unsigned char bytes[64];
   int32_t status, writing, reading;
-  (void)turn;
   switch (WORK) {
   case FREES_LOW: /* the page at LOW_AT is the lowest frame that can be free */
     return dos_unmap(LOW_AT, 1) == 0 && dos_map(NEXT_AT, 2, MAY_READ) == 0 && dos_unmap(NEXT_AT, 2) == 0
@@ -57,7 +56,8 @@ static bool work(uint32_t turn) {
   case SHARES: return dos_share(LOW_AT, 1) == 0;
   case WAKES_NOBODY: return dos_futex_wake(&ended, 1) == 0;
   case OPENS_PIPE: reading = dos_pipe(&writing); return dos_close(reading) == 0 && dos_close(writing) == 0;
-  case FLOWS: return dos_write(4, bytes, sizeof bytes) == sizeof bytes && dos_read(3, bytes, sizeof bytes) == sizeof bytes;
+  case FLOWS:
+    return dos_write(4, bytes, sizeof bytes) == sizeof bytes && dos_read(3, bytes, sizeof bytes) == sizeof bytes;
   case FORKS:
     reading = dos_fork();
     if (reading == 0) dos_process_exit(0);
@@ -97,7 +97,7 @@ int main(void) {
   dos_yield();
   dos_yield();
   for (uint32_t turn = 0; turn < TURNS; turn++)
-    if (!work(turn)) return 6;
+    if (!work()) return 6;
   for (uint32_t i = 0; i < count; i++) dos_kill(others[i], SIGNAL_KILL);
   for (uint32_t i = 0; i < count; i++) {
     int32_t status;

@@ -1,6 +1,6 @@
 -- How a write changes what the frames keep.
-use Rattle.std.proofs.Common.{◌≡◌, ◌≢◌, ◌⊎◌, ℕ, zero, suc, ◌+◌, ◌-◌, ◌^◌, ◌<◌, ◌≤◌, Bool, true, false, cond, inl, inr, List, [], ◌∷◌, length, get_or, set, map, replicate, count_by, refl, sym, ap, ◌∙◌, arith}
-use Rattle.std.specs.Prelude.{position, Some, None, nat_lt}
+use Rattle.std.proofs.Common.{◌≡◌, ◌≢◌, ◌⊎◌, ℕ, zero, suc, ◌+◌, ◌-◌, ◌^◌, ◌<◌, ◌≤◌, Bool, true, false, cond, inl, inr, List, [], ◌∷◌, length, get_or, set, map, drop, replicate, count_by, refl, sym, ap, ◌∙◌, arith}
+use Rattle.std.specs.Prelude.{position, Option, Some, None, option_map, nat_lt}
 use Rattle.std.specs.List.{position_or_len}
 use Rattle.std.proofs.lemmas.List.Quantifiers.{position-Some}
 use Rattle.std.proofs.lemmas.List.Recursion.{is_position_or_len}
@@ -57,6 +57,45 @@ used-owned owners uses i e h =
     let some : is_unused (get_or uses i 0) ≡ false = grind (arith, nat_tests) in
     sym (get_or-map is_free owners i Free) ∙ ap (λ bs. get_or bs i true) e
     ∙ get_or-map is_unused uses i 0 ∙ some
+
+-- ---- the first Free frame from one on
+
+-- no frame below this one is Free
+abbrev pub AreOwnedBelow : List Owner → ℕ → Type 0
+AreOwnedBelow owners lowest = (frame : ℕ) → frame < lowest
+    → is_free (get_or owners frame Free) ≡ false
+
+shift_test : (a l : ℕ) → nat_lt (1 + a) (suc l) ≡ nat_lt a l
+shift_test a l = grind (arith, nat_tests)
+
+shifted : (a l : ℕ) → cond (nat_lt (1 + a) (suc l)) (Some (1 + a)) None
+    ≡ option_map (λ i. 1 + i) (cond (nat_lt a l) (Some a) None)
+shifted a l = ap (λ b. cond b (Some (1 + a)) None) (shift_test a l)
+    ∙ elim (nat_lt a l) as (λ b. cond b (Some (1 + a)) None
+    ≡ option_map (λ i. 1 + i) (cond b (Some a) None)) [ true ↦ refl | false ↦ refl ]
+
+pub position_more : (x : Owner) (xs : List Owner) → is_free x ≡ false
+    → position is_free (x ∷ xs) ≡ option_map (λ i. 1 + i) (position is_free xs)
+position_more x xs e = rw e (shifted (position_or_len is_free xs) (length xs))
+
+twice : (n : ℕ) (o : Option ℕ)
+    → option_map (λ i. suc n + i) o ≡ option_map (λ i. 1 + i) (option_map (λ i. n + i) o)
+twice n None = refl
+twice n (Some i) = ap (λ m. Some m) (omega arith)
+
+none_added : (o : Option ℕ) → option_map (λ i. 0 + i) o ≡ o
+none_added None = refl
+none_added (Some i) = ap (λ m. Some m) (omega arith)
+
+-- where none below n is Free, the search may begin there
+pub position-drop : (xs : List Owner) (n : ℕ) → n ≤ length xs → AreOwnedBelow xs n
+    → option_map (λ i. n + i) (position is_free (drop n xs)) ≡ position is_free xs
+position-drop xs zero h below = none_added (position is_free xs)
+position-drop [] (suc n) h below = absurd (omega arith)
+position-drop (x ∷ xs) (suc n) h below =
+    let rest = position-drop xs n (omega arith) (λ k l. below (suc k) (omega arith)) in
+    twice n (position is_free (drop n xs)) ∙ ap (option_map (λ i. 1 + i)) rest
+    ∙ sym (position_more x xs (below 0 (omega arith)))
 
 -- ---- the lowest Free frame
 

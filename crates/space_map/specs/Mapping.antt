@@ -1,5 +1,5 @@
 -- What a space holds: its entries in rising page, and its room. This project's own rules.
-use Rattle.std.specs.Prelude.{◌≡◌, ◌<◌, ◌≤◌, ◌+◌, ◌^◌, ℕ, Bool, false, not, ◌&&◌, ◌||◌, nat_le, nat_lt, List, [], length, map, filter, IsSome, ◌==◌, slice_index_or}
+use Rattle.std.specs.Prelude.{◌≡◌, ◌<◌, ◌≤◌, ◌+◌, ◌^◌, ℕ, Bool, true, false, not, ◌&&◌, ◌||◌, nat_le, nat_lt, List, [], length, map, filter, IsSome, ◌==◌, slice_index_or}
 use Rattle.std.specs.List.Sorted.{IsStrictlyIncreasing}
 use Rattle.dos_world.specs.declared.Entry.{Entry}
 use Rattle.dos_world.specs.World.{look}
@@ -73,3 +73,18 @@ pub record IsGapFor (entries : List (ℕ × Entry)) (page place : ℕ) : Type 0 
   pub within : place ≤ length entries
   pub lower : (i : ℕ) → i < place → page_at entries i < page
   pub higher : (i : ℕ) → place ≤ i → i < length entries → page < page_at entries i
+
+-- the pages before this place are below this one, and the others aren't
+pub record IsFirstFrom (entries : List (ℕ × Entry)) (page place : ℕ) : Type 0 where
+  pub within : place ≤ length entries
+  pub lower : (i : ℕ) → i < place → page_at entries i < page
+  pub higher : (i : ℕ) → place ≤ i → i < length entries → page ≤ page_at entries i
+
+-- from the first place up to the end there are pages of the run, and at the end there is none
+pub record IsRun (entries : List (ℕ × Entry)) (page count first end : ℕ) : Type 0 where
+  pub rises : first ≤ end
+  pub within : end ≤ length entries
+  pub inside : (i : ℕ) → first ≤ i → i < end
+      → in_run page count (slice_index_or entries i (0, no_entry)) ≡ true
+  pub ends : end < length entries
+      → in_run page count (slice_index_or entries end (0, no_entry)) ≡ false

@@ -1,9 +1,9 @@
 // The pages of a process, in rising order.
-ghost use Rattle.std.specs.Prelude.{◌≡◌, ◌<◌, ◌≤◌, length, None, Some, [], slice_get, IfOk, IfErr};
+ghost use Rattle.std.specs.Prelude.{◌≡◌, ◌<◌, ◌≤◌, ◌++◌, length, take, drop, None, Some, [], slice_get, IfOk, IfErr};
 ghost use Rattle.dos_world.specs.World.{look};
 ghost use Rattle.dos_world.specs.Kernel.{put};
-ghost use Rattle.space_map.specs.Mapping.{IsAt, IsGapFor, IsMapped, IsRising, empty, in_run, shared_in_run, with_shared, with_shared_run, without, without_run};
-ghost use Rattle.std.specs.List.{list_any};
+ghost use Rattle.space_map.specs.Mapping.{IsAt, IsFirstFrom, IsGapFor, IsMapped, IsRun, IsRising, empty, in_run, shared_in_run, with_shared, with_shared_run, without, without_run};
+ghost use Rattle.std.specs.List.{list_any, remove_range, slice_range};
 ghost use Rattle.std.specs.Vec.{vec_capacity};
 
 use dos_world::Entry;
@@ -119,18 +119,37 @@ impl Space {
         self.entries.clear();
     }
 
+    /// The place of the first page that isn't below this one, by a binary search; the count of pages
+    /// where all are.
+    pub fn first_from(&self, page: u32) -> u32
+        ensures { IsFirstFrom self.now.entries page result }
+    {
+        // how many places there are is known of the entries
+        let _entries = &self.entries;
+        match self.search(page) {
+            Ok(place) => place as u32,
+            Err(place) => place as u32,
+        }
+    }
+
     /// Whether one of `count` pages from this one on is mapped.
     pub fn has_any(&self, page: u32, count: u32) -> bool
         ensures { result ≡ list_any (in_run page count) self.now.entries }
     {
-        any_in_run(&self.entries, page, count)
+        let first = self.first_from(page) as usize;
+        if first < self.entries.len() {
+            return is_in_run(&self.entries[first], page, count);
+        }
+        false
     }
 
     /// Unmaps those of `count` pages from this one on that are mapped. The other pages stay.
     pub fn remove_run(&mut self, page: u32, count: u32)
         ensures { self.new ≡ record self.old { entries = without_run page count self.old.entries } }
     {
-        self.entries.retain(|entry| !is_in_run(entry, page, count));
+        let first = self.first_from(page) as usize;
+        let end = end_of_run(&self.entries, first, page, count);
+        cut(&mut self.entries, first, end);
     }
 
     /// Makes the entries shared of those of `count` pages from this one on that are mapped. Nothing
@@ -139,7 +158,9 @@ impl Space {
         ensures { self.new
             ≡ record self.old { entries = with_shared_run page count self.old.entries } }
     {
-        share_all(&mut self.entries, page, count);
+        let first = self.first_from(page) as usize;
+        let end = end_of_run(&self.entries, first, page, count);
+        share_part(&mut self.entries, first, end, page, count);
     }
 
     // where the page stands, or where it would
@@ -158,17 +179,36 @@ fn is_in_run(entry: &(u32, Entry), page: u32, count: u32) -> bool
     page <= entry.0 && u64::from(entry.0) < u64::from(page) + u64::from(count)
 }
 
-fn any_in_run(entries: &[(u32, Entry)], page: u32, count: u32) -> bool
-    ensures { result ≡ list_any (in_run page count) entries.now }
+// behind the last page of the run, of which the first one stands at `first`
+fn end_of_run(entries: &[(u32, Entry)], first: usize, page: u32, count: u32) -> usize
+    requires { first ≤ length entries.now }
+    ensures { IsRun entries.now page count first result }
 {
-    entries.iter().any(|entry| is_in_run(entry, page, count))
+    for place in first..entries.len() {
+        if !is_in_run(&entries[place], page, count) {
+            return place;
+        }
+    }
+    entries.len()
 }
 
-fn share_all(entries: &mut Vec<(u32, Entry)>, page: u32, count: u32)
-    ensures items { entries.new.items ≡ with_shared_run page count entries.old.items }
+fn cut(entries: &mut Vec<(u32, Entry)>, first: usize, end: usize)
+    requires { (first ≤ end) × (end ≤ length entries.old.items) }
+    ensures items { entries.new.items ≡ remove_range entries.old.items first end }
     ensures capacity { vec_capacity entries.new ≡ vec_capacity entries.old }
 {
-    share_each(entries, page, count);
+    let _gone = entries.drain(first..end);
+}
+
+fn share_part(entries: &mut Vec<(u32, Entry)>, first: usize, end: usize, page: u32, count: u32)
+    requires { (first ≤ end) × (end ≤ length entries.old.items) }
+    ensures items { entries.new.items
+        ≡ take first entries.old.items
+        ++ with_shared_run page count (slice_range entries.old.items first end)
+        ++ drop end entries.old.items }
+    ensures capacity { vec_capacity entries.new ≡ vec_capacity entries.old }
+{
+    share_each(&mut entries[first..end], page, count);
 }
 
 fn share_each(entries: &mut [(u32, Entry)], page: u32, count: u32)
