@@ -1,7 +1,8 @@
 -- A pack may run, whichever way it is said.
 use Rattle.std.proofs.Common.{◌≡◌, ℕ, Bool, zero, suc, List, [], ◌∷◌, refl, sym, ap, ◌∙◌, subst}
 use Rattle.std.proofs.Common.{arith, eq-eqb, Option, Some, None, true, false, ◌⊎◌, inl, inr, ⊎_elim}
-use Rattle.std.proofs.lemmas.Bool.{eqb-true, or-true}
+use Rattle.std.proofs.lemmas.Bool.{eqb-true}
+use Rattle.std.proofs.Math.Bool.{or-true}
 use Rattle.std.proofs.lemmas.Option.{same_Some}
 use Rattle.std.specs.Prelude.{slice_get, ◌||◌, ◌==◌}
 use Rattle.dos_world.specs.Numbered.{numbered}
@@ -48,9 +49,9 @@ pub can_of : (p : Pack) (v : View) → MayRun p v → CanRun p v
 can_of p v may = record {
   entries = space_under v p;
   space = may.0;
-  mapped = may.1.0;
-  own = λ frame of_. place_of frame (frames_of p.pages) (may.1.1.0 frame of_);
-  owned = may.1.1.1.0;
-  shared = λ frame all. page_of (slice_get v.pages frame) (may.1.1.1.1.0 frame all);
-  level = may.1.1.1.1.1;
+  mapped = may.1;
+  own = λ frame of_. place_of frame (frames_of p.pages) (may.2 frame of_);
+  owned = may.3;
+  shared = λ frame all. page_of (slice_get v.pages frame) (may.4 frame all);
+  level = may.5;
 }

@@ -118,11 +118,14 @@ fn staff<'s, 'e, R: Threads + Wait + Sync, G: Gate + Sync>(
     wanted: u32,
 ) -> u32 {
     let mut staffed = first;
-    for desk in office.desks.iter().take(wanted as usize).skip(first as usize) {
+    for place in first..wanted {
+        let Some(desk) = office.desks.get(place as usize) else {
+            break;
+        };
         if scope.spawn(move || serve(rt, desk, gate, looks)).is_err() {
             break;
         }
-        staffed += 1;
+        staffed = place + 1;
     }
     staffed
 }
