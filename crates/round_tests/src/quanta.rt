@@ -292,7 +292,7 @@ const RUNS: [Run; 12] = [
 ];
 
 // why a run stops, what is left of its budget, pc, and x9
-fn run(alloc: Global, run: &Run) -> Result<(Option<Reason>, [u32; 3]), AllocError> {
+fn outcome(alloc: Global, run: &Run) -> Result<(Option<Reason>, [u32; 3]), AllocError> {
     let (mut frames, space) = loaded(alloc, run.words)?;
     let mut regs = registers(run.pc, run.x7);
     let mut budget = 10;
@@ -302,7 +302,7 @@ fn run(alloc: Global, run: &Run) -> Result<(Option<Reason>, [u32; 3]), AllocErro
 
 fn check_runs(rt: &impl Abort, alloc: Global, runs: &[Run]) -> Result<(), Fail> {
     for row in runs {
-        let (stop, numbers) = run(alloc, row)?;
+        let (stop, numbers) = outcome(alloc, row)?;
         assert_eq!(rt; stop, Some(row.stop), "{}", row.name);
         assert_eq!(rt; numbers, [row.left, row.end, row.x9], "{}", row.name);
     }

@@ -13,7 +13,7 @@ use kernel_calls::RunStop;
 use std::alloc::Global;
 use std::process::Abort;
 use std::test::Fail;
-use worker_pool::{Serial, Tally};
+use worker_pool::{Serial, Tally, Workers};
 
 const CONFIG: Config = Config {
     quantum: 1000,
@@ -50,21 +50,19 @@ fn status_at(kernel: &Kernel, place: u32) -> Option<u8> {
     None
 }
 
-// The first round, without an outside and by one worker. Of what it does nothing is said: the tests
-// look.
-fn first_round(
+// The first round, without an outside. Of what it does nothing is said: the tests look.
+fn first_round<W: Workers>(
     kernel: &mut Kernel,
+    alloc: Global,
     out: &mut MemorySink,
     err: &mut MemorySink,
-    alloc: Global,
+    workers: &mut W,
 ) -> Result<RoundEnd, RunStop>
     requires { IsFresh kernel.old CONFIG }
     ensures { OnOk result (kernel.new.failed ≡ false) }
 {
     let mut shim = Quiet::new(alloc);
-    let mut tally = Tally::new();
-    let mut workers: Serial<'_, HostRuntime> = Serial::new(&mut tally);
-    run_round(kernel, &mut shim, out, err, &mut workers)
+    run_round(kernel, &mut shim, out, err, workers)
 }
 
 // the rest of a round, without an outside
@@ -95,7 +93,9 @@ fn two_processes_end_in_one_round(rt: HostRuntime) -> Result<(), Fail> {
     let mut kernel = group(rt.alloc())?;
     let mut out = sink(rt.alloc(), &[])?;
     let mut err = sink(rt.alloc(), &[])?;
-    let end = first_round(&mut kernel, &mut out, &mut err, rt.alloc());
+    let mut tally = Tally::new();
+    let mut workers: Serial<'_, HostRuntime> = Serial::new(&mut tally);
+    let end = first_round(&mut kernel, rt.alloc(), &mut out, &mut err, &mut workers);
     assert_eq!(rt; end, Ok(RoundEnd::Went));
     check_ended(&rt, &kernel, &out);
     assert_eq!(rt; err.bytes(), b"".as_slice());
@@ -112,7 +112,10 @@ fn a_serial_phase_goes_on_where_a_thread_yielded(rt: HostRuntime) -> Result<(), 
     let mut kernel = yielding(rt.alloc())?;
     let mut out = sink(rt.alloc(), &[])?;
     let mut err = sink(rt.alloc(), &[])?;
-    let Ok(RoundEnd::Went) = first_round(&mut kernel, &mut out, &mut err, rt.alloc()) else {
+    let mut tally = Tally::new();
+    let mut workers: Serial<'_, HostRuntime> = Serial::new(&mut tally);
+    let Ok(RoundEnd::Went) = first_round(&mut kernel, rt.alloc(), &mut out, &mut err, &mut workers)
+    else {
         return Err("the phases weren't run".into());
     };
     assert_eq!(rt; out.bytes(), b"".as_slice());
@@ -127,30 +130,31 @@ fn a_sink_that_fails_stops_the_round(rt: HostRuntime) -> Result<(), Fail> {
     let mut kernel = group(rt.alloc())?;
     let mut out = sink(rt.alloc(), &[1])?;
     let mut err = sink(rt.alloc(), &[])?;
-    let end = first_round(&mut kernel, &mut out, &mut err, rt.alloc());
+    let mut tally = Tally::new();
+    let mut workers: Serial<'_, HostRuntime> = Serial::new(&mut tally);
+    let end = first_round(&mut kernel, rt.alloc(), &mut out, &mut err, &mut workers);
     assert_eq!(rt; end, Err(RunStop::OutFault));
     assert!(rt; kernel.is_failed());
     assert_eq!(rt; kernel.rounds(), 0);
     Ok(())
 }
 
-// A parallel phase step by step, by one worker.
-fn in_three_steps(kernel: Kernel, tally: &mut Tally) -> Kernel
+// a parallel phase step by step
+fn in_three_steps<W: Workers>(kernel: Kernel, workers: &mut W) -> Kernel
     requires { kernel.failed ≡ false }
     ensures { result.failed ≡ false }
 {
-    let mut workers: Serial<'_, HostRuntime> = Serial::new(tally);
     let handed = hand_out(kernel);
-    let ran = run_parts(handed, &mut workers);
-    let kernel = take_in(ran);
-    workers.finish();
-    kernel
+    let ran = run_parts(handed, workers);
+    take_in(ran)
 }
 
 #[test]
 fn a_parallel_phase_in_three_steps(rt: HostRuntime) -> Result<(), Fail> {
     let mut tally = Tally::new();
-    let mut kernel = in_three_steps(group(rt.alloc())?, &mut tally);
+    let mut workers: Serial<'_, HostRuntime> = Serial::new(&mut tally);
+    let mut kernel = in_three_steps(group(rt.alloc())?, &mut workers);
+    workers.finish();
     // two instructions of one process and five of the other, each before its first service
     assert_eq!(rt; tally.count(), 7);
     assert!(rt; !kernel.is_failed());
@@ -161,20 +165,12 @@ fn a_parallel_phase_in_three_steps(rt: HostRuntime) -> Result<(), Fail> {
     Ok(())
 }
 
-// A parallel phase by one worker.
-fn in_one_step(kernel: Kernel, tally: &mut Tally) -> Kernel
-    requires { kernel.failed ≡ false }
-{
-    let mut workers: Serial<'_, HostRuntime> = Serial::new(tally);
-    let kernel = parallel_phase(kernel, &mut workers);
-    workers.finish();
-    kernel
-}
-
 #[test]
 fn a_parallel_phase_stops_at_a_service(rt: HostRuntime) -> Result<(), Fail> {
     let mut tally = Tally::new();
-    let kernel = in_one_step(yielding(rt.alloc())?, &mut tally);
+    let mut workers: Serial<'_, HostRuntime> = Serial::new(&mut tally);
+    let kernel = parallel_phase(yielding(rt.alloc())?, &mut workers);
+    workers.finish();
     assert_eq!(rt; tally.count(), 1);
     assert!(rt; !kernel.is_failed());
     assert_eq!(rt; kernel.state().table.live_threads(), 1);
