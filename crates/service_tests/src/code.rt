@@ -31,9 +31,19 @@ const BACK: u32 = 0x0000_8067;
 /// slli s1, s1, 4, and add s1, s1, a0: one digit more
 const DIGIT: [u32; 2] = [0x0044_9493, 0x00a4_84b3];
 
+/// addi s1, s1, 5, and addi s1, s1, 7
+const FIVE_MORE: u32 = 0x0054_8493;
+
+const SEVEN_MORE: u32 = 0x0074_8493;
+
 const LOOP: u32 = 0x1_0100;
 
 const CHILD: u32 = 0x1_0400;
+
+// The code's second page: the place of LOOP in it, and one behind.
+const FAR: u32 = 0x1_1100;
+
+const FAR_END: u32 = 0x1_1400;
 
 /// A page that may be written and executed.
 const PAGE: u32 = 0x10_0000;
@@ -75,6 +85,26 @@ const ACROSS_PAGES: &[Step] = &[
     Step::Words(&DIGIT),
     Step::Words(&[TO_NEXT]),
     Step::If(BranchOp::Bne, TEMP0, S0, LOOP),
+    Step::Add(A0, S1, 0),
+    Step::Tell,
+    Step::End(0),
+];
+
+/// Words at one offset of two pages run in turn, and a store changes the first of them alone.
+const AT_ONE_OFFSET: &[Step] = &[
+    Step::Put(TEMP0, SEVEN_MORE),
+    Step::Put(TEMP1, LOOP),
+    Step::GoTo(LOOP),
+    Step::At(LOOP),
+    Step::Words(&[FIVE_MORE]),
+    Step::GoTo(FAR),
+    Step::At(FAR),
+    Step::Words(&[FIVE_MORE]),
+    Step::If(BranchOp::Bne, S0, ZERO, FAR_END),
+    Step::Add(S0, ZERO, 1),
+    Step::Store(TEMP0, TEMP1),
+    Step::GoTo(LOOP),
+    Step::At(FAR_END),
     Step::Add(A0, S1, 0),
     Step::Tell,
     Step::End(0),
@@ -124,7 +154,7 @@ const BY_ANOTHER_PROCESS: &[Step] = &[
     Step::End(0),
 ];
 
-const ROWS: [Row; 4] = [
+const ROWS: [Row; 5] = [
     Row {
         guest: &[WITHIN_A_PAGE],
         told: &[0x12345],
@@ -134,6 +164,12 @@ const ROWS: [Row; 4] = [
     Row {
         guest: &[ACROSS_PAGES],
         told: &[0, 0x12345],
+        report: "process 1 status 0\nrounds 1 done\n",
+        ..USUAL
+    },
+    Row {
+        guest: &[AT_ONE_OFFSET],
+        told: &[22],
         report: "process 1 status 0\nrounds 1 done\n",
         ..USUAL
     },

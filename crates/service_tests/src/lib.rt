@@ -13,8 +13,6 @@ mod guests;
 #[cfg(test)]
 mod pages;
 #[cfg(test)]
-mod patches;
-#[cfg(test)]
 mod refusals;
 #[cfg(test)]
 mod runs;
