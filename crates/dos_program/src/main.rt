@@ -4,13 +4,12 @@
 use dos_cmd::dos_main;
 use dos_io::{StdErr, StdFiles, StdHost, StdOut};
 use dos_texts::{Refusal, put_refusal};
-use std::env;
+use staying_workers::{Office, Staying, open};
 use std::io::ErrorKind;
 use std::process::ExitCode;
-use staying_workers::{Office, Staying, open};
 use std::sync::Wait;
-use std::thread;
 use std::thread::Threads;
+use std::{env, thread};
 use worker_pool::{OpenGate, Tally};
 
 /// The words behind the program's name. Words that are no text are refused.
@@ -47,7 +46,13 @@ fn work<R: Threads + Wait + Sync>(rt: &HostRuntime, threads: &R, words: &[String
         let mut tally = Tally::new();
         let mut workers = Staying::new(threads, alloc, office, gate, &mut tally);
         let status = dos_main(
-            alloc, words, &mut files, &mut host, &mut out, &mut err, &mut workers,
+            alloc,
+            words,
+            &mut files,
+            &mut host,
+            &mut out,
+            &mut err,
+            &mut workers,
         );
         workers.finish();
         office.close();

@@ -38,7 +38,14 @@ struct Load {
 }
 
 fn play<W: Workers>(alloc: Global, workers: &mut W, load: Load) -> Result<(), AllocError> {
-    run(alloc, workers, load.packs, load.first, load.others, load.calls)
+    run(
+        alloc,
+        workers,
+        load.packs,
+        load.first,
+        load.others,
+        load.calls,
+    )
 }
 
 fn play_staying<R: Threads + Wait + Sync>(
@@ -88,9 +95,17 @@ fn measure<R: Threads + Wait + Sync>(
             play(alloc, &mut workers, load)?;
         }
         Pool::Spread => play(alloc, &mut Spread::new(rt, hired, &gate, &mut tally), load)?,
-        Pool::Boarded => play(alloc, &mut Boarded::new(rt, alloc, hired, &gate, &mut tally), load)?,
+        Pool::Boarded => play(
+            alloc,
+            &mut Boarded::new(rt, alloc, hired, &gate, &mut tally),
+            load,
+        )?,
         Pool::Stealing => {
-            play(alloc, &mut Stealing::new(rt, alloc, hired, &gate, &mut tally), load)?;
+            play(
+                alloc,
+                &mut Stealing::new(rt, alloc, hired, &gate, &mut tally),
+                load,
+            )?;
         }
         Pool::Staying => play_staying(rt, alloc, hired, load, &mut tally)?,
     }
