@@ -48,6 +48,24 @@ fn play<W: Workers>(alloc: Global, workers: &mut W, load: Load) -> Result<(), Al
     )
 }
 
+fn play_hired<R: Threads + Wait + Sync>(
+    rt: &R,
+    alloc: Global,
+    office: &Office,
+    gate: &OpenGate,
+    hired: u32,
+    load: Load,
+    tally: &mut Tally,
+) -> Result<(), AllocError>
+    requires { (0 < hired) × (hired ≤ 32) }
+{
+    let mut workers = Staying::new(rt, alloc, office, gate, tally);
+    workers.hire(hired);
+    let played = play(alloc, &mut workers, load);
+    workers.finish();
+    played
+}
+
 fn play_staying<R: Threads + Wait + Sync>(
     rt: &R,
     alloc: Global,
@@ -67,10 +85,7 @@ fn play_staying<R: Threads + Wait + Sync>(
             requires { (0 < hired) × (hired ≤ 32) }
         {
             open(rt, scope, office, gate);
-            let mut workers = Staying::new(rt, alloc, office, gate, tally);
-            workers.hire(hired);
-            let played = play(alloc, &mut workers, load);
-            workers.finish();
+            let played = play_hired(rt, alloc, office, gate, hired, load, tally);
             office.close();
             played
         },
