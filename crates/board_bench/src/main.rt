@@ -115,7 +115,12 @@ fn main(rt: HostRuntime) -> io::Result<()> {
         let [work, count, boards] = three else {
             return Err(ErrorKind::InvalidInput.into());
         };
-        let drawn = repeat(rt.alloc(), work_named(work)?, number(count)?, number(boards)?)?;
+        let drawn = repeat(
+            rt.alloc(),
+            work_named(work)?,
+            number(count)?,
+            number(boards)?,
+        )?;
         println!(rt; "{work} {count} {boards}: {drawn}")?;
     }
     Ok(())

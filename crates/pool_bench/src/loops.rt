@@ -117,6 +117,13 @@ pub fn run<W: Workers>(
     let frames = one_frame(alloc)?;
     let table = one_process(alloc)?;
     let mut packs = packs(alloc, count)?;
-    repeat(workers, &mut packs, Shared { frames, table }, first, others, calls);
+    repeat(
+        workers,
+        &mut packs,
+        Shared { frames, table },
+        first,
+        others,
+        calls,
+    );
     Ok(())
 }

@@ -38,7 +38,32 @@ struct Load {
 }
 
 fn play<W: Workers>(alloc: Global, workers: &mut W, load: Load) -> Result<(), AllocError> {
-    run(alloc, workers, load.packs, load.first, load.others, load.calls)
+    run(
+        alloc,
+        workers,
+        load.packs,
+        load.first,
+        load.others,
+        load.calls,
+    )
+}
+
+fn play_hired<R: Threads + Wait + Sync>(
+    rt: &R,
+    alloc: Global,
+    office: &Office,
+    gate: &OpenGate,
+    hired: u32,
+    load: Load,
+    tally: &mut Tally,
+) -> Result<(), AllocError>
+    requires { (0 < hired) × (hired ≤ 32) }
+{
+    let mut workers = Staying::new(rt, alloc, office, gate, tally);
+    workers.hire(hired);
+    let played = play(alloc, &mut workers, load);
+    workers.finish();
+    played
 }
 
 fn play_staying<R: Threads + Wait + Sync>(
@@ -60,10 +85,7 @@ fn play_staying<R: Threads + Wait + Sync>(
             requires { (0 < hired) × (hired ≤ 32) }
         {
             open(rt, scope, office, gate);
-            let mut workers = Staying::new(rt, alloc, office, gate, tally);
-            workers.hire(hired);
-            let played = play(alloc, &mut workers, load);
-            workers.finish();
+            let played = play_hired(rt, alloc, office, gate, hired, load, tally);
             office.close();
             played
         },
@@ -88,9 +110,17 @@ fn measure<R: Threads + Wait + Sync>(
             play(alloc, &mut workers, load)?;
         }
         Pool::Spread => play(alloc, &mut Spread::new(rt, hired, &gate, &mut tally), load)?,
-        Pool::Boarded => play(alloc, &mut Boarded::new(rt, alloc, hired, &gate, &mut tally), load)?,
+        Pool::Boarded => play(
+            alloc,
+            &mut Boarded::new(rt, alloc, hired, &gate, &mut tally),
+            load,
+        )?,
         Pool::Stealing => {
-            play(alloc, &mut Stealing::new(rt, alloc, hired, &gate, &mut tally), load)?;
+            play(
+                alloc,
+                &mut Stealing::new(rt, alloc, hired, &gate, &mut tally),
+                load,
+            )?;
         }
         Pool::Staying => play_staying(rt, alloc, hired, load, &mut tally)?,
     }

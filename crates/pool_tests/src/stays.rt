@@ -18,7 +18,26 @@ fn rounds<W: Workers>(alloc: Global, workers: &mut W, count: u32) -> Result<(), 
     run(alloc, workers, count)
 }
 
-// by so many workers, who end before the call returns
+// by so many workers at this office
+fn work<R: Threads + Wait + Sync>(
+    rt: &R,
+    alloc: Global,
+    office: &Office,
+    gate: &Holding,
+    tally: &mut Tally,
+    workers: u32,
+    count: u32,
+) -> Result<(), AllocError>
+    requires { (0 < workers) × (workers ≤ 32) }
+{
+    let mut pool = Staying::new(rt, alloc, office, gate, tally);
+    pool.hire(workers);
+    let done = rounds(alloc, &mut pool, count);
+    pool.finish();
+    done
+}
+
+// and they end before the call returns
 fn stay<R: Threads + Wait + Sync>(
     rt: &R,
     alloc: Global,
@@ -38,10 +57,7 @@ fn stay<R: Threads + Wait + Sync>(
             requires { (0 < workers) × (workers ≤ 32) }
         {
             open(rt, scope, office, gate);
-            let mut pool = Staying::new(rt, alloc, office, gate, tally);
-            pool.hire(workers);
-            let done = rounds(alloc, &mut pool, count);
-            pool.finish();
+            let done = work(rt, alloc, office, gate, tally, workers, count);
             office.close();
             done
         },

@@ -156,7 +156,10 @@ pub fn open<'s, 'e, R: Threads + Wait + Sync, G: Gate + Sync>(
     office: &'s Office,
     gate: &'s G,
 ) {
-    if scope.spawn(move || recruit(rt, scope, office, gate)).is_err() {
+    if scope
+        .spawn(move || recruit(rt, scope, office, gate))
+        .is_err()
+    {
         office.hired.close();
     }
 }
