@@ -1,7 +1,7 @@
 -- What follows for a call from how it ended.
 use Rattle.std.proofs.Common.{ℕ, zero, suc, ◌≡◌, ◌≢◌, ◌≤◌, ◌⊎◌, refl, sym, ap, ◌∙◌, subst, inl, inr, arith, List, [], ◌∷◌, ◌++◌, take, drop, Option, Some, None, IfSome, Result, Ok, Err}
 use Rattle.std.proofs.lemmas.List.{take-append-drop}
-use Rattle.std.specs.Prelude.{IfOk}
+use Rattle.std.specs.Prelude.{IfOk, IfErr}
 use Rattle.std.specs.List.{AllByRecursion}
 use Rattle.dos_world.specs.declared.Post.{Post}
 use Rattle.dos_words.specs.Ranges.{FitsAskedPost, FitsRequest}
@@ -328,33 +328,33 @@ pub planned_of : (asked : Request) (q r f w : ℕ) (posts : List (ℕ × Post)) 
 planned_of asked q r f w posts start step log names is fits =
     are_planned posts (subst FitsRequest is fits).posts_fit
 
--- the same request, and the same outside, by other names
-pub did_as : (r : Result Ending Refusal) (asked other : Request) (o p : Outside)
+-- the tally was this before
+abbrev with_tally : Outside → ℕ → Outside
+with_tally o tally = record o { tally = tally }
+
+same_outside : (o : Outside) (tally : ℕ) → o.tally ≡ tally → with_tally o tally ≡ o
+same_outside o tally kept = ap (with_tally o) (sym kept)
+
+-- the same request, and a tally that hiring has kept
+pub did_as : (r : Result Ending Refusal) (asked other : Request) (o : Outside) (tally : ℕ)
     → IfOk r (λ ending. Begun asked o (λ taken. Did asked taken (ending_status ending) o))
-    → other ≡ asked → p ≡ o
-    → IfOk r (λ ending. Begun other p (λ taken. Did other taken (ending_status ending) p))
-did_as r asked other o p h same also = rw (same, also) h
+    → other ≡ asked → o.tally ≡ tally
+    → IfOk r (λ ending. Begun other (with_tally o tally)
+    (λ taken. Did other taken (ending_status ending) (with_tally o tally)))
+did_as r asked other o tally h same kept = rw (same, same_outside o tally kept) h
 
--- with these numbers and what is told
-pub at_one : {A : Type 0} (r : Result Ending Refusal) (P : A → Ending → Type 0) (a : A)
+pub leaves_as : (r : Result Ending Refusal) (asked other : Request) (o : Outside) (f : Faults)
+    (tally : ℕ) → IfErr r (λ why. Leaves asked o f why []) → other ≡ asked → o.tally ≡ tally
+    → IfErr r (λ why. Leaves other (with_tally o tally) f why [])
+leaves_as r asked other o f tally h same kept = rw (same, same_outside o tally kept) h
+
+-- with this number, or with this told
+pub ok_at : {A : Type 0} (r : Result Ending Refusal) (P : A → Ending → Type 0) (a : A)
     → IfOk r (λ ending. (x : A) → P x ending) → IfOk r (P a)
-at_one (Ok ending) P a h = h a
-at_one (Err why) P a h = tt
+ok_at (Ok ending) P a h = h a
+ok_at (Err why) P a h = tt
 
-pub at_two : {A B : Type 0} (r : Result Ending Refusal) (P : A → B → Ending → Type 0) (a : A)
-    (b : B) → IfOk r (λ ending. (x : A) (y : B) → P x y ending) → IfOk r (P a b)
-at_two (Ok ending) P a b h = h a b
-at_two (Err why) P a b h = tt
-
-pub at_three : {A B C : Type 0} (r : Result Ending Refusal) (P : A → B → C → Ending → Type 0)
-    (a : A) (b : B) (x : C) → IfOk r (λ ending. (y : A) (z : B) (w : C) → P y z w ending)
-    → IfOk r (P a b x)
-at_three (Ok ending) P a b x h = h a b x
-at_three (Err why) P a b x h = tt
-
-pub at_five : {A B C D E : Type 0} (r : Result Ending Refusal)
-    (P : A → B → C → D → E → Ending → Type 0) (a : A) (b : B) (x : C) (y : D) (z : E)
-    → IfOk r (λ ending. (k : A) (l : B) (m : C) (n : D) (o : E) → P k l m n o ending)
-    → IfOk r (P a b x y z)
-at_five (Ok ending) P a b x y z h = h a b x y z
-at_five (Err why) P a b x y z h = tt
+pub err_at : {A : Type 0} (r : Result Ending Refusal) (P : A → Refusal → Type 0) (a : A)
+    → IfErr r (λ why. (x : A) → P x why) → IfErr r (P a)
+err_at (Ok ending) P a h = tt
+err_at (Err why) P a h = h a

@@ -43,7 +43,7 @@ use Rattle.dos_cmd.specs.Outside.{Outside, Faults, outside, faults}
 use Rattle.dos_cmd.specs.Printing.{RanQuietly, byte_count, summary}
 use Rattle.dos_cmd.specs.Results.{Begun, Did, Leaves}
 use Rattle.dos_cmd.specs.Stops.{IsNotOpened, refusal_by}
-use Rattle.dos_cmd.proofs.ReplayLeaves.{says_nothing}
+use Rattle.dos_cmd.proofs.NotBegun.{not_opened_as, says_nothing}
 
 -- ---- a run over a quiet shim, and sinks that never fail
 
@@ -154,23 +154,11 @@ pub never_without_room : (number threads : ℕ) (images : List Image) (config : 
     (why : Refusal) → images ≡ generated number threads ∷ [] → config ≡ gen_config → threads ≤ 32
     → IsNotOpened images config why → why ≡ refusals.Memory
 never_without_room number threads images config why these this few h =
-    by_why why (subst (λ (c : Config). IsNotOpened (generated number threads ∷ []) c why) this
+    not_opened_as (generated number threads ∷ []) gen_config why
+    (λ (w : Refusal). w ≡ refusals.Memory)
+    (subst (λ (c : Config). IsNotOpened (generated number threads ∷ []) c why) this
     (subst (λ (i : List Image). IsNotOpened i config why) these h))
-  where
-    by_why : (why : Refusal) → IsNotOpened (generated number threads ∷ []) gen_config why
-        → why ≡ refusals.Memory
-    by_why refusals.Words h = absurd h
-    by_why (refusals.TooLong image) h = absurd h
-    by_why (refusals.Image image error) h = absurd h
-    by_why (refusals.NoRoom n frames) h =
-        absurd (omega (arith, h.2, needed-generated number threads few))
-    by_why (refusals.Log found) h = absurd h
-    by_why (refusals.Misfit found) h = absurd h
-    by_why refusals.Files h = absurd h
-    by_why refusals.Host h = absurd h
-    by_why refusals.Sink h = absurd h
-    by_why refusals.LogFull h = absurd h
-    by_why refusals.Memory h = refl
+    (λ over. absurd (omega (arith, over, needed-generated number threads few))) refl
 
 -- It ran out of memory, and nothing was put.
 pub leaves_memory : (number threads n : ℕ) (tells : Bool) (f : Text → Option (List ℕ))
@@ -181,7 +169,7 @@ pub leaves_memory : (number threads n : ℕ) (tells : Bool) (f : Text → Option
 leaves_memory number threads n tells f h out e tally tally' counts why is =
     subst (λ (w : Refusal). Leaves (requests.Gen number threads n)
     (outside tells f f h h out out e e tally tally') counts w []) (sym is)
-    (inl (says_nothing tells f f h out e tally tally' (λ name. refl)))
+    (inl (says_nothing (outside tells f f h h out out e e tally tally') refl refl (λ name. refl) refl))
 
 -- It was opened with the image that is generated.
 pub opened_with : (number threads : ℕ) (kernel : Held) (images : List Image)

@@ -1,9 +1,9 @@
 mod Saying
+pub mod NotBegun
 mod Calls
 mod RunFiles
 mod RunEnds
 mod RunCalls
-pub mod ReplayLeaves
 pub mod ReplayTaking
 pub mod ReplayEnds
 mod GenRuns

@@ -29,6 +29,7 @@ use Rattle.dos_cmd.specs.Outside.{Outside, Faults, outside, faults, Says}
 use Rattle.dos_cmd.specs.Replaying.{StaysAll, CutReplay, DidReplay, LeavesTaken, Misfitted}
 use Rattle.dos_cmd.specs.Results.{Begun, Did, Leaves}
 use Rattle.dos_cmd.specs.Stops.{IsNotOpened, refusal_by}
+use Rattle.dos_cmd.proofs.NotBegun.{no_room_so, not_opened_as}
 use Rattle.dos_cmd.proofs.ReplayTaking.{room_refused, room_taken}
 use Rattle.dos_cmd.proofs.RunEnds.{then_rose}
 
@@ -38,21 +39,8 @@ pub not_opened : (log : Log) (images : List Image) (o : Outside) (f : Faults) (w
     (config : Config) → config ≡ config_of log.header → IsNotOpened images config why → Says o []
     → LeavesTaken log images o f why
 not_opened log images o f why config is h says =
-    by_why why (subst (λ (c : Config). IsNotOpened images c why) is h)
-  where
-    by_why : (why : Refusal) → IsNotOpened images (config_of log.header) why
-        → LeavesTaken log images o f why
-    by_why refusals.Words h = absurd h
-    by_why (refusals.TooLong image) h = absurd h
-    by_why (refusals.Image image error) h = absurd h
-    by_why (refusals.NoRoom n frames) h = (h.0, h.1, h.2, says)
-    by_why (refusals.Log found) h = absurd h
-    by_why (refusals.Misfit found) h = absurd h
-    by_why refusals.Files h = absurd h
-    by_why refusals.Host h = absurd h
-    by_why refusals.Sink h = absurd h
-    by_why refusals.LogFull h = absurd h
-    by_why refusals.Memory h = says
+    not_opened_as images (config_of log.header) why (λ (w : Refusal). LeavesTaken log images o f w)
+    (subst (λ (c : Config). IsNotOpened images c why) is h) (λ over. (refl, refl, over, says)) says
 
 -- the log's frames
 pub has_room : (log : Log) (images : List Image) (config : Config)
@@ -215,10 +203,6 @@ replay_begun log images name names tells f f' out err out1 err1 tally tally1 (Ok
       is = room_taken (replay_judgement (f name) (map f names)) log images fits told;
       so = did tells f f' h stay;
     }
-
-no_room_so : (n frames needs has : ℕ) → n ≡ needs → frames ≡ has
-    → refusals.NoRoom needs has ≡ refusals.NoRoom n frames
-no_room_so n frames needs has a b = cc
 
 leaves_taken : (log : Log) (images : List Image) (name : Text) (names : List Text) (n : ℕ)
     (o : Outside) (f : Faults) (why : Refusal)

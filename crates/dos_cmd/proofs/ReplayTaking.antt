@@ -1,7 +1,6 @@
 -- What a replay takes its files for, from part to whole.
 use Rattle.std.proofs.Common.{◌≡◌, ◌≤◌, ◌<◌, refl, sym, ap, ap₂, ◌∙◌, subst, ℕ, Bool, true, false, List, [], ◌∷◌, length, map, Option, Some, None, Result, Ok, Err, arith}
 use Rattle.std.specs.Prelude.{IfSome, nat_lt, option_and_then, ◌==◌, if◌then◌else◌}
-use Rattle.std.proofs.lemmas.Bool.{le-ltb}
 use Rattle.std.proofs.lemmas.Bool.Decides.{nat_tests}
 use Rattle.elf_image.specs.Image.{Image}
 use Rattle.group_open.specs.Opening.{needed}
@@ -14,8 +13,9 @@ use Rattle.shim_log.specs.Ranges.{FitsLog}
 use Rattle.dos_texts.specs.declared.refusal.Refusal.{Refusal}
 use Rattle.dos_texts.specs.declared.refusal.Refusal.TheVariants as refusals
 use Rattle.dos_words.specs.Numbers.{Text}
-use Rattle.dos_cmd.specs.Judging.{Images, Judgement, agreed, by_log, digests_of, images_from, replay_judgement, with_images}
+use Rattle.dos_cmd.specs.Judging.{Images, Judgement, agreed, by_log, digests_of, images_from, of_log, replay_judgement, with_images}
 use Rattle.dos_cmd.specs.Replaying.{OfLogFile, OfReading}
+use Rattle.dos_cmd.proofs.NotBegun.{has_room, no_room}
 
 -- ---- files that stay
 
@@ -136,16 +136,6 @@ same_count given logged h = by_test (length given == length logged) refl h
 
 -- ---- room
 
-room_ok : (log : Log) (images : List Image) → needed images ≤ log.header.frames
-    → agreed log images None ≡ Ok (record { log = Some log; images = images })
-room_ok log images fits = rw (le-ltb log.header.frames (needed images) fits) refl
-
-room_not : (log : Log) (images : List Image) → log.header.frames < needed images
-    → agreed log images None ≡ Err (refusals.NoRoom (needed images) log.header.frames)
-room_not log images over =
-    let more : nat_lt log.header.frames (needed images) ≡ true = grind (arith, nat_tests) in
-    rw more refl
-
 pub with_this : (told : Option Judgement) (j k : Judgement) → j ≡ k
     → IfSome told (λ x. x ≡ j) → IfSome told (λ x. x ≡ k)
 with_this None j k e h = tt
@@ -154,9 +144,11 @@ with_this (Some x) j k e h = h ∙ e
 pub room_taken : (told : Option Judgement) (log : Log) (images : List Image)
     → needed images ≤ log.header.frames → IfSome told (λ j. j ≡ agreed log images None)
     → IfSome told (λ j. j ≡ Ok (record { log = Some log; images = images }))
-room_taken told log images fits h = with_this told _ _ (room_ok log images fits) h
+room_taken told log images fits h =
+    with_this told _ _ (ap (of_log log) (has_room (config_of log.header) images fits)) h
 
 pub room_refused : (told : Option Judgement) (log : Log) (images : List Image)
     → log.header.frames < needed images → IfSome told (λ j. j ≡ agreed log images None)
     → IfSome told (λ j. j ≡ Err (refusals.NoRoom (needed images) log.header.frames))
-room_refused told log images over h = with_this told _ _ (room_not log images over) h
+room_refused told log images over h =
+    with_this told _ _ (ap (of_log log) (no_room (config_of log.header) images over)) h

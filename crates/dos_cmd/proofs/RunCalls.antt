@@ -1,11 +1,8 @@
 -- What a call that asks for a run leaves.
 use Rattle.std.proofs.Common.{◌≡◌, ◌⊎◌, ◌≤◌, ◌<◌, inl, inr, ℕ, List, [], map, Bool, true, Option, Some, None, Result, Ok, Err, sym, ap, ◌∙◌, subst, refl, arith}
 use Rattle.std.specs.Prelude.{IfSome, IfOk, IfErr, nat_lt, option_map}
-use Rattle.std.proofs.lemmas.Bool.{le-ltb}
-use Rattle.std.proofs.lemmas.Bool.Decides.{nat_tests}
 use Rattle.dos_io.specs.Outside.{Rose}
 use Rattle.dos_io.specs.declared.exchange.ClockRule.{ClockRule}
-use Rattle.dos_io.proofs.OutsideLaws.{grown-nothing}
 use Rattle.dos_world.specs.declared.Config.{Config}
 use Rattle.dos_world.specs.declared.Ending.{Ending}
 use Rattle.dos_world.specs.declared.Post.{Post}
@@ -23,10 +20,11 @@ use Rattle.dos_words.specs.Numbers.{Text}
 use Rattle.dos_words.specs.declared.request.Request.{Request}
 use Rattle.dos_words.specs.declared.request.Request.TheVariants.{Run}
 use Rattle.dos_cmd.specs.Judging.{Images, Judgement, Taken, OfFiles, digests_of, images_from, judgement, of_images, with_room}
-use Rattle.dos_cmd.specs.Outside.{Outside, Faults, FilesStay, HostStays, Says}
+use Rattle.dos_cmd.specs.Outside.{Outside, Faults, Says}
 use Rattle.dos_cmd.specs.Results.{Begun, Did, Leaves}
 use Rattle.dos_cmd.specs.Running.{RunAsked, DidRun, IsPrepared, clock_rule, header_of}
 use Rattle.dos_cmd.specs.Stops.{IsNotOpened, LeavesRun}
+use Rattle.dos_cmd.proofs.NotBegun.{has_room, leaves_reading, no_room, not_opened_as, of_files}
 use Rattle.dos_cmd.proofs.RunEnds.{then_rose}
 
 -- the request, with so many workers
@@ -39,16 +37,6 @@ run_words a workers = Run a.config.quantum a.config.rounds a.config.frames worke
 -- these images, and no log
 abbrev pub only_images : List Image → Taken
 only_images images = record { log = None; images = images }
-
-has_room : (config : Config) (images : List Image) → needed images ≤ config.frames
-    → of_images (with_room config (Ok images)) ≡ Ok (only_images images)
-has_room config images fits = rw (le-ltb config.frames (needed images) fits) refl
-
-no_room : (config : Config) (images : List Image) → config.frames < needed images
-    → of_images (with_room config (Ok images)) ≡ Err (refusals.NoRoom (needed images) config.frames)
-no_room config images over =
-    let more : nat_lt config.frames (needed images) ≡ true = grind (arith, nat_tests) in
-    rw more refl
 
 -- what all files are taken for, from what their images are
 then_taken : (config : Config) (told : Option Images) (images : Images) (j : Judgement)
@@ -64,7 +52,7 @@ pub taken_with : (a : RunAsked) (n : ℕ) (contents : Text → Option (List ℕ)
     → IfSome (judgement contents (run_words a n)) (λ j. j ≡ Ok (only_images images))
 taken_with a n contents images fits h =
     then_taken a.config (images_from 1 (map contents a.names)) (Ok images)
-    (Ok (only_images images)) (has_room a.config images fits) h
+    (Ok (only_images images)) (ap of_images (has_room a.config images fits)) h
 
 refused_with : (a : RunAsked) (n : ℕ) (contents : Text → Option (List ℕ)) (why : Refusal)
     → IfSome (images_from 1 (map contents a.names)) (λ i. i ≡ Err why)
@@ -81,61 +69,24 @@ same_images (Some i) images others e h =
 
 -- ---- it isn't begun: nothing is put
 
-pub says_nothing : (o : Outside) → o.out_after ≡ o.out → o.err_after ≡ o.err → FilesStay o
-    → HostStays o → Says o []
-says_nothing o out err files host = record {
-  out_stays = out;
-  err_says = err ∙ grown-nothing o.err;
-  files_stay = files;
-  host_stays = host;
-}
-
 pub images_refused : (a : RunAsked) (n : ℕ) (o : Outside) (f : Faults) (why : Refusal)
     → OfFiles why (λ r. IfSome (images_from 1 (map o.files a.names)) (λ i. i ≡ Err r))
     → (why ≡ refusals.Files → Rose f.files f.files_after) → Says o []
     → Leaves (run_words a n) o f why []
-images_refused a n o f refusals.Words h rose says = absurd h
-images_refused a n o f (refusals.TooLong image) h rose says = record {
-  is = refused_with a n o.files (refusals.TooLong image) h;
-  says = says;
-}
-images_refused a n o f (refusals.Image image error) h rose says = record {
-  is = refused_with a n o.files (refusals.Image image error) h;
-  says = says;
-}
-images_refused a n o f (refusals.NoRoom m frames) h rose says = absurd h
-images_refused a n o f (refusals.Log why) h rose says = absurd h
-images_refused a n o f (refusals.Misfit found) h rose says = absurd h
-images_refused a n o f refusals.Files h rose says = (rose refl, inl says)
-images_refused a n o f refusals.Host h rose says = absurd h
-images_refused a n o f refusals.Sink h rose says = absurd h
-images_refused a n o f refusals.LogFull h rose says = absurd h
-images_refused a n o f refusals.Memory h rose says = inl says
+images_refused a n o f why h rose says =
+    leaves_reading (run_words a n) o f why (of_files why _ _ (refused_with a n o.files) h) rose says
 
 pub not_opened : (a : RunAsked) (n : ℕ) (o : Outside) (f : Faults) (images : List Image)
     (why : Refusal) → IfSome (images_from 1 (map o.files a.names)) (λ i. i ≡ Ok images)
     → IsNotOpened images a.config why → Says o [] → Leaves (run_words a n) o f why []
-not_opened a n o f images refusals.Words told h says = absurd h
-not_opened a n o f images (refusals.TooLong image) told h says = absurd h
-not_opened a n o f images (refusals.Image image error) told h says = absurd h
-not_opened a n o f images (refusals.NoRoom m frames) told h says =
-    let none : of_images (with_room a.config (Ok images)) ≡ Err (refusals.NoRoom m frames) =
-    no_room a.config images h.2
-    ∙ ap (λ (x : ℕ). (let whole : Judgement = Err (refusals.NoRoom x a.config.frames) in whole))
-    (sym h.0)
-    ∙ ap (λ (x : ℕ). (let whole : Judgement = Err (refusals.NoRoom m x) in whole)) (sym h.1) in
-    record {
+not_opened a n o f images why told h says =
+    not_opened_as images a.config why (λ (w : Refusal). Leaves (run_words a n) o f w []) h
+    (λ over. record {
       is = then_taken a.config (images_from 1 (map o.files a.names)) (Ok images)
-          (Err (refusals.NoRoom m frames)) none told;
+          (Err (refusals.NoRoom (needed images) a.config.frames))
+          (ap of_images (no_room a.config images over)) told;
       says = says;
-    }
-not_opened a n o f images (refusals.Log why) told h says = absurd h
-not_opened a n o f images (refusals.Misfit found) told h says = absurd h
-not_opened a n o f images refusals.Files told h says = absurd h
-not_opened a n o f images refusals.Host told h says = absurd h
-not_opened a n o f images refusals.Sink told h says = absurd h
-not_opened a n o f images refusals.LogFull told h says = absurd h
-not_opened a n o f images refusals.Memory told h says = inl says
+    }) (inl says)
 
 -- ---- it is begun
 

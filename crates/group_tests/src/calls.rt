@@ -4,7 +4,7 @@ use dos_io::{Files, MemoryFiles, MemoryHost, MemorySink};
 use std::alloc::{AllocError, Global};
 use std::test::Fail;
 use std::thread::Threads;
-use worker_pool::{OpenGate, Stealing, Tally};
+use worker_pool::{OpenGate, Stealing, Tally, Workers};
 
 /// The file of the log, which each run writes.
 pub const LOG: &str = "log";
@@ -54,15 +54,18 @@ fn words_of(alloc: Global, texts: &[&str]) -> Result<Vec<String>, AllocError> {
     Ok(words)
 }
 
-/// Calls the program with these words, and `--log log` behind the word `run`. Both sinks have room
-/// for 40000 bytes.
-pub fn call_over<R: Threads + Sync>(
-    rt: &R,
+/// The status of a call, and its two outputs.
+type Ended = (u8, MemorySink, MemorySink);
+
+/// Calls the program with these words and workers, and `--log log` behind the word `run`. Both sinks
+/// have room for 40000 bytes.
+pub fn call_by<W: Workers>(
+    workers: &mut W,
     alloc: Global,
     texts: &[&str],
     files: &mut MemoryFiles,
     outside: &Outside<'_>,
-) -> Result<Left, AllocError> {
+) -> Result<Ended, AllocError> {
     let words = words_of(alloc, texts)?;
     let piece = if outside.piece == 0 { 1 } else { outside.piece };
     let mut host = MemoryHost::new(
@@ -74,18 +77,22 @@ pub fn call_over<R: Threads + Sync>(
     )?;
     let mut out = MemorySink::new(alloc, 40000, outside.out_failing)?;
     let mut err = MemorySink::new(alloc, 40000, outside.err_failing)?;
+    let status = dos_main(alloc, &words, files, &mut host, &mut out, &mut err, workers);
+    Ok((status, out, err))
+}
+
+/// The same with a pool that steals.
+pub fn call_over<R: Threads + Sync>(
+    rt: &R,
+    alloc: Global,
+    texts: &[&str],
+    files: &mut MemoryFiles,
+    outside: &Outside<'_>,
+) -> Result<Left, AllocError> {
     let gate = OpenGate::new();
     let mut tally = Tally::new();
     let mut workers = Stealing::new(rt, alloc, 1, &gate, &mut tally);
-    let status = dos_main(
-        alloc,
-        &words,
-        files,
-        &mut host,
-        &mut out,
-        &mut err,
-        &mut workers,
-    );
+    let (status, out, err) = call_by(&mut workers, alloc, texts, files, outside)?;
     workers.finish();
     let work = tally.count();
     Ok(Left {

@@ -1,5 +1,5 @@
 //! The same with any number of workers: bytes, rounds and the tally.
-use crate::calls::call;
+use crate::calls::{Left, NOTHING, call, call_by};
 use crate::files::usual_files;
 use crate::guests::{
     BEHIND_NINE, ENDLESS, ENDS, MAKES_THREADS, PRINTS_BEHIND, RACE, file, file_at, file_with,
@@ -9,6 +9,7 @@ use dos_io::MemoryFiles;
 use std::alloc::{AllocError, Global};
 use std::test::*;
 use std::thread::Threads;
+use worker_pool::{Boarded, OpenGate, Serial, Spread, Tally, Workers};
 
 const NUMBERS: [&str; 4] = ["1", "2", "4", "32"];
 
@@ -137,5 +138,44 @@ fn any_number_of_workers_leaves_the_same(rt: HostRuntime) -> Result<(), Fail> {
     for row in &ROWS {
         run_on_each(&rt, alloc, &mut files, row)?;
     }
+    Ok(())
+}
+
+// The guest `race` leaves this with any workers.
+fn run_race<W: Workers>(
+    workers: &mut W,
+    alloc: Global,
+    files: &mut MemoryFiles,
+) -> Result<(), Fail> {
+    let words = words_on(alloc, "4", &["race"])?;
+    let (status, out, err) = call_by(workers, alloc, &words, files, &NOTHING)?;
+    let left = Left {
+        status,
+        out,
+        err,
+        work: 0,
+    };
+    left.expect(0, "11", "process 1 status 0\nrounds 4 done\n")
+}
+
+#[test]
+fn each_pool_leaves_the_same(rt: HostRuntime) -> Result<(), Fail> {
+    let alloc = rt.alloc();
+    let mut files = guests(alloc)?;
+    let gate = OpenGate::new();
+    let mut serial = Tally::new();
+    let mut workers: Serial<'_, HostRuntime> = Serial::new(&mut serial);
+    run_race(&mut workers, alloc, &mut files)?;
+    workers.finish();
+    let mut spread = Tally::new();
+    let mut workers = Spread::new(&rt, 1, &gate, &mut spread);
+    run_race(&mut workers, alloc, &mut files)?;
+    workers.finish();
+    assert_eq!(rt; spread.count(), serial.count());
+    let mut boarded = Tally::new();
+    let mut workers = Boarded::new(&rt, alloc, 1, &gate, &mut boarded);
+    run_race(&mut workers, alloc, &mut files)?;
+    workers.finish();
+    assert_eq!(rt; boarded.count(), serial.count());
     Ok(())
 }

@@ -1,10 +1,25 @@
-use Rattle.std.proofs.Common.{inl, refl}
+use Rattle.std.proofs.Common.{◌≡◌, inl, refl, ℕ, List, [], ◌∷◌, Option, Some, None, Ok}
+use Rattle.std.specs.Prelude.{IfSome, option_map}
 use Rattle.std.proofs.lemmas.Result.{err_from_is_err_and}
 use Rattle.dos_io.proofs.OutsideLaws.{grown-nothing}
+use Rattle.elf_image.specs.Image.{Image}
+use Rattle.dos_words.specs.Numbers.{Text}
 use Rattle.dos_words.specs.declared.request.Request.TheVariants as requests
-use Rattle.dos_cmd.specs.Outside.{outside}
-use Rattle.dos_cmd.proofs.ReplayLeaves.{one_image}
+use Rattle.dos_cmd.specs.Judging.{images_from, judgement, of_images, verdict}
 use Rattle.dos_cmd.proofs.inspect.inspect.Goals as goal
+
+-- what the one file is taken for
+one_image : (contents : Text → Option (List ℕ)) (name : Text) (parsed : Image)
+    → IfSome (contents name) (λ file. verdict 1 file ≡ Ok parsed)
+    → IfSome (judgement contents (requests.Inspect name))
+    (λ j. j ≡ Ok (record { log = None; images = parsed ∷ [] }))
+one_image contents name parsed h = one (contents name) h
+  where
+    one : (told : Option (List ℕ)) → IfSome told (λ file. verdict 1 file ≡ Ok parsed)
+        → IfSome (option_map of_images (images_from 1 (told ∷ [])))
+        (λ j. j ≡ Ok (record { log = None; images = parsed ∷ [] }))
+    one None h = tt
+    one (Some file) h = rw h refl
 
 pub returns-in-Ok-clause-did : goal.returns-in-Ok-clause-did
 returns-in-Ok-clause-did g c = λ h e t. record {

@@ -1,8 +1,9 @@
+use Rattle.std.proofs.Common.{refl}
 use Rattle.std.proofs.lemmas.Result.{err_from_is_err_and}
 use Rattle.dos_words.specs.declared.request.Request.TheVariants as requests
 use Rattle.dos_cmd.specs.Outside.{outside, faults}
 use Rattle.dos_cmd.proofs.ReplayEnds.{replay_begun, replay_leaves, same_images}
-use Rattle.dos_cmd.proofs.ReplayLeaves.{leaves_reading, says_nothing}
+use Rattle.dos_cmd.proofs.NotBegun.{leaves_reading, says_nothing}
 use Rattle.dos_cmd.proofs.RunEnds.{is_err_of}
 use Rattle.dos_cmd.proofs.replay.replay.Goals as goal
 
@@ -18,7 +19,7 @@ returns-in_err-log-clause-leaves g c =
     (faults (g.F.Files.faults c.args.files.now) (g.F.Files.faults c.take.new.files) m m
     (g.O.Sink.faults c.args.out.now) (g.O.Sink.faults c.args.out.now)
     (g.E.Sink.faults c.args.err.now) (g.E.Sink.faults c.args.err.now)) _ take.refused
-    (λ e. take.fault (is_err_of _ _ e)) (says_nothing _ _ _ h _ _ _ _ take.stays))
+    (λ e. take.fault (is_err_of _ _ e)) (says_nothing _ refl refl take.stays refl))
 
 pub returns-clause-did : goal.returns-clause-did
 returns-clause-did g c =

@@ -1,7 +1,8 @@
+use Rattle.std.proofs.Common.{refl}
 use Rattle.std.proofs.lemmas.Result.{err_from_is_err_and}
 use Rattle.dos_cmd.specs.Outside.{outside, faults}
 use Rattle.dos_cmd.proofs.ReplayEnds.{has_room, not_opened, on_ok, opened_by, replay_cut, replay_did, replay_stopped}
-use Rattle.dos_cmd.proofs.ReplayLeaves.{says_nothing}
+use Rattle.dos_cmd.proofs.NotBegun.{says_nothing}
 use Rattle.dos_cmd.proofs.RunEnds.{is_err_of}
 use Rattle.dos_cmd.proofs.replay.replay_taken.Goals as goal
 
@@ -15,7 +16,7 @@ returns-in_err-kernel-clause-leaves g c =
     (faults k k' m m (g.O.Sink.faults c.args.out.now) (g.O.Sink.faults c.args.out.now)
     (g.E.Sink.faults c.args.err.now) (g.E.Sink.faults c.args.err.now)) _
     c.config_of.result c.config_of.ensures.config c.in_err-kernel.ensures.refused
-    (says_nothing tells f f' h _ _ _ _ stay))
+    (says_nothing _ refl refl stay refl))
 
 pub returns-clause-leaves : goal.returns-clause-leaves
 returns-clause-leaves g c = λ tells f f' h k k' m stay.

@@ -2,7 +2,7 @@ use Rattle.std.proofs.Common.{◌≡◌, ap, subst, length, Some, None, arith}
 use Rattle.std.proofs.lemmas.Result.{err_from_is_err_and}
 use Rattle.log_files.specs.Judging.{disagreement}
 use Rattle.shim_log.specs.declared.header.LogHeader.{LogHeader}
-use Rattle.dos_cmd.proofs.ReplayLeaves.{of_files}
+use Rattle.dos_cmd.proofs.NotBegun.{of_files}
 use Rattle.dos_cmd.proofs.ReplayTaking.{images_refused, reading_refused, same_count, taken_after}
 use Rattle.dos_cmd.proofs.replay.take.Goals as goal
 
