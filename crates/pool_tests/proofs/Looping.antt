@@ -12,7 +12,7 @@ use Rattle.page_store.specs.Store.{Store, whole}
 use Rattle.proc_table.specs.Tables.{Tables}
 use mathlib.Core.Logic.{dite}
 use native.Mathlib.Decide.{ℕ_discrete}
-use Rattle.quantum_run.specs.Packs.{space_in}
+use Rattle.quantum_run.specs.Packs.{space_in, view_of}
 use Rattle.quantum_run.specs.Shows.{Pack, View, CanRun, frames_of}
 use Rattle.worker_pool.specs.Ran.{AllCanRun}
 use Rattle.page_store.proofs.Joined.{home-at}
@@ -98,19 +98,10 @@ one-page (x ∷ y ∷ ps) some count = absurd (omega arith)
 
 pub all-can : (s : Store) (t : Tables) (ps : List Pack) → HasOneShared s
     → map space_in t.processes ≡ Some page_of_code ∷ [] → All IsLoop ps
-    → AllCanRun record {
-      owners = s.owners;
-      pages = map (option_map whole) s.pages;
-      spaces =
-          map space_in t.processes;
-    } ps
+    → AllCanRun (view_of s t) ps
 all-can s t ps one space loops i p at =
     let page = one-page s.pages one.1 one.2 in
-    let same : ◌≡◌ {A = View} record {
-      owners = s.owners;
-      pages = map (option_map whole) s.pages;
-      spaces = map space_in t.processes;
-    } (the_view page.0)
+    let same : view_of s t ≡ the_view page.0
     = λ k. record { owners = one.0 k; pages = page.1 k; spaces = space k } in
     let r = index-at ps i p p at in
     subst (λ v. CanRun p v) (sym same) (can-loop page.0 p (subst IsLoop r.1 (loops i p r.0)))

@@ -6,8 +6,13 @@ use Rattle.group_rounds.specs.Handing.{AreSpare, Handing, pack_of}
 use Rattle.group_rounds.specs.Kernels.{Held, IsBetweenRounds}
 use Rattle.group_rounds.specs.Phases.{AreLive}
 use Rattle.group_rounds.proofs.PacksRan.{ready-apart}
+use Rattle.group_rounds.proofs.Sound.{few_live}
 use Rattle.group_rounds.proofs.Starters.{ready_live}
 use Rattle.group_rounds.proofs.away.hand_out.Goals as goal
+
+pub gather-requires-clause-few : goal.gather-requires-clause-few
+gather-requires-clause-few c = few_live c.kernel.inside.state
+    (c.kernel.invariant.3 (ap (λ (k : Held). k.failed) c.kernel.view_is ∙ c.requires)).sound
 
 pub set_budgets-requires-clause-sound : goal.set_budgets-requires-clause-sound
 set_budgets-requires-clause-sound c =

@@ -1,4 +1,4 @@
-use Rattle.std.proofs.Common.{ℕ, ◌≤◌, ◌-◌, sym, ◌∙◌, subst, arith, false}
+use Rattle.std.proofs.Common.{ℕ, ◌≤◌, ◌-◌, refl, sym, ◌∙◌, subst, arith, false}
 use Rattle.worker_pool.specs.Ran.{budgets}
 use Rattle.group_rounds.specs.Away.{Away, HaveRun, IsParallelOf}
 use Rattle.group_rounds.proofs.AwayLaws.{are-away, are-apart, are-live, are-others, have-room, between-again, is-parallel}
@@ -43,15 +43,17 @@ invariant_of-result c =
       starters = c.ran.inside.starters.items;
       packs = v.1;
     } in
-    let spare = c.take_in.ensures.spare in
-    record {
-      empty = c.take_in.ensures.all_spare c.ran.inside.frames room.empty
-          (λ q k. have-room v.0 a v.2 c.ran.inside.out.items v.3 q k ∙ sym room.frames_are);
-      many = omega (arith, room.many, spare);
-      fits = omega (arith, room.fits, spare, c.take_in.ensures.spare_room);
-      none = c.take_in.ensures.packs;
-      room = omega (arith, room.room, c.take_in.ensures.packs_room);
-    }
+    let spare = c.take_in.ensures.spare in (
+      record {
+        empty = c.take_in.ensures.all_spare c.ran.inside.frames room.empty
+            (λ q k. have-room v.0 a v.2 c.ran.inside.out.items v.3 q k ∙ sym room.frames_are);
+        many = omega (arith, room.many, spare);
+        fits = omega (arith, room.fits, spare, c.take_in.ensures.spare_room);
+        none = c.take_in.ensures.packs;
+        room = omega (arith, room.room, c.take_in.ensures.packs_room);
+      },
+      refl,
+    )
 
 pub invariant_of-result-2 : goal.invariant_of-result-2
 invariant_of-result-2 c =
