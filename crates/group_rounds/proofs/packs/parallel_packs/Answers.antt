@@ -26,6 +26,17 @@ set-to : (qs : List Pack) (ran out : State) (t after : Tables) → ran ≡ out �
 set-to qs ran out t after same stood set = subst (λ (x : Tables). AreSet qs x after)
     (ap (λ (s : State). s.table) same ∙ stood) set
 
+-- and the rest of the state is as it was
+rest-to : (ran out s s2 : State) → ran ≡ out → s2.round ≡ ran.round → s2.pipes ≡ ran.pipes
+    → s2.futexes ≡ ran.futexes → out.round ≡ s.round → out.pipes ≡ s.pipes
+    → out.futexes ≡ s.futexes
+    → (s2.round ≡ s.round) × (s2.pipes ≡ s.pipes) × (s2.futexes ≡ s.futexes)
+rest-to ran out s s2 same round pipes futexes round0 pipes0 futexes0 = (
+  round ∙ ap (λ (x : State). x.round) same ∙ round0,
+  pipes ∙ ap (λ (x : State). x.pipes) same ∙ pipes0,
+  futexes ∙ ap (λ (x : State). x.futexes) same ∙ futexes0,
+)
+
 pub run_out-requires-clause-can : goal.run_out-requires-clause-can
 run_out-requires-clause-can g c =
     let s : State = c.args.state.now in
@@ -40,70 +51,114 @@ run_out-requires-clause-can g c =
 
 pub take_in-requires-clause-away : goal.take_in-requires-clause-away
 take_in-requires-clause-away g c =
-    λ f page k. subst (λ (s : State). IsAway s.frames f) (sym c.run_out.ensures.state)
-    (pages-away c.args.state.now c.requires.sound c.args.starters.now c.requires.live
-    c.requires.apart c.hand_out.new.state.frames c.hand_out.new.packs.items
-    c.run_out.new.packs.items c.hand_out.ensures.hands (over-table c.hand_out.new.state.frames _ _ c.hand_out.new.packs.items
-    c.run_out.new.packs.items c.hand_out.ensures.table c.run_out.ensures.runs) f page k)
+    let s : State = c.args.state.now in
+    let ts = c.args.starters.now in
+    let h = c.hand_out.ensures.hands in
+    let new = c.hand_out.new.state.frames in
+    let ps = c.hand_out.new.packs.items in
+    let qs = c.run_out.new.packs.items in
+    let ran = over-table new _ _ ps qs c.hand_out.ensures.table c.run_out.ensures.runs in
+    λ f page k. subst (λ (x : State). IsAway x.frames f) (sym c.run_out.ensures.state)
+    (pages-away s c.requires.sound ts c.requires.live c.requires.apart new ps qs h ran f page k)
 
 pub take_in-requires-clause-apart : goal.take_in-requires-clause-apart
 take_in-requires-clause-apart g c =
-    pages-apart c.args.state.now c.requires.sound c.args.starters.now c.requires.live
-    c.requires.apart c.hand_out.new.state.frames c.hand_out.new.packs.items
-    c.run_out.new.packs.items c.hand_out.ensures.hands (over-table c.hand_out.new.state.frames _ _ c.hand_out.new.packs.items
-    c.run_out.new.packs.items c.hand_out.ensures.table c.run_out.ensures.runs)
+    let s : State = c.args.state.now in
+    let ts = c.args.starters.now in
+    let h = c.hand_out.ensures.hands in
+    let new = c.hand_out.new.state.frames in
+    let ps = c.hand_out.new.packs.items in
+    let qs = c.run_out.new.packs.items in
+    let ran = over-table new _ _ ps qs c.hand_out.ensures.table c.run_out.ensures.runs in
+    pages-apart s c.requires.sound ts c.requires.live c.requires.apart new ps qs h ran
 
 pub take_in-requires-clause-live : goal.take_in-requires-clause-live
 take_in-requires-clause-live g c =
-    λ p k. subst (λ (table : Tables). IsThread table.threads p.thread) (sym (ap (λ (s : State). s.table) c.run_out.ensures.state ∙ c.hand_out.ensures.table))
-    (threads-live c.args.state.now c.requires.sound c.args.starters.now c.requires.live
-    c.requires.apart c.hand_out.new.state.frames c.hand_out.new.packs.items
-    c.run_out.new.packs.items c.hand_out.ensures.hands (over-table c.hand_out.new.state.frames _ _ c.hand_out.new.packs.items
-    c.run_out.new.packs.items c.hand_out.ensures.table c.run_out.ensures.runs) p k)
+    let s : State = c.args.state.now in
+    let ts = c.args.starters.now in
+    let h = c.hand_out.ensures.hands in
+    let new = c.hand_out.new.state.frames in
+    let ps = c.hand_out.new.packs.items in
+    let qs = c.run_out.new.packs.items in
+    let ran = over-table new _ _ ps qs c.hand_out.ensures.table c.run_out.ensures.runs in
+    let stood = ap (λ (x : State). x.table) c.run_out.ensures.state ∙ c.hand_out.ensures.table in
+    λ p k. subst (λ (table : Tables). IsThread table.threads p.thread) (sym stood)
+    (threads-live s c.requires.sound ts c.requires.live c.requires.apart new ps qs h ran p k)
 
 pub take_in-requires-clause-others : goal.take_in-requires-clause-others
 take_in-requires-clause-others g c =
-    others c.args.state.now c.requires.sound c.args.starters.now c.requires.live c.requires.apart
-    c.hand_out.new.state.frames c.hand_out.new.packs.items c.run_out.new.packs.items
-    c.hand_out.ensures.hands (over-table c.hand_out.new.state.frames _ _ c.hand_out.new.packs.items
-    c.run_out.new.packs.items c.hand_out.ensures.table c.run_out.ensures.runs)
+    let s : State = c.args.state.now in
+    let ts = c.args.starters.now in
+    let h = c.hand_out.ensures.hands in
+    let new = c.hand_out.new.state.frames in
+    let ps = c.hand_out.new.packs.items in
+    let qs = c.run_out.new.packs.items in
+    let ran = over-table new _ _ ps qs c.hand_out.ensures.table c.run_out.ensures.runs in
+    others s c.requires.sound ts c.requires.live c.requires.apart new ps qs h ran
 
 pub returns-clause-runs : goal.returns-clause-runs
 returns-clause-runs g c =
-    all-runs c.args.state.now c.requires.sound c.args.starters.now c.requires.live c.requires.apart
-    c.hand_out.new.state.frames c.hand_out.new.packs.items c.run_out.new.packs.items
-    c.hand_out.ensures.hands (over-table c.hand_out.new.state.frames _ _ c.hand_out.new.packs.items
-    c.run_out.new.packs.items c.hand_out.ensures.table c.run_out.ensures.runs) c.take_in.new.state (back-to _ _ _ _ c.run_out.ensures.state c.take_in.ensures.back) (set-to _ _ _ _ _ c.run_out.ensures.state c.hand_out.ensures.table c.take_in.ensures.set)
-    (c.take_in.ensures.round ∙ ap (λ (s : State). s.round) c.run_out.ensures.state
-    ∙ c.hand_out.ensures.round) (c.take_in.ensures.pipes ∙ ap (λ (s : State). s.pipes) c.run_out.ensures.state
-    ∙ c.hand_out.ensures.pipes) (c.take_in.ensures.futexes ∙ ap (λ (s : State). s.futexes) c.run_out.ensures.state
-    ∙ c.hand_out.ensures.futexes)
+    let s : State = c.args.state.now in
+    let ts = c.args.starters.now in
+    let h = c.hand_out.ensures.hands in
+    let new = c.hand_out.new.state.frames in
+    let ps = c.hand_out.new.packs.items in
+    let qs = c.run_out.new.packs.items in
+    let ran = over-table new _ _ ps qs c.hand_out.ensures.table c.run_out.ensures.runs in
+    let same = c.run_out.ensures.state in
+    let s2 : State = c.take_in.new.state in
+    let set = set-to qs _ _ _ _ same c.hand_out.ensures.table c.take_in.ensures.set in
+    let back = back-to _ _ _ _ same c.take_in.ensures.back in
+    let rest = rest-to _ _ s s2 same c.take_in.ensures.round c.take_in.ensures.pipes
+    c.take_in.ensures.futexes c.hand_out.ensures.round c.hand_out.ensures.pipes
+    c.hand_out.ensures.futexes in
+    all-runs s c.requires.sound ts c.requires.live c.requires.apart new ps qs h ran
+    s2 back set rest.0 rest.1 rest.2
 
 pub returns-clause-sound : goal.returns-clause-sound
 returns-clause-sound g c =
-    sound-again c.args.state.now c.requires.sound c.args.starters.now c.requires.live
-    c.requires.apart c.hand_out.new.state.frames c.hand_out.new.packs.items
-    c.run_out.new.packs.items c.hand_out.ensures.hands (over-table c.hand_out.new.state.frames _ _ c.hand_out.new.packs.items
-    c.run_out.new.packs.items c.hand_out.ensures.table c.run_out.ensures.runs) c.take_in.new.state
-    (back-to _ _ _ _ c.run_out.ensures.state c.take_in.ensures.back) (set-to _ _ _ _ _ c.run_out.ensures.state c.hand_out.ensures.table c.take_in.ensures.set) (c.take_in.ensures.round ∙ ap (λ (s : State). s.round) c.run_out.ensures.state
-    ∙ c.hand_out.ensures.round) (c.take_in.ensures.pipes ∙ ap (λ (s : State). s.pipes) c.run_out.ensures.state
-    ∙ c.hand_out.ensures.pipes) (c.take_in.ensures.futexes ∙ ap (λ (s : State). s.futexes) c.run_out.ensures.state
-    ∙ c.hand_out.ensures.futexes)
+    let s : State = c.args.state.now in
+    let ts = c.args.starters.now in
+    let h = c.hand_out.ensures.hands in
+    let new = c.hand_out.new.state.frames in
+    let ps = c.hand_out.new.packs.items in
+    let qs = c.run_out.new.packs.items in
+    let ran = over-table new _ _ ps qs c.hand_out.ensures.table c.run_out.ensures.runs in
+    let same = c.run_out.ensures.state in
+    let s2 : State = c.take_in.new.state in
+    let set = set-to qs _ _ _ _ same c.hand_out.ensures.table c.take_in.ensures.set in
+    let back = back-to _ _ _ _ same c.take_in.ensures.back in
+    let rest = rest-to _ _ s s2 same c.take_in.ensures.round c.take_in.ensures.pipes
+    c.take_in.ensures.futexes c.hand_out.ensures.round c.hand_out.ensures.pipes
+    c.hand_out.ensures.futexes in
+    sound-again s c.requires.sound ts c.requires.live c.requires.apart new ps qs h ran
+    s2 back set rest.0 rest.1 rest.2
 
 pub returns-clause-spare : goal.returns-clause-spare
 returns-clause-spare g c =
-    c.take_in.ensures.all_spare (length c.args.state.now.frames.pages) c.hand_out.ensures.spare
-    (rooms c.args.state.now c.requires.sound c.args.starters.now c.requires.live c.requires.apart
-    c.hand_out.new.state.frames c.hand_out.new.packs.items c.run_out.new.packs.items
-    c.hand_out.ensures.hands (over-table c.hand_out.new.state.frames _ _ c.hand_out.new.packs.items
-    c.run_out.new.packs.items c.hand_out.ensures.table c.run_out.ensures.runs))
+    let s : State = c.args.state.now in
+    let ts = c.args.starters.now in
+    let h = c.hand_out.ensures.hands in
+    let new = c.hand_out.new.state.frames in
+    let ps = c.hand_out.new.packs.items in
+    let qs = c.run_out.new.packs.items in
+    let ran = over-table new _ _ ps qs c.hand_out.ensures.table c.run_out.ensures.runs in
+    c.take_in.ensures.all_spare (length s.frames.pages) c.hand_out.ensures.spare
+    (rooms s c.requires.sound ts c.requires.live c.requires.apart new ps qs h ran)
 
 pub returns-clause-tally : goal.returns-clause-tally
 returns-clause-tally g c =
+    let s : State = c.args.state.now in
+    let ts = c.args.starters.now in
+    let h = c.hand_out.ensures.hands in
+    let new = c.hand_out.new.state.frames in
+    let ps = c.hand_out.new.packs.items in
+    let qs = c.run_out.new.packs.items in
+    let ran = over-table new _ _ ps qs c.hand_out.ensures.table c.run_out.ensures.runs in
+    let same = c.run_out.ensures.state in
+    let s2 : State = c.take_in.new.state in
+    let set = set-to qs _ _ _ _ same c.hand_out.ensures.table c.take_in.ensures.set in
     subst (λ work. GrewBy (g.W.Workers.tally c.args.workers.now)
     (g.W.Workers.tally c.run_out.new.workers) work)
-    (work-is c.args.state.now c.requires.sound c.args.starters.now c.requires.live
-    c.requires.apart c.hand_out.new.state.frames c.hand_out.new.packs.items
-    c.run_out.new.packs.items c.hand_out.ensures.hands (over-table c.hand_out.new.state.frames _ _ c.hand_out.new.packs.items
-    c.run_out.new.packs.items c.hand_out.ensures.table c.run_out.ensures.runs) c.take_in.new.state
-    (set-to _ _ _ _ _ c.run_out.ensures.state c.hand_out.ensures.table c.take_in.ensures.set)) c.run_out.ensures.tally
+    (work-is s c.requires.sound ts c.requires.live c.requires.apart new ps qs h ran s2 set)
+    c.run_out.ensures.tally
