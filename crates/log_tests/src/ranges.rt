@@ -2,10 +2,10 @@
 use crate::texts::EACH_KIND;
 use shim_log::{LogError, ReadError, read_log};
 use std::alloc::Global;
-use std::process::Abort;
 
-/// How a text is read where the bytes from a place on are others; none where it is a log.
-fn refusal(alloc: Global, mut text: [u8; 101], place: usize, bytes: &[u8]) -> Option<ReadError> {
+/// How `EACH_KIND` is read where the bytes from a place on are others; none where it is a log.
+fn refusal(alloc: Global, place: usize, bytes: &[u8]) -> Option<ReadError> {
+    let mut text = EACH_KIND;
     for (to, from) in text.iter_mut().skip(place).zip(bytes) {
         *to = *from;
     }
@@ -63,27 +63,19 @@ const READ: [(usize, &[u8]); 18] = [
     (97, &[0xff, 0xff, 0xff, 0xff]),
 ];
 
-fn check_refused(rt: &impl Abort, alloc: Global, rows: &[(usize, &[u8], LogError)]) {
-    for &(place, bytes, wrong) in rows {
+#[test]
+fn what_is_out_of_its_range_is_refused_with_its_place(rt: HostRuntime) {
+    for (place, bytes, wrong) in REFUSED {
         assert_eq!(rt;
-            refusal(alloc, EACH_KIND, place, bytes),
+            refusal(rt.alloc(), place, bytes),
             Some(ReadError::Refused(wrong))
         );
     }
 }
 
-fn check_read(rt: &impl Abort, alloc: Global, rows: &[(usize, &[u8])]) {
-    for &(place, bytes) in rows {
-        assert_eq!(rt; refusal(alloc, EACH_KIND, place, bytes), None);
-    }
-}
-
-#[test]
-fn what_is_out_of_its_range_is_refused_with_its_place(rt: HostRuntime) {
-    check_refused(&rt, rt.alloc(), &REFUSED);
-}
-
 #[test]
 fn each_end_of_each_range_is_read(rt: HostRuntime) {
-    check_read(&rt, rt.alloc(), &READ);
+    for (place, bytes) in READ {
+        assert_eq!(rt; refusal(rt.alloc(), place, bytes), None);
+    }
 }

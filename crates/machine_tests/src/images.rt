@@ -44,10 +44,12 @@ pub struct Wanted<'a> {
 
 // whether a part is what it is to be
 fn is_as_wanted(part: &Part, wanted: &Wanted<'_>) -> bool {
-    let place = (part.address == wanted.address) & (part.zeros == wanted.zeros);
-    let rights = (part.write == wanted.write) & (part.exec == wanted.exec);
-    let bytes = part.bytes.as_slice() == wanted.bytes;
-    place & rights & bytes & (part.index == wanted.index)
+    part.address == wanted.address
+        && part.zeros == wanted.zeros
+        && part.index == wanted.index
+        && part.write == wanted.write
+        && part.exec == wanted.exec
+        && part.bytes.as_slice() == wanted.bytes
 }
 
 /// An image has this entry and these parts.
@@ -61,7 +63,7 @@ pub fn check_image(rt: &impl Abort, image: &Image, entry: u32, wanted: &[Wanted<
 }
 
 /// Writes a number of four bytes, if it is in the file.
-pub fn set_word(file: &mut [u8], place: usize, value: u32) {
+fn set_word(file: &mut [u8], place: usize, value: u32) {
     if file.len() >= 4 && place <= file.len() - 4 {
         file[place..place + 4].copy_from_slice(&value.to_le_bytes());
     }

@@ -1,5 +1,4 @@
-ghost use Rattle.std.specs.Prelude.{◌≡◌, ◌≤◌, ◌+◌, ◌<◌, length};
-ghost use Rattle.dos_world.specs.Reach.{width};
+ghost use Rattle.std.specs.Prelude.{◌≤◌, ◌<◌, length};
 
 use dos_world::{Config, End, Entry, Owner, Size};
 use elf_image::{Image, ImageError, read_image};
@@ -194,17 +193,15 @@ fn frame(frames: &Frames, frame: u32) -> Option<(Owner, u32)> {
     Some((frames.owner(frame), frames.uses(frame)))
 }
 
-/// What stands at an offset of a frame's page.
-fn number_at(frames: &Frames, frame: u32, offset: u32, size: Size) -> Option<u32>
-    requires { offset + width size ≤ 4096 }
-{
-    if frame >= frames.count() {
+/// The word at an offset of a frame's page.
+fn word_at(frames: &Frames, frame: u32, offset: u32) -> Option<u32> {
+    if frame >= frames.count() || offset > 4092 {
         return None;
     }
     if !frames.is_home(frame) {
         return None;
     }
-    Some(frames.lend(frame).read(offset, size))
+    Some(frames.lend(frame).read(offset, Size::Word))
 }
 
 #[test]
@@ -215,11 +212,8 @@ fn frames_are_taken_in_order(rt: HostRuntime) -> Result<(), Fail> {
     assert_eq!(rt; frame(&state.frames, 19), Some((Owner::Of(2), 1)));
     assert_eq!(rt; frame(&state.frames, 37), Some((Owner::Of(2), 1)));
     assert_eq!(rt; frame(&state.frames, 38), Some((Owner::Free, 0)));
-    assert_eq!(rt;
-        number_at(&state.frames, 20, 4094, Size::Half),
-        Some(0x0201)
-    );
-    assert_eq!(rt; number_at(&state.frames, 21, 0, Size::Word), Some(0x0403));
+    assert_eq!(rt; word_at(&state.frames, 20, 4092), Some(0x0201_0000));
+    assert_eq!(rt; word_at(&state.frames, 21, 0), Some(0x0403));
     Ok(())
 }
 
@@ -243,22 +237,26 @@ fn page_at(table: &Table, pid: u32, place: u32) -> Option<(u32, Entry)> {
     Some(space.at(place))
 }
 
+fn check_space(rt: &impl Abort, table: &Table, pid: u32, rows: &[(u32, u32, Entry)]) {
+    for &(place, page, entry) in rows {
+        assert!(rt;
+            page_at(table, pid, place) == Some((page, entry)),
+            "page {page}"
+        );
+    }
+}
+
 #[test]
 fn the_stack_lies_above_the_parts(rt: HostRuntime) -> Result<(), Fail> {
     let state = opened(rt.alloc())?;
     assert_eq!(rt; pages(&state.table, 2), Some(19));
-    for (place, page, entry) in [
+    let rows = [
         (0, 5, entry(19, false, false)),
         (1, 0x10, entry(20, true, true)),
         (2, 0x11, entry(21, true, false)),
         (3, 0xe_fff0, entry(22, true, false)),
         (18, 0xe_ffff, entry(37, true, false)),
-    ] {
-        assert_eq!(rt;
-            page_at(&state.table, 2, place),
-            Some((page, entry)),
-            "page {page}"
-        );
-    }
+    ];
+    check_space(&rt, &state.table, 2, &rows);
     Ok(())
 }
