@@ -1,0 +1,40 @@
+use Rattle.std.proofs.Common.{◌≡◌, ◌+◌, ◌++◌, ◌∷◌, [], All, sym, ap, ◌∙◌, subst, arith, vec_len, List}
+use Rattle.std.specs.Prelude.{reverse}
+use Rattle.std.proofs.lemmas.List.{reverse-append, map-append, append_assoc}
+use Rattle.std.proofs.lemmas.List.Elements.{All-push}
+use Rattle.quantum_run.specs.Shows.{Pack}
+use Rattle.quantum_run.specs.declared.pack.Shared.{Shared}
+use Rattle.staying_workers.specs.declared.held.Held.{Held}
+use Rattle.staying_workers.specs.Lending.{packs_of, Share}
+use Rattle.staying_workers.proofs.held.lend.Goals as goal
+
+-- the last of those that are left goes behind those that are out
+goes_out : (out : List Held) (one : Held) (left : List Pack)
+    → packs_of (out ++ one ∷ []) ++ reverse left ≡ packs_of out ++ reverse (left ++ one.pack ∷ [])
+goes_out out one left =
+    ap (λ ps. ps ++ reverse left) (map-append (λ (h : Held). h.pack) out (one ∷ []))
+    ∙ append_assoc (packs_of out) (one.pack ∷ []) (reverse left)
+    ∙ ap (λ ps. packs_of out ++ ps) (sym (reverse-append left (one.pack ∷ [])))
+
+pub loop-pack-preserved : goal.loop-pack-preserved
+loop-pack-preserved c =
+    let shared : Shared = c.args.shared.now.value in
+    let out : List Held = c.loop-pack.held.items in
+    let one : Held = record { pack = c.in-Some.pack; shared = c.next_owner-shared.result } in
+    let left : List Pack = c.pop.new.self.items in
+    let popped = c.in-Some.ensures in
+    let pushed = c.push_reserved.ensures in
+    let owner = c.next_owner-shared.ensures in
+    let inv = c.loop-pack.invariant in (
+      ap (λ (hs : List Held). packs_of hs ++ reverse left) pushed.items
+      ∙ goes_out out one left
+      ∙ ap (λ ps. packs_of out ++ reverse ps) (sym popped.items)
+      ∙ inv.0,
+      subst (λ (hs : List Held). Share shared hs) (sym pushed.items)
+      (All-push (λ (h : Held). h.shared.value ≡ shared) out one inv.1 owner.value),
+      owner.same,
+      omega (arith, owner.len, popped.len, inv.3),
+      omega (arith, pushed.len, popped.len, inv.4),
+      omega (arith, pushed.capacity, inv.5),
+      omega (arith, popped.capacity, inv.6),
+    )
