@@ -1,7 +1,7 @@
 //! Code that is stored while it runs: what was stored is what runs next.
 use crate::guests::{
-    A0, FORK, MAP, OTHER, S0, S1, SHARE, STACK, Step, TEMP0, TEMP1, TEMP2, THREAD_EXIT,
-    THREAD_NEW, WAIT, YIELD, ZERO,
+    A0, FORK, MAP, OTHER, S0, S1, SHARE, STACK, Step, TEMP0, TEMP1, TEMP2, THREAD_EXIT, THREAD_NEW,
+    WAIT, YIELD, ZERO,
 };
 use crate::runs::{Row, USUAL, run_rows};
 use rv_isa::BranchOp;
