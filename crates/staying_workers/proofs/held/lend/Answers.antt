@@ -27,11 +27,11 @@ loop-pack-preserved c =
     let owner = c.next_owner-shared.ensures in
     let inv = c.loop-pack.invariant in (
       ap (λ (hs : List Held). packs_of hs ++ reverse left) pushed.items
-      ∙ goes_out out one left
-      ∙ ap (λ ps. packs_of out ++ reverse ps) (sym popped.items)
-      ∙ inv.0,
+          ∙ goes_out out one left
+          ∙ ap (λ ps. packs_of out ++ reverse ps) (sym popped.items)
+          ∙ inv.0,
       subst (λ (hs : List Held). Share shared hs) (sym pushed.items)
-      (All-push (λ (h : Held). h.shared.value ≡ shared) out one inv.1 owner.value),
+          (All-push (λ (h : Held). h.shared.value ≡ shared) out one inv.1 owner.value),
       owner.same,
       omega (arith, owner.len, popped.len, inv.3),
       omega (arith, pushed.len, popped.len, inv.4),

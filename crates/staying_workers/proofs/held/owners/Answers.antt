@@ -13,5 +13,5 @@ loop-made-preserved c =
     let one_more = c.in_ok-try_clone.field-0 in (
       omega (arith, c.loop-made.invariant.0, c.in_ok-push.ensures.len),
       subst (λ (v : List (Arc Shared Global)). All same v) (sym c.in_ok-push.ensures.items)
-      (All-push same before one_more c.loop-made.invariant.1 c.in_ok-try_clone.ensures),
+          (All-push same before one_more c.loop-made.invariant.1 c.in_ok-try_clone.ensures),
     )
