@@ -1,0 +1,129 @@
+// Packs that jump on the spot until their budget is 0: one page, which is shared, and one process.
+ghost use Rattle.std.specs.Prelude.{◌≡◌, ◌∷◌, [], All, IfOk, Some, ◌<◌, ◌^◌, length, map, vec_len};
+ghost use Rattle.page_store.specs.Store.{AreHome};
+ghost use Rattle.quantum_run.specs.Packs.{space_in};
+ghost use Rattle.pool_bench.specs.Loops.{HasOneShared, IsLoop, page_of_code};
+
+use dos_world::{Access, Entry, Regs, Size};
+use page_store::Frames;
+use proc_table::{SignalState, Table};
+use quantum_run::{Pack, Shared};
+use std::alloc::{AllocError, Global};
+use worker_pool::Workers;
+
+const JUMP: u32 = 0x0000_006f; // jal x0, 0
+
+// a jump to itself at the start of the one page
+fn write_jump(frames: &mut Frames)
+    requires home { AreHome frames.old }
+    requires count { length frames.old.pages ≡ 1 }
+    ensures home { AreHome frames.new }
+    ensures count { length frames.new.pages ≡ 1 }
+    ensures owners { frames.new.owners ≡ frames.old.owners }
+{
+    frames.lend_mut(0).write(0, Size::Word, JUMP);
+}
+
+fn one_frame(alloc: Global) -> Result<Frames, AllocError>
+    ensures { IfOk result (λ f. HasOneShared f) }
+{
+    let mut frames = Frames::reserve(alloc, 1)?;
+    let _ = frames.fresh(1);
+    frames.grant(0, 1, Access::Load);
+    write_jump(&mut frames);
+    Ok(frames)
+}
+
+fn one_process(alloc: Global) -> Result<Table, AllocError>
+    ensures { IfOk result (λ t. map space_in t.processes ≡ Some page_of_code ∷ []) }
+{
+    let mut table = Table::reserve(alloc, 1)?;
+    match table.add_process(0, Regs::new(0x10000), SignalState::new(0)) {
+        Ok(_) => {}
+        Err(_) => unreachable!(),
+    }
+    let entry = Entry {
+        frame: 0,
+        write: false,
+        exec: true,
+        shared: false,
+    };
+    table.put_entry(1, 0x10, entry);
+    Ok(table)
+}
+
+fn packs(alloc: Global, count: u32) -> Result<Vec<Pack>, AllocError>
+    ensures count { IfOk result (λ v. vec_len v ≡ count) }
+    ensures loops { IfOk result (λ v. All IsLoop v.items) }
+{
+    let mut packs = Vec::new(alloc);
+    for place in 0..count {
+        let mut pack = Pack::reserve(alloc, 1)?;
+        pack.fill(place % 64 + 1, 1, Regs::new(0x10000), 0);
+        packs.push(pack)?;
+    }
+    Ok(packs)
+}
+
+fn refill_one(pack: &mut Pack, number: u32, budget: u32)
+    requires { IsLoop pack.old }
+    ensures { IsLoop pack.new }
+{
+    pack.fill(number % 64 + 1, 1, Regs::new(0x10000), budget);
+}
+
+// The first has one budget, all others another.
+fn refill(packs: &mut Vec<Pack>, first: u32, others: u32)
+    requires count { vec_len packs.old < 2 ^ 32 }
+    requires loops { All IsLoop packs.old.items }
+    ensures count { vec_len packs.new ≡ vec_len packs.old }
+    ensures loops { All IsLoop packs.new.items }
+{
+    for place in 0..packs.len() {
+        let budget = if place == 0 { first } else { others };
+        refill_one(&mut packs[place], place as u32, budget);
+    }
+}
+
+// as often as this
+fn repeat<W: Workers>(
+    workers: &mut W,
+    packs: &mut Vec<Pack>,
+    mut shared: Shared,
+    first: u32,
+    others: u32,
+    calls: u32,
+)
+    requires count { vec_len packs.old < 2 ^ 32 }
+    requires loops { All IsLoop packs.old.items }
+    requires frames { HasOneShared shared.frames }
+    requires table { map space_in shared.table.processes ≡ Some page_of_code ∷ [] }
+{
+    for _ in 0..calls {
+        refill(packs, first, others);
+        shared = workers.run_all(packs, shared);
+    }
+}
+
+/// The workers run so many packs, as often as this: the first has one budget, all others another.
+pub fn run<W: Workers>(
+    alloc: Global,
+    workers: &mut W,
+    count: u32,
+    first: u32,
+    others: u32,
+    calls: u32,
+) -> Result<(), AllocError> {
+    let frames = one_frame(alloc)?;
+    let table = one_process(alloc)?;
+    let mut packs = packs(alloc, count)?;
+    repeat(
+        workers,
+        &mut packs,
+        Shared { frames, table },
+        first,
+        others,
+        calls,
+    );
+    Ok(())
+}

@@ -1,0 +1,174 @@
+//! A program in which workers run packs of loops, as often as it is told, so that it can be timed
+//! from outside. It reads no clock, and prints the same at each run.
+//!
+//! Its words come in sixes: the pool, how many workers, how many packs, the budget of the first and
+//! that of all others, and how often. For each six it prints how many instructions were run.
+#![tactic(auto)]
+
+ghost use Rattle.std.specs.Prelude.{◌≡◌, ◌<◌, ◌≤◌};
+
+mod loops;
+
+use loops::run;
+use staying_workers::{Office, Staying, open};
+use std::alloc::{AllocError, Global};
+use std::io::ErrorKind;
+use std::sync::Wait;
+use std::thread::Threads;
+use std::{env, io, thread};
+use worker_pool::{Boarded, OpenGate, Serial, Spread, Stealing, Tally, Workers};
+
+/// The pools.
+#[derive(Clone, Copy)]
+enum Pool {
+    Serial,
+    Spread,
+    Boarded,
+    Stealing,
+    Staying,
+}
+
+/// What is run.
+#[derive(Clone, Copy)]
+struct Load {
+    packs: u32,
+    first: u32,
+    others: u32,
+    calls: u32,
+}
+
+fn play<W: Workers>(alloc: Global, workers: &mut W, load: Load) -> Result<(), AllocError> {
+    run(
+        alloc,
+        workers,
+        load.packs,
+        load.first,
+        load.others,
+        load.calls,
+    )
+}
+
+fn play_hired<R: Threads + Wait + Sync>(
+    rt: &R,
+    alloc: Global,
+    office: &Office,
+    gate: &OpenGate,
+    hired: u32,
+    load: Load,
+    tally: &mut Tally,
+) -> Result<(), AllocError>
+    requires { (0 < hired) × (hired ≤ 32) }
+{
+    let mut workers = Staying::new(rt, alloc, office, gate, tally);
+    workers.hire(hired);
+    let played = play(alloc, &mut workers, load);
+    workers.finish();
+    played
+}
+
+fn play_staying<R: Threads + Wait + Sync>(
+    rt: &R,
+    alloc: Global,
+    hired: u32,
+    load: Load,
+    tally: &mut Tally,
+) -> Result<(), AllocError>
+    requires { (0 < hired) × (hired ≤ 32) }
+{
+    let gate = OpenGate::new();
+    let office = Office::new(alloc);
+    let (gate, office) = (&gate, &office);
+    thread::scope(
+        thread::scope_env(),
+        rt,
+        |scope| -> Result<(), AllocError>
+            requires { (0 < hired) × (hired ≤ 32) }
+        {
+            open(rt, scope, office, gate);
+            let played = play_hired(rt, alloc, office, gate, hired, load, tally);
+            office.close();
+            played
+        },
+    )
+}
+
+// how many instructions were run
+fn measure<R: Threads + Wait + Sync>(
+    rt: &R,
+    alloc: Global,
+    pool: Pool,
+    hired: u32,
+    load: Load,
+) -> Result<u64, AllocError>
+    requires { (0 < hired) × (hired ≤ 32) }
+{
+    let gate = OpenGate::new();
+    let mut tally = Tally::new();
+    match pool {
+        Pool::Serial => {
+            let mut workers: Serial<'_, R> = Serial::new(&mut tally);
+            play(alloc, &mut workers, load)?;
+        }
+        Pool::Spread => play(alloc, &mut Spread::new(rt, hired, &gate, &mut tally), load)?,
+        Pool::Boarded => play(
+            alloc,
+            &mut Boarded::new(rt, alloc, hired, &gate, &mut tally),
+            load,
+        )?,
+        Pool::Stealing => {
+            play(
+                alloc,
+                &mut Stealing::new(rt, alloc, hired, &gate, &mut tally),
+                load,
+            )?;
+        }
+        Pool::Staying => play_staying(rt, alloc, hired, load, &mut tally)?,
+    }
+    Ok(tally.count())
+}
+
+fn number(word: &str) -> io::Result<u32> {
+    match word.parse() {
+        Ok(number) => Ok(number),
+        Err(_) => Err(ErrorKind::InvalidInput.into()),
+    }
+}
+
+fn pool_named(word: &str) -> io::Result<Pool> {
+    match word {
+        "serial" => Ok(Pool::Serial),
+        "spread" => Ok(Pool::Spread),
+        "boarded" => Ok(Pool::Boarded),
+        "stealing" => Ok(Pool::Stealing),
+        "staying" => Ok(Pool::Staying),
+        _ => Err(ErrorKind::InvalidInput.into()),
+    }
+}
+
+/// The words behind the program's name.
+fn words(rt: &HostRuntime) -> io::Result<Vec<String>> {
+    let mut words = Vec::new(rt.alloc());
+    for word in env::args(rt)?.skip(1) {
+        words.push(word)?;
+    }
+    Ok(words)
+}
+
+fn main(rt: HostRuntime) -> io::Result<()> {
+    let words = words(&rt)?;
+    for six in words.chunks(6) {
+        let [pool, hired, packs, first, others, calls] = six else {
+            return Err(ErrorKind::InvalidInput.into());
+        };
+        let load = Load {
+            packs: number(packs)?,
+            first: number(first)?,
+            others: number(others)?,
+            calls: number(calls)?,
+        };
+        let hired = number(hired)?.max(1).min(32);
+        let ran = measure(&rt, rt.alloc(), pool_named(pool)?, hired, load)?;
+        println!(rt; "{pool} {hired} {packs} {first} {others} {calls}: {ran}")?;
+    }
+    Ok(())
+}
