@@ -41,7 +41,13 @@ fn run(rt: &HostRuntime, threads: &(impl Threads + Sync)) -> u8 {
             let mut tally = Tally::new();
             let mut workers = Stealing::new(threads, alloc, 1, &gate, &mut tally);
             dos_main(
-                alloc, &words, &mut files, &mut host, &mut out, &mut err, &mut workers,
+                alloc,
+                &words,
+                &mut files,
+                &mut host,
+                &mut out,
+                &mut err,
+                &mut workers,
             )
         }
         Err(refusal) => put_refusal(refusal, &mut err),
