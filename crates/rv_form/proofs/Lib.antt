@@ -1,1 +1,2 @@
 pub mod Uppers
+mod NoteLaws

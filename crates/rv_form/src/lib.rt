@@ -3,10 +3,12 @@
 #![tactic(auto)]
 
 mod decoding;
-mod entry;
 mod form;
+mod line;
 mod memo;
+mod place;
 
 pub use decoding::form_of;
 pub use form::{Form, Op};
-pub use memo::Memo;
+pub use memo::{Memo, NO_BASE};
+pub use place::{place_after, place_of};

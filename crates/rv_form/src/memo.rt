@@ -1,64 +1,117 @@
-// Forms that are remembered, each beside the word that it was made of.
-ghost use Rattle.std.specs.Prelude.{◌≡◌, ◌<◌, slice_index_or};
-ghost use Rattle.rv_form.specs.declared.entry.Entry.{Entry as entry_type};
+// Forms that are remembered, each beside the word that it was made of and the key by which it is
+// found again.
+ghost use Rattle.std.specs.Prelude.{◌≡◌, ◌<◌, ◌≤◌, ◌^◌, ◌+◌, ◌⊎◌, slice_set, replicate, IsTrue, ◌↔◌};
 ghost use Rattle.rv_form.specs.Forms.{IsFormOf};
+ghost use Rattle.rv_form.specs.Notes.{AreBelow, first_base, note_at, nothing};
+ghost use Rattle.rv_form.specs.Noted.{notes_of};
 
-use crate::entry::Entry;
+use crate::line::Line;
 use crate::{Form, form_of};
+use std::marker::Model;
 
-/// Forms of words by the places where the words were found. A place remembers the last word that
-/// was asked for there; another word there is decoded anew. So what is remembered is right whatever
-/// is written to memory meanwhile.
+/// The base of no key: no address added to it is a key by which anything is found.
+pub const NO_BASE: u64 = 1;
+
+/// The first base that is given.
+const FIRST_BASE: u64 = 1 << 33;
+
+/// No base above this is given, so that a key with an address added fits.
+const LAST_BASE: u64 = 1 << 63;
+
+/// Forms of words, each found again by a key at one of 1024 places. A key is a base and an address.
+/// A base is given for as long as the words at the addresses stand still; with the next base
+/// nothing is known. A word that stands at its place still isn't decoded again then.
 #[derive(Drop)]
 pub struct Memo {
-    entries: [Entry; 1024],
+    lines: [Line; 1024],
+    // above each key
+    top: u64,
 }
 
-#[inline]
-fn entry_of(word: u32) -> Entry
-    ensures { result.word ≡ word }
+impl Model for Memo {
+    ghost use Rattle.std.specs.Prelude.{List};
+    ghost use Rattle.rv_form.specs.Notes.{AreNotes, Note};
+    ghost use Rattle.rv_form.specs.Noted.{notes_of};
+
+    ghost Value = { List Note };
+
+    ghost view = { λ m. notes_of m.lines };
+
+    ghost invariant = { λ m. AreNotes m.top (notes_of m.lines) };
+}
+
+// nothing at each place
+fn no_lines() -> [Line; 1024]
+    ensures { notes_of result ≡ replicate 1024 nothing }
 {
-    Entry {
-        word,
-        form: form_of(word),
+    [Line {
+        key: 0,
+        word: 0,
+        form: form_of(0),
+    }; 1024]
+}
+
+// the form of a word, which is decoded where the line has another
+fn form_beside(line: &Line, word: u32) -> Form
+    ensures { IsFormOf word result }
+{
+    if line.word == word {
+        return line.form;
     }
-}
-
-// The place has the form of this word afterwards.
-#[inline(always)]
-fn ready(entries: &mut [Entry; 1024], place: usize, word: u32)
-    requires { place < 1024 }
-    ensures { (other : entry_type) → (slice_index_or entries.new place other).word ≡ word }
-{
-    if entries[place].word != word {
-        remember(entries, place, word);
-    }
-}
-
-#[cold]
-#[inline(never)]
-fn remember(entries: &mut [Entry; 1024], place: usize, word: u32)
-    requires { place < 1024 }
-    ensures { (other : entry_type) → (slice_index_or entries.new place other).word ≡ word }
-{
-    entries[place] = entry_of(word);
+    form_of(word)
 }
 
 impl Memo {
-    /// Nothing is remembered yet but what the word 0 stands for.
+    /// Nothing is remembered yet.
     pub fn new() -> Memo {
         Memo {
-            entries: [entry_of(0); 1024],
+            lines: no_lines(),
+            top: FIRST_BASE,
         }
     }
 
-    /// The form of the word that was found at an address.
-    #[inline(always)]
-    pub fn form(&mut self, address: u32, word: u32) -> &Form
-        ensures { IsFormOf word result.now }
+    /// The next base: each note's key is below it.
+    pub fn begin(&mut self) -> u64
+        ensures below { AreBelow result self.new }
+        ensures first { first_base ≤ result }
+        ensures last { result ≤ 2 ^ 63 }
     {
-        let place = (address / 4 % 1024) as usize;
-        ready(&mut self.entries, place, word);
-        &self.entries[place].form
+        if self.top > LAST_BASE {
+            self.lines = no_lines();
+            self.top = FIRST_BASE;
+        }
+        self.top
+    }
+
+    /// Whether this key's note is at the place.
+    #[inline(always)]
+    pub fn has(&self, place: usize, key: u64) -> bool
+        requires { place < 1024 }
+        ensures exact { IsTrue result ↔ ((note_at self.now place).key ≡ key) }
+        ensures given { IsTrue result → (key ≡ 0) ⊎ (first_base ≤ key) }
+    {
+        self.lines[place].key == key
+    }
+
+    /// The form of the word that is remembered at the place.
+    #[inline(always)]
+    pub fn form(&self, place: usize) -> &Form
+        requires { place < 1024 }
+        ensures { IsFormOf (note_at self.now place).word result.now }
+    {
+        &self.lines[place].form
+    }
+
+    /// From now on the word is found at the place by this key. It is decoded where another word was
+    /// remembered there.
+    pub fn keep(&mut self, place: usize, key: u64, word: u32)
+        requires place { place < 1024 }
+        requires given { first_base ≤ key }
+        requires fits { key + 1 < 2 ^ 64 }
+        ensures { self.new ≡ slice_set self.old place (record { key = key; word = word }) }
+    {
+        let form = form_beside(&self.lines[place], word);
+        self.lines[place] = Line { key, word, form };
+        self.top = self.top.max(key + 1);
     }
 }

@@ -1,12 +1,12 @@
-// A word and its form.
-ghost use Rattle.std.specs.Prelude.{◌≡◌};
+// A word with its form, and the key by which it is found again.
 ghost use Rattle.rv_form.specs.Forms.{IsFormOf};
 
-use crate::{Form, form_of};
+use crate::Form;
 
-/// A word and its form.
+/// A key, a word, and its form.
 #[derive(Clone, Copy)]
-pub struct Entry {
+pub struct Line {
+    pub key: u64,
     pub word: u32,
     pub form: Form,
     ghost is: { IsFormOf word form },

@@ -1,0 +1,21 @@
+-- One note more.
+use Rattle.std.proofs.Common.{◌<◌, ◌≤◌, arith, set, ◌∙◌, sym, ap, subst}
+use Rattle.std.proofs.lemmas.List.{map-set}
+use Rattle.rv_form.specs.Notes.{AreNotes}
+use Rattle.rv_form.specs.Noted.{note_of, notes_of}
+use Rattle.rv_form.proofs.NoteLaws.{notes-set}
+use Rattle.rv_form.proofs.memo.Memo.keep.Goals as goal
+
+pub invariant_of-self-2 : goal.invariant_of-self-2
+invariant_of-self-2 c =
+    let low : c.self.inside.top ≤ c.max-self-inside.result = omega arith in
+    let fits : c.args.key < c.max-self-inside.result = omega arith in
+    subst (AreNotes c.max-self-inside.result)
+    (sym (map-set note_of c.self.inside.lines c.args.place _))
+    (notes-set c.self.inside.top c.max-self-inside.result c.args.place
+    (notes_of c.self.inside.lines) _ low fits c.requires.given c.self.invariant)
+
+pub returns : goal.returns
+returns c = map-set note_of c.self.inside.lines c.args.place _
+    ∙ ap (λ notes. set notes c.args.place (record { key = c.args.key; word = c.args.word }))
+    c.self.view_is
