@@ -10,7 +10,7 @@ use Rattle.dos_world.specs.declared.Owner.{Owner}
 use Rattle.dos_world.specs.declared.Owner.TheVariants.{Free}
 use Rattle.dos_world.specs.declared.Reason.{Reason}
 use Rattle.dos_world.specs.declared.Reason.TheVariants.{Page, Fault}
-use Rattle.quantum_run.specs.declared.running.Slot.{Slot}
+use Rattle.quantum_run.specs.declared.slot.Slot.{Slot}
 
 -- the frame of an entry for an access of t, or why the access is refused: it lacks the right, or
 -- the page is another's

@@ -9,6 +9,9 @@ use Rattle.dos_world.specs.declared.Owner.{Owner}
 use Rattle.dos_world.specs.declared.Owner.TheVariants.{Free}
 use Rattle.page_store.specs.Store.{joined}
 use Rattle.rv_exec.specs.Blind.{entry_at-with_thread}
+use Rattle.rv_form.specs.Notes.{Note}
+use Rattle.quantum_run.specs.declared.slot.Slot.{Slot}
+use Rattle.quantum_run.specs.Knowing.{AreKnown}
 
 -- What stands still while a thread runs: who runs, the owners of the frames, and the entries of the
 -- space.
@@ -36,6 +39,13 @@ pub record ShowsBy {F : Type 0} (now : Still) (fixed_now : F) (pages : List (Opt
   pub fixed_is : fixed_now ≡ fixed.1
   pub holds : Holds fixed.0 pages t w
 
+-- The same, and each word that a memo has by a key of its base is known.
+pub record ShowsKnown {F : Type 0} (now : Still) (fixed_now : F) (pages : List (Option (List ℕ)))
+    (base : ℕ) (fetched : List Slot) (fixed : (Still × F) × List Note) (t : ℕ) (w : World)
+    : Type 0 where
+  pub shows : ShowsBy now fixed_now pages fixed.0 t w
+  pub known : AreKnown base fetched pages fixed.1
+
 -- The registers and the budget of a thread are no part of it.
 pub blind_by : {F : Type 0} (now : Still) (fixed_now : F) (pages : List (Option (List ℕ)))
     (fixed : Still × F) (t : ℕ) (w : World) (change : Thread → Thread)
@@ -50,4 +60,14 @@ blind_by now fixed_now pages fixed t w change same s = record {
     entry = λ address. entry_at-with_thread w t change same address ∙ s.holds.entry address;
     foreign = s.holds.foreign;
   };
+}
+
+pub blind_known : {F : Type 0} (now : Still) (fixed_now : F) (pages : List (Option (List ℕ)))
+    (base : ℕ) (fetched : List Slot) (fixed : (Still × F) × List Note) (t : ℕ) (w : World)
+    (change : Thread → Thread) → ((thread : Thread) → (change thread).process ≡ thread.process)
+    → ShowsKnown now fixed_now pages base fetched fixed t w
+    → ShowsKnown now fixed_now pages base fetched fixed t (with_thread w t change)
+blind_known now fixed_now pages base fetched fixed t w change same s = record {
+  shows = blind_by now fixed_now pages fixed.0 t w change same s.shows;
+  known = s.known;
 }

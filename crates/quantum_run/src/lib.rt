@@ -8,6 +8,7 @@ mod pack;
 mod pages;
 mod run;
 mod running;
+mod slot;
 
 pub use pack::{Pack, Shared, View, run_pack};
 pub use run::run_until_stop;

@@ -12,36 +12,66 @@ use crate::pages::{InPlace, Pages};
 use crate::running::Running;
 use dos_world::{Reason, Regs};
 use page_store::{Frames, Page};
-use rv_exec::{Memory, Next, one_known};
-use rv_form::Memo;
+use rv_exec::{Next, Went, one, one_known};
+use rv_form::{Memo, place_after, place_of};
 use space_map::Space;
 use std::mem;
 
-/// Instructions on a memory, each for one of the budget, until one stops or the budget is 0. While
-/// they run, pc stands beside the registers.
-#[inline(always)]
-fn go<M: Memory>(
+/// One instruction whose word can't be known: by its halfwords, one after another. It is rare.
+#[cold]
+#[inline(never)]
+fn one_by_halves<P: Pages>(
     regs: &mut Regs,
-    memory: &mut M,
+    memory: &mut Running<'_, P>,
+    pc: u32,
+) -> Option<Reason>
+{
+    regs.set_pc(pc);
+    match one(regs, memory) {
+        Went::Step => None,
+        Went::Stop(reason) => Some(reason),
+    }
+}
+
+/// Instructions on a memory, each for one of the budget, until one stops or the budget is 0. While
+/// they run, pc stands beside the registers, and with it the place at which the memo may have its
+/// word.
+#[inline(always)]
+fn go<P: Pages>(
+    regs: &mut Regs,
+    memory: &mut Running<'_, P>,
     memo: &mut Memo,
     budget: &mut u32,
 ) -> Option<Reason>
-    ensures runs { (f : M.Fixed) (t : ℕ) (w : World)
-        → Runs (M.shows memory.old f t) w t regs.old budget.old
-        → Goes (M.shows memory.new f t) w t regs.new budget.old budget.new result }
-    ensures stop { MatchOption result (budget.new ≡ 0) (λ reason. 0 < budget.new) }
-    ensures within { budget.new ≤ budget.old }
 {
     let mut pc = regs.pc();
+    let mut place = place_of(pc);
     let mut left = *budget;
+    let mut why = Reason::Service;
     while left > 0 {
-        match one_known(regs, memory, memo, pc) {
-            Next::On => pc = pc.wrapping_add(4),
-            Next::To(target) => pc = target,
-            Next::Not(reason) => {
-                regs.set_pc(pc);
-                *budget = left;
-                return Some(reason);
+        match memory.place_known(memo, place, pc) {
+            Some(known) => match one_known(regs, memory, memo.form(known), pc, &mut why) {
+                Next::On => {
+                    pc = pc.wrapping_add(4);
+                    place = place_after(known);
+                }
+                Next::To(target) => {
+                    pc = target;
+                    place = place_of(target);
+                }
+                Next::Not => {
+                    regs.set_pc(pc);
+                    *budget = left;
+                    return Some(why);
+                }
+            },
+            None => {
+                if let Some(reason) = one_by_halves(regs, memory, pc) {
+                    *budget = left;
+                    return Some(reason);
+                }
+                pc = regs.pc();
+                place = place_of(pc);
             }
         }
         left -= 1;

@@ -1,108 +1,31 @@
 // The memory of one thread over any pages.
-ghost use Rattle.std.specs.Prelude.{◌≡◌, ◌+◌, ◌*◌, ◌%◌, ◌^◌, ◌<◌, ℕ, replicate, Ok, Err, IfSome, true, length, slice_set};
+ghost use Rattle.std.specs.Prelude.{◌≡◌, ◌≢◌, ◌⊎◌, ◌+◌, ◌*◌, ◌/◌, ◌%◌, ◌^◌, ◌<◌, ℕ, Ok, Err, IfSome, IsSome, true, length, slice_set};
 ghost use Rattle.std.specs.Option.{ok_or};
-ghost use Rattle.dos_world.specs.World.{World};
 ghost use Rattle.dos_world.specs.Reach.{bytes_of, width, written};
-ghost use Rattle.rv_exec.specs.Follows.{word_at};
-ghost use Rattle.quantum_run.specs.Showing.{Still, ShowsBy, Holds, still};
 ghost use Rattle.dos_world.specs.declared.Access.TheVariants.{Fetch, Load, Store};
 ghost use Rattle.page_store.specs.Store.{joined, number_at};
-ghost use Rattle.quantum_run.specs.Finding.{AreFramesOf, IsWriting, frame_for, place_in};
-ghost use Rattle.quantum_run.specs.Knowing.{AreKnown, AreUnknown, IsWord, word_place};
+ghost use Rattle.rv_form.specs.Notes.{note_at};
+ghost use Rattle.quantum_run.specs.Showing.{still};
+ghost use Rattle.quantum_run.specs.Finding.{AreFramesOf, IsFrameOf, IsWriting, frame_for, place_in};
+ghost use Rattle.quantum_run.specs.Knowing.{AreApart, AreKnown, IsBase, IsKnown, IsNoCode, KeepsKnown, no_base, slot_of};
 ghost use Rattle.quantum_run.specs.Pages.{AreReached, AreOwn, AreWithin, IsHomeIn};
 
 use crate::pages::Pages;
+use crate::slot::{NO_PAGE, Slot, has_frame, nothing_found, slot_place};
 use dos_world::{Access, Reason, Size};
 use rv_exec::Memory;
+use rv_form::{Memo, NO_BASE, place_of};
 use space_map::Space;
-
-/// A page that an access of one kind found.
-#[derive(Clone, Copy)]
-pub struct Slot {
-    pub page: u32,
-    pub frame: u32,
-}
-
-/// Nothing was found: no page has this number.
-const EMPTY: Slot = Slot {
-    page: 0xffff_ffff,
-    frame: 0,
-};
-
-/// No slot has found anything.
-#[inline]
-fn nothing_found() -> [Slot; 64]
-    ensures { result ≡ replicate 64 (record { page = 0xFFFFFFFF; frame = 0 }) }
-{
-    [EMPTY; 64]
-}
-
-/// Which slot of 64 a page is remembered in, by its address.
-#[inline]
-fn place_of(address: u32) -> usize
-    ensures { result < 64 }
-{
-    (address / 4096 % 64) as usize
-}
-
-/// The word that a fetch found at an address.
-#[derive(Clone, Copy)]
-pub struct Known {
-    pub address: u32,
-    pub word: u32,
-}
-
-/// Which place of 1024 a word is known in, by its address: the same for each page that it may be
-/// written through.
-#[inline]
-fn known_place(address: u32) -> usize
-    ensures place { result ≡ word_place address }
-    ensures small { result < 1024 }
-{
-    (address / 4 % 1024) as usize
-}
-
-/// A word is known at this place.
-#[inline]
-fn put_known(known: &mut [Known; 1024], place: usize, word: Known)
-    requires { place < 1024 }
-    ensures { known.new ≡ slice_set known.old place word }
-{
-    known[place] = word;
-}
-
-/// The address 0 at each place.
-#[inline]
-fn all_first() -> [Known; 1024]
-    ensures { result ≡ replicate 1024 (record { address = 0; word = 0 }) }
-{
-    [Known {
-        address: 0,
-        word: 0,
-    }; 1024]
-}
-
-/// No word is known: each place has an address of another place.
-#[inline]
-fn nothing_known() -> [Known; 1024]
-    ensures { AreUnknown result }
-{
-    let mut known = all_first();
-    let other = Known {
-        address: 4,
-        word: 0,
-    };
-    put_known(&mut known, 0, other);
-    known
-}
 
 /// Pages and a space, as the memory of thread `tid`. Of fetches, of loads, and of stores or claims
 /// the page that was found last in each of 64 slots is found again without a search: owners and
 /// entries stand still while the thread runs.
 ///
-/// A word that was fetched is known by its address, and not looked for again until one at its place
-/// is written. Only the thread itself writes while it runs, and a word has the same place in each
-/// page, so that what is known is right whichever page it was written through.
+/// A word that was fetched is remembered in a memo, by a key of the present base, for as long as it
+/// stands there. Only the thread itself writes while it runs. A frame that a fetch has found is no
+/// frame of a slot for stores, so that a store there is searched for, and then another base is
+/// taken: so what is known is right whichever page it was written through. `NO_BASE` is the base
+/// while nothing is known.
 ///
 /// What is refused is rare. A search answers None then and leaves the reason in `refused`, so that
 /// all it gives back to the loop of instructions fits registers.
@@ -114,7 +37,7 @@ pub struct Running<'a, P: Pages> {
     pub fetched: [Slot; 64],
     pub loaded: [Slot; 64],
     pub stored: [Slot; 64],
-    pub known: [Known; 1024],
+    pub base: u64,
     pub refused: Reason,
     ghost reached: { AreReached tid (P.owners pages) space.now.entries (P.pages pages) },
     ghost own: { AreOwn tid (P.owners pages) space.now.entries (P.is_own pages) },
@@ -122,7 +45,8 @@ pub struct Running<'a, P: Pages> {
     ghost fetched_are: { AreFramesOf tid (P.owners pages) space.now.entries Fetch fetched },
     ghost loaded_are: { AreFramesOf tid (P.owners pages) space.now.entries Load loaded },
     ghost stored_are: { AreFramesOf tid (P.owners pages) space.now.entries Store stored },
-    ghost known_are: { AreKnown tid (P.owners pages) space.now.entries (P.pages pages) known },
+    ghost apart: { AreApart fetched stored },
+    ghost base_is: { IsBase base },
 }
 
 impl<'a, P: Pages> Running<'a, P> {
@@ -134,6 +58,7 @@ impl<'a, P: Pages> Running<'a, P> {
         ensures pages { result.pages ≡ pages }
         ensures space { result.space.now ≡ space.now }
         ensures thread { result.tid ≡ tid }
+        ensures base { result.base ≡ no_base }
     {
         Running {
             pages,
@@ -142,7 +67,7 @@ impl<'a, P: Pages> Running<'a, P> {
             fetched: nothing_found(),
             loaded: nothing_found(),
             stored: nothing_found(),
-            known: nothing_known(),
+            base: NO_BASE,
             refused: Reason::Fault(11),
         }
     }
@@ -154,6 +79,7 @@ impl<'a, P: Pages> Running<'a, P> {
             ≡ still self.old.tid (P.owners self.old.pages) self.old.space.now.entries }
         ensures fixed { P.fixed self.new.pages ≡ P.fixed self.old.pages }
         ensures pages { P.pages self.new.pages ≡ P.pages self.old.pages }
+        ensures same { (self.new.base ≡ self.old.base) × (self.new.fetched ≡ self.old.fetched) }
     {
         self.refused = reason;
         None
@@ -170,6 +96,7 @@ impl<'a, P: Pages> Running<'a, P> {
             ≡ still self.old.tid (P.owners self.old.pages) self.old.space.now.entries }
         ensures fixed { P.fixed self.new.pages ≡ P.fixed self.old.pages }
         ensures pages { P.pages self.new.pages ≡ P.pages self.old.pages }
+        ensures same { (self.new.base ≡ self.old.base) × (self.new.fetched ≡ self.old.fetched) }
     {
         let Some(entry) = self.space.look(address / 4096) else {
             return self.refuse(Reason::Fault(11));
@@ -194,8 +121,9 @@ impl<'a, P: Pages> Running<'a, P> {
             ≡ still self.old.tid (P.owners self.old.pages) self.old.space.now.entries }
         ensures fixed { P.fixed self.new.pages ≡ P.fixed self.old.pages }
         ensures pages { P.pages self.new.pages ≡ P.pages self.old.pages }
+        ensures same { (self.new.base ≡ self.old.base) × (self.new.fetched ≡ self.old.fetched) }
     {
-        let place = place_of(address);
+        let place = slot_place(address);
         let slot = self.loaded[place];
         if slot.page == address / 4096 {
             return Some(slot.frame);
@@ -208,33 +136,86 @@ impl<'a, P: Pages> Running<'a, P> {
         Some(frame)
     }
 
-    /// The frame of an address's page for a fetch; None where it is refused.
-    #[inline]
-    fn frame_to_fetch(&mut self, address: u32) -> Option<u32>
-        ensures value { ok_or result self.new.refused
-            ≡ frame_for self.old.tid
-            (P.owners self.old.pages) self.old.space.now.entries Fetch address }
-        ensures home { IfSome result (λ frame. IsHomeIn (P.pages self.new.pages) frame) }
+    /// A fetch finds this page from now on. Of a page that was in its slot nothing is known then, and
+    /// no store finds its frame without a search.
+    fn find_code(&mut self, place: usize, slot: Slot)
+        requires place { place ≡ slot.page % 64 }
+        requires frame { IsFrameOf self.old.tid (P.owners self.old.pages)
+            self.old.space.now.entries Fetch slot.page slot.frame }
+        ensures fetched { self.new.fetched ≡ slice_set self.old.fetched place slot }
+        ensures known { KeepsKnown self.old.base self.old.fetched (P.pages self.old.pages)
+            self.new.base self.new.fetched (P.pages self.new.pages) }
         ensures still { still self.new.tid (P.owners self.new.pages) self.new.space.now.entries
             ≡ still self.old.tid (P.owners self.old.pages) self.old.space.now.entries }
         ensures fixed { P.fixed self.new.pages ≡ P.fixed self.old.pages }
         ensures pages { P.pages self.new.pages ≡ P.pages self.old.pages }
     {
-        let place = place_of(address);
+        if self.fetched[place].page != NO_PAGE {
+            self.base = NO_BASE;
+        }
+        if has_frame(&self.stored, slot.frame) {
+            self.stored = nothing_found();
+        }
+        self.fetched[place] = slot;
+    }
+
+    /// The frame of an address's page for a fetch; None where it is refused.
+    fn frame_to_fetch(&mut self, address: u32) -> Option<u32>
+        ensures value { ok_or result self.new.refused
+            ≡ frame_for self.old.tid
+            (P.owners self.old.pages) self.old.space.now.entries Fetch address }
+        ensures home { IfSome result (λ frame. IsHomeIn (P.pages self.new.pages) frame) }
+        ensures slot { IfSome result (λ frame.
+            slot_of self.new.fetched address ≡ record { page = address / 4096; frame = frame }) }
+        ensures known { KeepsKnown self.old.base self.old.fetched (P.pages self.old.pages)
+            self.new.base self.new.fetched (P.pages self.new.pages) }
+        ensures still { still self.new.tid (P.owners self.new.pages) self.new.space.now.entries
+            ≡ still self.old.tid (P.owners self.old.pages) self.old.space.now.entries }
+        ensures fixed { P.fixed self.new.pages ≡ P.fixed self.old.pages }
+        ensures pages { P.pages self.new.pages ≡ P.pages self.old.pages }
+    {
+        let place = slot_place(address);
         let slot = self.fetched[place];
         if slot.page == address / 4096 {
             return Some(slot.frame);
         }
         let frame = self.find(address, Access::Fetch)?;
-        self.fetched[place] = Slot {
-            page: address / 4096,
-            frame,
-        };
+        let page = address / 4096;
+        self.find_code(place, Slot { page, frame });
+        Some(frame)
+    }
+
+    /// The frame of an address's page for a store or claim, by a search; None where it is refused.
+    /// Nothing is known any more where a fetch has found it.
+    #[cold]
+    #[inline(never)]
+    fn find_to_write(&mut self, address: u32, access: Access) -> Option<u32>
+        requires { IsWriting access }
+        ensures value { ok_or result self.new.refused
+            ≡ frame_for self.old.tid
+            (P.owners self.old.pages) self.old.space.now.entries access address }
+        ensures free { IfSome result
+            (λ frame. (self.new.base ≡ no_base) ⊎ IsNoCode self.new.fetched frame) }
+        ensures known { KeepsKnown self.old.base self.old.fetched (P.pages self.old.pages)
+            self.new.base self.new.fetched (P.pages self.new.pages) }
+        ensures still { still self.new.tid (P.owners self.new.pages) self.new.space.now.entries
+            ≡ still self.old.tid (P.owners self.old.pages) self.old.space.now.entries }
+        ensures fixed { P.fixed self.new.pages ≡ P.fixed self.old.pages }
+        ensures pages { P.pages self.new.pages ≡ P.pages self.old.pages }
+    {
+        let frame = self.find(address, access)?;
+        if has_frame(&self.fetched, frame) {
+            self.base = NO_BASE;
+            return Some(frame);
+        }
+        let place = slot_place(address);
+        let page = address / 4096;
+        self.stored[place] = Slot { page, frame };
         Some(frame)
     }
 
     /// The frame of an address's page for a store or claim; None where it is refused.
-    #[inline]
+    #[inline(always)]
     fn frame_to_write(&mut self, address: u32, access: Access) -> Option<u32>
         requires { IsWriting access }
         ensures value { ok_or result self.new.refused
@@ -242,94 +223,24 @@ impl<'a, P: Pages> Running<'a, P> {
             (P.owners self.old.pages) self.old.space.now.entries access address }
         ensures home { IfSome result (λ frame. IsHomeIn (P.pages self.new.pages) frame) }
         ensures own { IfSome result (λ frame. P.is_own self.new.pages frame ≡ true) }
+        ensures free { IfSome result
+            (λ frame. (self.new.base ≡ no_base) ⊎ IsNoCode self.new.fetched frame) }
+        ensures known { KeepsKnown self.old.base self.old.fetched (P.pages self.old.pages)
+            self.new.base self.new.fetched (P.pages self.new.pages) }
         ensures still { still self.new.tid (P.owners self.new.pages) self.new.space.now.entries
             ≡ still self.old.tid (P.owners self.old.pages) self.old.space.now.entries }
         ensures fixed { P.fixed self.new.pages ≡ P.fixed self.old.pages }
         ensures pages { P.pages self.new.pages ≡ P.pages self.old.pages }
     {
-        let place = place_of(address);
-        let slot = self.stored[place];
+        let slot = self.stored[slot_place(address)];
         if slot.page == address / 4096 {
             return Some(slot.frame);
         }
-        let frame = self.find(address, access)?;
-        self.stored[place] = Slot {
-            page: address / 4096,
-            frame,
-        };
-        Some(frame)
-    }
-
-    /// The word at an address, where it is known.
-    #[inline]
-    fn word_known(&self, address: u32) -> Option<u32>
-        ensures { IfSome result (λ word. IsWord self.now.tid
-            (P.owners self.now.pages) self.now.space.now.entries (P.pages self.now.pages) address
-            word) }
-    {
-        let known = self.known[known_place(address)];
-        if known.address == address {
-            return Some(known.word);
-        }
-        None
-    }
-
-    /// The word at an address in a page that a fetch found, where both halfwords lie there and make a
-    /// word.
-    #[inline]
-    fn word_found(&self, address: u32) -> Option<u32>
-        ensures { IfSome result (λ word. IsWord self.now.tid
-            (P.owners self.now.pages) self.now.space.now.entries (P.pages self.now.pages) address
-            word) }
-    {
-        if address % 4 == 0 {
-            let slot = self.fetched[place_of(address)];
-            if slot.page == address / 4096 {
-                let word = self.read(slot.frame, address, Size::Word);
-                if word % 4 == 3 {
-                    return Some(word);
-                }
-            }
-        }
-        None
-    }
-
-    /// A word that was found is known from now on, until one at its place is written.
-    #[inline]
-    fn know(&mut self, address: u32, word: u32)
-        requires { IsWord self.old.tid
-            (P.owners self.old.pages) self.old.space.now.entries (P.pages self.old.pages) address
-            word }
-        ensures still { still self.new.tid (P.owners self.new.pages) self.new.space.now.entries
-            ≡ still self.old.tid (P.owners self.old.pages) self.old.space.now.entries }
-        ensures fixed { P.fixed self.new.pages ≡ P.fixed self.old.pages }
-        ensures pages { P.pages self.new.pages ≡ P.pages self.old.pages }
-    {
-        let place = known_place(address);
-        put_known(&mut self.known, place, Known { address, word });
-    }
-
-    /// The word at an address, where it lies in a page that a fetch found; it is known then.
-    #[inline]
-    fn word_here(&mut self, address: u32) -> Option<u32>
-        ensures word { IfSome result (λ word. IsWord self.old.tid
-            (P.owners self.old.pages) self.old.space.now.entries (P.pages self.old.pages) address
-            word) }
-        ensures still { still self.new.tid (P.owners self.new.pages) self.new.space.now.entries
-            ≡ still self.old.tid (P.owners self.old.pages) self.old.space.now.entries }
-        ensures fixed { P.fixed self.new.pages ≡ P.fixed self.old.pages }
-        ensures pages { P.pages self.new.pages ≡ P.pages self.old.pages }
-    {
-        if let Some(word) = self.word_known(address) {
-            return Some(word);
-        }
-        let word = self.word_found(address)?;
-        self.know(address, word);
-        Some(word)
+        self.find_to_write(address, access)
     }
 
     /// The number at an aligned address whose page is this frame's.
-    #[inline]
+    #[inline(always)]
     fn read(&self, frame: u32, address: u32, size: Size) -> u32
         requires home { IsHomeIn (P.pages self.now.pages) frame }
         requires aligned { address % width size ≡ 0 }
@@ -341,64 +252,120 @@ impl<'a, P: Pages> Running<'a, P> {
     }
 
     /// Writes the low bytes of a number at an aligned address whose page is this frame's.
-    #[inline]
+    #[inline(always)]
     fn write(&mut self, frame: u32, address: u32, size: Size, value: u32)
         requires own { P.is_own self.old.pages frame ≡ true }
+        requires free { (self.old.base ≡ no_base) ⊎ IsNoCode self.old.fetched frame }
         requires aligned { address % width size ≡ 0 }
         ensures bytes { joined (P.pages self.new.pages) ≡ written (joined (P.pages self.old.pages))
             (place_in frame address) (bytes_of (width size) value) }
+        ensures known { KeepsKnown self.old.base self.old.fetched (P.pages self.old.pages)
+            self.new.base self.new.fetched (P.pages self.new.pages) }
         ensures still { still self.new.tid (P.owners self.new.pages) self.new.space.now.entries
             ≡ still self.old.tid (P.owners self.old.pages) self.old.space.now.entries }
         ensures fixed { P.fixed self.new.pages ≡ P.fixed self.old.pages }
     {
-        let place = known_place(address);
-        let other = Known {
-            address: address.wrapping_add(4),
-            word: 0,
-        };
-        put_known(&mut self.known, place, other);
         self.pages.write(frame, address % 4096, size, value);
     }
 
-    /// The word of an instruction by its two halfwords, one after another; None where a fetch is
-    /// refused.
+    /// The word at an address, where it lies in one page and may be known; None else, or where its
+    /// fetch is refused.
+    fn word_to_know(&mut self, address: u32) -> Option<u32>
+        ensures word { IfSome result
+            (λ word. IsKnown self.new.fetched (P.pages self.new.pages) address word) }
+        ensures known { KeepsKnown self.old.base self.old.fetched (P.pages self.old.pages)
+            self.new.base self.new.fetched (P.pages self.new.pages) }
+        ensures still { still self.new.tid (P.owners self.new.pages) self.new.space.now.entries
+            ≡ still self.old.tid (P.owners self.old.pages) self.old.space.now.entries }
+        ensures fixed { P.fixed self.new.pages ≡ P.fixed self.old.pages }
+        ensures pages { P.pages self.new.pages ≡ P.pages self.old.pages }
+    {
+        if address % 4 != 0 {
+            return None;
+        }
+        let frame = self.frame_to_fetch(address)?;
+        let word = self.read(frame, address, Size::Word);
+        if word % 4 == 3 { Some(word) } else { None }
+    }
+
+    /// The memo has this word, which is known, by a key of the base; another base is taken first
+    /// where nothing is known. The place is given where the memo has it.
+    fn remember(&mut self, memo: &mut Memo, address: u32, word: u32) -> usize
+        requires { IsKnown self.old.fetched (P.pages self.old.pages) address word }
+        ensures small { result < 1024 }
+        ensures here { (note_at memo.new result).key ≡ self.new.base + address }
+        ensures based { self.new.base ≢ no_base }
+        ensures known { AreKnown self.old.base self.old.fetched (P.pages self.old.pages) memo.old
+            → AreKnown self.new.base self.new.fetched (P.pages self.new.pages) memo.new }
+        ensures still { still self.new.tid (P.owners self.new.pages) self.new.space.now.entries
+            ≡ still self.old.tid (P.owners self.old.pages) self.old.space.now.entries }
+        ensures fixed { P.fixed self.new.pages ≡ P.fixed self.old.pages }
+        ensures pages { P.pages self.new.pages ≡ P.pages self.old.pages }
+    {
+        if self.base == NO_BASE {
+            self.base = memo.begin();
+        }
+        let place = place_of(address);
+        memo.keep(place, self.base + u64::from(address), word);
+        place
+    }
+
+    /// The place at which the memo has the word at an address from now on; None where it can't be
+    /// known, or where its fetch is refused.
     #[cold]
     #[inline(never)]
-    fn fetch_halves(&mut self, address: u32) -> Option<u32>
-        ensures { (f : Still × P.Fixed) (t : ℕ) (w : World)
-            → ShowsBy (still self.old.tid (P.owners self.old.pages) self.old.space.now.entries)
-            (P.fixed self.old.pages) (P.pages self.old.pages) f t w
-            → (ShowsBy (still self.new.tid (P.owners self.new.pages) self.new.space.now.entries)
-            (P.fixed self.new.pages) (P.pages self.new.pages) f t w)
-            × (ok_or result self.new.refused ≡ word_at w t address) }
+    fn learn(&mut self, memo: &mut Memo, address: u32) -> Option<usize>
+        ensures small { IfSome result (λ place. place < 1024) }
+        ensures here { IfSome result
+            (λ place. (note_at memo.new place).key ≡ self.new.base + address) }
+        ensures based { IsSome result → self.new.base ≢ no_base }
+        ensures known { AreKnown self.old.base self.old.fetched (P.pages self.old.pages) memo.old
+            → AreKnown self.new.base self.new.fetched (P.pages self.new.pages) memo.new }
+        ensures still { still self.new.tid (P.owners self.new.pages) self.new.space.now.entries
+            ≡ still self.old.tid (P.owners self.old.pages) self.old.space.now.entries }
+        ensures fixed { P.fixed self.new.pages ≡ P.fixed self.old.pages }
+        ensures pages { P.pages self.new.pages ≡ P.pages self.old.pages }
     {
-        match self.fetch_half(address) {
-            Err(reason) => self.refuse(reason),
-            Ok(low) => {
-                if low % 4 != 3 {
-                    return Some(u32::from(low));
-                }
-                match self.fetch_half(address.wrapping_add(2)) {
-                    Err(reason) => self.refuse(reason),
-                    Ok(high) => Some(u32::from(low) + 65536 * u32::from(high)),
-                }
-            }
+        let word = self.word_to_know(address)?;
+        Some(self.remember(memo, address, word))
+    }
+
+    /// The place at which the memo has the word at an address, which may be this one; None where it
+    /// can't be known, or where its fetch is refused.
+    #[inline(always)]
+    pub fn place_known(&mut self, memo: &mut Memo, place: usize, address: u32) -> Option<usize>
+        requires { place < 1024 }
+        ensures small { IfSome result (λ place. place < 1024) }
+        ensures here { IfSome result
+            (λ place. (note_at memo.new place).key ≡ self.new.base + address) }
+        ensures based { IsSome result → self.new.base ≢ no_base }
+        ensures known { AreKnown self.old.base self.old.fetched (P.pages self.old.pages) memo.old
+            → AreKnown self.new.base self.new.fetched (P.pages self.new.pages) memo.new }
+        ensures still { still self.new.tid (P.owners self.new.pages) self.new.space.now.entries
+            ≡ still self.old.tid (P.owners self.old.pages) self.old.space.now.entries }
+        ensures fixed { P.fixed self.new.pages ≡ P.fixed self.old.pages }
+        ensures pages { P.pages self.new.pages ≡ P.pages self.old.pages }
+    {
+        if memo.has(place, self.base + u64::from(address)) {
+            return Some(place);
         }
+        self.learn(memo, address)
     }
 }
 
 impl<'a, P: Pages> Memory for Running<'a, P> {
-    ghost use Rattle.quantum_run.specs.Showing.{Still, ShowsBy, still, blind_by};
+    ghost use Rattle.std.specs.Prelude.{List};
+    ghost use Rattle.rv_form.specs.Notes.{Note};
+    ghost use Rattle.quantum_run.specs.Showing.{Still, ShowsKnown, still, blind_known};
 
-    ghost Fixed = { Still × P.Fixed };
+    ghost Fixed = { (Still × P.Fixed) × List Note };
 
-    ghost shows = { λ m. ShowsBy (still m.tid (P.owners m.pages) m.space.now.entries)
-        (P.fixed m.pages) (P.pages m.pages) };
+    ghost shows = { λ m. ShowsKnown (still m.tid (P.owners m.pages) m.space.now.entries)
+        (P.fixed m.pages) (P.pages m.pages) m.base m.fetched };
 
-    ghost blind = { λ m. blind_by (still m.tid (P.owners m.pages) m.space.now.entries)
-        (P.fixed m.pages) (P.pages m.pages) };
+    ghost blind = { λ m. blind_known (still m.tid (P.owners m.pages) m.space.now.entries)
+        (P.fixed m.pages) (P.pages m.pages) m.base m.fetched };
 
-    #[inline]
     fn fetch_half(&mut self, address: u32) -> Result<u16, Reason> {
         if !Size::Half.is_aligned(address) {
             return Err(Reason::Fault(7));
@@ -409,20 +376,7 @@ impl<'a, P: Pages> Memory for Running<'a, P> {
         }
     }
 
-    // The Ok is made in one place, so that the word stays in one register.
-    #[inline]
-    fn fetch_word(&mut self, address: u32) -> Result<u32, Reason> {
-        let word = match self.word_here(address) {
-            Some(word) => word,
-            None => match self.fetch_halves(address) {
-                Some(word) => word,
-                None => return Err(self.refused),
-            },
-        };
-        Ok(word)
-    }
-
-    #[inline]
+    #[inline(always)]
     fn load(&mut self, address: u32, size: Size) -> Result<u32, Reason> {
         if !size.is_aligned(address) {
             return Err(Reason::Fault(7));
@@ -433,7 +387,7 @@ impl<'a, P: Pages> Memory for Running<'a, P> {
         }
     }
 
-    #[inline]
+    #[inline(always)]
     fn store(&mut self, address: u32, size: Size, value: u32) -> Result<(), Reason> {
         if !size.is_aligned(address) {
             return Err(Reason::Fault(7));
@@ -447,7 +401,7 @@ impl<'a, P: Pages> Memory for Running<'a, P> {
         }
     }
 
-    #[inline]
+    #[inline(always)]
     fn claim(&mut self, address: u32) -> Result<u32, Reason> {
         if !Size::Word.is_aligned(address) {
             return Err(Reason::Fault(7));
