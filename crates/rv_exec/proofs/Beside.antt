@@ -33,6 +33,6 @@ module _ (before after : World → Type 0) (t : ℕ) (w : World) (r new put : Re
   steps_put budget next answer here to is one runs =
       let same : with_pc r pc ≡ r = ap (with_pc r) here in
       let first = one (subst (λ (x : Registers). Runs before w t x budget) (sym same) runs) in
-      let second = subst (λ (x : Registers). Steps after w t x budget (went next why) (step w t)) (sym
-      to) first in
+      let second = subst (λ (x : Registers). Steps after w t x budget (went next why) (step w t))
+      (sym to) first in
       subst (λ (x : Went). Steps after w t put budget x (step w t)) (sym is) second

@@ -13,7 +13,7 @@ use rv_form::{Form, Op};
 use rv_isa::{AmoOp, BranchOp, ImmOp, LoadOp, RegOp, ShiftOp, StoreOp};
 
 /// The instruction of a form, at pc: what it does to the registers but pc and to memory, and where
-/// it leads.
+/// it leads. Where it leads nowhere, `why` is the reason.
 #[inline(always)]
 #[tactic(auto, unfolding(crate::specs::Effect::effect, rv_form::specs::Forms::instr_of))]
 pub fn perform_form<M: Memory>(
@@ -23,8 +23,8 @@ pub fn perform_form<M: Memory>(
     pc: u32,
     why: &mut Reason,
 ) -> Next
-    ensures { PerformsAt (M.shows memory.old) (M.shows memory.new) pc regs.old regs.new result why.new
-        (effect_of_form form.now) }
+    ensures { PerformsAt (M.shows memory.old) (M.shows memory.new) pc regs.old regs.new result
+        why.new (effect_of_form form.now) }
 {
     match form.op {
         Op::Illegal => stop(why, Reason::Fault(4)),
@@ -90,7 +90,7 @@ pub fn perform_form<M: Memory>(
     }
 }
 
-/// pc goes where an instruction at pc leads.
+/// pc goes where an instruction at pc leads; `why` is the reason where it leads nowhere.
 #[inline(always)]
 pub fn arrive(regs: &mut Regs, pc: u32, next: Next, why: Reason) -> Went
     ensures registers { regs.new ≡ arrived regs.old pc next }

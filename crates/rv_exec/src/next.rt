@@ -10,11 +10,11 @@ pub enum Next {
     On,
     /// To this address.
     To(u32),
-    /// Nowhere: it wasn't done, and changed nothing. Why stands beside it.
+    /// Nowhere: it wasn't done, and changed nothing. The reason stands beside it.
     Not,
 }
 
-/// Nowhere, and why.
+/// Nowhere, for this reason.
 #[cold]
 #[inline(never)]
 pub fn stop(why: &mut Reason, reason: Reason) -> Next

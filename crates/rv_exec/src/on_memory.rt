@@ -131,8 +131,8 @@ fn store_conditional<M: Memory>(
     why: &mut Reason,
 ) -> Next
     ensures { (pc : ℕ) → PerformsAt (M.shows memory.old) (M.shows memory.new) pc regs.old regs.new
-        result why.new (λ r. effects.conditional form.now.rd address value (effects.is_held r.held address)
-        (onward 4 r)) }
+        result why.new (λ r. effects.conditional form.now.rd address value
+        (effects.is_held r.held address) (onward 4 r)) }
 {
     match memory.claim(address) {
         Err(reason) => {
@@ -190,8 +190,8 @@ fn exchange<M: Memory>(
     why: &mut Reason,
 ) -> Next
     ensures { (pc : ℕ) → PerformsAt (M.shows memory.old) (M.shows memory.new) pc regs.old regs.new
-        result why.new (λ r. effects.exchange form.now.rd address (λ old. combined op old value) (onward 4
-        r)) }
+        result why.new (λ r. effects.exchange form.now.rd address
+        (λ old. combined op old value) (onward 4 r)) }
 {
     match memory.claim(address) {
         Err(reason) => {

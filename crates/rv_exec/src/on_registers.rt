@@ -81,7 +81,8 @@ pub fn auipc(regs: &mut Regs, form: &Form, pc: u32) -> Next
 #[inline(always)]
 #[tactic(auto, unfolding(crate::specs::Effect::effect))]
 pub fn jal(regs: &mut Regs, form: &Form, pc: u32, why: &mut Reason) -> Next
-    ensures { SettlesAt pc result why.new regs.old regs.new (effect (Jal form.now.rd form.now.imm) 4) }
+    ensures { SettlesAt pc result why.new regs.old regs.new
+        (effect (Jal form.now.rd form.now.imm) 4) }
 {
     jump_and_link(regs, form, pc, pc.wrapping_add_signed(form.imm), why)
 }
