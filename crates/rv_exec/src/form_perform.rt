@@ -4,6 +4,7 @@ ghost use Rattle.rv_exec.specs.Instruction.{effect_of_form};
 ghost use Rattle.rv_exec.specs.Going.{PerformsAt, arrived, went};
 ghost use Rattle.std.specs.Prelude.{◌≡◌};
 
+use crate::next::stop;
 use crate::on_memory::{atomic, load, store};
 use crate::on_registers::{auipc, branch, immediate, jal, jalr, lui, register, shift};
 use crate::{Memory, Next, Went};
@@ -12,33 +13,39 @@ use rv_form::{Form, Op};
 use rv_isa::{AmoOp, BranchOp, ImmOp, LoadOp, RegOp, ShiftOp, StoreOp};
 
 /// The instruction of a form, at pc: what it does to the registers but pc and to memory, and where
-/// it leads.
+/// it leads. Where it leads nowhere, `why` is the reason.
 #[inline(always)]
 #[tactic(auto, unfolding(crate::specs::Effect::effect, rv_form::specs::Forms::instr_of))]
-pub fn perform_form<M: Memory>(regs: &mut Regs, memory: &mut M, form: &Form, pc: u32) -> Next
+pub fn perform_form<M: Memory>(
+    regs: &mut Regs,
+    memory: &mut M,
+    form: &Form,
+    pc: u32,
+    why: &mut Reason,
+) -> Next
     ensures { PerformsAt (M.shows memory.old) (M.shows memory.new) pc regs.old regs.new result
-        (effect_of_form form.now) }
+        why.new (effect_of_form form.now) }
 {
     match form.op {
-        Op::Illegal => Next::Not(Reason::Fault(4)),
+        Op::Illegal => stop(why, Reason::Fault(4)),
         Op::Lui => lui(regs, form),
         Op::Auipc => auipc(regs, form, pc),
-        Op::Jal => jal(regs, form, pc),
-        Op::Jalr => jalr(regs, form, pc),
-        Op::Beq => branch(regs, form, pc, BranchOp::Beq),
-        Op::Bne => branch(regs, form, pc, BranchOp::Bne),
-        Op::Blt => branch(regs, form, pc, BranchOp::Blt),
-        Op::Bge => branch(regs, form, pc, BranchOp::Bge),
-        Op::Bltu => branch(regs, form, pc, BranchOp::Bltu),
-        Op::Bgeu => branch(regs, form, pc, BranchOp::Bgeu),
-        Op::Lb => load(regs, memory, form, LoadOp::Lb),
-        Op::Lh => load(regs, memory, form, LoadOp::Lh),
-        Op::Lw => load(regs, memory, form, LoadOp::Lw),
-        Op::Lbu => load(regs, memory, form, LoadOp::Lbu),
-        Op::Lhu => load(regs, memory, form, LoadOp::Lhu),
-        Op::Sb => store(regs, memory, form, StoreOp::Sb),
-        Op::Sh => store(regs, memory, form, StoreOp::Sh),
-        Op::Sw => store(regs, memory, form, StoreOp::Sw),
+        Op::Jal => jal(regs, form, pc, why),
+        Op::Jalr => jalr(regs, form, pc, why),
+        Op::Beq => branch(regs, form, pc, BranchOp::Beq, why),
+        Op::Bne => branch(regs, form, pc, BranchOp::Bne, why),
+        Op::Blt => branch(regs, form, pc, BranchOp::Blt, why),
+        Op::Bge => branch(regs, form, pc, BranchOp::Bge, why),
+        Op::Bltu => branch(regs, form, pc, BranchOp::Bltu, why),
+        Op::Bgeu => branch(regs, form, pc, BranchOp::Bgeu, why),
+        Op::Lb => load(regs, memory, form, LoadOp::Lb, why),
+        Op::Lh => load(regs, memory, form, LoadOp::Lh, why),
+        Op::Lw => load(regs, memory, form, LoadOp::Lw, why),
+        Op::Lbu => load(regs, memory, form, LoadOp::Lbu, why),
+        Op::Lhu => load(regs, memory, form, LoadOp::Lhu, why),
+        Op::Sb => store(regs, memory, form, StoreOp::Sb, why),
+        Op::Sh => store(regs, memory, form, StoreOp::Sh, why),
+        Op::Sw => store(regs, memory, form, StoreOp::Sw, why),
         Op::Addi => immediate(regs, form, ImmOp::Addi),
         Op::Slti => immediate(regs, form, ImmOp::Slti),
         Op::Sltiu => immediate(regs, form, ImmOp::Sltiu),
@@ -67,27 +74,27 @@ pub fn perform_form<M: Memory>(regs: &mut Regs, memory: &mut M, form: &Form, pc:
         Op::Rem => register(regs, form, RegOp::Rem),
         Op::Remu => register(regs, form, RegOp::Remu),
         Op::Fence => Next::On,
-        Op::Ecall => Next::Not(Reason::Service),
-        Op::Ebreak => Next::Not(Reason::Fault(5)),
-        Op::LrW => atomic(regs, memory, form, AmoOp::LrW),
-        Op::ScW => atomic(regs, memory, form, AmoOp::ScW),
-        Op::AmoswapW => atomic(regs, memory, form, AmoOp::AmoswapW),
-        Op::AmoaddW => atomic(regs, memory, form, AmoOp::AmoaddW),
-        Op::AmoxorW => atomic(regs, memory, form, AmoOp::AmoxorW),
-        Op::AmoandW => atomic(regs, memory, form, AmoOp::AmoandW),
-        Op::AmoorW => atomic(regs, memory, form, AmoOp::AmoorW),
-        Op::AmominW => atomic(regs, memory, form, AmoOp::AmominW),
-        Op::AmomaxW => atomic(regs, memory, form, AmoOp::AmomaxW),
-        Op::AmominuW => atomic(regs, memory, form, AmoOp::AmominuW),
-        Op::AmomaxuW => atomic(regs, memory, form, AmoOp::AmomaxuW),
+        Op::Ecall => stop(why, Reason::Service),
+        Op::Ebreak => stop(why, Reason::Fault(5)),
+        Op::LrW => atomic(regs, memory, form, AmoOp::LrW, why),
+        Op::ScW => atomic(regs, memory, form, AmoOp::ScW, why),
+        Op::AmoswapW => atomic(regs, memory, form, AmoOp::AmoswapW, why),
+        Op::AmoaddW => atomic(regs, memory, form, AmoOp::AmoaddW, why),
+        Op::AmoxorW => atomic(regs, memory, form, AmoOp::AmoxorW, why),
+        Op::AmoandW => atomic(regs, memory, form, AmoOp::AmoandW, why),
+        Op::AmoorW => atomic(regs, memory, form, AmoOp::AmoorW, why),
+        Op::AmominW => atomic(regs, memory, form, AmoOp::AmominW, why),
+        Op::AmomaxW => atomic(regs, memory, form, AmoOp::AmomaxW, why),
+        Op::AmominuW => atomic(regs, memory, form, AmoOp::AmominuW, why),
+        Op::AmomaxuW => atomic(regs, memory, form, AmoOp::AmomaxuW, why),
     }
 }
 
-/// pc goes where an instruction at pc leads.
-#[inline]
-pub fn arrive(regs: &mut Regs, pc: u32, next: Next) -> Went
+/// pc goes where an instruction at pc leads; `why` is the reason where it leads nowhere.
+#[inline(always)]
+pub fn arrive(regs: &mut Regs, pc: u32, next: Next, why: Reason) -> Went
     ensures registers { regs.new ≡ arrived regs.old pc next }
-    ensures went { result ≡ went next }
+    ensures went { result ≡ went next why }
 {
     match next {
         Next::On => {
@@ -98,9 +105,9 @@ pub fn arrive(regs: &mut Regs, pc: u32, next: Next) -> Went
             regs.set_pc(target);
             Went::Step
         }
-        Next::Not(reason) => {
+        Next::Not => {
             regs.set_pc(pc);
-            Went::Stop(reason)
+            Went::Stop(why)
         }
     }
 }

@@ -1,4 +1,6 @@
 // Where an instruction leads.
+ghost use Rattle.std.specs.Prelude.{◌≡◌};
+
 use dos_world::Reason;
 
 /// Where an instruction leads.
@@ -8,6 +10,17 @@ pub enum Next {
     On,
     /// To this address.
     To(u32),
-    /// Nowhere: it wasn't done, and changed nothing.
-    Not(Reason),
+    /// Nowhere: it wasn't done, and changed nothing. The reason stands beside it.
+    Not,
+}
+
+/// Nowhere, for this reason.
+#[cold]
+#[inline(never)]
+pub fn stop(why: &mut Reason, reason: Reason) -> Next
+    ensures next { result ≡ Next.Not }
+    ensures why { why.new ≡ reason }
+{
+    *why = reason;
+    Next::Not
 }

@@ -6,7 +6,7 @@ ghost use Rattle.rv_exec.specs.Arithmetic as arithmetic;
 use dos_world::Size;
 use rv_isa::{BranchOp, ImmOp, LoadOp, RegOp, ShiftOp, StoreOp};
 
-#[inline]
+#[inline(always)]
 pub fn flag(holds: bool) -> u32
     ensures { result ≡ arithmetic.test holds }
 {
@@ -14,7 +14,7 @@ pub fn flag(holds: bool) -> u32
 }
 
 /// Whether a branch with this comparison is taken.
-#[inline]
+#[inline(always)]
 pub fn is_taken(op: BranchOp, a: u32, b: u32) -> bool
     ensures { result ≡ arithmetic.is_taken op a b }
 {
@@ -29,7 +29,7 @@ pub fn is_taken(op: BranchOp, a: u32, b: u32) -> bool
 }
 
 /// What an operation gives on a register and an immediate.
-#[inline]
+#[inline(always)]
 pub fn immediate_result(op: ImmOp, a: u32, imm: i32) -> u32
     ensures { result ≡ arithmetic.immediate_result op a imm }
 {
@@ -44,7 +44,7 @@ pub fn immediate_result(op: ImmOp, a: u32, imm: i32) -> u32
 }
 
 /// What a shift by a constant gives.
-#[inline]
+#[inline(always)]
 pub fn shift_result(op: ShiftOp, a: u32, amount: u8) -> u32
     requires { amount < 32 }
     ensures { result ≡ arithmetic.shift_result op a amount }
@@ -57,7 +57,7 @@ pub fn shift_result(op: ShiftOp, a: u32, amount: u8) -> u32
 }
 
 /// The upper half of the product of two signed numbers.
-#[inline]
+#[inline(always)]
 fn high_signed(a: u32, b: u32) -> u32
     ensures { result ≡ arithmetic.register_result RegOp.Mulh a b }
 {
@@ -66,7 +66,7 @@ fn high_signed(a: u32, b: u32) -> u32
 }
 
 /// The upper half of the product of a signed number and an unsigned one.
-#[inline]
+#[inline(always)]
 fn high_mixed(a: u32, b: u32) -> u32
     ensures { result ≡ arithmetic.register_result RegOp.Mulhsu a b }
 {
@@ -75,7 +75,7 @@ fn high_mixed(a: u32, b: u32) -> u32
 }
 
 /// The upper half of the product of two unsigned numbers.
-#[inline]
+#[inline(always)]
 fn high_unsigned(a: u32, b: u32) -> u32
     ensures { result ≡ arithmetic.register_result RegOp.Mulhu a b }
 {
@@ -83,7 +83,7 @@ fn high_unsigned(a: u32, b: u32) -> u32
 }
 
 /// The signed quotient, rounded toward zero; by zero, all ones.
-#[inline]
+#[inline(always)]
 fn quotient(a: u32, b: u32) -> u32
     ensures { result ≡ arithmetic.quotient a b }
 {
@@ -96,7 +96,7 @@ fn quotient(a: u32, b: u32) -> u32
 }
 
 /// What is left by the signed quotient; by zero, the dividend.
-#[inline]
+#[inline(always)]
 fn remainder(a: u32, b: u32) -> u32
     ensures { result ≡ arithmetic.remainder a b }
 {
@@ -109,7 +109,7 @@ fn remainder(a: u32, b: u32) -> u32
 }
 
 /// What an operation gives on two registers.
-#[inline]
+#[inline(always)]
 pub fn register_result(op: RegOp, a: u32, b: u32) -> u32
     ensures { result ≡ arithmetic.register_result op a b }
 {
@@ -136,7 +136,7 @@ pub fn register_result(op: RegOp, a: u32, b: u32) -> u32
 }
 
 /// How much a load reads.
-#[inline]
+#[inline(always)]
 pub fn load_size(op: LoadOp) -> Size
     ensures { result ≡ arithmetic.load_size op }
 {
@@ -150,7 +150,7 @@ pub fn load_size(op: LoadOp) -> Size
 }
 
 /// What a load gives of the number that it read, which is zero-extended.
-#[inline]
+#[inline(always)]
 pub fn load_result(op: LoadOp, number: u32) -> u32
     ensures { result ≡ arithmetic.load_result op number }
 {
@@ -164,7 +164,7 @@ pub fn load_result(op: LoadOp, number: u32) -> u32
 }
 
 /// How much a store writes.
-#[inline]
+#[inline(always)]
 pub fn store_size(op: StoreOp) -> Size
     ensures { result ≡ arithmetic.store_size op }
 {
@@ -176,7 +176,7 @@ pub fn store_size(op: StoreOp) -> Size
 }
 
 /// The lesser of two signed numbers.
-#[inline]
+#[inline(always)]
 pub fn lesser(a: u32, b: u32) -> u32
     ensures { result ≡ arithmetic.lesser a b }
 {
@@ -188,7 +188,7 @@ pub fn lesser(a: u32, b: u32) -> u32
 }
 
 /// The greater of two signed numbers.
-#[inline]
+#[inline(always)]
 pub fn greater(a: u32, b: u32) -> u32
     ensures { result ≡ arithmetic.greater a b }
 {

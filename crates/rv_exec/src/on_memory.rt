@@ -12,12 +12,12 @@ ghost use Rattle.rv_exec.specs.Going.{PerformsAt};
 use crate::numbers::{greater, lesser, load_result, load_size, store_size};
 use crate::on_registers::{first, put, second};
 use crate::{Memory, Next};
-use dos_world::{Regs, Size};
+use dos_world::{Reason, Regs, Size};
 use rv_form::Form;
 use rv_isa::{AmoOp, LoadOp, StoreOp};
 
 /// The address of a load or store.
-#[inline]
+#[inline(always)]
 fn address_of(regs: &Regs, form: &Form) -> u32
     ensures { result ≡ effects.plus (get regs.now form.now.rs1) form.now.imm }
 {
@@ -25,11 +25,17 @@ fn address_of(regs: &Regs, form: &Form) -> u32
 }
 
 /// A load, sign-extended for lb and lh.
-#[inline]
+#[inline(always)]
 #[tactic(auto, unfolding(crate::specs::Effect::effect))]
-pub fn load<M: Memory>(regs: &mut Regs, memory: &mut M, form: &Form, op: LoadOp) -> Next
+pub fn load<M: Memory>(
+    regs: &mut Regs,
+    memory: &mut M,
+    form: &Form,
+    op: LoadOp,
+    why: &mut Reason,
+) -> Next
     ensures { (pc : ℕ) → PerformsAt (M.shows memory.old) (M.shows memory.new) pc regs.old regs.new
-        result (effect (Load op form.now.rd form.now.rs1 form.now.imm) 4) }
+        result why.new (effect (Load op form.now.rd form.now.rs1 form.now.imm) 4) }
 {
     let address = address_of(regs, form);
     match memory.load(address, load_size(op)) {
@@ -37,27 +43,39 @@ pub fn load<M: Memory>(regs: &mut Regs, memory: &mut M, form: &Form, op: LoadOp)
             put(regs, form, load_result(op, number));
             Next::On
         }
-        Err(reason) => Next::Not(reason),
+        Err(reason) => {
+            *why = reason;
+            Next::Not
+        }
     }
 }
 
 /// A store of the low bytes of a register.
-#[inline]
-pub fn store<M: Memory>(regs: &Regs, memory: &mut M, form: &Form, op: StoreOp) -> Next
+#[inline(always)]
+pub fn store<M: Memory>(
+    regs: &Regs,
+    memory: &mut M,
+    form: &Form,
+    op: StoreOp,
+    why: &mut Reason,
+) -> Next
     ensures { (pc : ℕ) → PerformsAt (M.shows memory.old) (M.shows memory.new) pc regs.now regs.now
-        result (λ r. effects.stores (effects.plus (get r form.now.rs1) form.now.imm)
+        result why.new (λ r. effects.stores (effects.plus (get r form.now.rs1) form.now.imm)
         (effects.store_size op) (get r form.now.rs2) (onward 4 r)) }
 {
     let address = address_of(regs, form);
     let value = second(regs, form);
     match memory.store(address, store_size(op), value) {
         Ok(()) => Next::On,
-        Err(reason) => Next::Not(reason),
+        Err(reason) => {
+            *why = reason;
+            Next::Not
+        }
     }
 }
 
 /// A number for the register that is written, and the reservation.
-#[inline]
+#[inline(always)]
 fn put_and_hold(regs: &mut Regs, form: &Form, number: u32, held: Option<u32>)
     ensures { (p : ℕ) → with_pc regs.new p
         ≡ with_held (set (with_pc regs.old p) form.now.rd number) held }
@@ -67,10 +85,16 @@ fn put_and_hold(regs: &mut Regs, form: &Form, number: u32, held: Option<u32>)
 }
 
 /// lr.w: the word is claimed, and its address is the reservation.
-#[inline]
-fn load_reserved<M: Memory>(regs: &mut Regs, memory: &mut M, form: &Form, address: u32) -> Next
+#[inline(always)]
+fn load_reserved<M: Memory>(
+    regs: &mut Regs,
+    memory: &mut M,
+    form: &Form,
+    address: u32,
+    why: &mut Reason,
+) -> Next
     ensures { (pc : ℕ) → PerformsAt (M.shows memory.old) (M.shows memory.new) pc regs.old regs.new
-        result (λ r. effects.link form.now.rd address (onward 4 r)) }
+        result why.new (λ r. effects.link form.now.rd address (onward 4 r)) }
 {
     let claimed = memory.claim(address);
     match claimed {
@@ -78,12 +102,15 @@ fn load_reserved<M: Memory>(regs: &mut Regs, memory: &mut M, form: &Form, addres
             put_and_hold(regs, form, number, Some(address));
             Next::On
         }
-        Err(reason) => Next::Not(reason),
+        Err(reason) => {
+            *why = reason;
+            Next::Not
+        }
     }
 }
 
 /// Whether the reservation is this address.
-#[inline]
+#[inline(always)]
 fn is_held(regs: &Regs, address: u32) -> bool
     ensures { result ≡ effects.is_held regs.now.held address }
 {
@@ -94,20 +121,24 @@ fn is_held(regs: &Regs, address: u32) -> bool
 }
 
 /// sc.w: the word is claimed, also where nothing is stored; the reservation is emptied.
-#[inline]
+#[inline(always)]
 fn store_conditional<M: Memory>(
     regs: &mut Regs,
     memory: &mut M,
     form: &Form,
     address: u32,
     value: u32,
+    why: &mut Reason,
 ) -> Next
     ensures { (pc : ℕ) → PerformsAt (M.shows memory.old) (M.shows memory.new) pc regs.old regs.new
-        result (λ r. effects.conditional form.now.rd address value (effects.is_held r.held address)
-        (onward 4 r)) }
+        result why.new (λ r. effects.conditional form.now.rd address value
+        (effects.is_held r.held address) (onward 4 r)) }
 {
     match memory.claim(address) {
-        Err(reason) => Next::Not(reason),
+        Err(reason) => {
+            *why = reason;
+            Next::Not
+        }
         Ok(_) => {
             if !is_held(regs, address) {
                 put_and_hold(regs, form, 1, None);
@@ -118,14 +149,17 @@ fn store_conditional<M: Memory>(
                     put_and_hold(regs, form, 0, None);
                     Next::On
                 }
-                Err(reason) => Next::Not(reason),
+                Err(reason) => {
+                    *why = reason;
+                    Next::Not
+                }
             }
         }
     }
 }
 
 /// What an AMO stores, by the old word and the second register.
-#[inline]
+#[inline(always)]
 fn new_word(op: AmoOp, old: u32, value: u32) -> u32
     ensures { result ≡ combined op old value }
 {
@@ -145,7 +179,7 @@ fn new_word(op: AmoOp, old: u32, value: u32) -> u32
 }
 
 /// An AMO: the word is claimed, and the new word stored.
-#[inline]
+#[inline(always)]
 fn exchange<M: Memory>(
     regs: &mut Regs,
     memory: &mut M,
@@ -153,35 +187,48 @@ fn exchange<M: Memory>(
     op: AmoOp,
     address: u32,
     value: u32,
+    why: &mut Reason,
 ) -> Next
     ensures { (pc : ℕ) → PerformsAt (M.shows memory.old) (M.shows memory.new) pc regs.old regs.new
-        result (λ r. effects.exchange form.now.rd address (λ old. combined op old value) (onward 4
-        r)) }
+        result why.new (λ r. effects.exchange form.now.rd address
+        (λ old. combined op old value) (onward 4 r)) }
 {
     match memory.claim(address) {
-        Err(reason) => Next::Not(reason),
+        Err(reason) => {
+            *why = reason;
+            Next::Not
+        }
         Ok(old) => match memory.store(address, Size::Word, new_word(op, old, value)) {
             Ok(()) => {
                 put(regs, form, old);
                 Next::On
             }
-            Err(reason) => Next::Not(reason),
+            Err(reason) => {
+                *why = reason;
+                Next::Not
+            }
         },
     }
 }
 
 /// lr.w, sc.w and the nine AMOs.
-#[inline]
-pub fn atomic<M: Memory>(regs: &mut Regs, memory: &mut M, form: &Form, op: AmoOp) -> Next
+#[inline(always)]
+pub fn atomic<M: Memory>(
+    regs: &mut Regs,
+    memory: &mut M,
+    form: &Form,
+    op: AmoOp,
+    why: &mut Reason,
+) -> Next
     ensures { (pc : ℕ) → PerformsAt (M.shows memory.old) (M.shows memory.new) pc regs.old regs.new
-        result (λ r. effects.atomic op form.now.rd (get r form.now.rs1) (get r form.now.rs2)
+        result why.new (λ r. effects.atomic op form.now.rd (get r form.now.rs1) (get r form.now.rs2)
         (onward 4 r)) }
 {
     let address = first(regs, form);
     let value = second(regs, form);
     match op {
-        AmoOp::LrW => load_reserved(regs, memory, form, address),
-        AmoOp::ScW => store_conditional(regs, memory, form, address, value),
-        _ => exchange(regs, memory, form, op, address, value),
+        AmoOp::LrW => load_reserved(regs, memory, form, address, why),
+        AmoOp::ScW => store_conditional(regs, memory, form, address, value, why),
+        _ => exchange(regs, memory, form, op, address, value, why),
     }
 }

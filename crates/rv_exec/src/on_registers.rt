@@ -1,6 +1,7 @@
 // What the instructions that touch the registers alone do, by their forms, with pc beside the
 // registers.
 ghost use Rattle.std.specs.Prelude.{◌≡◌, ◌+◌, ◌%◌, ◌^◌, ◌<◌, ℕ, true, false};
+ghost use Rattle.dos_world.specs.declared.Reason.{Reason};
 ghost use Rattle.dos_world.specs.World.{Registers, get, set, with_pc};
 ghost use Rattle.rv_isa.specs.declared.Instr.TheVariants.{Upper, Jal, Jalr, Branch, Imm, Shift, Reg};
 ghost use Rattle.rv_exec.specs.Effect as effects;
@@ -8,13 +9,14 @@ ghost use Rattle.rv_exec.specs.Effect.{effect};
 ghost use Rattle.rv_exec.specs.Going.{SettlesAt};
 
 use crate::Next;
+use crate::next::stop;
 use crate::numbers::{immediate_result, is_taken, register_result, shift_result};
 use dos_world::{Reason, Regs};
 use rv_form::Form;
 use rv_isa::{BranchOp, ImmOp, RegOp, ShiftOp};
 
 /// The register that is read first.
-#[inline]
+#[inline(always)]
 pub fn first(regs: &Regs, form: &Form) -> u32
     ensures { result ≡ get regs.now form.now.rs1 }
 {
@@ -22,7 +24,7 @@ pub fn first(regs: &Regs, form: &Form) -> u32
 }
 
 /// The register that is read second.
-#[inline]
+#[inline(always)]
 pub fn second(regs: &Regs, form: &Form) -> u32
     ensures { result ≡ get regs.now form.now.rs2 }
 {
@@ -30,7 +32,7 @@ pub fn second(regs: &Regs, form: &Form) -> u32
 }
 
 /// A value for the register that is written.
-#[inline]
+#[inline(always)]
 #[tactic(auto, using(crate::proofs::PcBeside::set_beside))]
 pub fn put(regs: &mut Regs, form: &Form, value: u32)
     ensures { (p : ℕ) → with_pc regs.new p ≡ set (with_pc regs.old p) form.now.rd value }
@@ -39,25 +41,25 @@ pub fn put(regs: &mut Regs, form: &Form, value: u32)
 }
 
 /// A jump that leaves the address of the next instruction in the register that is written.
-#[inline]
+#[inline(always)]
 #[tactic(auto, using(crate::proofs::PcBeside::set_beside))]
-fn jump_and_link(regs: &mut Regs, form: &Form, pc: u32, target: u32) -> Next
-    ensures { SettlesAt pc result regs.old regs.new (λ r. effects.jumps target
+fn jump_and_link(regs: &mut Regs, form: &Form, pc: u32, target: u32, why: &mut Reason) -> Next
+    ensures { SettlesAt pc result why.new regs.old regs.new (λ r. effects.jumps target
         (set r form.now.rd (effects.next_address 4 r))) }
 {
     if target % 4 == 0 {
         put(regs, form, pc.wrapping_add(4));
         Next::To(target)
     } else {
-        Next::Not(Reason::Fault(7))
+        stop(why, Reason::Fault(7))
     }
 }
 
 /// The immediate, for the register that is written.
-#[inline]
+#[inline(always)]
 #[tactic(auto, unfolding(crate::specs::Effect::effect))]
 pub fn lui(regs: &mut Regs, form: &Form) -> Next
-    ensures { (pc : ℕ) → SettlesAt pc result regs.old regs.new
+    ensures { (pc : ℕ) (why : Reason) → SettlesAt pc result why regs.old regs.new
         (effect (Upper false form.now.rd (effects.unsigned form.now.imm)) 4) }
 {
     put(regs, form, form.imm.cast_unsigned());
@@ -65,10 +67,10 @@ pub fn lui(regs: &mut Regs, form: &Form) -> Next
 }
 
 /// pc and the immediate, added.
-#[inline]
+#[inline(always)]
 #[tactic(auto, unfolding(crate::specs::Effect::effect))]
 pub fn auipc(regs: &mut Regs, form: &Form, pc: u32) -> Next
-    ensures { SettlesAt pc result regs.old regs.new
+    ensures { (why : Reason) → SettlesAt pc result why regs.old regs.new
         (effect (Upper true form.now.rd (effects.unsigned form.now.imm)) 4) }
 {
     put(regs, form, pc.wrapping_add(form.imm.cast_unsigned()));
@@ -76,30 +78,31 @@ pub fn auipc(regs: &mut Regs, form: &Form, pc: u32) -> Next
 }
 
 /// A jump by an offset from pc.
-#[inline]
+#[inline(always)]
 #[tactic(auto, unfolding(crate::specs::Effect::effect))]
-pub fn jal(regs: &mut Regs, form: &Form, pc: u32) -> Next
-    ensures { SettlesAt pc result regs.old regs.new (effect (Jal form.now.rd form.now.imm) 4) }
+pub fn jal(regs: &mut Regs, form: &Form, pc: u32, why: &mut Reason) -> Next
+    ensures { SettlesAt pc result why.new regs.old regs.new
+        (effect (Jal form.now.rd form.now.imm) 4) }
 {
-    jump_and_link(regs, form, pc, pc.wrapping_add_signed(form.imm))
+    jump_and_link(regs, form, pc, pc.wrapping_add_signed(form.imm), why)
 }
 
 /// A jump to a register and an offset, with bit 0 cleared.
-#[inline]
+#[inline(always)]
 #[tactic(auto, unfolding(crate::specs::Effect::effect))]
-pub fn jalr(regs: &mut Regs, form: &Form, pc: u32) -> Next
-    ensures { SettlesAt pc result regs.old regs.new
+pub fn jalr(regs: &mut Regs, form: &Form, pc: u32, why: &mut Reason) -> Next
+    ensures { SettlesAt pc result why.new regs.old regs.new
         (effect (Jalr form.now.rd form.now.rs1 form.now.imm) 4) }
 {
     let target = first(regs, form).wrapping_add_signed(form.imm) / 2 * 2;
-    jump_and_link(regs, form, pc, target)
+    jump_and_link(regs, form, pc, target, why)
 }
 
 /// A jump by an offset from pc, where a comparison of two registers holds.
-#[inline]
+#[inline(always)]
 #[tactic(auto, unfolding(crate::specs::Effect::effect))]
-pub fn branch(regs: &Regs, form: &Form, pc: u32, op: BranchOp) -> Next
-    ensures { SettlesAt pc result regs.now regs.now
+pub fn branch(regs: &Regs, form: &Form, pc: u32, op: BranchOp, why: &mut Reason) -> Next
+    ensures { SettlesAt pc result why.new regs.now regs.now
         (effect (Branch op form.now.rs1 form.now.rs2 form.now.imm) 4) }
 {
     if is_taken(op, first(regs, form), second(regs, form)) {
@@ -107,7 +110,7 @@ pub fn branch(regs: &Regs, form: &Form, pc: u32, op: BranchOp) -> Next
         if target % 4 == 0 {
             Next::To(target)
         } else {
-            Next::Not(Reason::Fault(7))
+            stop(why, Reason::Fault(7))
         }
     } else {
         Next::On
@@ -115,10 +118,10 @@ pub fn branch(regs: &Regs, form: &Form, pc: u32, op: BranchOp) -> Next
 }
 
 /// An operation on a register and a signed immediate.
-#[inline]
+#[inline(always)]
 #[tactic(auto, unfolding(crate::specs::Effect::effect))]
 pub fn immediate(regs: &mut Regs, form: &Form, op: ImmOp) -> Next
-    ensures { (pc : ℕ) → SettlesAt pc result regs.old regs.new
+    ensures { (pc : ℕ) (why : Reason) → SettlesAt pc result why regs.old regs.new
         (effect (Imm op form.now.rd form.now.rs1 form.now.imm) 4) }
 {
     let value = immediate_result(op, first(regs, form), form.imm);
@@ -127,10 +130,10 @@ pub fn immediate(regs: &mut Regs, form: &Form, op: ImmOp) -> Next
 }
 
 /// A shift by a constant.
-#[inline]
+#[inline(always)]
 #[tactic(auto, unfolding(crate::specs::Effect::effect))]
 pub fn shift(regs: &mut Regs, form: &Form, op: ShiftOp) -> Next
-    ensures { (pc : ℕ) → SettlesAt pc result regs.old regs.new
+    ensures { (pc : ℕ) (why : Reason) → SettlesAt pc result why regs.old regs.new
         (effect (Shift op form.now.rd form.now.rs1 form.now.rs2) 4) }
 {
     let value = shift_result(op, first(regs, form), form.rs2);
@@ -139,10 +142,10 @@ pub fn shift(regs: &mut Regs, form: &Form, op: ShiftOp) -> Next
 }
 
 /// An operation on two registers.
-#[inline]
+#[inline(always)]
 #[tactic(auto, unfolding(crate::specs::Effect::effect))]
 pub fn register(regs: &mut Regs, form: &Form, op: RegOp) -> Next
-    ensures { (pc : ℕ) → SettlesAt pc result regs.old regs.new
+    ensures { (pc : ℕ) (why : Reason) → SettlesAt pc result why regs.old regs.new
         (effect (Reg op form.now.rd form.now.rs1 form.now.rs2) 4) }
 {
     let value = register_result(op, first(regs, form), second(regs, form));

@@ -1,52 +1,35 @@
 // One instruction over any memory.
-ghost use Rattle.std.specs.Prelude.{ℕ};
+ghost use Rattle.std.specs.Prelude.{◌≡◌, ℕ};
 ghost use Rattle.dos_world.specs.World.{World, with_pc};
+ghost use Rattle.rv_form.specs.Forms.{IsFormOf};
 ghost use Rattle.rv_exec.specs.Over.{one_in, world_answers};
-ghost use Rattle.rv_exec.specs.Follows.{Follows};
+ghost use Rattle.rv_exec.specs.Follows.{Follows, word_at};
 ghost use Rattle.rv_exec.specs.Going.{arrived, went};
 ghost use Rattle.rv_exec.specs.Runs.{Runs, Steps};
 ghost use Rattle.rv_exec.specs.Step.{step};
 
 use crate::form_perform::{arrive, perform_form};
 use crate::{Memory, Next, Went};
-use dos_world::Regs;
-use rv_form::{Memo, form_of};
+use dos_world::{Reason, Regs};
+use rv_form::{Form, form_of};
 
 /// The word at pc is fetched and decoded, and its instruction done. A lone halfword, whose low two
 /// bits aren't 11, has none of the opcodes, so it is illegal like any other word without one.
 #[inline(always)]
-fn fetch_and_perform<M: Memory>(regs: &mut Regs, memory: &mut M, pc: u32) -> Next
+fn fetch_and_perform<M: Memory>(regs: &mut Regs, memory: &mut M, pc: u32, why: &mut Reason) -> Next
     ensures { (f : M.Fixed) (t : ℕ) (w : World) → M.shows memory.old f t w
         → Follows (M.shows memory.new f t) w (with_pc regs.old pc) (arrived regs.new pc result)
-        (went result) (one_in (world_answers t) (with_pc regs.old pc) w) }
+        (went result why.new) (one_in (world_answers t) (with_pc regs.old pc) w) }
 {
     match memory.fetch_word(pc) {
         Ok(word) => {
             let form = form_of(word);
-            perform_form(regs, memory, &form, pc)
+            perform_form(regs, memory, &form, pc, why)
         }
-        Err(reason) => Next::Not(reason),
-    }
-}
-
-/// The same, by the form that is remembered of the word.
-#[inline(always)]
-fn fetch_and_perform_known<M: Memory>(
-    regs: &mut Regs,
-    memory: &mut M,
-    memo: &mut Memo,
-    pc: u32,
-) -> Next
-    ensures { (f : M.Fixed) (t : ℕ) (w : World) → M.shows memory.old f t w
-        → Follows (M.shows memory.new f t) w (with_pc regs.old pc) (arrived regs.new pc result)
-        (went result) (one_in (world_answers t) (with_pc regs.old pc) w) }
-{
-    match memory.fetch_word(pc) {
-        Ok(word) => {
-            let form = memo.form(pc, word);
-            perform_form(regs, memory, form, pc)
+        Err(reason) => {
+            *why = reason;
+            Next::Not
         }
-        Err(reason) => Next::Not(reason),
     }
 }
 
@@ -66,18 +49,27 @@ pub fn one<M: Memory>(regs: &mut Regs, memory: &mut M) -> Went
         → Steps (M.shows memory.new f t) w t regs.new budget result (step w t) }
 {
     let pc = regs.pc();
-    let next = fetch_and_perform(regs, memory, pc);
-    arrive(regs, pc, next)
+    let mut why = Reason::Service;
+    let next = fetch_and_perform(regs, memory, pc, &mut why);
+    arrive(regs, pc, next, why)
 }
 
-/// One instruction at pc, which stands beside the registers, and where it leads. It is what `one`
-/// does with pc in the registers, by the form that the memo has of its word.
+/// One instruction at pc, which stands beside the registers, by the form of the word that a fetch
+/// finds there, and where it leads. It is what `one` does with pc in the registers; where it leads
+/// nowhere, `why` is the reason.
 #[inline(always)]
-pub fn one_known<M: Memory>(regs: &mut Regs, memory: &mut M, memo: &mut Memo, pc: u32) -> Next
-    ensures { (f : M.Fixed) (t : ℕ) (w : World) (budget : ℕ)
+pub fn one_known<M: Memory>(
+    regs: &mut Regs,
+    memory: &mut M,
+    form: &Form,
+    pc: u32,
+    why: &mut Reason,
+) -> Next
+    ensures { (f : M.Fixed) (t : ℕ) (w : World) (budget word : ℕ) → IsFormOf word form.now
+        → word_at w t pc ≡ Ok word
         → Runs (M.shows memory.old f t) w t (with_pc regs.old pc) budget
-        → Steps (M.shows memory.new f t) w t (arrived regs.new pc result) budget (went result)
-        (step w t) }
+        → Steps (M.shows memory.new f t) w t (arrived regs.new pc result) budget
+        (went result why.new) (step w t) }
 {
-    fetch_and_perform_known(regs, memory, memo, pc)
+    perform_form(regs, memory, form, pc, why)
 }

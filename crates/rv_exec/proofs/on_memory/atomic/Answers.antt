@@ -10,8 +10,8 @@ use Rattle.rv_exec.proofs.on_memory.atomic.Goals as goal
 pub returns-in_default : goal.returns-in_default
 returns-in_default g c = λ pc f t w shows.
     subst (λ (e : Effect). Follows (g.M.Memory.shows c.exchange.new.memory f t) w (with_pc
-    c.args.regs.now pc) (arrived c.exchange.new.regs pc c.exchange.result) (went
-    c.exchange.result) (effect_in (world_answers t) w e))
+    c.args.regs.now pc) (arrived c.exchange.new.regs pc c.exchange.result)
+    (went c.exchange.result c.exchange.new.why) (effect_in (world_answers t) w e))
     (ap (λ x. exchange c.args.form.now.rd x (λ old. combined c.args.op old c.second-value.result)
     (onward 4 (with_pc c.args.regs.now pc))) c.first-address.ensures
     ∙ ap (λ x. exchange c.args.form.now.rd (get c.args.regs.now c.args.form.now.rs1) (λ old.
@@ -23,8 +23,8 @@ returns-in_default g c = λ pc f t w shows.
 pub returns-in-LrW : goal.returns-in-LrW
 returns-in-LrW g c = λ pc f t w shows.
     subst (λ (e : Effect). Follows (g.M.Memory.shows c.load_reserved.new.memory f t) w (with_pc
-    c.args.regs.now pc) (arrived c.load_reserved.new.regs pc c.load_reserved.result) (went
-    c.load_reserved.result) (effect_in (world_answers t) w e))
+    c.args.regs.now pc) (arrived c.load_reserved.new.regs pc c.load_reserved.result)
+    (went c.load_reserved.result c.load_reserved.new.why) (effect_in (world_answers t) w e))
     (ap (λ x. link c.args.form.now.rd x (onward 4 (with_pc c.args.regs.now pc)))
     c.first-address.ensures
     ∙ ap (λ o. atomic o c.args.form.now.rd (get c.args.regs.now c.args.form.now.rs1) (get
@@ -37,7 +37,7 @@ returns-in-ScW g c = λ pc f t w shows.
     let r = onward 4 (with_pc c.args.regs.now pc) in
     subst (λ (e : Effect). Follows (g.M.Memory.shows c.store_conditional.new.memory f t) w (with_pc
     c.args.regs.now pc) (arrived c.store_conditional.new.regs pc c.store_conditional.result)
-    (went c.store_conditional.result) (effect_in (world_answers t) w e))
+    (went c.store_conditional.result c.store_conditional.new.why) (effect_in (world_answers t) w e))
     (ap (λ x. conditional c.args.form.now.rd x c.second-value.result (is_held r.held x) r)
     c.first-address.ensures
     ∙ ap (λ x. conditional c.args.form.now.rd (get c.args.regs.now c.args.form.now.rs1) x (is_held

@@ -13,11 +13,12 @@ returns-in-Ok g c = λ f t w shows.
     let fetched = c.in-Ok.ensures f t w shows in
     let at = with_pc c.args.regs.now c.args.pc in
     let after = arrived c.perform_form.new.regs c.args.pc c.perform_form.result in
+    let answer = went c.perform_form.result c.perform_form.new.why in
     subst (λ (o : Result (Registers × World) Reason). Follows
-    (g.M.Memory.shows c.perform_form.new.memory f t) w at after (went c.perform_form.result) o)
+    (g.M.Memory.shows c.perform_form.new.memory f t) w at after answer o)
     (sym (one_word w t at c.in-Ok.word fetched.1))
     (of_form (g.M.Memory.shows c.perform_form.new.memory f t) w t at after c.in-Ok.word
-    c.form_of-form.result (went c.perform_form.result) c.form_of-form.ensures
+    c.form_of-form.result answer c.form_of-form.ensures
     (c.perform_form.ensures f t w fetched.0))
 
 pub returns-in-Err : goal.returns-in-Err
