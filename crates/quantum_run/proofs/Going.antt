@@ -1,5 +1,5 @@
 -- A run on a memory, by one instruction more.
-use Rattle.std.proofs.Common.{ℕ, suc, ◌-◌, ◌<◌, ◌≤◌, ◌≡◌, refl, sym, ap, ◌∙◌, Some, Result, Ok, Err, arith}
+use Rattle.std.proofs.Common.{ℕ, suc, ◌-◌, ◌<◌, ◌≤◌, ◌≡◌, refl, sym, ap, ◌∙◌, Option, Some, Result, Ok, Err, arith}
 use Rattle.dos_world.specs.World.{World, Registers}
 use Rattle.dos_world.specs.declared.Reason.{Reason}
 use Rattle.rv_exec.specs.declared.Went.TheVariants.{Step, Stop}
@@ -53,3 +53,25 @@ goes-stopped before after w t r r' budget left reason one reached =
       reaches = record { now = reached.now; ran = reached.ran; runs = q.1 };
       stops = is ∙ ap Err (Stop-is cause reason (sym q.0));
     }
+
+-- what shows less shows the same run
+pub reaches-shown : (before after : World → Type 0) (w : World) (t : ℕ) (r : Registers)
+    (budget left : ℕ) → ((u : World) → before u → after u)
+    → Reaches before w t r budget left → Reaches after w t r budget left
+reaches-shown before after w t r budget left shows reached = record {
+  now = reached.now;
+  ran = reached.ran;
+  runs = record {
+    shown = shows reached.now reached.runs.shown;
+    thread = reached.runs.thread;
+  };
+}
+
+pub goes-shown : (before after : World → Type 0) (w : World) (t : ℕ) (r : Registers)
+    (budget left : ℕ) (stop : Option Reason) → ((u : World) → before u → after u)
+    → Goes before w t r budget left stop → Goes after w t r budget left stop
+unfolding reaches-shown
+goes-shown before after w t r budget left stop shows goes = record {
+  reaches = reaches-shown before after w t r budget left shows goes.reaches;
+  stops = goes.stops;
+}

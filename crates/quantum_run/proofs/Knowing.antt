@@ -1,22 +1,22 @@
--- Words that are known stay so where another word of their pages is written.
-use Rattle.std.proofs.Common.{ℕ, zero, suc, ◌+◌, ◌*◌, ◌/◌, ◌%◌, ◌^◌, ◌<◌, ◌≤◌, ◌≡◌, ◌≢◌, ◌⊎◌, inl, inr, refl, sym, ap, ◌∙◌, List, [], ◌∷◌, length, take, drop, set, slice_get, replicate, Option, Some, Result, Ok, arith, subst}
-use Rattle.std.specs.Prelude.{slice_index_or}
+-- Words that are known stay so, as pages are found and written; and a memo that learns one more.
+use Rattle.std.proofs.Common.{ℕ, zero, suc, ◌+◌, ◌*◌, ◌/◌, ◌%◌, ◌^◌, ◌<◌, ◌≤◌, ◌≡◌, ◌≢◌, ◌⊎◌, inl, inr, refl, sym, ap, ◌∙◌, List, [], ◌∷◌, length, take, drop, set, Bool, true, false, replicate, Option, Ok, arith, subst, eqb, eq-eqb}
+use Rattle.std.specs.Prelude.{All, slice_index_or, ◌==◌, ◌||◌}
+use Rattle.std.specs.List.{list_any}
 use Rattle.std.proofs.lemmas.Bool.{cases_lt}
+use Rattle.std.proofs.lemmas.List.{get_or-set_other, get_or-set_same, get_or_past, set_past}
+use Rattle.std.proofs.lemmas.List.Elements.{All-set, All-nil, All-cons, All-replicate}
+use Rattle.std.proofs.lemmas.Bool.Decides.{eqb_tells}
 use Rattle.dos_world.specs.World.{World}
 use Rattle.dos_world.specs.Reach.{width, written, bytes_of, number_of}
 use Rattle.dos_world.specs.declared.Access.TheVariants.{Fetch}
-use Rattle.dos_world.specs.declared.Entry.{Entry}
-use Rattle.dos_world.specs.declared.Owner.{Owner}
-use Rattle.dos_world.specs.declared.Reason.{Reason}
 use Rattle.dos_world.specs.declared.Size.{Size}
 use Rattle.dos_world.specs.declared.Size.TheVariants.{Byte, Half, Word}
 use Rattle.page_store.specs.Store.{joined, number_at}
-use Rattle.rv_exec.specs.Step.{◌>>=◌}
 use Rattle.rv_exec.specs.Follows.{word_at}
-use Rattle.rv_exec.proofs.Keeps.{bind_ok}
-use Rattle.quantum_run.specs.declared.running.Known.{Known}
-use Rattle.quantum_run.specs.Finding.{frame_for, place_in}
-use Rattle.quantum_run.specs.Knowing.{IsWord, AreKnown, AreUnknown, word_place}
+use Rattle.rv_form.specs.Notes.{Note, AreBelow, note_at, nothing, first_base}
+use Rattle.quantum_run.specs.declared.slot.Slot.{Slot}
+use Rattle.quantum_run.specs.Finding.{AreFramesOf, place_in}
+use Rattle.quantum_run.specs.Knowing.{AreApart, AreKnown, IsBase, IsKnown, IsNoCode, KeepsKnown, empty_slot, no_base, slot_of}
 use Rattle.quantum_run.specs.Showing.{Still, Holds}
 use Rattle.quantum_run.proofs.Places.{length-bytes}
 use Rattle.quantum_run.proofs.Reaching.{word-found}
@@ -46,194 +46,239 @@ beside-written m n p (c ∷ new) xs (inr h) =
     beside-written m n (suc p) new (set xs p c) (inr (omega arith))
     ∙ beside-set m n p c xs (inr h)
 
--- ---- places
+-- an aligned access lies in its page
+within-page : (address : ℕ) (size : Size) → address % width size ≡ 0
+    → address % 4096 + width size ≤ 4096
+within-page address Byte h = omega arith
+within-page address Half h = omega (arith, h)
+within-page address Word h = omega (arith, h)
 
-set-get : (xs : List Known) (p i : ℕ) (y x : Known) → slice_get (set xs p y) i ≡ Some x
-    → ((i ≡ p) × (y ≡ x)) ⊎ ((i ≢ p) × (slice_get xs i ≡ Some x))
-set-get [] p i y x h = absurd (grind arith)
-set-get (z ∷ xs) zero zero y x h = inl (refl, cc)
-set-get (z ∷ xs) zero (suc i) y x h = inr (omega arith, h)
-set-get (z ∷ xs) (suc p) zero y x h = inr (omega arith, h)
-set-get (z ∷ xs) (suc p) (suc i) y x h = by_rest (set-get xs p i y x h)
+-- the bytes of a word, and those of an access in another frame
+apart-frames : (frame f p a w : ℕ) → frame ≢ f → p + w ≤ 4096 → a + 4 ≤ 4096
+    → (4096 * frame + p + w ≤ 4096 * f + a) ⊎ (4096 * f + a + 4 ≤ 4096 * frame + p)
+apart-frames frame f p a w other fits small = by_order (cases_lt frame f)
   where
-    by_rest : ((i ≡ p) × (y ≡ x)) ⊎ ((i ≢ p) × (slice_get xs i ≡ Some x))
-        → ((suc i ≡ suc p) × (y ≡ x)) ⊎ ((suc i ≢ suc p) × (slice_get xs i ≡ Some x))
-    by_rest (inl q) = inl (ap suc q.0, q.1)
-    by_rest (inr q) = let other = q.0 in inr (omega arith, q.1)
+    by_order : (frame < f) ⊎ (f ≤ frame)
+        → (4096 * frame + p + w ≤ 4096 * f + a) ⊎ (4096 * f + a + 4 ≤ 4096 * frame + p)
+    by_order (inl h) = inl (omega (arith, h, fits))
+    by_order (inr h) = inr (omega (arith, h, other, small))
 
-replicate-get : (n i : ℕ) (y x : Known) → slice_get (replicate n y) i ≡ Some x → y ≡ x
-replicate-get zero i y x h = absurd (grind arith)
-replicate-get (suc n) zero y x h = cc
-replicate-get (suc n) (suc i) y x h = replicate-get n i y x h
+-- ---- slots
 
--- an address of another place at each place
-pub none-known : (known : List Known)
-    → known ≡ set (replicate 1024 (record { address = 0; word = 0 })) 0
-    (record { address = 4; word = 0 }) → AreUnknown known
-none-known known is place k at = by_place
-    (set-get (replicate 1024 (record { address = 0; word = 0 })) 0 place
-    (record { address = 4; word = 0 }) k (ap (λ xs. slice_get xs place) (sym is) ∙ at))
+-- a slot that has found a page is one of them
+slot-there : (slots : List Slot) (address : ℕ) → address < 2 ^ 32
+    → (slot_of slots address).page ≡ address / 4096 → address / 4096 % 64 < length slots
+slot-there slots address fits found =
+    by_order (cases_lt (address / 4096 % 64) (length slots))
   where
-    by_place : ((place ≡ 0) × (record { address = 4; word = 0 } ≡ k))
-        ⊎ ((place ≢ 0) × (slice_get (replicate 1024 (record { address = 0; word = 0 })) place
-        ≡ Some k))
-        → word_place k.address ≢ place
-    by_place (inl q) here = let four = ap (λ (x : Known). x.address) q.1 in
-        let first = q.0 in absurd (omega (arith, four, first, here))
-    by_place (inr q) here =
-        let nought = ap (λ (x : Known). x.address) (replicate-get 1024 place _ k q.1) in
-        let other = q.0 in
-        absurd (other (omega (arith, nought, here)))
+    by_order : (address / 4096 % 64 < length slots) ⊎ (length slots ≤ address / 4096 % 64)
+        → address / 4096 % 64 < length slots
+    by_order (inl h) = h
+    by_order (inr h) =
+        let none : (slot_of slots address).page ≡ 0xFFFFFFFF =
+        ap (λ (s : Slot). s.page) (get_or_past slots (address / 4096 % 64) empty_slot h) in
+        absurd (omega (arith, none, found, fits))
 
-pub get-at : (xs : List Known) (i : ℕ) (none : Known) → i < length xs
-    → slice_get xs i ≡ Some (slice_index_or xs i none)
-get-at [] i none h = absurd (omega arith)
-get-at (x ∷ xs) zero none h = refl
-get-at (x ∷ xs) (suc i) none h = get-at xs i none (omega arith)
+-- a slot that has found nothing, whatever stands for slots that aren't there
+pub empty-page : (slots : List Slot) (place : ℕ) (none : Slot)
+    → (slice_index_or slots place none).page ≡ 0xFFFFFFFF
+    → (slice_index_or slots place empty_slot).page ≡ 0xFFFFFFFF
+empty-page [] place none is = refl
+empty-page (slot ∷ slots) zero none is = is
+empty-page (slot ∷ slots) (suc place) none is = empty-page slots place none is
 
--- A word at one place of a page, and some of the bytes of a word at another place, whichever pages
--- they are: one lies before the other.
-sides : (frame f p q r w : ℕ) → p < 1024 → q < 1024 → r + w ≤ 4 → 0 < w → q ≢ p
-    → (4096 * frame + (4 * p + r) + w ≤ 4096 * f + 4 * q)
-    ⊎ (4096 * f + 4 * q + 4 ≤ 4096 * frame + (4 * p + r))
-sides frame f p q r w hp hq within some other =
-    by_order (cases_lt (4096 * frame + (4 * p + r)) (4096 * f + 4 * q))
+-- no slot has this frame
+none-more : (slot : Slot) (slots : List Slot) (frame : ℕ) (b : Bool) → (slot.frame == frame) ≡ b
+    → (b || list_any (λ (s : Slot). s.frame == frame) slots) ≡ false
+    → (b ≡ false) × (list_any (λ (s : Slot). s.frame == frame) slots ≡ false)
+none-more slot slots frame true is q = cc
+none-more slot slots frame false is q = (refl, q)
+
+pub no-frame : (slots : List Slot) (frame : ℕ)
+    → list_any (λ (slot : Slot). slot.frame == frame) slots ≡ false → IsNoCode slots frame
+no-frame [] frame none = All-nil (λ (slot : Slot). slot.frame ≢ frame)
+no-frame (slot ∷ slots) frame none =
+    let more = none-more slot slots frame (slot.frame == frame) refl none in
+    All-cons (λ (s : Slot). s.frame ≢ frame) slot slots
+    (λ same. let yes = eq-eqb slot.frame frame same in let no = more.0 in cc)
+    (no-frame slots frame more.1)
+
+-- where nothing is found for stores
+pub apart-none : (fetched : List Slot) (n : ℕ) → AreApart fetched (replicate n empty_slot)
+apart-none fetched n =
+    All-replicate (λ (slot : Slot). slot.page < 2 ^ 20 → IsNoCode fetched slot.frame) n empty_slot
+    (λ h. absurd (omega (arith, h)))
+
+-- one more slot of a fetch, whose frame no store finds
+pub apart-fetched : (fetched stored : List Slot) (place : ℕ) (slot : Slot)
+    → AreApart fetched stored → IsNoCode stored slot.frame
+    → AreApart (set fetched place slot) stored
+apart-fetched fetched stored place slot apart free k d h small =
+    All-set (λ (s : Slot). s.frame ≢ (slice_index_or stored k d).frame) fetched place slot
+    (λ same. free k d h (sym same)) (apart k d h small)
+
+-- one more slot for stores, of a frame that no fetch has found
+pub apart-stored : (fetched stored : List Slot) (place : ℕ) (slot : Slot)
+    → AreApart fetched stored → IsNoCode fetched slot.frame
+    → AreApart fetched (set stored place slot)
+apart-stored fetched stored place slot apart free =
+    All-set (λ (s : Slot). s.page < 2 ^ 20 → IsNoCode fetched s.frame) stored place slot
+    (λ small. free) apart
+
+-- ---- bases
+
+pub base-none : (base : ℕ) → base ≡ no_base → IsBase base
+base-none base none = record {
+  given = λ some. absurd (some none);
+  room = subst (λ (b : ℕ). b ≤ 2 ^ 63) (sym none) (omega arith);
+}
+
+-- ---- what stays known
+
+pub keeps-same : (base base' : ℕ) (fetched fetched' : List Slot)
+    (pages pages' : List (Option (List ℕ)))
+    → base' ≡ base → fetched' ≡ fetched → pages' ≡ pages
+    → KeepsKnown base fetched pages base' fetched' pages'
+keeps-same base base' fetched fetched' pages pages' b f p notes are =
+    subst (λ (x : ℕ). AreKnown x fetched' pages' notes) (sym b)
+    (subst (λ (x : List Slot). AreKnown base x pages' notes) (sym f)
+    (subst (λ (x : List (Option (List ℕ))). AreKnown base fetched x notes) (sym p) are))
+
+pub keeps-none : (base base' : ℕ) (fetched fetched' : List Slot)
+    (pages pages' : List (Option (List ℕ)))
+    → base' ≡ no_base → KeepsKnown base fetched pages base' fetched' pages'
+keeps-none base base' fetched fetched' pages pages' none notes are some = absurd (some none)
+
+-- a page more that a fetch finds, in a slot that had none
+pub keeps-found : (base : ℕ) (fetched : List Slot) (pages : List (Option (List ℕ)))
+    (place : ℕ) (slot : Slot) → (slice_index_or fetched place empty_slot).page ≡ 0xFFFFFFFF
+    → KeepsKnown base fetched pages base (set fetched place slot) pages
+keeps-found base fetched pages place slot empty notes are some at address fits key =
+    by_word (are some at address fits key)
   where
-    by_order : (4096 * frame + (4 * p + r) < 4096 * f + 4 * q)
-        ⊎ (4096 * f + 4 * q ≤ 4096 * frame + (4 * p + r))
-        → (4096 * frame + (4 * p + r) + w ≤ 4096 * f + 4 * q)
-        ⊎ (4096 * f + 4 * q + 4 ≤ 4096 * frame + (4 * p + r))
-    by_order (inl h) = inl (omega (arith, h, within))
-    by_order (inr h) = inr (omega (arith, h, within, some, hp, hq, other))
+    by_word : IsKnown fetched pages address (note_at notes at).word
+        → IsKnown (set fetched place slot) pages address (note_at notes at).word
+    by_word known =
+        let other : address / 4096 % 64 ≢ place = λ here.
+        let page = ap (λ (i : ℕ). (slice_index_or fetched i empty_slot).page) here in
+        let found = known.found in
+        omega (arith, page, found, empty, fits) in
+        let same : slot_of (set fetched place slot) address ≡ slot_of fetched address =
+        get_or-set_other fetched place (address / 4096 % 64) slot empty_slot other in
+        record {
+          aligned = known.aligned;
+          full = known.full;
+          found = ap (λ (s : Slot). s.page) same ∙ known.found;
+          read = known.read ∙ sym (ap (λ (s : Slot).
+              number_at (joined pages) (place_in s.frame address) Word) same);
+        }
 
-within-word : (address : ℕ) (size : Size) → address % width size ≡ 0
-    → (address % 4 + width size ≤ 4) × (0 < width size)
-within-word address Byte h = (omega arith, omega arith)
-within-word address Half h = (omega (arith, h), omega arith)
-within-word address Word h = (omega (arith, h), omega arith)
-
-apart : (frame f address a : ℕ) (size : Size) → address % width size ≡ 0 → a % 4 ≡ 0
-    → word_place a ≢ word_place address
-    → (place_in frame address + width size ≤ place_in f a)
-    ⊎ (place_in f a + 4 ≤ place_in frame address)
-apart frame f address a size aligned four other =
-    let here : address % 4096 ≡ 4 * (address / 4 % 1024) + address % 4 = omega arith in
-    let there : a % 4096 ≡ 4 * (a / 4 % 1024) = omega (arith, four) in
-    let small : address / 4 % 1024 < 1024 = omega arith in
-    let small_too : a / 4 % 1024 < 1024 = omega arith in
-    let word = within-word address size aligned in
-    by_side here there
-    (sides frame f (address / 4 % 1024) (a / 4 % 1024) (address % 4) (width size) small small_too
-    word.0 word.1 other)
+-- what is written in a frame that no fetch has found
+pub keeps-written : (base : ℕ) (fetched : List Slot) (pages new : List (Option (List ℕ)))
+    (frame address : ℕ) (size : Size) (value : ℕ) → address % width size ≡ 0
+    → joined new ≡ written (joined pages) (place_in frame address) (bytes_of (width size) value)
+    → IsNoCode fetched frame → KeepsKnown base fetched pages base fetched new
+keeps-written base fetched pages new frame address size value aligned is free notes are some at a
+    fits key = by_word (are some at a fits key)
   where
-    by_side : address % 4096 ≡ 4 * (address / 4 % 1024) + address % 4
-        → a % 4096 ≡ 4 * (a / 4 % 1024)
-        → (4096 * frame + (4 * (address / 4 % 1024) + address % 4) + width size
-        ≤ 4096 * f + 4 * (a / 4 % 1024))
-        ⊎ (4096 * f + 4 * (a / 4 % 1024) + 4
-        ≤ 4096 * frame + (4 * (address / 4 % 1024) + address % 4))
-        → (place_in frame address + width size ≤ place_in f a)
-        ⊎ (place_in f a + 4 ≤ place_in frame address)
-    by_side here there (inl h) =
-        inl (subst (λ x. 4096 * frame + x + width size ≤ 4096 * f + a % 4096) (sym here)
-        (subst (λ y. 4096 * frame + (4 * (address / 4 % 1024) + address % 4) + width size
-        ≤ 4096 * f + y) (sym there) h))
-    by_side here there (inr h) =
-        inr (subst (λ x. 4096 * f + a % 4096 + 4 ≤ 4096 * frame + x) (sym here)
-        (subst (λ y. 4096 * f + y + 4
-        ≤ 4096 * frame + (4 * (address / 4 % 1024) + address % 4)) (sym there) h))
+    by_word : IsKnown fetched pages a (note_at notes at).word
+        → IsKnown fetched new a (note_at notes at).word
+    by_word known =
+        let f : ℕ = (slot_of fetched a).frame in
+        let other : f ≢ frame = free (a / 4096 % 64) empty_slot
+        (slot-there fetched a fits known.found) in
+        let fits_page = within-page address size aligned in
+        let four = known.aligned in
+        let small : a % 4096 + 4 ≤ 4096 = omega (arith, four) in
+        record {
+          aligned = known.aligned;
+          full = known.full;
+          found = known.found;
+          read = known.read ∙ sym (stays f (by_length f
+              (apart-frames frame f (address % 4096) (a % 4096) (width size)
+              (λ same. other (sym same)) fits_page small)));
+        }
+      where
+        by_length : (f : ℕ)
+            → (place_in frame address + width size ≤ place_in f a)
+            ⊎ (place_in f a + 4 ≤ place_in frame address)
+            → (place_in frame address + length (bytes_of (width size) value) ≤ place_in f a)
+            ⊎ (place_in f a + 4 ≤ place_in frame address)
+        by_length f (inl h) = inl (omega (arith, h, length-bytes (width size) value))
+        by_length f (inr h) = inr h
 
-module _ (t : ℕ) (owners : List Owner) (entries : List (ℕ × Entry)) where
-  pub unknown-known : (pages : List (Option (List ℕ))) (known : List Known) → AreUnknown known
-      → AreKnown t owners entries pages known
-  unknown-known pages known none place k at here = absurd (none place k at here)
+        stays : (f : ℕ)
+            → (place_in frame address + length (bytes_of (width size) value) ≤ place_in f a)
+            ⊎ (place_in f a + 4 ≤ place_in frame address)
+            → number_at (joined new) (place_in f a) Word ≡ number_at (joined pages) (place_in f a) Word
+        stays f out = ap (λ bytes. number_at bytes (place_in f a) Word) is
+            ∙ ap number_of (beside-written (place_in f a) 4 (place_in frame address)
+            (bytes_of (width size) value) (joined pages) out)
 
-  -- one more that is known
-  pub known-more : (pages : List (Option (List ℕ))) (known : List Known) (address word : ℕ)
-      → AreKnown t owners entries pages known → IsWord t owners entries pages address word
-      → AreKnown t owners entries pages
-      (set known (word_place address) (record { address = address; word = word }))
-  known-more pages known address word are is place k at here =
-      by_place (set-get known (word_place address) place _ k at)
-    where
-      by_place : ((place ≡ word_place address) × (record { address = address; word = word } ≡ k))
-          ⊎ ((place ≢ word_place address) × (slice_get known place ≡ Some k))
-          → IsWord t owners entries pages k.address k.word
-      by_place (inl q) =
-          subst (λ (x : Known). IsWord t owners entries pages x.address x.word) q.1 is
-      by_place (inr q) = are place k q.1 here
+-- ---- a memo that learns
 
-  -- what is written at an address leaves what is known but at its place
-  pub known-written : (pages new : List (Option (List ℕ))) (known : List Known)
-      (frame address : ℕ) (size : Size) (value : ℕ) → address % width size ≡ 0
-      → joined new ≡ written (joined pages) (place_in frame address) (bytes_of (width size) value)
-      → AreKnown t owners entries pages known
-      → AreKnown t owners entries new
-      (set known (word_place address) (record { address = (address + 4) % 2 ^ 32; word = 0 }))
-  known-written pages new known frame address size value aligned is are place k at here =
-      by_place (set-get known (word_place address) place _ k at)
-    where
-      by_place : ((place ≡ word_place address)
-          × (record { address = (address + 4) % 2 ^ 32; word = 0 } ≡ k))
-          ⊎ ((place ≢ word_place address) × (slice_get known place ≡ Some k))
-          → IsWord t owners entries new k.address k.word
-      by_place (inl q) = let next = ap (λ (x : Known). x.address) q.1 in
-          let there = q.0 in
-          absurd (omega (arith, next, there, here))
-      by_place (inr q) =
-          let known_is = are place k q.1 here in
-          let at = bind_ok (frame_for t owners entries Fetch k.address) _ k.word known_is.found in
-          let other = q.0 in
-          record {
-            aligned = known_is.aligned;
-            full = known_is.full;
-            found = ap (λ (x : Result ℕ Reason).
-                x >>= λ f. Ok (number_at (joined new) (place_in f k.address) Word)) at.1
-                ∙ ap Ok (stays at.0 k.address known_is.aligned (λ e. other (sym here ∙ e)))
-                ∙ at.2;
-          }
-        where
-          by_length : (f a : ℕ)
-              → (place_in frame address + width size ≤ place_in f a)
-              ⊎ (place_in f a + 4 ≤ place_in frame address)
-              → (place_in frame address + length (bytes_of (width size) value) ≤ place_in f a)
-              ⊎ (place_in f a + 4 ≤ place_in frame address)
-          by_length f a (inl h) = inl (omega (arith, h, length-bytes (width size) value))
-          by_length f a (inr h) = inr h
+note-past : (notes : List Note) (place base : ℕ) → AreBelow base notes → 0 < base
+    → (note_at notes place).key < base
+note-past notes place base below some = by_order (cases_lt place (length notes))
+  where
+    by_order : (place < length notes) ⊎ (length notes ≤ place) → (note_at notes place).key < base
+    by_order (inl h) = below place nothing h
+    by_order (inr h) = subst (λ (n : Note). n.key < base)
+        (sym (get_or_past notes place nothing h)) some
 
-          stays : (f a : ℕ) → a % 4 ≡ 0 → word_place a ≢ word_place address
-              → number_at (joined new) (place_in f a) Word
-              ≡ number_at (joined pages) (place_in f a) Word
-          stays f a four other = ap (λ bytes. number_at bytes (place_in f a) Word) is
-              ∙ ap number_of (beside-written (place_in f a) 4 (place_in frame address)
-              (bytes_of (width size) value) (joined pages)
-              (by_length f a (apart frame f address a size aligned four other)))
+-- nothing is known by a base above all keys
+pub known-begun : (base : ℕ) (fetched : List Slot) (pages : List (Option (List ℕ)))
+    (notes : List Note) → AreBelow base notes → first_base ≤ base
+    → AreKnown base fetched pages notes
+known-begun base fetched pages notes below first some place address fits key =
+    let at = note-past notes place base below (omega (arith, first)) in
+    absurd (omega (arith, at, key))
+
+-- one word more
+pub known-more : (base : ℕ) (fetched : List Slot) (pages : List (Option (List ℕ)))
+    (notes : List Note) (place address word : ℕ) → AreKnown base fetched pages notes
+    → IsKnown fetched pages address word
+    → AreKnown base fetched pages (set notes place (record { key = base + address; word = word }))
+known-more base fetched pages notes place address word are known some at a fits key =
+    by_place (cases_lt place (length notes)) (eqb_tells at place)
+  where
+    note : Note
+    note = record { key = base + address; word = word }
+
+    by_old : note_at (set notes place note) at ≡ note_at notes at
+        → IsKnown fetched pages a (note_at (set notes place note) at).word
+    by_old same = subst (λ (n : Note). IsKnown fetched pages a n.word) (sym same)
+        (are some at a fits (ap (λ (n : Note). n.key) (sym same) ∙ key))
+
+    by_new : note_at (set notes place note) at ≡ note
+        → IsKnown fetched pages a (note_at (set notes place note) at).word
+    by_new same =
+        let sums : base + address ≡ base + a = ap (λ (n : Note). n.key) (sym same) ∙ key in
+        let here : address ≡ a = omega (arith, sums) in
+        subst (λ (n : Note). IsKnown fetched pages a n.word) (sym same)
+        (subst (λ (x : ℕ). IsKnown fetched pages x word) here known)
+
+    by_place : (place < length notes) ⊎ (length notes ≤ place)
+        → ((eqb at place ≡ true) × (at ≡ place)) ⊎ ((eqb at place ≡ false) × (at ≢ place))
+        → IsKnown fetched pages a (note_at (set notes place note) at).word
+    by_place (inl there) (inl here) =
+        by_new (ap (λ (i : ℕ). note_at (set notes place note) i) here.1
+        ∙ get_or-set_same notes place note nothing there)
+    by_place (inr past) (inl here) =
+        by_old (ap (λ (ns : List Note). note_at ns at) (set_past notes place note past))
+    by_place (inl there) (inr other) =
+        by_old (get_or-set_other notes place at note nothing other.1)
+    by_place (inr past) (inr other) =
+        by_old (get_or-set_other notes place at note nothing other.1)
 
 -- ---- words
 
 -- a word that is known is what the flat world has there
 pub word-known : (fixed : Still) (pages : List (Option (List ℕ))) (t : ℕ) (w : World)
-    → Holds fixed pages t w → (address word : ℕ) → address < 2 ^ 32
-    → IsWord fixed.thread fixed.owners fixed.entries pages address word
-    → word_at w t address ≡ Ok word
-word-known fixed pages t w holds address word fits is =
-    let at = bind_ok (frame_for fixed.thread fixed.owners fixed.entries Fetch address) _ word
-    is.found in
-    word-found fixed pages t w holds address at.0 word is.aligned fits at.1 (Ok-is at.2) is.full
-  where
-    Ok-is : {a b : ℕ} → ◌≡◌ {A = Result ℕ Reason} (Ok a) (Ok b) → b ≡ a
-    Ok-is q = cc
-
--- and so is the word that a frame has that is found
-pub word-read : (t : ℕ) (owners : List Owner) (entries : List (ℕ × Entry))
-    (pages : List (Option (List ℕ))) (address word frame : ℕ) → address % 4 ≡ 0 → word % 4 ≡ 3
-    → frame_for t owners entries Fetch address ≡ Ok frame
-    → word ≡ number_at (joined pages) (place_in frame address) Word
-    → IsWord t owners entries pages address word
-word-read t owners entries pages address word frame aligned full found read = record {
-  aligned = aligned;
-  full = full;
-  found = ap (λ (x : Result ℕ Reason).
-      x >>= λ f. Ok (number_at (joined pages) (place_in f address) Word)) found
-      ∙ ap Ok (sym read);
-}
+    (fetched : List Slot) (address word : ℕ) → Holds fixed pages t w → address < 2 ^ 32
+    → AreFramesOf fixed.thread fixed.owners fixed.entries Fetch fetched
+    → IsKnown fetched pages address word → word_at w t address ≡ Ok word
+word-known fixed pages t w fetched address word holds fits frames known =
+    word-found fixed pages t w holds address (slot_of fetched address).frame word known.aligned fits
+    (frames (address / 4096 % 64) empty_slot (slot-there fetched address fits known.found) address
+    fits (sym known.found)) known.read known.full

@@ -2,7 +2,6 @@ pub mod Threads
 pub mod Own
 pub mod Places
 pub mod Reaching
-pub mod Knowing
 pub mod After
 pub mod Going
 pub mod Witness
@@ -13,3 +12,4 @@ pub mod Alike
 pub mod Packing
 pub mod Finishing
 pub mod Keeping
+pub mod Knowing

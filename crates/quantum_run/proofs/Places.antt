@@ -17,8 +17,9 @@ use Rattle.page_store.specs.Store.{Store as Frames, whole, joined, number_at}
 use Rattle.std.proofs.lemmas.List.Elements.{All-nil, All-cons, All-head, All-tail}
 use Rattle.page_store.proofs.Joined.{joined-number, joined-written}
 use Rattle.quantum_run.specs.Running.{AreMapped}
-use Rattle.quantum_run.specs.declared.running.Slot.{Slot}
+use Rattle.quantum_run.specs.declared.slot.Slot.{Slot}
 use Rattle.quantum_run.specs.Finding.{AreFramesOf, IsFrameOf, IsWriting, frame_by, frame_for, place_in}
+use Rattle.quantum_run.specs.Knowing.{empty_slot}
 use Rattle.quantum_run.specs.Pages.{is_here}
 
 -- ---- frames
@@ -58,12 +59,12 @@ found-within t s entries access address frame mapped h =
 
 -- slots that have found nothing are right
 pub none-found : (t : ℕ) (owners : List Owner) (entries : List (ℕ × Entry)) (access : Access)
-    (slots : List Slot) → slots ≡ replicate 64 (record { page = 0xFFFFFFFF; frame = 0 })
+    (slots : List Slot) → slots ≡ replicate 64 (empty_slot)
     → AreFramesOf t owners entries access slots
 none-found t owners entries access slots empty =
     let P : Slot → Type 0 = λ slot. IsFrameOf t owners entries access slot.page slot.frame in
-    All-same P slots (replicate 64 (record { page = 0xFFFFFFFF; frame = 0 })) empty
-    (All-replicate P 64 (record { page = 0xFFFFFFFF; frame = 0 })
+    All-same P slots (replicate 64 (empty_slot)) empty
+    (All-replicate P 64 (empty_slot)
     (λ address small here. absurd (omega (arith, small, here))))
 
 -- what a store finds, a claim finds too

@@ -17,7 +17,10 @@ use Rattle.page_store.specs.Store.{joined, number_at}
 use Rattle.rv_exec.specs.Step.{◌>>=◌, reached, place_or_reason, half_at}
 use Rattle.rv_exec.specs.Follows.{word_at}
 use Rattle.quantum_run.specs.Finding.{frame_by, frame_for, place_in}
-use Rattle.quantum_run.specs.Showing.{Still, Holds, ShowsBy}
+use Rattle.rv_form.specs.Notes.{Note}
+use Rattle.quantum_run.specs.declared.slot.Slot.{Slot}
+use Rattle.quantum_run.specs.Knowing.{KeepsKnown}
+use Rattle.quantum_run.specs.Showing.{Still, Holds, ShowsBy, ShowsKnown}
 
 pub reached-misaligned : (w : World) (t a : ℕ) (size : Size) (access : Access) → a % width size ≢ 0
     → reached w t a size access ≡ Err (Fault 7)
@@ -75,6 +78,19 @@ shows-stays old new fixed after pages left_pages f t w same kept is s = record {
   fixed_is = kept ∙ s.fixed_is;
   holds = subst (λ ps. Holds f.0 ps t w) (sym is) s.holds;
 }
+
+pub shows-known : {F : Type 0} (old new : Still) (fixed after : F)
+    (pages left_pages : List (Option (List ℕ))) (base left_base : ℕ) (fetched left : List Slot)
+    (f : (Still × F) × List Note) (t : ℕ) (w : World) → new ≡ old
+    → after ≡ fixed → left_pages ≡ pages
+    → KeepsKnown base fetched pages left_base left left_pages
+    → ShowsKnown old fixed pages base fetched f t w
+    → ShowsKnown new after left_pages left_base left f t w
+shows-known old new fixed after pages left_pages base left_base fetched left f t w same kept is
+    known s = record {
+      shows = shows-stays old new fixed after pages left_pages f.0 t w same kept is s.shows;
+      known = known f.1 s.known;
+    }
 
 -- ---- the word at pc
 

@@ -9,6 +9,7 @@ mod pages;
 mod run;
 mod running;
 mod slot;
+mod slots;
 
 pub use pack::{Pack, Shared, View, run_pack};
 pub use run::run_until_stop;

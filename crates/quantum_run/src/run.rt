@@ -1,11 +1,14 @@
 // The loop, over any memory and in place.
-ghost use Rattle.std.specs.Prelude.{◌≡◌, ◌<◌, ◌≤◌, ◌-◌, ℕ, Some, Err, MatchOption, length, map, is_some};
-ghost use Rattle.dos_world.specs.World.{World};
+ghost use Rattle.std.specs.Prelude.{◌≡◌, ◌<◌, ◌≤◌, ◌-◌, ℕ, List, Some, Err, MatchOption, length, map, is_some};
+ghost use Rattle.dos_world.specs.World.{World, with_pc};
 ghost use Rattle.page_store.specs.Store.{AreHome};
-ghost use Rattle.rv_exec.specs.Runs.{Runs};
+ghost use Rattle.rv_exec.specs.Runs.{Runs, Steps};
 ghost use Rattle.rv_exec.specs.Step.{step};
+ghost use Rattle.rv_form.specs.Notes.{Note};
+ghost use Rattle.quantum_run.specs.Knowing.{no_base};
 ghost use Rattle.quantum_run.specs.Pages.{AreOwn, AreReached, AreWithin, is_here, overlay};
 ghost use Rattle.quantum_run.specs.Running.{AreMapped, Goes, IsRunOf, after_steps, run_to, store_of};
+ghost use Rattle.quantum_run.specs.Showing.{ShowsBy, ShowsKnown, Still, still};
 
 use crate::lent::Lent;
 use crate::pages::{InPlace, Pages};
@@ -17,25 +20,27 @@ use rv_form::{Memo, place_after, place_of};
 use space_map::Space;
 use std::mem;
 
-/// One instruction whose word can't be known: by its halfwords, one after another. It is rare.
+/// One instruction whose word isn't known: by its halfwords, one after another. It is rare.
 #[cold]
 #[inline(never)]
-fn one_by_halves<P: Pages>(
-    regs: &mut Regs,
-    memory: &mut Running<'_, P>,
-    pc: u32,
-) -> Option<Reason>
+fn one_by_halves<P: Pages>(regs: &mut Regs, memory: &mut Running<'_, P>, pc: u32) -> Went
+    ensures { (f : (Still × P.Fixed) × List Note) (t : ℕ) (w : World) (budget : ℕ)
+        → Runs (ShowsKnown
+        (still memory.old.tid (P.owners memory.old.pages) memory.old.space.now.entries)
+        (P.fixed memory.old.pages) (P.pages memory.old.pages) memory.old.base memory.old.fetched f
+        t) w t (with_pc regs.old pc) budget
+        → Steps (ShowsKnown
+        (still memory.new.tid (P.owners memory.new.pages) memory.new.space.now.entries)
+        (P.fixed memory.new.pages) (P.pages memory.new.pages) memory.new.base memory.new.fetched f
+        t) w t regs.new budget result (step w t) }
 {
     regs.set_pc(pc);
-    match one(regs, memory) {
-        Went::Step => None,
-        Went::Stop(reason) => Some(reason),
-    }
+    one(regs, memory)
 }
 
 /// Instructions on a memory, each for one of the budget, until one stops or the budget is 0. While
 /// they run, pc stands beside the registers, and with it the place at which the memo may have its
-/// word.
+/// word. Nothing is known when they begin.
 #[inline(always)]
 fn go<P: Pages>(
     regs: &mut Regs,
@@ -43,6 +48,17 @@ fn go<P: Pages>(
     memo: &mut Memo,
     budget: &mut u32,
 ) -> Option<Reason>
+    requires { memory.old.base ≡ no_base }
+    ensures runs { (f : Still × P.Fixed) (t : ℕ) (w : World)
+        → Runs (ShowsBy
+        (still memory.old.tid (P.owners memory.old.pages) memory.old.space.now.entries)
+        (P.fixed memory.old.pages) (P.pages memory.old.pages) f t) w t regs.old budget.old
+        → Goes (ShowsBy
+        (still memory.new.tid (P.owners memory.new.pages) memory.new.space.now.entries)
+        (P.fixed memory.new.pages) (P.pages memory.new.pages) f t) w t regs.new budget.old
+        budget.new result }
+    ensures stop { MatchOption result (budget.new ≡ 0) (λ reason. 0 < budget.new) }
+    ensures within { budget.new ≤ budget.old }
 {
     let mut pc = regs.pc();
     let mut place = place_of(pc);
@@ -65,14 +81,16 @@ fn go<P: Pages>(
                     return Some(why);
                 }
             },
-            None => {
-                if let Some(reason) = one_by_halves(regs, memory, pc) {
+            None => match one_by_halves(regs, memory, pc) {
+                Went::Step => {
+                    pc = regs.pc();
+                    place = place_of(pc);
+                }
+                Went::Stop(reason) => {
                     *budget = left;
                     return Some(reason);
                 }
-                pc = regs.pc();
-                place = place_of(pc);
-            }
+            },
         }
         left -= 1;
     }
@@ -89,6 +107,7 @@ pub(crate) fn run<P: Pages>(
     regs: &mut Regs,
     budget: &mut u32,
 ) -> Option<Reason>
+    requires { memory.old.base ≡ no_base }
     ensures runs { (w : World)
         → IsRunOf w (store_of (P.owners memory.old.pages) (P.pages memory.old.pages))
         memory.old.space.now.entries memory.old.tid regs.old budget.old

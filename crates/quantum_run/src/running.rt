@@ -1,5 +1,5 @@
 // The memory of one thread over any pages.
-ghost use Rattle.std.specs.Prelude.{◌≡◌, ◌≢◌, ◌⊎◌, ◌+◌, ◌*◌, ◌/◌, ◌%◌, ◌^◌, ◌<◌, ℕ, Ok, Err, IfSome, IsSome, true, length, slice_set};
+ghost use Rattle.std.specs.Prelude.{◌≡◌, ◌≢◌, ◌⊎◌, ◌+◌, ◌*◌, ◌/◌, ◌%◌, ◌^◌, ◌<◌, ℕ, List, Option, Ok, Err, IfSome, IsSome, true, length, slice_set};
 ghost use Rattle.std.specs.Option.{ok_or};
 ghost use Rattle.dos_world.specs.Reach.{bytes_of, width, written};
 ghost use Rattle.dos_world.specs.declared.Access.TheVariants.{Fetch, Load, Store};
@@ -11,7 +11,8 @@ ghost use Rattle.quantum_run.specs.Knowing.{AreApart, AreKnown, IsBase, IsKnown,
 ghost use Rattle.quantum_run.specs.Pages.{AreReached, AreOwn, AreWithin, IsHomeIn};
 
 use crate::pages::Pages;
-use crate::slot::{NO_PAGE, Slot, has_frame, nothing_found, slot_place};
+use crate::slot::Slot;
+use crate::slots::{base_beside, has_frame, nothing_found, slot_place, slots_without};
 use dos_world::{Access, Reason, Size};
 use rv_exec::Memory;
 use rv_form::{Memo, NO_BASE, place_of};
@@ -47,6 +48,20 @@ pub struct Running<'a, P: Pages> {
     ghost stored_are: { AreFramesOf tid (P.owners pages) space.now.entries Store stored },
     ghost apart: { AreApart fetched stored },
     ghost base_is: { IsBase base },
+}
+
+/// The base, or the next one where it is that of no key. What is known stays so.
+fn base_begun(base: u64, memo: &mut Memo) -> u64
+    requires { IsBase base }
+    ensures base { IsBase result }
+    ensures based { result ≢ no_base }
+    ensures known { (fetched : List Slot) (pages : List (Option (List ℕ)))
+        → AreKnown base fetched pages memo.old → AreKnown result fetched pages memo.new }
+{
+    if base == NO_BASE {
+        return memo.begin();
+    }
+    base
 }
 
 impl<'a, P: Pages> Running<'a, P> {
@@ -150,12 +165,8 @@ impl<'a, P: Pages> Running<'a, P> {
         ensures fixed { P.fixed self.new.pages ≡ P.fixed self.old.pages }
         ensures pages { P.pages self.new.pages ≡ P.pages self.old.pages }
     {
-        if self.fetched[place].page != NO_PAGE {
-            self.base = NO_BASE;
-        }
-        if has_frame(&self.stored, slot.frame) {
-            self.stored = nothing_found();
-        }
+        self.base = base_beside(self.fetched[place], self.base);
+        self.stored = slots_without(&self.stored, slot.frame);
         self.fetched[place] = slot;
     }
 
@@ -302,9 +313,7 @@ impl<'a, P: Pages> Running<'a, P> {
         ensures fixed { P.fixed self.new.pages ≡ P.fixed self.old.pages }
         ensures pages { P.pages self.new.pages ≡ P.pages self.old.pages }
     {
-        if self.base == NO_BASE {
-            self.base = memo.begin();
-        }
+        self.base = base_begun(self.base, memo);
         let place = place_of(address);
         memo.keep(place, self.base + u64::from(address), word);
         place

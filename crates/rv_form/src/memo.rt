@@ -108,7 +108,8 @@ impl Memo {
         requires place { place < 1024 }
         requires given { first_base ≤ key }
         requires fits { key + 1 < 2 ^ 64 }
-        ensures { self.new ≡ slice_set self.old place (record { key = key; word = word }) }
+        ensures notes { self.new ≡ slice_set self.old place (record { key = key; word = word }) }
+        ensures here { note_at self.new place ≡ record { key = key; word = word } }
     {
         let form = form_beside(&self.lines[place], word);
         self.lines[place] = Line { key, word, form };

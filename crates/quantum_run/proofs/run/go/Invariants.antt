@@ -1,15 +1,22 @@
-use Rattle.std.proofs.Common.{ℕ, ◌≤◌}
+use Rattle.std.proofs.Common.{ℕ, ◌<◌, ◌≤◌, ◌≡◌}
 use Rattle.dos_world.specs.World.{World, with_pc}
 use Rattle.rv_exec.specs.Runs.{Runs}
 use Rattle.quantum_run.specs.Running.{Reaches}
+use Rattle.quantum_run.specs.Showing.{ShowsBy, ShowsKnown, Still, still}
 use Rattle.quantum_run.proofs.run.go.Given as goal
 
 abbrev pub invariant-loop-left : goal.invariant-loop-left
 invariant-loop-left g l =
-    ((f : g.M.Memory.Fixed) (t : ℕ) (w : World)
-    → Runs (g.M.Memory.shows l.fn.memory f t) w t l.fn.regs l.fn.budget
-    → Reaches (g.M.Memory.shows l.memory f t) w t (with_pc l.regs l.pc) l.fn.budget l.left)
-    × (l.left ≤ l.fn.budget)
+    ((f : Still × g.P.Pages.Fixed) (t : ℕ) (w : World)
+    → Runs (ShowsBy
+    (still l.fn.memory.tid (g.P.Pages.owners l.fn.memory.pages) l.fn.memory.space.now.entries)
+    (g.P.Pages.fixed l.fn.memory.pages) (g.P.Pages.pages l.fn.memory.pages) f t) w t l.fn.regs
+    l.fn.budget
+    → Reaches (ShowsKnown
+    (still l.memory.tid (g.P.Pages.owners l.memory.pages) l.memory.space.now.entries)
+    (g.P.Pages.fixed l.memory.pages) (g.P.Pages.pages l.memory.pages) l.memory.base
+    l.memory.fetched (f, l.memo) t) w t (with_pc l.regs l.pc) l.fn.budget l.left)
+    × (l.left ≤ l.fn.budget) × (l.place < 1024)
 
 abbrev pub decreases-loop-left : goal.decreases-loop-left
 decreases-loop-left g l = l.left

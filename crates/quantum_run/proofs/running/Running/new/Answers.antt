@@ -1,5 +1,8 @@
 use Rattle.dos_world.specs.declared.Access.TheVariants.{Fetch, Load, Store}
-use Rattle.quantum_run.proofs.Knowing.{unknown-known}
+use Rattle.std.proofs.Common.{List, sym, subst}
+use Rattle.quantum_run.specs.declared.slot.Slot.{Slot}
+use Rattle.quantum_run.specs.Knowing.{AreApart}
+use Rattle.quantum_run.proofs.Knowing.{apart-none}
 use Rattle.quantum_run.proofs.Places.{none-found}
 use Rattle.quantum_run.proofs.running.Running.new.Goals as goal
 
@@ -21,7 +24,7 @@ invariant_of-result-clause-stored_are g c =
     (g.P.Pages.owners c.args.pages) c.args.space.now.entries Store c.nothing_found-3.result
     c.nothing_found-3.ensures
 
-pub invariant_of-result-clause-known_are : goal.invariant_of-result-clause-known_are
-invariant_of-result-clause-known_are g c =
-    unknown-known c.args.tid (g.P.Pages.owners c.args.pages) c.args.space.now.entries
-    (g.P.Pages.pages c.args.pages) c.nothing_known.result c.nothing_known.ensures
+pub invariant_of-result-clause-apart : goal.invariant_of-result-clause-apart
+invariant_of-result-clause-apart g c =
+    subst (λ (slots : List Slot). AreApart c.nothing_found.result slots)
+    (sym c.nothing_found-3.ensures) (apart-none c.nothing_found.result 64)

@@ -1,11 +1,10 @@
-use Rattle.std.proofs.Common.{ℕ, ◌+◌, ◌%◌, ◌^◌, set, ◌≡◌, sym, ap, ◌∙◌, subst, List, true}
+use Rattle.std.proofs.Common.{◌≡◌, sym, ap, ◌∙◌, subst, List, true, inl, inr}
 use Rattle.dos_world.specs.declared.Owner.{Owner}
 use Rattle.dos_world.specs.declared.Access.TheVariants.{Fetch, Load, Store}
 use Rattle.page_store.specs.Store.{joined}
 use Rattle.quantum_run.specs.Finding.{AreFramesOf, frame_for}
-use Rattle.quantum_run.specs.declared.running.Known.{Known}
-use Rattle.quantum_run.specs.Knowing.{AreKnown}
-use Rattle.quantum_run.proofs.Knowing.{known-written}
+use Rattle.quantum_run.specs.Knowing.{KeepsKnown}
+use Rattle.quantum_run.proofs.Knowing.{keeps-none, keeps-written}
 use Rattle.quantum_run.proofs.Places.{written-joined}
 use Rattle.quantum_run.specs.Pages.{is_here, AreWithin}
 use Rattle.quantum_run.proofs.Overlay.{here-set}
@@ -17,6 +16,17 @@ returns-clause-bytes g c =
     ap joined w.pages ∙ written-joined
     (g.P.Pages.pages c.args.self.now.pages) c.args.frame c.args.address c.args.size w.before
     w.after c.args.value w.was c.requires.aligned w.is
+
+pub returns-clause-known : goal.returns-clause-known
+returns-clause-known g c =
+    let m = c.args.self.now in
+    let before = g.P.Pages.pages m.pages in
+    let after = g.P.Pages.pages c.write.new.self in
+    elim c.requires.free as (λ _. KeepsKnown m.base m.fetched before m.base m.fetched after) [
+      | inl none ↦ keeps-none m.base m.base m.fetched m.fetched before after none
+      | inr free ↦ keeps-written m.base m.fetched before after c.args.frame c.args.address
+          c.args.size c.args.value c.requires.aligned (returns-clause-bytes g c) free
+    ]
 
 pub invariant_of-self : goal.invariant_of-self
 invariant_of-self g c =
@@ -40,23 +50,9 @@ invariant_of-self g c =
           (sym e) c.args.self.now.fetched_are;
       loaded_are = subst (λ (os : List Owner). AreFramesOf t os entries Load c.args.self.now.loaded)
           (sym e) c.args.self.now.loaded_are;
-      known_are = subst (λ (os : List Owner). AreKnown t os entries
-          (g.P.Pages.pages c.write.new.self) c.put_known.new.known) (sym e)
-          (subst (λ (ks : List Known). AreKnown t (g.P.Pages.owners c.args.self.now.pages) entries
-          (g.P.Pages.pages c.write.new.self) ks)
-          (sym (c.put_known.ensures
-          ∙ ap (λ (place : ℕ). set c.args.self.now.known place
-          (record { address = (c.args.address + 4) % 2 ^ 32; word = 0 }))
-          c.known_place-place.ensures.place))
-          (known-written t (g.P.Pages.owners c.args.self.now.pages) entries
-          (g.P.Pages.pages c.args.self.now.pages) (g.P.Pages.pages c.write.new.self)
-          c.args.self.now.known c.args.frame c.args.address c.args.size c.args.value
-          c.requires.aligned
-          (ap joined w.pages ∙ written-joined
-          (g.P.Pages.pages c.args.self.now.pages) c.args.frame c.args.address c.args.size w.before
-          w.after c.args.value w.was c.requires.aligned w.is)
-          c.args.self.now.known_are));
       stored_are = subst (λ
           (os : List Owner). AreFramesOf t os entries Store c.args.self.now.stored)
           (sym e) c.args.self.now.stored_are;
+      apart = c.args.self.now.apart;
+      base_is = c.args.self.now.base_is;
     }

@@ -1,7 +1,7 @@
 -- One note more.
-use Rattle.std.proofs.Common.{◌<◌, ◌≤◌, arith, set, ◌∙◌, sym, ap, subst}
-use Rattle.std.proofs.lemmas.List.{map-set}
-use Rattle.rv_form.specs.Notes.{AreNotes}
+use Rattle.std.proofs.Common.{◌<◌, ◌≤◌, arith, set, length, List, ◌∙◌, sym, ap, subst}
+use Rattle.std.proofs.lemmas.List.{map-set, get_or-set_same, length-map}
+use Rattle.rv_form.specs.Notes.{AreNotes, Note, note_at, nothing}
 use Rattle.rv_form.specs.Noted.{note_of, notes_of}
 use Rattle.rv_form.proofs.NoteLaws.{notes-set}
 use Rattle.rv_form.proofs.memo.Memo.keep.Goals as goal
@@ -15,7 +15,16 @@ invariant_of-self-2 c =
     (notes-set c.self.inside.top c.max-self-inside.result c.args.place
     (notes_of c.self.inside.lines) _ low fits c.requires.given c.self.invariant)
 
-pub returns : goal.returns
-returns c = map-set note_of c.self.inside.lines c.args.place _
+pub returns-clause-notes : goal.returns-clause-notes
+returns-clause-notes c = map-set note_of c.self.inside.lines c.args.place _
     ∙ ap (λ notes. set notes c.args.place (record { key = c.args.key; word = c.args.word }))
     c.self.view_is
+
+pub returns-clause-here : goal.returns-clause-here
+returns-clause-here c =
+    let there : c.args.place < length c.self.inside.lines = omega arith in
+    let note : Note = record { key = c.args.key; word = c.args.word } in
+    ap (λ (notes : List Note). note_at notes c.args.place)
+    (map-set note_of c.self.inside.lines c.args.place _)
+    ∙ get_or-set_same (notes_of c.self.inside.lines) c.args.place note nothing
+    (subst (λ n. c.args.place < n) (sym (length-map c.self.inside.lines note_of)) there)
