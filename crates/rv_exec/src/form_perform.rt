@@ -4,7 +4,7 @@ ghost use Rattle.rv_exec.specs.Instruction.{effect_of_form};
 ghost use Rattle.rv_exec.specs.Going.{PerformsAt, arrived, went};
 ghost use Rattle.std.specs.Prelude.{◌≡◌};
 
-use crate::next::stop;
+use crate::next::{fault, service};
 use crate::on_memory::{atomic, load, store};
 use crate::on_registers::{auipc, branch, immediate, jal, jalr, lui, register, shift};
 use crate::{Memory, Next, Went};
@@ -27,7 +27,7 @@ pub fn perform_form<M: Memory>(
         why.new (effect_of_form form.now) }
 {
     match form.op {
-        Op::Illegal => stop(why, Reason::Fault(4)),
+        Op::Illegal => fault(why, 4),
         Op::Lui => lui(regs, form),
         Op::Auipc => auipc(regs, form, pc),
         Op::Jal => jal(regs, form, pc, why),
@@ -74,8 +74,8 @@ pub fn perform_form<M: Memory>(
         Op::Rem => register(regs, form, RegOp::Rem),
         Op::Remu => register(regs, form, RegOp::Remu),
         Op::Fence => Next::On,
-        Op::Ecall => stop(why, Reason::Service),
-        Op::Ebreak => stop(why, Reason::Fault(5)),
+        Op::Ecall => service(why),
+        Op::Ebreak => fault(why, 5),
         Op::LrW => atomic(regs, memory, form, AmoOp::LrW, why),
         Op::ScW => atomic(regs, memory, form, AmoOp::ScW, why),
         Op::AmoswapW => atomic(regs, memory, form, AmoOp::AmoswapW, why),

@@ -14,13 +14,24 @@ pub enum Next {
     Not,
 }
 
-/// Nowhere, for this reason.
+/// Nowhere, by the fault of this number.
 #[cold]
 #[inline(never)]
-pub fn stop(why: &mut Reason, reason: Reason) -> Next
+pub fn fault(why: &mut Reason, number: u8) -> Next
     ensures next { result ≡ Next.Not }
-    ensures why { why.new ≡ reason }
+    ensures why { why.new ≡ Reason.Fault number }
 {
-    *why = reason;
+    *why = Reason::Fault(number);
+    Next::Not
+}
+
+/// Nowhere, since a service is called.
+#[cold]
+#[inline(never)]
+pub fn service(why: &mut Reason) -> Next
+    ensures next { result ≡ Next.Not }
+    ensures why { why.new ≡ Reason.Service }
+{
+    *why = Reason::Service;
     Next::Not
 }

@@ -9,7 +9,7 @@ ghost use Rattle.rv_exec.specs.Effect.{effect};
 ghost use Rattle.rv_exec.specs.Going.{SettlesAt};
 
 use crate::Next;
-use crate::next::stop;
+use crate::next::fault;
 use crate::numbers::{immediate_result, is_taken, register_result, shift_result};
 use dos_world::{Reason, Regs};
 use rv_form::Form;
@@ -51,7 +51,7 @@ fn jump_and_link(regs: &mut Regs, form: &Form, pc: u32, target: u32, why: &mut R
         put(regs, form, pc.wrapping_add(4));
         Next::To(target)
     } else {
-        stop(why, Reason::Fault(7))
+        fault(why, 7)
     }
 }
 
@@ -110,7 +110,7 @@ pub fn branch(regs: &Regs, form: &Form, pc: u32, op: BranchOp, why: &mut Reason)
         if target % 4 == 0 {
             Next::To(target)
         } else {
-            stop(why, Reason::Fault(7))
+            fault(why, 7)
         }
     } else {
         Next::On
