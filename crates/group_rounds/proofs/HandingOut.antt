@@ -306,18 +306,22 @@ module _ (ts : List ℕ) (begun : List Pack) (old : Store) (apart : (i j t : ℕ
   handing-more new packs n after packs' low h (inr g) =
       handing-goes new packs n low h after packs' g
 
--- ---- the frames from some one on, of which each is Free
+-- ---- the frames from some one on, of which none is a thread's
+
+pub none-free : (s : Store) (high : ℕ) → ((f : ℕ) → high ≤ f → is_free (owner_at s f) ≡ true)
+    → (n f t : ℕ) → high ≤ f → f < n → owner_at s f ≢ Of t
+none-free s high free n f t above low mine =
+    let a = free f above in let b = ap is_free mine in absurd (grind (arith, a, b))
 
 module _ (ts : List ℕ) (begun : List Pack) (old new : Store) (packs : List Pack) (high n : ℕ)
-    (le : high ≤ n) (free : (f : ℕ) → high ≤ f → is_free (owner_at old f) ≡ true)
+    (le : high ≤ n) (none : (f t : ℕ) → high ≤ f → f < n → owner_at old f ≢ Of t)
     (h : Handing ts begun old new packs high) where
-  below-high : (f t : ℕ) → owner_at old f ≡ Of t → f < high
-  below-high f t mine = by (cases_lt f high)
+  below-high : (f t : ℕ) → f < n → owner_at old f ≡ Of t → f < high
+  below-high f t within mine = by (cases_lt f high)
     where
       by : (f < high) ⊎ (high ≤ f) → f < high
       by (inl low) = low
-      by (inr above) = let a = free f above in let b = ap is_free mine in
-          absurd (grind (arith, a, b))
+      by (inr above) = absurd (none f t above within mine)
 
   pub handing-rest : Handing ts begun old new packs n
   handing-rest = record {
@@ -325,7 +329,7 @@ module _ (ts : List ℕ) (begun : List Pack) (old new : Store) (packs : List Pac
     uses = h.uses;
     count = h.count;
     level = h.level;
-    away = λ f place t low is. h.away f place t (below-high f t is.1) is;
+    away = λ f place t low is. h.away f place t (below-high f t low is.1) is;
     home = λ f q. h.home f (home_of f q);
     each = λ i t p at here. let has = h.each i t p at here in (
       has.0,
@@ -334,7 +338,7 @@ module _ (ts : List ℕ) (begun : List Pack) (old new : Store) (packs : List Pac
         is = has.2.is;
         owner = λ j f page q. let r = has.2.owner j f page q in let low = r.1 in
             (r.0, omega (arith, low, le), r.2);
-        all = λ f low mine. has.2.all f (below-high f t mine) mine;
+        all = λ f low mine. has.2.all f (below-high f t low mine) mine;
         apart = has.2.apart;
       },
     );

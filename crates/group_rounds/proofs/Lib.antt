@@ -18,4 +18,5 @@ pub mod PacksBack
 pub mod SignalLaws
 pub mod RipenLaws
 pub mod PacksWork
+pub mod InPlaceLaws
 pub mod AwayLaws

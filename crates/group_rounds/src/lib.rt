@@ -6,6 +6,7 @@
 #![tactic(auto)]
 
 mod away;
+mod in_place;
 mod kernel;
 mod packs;
 mod part;

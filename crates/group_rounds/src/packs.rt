@@ -1,7 +1,8 @@
 // The parallel phase over packs: their pages go out, they run, and all comes back.
 ghost use Rattle.std.specs.Prelude.{◌≡◌, ◌≢◌, true, ◌+◌, ◌-◌, ◌^◌, ◌≤◌, ◌<◌, ◌++◌, ◌∷◌, ◌⊎◌, [], ℕ, List, Some, IfOk, IsSome, MatchOption, length, map, slice_get};
 ghost use Rattle.std.specs.Vec.{vec_capacity};
-ghost use Rattle.page_store.specs.Store.{AreHome, IsAway, IsHome};
+ghost use Rattle.dos_world.specs.declared.Owner.TheVariants.{Of};
+ghost use Rattle.page_store.specs.Store.{AreHome, IsAway, IsHome, owner_at};
 ghost use Rattle.proc_table.specs.Tables.{IsThread};
 ghost use Rattle.quantum_run.specs.Shows.{Pack as pack_value};
 ghost use Rattle.quantum_run.specs.Packs.{HoldsNo, seen};
@@ -12,6 +13,7 @@ ghost use Rattle.worker_pool.specs.Ran.{AllCanRun, AllRan, GrewBy, budgets};
 ghost use Rattle.group_rounds.specs.Phases.{AreLive};
 ghost use Rattle.group_rounds.specs.Handing.{In, all_pages, AreApart, AreOthers, AreBegun, AreSpare, GoesOut, Handing, PutBack, AreSet, Stays, pack_of, view_of};
 
+use crate::in_place::{is_callers, run_each};
 use dos_world::Owner;
 use kernel_calls::State;
 use page_store::Frames;
@@ -77,7 +79,8 @@ impl Packs {
         })
     }
 
-    /// The parallel phase: each starter by itself, over its own pages, on the workers.
+    /// The parallel phase: each starter by itself, over its own pages, on the workers; where only
+    /// the caller's own thread would run them, in place.
     pub(crate) fn run<W: Workers>(&mut self, state: &mut State, starters: &[u32], workers: &mut W)
         requires sound { IsSound state.old }
         requires live { AreLive state.old.table.threads starters.now }
@@ -96,6 +99,10 @@ impl Packs {
             (work_between state.old state.new starters.now) }
         ensures fixed { W.fixed workers.new ≡ W.fixed workers.old }
     {
+        if is_callers(workers, starters.len()) {
+            run_each(state, starters, workers);
+            return;
+        }
         let stand_in = &mut self.stand_in;
         parallel_packs(
             state,
@@ -192,6 +199,22 @@ fn hand_page(frames: &mut Frames, starters: &[u32], packs: &mut Vec<Pack>, frame
     packs[place].add_page(frame, page);
 }
 
+// the lowest frame from this one on that is a thread's; `high` where none below it is
+fn next_owned(frames: &Frames, from: u32, high: u32) -> u32
+    requires within { high ≤ length frames.now.owners }
+    requires below { from ≤ high }
+    ensures above { from ≤ result }
+    ensures below { result ≤ high }
+    ensures none { (f t : ℕ) → from ≤ f → f < result → owner_at frames.now f ≢ Of t }
+{
+    for frame in from..high {
+        if let Owner::Of(_tid) = frames.owner(frame) {
+            return frame;
+        }
+    }
+    high
+}
+
 // the pages of the starters' frames go into their packs
 fn hand_pages(frames: &mut Frames, starters: &[u32], packs: &mut Vec<Pack>)
     requires home { AreHome frames.old }
@@ -205,8 +228,11 @@ fn hand_pages(frames: &mut Frames, starters: &[u32], packs: &mut Vec<Pack>)
 {
     // that each page has an owner is known of the frames themselves
     let _count = frames.count();
-    for frame in 0..frames.high() {
+    let high = frames.high();
+    let mut frame = next_owned(frames, 0, high);
+    while frame < high {
         hand_page(frames, starters, packs, frame);
+        frame = next_owned(frames, frame + 1, high);
     }
 }
 

@@ -6,7 +6,7 @@ ghost use Rattle.dos_world.specs.World.{registers_by, released};
 ghost use Rattle.dos_world.specs.declared.Reason.TheVariants.{Page, Fault};
 ghost use Rattle.dos_io.specs.Shims.{HasNoEnd};
 ghost use Rattle.rv_exec.specs.Step.{step};
-ghost use Rattle.quantum_run.specs.Alone.{emptied};
+ghost use Rattle.quantum_run.specs.Alone.{alone, emptied};
 ghost use Rattle.round_core.specs.Rest.{page_granted, process_of, rest_of};
 ghost use Rattle.proc_table.specs.Tables.{IsThread, thread_by};
 ghost use Rattle.kernel_calls.specs.Serving.{HaveParts, IsReady, IsSound, sent, shim_stop, world_of};
@@ -59,15 +59,35 @@ pub(crate) fn run(state: &mut State, tid: u32) -> Option<Reason>
     ensures count { KeepsCount state.old state.new }
     ensures live { IsThread state.new.table.threads tid }
 {
+    let mut budget = state.table.budget(tid);
+    if budget == 0 {
+        return None;
+    }
     let pid = state.table.process_of(tid);
     let mut regs = *state.table.regs(tid);
-    let mut budget = state.table.budget(tid);
     let space = state.table.space(pid);
     let reason = run_until_stop(&mut state.frames, space, tid, &mut regs, &mut budget);
     // that each page has an owner is known of the frames themselves
     let _count = state.frames.count();
     state.table.set_run(tid, regs, budget);
     reason
+}
+
+/// The thread's parallel part, in place: how many instructions it did, each for one of its budget.
+pub(crate) fn run_alone(state: &mut State, tid: u32) -> u32
+    requires sound { IsSound state.old }
+    requires live { IsThread state.old.table.threads tid }
+    ensures runs { (q : ℕ) (o e : List ℕ)
+        → alone (sent o e (world_of q state.old)) tid ≡ sent o e (world_of q state.new) }
+    ensures paid { budget_in state.old tid ≡ result + budget_in state.new tid }
+    ensures sound { IsSound state.new }
+    ensures round { state.new.round ≡ state.old.round }
+    ensures count { KeepsCount state.old state.new }
+{
+    let budget = state.table.budget(tid);
+    begin(state, tid);
+    let _stop = run(state, tid);
+    budget - state.table.budget(tid)
 }
 
 // the page at an address is granted

@@ -1,5 +1,5 @@
-use Rattle.std.proofs.Common.{◌≡◌, sym, ◌∙◌}
-use Rattle.group_rounds.proofs.RunningLaws.{seen, mapped, space_is, registers_is, own_budget, IsRunFrom, run_after, sound_after, parts_after, live_after}
+use Rattle.std.proofs.Common.{◌≡◌, refl, sym, ◌∙◌, arith}
+use Rattle.group_rounds.proofs.RunningLaws.{seen, mapped, space_is, registers_is, own_budget, budget_is, IsRunFrom, run_after, sound_after, parts_after, live_after}
 use Rattle.group_rounds.proofs.part.run.Goals as goal
 
 pub run_until_stop-reason-requires-clause-mapped : goal.run_until_stop-reason-requires-clause-mapped
@@ -68,3 +68,13 @@ pub returns-clause-parts : goal.returns-clause-parts
 returns-clause-parts c = parts_after c.args.state.now c.args.tid c.requires.sound c.requires.live
     c.space-space.result.now.entries c.regs.result.now c.budget-budget.result _ _ _ _ _
     (its_space c) (its_registers c) (its_budget c) (left c)
+
+-- with no budget nothing runs
+pub returns-then-budget-eq0-clause-ran : goal.returns-then-budget-eq0-clause-ran
+returns-then-budget-eq0-clause-ran c = record {
+  count = 0;
+  paid = omega arith;
+  runs = λ q o e. refl;
+  stops = sym (budget_is c.args.state.now c.args.tid c.requires.sound c.requires.live
+      c.budget-budget.result c.budget-budget.ensures) ∙ c.if-budget-eq0.true;
+}

@@ -1,0 +1,46 @@
+// The parallel phase in place: the starters' parts one after another, over the frames themselves.
+ghost use Rattle.std.specs.Prelude.{◌≡◌, ◌≤◌, ℕ, List, Some, length, slice_get};
+ghost use Rattle.kernel_calls.specs.Serving.{IsSound, sent, world_of};
+ghost use Rattle.round_core.specs.Round.{all_alone};
+ghost use Rattle.group_rounds.specs.Parts.{KeepsCount, work_between};
+ghost use Rattle.group_rounds.specs.Phases.{AreLive};
+ghost use Rattle.worker_pool.specs.Ran.{GrewBy};
+
+use crate::part::run_alone;
+use kernel_calls::State;
+use worker_pool::{Way, Workers};
+
+/// Whether the caller's own thread would run the parts of so many starters, one after another.
+pub(crate) fn is_callers<W: Workers>(workers: &W, starters: usize) -> bool {
+    match workers.way() {
+        Way::InPlace(_gate) => true,
+        Way::Spread(hands) => hands.enough_for(starters) == 1,
+        Way::Boarded(hands, _alloc) => hands.enough_for(starters) == 1,
+        Way::Stealing(hands, _alloc) => hands.enough_for(starters) == 1,
+        Way::Staffed(_staff) => starters == 1,
+    }
+}
+
+/// The parallel phase on the caller's own thread: no page leaves its frame.
+pub(crate) fn run_each<W: Workers>(state: &mut State, starters: &[u32], workers: &mut W)
+    requires sound { IsSound state.old }
+    requires live { AreLive state.old.table.threads starters.now }
+    requires apart { (i j t : ℕ) → slice_get starters.now i ≡ Some t
+        → slice_get starters.now j ≡ Some t → i ≡ j }
+    requires few { length starters.now ≤ 64 }
+    ensures runs { (q : ℕ) (o e : List ℕ)
+        → all_alone (sent o e (world_of q state.old)) starters.now
+        ≡ sent o e (world_of q state.new) }
+    ensures sound { IsSound state.new }
+    ensures round { state.new.round ≡ state.old.round }
+    ensures count { KeepsCount state.old state.new }
+    ensures tally { GrewBy (W.tally workers.old) (W.tally workers.new)
+        (work_between state.old state.new starters.now) }
+    ensures fixed { W.fixed workers.new ≡ W.fixed workers.old }
+{
+    let mut work = 0u64;
+    for &tid in starters {
+        work += u64::from(run_alone(state, tid));
+    }
+    workers.add(work);
+}
