@@ -4,11 +4,13 @@
 use dos_cmd::dos_main;
 use dos_io::{StdErr, StdFiles, StdHost, StdOut};
 use dos_texts::{Refusal, put_refusal};
-use std::env;
+use staying_workers::{Office, Staying, open};
 use std::io::ErrorKind;
 use std::process::ExitCode;
+use std::sync::Wait;
 use std::thread::Threads;
-use worker_pool::{OpenGate, Stealing, Tally};
+use std::{env, thread};
+use worker_pool::{OpenGate, Tally};
 
 /// The words behind the program's name. Words that are no text are refused.
 fn words(rt: &HostRuntime) -> Result<Vec<String>, Refusal> {
@@ -28,29 +30,50 @@ fn words(rt: &HostRuntime) -> Result<Vec<String>, Refusal> {
     Ok(words)
 }
 
-/// `threads` is the same runtime, which starts them.
-fn run(rt: &HostRuntime, threads: &(impl Threads + Sync)) -> u8 {
+/// What the words ask for is done, over the workers of this office. `threads` is the same runtime,
+/// which starts them; they wait for one another.
+fn work<R: Threads + Wait + Sync>(
+    rt: &HostRuntime,
+    threads: &R,
+    office: &Office,
+    gate: &OpenGate,
+    words: &[String],
+) -> u8 {
     let alloc = rt.alloc();
+    let mut files = StdFiles::new(rt, alloc);
+    let mut host = StdHost::new(rt.stdin(), rt);
+    let mut out = StdOut::new(rt.stdout());
     let mut err = StdErr::new(rt.stderr());
+    let mut tally = Tally::new();
+    let mut workers = Staying::new(threads, alloc, office, gate, &mut tally);
+    dos_main(
+        alloc,
+        words,
+        &mut files,
+        &mut host,
+        &mut out,
+        &mut err,
+        &mut workers,
+    )
+}
+
+/// The same; the workers stay until it is done.
+fn work_staffed<R: Threads + Wait + Sync>(rt: &HostRuntime, threads: &R, words: &[String]) -> u8 {
+    let gate = OpenGate::new();
+    let office = Office::new(rt.alloc());
+    let (gate, office) = (&gate, &office);
+    thread::scope(thread::scope_env(), threads, |scope| -> u8 {
+        open(threads, scope, office, gate);
+        let status = work(rt, threads, office, gate, words);
+        office.close();
+        status
+    })
+}
+
+fn run(rt: &HostRuntime, threads: &(impl Threads + Wait + Sync)) -> u8 {
     match words(rt) {
-        Ok(words) => {
-            let mut files = StdFiles::new(rt, alloc);
-            let mut host = StdHost::new(rt.stdin(), rt);
-            let mut out = StdOut::new(rt.stdout());
-            let gate = OpenGate::new();
-            let mut tally = Tally::new();
-            let mut workers = Stealing::new(threads, alloc, 1, &gate, &mut tally);
-            dos_main(
-                alloc,
-                &words,
-                &mut files,
-                &mut host,
-                &mut out,
-                &mut err,
-                &mut workers,
-            )
-        }
-        Err(refusal) => put_refusal(refusal, &mut err),
+        Ok(words) => work_staffed(rt, threads, &words),
+        Err(refusal) => put_refusal(refusal, &mut StdErr::new(rt.stderr())),
     }
 }
 

@@ -3,6 +3,7 @@
 //! and a long pause no work.
 #![tactic(auto)]
 
+use crossbeam_utils::CachePadded;
 use std::hint;
 use std::sync::atomic::{AtomicU64, Ordering};
 use std::sync::{Mutex, Wait};
@@ -19,7 +20,8 @@ const CLOSED: u64 = 3;
 /// alone: no contract follows a message through it.
 #[derive(Drop)]
 pub struct Mailbox<M> {
-    state: AtomicU64,
+    // on a cache line of its own, which its reader looks at
+    state: CachePadded<AtomicU64>,
     slot: Mutex<Option<M>>,
 }
 
@@ -27,7 +29,7 @@ impl<M: Drop> Mailbox<M> {
     /// An empty mailbox.
     pub fn new() -> Mailbox<M> {
         Mailbox {
-            state: AtomicU64::new(EMPTY),
+            state: CachePadded::new(AtomicU64::new(EMPTY)),
             slot: Mutex::new(None),
         }
     }
@@ -78,6 +80,15 @@ impl<M: Drop> Mailbox<M> {
         }
     }
 
+    /// The message that was left, where nobody has taken it yet: its writer may have it back.
+    pub fn take_back<R: Wait>(&self, rt: &R) -> Option<M> {
+        if self.changes(FULL, EMPTY) {
+            self.slot.lock(rt).take()
+        } else {
+            None
+        }
+    }
+
     /// Waits for the message: so many looks first, and then asleep. None where the mailbox is
     /// closed.
     pub fn take<R: Wait>(&self, rt: &R, looks: u32) -> Option<M> {
@@ -88,11 +99,8 @@ impl<M: Drop> Mailbox<M> {
             }
             if state != FULL {
                 self.sleep(rt);
-            } else if self.changes(FULL, EMPTY) {
-                let message = self.slot.lock(rt).take();
-                if message.is_some() {
-                    return message;
-                }
+            } else if let Some(message) = self.take_back(rt) {
+                return Some(message);
             }
         }
         unreachable!()

@@ -11,8 +11,12 @@ use worker_pool::Gate;
 /// No more workers can be hired than this and the caller.
 const DESKS: u32 = 31;
 
-/// How often a thread looks for a message before it sleeps: for about 100 microseconds.
-const LOOKS: u32 = 3000;
+/// No more threads run packs than this: those at all desks and the caller.
+pub(crate) const MOST: usize = DESKS as usize + 1;
+
+/// How often a thread looks for a message before it sleeps: for about 100 microseconds, or some
+/// hundreds where a processor pauses for longer between two looks.
+const LOOKS: u32 = 16_000;
 
 /// Where one worker gets its orders, and leaves a note for each that it has carried out.
 #[derive(Drop)]
@@ -86,6 +90,16 @@ impl Office {
     }
 }
 
+impl Desk {
+    /// An order that no worker has begun is taken back, and a note says so. No pack is left to run.
+    pub(crate) fn recall<R: Wait>(&self, rt: &R) {
+        if let Some(order) = self.orders.take_back(rt) {
+            order.let_be();
+            self.notes.put(rt, ());
+        }
+    }
+}
+
 // carries out orders until the desk is closed
 fn serve<R: Wait, G: Gate>(rt: &R, desk: &Desk, gate: &G, looks: u32) {
     for _ in rt.forever() {
@@ -99,12 +113,17 @@ fn serve<R: Wait, G: Gate>(rt: &R, desk: &Desk, gate: &G, looks: u32) {
     }
 }
 
-// Who looks takes time from those who run, where there are more threads than processors.
-fn looks_for<R: Threads>(rt: &R, workers: u32) -> u32 {
+// How many processors there are beside the caller's, as far as that is known.
+fn other_processors<R: Threads>(rt: &R) -> u32 {
     match thread::available_parallelism(rt) {
-        Ok(count) if count.get() > workers as usize => LOOKS,
-        _ => 0,
+        Ok(count) => count.get().min(MOST) as u32 - 1,
+        Err(_) => 0,
     }
+}
+
+// Who looks takes time from those who run, where there is no other processor.
+fn looks_for(processors: u32) -> u32 {
+    if processors == 0 { 0 } else { LOOKS }
 }
 
 // A worker for each desk from `first` on, so many desks in all: how many have one afterwards.
@@ -130,7 +149,8 @@ fn staff<'s, 'e, R: Threads + Wait + Sync, G: Gate + Sync>(
     staffed
 }
 
-// starts workers as the office's pool hires them, until the office is closed
+// starts workers as the office's pool hires them, until the office is closed: no more than there are
+// processors for, but at least one
 fn recruit<'s, 'e, R: Threads + Wait + Sync, G: Gate + Sync>(
     rt: &'s R,
     scope: &'s Scope<'s, &'e ()>,
@@ -142,7 +162,9 @@ fn recruit<'s, 'e, R: Threads + Wait + Sync, G: Gate + Sync>(
         let Some(wanted) = office.wanted.take(rt, 0) else {
             return;
         };
-        let looks = looks_for(rt, wanted);
+        let processors = other_processors(rt);
+        let looks = looks_for(processors);
+        let wanted = wanted.min(processors.max(1));
         desks = staff(rt, scope, office, gate, desks, looks, wanted);
         office.hired.put(rt, Hired { desks, looks });
     }

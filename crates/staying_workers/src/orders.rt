@@ -6,25 +6,28 @@ ghost use Rattle.worker_pool.specs.Parts.{AreReady};
 use crate::held::Held;
 use hand_board::{Board, BoardSeat, Chair};
 use std::sync::Arc;
-use worker_pool::{Gate, sweep};
+use worker_pool::{Gate, sweep_from};
 
-/// Draw packs from this board until none is left, and then leave the seat in this chair.
+/// Run the packs of this board that nobody has begun, from this number on and then those before it,
+/// and leave the seat in this chair.
 #[derive(Drop)]
 pub struct Order {
     board: Arc<Board<Held>>,
     chair: Arc<Chair<Held>>,
     seat: BoardSeat<Held>,
+    first: u32,
     ghost seated: { (seat.board ≡ board.value.id) × (seat.hand ≡ []) × AreReady IsReady seat.opened },
     ghost chair_is: { (chair.value.board ≡ seat.board) × (chair.value.opened ≡ seat.opened)
         × (chair.value.share ≡ seat.share) },
 }
 
 impl Order {
-    /// The order with this seat.
+    /// The order with this seat, to begin at this number.
     pub(crate) fn new(
         board: Arc<Board<Held>>,
         chair: Arc<Chair<Held>>,
         seat: BoardSeat<Held>,
+        first: u32,
     ) -> Order
         requires board { seat.board ≡ board.value.id }
         requires hand { seat.hand ≡ [] }
@@ -32,15 +35,38 @@ impl Order {
         requires chair { (chair.value.board ≡ seat.board) × (chair.value.opened ≡ seat.opened)
             × (chair.value.share ≡ seat.share) }
     {
-        Order { board, chair, seat }
+        Order {
+            board,
+            chair,
+            seat,
+            first,
+        }
     }
 
     /// Does it. Afterwards nothing of the board is kept.
     pub(crate) fn carry_out<G: Gate>(self, gate: &G) {
-        let Order { board, chair, seat } = self;
+        let Order {
+            board,
+            chair,
+            seat,
+            first,
+        } = self;
         let at: &Board<Held> = &board;
         let place: &Chair<Held> = &chair;
-        let seat = sweep(at, seat, gate);
+        let seat = sweep_from(at, seat, gate, first);
+        place.leave(at, seat);
+    }
+
+    /// Leaves the seat, and runs nothing: no pack is left. Afterwards nothing of the board is kept.
+    pub(crate) fn let_be(self) {
+        let Order {
+            board,
+            chair,
+            seat,
+            first: _,
+        } = self;
+        let at: &Board<Held> = &board;
+        let place: &Chair<Held> = &chair;
         place.leave(at, seat);
     }
 }

@@ -107,8 +107,8 @@ impl<'a, R: Wait, G: Gate> Staff for Clerks<'a, R, G> {
     }
 }
 
-/// Threads that stay from call to call: each call sends them a board, from which they draw packs
-/// beside the caller, each the lowest that it finds not begun.
+/// Threads that stay from call to call: each call sends them a board, from which they take packs
+/// beside the caller. Each begins at a number of its own, and goes round.
 #[derive(Drop)]
 pub struct Staying<'a, R, G> {
     clerks: Clerks<'a, R, G>,

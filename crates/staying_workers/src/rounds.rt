@@ -7,7 +7,7 @@ ghost use Rattle.worker_pool.specs.Parts.{AreReady};
 ghost use Rattle.staying_workers.specs.Lending.{IsFinished, IsReady};
 
 use crate::held::Held;
-use crate::office::Desk;
+use crate::office::{Desk, MOST};
 use crate::orders::Order;
 use hand_board::{Board, BoardSeat, Chair};
 use std::alloc::Global;
@@ -22,6 +22,7 @@ fn send<R: Wait>(
     board: &Arc<Board<Held>>,
     seat: BoardSeat<Held>,
     desk: &Desk,
+    first: u32,
     chairs: &mut Vec<Arc<Chair<Held>>>,
 ) -> BoardSeat<Held>
     requires board { seat.board ≡ board.now.value.id }
@@ -39,18 +40,24 @@ fn send<R: Wait>(
     let Ok(shared) = Arc::try_clone(board) else {
         return seat;
     };
-    let (first, second) = at.split(seat);
-    let Ok(chair) = Arc::new(alloc, Chair::of(&second)) else {
-        return at.join(first, second);
+    let (ours, other) = at.split(seat);
+    let Ok(chair) = Arc::new(alloc, Chair::of(&other)) else {
+        return at.join(ours, other);
     };
     let Ok(theirs) = Arc::try_clone(&chair) else {
-        return at.join(first, second);
+        return at.join(ours, other);
     };
     if chairs.push(chair).is_err() {
-        return at.join(first, second);
+        return at.join(ours, other);
     }
-    desk.orders.put(rt, Order::new(shared, theirs, second));
-    first
+    let order = Order::new(shared, theirs, other, first);
+    desk.orders.put(rt, order);
+    ours
+}
+
+// how many numbers apart the caller and the workers at so many desks begin
+fn apart(packs: u32, desks: usize) -> u32 {
+    packs / (desks.min(MOST) as u32 + 1)
 }
 
 // an order for the worker at each desk, and a chair for each order, in the desks' order
@@ -71,12 +78,15 @@ fn send_all<R: Wait>(
     ensures shares { result.share + sum_by (λ c. c.value.share) chairs.new.items
         ≡ seat.share + sum_by (λ c. c.value.share) chairs.old.items }
 {
+    let step = apart(board.count(), desks.len());
+    let mut first = 0u32;
     for (place, desk) in desks.iter().enumerate() {
         // after one for which memory was wanting no more are sent, so notes come from the first
         if seat.share() < 2 || chairs.len() < place {
             break;
         }
-        seat = send(rt, alloc, board, seat, desk, chairs);
+        first = first.saturating_add(step);
+        seat = send(rt, alloc, board, seat, desk, first, chairs);
     }
     seat
 }
@@ -129,6 +139,17 @@ pub(crate) fn sole<X, R: Wait>(rt: &R, mut shared: Arc<X>) -> X
     unreachable!()
 }
 
+// The orders at so many desks are at their end, and no pack is left. One that no worker has begun
+// is taken back, so that nobody waits for a worker that sleeps or has no processor.
+fn end_orders<R: Wait>(rt: &R, desks: &[Desk], orders: usize, looks: u32) {
+    for desk in desks.iter().take(orders) {
+        desk.recall(rt);
+    }
+    for desk in desks.iter().take(orders) {
+        let _ = desk.notes.take(rt, looks);
+    }
+}
+
 // by the caller and the workers
 fn run_board<R: Wait, G: Gate>(
     rt: &R,
@@ -151,9 +172,7 @@ fn run_board<R: Wait, G: Gate>(
     let seat = send_all(rt, alloc, &board, seat, desks, &mut chairs);
     let at: &Board<Held> = &board;
     let seat = sweep(at, seat, gate);
-    for desk in desks.iter().take(chairs.len()) {
-        let _ = desk.notes.take(rt, looks);
-    }
+    end_orders(rt, desks, chairs.len(), looks);
     let seat = gather(rt, at, seat, chairs);
     let board = sole(rt, board);
     board.close(seat)

@@ -54,6 +54,48 @@ fn run_one<T: Task, G: Gate>(board: &Board<T>, seat: &mut BoardSeat<T>, gate: &G
     }
 }
 
+// runs those of these numbers that nobody has begun
+fn run_between<T: Task, G: Gate>(
+    board: &Board<T>,
+    mut seat: BoardSeat<T>,
+    gate: &G,
+    from: u32,
+    to: u32,
+) -> BoardSeat<T>
+    requires board { seat.board ≡ board.now.id }
+    requires free { seat.hand ≡ [] }
+    requires ready { AreReady T.ready seat.opened }
+    requires numbers { to ≤ length board.now.opened }
+    ensures same { IsSameSeat seat result }
+    ensures free { result.hand ≡ [] }
+{
+    for number in from..to {
+        run_one(board, &mut seat, gate, number);
+    }
+    seat
+}
+
+/// Runs each part that nobody has begun, from this number on and then those before it. Whoever
+/// begins at the same number in each call finds most often the parts that it ran before, which its
+/// processor still has at hand.
+pub fn sweep_from<T: Task, G: Gate>(
+    board: &Board<T>,
+    seat: BoardSeat<T>,
+    gate: &G,
+    first: u32,
+) -> BoardSeat<T>
+    requires board { seat.board ≡ board.now.id }
+    requires free { seat.hand ≡ [] }
+    requires ready { AreReady T.ready seat.opened }
+    ensures same { IsSameSeat seat result }
+    ensures free { result.hand ≡ [] }
+{
+    let count = board.count();
+    let first = first.min(count);
+    let seat = run_between(board, seat, gate, first, count);
+    run_between(board, seat, gate, 0, first)
+}
+
 // turns until one finds no number, and at most one more than there are parts
 fn seek<B: Bound, T: Task, G: Gate>(
     board: &Board<T>,

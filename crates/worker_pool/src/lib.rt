@@ -16,7 +16,7 @@ mod tally;
 mod ways;
 mod workers;
 
-pub use crew::{Task, sweep};
+pub use crew::{Task, sweep, sweep_from};
 pub use gate::{Gate, OpenGate};
 pub use lent::Lent;
 pub use pools::{Boarded, Serial, Spread, Stealing};

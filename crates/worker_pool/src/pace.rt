@@ -7,8 +7,8 @@ const FIRST_CALLS: u32 = 8;
 /// A thread that is started and joined costs about as much as so many instructions, or fewer.
 const STARTED_COST: u64 = 8192;
 
-/// And a thread that stays, and is told of a call.
-const STAYING_COST: u64 = 512;
+/// And a thread that stays, and is told of a call; its packs come from another processor's memory.
+const STAYING_COST: u64 = 900;
 
 /// What the last calls took, and what a thread costs.
 #[derive(Clone, Copy)]

@@ -5,7 +5,7 @@ use Rattle.staying_workers.specs.Lending.{IsReady}
 use Rattle.staying_workers.specs.declared.held.Held.{Held}
 use Rattle.staying_workers.proofs.rounds.send.Goals as goal
 
-pub new-requires-2-clause-ready : goal.new-requires-2-clause-ready
-new-requires-2-clause-ready g c =
+pub new-order-requires-clause-ready : goal.new-order-requires-clause-ready
+new-order-requires-clause-ready g c =
     subst (λ (l : List Held). AreReady IsReady l)
-    (sym (ap (λ (s : Seating Held). s.opened) c.split-first.ensures.second)) c.requires.ready
+    (sym (ap (λ (s : Seating Held). s.opened) c.split-ours.ensures.second)) c.requires.ready
