@@ -1,5 +1,5 @@
 -- The uses and owners of frames, as a space's entries go one after another.
-use Rattle.std.proofs.Common.{◌≡◌, ◌≢◌, ℕ, zero, suc, ◌+◌, ◌-◌, ◌<◌, ◌≤◌, Bool, true, false, cond, ◌⊎◌, inl, inr, List, [], ◌∷◌, ◌++◌, length, get_or, set, take, append-nil, Some, subst, length-set, get_or-set_same, get_or-set_other, refl, sym, ap, ◌∙◌, arith}
+use Rattle.std.proofs.Common.{◌≡◌, ◌≢◌, ℕ, zero, suc, ◌+◌, ◌-◌, ◌<◌, ◌≤◌, Bool, true, false, cond, ◌⊎◌, inl, inr, List, [], ◌∷◌, ◌++◌, length, get_or, set, take, Some, length-set, get_or-set_same, get_or-set_other, refl, sym, ap, ◌∙◌, arith}
 use Rattle.std.specs.Prelude.{◌==◌, ◌&&◌, not, nat_lt, filter, slice_get}
 use Rattle.std.proofs.lemmas.Bool.{cases_eq, ne_eqb}
 use Rattle.std.proofs.lemmas.Bool.Decides.{nat_tests}
@@ -51,12 +51,6 @@ module _ (test : ℕ × Entry → Bool) (es : List (ℕ × Entry)) (i : ℕ) (e 
   one-appended = ap (filter test) (take_more es i no_entry h)
       ∙ filter-append test (take i es) (get_or es i no_entry ∷ [])
       ∙ ap (λ (x : ℕ × Entry). filter test (take i es) ++ filter test (x ∷ [])) q
-
-  -- the next one doesn't
-  none-passed : test e ≡ false → filter test (take (i + 1) es) ≡ filter test (take i es)
-  none-passed fails = one-appended
-      ∙ ap (λ b. filter test (take i es) ++ cond b (e ∷ []) []) fails
-      ∙ append-nil (filter test (take i es))
 
   -- the next one does
   one-passed : test e ≡ true
@@ -215,15 +209,21 @@ module _ (s t : Store) (es : List (ℕ × Entry)) (i : ℕ) (e : ℕ × Entry) (
       dropped-more s t new (take i es) (take (i + 1) es) e (used-front s es (i + 1) used) dropped
       one is (used-within t.uses e.1.frame next-used)
 
+-- none of them
+pub none-dropped : (s : Store) → IsDropped [] s s
+none-dropped s = record {
+  pages = refl;
+  count = refl;
+  uses = λ f. omega arith;
+  owners = λ f. refl;
+}
+
 -- those that pass a test
 module _ (s t : Store) (test : ℕ × Entry → Bool) (es : List (ℕ × Entry)) (i : ℕ) (e : ℕ × Entry)
     (used : AreUsed es s) (dropped : IsDropped (filter test (take i es)) s t) (h : i < length es)
     (here : slice_get es i ≡ Some e) where
   at : get_or es i no_entry ≡ e
   at = get_or_from_slice_get es i e no_entry here
-
-  pub skipped : test e ≡ false → IsDropped (filter test (take (i + 1) es)) s t
-  skipped fails = subst (λ xs. IsDropped xs s t) (sym (none-passed test es i e h at fails)) dropped
 
   module _ (passes : test e ≡ true) where
     still : AreUsed (filter test (take (i + 1) es)) s

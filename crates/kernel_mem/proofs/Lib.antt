@@ -2,6 +2,7 @@ pub mod Reaching
 pub mod Copying
 pub mod Keeping
 pub mod Dropping
+pub mod DropRun
 pub mod Mapping
 pub mod Copies
 pub mod Loops

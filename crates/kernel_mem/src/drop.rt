@@ -71,16 +71,17 @@ pub fn unmap(
     Ok(())
 }
 
-// The uses of those of so many pages from this one on that are mapped.
+// The uses of those of so many pages from this one on that are mapped, which stand together.
 fn drop_run(frames: &mut Frames, space: &Space, page: u32, count: u32)
     requires { AreUsed space.now.entries frames.old }
     ensures { IsDropped (filter (in_run page count) space.now.entries) frames.old frames.new }
 {
-    for place in 0..space.len() {
+    for place in space.first_from(page)..space.len() {
         let mapped = space.at(place);
-        if is_in_run(mapped, page, count) {
-            frames.use_less(mapped.1.frame);
+        if !is_in_run(mapped, page, count) {
+            return;
         }
+        frames.use_less(mapped.1.frame);
     }
 }
 
