@@ -1,6 +1,6 @@
 -- Words that are known stay so, as pages are found and written; and a memo that learns one more.
 use Rattle.std.proofs.Common.{ℕ, zero, suc, ◌+◌, ◌*◌, ◌/◌, ◌%◌, ◌^◌, ◌<◌, ◌≤◌, ◌≡◌, ◌≢◌, ◌⊎◌, inl, inr, refl, sym, ap, ◌∙◌, List, [], ◌∷◌, length, take, drop, set, Bool, true, false, replicate, Option, Ok, arith, subst, eqb, eq-eqb}
-use Rattle.std.specs.Prelude.{All, slice_index_or, ◌==◌, ◌||◌}
+use Rattle.std.specs.Prelude.{slice_index_or, ◌==◌, ◌||◌}
 use Rattle.std.specs.List.{list_any}
 use Rattle.std.proofs.lemmas.Bool.{cases_lt}
 use Rattle.std.proofs.lemmas.List.{get_or-set_other, get_or-set_same, get_or_past, set_past}

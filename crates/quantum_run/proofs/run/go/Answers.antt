@@ -3,7 +3,6 @@ use Rattle.dos_world.specs.World.{World, Registers, with_pc}
 use Rattle.dos_world.specs.declared.Access.TheVariants.{Fetch}
 use Rattle.rv_exec.specs.Follows.{word_at}
 use Rattle.rv_exec.specs.Going.{arrived}
-use Rattle.rv_exec.specs.Runs.{Runs}
 use Rattle.rv_exec.specs.declared.next.Next.TheVariants.{On, To, Not}
 use Rattle.rv_form.specs.Notes.{Note, note_at}
 use Rattle.quantum_run.specs.declared.running.Running.{Running}

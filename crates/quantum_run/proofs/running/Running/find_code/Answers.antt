@@ -1,9 +1,9 @@
-use Rattle.std.proofs.Common.{ℕ, ◌≡◌, ◌⊎◌, inl, inr, List, set, sym, subst}
+use Rattle.std.proofs.Common.{ℕ, inl, inr, List, set, sym, subst}
 use Rattle.std.proofs.lemmas.List.Elements.{All-set}
 use Rattle.dos_world.specs.declared.Access.TheVariants.{Fetch, Store}
 use Rattle.quantum_run.specs.declared.slot.Slot.{Slot}
 use Rattle.quantum_run.specs.Finding.{AreFramesOf, IsFrameOf}
-use Rattle.quantum_run.specs.Knowing.{AreApart, IsBase, KeepsKnown, empty_slot}
+use Rattle.quantum_run.specs.Knowing.{AreApart, IsBase, KeepsKnown}
 use Rattle.quantum_run.proofs.Knowing.{apart-fetched, apart-none, base-none, empty-page, keeps-found, keeps-none}
 use Rattle.quantum_run.proofs.Places.{none-found}
 use Rattle.quantum_run.proofs.running.Running.find_code.Goals as goal

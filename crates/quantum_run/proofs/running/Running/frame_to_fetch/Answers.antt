@@ -1,4 +1,4 @@
-use Rattle.std.proofs.Common.{rules, ◌<◌, length, sym, ap}
+use Rattle.std.proofs.Common.{rules, ◌<◌, length, sym}
 use Rattle.dos_world.specs.declared.Access.TheVariants.{Fetch}
 use Rattle.quantum_run.proofs.Knowing.{keeps-same}
 use Rattle.quantum_run.proofs.running.Running.frame_to_fetch.Goals as goal
