@@ -17,7 +17,7 @@ pub(crate) fn is_callers<W: Workers>(workers: &W, starters: usize) -> bool {
         Way::Spread(hands) => hands.enough_for(starters) == 1,
         Way::Boarded(hands, _alloc) => hands.enough_for(starters) == 1,
         Way::Stealing(hands, _alloc) => hands.enough_for(starters) == 1,
-        Way::Staffed(_staff) => starters == 1,
+        Way::Staffed(staff) => staff.is_alone(starters),
     }
 }
 

@@ -87,6 +87,10 @@ impl<'a, R: Wait, G: Gate> Clerks<'a, R, G> {
 }
 
 impl<'a, R: Wait, G: Gate> Staff for Clerks<'a, R, G> {
+    fn is_alone(&self, packs: usize) -> bool {
+        self.desks_for(packs).is_empty()
+    }
+
     fn run_packs(&self, packs: &mut Vec<Pack>, shared: Shared) -> Shared {
         let desks = self.desks_for(packs.len());
         if desks.is_empty() {

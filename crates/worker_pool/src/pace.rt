@@ -10,10 +10,14 @@ const STARTED_COST: u64 = 8192;
 /// And a thread that stays, and is told of a call; its packs come from another processor's memory.
 const STAYING_COST: u64 = 900;
 
+/// A call of fewer instructions isn't worth telling threads that stay of it.
+const STAYING_LEAST: u64 = 3000;
+
 /// What the last calls took, and what a thread costs.
 #[derive(Clone, Copy)]
 pub(crate) struct Pace {
     cost: u64,
+    least: u64,
     calls: u32,
     work: u64,
     ghost some: { 0 < cost },
@@ -24,6 +28,7 @@ impl Pace {
     pub(crate) fn started() -> Pace {
         Pace {
             cost: STARTED_COST,
+            least: STARTED_COST,
             calls: 0,
             work: 0,
         }
@@ -33,6 +38,7 @@ impl Pace {
     pub(crate) fn staying() -> Pace {
         Pace {
             cost: STAYING_COST,
+            least: STAYING_LEAST,
             calls: 0,
             work: 0,
         }
@@ -50,6 +56,9 @@ impl Pace {
     {
         if self.calls < FIRST_CALLS {
             return 32;
+        }
+        if self.work < self.least {
+            return 1;
         }
         let threads = self.work / self.cost;
         if threads > 32 {

@@ -93,6 +93,9 @@ impl<'a, R, G> Hands<'a, R, G> {
 
 /// Threads that stay over many calls. A call may wait where the type's runtime may.
 pub trait Staff {
+    /// Whether the caller alone would run so many packs.
+    fn is_alone(&self, packs: usize) -> bool;
+
     /// Runs each pack, as `run_pack` does; what they share comes back as it was.
     fn run_packs(&self, packs: &mut Vec<Pack>, shared: Shared) -> Shared
         requires count { vec_len packs.old < 2 ^ 32 }
@@ -205,6 +208,10 @@ fn run_shared<R: Threads + Sync, G: Gate + Sync>(
 }
 
 impl Staff for Nobody {
+    fn is_alone(&self, _packs: usize) -> bool {
+        true
+    }
+
     fn run_packs(&self, packs: &mut Vec<Pack>, shared: Shared) -> Shared {
         run_in_place(&OpenGate::new(), packs, &shared.view());
         shared
