@@ -8,7 +8,7 @@ ghost use Rattle.worker_pool.specs.Ran.{GrewBy};
 
 use crate::part::run_alone;
 use kernel_calls::State;
-use worker_pool::{Way, Workers};
+use worker_pool::{Staff, Way, Workers};
 
 /// Whether the caller's own thread would run the parts of so many starters, one after another.
 pub(crate) fn is_callers<W: Workers>(workers: &W, starters: usize) -> bool {
