@@ -17,7 +17,7 @@ use Rattle.rv_form.specs.Notes.{Note, AreBelow, note_at, nothing, first_base}
 use Rattle.quantum_run.specs.declared.slot.Slot.{Slot}
 use Rattle.quantum_run.specs.Finding.{AreFramesOf, place_in}
 use Rattle.quantum_run.specs.Knowing.{AreApart, AreKnown, IsBase, IsKnown, IsNoCode, KeepsKnown, empty_slot, no_base, slot_of}
-use Rattle.quantum_run.specs.Showing.{Still, Holds}
+use Rattle.quantum_run.specs.Showing.{Still, Holds, ShowsKnown}
 use Rattle.quantum_run.proofs.Places.{length-bytes}
 use Rattle.quantum_run.proofs.Reaching.{word-found}
 
@@ -234,17 +234,14 @@ known-begun base fetched pages notes below first some place address fits key =
     let at = note-past notes place base below (omega (arith, first)) in
     absurd (omega (arith, at, key))
 
--- one word more
-pub known-more : (base : ℕ) (fetched : List Slot) (pages : List (Option (List ℕ)))
-    (notes : List Note) (place address word : ℕ) → AreKnown base fetched pages notes
-    → IsKnown fetched pages address word
-    → AreKnown base fetched pages (set notes place (record { key = base + address; word = word }))
-known-more base fetched pages notes place address word are known some at a fits key =
+-- one note more, which is right for each address whose key it has
+known-set : (base : ℕ) (fetched : List Slot) (pages : List (Option (List ℕ)))
+    (notes : List Note) (place : ℕ) (note : Note) → AreKnown base fetched pages notes
+    → ((a : ℕ) → a < 2 ^ 32 → note.key ≡ base + a → IsKnown fetched pages a note.word)
+    → AreKnown base fetched pages (set notes place note)
+known-set base fetched pages notes place note are right some at a fits key =
     by_place (cases_lt place (length notes)) (eqb_tells at place)
   where
-    note : Note
-    note = record { key = base + address; word = word }
-
     by_old : note_at (set notes place note) at ≡ note_at notes at
         → IsKnown fetched pages a (note_at (set notes place note) at).word
     by_old same = subst (λ (n : Note). IsKnown fetched pages a n.word) (sym same)
@@ -252,11 +249,8 @@ known-more base fetched pages notes place address word are known some at a fits 
 
     by_new : note_at (set notes place note) at ≡ note
         → IsKnown fetched pages a (note_at (set notes place note) at).word
-    by_new same =
-        let sums : base + address ≡ base + a = ap (λ (n : Note). n.key) (sym same) ∙ key in
-        let here : address ≡ a = omega (arith, sums) in
-        subst (λ (n : Note). IsKnown fetched pages a n.word) (sym same)
-        (subst (λ (x : ℕ). IsKnown fetched pages x word) here known)
+    by_new same = subst (λ (n : Note). IsKnown fetched pages a n.word) (sym same)
+        (right a fits (ap (λ (n : Note). n.key) (sym same) ∙ key))
 
     by_place : (place < length notes) ⊎ (length notes ≤ place)
         → ((eqb at place ≡ true) × (at ≡ place)) ⊎ ((eqb at place ≡ false) × (at ≢ place))
@@ -271,6 +265,24 @@ known-more base fetched pages notes place address word are known some at a fits 
     by_place (inr past) (inr other) =
         by_old (get_or-set_other notes place at note nothing other.1)
 
+-- one word more
+pub known-more : (base : ℕ) (fetched : List Slot) (pages : List (Option (List ℕ)))
+    (notes : List Note) (place address word : ℕ) → AreKnown base fetched pages notes
+    → IsKnown fetched pages address word
+    → AreKnown base fetched pages (set notes place (record { key = base + address; word = word }))
+known-more base fetched pages notes place address word are known =
+    known-set base fetched pages notes place (record { key = base + address; word = word }) are
+    (λ a fits sums. let here : address ≡ a = omega (arith, sums) in
+    subst (λ (x : ℕ). IsKnown fetched pages x word) here known)
+
+-- a word by a key of no address
+pub known-aside : (base : ℕ) (fetched : List Slot) (pages : List (Option (List ℕ)))
+    (notes : List Note) (place word : ℕ) → AreKnown base fetched pages notes
+    → AreKnown base fetched pages (set notes place (record { key = base + 2 ^ 32; word = word }))
+known-aside base fetched pages notes place word are =
+    known-set base fetched pages notes place (record { key = base + 2 ^ 32; word = word }) are
+    (λ a fits sums. absurd (omega (arith, sums, fits)))
+
 -- ---- words
 
 -- a word that is known is what the flat world has there
@@ -282,3 +294,16 @@ word-known fixed pages t w fetched address word holds fits frames known =
     word-found fixed pages t w holds address (slot_of fetched address).frame word known.aligned fits
     (frames (address / 4096 % 64) empty_slot (slot-there fetched address fits known.found) address
     fits (sym known.found)) known.read known.full
+
+-- and so is the word that a memo has by a key of the base
+pub word-noted : {F : Type 0} (now : Still) (fixed : F) (pages : List (Option (List ℕ)))
+    (base : ℕ) (fetched : List Slot) (f : Still × F) (notes : List Note) (t : ℕ) (w : World)
+    (place address : ℕ) → AreFramesOf now.thread now.owners now.entries Fetch fetched
+    → ShowsKnown now fixed pages base fetched (f, notes) t w
+    → (note_at notes place).key ≡ base + address → base ≢ no_base → address < 2 ^ 32
+    → word_at w t address ≡ Ok (note_at notes place).word
+word-noted now fixed pages base fetched f notes t w place address frames s key based fits =
+    word-known f.0 pages t w fetched address (note_at notes place).word s.shows.holds fits
+    (subst (λ (x : Still). AreFramesOf x.thread x.owners x.entries Fetch fetched) s.shows.still
+    frames)
+    (s.known based place address fits key)

@@ -19,7 +19,7 @@ use Rattle.rv_exec.specs.Follows.{word_at}
 use Rattle.quantum_run.specs.Finding.{frame_by, frame_for, place_in}
 use Rattle.rv_form.specs.Notes.{Note}
 use Rattle.quantum_run.specs.declared.slot.Slot.{Slot}
-use Rattle.quantum_run.specs.Knowing.{KeepsKnown}
+use Rattle.quantum_run.specs.Knowing.{AreKnown, KeepsKnown}
 use Rattle.quantum_run.specs.Showing.{Still, Holds, ShowsBy, ShowsKnown}
 
 pub reached-misaligned : (w : World) (t a : ℕ) (size : Size) (access : Access) → a % width size ≢ 0
@@ -90,6 +90,20 @@ shows-known old new fixed after pages left_pages base left_base fetched left f t
     known s = record {
       shows = shows-stays old new fixed after pages left_pages f.0 t w same kept is s.shows;
       known = known f.1 s.known;
+    }
+
+-- and a memory with a memo that has learnt a word
+pub shows-learnt : {F : Type 0} (old new : Still) (fixed after : F)
+    (pages left_pages : List (Option (List ℕ))) (base left_base : ℕ) (fetched left : List Slot)
+    (f : Still × F) (notes more : List Note) (t : ℕ) (w : World) → new ≡ old
+    → after ≡ fixed → left_pages ≡ pages
+    → (AreKnown base fetched pages notes → AreKnown left_base left left_pages more)
+    → ShowsKnown old fixed pages base fetched (f, notes) t w
+    → ShowsKnown new after left_pages left_base left (f, more) t w
+shows-learnt old new fixed after pages left_pages base left_base fetched left f notes more t w same
+    kept is known s = record {
+      shows = shows-stays old new fixed after pages left_pages f t w same kept is s.shows;
+      known = known s.known;
     }
 
 -- ---- the word at pc

@@ -1,42 +1,23 @@
 // The loop, over any memory and in place.
 ghost use Rattle.std.specs.Prelude.{◌≡◌, ◌<◌, ◌≤◌, ◌-◌, ℕ, List, Some, Err, MatchOption, length, map, is_some};
-ghost use Rattle.dos_world.specs.World.{World, with_pc};
+ghost use Rattle.dos_world.specs.World.{World};
 ghost use Rattle.page_store.specs.Store.{AreHome};
-ghost use Rattle.rv_exec.specs.Runs.{Runs, Steps};
+ghost use Rattle.rv_exec.specs.Runs.{Runs};
 ghost use Rattle.rv_exec.specs.Step.{step};
-ghost use Rattle.rv_form.specs.Notes.{Note};
 ghost use Rattle.quantum_run.specs.Knowing.{no_base};
 ghost use Rattle.quantum_run.specs.Pages.{AreOwn, AreReached, AreWithin, is_here, overlay};
 ghost use Rattle.quantum_run.specs.Running.{AreMapped, Goes, IsRunOf, after_steps, run_to, store_of};
-ghost use Rattle.quantum_run.specs.Showing.{ShowsBy, ShowsKnown, Still, still};
+ghost use Rattle.quantum_run.specs.Showing.{ShowsBy, Still, still};
 
 use crate::lent::Lent;
 use crate::pages::{InPlace, Pages};
 use crate::running::Running;
 use dos_world::{Reason, Regs};
 use page_store::{Frames, Page};
-use rv_exec::{Next, Went, one, one_known};
+use rv_exec::{Next, one_known};
 use rv_form::{Memo, place_after, place_of};
 use space_map::Space;
 use std::mem;
-
-/// One instruction whose word isn't known: by its halfwords, one after another. It is rare.
-#[cold]
-#[inline(never)]
-fn one_by_halves<P: Pages>(regs: &mut Regs, memory: &mut Running<'_, P>, pc: u32) -> Went
-    ensures { (f : (Still × P.Fixed) × List Note) (t : ℕ) (w : World) (budget : ℕ)
-        → Runs (ShowsKnown
-        (still memory.old.tid (P.owners memory.old.pages) memory.old.space.now.entries)
-        (P.fixed memory.old.pages) (P.pages memory.old.pages) memory.old.base memory.old.fetched f
-        t) w t (with_pc regs.old pc) budget
-        → Steps (ShowsKnown
-        (still memory.new.tid (P.owners memory.new.pages) memory.new.space.now.entries)
-        (P.fixed memory.new.pages) (P.pages memory.new.pages) memory.new.base memory.new.fetched f
-        t) w t regs.new budget result (step w t) }
-{
-    regs.set_pc(pc);
-    one(regs, memory)
-}
 
 /// Instructions on a memory, each for one of the budget, until one stops or the budget is 0. While
 /// they run, pc stands beside the registers, and with it the place at which the memo may have its
@@ -65,7 +46,7 @@ fn go<P: Pages>(
     let mut left = *budget;
     let mut why = Reason::Service;
     while left > 0 {
-        match memory.place_known(memo, place, pc) {
+        match memory.place_known(memo, place, pc, &mut why) {
             Some(known) => match one_known(regs, memory, memo.form(known), pc, &mut why) {
                 Next::On => {
                     pc = pc.wrapping_add(4);
@@ -81,16 +62,11 @@ fn go<P: Pages>(
                     return Some(why);
                 }
             },
-            None => match one_by_halves(regs, memory, pc) {
-                Went::Step => {
-                    pc = regs.pc();
-                    place = place_of(pc);
-                }
-                Went::Stop(reason) => {
-                    *budget = left;
-                    return Some(reason);
-                }
-            },
+            None => {
+                regs.set_pc(pc);
+                *budget = left;
+                return Some(why);
+            }
         }
         left -= 1;
     }

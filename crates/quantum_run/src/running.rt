@@ -1,11 +1,13 @@
 // The memory of one thread over any pages.
-ghost use Rattle.std.specs.Prelude.{◌≡◌, ◌≢◌, ◌⊎◌, ◌+◌, ◌*◌, ◌/◌, ◌%◌, ◌^◌, ◌<◌, ℕ, List, Option, Ok, Err, IfSome, IsSome, true, length, slice_set};
+ghost use Rattle.std.specs.Prelude.{◌≡◌, ◌≢◌, ◌⊎◌, ◌+◌, ◌*◌, ◌/◌, ◌%◌, ◌^◌, ◌<◌, ℕ, List, Option, Ok, Err, IfSome, MatchOption, true, length, slice_set};
 ghost use Rattle.std.specs.Option.{ok_or};
 ghost use Rattle.dos_world.specs.Reach.{bytes_of, width, written};
 ghost use Rattle.dos_world.specs.declared.Access.TheVariants.{Fetch, Load, Store};
 ghost use Rattle.page_store.specs.Store.{joined, number_at};
 ghost use Rattle.rv_form.specs.Notes.{note_at};
-ghost use Rattle.quantum_run.specs.Showing.{still};
+ghost use Rattle.dos_world.specs.World.{World};
+ghost use Rattle.rv_exec.specs.Follows.{word_at};
+ghost use Rattle.quantum_run.specs.Showing.{ShowsKnown, Still, still};
 ghost use Rattle.quantum_run.specs.Finding.{AreFramesOf, IsFrameOf, IsWriting, frame_for, place_in};
 ghost use Rattle.quantum_run.specs.Knowing.{AreApart, AreKnown, IsBase, IsKnown, IsNoCode, KeepsKnown, no_base, slot_of};
 ghost use Rattle.quantum_run.specs.Pages.{AreReached, AreOwn, AreWithin, IsHomeIn};
@@ -49,6 +51,9 @@ pub struct Running<'a, P: Pages> {
     ghost apart: { AreApart fetched stored },
     ghost base_is: { IsBase base },
 }
+
+/// Keys of a base are those of addresses, fewer than this.
+const ADDRESSES: u64 = 1 << 32;
 
 /// The base, or the next one where it is that of no key. What is known stays so.
 fn base_begun(base: u64, memo: &mut Memo) -> u64
@@ -319,15 +324,11 @@ impl<'a, P: Pages> Running<'a, P> {
         place
     }
 
-    /// The place at which the memo has the word at an address from now on; None where it can't be
-    /// known, or where its fetch is refused.
-    #[cold]
-    #[inline(never)]
-    fn learn(&mut self, memo: &mut Memo, address: u32) -> Option<usize>
-        ensures small { IfSome result (λ place. place < 1024) }
-        ensures here { IfSome result
-            (λ place. (note_at memo.new place).key ≡ self.new.base + address) }
-        ensures based { IsSome result → self.new.base ≢ no_base }
+    /// The memo has the form of this word at the place that is given, by a key of no address: it may
+    /// be another word at once.
+    fn put_aside(&mut self, memo: &mut Memo, address: u32, word: u32) -> usize
+        ensures small { result < 1024 }
+        ensures here { (note_at memo.new result).word ≡ word }
         ensures known { AreKnown self.old.base self.old.fetched (P.pages self.old.pages) memo.old
             → AreKnown self.new.base self.new.fetched (P.pages self.new.pages) memo.new }
         ensures still { still self.new.tid (P.owners self.new.pages) self.new.space.now.entries
@@ -335,37 +336,73 @@ impl<'a, P: Pages> Running<'a, P> {
         ensures fixed { P.fixed self.new.pages ≡ P.fixed self.old.pages }
         ensures pages { P.pages self.new.pages ≡ P.pages self.old.pages }
     {
-        let word = self.word_to_know(address)?;
-        Some(self.remember(memo, address, word))
+        self.base = base_begun(self.base, memo);
+        let place = place_of(address);
+        memo.keep(place, self.base + ADDRESSES, word);
+        place
     }
 
-    /// The place at which the memo has the word at an address, which may be this one; None where it
-    /// can't be known, or where its fetch is refused.
+    /// The place at which the memo has the word at an address from now on; None where its fetch is
+    /// refused, for this reason.
+    #[cold]
+    #[inline(never)]
+    fn learn(&mut self, memo: &mut Memo, address: u32, why: &mut Reason) -> Option<usize>
+        ensures small { IfSome result (λ place. place < 1024) }
+        ensures word { (f : Still × P.Fixed) (t : ℕ) (w : World)
+            → ShowsKnown (still self.old.tid (P.owners self.old.pages) self.old.space.now.entries)
+            (P.fixed self.old.pages) (P.pages self.old.pages) self.old.base self.old.fetched
+            (f, memo.old) t w
+            → ShowsKnown (still self.new.tid (P.owners self.new.pages) self.new.space.now.entries)
+            (P.fixed self.new.pages) (P.pages self.new.pages) self.new.base self.new.fetched
+            (f, memo.new) t w
+            × MatchOption result (word_at w t address ≡ Err why.new)
+            (λ place. word_at w t address ≡ Ok (note_at memo.new place).word) }
+    {
+        if let Some(word) = self.word_to_know(address) {
+            return Some(self.remember(memo, address, word));
+        }
+        match self.fetch_word(address) {
+            Ok(word) => Some(self.put_aside(memo, address, word)),
+            Err(reason) => {
+                *why = reason;
+                None
+            }
+        }
+    }
+
+    /// The place at which the memo has the word at an address, which may be this one; None where its
+    /// fetch is refused, for this reason.
     #[inline(always)]
-    pub fn place_known(&mut self, memo: &mut Memo, place: usize, address: u32) -> Option<usize>
+    pub fn place_known(
+        &mut self,
+        memo: &mut Memo,
+        place: usize,
+        address: u32,
+        why: &mut Reason,
+    ) -> Option<usize>
         requires { place < 1024 }
         ensures small { IfSome result (λ place. place < 1024) }
-        ensures here { IfSome result
-            (λ place. (note_at memo.new place).key ≡ self.new.base + address) }
-        ensures based { IsSome result → self.new.base ≢ no_base }
-        ensures known { AreKnown self.old.base self.old.fetched (P.pages self.old.pages) memo.old
-            → AreKnown self.new.base self.new.fetched (P.pages self.new.pages) memo.new }
-        ensures still { still self.new.tid (P.owners self.new.pages) self.new.space.now.entries
-            ≡ still self.old.tid (P.owners self.old.pages) self.old.space.now.entries }
-        ensures fixed { P.fixed self.new.pages ≡ P.fixed self.old.pages }
-        ensures pages { P.pages self.new.pages ≡ P.pages self.old.pages }
+        ensures word { (f : Still × P.Fixed) (t : ℕ) (w : World)
+            → ShowsKnown (still self.old.tid (P.owners self.old.pages) self.old.space.now.entries)
+            (P.fixed self.old.pages) (P.pages self.old.pages) self.old.base self.old.fetched
+            (f, memo.old) t w
+            → ShowsKnown (still self.new.tid (P.owners self.new.pages) self.new.space.now.entries)
+            (P.fixed self.new.pages) (P.pages self.new.pages) self.new.base self.new.fetched
+            (f, memo.new) t w
+            × MatchOption result (word_at w t address ≡ Err why.new)
+            (λ place. word_at w t address ≡ Ok (note_at memo.new place).word) }
     {
         if memo.has(place, self.base + u64::from(address)) {
             return Some(place);
         }
-        self.learn(memo, address)
+        self.learn(memo, address, why)
     }
 }
 
 impl<'a, P: Pages> Memory for Running<'a, P> {
     ghost use Rattle.std.specs.Prelude.{List};
     ghost use Rattle.rv_form.specs.Notes.{Note};
-    ghost use Rattle.quantum_run.specs.Showing.{Still, ShowsKnown, still, blind_known};
+    ghost use Rattle.quantum_run.specs.Showing.{blind_known};
 
     ghost Fixed = { (Still × P.Fixed) × List Note };
 

@@ -1,21 +1,18 @@
-use Rattle.std.proofs.Common.{ℕ, ◌+◌, ◌-◌, ◌^◌, ◌<◌, ◌≡◌, ◌≢◌, List, None, Some, Ok, refl, sym, subst, arith, ◌∙◌}
+use Rattle.std.proofs.Common.{ℕ, ◌-◌, ◌<◌, List, None, Some, sym, subst, arith}
 use Rattle.dos_world.specs.World.{World, Registers, with_pc}
-use Rattle.dos_world.specs.declared.Access.TheVariants.{Fetch}
-use Rattle.rv_exec.specs.Follows.{word_at}
 use Rattle.rv_exec.specs.Going.{arrived}
 use Rattle.rv_exec.specs.declared.next.Next.TheVariants.{On, To, Not}
+use Rattle.rv_exec.specs.declared.Went.TheVariants.{Stop}
+use Rattle.rv_exec.proofs.Stepping.{steps}
+use Rattle.rv_exec.proofs.Whole.{follows_err, one_err}
 use Rattle.rv_form.specs.Notes.{Note, note_at}
 use Rattle.quantum_run.specs.declared.running.Running.{Running}
-use Rattle.quantum_run.specs.Finding.{AreFramesOf}
-use Rattle.quantum_run.specs.Knowing.{AreKnown, no_base}
 use Rattle.quantum_run.specs.Running.{Goes, Reaches}
-use Rattle.quantum_run.specs.Showing.{ShowsBy, ShowsKnown, Still, still}
+use Rattle.quantum_run.specs.Showing.{blind_known, ShowsBy, ShowsKnown, Still, still}
 use Rattle.quantum_run.proofs.Going.{goes-shown, goes-stopped, reaches-more, reaches-shown}
-use Rattle.quantum_run.proofs.Knowing.{word-known}
-use Rattle.quantum_run.proofs.Reaching.{shows-stays}
 use Rattle.quantum_run.proofs.run.go.Given as given
 use Rattle.quantum_run.proofs.run.go.Goals as goal
-use Rattle.quantum_run.proofs.run.go.Goals.{in-Some+in-On, in-Some+in-To, in-None+in-Step}
+use Rattle.quantum_run.proofs.run.go.Goals.{in-On, in-To}
 
 -- what a memory shows, with these notes of the memo
 abbrev shown : (g : given.Over) → Running g.row.P.Denot g.P.Pages → Still × g.P.Pages.Fixed
@@ -23,144 +20,93 @@ abbrev shown : (g : given.Over) → Running g.row.P.Denot g.P.Pages → Still ×
 shown g m f notes t = ShowsKnown (still m.tid (g.P.Pages.owners m.pages) m.space.now.entries)
     (g.P.Pages.fixed m.pages) (g.P.Pages.pages m.pages) m.base m.fetched (f, notes) t
 
--- the word that the memo has by a key of the base is what the flat world has there
-word-here : (g : given.Over) (m : Running g.row.P.Denot g.P.Pages) (f : Still × g.P.Pages.Fixed)
-    (notes : List Note) (t : ℕ) (u : World) (place pc : ℕ) → shown g m f notes t u
-    → (note_at notes place).key ≡ m.base + pc → m.base ≢ no_base → pc < 2 ^ 32
-    → word_at u t pc ≡ Ok (note_at notes place).word
-word-here g m f notes t u place pc s key based fits =
-    word-known f.0 (g.P.Pages.pages m.pages) t u m.fetched pc (note_at notes place).word
-    s.shows.holds fits
-    (subst (λ (x : Still). AreFramesOf x.thread x.owners x.entries Fetch m.fetched) s.shows.still
-    m.fetched_are)
-    (s.known based place pc fits key)
-
--- a memory that knows one more word shows what it showed
-learnt : (g : given.Over) (m n : Running g.row.P.Denot g.P.Pages) (f : Still × g.P.Pages.Fixed)
-    (notes more : List Note) (t : ℕ)
-    → still n.tid (g.P.Pages.owners n.pages) n.space.now.entries
-    ≡ still m.tid (g.P.Pages.owners m.pages) m.space.now.entries
-    → g.P.Pages.fixed n.pages ≡ g.P.Pages.fixed m.pages
-    → g.P.Pages.pages n.pages ≡ g.P.Pages.pages m.pages
-    → (AreKnown m.base m.fetched (g.P.Pages.pages m.pages) notes
-    → AreKnown n.base n.fetched (g.P.Pages.pages n.pages) more)
-    → (u : World) → shown g m f notes t u → shown g n f more t u
-learnt g m n f notes more t same kept pages known u s = record {
-  shows = shows-stays (still m.tid (g.P.Pages.owners m.pages) m.space.now.entries)
-      (still n.tid (g.P.Pages.owners n.pages) n.space.now.entries) (g.P.Pages.fixed m.pages)
-      (g.P.Pages.fixed n.pages) (g.P.Pages.pages m.pages) (g.P.Pages.pages n.pages) f t u same kept
-      pages s.shows;
-  known = known s.known;
-}
+-- what it shows before it has learnt a word and after, both
+abbrev both : (World → Type 0) → (World → Type 0) → World → Type 0
+both before after u = before u × after u
 
 pub returns-in-Not-clause-runs : goal.returns-in-Not-clause-runs
 returns-in-Not-clause-runs g c = λ f t w runs.
-    let m = c.loop-left.memory in
-    let n = c.place_known.new.self in
-    let after = c.one_known.new.memory in
     let notes = c.place_known.new.memo in
-    let pc = c.loop-left.pc in
+    let known = c.in-Some.known in
+    let after = c.one_known.new.memory in
+    let why = c.one_known.new.why in
     let left = c.loop-left.left in
     let budget = c.args.budget.now in
-    let e = c.place_known.ensures in
-    let before_regs = with_pc c.loop-left.regs pc in
-    let after_regs = arrived c.one_known.new.regs pc Not in
-    let fits : pc < 2 ^ 32 = omega arith in
+    let before_regs = with_pc c.loop-left.regs c.loop-left.pc in
+    let after_regs = arrived c.one_known.new.regs c.loop-left.pc Not in
+    let old = shown g c.loop-left.memory f c.loop-left.memo t in
+    let new = shown g c.place_known.new.self f notes t in
     subst (λ (r : Registers). Goes (ShowsBy
     (still after.tid (g.P.Pages.owners after.pages) after.space.now.entries)
-    (g.P.Pages.fixed after.pages) (g.P.Pages.pages after.pages) f t) w t r budget left
-    (Some c.one_known.new.why)) (sym c.set_pc.ensures)
-    (goes-shown (shown g after f notes t) _ w t after_regs budget left (Some c.one_known.new.why)
-    (λ u s. s.shows)
-    (goes-stopped (shown g n f notes t) (shown g after f notes t) w t before_regs after_regs budget
-    left c.one_known.new.why
-    (λ u ru. c.in-Not.ensures (f, notes) t u left (note_at notes c.in-Some.known).word
-    c.form.ensures
-    (word-here g n f notes t u c.in-Some.known pc ru.shown c.in-Some.ensures.here
-    (c.in-Some.ensures.based refl) fits) ru)
-    (reaches-shown (shown g m f c.loop-left.memo t) (shown g n f notes t) w t before_regs budget left
-    (learnt g m n f c.loop-left.memo notes t e.still e.fixed e.pages e.known)
+    (g.P.Pages.fixed after.pages) (g.P.Pages.pages after.pages) f t) w t r budget left (Some why))
+    (sym c.set_pc.ensures)
+    (goes-shown (shown g after f notes t) _ w t after_regs budget left (Some why) (λ u s. s.shows)
+    (goes-stopped (both old new) (shown g after f notes t) w t before_regs after_regs budget left why
+    (λ u ru. c.in-Not.ensures (f, notes) t u left (note_at notes known).word c.form.ensures
+    (c.in-Some.ensures.word f t u ru.shown.0).1
+    (record { shown = ru.shown.1; thread = ru.thread }))
+    (reaches-shown old (both old new) w t before_regs budget left
+    (λ u s. (s, (c.in-Some.ensures.word f t u s).0))
     (c.loop-left.invariant.0 f t w runs))))
 
-pub returns-in-Stop-clause-runs : goal.returns-in-Stop-clause-runs
-returns-in-Stop-clause-runs g c = λ f t w runs.
-    let m = c.loop-left.memory in
+pub returns-in-None-clause-runs : goal.returns-in-None-clause-runs
+returns-in-None-clause-runs g c = λ f t w runs.
     let n = c.place_known.new.self in
-    let after = c.one_by_halves.new.memory in
     let notes = c.place_known.new.memo in
+    let why = c.place_known.new.why in
     let left = c.loop-left.left in
     let budget = c.args.budget.now in
-    let e = c.place_known.ensures in
-    let before_regs = with_pc c.loop-left.regs c.loop-left.pc in
-    goes-shown (shown g after f notes t) _ w t c.one_by_halves.new.regs budget left
-    (Some c.in-Stop.reason) (λ u s. s.shows)
-    (goes-stopped (shown g n f notes t) (shown g after f notes t) w t before_regs
-    c.one_by_halves.new.regs budget left c.in-Stop.reason
-    (λ u ru. c.in-Stop.ensures (f, notes) t u left ru)
-    (reaches-shown (shown g m f c.loop-left.memo t) (shown g n f notes t) w t before_regs budget left
-    (learnt g m n f c.loop-left.memo notes t e.still e.fixed e.pages e.known)
+    let regs = with_pc c.loop-left.regs c.loop-left.pc in
+    let old = shown g c.loop-left.memory f c.loop-left.memo t in
+    let new = shown g n f notes t in
+    subst (λ (r : Registers). Goes (ShowsBy
+    (still n.tid (g.P.Pages.owners n.pages) n.space.now.entries)
+    (g.P.Pages.fixed n.pages) (g.P.Pages.pages n.pages) f t) w t r budget left (Some why))
+    (sym c.set_pc-in-None.ensures)
+    (goes-shown new _ w t regs budget left (Some why) (λ u s. s.shows)
+    (goes-stopped old new w t regs regs budget left why
+    (λ u ru. let r = c.in-None.ensures.word f t u ru.shown in
+    steps old new t (blind_known (still n.tid (g.P.Pages.owners n.pages) n.space.now.entries)
+    (g.P.Pages.fixed n.pages) (g.P.Pages.pages n.pages) n.base n.fetched (f, notes) t) u regs regs left (Stop why)
+    (λ s. follows_err new u regs why _ (one_err u t regs why (sym r.1)) r.0) ru)
     (c.loop-left.invariant.0 f t w runs)))
 
 pub loop-left-preserved : goal.loop-left-preserved
 loop-left-preserved g c = (
   λ f t w runs.
-      let m = c.loop-left.memory in
-      let n = c.place_known.new.self in
       let notes = c.place_known.new.memo in
       let pc = c.loop-left.pc in
       let left = c.loop-left.left in
       let budget = c.args.budget.now in
-      let e = c.place_known.ensures in
       let inv = c.loop-left.invariant in
       let before_regs = with_pc c.loop-left.regs pc in
-      let fits : pc < 2 ^ 32 = omega arith in
-      let found : Reaches (shown g n f notes t) w t before_regs budget left =
-      reaches-shown (shown g m f c.loop-left.memo t) (shown g n f notes t) w t before_regs budget left
-      (learnt g m n f c.loop-left.memo notes t e.still e.fixed e.pages e.known)
-      (inv.0 f t w runs) in
+      let old = shown g c.loop-left.memory f c.loop-left.memo t in
+      let new = shown g c.place_known.new.self f notes t in
       let R : Running g.row.P.Denot g.P.Pages → Registers → ℕ → Type 0 =
       λ x r p. Reaches (shown g x f notes t) w t (with_pc r p) budget (left - 1) in
-      elim c.match-place_known.branch as
-      (λ _. R c.match-place_known.memory c.match-place_known.regs c.match-place_known.pc) [
-        | in-Some+in-On b ↦
-            let after = b.one_known.new.memory in
-            let r = b.one_known.new.regs in
-            subst (λ x. R x c.match-place_known.regs c.match-place_known.pc) (sym b.memory-is)
-            (subst (λ x. R after x c.match-place_known.pc) (sym b.regs-is)
-            (subst (λ x. R after r x) (sym b.pc-is)
-            (reaches-more (shown g n f notes t) (shown g after f notes t) w t before_regs
+      let after = c.one_known.new.memory in
+      let r = c.one_known.new.regs in
+      let reached : Reaches (both old new) w t before_regs budget left =
+      reaches-shown old (both old new) w t before_regs budget left
+      (λ u s. (s, (c.in-Some.ensures.word f t u s).0)) (inv.0 f t w runs) in
+      elim c.match-one_known.branch as (λ _. R after r c.match-one_known.pc) [
+        | in-On b ↦ subst (λ x. R after r x) (sym b.pc-is)
+            (reaches-more (both old new) (shown g after f notes t) w t before_regs
             (arrived r pc On) budget left c.loop-left-test.true inv.1
-            (λ u ru. b.in-On.ensures (f, notes) t u left (note_at notes b.in-Some.known).word
-            b.form.ensures
-            (word-here g n f notes t u b.in-Some.known pc ru.shown b.in-Some.ensures.here
-            (b.in-Some.ensures.based refl) fits) ru) found)))
-        | in-Some+in-To b ↦
-            let after = b.one_known.new.memory in
-            let r = b.one_known.new.regs in
-            subst (λ x. R x c.match-place_known.regs c.match-place_known.pc) (sym b.memory-is)
-            (subst (λ x. R after x c.match-place_known.pc) (sym b.regs-is)
-            (subst (λ x. R after r x) (sym b.pc-is)
-            (reaches-more (shown g n f notes t) (shown g after f notes t) w t before_regs
+            (λ u ru. b.in-On.ensures (f, notes) t u left (note_at notes c.in-Some.known).word
+            c.form.ensures (c.in-Some.ensures.word f t u ru.shown.0).1
+            (record { shown = ru.shown.1; thread = ru.thread })) reached)
+        | in-To b ↦ subst (λ x. R after r x) (sym b.pc-is)
+            (reaches-more (both old new) (shown g after f notes t) w t before_regs
             (arrived r pc (To b.in-To.target)) budget left c.loop-left-test.true inv.1
-            (λ u ru. b.in-To.ensures (f, notes) t u left (note_at notes b.in-Some.known).word
-            b.form.ensures
-            (word-here g n f notes t u b.in-Some.known pc ru.shown b.in-Some.ensures.here
-            (b.in-Some.ensures.based refl) fits) ru) found)))
-        | in-None+in-Step b ↦
-            let after = b.one_by_halves.new.memory in
-            let r = b.one_by_halves.new.regs in
-            subst (λ x. R x c.match-place_known.regs c.match-place_known.pc) (sym b.memory-is)
-            (subst (λ x. R after x c.match-place_known.pc) (sym b.regs-is)
-            (subst (λ x. R after r x) (sym (b.pc-is ∙ b.pc-pc-in-Step.ensures))
-            (reaches-more (shown g n f notes t) (shown g after f notes t) w t before_regs r budget
-            left c.loop-left-test.true inv.1
-            (λ u ru. b.in-Step.ensures (f, notes) t u left ru) found)))
+            (λ u ru. b.in-To.ensures (f, notes) t u left (note_at notes c.in-Some.known).word
+            c.form.ensures (c.in-Some.ensures.word f t u ru.shown.0).1
+            (record { shown = ru.shown.1; thread = ru.thread })) reached)
       ],
   omega (arith, c.loop-left.invariant.1),
-  elim c.match-place_known.branch as (λ _. c.match-place_known.place < 1024) [
-    | in-Some+in-On b ↦ omega (arith, b.place-is, b.place_after-place.ensures)
-    | in-Some+in-To b ↦ omega (arith, b.place-is, b.place_of-place-in-To.ensures)
-    | in-None+in-Step b ↦ omega (arith, b.place-is, b.place_of-place-in-Step.ensures)
+  elim c.match-one_known.branch as (λ _. c.match-one_known.place < 1024) [
+    | in-On b ↦ omega (arith, b.place-is, b.place_after-place.ensures)
+    | in-To b ↦ omega (arith, b.place-is, b.place_of-place-in-To.ensures)
   ],
 )
 
