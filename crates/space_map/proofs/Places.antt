@@ -1,5 +1,5 @@
 -- What a search finds in a rising list of pages, and what a change at that place does.
-use Rattle.std.proofs.Common.{◌≡◌, ℕ, zero, suc, ◌+◌, ◌-◌, ◌<◌, ◌≤◌, List, [], ◌∷◌, length, get_or, set, map, Option, Some, None, Result, Ok, Err, IfOk, IfErr, refl, sym, ap, ◌∙◌, subst, arith}
+use Rattle.std.proofs.Common.{◌≡◌, ℕ, zero, suc, ◌+◌, ◌-◌, ◌<◌, ◌≤◌, List, [], ◌∷◌, length, get_or, set, map, Option, Some, None, Result, Ok, Err, IfOk, IfErr, refl, sym, ap, ap₂, ◌∙◌, subst, arith}
 use Rattle.std.specs.Prelude.{Bool, true, false, ◌==◌, nat_lt, IsSome, filter, AllPairs}
 use Rattle.std.specs.List.{insert, remove}
 use Rattle.std.specs.List.Sorted.{IsSearchInRange, IsBinarySearchResult, IsNonDecreasingBy}
@@ -15,7 +15,7 @@ use Rattle.dos_world.specs.declared.Entry.{Entry}
 use Rattle.dos_world.specs.World.{look}
 use Rattle.dos_world.specs.Kernel.{put}
 use Rattle.space_map.proofs.Mapped.{get_or_any}
-use Rattle.space_map.specs.Mapping.{no_entry, page_at, IsAt, IsGapFor, without, with_shared, shared_in_run, with_shared_run, IsKept, IsRising, Mapping}
+use Rattle.space_map.specs.Mapping.{no_entry, page_at, IsAt, IsGapFor, without, marked, with_shared, replaced, with_replaced, shared_in_run, with_shared_run, IsKept, IsRising, Mapping}
 
 abbrev pub Rises : List (ℕ × Entry) → Type 0
 Rises es = (i j : ℕ) → i < j → j < length es → page_at es i < page_at es j
@@ -197,29 +197,48 @@ remove-without (e ∷ es) page (suc n) sorted at =
     (ap (λ xs. e ∷ xs)
     (remove-without es page n (rises-rest e es sorted) (at_rest e es page n at)))
 
--- ---- sharing
+-- ---- an entry changed
 
-shared-none : (es : List (ℕ × Entry)) (page : ℕ) → NoneBefore es page (length es)
-    → with_shared page es ≡ es
-shared-none [] page none = refl
-shared-none (e ∷ es) page none =
-    rw (other_test e page (none 0 (omega arith)))
-    (ap (λ xs. e ∷ xs) (shared-none es page (none_rest e es page (length es) none)))
+-- what changes no other page's entry
+abbrev KeepsOthers : (ℕ × Entry → ℕ × Entry) → ℕ → Type 0
+KeepsOthers f page = (e : ℕ × Entry) → (e.0 == page) ≡ false → f e ≡ e
+
+map-none : (f : ℕ × Entry → ℕ × Entry) (es : List (ℕ × Entry)) (page : ℕ) → KeepsOthers f page
+    → NoneBefore es page (length es) → map f es ≡ es
+map-none f [] page keeps none = refl
+map-none f (e ∷ es) page keeps none =
+    ap₂ (λ x xs. x ∷ xs) (keeps e (other_test e page (none 0 (omega arith))))
+    (map-none f es page keeps (none_rest e es page (length es) none))
+
+set-changed : (f : ℕ × Entry → ℕ × Entry) (es : List (ℕ × Entry)) (page place : ℕ)
+    (new : ℕ × Entry) → KeepsOthers f page → Rises es → IsAt es page place
+    → new ≡ f (get_or es place (0, no_entry)) → set es place new ≡ map f es
+set-changed f [] page place new keeps sorted at is = absurd (omega (arith, at.within))
+set-changed f (e ∷ es) page zero new keeps sorted at is =
+    let none : NoneBefore es page (length es) =
+    λ i lt same. omega (arith, at.is, sorted 0 (suc i) (omega arith) (omega arith)) in
+    ap₂ (λ x xs. x ∷ xs) is (sym (map-none f es page keeps none))
+set-changed f (e ∷ es) page (suc n) new keeps sorted at is =
+    ap₂ (λ x xs. x ∷ xs)
+    (sym (keeps e (other_test e page (none_at (e ∷ es) page (suc n) sorted at 0 (omega arith)))))
+    (set-changed f es page n new keeps (rises-rest e es sorted) (at_rest e es page n at) is)
 
 pub set-shared : (es : List (ℕ × Entry)) (page place : ℕ) (new : ℕ × Entry) → Rises es
     → IsAt es page place → new ≡ (page, record (get_or es place (0, no_entry)).1 { shared = true })
     → set es place new ≡ with_shared page es
-set-shared [] page place new sorted at is = absurd (omega (arith, at.within))
-set-shared (e ∷ es) page zero new sorted at is =
-    let none : NoneBefore es page (length es) =
-    λ i lt same. omega (arith, at.is, sorted 0 (suc i) (omega arith) (omega arith)) in
-    rw (same_test e page at.is)
-    (ap (λ x. x ∷ es) (is ∙ ap (λ n. (n, record e.1 { shared = true })) (sym at.is))
-    ∙ ap (λ xs. (e.0, record e.1 { shared = true }) ∷ xs) (sym (shared-none es page none)))
-set-shared (e ∷ es) page (suc n) new sorted at is =
-    rw (other_test e page (none_at (e ∷ es) page (suc n) sorted at 0 (omega arith)))
-    (ap (λ xs. e ∷ xs)
-    (set-shared es page n new (rises-rest e es sorted) (at_rest e es page n at) is))
+set-shared es page place new sorted at is =
+    let here : ℕ × Entry = get_or es place (0, no_entry) in
+    set-changed (marked page) es page place new (λ e other. rw other refl) sorted at
+    (is ∙ rw (same_test here page at.is)
+    (ap (λ n. (n, record here.1 { shared = true })) (sym at.is)))
+
+pub set-replaced : (es : List (ℕ × Entry)) (page place : ℕ) (entry : Entry) → Rises es
+    → IsAt es page place → set es place (page, entry) ≡ with_replaced page entry es
+set-replaced es page place entry sorted at =
+    set-changed (replaced page entry) es page place (page, entry) (λ e other. rw other refl)
+    sorted at
+    (rw (same_test (get_or es place (0, no_entry)) page at.is)
+    (ap (λ n. (n, entry)) (sym at.is)))
 
 -- ---- runs of pages
 

@@ -109,7 +109,7 @@ past-run page count e h =
     elim (nat_le page e.0) as (λ b. (b && nat_lt e.0 (page + count)) ≡ false)
     [ true ↦ late | false ↦ refl ]
 
-out-of-run : (page count : ℕ) (e : ℕ × Entry) → page ≤ e.0 → in_run page count e ≡ false
+pub out-of-run : (page count : ℕ) (e : ℕ × Entry) → page ≤ e.0 → in_run page count e ≡ false
     → page + count ≤ e.0
 out-of-run page count e low out = elim (cases_lt e.0 (page + count)) [
   | inl early ↦ absurd (

@@ -1,7 +1,8 @@
 -- What a space holds: its entries in rising page, and its room. This project's own rules.
-use Rattle.std.specs.Prelude.{◌≡◌, ◌<◌, ◌≤◌, ◌+◌, ◌^◌, ℕ, Bool, true, false, not, ◌&&◌, ◌||◌, nat_le, nat_lt, List, [], length, map, filter, IsSome, ◌==◌, slice_index_or}
+use Rattle.std.specs.Prelude.{◌≡◌, ◌<◌, ◌≤◌, ◌+◌, ◌^◌, ℕ, zero, suc, Bool, true, false, not, ◌&&◌, ◌||◌, nat_le, nat_lt, List, [], length, map, filter, IsSome, ◌==◌, slice_index_or, if◌then◌else◌}
 use Rattle.std.specs.List.Sorted.{IsStrictlyIncreasing}
 use Rattle.dos_world.specs.declared.Entry.{Entry}
+use Rattle.dos_world.specs.Kernel.{put}
 use Rattle.dos_world.specs.World.{look}
 use Rattle.dos_world.specs.MemoryCalls.{share_if}
 
@@ -31,7 +32,19 @@ marked page e = (e.0, record e.1 { shared = (e.0 == page) || e.1.shared })
 abbrev pub with_shared : ℕ → List (ℕ × Entry) → List (ℕ × Entry)
 with_shared page entries = map (marked page) entries
 
+-- an entry, or this one in its place where it is this page's
+abbrev pub replaced : ℕ → Entry → (ℕ × Entry) → (ℕ × Entry)
+replaced page entry e = (e.0, if e.0 == page then entry else e.1)
+
+abbrev pub with_replaced : ℕ → Entry → List (ℕ × Entry) → List (ℕ × Entry)
+with_replaced page entry entries = map (replaced page entry) entries
+
 -- ---- runs of pages
+
+-- so many pages from this one on put into a space, one after another, each with this entry
+abbrev pub put_run : ℕ → ℕ → Entry → List (ℕ × Entry) → List (ℕ × Entry)
+put_run page zero entry entries = entries
+put_run page (suc count) entry entries = put_run (suc page) count entry (put page entry entries)
 
 -- whether an entry is of one of so many pages from this one on
 abbrev pub in_run : ℕ → ℕ → (ℕ × Entry) → Bool

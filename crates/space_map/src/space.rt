@@ -1,8 +1,9 @@
 // The pages of a process, in rising order.
-ghost use Rattle.std.specs.Prelude.{◌≡◌, ◌<◌, ◌≤◌, ◌++◌, length, take, drop, None, Some, [], slice_get, IfOk, IfErr};
+ghost use Rattle.std.specs.Prelude.{◌≡◌, ◌<◌, ◌≤◌, ◌+◌, ◌^◌, ◌++◌, length, map, take, drop, false, None, Some, [], slice_get, IfOk, IfErr};
 ghost use Rattle.dos_world.specs.World.{look};
 ghost use Rattle.dos_world.specs.Kernel.{put};
-ghost use Rattle.space_map.specs.Mapping.{IsAt, IsFirstFrom, IsGapFor, IsMapped, IsRun, IsRising, empty, in_run, shared_in_run, with_shared, with_shared_run, without, without_run};
+ghost use Rattle.dos_world.specs.Numbered.{run_of};
+ghost use Rattle.space_map.specs.Mapping.{IsAt, IsFirstFrom, IsGapFor, IsMapped, IsRun, IsRising, empty, in_run, put_run, shared_in_run, with_replaced, with_shared, with_shared_run, without, without_run};
 ghost use Rattle.std.specs.List.{list_any, remove_range, slice_range};
 ghost use Rattle.std.specs.Vec.{vec_capacity};
 
@@ -82,6 +83,19 @@ impl Space {
         }
     }
 
+    /// Maps `count` pages from this one on, none of which was mapped, each with this entry. No
+    /// memory is taken, and the entries behind them move once.
+    pub fn put_run(&mut self, page: u32, count: u32, entry: Entry)
+        requires unmapped { list_any (in_run page count) self.old.entries ≡ false }
+        requires room { length self.old.entries + count ≤ self.old.room }
+        requires fits { page + count ≤ 2 ^ 32 }
+        ensures { self.new
+            ≡ record self.old { entries = put_run page count entry self.old.entries } }
+    {
+        let first = self.first_from(page) as usize;
+        insert_run(&mut self.entries, first, page, count, entry);
+    }
+
     /// Unmaps a page and gives its entry. The other pages stay.
     pub fn remove(&mut self, page: u32) -> Entry
         requires { IsMapped self.old.entries page }
@@ -90,6 +104,18 @@ impl Space {
     {
         match self.search(page) {
             Ok(place) => self.entries.remove(place).1,
+            Err(_) => unreachable!(),
+        }
+    }
+
+    /// A mapped page gets this entry. Nothing else changes.
+    pub fn replace(&mut self, page: u32, entry: Entry)
+        requires { IsMapped self.old.entries page }
+        ensures { self.new
+            ≡ record self.old { entries = with_replaced page entry self.old.entries } }
+    {
+        match self.search(page) {
+            Ok(place) => self.entries[place] = (page, entry),
             Err(_) => unreachable!(),
         }
     }
@@ -190,6 +216,36 @@ fn end_of_run(entries: &[(u32, Entry)], first: usize, page: u32, count: u32) -> 
         }
     }
     entries.len()
+}
+
+// `count` entries of pages that follow one another come in at a place
+fn insert_run(entries: &mut Vec<(u32, Entry)>, place: usize, page: u32, count: u32, entry: Entry)
+    requires place { place ≤ length entries.old.items }
+    requires room { length entries.old.items + count ≤ vec_capacity entries.old }
+    requires fits { page + count ≤ 2 ^ 32 }
+    ensures items { entries.new.items
+        ≡ take place entries.old.items
+        ++ map (λ p. (p, entry)) (run_of page count)
+        ++ drop place entries.old.items }
+    ensures capacity { vec_capacity entries.old ≤ vec_capacity entries.new }
+{
+    push_run(entries, page, count, entry);
+    entries[place..].rotate_right(count as usize);
+}
+
+fn push_run(entries: &mut Vec<(u32, Entry)>, page: u32, count: u32, entry: Entry)
+    requires room { length entries.old.items + count ≤ vec_capacity entries.old }
+    requires fits { page + count ≤ 2 ^ 32 }
+    ensures items { entries.new.items
+        ≡ entries.old.items ++ map (λ p. (p, entry)) (run_of page count) }
+    ensures capacity { vec_capacity entries.old ≤ vec_capacity entries.new }
+{
+    for index in 0..count {
+        match entries.push((page + index, entry)) {
+            Ok(()) => {}
+            Err(_) => unreachable!(),
+        }
+    }
 }
 
 fn cut(entries: &mut Vec<(u32, Entry)>, first: usize, end: usize)
