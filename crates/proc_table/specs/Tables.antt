@@ -7,7 +7,8 @@ use Rattle.dos_world.specs.World.{Process, Thread, Holdings, Registers, live, en
 use Rattle.dos_world.specs.Kernel.{unless_of, orphaned, ended_by}
 use Rattle.dos_world.specs.SignalCalls.{restored}
 use Rattle.dos_world.specs.declared.End.{End}
-use Rattle.space_map.specs.Mapping.{with_shared_run, without_run}
+use Rattle.dos_world.specs.declared.Entry.{Entry}
+use Rattle.space_map.specs.Mapping.{put_run, with_replaced, with_shared_run, without_run}
 
 -- Processes and threads are numbered from 1. Each live process's space has room for so many
 -- entries.
@@ -109,6 +110,14 @@ without_ends h = record h { descriptors = replicate 32 None }
 -- what a process has, with the actions and descriptors of another
 abbrev pub held_as : Holdings → Holdings → Holdings
 held_as other h = record other { space = h.space }
+
+-- what a process has, with so many pages from this one on put, each with this entry
+abbrev pub run_put : ℕ → ℕ → Entry → Holdings → Holdings
+run_put page count entry h = record h { space = put_run page count entry h.space }
+
+-- what a process has, with this entry in place of a page's
+abbrev pub entry_replaced : ℕ → Entry → Holdings → Holdings
+entry_replaced page entry h = record h { space = with_replaced page entry h.space }
 
 -- what a process has, without so many pages from this one on
 abbrev pub run_unmapped : ℕ → ℕ → Holdings → Holdings

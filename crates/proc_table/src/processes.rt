@@ -1,12 +1,13 @@
 // The processes by number, and the places of those that live.
-ghost use Rattle.std.specs.Prelude.{◌≡◌, ◌<◌, ◌≤◌, ◌+◌, ◌-◌, [], ◌∷◌, ◌++◌, length, map, option_and_then, None, Some, true, false, is_some, is_none, nat_le, position, slice_get, slice_index, slice_set, unwrap_or, replicate, IfOk, IsSome, IfSome};
+ghost use Rattle.std.specs.Prelude.{◌≡◌, ◌<◌, ◌≤◌, ◌+◌, ◌-◌, ◌^◌, [], ◌∷◌, ◌++◌, length, map, option_and_then, None, Some, true, false, is_some, is_none, nat_le, position, slice_get, slice_index, slice_set, unwrap_or, replicate, IfOk, IsSome, IfSome};
 ghost use Rattle.dos_world.specs.Numbered.{changed, numbered};
 ghost use Rattle.dos_world.specs.World.{all_holdings, look, on_holdings};
 ghost use Rattle.dos_world.specs.Kernel.{ended_by, orphaned, with_entry, without_entries};
 ghost use Rattle.dos_world.specs.DescriptorCalls.{with_end};
 ghost use Rattle.dos_world.specs.SignalCalls.{is_signal, with_action};
-ghost use Rattle.space_map.specs.Mapping.{empty};
-ghost use Rattle.proc_table.specs.Tables.{IsParent, IsProcess, end_in, held_as, held_in, last_status, new_process, run_shared, run_unmapped, without_ends};
+ghost use Rattle.space_map.specs.Mapping.{IsMapped, empty, in_run};
+ghost use Rattle.std.specs.List.{list_any};
+ghost use Rattle.proc_table.specs.Tables.{IsParent, IsProcess, end_in, entry_replaced, held_as, held_in, last_status, new_process, run_put, run_shared, run_unmapped, without_ends};
 ghost use Rattle.proc_table.specs.Children.{after_wait, outcome};
 ghost use Rattle.proc_table.specs.Places.{first_belongings, status_or_0};
 
@@ -195,6 +196,36 @@ impl Processes {
     {
         let place = self.records.place_of(pid);
         self.spaces[place].put(page, entry);
+    }
+
+    pub(crate) fn put_run(&mut self, pid: u32, page: u32, count: u32, entry: Entry)
+        requires live { IsProcess self.old.processes pid }
+        requires unmapped { IfSome (held_in self.old.processes pid)
+            (λ h. list_any (in_run page count) h.space ≡ false) }
+        requires room { IfSome (held_in self.old.processes pid)
+            (λ h. length h.space + count ≤ self.old.room) }
+        requires fits { page + count ≤ 2 ^ 32 }
+        ensures { self.new
+            ≡ record self.old {
+              processes =
+                  changed (on_holdings (run_put page count entry)) self.old.processes pid;
+            } }
+    {
+        let place = self.records.place_of(pid);
+        self.spaces[place].put_run(page, count, entry);
+    }
+
+    pub(crate) fn replace_entry(&mut self, pid: u32, page: u32, entry: Entry)
+        requires live { IsProcess self.old.processes pid }
+        requires mapped { IfSome (held_in self.old.processes pid) (λ h. IsMapped h.space page) }
+        ensures { self.new
+            ≡ record self.old {
+              processes =
+                  changed (on_holdings (entry_replaced page entry)) self.old.processes pid;
+            } }
+    {
+        let place = self.records.place_of(pid);
+        self.spaces[place].replace(page, entry);
     }
 
     pub(crate) fn clear_space(&mut self, pid: u32)

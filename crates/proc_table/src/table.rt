@@ -1,5 +1,6 @@
 // The table of processes and threads.
-ghost use Rattle.std.specs.Prelude.{◌≡◌, ◌<◌, ◌+◌, ◌-◌, length, slice_index, None, Some, [], IfOk, IfErr, IsSome, IfSome, is_some, is_none, position, true, false};
+ghost use Rattle.std.specs.List.{list_any};
+ghost use Rattle.std.specs.Prelude.{◌≡◌, ◌<◌, ◌≤◌, ◌+◌, ◌-◌, ◌^◌, length, slice_index, None, Some, [], IfOk, IfErr, IsSome, IfSome, is_some, is_none, position, true, false};
 ghost use Rattle.dos_world.specs.Numbered.{numbered, changed, numbers_of};
 ghost use Rattle.dos_world.specs.World.{all_holdings, belongs_to, first_of, in_state, look, none_of, registers_by};
 ghost use Rattle.dos_world.specs.Kernel.{awake, pending_with, with_entry, without_entries};
@@ -9,8 +10,9 @@ ghost use Rattle.dos_world.specs.ProcessCalls.{are_processes_full};
 ghost use Rattle.dos_world.specs.DescriptorCalls.{with_end};
 ghost use Rattle.dos_world.specs.SignalCalls.{is_signal, masked, with_action};
 ghost use Rattle.dos_world.specs.Signals.{chosen, cleared, handling};
+ghost use Rattle.space_map.specs.Mapping.{IsMapped, in_run};
 ghost use Rattle.proc_table.specs.Children.{after_wait, outcome};
-ghost use Rattle.proc_table.specs.Tables.{are_any, restored_in, IsParent, IsProcess, IsThread, end_in, held_as, held_by, held_in, last_status, new_process, next_in, no_tables, ran, thread_by, thread_in, with_budget, with_ended, process_added, run_shared, run_unmapped, thread_added, without_ends};
+ghost use Rattle.proc_table.specs.Tables.{are_any, restored_in, IsParent, IsProcess, IsThread, end_in, entry_replaced, held_as, held_by, held_in, last_status, new_process, next_in, no_tables, ran, thread_by, thread_in, with_budget, with_ended, process_added, run_put, run_shared, run_unmapped, thread_added, without_ends};
 
 use crate::processes::Processes;
 use crate::thread::Thread;
@@ -468,6 +470,30 @@ impl Table {
         ensures { self.new ≡ held_by (with_entry page entry) self.old pid }
     {
         self.processes.put_entry(pid, page, entry);
+    }
+
+    /// Maps `count` pages from this one on in the process's space, each with this entry.
+    #[tactic(auto, using(crate::proofs::Lengths::lengths))]
+    pub fn put_run(&mut self, pid: u32, page: u32, count: u32, entry: Entry)
+        requires live { IsProcess self.old.processes pid }
+        requires unmapped { IfSome (held_in self.old.processes pid)
+            (λ h. list_any (in_run page count) h.space ≡ false) }
+        requires room { IfSome (held_in self.old.processes pid)
+            (λ h. length h.space + count ≤ self.old.room) }
+        requires fits { page + count ≤ 2 ^ 32 }
+        ensures { self.new ≡ held_by (run_put page count entry) self.old pid }
+    {
+        self.processes.put_run(pid, page, count, entry);
+    }
+
+    /// A page that the process maps gets this entry.
+    #[tactic(auto, using(crate::proofs::Lengths::lengths))]
+    pub fn replace_entry(&mut self, pid: u32, page: u32, entry: Entry)
+        requires live { IsProcess self.old.processes pid }
+        requires mapped { IfSome (held_in self.old.processes pid) (λ h. IsMapped h.space page) }
+        ensures { self.new ≡ held_by (entry_replaced page entry) self.old pid }
+    {
+        self.processes.replace_entry(pid, page, entry);
     }
 
     /// Unmaps all pages of the process.
