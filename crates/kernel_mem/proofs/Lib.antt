@@ -8,4 +8,5 @@ pub mod Copies
 pub mod Loops
 pub mod Children
 pub mod Runs
+pub mod Putting
 pub mod MapRun

@@ -14,6 +14,7 @@ use Rattle.dos_world.specs.ProcessCalls.{copied_space, private_entries}
 use Rattle.page_store.specs.Store.{Store, free_count, owner_at, uses_at}
 use Rattle.space_map.specs.Mapping.{IsRising, page_at, no_entry as no_page}
 use Rattle.proc_table.specs.Tables.{Tables, IsProcess, held_in, held_by}
+use Rattle.proc_table.proofs.Standing.{spaced_by}
 use Rattle.kernel_mem.specs.Memory.{entries_of}
 use Rattle.kernel_mem.specs.Seen.{in_world, space_in, IsHome}
 use Rattle.kernel_mem.specs.Forking.{entry_copied, IsUsedMore, taken_by, with_space}
@@ -109,48 +110,44 @@ lent-space f T old_table pid child es is apart alive here =
     (subst (λ (o : Option Holdings). IfSome o (λ h. es ≡ h.space))
     (other-space f T old_table pid child is apart) here)
 
--- an entry put into the space that a copy has so far
-entry_twice : (page : ℕ) (e : Entry) (cs : List (ℕ × Entry)) (x : Process)
-    → on_holdings (with_entry page e) (on_holdings (with_space cs) x)
-    ≡ on_holdings (with_space (put page e cs)) x
-entry_twice page e cs x = by x.life
+-- a change of the space that a process has so far
+space_twice : (f : List (ℕ × Entry) → List (ℕ × Entry)) (cs : List (ℕ × Entry)) (x : Process)
+    → on_holdings (spaced_by f) (on_holdings (with_space cs) x) ≡ on_holdings (with_space (f cs)) x
+space_twice f cs x = by x.life
   where
     by : (l : Life) → ◌≡◌ {A = Process}
-        (record x { life = live_changed (with_entry page e) (live_changed (with_space cs) l) })
-        (record x { life = live_changed (with_space (put page e cs)) l })
+        (record x { life = live_changed (spaced_by f) (live_changed (with_space cs) l) })
+        (record x { life = live_changed (with_space (f cs)) l })
     by (live h) = refl
     by (ended s c) = refl
 
-pub table-put : (T next_table old_table : Tables) (child page : ℕ) (e : Entry)
-    (cs : List (ℕ × Entry))
-    → T ≡ held_by (with_space cs) old_table child → next_table ≡ held_by (with_entry page e) T child
-    → next_table ≡ held_by (with_space (put page e cs)) old_table child
-table-put T next_table old_table child page e cs is put_is =
-    put_is ∙ ap (held_by' (with_entry page e)) is
+pub table-changed : (f : List (ℕ × Entry) → List (ℕ × Entry)) (T next_table old_table : Tables)
+    (child : ℕ) (cs : List (ℕ × Entry))
+    → T ≡ held_by (with_space cs) old_table child → next_table ≡ held_by (spaced_by f) T child
+    → next_table ≡ held_by (with_space (f cs)) old_table child
+table-changed f T next_table old_table child cs is changed_is =
+    changed_is ∙ ap (λ (x : Tables). held_by (spaced_by f) x child) is
     ∙ ap (λ ps. with_processes ps)
-    (changed_twice (on_holdings (with_space cs)) (on_holdings (with_entry page e))
-    (on_holdings (with_space (put page e cs)))
-    (entry_twice page e cs) old_table.processes child)
+    (changed_twice (on_holdings (with_space cs)) (on_holdings (spaced_by f))
+    (on_holdings (with_space (f cs)))
+    (space_twice f cs) old_table.processes child)
   where
-    held_by' : (Holdings → Holdings) → Tables → Tables
-    held_by' f x = held_by f x child
-
     with_processes : List Process → Tables
     with_processes ps = record old_table { processes = ps }
 
-pub space-put : (T next_table : Tables) (child page : ℕ) (e : Entry) → IsProcess T.processes child
-    → next_table ≡ held_by (with_entry page e) T child
-    → space_in next_table child ≡ put page e (space_in T child)
-space-put T next_table child page e alive is =
+pub space-changed : (f : List (ℕ × Entry) → List (ℕ × Entry)) (T next_table : Tables) (child : ℕ)
+    → IsProcess T.processes child → next_table ≡ held_by (spaced_by f) T child
+    → space_in next_table child ≡ f (space_in T child)
+space-changed f T next_table child alive is =
     ap (λ (x : Tables). space_in x child) is
-    ∙ ap space_by (held_there (with_entry page e) T.processes child)
+    ∙ ap space_by (held_there (spaced_by f) T.processes child)
     ∙ by (held_in T.processes child) alive
   where
     space_by : Option Holdings → List (ℕ × Entry)
     space_by o = elim o [ None ↦ [] | Some h ↦ h.space ]
 
     by : (o : Option Holdings) → IsSome o
-        → space_by (option_map (with_entry page e) o) ≡ put page e (space_by o)
+        → space_by (option_map (spaced_by f) o) ≡ f (space_by o)
     by None alive = cc
     by (Some h) alive = refl
 
@@ -270,12 +267,13 @@ module _ (s0 s s1 : Store) (old_table T next_table : Tables) (pid child tid i : 
       (private : private_entries (take (i + 1) (space_in old_table pid))
       ≡ private_entries (take i (space_in old_table pid)) + taken_by e.1) where
     space-now : space_in next_table child ≡ space_in T child ++ (e.0, copy) ∷ []
-    space-now = space-put T next_table child e.0 copy child-lives put_is
+    space-now = space-changed (put e.0 copy) T next_table child child-lives put_is
         ∙ put-last (space_in T child) e.0 copy pages-below
 
     pub copying-more : IsCopying s0 old_table pid child tid (i + 1) s1 next_table
     copying-more = record {
-      table = table-put T next_table old_table child e.0 copy (space_in T child) so_far.table put_is
+      table = table-changed (put e.0 copy) T next_table old_table child (space_in T child)
+          so_far.table put_is
           ∙ ap (λ (es : List (ℕ × Entry)). held_by (with_space es) old_table child)
           (put-last (space_in T child) e.0 copy pages-below ∙ sym space-now);
       copies = λ w U.

@@ -1,9 +1,7 @@
 -- Fresh pages, one after another.
-use Rattle.std.proofs.Common.{◌≡◌, ◌≢◌, ℕ, zero, suc, ◌+◌, ◌<◌, ◌≤◌, Bool, true, false, cond, List, [], ◌∷◌, length, length-set, Option, Some, None, option_map, refl, sym, ap, ◌∙◌, arith}
-use Rattle.std.specs.Prelude.{◌==◌, ◌||◌, nat_lt, find, is_some, position}
-use Rattle.std.proofs.lemmas.Bool.Decides.{nat_tests}
+use Rattle.std.proofs.Common.{◌≡◌, ℕ, zero, suc, ◌+◌, ◌-◌, ◌<◌, ◌≤◌, Bool, true, false, List, length, length-set, Option, Some, None, refl, sym, ap, ap₂, subst, ◌∙◌, arith}
+use Rattle.std.specs.Prelude.{◌||◌, is_some, position}
 use Rattle.std.proofs.lemmas.List.Quantifiers.{position-Some}
-use Rattle.std.proofs.lemmas.List.Sums.{sum_by-cons}
 use Rattle.dos_world.specs.Numbered.{run_of}
 use Rattle.dos_world.specs.World.{World, is_free, look}
 use Rattle.dos_world.specs.Kernel.{put, with_entry}
@@ -13,76 +11,16 @@ use Rattle.dos_world.specs.declared.Entry.{Entry}
 use Rattle.dos_world.specs.declared.Owner.TheVariants.{Free, Of}
 use Rattle.page_store.specs.Store.{IsUnused, Store, free_count, uses_at, with_owned}
 use Rattle.page_store.proofs.Counts.{count_by-taken}
-use Rattle.proc_table.specs.Tables.{IsProcess, Tables, held_by}
+use Rattle.proc_table.specs.Tables.{IsProcess, Tables, entry_replaced, held_by, run_put}
 use Rattle.kernel_mem.specs.Memory.{HasUsesOf, entries_of}
 use Rattle.kernel_mem.specs.Ranges.{maps_any, range_call}
 use Rattle.kernel_mem.specs.Seen.{in_world, space_in, IsHome}
 use Rattle.kernel_mem.proofs.Copies.{first_use}
 use Rattle.kernel_mem.specs.Forking.{with_space}
-use Rattle.kernel_mem.proofs.Loops.{own-space, space-put, still-live, table-put}
-
--- ---- a page put into a space
-
-by_place : (page : ℕ) (entry : Entry) (x : ℕ × Entry) (es : List (ℕ × Entry)) (P : List (ℕ × Entry)
-    → Type 0) → P ((page, entry) ∷ x ∷ es) → P (x ∷ put page entry es)
-    → P (put page entry (x ∷ es))
-by_place page entry x es P before after = by (nat_lt page x.0)
-  where
-    by : (b : Bool) → P (cond b ((page, entry) ∷ x ∷ es) (x ∷ put page entry es))
-    by true = before
-    by false = after
-
-put-length : (page : ℕ) (entry : Entry) (es : List (ℕ × Entry))
-    → length (put page entry es) ≡ length es + 1
-put-length page entry [] = refl
-put-length page entry (x ∷ es) =
-    by_place page entry x es (λ ys. length ys ≡ length (x ∷ es) + 1) (omega arith)
-    (omega (arith, put-length page entry es))
-
-put-other : (page : ℕ) (entry : Entry) (es : List (ℕ × Entry)) (q : ℕ) → page ≢ q
-    → look (put page entry es) q ≡ look es q
-put-other page entry [] q other = rw (off page q other) refl
-  where
-    off : (a b : ℕ) → a ≢ b → (a == b) ≡ false
-    off a b h = grind (arith, nat_tests)
-put-other page entry (x ∷ es) q other =
-    by_place page entry x es (λ ys. look ys q ≡ look (x ∷ es) q) (rw (off page q other) refl)
-    (by (put-other page entry es q other) (x.0 == q))
-  where
-    off : (a b : ℕ) → a ≢ b → (a == b) ≡ false
-    off a b h = grind (arith, nat_tests)
-
-    by : look (put page entry es) q ≡ look es q → (b : Bool)
-        → option_map (λ (e : ℕ × Entry). e.1)
-        (cond b (Some x) (find (λ (e : ℕ × Entry). e.0 == q) (put page entry es)))
-        ≡ option_map (λ (e : ℕ × Entry). e.1)
-        (cond b (Some x) (find (λ (e : ℕ × Entry). e.0 == q) es))
-    by rest true = refl
-    by rest false = rest
-
-put-entries : (page : ℕ) (entry : Entry) (es : List (ℕ × Entry)) (f : ℕ)
-    → entries_of (put page entry es) f ≡ entries_of es f + cond (entry.frame == f) 1 0
-put-entries page entry [] f =
-    omega (
-      arith,
-      sum_by-cons (λ (e : ℕ × Entry). cond {A = ℕ} (e.1.frame == f) 1 0)
-          (page, entry) [],
-    )
-put-entries page entry (x ∷ es) f =
-    by_place page entry x es
-    (λ ys. entries_of ys f ≡ entries_of (x ∷ es) f + cond (entry.frame == f) 1 0)
-    (omega (
-      arith,
-      sum_by-cons (λ (e : ℕ × Entry). cond {A = ℕ} (e.1.frame == f) 1 0) (page, entry)
-          (x ∷ es),
-    ))
-    (omega (
-      arith,
-      put-entries page entry es f,
-      sum_by-cons (λ (e : ℕ × Entry). cond {A = ℕ} (e.1.frame == f) 1 0) x es,
-      sum_by-cons (λ (e : ℕ × Entry). cond {A = ℕ} (e.1.frame == f) 1 0) x
-          (put page entry es),
-    ))
+use Rattle.kernel_mem.proofs.Mapping.{page_step}
+use Rattle.kernel_mem.proofs.Putting.{put-entries, put-other, replaced-first, run-mapped}
+use Rattle.space_map.specs.Mapping.{IsMapped, put_run, with_replaced}
+use Rattle.kernel_mem.proofs.Loops.{own-space, space-changed, still-live, table-changed}
 
 -- ---- the flat world
 
@@ -139,7 +77,6 @@ pub record IsMapping (s0 : Store) (old_table : Tables) (t p page rights count i 
   pub home : IsHome s
   pub live : IsProcess T.processes p
   pub fresh : (k : ℕ) → i ≤ k → k < count → look (space_in T p) (page + k) ≡ None
-  pub size : length (space_in T p) ≡ length (space_in old_table p) + i
   pub room : T.room ≡ old_table.room
   pub count_is : length s.owners ≡ length s0.owners
   pub free : free_count s + i ≡ free_count s0
@@ -154,7 +91,6 @@ mapping-none s T t p page rights count home live none = record {
   home = home;
   live = live;
   fresh = λ k low h. none_mapped (space_in T p) page count k none h;
-  size = omega arith;
   room = refl;
   count_is = refl;
   free = omega arith;
@@ -174,7 +110,7 @@ mapping-more s0 s s1 old_table T next_table t p page rights count i frame so_far
     =
     let entry : Entry = private_entry frame rights in
     let space : space_in next_table p ≡ put (page + i) entry (space_in T p) =
-    space-put T next_table p (page + i) entry so_far.live table in
+    space-changed (put (page + i) entry) T next_table p so_far.live table in
     let at = position-Some is_free s.owners frame Free found in
     record {
       maps = λ w address pages.
@@ -182,15 +118,14 @@ mapping-more s0 s s1 old_table T next_table t p page rights count i frame so_far
           (in_world w s0 old_table) page i
           ∙ ap (λ v. page_mapped t p rights v (page + i)) (so_far.maps w address pages)
           ∙ sym (one w);
-      table = table-put T next_table old_table p (page + i) entry (space_in T p) so_far.table table
+      table = table-changed (put (page + i) entry) T next_table old_table p (space_in T p)
+          so_far.table table
           ∙ ap (λ es. held_by (with_space es) old_table p) (sym space);
       home = home;
       live = still-live (with_entry (page + i) entry) next_table T p table so_far.live;
       fresh = λ k low h. ap (λ es. look es (page + k)) space
           ∙ put-other (page + i) entry (space_in T p) (page + k) (λ e. absurd (omega arith))
           ∙ so_far.fresh k (omega arith) h;
-      size = ap length space ∙ put-length (page + i) entry (space_in T p)
-          ∙ omega (arith, so_far.size);
       room = ap (λ (x : Tables). x.room) table ∙ so_far.room;
       count_is = ap (λ (x : Store). length x.owners) frames ∙ length-set s.owners frame (Of t)
           ∙ so_far.count_is;
@@ -209,3 +144,97 @@ mapping-more s0 s s1 old_table T next_table t p page rights count i frame so_far
         put-entries (page + i) entry (space_in T p) f,
       );
     }
+
+-- ---- all entries stand, and get their frames
+
+-- How far the table has come, and how it would be if only the pages were mapped that have their
+-- frames. The entries of the others stand behind those, with no frame of their own.
+pub record IsFilling (s0 : Store) (old_table : Tables) (t p page rights count i : ℕ) (s : Store)
+    (T : Tables) : Type 0 where
+  pub filled : Tables
+  pub mapping : IsMapping s0 old_table t p page rights count i s filled
+  pub stands : T ≡ held_by (with_space (put_run (page + i) (count - i) (private_entry 0 rights)
+      (space_in filled p))) old_table p
+
+pub filling-none : (s : Store) (old_table T : Tables) (t p page rights count : ℕ) (entry : Entry)
+    → IsHome s → IsProcess old_table.processes p
+    → maps_any (space_in old_table p) page count ≡ false → entry ≡ private_entry 0 rights
+    → T ≡ held_by (run_put page count entry) old_table p
+    → IsFilling s old_table t p page rights count 0 s T
+filling-none s old_table T t p page rights count entry home live none blank table =
+    let first : page ≡ page + 0 = omega arith in
+    let all : count ≡ count - 0 = omega arith in
+    record {
+      filled = old_table;
+      mapping = mapping-none s old_table t p page rights count home live none;
+      stands = table-changed (put_run page count entry) old_table T old_table p
+          (space_in old_table p) (own-space old_table p) table
+          ∙ ap (λ es. held_by (with_space es) old_table p)
+          (ap (λ e. put_run page count e (space_in old_table p)) blank
+          ∙ ap₂ (λ a n. put_run a n (private_entry 0 rights) (space_in old_table p)) first all);
+    }
+
+module _ (s0 s : Store) (old_table T : Tables) (t p page rights count i : ℕ)
+    (alive : IsProcess old_table.processes p)
+    (so_far : IsFilling s0 old_table t p page rights count i s T) where
+  pub filling-lives : IsProcess T.processes p
+  filling-lives = still-live (with_space (put_run (page + i) (count - i) (private_entry 0 rights)
+      (space_in so_far.filled p))) T old_table p so_far.stands alive
+
+  pub filling-mapped : i < count → IsMapped (space_in T p) (page + i)
+  filling-mapped h =
+      let more : count - i ≡ suc (count - (i + 1)) = omega arith in
+      subst (λ es. IsMapped es (page + i))
+      (sym (space-changed (λ _. put_run (page + i) (count - i) (private_entry 0 rights)
+      (space_in so_far.filled p)) old_table T p alive so_far.stands
+      ∙ ap (λ n. put_run (page + i) n (private_entry 0 rights) (space_in so_far.filled p)) more))
+      (run-mapped (page + i) (count - (i + 1)) (private_entry 0 rights) (space_in so_far.filled p))
+
+  -- with all frames it is as if the pages had been mapped one after another
+  pub filling-ends : i ≡ count → IsMapping s0 old_table t p page rights count count s T
+  filling-ends end =
+      let none : count - i ≡ 0 = omega arith in
+      let all : T ≡ so_far.filled =
+      so_far.stands
+      ∙ ap (λ n. held_by (with_space (put_run (page + i) n (private_entry 0 rights)
+      (space_in so_far.filled p))) old_table p) none
+      ∙ sym so_far.mapping.table in
+      subst (λ n. IsMapping s0 old_table t p page rights count n s T) end
+      (subst (λ U. IsMapping s0 old_table t p page rights count i s U) (sym all) so_far.mapping)
+
+  pub filling-more : (s1 : Store) (next_table : Tables) (frame : ℕ) → i < count
+      → position is_free s.owners ≡ Some frame → s1 ≡ with_owned s frame t
+      → next_table ≡ held_by (entry_replaced (page + i) (private_entry frame rights)) T p
+      → IsHome s1 → IsUnused s frame
+      → IsFilling s0 old_table t p page rights count (i + 1) s1 next_table
+  filling-more s1 next_table frame h found frames table home unused =
+      let entry : Entry = private_entry frame rights in
+      let space : List (ℕ × Entry) = space_in so_far.filled p in
+      let next : Tables = held_by (with_entry (page + i) entry) so_far.filled p in
+      let more : count - i ≡ suc (count - (i + 1)) = omega arith in
+      let behind : suc (page + i) ≡ page + (i + 1) = omega arith in
+      let within : frame < length s.pages =
+      omega (
+        arith,
+        so_far.mapping.home.owners,
+        (position-Some is_free s.owners frame Free found).0,
+      ) in
+      let one : (w : World) → in_world w s1 next
+      ≡ page_mapped t p rights (in_world w s so_far.filled) (page + i) =
+      λ w. ap (λ x. in_world w x next) frames
+      ∙ page_step w s so_far.filled t p rights (page + i) frame (sym found) within in
+      record {
+        filled = next;
+        mapping = mapping-more s0 s s1 old_table so_far.filled next t p page rights count i frame
+            so_far.mapping found frames refl one home unused;
+        stands = table-changed (with_replaced (page + i) entry) T next_table old_table p
+            (put_run (page + i) (count - i) (private_entry 0 rights) space) so_far.stands table
+            ∙ ap (λ es. held_by (with_space es) old_table p)
+            (ap (λ n. with_replaced (page + i) entry
+            (put_run (page + i) n (private_entry 0 rights) space)) more
+            ∙ replaced-first (page + i) (count - (i + 1)) entry (private_entry 0 rights) space
+            (so_far.mapping.fresh i (omega arith) h)
+            ∙ ap₂ (λ a es. put_run a (count - (i + 1)) (private_entry 0 rights) es) behind
+            (sym (space-changed (put (page + i) entry) so_far.filled next p so_far.mapping.live
+            refl)));
+      }

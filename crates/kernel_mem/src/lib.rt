@@ -15,6 +15,6 @@ mod words;
 pub use copy::{check, copy_in, copy_out};
 pub use drop::{drop_space, unmap};
 pub use forking::fork;
-pub use map::{map_page, map_pages};
+pub use map::map_pages;
 pub use ranges::share;
 pub use words::{entry_at, grant_load, word_at};

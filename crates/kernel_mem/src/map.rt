@@ -1,12 +1,11 @@
 // Fresh pages.
 ghost use Rattle.std.specs.Prelude.{◌≡◌, ◌≢◌, ◌<◌, ◌≤◌, ◌+◌, ◌/◌, ◌^◌, ℕ, false, None, Some, IfSome, OnErr, OnOk, length, position};
 ghost use Rattle.dos_world.specs.Numbered.{run_of};
-ghost use Rattle.dos_world.specs.World.{World, is_free, look};
-ghost use Rattle.dos_world.specs.Kernel.{with_entry};
-ghost use Rattle.dos_world.specs.Services.{page_mapped};
+ghost use Rattle.dos_world.specs.World.{World, is_free};
 ghost use Rattle.dos_world.specs.MemoryCalls.{mapped, mapped_fresh, private_entry};
 ghost use Rattle.page_store.specs.Store.{IsUnused, free_count, uses_at, with_owned};
-ghost use Rattle.proc_table.specs.Tables.{IsProcess, held_by, thread_in};
+ghost use Rattle.proc_table.specs.Tables.{IsProcess, entry_replaced, held_by, thread_in};
+ghost use Rattle.space_map.specs.Mapping.{IsMapped};
 ghost use Rattle.kernel_mem.specs.Seen.{space_in, in_world, IsCaller, IsHome};
 ghost use Rattle.kernel_mem.specs.Memory.{HasUsesOf};
 ghost use Rattle.kernel_mem.specs.Forking.{with_space};
@@ -17,40 +16,6 @@ use dos_world::Entry;
 use dos_world::errors::{EINVAL, ENOMEM};
 use page_store::Frames;
 use proc_table::Table;
-
-/// Maps one private page of zeros with these rights (1 is X, 2 is W, 4 is R) for a live process, in
-/// the lowest Free frame, which becomes `tid`'s. Answers the frame.
-pub fn map_page(
-    frames: &mut Frames,
-    table: &mut Table,
-    tid: u32,
-    pid: u32,
-    page: u32,
-    rights: u32,
-) -> u32
-    requires home { IsHome frames.old }
-    requires live { IsProcess table.old.processes pid }
-    requires unmapped { look (space_in table.old pid) page ≡ None }
-    requires room { length (space_in table.old pid) < table.old.room }
-    requires free { position is_free frames.old.owners ≢ None }
-    ensures frame { position is_free frames.old.owners ≡ Some result }
-    ensures frames { frames.new ≡ with_owned frames.old result tid }
-    ensures table { table.new
-        ≡ held_by (with_entry page (private_entry result rights)) table.old pid }
-    ensures maps { (w : World)
-        → in_world w frames.new table.new
-        ≡ page_mapped tid pid rights (in_world w frames.old table.old) page }
-    ensures home { IsHome frames.new }
-    ensures unused { IsUnused frames.old result }
-{
-    match frames.fresh(tid) {
-        Some(frame) => {
-            table.put_entry(pid, page, private_entry(frame, rights));
-            frame
-        }
-        None => unreachable!(),
-    }
-}
 
 /// Maps `pages` private pages of zeros from `address` on for `tid`'s process, with these rights (1
 /// is X, 2 is W, 4 is R), in the lowest Free frames, which become `tid`'s. `Err(22)` exactly where
@@ -102,7 +67,8 @@ pub fn map_pages(
     Ok(())
 }
 
-// So many pages from this one on, none of which is mapped.
+// So many pages from this one on, none of which is mapped. Their entries come in at once, and then
+// each gets its frame.
 fn map_run(
     frames: &mut Frames,
     table: &mut Table,
@@ -130,8 +96,39 @@ fn map_run(
     ensures room { table.new.room ≡ table.old.room }
     ensures count { length frames.new.owners ≡ length frames.old.owners }
 {
+    table.put_run(pid, page, count, private_entry(0, rights));
     for index in 0..count {
-        map_page(frames, table, tid, pid, page + index, rights);
+        fill_page(frames, table, tid, pid, page + index, rights);
+    }
+}
+
+// The lowest Free frame, of zeros, becomes `tid`'s and that of a page that the process maps, with
+// these rights. Answers the frame.
+fn fill_page(
+    frames: &mut Frames,
+    table: &mut Table,
+    tid: u32,
+    pid: u32,
+    page: u32,
+    rights: u32,
+) -> u32
+    requires home { IsHome frames.old }
+    requires live { IsProcess table.old.processes pid }
+    requires mapped { IsMapped (space_in table.old pid) page }
+    requires free { position is_free frames.old.owners ≢ None }
+    ensures frame { position is_free frames.old.owners ≡ Some result }
+    ensures frames { frames.new ≡ with_owned frames.old result tid }
+    ensures table { table.new
+        ≡ held_by (entry_replaced page (private_entry result rights)) table.old pid }
+    ensures home { IsHome frames.new }
+    ensures unused { IsUnused frames.old result }
+{
+    match frames.fresh(tid) {
+        Some(frame) => {
+            table.replace_entry(pid, page, private_entry(frame, rights));
+            frame
+        }
+        None => unreachable!(),
     }
 }
 
