@@ -1,7 +1,7 @@
 -- A run of pages put into a space, at one place.
 use Rattle.std.proofs.Common.{◌≡◌, ℕ, zero, suc, ◌+◌, ◌-◌, ◌<◌, ◌≤◌, Bool, true, false, List, [], ◌∷◌, ◌++◌, length, get_or, map, take, drop, length-append, refl, sym, ap, ap₂, subst, ◌∙◌, arith}
 use Rattle.std.specs.Prelude.{nat_lt}
-use Rattle.std.specs.List.{list_any}
+use Rattle.std.specs.List.{insert_slice, list_any}
 use Rattle.std.proofs.lemmas.Bool.Decides.{nat_tests}
 use Rattle.std.proofs.lemmas.List.{append-nil, append_assoc, drop-append-le, drop_all, drop_at, get_or-append_right, get_or-drop, get_or-take, get_or_append_left, length-drop, length-take-le, take-append-le, take_at, take_rest}
 use Rattle.std.proofs.lemmas.List.Folds.{list_any_at}
@@ -72,7 +72,7 @@ put_before es page (suc count) entry gap =
 
 pub put-run-at : (es : List (ℕ × Entry)) (page count place : ℕ) (entry : Entry)
     → IsRunGap es page count place
-    → take place es ++ run_entries page count entry ++ drop place es
+    → insert_slice es place (run_entries page count entry)
     ≡ put_run page count entry es
 put-run-at es page count zero entry gap = sym (put_before es page count entry gap)
 put-run-at [] page count (suc n) entry gap = absurd (omega (arith, gap.within))
@@ -107,7 +107,7 @@ front-length es page count place entry h = omega (
 
 whole-length : (es : List (ℕ × Entry)) (page count place : ℕ) (entry : Entry)
     → place ≤ length es
-    → length (take place es ++ run_entries page count entry ++ drop place es)
+    → length (insert_slice es place (run_entries page count entry))
     ≡ length es + count
 whole-length es page count place entry h = omega (
   arith,
@@ -119,7 +119,7 @@ whole-length es page count place entry h = omega (
 -- each page is an old one before the run, one of the run, or an old one moved up behind it
 rises-run : (es : List (ℕ × Entry)) (page count place : ℕ) (entry : Entry)
     → IsRunGap es page count place → Rises es
-    → Rises (take place es ++ run_entries page count entry ++ drop place es)
+    → Rises (insert_slice es place (run_entries page count entry))
 rises-run es page count place entry gap sorted i j lt within =
     grind (
       arith,
@@ -141,7 +141,7 @@ rises-run es page count place entry gap sorted i j lt within =
     front = front-length es page count place entry gap.within
 
     before : (k : ℕ) → k < place
-        → page_at (take place es ++ run_entries page count entry ++ drop place es) k
+        → page_at (insert_slice es place (run_entries page count entry)) k
         ≡ page_at es k
     before k h = ap (λ (e : ℕ × Entry). e.0)
         (get_or_append_left (take place es ++ run_entries page count entry) (drop place es)
@@ -151,7 +151,7 @@ rises-run es page count place entry gap sorted i j lt within =
         ∙ get_or-take place es k (0, no_entry) h)
 
     here : (k : ℕ) → place ≤ k → k < place + count
-        → page_at (take place es ++ run_entries page count entry ++ drop place es) k
+        → page_at (insert_slice es place (run_entries page count entry)) k
         ≡ page + (k - place)
     here k h l = ap (λ (e : ℕ × Entry). e.0)
         (get_or_append_left (take place es ++ run_entries page count entry) (drop place es)
@@ -161,7 +161,7 @@ rises-run es page count place entry gap sorted i j lt within =
         ∙ page-of-run page count entry (k - place) (omega arith)
 
     after : (k : ℕ) → place + count ≤ k
-        → page_at (take place es ++ run_entries page count entry ++ drop place es) k
+        → page_at (insert_slice es place (run_entries page count entry)) k
         ≡ page_at es (k - count)
     after k h =
         let same : place + (k - (place + count)) ≡ k - count = omega arith in
@@ -174,7 +174,7 @@ rises-run es page count place entry gap sorted i j lt within =
 pub kept-run : (es new : List (ℕ × Entry)) (room capacity grown page count place : ℕ)
     (entry : Entry) → IsKept es room capacity → IsRunGap es page count place
     → length es + count ≤ room
-    → new ≡ take place es ++ run_entries page count entry ++ drop place es → capacity ≤ grown
+    → new ≡ insert_slice es place (run_entries page count entry) → capacity ≤ grown
     → IsKept new room grown
 kept-run es new room capacity grown page count place entry k gap h e c = record {
   rising = subst Rises (sym e) (rises-run es page count place entry gap k.rising);
@@ -235,7 +235,7 @@ module _ {X : Type 0} (old run xs : List X) (place count : ℕ) (is : xs ≡ old
   pub turned : (ys more : List X) (len : ℕ) → ys ≡ turn part → len ≡ length xs
       → take len (take place xs ++ (ys ++ behind)
       ++ drop (length (take place xs ++ (ys ++ behind))) more)
-      ≡ take place old ++ run ++ drop place old
+      ≡ insert_slice old place run
   turned ys more len e count_is =
       take_at (take place xs ++ (ys ++ behind)) _ len
       (omega (arith, ap length whole, lengths, ap length is, length-append old run, count_is))
@@ -244,12 +244,12 @@ module _ {X : Type 0} (old run xs : List X) (place count : ℕ) (is : xs ≡ old
       before : take place xs ≡ take place old
       before = ap (take place) is ∙ take-append-le place old run within
 
-      whole : take place xs ++ (ys ++ behind) ≡ take place old ++ run ++ drop place old
+      whole : take place xs ++ (ys ++ behind) ≡ insert_slice old place run
       whole = ap₂ (λ a b. a ++ b) before
           (ap (λ b. ys ++ b) none-behind ∙ append-nil ys ∙ turn-is ys e)
           ∙ sym (append_assoc (take place old) run (drop place old))
 
-      lengths : length (take place old ++ run ++ drop place old) ≡ length old + length run
+      lengths : length (insert_slice old place run) ≡ length old + length run
       lengths = omega (
         arith,
         length-append (take place old ++ run) (drop place old),

@@ -4,7 +4,7 @@ ghost use Rattle.dos_world.specs.World.{look};
 ghost use Rattle.dos_world.specs.Kernel.{put};
 ghost use Rattle.dos_world.specs.Numbered.{run_of};
 ghost use Rattle.space_map.specs.Mapping.{IsAt, IsFirstFrom, IsGapFor, IsMapped, IsRun, IsRising, empty, in_run, put_run, shared_in_run, with_replaced, with_shared, with_shared_run, without, without_run};
-ghost use Rattle.std.specs.List.{list_any, remove_range, slice_range};
+ghost use Rattle.std.specs.List.{insert_slice, list_any, remove_range, slice_range};
 ghost use Rattle.std.specs.Vec.{vec_capacity};
 
 use dos_world::Entry;
@@ -224,9 +224,7 @@ fn insert_run(entries: &mut Vec<(u32, Entry)>, place: usize, page: u32, count: u
     requires room { length entries.old.items + count ≤ vec_capacity entries.old }
     requires fits { page + count ≤ 2 ^ 32 }
     ensures items { entries.new.items
-        ≡ take place entries.old.items
-        ++ map (λ p. (p, entry)) (run_of page count)
-        ++ drop place entries.old.items }
+        ≡ insert_slice entries.old.items place (map (λ p. (p, entry)) (run_of page count)) }
     ensures capacity { vec_capacity entries.old ≤ vec_capacity entries.new }
 {
     push_run(entries, page, count, entry);
