@@ -1,6 +1,6 @@
 // The table of processes and threads.
-ghost use Rattle.std.specs.List.{list_any};
 ghost use Rattle.std.specs.Prelude.{◌≡◌, ◌<◌, ◌≤◌, ◌+◌, ◌-◌, ◌^◌, length, slice_index, None, Some, [], IfOk, IfErr, IsSome, IfSome, is_some, is_none, position, true, false};
+ghost use Rattle.std.specs.List.{list_any};
 ghost use Rattle.dos_world.specs.Numbered.{numbered, changed, numbers_of};
 ghost use Rattle.dos_world.specs.World.{all_holdings, belongs_to, first_of, in_state, look, none_of, registers_by};
 ghost use Rattle.dos_world.specs.Kernel.{awake, pending_with, with_entry, without_entries};
