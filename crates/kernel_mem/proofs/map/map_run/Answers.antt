@@ -45,8 +45,9 @@ loop-index-preserved c = filling-more c.args.frames.now c.loop-index.frames c.ar
     c.fill_page.ensures.frames c.fill_page.ensures.table c.fill_page.ensures.home
     c.fill_page.ensures.unused
 
-ends : (c : goal.After-loop-index) → IsMapping c.args.frames.now c.args.table.now c.args.tid c.args.pid
-    c.args.page c.args.rights c.args.count c.args.count c.loop-index.frames c.loop-index.table
+ends : (c : goal.After-loop-index)
+    → IsMapping c.args.frames.now c.args.table.now c.args.tid c.args.pid c.args.page c.args.rights
+    c.args.count c.args.count c.loop-index.frames c.loop-index.table
 ends c = filling-ends c.args.frames.now c.loop-index.frames c.args.table.now
     c.loop-index.table c.args.tid c.args.pid c.args.page c.args.rights c.args.count
     c.loop-index.index c.requires.live c.loop-index.invariant (omega arith)

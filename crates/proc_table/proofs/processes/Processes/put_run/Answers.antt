@@ -77,5 +77,5 @@ returns c = space_written c.self.inside.records c.self.inside.holders
     c.self.inside.spaces.items c.self.inside.belongings.items c.self.inside.live
     c.self.inside.room c.args.self.now c.self.view_is c.self.invariant c.args.pid
     c.place_of-place.result c.place_of-place.ensures
-    (put_run c.args.page c.args.count c.args.entry) c.index_mut.result.now _ c.index_mut.ensures.value
-    (ap (λ (s : Mapping). s.entries) c.put_run.ensures)
+    (put_run c.args.page c.args.count c.args.entry) c.index_mut.result.now _
+    c.index_mut.ensures.value (ap (λ (s : Mapping). s.entries) c.put_run.ensures)
