@@ -46,23 +46,21 @@ fn go<P: Pages>(
     let mut left = *budget;
     let mut why = Reason::Service;
     while left > 0 {
-        match memory.place_known(memo, place, pc, &mut why) {
-            Some(known) => match one_known(regs, memory, memo.form(known), pc, &mut why) {
-                Next::On => {
-                    pc = pc.wrapping_add(4);
-                    place = place_after(known);
-                }
-                Next::To(target) => {
-                    pc = target;
-                    place = place_of(target);
-                }
-                Next::Not => {
-                    regs.set_pc(pc);
-                    *budget = left;
-                    return Some(why);
-                }
-            },
-            None => {
+        if !memory.knows(memo, place, pc, &mut why) {
+            regs.set_pc(pc);
+            *budget = left;
+            return Some(why);
+        }
+        match one_known(regs, memory, memo.form(place), pc, &mut why) {
+            Next::On => {
+                pc = pc.wrapping_add(4);
+                place = place_after(place);
+            }
+            Next::To(target) => {
+                pc = target;
+                place = place_of(target);
+            }
+            Next::Not => {
                 regs.set_pc(pc);
                 *budget = left;
                 return Some(why);

@@ -1,5 +1,5 @@
 // The memory of one thread over any pages.
-ghost use Rattle.std.specs.Prelude.{◌≡◌, ◌≢◌, ◌⊎◌, ◌+◌, ◌*◌, ◌/◌, ◌%◌, ◌^◌, ◌<◌, ℕ, List, Option, Ok, Err, IfSome, MatchOption, true, length, slice_set};
+ghost use Rattle.std.specs.Prelude.{◌≡◌, ◌≢◌, ◌⊎◌, ◌+◌, ◌*◌, ◌/◌, ◌%◌, ◌^◌, ◌<◌, ℕ, List, Option, Ok, Err, IfSome, MatchBool, true, length, slice_set};
 ghost use Rattle.std.specs.Option.{ok_or};
 ghost use Rattle.dos_world.specs.Reach.{bytes_of, width, written};
 ghost use Rattle.dos_world.specs.declared.Access.TheVariants.{Fetch, Load, Store};
@@ -304,12 +304,25 @@ impl<'a, P: Pages> Running<'a, P> {
         if word % 4 == 3 { Some(word) } else { None }
     }
 
-    /// The memo has this word, which is known, by a key of the base; another base is taken first
-    /// where nothing is known. The place is given where the memo has it.
-    fn remember(&mut self, memo: &mut Memo, address: u32, word: u32) -> usize
-        requires { IsKnown self.old.fetched (P.pages self.old.pages) address word }
-        ensures small { result < 1024 }
-        ensures here { (note_at memo.new result).key ≡ self.new.base + address }
+    /// The memo has this word, which is known, at the place by a key of the base.
+    #[inline(always)]
+    fn keep_known(&self, memo: &mut Memo, place: usize, address: u32, word: u32)
+        requires place { place < 1024 }
+        requires known { IsKnown self.now.fetched (P.pages self.now.pages) address word }
+        requires based { self.now.base ≢ no_base }
+        ensures here { (note_at memo.new place).key ≡ self.now.base + address }
+        ensures known { AreKnown self.now.base self.now.fetched (P.pages self.now.pages) memo.old
+            → AreKnown self.now.base self.now.fetched (P.pages self.now.pages) memo.new }
+    {
+        memo.keep(place, self.base + u64::from(address), word);
+    }
+
+    /// The memo has this word, which is known, at the place by a key of the base; another base is
+    /// taken first where nothing is known.
+    fn remember(&mut self, memo: &mut Memo, place: usize, address: u32, word: u32)
+        requires place { place < 1024 }
+        requires known { IsKnown self.old.fetched (P.pages self.old.pages) address word }
+        ensures here { (note_at memo.new place).key ≡ self.new.base + address }
         ensures based { self.new.base ≢ no_base }
         ensures known { AreKnown self.old.base self.old.fetched (P.pages self.old.pages) memo.old
             → AreKnown self.new.base self.new.fetched (P.pages self.new.pages) memo.new }
@@ -319,16 +332,14 @@ impl<'a, P: Pages> Running<'a, P> {
         ensures pages { P.pages self.new.pages ≡ P.pages self.old.pages }
     {
         self.base = base_begun(self.base, memo);
-        let place = place_of(address);
-        memo.keep(place, self.base + u64::from(address), word);
-        place
+        self.keep_known(memo, place, address, word);
     }
 
-    /// The memo has the form of this word at the place that is given, by a key of no address: it may
-    /// be another word at once.
-    fn put_aside(&mut self, memo: &mut Memo, address: u32, word: u32) -> usize
-        ensures small { result < 1024 }
-        ensures here { (note_at memo.new result).word ≡ word }
+    /// The memo has the form of this word at the place, by a key of no address: it may be another
+    /// word at once.
+    fn put_aside(&mut self, memo: &mut Memo, place: usize, word: u32)
+        requires { place < 1024 }
+        ensures here { (note_at memo.new place).word ≡ word }
         ensures known { AreKnown self.old.base self.old.fetched (P.pages self.old.pages) memo.old
             → AreKnown self.new.base self.new.fetched (P.pages self.new.pages) memo.new }
         ensures still { still self.new.tid (P.owners self.new.pages) self.new.space.now.entries
@@ -337,17 +348,15 @@ impl<'a, P: Pages> Running<'a, P> {
         ensures pages { P.pages self.new.pages ≡ P.pages self.old.pages }
     {
         self.base = base_begun(self.base, memo);
-        let place = place_of(address);
         memo.keep(place, self.base + ADDRESSES, word);
-        place
     }
 
-    /// The place at which the memo has the word at an address from now on; None where its fetch is
-    /// refused, for this reason.
+    /// Whether the memo has the word at an address at the place from now on; else its fetch is
+    /// refused, for this reason. The page is searched for.
     #[cold]
     #[inline(never)]
-    fn learn(&mut self, memo: &mut Memo, address: u32, why: &mut Reason) -> Option<usize>
-        ensures small { IfSome result (λ place. place < 1024) }
+    fn find_word(&mut self, memo: &mut Memo, place: usize, address: u32, why: &mut Reason) -> bool
+        requires { place < 1024 }
         ensures word { (f : Still × P.Fixed) (t : ℕ) (w : World)
             → ShowsKnown (still self.old.tid (P.owners self.old.pages) self.old.space.now.entries)
             (P.fixed self.old.pages) (P.pages self.old.pages) self.old.base self.old.fetched
@@ -355,33 +364,75 @@ impl<'a, P: Pages> Running<'a, P> {
             → ShowsKnown (still self.new.tid (P.owners self.new.pages) self.new.space.now.entries)
             (P.fixed self.new.pages) (P.pages self.new.pages) self.new.base self.new.fetched
             (f, memo.new) t w
-            × MatchOption result (word_at w t address ≡ Err why.new)
-            (λ place. word_at w t address ≡ Ok (note_at memo.new place).word) }
+            × MatchBool result (word_at w t address ≡ Ok (note_at memo.new place).word)
+            (word_at w t address ≡ Err why.new) }
     {
         if let Some(word) = self.word_to_know(address) {
-            return Some(self.remember(memo, address, word));
+            self.remember(memo, place, address, word);
+            return true;
         }
         match self.fetch_word(address) {
-            Ok(word) => Some(self.put_aside(memo, address, word)),
+            Ok(word) => {
+                self.put_aside(memo, place, word);
+                true
+            }
             Err(reason) => {
                 *why = reason;
-                None
+                false
             }
         }
     }
 
-    /// The place at which the memo has the word at an address, which may be this one; None where its
+    /// The word at an address, where a fetch has found its page, it lies in that page alone and may
+    /// be known by a key of the base.
+    #[inline(always)]
+    fn word_found(&self, address: u32) -> Option<u32>
+        ensures word { IfSome result
+            (λ word. IsKnown self.now.fetched (P.pages self.now.pages) address word) }
+        ensures based { IfSome result (λ word. self.now.base ≢ no_base) }
+    {
+        let slot = self.fetched[slot_place(address)];
+        if self.base == NO_BASE || slot.page != address / 4096 || address % 4 != 0 {
+            return None;
+        }
+        let word = self.read(slot.frame, address, Size::Word);
+        if word % 4 == 3 { Some(word) } else { None }
+    }
+
+    /// Whether the memo has the word at an address at the place from now on; else its fetch is
+    /// refused, for this reason. A word of a page that a fetch has found is learnt with few
+    /// instructions: small quanta are spent on this.
+    #[inline(never)]
+    fn learn(&mut self, memo: &mut Memo, place: usize, address: u32, why: &mut Reason) -> bool
+        requires { place < 1024 }
+        ensures word { (f : Still × P.Fixed) (t : ℕ) (w : World)
+            → ShowsKnown (still self.old.tid (P.owners self.old.pages) self.old.space.now.entries)
+            (P.fixed self.old.pages) (P.pages self.old.pages) self.old.base self.old.fetched
+            (f, memo.old) t w
+            → ShowsKnown (still self.new.tid (P.owners self.new.pages) self.new.space.now.entries)
+            (P.fixed self.new.pages) (P.pages self.new.pages) self.new.base self.new.fetched
+            (f, memo.new) t w
+            × MatchBool result (word_at w t address ≡ Ok (note_at memo.new place).word)
+            (word_at w t address ≡ Err why.new) }
+    {
+        if let Some(word) = self.word_found(address) {
+            self.keep_known(memo, place, address, word);
+            return true;
+        }
+        self.find_word(memo, place, address, why)
+    }
+
+    /// Whether the memo has the word at an address at the place, where it may be already; else its
     /// fetch is refused, for this reason.
     #[inline(always)]
-    pub fn place_known(
+    pub fn knows(
         &mut self,
         memo: &mut Memo,
         place: usize,
         address: u32,
         why: &mut Reason,
-    ) -> Option<usize>
+    ) -> bool
         requires { place < 1024 }
-        ensures small { IfSome result (λ place. place < 1024) }
         ensures word { (f : Still × P.Fixed) (t : ℕ) (w : World)
             → ShowsKnown (still self.old.tid (P.owners self.old.pages) self.old.space.now.entries)
             (P.fixed self.old.pages) (P.pages self.old.pages) self.old.base self.old.fetched
@@ -389,13 +440,10 @@ impl<'a, P: Pages> Running<'a, P> {
             → ShowsKnown (still self.new.tid (P.owners self.new.pages) self.new.space.now.entries)
             (P.fixed self.new.pages) (P.pages self.new.pages) self.new.base self.new.fetched
             (f, memo.new) t w
-            × MatchOption result (word_at w t address ≡ Err why.new)
-            (λ place. word_at w t address ≡ Ok (note_at memo.new place).word) }
+            × MatchBool result (word_at w t address ≡ Ok (note_at memo.new place).word)
+            (word_at w t address ≡ Err why.new) }
     {
-        if memo.has(place, self.base + u64::from(address)) {
-            return Some(place);
-        }
-        self.learn(memo, address, why)
+        memo.has(place, self.base + u64::from(address)) || self.learn(memo, place, address, why)
     }
 }
 

@@ -3,7 +3,7 @@
 ghost use Rattle.std.specs.Prelude.{◌≡◌, ◌<◌, ◌≤◌, ◌^◌, ◌+◌, ◌⊎◌, slice_set, replicate, IsTrue, ◌↔◌};
 ghost use Rattle.rv_form.specs.Forms.{IsFormOf};
 ghost use Rattle.rv_form.specs.Notes.{AreBelow, first_base, note_at, nothing};
-ghost use Rattle.rv_form.specs.Noted.{notes_of};
+ghost use Rattle.rv_form.specs.Noted.{note_of, notes_of};
 
 use crate::line::Line;
 use crate::{Form, form_of};
@@ -51,14 +51,28 @@ fn no_lines() -> [Line; 1024]
     }; 1024]
 }
 
-// the form of a word, which is decoded where the line has another
-fn form_beside(line: &Line, word: u32) -> Form
-    ensures { IsFormOf word result }
+// the line has this word from now on
+#[cold]
+#[inline(never)]
+fn decode(line: &mut Line, word: u32)
+    ensures { note_of line.new ≡ record (note_of line.old) { word = word } }
 {
-    if line.word == word {
-        return line.form;
+    *line = Line {
+        key: line.key,
+        word,
+        form: form_of(word),
+    };
+}
+
+// the line's note from now on; the word is decoded where the line had another
+#[inline(always)]
+fn note(line: &mut Line, key: u64, word: u32)
+    ensures { note_of line.new ≡ record { key = key; word = word } }
+{
+    if line.word != word {
+        decode(line, word);
     }
-    form_of(word)
+    line.key = key;
 }
 
 impl Memo {
@@ -104,6 +118,7 @@ impl Memo {
 
     /// From now on the word is found at the place by this key. It is decoded where another word was
     /// remembered there.
+    #[inline(always)]
     pub fn keep(&mut self, place: usize, key: u64, word: u32)
         requires place { place < 1024 }
         requires given { first_base ≤ key }
@@ -111,8 +126,7 @@ impl Memo {
         ensures notes { self.new ≡ slice_set self.old place (record { key = key; word = word }) }
         ensures here { note_at self.new place ≡ record { key = key; word = word } }
     {
-        let form = form_beside(&self.lines[place], word);
-        self.lines[place] = Line { key, word, form };
+        note(&mut self.lines[place], key, word);
         self.top = self.top.max(key + 1);
     }
 }

@@ -26,8 +26,7 @@ both before after u = before u × after u
 
 pub returns-in-Not-clause-runs : goal.returns-in-Not-clause-runs
 returns-in-Not-clause-runs g c = λ f t w runs.
-    let notes = c.place_known.new.memo in
-    let known = c.in-Some.known in
+    let notes = c.knows.new.memo in
     let after = c.one_known.new.memory in
     let why = c.one_known.new.why in
     let left = c.loop-left.left in
@@ -35,25 +34,25 @@ returns-in-Not-clause-runs g c = λ f t w runs.
     let before_regs = with_pc c.loop-left.regs c.loop-left.pc in
     let after_regs = arrived c.one_known.new.regs c.loop-left.pc Not in
     let old = shown g c.loop-left.memory f c.loop-left.memo t in
-    let new = shown g c.place_known.new.self f notes t in
+    let new = shown g c.knows.new.self f notes t in
     subst (λ (r : Registers). Goes (ShowsBy
     (still after.tid (g.P.Pages.owners after.pages) after.space.now.entries)
     (g.P.Pages.fixed after.pages) (g.P.Pages.pages after.pages) f t) w t r budget left (Some why))
-    (sym c.set_pc.ensures)
+    (sym c.set_pc-in-Not.ensures)
     (goes-shown (shown g after f notes t) _ w t after_regs budget left (Some why) (λ u s. s.shows)
     (goes-stopped (both old new) (shown g after f notes t) w t before_regs after_regs budget left why
-    (λ u ru. c.in-Not.ensures (f, notes) t u left (note_at notes known).word c.form.ensures
-    (c.in-Some.ensures.word f t u ru.shown.0).1
+    (λ u ru. c.in-Not.ensures (f, notes) t u left (note_at notes c.loop-left.place).word c.form.ensures
+    (c.if-not-knows.ensures.word f t u ru.shown.0).1
     (record { shown = ru.shown.1; thread = ru.thread }))
     (reaches-shown old (both old new) w t before_regs budget left
-    (λ u s. (s, (c.in-Some.ensures.word f t u s).0))
+    (λ u s. (s, (c.if-not-knows.ensures.word f t u s).0))
     (c.loop-left.invariant.0 f t w runs))))
 
-pub returns-in-None-clause-runs : goal.returns-in-None-clause-runs
-returns-in-None-clause-runs g c = λ f t w runs.
-    let n = c.place_known.new.self in
-    let notes = c.place_known.new.memo in
-    let why = c.place_known.new.why in
+pub returns-then-not-knows-clause-runs : goal.returns-then-not-knows-clause-runs
+returns-then-not-knows-clause-runs g c = λ f t w runs.
+    let n = c.knows.new.self in
+    let notes = c.knows.new.memo in
+    let why = c.knows.new.why in
     let left = c.loop-left.left in
     let budget = c.args.budget.now in
     let regs = with_pc c.loop-left.regs c.loop-left.pc in
@@ -62,10 +61,10 @@ returns-in-None-clause-runs g c = λ f t w runs.
     subst (λ (r : Registers). Goes (ShowsBy
     (still n.tid (g.P.Pages.owners n.pages) n.space.now.entries)
     (g.P.Pages.fixed n.pages) (g.P.Pages.pages n.pages) f t) w t r budget left (Some why))
-    (sym c.set_pc-in-None.ensures)
+    (sym c.set_pc.ensures)
     (goes-shown new _ w t regs budget left (Some why) (λ u s. s.shows)
     (goes-stopped old new w t regs regs budget left why
-    (λ u ru. let r = c.in-None.ensures.word f t u ru.shown in
+    (λ u ru. let r = c.if-not-knows.ensures.word f t u ru.shown in
     steps old new t (blind_known (still n.tid (g.P.Pages.owners n.pages) n.space.now.entries)
     (g.P.Pages.fixed n.pages) (g.P.Pages.pages n.pages) n.base n.fetched (f, notes) t) u regs regs left (Stop why)
     (λ s. follows_err new u regs why _ (one_err u t regs why (sym r.1)) r.0) ru)
@@ -74,33 +73,33 @@ returns-in-None-clause-runs g c = λ f t w runs.
 pub loop-left-preserved : goal.loop-left-preserved
 loop-left-preserved g c = (
   λ f t w runs.
-      let notes = c.place_known.new.memo in
+      let notes = c.knows.new.memo in
       let pc = c.loop-left.pc in
       let left = c.loop-left.left in
       let budget = c.args.budget.now in
       let inv = c.loop-left.invariant in
       let before_regs = with_pc c.loop-left.regs pc in
       let old = shown g c.loop-left.memory f c.loop-left.memo t in
-      let new = shown g c.place_known.new.self f notes t in
+      let new = shown g c.knows.new.self f notes t in
       let R : Running g.row.P.Denot g.P.Pages → Registers → ℕ → Type 0 =
       λ x r p. Reaches (shown g x f notes t) w t (with_pc r p) budget (left - 1) in
       let after = c.one_known.new.memory in
       let r = c.one_known.new.regs in
       let reached : Reaches (both old new) w t before_regs budget left =
       reaches-shown old (both old new) w t before_regs budget left
-      (λ u s. (s, (c.in-Some.ensures.word f t u s).0)) (inv.0 f t w runs) in
+      (λ u s. (s, (c.if-not-knows.ensures.word f t u s).0)) (inv.0 f t w runs) in
       elim c.match-one_known.branch as (λ _. R after r c.match-one_known.pc) [
         | in-On b ↦ subst (λ x. R after r x) (sym b.pc-is)
             (reaches-more (both old new) (shown g after f notes t) w t before_regs
             (arrived r pc On) budget left c.loop-left-test.true inv.1
-            (λ u ru. b.in-On.ensures (f, notes) t u left (note_at notes c.in-Some.known).word
-            c.form.ensures (c.in-Some.ensures.word f t u ru.shown.0).1
+            (λ u ru. b.in-On.ensures (f, notes) t u left (note_at notes c.loop-left.place).word
+            c.form.ensures (c.if-not-knows.ensures.word f t u ru.shown.0).1
             (record { shown = ru.shown.1; thread = ru.thread })) reached)
         | in-To b ↦ subst (λ x. R after r x) (sym b.pc-is)
             (reaches-more (both old new) (shown g after f notes t) w t before_regs
             (arrived r pc (To b.in-To.target)) budget left c.loop-left-test.true inv.1
-            (λ u ru. b.in-To.ensures (f, notes) t u left (note_at notes c.in-Some.known).word
-            c.form.ensures (c.in-Some.ensures.word f t u ru.shown.0).1
+            (λ u ru. b.in-To.ensures (f, notes) t u left (note_at notes c.loop-left.place).word
+            c.form.ensures (c.if-not-knows.ensures.word f t u ru.shown.0).1
             (record { shown = ru.shown.1; thread = ru.thread })) reached)
       ],
   omega (arith, c.loop-left.invariant.1),

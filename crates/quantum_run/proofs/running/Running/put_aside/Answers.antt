@@ -11,5 +11,5 @@ returns-clause-known g c = λ are.
     subst (λ (notes : List Note). AreKnown c.base_begun-self.result m.fetched pages notes)
     (sym c.keep.ensures.notes)
     (known-aside c.base_begun-self.result m.fetched pages c.base_begun-self.new.memo
-    c.place_of-place.result c.args.word
+    c.args.place c.args.word
     (c.base_begun-self.ensures.known m.fetched pages are))

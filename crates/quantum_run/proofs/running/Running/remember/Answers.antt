@@ -1,16 +1,7 @@
-use Rattle.std.proofs.Common.{ℕ, List, sym, subst}
-use Rattle.rv_form.specs.Notes.{Note}
-use Rattle.quantum_run.specs.Knowing.{AreKnown, IsKnown}
-use Rattle.quantum_run.proofs.Knowing.{known-more}
 use Rattle.quantum_run.proofs.running.Running.remember.Goals as goal
 
 pub returns-clause-known : goal.returns-clause-known
 returns-clause-known g c = λ are.
     let m = c.args.self.now in
-    let pages = g.P.Pages.pages m.pages in
-    subst (λ (notes : List Note). AreKnown c.base_begun-self.result m.fetched pages notes)
-    (sym c.keep.ensures.notes)
-    (known-more c.base_begun-self.result m.fetched pages c.base_begun-self.new.memo
-    c.place_of-place.result c.from.result c.args.word
-    (c.base_begun-self.ensures.known m.fetched pages are)
-    (subst (λ (a : ℕ). IsKnown m.fetched pages a c.args.word) (sym c.from.ensures) c.requires))
+    c.keep_known.ensures.known
+    (c.base_begun-self.ensures.known m.fetched (g.P.Pages.pages m.pages) are)
