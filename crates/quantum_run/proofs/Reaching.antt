@@ -121,22 +121,6 @@ word-both w t a low high first is second =
     ∙ ap (λ b. cond b (second_of w t a low) (Ok low)) (eq-eqb (low % 4) 3 is)
     ∙ ap (λ (x : Result ℕ Reason). x >>= λ up. Ok (low + 2 ^ 16 * up)) second
 
-pub word-low : (w : World) (t a low : ℕ) → half_at w t a ≡ Ok low → low % 4 ≢ 3
-    → word_at w t a ≡ Ok low
-word-low w t a low first other = ap (λ (x : Result ℕ Reason). x >>= by_first w t a) first
-    ∙ ap (λ b. cond b (second_of w t a low) (Ok low)) (ne_eqb (low % 4) 3 other)
-
-pub word-err : (w : World) (t a : ℕ) (reason : Reason) → half_at w t a ≡ Err reason
-    → word_at w t a ≡ Err reason
-word-err w t a reason first = ap (λ (x : Result ℕ Reason). x >>= by_first w t a) first
-
-pub word-err-second : (w : World) (t a low : ℕ) (reason : Reason) → half_at w t a ≡ Ok low
-    → low % 4 ≡ 3 → half_at w t ((a + 2) % 2 ^ 32) ≡ Err reason → word_at w t a ≡ Err reason
-word-err-second w t a low reason first is second =
-    ap (λ (x : Result ℕ Reason). x >>= by_first w t a) first
-    ∙ ap (λ b. cond b (second_of w t a low) (Ok low)) (eq-eqb (low % 4) 3 is)
-    ∙ ap (λ (x : Result ℕ Reason). x >>= λ up. Ok (low + 2 ^ 16 * up)) second
-
 -- a frame found for an address is found for each address of its page
 same-page : (t : ℕ) (owners : List Owner) (entries : List (ℕ × Entry)) (access : Access)
     (a b frame : ℕ) → b / 4096 ≡ a / 4096 → frame_for t owners entries access a ≡ Ok frame

@@ -425,13 +425,7 @@ impl<'a, P: Pages> Running<'a, P> {
     /// Whether the memo has the word at an address at the place, where it may be already; else its
     /// fetch is refused, for this reason.
     #[inline(always)]
-    pub fn knows(
-        &mut self,
-        memo: &mut Memo,
-        place: usize,
-        address: u32,
-        why: &mut Reason,
-    ) -> bool
+    pub fn knows(&mut self, memo: &mut Memo, place: usize, address: u32, why: &mut Reason) -> bool
         requires { place < 1024 }
         ensures word { (f : Still × P.Fixed) (t : ℕ) (w : World)
             → ShowsKnown (still self.old.tid (P.owners self.old.pages) self.old.space.now.entries)

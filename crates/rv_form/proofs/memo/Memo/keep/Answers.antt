@@ -1,5 +1,5 @@
 -- One note more.
-use Rattle.std.proofs.Common.{◌<◌, ◌≤◌, ◌≡◌, arith, set, length, List, ◌∙◌, sym, ap, subst}
+use Rattle.std.proofs.Common.{◌<◌, ◌≤◌, arith, set, length, List, ◌∙◌, sym, ap, subst}
 use Rattle.std.proofs.lemmas.List.{map-set, get_or-set_same, length-map}
 use Rattle.rv_form.specs.Notes.{AreNotes, Note, note_at, nothing}
 use Rattle.rv_form.specs.Noted.{note_of, notes_of}
