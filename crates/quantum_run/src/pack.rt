@@ -48,7 +48,8 @@ impl Shared {
 pub struct Pack {
     tid: u32,
     pid: u32,
-    regs: Regs,
+    // apart, since packs are moved from place to place
+    regs: Box<Regs>,
     left: u32,
     // by frame
     own: Vec<Option<Page>>,
@@ -68,7 +69,7 @@ impl Model for Pack {
     ghost view = { λ k. record {
       thread = k.tid;
       process = k.pid;
-      registers = k.regs;
+      registers = k.regs.value;
       budget =
           k.left;
       pages = paired k.held.items k.own.items;
@@ -86,7 +87,7 @@ impl Pack {
         Ok(Pack {
             tid: 0,
             pid: 0,
-            regs: Regs::new(0),
+            regs: Box::new(alloc, Regs::new(0))?,
             left: 0,
             own: no_pages(alloc, frames)?,
             held: Vec::with_capacity(alloc, frames as usize)?,
@@ -101,7 +102,7 @@ impl Pack {
     {
         self.tid = tid;
         self.pid = pid;
-        self.regs = regs;
+        *self.regs = regs;
         self.left = budget;
     }
 
@@ -177,7 +178,7 @@ pub fn run_pack(pack: &mut Pack, view: &View<'_>)
     // that each page has an owner is known of the frames themselves
     let _count = view.frames.count();
     let space = view.table.space(pack.pid);
-    let mut regs = pack.regs;
+    let mut regs = *pack.regs;
     regs.set_held(None);
     let mut left = pack.left;
     let _reason = run_lent(
@@ -189,6 +190,6 @@ pub fn run_pack(pack: &mut Pack, view: &View<'_>)
         &mut regs,
         &mut left,
     );
-    pack.regs = regs;
+    *pack.regs = regs;
     pack.left = left;
 }

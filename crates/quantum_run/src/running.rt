@@ -14,7 +14,7 @@ ghost use Rattle.quantum_run.specs.Pages.{AreReached, AreOwn, AreWithin, IsHomeI
 
 use crate::pages::Pages;
 use crate::slot::Slot;
-use crate::slots::{base_beside, has_frame, nothing_found, slot_place, slots_without};
+use crate::slots::{base_beside, forget_frame, has_frame, nothing_found, slot_place};
 use dos_world::{Access, Reason, Size};
 use rv_exec::Memory;
 use rv_form::{Memo, NO_BASE, place_of};
@@ -171,7 +171,7 @@ impl<'a, P: Pages> Running<'a, P> {
         ensures pages { P.pages self.new.pages ≡ P.pages self.old.pages }
     {
         self.base = base_beside(self.fetched[place], self.base);
-        self.stored = slots_without(&self.stored, slot.frame);
+        forget_frame(&mut self.stored, slot.frame);
         self.fetched[place] = slot;
     }
 

@@ -36,15 +36,14 @@ pub fn has_frame(slots: &[Slot; 64], frame: u32) -> bool
     slots.iter().any(|slot| slot.frame == frame)
 }
 
-/// The slots, where none has this frame, and else slots that have found nothing.
-pub fn slots_without(slots: &[Slot; 64], frame: u32) -> [Slot; 64]
-    ensures { ((result ≡ slots.now) × IsNoCode slots.now frame)
-        ⊎ (result ≡ replicate 64 empty_slot) }
+/// No slot has this frame from now on: where one had, none has found anything.
+pub fn forget_frame(slots: &mut [Slot; 64], frame: u32)
+    ensures { ((slots.new ≡ slots.old) × IsNoCode slots.old frame)
+        ⊎ (slots.new ≡ replicate 64 empty_slot) }
 {
     if has_frame(slots, frame) {
-        return nothing_found();
+        *slots = nothing_found();
     }
-    *slots
 }
 
 /// The base after a page is found in the place of this slot: what was known of the page that was

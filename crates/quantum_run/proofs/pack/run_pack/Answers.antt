@@ -7,7 +7,7 @@ use Rattle.dos_world.specs.declared.Entry.{Entry}
 use Rattle.page_store.specs.Store.{whole}
 use Rattle.quantum_run.specs.Shows.{Pack, CanRun, Shows, frames_of}
 use Rattle.quantum_run.specs.Packs.{paired, seen, space_in}
-use Rattle.dos_world.specs.World.{Process, Holdings, holdings_of, look}
+use Rattle.dos_world.specs.World.{Process, Holdings, Registers, holdings_of, look, released}
 use Rattle.proc_table.specs.Tables.{held_in}
 use Rattle.quantum_run.proofs.Packing.{all-reached, all-own, frames-paired, packed-kept, same-length}
 use Rattle.quantum_run.proofs.Finishing.{finished, Some-some}
@@ -126,14 +126,16 @@ returns-clause-finished c =
       pages = paired held c.run_lent-reason.new.own.items;
       room = length c.run_lent-reason.new.own.items;
     }) (seen c.args.view.now) (alone w n)) (ap (λ (p : Pack). p.thread) c.pack.view_is)
-    (finished c.pack.inside.tid c.pack.inside.pid c.pack.inside.regs c.pack.inside.left held table
-    frames.pages _ frames.owners
+    (finished c.pack.inside.tid c.pack.inside.pid c.pack.inside.regs.value c.pack.inside.left held
+    table frames.pages _ frames.owners
     (map space_in c.args.view.now.table.now.processes) entries
     c.pack.invariant level (sym c.count-count.ensures.owners ∙ c.count-count.ensures.pages)
     (can.space ∙ ap (λ x. Some (Some x)) (sym same))
     (λ i frame at. can.owned i frame (ap (λ fs. slice_get fs i) (frames-paired held table) ∙ at))
     c.run_lent-reason.new.own.items c.set_held.new.self c.run_lent-reason.new.regs
     c.run_lent-reason.new.budget c.run_lent-reason.result
-    c.run_lent-reason.ensures.here c.set_held.ensures c.run_lent-reason.ensures.within
+    c.run_lent-reason.ensures.here
+    (c.set_held.ensures ∙ ap (λ (r : Registers). released r) c.deref.ensures)
+    c.run_lent-reason.ensures.within
     c.run_lent-reason.ensures.runs c.run_lent-reason.ensures.stop
     w (subst (λ (p : Pack). Shows p (seen c.args.view.now) w) (sym c.pack.view_is) shows))

@@ -50,7 +50,7 @@ returns c =
     (sym (ap (λ (p : Pack). p.room) c.self.view_is)) c.requires.room in
     let pages = paired-with k.held.items k.own.items
     (vec_capacity k.held) c.self.invariant c.args.frame c.args.page within away in
-    packed-view k.tid k.pid k.regs k.left
+    packed-view k.tid k.pid k.regs.value k.left
     (paired k.held.items k.own.items ++ (c.args.frame, whole c.args.page) ∷ [])
     (paired c.push.new.self.items (slice_set k.own.items c.args.frame (Some c.args.page)))
     (length k.own.items) (length (slice_set k.own.items c.args.frame (Some c.args.page)))

@@ -39,6 +39,6 @@ returns c =
     ∙ paired-without new own (vec_capacity k.held) f packed c.in-Some.page page
     ∙ ap (λ (o : Option (List ℕ)). paired new (slice_set own f o) ++ (f, whole c.in-Some.page) ∷ [])
     (sym c.take.ensures.after) in
-    sym c.self.view_is ∙ packed-view k.tid k.pid k.regs k.left
+    sym c.self.view_is ∙ packed-view k.tid k.pid k.regs.value k.left
     (paired new rest ++ (f, whole c.in-Some.page) ∷ []) (paired k.held.items own)
     (length rest) (length own) same (sym (length-set own f c.take.new.self))

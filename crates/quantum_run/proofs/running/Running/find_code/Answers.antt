@@ -26,7 +26,7 @@ invariant_of-self g c =
     let m = c.args.self.now in
     let owners = g.P.Pages.owners m.pages in
     let entries = m.space.now.entries in
-    let stored = c.slots_without-self.result in
+    let stored = c.forget_frame.new.slots in
     record {
       reached = m.reached;
       own = m.own;
@@ -34,13 +34,13 @@ invariant_of-self g c =
       fetched_are = All-set (λ (s : Slot). IsFrameOf m.tid owners entries Fetch s.page s.frame)
           m.fetched c.args.place c.args.slot c.requires.frame m.fetched_are;
       loaded_are = m.loaded_are;
-      stored_are = elim c.slots_without-self.ensures as
+      stored_are = elim c.forget_frame.ensures as
           (λ _. AreFramesOf m.tid owners entries Store stored) [
             | inl same ↦ subst (λ (s : List Slot). AreFramesOf m.tid owners entries Store s)
                 (sym same.0) m.stored_are
             | inr none ↦ none-found m.tid owners entries Store stored none
           ];
-      apart = elim c.slots_without-self.ensures as
+      apart = elim c.forget_frame.ensures as
           (λ _. AreApart (set m.fetched c.args.place c.args.slot) stored) [
             | inl same ↦ subst (λ (s : List Slot).
                 AreApart (set m.fetched c.args.place c.args.slot) s) (sym same.0)
