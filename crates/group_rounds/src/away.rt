@@ -80,7 +80,8 @@ impl Model for PartsRun {
       packs = h.out.items;
     } };
 
-    ghost invariant = { λ h. ((before : state_type) × (packs : List pack_value) × WentOut before (record {
+    ghost invariant = { λ h. ((before : state_type) × (packs : List pack_value)
+        × WentOut before (record {
       state = h.state;
       config = h.config;
       starters = h.starters.items;
@@ -125,8 +126,8 @@ pub fn hand_out(kernel: Kernel) -> HandedOut
     }
 }
 
-/// Each pack runs on the workers, who have the frames and the table meanwhile. Their tally grows by the
-/// instructions of the packs, each for one of a budget.
+/// Each pack runs on the workers, who have the frames and the table meanwhile. Their tally grows by
+/// the instructions of the packs, each for one of a budget.
 pub fn run_parts<W: Workers>(handed: HandedOut, workers: &mut W) -> PartsRun
     ensures runs { HaveRun handed result }
     ensures tally { GrewBy (W.tally workers.old) (W.tally workers.new)
