@@ -82,11 +82,11 @@ impl Model for PartsRun {
 
     ghost invariant = { λ h. ((before : state_type) × (packs : List pack_value)
         × WentOut before (record {
-      state = h.state;
-      config = h.config;
-      starters = h.starters.items;
-      packs = packs;
-    }) × AllRan (view_of h.state.frames h.state.table) packs h.out.items)
+          state = h.state;
+          config = h.config;
+          starters = h.starters.items;
+          packs = packs;
+        }) × AllRan (view_of h.state.frames h.state.table) packs h.out.items)
         × HasRoom h.frames h.config (vec_capacity h.starters) h.spare.items h.out.items
         (vec_capacity h.spare) (vec_capacity h.out) };
 }
