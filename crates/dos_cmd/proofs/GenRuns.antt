@@ -169,7 +169,8 @@ pub leaves_memory : (number threads n : ℕ) (tells : Bool) (f : Text → Option
 leaves_memory number threads n tells f h out e tally tally' counts why is =
     subst (λ (w : Refusal). Leaves (requests.Gen number threads n)
     (outside tells f f h h out out e e tally tally') counts w []) (sym is)
-    (inl (says_nothing (outside tells f f h h out out e e tally tally') refl refl (λ name. refl) refl))
+    (inl (says_nothing (outside tells f f h h out out e e tally tally') refl refl (λ name. refl)
+    refl))
 
 -- It was opened with the image that is generated.
 pub opened_with : (number threads : ℕ) (kernel : Held) (images : List Image)

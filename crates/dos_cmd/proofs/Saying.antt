@@ -47,8 +47,8 @@ module _ (o : Outside) (e : Option (List ℕ)) (last : List ℕ) (more : e ≡ g
         → NotTaken asked (with_error o e) why last
     not_taken_more asked why h = record { is = h.is; says = says_more h.says }
 
-    stopped_more : (asked : Request) (taken : Taken) (stop : ShimStop) → Stopped asked taken stop [] o
-        → Stopped asked taken stop last (with_error o e)
+    stopped_more : (asked : Request) (taken : Taken) (stop : ShimStop)
+        → Stopped asked taken stop [] o → Stopped asked taken stop last (with_error o e)
     stopped_more (Run q r f w posts from step log names) taken stop h = record {
       plan = h.plan;
       planned = record {
@@ -93,8 +93,8 @@ module _ (o : Outside) (e : Option (List ℕ)) (last : List ℕ) (more : e ≡ g
     unwritten_more (Inspect name) taken h = absurd h
     unwritten_more (Gen number threads w) taken h = absurd h
 
-    misfit_more : (asked : Request) (taken : Taken) (found : Misfit) → HasMisfit asked taken found [] o
-        → HasMisfit asked taken found last (with_error o e)
+    misfit_more : (asked : Request) (taken : Taken) (found : Misfit)
+        → HasMisfit asked taken found [] o → HasMisfit asked taken found last (with_error o e)
     misfit_more (Run q r f w posts from step log names) taken found h = absurd h
     misfit_more (Replay w log names) taken found h = of_log taken.log h
       where

@@ -64,8 +64,8 @@ pub record CutSummary (images : List Image) (o : Outside) : Type 0 where
 
 -- ---- from part to whole
 
--- The group was run so, and this is seen of it: the kernel, the ending, the count of bytes and their
--- digest give its summary.
+-- The group was run so, and this is seen of it: the kernel, the ending, the count of bytes and
+-- their digest give its summary.
 pub record RanQuietly (images : List Image) (config : Config) (kernel : Held) (ending : Ending)
     (count : ℕ) (digest : List ℕ) (tally tally_after : ℕ) : Type 0 where
   pub seen : Seen

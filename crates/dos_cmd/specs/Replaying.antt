@@ -28,8 +28,8 @@ pub record DidReplay (log : Log) (images : List Image) (status : ℕ) (o : Outsi
   pub grew : Grew o seen.output (seen.error ++ report seen)
   pub stays : StaysAll o
 
--- The run came to the log's misfit. The outputs grew by its bytes until there, and then error by the
--- last ones.
+-- The run came to the log's misfit. The outputs grew by its bytes until there, and then error by
+-- the last ones.
 pub record Misfitted (log : Log) (images : List Image) (found : Misfit) (last : List ℕ)
     (o : Outside) : Type 0 where
   pub output : List ℕ

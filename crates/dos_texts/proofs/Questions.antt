@@ -27,6 +27,6 @@ pub clock_text : (line first new : List ℕ) (question : Question) (round tid : 
     → first ≡ (line ++ codes "clock round ") ++ decimal round
     → new ≡ (first ++ codes " thread ") ++ decimal tid → new ≡ line ++ question_text question
 clock_text line first new question round tid is e f =
-    two_pieces line first new (codes "clock round ") (decimal round) (codes " thread ") (decimal tid)
-    e f
+    two_pieces line first new (codes "clock round ") (decimal round) (codes " thread ")
+    (decimal tid) e f
     ∙ ap (λ q. line ++ question_text q) (sym is)

@@ -60,7 +60,8 @@ refusal_of_two n refusals.LogFull p q = absurd (omega arith)
 refusal_of_two n refusals.Memory p q = absurd (omega arith)
 
 pub refusal_of_four : (n : ℕ) (r : Refusal) → n ≡ refusal_status r → n ≡ 4
-    → ((why : LogRefusal) × (r ≡ refusals.Log why)) ⊎ ((found : Misfit) × (r ≡ refusals.Misfit found))
+    → ((why : LogRefusal) × (r ≡ refusals.Log why))
+    ⊎ ((found : Misfit) × (r ≡ refusals.Misfit found))
 unfolding refusal_status
 refusal_of_four n refusals.Words p q = absurd (omega arith)
 refusal_of_four n (refusals.TooLong image) p q = absurd (omega arith)
@@ -74,7 +75,8 @@ refusal_of_four n refusals.Sink p q = absurd (omega arith)
 refusal_of_four n refusals.LogFull p q = absurd (omega arith)
 refusal_of_four n refusals.Memory p q = absurd (omega arith)
 
-pub refusal_of_five : (n : ℕ) (r : Refusal) → n ≡ refusal_status r → n ≡ 5 → (r ≡ refusals.Files) ⊎ (r ≡ refusals.Host)
+pub refusal_of_five : (n : ℕ) (r : Refusal) → n ≡ refusal_status r → n ≡ 5
+    → (r ≡ refusals.Files) ⊎ (r ≡ refusals.Host)
 unfolding refusal_status
 refusal_of_five n refusals.Words p q = absurd (omega arith)
 refusal_of_five n (refusals.TooLong image) p q = absurd (omega arith)

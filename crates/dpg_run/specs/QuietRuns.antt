@@ -11,8 +11,8 @@ use Rattle.group_rounds.specs.Goes.{GoesOn}
 use Rattle.dpg_run.specs.Fits.{Fits}
 use Rattle.dpg_run.specs.Machine.{Finish, Seen, ends, group, machine}
 
--- The run of these images asks the questions of these exchanges, one after another, and each of them
--- has its quiet answer.
+-- The run of these images asks the questions of these exchanges, one after another, and each of
+-- them has its quiet answer.
 pub record IsQuietFront (images : List Image) (config : Config) (exchanges : List Exchange) :
     Type 0 where
   pub quiet : AreQuiet exchanges

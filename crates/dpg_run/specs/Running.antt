@@ -58,7 +58,8 @@ pub record StoppedGroup (config : Config) (old : State) (before after : Telling)
   pub asked_is : asked ≡ Some question
   pub asks : over (map answer_of more.exchanges) (run_from (world_of config.quantum old) config)
       ≡ asks question more.output more.error
-  pub asked_so : questions (map answer_of more.exchanges) (run_from (world_of config.quantum old) config)
+  pub asked_so : questions (map answer_of more.exchanges)
+      (run_from (world_of config.quantum old) config)
       ≡ map question_of more.exchanges ++ question ∷ []
 
 -- These are fronts of what a run sends to output and to error, whether it ends or needs an answer.

@@ -99,7 +99,8 @@ fn open_parts(frames: &mut Frames, table: &mut Table, opened: Opened, image: &Im
 fn open_stack(frames: &mut Frames, table: &mut Table, opened: Opened)
     requires room { HasRoom frames.old 16 }
     requires place { HasPlace table.old opened.pid 0xEFFF0 16 }
-    ensures { OpensStack frames.old frames.new table.old table.new opened.pid opened.tid stack_pages }
+    ensures { OpensStack frames.old frames.new table.old table.new opened.pid opened.tid
+        stack_pages }
 {
     for page in STACK..STACK_END {
         open_stack_page(frames, table, opened, page);

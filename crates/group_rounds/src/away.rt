@@ -80,12 +80,13 @@ impl Model for PartsRun {
       packs = h.out.items;
     } };
 
-    ghost invariant = { λ h. ((before : state_type) × (packs : List pack_value) × WentOut before (record {
-      state = h.state;
-      config = h.config;
-      starters = h.starters.items;
-      packs = packs;
-    }) × AllRan (view_of h.state.frames h.state.table) packs h.out.items)
+    ghost invariant = { λ h. ((before : state_type) × (packs : List pack_value)
+        × WentOut before (record {
+          state = h.state;
+          config = h.config;
+          starters = h.starters.items;
+          packs = packs;
+        }) × AllRan (view_of h.state.frames h.state.table) packs h.out.items)
         × HasRoom h.frames h.config (vec_capacity h.starters) h.spare.items h.out.items
         (vec_capacity h.spare) (vec_capacity h.out) };
 }
@@ -125,8 +126,8 @@ pub fn hand_out(kernel: Kernel) -> HandedOut
     }
 }
 
-/// Each pack runs on the workers, who have the frames and the table meanwhile. Their tally grows by the
-/// instructions of the packs, each for one of a budget.
+/// Each pack runs on the workers, who have the frames and the table meanwhile. Their tally grows by
+/// the instructions of the packs, each for one of a budget.
 pub fn run_parts<W: Workers>(handed: HandedOut, workers: &mut W) -> PartsRun
     ensures runs { HaveRun handed result }
     ensures tally { GrewBy (W.tally workers.old) (W.tally workers.new)

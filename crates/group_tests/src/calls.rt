@@ -57,8 +57,8 @@ fn words_of(alloc: Global, texts: &[&str]) -> Result<Vec<String>, AllocError> {
 /// The status of a call, and its two outputs.
 type Ended = (u8, MemorySink, MemorySink);
 
-/// Calls the program with these words and workers, and `--log log` behind the word `run`. Both sinks
-/// have room for 40000 bytes.
+/// Calls the program with these words and workers, and `--log log` behind the word `run`. Both
+/// sinks have room for 40000 bytes.
 pub fn call_by<W: Workers>(
     workers: &mut W,
     alloc: Global,

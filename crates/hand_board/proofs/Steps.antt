@@ -157,7 +157,8 @@ module _ {T : Type 0} (fin : T → T → Type 0) (opened : List T) where
       (λ n. n) (Brought (step slots (i + 1) 0 0 none) (m.0, l))) (sym e)
       (λ s h wide at _. let v : Knows T = m.0 in
       let one = in_hand fin opened _ s.homes s.views h.placed id i v at has in
-      let t = placed_brought fin opened _ s.homes s.views h.placed (low s h) i id v at share has in (
+      let t = placed_brought fin opened _ s.homes s.views h.placed (low s h) i id v at share has
+      in (
         to_front i v,
         t.0,
         t.1,
@@ -188,7 +189,8 @@ module _ {T : Type 0} (fin : T → T → Type 0) (opened : List T) where
       (λ _. Given (step slots (i + 1) 2 0 none) z 2)) (sym e)
       (λ s h wide at _.
       let here : times i v.hand ≡ suc (times i hand) = ap (times i) has ∙ times_here i hand in
-      let lt = low s h i (in_hand fin opened _ s.homes s.views h.placed id i v at (omega arith)) in (
+      let lt = low s h i (in_hand fin opened _ s.homes s.views h.placed id i v at (omega arith))
+      in (
         without_front v,
         gives,
         tt,

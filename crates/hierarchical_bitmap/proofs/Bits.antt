@@ -16,14 +16,16 @@ use Rattle.hierarchical_bitmap.specs.Levels.{bit, bits, itself, mask, with_bit, 
 -- what has a bit isn't 0
 pub some-bit : (n i : ℕ) → bit_at n i ≡ 1 → 0 < n
 some-bit n i h = elim (cases_eq n 0) [
-  | inl e ↦ absurd (let none : bit_at n i ≡ 0 = ap (λ m. bit_at m i) e ∙ bit_at-zero i in omega arith)
+  | inl e ↦ absurd (let none : bit_at n i ≡ 0 = ap (λ m. bit_at m i) e ∙ bit_at-zero i in
+      omega arith)
   | inr other ↦ omega arith
 ]
 
 -- ---- one bit of a level
 
 pub with_bit-word : (words : List ℕ) (place : ℕ) → place / 64 < length words
-    → get_or (with_bit words place) (place / 64) 0 ≡ bit_or (get_or words (place / 64) 0) (mask place)
+    → get_or (with_bit words place) (place / 64) 0
+    ≡ bit_or (get_or words (place / 64) 0) (mask place)
 with_bit-word words place h = get_or-set_same words (place / 64) _ 0 h
 
 pub without_bit-word : (words : List ℕ) (place : ℕ) → place / 64 < length words

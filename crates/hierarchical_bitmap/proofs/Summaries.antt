@@ -279,7 +279,8 @@ first-some words index found =
 pub first-none : (words : List ℕ) → position is_set words ≡ None → (k : ℕ) → get_or words k 0 ≡ 0
 first-none words none k = elim (cases_lt (position_or_len is_set words) (length words)) [
   | inl low ↦ absurd (
-      let yes : nat_lt (position_or_len is_set words) (length words) ≡ true = grind (arith, nat_tests, low) in
+      let yes : nat_lt (position_or_len is_set words) (length words) ≡ true =
+      grind (arith, nat_tests, low) in
       let some : position is_set words ≡ Some (position_or_len is_set words) =
       ap (λ b. cond b (Some (position_or_len is_set words)) None) yes in
       cc
@@ -308,7 +309,8 @@ none-below upper lower s none k = elim (cases_eq (get_or lower k 0) 0) [
 bit-at : (count k : ℕ) (words : List ℕ) → k < count
     → get_or (bits count words) k false ≡ (bit words k == 1)
 unfolding bits
-bit-at count k words h = get_or-map-range_with_len (λ i. bit words i == 1) 0 count k k false h (omega arith)
+bit-at count k words h =
+    get_or-map-range_with_len (λ i. bit words i == 1) 0 count k k false h (omega arith)
 
 pub lowest-place : (count place : ℕ) (places words groups : List ℕ)
     → AreLevels count places words groups → IsLowest places place
@@ -321,7 +323,8 @@ lowest-place count place places words groups l low =
       within,
       position-is (bits count places) place (omega (arith, within, length-bits count places))
           (bit-at count place places within ∙ ap (λ b. b == 1) low.set)
-          (λ k h. bit-at count k places (omega (arith, within, h)) ∙ ap (λ b. b == 1) (low.below k h)),
+          (λ k h. bit-at count k places (omega (arith, within, h))
+          ∙ ap (λ b. b == 1) (low.below k h)),
     )
 
 pub lowest-none : (count : ℕ) (places words groups : List ℕ) → AreLevels count places words groups
@@ -330,6 +333,8 @@ lowest-none count places words groups l none =
     let zero = none-below words places l.of_places (none-below groups words l.of_words none) in
     position-is_none (bits count places) (λ k. elim (cases_lt k count) [
       | inl within ↦ bit-at count k places within
-          ∙ ap (λ w. bit_at w (k % 64) == 1) (zero (k / 64)) ∙ ap (λ b. b == 1) (bit_at-zero (k % 64))
-      | inr past ↦ get_or_past (bits count places) k false (omega (arith, past, length-bits count places))
+          ∙ ap (λ w. bit_at w (k % 64) == 1) (zero (k / 64))
+          ∙ ap (λ b. b == 1) (bit_at-zero (k % 64))
+      | inr past ↦ get_or_past (bits count places) k false
+          (omega (arith, past, length-bits count places))
     ])

@@ -128,7 +128,8 @@ module _ (s new : State) (stood : Stands s new) (round : new.round ≡ s.round) 
     free = λ frame lt.
         let o : Owner = slice_index_or new.frames.owners frame Free in
         let p : Owner = slice_index_or s.frames.owners frame Free in
-        let was : (p ≡ Free) ↔ IsFalse (is_mapped (world_of q s) frame) = l.frames.free frame lt in (
+        let was : (p ≡ Free) ↔ IsFalse (is_mapped (world_of q s) frame) = l.frames.free frame lt
+        in (
           (λ h. was.0 (free_by o p (stood.frames.used frame) h)),
           (λ h. free_by p o (sym (stood.frames.used frame)) (was.1 h)),
         );

@@ -187,7 +187,8 @@ recording_replays plan host after log seen recorded is =
 
 -- ---- where a recorder stops, and where it doesn't
 
--- Behind what a play asked of some exchanges, a list that it asks whole has one of its next question.
+-- Behind what a play asked of some exchanges, a list that it asks whole has one of its next
+-- question.
 record Parted (es fs : List Exchange) (question : Question) : Type 0 where
   pub next : Exchange
   pub rest : List Exchange

@@ -153,7 +153,8 @@ module _ (R : List Record) (L : List Links) (few : length R ≤ 65535) (count : 
     (linked : AreLinked R L) where
   along : (new : List Record) (M : List Links) → length new ≡ length R
       → AreLinkedBy (length R) (is_child_at new) (next_in M) (previous_in M) → AreLinked new M
-  along new M e h = subst (λ n. AreLinkedBy n (is_child_at new) (next_in M) (previous_in M)) (sym e) h
+  along new M e h =
+      subst (λ n. AreLinkedBy n (is_child_at new) (next_in M) (previous_in M)) (sym e) h
 
   -- a process that lives ends
   pub ended_linked : (p status : ℕ) → IsSome (place_in R p)
@@ -238,8 +239,8 @@ module _ (R : List Record) (L : List Links) (few : length R ≤ 65535) (count : 
         let M : List Links = with_link L p (previous_in L p c) (next_in L p c) in
         along new M (changed_length (kept_as (Ended status true)) R c)
         (elim (cases_eq p 0) [
-          | inl e ↦ linked_same (length R) (is_child_at R) (family R few) (next_in L) (previous_in L)
-              linked (is_child_at new) (next_in M) (previous_in M)
+          | inl e ↦ linked_same (length R) (is_child_at R) (family R few) (next_in L)
+              (previous_in L) linked (is_child_at new) (next_in M) (previous_in M)
               (λ q n some. elim (cases_eq n c) [
                 | inl s ↦ ap (is_child_at new q) s ∙ gone q
                     ∙ sym (ap (is_child_at R q) s ∙ foreign q e some)

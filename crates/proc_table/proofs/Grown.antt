@@ -50,13 +50,15 @@ module _ (count : ℕ) (child : ℕ → ℕ → Bool) (family : IsFamily count c
   next_stays : (q n : ℕ) → q ≢ c → (n ≡ 0) ⊎ (child q n ≡ true)
       → (q ≡ p → n ≢ previous p 65536) → next2 q n ≡ next q n
   next_stays q n apart at other = nexts_end.others q n (old_start q n at)
-      ∙ stays count child family 0 p (previous p 65536) c next1 next3 (head_first count child family) nexts last_at q n at other
+      ∙ stays count child family 0 p (previous p 65536) c next1 next3
+      (head_first count child family) nexts last_at q n at other
       ∙ fresh_next q n apart (old_start q n at)
 
   previous_stays : (q n : ℕ) → q ≢ c → (n ≡ 65536) ⊎ (child q n ≡ true)
       → (q ≡ p → n ≢ 65536) → previous2 q n ≡ previous q n
   previous_stays q n apart at other =
-      stays count child family 65536 p 65536 c previous3 previous2 (head_last count child family) previouses_end (inl refl) q n at other
+      stays count child family 65536 p 65536 c previous3 previous2
+      (head_last count child family) previouses_end (inl refl) q n at other
       ∙ previouses.others q n (old_end q n at) ∙ fresh_previous q n apart (old_end q n at)
 
   still : (q n : ℕ) → (n ≡ 0) ⊎ (child q n ≡ true) → (n ≡ 0) ⊎ (child2 q n ≡ true)

@@ -123,7 +123,8 @@ module _ (count : ℕ) (child : ℕ → ℕ → Bool) (family : IsFamily count c
       after = λ q n from low at.
           subst (λ j. IsNext (child2 q) n j) (sym (nexts q n from))
           (next_same (child q) (child2 q) n (next q n) (λ k a b. same q k from)
-          (linked.after q n from low (elim at [ inl e ↦ inl e | inr t ↦ inr (sym (same q n from) ∙ t) ])));
+          (linked.after q n from low
+          (elim at [ inl e ↦ inl e | inr t ↦ inr (sym (same q n from) ∙ t) ])));
       before = λ q n from low at.
           let old = linked.before q n from low
           (elim at [ inl e ↦ inl e | inr t ↦ inr (sym (same q n from) ∙ t) ]) in
@@ -228,8 +229,8 @@ module _ (count : ℕ) (child : ℕ → ℕ → Bool) (family : IsFamily count c
         | inr other ↦
             let old = linked.before p n some within at in
             led child2 next2 previous2 p n (previous p n)
-            (stays 65536 p (next p c) (previous p c) previous previous2 head_last previouses after_is
-            p n at (λ _. other))
+            (stays 65536 p (next p c) (previous p c) previous previous2 head_last previouses
+            after_is p n at (λ _. other))
             (still p (previous p n) (λ e. other (sym old.1 ∙ ap (next p) e)) old.0)
             (stays 0 p (previous p c) (next p c) next next2 head_first nexts before_is.0 p
             (previous p n) old.0

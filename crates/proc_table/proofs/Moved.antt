@@ -222,14 +222,16 @@ field_stays field f same L n m = elim (cases_eq m n) [
   | inr apart ↦ ap field (links_elsewhere f L n m apart)
 ]
   where
-    within : m ≡ n → 0 < n → n ≤ length L → field (links_at (changed f L n) m) ≡ field (links_at L m)
+    within : m ≡ n → 0 < n → n ≤ length L
+        → field (links_at (changed f L n) m) ≡ field (links_at L m)
     within e some low = ap (λ k. field (links_at (changed f L n) k)) e
         ∙ ap field (links_here f L n some low) ∙ same (links_at L n)
         ∙ ap (λ k. field (links_at L k)) (sym e)
 
     outside : m ≡ n → length L < n → field (links_at (changed f L n) m) ≡ field (links_at L m)
     outside e above =
-        ap (λ o. field (links_of o)) (beyond (changed f L n) m (omega (arith, changed_length f L n)))
+        ap (λ o. field (links_of o))
+        (beyond (changed f L n) m (omega (arith, changed_length f L n)))
         ∙ sym (ap (λ o. field (links_of o)) (beyond L m (omega arith)))
 
 next_first : (L : List Links) (q n : ℕ) → n ≡ 0 → next_in L q n ≡ (links_at L q).first

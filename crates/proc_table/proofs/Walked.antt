@@ -250,7 +250,8 @@ module _ (p : ℕ) (R : List Record) (few : length R ≤ 65535) where
       get_or (map_from 1 (orphan_before p (suc i)) R) k x) same) r is in
       ap (λ k. set (map_from 1 (orphan_before p (suc i)) R) k (let y : Record =
       record x { parent = 0 } in y)) same
-      ∙ mapped_set 1 (orphan_before p (suc i)) (orphan_before p j) R i r (record x { parent = 0 }) is
+      ∙ mapped_set 1 (orphan_before p (suc i)) (orphan_before p j) R i r
+      (record x { parent = 0 }) is
       (ap (λ (z : Record). let y : Record = record z { parent = 0 } in y) it
       ∙ sym (ap (λ b. cond b (orphan_record p r) r)
       (before (1 + i) j (omega (arith, h.above)))

@@ -185,7 +185,8 @@ impl Processes {
 
     pub(crate) fn put_entry(&mut self, pid: u32, page: u32, entry: Entry)
         requires live { IsProcess self.old.processes pid }
-        requires unmapped { IfSome (held_in self.old.processes pid) (λ h. look h.space page ≡ None) }
+        requires unmapped { IfSome (held_in self.old.processes pid)
+            (λ h. look h.space page ≡ None) }
         requires room { IfSome (held_in self.old.processes pid)
             (λ h. length h.space < self.old.room) }
         ensures { self.new

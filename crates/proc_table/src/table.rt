@@ -464,7 +464,8 @@ impl Table {
     #[tactic(auto, using(crate::proofs::Lengths::lengths))]
     pub fn put_entry(&mut self, pid: u32, page: u32, entry: Entry)
         requires live { IsProcess self.old.processes pid }
-        requires unmapped { IfSome (held_in self.old.processes pid) (λ h. look h.space page ≡ None) }
+        requires unmapped { IfSome (held_in self.old.processes pid)
+            (λ h. look h.space page ≡ None) }
         requires room { IfSome (held_in self.old.processes pid)
             (λ h. length h.space < self.old.room) }
         ensures { self.new ≡ held_by (with_entry page entry) self.old pid }

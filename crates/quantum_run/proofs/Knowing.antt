@@ -210,7 +210,8 @@ keeps-written base fetched pages new frame address size value aligned is free no
         stays : (f : ℕ)
             → (place_in frame address + length (bytes_of (width size) value) ≤ place_in f a)
             ⊎ (place_in f a + 4 ≤ place_in frame address)
-            → number_at (joined new) (place_in f a) Word ≡ number_at (joined pages) (place_in f a) Word
+            → number_at (joined new) (place_in f a) Word
+            ≡ number_at (joined pages) (place_in f a) Word
         stays f out = ap (λ bytes. number_at bytes (place_in f a) Word) is
             ∙ ap number_of (beside-written (place_in f a) 4 (place_in frame address)
             (bytes_of (width size) value) (joined pages) out)

@@ -14,8 +14,8 @@ empty_slot = record { page = 0xFFFFFFFF; frame = 0xFFFFFFFF }
 abbrev pub slot_of : List Slot → ℕ → Slot
 slot_of slots address = slice_index_or slots (address / 4096 % 64) empty_slot
 
--- A fetch has found the page of this address, a multiple of 4, and there stands this word, whose low
--- two bits are 11.
+-- A fetch has found the page of this address, a multiple of 4, and there stands this word, whose
+-- low two bits are 11.
 pub record IsKnown (fetched : List Slot) (pages : List (Option (List ℕ)))
     (address word : ℕ) : Type 0 where
   pub aligned : address % 4 ≡ 0

@@ -156,8 +156,8 @@ impl<'a, P: Pages> Running<'a, P> {
         Some(frame)
     }
 
-    /// A fetch finds this page from now on. Of a page that was in its slot nothing is known then, and
-    /// no store finds its frame without a search.
+    /// A fetch finds this page from now on. Of a page that was in its slot nothing is known then,
+    /// and no store finds its frame without a search.
     fn find_code(&mut self, place: usize, slot: Slot)
         requires place { place ≡ slot.page % 64 }
         requires frame { IsFrameOf self.old.tid (P.owners self.old.pages)

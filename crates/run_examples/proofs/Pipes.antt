@@ -102,7 +102,8 @@ reads_from_a_child = program (
     0x00400893 ∷ 0x00000073 ∷ 0x02051663 ∷  -- addi a7, x0, 4; ecall; bne a0, x0, parent
     -- the child: write(4, s0, 1), an A
     0x04100513 ∷ 0x00A40023 ∷ 0x00800893 ∷ 0x00400513 ∷ 0x00040593 ∷ 0x00100613 ∷ 0x00000073
-    ∷  -- addi a0, x0, 65; sb a0, 0(s0); addi a7, x0, 8; addi a0, x0, 4; addi a1, s0, 0; addi a2, x0, 1; ecall
+    ∷  -- addi a0, x0, 65; sb a0, 0(s0); addi a7, x0, 8; addi a0, x0, 4; addi a1, s0, 0;
+    -- addi a2, x0, 1; ecall
     -- process_exit(5)
     0x00200893 ∷ 0x00500513 ∷ 0x00000073 ∷  -- addi a7, x0, 2; addi a0, x0, 5; ecall
     -- the parent: close(4): 0

@@ -59,5 +59,7 @@ pub trait Memory {
             → shows self.new f t w × (result ≡ claim_at w t address) };
 
     /// The registers and the budget of a thread are no part of memory.
-    ghost blind: { (m : Self) (f : Fixed) (t : ℕ) (w : World) (change : Thread → Thread) → ((thread : Thread) → (change thread).process ≡ thread.process) → shows m f t w → shows m f t (with_thread w t change) };
+    ghost blind: { (m : Self) (f : Fixed) (t : ℕ) (w : World) (change : Thread → Thread)
+        → ((thread : Thread) → (change thread).process ≡ thread.process)
+        → shows m f t w → shows m f t (with_thread w t change) };
 }

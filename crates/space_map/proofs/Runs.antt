@@ -170,8 +170,8 @@ any-first es page count first sorted from within =
         → Fail (in_run page count) es (0, no_entry)
     none out i l =
         let low : page + count ≤ page_at es first =
-        out-of-run page count (get_or es first (0, no_entry)) (from.higher first (omega arith) within)
-        out in
+        out-of-run page count (get_or es first (0, no_entry))
+        (from.higher first (omega arith) within) out in
         elim (cases_lt i first) [
           | inl early ↦ below-run page count (get_or es i (0, no_entry)) (from.lower i early)
           | inr late ↦ past-run page count (get_or es i (0, no_entry)) (elim (cases_eq i first) [

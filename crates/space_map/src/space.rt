@@ -145,8 +145,8 @@ impl Space {
         self.entries.clear();
     }
 
-    /// The place of the first page that isn't below this one, by a binary search; the count of pages
-    /// where all are.
+    /// The place of the first page that isn't below this one, by a binary search; the count of
+    /// pages where all are.
     pub fn first_from(&self, page: u32) -> u32
         ensures { IsFirstFrom self.now.entries page result }
     {

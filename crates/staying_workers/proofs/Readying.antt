@@ -29,7 +29,8 @@ place_of n (m ∷ ms) e = ⊎_elim (λ same. (0, ap Some (eqb-true m n same)))
     (λ later. let r = place_of n ms later in (suc r.0, r.1)) (either_of (m == n) (stands_in n ms) e)
 
 -- a page that is home
-page_of : (o : Option (Option (List ℕ))) → is_home o ≡ true → (page : List ℕ) × (o ≡ Some (Some page))
+page_of : (o : Option (Option (List ℕ))) → is_home o ≡ true
+    → (page : List ℕ) × (o ≡ Some (Some page))
 page_of None e = absurd (grind arith)
 page_of (Some None) e = absurd (grind arith)
 page_of (Some (Some page)) e = (page, refl)

@@ -1,5 +1,5 @@
--- What a pack needs to run over a view, with nothing to choose: what a thread is told of a pack that
--- it is sent. This project's own rule.
+-- What a pack needs to run over a view, with nothing to choose: what a thread is told of a pack
+-- that it is sent. This project's own rule.
 use Rattle.std.specs.Prelude.{ℕ, ◌≡◌, ◌≢◌, ◌<◌, ◌||◌, ◌==◌, Bool, true, false, List, [], ◌∷◌}
 use Rattle.std.specs.Prelude.{length, Option, Some, None, slice_get, slice_index_or}
 use Rattle.dos_world.specs.Numbered.{numbered}

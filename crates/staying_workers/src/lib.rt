@@ -5,9 +5,9 @@
 //! What such a thread is sent it owns: the packs of a call share their frames and their table by
 //! counted owners, and the caller has both back when it has seen every seat of the board again.
 //!
-//! An `Office` has a desk for each worker. `open` starts one thread, which starts workers as they are
-//! hired; `Staying` is the pool, which is one of worker_pool's `Workers`. Whoever closes the office
-//! ends them all. Where memory or threads are wanting the caller runs the packs itself.
+//! An `Office` has a desk for each worker. `open` starts one thread, which starts workers as they
+//! are hired; `Staying` is the pool, which is one of worker_pool's `Workers`. Whoever closes the
+//! office ends them all. Where memory or threads are wanting the caller runs the packs itself.
 #![tactic(auto)]
 
 mod held;

@@ -34,8 +34,8 @@ impl Desk {
     }
 }
 
-/// What comes of a hiring: how many desks have a worker, and how often each side looks for a message
-/// before it sleeps.
+/// What comes of a hiring: how many desks have a worker, and how often each side looks for a
+/// message before it sleeps.
 #[derive(Clone, Copy)]
 pub(crate) struct Hired {
     pub(crate) desks: u32,
@@ -149,8 +149,8 @@ fn staff<'s, 'e, R: Threads + Wait + Sync, G: Gate + Sync>(
     staffed
 }
 
-// starts workers as the office's pool hires them, until the office is closed: no more than there are
-// processors for, but at least one
+// starts workers as the office's pool hires them, until the office is closed: no more than there
+// are processors for, but at least one
 fn recruit<'s, 'e, R: Threads + Wait + Sync, G: Gate + Sync>(
     rt: &'s R,
     scope: &'s Scope<'s, &'e ()>,

@@ -16,7 +16,8 @@ pub struct Order {
     chair: Arc<Chair<Held>>,
     seat: BoardSeat<Held>,
     first: u32,
-    ghost seated: { (seat.board ≡ board.value.id) × (seat.hand ≡ []) × AreReady IsReady seat.opened },
+    ghost seated: { (seat.board ≡ board.value.id) × (seat.hand ≡ [])
+        × AreReady IsReady seat.opened },
     ghost chair_is: { (chair.value.board ≡ seat.board) × (chair.value.opened ≡ seat.opened)
         × (chair.value.share ≡ seat.share) },
 }

@@ -29,10 +29,12 @@ fn send<R: Wait>(
     requires fresh { (seat.hand ≡ []) × (seat.found ≡ []) }
     requires ready { AreReady IsReady seat.opened }
     requires share { 2 ≤ seat.share }
-    requires chairs { All (λ c. (c.value.board ≡ seat.board) × (c.value.hand ≡ [])) chairs.old.items }
+    requires chairs { All (λ c. (c.value.board ≡ seat.board) × (c.value.hand ≡ []))
+        chairs.old.items }
     ensures seat { (result.board ≡ seat.board) × (result.opened ≡ seat.opened)
         × (result.hand ≡ []) × (result.found ≡ []) }
-    ensures chairs { All (λ c. (c.value.board ≡ seat.board) × (c.value.hand ≡ [])) chairs.new.items }
+    ensures chairs { All (λ c. (c.value.board ≡ seat.board) × (c.value.hand ≡ []))
+        chairs.new.items }
     ensures shares { result.share + sum_by (λ c. c.value.share) chairs.new.items
         ≡ seat.share + sum_by (λ c. c.value.share) chairs.old.items }
 {
@@ -72,9 +74,12 @@ fn send_all<R: Wait>(
     requires board { seat.board ≡ board.now.value.id }
     requires fresh { (seat.hand ≡ []) × (seat.found ≡ []) }
     requires ready { AreReady IsReady seat.opened }
-    requires chairs { All (λ c. (c.value.board ≡ seat.board) × (c.value.hand ≡ [])) chairs.old.items }
-    ensures seat { (result.board ≡ seat.board) × (result.opened ≡ seat.opened) × (result.hand ≡ []) }
-    ensures chairs { All (λ c. (c.value.board ≡ seat.board) × (c.value.hand ≡ [])) chairs.new.items }
+    requires chairs { All (λ c. (c.value.board ≡ seat.board) × (c.value.hand ≡ []))
+        chairs.old.items }
+    ensures seat { (result.board ≡ seat.board) × (result.opened ≡ seat.opened)
+        × (result.hand ≡ []) }
+    ensures chairs { All (λ c. (c.value.board ≡ seat.board) × (c.value.hand ≡ []))
+        chairs.new.items }
     ensures shares { result.share + sum_by (λ c. c.value.share) chairs.new.items
         ≡ seat.share + sum_by (λ c. c.value.share) chairs.old.items }
 {

@@ -1,8 +1,8 @@
 // How much work was done.
 ghost use Rattle.std.specs.Prelude.{◌≡◌, ◌+◌, ◌%◌, ◌^◌};
 
-/// How many instructions workers have run, modulo 2^64. It can't be cloned; `Workers::run_all` makes
-/// it grow.
+/// How many instructions workers have run, modulo 2^64. It can't be cloned; `Workers::run_all`
+/// makes it grow.
 #[derive(Drop)]
 pub struct Tally {
     count: u64,

@@ -7,8 +7,8 @@ returns-in-Ok-clause-ran g c = λ images config opened.
     let run = c.in-Ok.ensures in
     quiet_run c.args.kernel.now c.run_group.new.kernel c.new-shim.result c.run_group.new.shim
     c.new-output.result c.run_group.new.out c.in-Ok.ending _ _ _ _ _ run.follows
-    c.new-output.ensures run.runs.1 run.runs.2 c.finish-count.ensures.count c.finish-count.ensures.digest
-    images config opened
+    c.new-output.ensures run.runs.1 run.runs.2 c.finish-count.ensures.count
+    c.finish-count.ensures.digest images config opened
 
 pub returns-clause-refused : goal.returns-clause-refused
 returns-clause-refused g c =

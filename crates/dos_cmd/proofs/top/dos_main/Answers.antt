@@ -51,15 +51,17 @@ returns-in-Err-clause-six g c = λ six.
 
 pub returns-in-Err-clause-words_refused : goal.returns-in-Err-clause-words_refused
 returns-in-Err-clause-words_refused g c = λ none a b.
-    fails_none (map string_bytes c.args.words.now) _ _ _ _ _ (c.put_refusal.ensures.told a).1 c.in-Err.ensures.fails none b
+    fails_none (map string_bytes c.args.words.now) _ _ _ _ _ (c.put_refusal.ensures.told a).1
+    c.in-Err.ensures.fails none b
 
 pub returns-in-Err-clause-files_refused : goal.returns-in-Err-clause-files_refused
 returns-in-Err-clause-files_refused g c = λ asked why ask told a b d.
-    fails_refused (map string_bytes c.args.words.now) _ _ _ why _ _ asked (c.put_refusal.ensures.told b).1 c.in-Err.ensures.fails ask
-    told a b d
+    fails_refused (map string_bytes c.args.words.now) _ _ _ why _ _ asked
+    (c.put_refusal.ensures.told b).1 c.in-Err.ensures.fails ask told a b d
 
 pub returns-in-Err-clause-done : goal.returns-in-Err-clause-done
 returns-in-Err-clause-done g c = λ asked taken ask told a b d.
-    let r = refused_as (map string_bytes c.args.words.now) _ _ _ _ _ _ c.put_refusal.ensures.later (c.put_refusal.ensures.told b)
-    c.in-Err.ensures.fails in
-    fails_must (map string_bytes c.args.words.now) _ _ _ _ asked taken r.status_is r.fails ask told a b d
+    let r = refused_as (map string_bytes c.args.words.now) _ _ _ _ _ _
+    c.put_refusal.ensures.later (c.put_refusal.ensures.told b) c.in-Err.ensures.fails in
+    fails_must (map string_bytes c.args.words.now) _ _ _ _ asked taken r.status_is r.fails ask
+    told a b d

@@ -20,7 +20,8 @@ pub returns-in-Replay-clause-did : goal.returns-in-Replay-clause-did
 returns-in-Replay-clause-did g c =
     let r = c.replay.result in
     did_as _ _ _ _ _ (ok_at r _ (g.H.Host.told c.args.host.now)
-    (ok_at r _ c.in-Replay.hired c.replay.ensures.did)) (search rules) c.hire-in-Replay.ensures.tally
+    (ok_at r _ c.in-Replay.hired c.replay.ensures.did)) (search rules)
+    c.hire-in-Replay.ensures.tally
 
 pub returns-in-Replay-clause-leaves : goal.returns-in-Replay-clause-leaves
 returns-in-Replay-clause-leaves g c =

@@ -18,7 +18,8 @@ over-table new t u ps qs same ran = subst (λ (x : Tables). AllRan (view_of new 
 -- the pages come back to the frames that they went out of
 back-to : (pages : List (ℕ × List ℕ)) (ran out : State) (after : Store) → ran ≡ out
     → PutBack pages ran.frames after → PutBack pages out.frames after
-back-to pages ran out after same back = subst (λ (s : State). PutBack pages s.frames after) same back
+back-to pages ran out after same back =
+    subst (λ (s : State). PutBack pages s.frames after) same back
 
 -- the registers and budgets to the table that was there before
 set-to : (qs : List Pack) (ran out : State) (t after : Tables) → ran ≡ out → out.table ≡ t

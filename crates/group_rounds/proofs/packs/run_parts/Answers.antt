@@ -16,5 +16,5 @@ run_all-frames-requires-clause-can g c κs within =
 
 pub returns-clause-tally : goal.returns-clause-tally
 returns-clause-tally g c =
-    grew-counted (g.W.Workers.tally c.args.workers.now) (g.W.Workers.tally c.run_all-frames.new.self)
-    _ c.run_all-frames.ensures.tally
+    grew-counted (g.W.Workers.tally c.args.workers.now)
+    (g.W.Workers.tally c.run_all-frames.new.self) _ c.run_all-frames.ensures.tally

@@ -64,7 +64,8 @@ returns-in_err-way-in-Service-clause-asks g c =
     (λ q o e. c.requires.stops q o e ∙ ap Err c.in-Service.is) _ _ _ _ _ _
     c.in_err-way-in-Service.field-0.0 c.in_err-way-in-Service.ensures.asks)
 
-pub returns-in_err-way-in-Service-clause-before_end : goal.returns-in_err-way-in-Service-clause-before_end
+pub returns-in_err-way-in-Service-clause-before_end :
+    goal.returns-in_err-way-in-Service-clause-before_end
 returns-in_err-way-in-Service-clause-before_end g c =
     let p = err_from_is_err_and c.from_residual.result c.from_residual.ensures.1 in
     rw (p.1, p.2) (asks_no_end c.args.state.now c.args.tid c.requires.live _ _ _ _ _ _

@@ -23,7 +23,8 @@ returns-then-live_threads-eq0-clause-runs g c = (
   grew-nothing (g.W.Workers.tally c.args.workers.now),
 )
 
-pub returns-then-live_threads-eq0-clause-starters : goal.returns-then-live_threads-eq0-clause-starters
+pub returns-then-live_threads-eq0-clause-starters :
+    goal.returns-then-live_threads-eq0-clause-starters
 returns-then-live_threads-eq0-clause-starters g c =
     nobody_starts c.args.state.now (g.S.Shim.state c.args.shim.now).told c.args.starters.now.items
 

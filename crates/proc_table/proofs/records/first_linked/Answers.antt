@@ -14,7 +14,8 @@ no_record = record { parent = 0; kept = Live 0 }
 
 pub loop-child-init : goal.loop-child-init
 loop-child-init c = reached_first c.args.records.now c.args.links.now c.requires.linked
-    c.requires.count c.requires.few c.args.parent c.requires.given.0 c.requires.given.1 c.args.ended no_links
+    c.requires.count c.requires.few c.args.parent c.requires.given.0 c.requires.given.1
+    c.args.ended no_links
 
 pub bounds-records-place : goal.bounds-records-place
 bounds-records-place c =
@@ -25,8 +26,8 @@ bounds-records-place c =
 
 pub returns-then-has_come : goal.returns-then-has_come
 returns-then-has_come c = reached_it c.args.records.now c.args.links.now c.requires.linked
-    c.requires.count c.requires.few c.args.parent c.requires.given.0 c.requires.given.1 c.args.ended c.loop-child.child
-    c.loop-child-test.true c.loop-child.invariant no_record
+    c.requires.count c.requires.few c.args.parent c.requires.given.0 c.requires.given.1
+    c.args.ended c.loop-child.child c.loop-child-test.true c.loop-child.invariant no_record
     (sym c.has_come.ensures ∙ c.if-has_come.true)
 
 pub bounds-links-place : goal.bounds-links-place
@@ -45,11 +46,11 @@ loop-child-smaller c =
 
 pub loop-child-preserved : goal.loop-child-preserved
 loop-child-preserved c = reached_next c.args.records.now c.args.links.now c.requires.linked
-    c.requires.count c.requires.few c.args.parent c.requires.given.0 c.requires.given.1 c.args.ended c.loop-child.child
-    c.loop-child-test.true c.loop-child.invariant no_record
+    c.requires.count c.requires.few c.args.parent c.requires.given.0 c.requires.given.1
+    c.args.ended c.loop-child.child c.loop-child-test.true c.loop-child.invariant no_record
     (sym c.has_come.ensures ∙ c.if-has_come.false) no_links
 
 pub returns : goal.returns
 returns c = reached_none c.args.records.now c.args.links.now c.requires.linked
-    c.requires.count c.requires.few c.args.parent c.requires.given.0 c.requires.given.1 c.args.ended c.loop-child.child c.loop-child-test.false
-    c.loop-child.invariant
+    c.requires.count c.requires.few c.args.parent c.requires.given.0 c.requires.given.1
+    c.args.ended c.loop-child.child c.loop-child-test.false c.loop-child.invariant

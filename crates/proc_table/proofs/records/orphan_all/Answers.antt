@@ -57,8 +57,8 @@ loop-child-preserved c =
     c.requires.count c.requires.few c.args.parent c.requires.given.0 c.requires.given.1
     c.loop-child.child t no_links in
     record {
-      items = ap (λ (rs : List Record). set rs (c.loop-child.child - 1) (orphan c.index_mut.result.now))
-          c.loop-child.invariant.items
+      items = ap (λ (rs : List Record). set rs (c.loop-child.child - 1)
+          (orphan c.index_mut.result.now)) c.loop-child.invariant.items
           ∙ orphaned_next c.args.parent c.args.records.now.items c.requires.few
           c.loop-child.child _ t h c.index_mut.result.now
           (c.index_mut.ensures.value

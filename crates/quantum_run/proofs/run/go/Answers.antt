@@ -40,9 +40,9 @@ returns-in-Not-clause-runs g c = λ f t w runs.
     (g.P.Pages.fixed after.pages) (g.P.Pages.pages after.pages) f t) w t r budget left (Some why))
     (sym c.set_pc-in-Not.ensures)
     (goes-shown (shown g after f notes t) _ w t after_regs budget left (Some why) (λ u s. s.shows)
-    (goes-stopped (both old new) (shown g after f notes t) w t before_regs after_regs budget left why
-    (λ u ru. c.in-Not.ensures (f, notes) t u left (note_at notes c.loop-left.place).word c.form.ensures
-    (c.if-not-knows.ensures.word f t u ru.shown.0).1
+    (goes-stopped (both old new) (shown g after f notes t) w t before_regs after_regs budget
+    left why (λ u ru. c.in-Not.ensures (f, notes) t u left (note_at notes c.loop-left.place).word
+    c.form.ensures (c.if-not-knows.ensures.word f t u ru.shown.0).1
     (record { shown = ru.shown.1; thread = ru.thread }))
     (reaches-shown old (both old new) w t before_regs budget left
     (λ u s. (s, (c.if-not-knows.ensures.word f t u s).0))
@@ -66,7 +66,8 @@ returns-then-not-knows-clause-runs g c = λ f t w runs.
     (goes-stopped old new w t regs regs budget left why
     (λ u ru. let r = c.if-not-knows.ensures.word f t u ru.shown in
     steps old new t (blind_known (still n.tid (g.P.Pages.owners n.pages) n.space.now.entries)
-    (g.P.Pages.fixed n.pages) (g.P.Pages.pages n.pages) n.base n.fetched (f, notes) t) u regs regs left (Stop why)
+    (g.P.Pages.fixed n.pages) (g.P.Pages.pages n.pages) n.base n.fetched (f, notes) t)
+    u regs regs left (Stop why)
     (λ s. follows_err new u regs why _ (one_err u t regs why (sym r.1)) r.0) ru)
     (c.loop-left.invariant.0 f t w runs)))
 

@@ -17,7 +17,8 @@ compare_exchange-found-requires g c =
     let b = c.self.invariant in
     let n = b.all in
     let w = b.sized.0 in
-    let lt = subst (λ z. c.args.number < length z.opened) (sym c.self.view_is) c.requires.number in (
+    let lt = subst (λ z. c.args.number < length z.opened) (sym c.self.view_is) c.requires.number
+    in (
       ap (λ z. z.board) c.seat.view_is ∙ c.requires.board ∙ sym (ap (λ z. z.id) c.self.view_is),
       omega arith,
       claims g.T.Part.finished c.self.inside.table.shared.key.value.items _ _

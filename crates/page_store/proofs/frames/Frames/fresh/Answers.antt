@@ -20,8 +20,8 @@ invariant_of-self c =
     kept-found _ _ _ _ _ _ c.self.invariant.0 c.in-Some.ensures in
     let is = c.max-self-inside.ensures in (
       kept-fresh _ c.self.inside.owners.items c.self.inside.uses.items c.self.inside.free
-          c.self.inside.free_frames c.in-Some.frame _ (Of c.args.tid) _ c.self.invariant.0 found refl
-          (length-set c.self.inside.pages.items c.in-Some.frame _) c.clear-in-Some.ensures,
+          c.self.inside.free_frames c.in-Some.frame _ (Of c.args.tid) _ c.self.invariant.0 found
+          refl (length-set c.self.inside.pages.items c.in-Some.frame _) c.clear-in-Some.ensures,
       free-set c.self.inside.owners.items c.max-self-inside.result c.in-Some.frame (Of c.args.tid)
           (free-more c.self.inside.owners.items c.self.inside.high c.max-self-inside.result
           c.self.invariant.1 (omega (arith, is))) (omega (arith, is)),

@@ -74,8 +74,8 @@ invariant_of-self c =
     length-set c.self.inside.pages.items c.in-Some.frame (Some c.copy_page.ensures.page) in
     let pages = ap (λ (ps : List (Option (List ℕ))). length ps) c.copy_page.ensures.pages_are in (
       kept-fresh _ c.self.inside.owners.items c.self.inside.uses.items c.self.inside.free
-          c.self.inside.free_frames c.in-Some.frame _ (Of c.args.tid) _ c.self.invariant.0 found refl
-          (pages ∙ same) c.clear.ensures,
+          c.self.inside.free_frames c.in-Some.frame _ (Of c.args.tid) _ c.self.invariant.0 found
+          refl (pages ∙ same) c.clear.ensures,
       free-set c.self.inside.owners.items c.max-self-inside.result c.in-Some.frame (Of c.args.tid)
           (free-more c.self.inside.owners.items c.self.inside.high c.max-self-inside.result
           c.self.invariant.1 (omega (arith, is))) (omega (arith, is)),

@@ -4,7 +4,8 @@ use Rattle.proc_table.proofs.Standing.{has_place, added_standing, placed_added, 
 use Rattle.proc_table.proofs.processes.Processes.add.Goals as goal
 
 pub unreachable-requires : goal.unreachable-requires
-unreachable-requires c = has_place c.self.inside.records c.self.inside.holders c.self.inside.spaces.items
+unreachable-requires c =
+    has_place c.self.inside.records c.self.inside.holders c.self.inside.spaces.items
     c.self.inside.belongings.items c.self.inside.live c.self.inside.room c.args.self.now
     c.self.view_is c.self.invariant c.requires.room
     (sym c.in-None.ensures)
@@ -32,7 +33,8 @@ add-requires-clause-numbers c =
     )
 
 pub add-requires-clause-parent : goal.add-requires-clause-parent
-add-requires-clause-parent c = parent_within c.self.inside.records c.self.inside.holders c.self.inside.spaces.items
+add-requires-clause-parent c =
+    parent_within c.self.inside.records c.self.inside.holders c.self.inside.spaces.items
     c.self.inside.belongings.items c.self.inside.live c.self.inside.room c.args.self.now
     c.self.view_is c.self.invariant
     c.args.parent c.requires.parent

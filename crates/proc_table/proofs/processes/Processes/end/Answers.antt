@@ -3,12 +3,14 @@ use Rattle.proc_table.proofs.Standing.{lives, within, one_lives, ended_standing,
 use Rattle.proc_table.proofs.processes.Processes.end.Goals as goal
 
 pub place_of-place-requires : goal.place_of-place-requires
-place_of-place-requires c = lives c.self.inside.records c.self.inside.holders c.self.inside.spaces.items
+place_of-place-requires c =
+    lives c.self.inside.records c.self.inside.holders c.self.inside.spaces.items
     c.self.inside.belongings.items c.self.inside.live c.self.inside.room c.args.self.now
     c.self.view_is c.self.invariant c.args.pid c.requires
 
 pub bounds-self-inside-place : goal.bounds-self-inside-place
-bounds-self-inside-place c = within c.self.inside.records c.self.inside.holders c.self.inside.spaces.items
+bounds-self-inside-place c =
+    within c.self.inside.records c.self.inside.holders c.self.inside.spaces.items
     c.self.inside.belongings.items c.self.inside.live c.self.inside.room c.args.self.now
     c.self.view_is c.self.invariant c.args.pid
     c.place_of-place.result c.place_of-place.ensures
@@ -24,7 +26,8 @@ offset_bounds-self-inside-place c =
     )
 
 pub overflow_sub-self : goal.overflow_sub-self
-overflow_sub-self c = one_lives c.self.inside.records c.self.inside.holders c.self.inside.spaces.items
+overflow_sub-self c =
+    one_lives c.self.inside.records c.self.inside.holders c.self.inside.spaces.items
     c.self.inside.belongings.items c.self.inside.live c.self.inside.room c.args.self.now
     c.self.view_is c.self.invariant c.args.pid
     c.place_of-place.result c.place_of-place.ensures
@@ -35,7 +38,8 @@ end-requires c = lives c.self.inside.records c.self.inside.holders c.self.inside
     c.self.view_is c.self.invariant c.args.pid c.requires
 
 pub invariant_of-self : goal.invariant_of-self
-invariant_of-self c = placed_ended c.self.inside.records c.self.inside.holders c.self.inside.spaces.items
+invariant_of-self c =
+    placed_ended c.self.inside.records c.self.inside.holders c.self.inside.spaces.items
     c.self.inside.belongings.items c.self.inside.live c.self.inside.room c.args.self.now
     c.self.view_is c.self.invariant c.args.pid
     c.place_of-place.result c.place_of-place.ensures c.args.status _ c.end.ensures

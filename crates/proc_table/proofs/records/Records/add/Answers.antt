@@ -18,6 +18,6 @@ invariant_of-self c =
     ap (λ n. n + 1) (c.len.ensures ∙ count ∙ sym c.self.invariant.count) in
     kept_added c.self.inside.records.items c.args.self.now
     c.self.inside.links.items _ _ c.self.invariant c.self.view_is
-    c.args.parent c.args.place (c.len.result + 1) c.requires.parent c.requires.numbers number _ _ _ _
-    c.in-Ok.ensures.items c.add_links.ensures.items c.in-Ok.ensures.capacity
+    c.args.parent c.args.place (c.len.result + 1) c.requires.parent c.requires.numbers number
+    _ _ _ _ c.in-Ok.ensures.items c.add_links.ensures.items c.in-Ok.ensures.capacity
     c.add_links.ensures.capacity

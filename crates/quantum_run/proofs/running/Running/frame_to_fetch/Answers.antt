@@ -23,5 +23,6 @@ returns-clause-known g c = λ notes are.
     let m = c.args.self.now in
     let n = c.find.new.self in
     c.find_code.ensures.known notes
-    (keeps-same m.base n.base m.fetched n.fetched (g.P.Pages.pages m.pages) (g.P.Pages.pages n.pages)
-    c.find.ensures.same.0 c.find.ensures.same.1 c.find.ensures.pages notes are)
+    (keeps-same m.base n.base m.fetched n.fetched (g.P.Pages.pages m.pages)
+    (g.P.Pages.pages n.pages) c.find.ensures.same.0 c.find.ensures.same.1 c.find.ensures.pages
+    notes are)
