@@ -1,8 +1,9 @@
-/* What four threads that are started for each round bring on this machine: rounds of PARTS parts that compute for so
-   many MICROSECONDS each, on one thread, and on four that draw the parts from a common count. The threads are started
-   and joined in each round, by halves. Prints both numbers again, and how many times as fast four threads are, the
-   median of five pairs.
+/* What four threads bring on this machine: rounds of PARTS parts that compute for so many MICROSECONDS each, on one
+   thread, and on four that draw the parts from a common count: threads that are started and joined in each round, by
+   halves, and threads that stay and look for the next round without sleep. Prints both numbers again, and how many times
+   as fast four threads are, started and staying, each the median of five pairs.
    usage: plain_threads PARTS MICROSECONDS */
+#include <limits.h>
 #include <pthread.h>
 #include <stdatomic.h>
 #include <stdint.h>
@@ -13,7 +14,9 @@
 enum { WORKERS = 4, PAIRS = 5 };
 
 static long parts, turns;
-static atomic_long next;
+static _Alignas(64) atomic_long next;
+static _Alignas(64) atomic_long begun; /* rounds of threads that stay */
+static _Alignas(64) atomic_long finished; /* threads that are through with the present one */
 
 static double now(void) {
   struct timespec t;
@@ -55,6 +58,36 @@ static double rounds(long count, intptr_t workers) {
   return now() - begin;
 }
 
+static void *stay(void *unused) {
+  (void)unused;
+  for (long round = 1;; round++) {
+    long seen;
+    while ((seen = atomic_load(&begun)) < round) __builtin_ia32_pause();
+    if (seen == LONG_MAX) return NULL;
+    draw();
+    atomic_fetch_add(&finished, 1);
+  }
+}
+
+static double staying_rounds(long count) {
+  pthread_t others[WORKERS - 1];
+  atomic_store(&begun, 0);
+  for (int i = 0; i < WORKERS - 1; i++)
+    if (pthread_create(&others[i], NULL, stay, NULL)) exit(1);
+  double begin = now();
+  for (long round = 1; round <= count; round++) {
+    atomic_store(&next, 0);
+    atomic_store(&finished, 0);
+    atomic_store(&begun, round);
+    draw();
+    while (atomic_load(&finished) < WORKERS - 1) __builtin_ia32_pause();
+  }
+  double end = now();
+  atomic_store(&begun, LONG_MAX);
+  for (int i = 0; i < WORKERS - 1; i++) pthread_join(others[i], NULL);
+  return end - begin;
+}
+
 static int rising(const void *a, const void *b) {
   double x = *(const double *)a, y = *(const double *)b;
   return (x > y) - (x < y);
@@ -69,12 +102,14 @@ int main(int count, char **words) {
   compute();
   turns = (long)(turns * length / (now() - begin)) + 1;
   long enough = (long)(0.3 / (length * parts)) + 1;
-  double ratio[PAIRS];
+  double started[PAIRS], stayed[PAIRS];
   for (int i = 0; i < PAIRS; i++) {
     double one = rounds(enough, 1);
-    ratio[i] = one / rounds(enough, WORKERS);
+    started[i] = one / rounds(enough, WORKERS);
+    stayed[i] = one / staying_rounds(enough);
   }
-  qsort(ratio, PAIRS, sizeof *ratio, rising);
-  printf("%s %s %.2f\n", words[1], words[2], ratio[PAIRS / 2]);
+  qsort(started, PAIRS, sizeof *started, rising);
+  qsort(stayed, PAIRS, sizeof *stayed, rising);
+  printf("%s %s %.2f %.2f\n", words[1], words[2], started[PAIRS / 2], stayed[PAIRS / 2]);
   return 0;
 }
