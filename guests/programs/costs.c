@@ -1,6 +1,6 @@
 /* Some services over and over, to be timed among few and many frames, threads and processes: WORK says which, TURNS how
    often. Beside that there are OWN pages of this process, OTHER pages of another one, SLEEPERS threads of this process
-   that sleep, and CROWD processes of one thread each that sleep too.
+   that sleep, and CROWD processes of one thread each that sleep too. RUN pages are mapped at once by one of the services.
 
    Expect: costs 1: 1000 turns
    and `process 1 status 0`, and 137 of the others, with each quantum. */
@@ -21,11 +21,16 @@
 #ifndef SLEEPERS
 #define SLEEPERS 0
 #endif
+#ifndef RUN
+#define RUN 1000
+#endif
 #ifndef CROWD
 #define CROWD 0
 #endif
 
-enum { FREES_LOW = 1, MAPS, SHARES, WAKES_NOBODY, OPENS_PIPE, FLOWS, FORKS, ASKS, CATCHES, STARTS, YIELDS, DUPLICATES };
+enum {
+  FREES_LOW = 1, MAPS, SHARES, WAKES_NOBODY, OPENS_PIPE, FLOWS, FORKS, ASKS, CATCHES, STARTS, YIELDS, DUPLICATES, MAPS_RUN
+};
 enum { LOW_AT = 0x20000000, NEXT_AT = 0x30000000, OWN_AT = 0x40000000, SPARE_AT = 0x80000000 };
 
 static volatile uint32_t asleep ON_A_PAGE, ended ON_A_PAGE;
@@ -70,6 +75,8 @@ static bool work(void) {
     return true;
   case YIELDS: dos_yield(); return true;
   case DUPLICATES: return dos_close(dos_dup(1)) == 0;
+  case MAPS_RUN: /* below the OWN pages */
+    return dos_map(NEXT_AT, RUN, MAY_READ) == 0 && dos_unmap(NEXT_AT, RUN) == 0;
   }
   return false;
 }
