@@ -1,8 +1,9 @@
 // Workers of each kind, over threads.
 use crate::gates::Holding;
 use crate::loops::run;
+use std::alloc::{AllocError, Global};
 use std::test::*;
-use worker_pool::{Boarded, OpenGate, Serial, Spread, Stealing, Tally};
+use worker_pool::{Boarded, OpenGate, Serial, Spread, Stealing, Tally, Workers};
 
 #[test]
 fn the_tally_grows_by_the_instructions(rt: HostRuntime) -> Result<(), Fail> {
@@ -94,5 +95,45 @@ fn each_number_passes_once(rt: HostRuntime) -> Result<(), Fail> {
     workers.finish();
     assert_eq!(rt; gate.seen(), (64, u64::MAX, 0));
     assert_eq!(rt; tally.count(), 448);
+    Ok(())
+}
+
+// one worker until a second is hired
+fn hire_a_second<W: Workers>(alloc: Global, workers: &mut W) -> Result<(), AllocError> {
+    workers.hire(2);
+    run(alloc, workers, 2)
+}
+
+// 0 is held until 1 has entered, which takes the second worker
+#[test]
+fn a_second_is_hired_spread(rt: HostRuntime) -> Result<(), Fail> {
+    let gate = Holding::until(2);
+    let mut tally = Tally::new();
+    let mut workers = Spread::new(&rt, 1, &gate, &mut tally);
+    hire_a_second(rt.alloc(), &mut workers)?;
+    workers.finish();
+    assert_eq!(rt; gate.seen(), (2, 3, 0));
+    Ok(())
+}
+
+#[test]
+fn a_second_is_hired_boarded(rt: HostRuntime) -> Result<(), Fail> {
+    let gate = Holding::until(2);
+    let mut tally = Tally::new();
+    let mut workers = Boarded::new(&rt, rt.alloc(), 1, &gate, &mut tally);
+    hire_a_second(rt.alloc(), &mut workers)?;
+    workers.finish();
+    assert_eq!(rt; gate.seen(), (2, 3, 0));
+    Ok(())
+}
+
+#[test]
+fn a_second_is_hired_stealing(rt: HostRuntime) -> Result<(), Fail> {
+    let gate = Holding::until(2);
+    let mut tally = Tally::new();
+    let mut workers = Stealing::new(&rt, rt.alloc(), 1, &gate, &mut tally);
+    hire_a_second(rt.alloc(), &mut workers)?;
+    workers.finish();
+    assert_eq!(rt; gate.seen(), (2, 3, 0));
     Ok(())
 }
