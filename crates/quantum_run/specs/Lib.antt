@@ -6,4 +6,5 @@ pub mod Knowing
 pub mod Pages
 pub mod Showing
 pub mod Laws
+pub mod PagePlaces
 pub mod Packs

@@ -2,9 +2,11 @@
 //! of its own with the frames lent.
 #![tactic(auto)]
 
+mod late_memo;
 pub mod laws;
 mod lent;
 mod pack;
+mod page_places;
 mod pages;
 mod run;
 mod running;

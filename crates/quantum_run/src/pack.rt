@@ -4,11 +4,12 @@ ghost use Rattle.page_store.specs.Store.{whole};
 ghost use Rattle.quantum_run.specs.Shows.{CanRun, Finished, frames_of};
 ghost use Rattle.quantum_run.specs.Packs.{HoldsNo, empty_pack, seen, seen_in, with_page, with_thread_of};
 
+use crate::late_memo::LateMemo;
+use crate::page_places::Places;
 use crate::run::run_lent;
 use dos_world::Regs;
 use page_store::{Frames, Page};
 use proc_table::Table;
-use rv_form::Memo;
 use std::alloc::{AllocError, Global};
 use std::marker::Model;
 
@@ -52,10 +53,10 @@ pub struct Pack {
     regs: Box<Regs>,
     left: u32,
     // by frame
-    own: Vec<Option<Page>>,
+    own: Places,
     held: Vec<u32>,
-    // of no thread: what words stand for
-    memo: Box<Memo>,
+    // of no thread
+    memo: LateMemo,
 }
 
 impl Model for Pack {
@@ -72,11 +73,11 @@ impl Model for Pack {
       registers = k.regs.value;
       budget =
           k.left;
-      pages = paired k.held.items k.own.items;
-      room = length k.own.items;
+      pages = paired k.held.items k.own;
+      room = length k.own;
     } };
 
-    ghost invariant = { λ k. IsPacked k.held.items k.own.items (vec_capacity k.held) };
+    ghost invariant = { λ k. IsPacked k.held.items k.own (vec_capacity k.held) };
 }
 
 impl Pack {
@@ -89,9 +90,9 @@ impl Pack {
             pid: 0,
             regs: Box::new(alloc, Regs::new(0))?,
             left: 0,
-            own: no_pages(alloc, frames)?,
+            own: Places::reserve(alloc, frames)?,
             held: Vec::with_capacity(alloc, frames as usize)?,
-            memo: Box::new(alloc, Memo::new())?,
+            memo: LateMemo::reserve(alloc)?,
         })
     }
 
@@ -112,7 +113,7 @@ impl Pack {
         requires other { HoldsNo self.old frame }
         ensures { self.new ≡ with_page self.old frame page }
     {
-        self.own[frame as usize] = Some(page);
+        self.own.put(frame, page);
         match self.held.push(frame) {
             Ok(()) => {}
             Err(_) => unreachable!(),
@@ -125,7 +126,7 @@ impl Pack {
             (λ r. self.old ≡ with_page self.new r.0 r.1) }
     {
         let frame = self.held.pop()?;
-        match self.own[frame as usize].take() {
+        match self.own.take(frame) {
             Some(page) => Some((frame, page)),
             None => unreachable!(),
         }
@@ -153,16 +154,6 @@ impl Pack {
     }
 }
 
-fn no_pages(alloc: Global, count: u32) -> Result<Vec<Option<Page>>, AllocError>
-    ensures { IfOk result (λ pages. pages.items ≡ replicate count None) }
-{
-    let mut pages = Vec::with_capacity(alloc, count as usize)?;
-    for _place in 0..count {
-        pages.push(None)?;
-    }
-    Ok(pages)
-}
-
 /// Runs the pack's thread until its next instruction stops or its budget is 0: its whole part in
 /// the parallel phase, in each world that the pack and the view show. It takes no memory and no
 /// lock.
@@ -186,7 +177,7 @@ pub fn run_pack(pack: &mut Pack, view: &View<'_>)
         view.frames,
         space,
         pack.tid,
-        &mut pack.memo,
+        pack.memo.get(),
         &mut regs,
         &mut left,
     );

@@ -10,10 +10,11 @@ ghost use Rattle.quantum_run.specs.Running.{AreMapped, Goes, IsRunOf, after_step
 ghost use Rattle.quantum_run.specs.Showing.{ShowsBy, Still, still};
 
 use crate::lent::Lent;
+use crate::page_places::{Places, write_out};
 use crate::pages::{InPlace, Pages};
 use crate::running::Running;
 use dos_world::{Reason, Regs};
-use page_store::{Frames, Page};
+use page_store::Frames;
 use rv_exec::{Next, one_known};
 use rv_form::{Memo, place_after, place_of};
 use space_map::Space;
@@ -107,7 +108,7 @@ pub(crate) fn run<P: Pages>(
 
 /// The run of a thread over pages of its own, with the frames lent.
 pub(crate) fn run_lent(
-    own: &mut Vec<Option<Page>>,
+    own: &mut Places,
     frames: &Frames,
     space: &Space,
     tid: u32,
@@ -115,37 +116,38 @@ pub(crate) fn run_lent(
     regs: &mut Regs,
     budget: &mut u32,
 ) -> Option<Reason>
-    requires level { length own.old.items ≡ length frames.now.pages }
+    requires level { length own.old ≡ length frames.now.pages }
     requires reached { AreReached tid frames.now.owners space.now.entries
-        (overlay own.old.items frames.now.pages) }
-    requires own { AreOwn tid frames.now.owners space.now.entries (is_here own.old.items) }
+        (overlay own.old frames.now.pages) }
+    requires own { AreOwn tid frames.now.owners space.now.entries (is_here own.old) }
     requires within { AreWithin frames.now.owners space.now.entries }
     ensures runs { (w : World)
-        → IsRunOf w (store_of frames.now.owners (overlay own.old.items frames.now.pages))
+        → IsRunOf w (store_of frames.now.owners (overlay own.old frames.now.pages))
         space.now.entries tid regs.old budget.old
         → after_steps (budget.old - budget.new) w tid
-        ≡ Some (run_to w tid (overlay own.new.items frames.now.pages) regs.new budget.new) }
+        ≡ Some (run_to w tid (overlay own.new frames.now.pages) regs.new budget.new) }
     ensures stop { MatchOption result (budget.new ≡ 0)
         (λ reason. (0 < budget.new)
         × ((w : World)
         → IsRunOf w
-        (store_of frames.now.owners (overlay own.old.items frames.now.pages))
+        (store_of frames.now.owners (overlay own.old frames.now.pages))
         space.now.entries tid regs.old budget.old
         → step
-        (run_to w tid (overlay own.new.items frames.now.pages) regs.new budget.new)
+        (run_to w tid (overlay own.new frames.now.pages) regs.new budget.new)
         tid ≡ Err reason)) }
     ensures within { budget.new ≤ budget.old }
-    ensures here { map is_some own.new.items ≡ map is_some own.old.items }
+    ensures here { map is_some own.new ≡ map is_some own.old }
 {
-    let alloc = *own.allocator();
+    write_out(&mut own.pages, own.count);
+    let alloc = *own.pages.allocator();
     let pages = Lent {
-        own: mem::replace(own, Vec::new(alloc)),
+        own: mem::replace(&mut own.pages, Vec::new(alloc)),
         lent: frames.pages(),
         frames,
     };
     let mut memory = Running::new(pages, space, tid);
     let stop = run(&mut memory, memo, regs, budget);
-    *own = memory.pages.own;
+    own.pages = memory.pages.own;
     stop
 }
 

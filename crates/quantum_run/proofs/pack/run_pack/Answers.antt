@@ -37,24 +37,24 @@ home-of (Some x ∷ pages) zero page h = refl
 home-of (x ∷ pages) (suc f) page h = home-of pages f page h
 
 pub invariant_of-pack : goal.invariant_of-pack
-invariant_of-pack c = packed-kept c.pack.inside.held.items c.pack.inside.own.items
-    c.run_lent-reason.new.own.items _ c.run_lent-reason.ensures.here c.pack.invariant
+invariant_of-pack c = packed-kept c.pack.inside.held.items c.pack.inside.own
+    c.run_lent-reason.new.own _ c.run_lent-reason.ensures.here c.pack.invariant
 
 pub returns-clause-frames : goal.returns-clause-frames
 returns-clause-frames c =
-    frames-paired c.pack.inside.held.items c.run_lent-reason.new.own.items
-    ∙ sym (frames-paired c.pack.inside.held.items c.pack.inside.own.items)
+    frames-paired c.pack.inside.held.items c.run_lent-reason.new.own
+    ∙ sym (frames-paired c.pack.inside.held.items c.pack.inside.own)
     ∙ ap (λ (p : Pack). frames_of p.pages) c.pack.view_is
 
 pub returns-clause-room : goal.returns-clause-room
-returns-clause-room c = same-length c.pack.inside.own.items c.run_lent-reason.new.own.items
+returns-clause-room c = same-length c.pack.inside.own c.run_lent-reason.new.own
     c.run_lent-reason.ensures.here ∙ ap (λ (p : Pack). p.room) c.pack.view_is
 
 pub run_lent-reason-requires-clause-reached : goal.run_lent-reason-requires-clause-reached
 run_lent-reason-requires-clause-reached c =
     let can = subst (λ (p : Pack). CanRun p (seen c.args.view.now))
     (sym c.pack.view_is) c.requires.can in
-    let table = c.pack.inside.own.items in
+    let table = c.pack.inside.own in
     let held = c.pack.inside.held.items in
     let frames = c.args.view.now.frames.now in
     let entries = c.space-space.result.now.entries in
@@ -74,7 +74,7 @@ pub run_lent-reason-requires-clause-own : goal.run_lent-reason-requires-clause-o
 run_lent-reason-requires-clause-own c =
     let can = subst (λ (p : Pack). CanRun p (seen c.args.view.now))
     (sym c.pack.view_is) c.requires.can in
-    let table = c.pack.inside.own.items in
+    let table = c.pack.inside.own in
     let held = c.pack.inside.held.items in
     let frames = c.args.view.now.frames.now in
     let entries = c.space-space.result.now.entries in
@@ -94,7 +94,7 @@ pub run_lent-reason-requires-clause-within : goal.run_lent-reason-requires-claus
 run_lent-reason-requires-clause-within c =
     let can = subst (λ (p : Pack). CanRun p (seen c.args.view.now))
     (sym c.pack.view_is) c.requires.can in
-    let table = c.pack.inside.own.items in
+    let table = c.pack.inside.own in
     let held = c.pack.inside.held.items in
     let frames = c.args.view.now.frames.now in
     let entries = c.space-space.result.now.entries in
@@ -109,7 +109,7 @@ pub returns-clause-finished : goal.returns-clause-finished
 returns-clause-finished c =
     let can = subst (λ (p : Pack). CanRun p (seen c.args.view.now))
     (sym c.pack.view_is) c.requires.can in
-    let table = c.pack.inside.own.items in
+    let table = c.pack.inside.own in
     let held = c.pack.inside.held.items in
     let frames = c.args.view.now.frames.now in
     let entries = c.space-space.result.now.entries in
@@ -123,8 +123,8 @@ returns-clause-finished c =
       process = c.pack.inside.pid;
       registers = c.run_lent-reason.new.regs;
       budget = c.run_lent-reason.new.budget;
-      pages = paired held c.run_lent-reason.new.own.items;
-      room = length c.run_lent-reason.new.own.items;
+      pages = paired held c.run_lent-reason.new.own;
+      room = length c.run_lent-reason.new.own;
     }) (seen c.args.view.now) (alone w n)) (ap (λ (p : Pack). p.thread) c.pack.view_is)
     (finished c.pack.inside.tid c.pack.inside.pid c.pack.inside.regs.value c.pack.inside.left held
     table frames.pages _ frames.owners
@@ -132,7 +132,7 @@ returns-clause-finished c =
     c.pack.invariant level (sym c.count-count.ensures.owners ∙ c.count-count.ensures.pages)
     (can.space ∙ ap (λ x. Some (Some x)) (sym same))
     (λ i frame at. can.owned i frame (ap (λ fs. slice_get fs i) (frames-paired held table) ∙ at))
-    c.run_lent-reason.new.own.items c.set_held.new.self c.run_lent-reason.new.regs
+    c.run_lent-reason.new.own c.set_held.new.self c.run_lent-reason.new.regs
     c.run_lent-reason.new.budget c.run_lent-reason.result
     c.run_lent-reason.ensures.here
     (c.set_held.ensures ∙ ap (λ (r : Registers). released r) c.deref.ensures)

@@ -1,8 +1,7 @@
-use Rattle.std.proofs.Common.{◌≡◌, ◌∙◌, ◌++◌, ◌∷◌, [], sym, ap, subst, length, length-set, ℕ, List, Option, Some, slice_set, slice_get, vec_capacity, arith}
+use Rattle.std.proofs.Common.{◌≡◌, ◌∙◌, ◌++◌, ◌∷◌, [], sym, ap, subst, length, length-set, ℕ, List, Option, None, vec_capacity, arith}
 use Rattle.page_store.specs.Store.{whole}
 use Rattle.quantum_run.specs.Packs.{IsPacked, paired}
-use Rattle.quantum_run.proofs.Keeping.{packed-less, is-here, paired-without, packed-view}
-use Rattle.quantum_run.proofs.Overlay.{here-within, get-of}
+use Rattle.quantum_run.proofs.Keeping.{packed-less, paired-without, packed-view}
 use Rattle.quantum_run.proofs.pack.Pack.take_page.Goals as goal
 
 pub invariant_of-self-2 : goal.invariant_of-self-2
@@ -10,13 +9,13 @@ invariant_of-self-2 c =
     let k = c.self.inside in
     let a = c.in_ok-frame.ensures in
     let f = c.in_ok-frame.frame in
-    let own = k.own.items in
+    let own = k.own in
     let new = c.pop.new.self.items in
     let packed : IsPacked (new ++ f ∷ []) own (vec_capacity k.held) =
     subst (λ (xs : List ℕ). IsPacked xs own (vec_capacity k.held)) a.items c.self.invariant in
     let capacity = a.capacity in
-    subst (λ (o : Option (List ℕ)). IsPacked new (slice_set own f o) (vec_capacity c.pop.new.self))
-    (sym c.take.ensures.after)
+    subst (λ (rest : List (Option (List ℕ))). IsPacked new rest (vec_capacity c.pop.new.self))
+    (sym c.take.ensures.rest)
     (packed-less new own (vec_capacity k.held) f packed (vec_capacity c.pop.new.self)
     (omega (arith, capacity)))
 
@@ -25,20 +24,17 @@ returns c =
     let k = c.self.inside in
     let a = c.in_ok-frame.ensures in
     let f = c.in_ok-frame.frame in
-    let own = k.own.items in
+    let own = k.own in
     let new = c.pop.new.self.items in
     let packed : IsPacked (new ++ f ∷ []) own (vec_capacity k.held) =
     subst (λ (xs : List ℕ). IsPacked xs own (vec_capacity k.held)) a.items c.self.invariant in
-    let here = is-here new own (vec_capacity k.held) f packed in
-    let page : slice_get own f ≡ Some (Some c.in-Some.page) =
-    get-of own f c.index_mut.result.now (here-within own f here) c.index_mut.ensures.value
-    ∙ ap Some (sym c.in-Some.ensures.value) in
-    let rest = slice_set own f c.take.new.self in
+    let rest = c.take.new.self in
     let same : paired k.held.items own ≡ paired new rest ++ (f, whole c.in-Some.page) ∷ [] =
     ap (λ xs. paired xs own) a.items
-    ∙ paired-without new own (vec_capacity k.held) f packed c.in-Some.page page
-    ∙ ap (λ (o : Option (List ℕ)). paired new (slice_set own f o) ++ (f, whole c.in-Some.page) ∷ [])
-    (sym c.take.ensures.after) in
+    ∙ paired-without new own (vec_capacity k.held) f packed c.in-Some.page c.in-Some.ensures.page
+    ∙ ap (λ other. paired new other ++ (f, whole c.in-Some.page) ∷ []) (sym c.take.ensures.rest) in
     sym c.self.view_is ∙ packed-view k.tid k.pid k.regs.value k.left
     (paired new rest ++ (f, whole c.in-Some.page) ∷ []) (paired k.held.items own)
-    (length rest) (length own) same (sym (length-set own f c.take.new.self))
+    (length rest) (length own) same
+    (sym (ap (λ (other : List (Option (List ℕ))). length other) c.take.ensures.rest
+    ∙ length-set own f None))
