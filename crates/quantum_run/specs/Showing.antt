@@ -1,5 +1,5 @@
 -- What the memory of a thread that runs shows. This project's own rules.
-use Rattle.std.specs.Prelude.{ℕ, ◌≡◌, ◌/◌, List, Option, slice_index_or}
+use Rattle.std.specs.Prelude.{ℕ, ◌≡◌, ◌/◌, Bool, List, Option, Ok, Err, MatchBool, slice_index_or}
 use Rattle.std.proofs.Common.{◌∙◌}
 use Rattle.dos_world.specs.World.{World, Thread, with_thread, owner_of, entry_at, look}
 use Rattle.dos_world.specs.Reach.{is_foreign}
@@ -7,9 +7,11 @@ use Rattle.dos_world.specs.declared.Access.{Access}
 use Rattle.dos_world.specs.declared.Entry.{Entry}
 use Rattle.dos_world.specs.declared.Owner.{Owner}
 use Rattle.dos_world.specs.declared.Owner.TheVariants.{Free}
+use Rattle.dos_world.specs.declared.Reason.{Reason}
 use Rattle.page_store.specs.Store.{joined}
 use Rattle.rv_exec.specs.Blind.{entry_at-with_thread}
-use Rattle.rv_form.specs.Notes.{Note}
+use Rattle.rv_exec.specs.Follows.{word_at}
+use Rattle.rv_form.specs.Notes.{Note, note_at}
 use Rattle.quantum_run.specs.declared.slot.Slot.{Slot}
 use Rattle.quantum_run.specs.Knowing.{AreKnown}
 
@@ -45,6 +47,18 @@ pub record ShowsKnown {F : Type 0} (now : Still) (fixed_now : F) (pages : List (
     : Type 0 where
   pub shows : ShowsBy now fixed_now pages fixed.0 t w
   pub known : AreKnown base fetched pages fixed.1
+
+-- Each world that was shown before, with a memo's old notes, is shown after, with its new ones. And
+-- the new note at the place has the word at the address there, where the answer is true; else the
+-- fetch of that word is refused there, for this reason.
+abbrev pub HasWordOrReason : {F : Type 0}
+    (before after : (Still × F) × List Note → ℕ → World → Type 0) (old new : List Note)
+    (place address : ℕ) (answer : Bool) (why : Reason) → Type 0
+HasWordOrReason {F} before after old new place address answer why = (fixed : Still × F) (t : ℕ)
+    (w : World) → before (fixed, old) t w
+    → after (fixed, new) t w
+    × MatchBool answer (word_at w t address ≡ Ok (note_at new place).word)
+    (word_at w t address ≡ Err why)
 
 -- The registers and the budget of a thread are no part of it.
 pub blind_by : {F : Type 0} (now : Still) (fixed_now : F) (pages : List (Option (List ℕ)))

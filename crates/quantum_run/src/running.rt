@@ -1,13 +1,11 @@
 // The memory of one thread over any pages.
-ghost use Rattle.std.specs.Prelude.{◌≡◌, ◌≢◌, ◌⊎◌, ◌+◌, ◌*◌, ◌/◌, ◌%◌, ◌^◌, ◌<◌, ℕ, List, Option, Ok, Err, IfSome, MatchBool, true, length, slice_set};
+ghost use Rattle.std.specs.Prelude.{◌≡◌, ◌≢◌, ◌⊎◌, ◌+◌, ◌/◌, ◌%◌, ◌^◌, ◌<◌, ℕ, List, Option, Err, IfSome, true, slice_set};
 ghost use Rattle.std.specs.Option.{ok_or};
 ghost use Rattle.dos_world.specs.Reach.{bytes_of, width, written};
 ghost use Rattle.dos_world.specs.declared.Access.TheVariants.{Fetch, Load, Store};
 ghost use Rattle.page_store.specs.Store.{joined, number_at};
 ghost use Rattle.rv_form.specs.Notes.{note_at};
-ghost use Rattle.dos_world.specs.World.{World};
-ghost use Rattle.rv_exec.specs.Follows.{word_at};
-ghost use Rattle.quantum_run.specs.Showing.{ShowsKnown, Still, still};
+ghost use Rattle.quantum_run.specs.Showing.{HasWordOrReason, ShowsKnown, Still, still};
 ghost use Rattle.quantum_run.specs.Finding.{AreFramesOf, IsFrameOf, IsWriting, frame_for, place_in};
 ghost use Rattle.quantum_run.specs.Knowing.{AreApart, AreKnown, IsBase, IsKnown, IsNoCode, KeepsKnown, no_base, slot_of};
 ghost use Rattle.quantum_run.specs.Pages.{AreReached, AreOwn, AreWithin, IsHomeIn};
@@ -352,20 +350,19 @@ impl<'a, P: Pages> Running<'a, P> {
     }
 
     /// Whether the memo has the word at an address at the place from now on; else its fetch is
-    /// refused, for this reason. The page is searched for.
+    /// refused, for this reason, and the memo stays. A word that may be known is noted by its key
+    /// of the base, and any other by a key of no address. Its page is searched for where no fetch
+    /// has found it.
     #[cold]
     #[inline(never)]
     fn find_word(&mut self, memo: &mut Memo, place: usize, address: u32, why: &mut Reason) -> bool
         requires { place < 1024 }
-        ensures word { (f : Still × P.Fixed) (t : ℕ) (w : World)
-            → ShowsKnown (still self.old.tid (P.owners self.old.pages) self.old.space.now.entries)
-            (P.fixed self.old.pages) (P.pages self.old.pages) self.old.base self.old.fetched
-            (f, memo.old) t w
-            → ShowsKnown (still self.new.tid (P.owners self.new.pages) self.new.space.now.entries)
-            (P.fixed self.new.pages) (P.pages self.new.pages) self.new.base self.new.fetched
-            (f, memo.new) t w
-            × MatchBool result (word_at w t address ≡ Ok (note_at memo.new place).word)
-            (word_at w t address ≡ Err why.new) }
+        ensures word { HasWordOrReason
+            (ShowsKnown (still self.old.tid (P.owners self.old.pages) self.old.space.now.entries)
+            (P.fixed self.old.pages) (P.pages self.old.pages) self.old.base self.old.fetched)
+            (ShowsKnown (still self.new.tid (P.owners self.new.pages) self.new.space.now.entries)
+            (P.fixed self.new.pages) (P.pages self.new.pages) self.new.base self.new.fetched)
+            memo.old memo.new place address result why.new }
     {
         if let Some(word) = self.word_to_know(address) {
             self.remember(memo, place, address, word);
@@ -405,15 +402,12 @@ impl<'a, P: Pages> Running<'a, P> {
     #[inline(never)]
     fn learn(&mut self, memo: &mut Memo, place: usize, address: u32, why: &mut Reason) -> bool
         requires { place < 1024 }
-        ensures word { (f : Still × P.Fixed) (t : ℕ) (w : World)
-            → ShowsKnown (still self.old.tid (P.owners self.old.pages) self.old.space.now.entries)
-            (P.fixed self.old.pages) (P.pages self.old.pages) self.old.base self.old.fetched
-            (f, memo.old) t w
-            → ShowsKnown (still self.new.tid (P.owners self.new.pages) self.new.space.now.entries)
-            (P.fixed self.new.pages) (P.pages self.new.pages) self.new.base self.new.fetched
-            (f, memo.new) t w
-            × MatchBool result (word_at w t address ≡ Ok (note_at memo.new place).word)
-            (word_at w t address ≡ Err why.new) }
+        ensures word { HasWordOrReason
+            (ShowsKnown (still self.old.tid (P.owners self.old.pages) self.old.space.now.entries)
+            (P.fixed self.old.pages) (P.pages self.old.pages) self.old.base self.old.fetched)
+            (ShowsKnown (still self.new.tid (P.owners self.new.pages) self.new.space.now.entries)
+            (P.fixed self.new.pages) (P.pages self.new.pages) self.new.base self.new.fetched)
+            memo.old memo.new place address result why.new }
     {
         if let Some(word) = self.word_found(address) {
             self.keep_known(memo, place, address, word);
@@ -427,15 +421,12 @@ impl<'a, P: Pages> Running<'a, P> {
     #[inline(always)]
     pub fn knows(&mut self, memo: &mut Memo, place: usize, address: u32, why: &mut Reason) -> bool
         requires { place < 1024 }
-        ensures word { (f : Still × P.Fixed) (t : ℕ) (w : World)
-            → ShowsKnown (still self.old.tid (P.owners self.old.pages) self.old.space.now.entries)
-            (P.fixed self.old.pages) (P.pages self.old.pages) self.old.base self.old.fetched
-            (f, memo.old) t w
-            → ShowsKnown (still self.new.tid (P.owners self.new.pages) self.new.space.now.entries)
-            (P.fixed self.new.pages) (P.pages self.new.pages) self.new.base self.new.fetched
-            (f, memo.new) t w
-            × MatchBool result (word_at w t address ≡ Ok (note_at memo.new place).word)
-            (word_at w t address ≡ Err why.new) }
+        ensures word { HasWordOrReason
+            (ShowsKnown (still self.old.tid (P.owners self.old.pages) self.old.space.now.entries)
+            (P.fixed self.old.pages) (P.pages self.old.pages) self.old.base self.old.fetched)
+            (ShowsKnown (still self.new.tid (P.owners self.new.pages) self.new.space.now.entries)
+            (P.fixed self.new.pages) (P.pages self.new.pages) self.new.base self.new.fetched)
+            memo.old memo.new place address result why.new }
     {
         memo.has(place, self.base + u64::from(address)) || self.learn(memo, place, address, why)
     }

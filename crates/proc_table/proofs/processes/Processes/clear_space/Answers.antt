@@ -1,38 +1,28 @@
-use Rattle.std.proofs.Common.{rules, vec_len, ◌≡◌, length, [], ap, arith}
-use Rattle.space_map.specs.Mapping.{Mapping}
-use Rattle.proc_table.proofs.Standing.{lives, within, space_written, placed_space}
+use Rattle.std.proofs.Common.{rules, vec_len, ◌≡◌, [], length, arith}
+use Rattle.proc_table.proofs.Spaces.{place_of_live, space_at}
 use Rattle.proc_table.proofs.processes.Processes.clear_space.Goals as goal
 
 pub place_of-place-requires : goal.place_of-place-requires
 place_of-place-requires c =
-    lives c.self.inside.records c.self.inside.holders c.self.inside.spaces.items
-    c.self.inside.belongings.items c.self.inside.live c.self.inside.room c.args.self.now
-    c.self.view_is c.self.invariant c.args.pid c.requires
+    place_of_live c.self.view_is c.self.invariant c.args.pid c.requires
 
 pub index_mut-requires : goal.index_mut-requires
 index_mut-requires c =
     let count : vec_len c.self.inside.spaces ≡ length c.self.inside.spaces.items = search rules in
     omega (
       arith,
-      c.self.invariant.spaces_count,
-      within c.self.inside.records c.self.inside.holders c.self.inside.spaces.items
-          c.self.inside.belongings.items c.self.inside.live c.self.inside.room
-          c.args.self.now c.self.view_is c.self.invariant c.args.pid c.place_of-place.result
-          c.place_of-place.ensures,
+      (space_at c.self.view_is c.self.invariant c.args.pid c.place_of-place.result
+          c.place_of-place.ensures).here,
     )
 
 pub invariant_of-self : goal.invariant_of-self
-invariant_of-self c = placed_space c.self.inside.records c.self.inside.holders
-    c.self.inside.spaces.items c.self.inside.belongings.items c.self.inside.live
-    c.self.inside.room c.args.self.now c.self.view_is c.self.invariant c.args.pid
-    c.place_of-place.result
-    c.place_of-place.ensures c.index_mut.result.now _
-    c.index_mut.ensures.value (ap (λ (s : Mapping). s.room) c.clear.ensures)
+invariant_of-self c =
+    ((space_at c.self.view_is c.self.invariant c.args.pid c.place_of-place.result
+    c.place_of-place.ensures).changes (λ _. [])
+    c.index_mut.result.now _ c.index_mut.ensures.value c.clear.ensures).placed
 
 pub returns : goal.returns
-returns c = space_written c.self.inside.records c.self.inside.holders
-    c.self.inside.spaces.items c.self.inside.belongings.items c.self.inside.live
-    c.self.inside.room c.args.self.now c.self.view_is c.self.invariant c.args.pid
-    c.place_of-place.result c.place_of-place.ensures
-    (λ _. []) c.index_mut.result.now _ c.index_mut.ensures.value
-    (ap (λ (s : Mapping). s.entries) c.clear.ensures)
+returns c =
+    ((space_at c.self.view_is c.self.invariant c.args.pid c.place_of-place.result
+    c.place_of-place.ensures).changes (λ _. [])
+    c.index_mut.result.now _ c.index_mut.ensures.value c.clear.ensures).shows
