@@ -1,5 +1,5 @@
 -- What follows for a call from how it ended.
-use Rattle.std.proofs.Common.{ℕ, zero, suc, ◌≡◌, ◌≢◌, ◌≤◌, ◌⊎◌, refl, sym, ap, ◌∙◌, subst, inl, inr, arith, List, [], ◌∷◌, ◌++◌, take, drop, Option, Some, None, IfSome, Result, Ok, Err}
+use Rattle.std.proofs.Common.{ℕ, zero, suc, ◌≡◌, ◌≢◌, ◌≤◌, ◌⊎◌, refl, sym, ap, ◌∙◌, subst, inl, inr, arith, List, [], ◌∷◌, take, drop, Option, Some, None, IfSome, Result, Ok, Err}
 use Rattle.std.proofs.lemmas.List.{take-append-drop}
 use Rattle.std.specs.Prelude.{IfOk, IfErr}
 use Rattle.std.specs.List.{AllByRecursion}
@@ -16,7 +16,7 @@ use Rattle.dpg_run.proofs.MisfitLaws.{fits_have_none}
 use Rattle.dos_io.specs.declared.shim.ShimStop.TheVariants as stops
 use Rattle.shim_log.specs.LogText.{Log, exchanges}
 use Rattle.logged_runs.specs.Replaying.{config_of}
-use Rattle.dos_texts.specs.Exit.{IsStatus, ending_status, refusal_status, line_of}
+use Rattle.dos_texts.specs.Exit.{ending_status, refusal_status, line_of}
 use Rattle.dos_texts.proofs.Statuses.{EndsAs, ending_ends}
 use Rattle.dos_texts.specs.declared.refusal.Refusal.{Refusal}
 use Rattle.dos_texts.specs.declared.refusal.Refusal.TheVariants as refusals
@@ -24,7 +24,7 @@ use Rattle.dos_words.specs.Numbers.{Text}
 use Rattle.dos_words.specs.Request.{request}
 use Rattle.dos_words.specs.declared.request.Request.{Request}
 use Rattle.dos_words.specs.declared.request.Request.TheVariants.{Run, Replay, Inspect, Gen}
-use Rattle.dos_cmd.specs.Judging.{Taken, Judgement, judgement}
+use Rattle.dos_cmd.specs.Judging.{Taken, judgement}
 use Rattle.dos_cmd.specs.Outside.{Outside, Faults, OutputFailed}
 use Rattle.dos_cmd.specs.Replaying.{DidReplay, Misfitted}
 use Rattle.dos_cmd.specs.Results.{Begun, NotTaken, OfLog, Did, HasMisfit, Stopped, Leaves, Finished, Fails, Refused, CutShort, MustReplay, MustDo}

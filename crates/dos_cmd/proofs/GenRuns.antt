@@ -1,13 +1,13 @@
 -- What `gen` leaves, from part to whole.
-use Rattle.std.proofs.Common.{◌≡◌, ◌⊎◌, ◌≤◌, ◌-◌, ◌^◌, ◌++◌, inl, inr, ℕ, Bool, List, [], ◌∷◌, length, min, map, Option, Some, None, Result, Ok, Err, sym, ap, ◌∙◌, subst, refl, append_assoc, arith}
-use Rattle.std.specs.Prelude.{IfSome, IfOk, IfErr, OnOk, OnErr}
+use Rattle.std.proofs.Common.{◌≡◌, ◌≤◌, ◌-◌, ◌++◌, inl, ℕ, Bool, List, [], ◌∷◌, map, Option, Some, None, Result, sym, ap, ◌∙◌, subst, refl, append_assoc, arith}
+use Rattle.std.specs.Prelude.{IfSome, OnOk, OnErr}
 use Rattle.sha2.specs.Sha256.{sha256}
 use Rattle.dos_world.specs.World.{World}
 use Rattle.dos_world.specs.declared.Config.{Config}
 use Rattle.dos_world.specs.declared.Ending.{Ending}
 use Rattle.dos_io.specs.Exchanges.{question_of, answer_of}
 use Rattle.dos_io.specs.Hosts.{Told}
-use Rattle.dos_io.specs.Outside.{grown, GrewByFront, HasCause, Rose}
+use Rattle.dos_io.specs.Outside.{grown, GrewByFront, Rose}
 use Rattle.dos_io.specs.Quiet.{Quietness, shown, FollowsQuietly}
 use Rattle.dos_io.specs.Shims.{ShimState}
 use Rattle.dos_io.specs.declared.exchange.Exchange.{Exchange}
@@ -16,7 +16,7 @@ use Rattle.dos_io.specs.declared.shim.ShimStop.TheVariants as shims
 use Rattle.dos_io.proofs.OutsideLaws.{grown-nothing}
 use Rattle.dos_io.proofs.QuietAnswers.{last_is_memory, quiet_more}
 use Rattle.elf_image.specs.Image.{Image}
-use Rattle.group_open.specs.Opening.{needed, opening}
+use Rattle.group_open.specs.Opening.{opening}
 use Rattle.group_rounds.specs.Going.{telling}
 use Rattle.group_rounds.specs.Kernels.{Held, kernel_world}
 use Rattle.group_rounds.specs.Outside.{HasShimCause}
@@ -39,8 +39,8 @@ use Rattle.dos_texts.specs.declared.refusal.Refusal.TheVariants as refusals
 use Rattle.dos_words.specs.Numbers.{Text}
 use Rattle.dos_words.specs.declared.request.Request.TheVariants as requests
 use Rattle.dos_cmd.specs.Judging.{gen_config}
-use Rattle.dos_cmd.specs.Outside.{Outside, Faults, outside, faults}
-use Rattle.dos_cmd.specs.Printing.{RanQuietly, byte_count, summary}
+use Rattle.dos_cmd.specs.Outside.{Faults, outside, faults}
+use Rattle.dos_cmd.specs.Printing.{RanQuietly, byte_count}
 use Rattle.dos_cmd.specs.Results.{Begun, Did, Leaves}
 use Rattle.dos_cmd.specs.Stops.{IsNotOpened, refusal_by}
 use Rattle.dos_cmd.proofs.NotBegun.{not_opened_as, says_nothing}

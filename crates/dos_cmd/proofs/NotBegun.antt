@@ -1,5 +1,5 @@
 -- What a call leaves that comes to no run: nothing was put by then.
-use Rattle.std.proofs.Common.{◌≡◌, ◌≤◌, ◌<◌, inl, refl, sym, ◌∙◌, subst, true, ℕ, List, [], Option, Result, Ok, Err, arith}
+use Rattle.std.proofs.Common.{◌≡◌, ◌≤◌, ◌<◌, inl, refl, ◌∙◌, subst, true, ℕ, List, [], Ok, Err, arith}
 use Rattle.std.specs.Prelude.{IfSome, nat_lt}
 use Rattle.std.proofs.lemmas.Bool.{le-ltb}
 use Rattle.std.proofs.lemmas.Bool.Decides.{nat_tests}
@@ -11,7 +11,7 @@ use Rattle.group_open.specs.Opening.{needed}
 use Rattle.dos_texts.specs.declared.refusal.Refusal.{Refusal}
 use Rattle.dos_texts.specs.declared.refusal.Refusal.TheVariants as refusals
 use Rattle.dos_words.specs.declared.request.Request.{Request}
-use Rattle.dos_cmd.specs.Judging.{Images, OfFiles, judgement, with_room}
+use Rattle.dos_cmd.specs.Judging.{OfFiles, judgement, with_room}
 use Rattle.dos_cmd.specs.Outside.{Outside, Faults, FilesStay, HostStays, Says}
 use Rattle.dos_cmd.specs.Replaying.{OfReading}
 use Rattle.dos_cmd.specs.Results.{Leaves}

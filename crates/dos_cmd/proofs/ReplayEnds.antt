@@ -1,8 +1,8 @@
 -- What a replay leaves, by how it ends.
-use Rattle.std.proofs.Common.{◌≡◌, ◌⊎◌, ◌≤◌, ◌<◌, inl, inr, ℕ, Bool, List, [], ◌++◌, map, append-nil, Option, Some, None, Result, Ok, Err, sym, ap, ◌∙◌, subst, refl, arith}
+use Rattle.std.proofs.Common.{◌≡◌, ◌≤◌, inl, inr, ℕ, Bool, List, [], map, append-nil, Option, Some, None, Result, Ok, Err, sym, ap, ◌∙◌, subst, refl}
 use Rattle.std.specs.Prelude.{IfSome, IfOk, IfErr, OnOk, OnErr}
 use Rattle.dos_io.specs.Hosts.{Told}
-use Rattle.dos_io.specs.Outside.{grown, GrewByFront, HasCause, Rose}
+use Rattle.dos_io.specs.Outside.{grown, GrewByFront, HasCause}
 use Rattle.dos_io.proofs.OutsideLaws.{grown_more}
 use Rattle.dos_world.specs.declared.Config.{Config}
 use Rattle.dos_world.specs.declared.Ending.{Ending}
@@ -24,9 +24,9 @@ use Rattle.dos_texts.specs.declared.refusal.Refusal.{Refusal}
 use Rattle.dos_texts.specs.declared.refusal.Refusal.TheVariants as refusals
 use Rattle.dos_words.specs.Numbers.{Text}
 use Rattle.dos_words.specs.declared.request.Request.TheVariants as requests
-use Rattle.dos_cmd.specs.Judging.{Judgement, Taken, agreed, judgement, replay_judgement}
+use Rattle.dos_cmd.specs.Judging.{Judgement, agreed, replay_judgement}
 use Rattle.dos_cmd.specs.Outside.{Outside, Faults, outside, faults, Says}
-use Rattle.dos_cmd.specs.Replaying.{StaysAll, CutReplay, DidReplay, LeavesTaken, Misfitted}
+use Rattle.dos_cmd.specs.Replaying.{StaysAll, CutReplay, DidReplay, LeavesTaken}
 use Rattle.dos_cmd.specs.Results.{Begun, Did, Leaves}
 use Rattle.dos_cmd.specs.Stops.{IsNotOpened, refusal_by}
 use Rattle.dos_cmd.proofs.NotBegun.{no_room_so, not_opened_as}

@@ -1,6 +1,6 @@
 -- What a replay takes its files for, from part to whole.
-use Rattle.std.proofs.Common.{◌≡◌, ◌≤◌, ◌<◌, refl, sym, ap, ap₂, ◌∙◌, subst, ℕ, Bool, true, false, List, [], ◌∷◌, length, map, Option, Some, None, Result, Ok, Err, arith}
-use Rattle.std.specs.Prelude.{IfSome, nat_lt, option_and_then, ◌==◌, if◌then◌else◌}
+use Rattle.std.proofs.Common.{◌≡◌, ◌≤◌, ◌<◌, refl, sym, ap, ap₂, ◌∙◌, subst, ℕ, Bool, true, false, List, [], ◌∷◌, length, map, Option, Some, None, Ok, Err, arith}
+use Rattle.std.specs.Prelude.{IfSome, option_and_then, ◌==◌, if◌then◌else◌}
 use Rattle.std.proofs.lemmas.Bool.Decides.{nat_tests}
 use Rattle.elf_image.specs.Image.{Image}
 use Rattle.group_open.specs.Opening.{needed}
@@ -9,7 +9,6 @@ use Rattle.log_files.specs.declared.refusal.LogRefusal.{LogRefusal}
 use Rattle.log_files.specs.declared.refusal.LogRefusal.TheVariants as log_refusals
 use Rattle.logged_runs.specs.Replaying.{config_of}
 use Rattle.shim_log.specs.LogText.{Log}
-use Rattle.shim_log.specs.Ranges.{FitsLog}
 use Rattle.dos_texts.specs.declared.refusal.Refusal.{Refusal}
 use Rattle.dos_texts.specs.declared.refusal.Refusal.TheVariants as refusals
 use Rattle.dos_words.specs.Numbers.{Text}

@@ -1,6 +1,6 @@
 -- What a call that asks for a run leaves.
-use Rattle.std.proofs.Common.{◌≡◌, ◌⊎◌, ◌≤◌, ◌<◌, inl, inr, ℕ, List, [], map, Bool, true, Option, Some, None, Result, Ok, Err, sym, ap, ◌∙◌, subst, refl, arith}
-use Rattle.std.specs.Prelude.{IfSome, IfOk, IfErr, nat_lt, option_map}
+use Rattle.std.proofs.Common.{◌≡◌, ◌≤◌, inl, inr, ℕ, List, [], map, Bool, Option, Some, None, Result, Ok, Err, sym, ap, ◌∙◌, subst, refl}
+use Rattle.std.specs.Prelude.{IfSome, IfOk, IfErr, option_map}
 use Rattle.dos_io.specs.Outside.{Rose}
 use Rattle.dos_io.specs.declared.exchange.ClockRule.{ClockRule}
 use Rattle.dos_world.specs.declared.Config.{Config}
@@ -12,7 +12,6 @@ use Rattle.group_rounds.specs.Kernels.{Held}
 use Rattle.shim_log.specs.Ledger.{LedgerState, empty_ledger}
 use Rattle.shim_log.specs.declared.header.LogHeader.{LogHeader}
 use Rattle.logged_runs.specs.Opened.{IsOpened}
-use Rattle.logged_runs.specs.Recording.{plan_of}
 use Rattle.dos_texts.specs.Exit.{ending_status}
 use Rattle.dos_texts.specs.declared.refusal.Refusal.{Refusal}
 use Rattle.dos_texts.specs.declared.refusal.Refusal.TheVariants as refusals

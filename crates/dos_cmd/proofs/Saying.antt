@@ -1,6 +1,6 @@
 -- What a call leaves after its last line: error has grown by these bytes more.
-use Rattle.std.proofs.Common.{ℕ, ◌≡◌, ◌≤◌, ◌⊎◌, refl, sym, ap, ◌∙◌, subst, inl, inr, arith, List, [], ◌++◌, append-nil, Option, Some, None, Ok, Err}
-use Rattle.dos_io.specs.Outside.{grown, Rose}
+use Rattle.std.proofs.Common.{ℕ, ◌≡◌, ◌≤◌, refl, sym, ap, ◌∙◌, subst, inl, inr, arith, List, [], ◌++◌, append-nil, Option, Some, None}
+use Rattle.dos_io.specs.Outside.{grown}
 use Rattle.dos_io.proofs.OutsideLaws.{grown-nothing, grown-twice}
 use Rattle.dos_io.specs.declared.shim.ShimStop.{ShimStop}
 use Rattle.dos_io.specs.declared.shim.ShimStop.TheVariants as stops
@@ -11,9 +11,8 @@ use Rattle.dos_texts.specs.declared.refusal.Refusal.TheVariants as refusals
 use Rattle.dos_words.specs.Numbers.{Text}
 use Rattle.dos_words.specs.declared.request.Request.{Request}
 use Rattle.dos_words.specs.declared.request.Request.TheVariants.{Run, Replay, Inspect, Gen}
-use Rattle.dos_cmd.specs.Judging.{Taken, judgement}
+use Rattle.dos_cmd.specs.Judging.{Taken}
 use Rattle.dos_cmd.specs.Outside.{Outside, Faults, Grew, Says, OutputFailed}
-use Rattle.dos_cmd.specs.Running.{StoppedRun, UnwrittenRun}
 use Rattle.dos_cmd.specs.Replaying.{Misfitted}
 use Rattle.dos_cmd.specs.Results.{Begun, NotTaken, Stopped, Unwritten, HasMisfit, OfLog, Cut, Leaves, Fails}
 

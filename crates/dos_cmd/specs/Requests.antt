@@ -1,8 +1,7 @@
 -- The code's own values of a request, as what the words ask for.
-use Rattle.std.specs.Prelude.{ℕ, List}
-use Rattle.dos_words.specs.Numbers.{Text}
+use Rattle.std.specs.Prelude.{ℕ}
 use Rattle.dos_words.specs.declared.request.Request.{Request}
-use Rattle.dos_words.specs.declared.request.Request.TheVariants.{Run, Replay}
+use Rattle.dos_words.specs.declared.request.Request.TheVariants.{Run}
 use Rattle.dos_cmd.specs.declared.run.RunRequest.{RunRequest}
 
 -- with so many workers

@@ -1,5 +1,5 @@
 -- What `run` leaves. This project's own rules.
-use Rattle.std.specs.Prelude.{◌≡◌, ◌++◌, ◌⊎◌, ℕ, List, [], ◌∷◌, map, Option, Some, None, IfSome}
+use Rattle.std.specs.Prelude.{◌≡◌, ◌++◌, ℕ, List, map, Option, Some, None, IfSome}
 use Rattle.dos_world.specs.declared.Config.{Config}
 use Rattle.dos_world.specs.declared.Post.{Post}
 use Rattle.dos_io.specs.declared.exchange.ClockRule.{ClockRule}

@@ -1,12 +1,12 @@
 -- Pages that are away with packs, and how they come back. This project's own rules.
-use Rattle.std.specs.Prelude.{ℕ, ◌≡◌, ◌≢◌, ◌⊎◌, ◌<◌, ◌≤◌, List, [], ◌∷◌, ◌++◌, map, length, Some, None, option_map, slice_get, slice_set}
+use Rattle.std.specs.Prelude.{ℕ, ◌≡◌, ◌≢◌, ◌⊎◌, ◌<◌, ◌≤◌, List, [], ◌∷◌, ◌++◌, length, Some, None, option_map, slice_get, slice_set}
 use Rattle.dos_world.specs.declared.Owner.TheVariants.{Of}
 use Rattle.rv_exec.specs.Runs.{kept}
 use Rattle.page_store.specs.Store.{Store, whole, owner_at, with_away}
 use Rattle.quantum_run.specs.Laws.{without_run}
 use Rattle.quantum_run.specs.Packs.{bytes_at, empty_pack, with_page, with_thread_of}
 pub use Rattle.quantum_run.specs.Packs.{view_of}
-use Rattle.quantum_run.specs.Shows.{Pack, View}
+use Rattle.quantum_run.specs.Shows.{Pack}
 use Rattle.proc_table.specs.Tables.{Tables, thread_in}
 
 -- ---- lists

@@ -5,9 +5,7 @@ use Rattle.std.proofs.lemmas.Bool.{eqb-true}
 use Rattle.std.proofs.Math.Bool.{or-true}
 use Rattle.std.proofs.lemmas.Option.{same_Some}
 use Rattle.std.specs.Prelude.{slice_get, ◌||◌, ◌==◌}
-use Rattle.dos_world.specs.Numbered.{numbered}
 use Rattle.dos_world.specs.World.{look}
-use Rattle.dos_world.specs.declared.Entry.{Entry}
 use Rattle.quantum_run.specs.Shows.{Pack, View, CanRun, frames_of}
 use Rattle.staying_workers.specs.Ready.{MayRun, entries_of, is_home, space_under, stands_in}
 

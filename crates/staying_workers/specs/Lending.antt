@@ -1,6 +1,5 @@
 -- Packs with an owner of what they share. This project's own rules.
 use Rattle.std.specs.Prelude.{◌≡◌, List, map, All}
-use mathlib.Core.Option.{some}
 use Rattle.quantum_run.specs.Packs.{seen_in}
 use Rattle.quantum_run.specs.Shows.{Pack}
 use Rattle.quantum_run.specs.declared.pack.Shared.{Shared}

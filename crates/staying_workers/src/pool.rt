@@ -1,5 +1,5 @@
 // The pool of workers that stay.
-ghost use Rattle.std.specs.Prelude.{◌≡◌, ◌<◌, ◌≤◌, ◌+◌, ◌%◌, ◌^◌, ℕ, vec_len, vec_capacity};
+ghost use Rattle.std.specs.Prelude.{◌≡◌, ◌<◌, ◌≤◌, ◌+◌, ◌^◌, vec_len, vec_capacity};
 ghost use Rattle.std.specs.Borrow.{GName};
 ghost use Rattle.quantum_run.specs.Packs.{seen_in};
 ghost use Rattle.worker_pool.specs.Ran.{AllCanRun, AllRan};

@@ -1,5 +1,4 @@
 use Rattle.std.proofs.Common.{List, ℕ, ◌++◌, map, refl, subst, ◌-◌}
-use Rattle.std.specs.Prelude.{OnErr, OnOk}
 use Rattle.dos_io.specs.Outside.{GrewByFront}
 use Rattle.dpg_run.specs.Machine.{status_in}
 use Rattle.dos_texts.specs.Printed.{output_line, sha256_line}

@@ -1,6 +1,5 @@
 use Rattle.std.proofs.Common.{◌≡◌, inl, refl, ℕ, List, [], ◌∷◌, Option, Some, None, Ok}
 use Rattle.std.specs.Prelude.{IfSome, option_map}
-use Rattle.std.proofs.lemmas.Result.{err_from_is_err_and}
 use Rattle.dos_io.proofs.OutsideLaws.{grown-nothing}
 use Rattle.elf_image.specs.Image.{Image}
 use Rattle.dos_words.specs.Numbers.{Text}

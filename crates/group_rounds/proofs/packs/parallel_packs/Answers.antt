@@ -4,7 +4,7 @@ use Rattle.quantum_run.specs.Shows.{CanRun, Pack}
 use Rattle.proc_table.specs.Tables.{Tables, IsThread}
 use Rattle.kernel_calls.specs.declared.state.State.{State}
 use Rattle.worker_pool.specs.Ran.{AllRan, GrewBy}
-use Rattle.group_rounds.specs.Handing.{AreSet, PutBack, all_pages, view_of}
+use Rattle.group_rounds.specs.Handing.{AreSet, PutBack, view_of}
 use Rattle.group_rounds.proofs.PacksShow.{can-run}
 use Rattle.group_rounds.proofs.PacksBack.{starter-at, others, pages-apart, pages-away, threads-live, rooms, all-runs, sound-again}
 use Rattle.group_rounds.proofs.PacksWork.{work-is}

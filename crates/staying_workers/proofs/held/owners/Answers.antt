@@ -1,4 +1,4 @@
-use Rattle.std.proofs.Common.{◌≡◌, ◌+◌, ◌++◌, ◌∷◌, [], All, sym, subst, arith, vec_len, List}
+use Rattle.std.proofs.Common.{◌≡◌, All, sym, subst, arith, List}
 use Rattle.std.proofs.lemmas.List.Elements.{All-push}
 use Rattle.std.specs.declared.sync.Arc.{Arc}
 use Rattle.std.proofs.Common.{Global}
