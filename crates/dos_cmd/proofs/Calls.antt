@@ -26,7 +26,7 @@ use Rattle.dos_words.specs.declared.request.Request.{Request}
 use Rattle.dos_words.specs.declared.request.Request.TheVariants.{Run, Replay, Inspect, Gen}
 use Rattle.dos_cmd.specs.Judging.{Taken, judgement}
 use Rattle.dos_cmd.specs.Outside.{Outside, Faults, OutputFailed}
-use Rattle.dos_cmd.specs.Replaying.{DidReplay, Misfitted}
+use Rattle.dos_cmd.specs.ReplayLeaves.{DidReplay, Misfitted}
 use Rattle.dos_cmd.specs.Results.{Begun, NotTaken, OfLog, Did, HasMisfit, Stopped, Leaves, Finished, Fails, Refused, CutShort, MustReplay, MustDo}
 use Rattle.dos_cmd.proofs.Saying.{with_error, with_faults, output_failed, fails_more}
 

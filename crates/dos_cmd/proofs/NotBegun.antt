@@ -13,7 +13,7 @@ use Rattle.dos_texts.specs.declared.refusal.Refusal.TheVariants as refusals
 use Rattle.dos_words.specs.declared.request.Request.{Request}
 use Rattle.dos_cmd.specs.Judging.{OfFiles, judgement, with_room}
 use Rattle.dos_cmd.specs.Outside.{Outside, Faults, FilesStay, HostStays, Says}
-use Rattle.dos_cmd.specs.Replaying.{OfReading}
+use Rattle.dos_cmd.specs.ReplayLeaves.{OfReading}
 use Rattle.dos_cmd.specs.Results.{Leaves}
 use Rattle.dos_cmd.specs.Stops.{IsNotOpened}
 

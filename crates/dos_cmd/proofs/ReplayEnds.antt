@@ -9,7 +9,7 @@ use Rattle.dos_world.specs.declared.Ending.{Ending}
 use Rattle.dos_world.specs.declared.Misfit.{Misfit}
 use Rattle.elf_image.specs.Image.{Image}
 use Rattle.group_open.specs.Opening.{needed}
-use Rattle.kernel_calls.specs.Serving.{HasSinkCause}
+use Rattle.kernel_calls.specs.StateWorld.{HasSinkCause}
 use Rattle.kernel_calls.specs.declared.state.RunStop.{RunStop}
 use Rattle.kernel_calls.specs.declared.state.RunStop.TheVariants as stops
 use Rattle.group_rounds.specs.Kernels.{Held, kernel_world}
@@ -26,7 +26,7 @@ use Rattle.dos_words.specs.Numbers.{Text}
 use Rattle.dos_words.specs.declared.request.Request.TheVariants as requests
 use Rattle.dos_cmd.specs.Judging.{Judgement, agreed, replay_judgement}
 use Rattle.dos_cmd.specs.Outside.{Outside, Faults, outside, faults, Says}
-use Rattle.dos_cmd.specs.Replaying.{StaysAll, CutReplay, DidReplay, LeavesTaken}
+use Rattle.dos_cmd.specs.ReplayLeaves.{StaysAll, CutReplay, DidReplay, LeavesTaken}
 use Rattle.dos_cmd.specs.Results.{Begun, Did, Leaves}
 use Rattle.dos_cmd.specs.Stops.{IsNotOpened, refusal_by}
 use Rattle.dos_cmd.proofs.NotBegun.{no_room_so, not_opened_as}

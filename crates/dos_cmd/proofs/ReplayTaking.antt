@@ -13,7 +13,7 @@ use Rattle.dos_texts.specs.declared.refusal.Refusal.{Refusal}
 use Rattle.dos_texts.specs.declared.refusal.Refusal.TheVariants as refusals
 use Rattle.dos_words.specs.Numbers.{Text}
 use Rattle.dos_cmd.specs.Judging.{Images, Judgement, agreed, by_log, digests_of, images_from, of_log, replay_judgement, with_images}
-use Rattle.dos_cmd.specs.Replaying.{OfLogFile, OfReading}
+use Rattle.dos_cmd.specs.ReplayLeaves.{OfLogFile, OfReading}
 use Rattle.dos_cmd.proofs.NotBegun.{has_room, no_room}
 
 -- ---- files that stay

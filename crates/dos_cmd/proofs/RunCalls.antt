@@ -21,7 +21,7 @@ use Rattle.dos_words.specs.declared.request.Request.TheVariants.{Run}
 use Rattle.dos_cmd.specs.Judging.{Images, Judgement, Taken, OfFiles, digests_of, images_from, judgement, of_images, with_room}
 use Rattle.dos_cmd.specs.Outside.{Outside, Faults, Says}
 use Rattle.dos_cmd.specs.Results.{Begun, Did, Leaves}
-use Rattle.dos_cmd.specs.Running.{RunAsked, DidRun, IsPrepared, clock_rule, header_of}
+use Rattle.dos_cmd.specs.RunLeaves.{RunAsked, DidRun, IsPrepared, clock_rule, header_of}
 use Rattle.dos_cmd.specs.Stops.{IsNotOpened, LeavesRun}
 use Rattle.dos_cmd.proofs.NotBegun.{has_room, leaves_reading, no_room, not_opened_as, of_files}
 use Rattle.dos_cmd.proofs.RunEnds.{then_rose}

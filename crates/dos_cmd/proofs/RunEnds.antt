@@ -10,7 +10,7 @@ use Rattle.dos_io.proofs.OutsideLaws.{grown_more}
 use Rattle.dos_world.specs.declared.Config.{Config}
 use Rattle.dos_world.specs.declared.Ending.{Ending}
 use Rattle.elf_image.specs.Image.{Image}
-use Rattle.kernel_calls.specs.Serving.{HasSinkCause, shim_stop}
+use Rattle.kernel_calls.specs.StateWorld.{HasSinkCause, shim_stop}
 use Rattle.kernel_calls.specs.declared.state.RunStop.{RunStop}
 use Rattle.kernel_calls.specs.declared.state.RunStop.TheVariants as stops
 use Rattle.group_rounds.specs.Kernels.{Held, kernel_world}
@@ -26,7 +26,7 @@ use Rattle.dos_texts.specs.declared.refusal.Refusal.{Refusal}
 use Rattle.dos_texts.specs.declared.refusal.Refusal.TheVariants as refusals
 use Rattle.dos_words.specs.Numbers.{Text}
 use Rattle.dos_cmd.specs.Outside.{Outside, Faults, FilesStay, OthersStay, Holds}
-use Rattle.dos_cmd.specs.Running.{RunAsked, IsPlanned, IsPrepared, WasRecorded, DidRun, StoppedRun, UnwrittenRun, CutRun}
+use Rattle.dos_cmd.specs.RunLeaves.{RunAsked, IsPlanned, IsPrepared, WasRecorded, DidRun, StoppedRun, UnwrittenRun, CutRun}
 use Rattle.dos_cmd.specs.Stops.{refusal_by, LeavesRun}
 
 -- ---- counts of faults

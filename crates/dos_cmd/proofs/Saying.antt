@@ -13,7 +13,7 @@ use Rattle.dos_words.specs.declared.request.Request.{Request}
 use Rattle.dos_words.specs.declared.request.Request.TheVariants.{Run, Replay, Inspect, Gen}
 use Rattle.dos_cmd.specs.Judging.{Taken}
 use Rattle.dos_cmd.specs.Outside.{Outside, Faults, Grew, Says, OutputFailed}
-use Rattle.dos_cmd.specs.Replaying.{Misfitted}
+use Rattle.dos_cmd.specs.ReplayLeaves.{Misfitted}
 use Rattle.dos_cmd.specs.Results.{Begun, NotTaken, Stopped, Unwritten, HasMisfit, OfLog, Cut, Leaves, Fails}
 
 -- error tells this in the end

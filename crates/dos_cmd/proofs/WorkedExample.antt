@@ -28,7 +28,7 @@ use Rattle.dos_words.specs.declared.request.Request.TheVariants.{Run, Replay}
 use Rattle.dos_cmd.specs.Judging.{Taken, agreed, by_log, digests_of, images_from, judgement, of_images, replay_judgement, verdict, with_images, with_room}
 use Rattle.dos_cmd.specs.Outside.{Outside, Counted, FilesStay, Grew, Holds, OthersStay}
 use Rattle.dos_cmd.specs.Results.{MustDo, MustReplay}
-use Rattle.dos_cmd.specs.Running.{header_of}
+use Rattle.dos_cmd.specs.RunLeaves.{header_of}
 use Rattle.dos_cmd.proofs.BareRuns.{one_run, text_by}
 
 -- ---- the words

@@ -1,7 +1,7 @@
 pub mod Outside
 pub mod Judging
-pub mod Running
-pub mod Replaying
+pub mod RunLeaves
+pub mod ReplayLeaves
 pub mod Printing
 pub mod Stops
 pub mod Requests

@@ -10,7 +10,7 @@ use Rattle.kernel_calls.specs.declared.state.RunStop.TheVariants.{HostFault, Log
 use Rattle.dos_texts.specs.declared.refusal.Refusal.{Refusal}
 use Rattle.dos_texts.specs.declared.refusal.Refusal.TheVariants as refusals
 use Rattle.dos_cmd.specs.Outside.{Outside, Faults, FilesStay, OutputFailed}
-use Rattle.dos_cmd.specs.Running.{RunAsked, StoppedRun, UnwrittenRun, CutRun, CutRunReport}
+use Rattle.dos_cmd.specs.RunLeaves.{RunAsked, StoppedRun, UnwrittenRun, CutRun, CutRunReport}
 
 -- why the call comes to no report then
 abbrev pub refusal_by : RunStop → Refusal

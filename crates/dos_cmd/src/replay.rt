@@ -10,7 +10,7 @@ ghost use Rattle.dos_texts.specs.Exit.{ending_status};
 ghost use Rattle.dos_words.specs.declared.request.Request.TheVariants as requests;
 ghost use Rattle.dos_cmd.specs.Judging.{agreed, replay_judgement};
 ghost use Rattle.dos_cmd.specs.Outside.{outside, faults};
-ghost use Rattle.dos_cmd.specs.Replaying.{DidReplay, LeavesTaken, OfLogFile, OfReading};
+ghost use Rattle.dos_cmd.specs.ReplayLeaves.{DidReplay, LeavesTaken, OfLogFile, OfReading};
 ghost use Rattle.dos_cmd.specs.Results.{Begun, Did, Leaves};
 
 use crate::images::load_all;

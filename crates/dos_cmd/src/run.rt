@@ -11,7 +11,7 @@ ghost use Rattle.logged_runs.specs.Opened.{IsOpened};
 ghost use Rattle.shim_log.specs.Ledger.{ArePlanned, empty_ledger};
 ghost use Rattle.dos_texts.specs.Exit.{ending_status};
 ghost use Rattle.dos_cmd.specs.Outside.{outside, faults};
-ghost use Rattle.dos_cmd.specs.Running.{DidRun, IsPrepared, RunAsked, clock_rule, header_of};
+ghost use Rattle.dos_cmd.specs.RunLeaves.{DidRun, IsPrepared, RunAsked, clock_rule, header_of};
 ghost use Rattle.dos_cmd.specs.Results.{Begun, Did, Leaves};
 ghost use Rattle.dos_cmd.specs.Requests.{run_request};
 ghost use Rattle.dos_cmd.specs.Stops.{IsNotOpened, LeavesRun};

@@ -6,7 +6,7 @@ use Rattle.dos_io.specs.declared.exchange.Exchange.{Exchange}
 use Rattle.dos_io.specs.declared.exchange.Exchange.TheVariants.{Signals, Input, Clock, End}
 use Rattle.dos_io.specs.Exchanges.{question_of, answer_of}
 use Rattle.dos_io.specs.Quiet.{quiet_exchange, IsQuiet, AreQuiet}
-use Rattle.group_rounds.specs.Goes.{GoesOn}
+use Rattle.group_rounds.specs.Plays.{GoesOn}
 use Rattle.dpg_run.specs.Machine.{Finish, Seen, Ran, ends, group, machine, told_end}
 use Rattle.dpg_run.specs.QuietRuns.{QuietRunsAreOne}
 

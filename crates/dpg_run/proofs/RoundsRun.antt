@@ -17,24 +17,24 @@ use Rattle.dos_laws.specs.Plays.{world_ended}
 use Rattle.round_core.proofs.Allowed.{allows_less}
 use Rattle.round_core.specs.Round.{RoundEnd as FlatEnd, went, finished, stalled, round_of}
 use Rattle.dos_io.specs.declared.shim.ShimStop.{ShimStop}
-use Rattle.kernel_calls.specs.Serving.{world_of, sent, shim_stop}
+use Rattle.kernel_calls.specs.StateWorld.{world_of, sent, shim_stop}
 use Rattle.kernel_calls.specs.declared.state.RunStop.{RunStop}
 use Rattle.kernel_calls.specs.declared.state.State.{State}
 use Rattle.group_rounds.specs.Fronts.{AreFrontsOf}
-use Rattle.group_rounds.specs.Goes.{GoesOn}
-use Rattle.group_rounds.specs.Going.{Telling, ToldMore}
+use Rattle.group_rounds.specs.Plays.{GoesOn}
+use Rattle.group_rounds.specs.StatePlays.{Telling, ToldMore}
 use Rattle.group_rounds.specs.Outside.{is_end}
 use Rattle.group_rounds.specs.Rounds.{CutRound, RanRound, StoppedRound}
 use Rattle.group_rounds.specs.declared.round.RoundEnd.{RoundEnd}
 use Rattle.group_rounds.specs.declared.round.RoundEnd.TheVariants.{Went, Done, Stalled}
-use Rattle.group_rounds.proofs.GoesLaws.{goes-append, goes-then, goes-over, goes-over_more, goes-questions, goes_by, stops_by}
+use Rattle.group_rounds.proofs.PlayLaws.{goes-append, goes-then, goes-over, goes-over_more, goes-questions, goes_by, stops_by}
 use Rattle.dos_io.proofs.OutsideLaws.{front-whole}
-use Rattle.group_rounds.proofs.GoingLaws.{told_nothing, told_so, told_then}
+use Rattle.group_rounds.proofs.StatePlayLaws.{told_nothing, told_so, told_then}
 use Rattle.group_rounds.proofs.FrontLaws.{HasSent, fronts_kept, fronts_over, fronts_then, sending}
 use Rattle.dpg_run.specs.Machine.{Finish, rounds_of, rounds_from, told_end, run_from, result_of}
 use Rattle.dpg_run.specs.Laws.{LeavesFinish, RunOwes}
 use Rattle.dpg_run.proofs.RunKeeps.{rounds_keep}
-use Rattle.dpg_run.specs.Running.{AreFronts, CutGroup, RanRounds, RanGroup, StoppedGroup, finish_in, has_failed}
+use Rattle.dpg_run.specs.GroupRuns.{AreFronts, CutGroup, RanRounds, RanGroup, StoppedGroup, finish_in, has_failed}
 
 -- ---- fronts
 

@@ -1,6 +1,6 @@
 pub mod Machine
 pub mod Report
 pub mod Fits
-pub mod Running
+pub mod GroupRuns
 pub mod QuietRuns
 pub mod Laws

@@ -7,7 +7,7 @@ use Rattle.dos_io.specs.declared.exchange.Exchange.{Exchange}
 use Rattle.dos_io.specs.Exchanges.{answer_of}
 use Rattle.dos_io.specs.Quiet.{AreQuiet}
 use Rattle.elf_image.specs.Image.{Image}
-use Rattle.group_rounds.specs.Goes.{GoesOn}
+use Rattle.group_rounds.specs.Plays.{GoesOn}
 use Rattle.dpg_run.specs.Fits.{Fits}
 use Rattle.dpg_run.specs.Machine.{Finish, Seen, ends, group, machine}
 

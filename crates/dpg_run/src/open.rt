@@ -4,7 +4,7 @@ ghost use Rattle.std.specs.Prelude.{◌≡◌, ◌≢◌, ◌<◌, ◌≤◌, Er
 ghost use Rattle.dos_world.specs.Lawful.{IsConfig};
 ghost use Rattle.group_open.specs.Opening.{needed, opening};
 ghost use Rattle.group_rounds.specs.Kernels.{kernel_world};
-ghost use Rattle.kernel_calls.specs.Serving.{IsSound};
+ghost use Rattle.kernel_calls.specs.StateWorld.{IsSound};
 
 use dos_world::Config;
 use elf_image::Image;

@@ -15,7 +15,7 @@ use Rattle.dos_world.specs.declared.Owner.{Owner}
 use Rattle.dos_world.specs.declared.Owner.TheVariants.{Free}
 use Rattle.elf_image.specs.Image.{Image}
 use Rattle.kernel_objects.specs.Pipework.{Pipework, ends_at}
-use Rattle.kernel_calls.specs.Serving.{IsSound, AreCounted, ends_of, world_of}
+use Rattle.kernel_calls.specs.StateWorld.{IsSound, AreCounted, ends_of, world_of}
 use Rattle.kernel_calls.specs.declared.state.State.{State}
 use Rattle.page_store.specs.Store.{joined, uses_at}
 use Rattle.group_open.specs.Opening.{image_bytes, needed, opening, opening_descriptors, owners_from, page_count, processes_from}

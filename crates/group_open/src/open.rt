@@ -2,7 +2,7 @@
 
 ghost use Rattle.std.specs.Prelude.{◌≡◌, ◌≢◌, ◌+◌, ◌<◌, ◌≤◌, ℕ, Err, IfErr, IfOk, length};
 ghost use Rattle.dos_world.specs.Lawful.{IsConfig};
-ghost use Rattle.kernel_calls.specs.Serving.{IsSound, world_of};
+ghost use Rattle.kernel_calls.specs.StateWorld.{IsSound, world_of};
 ghost use Rattle.group_open.specs.Group.{IsStateOf};
 ghost use Rattle.group_open.specs.Opening.{needed, opening};
 

@@ -4,7 +4,7 @@ use Rattle.std.specs.Prelude.{IfErr, OnOk}
 use Rattle.dos_io.specs.Outside.{Rose, counted}
 use Rattle.dos_io.specs.Shims.{ShimState}
 use Rattle.dos_io.specs.declared.shim.ShimStop.{ShimStop}
-use Rattle.kernel_calls.specs.Serving.{HasSinkCause, shim_stop}
+use Rattle.kernel_calls.specs.StateWorld.{HasSinkCause, shim_stop}
 use Rattle.kernel_calls.specs.declared.state.RunStop.{RunStop}
 use Rattle.kernel_calls.specs.declared.state.RunStop.TheVariants.{HostFault, LogFull, Misfit, OutFault, ErrFault, Memory}
 use Rattle.group_rounds.specs.Outside.{HasNotStopped, HasShimCause, HaveCauses, HaveStood}

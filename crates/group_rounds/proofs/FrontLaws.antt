@@ -20,15 +20,15 @@ use Rattle.round_core.proofs.Allowed.{Comes, allows_less, over_comes}
 use Rattle.round_core.proofs.Keeps.{turns_keep, serial_keeps, round_keeps}
 use Rattle.round_core.proofs.SameRun.{sent_kept}
 use Rattle.round_core.proofs.Turning.{goes_on}
-use Rattle.kernel_calls.specs.Serving.{FaultsIn, HasFaulted, HaveGrown, sent, shim_stop, to_output, to_error, world_of}
+use Rattle.kernel_calls.specs.StateWorld.{FaultsIn, HasFaulted, HaveGrown, sent, shim_stop, to_output, to_error, world_of}
 use Rattle.kernel_calls.specs.declared.state.RunStop.{RunStop}
 use Rattle.kernel_calls.specs.declared.state.RunStop.TheVariants.{HostFault, LogFull, Misfit, OutFault, ErrFault, Memory}
 use Rattle.kernel_calls.specs.declared.state.State.{State}
 use Rattle.group_rounds.specs.Fronts.{AreFrontsOf, CutPlay}
-use Rattle.group_rounds.specs.Goes.{GoesOn}
-use Rattle.group_rounds.specs.Going.{Telling, telling, GoesTo}
-use Rattle.group_rounds.proofs.GoesLaws.{goes-append, goes-over_more, goes-then}
-use Rattle.group_rounds.proofs.GoingLaws.{told_then}
+use Rattle.group_rounds.specs.Plays.{GoesOn}
+use Rattle.group_rounds.specs.StatePlays.{Telling, telling, GoesTo}
+use Rattle.group_rounds.proofs.PlayLaws.{goes-append, goes-over_more, goes-then}
+use Rattle.group_rounds.proofs.StatePlayLaws.{told_then}
 
 -- ---- the machine
 

@@ -11,7 +11,7 @@ use Rattle.quantum_run.specs.Packs.{with_page}
 use Rattle.quantum_run.specs.Shows.{Pack}
 use Rattle.proc_table.specs.Tables.{Tables, thread_in, thread_by, ran, IsThread}
 use Rattle.group_rounds.specs.Handing.{In, all_pages, AreApart, AreOthers, PutBack, AreSet}
-use Rattle.group_rounds.proofs.RunningLaws.{thread_in-by, some_of}
+use Rattle.group_rounds.proofs.ThreadRunLaws.{thread_in-by, some_of}
 
 -- ---- lists
 

@@ -7,7 +7,7 @@ use Rattle.quantum_run.specs.Alone.{alone}
 use Rattle.quantum_run.specs.Laws.{without_run}
 use Rattle.round_core.specs.Round.{all_alone}
 use Rattle.round_core.proofs.Bringing.{all_alone-differ}
-use Rattle.kernel_calls.specs.Serving.{sent, world_of}
+use Rattle.kernel_calls.specs.StateWorld.{sent, world_of}
 use Rattle.kernel_calls.specs.declared.state.State.{State}
 use Rattle.group_rounds.specs.Parts.{budget_in}
 use Rattle.group_rounds.specs.Phases.{AreLive}

@@ -1,10 +1,10 @@
-pub mod GoesLaws
-pub mod GoingLaws
+pub mod PlayLaws
+pub mod StatePlayLaws
 pub mod FrontLaws
 pub mod StopLaws
 pub mod Pays
 pub mod Sound
-pub mod RunningLaws
+pub mod ThreadRunLaws
 pub mod TurnLaws
 pub mod CauseLaws
 pub mod Starters

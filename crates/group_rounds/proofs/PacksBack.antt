@@ -16,7 +16,7 @@ use Rattle.round_core.specs.Round.{all_alone}
 use Rattle.round_core.proofs.Commute.{Among}
 use Rattle.round_core.proofs.Bringing.{DifferIn}
 use Rattle.proc_table.specs.Tables.{thread_in, IsThread}
-use Rattle.kernel_calls.specs.Serving.{IsSound, sent, world_of}
+use Rattle.kernel_calls.specs.StateWorld.{IsSound, sent, world_of}
 use Rattle.kernel_objects.specs.Pipework.{Pipework}
 use Rattle.kernel_calls.specs.declared.state.State.{State}
 use Rattle.group_rounds.specs.Handing.{In, all_pages, AreApart, AreOthers, IsFor, Handing, PutBack, AreSet, pack_of, view_of}

@@ -14,11 +14,11 @@ use Rattle.page_store.proofs.Counts.{owned-within}
 use Rattle.quantum_run.specs.Packs.{bytes_at, empty_pack, space_in, with_thread_of}
 use Rattle.quantum_run.specs.Shows.{Pack, Shows, CanRun, frames_of}
 use Rattle.proc_table.specs.Tables.{Tables, held_in, thread_in, IsThread}
-use Rattle.kernel_calls.specs.Serving.{IsSound, sent, world_of}
+use Rattle.kernel_calls.specs.StateWorld.{IsSound, sent, world_of}
 use Rattle.kernel_calls.specs.declared.state.State.{State}
 use Rattle.group_rounds.specs.Handing.{HasBelow, Handing, pack_of, view_of}
 use Rattle.group_rounds.specs.Phases.{AreLive}
-use Rattle.group_rounds.proofs.RunningLaws.{Seen, seen, mapped, thread_space_is}
+use Rattle.group_rounds.proofs.ThreadRunLaws.{Seen, seen, mapped, thread_space_is}
 
 pub place-of : {A : Type 0} (xs : List A) (i : ℕ) (x d : A) → slice_get xs i ≡ Some x
     → (i < length xs) × (get_or xs i d ≡ x)

@@ -8,7 +8,7 @@ use Rattle.page_store.specs.Store.{Store}
 use Rattle.quantum_run.specs.Alone.{budget_of}
 use Rattle.quantum_run.specs.Shows.{Pack}
 use Rattle.worker_pool.specs.Ran.{AllRan, budgets}
-use Rattle.kernel_calls.specs.Serving.{IsSound, world_of}
+use Rattle.kernel_calls.specs.StateWorld.{IsSound, world_of}
 use Rattle.kernel_calls.specs.declared.state.State.{State}
 use Rattle.group_rounds.specs.Handing.{AreSet, Handing, pack_of, view_of}
 use Rattle.group_rounds.specs.Parts.{budget_in, work_between}

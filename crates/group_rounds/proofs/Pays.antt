@@ -35,9 +35,9 @@ use Rattle.round_core.specs.Protocol.{Allows, Protocol}
 use Rattle.round_core.proofs.Allowed.{Comes, over_allows, over_comes}
 use Rattle.round_core.proofs.Rows.{OfEach, by_number}
 use Rattle.proc_table.specs.Tables.{thread_in}
-use Rattle.group_rounds.specs.Goes.{GoesOn}
+use Rattle.group_rounds.specs.Plays.{GoesOn}
 use Rattle.group_rounds.specs.Outside.{is_end}
-use Rattle.group_rounds.proofs.RunningLaws.{thread_in-by}
+use Rattle.group_rounds.proofs.ThreadRunLaws.{thread_in-by}
 
 -- any question but that of the run's end, and any answer
 abbrev pub asking : Protocol

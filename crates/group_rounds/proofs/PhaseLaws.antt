@@ -9,15 +9,15 @@ use Rattle.dos_laws.specs.Standing.{LawfulWith}
 use Rattle.round_core.specs.Rest.{rest_of, rest_if_live, serial_of}
 use Rattle.round_core.specs.Round.{with_budgets}
 use Rattle.proc_table.specs.Tables.{Tables, IsThread, thread_by, thread_in, with_budget}
-use Rattle.kernel_calls.specs.Serving.{HaveParts, IsCounted, IsSound, sent, world_of}
+use Rattle.kernel_calls.specs.StateWorld.{HaveParts, IsCounted, IsSound, sent, world_of}
 use Rattle.kernel_calls.proofs.Counted.{counted-thread_by}
 use Rattle.kernel_calls.specs.declared.state.State.{State}
 use Rattle.group_rounds.specs.Fronts.{CutPlay, StoppedPlay}
-use Rattle.group_rounds.specs.Going.{GoesTo, Telling}
+use Rattle.group_rounds.specs.StatePlays.{GoesTo, Telling}
 use Rattle.group_rounds.specs.Phases.{AreLive}
 use Rattle.group_rounds.proofs.FrontLaws.{cut_behind, cut_then, cut_from, fronts_serial}
 use Rattle.group_rounds.proofs.StopLaws.{stopped_behind, stopped_from, stopped_then}
-use Rattle.group_rounds.proofs.GoingLaws.{goes_still, goes_and, goes_behind, goes_from}
+use Rattle.group_rounds.proofs.StatePlayLaws.{goes_still, goes_and, goes_behind, goes_from}
 use Rattle.group_rounds.proofs.Sound.{sound_then, parts_then, budget_keeps, lives_by}
 
 -- ---- the list of starters, from a place on

@@ -6,7 +6,7 @@ use Rattle.dos_world.specs.declared.ThreadState.TheVariants.{Ready}
 use Rattle.dos_laws.specs.Standing.{LawfulWith}
 use Rattle.dos_laws.proofs.StandsKeeps.{stands_kept}
 use Rattle.proc_table.specs.Tables.{Tables, IsThread, thread_by}
-use Rattle.kernel_calls.specs.Serving.{IsCounted, IsSound, sent, world_of}
+use Rattle.kernel_calls.specs.StateWorld.{IsCounted, IsSound, sent, world_of}
 use Rattle.kernel_calls.specs.declared.state.State.{State}
 use Rattle.group_rounds.specs.Phases.{AreLive, ripe_in}
 use Rattle.group_rounds.proofs.PhaseLaws.{drop_at, drop_out}

@@ -19,20 +19,20 @@ use Rattle.dos_laws.specs.Plays.{world_ended}
 use Rattle.dos_laws.proofs.Numbers.{numbers_same}
 use Rattle.round_core.specs.Rest.{serial_of}
 use Rattle.round_core.specs.Round.{RoundEnd as FlatEnd, went, finished, stalled, is_none_of, begun, round_of, phases, counted, with_budgets, with_budget, budgets, all_alone, parallel}
-use Rattle.kernel_calls.specs.Serving.{IsSound, sent, world_of}
+use Rattle.kernel_calls.specs.StateWorld.{IsSound, sent, world_of}
 use Rattle.kernel_calls.specs.declared.state.State.{State}
 use Rattle.group_rounds.specs.declared.round.RoundEnd.{RoundEnd}
 use Rattle.group_rounds.specs.declared.round.RoundEnd.TheVariants.{Went, Done, Stalled}
 use Rattle.group_rounds.specs.Fronts.{CutPlay, StoppedPlay}
-use Rattle.group_rounds.specs.Goes.{GoesOn}
-use Rattle.group_rounds.specs.Going.{GoesTo, Telling}
+use Rattle.group_rounds.specs.Plays.{GoesOn}
+use Rattle.group_rounds.specs.StatePlays.{GoesTo, Telling}
 use Rattle.group_rounds.specs.Parts.{work_between}
 use Rattle.group_rounds.specs.Phases.{ready_in}
 use Rattle.group_rounds.specs.Rounds.{AreStarters, CutRound, RanRound, StoppedRound, end_in}
-use Rattle.group_rounds.proofs.GoesLaws.{goes-over, goes-questions}
+use Rattle.group_rounds.proofs.PlayLaws.{goes-over, goes-questions}
 use Rattle.group_rounds.proofs.FrontLaws.{cut_behind, cut_from, cut_then}
 use Rattle.group_rounds.proofs.StopLaws.{stopped_behind, stopped_from, stopped_then}
-use Rattle.group_rounds.proofs.GoingLaws.{told_nothing, told_so, told_then, goes_still, goes_and, goes_behind, goes_from}
+use Rattle.group_rounds.proofs.StatePlayLaws.{told_nothing, told_so, told_then, goes_still, goes_and, goes_behind, goes_from}
 
 -- ---- told exchanges
 

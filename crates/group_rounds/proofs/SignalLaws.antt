@@ -15,9 +15,9 @@ use Rattle.dos_laws.proofs.StandsMasks.{found_in}
 use Rattle.dos_laws.specs.Standing.{LawfulWith}
 use Rattle.proc_table.specs.Tables.{Tables, IsProcess, IsThread, held_in, thread_by, thread_in}
 use Rattle.kernel_calls.specs.Ending.{posted_in}
-use Rattle.kernel_calls.specs.Serving.{IsCounted, IsSound, sent, world_of}
+use Rattle.kernel_calls.specs.StateWorld.{IsCounted, IsSound, sent, world_of}
 use Rattle.kernel_calls.specs.declared.state.State.{State}
-use Rattle.group_rounds.proofs.RunningLaws.{of_some, some_of, thread_in-by}
+use Rattle.group_rounds.proofs.ThreadRunLaws.{of_some, some_of, thread_in-by}
 use Rattle.group_rounds.proofs.Sound.{sound_one, sound_then}
 use Rattle.group_rounds.proofs.PhaseLaws.{drop_at, drop_out}
 

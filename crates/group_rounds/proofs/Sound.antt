@@ -14,13 +14,13 @@ use Rattle.dos_laws.proofs.Stands.{stands-with_thread}
 use Rattle.dos_laws.proofs.StandsKeeps.{stands_kept}
 use Rattle.rv_exec.specs.Step.{step}
 use Rattle.quantum_run.specs.Alone.{alone}
-use Rattle.quantum_run.specs.Running.{after_steps}
+use Rattle.quantum_run.specs.ThreadRuns.{after_steps}
 use Rattle.round_core.specs.Invariants.{IsKept}
 use Rattle.round_core.specs.Rest.{granted_by, page_granted}
 use Rattle.round_core.specs.Round.{all_alone}
 use Rattle.round_core.proofs.Keeps.{kept_throughout}
 use Rattle.proc_table.specs.Tables.{IsThread as Lives, with_budget}
-use Rattle.kernel_calls.specs.Serving.{HaveParts, IsCounted, IsReady, IsSound, sent, world_of}
+use Rattle.kernel_calls.specs.StateWorld.{HaveParts, IsCounted, IsReady, IsSound, sent, world_of}
 use Rattle.kernel_calls.specs.declared.state.State.{State}
 
 -- ---- the world of a sound state

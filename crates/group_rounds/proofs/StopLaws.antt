@@ -12,13 +12,13 @@ use Rattle.dos_io.specs.Exchanges.{answer_of, question_of}
 use Rattle.dos_io.specs.Shims.{ShimState}
 use Rattle.dos_io.specs.Outside.{IsFront}
 use Rattle.dos_io.proofs.OutsideLaws.{grown-nothing}
-use Rattle.kernel_calls.specs.Serving.{Asks, sent, world_of}
+use Rattle.kernel_calls.specs.StateWorld.{Asks, sent, world_of}
 use Rattle.kernel_calls.specs.declared.state.State.{State}
 use Rattle.group_rounds.specs.Fronts.{AreFrontsOf, CutPlay, StoppedPlay}
-use Rattle.group_rounds.specs.Goes.{GoesOn}
-use Rattle.group_rounds.specs.Going.{Telling, telling, GoesTo}
-use Rattle.group_rounds.proofs.GoesLaws.{goes-over_more, stops_by}
-use Rattle.group_rounds.proofs.GoingLaws.{told_then}
+use Rattle.group_rounds.specs.Plays.{GoesOn}
+use Rattle.group_rounds.specs.StatePlays.{Telling, telling, GoesTo}
+use Rattle.group_rounds.proofs.PlayLaws.{goes-over_more, stops_by}
+use Rattle.group_rounds.proofs.StatePlayLaws.{told_then}
 
 -- ---- plays that come to a question
 

@@ -20,27 +20,27 @@ use Rattle.dos_laws.proofs.StandsEnds.{stands-process_ended}
 use Rattle.dos_laws.proofs.StandsKeeps.{stands_kept}
 use Rattle.rv_exec.specs.Step.{step}
 use Rattle.quantum_run.specs.Alone.{emptied, steps, alone}
-use Rattle.quantum_run.specs.Running.{after_steps}
+use Rattle.quantum_run.specs.ThreadRuns.{after_steps}
 use Rattle.round_core.specs.Granting.{grants_needed}
 use Rattle.round_core.specs.Laws.{MapsWithin}
 use Rattle.round_core.specs.Rest.{page_granted, process_of, after_service, turns, rest_of}
 use Rattle.round_core.proofs.Turning.{goes_on, turns-granted, turns-fault, turns-service, turns-after_steps, few_grants, needed-granted}
 use Rattle.proc_table.specs.Tables.{thread_in, IsThread}
-use Rattle.kernel_calls.specs.Serving.{HaveParts, IsSound, world_of, sent, way_in, left_after, Answers, Asks, HasFaulted, shim_stop}
+use Rattle.kernel_calls.specs.StateWorld.{HaveParts, IsSound, world_of, sent, way_in, left_after, Answers, Asks, HasFaulted, shim_stop}
 use Rattle.kernel_calls.specs.declared.state.RunStop.{RunStop}
 use Rattle.kernel_calls.specs.declared.state.State.{State}
 use Rattle.kernel_calls.specs.declared.state.Served.{Served}
 use Rattle.kernel_calls.specs.declared.state.Served.TheVariants.{Went, Waits, Yields, Gone}
 use Rattle.group_rounds.specs.Fronts.{CutPlay, StoppedPlay}
 use Rattle.group_rounds.specs.Outside.{is_end}
-use Rattle.group_rounds.specs.Going.{Telling, telling, GoesTo}
+use Rattle.group_rounds.specs.StatePlays.{Telling, telling, GoesTo}
 use Rattle.group_rounds.specs.Parts.{KeepsCount, Ran, budget_in, goes_on_after, turns_left, part_left, part_measure}
 use Rattle.group_rounds.proofs.FrontLaws.{cut_behind, cut_then, cut_from, fronts_after_service, service_cut}
 use Rattle.group_rounds.proofs.StopLaws.{cut_stopped, service_stopped, stopped_behind, stopped_from, stopped_then}
-use Rattle.group_rounds.proofs.GoesLaws.{goes_by}
-use Rattle.group_rounds.proofs.GoingLaws.{goes_still, goes_behind, goes_from, goes_and, goes_served}
+use Rattle.group_rounds.proofs.PlayLaws.{goes_by}
+use Rattle.group_rounds.proofs.StatePlayLaws.{goes_still, goes_behind, goes_from, goes_and, goes_served}
 use Rattle.group_rounds.proofs.Pays.{HasPaid, budget_at, no_end-append, no_end_over, process_ended-count, question_no_end, service_paid, service_pays}
-use Rattle.group_rounds.proofs.RunningLaws.{some_of}
+use Rattle.group_rounds.proofs.ThreadRunLaws.{some_of}
 use Rattle.group_rounds.proofs.Sound.{parts_then, sound_one}
 
 one_less : (n : ℕ) → 0 < n → n ≡ suc (n - 1)

@@ -6,10 +6,10 @@ use Rattle.dos_world.specs.Play.{Play, Outcome, gives, asks, over, questions}
 use Rattle.dos_world.specs.declared.Question.{Question}
 use Rattle.dos_io.specs.Exchanges.{answer_of, question_of}
 use Rattle.dos_io.specs.Outside.{IsFront}
-use Rattle.kernel_calls.specs.Serving.{world_of, sent}
+use Rattle.kernel_calls.specs.StateWorld.{world_of, sent}
 use Rattle.kernel_calls.specs.declared.state.State.{State}
-use Rattle.group_rounds.specs.Goes.{GoesOn}
-use Rattle.group_rounds.specs.Going.{Telling, ToldMore}
+use Rattle.group_rounds.specs.Plays.{GoesOn}
+use Rattle.group_rounds.specs.StatePlays.{Telling, ToldMore}
 
 -- These are fronts of what a play has sent to output and to error: in the world where it gives
 -- something, or by then where it needs an answer.

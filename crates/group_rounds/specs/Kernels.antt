@@ -3,7 +3,7 @@ use Rattle.std.specs.Prelude.{ℕ, ◌≡◌, ◌≤◌, ◌-◌, Bool, List, fa
 use Rattle.dos_world.specs.World.{World}
 use Rattle.dos_world.specs.Lawful.{IsConfig}
 use Rattle.dos_world.specs.declared.Config.{Config}
-use Rattle.kernel_calls.specs.Serving.{IsSound, world_of}
+use Rattle.kernel_calls.specs.StateWorld.{IsSound, world_of}
 use Rattle.kernel_calls.specs.declared.state.State.{State}
 
 -- the state between two rounds, what the run was given, the threads that were ready as the last

@@ -1,6 +1,6 @@
 pub mod Away
-pub mod Goes
-pub mod Going
+pub mod Plays
+pub mod StatePlays
 pub mod Fronts
 pub mod Kernels
 pub mod Outside

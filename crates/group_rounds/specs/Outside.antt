@@ -4,7 +4,7 @@ use Rattle.dos_world.specs.declared.Question.{Question}
 use Rattle.dos_world.specs.declared.Question.TheVariants.{Signals, Input, Clock, End}
 use Rattle.dos_io.specs.Outside.{Rose}
 use Rattle.dos_io.specs.Shims.{ShimState}
-use Rattle.kernel_calls.specs.Serving.{HasSinkCause, shim_stop}
+use Rattle.kernel_calls.specs.StateWorld.{HasSinkCause, shim_stop}
 use Rattle.kernel_calls.specs.declared.state.RunStop.{RunStop}
 
 -- ---- causes

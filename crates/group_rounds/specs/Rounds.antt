@@ -11,10 +11,10 @@ use Rattle.dos_io.specs.Exchanges.{question_of, answer_of}
 use Rattle.dos_io.specs.Shims.{ShimState, Stopped}
 use Rattle.dos_laws.specs.Plays.{world_ended}
 use Rattle.round_core.specs.Round.{RoundEnd as FlatEnd, went, finished, stalled, round_of}
-use Rattle.kernel_calls.specs.Serving.{sent, shim_stop, world_of}
+use Rattle.kernel_calls.specs.StateWorld.{sent, shim_stop, world_of}
 use Rattle.kernel_calls.specs.declared.state.RunStop.{RunStop}
 use Rattle.kernel_calls.specs.declared.state.State.{State}
-use Rattle.group_rounds.specs.Going.{Telling, ToldMore}
+use Rattle.group_rounds.specs.StatePlays.{Telling, ToldMore}
 use Rattle.group_rounds.specs.Fronts.{CutPlay, StoppedPlay}
 use Rattle.group_rounds.specs.declared.round.RoundEnd.{RoundEnd}
 use Rattle.group_rounds.specs.declared.round.RoundEnd.TheVariants.{Went, Done, Stalled}

@@ -1,6 +1,6 @@
 // The parallel phase in place: the starters' parts one after another, over the frames themselves.
 ghost use Rattle.std.specs.Prelude.{◌≡◌, ◌≤◌, ℕ, List, Some, length, slice_get};
-ghost use Rattle.kernel_calls.specs.Serving.{IsSound, sent, world_of};
+ghost use Rattle.kernel_calls.specs.StateWorld.{IsSound, sent, world_of};
 ghost use Rattle.round_core.specs.Round.{all_alone};
 ghost use Rattle.group_rounds.specs.Parts.{KeepsCount, work_between};
 ghost use Rattle.group_rounds.specs.Phases.{AreLive};

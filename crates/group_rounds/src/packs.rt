@@ -6,7 +6,7 @@ ghost use Rattle.page_store.specs.Store.{AreHome, IsAway, IsHome, owner_at};
 ghost use Rattle.proc_table.specs.Tables.{IsThread};
 ghost use Rattle.quantum_run.specs.Shows.{Pack as pack_value};
 ghost use Rattle.quantum_run.specs.Packs.{HoldsNo, seen};
-ghost use Rattle.kernel_calls.specs.Serving.{IsSound, sent, world_of};
+ghost use Rattle.kernel_calls.specs.StateWorld.{IsSound, sent, world_of};
 ghost use Rattle.round_core.specs.Round.{all_alone};
 ghost use Rattle.group_rounds.specs.Parts.{KeepsCount, work_between};
 ghost use Rattle.worker_pool.specs.Ran.{AllCanRun, AllRan, GrewBy, budgets};

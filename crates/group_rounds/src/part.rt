@@ -9,9 +9,9 @@ ghost use Rattle.rv_exec.specs.Step.{step};
 ghost use Rattle.quantum_run.specs.Alone.{alone, emptied};
 ghost use Rattle.round_core.specs.Rest.{page_granted, process_of, rest_of};
 ghost use Rattle.proc_table.specs.Tables.{IsThread, thread_by};
-ghost use Rattle.kernel_calls.specs.Serving.{HaveParts, IsReady, IsSound, sent, shim_stop, world_of};
+ghost use Rattle.kernel_calls.specs.StateWorld.{HaveParts, IsReady, IsSound, sent, shim_stop, world_of};
 ghost use Rattle.group_rounds.specs.Fronts.{CutPlay, StoppedPlay};
-ghost use Rattle.group_rounds.specs.Going.{GoesTo, telling};
+ghost use Rattle.group_rounds.specs.StatePlays.{GoesTo, telling};
 ghost use Rattle.group_rounds.specs.Outside.{HaveCauses, is_end};
 ghost use Rattle.group_rounds.specs.Parts.{KeepsCount, Ran, budget_in, goes_on_after, part_left, part_measure, turns_left};
 

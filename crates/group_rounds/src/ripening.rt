@@ -3,7 +3,7 @@ ghost use Rattle.std.specs.Prelude.{◌≡◌, ◌≤◌, ◌+◌, ◌++◌, ◌
 ghost use Rattle.std.specs.Vec.{vec_capacity};
 ghost use Rattle.dos_world.specs.Signals.{made_ready, ripen};
 ghost use Rattle.proc_table.specs.Tables.{IsThread};
-ghost use Rattle.kernel_calls.specs.Serving.{IsCounted, IsSound, sent, world_of};
+ghost use Rattle.kernel_calls.specs.StateWorld.{IsCounted, IsSound, sent, world_of};
 ghost use Rattle.group_rounds.specs.Parts.{KeepsCount};
 ghost use Rattle.group_rounds.specs.Phases.{AreLive, is_ripe, ripe_in};
 

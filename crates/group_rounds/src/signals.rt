@@ -6,7 +6,7 @@ ghost use Rattle.dos_world.specs.SignalCalls.{is_signal};
 ghost use Rattle.dos_world.specs.Signals.{all_posted, default_action, delivered, handler_action, interrupted, signal_turn, signal_turns, signalled};
 ghost use Rattle.proc_table.specs.Tables.{IsThread, thread_in};
 ghost use Rattle.kernel_calls.specs.Ending.{posted_in};
-ghost use Rattle.kernel_calls.specs.Serving.{IsCounted, IsSound, sent, world_of};
+ghost use Rattle.kernel_calls.specs.StateWorld.{IsCounted, IsSound, sent, world_of};
 ghost use Rattle.group_rounds.specs.Parts.{KeepsCount};
 
 use crate::phases::gather_live;

@@ -8,9 +8,9 @@ use Rattle.dos_io.specs.Shims.{ShimState}
 use Rattle.dos_io.specs.declared.shim.ShimStop.{ShimStop}
 use Rattle.dos_io.specs.declared.exchange.Exchange.{Exchange}
 use Rattle.proc_table.specs.Tables.{Tables, IsThread, thread_in}
-use Rattle.kernel_calls.specs.Serving.{Answers, Asks, FaultsIn, HasFaulted, sent, to_output, to_error, world_of}
+use Rattle.kernel_calls.specs.StateWorld.{Answers, Asks, FaultsIn, HasFaulted, sent, to_output, to_error, world_of}
 use Rattle.kernel_calls.specs.Built.{definition_by, named, services_built}
-use Rattle.kernel_calls.specs.Calling.{call_in, paid}
+use Rattle.kernel_calls.specs.CallResults.{call_in, paid}
 use Rattle.kernel_calls.specs.declared.state.State.{State}
 use Rattle.kernel_calls.specs.declared.state.Asked.{Asked}
 use Rattle.kernel_calls.specs.declared.state.Served.{Served}

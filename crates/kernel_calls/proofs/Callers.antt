@@ -5,10 +5,10 @@ use Rattle.dos_world.specs.World.{Holdings}
 use Rattle.dos_world.specs.declared.Entry.{Entry}
 use Rattle.dos_laws.proofs.Mapped.{some_is, held_all}
 use Rattle.proc_table.specs.Tables.{IsProcess, held_in, thread_in}
-use Rattle.kernel_mem.specs.Seen.{IsCaller, space_in}
+use Rattle.kernel_mem.specs.MemoryWorld.{IsCaller, space_in}
 use Rattle.kernel_mem.proofs.Children.{of-process}
-use Rattle.kernel_calls.specs.Serving.{IsSound}
-use Rattle.kernel_calls.specs.Calling.{AreAsked}
+use Rattle.kernel_calls.specs.StateWorld.{IsSound}
+use Rattle.kernel_calls.specs.CallResults.{AreAsked}
 use Rattle.kernel_calls.specs.declared.state.State.{State}
 use Rattle.kernel_calls.specs.declared.state.Asked.{Asked}
 use Rattle.kernel_calls.proofs.Keeping.{caller, lawful_now}

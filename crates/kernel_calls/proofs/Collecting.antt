@@ -12,8 +12,8 @@ use Rattle.dos_laws.proofs.StandsWaits.{filtered_at, held_same, place_is}
 use Rattle.proc_table.specs.Children.{after_wait, children_in, outcome, outcome_by, status_in}
 use Rattle.proc_table.specs.Tables.{Tables, thread_by}
 use Rattle.proc_table.specs.declared.collected.Collected.TheVariants.{Got}
-use Rattle.kernel_calls.specs.Serving.{IsCounted, IsSound, sent, world_of}
-use Rattle.kernel_calls.specs.Calling.{GoesOn, call_in}
+use Rattle.kernel_calls.specs.StateWorld.{IsCounted, IsSound, sent, world_of}
+use Rattle.kernel_calls.specs.CallResults.{GoesOn, call_in}
 use Rattle.kernel_calls.specs.declared.state.State.{State}
 use Rattle.kernel_calls.specs.declared.state.Asked.{Asked}
 use Rattle.kernel_calls.specs.declared.state.Served.TheVariants.{Went}

@@ -8,10 +8,10 @@ use Rattle.dos_world.specs.World.{Process, Holdings, Thread, Sleeper, Life, all_
 use Rattle.dos_world.specs.declared.End.{End}
 use Rattle.dos_world.specs.declared.Entry.{Entry}
 use Rattle.dos_laws.proofs.EndedProcesses.{before}
-use Rattle.kernel_mem.specs.Seen.{IsHome, KeepsUses}
+use Rattle.kernel_mem.specs.MemoryWorld.{IsHome, KeepsUses}
 use Rattle.page_store.specs.Store.{Store}
 use Rattle.proc_table.specs.Tables.{Tables, thread_by, held_by}
-use Rattle.kernel_calls.specs.Serving.{IsCounted, ends_of}
+use Rattle.kernel_calls.specs.StateWorld.{IsCounted, ends_of}
 use Rattle.kernel_calls.specs.declared.state.State.{State}
 
 -- ---- the pages and descriptors of the live processes

@@ -13,7 +13,7 @@ use Rattle.dos_world.specs.DescriptorCalls.{with_end}
 use Rattle.dos_world.specs.declared.End.{End}
 use Rattle.dos_laws.proofs.Holders.{sum_changed}
 use Rattle.proc_table.specs.Tables.{held_in, end_in}
-use Rattle.kernel_calls.specs.Serving.{ends_of}
+use Rattle.kernel_calls.specs.StateWorld.{ends_of}
 use Rattle.kernel_calls.proofs.PipeEnds.{more-no}
 
 -- ---- the lowest free descriptors

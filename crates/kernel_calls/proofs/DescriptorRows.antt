@@ -20,8 +20,8 @@ use Rattle.proc_table.specs.Tables.{Tables, held_in, held_by, end_in}
 use Rattle.kernel_objects.specs.Pipework.{Pipework}
 use Rattle.kernel_calls.specs.Ending.{IsNamed, without_end}
 use Rattle.kernel_calls.specs.Ends.{CanHave, with_end_more}
-use Rattle.kernel_calls.specs.Serving.{AreCounted, IsCounted, IsSound, sent, world_of}
-use Rattle.kernel_calls.specs.Calling.{AreAsked, GoesOn, call_in}
+use Rattle.kernel_calls.specs.StateWorld.{AreCounted, IsCounted, IsSound, sent, world_of}
+use Rattle.kernel_calls.specs.CallResults.{AreAsked, GoesOn, call_in}
 use Rattle.kernel_calls.specs.declared.state.State.{State}
 use Rattle.kernel_calls.specs.declared.state.Asked.{Asked}
 use Rattle.kernel_calls.specs.declared.state.Served.TheVariants.{Went}

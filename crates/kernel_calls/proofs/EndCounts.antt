@@ -18,7 +18,7 @@ use Rattle.proc_table.specs.Tables.{held_in, end_in}
 use Rattle.kernel_objects.specs.Pipework.{Pipework}
 use Rattle.kernel_calls.specs.Ending.{AreDropped, AreNamed, IsNamed, without_end}
 use Rattle.kernel_calls.specs.Ends.{CanHave, with_end_more}
-use Rattle.kernel_calls.specs.Serving.{AreCounted, IsCounted, ends_of, world_of}
+use Rattle.kernel_calls.specs.StateWorld.{AreCounted, IsCounted, ends_of, world_of}
 use Rattle.kernel_calls.specs.declared.state.State.{State}
 use Rattle.kernel_calls.proofs.DescriptorCounts.{IsFreeAt, ends_set, few_ends, open_within}
 use Rattle.kernel_calls.proofs.PipeEnds.{dropped-more, dropped-none, open-by, open-by-second, still-named}

@@ -22,10 +22,10 @@ use Rattle.proc_table.specs.Tables.{IsProcess, IsThread, Tables, held_in, thread
 use Rattle.kernel_mem.proofs.Children.{held_last, to-process}
 use Rattle.kernel_mem.specs.Forking.{AreTaken, fork_call, with_space}
 use Rattle.kernel_mem.specs.Memory.{entries_of}
-use Rattle.kernel_mem.specs.Seen.{IsHome, in_world, space_in}
+use Rattle.kernel_mem.specs.MemoryWorld.{IsHome, in_world, space_in}
 use Rattle.kernel_calls.specs.Children.{AreAdded, CanComeAgain}
-use Rattle.kernel_calls.specs.Serving.{IsCounted, IsSound, base, sent, world_of}
-use Rattle.kernel_calls.specs.Calling.{AreAsked, GoesOn, call_in}
+use Rattle.kernel_calls.specs.StateWorld.{IsCounted, IsSound, base, sent, world_of}
+use Rattle.kernel_calls.specs.CallResults.{AreAsked, GoesOn, call_in}
 use Rattle.kernel_calls.specs.declared.state.State.{State}
 use Rattle.kernel_calls.specs.declared.state.Asked.{Asked}
 use Rattle.kernel_calls.specs.declared.state.Served.TheVariants.{Went}

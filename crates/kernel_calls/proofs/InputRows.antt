@@ -16,11 +16,11 @@ use Rattle.dos_io.specs.declared.exchange.Exchange.{Exchange}
 use Rattle.dos_io.specs.declared.exchange.Exchange.TheVariants.{Input as input_exchange}
 use Rattle.dos_io.specs.declared.shim.ShimStop.{ShimStop}
 use Rattle.dos_laws.specs.Standing.{IsFit, IsPost}
-use Rattle.kernel_mem.specs.Seen.{in_world}
+use Rattle.kernel_mem.specs.MemoryWorld.{in_world}
 use Rattle.page_store.specs.Store.{Store}
 use Rattle.proc_table.specs.Tables.{held_in, end_in}
-use Rattle.kernel_calls.specs.Serving.{AsksFirst, IsSound, StopsAsking, base, sent, shim_stop, world_of}
-use Rattle.kernel_calls.specs.Calling.{AreAsked, Consults, GoesOn, asked_count, call_in, source_of}
+use Rattle.kernel_calls.specs.StateWorld.{AsksFirst, IsSound, StopsAsking, base, sent, shim_stop, world_of}
+use Rattle.kernel_calls.specs.CallResults.{AreAsked, Consults, GoesOn, asked_count, call_in, source_of}
 use Rattle.kernel_calls.specs.declared.state.State.{State}
 use Rattle.kernel_calls.specs.declared.state.Asked.{Asked}
 use Rattle.kernel_calls.specs.declared.state.Served.{Served}

@@ -17,9 +17,9 @@ use Rattle.dos_laws.proofs.Outside.{lawful-counted}
 use Rattle.kernel_objects.specs.Pipework.{Pipework}
 use Rattle.page_store.specs.Store.{Store, joined}
 use Rattle.proc_table.specs.Tables.{Tables, IsThread, IsProcess, thread_in, thread_by, ran}
-use Rattle.kernel_mem.specs.Seen.{IsCaller, AreMapped, KeepsUses}
-use Rattle.kernel_calls.specs.Serving.{IsCounted, IsReady, IsSound, Stands, world_of}
-use Rattle.kernel_calls.specs.Calling.{AreAsked}
+use Rattle.kernel_mem.specs.MemoryWorld.{IsCaller, AreMapped, KeepsUses}
+use Rattle.kernel_calls.specs.StateWorld.{IsCounted, IsReady, IsSound, Stands, world_of}
+use Rattle.kernel_calls.specs.CallResults.{AreAsked}
 use Rattle.kernel_calls.specs.declared.state.State.{State}
 use Rattle.kernel_calls.specs.declared.state.Asked.{Asked}
 use Rattle.kernel_calls.proofs.Changed.{lives_changed, charge_taken_back}

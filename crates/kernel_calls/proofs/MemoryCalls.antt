@@ -11,9 +11,9 @@ use Rattle.kernel_mem.proofs.Children.{to-process}
 use Rattle.kernel_mem.specs.Forking.{with_space}
 use Rattle.kernel_mem.specs.Memory.{AreUsed, HasUsesOf, IsDropped, entries_of}
 use Rattle.kernel_mem.specs.Ranges.{range_call, result_in}
-use Rattle.kernel_mem.specs.Seen.{IsHome, in_world, space_in}
-use Rattle.kernel_calls.specs.Serving.{IsCounted, IsSound, base, sent, world_of}
-use Rattle.kernel_calls.specs.Calling.{AreAsked, call_in}
+use Rattle.kernel_mem.specs.MemoryWorld.{IsHome, in_world, space_in}
+use Rattle.kernel_calls.specs.StateWorld.{IsCounted, IsSound, base, sent, world_of}
+use Rattle.kernel_calls.specs.CallResults.{AreAsked, call_in}
 use Rattle.kernel_calls.specs.declared.state.State.{State}
 use Rattle.kernel_calls.specs.declared.state.Asked.{Asked}
 use Rattle.kernel_calls.proofs.Callers.{Has, has, of-caller, process_lives}

@@ -10,12 +10,12 @@ use Rattle.dos_world.specs.Play.{Play, done}
 use Rattle.dos_world.specs.Calls.{Call, Served as FlatServed, went, waits, refuses, retries, returns, returns_in}
 use Rattle.dos_world.specs.DescriptorCalls.{read_pipe, with_pipe, write_pipe, write_some}
 use Rattle.dos_world.specs.declared.ThreadState.TheVariants.{Retry}
-use Rattle.kernel_mem.specs.Seen.{in_world}
+use Rattle.kernel_mem.specs.MemoryWorld.{in_world}
 use Rattle.kernel_objects.specs.Pipework.{Pipework, bytes_at, ends_at, with_bytes}
 use Rattle.page_store.specs.Store.{Store}
 use Rattle.proc_table.specs.Tables.{Tables, thread_by}
-use Rattle.kernel_calls.specs.Serving.{IsCounted, base, sent, world_of}
-use Rattle.kernel_calls.specs.Calling.{GoesOn, asked_count, call_in}
+use Rattle.kernel_calls.specs.StateWorld.{IsCounted, base, sent, world_of}
+use Rattle.kernel_calls.specs.CallResults.{GoesOn, asked_count, call_in}
 use Rattle.kernel_calls.specs.declared.state.State.{State}
 use Rattle.kernel_calls.specs.declared.state.Asked.{Asked}
 use Rattle.kernel_calls.specs.declared.state.Served.TheVariants.{Went, Waits}

@@ -18,8 +18,8 @@ use Rattle.dos_laws.proofs.StandsMasks.{found_in}
 use Rattle.proc_table.specs.Tables.{Tables, IsProcess, held_in, held_by, thread_by}
 use Rattle.kernel_objects.specs.Pipework.{Pipework, is_open_at, lowest_closed, with_opened}
 use Rattle.kernel_calls.specs.Ends.{with_end_more}
-use Rattle.kernel_calls.specs.Serving.{IsCounted, IsSound, sent, world_of}
-use Rattle.kernel_calls.specs.Calling.{AreAsked, GoesOn, call_in}
+use Rattle.kernel_calls.specs.StateWorld.{IsCounted, IsSound, sent, world_of}
+use Rattle.kernel_calls.specs.CallResults.{AreAsked, GoesOn, call_in}
 use Rattle.kernel_calls.specs.declared.state.State.{State}
 use Rattle.kernel_calls.specs.declared.state.Asked.{Asked}
 use Rattle.kernel_calls.specs.declared.state.Served.TheVariants.{Went}

@@ -22,10 +22,10 @@ use Rattle.dos_laws.proofs.Mapped.{some_is, held_all}
 use Rattle.page_store.specs.Store.{Store, joined, uses_at, owner_at}
 use Rattle.proc_table.specs.Tables.{Tables, IsProcess, IsThread, thread_in, held_in, held_by, thread_by, with_ended}
 use Rattle.kernel_mem.specs.Memory.{AreUsed, IsDropped, entries_of}
-use Rattle.kernel_mem.specs.Seen.{space_in}
+use Rattle.kernel_mem.specs.MemoryWorld.{space_in}
 use Rattle.kernel_objects.specs.Pipework.{Pipework, bytes_at, ends_at, is_open_at}
 use Rattle.kernel_calls.specs.Ending.{AreDropped, AreNamed, posted_in}
-use Rattle.kernel_calls.specs.Serving.{IsCounted, IsSound, AreCounted, ends_of, world_of, sent}
+use Rattle.kernel_calls.specs.StateWorld.{IsCounted, IsSound, AreCounted, ends_of, world_of, sent}
 use Rattle.kernel_calls.specs.declared.state.State.{State}
 use Rattle.kernel_calls.proofs.Keeping.{lawful_now}
 use Rattle.kernel_calls.proofs.Uses.{any_summed, sum_ended, uses-ended, mapped-used, owners-dropped}

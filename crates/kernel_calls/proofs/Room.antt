@@ -17,8 +17,8 @@ use Rattle.page_store.specs.Store.{free_count, uses_at}
 use Rattle.proc_table.specs.Tables.{IsProcess}
 use Rattle.kernel_mem.specs.Forking.{AreTaken}
 use Rattle.kernel_mem.specs.Memory.{entries_of}
-use Rattle.kernel_mem.specs.Seen.{space_in}
-use Rattle.kernel_calls.specs.Serving.{IsSound, world_of}
+use Rattle.kernel_mem.specs.MemoryWorld.{space_in}
+use Rattle.kernel_calls.specs.StateWorld.{IsSound, world_of}
 use Rattle.kernel_calls.specs.declared.state.State.{State}
 use Rattle.kernel_calls.proofs.Callers.{Has, has}
 use Rattle.kernel_calls.proofs.Keeping.{lawful_now}

@@ -14,8 +14,8 @@ use Rattle.kernel_calls.specs.declared.naming.QuietService.{QuietService}
 use Rattle.kernel_calls.specs.declared.state.RunStop.{RunStop}
 use Rattle.dos_io.specs.Shims.{ShimState}
 use Rattle.dos_io.specs.declared.shim.ShimStop.{ShimStop}
-use Rattle.kernel_calls.specs.Serving.{Answers, Asks, AsksFirst, HaveGrown, StopsAsking, sent, shim_stop, way_in, world_of}
-use Rattle.kernel_calls.specs.Calling.{call_in, Consults, GoesOn, Sends}
+use Rattle.kernel_calls.specs.StateWorld.{Answers, Asks, AsksFirst, HaveGrown, StopsAsking, sent, shim_stop, way_in, world_of}
+use Rattle.kernel_calls.specs.CallResults.{call_in, Consults, GoesOn, Sends}
 use Rattle.kernel_calls.specs.declared.state.State.{State}
 use Rattle.kernel_calls.specs.declared.state.Asked.{Asked}
 use Rattle.kernel_calls.specs.declared.state.Served.{Served}

@@ -11,10 +11,10 @@ use Rattle.dos_world.specs.declared.End.TheVariants.{Input, Output, Error, PipeR
 use Rattle.dos_io.specs.Outside.{grown, GrewByFront}
 use Rattle.dos_io.proofs.OutsideLaws.{grown-nothing}
 use Rattle.proc_table.specs.Tables.{thread_by, held_in, end_in}
-use Rattle.kernel_mem.specs.Seen.{in_world}
+use Rattle.kernel_mem.specs.MemoryWorld.{in_world}
 use Rattle.kernel_objects.specs.Pipework.{Pipework}
-use Rattle.kernel_calls.specs.Serving.{IsSound, Stands, world_of, base, sent, way_in, FaultsIn, HaveGrown, to_output, to_error}
-use Rattle.kernel_calls.specs.Calling.{AreAsked, call_in, GoesOn, Sends, Transfers, IsSent, IsCutOff, asked_count, are_readable, target_of}
+use Rattle.kernel_calls.specs.StateWorld.{IsSound, Stands, world_of, base, sent, way_in, FaultsIn, HaveGrown, to_output, to_error}
+use Rattle.kernel_calls.specs.CallResults.{AreAsked, call_in, GoesOn, Sends, Transfers, IsSent, IsCutOff, asked_count, are_readable, target_of}
 use Rattle.kernel_calls.specs.declared.state.State.{State}
 use Rattle.kernel_calls.specs.declared.state.Asked.{Asked}
 use Rattle.kernel_calls.specs.declared.state.Served.{Served}

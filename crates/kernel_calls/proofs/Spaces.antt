@@ -17,10 +17,10 @@ use Rattle.page_store.specs.Store.{Store, joined, uses_at}
 use Rattle.proc_table.specs.Tables.{Tables, held_by, held_in, thread_by}
 use Rattle.kernel_mem.specs.Memory.{AreUsed, IsDropped, entries_of}
 use Rattle.kernel_mem.specs.Ranges.{result_in}
-use Rattle.kernel_mem.specs.Seen.{IsHome, space_in}
+use Rattle.kernel_mem.specs.MemoryWorld.{IsHome, space_in}
 use Rattle.kernel_calls.specs.Memory.{answer_by}
-use Rattle.kernel_calls.specs.Serving.{AreCounted, IsCounted, IsSound, sent, world_of}
-use Rattle.kernel_calls.specs.Calling.{GoesOn, call_in}
+use Rattle.kernel_calls.specs.StateWorld.{AreCounted, IsCounted, IsSound, sent, world_of}
+use Rattle.kernel_calls.specs.CallResults.{GoesOn, call_in}
 use Rattle.kernel_calls.specs.declared.state.State.{State}
 use Rattle.kernel_calls.specs.declared.state.Asked.{Asked}
 use Rattle.kernel_calls.specs.declared.state.Served.TheVariants.{Went}

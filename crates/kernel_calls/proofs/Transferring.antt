@@ -7,12 +7,12 @@ use Rattle.dos_world.specs.Play.{done}
 use Rattle.dos_world.specs.Calls.{Service, went}
 use Rattle.dos_world.specs.DescriptorCalls.{count_of, transfers}
 use Rattle.dos_world.specs.declared.Access.{Access}
-use Rattle.kernel_mem.specs.Seen.{in_world, IsHome, KeepsUses}
+use Rattle.kernel_mem.specs.MemoryWorld.{in_world, IsHome, KeepsUses}
 use Rattle.kernel_mem.proofs.Reaching.{reach_front}
 use Rattle.kernel_objects.specs.Pipework.{Pipework}
 use Rattle.page_store.specs.Store.{Store}
-use Rattle.kernel_calls.specs.Serving.{IsCounted, base, sent, world_of}
-use Rattle.kernel_calls.specs.Calling.{GoesOn, asked_count, call_in}
+use Rattle.kernel_calls.specs.StateWorld.{IsCounted, base, sent, world_of}
+use Rattle.kernel_calls.specs.CallResults.{GoesOn, asked_count, call_in}
 use Rattle.kernel_calls.specs.declared.state.State.{State}
 use Rattle.kernel_calls.specs.declared.state.Asked.{Asked}
 use Rattle.kernel_calls.specs.declared.state.Served.{Served}

@@ -24,9 +24,9 @@ use Rattle.dos_laws.proofs.Numbers.{changed_there}
 use Rattle.kernel_objects.specs.Pipework.{bytes_at, ends_at}
 use Rattle.page_store.specs.Store.{Store as Held}
 use Rattle.proc_table.specs.Tables.{IsProcess, end_in, held_in, thread_in}
-use Rattle.kernel_mem.specs.Seen.{entry_in, in_world, space_in}
-use Rattle.kernel_calls.specs.Serving.{IsCounted, IsSound, sent, world_of}
-use Rattle.kernel_calls.specs.Calling.{asked_count, call_in, paid}
+use Rattle.kernel_mem.specs.MemoryWorld.{entry_in, in_world, space_in}
+use Rattle.kernel_calls.specs.StateWorld.{IsCounted, IsSound, sent, world_of}
+use Rattle.kernel_calls.specs.CallResults.{asked_count, call_in, paid}
 use Rattle.kernel_calls.specs.declared.state.State.{State}
 use Rattle.kernel_calls.specs.declared.state.Asked.{Asked}
 use Rattle.kernel_calls.proofs.EndCounts.{end_range}

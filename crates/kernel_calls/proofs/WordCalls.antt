@@ -11,9 +11,9 @@ use Rattle.dos_world.specs.declared.Access.TheVariants.{Load}
 use Rattle.dos_world.specs.declared.Entry.{Entry}
 use Rattle.page_store.specs.Store.{Store, joined}
 use Rattle.proc_table.specs.Tables.{Tables}
-use Rattle.kernel_mem.specs.Seen.{in_world}
-use Rattle.kernel_calls.specs.Serving.{sent, world_of}
-use Rattle.kernel_calls.specs.Calling.{call_in}
+use Rattle.kernel_mem.specs.MemoryWorld.{in_world}
+use Rattle.kernel_calls.specs.StateWorld.{sent, world_of}
+use Rattle.kernel_calls.specs.CallResults.{call_in}
 use Rattle.kernel_calls.specs.declared.state.State.{State}
 use Rattle.kernel_calls.specs.declared.state.Asked.{Asked}
 

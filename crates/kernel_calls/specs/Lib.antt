@@ -1,6 +1,6 @@
 pub mod Built
-pub mod Serving
-pub mod Calling
+pub mod StateWorld
+pub mod CallResults
 pub mod Ending
 pub mod Queued
 pub mod Memory

@@ -3,7 +3,7 @@ ghost use Rattle.std.specs.Prelude.{◌≡◌, ◌<◌};
 ghost use Rattle.dos_world.specs.World.{registers_by};
 ghost use Rattle.dos_world.specs.Kernel.{answered, answered_two, minus};
 ghost use Rattle.proc_table.specs.Tables.{IsThread, thread_by};
-ghost use Rattle.kernel_calls.specs.Serving.{IsCounted};
+ghost use Rattle.kernel_calls.specs.StateWorld.{IsCounted};
 
 use crate::state::State;
 use proc_table::Table;

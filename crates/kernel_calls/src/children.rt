@@ -3,8 +3,8 @@ ghost use Rattle.std.specs.Prelude.{◌≡◌, length, IfSome};
 ghost use Rattle.dos_world.specs.Services.{fork, wait};
 ghost use Rattle.proc_table.specs.Tables.{IsProcess, held_in};
 ghost use Rattle.kernel_calls.specs.Children.{AreAdded, CanComeAgain, CanName, with_named};
-ghost use Rattle.kernel_calls.specs.Serving.{IsCounted, IsSound};
-ghost use Rattle.kernel_calls.specs.Calling.{AreAsked, GoesOn};
+ghost use Rattle.kernel_calls.specs.StateWorld.{IsCounted, IsSound};
+ghost use Rattle.kernel_calls.specs.CallResults.{AreAsked, GoesOn};
 ghost use Rattle.kernel_calls.specs.declared.state.Served.TheVariants.{Went};
 
 use crate::answering::{refuse_call, reply, reply_two};

@@ -3,8 +3,8 @@ ghost use Rattle.std.specs.Prelude.{◌≡◌, ◌<◌, length, count_by, positi
 ghost use Rattle.dos_world.specs.DescriptorCalls.{close, dup, pipe, with_end};
 ghost use Rattle.proc_table.specs.Tables.{IsProcess, held_by, held_in};
 ghost use Rattle.kernel_calls.specs.Ends.{CanHave, with_end_more};
-ghost use Rattle.kernel_calls.specs.Serving.{IsCounted, IsSound};
-ghost use Rattle.kernel_calls.specs.Calling.{AreAsked, GoesOn};
+ghost use Rattle.kernel_calls.specs.StateWorld.{IsCounted, IsSound};
+ghost use Rattle.kernel_calls.specs.CallResults.{AreAsked, GoesOn};
 ghost use Rattle.kernel_calls.specs.declared.state.Served.TheVariants.{Went};
 
 use crate::answering::{refuse_call, reply, reply_two};

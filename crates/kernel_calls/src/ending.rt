@@ -3,7 +3,7 @@ ghost use Rattle.std.specs.Prelude.{◌≡◌, ◌<◌, ℕ, List, length, IfSom
 ghost use Rattle.dos_world.specs.Kernel.{process_ended};
 ghost use Rattle.proc_table.specs.Tables.{IsProcess, held_in};
 ghost use Rattle.kernel_calls.specs.Ending.{AreDropped, AreNamed, IsNamed, posted_in, without_end};
-ghost use Rattle.kernel_calls.specs.Serving.{IsSound, sent, world_of};
+ghost use Rattle.kernel_calls.specs.StateWorld.{IsSound, sent, world_of};
 
 use crate::signalling::post_to;
 use crate::state::State;

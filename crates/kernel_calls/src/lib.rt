@@ -13,7 +13,7 @@ mod memory;
 mod naming;
 mod piping;
 mod reading;
-mod serving;
+mod services;
 mod signalling;
 mod sleeping;
 mod state;
@@ -22,6 +22,6 @@ mod waiting;
 mod writing;
 
 pub use ending::end_process;
-pub use serving::serve;
+pub use services::serve;
 pub use state::{RunStop, Served, State, count_round, new_state, run_stop};
 pub use waiting::would_wait;

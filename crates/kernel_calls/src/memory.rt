@@ -5,8 +5,8 @@ ghost use Rattle.dos_world.specs.Kernel.{answered};
 ghost use Rattle.dos_world.specs.Services.{map_pages, share, unmap};
 ghost use Rattle.proc_table.specs.Tables.{IsThread, thread_by};
 ghost use Rattle.kernel_calls.specs.Memory.{answer_by};
-ghost use Rattle.kernel_calls.specs.Serving.{IsCounted, IsSound};
-ghost use Rattle.kernel_calls.specs.Calling.{AreAsked, GoesOn};
+ghost use Rattle.kernel_calls.specs.StateWorld.{IsCounted, IsSound};
+ghost use Rattle.kernel_calls.specs.CallResults.{AreAsked, GoesOn};
 ghost use Rattle.kernel_calls.specs.declared.state.Served.TheVariants.{Went};
 
 use crate::answering::{refuse_call, reply};

@@ -5,11 +5,11 @@ ghost use Rattle.dos_world.specs.declared.Access.TheVariants.{Load, Store};
 ghost use Rattle.dos_world.specs.declared.End.TheVariants.{PipeRead, PipeWrite};
 ghost use Rattle.dos_world.specs.Kernel.{all_reach, copied_out};
 ghost use Rattle.dos_world.specs.DescriptorCalls.{read_by, read_pipe, write_by, write_pipe};
-ghost use Rattle.kernel_mem.specs.Seen.{in_world, AreMapped, IsCaller, IsHome, KeepsOthers};
+ghost use Rattle.kernel_mem.specs.MemoryWorld.{in_world, AreMapped, IsCaller, IsHome, KeepsOthers};
 ghost use Rattle.kernel_objects.specs.Pipework.{bytes_at, ends_at, is_open_at, with_bytes};
 ghost use Rattle.page_store.specs.Store.{Store as Held};
-ghost use Rattle.kernel_calls.specs.Serving.{IsCounted, IsSound};
-ghost use Rattle.kernel_calls.specs.Calling.{AreAsked, GoesOn, asked_count};
+ghost use Rattle.kernel_calls.specs.StateWorld.{IsCounted, IsSound};
+ghost use Rattle.kernel_calls.specs.CallResults.{AreAsked, GoesOn, asked_count};
 
 use crate::answering::{refuse_call, reply};
 use crate::state::{Asked, Served, State};

@@ -9,10 +9,10 @@ ghost use Rattle.dos_world.specs.Lawful.{IsByte};
 ghost use Rattle.dos_world.specs.Services.{read, read_by, read_input};
 ghost use Rattle.dos_io.specs.Shims.{HasNoEnd, Stopped, answered};
 ghost use Rattle.dos_io.specs.declared.exchange.Exchange.TheVariants.{Input as input_exchange};
-ghost use Rattle.kernel_mem.specs.Seen.{in_world};
+ghost use Rattle.kernel_mem.specs.MemoryWorld.{in_world};
 ghost use Rattle.page_store.specs.Store.{Store as Held};
-ghost use Rattle.kernel_calls.specs.Serving.{HasNotStopped, IsCounted, IsSound, Stands, StopsAsking};
-ghost use Rattle.kernel_calls.specs.Calling.{AreAsked, Consults, asked_count, call_in, source_of};
+ghost use Rattle.kernel_calls.specs.StateWorld.{HasNotStopped, IsCounted, IsSound, Stands, StopsAsking};
+ghost use Rattle.kernel_calls.specs.CallResults.{AreAsked, Consults, asked_count, call_in, source_of};
 ghost use Rattle.kernel_calls.specs.declared.state.Served.TheVariants.{Went};
 
 use crate::answering::{refuse_call, reply};

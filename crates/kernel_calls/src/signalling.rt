@@ -4,8 +4,8 @@ ghost use Rattle.dos_world.specs.World.{registers_by};
 ghost use Rattle.dos_world.specs.SignalCalls.{is_action, is_signal, kill, refused_in_place, sig_handler, sig_mask, sig_return};
 ghost use Rattle.proc_table.specs.Tables.{IsThread, thread_by};
 ghost use Rattle.kernel_calls.specs.Ending.{posted_in};
-ghost use Rattle.kernel_calls.specs.Serving.{IsCounted, IsSound};
-ghost use Rattle.kernel_calls.specs.Calling.{AreAsked, GoesOn};
+ghost use Rattle.kernel_calls.specs.StateWorld.{IsCounted, IsSound};
+ghost use Rattle.kernel_calls.specs.CallResults.{AreAsked, GoesOn};
 ghost use Rattle.kernel_calls.specs.declared.state.Served.TheVariants.{Went};
 
 use crate::answering::{refuse_call, reply};

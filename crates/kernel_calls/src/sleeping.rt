@@ -1,9 +1,9 @@
 // The services of threads that sleep on words.
 ghost use Rattle.std.specs.Prelude.{◌≡◌, ◌%◌, Some};
 ghost use Rattle.dos_world.specs.FutexCalls.{futex_wait, futex_wait_at, futex_wake, futex_wake_at};
-ghost use Rattle.kernel_mem.specs.Seen.{entry_in};
-ghost use Rattle.kernel_calls.specs.Serving.{IsCounted, IsSound};
-ghost use Rattle.kernel_calls.specs.Calling.{AreAsked, GoesOn};
+ghost use Rattle.kernel_mem.specs.MemoryWorld.{entry_in};
+ghost use Rattle.kernel_calls.specs.StateWorld.{IsCounted, IsSound};
+ghost use Rattle.kernel_calls.specs.CallResults.{AreAsked, GoesOn};
 ghost use Rattle.kernel_calls.specs.Queued.{AreQueued, AreWoken};
 ghost use Rattle.kernel_calls.specs.declared.state.Served.TheVariants.{Went};
 

@@ -1,6 +1,6 @@
 // What the services work on, and how they end.
 ghost use Rattle.std.specs.Prelude.{◌≡◌, ◌+◌, ◌≤◌, Some, replicate};
-ghost use Rattle.kernel_calls.specs.Serving.{IsSound, shim_stop};
+ghost use Rattle.kernel_calls.specs.StateWorld.{IsSound, shim_stop};
 
 use dos_io::ShimStop;
 use dos_world::Misfit;

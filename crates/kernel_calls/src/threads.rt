@@ -3,8 +3,8 @@ ghost use Rattle.std.specs.Prelude.{◌≡◌, ◌==◌, length};
 ghost use Rattle.dos_world.specs.Numbered.{numbers_of};
 ghost use Rattle.dos_world.specs.World.{belongs_to};
 ghost use Rattle.dos_world.specs.Services.{new_registers, process_exit, round_number, thread_exit, thread_new};
-ghost use Rattle.kernel_calls.specs.Serving.{IsCounted, IsSound};
-ghost use Rattle.kernel_calls.specs.Calling.{AreAsked, GoesOn};
+ghost use Rattle.kernel_calls.specs.StateWorld.{IsCounted, IsSound};
+ghost use Rattle.kernel_calls.specs.CallResults.{AreAsked, GoesOn};
 ghost use Rattle.kernel_calls.specs.declared.state.Served.TheVariants.{Gone, Went};
 
 use crate::answering::{refuse_call, reply};

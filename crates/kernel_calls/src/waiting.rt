@@ -10,13 +10,13 @@ ghost use Rattle.dos_world.specs.Services.{service_of};
 ghost use Rattle.dos_world.specs.Signals.{would_wait};
 ghost use Rattle.dos_world.specs.declared.Access.TheVariants.{Load, Store};
 ghost use Rattle.dos_world.specs.declared.End.TheVariants.{PipeRead, PipeWrite};
-ghost use Rattle.kernel_mem.specs.Seen.{in_world};
+ghost use Rattle.kernel_mem.specs.MemoryWorld.{in_world};
 ghost use Rattle.kernel_objects.specs.Pipework.{bytes_at, ends_at};
 ghost use Rattle.page_store.specs.Store.{Store as Held};
 ghost use Rattle.proc_table.specs.Tables.{IsThread};
 ghost use Rattle.kernel_calls.specs.Built.{services_built};
-ghost use Rattle.kernel_calls.specs.Calling.{asked_count};
-ghost use Rattle.kernel_calls.specs.Serving.{IsSound, sent, world_of};
+ghost use Rattle.kernel_calls.specs.CallResults.{asked_count};
+ghost use Rattle.kernel_calls.specs.StateWorld.{IsSound, sent, world_of};
 ghost use Rattle.kernel_calls.specs.Waits.{IsCalling, TellsWait};
 
 use crate::state::{Asked, State};

@@ -10,7 +10,7 @@ use Rattle.dos_world.specs.ThreadCalls.{ready_thread, with_new_thread}
 use Rattle.dos_world.specs.ProcessCalls.{are_processes_full, child_process, child_thread, copied_space, forked, forked_by, private_entries, with_child}
 use Rattle.page_store.specs.Store.{Store}
 use Rattle.proc_table.specs.Tables.{Tables, IsProcess, IsThread, held_as, held_in, thread_in, held_by, new_process, process_added}
-use Rattle.kernel_mem.specs.Seen.{in_world, space_in}
+use Rattle.kernel_mem.specs.MemoryWorld.{in_world, space_in}
 use Rattle.kernel_mem.specs.Forking.{child_begun, child_without, fork_call, with_space}
 
 -- ---- the last of a list of processes

@@ -18,7 +18,7 @@ use Rattle.page_store.specs.Store.{Store, IsCopied, joined, shown, owner_at, wit
 use Rattle.page_store.proofs.Joined.{joined-set, page_of-joined, home-at}
 use Rattle.page_store.proofs.Counts.{owned-within, count_by-taken, position_more}
 use Rattle.proc_table.specs.Tables.{Tables}
-use Rattle.kernel_mem.specs.Seen.{in_world, IsHome}
+use Rattle.kernel_mem.specs.MemoryWorld.{in_world, IsHome}
 use Rattle.kernel_mem.specs.Forking.{entry_copied, IsUsedMore, taken_by}
 use Rattle.kernel_mem.proofs.Dropping.{no_entry}
 

@@ -10,7 +10,7 @@ use Rattle.dos_world.specs.Kernel.{opened, place_of, copied_in, copied_out}
 use Rattle.proc_table.specs.Tables.{Tables}
 use Rattle.page_store.specs.Store.{Store as Held, whole, with_home}
 use Rattle.page_store.proofs.Joined.{joined-stretch, joined-written, length-joined}
-use Rattle.kernel_mem.specs.Seen.{in_world, IsHome, with_open}
+use Rattle.kernel_mem.specs.MemoryWorld.{in_world, IsHome, with_open}
 use Rattle.kernel_mem.proofs.Reaching.{entry_same, opened_here, place_here, HasFrame, IsOpen, is_open, opened-pages}
 
 -- ---- what a stretch holds

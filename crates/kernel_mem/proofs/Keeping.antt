@@ -7,7 +7,7 @@ use Rattle.dos_world.specs.declared.Access.TheVariants.{Load, Store}
 use Rattle.dos_world.specs.World.{is_free}
 use Rattle.dos_world.specs.Reach.{is_foreign}
 use Rattle.page_store.specs.Store.{Store as Held, owner_at, with_grant, with_home}
-use Rattle.kernel_mem.specs.Seen.{with_open, IsHome, KeepsUses, KeepsOthers}
+use Rattle.kernel_mem.specs.MemoryWorld.{with_open, IsHome, KeepsUses, KeepsOthers}
 
 -- ---- one owner set
 

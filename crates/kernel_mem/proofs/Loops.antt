@@ -16,7 +16,7 @@ use Rattle.space_map.specs.Mapping.{IsRising, page_at, no_entry as no_page}
 use Rattle.proc_table.specs.Tables.{Tables, IsProcess, held_in, held_by}
 use Rattle.proc_table.proofs.Standing.{spaced_by}
 use Rattle.kernel_mem.specs.Memory.{entries_of}
-use Rattle.kernel_mem.specs.Seen.{in_world, space_in, IsHome}
+use Rattle.kernel_mem.specs.MemoryWorld.{in_world, space_in, IsHome}
 use Rattle.kernel_mem.specs.Forking.{entry_copied, IsUsedMore, taken_by, with_space}
 
 -- ---- what processes have, changed

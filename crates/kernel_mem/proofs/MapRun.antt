@@ -14,7 +14,7 @@ use Rattle.page_store.proofs.Counts.{count_by-taken}
 use Rattle.proc_table.specs.Tables.{IsProcess, Tables, entry_replaced, held_by, run_put}
 use Rattle.kernel_mem.specs.Memory.{HasUsesOf, entries_of}
 use Rattle.kernel_mem.specs.Ranges.{maps_any, range_call}
-use Rattle.kernel_mem.specs.Seen.{in_world, space_in, IsHome}
+use Rattle.kernel_mem.specs.MemoryWorld.{in_world, space_in, IsHome}
 use Rattle.kernel_mem.proofs.Copies.{first_use}
 use Rattle.kernel_mem.specs.Forking.{with_space}
 use Rattle.kernel_mem.proofs.Mapping.{page_step}

@@ -9,7 +9,7 @@ use Rattle.dos_world.specs.MemoryCalls.{page_mapped, private_entry}
 use Rattle.page_store.specs.Store.{Store, joined, with_owned}
 use Rattle.page_store.proofs.Joined.{joined-fresh}
 use Rattle.proc_table.specs.Tables.{Tables, held_by}
-use Rattle.kernel_mem.specs.Seen.{in_world}
+use Rattle.kernel_mem.specs.MemoryWorld.{in_world}
 
 abbrev with_frame : World → Store → Tables → ℕ → ℕ → ℕ → ℕ → ℕ → World
 with_frame w s T t p rights page n =

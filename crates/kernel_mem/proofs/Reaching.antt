@@ -13,7 +13,7 @@ use Rattle.proc_table.specs.Tables.{Tables}
 use Rattle.page_store.specs.Store.{Store as Held, owner_at, with_grant}
 use Rattle.page_store.proofs.Joined.{home-at}
 use Rattle.page_store.proofs.Counts.{owned-within}
-use Rattle.kernel_mem.specs.Seen.{in_world, AreMapped, IsHome, entry_in, is_allowed, with_open}
+use Rattle.kernel_mem.specs.MemoryWorld.{in_world, AreMapped, IsHome, entry_in, is_allowed, with_open}
 
 -- ---- one byte
 

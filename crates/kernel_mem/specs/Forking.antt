@@ -6,7 +6,7 @@ use Rattle.dos_world.specs.Calls.{Call}
 use Rattle.dos_world.specs.ThreadCalls.{ready_thread}
 use Rattle.dos_world.specs.declared.Entry.{Entry}
 use Rattle.page_store.specs.Store.{Store, owner_at, uses_at}
-use Rattle.kernel_mem.specs.Seen.{IsHome}
+use Rattle.kernel_mem.specs.MemoryWorld.{IsHome}
 
 -- what each entry of a space names isn't Free
 abbrev pub AreTaken : List (ℕ × Entry) → Store → Type 0

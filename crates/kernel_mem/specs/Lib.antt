@@ -1,4 +1,4 @@
-pub mod Seen
+pub mod MemoryWorld
 pub mod Memory
 pub mod Forking
 pub mod Ranges

@@ -6,7 +6,7 @@ ghost use Rattle.dos_world.specs.World.{World};
 ghost use Rattle.page_store.specs.Store.{Store as Held};
 ghost use Rattle.proc_table.specs.Tables.{IsProcess, held_by, run_unmapped, thread_in};
 ghost use Rattle.space_map.specs.Mapping.{in_run};
-ghost use Rattle.kernel_mem.specs.Seen.{in_world, space_in, IsCaller};
+ghost use Rattle.kernel_mem.specs.MemoryWorld.{in_world, space_in, IsCaller};
 ghost use Rattle.kernel_mem.specs.Memory.{AreUsed, IsDropped};
 ghost use Rattle.kernel_mem.specs.Ranges.{range_call, result_in};
 

@@ -7,7 +7,7 @@ ghost use Rattle.dos_world.specs.ProcessCalls.{are_processes_full, copied_space,
 ghost use Rattle.page_store.specs.Store.{free_count, owner_at, uses_at};
 ghost use Rattle.dos_world.specs.World.{is_free};
 ghost use Rattle.proc_table.specs.Tables.{IsProcess, Tables, held_by, held_in, process_added, thread_in};
-ghost use Rattle.kernel_mem.specs.Seen.{in_world, space_in, IsCaller, IsHome};
+ghost use Rattle.kernel_mem.specs.MemoryWorld.{in_world, space_in, IsCaller, IsHome};
 ghost use Rattle.kernel_mem.specs.Memory.{entries_of};
 ghost use Rattle.kernel_mem.specs.Forking.{AreTaken, IsUsedMore, child_begun, child_without, entry_copied, fork_call, fork_result, taken_by, with_space};
 

@@ -6,7 +6,7 @@ ghost use Rattle.dos_world.specs.MemoryCalls.{mapped, mapped_fresh, private_entr
 ghost use Rattle.page_store.specs.Store.{IsUnused, free_count, uses_at, with_owned};
 ghost use Rattle.proc_table.specs.Tables.{IsProcess, entry_replaced, held_by, thread_in};
 ghost use Rattle.space_map.specs.Mapping.{IsMapped};
-ghost use Rattle.kernel_mem.specs.Seen.{space_in, in_world, IsCaller, IsHome};
+ghost use Rattle.kernel_mem.specs.MemoryWorld.{space_in, in_world, IsCaller, IsHome};
 ghost use Rattle.kernel_mem.specs.Memory.{HasUsesOf};
 ghost use Rattle.kernel_mem.specs.Forking.{with_space};
 ghost use Rattle.kernel_mem.specs.Ranges.{maps_any, range_call, result_in};

@@ -4,7 +4,7 @@ ghost use Rattle.dos_world.specs.World.{World};
 ghost use Rattle.dos_world.specs.MemoryCalls.{shared};
 ghost use Rattle.page_store.specs.Store.{Store as Held};
 ghost use Rattle.proc_table.specs.Tables.{IsProcess, held_by, run_shared, thread_in};
-ghost use Rattle.kernel_mem.specs.Seen.{in_world, space_in, IsCaller};
+ghost use Rattle.kernel_mem.specs.MemoryWorld.{in_world, space_in, IsCaller};
 ghost use Rattle.kernel_mem.specs.Ranges.{are_range, maps_all, maps_any, range_call, result_in};
 
 use dos_world::errors::EINVAL;

@@ -15,10 +15,10 @@ use Rattle.dos_io.specs.declared.exchange.Exchange.TheVariants.{End}
 use Rattle.dos_io.specs.declared.shim.ShimStop.{ShimStop}
 use Rattle.dos_io.specs.declared.shim.ShimStop.TheVariants as stops
 use Rattle.elf_image.specs.Image.{Image}
-use Rattle.group_rounds.specs.Going.{telling}
+use Rattle.group_rounds.specs.StatePlays.{telling}
 use Rattle.group_rounds.specs.Kernels.{Held}
 use Rattle.group_rounds.specs.Outside.{HasShimCause}
-use Rattle.kernel_calls.specs.Serving.{shim_stop}
+use Rattle.kernel_calls.specs.StateWorld.{shim_stop}
 use Rattle.kernel_calls.specs.declared.state.RunStop.{RunStop}
 use Rattle.kernel_calls.specs.declared.state.RunStop.TheVariants.{HostFault, LogFull, Misfit, OutFault, ErrFault, Memory}
 use Rattle.worker_pool.specs.Ran.{GrewBy}
@@ -29,7 +29,7 @@ use Rattle.shim_log.specs.Ranges.{AreEntries, FitsLog}
 use Rattle.shim_log.specs.Room.{HadRoom, most_bytes}
 use Rattle.shim_log.proofs.RecorderLaws.{no_end, recording_given}
 use Rattle.dpg_run.specs.Machine.{Seen}
-use Rattle.dpg_run.specs.Running.{CutGroup, RanGroup, StoppedGroup}
+use Rattle.dpg_run.specs.GroupRuns.{CutGroup, RanGroup, StoppedGroup}
 use Rattle.logged_runs.specs.Opened.{IsOpened}
 use Rattle.logged_runs.specs.Runs.{Ended, Put, RanUntil, RanWhole}
 use Rattle.logged_runs.specs.Recording.{Recorded, RecordedAhead, RecordedUntil, plan_of}

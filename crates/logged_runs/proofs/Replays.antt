@@ -10,10 +10,10 @@ use Rattle.dos_io.specs.declared.exchange.Exchange.{Exchange}
 use Rattle.dos_io.specs.declared.shim.ShimStop.{ShimStop}
 use Rattle.dos_io.specs.declared.shim.ShimStop.TheVariants as stops
 use Rattle.elf_image.specs.Image.{Image}
-use Rattle.group_rounds.specs.Going.{telling}
+use Rattle.group_rounds.specs.StatePlays.{telling}
 use Rattle.group_rounds.specs.Kernels.{Held}
 use Rattle.group_rounds.specs.Outside.{HasShimCause}
-use Rattle.kernel_calls.specs.Serving.{shim_stop}
+use Rattle.kernel_calls.specs.StateWorld.{shim_stop}
 use Rattle.kernel_calls.specs.declared.state.RunStop.{RunStop}
 use Rattle.kernel_calls.specs.declared.state.RunStop.TheVariants.{HostFault, LogFull, Misfit as MisfitFound, OutFault, ErrFault, Memory}
 use Rattle.worker_pool.specs.Ran.{GrewBy}
@@ -23,7 +23,7 @@ use Rattle.shim_log.specs.Replay.{FollowsLog, IsMisfitOf, IsReplay, ReplayState,
 use Rattle.shim_log.proofs.ReplayLaws.{ends_whole, stands_next}
 use Rattle.dpg_run.specs.Fits.{misfit}
 use Rattle.dpg_run.specs.Machine.{Seen, group}
-use Rattle.dpg_run.specs.Running.{CutGroup, RanGroup, StoppedGroup}
+use Rattle.dpg_run.specs.GroupRuns.{CutGroup, RanGroup, StoppedGroup}
 use Rattle.dpg_run.proofs.MisfitLaws.{misfit_at}
 use Rattle.logged_runs.specs.Opened.{IsOpened}
 use Rattle.logged_runs.specs.Runs.{Ended, Put, RanWhole}

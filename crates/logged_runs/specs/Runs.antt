@@ -8,12 +8,12 @@ use Rattle.dos_io.specs.Exchanges.{question_of, answer_of}
 use Rattle.dos_io.specs.Outside.{grown}
 use Rattle.dos_io.specs.declared.exchange.Exchange.{Exchange}
 use Rattle.elf_image.specs.Image.{Image}
-use Rattle.group_rounds.specs.Goes.{GoesOn}
+use Rattle.group_rounds.specs.Plays.{GoesOn}
 use Rattle.group_rounds.specs.Kernels.{Held, kernel_world}
 use Rattle.dpg_run.specs.Fits.{Fits}
 use Rattle.dpg_run.specs.Machine.{Finish, Seen, ends, group, machine}
 use Rattle.dpg_run.specs.Report.{report, report_in}
-use Rattle.dpg_run.specs.Running.{AreFronts}
+use Rattle.dpg_run.specs.GroupRuns.{AreFronts}
 use Rattle.worker_pool.specs.Ran.{GrewBy}
 
 -- The run asked exactly the questions of these exchanges, the last being its end, and this is seen

@@ -16,7 +16,7 @@ use Rattle.quantum_run.specs.Packs.{space_in, view_of}
 use Rattle.quantum_run.specs.Shows.{Pack, View, CanRun, frames_of}
 use Rattle.worker_pool.specs.Ran.{AllCanRun}
 use Rattle.page_store.proofs.Joined.{home-at}
-use Rattle.worker_pool.proofs.Running.{index-at}
+use Rattle.worker_pool.proofs.RanPacks.{index-at}
 use Rattle.pool_tests.specs.Loops.{HasOneShared, IsLoop, page_of_code}
 
 -- the one view that there is, but for the page

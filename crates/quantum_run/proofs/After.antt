@@ -6,7 +6,7 @@ use Rattle.rv_exec.specs.Step.{step, paid_by}
 use Rattle.rv_exec.specs.Runs.{kept}
 use Rattle.rv_exec.proofs.Stays.{step-form}
 use Rattle.quantum_run.specs.Alone.{steps}
-use Rattle.quantum_run.specs.Running.{after_steps, ran}
+use Rattle.quantum_run.specs.ThreadRuns.{after_steps, ran}
 use Rattle.quantum_run.proofs.Threads.{ran-twice, ran-same}
 
 Some-is : {v w : World} → ◌≡◌ {A = Option World} (Some v) (Some w) → v ≡ w

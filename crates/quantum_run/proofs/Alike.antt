@@ -5,7 +5,7 @@ use Rattle.dos_world.specs.declared.Reason.{Reason}
 use Rattle.rv_exec.specs.Step.{step}
 use Rattle.rv_exec.specs.Blind.{entry_at-with_thread}
 use Rattle.rv_exec.specs.Laws.{AreAlike}
-use Rattle.rv_exec.proofs.Seen.{stops-alike, steps-alike}
+use Rattle.rv_exec.proofs.Dependence.{stops-alike, steps-alike}
 use Rattle.quantum_run.specs.Alone.{budget_of, emptied, steps, alone}
 use Rattle.quantum_run.proofs.After.{steps-ok, steps-stopped}
 

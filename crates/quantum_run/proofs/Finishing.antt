@@ -16,7 +16,7 @@ use Rattle.quantum_run.specs.Alone.{alone}
 use Rattle.quantum_run.specs.Laws.{without_run}
 use Rattle.quantum_run.specs.Pages.{is_here, overlay}
 use Rattle.quantum_run.specs.Packs.{IsPacked, bytes_at, paired}
-use Rattle.quantum_run.specs.Running.{IsRunOf, after_steps, run_to, ran, store_of}
+use Rattle.quantum_run.specs.ThreadRuns.{IsRunOf, after_steps, run_to, ran, store_of}
 use Rattle.quantum_run.specs.Shows.{Pack, View, Shows, thread_space}
 use Rattle.quantum_run.proofs.Alike.{alone-alike}
 use Rattle.quantum_run.proofs.Overlay.{length-overlay}

@@ -3,7 +3,7 @@ pub mod Own
 pub mod Places
 pub mod Reaching
 pub mod After
-pub mod Going
+pub mod RunSteps
 pub mod Witness
 pub mod Whole
 pub mod Parts

@@ -10,7 +10,7 @@ use Rattle.rv_exec.specs.Runs.{kept}
 use Rattle.rv_exec.proofs.Stepping.{of_kept}
 use Rattle.quantum_run.specs.Alone.{steps, emptied, alone, budget_of}
 use Rattle.quantum_run.specs.Shows.{thread_space}
-use Rattle.quantum_run.specs.Running.{IsRunOf, Stops, after_steps, run_to}
+use Rattle.quantum_run.specs.ThreadRuns.{IsRunOf, Stops, after_steps, run_to}
 use Rattle.quantum_run.proofs.After.{same-after, steps-ok, steps-stopped}
 use Rattle.quantum_run.proofs.Threads.{seen-changed, ran-twice}
 

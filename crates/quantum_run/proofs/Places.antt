@@ -16,7 +16,7 @@ use Rattle.dos_world.specs.declared.Size.TheVariants.{Byte, Half, Word}
 use Rattle.page_store.specs.Store.{Store as Frames, whole, joined, number_at}
 use Rattle.std.proofs.lemmas.List.Elements.{All-nil, All-cons, All-head, All-tail}
 use Rattle.page_store.proofs.Joined.{joined-number, joined-written}
-use Rattle.quantum_run.specs.Running.{AreMapped}
+use Rattle.quantum_run.specs.ThreadRuns.{AreMapped}
 use Rattle.quantum_run.specs.declared.slot.Slot.{Slot}
 use Rattle.quantum_run.specs.Finding.{AreFramesOf, IsFrameOf, IsWriting, frame_by, frame_for, place_in}
 use Rattle.quantum_run.specs.Knowing.{empty_slot}

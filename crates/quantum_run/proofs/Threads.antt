@@ -5,7 +5,7 @@ use Rattle.dos_world.specs.Numbered.{numbered, changed, changed_at}
 use Rattle.dos_world.specs.World.{World, Thread, Registers, flat, thread_at, with_thread}
 use Rattle.rv_exec.specs.Runs.{kept}
 use Rattle.rv_exec.proofs.Stepping.{of_kept}
-use Rattle.quantum_run.specs.Running.{ran}
+use Rattle.quantum_run.specs.ThreadRuns.{ran}
 
 -- what is seen of the changed thread
 pub seen-changed : {B : Type 0} (seen : Thread → B) (f : Thread → Thread)

@@ -12,7 +12,7 @@ use Rattle.dos_world.specs.declared.Reason.{Reason}
 use Rattle.rv_exec.specs.Runs.{Runs}
 use Rattle.quantum_run.specs.Shows.{thread_space}
 use Rattle.quantum_run.specs.Showing.{Still, ShowsBy, still}
-use Rattle.quantum_run.specs.Running.{IsRunOf, Goes, Stops, after_steps, ran, run_to, store_of}
+use Rattle.quantum_run.specs.ThreadRuns.{IsRunOf, Goes, Stops, after_steps, ran, run_to, store_of}
 use Rattle.quantum_run.proofs.After.{after-form}
 use Rattle.quantum_run.proofs.Witness.{witness, witness-holds}
 

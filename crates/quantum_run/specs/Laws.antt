@@ -7,7 +7,7 @@ use Rattle.dos_world.specs.declared.Reason.{Reason}
 use Rattle.page_store.specs.Store.{Store}
 use Rattle.rv_exec.specs.Step.{step}
 use Rattle.quantum_run.specs.Alone.{steps, emptied, alone}
-use Rattle.quantum_run.specs.Running.{IsRunOf, after_steps, run_to}
+use Rattle.quantum_run.specs.ThreadRuns.{IsRunOf, after_steps, run_to}
 
 -- a thread without its registers and its budget
 abbrev pub without_run : Thread → Thread

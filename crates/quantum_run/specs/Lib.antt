@@ -1,6 +1,6 @@
 pub mod Alone
 pub mod Shows
-pub mod Running
+pub mod ThreadRuns
 pub mod Finding
 pub mod Knowing
 pub mod Pages

@@ -9,7 +9,7 @@ mod pack;
 mod page_places;
 mod pages;
 mod run;
-mod running;
+mod thread_memory;
 mod slot;
 mod slots;
 

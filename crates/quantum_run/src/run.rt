@@ -6,13 +6,13 @@ ghost use Rattle.rv_exec.specs.Runs.{Runs};
 ghost use Rattle.rv_exec.specs.Step.{step};
 ghost use Rattle.quantum_run.specs.Knowing.{no_base};
 ghost use Rattle.quantum_run.specs.Pages.{AreOwn, AreReached, AreWithin, is_here, overlay};
-ghost use Rattle.quantum_run.specs.Running.{AreMapped, Goes, IsRunOf, after_steps, run_to, store_of};
+ghost use Rattle.quantum_run.specs.ThreadRuns.{AreMapped, Goes, IsRunOf, after_steps, run_to, store_of};
 ghost use Rattle.quantum_run.specs.Showing.{ShowsBy, Still, still};
 
 use crate::lent::Lent;
 use crate::page_places::{Places, write_out};
 use crate::pages::{InPlace, Pages};
-use crate::running::Running;
+use crate::thread_memory::Running;
 use dos_world::{Reason, Regs};
 use page_store::Frames;
 use rv_exec::{Next, one_known};

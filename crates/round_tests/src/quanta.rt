@@ -3,7 +3,7 @@
 ghost use Rattle.std.specs.Prelude.{◌≡◌, ◌∷◌, [], false, true, length, IfOk, IfSome};
 ghost use Rattle.dos_world.specs.declared.Owner.TheVariants.{Of, Shared};
 ghost use Rattle.page_store.specs.Store.{AreHome};
-ghost use Rattle.quantum_run.specs.Running.{AreMapped};
+ghost use Rattle.quantum_run.specs.ThreadRuns.{AreMapped};
 
 use dos_world::{Access, Entry, Reason, Regs, Size};
 use page_store::Frames;

@@ -4,7 +4,7 @@ use Rattle.dos_world.specs.World.{World, Registers, with_pc}
 use Rattle.dos_world.specs.declared.Reason.{Reason}
 use Rattle.rv_exec.specs.declared.Went.{Went}
 use Rattle.rv_exec.specs.declared.next.Next.{Next}
-use Rattle.rv_exec.specs.Going.{arrived, went}
+use Rattle.rv_exec.specs.Arrivals.{arrived, went}
 use Rattle.rv_exec.specs.Over.{one_in, world_answers}
 use Rattle.rv_exec.specs.Follows.{Follows}
 use Rattle.rv_exec.specs.Runs.{Runs, Steps}

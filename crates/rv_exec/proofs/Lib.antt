@@ -9,7 +9,7 @@ pub mod PcBeside
 pub mod Stored
 pub mod Stepping
 pub mod Forms
-pub mod Seen
+pub mod Dependence
 pub mod Stays
 pub mod Commute
 mod Results

@@ -12,7 +12,7 @@ use Rattle.dos_world.specs.declared.Reason.{Reason}
 use Rattle.dos_world.proofs.Numbers.{changed_other}
 use Rattle.rv_exec.specs.Step.{step, paid_by}
 use Rattle.rv_exec.proofs.Keeps.{step-keeps}
-use Rattle.rv_exec.proofs.Seen.{Again, step_stops as seen_stops, step_again as seen_again}
+use Rattle.rv_exec.proofs.Dependence.{Again, step_stops as seen_stops, step_again as seen_again}
 pub use Rattle.rv_exec.proofs.Forms.{step-form}
 
 -- ---- what t sees after a step of s

@@ -9,4 +9,4 @@ pub mod Blind
 pub mod OnePage
 pub mod Computing
 pub mod Laws
-pub mod Going
+pub mod Arrivals

@@ -1,7 +1,7 @@
 // An instruction by its form.
 ghost use Rattle.std.specs.Prelude.{ℕ};
 ghost use Rattle.rv_exec.specs.Instruction.{effect_of_form};
-ghost use Rattle.rv_exec.specs.Going.{PerformsAt, arrived, went};
+ghost use Rattle.rv_exec.specs.Arrivals.{PerformsAt, arrived, went};
 ghost use Rattle.std.specs.Prelude.{◌≡◌};
 
 use crate::next::{fault, service};

@@ -7,7 +7,7 @@ ghost use Rattle.rv_exec.specs.Effect as effects;
 ghost use Rattle.rv_exec.specs.Effect.{effect, combined, onward};
 ghost use Rattle.rv_exec.specs.Over.{effect_in, world_answers};
 ghost use Rattle.rv_exec.specs.Follows.{Follows};
-ghost use Rattle.rv_exec.specs.Going.{PerformsAt};
+ghost use Rattle.rv_exec.specs.Arrivals.{PerformsAt};
 
 use crate::numbers::{greater, lesser, load_result, load_size, store_size};
 use crate::on_registers::{first, put, second};

@@ -6,7 +6,7 @@ ghost use Rattle.dos_world.specs.World.{Registers, get, set, with_pc};
 ghost use Rattle.rv_isa.specs.declared.Instr.TheVariants.{Upper, Jal, Jalr, Branch, Imm, Shift, Reg};
 ghost use Rattle.rv_exec.specs.Effect as effects;
 ghost use Rattle.rv_exec.specs.Effect.{effect};
-ghost use Rattle.rv_exec.specs.Going.{SettlesAt};
+ghost use Rattle.rv_exec.specs.Arrivals.{SettlesAt};
 
 use crate::Next;
 use crate::next::fault;

@@ -1,2 +1,2 @@
 pub mod Readying
-pub mod Running
+pub mod RanPacks

@@ -4,7 +4,7 @@ use Rattle.dos_world.specs.declared.Entry.{Entry}
 use Rattle.dos_world.specs.declared.Owner.{Owner}
 use Rattle.dos_world.specs.declared.Owner.TheVariants.{Of, Free}
 use Rattle.proc_table.specs.Tables.{Tables, thread_in}
-use Rattle.kernel_mem.specs.Seen.{space_in}
+use Rattle.kernel_mem.specs.MemoryWorld.{space_in}
 
 -- page 0x10 in frame 0, and page 0x11, which is shared, in frame 1
 abbrev pub two_entries : List (ℕ × Entry)

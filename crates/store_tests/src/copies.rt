@@ -1,6 +1,6 @@
 // Bytes that go out to memory, and a fork: both of a process with two pages, the second shared.
 ghost use Rattle.std.specs.Prelude.{◌≡◌, ◌∷◌, [], length, IfOk};
-ghost use Rattle.kernel_mem.specs.Seen.{IsCaller, IsHome};
+ghost use Rattle.kernel_mem.specs.MemoryWorld.{IsCaller, IsHome};
 ghost use Rattle.page_store.specs.Store.{AreHome};
 ghost use Rattle.store_tests.specs.Memory.{HasTwoPages, two_owners};
 

@@ -1,6 +1,6 @@
 // What services do to the memory of process 1, whose first thread calls. The helpers ask first.
 ghost use Rattle.std.specs.Prelude.{◌≡◌, IfOk, MatchBool, true, false};
-ghost use Rattle.kernel_mem.specs.Seen.{IsCaller, IsHome};
+ghost use Rattle.kernel_mem.specs.MemoryWorld.{IsCaller, IsHome};
 
 use dos_world::{Entry, Owner, Regs, Size};
 use kernel_mem::{map_pages, share};

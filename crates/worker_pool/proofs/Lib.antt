@@ -1,3 +1,3 @@
 pub mod Belows
-pub mod Running
+pub mod RanPacks
 pub mod Growing

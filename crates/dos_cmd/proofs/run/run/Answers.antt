@@ -2,7 +2,7 @@ use Rattle.std.proofs.Common.{inl, refl}
 use Rattle.std.proofs.lemmas.Result.{err_from_is_err_and}
 use Rattle.dos_cmd.specs.Outside.{Outside, Faults, outside, faults}
 use Rattle.dos_cmd.specs.Results.{run_asked}
-use Rattle.dos_cmd.specs.Running.{RunAsked}
+use Rattle.dos_cmd.specs.RunLeaves.{RunAsked}
 use Rattle.dos_cmd.proofs.NotBegun.{says_nothing}
 use Rattle.dos_cmd.proofs.RunEnds.{is_err_of}
 use Rattle.dos_cmd.proofs.RunCalls.{images_refused, not_opened, prepared, run_did, run_leaves, same_images, taken_with}

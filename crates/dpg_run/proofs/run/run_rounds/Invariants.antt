@@ -1,7 +1,7 @@
 use Rattle.std.proofs.Common.{ℕ, ◌≡◌, ◌+◌, ◌-◌, false}
 use Rattle.worker_pool.specs.Ran.{GrewBy}
 use Rattle.dos_io.specs.Shims.{HasNoEnd}
-use Rattle.group_rounds.specs.Going.{telling}
+use Rattle.group_rounds.specs.StatePlays.{telling}
 use Rattle.group_rounds.specs.Outside.{HaveStood}
 use Rattle.dpg_run.proofs.RoundsRun.{RanSome}
 use Rattle.dpg_run.proofs.run.run_rounds.Given as goal

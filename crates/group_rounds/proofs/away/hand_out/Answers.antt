@@ -1,6 +1,6 @@
 use Rattle.std.proofs.Common.{ℕ, List, ◌≤◌, ◌-◌, ◌≡◌, refl, sym, ap, ◌∙◌, subst, length, map, arith}
 use Rattle.round_core.specs.Round.{with_budgets}
-use Rattle.kernel_calls.specs.Serving.{sent, world_of}
+use Rattle.kernel_calls.specs.StateWorld.{sent, world_of}
 use Rattle.group_rounds.specs.Away.{WentOut, IsHandedOut}
 use Rattle.group_rounds.specs.Handing.{AreSpare, Handing, pack_of}
 use Rattle.group_rounds.specs.Kernels.{Held, IsBetweenRounds}

@@ -1,7 +1,7 @@
 use Rattle.std.proofs.Common.{ap, ◌∙◌, refl, arith}
 use Rattle.std.proofs.lemmas.Option.{slice_get-get_or}
 use Rattle.round_core.specs.Round.{all_alone}
-use Rattle.kernel_calls.specs.Serving.{sent, world_of}
+use Rattle.kernel_calls.specs.StateWorld.{sent, world_of}
 use Rattle.group_rounds.proofs.InPlaceLaws.{alone_next, alone_live, alone_paid}
 use Rattle.group_rounds.proofs.PhaseLaws.{drop_out}
 use Rattle.group_rounds.proofs.in_place.run_each.Goals as goal

@@ -3,9 +3,9 @@ use Rattle.std.proofs.lemmas.Result.{on_ok_weaker, on_err_weaker}
 use Rattle.dos_world.specs.Play.{done}
 use Rattle.round_core.specs.Rest.{serial_of}
 use Rattle.group_rounds.specs.Fronts.{CutPlay, StoppedPlay}
-use Rattle.kernel_calls.specs.Serving.{HaveParts, shim_stop}
-use Rattle.group_rounds.proofs.GoingLaws.{if_err_weaker, some_weaker}
-use Rattle.group_rounds.specs.Going.{GoesTo, telling}
+use Rattle.kernel_calls.specs.StateWorld.{HaveParts, shim_stop}
+use Rattle.group_rounds.proofs.StatePlayLaws.{if_err_weaker, some_weaker}
+use Rattle.group_rounds.specs.StatePlays.{GoesTo, telling}
 use Rattle.group_rounds.specs.Kernels.{Held}
 use Rattle.group_rounds.proofs.FrontLaws.{cut_grew}
 use Rattle.group_rounds.specs.Phases.{ready_in}

@@ -5,7 +5,7 @@ use Rattle.quantum_run.specs.Packs.{empty_pack, with_thread_of}
 use Rattle.proc_table.specs.Tables.{thread_in}
 use Rattle.group_rounds.specs.Handing.{In}
 use Rattle.group_rounds.proofs.HandingLaws.{in-left, in-right}
-use Rattle.group_rounds.proofs.RunningLaws.{some_of, of_some}
+use Rattle.group_rounds.proofs.ThreadRunLaws.{some_of, of_some}
 use Rattle.group_rounds.proofs.packs.fill_next.Goals as goal
 
 pub fill-requires : goal.fill-requires

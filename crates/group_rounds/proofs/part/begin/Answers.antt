@@ -3,10 +3,10 @@ use Rattle.dos_world.specs.World.{Thread, registers_by, released}
 use Rattle.dos_laws.specs.Standing.{LawfulWith}
 use Rattle.dos_laws.proofs.StandsKeeps.{stands_kept}
 use Rattle.proc_table.specs.Tables.{Tables, thread_in, IsThread}
-use Rattle.kernel_calls.specs.Serving.{world_of}
+use Rattle.kernel_calls.specs.StateWorld.{world_of}
 use Rattle.kernel_calls.specs.declared.state.State.{State}
 use Rattle.group_rounds.specs.Parts.{budget_in}
-use Rattle.group_rounds.proofs.RunningLaws.{thread_in-by}
+use Rattle.group_rounds.proofs.ThreadRunLaws.{thread_in-by}
 use Rattle.group_rounds.proofs.Sound.{sound_then, parts_then, lives_by}
 use Rattle.group_rounds.proofs.SignalLaws.{thread_counted}
 use Rattle.group_rounds.proofs.part.begin.Goals as goal

@@ -1,7 +1,7 @@
 use Rattle.std.proofs.Common.{◌≡◌, ap, ◌∙◌}
 use Rattle.dos_world.specs.World.{registers_by, released}
 use Rattle.proc_table.specs.Tables.{thread_in}
-use Rattle.group_rounds.proofs.RunningLaws.{some_of, of_some, same_change}
+use Rattle.group_rounds.proofs.ThreadRunLaws.{some_of, of_some, same_change}
 use Rattle.group_rounds.proofs.part.empty_reservation.Goals as goal
 
 pub returns : goal.returns

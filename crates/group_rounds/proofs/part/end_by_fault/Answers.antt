@@ -1,7 +1,7 @@
 use Rattle.std.proofs.Common.{arith, ◌≡◌, ◌+◌, ℕ, [], sym, ap, ◌∙◌, None, Some}
 use Rattle.dos_world.specs.Kernel.{process_ended}
-use Rattle.kernel_calls.specs.Serving.{world_of, sent}
-use Rattle.group_rounds.proofs.RunningLaws.{seen, process_is}
+use Rattle.kernel_calls.specs.StateWorld.{world_of, sent}
+use Rattle.group_rounds.proofs.ThreadRunLaws.{seen, process_is}
 use Rattle.group_rounds.proofs.TurnLaws.{fault_count, parts_ended}
 use Rattle.group_rounds.proofs.part.end_by_fault.Goals as goal
 

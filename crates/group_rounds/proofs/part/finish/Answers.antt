@@ -1,9 +1,9 @@
 use Rattle.std.proofs.Common.{◌<◌, ◌≤◌, [], ◌∷◌, ◌∙◌, subst, arith}
 use Rattle.std.proofs.lemmas.Result.{err_from_is_err_and}
-use Rattle.kernel_calls.specs.Serving.{shim_stop}
-use Rattle.group_rounds.specs.Going.{telling}
+use Rattle.kernel_calls.specs.StateWorld.{shim_stop}
+use Rattle.group_rounds.specs.StatePlays.{telling}
 use Rattle.group_rounds.specs.Parts.{Ran, part_measure}
-use Rattle.group_rounds.proofs.GoingLaws.{on_err, some_weaker}
+use Rattle.group_rounds.proofs.StatePlayLaws.{on_err, some_weaker}
 use Rattle.group_rounds.proofs.Sound.{parts_passed, parts_on, parts_off, ready_then}
 use Rattle.group_rounds.proofs.CauseLaws.{stood_yet, stood_then}
 use Rattle.group_rounds.proofs.TurnLaws.{rest_begins, run_measure, goes_further, goes_out, goes_over_budget, rest_cut, rest_stopped}

@@ -1,9 +1,9 @@
 use Rattle.std.proofs.Common.{◌≡◌, ◌∷◌, ℕ, List}
 use Rattle.round_core.specs.Rest.{rest_of}
 use Rattle.proc_table.specs.Tables.{IsThread}
-use Rattle.kernel_calls.specs.Serving.{HaveParts, IsReady, IsSound}
+use Rattle.kernel_calls.specs.StateWorld.{HaveParts, IsReady, IsSound}
 use Rattle.dos_io.specs.Shims.{HasNoEnd}
-use Rattle.group_rounds.specs.Going.{GoesTo, telling}
+use Rattle.group_rounds.specs.StatePlays.{GoesTo, telling}
 use Rattle.group_rounds.specs.Outside.{HaveStood}
 use Rattle.group_rounds.specs.Parts.{KeepsCount, turns_left, part_measure}
 use Rattle.group_rounds.proofs.part.finish.Given as goal

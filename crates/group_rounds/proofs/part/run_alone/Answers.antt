@@ -1,5 +1,5 @@
 use Rattle.std.proofs.Common.{arith}
-use Rattle.group_rounds.proofs.RunningLaws.{budget_is}
+use Rattle.group_rounds.proofs.ThreadRunLaws.{budget_is}
 use Rattle.group_rounds.proofs.TurnLaws.{alone_runs}
 use Rattle.group_rounds.proofs.part.run_alone.Goals as goal
 

@@ -4,9 +4,9 @@ use Rattle.std.proofs.lemmas.Result.{err_from_is_err_and}
 use Rattle.dos_world.specs.World.{Thread}
 use Rattle.round_core.proofs.Faults.{step-small}
 use Rattle.proc_table.specs.Tables.{thread_in}
-use Rattle.kernel_calls.specs.Serving.{world_of}
-use Rattle.group_rounds.specs.Going.{telling}
-use Rattle.group_rounds.proofs.GoingLaws.{on_err}
+use Rattle.kernel_calls.specs.StateWorld.{world_of}
+use Rattle.group_rounds.specs.StatePlays.{telling}
+use Rattle.group_rounds.proofs.StatePlayLaws.{on_err}
 use Rattle.group_rounds.proofs.TurnLaws.{grant_goes, grant_measure, fault_goes, service_goes, on_measure, on_lives, told_on, served_count, parts_left, asks_no_end, turn_asks, turn_cut}
 use Rattle.group_rounds.proofs.part.take_turn.Goals as goal
 

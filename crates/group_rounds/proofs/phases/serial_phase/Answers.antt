@@ -1,7 +1,7 @@
 use Rattle.std.proofs.Common.{◌∙◌, refl}
-use Rattle.group_rounds.specs.Going.{telling}
-use Rattle.group_rounds.proofs.GoingLaws.{on_err, some_weaker}
-use Rattle.kernel_calls.specs.Serving.{shim_stop}
+use Rattle.group_rounds.specs.StatePlays.{telling}
+use Rattle.group_rounds.proofs.StatePlayLaws.{on_err, some_weaker}
+use Rattle.kernel_calls.specs.StateWorld.{shim_stop}
 use Rattle.std.proofs.lemmas.Result.{err_from_is_err_and}
 use Rattle.group_rounds.proofs.CauseLaws.{stood_yet, stood_then}
 use Rattle.group_rounds.proofs.PhaseLaws.{serial_starts, serial_next, serial_ends, serial_cut, serial_stopped, parts_at}

@@ -1,8 +1,8 @@
 use Rattle.std.proofs.Common.{◌≡◌, ℕ, drop}
 use Rattle.round_core.specs.Rest.{serial_of}
-use Rattle.kernel_calls.specs.Serving.{HaveParts, IsSound}
+use Rattle.kernel_calls.specs.StateWorld.{HaveParts, IsSound}
 use Rattle.dos_io.specs.Shims.{HasNoEnd}
-use Rattle.group_rounds.specs.Going.{GoesTo, telling}
+use Rattle.group_rounds.specs.StatePlays.{GoesTo, telling}
 use Rattle.group_rounds.specs.Outside.{HaveStood}
 use Rattle.group_rounds.specs.Parts.{KeepsCount}
 use Rattle.group_rounds.proofs.phases.serial_phase.Given as goal

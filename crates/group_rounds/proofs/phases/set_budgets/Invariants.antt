@@ -1,6 +1,6 @@
 use Rattle.std.proofs.Common.{◌≡◌, ℕ, List, drop}
 use Rattle.round_core.specs.Round.{with_budgets}
-use Rattle.kernel_calls.specs.Serving.{HaveParts, IsSound, sent, world_of}
+use Rattle.kernel_calls.specs.StateWorld.{HaveParts, IsSound, sent, world_of}
 use Rattle.group_rounds.specs.Phases.{AreLive}
 use Rattle.group_rounds.specs.Parts.{KeepsCount}
 use Rattle.group_rounds.proofs.phases.set_budgets.Given as goal

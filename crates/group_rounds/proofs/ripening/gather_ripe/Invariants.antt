@@ -1,6 +1,6 @@
 use Rattle.std.proofs.Common.{◌≤◌, ℕ, List, length}
 use Rattle.std.specs.Vec.{vec_capacity}
-use Rattle.kernel_calls.specs.Serving.{sent, world_of}
+use Rattle.kernel_calls.specs.StateWorld.{sent, world_of}
 use Rattle.group_rounds.specs.Phases.{is_ripe}
 use Rattle.group_rounds.proofs.Starters.{IsGathered, live_above}
 use Rattle.group_rounds.proofs.ripening.gather_ripe.Given as goal

@@ -1,6 +1,6 @@
 use Rattle.std.proofs.Common.{◌≡◌, ℕ, List, drop}
 use Rattle.dos_world.specs.Signals.{made_ready}
-use Rattle.kernel_calls.specs.Serving.{IsCounted, sent, world_of}
+use Rattle.kernel_calls.specs.StateWorld.{IsCounted, sent, world_of}
 use Rattle.group_rounds.specs.Parts.{KeepsCount}
 use Rattle.group_rounds.specs.Phases.{AreLive}
 use Rattle.group_rounds.proofs.ripening.set_ready.Given as goal

@@ -1,10 +1,10 @@
 use Rattle.std.proofs.Common.{sym, ap, ◌∙◌, length, eqb-true, eq-eqb}
 use Rattle.std.proofs.lemmas.Bool.{true≢false}
 use Rattle.std.proofs.lemmas.Result.{err_from_is_err_and}
-use Rattle.kernel_calls.specs.Serving.{shim_stop}
+use Rattle.kernel_calls.specs.StateWorld.{shim_stop}
 use Rattle.worker_pool.proofs.Growing.{grew-nothing}
-use Rattle.group_rounds.specs.Going.{telling}
-use Rattle.group_rounds.proofs.GoingLaws.{on_err, some_weaker}
+use Rattle.group_rounds.specs.StatePlays.{telling}
+use Rattle.group_rounds.proofs.StatePlayLaws.{on_err, some_weaker}
 use Rattle.group_rounds.proofs.RoundLaws.{begun_cut, begun_done, begun_goes, begun_stalls, begun_stopped}
 use Rattle.group_rounds.proofs.round.play_begun.Goals as goal
 

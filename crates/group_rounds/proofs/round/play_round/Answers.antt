@@ -2,11 +2,11 @@ use Rattle.std.proofs.Common.{refl, sym, ap, ◌∙◌}
 use Rattle.std.specs.Prelude.{OnSome, Option, Some, None}
 use Rattle.std.proofs.lemmas.Result.{IfOk-weaker, err_from_is_err_and, on_err_weaker}
 use Rattle.dos_io.specs.Shims.{ShimState}
-use Rattle.kernel_calls.specs.Serving.{shim_stop}
+use Rattle.kernel_calls.specs.StateWorld.{shim_stop}
 use Rattle.worker_pool.proofs.Growing.{grew-nothing}
-use Rattle.group_rounds.specs.Going.{telling}
+use Rattle.group_rounds.specs.StatePlays.{telling}
 use Rattle.group_rounds.specs.Outside.{is_end}
-use Rattle.group_rounds.proofs.GoingLaws.{on_err, if_err_weaker, ok_weaker, some_weaker}
+use Rattle.group_rounds.proofs.StatePlayLaws.{on_err, if_err_weaker, ok_weaker, some_weaker}
 use Rattle.group_rounds.proofs.RoundLaws.{nobody_starts, round_began, round_cut, round_done, round_ran, round_stopped, round_stops}
 use Rattle.group_rounds.proofs.StopLaws.{cut_stopped}
 use Rattle.dos_laws.specs.Plays.{world_ended}

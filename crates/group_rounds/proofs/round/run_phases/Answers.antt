@@ -1,8 +1,8 @@
 use Rattle.std.proofs.Common.{sym, subst}
 use Rattle.group_rounds.specs.Parts.{work_between}
 use Rattle.group_rounds.specs.Phases.{AreLive}
-use Rattle.group_rounds.proofs.GoingLaws.{on_err, some_weaker}
-use Rattle.kernel_calls.specs.Serving.{HaveParts, shim_stop}
+use Rattle.group_rounds.proofs.StatePlayLaws.{on_err, some_weaker}
+use Rattle.kernel_calls.specs.StateWorld.{HaveParts, shim_stop}
 use Rattle.std.proofs.lemmas.Result.{err_from_is_err_and}
 use Rattle.group_rounds.proofs.RoundLaws.{phases_go, phases_cut, phases_stopped}
 use Rattle.group_rounds.proofs.Sound.{parts_alone, parts_begin}

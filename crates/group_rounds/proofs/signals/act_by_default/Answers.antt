@@ -2,8 +2,8 @@ use Rattle.std.proofs.Common.{◌≡◌, ◌+◌, sym, ap, ◌∙◌, []}
 use Rattle.dos_world.specs.Kernel.{process_ended}
 use Rattle.dos_world.specs.Signals.{cleared}
 use Rattle.proc_table.specs.Tables.{thread_in}
-use Rattle.kernel_calls.specs.Serving.{sent, world_of}
-use Rattle.group_rounds.proofs.RunningLaws.{some_of, of_some}
+use Rattle.kernel_calls.specs.StateWorld.{sent, world_of}
+use Rattle.group_rounds.proofs.ThreadRunLaws.{some_of, of_some}
 use Rattle.group_rounds.proofs.SignalLaws.{thread_counted, if_some, ends_by_default}
 use Rattle.group_rounds.proofs.TurnLaws.{fault_count}
 use Rattle.group_rounds.proofs.signals.act_by_default.Goals as goal

@@ -1,6 +1,6 @@
 use Rattle.std.proofs.Common.{◌≡◌, ℕ, List, drop}
 use Rattle.dos_world.specs.Signals.{all_posted}
-use Rattle.kernel_calls.specs.Serving.{IsSound, sent, world_of}
+use Rattle.kernel_calls.specs.StateWorld.{IsSound, sent, world_of}
 use Rattle.group_rounds.specs.Parts.{KeepsCount}
 use Rattle.group_rounds.proofs.signals.post_all.Given as goal
 

@@ -1,7 +1,7 @@
 use Rattle.std.proofs.Common.{sym, ◌≡◌, ◌∙◌}
 use Rattle.dos_world.specs.Signals.{chosen}
 use Rattle.proc_table.specs.Tables.{thread_in}
-use Rattle.group_rounds.proofs.RunningLaws.{some_of, of_some}
+use Rattle.group_rounds.proofs.ThreadRunLaws.{some_of, of_some}
 use Rattle.group_rounds.proofs.SignalLaws.{chosen_signal, turn_sound, turn_world}
 use Rattle.group_rounds.proofs.signals.take_signal.Goals as goal
 

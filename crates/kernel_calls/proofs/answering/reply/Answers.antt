@@ -1,7 +1,7 @@
 use Rattle.std.proofs.Common.{sym, subst}
 use Rattle.dos_world.specs.World.{registers_by}
 use Rattle.dos_world.specs.Kernel.{answered}
-use Rattle.kernel_calls.specs.Serving.{IsCounted}
+use Rattle.kernel_calls.specs.StateWorld.{IsCounted}
 use Rattle.kernel_calls.proofs.Counted.{counted-thread_by}
 use Rattle.kernel_calls.proofs.answering.reply.Goals as goal
 

@@ -3,7 +3,7 @@ use Rattle.dos_world.specs.Kernel.{answered, minus}
 use Rattle.dos_world.specs.World.{in_state, registers_by}
 use Rattle.dos_world.specs.declared.ThreadState.TheVariants.{Retry}
 use Rattle.proc_table.specs.Tables.{Tables, thread_by}
-use Rattle.kernel_calls.specs.Serving.{IsCounted}
+use Rattle.kernel_calls.specs.StateWorld.{IsCounted}
 use Rattle.kernel_calls.proofs.Counted.{counted-thread_by}
 use Rattle.kernel_calls.proofs.Collecting.{collects_child, counted-collected}
 use Rattle.kernel_calls.proofs.children.wait.Goals as goal

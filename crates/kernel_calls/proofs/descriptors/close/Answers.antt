@@ -1,6 +1,6 @@
 use Rattle.dos_world.specs.DescriptorCalls.{close}
-use Rattle.kernel_calls.specs.Serving.{IsCounted}
-use Rattle.kernel_calls.specs.Calling.{GoesOn}
+use Rattle.kernel_calls.specs.StateWorld.{IsCounted}
+use Rattle.kernel_calls.specs.CallResults.{GoesOn}
 use Rattle.kernel_calls.specs.declared.state.Served.TheVariants.{Went}
 use Rattle.kernel_calls.proofs.DescriptorRows.{close_named, close_row}
 use Rattle.kernel_calls.proofs.descriptors.close.Goals as goal

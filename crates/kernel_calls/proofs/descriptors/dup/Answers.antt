@@ -2,8 +2,8 @@ use Rattle.std.proofs.Common.{refl, sym, subst, ap, ◌∙◌}
 use Rattle.dos_world.specs.Kernel.{minus}
 use Rattle.proc_table.specs.Tables.{Tables}
 use Rattle.dos_world.specs.DescriptorCalls.{dup}
-use Rattle.kernel_calls.specs.Serving.{IsCounted}
-use Rattle.kernel_calls.specs.Calling.{GoesOn}
+use Rattle.kernel_calls.specs.StateWorld.{IsCounted}
+use Rattle.kernel_calls.specs.CallResults.{GoesOn}
 use Rattle.kernel_calls.specs.declared.state.Served.TheVariants.{Went}
 use Rattle.kernel_calls.proofs.DescriptorRows.{dup_can_have, dup_full_row, dup_row}
 use Rattle.kernel_calls.proofs.Sending.{answering}

@@ -3,8 +3,8 @@ use Rattle.dos_world.specs.Kernel.{minus}
 use Rattle.dos_world.specs.DescriptorCalls.{pipe}
 use Rattle.dos_world.specs.declared.End.TheVariants.{PipeRead}
 use Rattle.kernel_objects.specs.Pipework.{Pipework}
-use Rattle.kernel_calls.specs.Serving.{IsCounted}
-use Rattle.kernel_calls.specs.Calling.{GoesOn}
+use Rattle.kernel_calls.specs.StateWorld.{IsCounted}
+use Rattle.kernel_calls.specs.CallResults.{GoesOn}
 use Rattle.kernel_calls.specs.declared.state.Served.TheVariants.{Went}
 use Rattle.kernel_calls.proofs.Callers.{process_lives}
 use Rattle.kernel_calls.proofs.PipeRow.{have_32, lives_still, one_free, pipe_few, pipe_full, pipe_row}

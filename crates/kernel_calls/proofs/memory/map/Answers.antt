@@ -1,7 +1,7 @@
 use Rattle.std.proofs.Common.{◌+◌, ◌≤◌, length}
 use Rattle.page_store.specs.Store.{free_count}
 use Rattle.proc_table.specs.Tables.{thread_in}
-use Rattle.kernel_mem.specs.Seen.{space_in}
+use Rattle.kernel_mem.specs.MemoryWorld.{space_in}
 use Rattle.kernel_mem.proofs.Children.{to-process}
 use Rattle.kernel_calls.proofs.Callers.{process_lives}
 use Rattle.kernel_calls.proofs.Room.{has_room}

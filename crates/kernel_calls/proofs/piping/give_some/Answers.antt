@@ -1,7 +1,7 @@
 use Rattle.std.proofs.Common.{take, ap, sym, ◌∙◌, arith}
 use Rattle.dos_world.specs.declared.Access.TheVariants.{Load}
 use Rattle.proc_table.specs.Tables.{Tables}
-use Rattle.kernel_mem.specs.Seen.{in_world}
+use Rattle.kernel_mem.specs.MemoryWorld.{in_world}
 use Rattle.kernel_objects.specs.Pipework.{Pipework}
 use Rattle.kernel_calls.specs.declared.state.State.{State}
 use Rattle.kernel_calls.proofs.Keeping.{mapped}

@@ -2,7 +2,7 @@ use Rattle.std.proofs.Common.{length, ap, sym, ◌∙◌, arith}
 use Rattle.std.specs.Prelude.{min}
 use Rattle.dos_world.specs.Kernel.{copied_out}
 use Rattle.dos_world.specs.declared.Access.TheVariants.{Store}
-use Rattle.kernel_mem.specs.Seen.{in_world}
+use Rattle.kernel_mem.specs.MemoryWorld.{in_world}
 use Rattle.kernel_objects.specs.Pipework.{Pipework, bytes_at}
 use Rattle.kernel_calls.proofs.Keeping.{mapped}
 use Rattle.kernel_calls.proofs.PipeBytes.{some_least, taken}

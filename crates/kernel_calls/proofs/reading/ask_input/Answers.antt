@@ -1,6 +1,6 @@
 use Rattle.std.proofs.Common.{refl}
 use Rattle.dos_world.specs.declared.Access.TheVariants.{Store}
-use Rattle.kernel_mem.specs.Seen.{in_world}
+use Rattle.kernel_mem.specs.MemoryWorld.{in_world}
 use Rattle.kernel_calls.proofs.InputRows.{input_consults}
 use Rattle.kernel_calls.proofs.Keeping.{mapped}
 use Rattle.kernel_calls.proofs.Transferring.{counted_moved, reach_first}

@@ -5,8 +5,8 @@ use Rattle.dos_world.specs.Play.{done}
 use Rattle.dos_world.specs.Services.{went, refuses, returns_in}
 use Rattle.dos_world.specs.SignalCalls.{with_action}
 use Rattle.proc_table.specs.Tables.{Tables, held_in, thread_by}
-use Rattle.kernel_calls.specs.Serving.{sent, world_of}
-use Rattle.kernel_calls.specs.Calling.{call_in}
+use Rattle.kernel_calls.specs.StateWorld.{sent, world_of}
+use Rattle.kernel_calls.specs.CallResults.{call_in}
 use Rattle.kernel_calls.specs.declared.state.State.{State}
 use Rattle.kernel_calls.specs.declared.state.Asked.{Asked}
 use Rattle.kernel_calls.proofs.Counted.{all_counted, all_counted-changed, counted-table}

@@ -9,9 +9,9 @@ use Rattle.dos_world.specs.Services.{Call, waits, went, refuses_in}
 use Rattle.dos_world.specs.declared.ThreadState.TheVariants.{Ready}
 use Rattle.dos_laws.proofs.Mapped.{entry_taken}
 use Rattle.proc_table.specs.Tables.{Tables, thread_in}
-use Rattle.kernel_mem.specs.Seen.{in_world}
-use Rattle.kernel_calls.specs.Serving.{sent, world_of}
-use Rattle.kernel_calls.specs.Calling.{call_in}
+use Rattle.kernel_mem.specs.MemoryWorld.{in_world}
+use Rattle.kernel_calls.specs.StateWorld.{sent, world_of}
+use Rattle.kernel_calls.specs.CallResults.{call_in}
 use Rattle.kernel_calls.specs.declared.state.State.{State}
 use Rattle.kernel_calls.proofs.Counted.{all_counted, counted-frames, counted-queue, counted-table}
 use Rattle.kernel_calls.proofs.Keeping.{mapped}

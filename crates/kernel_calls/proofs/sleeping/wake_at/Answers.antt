@@ -3,8 +3,8 @@ use Rattle.dos_world.specs.World.{World, Process}
 use Rattle.dos_world.specs.FutexCalls.{sleepers_at}
 use Rattle.dos_world.specs.Play.{done}
 use Rattle.dos_world.specs.Services.{Call, went, returns_in}
-use Rattle.kernel_calls.specs.Serving.{sent, world_of}
-use Rattle.kernel_calls.specs.Calling.{call_in}
+use Rattle.kernel_calls.specs.StateWorld.{sent, world_of}
+use Rattle.kernel_calls.specs.CallResults.{call_in}
 use Rattle.kernel_calls.specs.Queued.{queued}
 use Rattle.kernel_calls.specs.declared.state.State.{State}
 use Rattle.kernel_calls.proofs.Counted.{all_counted, counted-queue, counted-table}

@@ -4,7 +4,7 @@ use Rattle.dos_world.specs.Kernel.{process_ended}
 use Rattle.dos_world.specs.Play.{done}
 use Rattle.dos_world.specs.Services.{gone}
 use Rattle.proc_table.specs.Tables.{Tables}
-use Rattle.kernel_calls.specs.Serving.{IsCounted, sent, world_of}
+use Rattle.kernel_calls.specs.StateWorld.{IsCounted, sent, world_of}
 use Rattle.kernel_calls.proofs.Counted.{counted-threads}
 use Rattle.kernel_calls.proofs.threads.thread_exit.Goals as goal
 

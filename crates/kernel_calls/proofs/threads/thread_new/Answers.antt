@@ -1,6 +1,6 @@
 use Rattle.std.proofs.Common.{sym, subst}
 use Rattle.proc_table.specs.Tables.{Tables, IsThread}
-use Rattle.kernel_calls.specs.Serving.{IsCounted}
+use Rattle.kernel_calls.specs.StateWorld.{IsCounted}
 use Rattle.kernel_calls.proofs.Changed.{thread_stands}
 use Rattle.kernel_calls.proofs.Counted.{counted-threads}
 use Rattle.kernel_calls.proofs.threads.thread_new.Goals as goal

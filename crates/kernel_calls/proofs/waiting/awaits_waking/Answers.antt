@@ -4,9 +4,9 @@ use Rattle.std.proofs.lemmas.Bool.Decides.{nat_tests}
 use Rattle.dos_world.specs.World.{World, entry_at}
 use Rattle.dos_world.specs.Calls.{Call}
 use Rattle.dos_laws.proofs.Mapped.{entry_taken}
-use Rattle.kernel_mem.specs.Seen.{entry_in}
-use Rattle.kernel_calls.specs.Serving.{sent, world_of}
-use Rattle.kernel_calls.specs.Calling.{call_in, paid}
+use Rattle.kernel_mem.specs.MemoryWorld.{entry_in}
+use Rattle.kernel_calls.specs.StateWorld.{sent, world_of}
+use Rattle.kernel_calls.specs.CallResults.{call_in, paid}
 use Rattle.kernel_calls.proofs.Keeping.{lawful_now}
 use Rattle.kernel_calls.proofs.Waits.{entry_paid, futex_tells, word_tells}
 use Rattle.kernel_calls.proofs.waiting.awaits_waking.Goals as goal

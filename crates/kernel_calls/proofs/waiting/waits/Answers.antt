@@ -3,8 +3,8 @@ use Rattle.std.proofs.lemmas.Bool.Decides.{nat_tests}
 use Rattle.dos_world.specs.Calls.{Service}
 use Rattle.dos_world.specs.Services.{service_of}
 use Rattle.dos_world.specs.Signals.{play_waits}
-use Rattle.kernel_calls.specs.Serving.{sent, world_of}
-use Rattle.kernel_calls.specs.Calling.{call_in, paid}
+use Rattle.kernel_calls.specs.StateWorld.{sent, world_of}
+use Rattle.kernel_calls.specs.CallResults.{call_in, paid}
 use Rattle.kernel_calls.proofs.Patient.{patient, row_5, row_7, row_8, row_11}
 use Rattle.kernel_calls.proofs.waiting.waits.Goals as goal
 

@@ -1,8 +1,8 @@
 use Rattle.std.proofs.Common.{sym, ap, ◌∙◌}
 use Rattle.dos_world.specs.Calls.{Call, Service}
 use Rattle.dos_world.specs.Signals.{play_waits}
-use Rattle.kernel_calls.specs.Serving.{sent, world_of}
-use Rattle.kernel_calls.specs.Calling.{call_in, paid}
+use Rattle.kernel_calls.specs.StateWorld.{sent, world_of}
+use Rattle.kernel_calls.specs.CallResults.{call_in, paid}
 use Rattle.kernel_calls.proofs.Called.{asked, called}
 use Rattle.kernel_calls.proofs.Named.{named_is}
 use Rattle.kernel_calls.proofs.waiting.would_wait.Goals as goal

@@ -1,9 +1,9 @@
 use Rattle.std.proofs.Common.{◌≡◌, sym, ap, ◌∙◌}
 use Rattle.dos_world.specs.Kernel.{all_reach, copied_in, minus}
 use Rattle.dos_world.specs.declared.Access.TheVariants.{Load}
-use Rattle.kernel_mem.specs.Seen.{in_world}
-use Rattle.kernel_calls.specs.Serving.{base, sent}
-use Rattle.kernel_calls.specs.Calling.{asked_count}
+use Rattle.kernel_mem.specs.MemoryWorld.{in_world}
+use Rattle.kernel_calls.specs.StateWorld.{base, sent}
+use Rattle.kernel_calls.specs.CallResults.{asked_count}
 use Rattle.kernel_calls.proofs.Sending.{sent-nothing, sent-refusal, sent-bytes, cut-bytes, answering}
 use Rattle.kernel_calls.proofs.writing.send.Goals as goal
 

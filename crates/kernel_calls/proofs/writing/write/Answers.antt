@@ -4,8 +4,8 @@ use Rattle.dos_world.specs.Services.{went, write, write_by}
 use Rattle.dos_world.specs.declared.End.{End}
 use Rattle.dos_world.specs.declared.End.TheVariants.{PipeWrite}
 use Rattle.proc_table.specs.Tables.{held_in, end_in}
-use Rattle.kernel_calls.specs.Serving.{IsSound, sent, world_of}
-use Rattle.kernel_calls.specs.Calling.{AreAsked, call_in, target_of}
+use Rattle.kernel_calls.specs.StateWorld.{IsSound, sent, world_of}
+use Rattle.kernel_calls.specs.CallResults.{AreAsked, call_in, target_of}
 use Rattle.kernel_calls.specs.declared.state.State.{State}
 use Rattle.kernel_calls.specs.declared.state.Asked.{Asked}
 use Rattle.kernel_calls.specs.declared.writing.Target.{Target}

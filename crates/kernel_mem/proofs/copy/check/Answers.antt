@@ -1,6 +1,6 @@
 use Rattle.std.proofs.Common.{◌≡◌, ◌+◌, ◌-◌, ◌∙◌, sym, ap, arith}
 use Rattle.dos_world.specs.Kernel.{all_reach}
-use Rattle.kernel_mem.specs.Seen.{in_world}
+use Rattle.kernel_mem.specs.MemoryWorld.{in_world}
 use Rattle.kernel_mem.proofs.Reaching.{reach_more, reach_stop}
 use Rattle.kernel_mem.proofs.copy.check.Goals as goal
 

@@ -2,7 +2,7 @@ use Rattle.std.proofs.Common.{◌≡◌, ◌-◌, ◌≤◌, true}
 use Rattle.dos_world.specs.World.{World}
 use Rattle.dos_world.specs.Kernel.{all_reach}
 use Rattle.page_store.specs.Store.{Store as Held}
-use Rattle.kernel_mem.specs.Seen.{in_world}
+use Rattle.kernel_mem.specs.MemoryWorld.{in_world}
 use Rattle.kernel_mem.proofs.copy.check.Given as goal
 
 -- each of the bytes so far is reached

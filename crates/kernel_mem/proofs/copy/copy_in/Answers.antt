@@ -1,6 +1,6 @@
 use Rattle.std.proofs.Common.{length, refl, ap, ◌∙◌, arith}
 use Rattle.dos_world.specs.declared.Access.TheVariants.{Load}
-use Rattle.kernel_mem.specs.Seen.{in_world}
+use Rattle.kernel_mem.specs.MemoryWorld.{in_world}
 use Rattle.kernel_mem.proofs.Reaching.{reach_front, reach_back, reach_stores}
 use Rattle.kernel_mem.proofs.Copying.{read_split, prefixed}
 use Rattle.kernel_mem.proofs.copy.copy_in.Goals as goal

@@ -1,7 +1,7 @@
 use Rattle.std.proofs.Common.{◌+◌, length, refl, ap, ◌∙◌, arith}
 use Rattle.dos_world.specs.Kernel.{copied_out}
 use Rattle.dos_world.specs.declared.Access.TheVariants.{Store}
-use Rattle.kernel_mem.specs.Seen.{in_world}
+use Rattle.kernel_mem.specs.MemoryWorld.{in_world}
 use Rattle.kernel_mem.proofs.Reaching.{reach_front, reach_back, reach_stores}
 use Rattle.kernel_mem.proofs.Copying.{written_split}
 use Rattle.kernel_mem.proofs.Keeping.{others-then}

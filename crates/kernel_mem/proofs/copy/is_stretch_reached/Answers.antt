@@ -1,5 +1,5 @@
 use Rattle.std.proofs.Common.{◌∙◌, sym, ap}
-use Rattle.kernel_mem.specs.Seen.{in_world, is_allowed}
+use Rattle.kernel_mem.specs.MemoryWorld.{in_world, is_allowed}
 use Rattle.kernel_mem.proofs.Reaching.{reach_page}
 use Rattle.kernel_mem.proofs.copy.is_stretch_reached.Goals as goal
 

@@ -1,7 +1,7 @@
 use Rattle.std.proofs.Common.{◌≡◌}
 use Rattle.std.specs.Prelude.{Some}
 use Rattle.page_store.proofs.Counts.{owned-within}
-use Rattle.kernel_mem.specs.Seen.{entry_in}
+use Rattle.kernel_mem.specs.MemoryWorld.{entry_in}
 use Rattle.kernel_mem.proofs.copy.open.Goals as goal
 
 pub owner-requires : goal.owner-requires

@@ -6,7 +6,7 @@ use Rattle.dos_world.specs.declared.Entry.{Entry}
 use Rattle.dos_world.specs.World.{look}
 use Rattle.space_map.specs.Mapping.{IsRising, no_entry as no_page}
 use Rattle.proc_table.specs.Tables.{Tables}
-use Rattle.kernel_mem.specs.Seen.{space_in}
+use Rattle.kernel_mem.specs.MemoryWorld.{space_in}
 use Rattle.kernel_mem.specs.Forking.{with_space}
 use Rattle.kernel_mem.proofs.Copies.{private-more, private-left}
 use Rattle.kernel_mem.proofs.Loops.{space-is, lent-space, other-live, still-live, copying-none, of-space, look-above, pages-below, copying-more}

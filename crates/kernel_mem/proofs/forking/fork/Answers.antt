@@ -8,7 +8,7 @@ use Rattle.dos_world.specs.Kernel.{free_frames}
 use Rattle.dos_world.specs.ProcessCalls.{forked, private_entries}
 use Rattle.page_store.specs.Store.{uses_at}
 use Rattle.proc_table.specs.Tables.{IsProcess, thread_in}
-use Rattle.kernel_mem.specs.Seen.{in_world, space_in}
+use Rattle.kernel_mem.specs.MemoryWorld.{in_world, space_in}
 use Rattle.kernel_mem.specs.Forking.{AreTaken, fork_call, fork_result}
 use Rattle.kernel_mem.proofs.Loops.{space-is}
 use Rattle.kernel_mem.proofs.Children.{HasChild, has-child, of-process, to-process, parent-lives, child-lives, apart, parent-space, child-space, forked-ok, forked-few}

@@ -8,7 +8,7 @@ use Rattle.dos_world.specs.Kernel.{free_frames}
 use Rattle.dos_world.specs.MemoryCalls.{mapped}
 use Rattle.proc_table.specs.Tables.{IsProcess, thread_in}
 use Rattle.kernel_mem.specs.Ranges.{are_range, maps_any, range_call}
-use Rattle.kernel_mem.specs.Seen.{in_world, space_in}
+use Rattle.kernel_mem.specs.MemoryWorld.{in_world, space_in}
 use Rattle.kernel_mem.proofs.Children.{of-process, to-process}
 use Rattle.kernel_mem.proofs.Loops.{space-is}
 use Rattle.kernel_mem.proofs.Runs.{map_is}

@@ -6,7 +6,7 @@ use Rattle.kernel_mem.proofs.Copies.{some-free}
 use Rattle.kernel_mem.proofs.Loops.{of-space}
 use Rattle.kernel_mem.proofs.MapRun.{IsMapping, filling-none, filling-more, filling-lives, filling-mapped, filling-ends}
 use Rattle.kernel_mem.proofs.Runs.{any_entry}
-use Rattle.kernel_mem.specs.Seen.{space_in}
+use Rattle.kernel_mem.specs.MemoryWorld.{space_in}
 use Rattle.kernel_mem.proofs.map.map_run.Goals as goal
 
 pub put_run-requires-clause-unmapped : goal.put_run-requires-clause-unmapped

@@ -4,7 +4,7 @@ use Rattle.dos_world.specs.World.{World}
 use Rattle.dos_world.specs.MemoryCalls.{shared}
 use Rattle.proc_table.specs.Tables.{IsProcess, thread_in}
 use Rattle.page_store.specs.Store.{Store}
-use Rattle.kernel_mem.specs.Seen.{in_world, space_in}
+use Rattle.kernel_mem.specs.MemoryWorld.{in_world, space_in}
 use Rattle.kernel_mem.specs.Ranges.{are_range, maps_all, range_call}
 use Rattle.kernel_mem.proofs.Children.{of-process, to-process}
 use Rattle.kernel_mem.proofs.Runs.{where_is}

@@ -2,7 +2,7 @@ use Rattle.std.proofs.Common.{◌≡◌, true, Option, None, Some, IsSome, refl,
 use Rattle.dos_world.specs.declared.Access.TheVariants.{Load}
 use Rattle.dos_world.specs.declared.Entry.{Entry}
 use Rattle.page_store.specs.Store.{Store as Held}
-use Rattle.kernel_mem.specs.Seen.{in_world, entry_in, is_allowed}
+use Rattle.kernel_mem.specs.MemoryWorld.{in_world, entry_in, is_allowed}
 use Rattle.kernel_mem.proofs.Reaching.{HasFrame, frame_of, opened_world}
 use Rattle.kernel_mem.proofs.Keeping.{open-reads}
 use Rattle.kernel_mem.proofs.words.grant_load.Goals as goal

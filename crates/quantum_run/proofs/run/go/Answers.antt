@@ -1,15 +1,15 @@
 use Rattle.std.proofs.Common.{ℕ, ◌-◌, ◌<◌, List, None, Some, sym, subst, arith}
 use Rattle.dos_world.specs.World.{World, Registers, with_pc}
-use Rattle.rv_exec.specs.Going.{arrived}
+use Rattle.rv_exec.specs.Arrivals.{arrived}
 use Rattle.rv_exec.specs.declared.next.Next.TheVariants.{On, To, Not}
 use Rattle.rv_exec.specs.declared.Went.TheVariants.{Stop}
 use Rattle.rv_exec.proofs.Stepping.{steps}
 use Rattle.rv_exec.proofs.Whole.{follows_err, one_err}
 use Rattle.rv_form.specs.Notes.{Note, note_at}
-use Rattle.quantum_run.specs.declared.running.Running.{Running}
-use Rattle.quantum_run.specs.Running.{Goes, Reaches}
+use Rattle.quantum_run.specs.declared.thread_memory.Running.{Running}
+use Rattle.quantum_run.specs.ThreadRuns.{Goes, Reaches}
 use Rattle.quantum_run.specs.Showing.{blind_known, ShowsBy, ShowsKnown, Still, still}
-use Rattle.quantum_run.proofs.Going.{goes-shown, goes-stopped, reaches-more, reaches-shown}
+use Rattle.quantum_run.proofs.RunSteps.{goes-shown, goes-stopped, reaches-more, reaches-shown}
 use Rattle.quantum_run.proofs.run.go.Given as given
 use Rattle.quantum_run.proofs.run.go.Goals as goal
 use Rattle.quantum_run.proofs.run.go.Goals.{in-On, in-To}

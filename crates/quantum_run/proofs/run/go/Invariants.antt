@@ -1,7 +1,7 @@
 use Rattle.std.proofs.Common.{ℕ, ◌<◌, ◌≤◌}
 use Rattle.dos_world.specs.World.{World, with_pc}
 use Rattle.rv_exec.specs.Runs.{Runs}
-use Rattle.quantum_run.specs.Running.{Reaches}
+use Rattle.quantum_run.specs.ThreadRuns.{Reaches}
 use Rattle.quantum_run.specs.Showing.{ShowsBy, ShowsKnown, Still, still}
 use Rattle.quantum_run.proofs.run.go.Given as goal
 

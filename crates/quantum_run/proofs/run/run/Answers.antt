@@ -1,6 +1,6 @@
 use Rattle.std.proofs.Common.{ap}
 use Rattle.quantum_run.specs.Showing.{Still, still}
-use Rattle.quantum_run.specs.Running.{IsRunOf, run_to, store_of}
+use Rattle.quantum_run.specs.ThreadRuns.{IsRunOf, run_to, store_of}
 use Rattle.quantum_run.proofs.Whole.{stands, ends, stops, stops-both}
 use Rattle.quantum_run.proofs.run.run.Goals as goal
 

@@ -1,4 +1,4 @@
-use Rattle.rv_exec.proofs.Seen.{steps-alike}
+use Rattle.rv_exec.proofs.Dependence.{steps-alike}
 use Rattle.rv_exec.proofs.laws.steps_stay.Goals as goal
 
 pub returns : goal.returns

@@ -3,7 +3,7 @@ use Rattle.dos_world.specs.World.{with_pc, get}
 use Rattle.rv_exec.specs.Effect.{Effect, combined, onward, exchange, link, conditional, is_held, atomic}
 use Rattle.rv_exec.specs.Over.{effect_in, world_answers}
 use Rattle.rv_exec.specs.Follows.{Follows}
-use Rattle.rv_exec.specs.Going.{arrived, went}
+use Rattle.rv_exec.specs.Arrivals.{arrived, went}
 use Rattle.rv_exec.proofs.Atomics.{by_new_word}
 use Rattle.rv_exec.proofs.on_memory.atomic.Goals as goal
 

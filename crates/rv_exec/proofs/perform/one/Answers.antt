@@ -1,5 +1,5 @@
 use Rattle.dos_world.specs.World.{with_pc}
-use Rattle.rv_exec.specs.Going.{arrived, went}
+use Rattle.rv_exec.specs.Arrivals.{arrived, went}
 use Rattle.rv_exec.proofs.Beside.{follows_put, steps_put}
 use Rattle.rv_exec.proofs.Stepping.{steps}
 use Rattle.rv_exec.proofs.perform.one.Goals as goal

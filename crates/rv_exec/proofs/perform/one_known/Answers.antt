@@ -3,7 +3,7 @@ use Rattle.std.specs.Prelude.{Result}
 use Rattle.dos_world.specs.World.{World, Registers, with_pc}
 use Rattle.dos_world.specs.declared.Reason.{Reason}
 use Rattle.rv_exec.specs.Follows.{Follows}
-use Rattle.rv_exec.specs.Going.{arrived, went}
+use Rattle.rv_exec.specs.Arrivals.{arrived, went}
 use Rattle.rv_exec.proofs.Stepping.{steps}
 use Rattle.rv_exec.proofs.Whole.{one_word}
 use Rattle.rv_exec.proofs.ByForm.{of_form}

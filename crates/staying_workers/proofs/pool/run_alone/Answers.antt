@@ -1,4 +1,4 @@
-use Rattle.worker_pool.proofs.Running.{runnable-in, ran-in}
+use Rattle.worker_pool.proofs.RanPacks.{runnable-in, ran-in}
 use Rattle.staying_workers.proofs.pool.run_alone.Goals as goal
 
 pub run_in_place-requires-clause-can : goal.run_in_place-requires-clause-can

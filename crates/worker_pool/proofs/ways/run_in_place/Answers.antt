@@ -1,6 +1,6 @@
 use Rattle.std.proofs.Common.{arith, sym}
 use Rattle.quantum_run.specs.Packs.{seen}
-use Rattle.worker_pool.proofs.Running.{one-more}
+use Rattle.worker_pool.proofs.RanPacks.{one-more}
 use Rattle.worker_pool.proofs.ways.run_in_place.Goals as goal
 
 pub loop-place-preserved : goal.loop-place-preserved

@@ -3,7 +3,7 @@ use Rattle.quantum_run.specs.Packs.{seen}
 use Rattle.quantum_run.specs.Shows.{Pack}
 use Rattle.worker_pool.specs.Lending.{packs_of, IsFinished}
 use Rattle.worker_pool.specs.Ran.{AllRunnable, EachRan}
-use Rattle.worker_pool.proofs.Running.{ready-of, as-many, finished-ran, packs-length}
+use Rattle.worker_pool.proofs.RanPacks.{ready-of, as-many, finished-ran, packs-length}
 use Rattle.worker_pool.proofs.ways.run_shared.Goals as goal
 
 pub run_each-requires-clause-ready : goal.run_each-requires-clause-ready

@@ -3,9 +3,9 @@ use Rattle.quantum_run.specs.Packs.{seen_in}
 use Rattle.quantum_run.specs.Shows.{Pack}
 use Rattle.quantum_run.specs.declared.pack.Shared.{Shared}
 use Rattle.worker_pool.specs.Ran.{AllCanRun, AllRan}
-use Rattle.worker_pool.proofs.Running.{as-many}
+use Rattle.worker_pool.proofs.RanPacks.{as-many}
 use Rattle.staying_workers.specs.Lending.{IsFinished, packs_of}
-use Rattle.staying_workers.proofs.Running.{all_ran, ready_of}
+use Rattle.staying_workers.proofs.RanPacks.{all_ran, ready_of}
 use Rattle.staying_workers.proofs.pool.Clerks.run_owned.Goals as goal
 
 pub run_each-requires-clause-ready : goal.run_each-requires-clause-ready

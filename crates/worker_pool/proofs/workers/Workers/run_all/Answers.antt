@@ -1,6 +1,6 @@
 use Rattle.std.proofs.Common.{rules}
 use Rattle.quantum_run.specs.Packs.{seen_in}
-use Rattle.worker_pool.proofs.Running.{budgets-fall}
+use Rattle.worker_pool.proofs.RanPacks.{budgets-fall}
 use Rattle.worker_pool.proofs.workers.Workers.run_all.Goals as goal
 
 pub overflow_sub-before : goal.overflow_sub-before

@@ -1,0 +1,93 @@
+-- What it means that the kernel has run a group to its end, or that the run has stopped. This
+-- project's own rules.
+use Rattle.std.specs.Prelude.{ℕ, ◌≡◌, ◌-◌, Bool, true, false, not, List, [], ◌∷◌, ◌++◌, map, Option, Some, None, Result, Ok, Err}
+use Rattle.dos_world.specs.World.{World}
+use Rattle.dos_world.specs.Play.{Play, done, over, questions, asks}
+use Rattle.dos_world.specs.declared.Config.{Config}
+use Rattle.dos_world.specs.declared.Ending.{Ending}
+use Rattle.dos_world.specs.declared.Question.{Question}
+use Rattle.dos_io.specs.Exchanges.{question_of, answer_of}
+use Rattle.dos_io.specs.Outside.{IsFront}
+use Rattle.dos_io.specs.Shims.{HasNoEnd}
+use Rattle.dos_io.specs.declared.exchange.Exchange.{Exchange}
+use Rattle.dos_io.specs.declared.exchange.Exchange.TheVariants.{End as end_exchange}
+use Rattle.kernel_calls.specs.StateWorld.{sent, shim_stop, world_of}
+use Rattle.kernel_calls.specs.declared.state.RunStop.{RunStop}
+use Rattle.kernel_calls.specs.declared.state.State.{State}
+use Rattle.group_rounds.specs.Plays.{GoesOn}
+use Rattle.group_rounds.specs.StatePlays.{Telling, ToldMore}
+use Rattle.group_rounds.specs.Outside.{is_end}
+use Rattle.dpg_run.specs.Fits.{FitsFrom}
+use Rattle.dpg_run.specs.Machine.{Finish, Ran, machine_from, rounds_from, run_from, ends, needs, status_in}
+
+-- how a run ended, in which world, after so much work
+abbrev pub finish_in : Ending → World → ℕ → Finish
+finish_in ending w work = record { ending = ending; world = w; work = work }
+
+-- The rounds of the machine from the old state's world, over the exchanges that are told more, have
+-- ended so, in the new state's world with the bytes that are told more, after so much work.
+pub record RanRounds (config : Config) (old : State) (before : Telling) (ending : Ending)
+    (new : State) (after : Telling) (work : ℕ) : Type 0 where
+  pub more : ToldMore before after
+  pub goes : GoesOn more.exchanges (rounds_from (world_of config.quantum old) config)
+      (done (finish_in ending (sent more.output more.error (world_of config.quantum new)) work))
+
+-- The machine from the old state's world, over the exchanges that are told more, has sent what is
+-- told more, has these statuses and has ended so, after so much work. The exchanges fit.
+pub record RanGroup (config : Config) (old : State) (before : Telling) (ending : Ending)
+    (new : State) (after : Telling) (work : ℕ) : Type 0 where
+  pub more : ToldMore before after
+  pub fits : FitsFrom (world_of config.quantum old) config more.exchanges
+  pub ends : machine_from (world_of config.quantum old) config (map answer_of more.exchanges)
+      ≡ ends (record {
+        questions = map question_of more.exchanges;
+        output = more.output;
+        error = more.error;
+        statuses = map status_in new.table.processes;
+        ending = ending;
+        rounds = new.round - 1;
+        work = work;
+      })
+
+-- The run from the old state's world has come to a question, which may be its end, after the
+-- exchanges and the bytes that are told more.
+pub record StoppedGroup (config : Config) (old : State) (before after : Telling)
+    (asked : Option Question) : Type 0 where
+  pub more : ToldMore before after
+  pub question : Question
+  pub asked_is : asked ≡ Some question
+  pub asks : over (map answer_of more.exchanges) (run_from (world_of config.quantum old) config)
+      ≡ asks question more.output more.error
+  pub asked_so : questions (map answer_of more.exchanges)
+      (run_from (world_of config.quantum old) config)
+      ≡ map question_of more.exchanges ++ question ∷ []
+
+-- These are fronts of what a run sends to output and to error, whether it ends or needs an answer.
+abbrev pub AreFronts : (output error : List ℕ) → Ran → Type 0
+AreFronts output error (ends seen) = IsFront output seen.output × IsFront error seen.error
+AreFronts output error (needs question all_output all_error) =
+    IsFront output all_output × IsFront error all_error
+
+-- The run was cut off: it has asked what the exchanges that are told more asked, and would go on.
+-- The bytes that the sinks tell more are fronts of what the machine sends over the answers of those
+-- exchanges.
+pub record CutGroup (config : Config) (old : State) (before after : Telling) : Type 0 where
+  pub more : ToldMore before after
+  pub goes : (left : Play Finish)
+      × GoesOn more.exchanges (run_from (world_of config.quantum old) config) left
+  pub fronts : AreFronts more.output more.error (machine_from (world_of config.quantum old) config
+      (map answer_of more.exchanges))
+
+-- The last of these exchanges is the end of a run that ended so, after so many rounds, and none
+-- before it is an end.
+pub record AreEnded (ending : Ending) (rounds : ℕ) (told : List Exchange) : Type 0 where
+  pub before : List Exchange
+  pub told_is : told ≡ before ++ end_exchange ending rounds ∷ []
+  pub running : HasNoEnd before
+
+-- Whether the kernel has failed after a run that came to this, where the shim's last stop was at
+-- that question: not where the run ended or the shim stopped at its end, and else it has.
+abbrev pub has_failed : Result Ending RunStop → Option Question → Bool
+has_failed (Ok ending) asked = false
+has_failed (Err stop) asked =
+    elim (shim_stop stop) [ None ↦ true | Some reason ↦ not (is_end asked) ]

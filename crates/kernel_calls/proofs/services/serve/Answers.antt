@@ -1,0 +1,80 @@
+use Rattle.std.proofs.Common.{sym, ap, ◌∙◌, subst}
+use Rattle.dos_world.specs.Services.{charged, service}
+use Rattle.proc_table.specs.Tables.{Tables, IsThread}
+use Rattle.kernel_calls.specs.StateWorld.{Answers, Stands, shim_stop}
+use Rattle.kernel_calls.specs.CallResults.{AreAsked}
+use Rattle.kernel_calls.specs.declared.state.State.{State}
+use Rattle.kernel_calls.proofs.Changed.{lives_changed}
+use Rattle.kernel_calls.proofs.Keeping.{sound-stands, stands-restored}
+use Rattle.kernel_calls.proofs.Called.{answers_called, asks_called, faulted_called}
+use Rattle.kernel_calls.proofs.AfterService.{sound-served, parts-served}
+use Rattle.kernel_calls.proofs.services.serve.Given as given
+use Rattle.kernel_calls.proofs.services.serve.Goals as goal
+
+pub dispatch-requires-clause-asked : goal.dispatch-requires-clause-asked
+dispatch-requires-clause-asked g c =
+    subst (λ (s : State). AreAsked s c.call_by-service.result.1) (sym c.charge.ensures.charges)
+    c.call_by-service.ensures.asked
+
+pub restore-requires : goal.restore-requires
+restore-requires g c =
+    subst (λ (T : Tables). IsThread T.threads c.args.tid)
+    (sym (c.in-Err.ensures.stands.table
+    ∙ ap (λ (s : State). s.table) c.charge.ensures.charges))
+    (lives_changed charged c.args.state.now.table.threads c.args.tid c.requires.live)
+
+-- what was served
+runs : (g : given.Over) (c : goal.In-Ok g)
+    → Answers (λ w. service w c.args.tid) c.args.state.now (g.S.Shim.state c.args.shim.now).told
+    (g.S.Shim.state c.dispatch.new.shim).told c.in-Ok.way c.dispatch.new.state
+    (g.O.Sink.told c.args.out.now) (g.O.Sink.told c.dispatch.new.out)
+    (g.E.Sink.told c.args.err.now) (g.E.Sink.told c.dispatch.new.err)
+runs g c =
+    answers_called c.args.state.now c.charge.new.state c.args.tid c.call_by-service.result.0
+    c.call_by-service.result.1 c.charge.ensures.charges c.call_by-service.ensures.calls
+    c.dispatch.new.state _ _
+    c.in-Ok.way _ _ _ _ c.in-Ok.ensures.runs
+
+pub returns-in-Ok-clause-runs : goal.returns-in-Ok-clause-runs
+returns-in-Ok-clause-runs g c = runs g c
+
+pub returns-in-Ok-clause-sound : goal.returns-in-Ok-clause-sound
+returns-in-Ok-clause-sound g c =
+    sound-served _ c.dispatch.new.state c.args.tid c.in-Ok.way _ _ _ _ _ _ (runs g c)
+    c.requires.sound c.requires.ready c.in-Ok.ensures.counted
+
+pub returns-in-Ok-clause-parts : goal.returns-in-Ok-clause-parts
+returns-in-Ok-clause-parts g c =
+    parts-served _ c.dispatch.new.state c.args.tid c.in-Ok.way _ _ _ _ _ _ (runs g c)
+    c.requires.sound
+
+-- after a stop
+stands : (g : given.Over) (c : goal.After-restore g) → Stands c.args.state.now c.restore.new.state
+stands g c =
+    stands-restored c.args.state.now c.charge.new.state c.dispatch.new.state c.restore.new.state
+    c.args.tid c.budget-budget.result c.regs-regs.result.now c.regs-regs.ensures
+    c.budget-budget.ensures
+    c.charge.ensures.charges c.in-Err.ensures.stands c.restore.ensures
+
+pub returns-in-Err-clause-stands : goal.returns-in-Err-clause-stands
+returns-in-Err-clause-stands g c = stands g c
+
+pub returns-in-Err-clause-sound : goal.returns-in-Err-clause-sound
+returns-in-Err-clause-sound g c =
+    sound-stands c.args.state.now c.restore.new.state (stands g c)
+    (ap (λ (s : State). s.round) c.restore.ensures ∙ c.dispatch.ensures.round
+    ∙ ap (λ (s : State). s.round) c.charge.ensures.charges)
+    c.requires.sound
+
+pub returns-in-Err-clause-asks : goal.returns-in-Err-clause-asks
+returns-in-Err-clause-asks g c =
+    asks_called c.args.state.now c.charge.new.state c.args.tid c.call_by-service.result.0
+    c.call_by-service.result.1 c.charge.ensures.charges c.call_by-service.ensures.calls
+    (shim_stop c.in-Err.stop) _ _ _ _ _ _ c.in-Err.ensures.asks
+
+pub returns-in-Err-clause-faults : goal.returns-in-Err-clause-faults
+returns-in-Err-clause-faults g c =
+    faulted_called c.args.state.now c.charge.new.state c.args.tid c.call_by-service.result.0
+    c.call_by-service.result.1 c.charge.ensures.charges c.call_by-service.ensures.calls
+    c.dispatch.new.state c.restore.new.state _ c.restore.ensures
+    c.in-Err.stop _ _ _ _ c.in-Err.ensures.faults

@@ -1,0 +1,304 @@
+// The services by number.
+ghost use Rattle.std.specs.Prelude.{◌≡◌, ◌<◌, ℕ, List, ◌∷◌, IfSome, IfOk, IfErr, OnErr, OnOk};
+ghost use Rattle.dos_world.specs.Services.{service};
+ghost use Rattle.dos_io.specs.Shims.{HasNoEnd};
+ghost use Rattle.proc_table.specs.Tables.{IsThread, ran, thread_by, thread_in};
+ghost use Rattle.kernel_calls.specs.StateWorld.{Answers, Asks, HasCauses, HasFaulted, HaveGrown, HaveParts, IsCounted, IsReady, IsSound, Stands, left_after, sent, shim_stop, world_of};
+ghost use Rattle.kernel_calls.specs.Built.{definition_by, definition_of, quiet_definition_of};
+ghost use Rattle.kernel_calls.specs.CallResults.{AreAsked, GoesOn, call_in, paid};
+
+use crate::answering::{refuse_call, reply};
+use crate::children::{fork, wait};
+use crate::clock::clock;
+use crate::descriptors::{close, dup, pipe};
+use crate::memory::{map, share, unmap};
+use crate::naming::{QuietService, Service, service_named};
+use crate::reading::read;
+use crate::signalling::{kill, sig_handler, sig_mask, sig_return};
+use crate::sleeping::{futex_wait, futex_wake};
+use crate::state::{Asked, RunStop, Served, State};
+use crate::threads::{process_exit, round_number, thread_exit, thread_new};
+use crate::writing::write;
+use dos_io::{Shim, Sink};
+use dos_world::Regs;
+use dos_world::errors::ENOSYS;
+
+/// Serves a live thread that is ready and has a budget: the service that its x17 names, which costs
+/// one of the budget.
+///
+/// After an `Err` the run is over, and nothing is served or paid for: each process and thread is as
+/// before the call, this thread's registers and budget too. Of the frames owners alone may differ:
+/// a page whose bytes were read before the sink failed may be shared now. The shim tells no more
+/// then. The sink that failed tells a front of the bytes that the service sends to it, and the
+/// other no more; where the shim stops, neither does.
+pub fn serve<S: Shim, O: Sink, E: Sink>(
+    state: &mut State,
+    tid: u32,
+    shim: &mut S,
+    out: &mut O,
+    err: &mut E,
+) -> Result<Served, RunStop>
+    requires sound { IsSound state.old }
+    requires live { IsThread state.old.table.threads tid }
+    requires ready { IsReady state.old.table.threads tid }
+    requires budget { IfSome (thread_in state.old.table.threads tid) (λ thread. 0 < thread.budget) }
+    requires told { HasNoEnd (S.state shim.old).told }
+    ensures runs { IfOk result
+        (λ way. Answers (λ w. service w tid) state.old (S.state shim.old).told
+        (S.state shim.new).told way state.new (O.told out.old) (O.told out.new)
+        (E.told err.old) (E.told err.new)) }
+    ensures sound { IsSound state.new }
+    ensures parts { IfOk result
+        (λ way. (ts : List ℕ) → HaveParts (tid ∷ ts) state.old
+        → HaveParts (left_after way tid ts) state.new) }
+    ensures stands { OnErr result (Stands state.old state.new) }
+    ensures round { state.new.round ≡ state.old.round }
+    ensures asks { IfErr result
+        (λ stop. IfSome (shim_stop stop)
+        (λ s. Asks (λ w. service w tid) state.old (S.state shim.old) s
+        (S.state shim.new) (O.told out.old) (O.told out.new) (E.told err.old)
+        (E.told err.new))) }
+    ensures told { OnErr result ((S.state shim.new).told ≡ (S.state shim.old).told) }
+    ensures grows { OnErr result
+        (HaveGrown (O.told out.old) (O.told out.new) (E.told err.old) (E.told err.new)) }
+    ensures faults { IfErr result (λ stop. HasFaulted stop (λ w. service w tid) state.old state.new
+        (O.told out.old) (O.told out.new) (E.told err.old) (E.told err.new)) }
+    ensures causes { HasCauses result (S.state shim.old) (S.state shim.new) (O.faults out.old)
+        (O.faults out.new) (E.faults err.old) (E.faults err.new) }
+    ensures follows { S.follows shim.old shim.new }
+{
+    let regs = *state.table.regs(tid);
+    let budget = state.table.budget(tid);
+    let (service, asked) = call_by(state, tid);
+    charge(state, tid);
+    match dispatch(state, service, &asked, shim, out, err) {
+        Ok(way) => Ok(way),
+        Err(stop) => {
+            restore(state, tid, regs, budget);
+            Err(stop)
+        }
+    }
+}
+
+// The service that the thread's registers name, where it is built, and what they ask it.
+fn call_by(state: &State, tid: u32) -> (Option<Service>, Asked)
+    requires live { IsThread state.now.table.threads tid }
+    requires ready { IsReady state.now.table.threads tid }
+    ensures asked { AreAsked (paid state.now tid) result.1 }
+    ensures calls { (q : ℕ) (o e : List ℕ)
+        → service (sent o e (world_of q state.now)) tid
+        ≡ definition_by result.0 (call_in (sent o e (world_of q (paid state.now tid))) result.1) }
+{
+    let regs = *state.table.regs(tid);
+    let asked = Asked {
+        thread: tid,
+        process: state.table.process_of(tid),
+        a0: regs.get(10),
+        a1: regs.get(11),
+        a2: regs.get(12),
+    };
+    (service_named(regs.get(17)), asked)
+}
+
+// One of the thread's budget goes, and its reservation.
+fn charge(state: &mut State, tid: u32)
+    requires sound { IsSound state.old }
+    requires live { IsThread state.old.table.threads tid }
+    requires budget { IfSome (thread_in state.old.table.threads tid) (λ thread. 0 < thread.budget) }
+    ensures charges { state.new ≡ paid state.old tid }
+    ensures sound { IsSound state.new }
+{
+    state.table.charge(tid);
+}
+
+// The thread's registers and budget are these again.
+fn restore(state: &mut State, tid: u32, regs: Regs, budget: u32)
+    requires { IsThread state.old.table.threads tid }
+    ensures { state.new
+        ≡ record state.old { table = thread_by (ran regs budget) state.old.table tid } }
+{
+    state.table.set_run(tid, regs, budget);
+}
+
+// The service, once it is paid for.
+fn dispatch<S: Shim, O: Sink, E: Sink>(
+    state: &mut State,
+    service: Option<Service>,
+    asked: &Asked,
+    shim: &mut S,
+    out: &mut O,
+    err: &mut E,
+) -> Result<Served, RunStop>
+    requires sound { IsSound state.old }
+    requires asked { AreAsked state.old asked.now }
+    requires told { HasNoEnd (S.state shim.old).told }
+    ensures runs { IfOk result
+        (λ way. Answers (λ w. definition_by service (call_in w asked.now)) state.old
+        (S.state shim.old).told (S.state shim.new).told way state.new (O.told out.old)
+        (O.told out.new) (E.told err.old) (E.told err.new)) }
+    ensures counted { OnOk result (IsCounted state.new) }
+    ensures stands { OnErr result (Stands state.old state.new) }
+    ensures round { state.new.round ≡ state.old.round }
+    ensures asks { IfErr result
+        (λ stop. IfSome (shim_stop stop)
+        (λ s. Asks (λ w. definition_by service (call_in w asked.now)) state.old (S.state shim.old) s
+        (S.state shim.new) (O.told out.old) (O.told out.new) (E.told err.old)
+        (E.told err.new))) }
+    ensures told { OnErr result ((S.state shim.new).told ≡ (S.state shim.old).told) }
+    ensures grows { OnErr result
+        (HaveGrown (O.told out.old) (O.told out.new) (E.told err.old) (E.told err.new)) }
+    ensures faults { IfErr result
+        (λ stop. HasFaulted stop (λ w. definition_by service (call_in w asked.now))
+        state.old state.new (O.told out.old) (O.told out.new) (E.told err.old) (E.told err.new)) }
+    ensures causes { HasCauses result (S.state shim.old) (S.state shim.new) (O.faults out.old)
+        (O.faults out.new) (E.faults err.old) (E.faults err.new) }
+    ensures follows { S.follows shim.old shim.new }
+{
+    match service {
+        Some(service) => perform(state, service, asked, shim, out, err),
+        None => {
+            refuse_call(state, asked.thread, ENOSYS);
+            Ok(Served::Went)
+        }
+    }
+}
+
+fn perform<S: Shim, O: Sink, E: Sink>(
+    state: &mut State,
+    service: Service,
+    asked: &Asked,
+    shim: &mut S,
+    out: &mut O,
+    err: &mut E,
+) -> Result<Served, RunStop>
+    requires sound { IsSound state.old }
+    requires asked { AreAsked state.old asked.now }
+    requires told { HasNoEnd (S.state shim.old).told }
+    ensures runs { IfOk result
+        (λ way. Answers (λ w. definition_of service (call_in w asked.now)) state.old
+        (S.state shim.old).told (S.state shim.new).told way state.new (O.told out.old)
+        (O.told out.new) (E.told err.old) (E.told err.new)) }
+    ensures counted { OnOk result (IsCounted state.new) }
+    ensures stands { OnErr result (Stands state.old state.new) }
+    ensures round { state.new.round ≡ state.old.round }
+    ensures asks { IfErr result
+        (λ stop. IfSome (shim_stop stop)
+        (λ s. Asks (λ w. definition_of service (call_in w asked.now)) state.old (S.state shim.old) s
+        (S.state shim.new) (O.told out.old) (O.told out.new) (E.told err.old)
+        (E.told err.new))) }
+    ensures told { OnErr result ((S.state shim.new).told ≡ (S.state shim.old).told) }
+    ensures grows { OnErr result
+        (HaveGrown (O.told out.old) (O.told out.new) (E.told err.old) (E.told err.new)) }
+    ensures faults { IfErr result
+        (λ stop. HasFaulted stop (λ w. definition_of service (call_in w asked.now))
+        state.old state.new (O.told out.old) (O.told out.new) (E.told err.old) (E.told err.new)) }
+    ensures causes { HasCauses result (S.state shim.old) (S.state shim.new) (O.faults out.old)
+        (O.faults out.new) (E.faults err.old) (E.faults err.new) }
+    ensures follows { S.follows shim.old shim.new }
+{
+    match service {
+        Service::Quiet(service) => Ok(perform_quietly(state, service, asked)),
+        Service::Read => match read(state, asked, shim) {
+            Ok(way) => Ok(way),
+            Err(stop) => Err(stop),
+        },
+        Service::Write => match write(state, asked, out, err) {
+            Ok(way) => Ok(way),
+            Err(stop) => Err(stop),
+        },
+        Service::Clock => match clock(state, asked, shim) {
+            Ok(()) => Ok(Served::Went),
+            Err(stop) => Err(stop),
+        },
+    }
+}
+
+// A service that asks nothing and sends nothing.
+fn perform_quietly(state: &mut State, service: QuietService, asked: &Asked) -> Served
+    requires sound { IsSound state.old }
+    requires asked { AreAsked state.old asked.now }
+    ensures goes_on { GoesOn (quiet_definition_of service) state.old asked.now result state.new }
+    ensures counted { IsCounted state.new }
+    ensures round { state.new.round ≡ state.old.round }
+{
+    match service {
+        QuietService::ThreadExit => {
+            thread_exit(state, asked);
+            Served::Gone
+        }
+        QuietService::ProcessExit => {
+            process_exit(state, asked);
+            Served::Gone
+        }
+        QuietService::ThreadNew => {
+            thread_new(state, asked);
+            Served::Went
+        }
+        QuietService::Fork => {
+            fork(state, asked);
+            Served::Went
+        }
+        QuietService::Wait => wait(state, asked),
+        QuietService::Pipe => {
+            pipe(state, asked);
+            Served::Went
+        }
+        QuietService::Close => {
+            close(state, asked);
+            Served::Went
+        }
+        QuietService::Dup => {
+            dup(state, asked);
+            Served::Went
+        }
+        QuietService::FutexWait => futex_wait(state, asked),
+        QuietService::FutexWake => {
+            futex_wake(state, asked);
+            Served::Went
+        }
+        QuietService::MapPages => {
+            map(state, asked);
+            Served::Went
+        }
+        QuietService::Unmap => {
+            unmap(state, asked);
+            Served::Went
+        }
+        QuietService::Share => {
+            share(state, asked);
+            Served::Went
+        }
+        QuietService::SigHandler => {
+            sig_handler(state, asked);
+            Served::Went
+        }
+        QuietService::SigMask => {
+            sig_mask(state, asked);
+            Served::Went
+        }
+        QuietService::SigReturn => {
+            sig_return(state, asked);
+            Served::Went
+        }
+        QuietService::Kill => {
+            kill(state, asked);
+            Served::Went
+        }
+        QuietService::GetPid => {
+            reply(state, asked.thread, asked.process);
+            Served::Went
+        }
+        QuietService::GetTid => {
+            reply(state, asked.thread, asked.thread);
+            Served::Went
+        }
+        QuietService::Yield => {
+            reply(state, asked.thread, 0);
+            Served::Yields
+        }
+        QuietService::RoundNumber => {
+            round_number(state, asked);
+            Served::Went
+        }
+    }
+}

@@ -1,0 +1,77 @@
+-- A run on a memory, by one instruction more.
+use Rattle.std.proofs.Common.{ℕ, suc, ◌-◌, ◌<◌, ◌≤◌, ◌≡◌, refl, sym, ap, ◌∙◌, Option, Some, Result, Ok, Err, arith}
+use Rattle.dos_world.specs.World.{World, Registers}
+use Rattle.dos_world.specs.declared.Reason.{Reason}
+use Rattle.rv_exec.specs.declared.Went.TheVariants.{Step, Stop}
+use Rattle.rv_exec.specs.Step.{step}
+use Rattle.rv_exec.specs.Runs.{Runs, Steps}
+use Rattle.quantum_run.specs.ThreadRuns.{after_steps, Reaches, Goes}
+use Rattle.quantum_run.proofs.After.{after-more}
+
+pub reaches-first : (shows : World → Type 0) (w : World) (t : ℕ) (r : Registers) (budget : ℕ)
+    → Runs shows w t r budget → Reaches shows w t r budget budget
+reaches-first shows w t r budget runs = let none : budget - budget ≡ 0 = omega arith in
+    record { now = w; ran = ap (λ n. after_steps n w t) none; runs = runs }
+
+Step≢Stop : (reason : Reason) → Step ≡ Stop reason → ⊥
+Step≢Stop reason q = cc
+
+Stop-is : (a b : Reason) → Stop a ≡ Stop b → a ≡ b
+Stop-is a b q = cc
+
+pub reaches-more : (before after : World → Type 0) (w : World) (t : ℕ) (r r' : Registers)
+    (budget left : ℕ) → 0 < left → left ≤ budget
+    → ((u : World) → Runs before u t r left → Steps after u t r' left Step (step u t))
+    → Reaches before w t r budget left → Reaches after w t r' budget (left - 1)
+reaches-more before after w t r r' budget left some within one reached =
+    by_step (step reached.now t) refl (one reached.now reached.runs)
+  where
+    by_step : (o : Result World Reason) → step reached.now t ≡ o
+        → Steps after reached.now t r' left Step o → Reaches after w t r' budget (left - 1)
+    by_step (Err reason) is q = absurd (Step≢Stop reason q.0)
+    by_step (Ok next) is q =
+        let count : budget - (left - 1) ≡ suc (budget - left) = omega (arith, some, within) in
+        record {
+          now = next;
+          ran = ap (λ n. after_steps n w t) count
+              ∙ after-more (budget - left) w reached.now next t reached.ran is;
+          runs = q.1;
+        }
+
+pub goes-stopped : (before after : World → Type 0) (w : World) (t : ℕ) (r r' : Registers)
+    (budget left : ℕ) (reason : Reason)
+    → ((u : World) → Runs before u t r left → Steps after u t r' left (Stop reason) (step u t))
+    → Reaches before w t r budget left → Goes after w t r' budget left (Some reason)
+goes-stopped before after w t r r' budget left reason one reached =
+    by_step (step reached.now t) refl (one reached.now reached.runs)
+  where
+    by_step : (o : Result World Reason) → step reached.now t ≡ o
+        → Steps after reached.now t r' left (Stop reason) o
+        → Goes after w t r' budget left (Some reason)
+    by_step (Ok next) is q = absurd (Step≢Stop reason (sym q.0))
+    by_step (Err cause) is q = record {
+      reaches = record { now = reached.now; ran = reached.ran; runs = q.1 };
+      stops = is ∙ ap Err (Stop-is cause reason (sym q.0));
+    }
+
+-- what shows less shows the same run
+pub reaches-shown : (before after : World → Type 0) (w : World) (t : ℕ) (r : Registers)
+    (budget left : ℕ) → ((u : World) → before u → after u)
+    → Reaches before w t r budget left → Reaches after w t r budget left
+reaches-shown before after w t r budget left shows reached = record {
+  now = reached.now;
+  ran = reached.ran;
+  runs = record {
+    shown = shows reached.now reached.runs.shown;
+    thread = reached.runs.thread;
+  };
+}
+
+pub goes-shown : (before after : World → Type 0) (w : World) (t : ℕ) (r : Registers)
+    (budget left : ℕ) (stop : Option Reason) → ((u : World) → before u → after u)
+    → Goes before w t r budget left stop → Goes after w t r budget left stop
+unfolding reaches-shown
+goes-shown before after w t r budget left stop shows goes = record {
+  reaches = reaches-shown before after w t r budget left shows goes.reaches;
+  stops = goes.stops;
+}

@@ -1,0 +1,30 @@
+use Rattle.dos_world.specs.declared.Access.TheVariants.{Fetch, Load, Store}
+use Rattle.std.proofs.Common.{List, sym, subst}
+use Rattle.quantum_run.specs.declared.slot.Slot.{Slot}
+use Rattle.quantum_run.specs.Knowing.{AreApart}
+use Rattle.quantum_run.proofs.Knowing.{apart-none}
+use Rattle.quantum_run.proofs.Places.{none-found}
+use Rattle.quantum_run.proofs.thread_memory.Running.new.Goals as goal
+
+pub invariant_of-result-clause-fetched_are : goal.invariant_of-result-clause-fetched_are
+invariant_of-result-clause-fetched_are g c =
+    none-found c.args.tid
+    (g.P.Pages.owners c.args.pages) c.args.space.now.entries Fetch c.nothing_found.result
+    c.nothing_found.ensures
+
+pub invariant_of-result-clause-loaded_are : goal.invariant_of-result-clause-loaded_are
+invariant_of-result-clause-loaded_are g c =
+    none-found c.args.tid
+    (g.P.Pages.owners c.args.pages) c.args.space.now.entries Load c.nothing_found-2.result
+    c.nothing_found-2.ensures
+
+pub invariant_of-result-clause-stored_are : goal.invariant_of-result-clause-stored_are
+invariant_of-result-clause-stored_are g c =
+    none-found c.args.tid
+    (g.P.Pages.owners c.args.pages) c.args.space.now.entries Store c.nothing_found-3.result
+    c.nothing_found-3.ensures
+
+pub invariant_of-result-clause-apart : goal.invariant_of-result-clause-apart
+invariant_of-result-clause-apart g c =
+    subst (λ (slots : List Slot). AreApart c.nothing_found.result slots)
+    (sym c.nothing_found-3.ensures) (apart-none c.nothing_found.result 64)
