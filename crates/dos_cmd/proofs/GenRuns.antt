@@ -30,7 +30,7 @@ use Rattle.dpg_run.specs.Machine.{Seen, ends, machine_from, status_in}
 use Rattle.dpg_run.specs.GroupRuns.{RanGroup}
 use Rattle.generated_group.specs.Generated.{generated}
 use Rattle.generated_group.proofs.RoomLaws.{needed-generated}
-use Rattle.logged_runs.specs.Opened.{IsOpened}
+use Rattle.logged_runs.specs.Opened.{IsOpenedWith}
 use Rattle.dos_texts.specs.Exit.{ending_status}
 use Rattle.dos_texts.specs.Printed.{output_line, sha256_line, summary_of}
 use Rattle.dos_texts.specs.Report.{process_lines, rounds_line}
@@ -75,7 +75,7 @@ pub quiet_run : (k k' : Held) (before after : Quietness) (begun bytes : List ℕ
     → RanGroup k.config k.state (telling (shown before).told (Some begun) None) ending k'.state
     (telling (shown after).told (Some bytes) None) work → GrewBy tally tally' work
     → count ≡ byte_count bytes → digest ≡ sha256 bytes → (images : List Image) (config : Config)
-    → IsOpened k images config
+    → IsOpenedWith k images config
     → RanQuietly images config k' ending count digest tally tally'
 quiet_run k k' before after begun bytes ending work count digest tally tally' follows none run grew
     count_is digest_is images config opened =
@@ -174,10 +174,10 @@ leaves_memory number threads n tells f h out e tally tally' counts why is =
 
 -- It was opened with the image that is generated.
 pub opened_with : (number threads : ℕ) (kernel : Held) (images : List Image)
-    → images ≡ generated number threads ∷ [] → IsOpened kernel images gen_config
-    → IsOpened kernel (generated number threads ∷ []) gen_config
+    → images ≡ generated number threads ∷ [] → IsOpenedWith kernel images gen_config
+    → IsOpenedWith kernel (generated number threads ∷ []) gen_config
 opened_with number threads kernel images these opened =
-    subst (λ (i : List Image). IsOpened kernel i gen_config) these opened
+    subst (λ (i : List Image). IsOpenedWith kernel i gen_config) these opened
 
 pub one_image : (number threads : ℕ) (images : List Image) (image : Image) → images ≡ image ∷ []
     → image ≡ generated number threads → images ≡ generated number threads ∷ []

@@ -16,7 +16,7 @@ use Rattle.group_rounds.specs.Kernels.{Held, kernel_world}
 use Rattle.dpg_run.specs.Machine.{Seen}
 use Rattle.dpg_run.specs.Report.{report, report_in}
 use Rattle.shim_log.specs.LogText.{Log}
-use Rattle.logged_runs.specs.Opened.{IsOpened}
+use Rattle.logged_runs.specs.Opened.{IsOpenedWith}
 use Rattle.logged_runs.specs.Replaying.{Replayed, ReplayedAhead, ReplayedUntil, StopsReplay, config_of}
 use Rattle.logged_runs.specs.Runs.{Ended, Put}
 use Rattle.dos_texts.specs.Exit.{ending_status}
@@ -49,10 +49,10 @@ pub has_room : (log : Log) (images : List Image) (config : Config)
 has_room log images config is fits = subst (λ (c : Config). needed images ≤ c.frames) is fits
 
 pub opened_by : (log : Log) (images : List Image) (kernel : Held) (config : Config)
-    → config ≡ config_of log.header → IsOpened kernel images config
-    → IsOpened kernel images (config_of log.header)
+    → config ≡ config_of log.header → IsOpenedWith kernel images config
+    → IsOpenedWith kernel images (config_of log.header)
 opened_by log images kernel config is opened =
-    subst (λ (c : Config). IsOpened kernel images c) is opened
+    subst (λ (c : Config). IsOpenedWith kernel images c) is opened
 
 pub on_ok : {T E : Type 0} (r : Result T E) (P : Type 0) → P → OnOk r P
 on_ok (Ok x) P p = p
@@ -113,7 +113,7 @@ replay_stopped log images o f stop why is fits only until ahead sink stay =
 abbrev pub Whole : (kernel after : Held) → Log → Ending
     → (out err out_after err_then : Option (List ℕ)) → (tally tally_after : ℕ) → Type 0
 Whole kernel after log ending out err out_after err_then tally tally_after =
-    (i : List Image) → IsOpened kernel i (config_of log.header) → (seen : Seen)
+    (i : List Image) → IsOpenedWith kernel i (config_of log.header) → (seen : Seen)
     × Replayed i log seen × Ended after ending seen out err out_after err_then tally tally_after
 
 -- Files and host stay.
@@ -123,7 +123,7 @@ stays_here o files host = record { files_stay = files; host_stays = host }
 
 module _ (log : Log) (images : List Image) (kernel after : Held) (ending : Ending)
     (out err out1 err_then err1 : Option (List ℕ)) (tally tally1 : ℕ)
-    (opened : IsOpened kernel images (config_of log.header))
+    (opened : IsOpenedWith kernel images (config_of log.header))
     (whole : Whole kernel after log ending out err out1 err_then tally tally1) where
   pub replay_did : (r : Result Ending Refusal) → IfOk r (λ ended. ended ≡ ending)
       → OnOk r (err1 ≡ grown err_then (report_in (kernel_world after) ending))

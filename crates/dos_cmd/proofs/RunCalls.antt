@@ -11,7 +11,7 @@ use Rattle.group_open.specs.Opening.{needed}
 use Rattle.group_rounds.specs.Kernels.{Held}
 use Rattle.shim_log.specs.Ledger.{LedgerState, empty_ledger}
 use Rattle.shim_log.specs.declared.header.LogHeader.{LogHeader}
-use Rattle.logged_runs.specs.Opened.{IsOpened}
+use Rattle.logged_runs.specs.Opened.{IsOpenedWith}
 use Rattle.dos_texts.specs.Exit.{ending_status}
 use Rattle.dos_texts.specs.declared.refusal.Refusal.{Refusal}
 use Rattle.dos_texts.specs.declared.refusal.Refusal.TheVariants as refusals
@@ -91,7 +91,7 @@ not_opened a n o f images why told h says =
 
 pub prepared : (a : RunAsked) (images : List Image) (o : Outside) (kernel : Held)
     (ledger : LedgerState) (digests : List (List ℕ)) (posts : List (ℕ × Post)) (clock : ClockRule)
-    (header : LogHeader) (room : ℕ) → IsOpened kernel images a.config
+    (header : LogHeader) (room : ℕ) → IsOpenedWith kernel images a.config
     → ledger ≡ empty_ledger posts clock header room → posts ≡ a.posts
     → clock ≡ clock_rule a.clock_from a.clock_step → header ≡ header_of a.config digests
     → IfSome (digests_of (map o.files a.names)) (λ ds. digests ≡ ds)

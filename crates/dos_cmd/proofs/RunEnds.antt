@@ -18,7 +18,7 @@ use Rattle.dpg_run.specs.Machine.{Seen}
 use Rattle.dpg_run.specs.Report.{report, report_in}
 use Rattle.shim_log.specs.Ledger.{LedgerState}
 use Rattle.shim_log.specs.LogText.{Log, logtext}
-use Rattle.logged_runs.specs.Opened.{IsOpened}
+use Rattle.logged_runs.specs.Opened.{IsOpenedWith}
 use Rattle.logged_runs.specs.Runs.{Ended, Put}
 use Rattle.logged_runs.specs.Recording.{Plan, Recorded, RecordedAhead, RecordedUntil, plan_of}
 use Rattle.dos_texts.specs.Exit.{ending_status}
@@ -107,17 +107,17 @@ stopped_so asked images o f plan stops.Memory until ahead host sink planned stay
 
 -- what holds of each images and configuration that a kernel was opened with holds of these
 if_opened : (stop : Option ShimStop) (P : List Image → Config → ShimStop → Type 0)
-    (kernel : Held) (images : List Image) (config : Config) → IsOpened kernel images config
-    → IfSome stop (λ s. (i : List Image) (c : Config) → IsOpened kernel i c → P i c s)
+    (kernel : Held) (images : List Image) (config : Config) → IsOpenedWith kernel images config
+    → IfSome stop (λ s. (i : List Image) (c : Config) → IsOpenedWith kernel i c → P i c s)
     → IfSome stop (P images config)
 if_opened None P kernel images config opened h = tt
 if_opened (Some s) P kernel images config opened h = h images config opened
 
 pub run_stopped : (o : Outside) (f : Faults) (kernel : Held) (ledger : LedgerState) (name : Text)
     (stop : RunStop) (why : Refusal) → why ≡ refusal_by stop
-    → IfSome (shim_stop stop) (λ s. (i : List Image) (c : Config) → IsOpened kernel i c
+    → IfSome (shim_stop stop) (λ s. (i : List Image) (c : Config) → IsOpenedWith kernel i c
     → Until (plan_of i c ledger) o s)
-    → ((i : List Image) (c : Config) → IsOpened kernel i c → Ahead (plan_of i c ledger) o)
+    → ((i : List Image) (c : Config) → IsOpenedWith kernel i c → Ahead (plan_of i c ledger) o)
     → (stop ≡ stops.HostFault → Rose f.host f.host_after)
     → HasSinkCause stop f.out f.out_after f.err f.err_after → FilesStay o → (asked : RunAsked)
     (images : List Image) → IsPrepared asked images kernel ledger name o
@@ -135,7 +135,7 @@ run_stopped o f kernel ledger name stop why is until ahead host sink stay asked 
 abbrev pub Whole : (kernel after : Held) (ledger : LedgerState) → Ending → Log
     → (o : Outside) → (err_then : Option (List ℕ)) → Type 0
 Whole kernel after ledger ending log o err_then = (i : List Image) (c : Config)
-    → IsOpened kernel i c → (seen : Seen)
+    → IsOpenedWith kernel i c → (seen : Seen)
     × Recorded (plan_of i c ledger) o.host o.host_after log seen
     × Ended after ending seen o.out o.err o.out_after err_then o.tally o.tally_after
 

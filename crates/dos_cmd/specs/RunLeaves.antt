@@ -14,7 +14,7 @@ use Rattle.logged_runs.specs.Recording.{Plan, Recorded, RecordedUntil, RecordedA
 use Rattle.dos_texts.specs.Exit.{ending_status}
 use Rattle.dos_words.specs.Numbers.{Text}
 use Rattle.group_rounds.specs.Kernels.{Held}
-use Rattle.logged_runs.specs.Opened.{IsOpened}
+use Rattle.logged_runs.specs.Opened.{IsOpenedWith}
 use Rattle.shim_log.specs.Ledger.{LedgerState}
 use Rattle.dos_cmd.specs.Judging.{digests_of}
 use Rattle.dos_cmd.specs.Outside.{Outside, Counted, Grew, GrewUpToLast, FilesStay, OthersStay, Holds}
@@ -56,7 +56,7 @@ pub record IsPlanned (asked : RunAsked) (images : List Image) (o : Outside) (pla
 -- All is at hand for it: a kernel that was opened with these images, a ledger, and the log's name.
 pub record IsPrepared (asked : RunAsked) (images : List Image) (kernel : Held)
     (ledger : LedgerState) (name : Text) (o : Outside) : Type 0 where
-  pub opened : IsOpened kernel images asked.config
+  pub opened : IsOpenedWith kernel images asked.config
   pub planned : IsPlanned asked images o (plan_of images asked.config ledger)
   pub log_is : asked.log ≡ name
 

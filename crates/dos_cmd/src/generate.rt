@@ -5,7 +5,7 @@ ghost use Rattle.dos_io.specs.Hosts.{Told};
 ghost use Rattle.dos_io.specs.Outside.{grown, GrewByFront, HasCause};
 ghost use Rattle.elf_image.specs.Image.{Image};
 ghost use Rattle.dpg_run.specs.Machine.{status_in};
-ghost use Rattle.logged_runs.specs.Opened.{IsOpened};
+ghost use Rattle.logged_runs.specs.Opened.{IsOpenedWith};
 ghost use Rattle.dos_texts.specs.Exit.{ending_status};
 ghost use Rattle.dos_texts.specs.Printed.{summary_of};
 ghost use Rattle.dos_texts.specs.Report.{process_lines, rounds_line};
@@ -51,7 +51,7 @@ fn run_quietly<W: Workers>(
     requires running { kernel.old.failed ≡ false }
     requires fresh { kernel.old.state.round ≡ 1 }
     ensures ran { IfOk result (λ ran. (images : List Image) (config : Config)
-        → IsOpened kernel.old images config
+        → IsOpenedWith kernel.old images config
         → RanQuietly images config kernel.new ran.ending ran.count ran.digest
         (W.tally workers.old) (W.tally workers.new)) }
     ensures refused { IfErr result (λ why. why ≡ Refusal.Memory) }

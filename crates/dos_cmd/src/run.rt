@@ -7,7 +7,7 @@ ghost use Rattle.group_rounds.specs.Kernels.{kernel_world};
 ghost use Rattle.shim_log.specs.LogText.{logtext};
 ghost use Rattle.elf_image.specs.Image.{Image as Parsed};
 ghost use Rattle.group_open.specs.Opening.{needed};
-ghost use Rattle.logged_runs.specs.Opened.{IsOpened};
+ghost use Rattle.logged_runs.specs.Opened.{IsOpenedWith};
 ghost use Rattle.shim_log.specs.Ledger.{ArePlanned, empty_ledger};
 ghost use Rattle.dos_texts.specs.Exit.{ending_status};
 ghost use Rattle.dos_cmd.specs.Outside.{outside, faults};
@@ -75,7 +75,7 @@ pub(crate) fn open(alloc: Global, images: &[Image], config: Config) -> Result<Ke
     requires some { 1 ≤ length images.now }
     requires few { length images.now ≤ 8 }
     requires config { IsConfig config }
-    ensures opened { IfOk result (λ kernel. IsOpened kernel images.now config) }
+    ensures opened { IfOk result (λ kernel. IsOpenedWith kernel images.now config) }
     ensures running { IfOk result (λ kernel. kernel.failed ≡ false) }
     ensures fresh { IfOk result (λ kernel. kernel.state.round ≡ 1) }
     ensures room { IfOk result (λ kernel. needed images.now ≤ config.frames) }

@@ -10,7 +10,7 @@ use Rattle.dos_world.specs.Services.{service}
 use Rattle.dos_world.specs.Signals.{signalled, ripen}
 use Rattle.dos_world.specs.declared.Post.{Post}
 use Rattle.rv_exec.specs.Step.{step}
-use Rattle.round_core.specs.Invariants.{IsKept, LeavesServed, LeavesEnd, IsOf}
+use Rattle.round_core.specs.Invariants.{IsInvariant, LeavesServed, LeavesEnd, IsOf}
 use Rattle.round_core.specs.Rest.{serial_of}
 use Rattle.round_core.specs.Round.{RoundEnd, finished, stalled, parallel, round_of}
 use Rattle.round_core.specs.Round.{went as went_on}
@@ -28,7 +28,7 @@ pub at_rest : (w : World) → Lawful w → LawfulWith [] w
 at_rest w l = record { lawful = l; awake = tt; apart = tt }
 
 -- the whole round keeps it
-kept : IsKept fit_protocol LawfulWith
+kept : IsInvariant fit_protocol LawfulWith
 kept = kept_throughout fit_protocol LawfulWith stands_kept
 
 pub lawful-step : (w next : World) (t : ℕ) → step w t ≡ Ok next → Lawful w → Lawful next

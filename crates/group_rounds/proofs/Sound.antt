@@ -15,7 +15,7 @@ use Rattle.dos_laws.proofs.StandsKeeps.{stands_kept}
 use Rattle.rv_exec.specs.Step.{step}
 use Rattle.quantum_run.specs.Alone.{alone}
 use Rattle.quantum_run.specs.ThreadRuns.{after_steps}
-use Rattle.round_core.specs.Invariants.{IsKept}
+use Rattle.round_core.specs.Invariants.{IsInvariant}
 use Rattle.round_core.specs.Rest.{granted_by, page_granted}
 use Rattle.round_core.specs.Round.{all_alone}
 use Rattle.round_core.proofs.Keeps.{kept_throughout}
@@ -100,7 +100,7 @@ parts_then s s' ts us h keeps parts = parts_in s' us (keeps (standing s ts h par
 
 -- ---- what leaves who stands standing
 
-pub kept : IsKept fit_protocol LawfulWith
+pub kept : IsInvariant fit_protocol LawfulWith
 kept = kept_throughout fit_protocol LawfulWith stands_kept
 
 -- instructions

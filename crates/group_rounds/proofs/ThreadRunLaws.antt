@@ -19,7 +19,7 @@ use Rattle.proc_table.specs.Tables.{Tables, thread_in, held_in, thread_by, IsThr
 use Rattle.kernel_calls.specs.StateWorld.{HaveParts, IsSound, world_of, sent}
 use Rattle.kernel_calls.specs.declared.state.State.{State}
 use Rattle.kernel_calls.proofs.Counted.{all_counted, counted_like}
-use Rattle.group_rounds.specs.Parts.{Ran, budget_in}
+use Rattle.group_rounds.specs.Parts.{RanPart, budget_in}
 use Rattle.group_rounds.proofs.Sound.{sound_then, parts_then, sound_one, steps_keep, grant_keeps}
 
 -- ---- a live thread
@@ -236,7 +236,7 @@ module _ (s : State) (t : ℕ) (sound : IsSound s) (live : IsThread s.table.thre
         (is_run s t sound live q o e entries registers budget es rs bs),
   )
 
-  pub run_after : Ran s t after reason
+  pub run_after : RanPart s t after reason
   run_after = record {
     count = budget - budget';
     paid = let was = budget_before in let now = budget_after in let within = run.within in

@@ -34,7 +34,7 @@ use Rattle.kernel_calls.specs.declared.state.Served.TheVariants.{Went, Waits, Yi
 use Rattle.group_rounds.specs.Fronts.{CutPlay, StoppedPlay}
 use Rattle.group_rounds.specs.Outside.{is_end}
 use Rattle.group_rounds.specs.StatePlays.{Telling, telling, GoesTo}
-use Rattle.group_rounds.specs.Parts.{KeepsCount, Ran, budget_in, goes_on_after, turns_left, part_left, part_measure}
+use Rattle.group_rounds.specs.Parts.{KeepsCount, RanPart, budget_in, goes_on_after, turns_left, part_left, part_measure}
 use Rattle.group_rounds.proofs.FrontLaws.{cut_behind, cut_then, cut_from, fronts_after_service, service_cut}
 use Rattle.group_rounds.proofs.StopLaws.{cut_stopped, service_stopped, stopped_behind, stopped_from, stopped_then}
 use Rattle.group_rounds.proofs.PlayLaws.{goes_by}
@@ -54,7 +54,7 @@ maps_within s t sound q o e address entry found =
 
 -- ---- instructions
 
-module _ (s s' : State) (t : ℕ) (reason : Option Reason) (ran : Ran s t s' reason) where
+module _ (s s' : State) (t : ℕ) (reason : Option Reason) (ran : RanPart s t s' reason) where
   pub run_goes : (q : ℕ) (tells : Telling) → GoesTo q (turns_left t) s tells (turns_left t) s' tells
   run_goes q tells = goes_still q (turns_left t) (turns_left t) s s' tells (λ o e.
       ap (λ n. turns n (sent o e (world_of q s)) t) ran.paid
@@ -109,7 +109,7 @@ steps-stopped (suc n) w t reason e =
 -- t begins, and runs until it stops or its budget is 0
 pub alone_runs : (s begun s' : State) (t : ℕ) (reason : Option Reason)
     → ((q : ℕ) (o e : List ℕ) → emptied (sent o e (world_of q s)) t ≡ sent o e (world_of q begun))
-    → budget_in begun t ≡ budget_in s t → Ran begun t s' reason
+    → budget_in begun t ≡ budget_in s t → RanPart begun t s' reason
     → (q : ℕ) (o e : List ℕ) → alone (sent o e (world_of q s)) t ≡ sent o e (world_of q s')
 alone_runs s begun s' t reason empties same ran q o e =
     ap₂ (λ n w. steps n w t) (sym same ∙ ran.paid) (empties q o e)
@@ -430,7 +430,7 @@ parts_ended s s' t p status ts sound small ends =
 -- From the part's begin over the instructions and then a turn.
 goes_turn : (q : ℕ) (t : ℕ) (start s ran after : State) (t₀ t₁ t₂ : Telling)
     (reason : Option Reason) (on : Bool)
-    → GoesTo q (λ w. rest_of w t) start t₀ (turns_left t) s t₁ → Ran s t ran reason
+    → GoesTo q (λ w. rest_of w t) start t₀ (turns_left t) s t₁ → RanPart s t ran reason
     → GoesTo q (turns_left t) ran t₁ (part_left t on) after t₂
     → GoesTo q (λ w. rest_of w t) start t₀ (part_left t on) after t₂
 goes_turn q t start s ran after t₀ t₁ t₂ reason on h run k =
@@ -441,7 +441,7 @@ goes_turn q t start s ran after t₀ t₁ t₂ reason on h run k =
 -- after which the part goes on
 pub goes_further : (q : ℕ) (t : ℕ) (start s ran after : State) (t₀ t₁ t₂ : Telling)
     (reason : Option Reason) (on : Bool) → on ≡ true
-    → GoesTo q (λ w. rest_of w t) start t₀ (turns_left t) s t₁ → Ran s t ran reason
+    → GoesTo q (λ w. rest_of w t) start t₀ (turns_left t) s t₁ → RanPart s t ran reason
     → GoesTo q (turns_left t) ran t₁ (part_left t on) after t₂
     → GoesTo q (λ w. rest_of w t) start t₀ (turns_left t) after t₂
 goes_further q t start s ran after t₀ t₁ t₂ reason on is h run k =
@@ -451,7 +451,7 @@ goes_further q t start s ran after t₀ t₁ t₂ reason on is h run k =
 -- after which it is over
 pub goes_out : (q : ℕ) (t : ℕ) (start s ran after : State) (t₀ t₁ t₂ : Telling)
     (reason : Option Reason) (on : Bool) → on ≡ false
-    → GoesTo q (λ w. rest_of w t) start t₀ (turns_left t) s t₁ → Ran s t ran reason
+    → GoesTo q (λ w. rest_of w t) start t₀ (turns_left t) s t₁ → RanPart s t ran reason
     → GoesTo q (turns_left t) ran t₁ (part_left t on) after t₂
     → GoesTo q (λ w. rest_of w t) start t₀ (λ w. done w) after t₂
 goes_out q t start s ran after t₀ t₁ t₂ reason on is h run k =
@@ -460,7 +460,7 @@ goes_out q t start s ran after t₀ t₁ t₂ reason on is h run k =
 
 -- over the instructions alone, after which the budget is 0
 pub goes_over_budget : (q : ℕ) (t : ℕ) (start s ran : State) (t₀ t₁ : Telling)
-    → GoesTo q (λ w. rest_of w t) start t₀ (turns_left t) s t₁ → Ran s t ran None
+    → GoesTo q (λ w. rest_of w t) start t₀ (turns_left t) s t₁ → RanPart s t ran None
     → GoesTo q (λ w. rest_of w t) start t₀ (λ w. done w) ran t₁
 goes_over_budget q t start s ran t₀ t₁ h run =
     goes_and q (λ w. rest_of w t) (turns_left t) (λ w. done w) start ran ran t₀ t₁ t₁
@@ -469,7 +469,7 @@ goes_over_budget q t start s ran t₀ t₁ h run =
 
 -- over the instructions, and then a turn in which a sink failed
 pub rest_cut : (q : ℕ) (t : ℕ) (start s ran : State) (t₀ t₁ t₂ : Telling) (reason : Option Reason)
-    → GoesTo q (λ w. rest_of w t) start t₀ (turns_left t) s t₁ → Ran s t ran reason
+    → GoesTo q (λ w. rest_of w t) start t₀ (turns_left t) s t₁ → RanPart s t ran reason
     → CutPlay q (λ w. w) (turns_left t) ran t₁ t₂
     → CutPlay q (λ w. w) (λ w. rest_of w t) start t₀ t₂
 rest_cut q t start s ran t₀ t₁ t₂ reason h run k =
@@ -480,7 +480,7 @@ rest_cut q t start s ran t₀ t₁ t₂ reason h run k =
 -- over the instructions, and then a turn in which the shim stopped
 pub rest_stopped : (q : ℕ) (t : ℕ) (start s ran : State) (t₀ t₁ t₂ : Telling)
     (reason : Option Reason) (asked : Option Question)
-    → GoesTo q (λ w. rest_of w t) start t₀ (turns_left t) s t₁ → Ran s t ran reason
+    → GoesTo q (λ w. rest_of w t) start t₀ (turns_left t) s t₁ → RanPart s t ran reason
     → StoppedPlay q (turns_left t) ran t₁ t₂ asked
     → StoppedPlay q (λ w. rest_of w t) start t₀ t₂ asked
 rest_stopped q t start s ran t₀ t₁ t₂ reason asked h run k =

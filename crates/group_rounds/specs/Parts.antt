@@ -27,7 +27,7 @@ work_between old new ts = sum_by (budget_in old) ts - sum_by (budget_in new) ts
 
 -- From the old state t did so many instructions, each for one of its budget and none of which
 -- stopped, and now its next instruction stops for this reason; or its budget is 0.
-pub record Ran (old : State) (t : ℕ) (new : State) (reason : Option Reason) : Type 0 where
+pub record RanPart (old : State) (t : ℕ) (new : State) (reason : Option Reason) : Type 0 where
   pub count : ℕ
   pub paid : budget_in old t ≡ count + budget_in new t
   pub runs : (q : ℕ) (o e : List ℕ)

@@ -232,7 +232,7 @@ pub fn serial_phase<S: Shim, O: Sink, E: Sink>(
 {
     gather(&kernel.state.table, &mut kernel.starters);
     let starters = kernel.starters.as_slice();
-    let served = phases::serial_phase(&mut kernel.state, starters, shim, out, err);
+    let served = phases::run_serial(&mut kernel.state, starters, shim, out, err);
     kernel.failed = served.is_err();
     served
 }

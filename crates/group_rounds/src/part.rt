@@ -13,7 +13,7 @@ ghost use Rattle.kernel_calls.specs.StateWorld.{HaveParts, IsReady, IsSound, sen
 ghost use Rattle.group_rounds.specs.Fronts.{CutPlay, StoppedPlay};
 ghost use Rattle.group_rounds.specs.StatePlays.{GoesTo, telling};
 ghost use Rattle.group_rounds.specs.Outside.{HaveCauses, is_end};
-ghost use Rattle.group_rounds.specs.Parts.{KeepsCount, Ran, budget_in, goes_on_after, part_left, part_measure, turns_left};
+ghost use Rattle.group_rounds.specs.Parts.{KeepsCount, RanPart, budget_in, goes_on_after, part_left, part_measure, turns_left};
 
 use dos_io::{Shim, Sink};
 use dos_world::{Access, Reason};
@@ -52,7 +52,7 @@ pub(crate) fn begin(state: &mut State, tid: u32)
 pub(crate) fn run(state: &mut State, tid: u32) -> Option<Reason>
     requires sound { IsSound state.old }
     requires live { IsThread state.old.table.threads tid }
-    ensures ran { Ran state.old tid state.new result }
+    ensures ran { RanPart state.old tid state.new result }
     ensures sound { IsSound state.new }
     ensures parts { (ts : List ℕ) → HaveParts ts state.old → HaveParts ts state.new }
     ensures round { state.new.round ≡ state.old.round }

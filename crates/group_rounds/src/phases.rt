@@ -139,7 +139,7 @@ fn finish_if_live<S: Shim, O: Sink, E: Sink>(
 }
 
 /// The serial phase: the rest of each starter that still lives, one after another.
-pub(crate) fn serial_phase<S: Shim, O: Sink, E: Sink>(
+pub(crate) fn run_serial<S: Shim, O: Sink, E: Sink>(
     state: &mut State,
     starters: &[u32],
     shim: &mut S,

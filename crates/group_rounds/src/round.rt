@@ -18,7 +18,7 @@ ghost use Rattle.group_rounds.specs.Rounds.{AreStarters, CutRound, RanRound, Sto
 ghost use Rattle.worker_pool.specs.Ran.{GrewBy};
 
 use crate::packs::Packs;
-use crate::phases::{gather, serial_phase, set_budgets};
+use crate::phases::{gather, run_serial, set_budgets};
 use crate::ripening::ripen;
 use crate::signals::signal_point;
 use dos_io::{Shim, SignalList, Sink};
@@ -120,7 +120,7 @@ fn run_phases<S: Shim, O: Sink, E: Sink, W: Workers>(
 {
     set_budgets(state, starters, quantum);
     packs.run(state, starters, workers);
-    serial_phase(state, starters, shim, out, err)?;
+    run_serial(state, starters, shim, out, err)?;
     count_round(state);
     Ok(())
 }

@@ -13,7 +13,7 @@ use Rattle.proc_table.specs.Children.{after_wait, children_in, outcome, outcome_
 use Rattle.proc_table.specs.Tables.{Tables, thread_by}
 use Rattle.proc_table.specs.declared.collected.Collected.TheVariants.{Got}
 use Rattle.kernel_calls.specs.StateWorld.{IsCounted, IsSound, sent, world_of}
-use Rattle.kernel_calls.specs.CallResults.{GoesOn, call_in}
+use Rattle.kernel_calls.specs.CallResults.{ActsQuietly, call_in}
 use Rattle.kernel_calls.specs.declared.state.State.{State}
 use Rattle.kernel_calls.specs.declared.state.Asked.{Asked}
 use Rattle.kernel_calls.specs.declared.state.Served.TheVariants.{Went}
@@ -61,7 +61,7 @@ module _ (s new : State) (a : Asked) (p status byte : ℕ) (table : Tables)
       table =
           thread_by (registers_by (answered_two p byte)) table a.thread;
     }) where
-  pub collects_child : GoesOn wait s a Went new
+  pub collects_child : ActsQuietly wait s a Went new
   collects_child q o e =
       let c : Call = call_in (sent o e (world_of q s)) a in
       got c p status (first_of (children_where any_process c))

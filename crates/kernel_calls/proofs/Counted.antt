@@ -8,7 +8,7 @@ use Rattle.dos_world.specs.World.{Process, Holdings, Thread, Sleeper, Life, all_
 use Rattle.dos_world.specs.declared.End.{End}
 use Rattle.dos_world.specs.declared.Entry.{Entry}
 use Rattle.dos_laws.proofs.EndedProcesses.{before}
-use Rattle.kernel_mem.specs.MemoryWorld.{IsHome, KeepsUses}
+use Rattle.kernel_mem.specs.MemoryWorld.{HasAllHome, KeepsUses}
 use Rattle.page_store.specs.Store.{Store}
 use Rattle.proc_table.specs.Tables.{Tables, thread_by, held_by}
 use Rattle.kernel_calls.specs.StateWorld.{IsCounted, ends_of}
@@ -42,7 +42,7 @@ sum_counted f hs ks e = sym (sum_mapped ks) ∙ ap (sum_by f) e ∙ sum_mapped h
 -- there are and the uses of each, the ends of pipes, and the pages and descriptors of the live
 -- processes. All its pages are home.
 pub record IsCountedLike (old new : State) : Type 0 where
-  pub home : IsHome new.frames
+  pub home : HasAllHome new.frames
   pub round : new.round ≡ old.round
   pub room : new.table.room ≡ old.table.room
   pub frames : length new.frames.owners ≡ length old.frames.owners
@@ -106,7 +106,7 @@ counted-thread_by s t f counted =
     counted-threads s (thread_by f s.table t).threads counted
 
 -- other owners of frames that stay in use
-pub home_kept : (old new : Store) → KeepsUses old new → IsHome old → IsHome new
+pub home_kept : (old new : Store) → KeepsUses old new → HasAllHome old → HasAllHome new
 home_kept old new keeps home = record {
   home = subst (λ (ps : List (Option (List ℕ))). All IsSome ps) (sym keeps.pages) home.home;
   owners = keeps.count ∙ home.owners ∙ ap length (sym keeps.pages);

@@ -21,7 +21,7 @@ use Rattle.kernel_objects.specs.Pipework.{Pipework}
 use Rattle.kernel_calls.specs.Ending.{IsNamed, without_end}
 use Rattle.kernel_calls.specs.Ends.{CanHave, with_end_more}
 use Rattle.kernel_calls.specs.StateWorld.{AreCounted, IsCounted, IsSound, sent, world_of}
-use Rattle.kernel_calls.specs.CallResults.{AreAsked, GoesOn, call_in}
+use Rattle.kernel_calls.specs.CallResults.{AreAsked, ActsQuietly, call_in}
 use Rattle.kernel_calls.specs.declared.state.State.{State}
 use Rattle.kernel_calls.specs.declared.state.Asked.{Asked}
 use Rattle.kernel_calls.specs.declared.state.Served.TheVariants.{Went}
@@ -102,7 +102,7 @@ module _ (s : State) (a : Asked) (h : Holdings)
   pub dups : (end : End) (k : ℕ) (new : State) → Some end ≡ end_in h a.a0
       → Some k ≡ position is_none h.descriptors
       → new ≡ answering (with_set s a.process k (Some end) (with_end_more end s.pipes)) a.thread k
-      → GoesOn dup s a Went new
+      → ActsQuietly dup s a Went new
   dups end k new open_is lowest left q o e =
       let c : Call = call_in (sent o e (world_of q s)) a in
       ap (λ d. dup_by d (first_of (free_descriptors c)) c) (names q o e (Some end) open_is)
@@ -115,7 +115,7 @@ module _ (s : State) (a : Asked) (h : Holdings)
 
   pub dup_full : (end : End) (new : State) → Some end ≡ end_in h a.a0
       → None ≡ position is_none h.descriptors → new ≡ answering s a.thread (minus 24)
-      → GoesOn dup s a Went new
+      → ActsQuietly dup s a Went new
   dup_full end new open_is lowest left q o e =
       let c : Call = call_in (sent o e (world_of q s)) a in
       ap (λ d. dup_by d (first_of (free_descriptors c)) c) (names q o e (Some end) open_is)
@@ -123,7 +123,7 @@ module _ (s : State) (a : Asked) (h : Holdings)
       ∙ ap (λ x. done (went (sent o e (world_of q x)))) (sym left)
 
   pub dup_closed : (new : State) → None ≡ end_in h a.a0 → new ≡ answering s a.thread (minus 9)
-      → GoesOn dup s a Went new
+      → ActsQuietly dup s a Went new
   dup_closed new shut left q o e =
       let c : Call = call_in (sent o e (world_of q s)) a in
       ap (λ d. dup_by d (first_of (free_descriptors c)) c) (names q o e None shut)
@@ -140,7 +140,7 @@ module _ (s : State) (a : Asked) (h : Holdings)
       ]
 
   pub close_closed : (new : State) → None ≡ end_in h a.a0 → new ≡ answering s a.thread (minus 9)
-      → GoesOn close s a Went new
+      → ActsQuietly close s a Went new
   close_closed new shut left q o e =
       let c : Call = call_in (sent o e (world_of q s)) a in
       ap (λ d. close_by c d) (names q o e None shut)
@@ -192,7 +192,7 @@ module _ (s : State) (a : Asked) (h : Holdings)
 
     pub closes : (new : State)
         → new ≡ answering (with_set s a.process a.a0 None new_pipes) a.thread 0
-        → GoesOn close s a Went new
+        → ActsQuietly close s a Went new
     closes new left_is q o e =
         let c : Call = call_in (sent o e (world_of q s)) a in
         ap (λ d. close_by c d) (names q o e (Some end) (sym open_is))
@@ -221,7 +221,7 @@ module _ (s : State) (sound : IsSound s) (a : Asked) (are : AreAsked s a) where
       → table ≡ held_by (with_end k (Some end)) s.table a.process
       → pipes ≡ with_end_more end s.pipes
       → new ≡ answering (record s { table = table; pipes = pipes }) a.thread k
-      → GoesOn dup s a Went new × IsCounted new
+      → ActsQuietly dup s a Went new × IsCounted new
   dup_row end k table pipes new open_is lowest opens adds answers =
       let h : Holdings = has.0 in
       let names_it : Some end ≡ end_in h a.a0 =
@@ -266,7 +266,7 @@ module _ (s : State) (sound : IsSound s) (a : Asked) (are : AreAsked s a) where
   -- none is free
   pub dup_full_row : (end : End) (new : State) → IfSome held (λ h. Some end ≡ end_in h a.a0)
       → IfSome held (λ h. None ≡ position is_none h.descriptors)
-      → new ≡ answering s a.thread (minus 24) → GoesOn dup s a Went new
+      → new ≡ answering s a.thread (minus 24) → ActsQuietly dup s a Went new
   dup_full_row end new open_is lowest answers =
       let h : Holdings = has.0 in
       dup_full s a h has.1 end new (of_held s a h has.1 (λ x. Some end ≡ end_in x a.a0) open_is)
@@ -286,7 +286,7 @@ module _ (s : State) (sound : IsSound s) (a : Asked) (are : AreAsked s a) where
       → table ≡ held_by (with_end a.a0 None) s.table a.process
       → pipes ≡ without_end (Some end) s.pipes
       → new ≡ answering (record s { table = table; pipes = pipes }) a.thread 0
-      → GoesOn close s a Went new × IsCounted new
+      → ActsQuietly close s a Went new × IsCounted new
   close_row end table pipes new open_is closed drops answers =
       let h : Holdings = has.0 in
       let names_it : end_in h a.a0 ≡ Some end =

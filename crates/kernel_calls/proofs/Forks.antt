@@ -22,10 +22,10 @@ use Rattle.proc_table.specs.Tables.{IsProcess, IsThread, Tables, held_in, thread
 use Rattle.kernel_mem.proofs.Children.{held_last, to-process}
 use Rattle.kernel_mem.specs.Forking.{AreTaken, fork_call, with_space}
 use Rattle.kernel_mem.specs.Memory.{entries_of}
-use Rattle.kernel_mem.specs.MemoryWorld.{IsHome, in_world, space_in}
+use Rattle.kernel_mem.specs.MemoryWorld.{HasAllHome, in_world, space_in}
 use Rattle.kernel_calls.specs.Children.{AreAdded, CanComeAgain}
 use Rattle.kernel_calls.specs.StateWorld.{IsCounted, IsSound, base, sent, world_of}
-use Rattle.kernel_calls.specs.CallResults.{AreAsked, GoesOn, call_in}
+use Rattle.kernel_calls.specs.CallResults.{AreAsked, ActsQuietly, call_in}
 use Rattle.kernel_calls.specs.declared.state.State.{State}
 use Rattle.kernel_calls.specs.declared.state.Asked.{Asked}
 use Rattle.kernel_calls.specs.declared.state.Served.TheVariants.{Went}
@@ -165,7 +165,7 @@ module _ (s : State) (a : Asked) (sound : IsSound s) (asked : AreAsked s a) wher
       pub refused_is : ended s.frames s.table ≡ new
       refused_is = sym (is ∙ ap (λ f. ended f table) stays.0 ∙ ap (ended s.frames) stays.1)
 
-      pub refuses_fork : GoesOn fork s a Went new
+      pub refuses_fork : ActsQuietly fork s a Went new
       refuses_fork q o e =
           ap (λ r. replies r (next_process (sent o e (world_of q s)))
           (call_in (sent o e (world_of q s)) a)) (refused q o e)
@@ -295,7 +295,7 @@ module _ (s : State) (a : Asked) (sound : IsSound s) (asked : AreAsked s a) wher
       added = subst (λ (o : Option Holdings). IfSome o (λ h. AreAdded h.descriptors s.pipes pipes))
           child_held adds
 
-      pub forks_child : GoesOn fork s a Went new
+      pub forks_child : ActsQuietly fork s a Went new
       forks_child q o e =
           ap (λ r. replies r (next_process (sent o e (world_of q s)))
           (call_in (sent o e (world_of q s)) a)) (comes q o e)
@@ -308,7 +308,7 @@ module _ (s : State) (a : Asked) (sound : IsSound s) (asked : AreAsked s a) wher
               (in_world (sent o e (base q s.round bytes s.futexes)) frames table) a.thread
               (answered value)))
 
-      pub counted-forked : IsHome frames → length frames.owners ≡ length s.frames.owners
+      pub counted-forked : HasAllHome frames → length frames.owners ≡ length s.frames.owners
           → table.room ≡ s.table.room
           → ((frame : ℕ) → uses_at frames frame ≡ uses_at s.frames frame
           + entries_of (space_in table child) frame)

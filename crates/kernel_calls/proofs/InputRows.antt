@@ -20,7 +20,7 @@ use Rattle.kernel_mem.specs.MemoryWorld.{in_world}
 use Rattle.page_store.specs.Store.{Store}
 use Rattle.proc_table.specs.Tables.{held_in, end_in}
 use Rattle.kernel_calls.specs.StateWorld.{AsksFirst, IsSound, StopsAsking, base, sent, shim_stop, world_of}
-use Rattle.kernel_calls.specs.CallResults.{AreAsked, Consults, GoesOn, asked_count, call_in, source_of}
+use Rattle.kernel_calls.specs.CallResults.{AreAsked, Consults, ActsQuietly, asked_count, call_in, source_of}
 use Rattle.kernel_calls.specs.declared.state.State.{State}
 use Rattle.kernel_calls.specs.declared.state.Asked.{Asked}
 use Rattle.kernel_calls.specs.declared.state.Served.{Served}
@@ -35,7 +35,7 @@ use Rattle.kernel_calls.proofs.Sending.{answering, descriptor_is}
 
 -- It asks nothing.
 pub unasked : (service : Service) (s : State) (a : Asked) (way : Served) (new : State)
-    (told : List Exchange) → GoesOn service s a way new → Consults service s a told told way new
+    (told : List Exchange) → ActsQuietly service s a way new → Consults service s a told told way new
 unasked service s a way new told goes = record {
   exchanges = [];
   told_is = sym (append-nil told);

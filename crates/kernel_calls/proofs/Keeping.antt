@@ -17,7 +17,7 @@ use Rattle.dos_laws.proofs.Outside.{lawful-counted}
 use Rattle.kernel_objects.specs.Pipework.{Pipework}
 use Rattle.page_store.specs.Store.{Store, joined}
 use Rattle.proc_table.specs.Tables.{Tables, IsThread, IsProcess, thread_in, thread_by, ran}
-use Rattle.kernel_mem.specs.MemoryWorld.{IsCaller, AreMapped, KeepsUses}
+use Rattle.kernel_mem.specs.MemoryWorld.{IsCaller, NamesUsedFrames, KeepsUses}
 use Rattle.kernel_calls.specs.StateWorld.{IsCounted, IsReady, IsSound, Stands, world_of}
 use Rattle.kernel_calls.specs.CallResults.{AreAsked}
 use Rattle.kernel_calls.specs.declared.state.State.{State}
@@ -60,7 +60,7 @@ module _ (s : State) (sound : IsSound s) where
       by (Some thread) live e h = subst (λ n. IsProcess s.table.processes n) (sym e) h
 
   -- what an entry names isn't Free
-  pub mapped : (t : ℕ) → AreMapped s.table s.frames t
+  pub mapped : (t : ℕ) → NamesUsedFrames s.table s.frames t
   mapped t address e found =
       not_free (slice_index_or s.frames.owners e.frame Free)
       (entry_taken (world_of 16 s) t address e now found).owner

@@ -11,7 +11,7 @@ use Rattle.kernel_mem.proofs.Children.{to-process}
 use Rattle.kernel_mem.specs.Forking.{with_space}
 use Rattle.kernel_mem.specs.Memory.{AreUsed, HasUsesOf, IsDropped, entries_of}
 use Rattle.kernel_mem.specs.Ranges.{range_call, result_in}
-use Rattle.kernel_mem.specs.MemoryWorld.{IsHome, in_world, space_in}
+use Rattle.kernel_mem.specs.MemoryWorld.{HasAllHome, in_world, space_in}
 use Rattle.kernel_calls.specs.StateWorld.{IsCounted, IsSound, base, sent, world_of}
 use Rattle.kernel_calls.specs.CallResults.{AreAsked, call_in}
 use Rattle.kernel_calls.specs.declared.state.State.{State}
@@ -64,7 +64,7 @@ module _ (s : State) (a : Asked) (sound : IsSound s) (asked : AreAsked s a) wher
     pub counted-mapped : OnOk outcome (Caller (λ p. table
         ≡ held_by (with_space (space_in table p)) s.table p))
         → Caller (λ p. HasUsesOf (space_in s.table p) s.frames (space_in table p) frames)
-        → OnErr outcome ((frames ≡ s.frames) × (table ≡ s.table)) → IsHome frames
+        → OnErr outcome ((frames ≡ s.frames) × (table ≡ s.table)) → HasAllHome frames
         → length frames.owners ≡ length s.frames.owners → IsCounted after
     counted-mapped changes uses stays home count =
         counted-either outcome s frames table stays counted

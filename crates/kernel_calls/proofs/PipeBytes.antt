@@ -15,7 +15,7 @@ use Rattle.kernel_objects.specs.Pipework.{Pipework, bytes_at, ends_at, with_byte
 use Rattle.page_store.specs.Store.{Store}
 use Rattle.proc_table.specs.Tables.{Tables, thread_by}
 use Rattle.kernel_calls.specs.StateWorld.{IsCounted, base, sent, world_of}
-use Rattle.kernel_calls.specs.CallResults.{GoesOn, asked_count, call_in}
+use Rattle.kernel_calls.specs.CallResults.{ActsQuietly, asked_count, call_in}
 use Rattle.kernel_calls.specs.declared.state.State.{State}
 use Rattle.kernel_calls.specs.declared.state.Asked.{Asked}
 use Rattle.kernel_calls.specs.declared.state.Served.TheVariants.{Went, Waits}
@@ -90,13 +90,13 @@ module _ (s : State) (counted : IsCounted s) (a : Asked) (pipe : ℕ) where
       ∙ ap (λ b. cond b (retries c) (returns 0 c)) (writer_is q o e ∙ is)
 
   pub at_end : (new : State) → length held ≡ 0 → ends_at s.pipes pipe true ≡ 0
-      → new ≡ answering s a.thread 0 → GoesOn (read_pipe pipe) s a Went new
+      → new ≡ answering s a.thread 0 → ActsQuietly (read_pipe pipe) s a Went new
   at_end new empty none is q o e =
       read_none empty false (none_of (ends_at s.pipes pipe true) none) q o e
       ∙ ap (λ x. done (went (sent o e (world_of q x)))) (sym is)
 
   pub awaits_bytes : (new : State) → length held ≡ 0 → ends_at s.pipes pipe true ≢ 0
-      → new ≡ retrying s a.thread → GoesOn (read_pipe pipe) s a Waits new
+      → new ≡ retrying s a.thread → ActsQuietly (read_pipe pipe) s a Waits new
   awaits_bytes new empty some is q o e =
       read_none empty true (some_of (ends_at s.pipes pipe true) some) q o e
       ∙ ap (λ x. done (waits (sent o e (world_of q x)))) (sym is)
@@ -107,7 +107,7 @@ module _ (s : State) (counted : IsCounted s) (a : Asked) (pipe : ℕ) where
       ≡ in_world w frames s.table)
       → pipes ≡ with_bytes s.pipes pipe (drop k held)
       → new ≡ answering (moved_to s frames pipes buffer) a.thread k
-      → GoesOn (read_pipe pipe) s a Went new
+      → ActsQuietly (read_pipe pipe) s a Went new
   taken k frames pipes buffer new least some copies left is q o e =
       let c : Call = call q o e in
       ap (λ n. read_with c (n == 0) (has_writer c.world pipe) n) (sym least)
@@ -141,13 +141,13 @@ module _ (s : State) (counted : IsCounted s) (a : Asked) (pipe : ℕ) where
       ap (λ b. write_with (call q o e) b (room == 0) room) (reader_is q o e ∙ is)
 
   pub no_reader : (new : State) → ends_at s.pipes pipe false ≡ 0
-      → new ≡ answering s a.thread (minus 32) → GoesOn (write_pipe pipe) s a Went new
+      → new ≡ answering s a.thread (minus 32) → ActsQuietly (write_pipe pipe) s a Went new
   no_reader new none is q o e =
       write_is false (none_of (ends_at s.pipes pipe false) none) q o e
       ∙ ap (λ x. done (went (sent o e (world_of q x)))) (sym is)
 
   pub awaits_room : (new : State) → ends_at s.pipes pipe false ≢ 0 → room ≡ 0
-      → new ≡ retrying s a.thread → GoesOn (write_pipe pipe) s a Waits new
+      → new ≡ retrying s a.thread → ActsQuietly (write_pipe pipe) s a Waits new
   awaits_room new some none is q o e =
       write_is true (some_of (ends_at s.pipes pipe false) some) q o e
       ∙ ap (λ b. write_with (call q o e) true b room) (eq-eqb room 0 none)
@@ -159,7 +159,7 @@ module _ (s : State) (counted : IsCounted s) (a : Asked) (pipe : ℕ) where
       ≡ (in_world w frames s.table, bytes))
       → pipes ≡ with_bytes s.pipes pipe (held ++ bytes)
       → new ≡ answering (moved_to s frames pipes buffer) a.thread k
-      → GoesOn (write_pipe pipe) s a Went new
+      → ActsQuietly (write_pipe pipe) s a Went new
   given k frames pipes bytes buffer new reader least some copies put is q o e =
       let c : Call = call q o e in
       write_is true (some_of (ends_at s.pipes pipe false) reader) q o e

@@ -19,7 +19,7 @@ use Rattle.proc_table.specs.Tables.{Tables, IsProcess, held_in, held_by, thread_
 use Rattle.kernel_objects.specs.Pipework.{Pipework, is_open_at, lowest_closed, with_opened}
 use Rattle.kernel_calls.specs.Ends.{with_end_more}
 use Rattle.kernel_calls.specs.StateWorld.{IsCounted, IsSound, sent, world_of}
-use Rattle.kernel_calls.specs.CallResults.{AreAsked, GoesOn, call_in}
+use Rattle.kernel_calls.specs.CallResults.{AreAsked, ActsQuietly, call_in}
 use Rattle.kernel_calls.specs.declared.state.State.{State}
 use Rattle.kernel_calls.specs.declared.state.Asked.{Asked}
 use Rattle.kernel_calls.specs.declared.state.Served.TheVariants.{Went}
@@ -150,7 +150,7 @@ module _ (s : State) (sound : IsSound s) (a : Asked) (are : AreAsked s a) where
 
   -- fewer than two are free
   pub pipe_few : (new : State) (n : ℕ) → IfSome held (λ h. n ≡ count_by is_none h.descriptors)
-      → n < 2 → new ≡ answering s a.thread (minus 24) → GoesOn pipe s a Went new
+      → n < 2 → new ≡ answering s a.thread (minus 24) → ActsQuietly pipe s a Went new
   pipe_few new n count few answers q o e =
       let c : Call = call q o e in
       let counts : n ≡ count_by is_none ends =
@@ -169,7 +169,7 @@ module _ (s : State) (sound : IsSound s) (a : Asked) (are : AreAsked s a) where
 
   -- all are open
   pub pipe_full : (new : State) → None ≡ lowest_closed s.pipes
-      → new ≡ answering s a.thread (minus 24) → GoesOn pipe s a Went new
+      → new ≡ answering s a.thread (minus 24) → ActsQuietly pipe s a Went new
   pipe_full new full answers q o e =
       let c : Call = call q o e in
       no_pipe c (first_of (free_descriptors c)) (second_of (free_descriptors c))
@@ -258,7 +258,7 @@ module _ (s : State) (sound : IsSound s) (a : Asked) (are : AreAsked s a) where
       (λ h. Some writing ≡ position is_none h.descriptors)
       → done_both ≡ held_by (with_end writing (Some (PipeWrite n))) begun a.process
       → new ≡ answering_two (record s { table = done_both; pipes = pipes }) a.thread reading writing
-      → GoesOn pipe s a Went new × IsCounted new
+      → ActsQuietly pipe s a Went new × IsCounted new
   pipe_row n reading writing begun done_both pipes new lowest opened first one second two answers =
       let front : Some reading ≡ position is_none ends =
       of_held s a has.0 has.1 (λ h. Some reading ≡ position is_none h.descriptors) first in

@@ -15,7 +15,7 @@ use Rattle.kernel_calls.specs.declared.state.RunStop.{RunStop}
 use Rattle.dos_io.specs.Shims.{ShimState}
 use Rattle.dos_io.specs.declared.shim.ShimStop.{ShimStop}
 use Rattle.kernel_calls.specs.StateWorld.{Answers, Asks, AsksFirst, HaveGrown, StopsAsking, sent, shim_stop, way_in, world_of}
-use Rattle.kernel_calls.specs.CallResults.{call_in, Consults, GoesOn, Sends}
+use Rattle.kernel_calls.specs.CallResults.{call_in, Consults, ActsQuietly, Sends}
 use Rattle.kernel_calls.specs.declared.state.State.{State}
 use Rattle.kernel_calls.specs.declared.state.Asked.{Asked}
 use Rattle.kernel_calls.specs.declared.state.Served.{Served}
@@ -25,13 +25,13 @@ use Rattle.kernel_calls.proofs.Sending.{quietly}
 -- an answer, of a service that returns one
 pub goes_replied : (s new : State) (a : Asked) (value : ℕ)
     → new ≡ record s { table = thread_by (registers_by (answered value)) s.table a.thread }
-    → GoesOn (returns value) s a Went new
+    → ActsQuietly (returns value) s a Went new
 goes_replied s new a value is q o e = ap (λ x. done (went (sent o e (world_of q x)))) (sym is)
 
 -- a row of a service by its name
 pub goes_as : (service name : QuietService) → service ≡ name → (s : State) (a : Asked)
-    (way : Served) (new : State) → GoesOn (quiet_definition_of name) s a way new
-    → GoesOn (quiet_definition_of service) s a way new
+    (way : Served) (new : State) → ActsQuietly (quiet_definition_of name) s a way new
+    → ActsQuietly (quiet_definition_of service) s a way new
 goes_as service name is s a way new goes q o e =
     ap (λ x. quiet_definition_of x (call_in (sent o e (world_of q s)) a)) is ∙ goes q o e
 
@@ -57,7 +57,7 @@ module _ (service one : FlatService) (is : service ≡ one) (s new : State) (a :
         })
 
     -- It sends nothing, too.
-    pub answers_goes : (told : List Exchange) (out err : Option (List ℕ)) → GoesOn one s a way new
+    pub answers_goes : (told : List Exchange) (out err : Option (List ℕ)) → ActsQuietly one s a way new
         → Answers (λ w. service (call_in w a)) s told told way new out out err err
     answers_goes told out err h =
         answers_sends told out out err err (quietly one s a way new out err h)

@@ -14,7 +14,7 @@ use Rattle.proc_table.specs.Tables.{thread_by, held_in, end_in}
 use Rattle.kernel_mem.specs.MemoryWorld.{in_world}
 use Rattle.kernel_objects.specs.Pipework.{Pipework}
 use Rattle.kernel_calls.specs.StateWorld.{IsSound, Stands, world_of, base, sent, way_in, FaultsIn, HaveGrown, to_output, to_error}
-use Rattle.kernel_calls.specs.CallResults.{AreAsked, call_in, GoesOn, Sends, Transfers, IsSent, IsCutOff, asked_count, are_readable, target_of}
+use Rattle.kernel_calls.specs.CallResults.{AreAsked, call_in, ActsQuietly, Sends, Transfers, IsSent, IsCutOff, asked_count, are_readable, target_of}
 use Rattle.kernel_calls.specs.declared.state.State.{State}
 use Rattle.kernel_calls.specs.declared.state.Asked.{Asked}
 use Rattle.kernel_calls.specs.declared.state.Served.{Served}
@@ -197,7 +197,7 @@ writes_none None c e = refl
 
 -- nothing
 pub quietly : (service : Service) (s : State) (a : Asked) (way : Served) (new : State)
-    (t u : Option (List ℕ)) → GoesOn service s a way new → Sends service s a way new t t u u
+    (t u : Option (List ℕ)) → ActsQuietly service s a way new → Sends service s a way new t t u u
 quietly service s a way new t u goes = record {
   output = [];
   error = [];

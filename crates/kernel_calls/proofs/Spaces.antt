@@ -17,10 +17,10 @@ use Rattle.page_store.specs.Store.{Store, joined, uses_at}
 use Rattle.proc_table.specs.Tables.{Tables, held_by, held_in, thread_by}
 use Rattle.kernel_mem.specs.Memory.{AreUsed, IsDropped, entries_of}
 use Rattle.kernel_mem.specs.Ranges.{result_in}
-use Rattle.kernel_mem.specs.MemoryWorld.{IsHome, space_in}
+use Rattle.kernel_mem.specs.MemoryWorld.{HasAllHome, space_in}
 use Rattle.kernel_calls.specs.Memory.{answer_by}
 use Rattle.kernel_calls.specs.StateWorld.{AreCounted, IsCounted, IsSound, sent, world_of}
-use Rattle.kernel_calls.specs.CallResults.{GoesOn, call_in}
+use Rattle.kernel_calls.specs.CallResults.{ActsQuietly, call_in}
 use Rattle.kernel_calls.specs.declared.state.State.{State}
 use Rattle.kernel_calls.specs.declared.state.Asked.{Asked}
 use Rattle.kernel_calls.specs.declared.state.Served.TheVariants.{Went}
@@ -74,7 +74,7 @@ module _ {A : Type 0} (s new : State) (a : Asked) (frames : Store) (table : Tabl
         → OnErr outcome ((frames ≡ s.frames) × (table ≡ s.table))
         → ((q : ℕ) (o e : List ℕ) → body (call_in (sent o e (world_of q s)) a)
         ≡ result_in outcome (sent o e (world_of q after)))
-        → GoesOn (λ c. replies (body c) 0 c) s a Went new
+        → ActsQuietly (λ c. replies (body c) 0 c) s a Went new
     concluded body stays comes q o e =
         ap (λ r. replies r 0 (call_in (sent o e (world_of q s)) a)) (comes q o e)
         ∙ by outcome stays ∙ ap (λ x. done (went (sent o e (world_of q x)))) (sym is)
@@ -120,7 +120,7 @@ module _ (s : State) (p : ℕ) (h : Holdings) (is : held_in s.table.processes p 
   }
 
   pub counted-space : (frames : Store) (table : Tables) → table ≡ held_by f s.table p
-      → IsHome frames → length frames.owners ≡ length s.frames.owners
+      → HasAllHome frames → length frames.owners ≡ length s.frames.owners
       → ((frame : ℕ) → uses_at frames frame + entries_of h.space frame
       ≡ uses_at s.frames frame + entries_of (f h).space frame)
       → IsCounted (record s { frames = frames; table = table })

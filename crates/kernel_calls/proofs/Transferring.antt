@@ -7,12 +7,12 @@ use Rattle.dos_world.specs.Play.{done}
 use Rattle.dos_world.specs.Calls.{Service, went}
 use Rattle.dos_world.specs.DescriptorCalls.{count_of, transfers}
 use Rattle.dos_world.specs.declared.Access.{Access}
-use Rattle.kernel_mem.specs.MemoryWorld.{in_world, IsHome, KeepsUses}
+use Rattle.kernel_mem.specs.MemoryWorld.{in_world, HasAllHome, KeepsUses}
 use Rattle.kernel_mem.proofs.Reaching.{reach_front}
 use Rattle.kernel_objects.specs.Pipework.{Pipework}
 use Rattle.page_store.specs.Store.{Store}
 use Rattle.kernel_calls.specs.StateWorld.{IsCounted, base, sent, world_of}
-use Rattle.kernel_calls.specs.CallResults.{GoesOn, asked_count, call_in}
+use Rattle.kernel_calls.specs.CallResults.{ActsQuietly, asked_count, call_in}
 use Rattle.kernel_calls.specs.declared.state.State.{State}
 use Rattle.kernel_calls.specs.declared.state.Asked.{Asked}
 use Rattle.kernel_calls.specs.declared.state.Served.{Served}
@@ -31,14 +31,14 @@ module _ (f : Service) (access : Access) (s : State) (a : Asked) where
   are_reached q o e = all_reach (sent o e (world_of q s)) a.thread a.a1 (asked_count a) access
 
   pub no_bytes : (new : State) → asked_count a ≡ 0 → new ≡ answering s a.thread 0
-      → GoesOn moves s a Went new
+      → ActsQuietly moves s a Went new
   no_bytes new zero is q o e =
       zero_moves f (are_reached q o e) (call_in (sent o e (world_of q s)) a) zero
       ∙ ap (λ x. done (went (sent o e (world_of q x)))) (sym is)
 
   pub not_mapped : (new : State) → asked_count a ≢ 0
       → ((q : ℕ) (o e : List ℕ) → are_reached q o e ≡ false)
-      → new ≡ answering s a.thread (minus 14) → GoesOn moves s a Went new
+      → new ≡ answering s a.thread (minus 14) → ActsQuietly moves s a Went new
   not_mapped new some none is q o e =
       moved f (are_reached q o e) false (call_in (sent o e (world_of q s)) a) some (none q o e)
       ∙ ap (λ x. done (went (sent o e (world_of q x)))) (sym is)
@@ -51,8 +51,8 @@ module _ (f : Service) (access : Access) (s : State) (a : Asked) where
       moved f (are_reached q o e) true (call_in (sent o e (world_of q s)) a) some (all q o e)
 
   pub all_mapped : (way : Served) (new : State) → asked_count a ≢ 0
-      → ((q : ℕ) (o e : List ℕ) → are_reached q o e ≡ true) → GoesOn f s a way new
-      → GoesOn moves s a way new
+      → ((q : ℕ) (o e : List ℕ) → are_reached q o e ≡ true) → ActsQuietly f s a way new
+      → ActsQuietly moves s a way new
   all_mapped way new some all goes q o e = does_move some all q o e ∙ goes q o e
 
   -- what the table says of them
@@ -74,7 +74,7 @@ reach_first w t a n k access few all =
 
 -- pages are written, or granted, and pipes hold something else
 pub counted_moved : (s : State) (frames : Store) (pipes : Pipework) (buffer : List ℕ)
-    → IsHome frames → frames.uses ≡ s.frames.uses
+    → HasAllHome frames → frames.uses ≡ s.frames.uses
     → length frames.owners ≡ length s.frames.owners → pipes.readers ≡ s.pipes.readers
     → pipes.writers ≡ s.pipes.writers → IsCounted s
     → IsCounted (record s { frames = frames; pipes = pipes; buffer = buffer })
@@ -91,7 +91,7 @@ counted_moved s frames pipes buffer home uses count readers writers counted =
     }) counted
 
 -- where only owners changed, pages are home
-pub still_home : (old new : Store) → KeepsUses old new → IsHome old → IsHome new
+pub still_home : (old new : Store) → KeepsUses old new → HasAllHome old → HasAllHome new
 still_home old new keeps home = record {
   home = subst (λ (ps : List (Option (List ℕ))). All IsSome ps) (sym keeps.pages) home.home;
   owners = keeps.count ∙ home.owners ∙ ap length (sym keeps.pages);

@@ -49,8 +49,8 @@ pub record AreAsked (s : State) (a : Asked) : Type 0 where
 
 -- From the old state's world it goes on this way in the new state's world. It asks nothing and
 -- sends nothing.
-abbrev pub GoesOn : FlatService → State → Asked → Served → State → Type 0
-GoesOn service old a way new = (q : ℕ) (o e : List ℕ)
+abbrev pub ActsQuietly : FlatService → State → Asked → Served → State → Type 0
+ActsQuietly service old a way new = (q : ℕ) (o e : List ℕ)
     → service (call_in (sent o e (world_of q old)) a)
     ≡ done (way_in way (sent o e (world_of q new)))
 

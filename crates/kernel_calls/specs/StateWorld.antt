@@ -19,7 +19,7 @@ use Rattle.dos_io.specs.declared.shim.ShimStop.TheVariants.{HostFault as host_fa
 use Rattle.dos_laws.specs.Standing.{AreAwake, AreApart, IsFit}
 use Rattle.page_store.specs.Store.{uses_at}
 use Rattle.proc_table.specs.Tables.{Tables, thread_in}
-use Rattle.kernel_mem.specs.MemoryWorld.{in_world, IsHome, KeepsUses}
+use Rattle.kernel_mem.specs.MemoryWorld.{in_world, HasAllHome, KeepsUses}
 use Rattle.kernel_calls.specs.Built.{services_built}
 use Rattle.kernel_calls.specs.declared.state.State.{State}
 use Rattle.kernel_calls.specs.declared.state.Served.{Served}
@@ -70,7 +70,7 @@ pub record AreCounted (processes : List Process) (pipes : Pipework) : Type 0 whe
 -- The kept numbers of a state are those of its world.
 pub record IsCounted (s : State) : Type 0 where
   -- every page is home
-  pub home : IsHome s.frames
+  pub home : HasAllHome s.frames
   -- rounds are numbered from 1
   pub round : 1 ≤ s.round
   -- a space has room for every frame

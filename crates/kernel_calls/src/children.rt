@@ -4,7 +4,7 @@ ghost use Rattle.dos_world.specs.Services.{fork, wait};
 ghost use Rattle.proc_table.specs.Tables.{IsProcess, held_in};
 ghost use Rattle.kernel_calls.specs.Children.{AreAdded, CanComeAgain, CanName, with_named};
 ghost use Rattle.kernel_calls.specs.StateWorld.{IsCounted, IsSound};
-ghost use Rattle.kernel_calls.specs.CallResults.{AreAsked, GoesOn};
+ghost use Rattle.kernel_calls.specs.CallResults.{AreAsked, ActsQuietly};
 ghost use Rattle.kernel_calls.specs.declared.state.Served.TheVariants.{Went};
 
 use crate::answering::{refuse_call, reply, reply_two};
@@ -21,7 +21,7 @@ use proc_table::{Collected, Table};
 pub(crate) fn fork(state: &mut State, asked: &Asked)
     requires sound { IsSound state.old }
     requires asked { AreAsked state.old asked.now }
-    ensures goes_on { GoesOn fork state.old asked.now Went state.new }
+    ensures goes_on { ActsQuietly fork state.old asked.now Went state.new }
     ensures counted { IsCounted state.new }
     ensures round { state.new.round ≡ state.old.round }
 {
@@ -64,7 +64,7 @@ fn add_named(pipes: &mut Pipes, end: Option<End>)
 pub(crate) fn wait(state: &mut State, asked: &Asked) -> Served
     requires sound { IsSound state.old }
     requires asked { AreAsked state.old asked.now }
-    ensures goes_on { GoesOn wait state.old asked.now result state.new }
+    ensures goes_on { ActsQuietly wait state.old asked.now result state.new }
     ensures counted { IsCounted state.new }
     ensures round { state.new.round ≡ state.old.round }
 {

@@ -4,7 +4,7 @@ ghost use Rattle.dos_world.specs.DescriptorCalls.{close, dup, pipe, with_end};
 ghost use Rattle.proc_table.specs.Tables.{IsProcess, held_by, held_in};
 ghost use Rattle.kernel_calls.specs.Ends.{CanHave, with_end_more};
 ghost use Rattle.kernel_calls.specs.StateWorld.{IsCounted, IsSound};
-ghost use Rattle.kernel_calls.specs.CallResults.{AreAsked, GoesOn};
+ghost use Rattle.kernel_calls.specs.CallResults.{AreAsked, ActsQuietly};
 ghost use Rattle.kernel_calls.specs.declared.state.Served.TheVariants.{Went};
 
 use crate::answering::{refuse_call, reply, reply_two};
@@ -20,7 +20,7 @@ use proc_table::Table;
 pub(crate) fn pipe(state: &mut State, asked: &Asked)
     requires sound { IsSound state.old }
     requires asked { AreAsked state.old asked.now }
-    ensures goes_on { GoesOn pipe state.old asked.now Went state.new }
+    ensures goes_on { ActsQuietly pipe state.old asked.now Went state.new }
     ensures counted { IsCounted state.new }
     ensures round { state.new.round ≡ state.old.round }
 {
@@ -81,7 +81,7 @@ fn open_free(table: &mut Table, pid: u32, end: End) -> u32
 pub(crate) fn dup(state: &mut State, asked: &Asked)
     requires sound { IsSound state.old }
     requires asked { AreAsked state.old asked.now }
-    ensures goes_on { GoesOn dup state.old asked.now Went state.new }
+    ensures goes_on { ActsQuietly dup state.old asked.now Went state.new }
     ensures counted { IsCounted state.new }
     ensures round { state.new.round ≡ state.old.round }
 {
@@ -113,7 +113,7 @@ pub(crate) fn add_end(pipes: &mut Pipes, end: End)
 pub(crate) fn close(state: &mut State, asked: &Asked)
     requires sound { IsSound state.old }
     requires asked { AreAsked state.old asked.now }
-    ensures goes_on { GoesOn close state.old asked.now Went state.new }
+    ensures goes_on { ActsQuietly close state.old asked.now Went state.new }
     ensures counted { IsCounted state.new }
     ensures round { state.new.round ≡ state.old.round }
 {

@@ -6,7 +6,7 @@ ghost use Rattle.dos_world.specs.Services.{map_pages, share, unmap};
 ghost use Rattle.proc_table.specs.Tables.{IsThread, thread_by};
 ghost use Rattle.kernel_calls.specs.Memory.{answer_by};
 ghost use Rattle.kernel_calls.specs.StateWorld.{IsCounted, IsSound};
-ghost use Rattle.kernel_calls.specs.CallResults.{AreAsked, GoesOn};
+ghost use Rattle.kernel_calls.specs.CallResults.{AreAsked, ActsQuietly};
 ghost use Rattle.kernel_calls.specs.declared.state.Served.TheVariants.{Went};
 
 use crate::answering::{refuse_call, reply};
@@ -18,7 +18,7 @@ use kernel_mem::{map_pages, share as share_pages, unmap as unmap_pages};
 pub(crate) fn map(state: &mut State, asked: &Asked)
     requires sound { IsSound state.old }
     requires asked { AreAsked state.old asked.now }
-    ensures goes_on { GoesOn map_pages state.old asked.now Went state.new }
+    ensures goes_on { ActsQuietly map_pages state.old asked.now Went state.new }
     ensures counted { IsCounted state.new }
     ensures round { state.new.round ≡ state.old.round }
 {
@@ -38,7 +38,7 @@ pub(crate) fn map(state: &mut State, asked: &Asked)
 pub(crate) fn unmap(state: &mut State, asked: &Asked)
     requires sound { IsSound state.old }
     requires asked { AreAsked state.old asked.now }
-    ensures goes_on { GoesOn unmap state.old asked.now Went state.new }
+    ensures goes_on { ActsQuietly unmap state.old asked.now Went state.new }
     ensures counted { IsCounted state.new }
     ensures round { state.new.round ≡ state.old.round }
 {
@@ -57,7 +57,7 @@ pub(crate) fn unmap(state: &mut State, asked: &Asked)
 pub(crate) fn share(state: &mut State, asked: &Asked)
     requires sound { IsSound state.old }
     requires asked { AreAsked state.old asked.now }
-    ensures goes_on { GoesOn share state.old asked.now Went state.new }
+    ensures goes_on { ActsQuietly share state.old asked.now Went state.new }
     ensures counted { IsCounted state.new }
     ensures round { state.new.round ≡ state.old.round }
 {

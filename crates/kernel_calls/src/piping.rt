@@ -5,11 +5,11 @@ ghost use Rattle.dos_world.specs.declared.Access.TheVariants.{Load, Store};
 ghost use Rattle.dos_world.specs.declared.End.TheVariants.{PipeRead, PipeWrite};
 ghost use Rattle.dos_world.specs.Kernel.{all_reach, copied_out};
 ghost use Rattle.dos_world.specs.DescriptorCalls.{read_by, read_pipe, write_by, write_pipe};
-ghost use Rattle.kernel_mem.specs.MemoryWorld.{in_world, AreMapped, IsCaller, IsHome, KeepsOthers};
+ghost use Rattle.kernel_mem.specs.MemoryWorld.{in_world, NamesUsedFrames, IsCaller, HasAllHome, KeepsOthers};
 ghost use Rattle.kernel_objects.specs.Pipework.{bytes_at, ends_at, is_open_at, with_bytes};
 ghost use Rattle.page_store.specs.Store.{Store as Held};
 ghost use Rattle.kernel_calls.specs.StateWorld.{IsCounted, IsSound};
-ghost use Rattle.kernel_calls.specs.CallResults.{AreAsked, GoesOn, asked_count};
+ghost use Rattle.kernel_calls.specs.CallResults.{AreAsked, ActsQuietly, asked_count};
 
 use crate::answering::{refuse_call, reply};
 use crate::state::{Asked, Served, State};
@@ -33,7 +33,7 @@ pub(crate) fn read_pipe(state: &mut State, asked: &Asked, pipe: u8) -> Served
     requires sound { IsSound state.old }
     requires asked { AreAsked state.old asked.now }
     requires pipe { pipe < 64 }
-    ensures goes_on { GoesOn (read_by (Some (PipeRead pipe))) state.old asked.now result state.new }
+    ensures goes_on { ActsQuietly (read_by (Some (PipeRead pipe))) state.old asked.now result state.new }
     ensures counted { IsCounted state.new }
     ensures round { state.new.round ≡ state.old.round }
 {
@@ -61,7 +61,7 @@ fn take_some(state: &mut State, asked: &Asked, pipe: u8, count: u32) -> Served
     requires reach { (w : World) (s : Held)
         → all_reach (in_world w s state.old.table) asked.now.thread asked.now.a1 count Store
         ≡ true }
-    ensures goes_on { GoesOn (read_pipe pipe) state.old asked.now result state.new }
+    ensures goes_on { ActsQuietly (read_pipe pipe) state.old asked.now result state.new }
     ensures counted { IsCounted state.new }
     ensures round { state.new.round ≡ state.old.round }
 {
@@ -80,7 +80,7 @@ fn read_empty(state: &mut State, asked: &Asked, pipe: u8) -> Served
     requires asked { AreAsked state.old asked.now }
     requires pipe { pipe < 64 }
     requires empty { length (bytes_at state.old.pipes pipe) ≡ 0 }
-    ensures goes_on { GoesOn (read_pipe pipe) state.old asked.now result state.new }
+    ensures goes_on { ActsQuietly (read_pipe pipe) state.old asked.now result state.new }
     ensures counted { IsCounted state.new }
     ensures round { state.new.round ≡ state.old.round }
 {
@@ -112,8 +112,8 @@ pub(crate) fn put_out(
     count: u32,
 )
     requires caller { IsCaller table.now asked.now.thread }
-    requires mapped { AreMapped table.now frames.old asked.now.thread }
-    requires home { IsHome frames.old }
+    requires mapped { NamesUsedFrames table.now frames.old asked.now.thread }
+    requires home { HasAllHome frames.old }
     requires few { count ≤ 4096 }
     requires reach { (w : World) (s : Held)
         → all_reach (in_world w s table.now) asked.now.thread asked.now.a1 count Store ≡ true }
@@ -137,7 +137,7 @@ pub(crate) fn write_pipe(state: &mut State, asked: &Asked, pipe: u8) -> Served
     requires sound { IsSound state.old }
     requires asked { AreAsked state.old asked.now }
     requires pipe { pipe < 64 }
-    ensures goes_on { GoesOn (write_by (Some (PipeWrite pipe))) state.old asked.now result
+    ensures goes_on { ActsQuietly (write_by (Some (PipeWrite pipe))) state.old asked.now result
         state.new }
     ensures counted { IsCounted state.new }
     ensures round { state.new.round ≡ state.old.round }
@@ -166,7 +166,7 @@ fn give_some(state: &mut State, asked: &Asked, pipe: u8, count: u32) -> Served
     requires reach { (w : World) (s : Held)
         → all_reach (in_world w s state.old.table) asked.now.thread asked.now.a1 count Load
         ≡ true }
-    ensures goes_on { GoesOn (write_pipe pipe) state.old asked.now result state.new }
+    ensures goes_on { ActsQuietly (write_pipe pipe) state.old asked.now result state.new }
     ensures counted { IsCounted state.new }
     ensures round { state.new.round ≡ state.old.round }
 {

@@ -5,7 +5,7 @@ ghost use Rattle.dos_io.specs.Shims.{HasNoEnd};
 ghost use Rattle.proc_table.specs.Tables.{IsThread, ran, thread_by, thread_in};
 ghost use Rattle.kernel_calls.specs.StateWorld.{Answers, Asks, HasCauses, HasFaulted, HaveGrown, HaveParts, IsCounted, IsReady, IsSound, Stands, left_after, sent, shim_stop, world_of};
 ghost use Rattle.kernel_calls.specs.Built.{definition_by, definition_of, quiet_definition_of};
-ghost use Rattle.kernel_calls.specs.CallResults.{AreAsked, GoesOn, call_in, paid};
+ghost use Rattle.kernel_calls.specs.CallResults.{AreAsked, ActsQuietly, call_in, paid};
 
 use crate::answering::{refuse_call, reply};
 use crate::children::{fork, wait};
@@ -217,7 +217,7 @@ fn perform<S: Shim, O: Sink, E: Sink>(
 fn perform_quietly(state: &mut State, service: QuietService, asked: &Asked) -> Served
     requires sound { IsSound state.old }
     requires asked { AreAsked state.old asked.now }
-    ensures goes_on { GoesOn (quiet_definition_of service) state.old asked.now result state.new }
+    ensures goes_on { ActsQuietly (quiet_definition_of service) state.old asked.now result state.new }
     ensures counted { IsCounted state.new }
     ensures round { state.new.round ≡ state.old.round }
 {

@@ -5,7 +5,7 @@ ghost use Rattle.dos_world.specs.SignalCalls.{is_action, is_signal, kill, refuse
 ghost use Rattle.proc_table.specs.Tables.{IsThread, thread_by};
 ghost use Rattle.kernel_calls.specs.Ending.{posted_in};
 ghost use Rattle.kernel_calls.specs.StateWorld.{IsCounted, IsSound};
-ghost use Rattle.kernel_calls.specs.CallResults.{AreAsked, GoesOn};
+ghost use Rattle.kernel_calls.specs.CallResults.{AreAsked, ActsQuietly};
 ghost use Rattle.kernel_calls.specs.declared.state.Served.TheVariants.{Went};
 
 use crate::answering::{refuse_call, reply};
@@ -31,7 +31,7 @@ const CODE_END: u32 = 0xf000_0000;
 pub(crate) fn sig_handler(state: &mut State, asked: &Asked)
     requires sound { IsSound state.old }
     requires asked { AreAsked state.old asked.now }
-    ensures goes_on { GoesOn sig_handler state.old asked.now Went state.new }
+    ensures goes_on { ActsQuietly sig_handler state.old asked.now Went state.new }
     ensures counted { IsCounted state.new }
     ensures round { state.new.round ≡ state.old.round }
 {
@@ -62,7 +62,7 @@ fn is_action(action: u32) -> bool
 pub(crate) fn sig_mask(state: &mut State, asked: &Asked)
     requires sound { IsSound state.old }
     requires asked { AreAsked state.old asked.now }
-    ensures goes_on { GoesOn sig_mask state.old asked.now Went state.new }
+    ensures goes_on { ActsQuietly sig_mask state.old asked.now Went state.new }
     ensures counted { IsCounted state.new }
     ensures round { state.new.round ≡ state.old.round }
 {
@@ -76,7 +76,7 @@ pub(crate) fn sig_mask(state: &mut State, asked: &Asked)
 pub(crate) fn sig_return(state: &mut State, asked: &Asked)
     requires sound { IsSound state.old }
     requires asked { AreAsked state.old asked.now }
-    ensures goes_on { GoesOn sig_return state.old asked.now Went state.new }
+    ensures goes_on { ActsQuietly sig_return state.old asked.now Went state.new }
     ensures counted { IsCounted state.new }
     ensures round { state.new.round ≡ state.old.round }
 {
@@ -99,7 +99,7 @@ fn refuse_in_place(table: &mut Table, tid: u32)
 pub(crate) fn kill(state: &mut State, asked: &Asked)
     requires sound { IsSound state.old }
     requires asked { AreAsked state.old asked.now }
-    ensures goes_on { GoesOn kill state.old asked.now Went state.new }
+    ensures goes_on { ActsQuietly kill state.old asked.now Went state.new }
     ensures counted { IsCounted state.new }
     ensures round { state.new.round ≡ state.old.round }
 {

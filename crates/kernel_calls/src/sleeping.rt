@@ -3,7 +3,7 @@ ghost use Rattle.std.specs.Prelude.{◌≡◌, ◌%◌, Some};
 ghost use Rattle.dos_world.specs.FutexCalls.{futex_wait, futex_wait_at, futex_wake, futex_wake_at};
 ghost use Rattle.kernel_mem.specs.MemoryWorld.{entry_in};
 ghost use Rattle.kernel_calls.specs.StateWorld.{IsCounted, IsSound};
-ghost use Rattle.kernel_calls.specs.CallResults.{AreAsked, GoesOn};
+ghost use Rattle.kernel_calls.specs.CallResults.{AreAsked, ActsQuietly};
 ghost use Rattle.kernel_calls.specs.Queued.{AreQueued, AreWoken};
 ghost use Rattle.kernel_calls.specs.declared.state.Served.TheVariants.{Went};
 
@@ -25,7 +25,7 @@ const PAGE_SIZE: u32 = 4096;
 pub(crate) fn futex_wait(state: &mut State, asked: &Asked) -> Served
     requires sound { IsSound state.old }
     requires asked { AreAsked state.old asked.now }
-    ensures goes_on { GoesOn futex_wait state.old asked.now result state.new }
+    ensures goes_on { ActsQuietly futex_wait state.old asked.now result state.new }
     ensures counted { IsCounted state.new }
     ensures round { state.new.round ≡ state.old.round }
 {
@@ -48,7 +48,7 @@ fn wait_at(state: &mut State, asked: &Asked, entry: Entry) -> Served
     requires asked { AreAsked state.old asked.now }
     requires word { asked.now.a0 % 4 ≡ 0 }
     requires entry { entry_in state.old.table asked.now.thread asked.now.a0 ≡ Some entry }
-    ensures goes_on { GoesOn (futex_wait_at entry) state.old asked.now result state.new }
+    ensures goes_on { ActsQuietly (futex_wait_at entry) state.old asked.now result state.new }
     ensures counted { IsCounted state.new }
     ensures round { state.new.round ≡ state.old.round }
 {
@@ -69,7 +69,7 @@ fn wait_at(state: &mut State, asked: &Asked, entry: Entry) -> Served
 pub(crate) fn futex_wake(state: &mut State, asked: &Asked)
     requires sound { IsSound state.old }
     requires asked { AreAsked state.old asked.now }
-    ensures goes_on { GoesOn futex_wake state.old asked.now Went state.new }
+    ensures goes_on { ActsQuietly futex_wake state.old asked.now Went state.new }
     ensures counted { IsCounted state.new }
     ensures round { state.new.round ≡ state.old.round }
 {
@@ -87,7 +87,7 @@ pub(crate) fn futex_wake(state: &mut State, asked: &Asked)
 fn wake_at(state: &mut State, asked: &Asked, entry: Entry)
     requires sound { IsSound state.old }
     requires asked { AreAsked state.old asked.now }
-    ensures goes_on { GoesOn (futex_wake_at entry) state.old asked.now Went state.new }
+    ensures goes_on { ActsQuietly (futex_wake_at entry) state.old asked.now Went state.new }
     ensures counted { IsCounted state.new }
     ensures round { state.new.round ≡ state.old.round }
 {

@@ -4,7 +4,7 @@ ghost use Rattle.dos_world.specs.Numbered.{numbers_of};
 ghost use Rattle.dos_world.specs.World.{belongs_to};
 ghost use Rattle.dos_world.specs.Services.{new_registers, process_exit, round_number, thread_exit, thread_new};
 ghost use Rattle.kernel_calls.specs.StateWorld.{IsCounted, IsSound};
-ghost use Rattle.kernel_calls.specs.CallResults.{AreAsked, GoesOn};
+ghost use Rattle.kernel_calls.specs.CallResults.{AreAsked, ActsQuietly};
 ghost use Rattle.kernel_calls.specs.declared.state.Served.TheVariants.{Gone, Went};
 
 use crate::answering::{refuse_call, reply};
@@ -22,7 +22,7 @@ const CODE_UNIT: u32 = 4;
 pub(crate) fn thread_new(state: &mut State, asked: &Asked)
     requires sound { IsSound state.old }
     requires asked { AreAsked state.old asked.now }
-    ensures goes_on { GoesOn thread_new state.old asked.now Went state.new }
+    ensures goes_on { ActsQuietly thread_new state.old asked.now Went state.new }
     ensures counted { IsCounted state.new }
     ensures round { state.new.round ≡ state.old.round }
 {
@@ -52,7 +52,7 @@ fn new_registers(pc: u32, sp: u32, argument: u32) -> Regs
 pub(crate) fn thread_exit(state: &mut State, asked: &Asked)
     requires sound { IsSound state.old }
     requires asked { AreAsked state.old asked.now }
-    ensures goes_on { GoesOn thread_exit state.old asked.now Gone state.new }
+    ensures goes_on { ActsQuietly thread_exit state.old asked.now Gone state.new }
     ensures counted { IsCounted state.new }
     ensures round { state.new.round ≡ state.old.round }
 {
@@ -73,7 +73,7 @@ fn has_one_thread(table: &Table, pid: u32) -> bool
 pub(crate) fn process_exit(state: &mut State, asked: &Asked)
     requires sound { IsSound state.old }
     requires asked { AreAsked state.old asked.now }
-    ensures goes_on { GoesOn process_exit state.old asked.now Gone state.new }
+    ensures goes_on { ActsQuietly process_exit state.old asked.now Gone state.new }
     ensures counted { IsCounted state.new }
     ensures round { state.new.round ≡ state.old.round }
 {
@@ -84,7 +84,7 @@ pub(crate) fn process_exit(state: &mut State, asked: &Asked)
 pub(crate) fn round_number(state: &mut State, asked: &Asked)
     requires sound { IsSound state.old }
     requires asked { AreAsked state.old asked.now }
-    ensures goes_on { GoesOn round_number state.old asked.now Went state.new }
+    ensures goes_on { ActsQuietly round_number state.old asked.now Went state.new }
     ensures counted { IsCounted state.new }
     ensures round { state.new.round ≡ state.old.round }
 {

@@ -5,7 +5,7 @@ ghost use Rattle.dos_world.specs.declared.Access.TheVariants.{Load};
 ghost use Rattle.dos_world.specs.Kernel.{all_reach, copied_in};
 ghost use Rattle.dos_world.specs.Services.{write};
 ghost use Rattle.dos_io.specs.Outside.{HasCause};
-ghost use Rattle.kernel_mem.specs.MemoryWorld.{in_world, AreMapped, IsCaller, IsHome, KeepsUses};
+ghost use Rattle.kernel_mem.specs.MemoryWorld.{in_world, NamesUsedFrames, IsCaller, HasAllHome, KeepsUses};
 ghost use Rattle.page_store.specs.Store.{Store as Held};
 ghost use Rattle.kernel_calls.specs.StateWorld.{HasFaulted, HaveGrown, IsCounted, IsSound, Stands};
 ghost use Rattle.kernel_calls.specs.CallResults.{AreAsked, HasSinkCauses, IsCutOff, IsSent, Sends, call_in, target_of};
@@ -148,8 +148,8 @@ pub(crate) fn fill(
     count: u32,
 )
     requires caller { IsCaller table.now asked.now.thread }
-    requires mapped { AreMapped table.now frames.old asked.now.thread }
-    requires home { IsHome frames.old }
+    requires mapped { NamesUsedFrames table.now frames.old asked.now.thread }
+    requires home { HasAllHome frames.old }
     requires few { count ≤ 4096 }
     requires reach { (w : World) (s : Held)
         → all_reach (in_world w s table.now) asked.now.thread asked.now.a1 count Load ≡ true }

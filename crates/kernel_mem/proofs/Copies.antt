@@ -18,7 +18,7 @@ use Rattle.page_store.specs.Store.{Store, IsCopied, joined, shown, owner_at, wit
 use Rattle.page_store.proofs.Joined.{joined-set, page_of-joined, home-at}
 use Rattle.page_store.proofs.Counts.{owned-within, count_by-taken, position_more}
 use Rattle.proc_table.specs.Tables.{Tables}
-use Rattle.kernel_mem.specs.MemoryWorld.{in_world, IsHome}
+use Rattle.kernel_mem.specs.MemoryWorld.{in_world, HasAllHome}
 use Rattle.kernel_mem.specs.Forking.{entry_copied, IsUsedMore, taken_by}
 use Rattle.kernel_mem.proofs.Dropping.{no_entry}
 
@@ -41,7 +41,7 @@ pub first_use : (uses : List ℕ) (n f : ℕ) → n < length uses → get_or use
 first_use uses n f h none = ap (λ v. get_or (set uses n (v + 1)) f 0) (sym none)
     ∙ one_more uses n f h
 
-pub more-shared : (s : Store) (n : ℕ) → IsHome s → n < length s.uses
+pub more-shared : (s : Store) (n : ℕ) → HasAllHome s → n < length s.uses
     → IsUsedMore s n (with_more s n)
 more-shared s n home within =
     record {
@@ -60,7 +60,7 @@ owned-stays (x ∷ owners) zero (suc f) t h = h
 owned-stays (x ∷ owners) (suc n) zero t h = h
 owned-stays (x ∷ owners) (suc n) (suc f) t h = owned-stays owners n f t h
 
-pub more-copied : (s new : Store) (from n t : ℕ) → IsHome s → IsCopied s from n t new
+pub more-copied : (s new : Store) (from n t : ℕ) → HasAllHome s → IsCopied s from n t new
     → IsUsedMore s n new
 more-copied s new from n t home c = record {
   home = record {
@@ -89,7 +89,7 @@ copied-shared w s T t e shared = ap (λ b. by b) shared
     )
 
 pub copied-private : (w : World) (s new : Store) (T : Tables) (t n : ℕ) (e : Entry)
-    → e.shared ≡ false → IsHome s → is_free (owner_at s e.frame) ≡ false
+    → e.shared ≡ false → HasAllHome s → is_free (owner_at s e.frame) ≡ false
     → Some n ≡ position is_free s.owners → IsCopied s e.frame n t new
     → entry_copied (in_world w s T) t e ≡ (in_world w new T, record e { frame = n })
 copied-private w s new T t n e private home taken found c =

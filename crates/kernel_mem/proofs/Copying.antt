@@ -10,7 +10,7 @@ use Rattle.dos_world.specs.Kernel.{opened, place_of, copied_in, copied_out}
 use Rattle.proc_table.specs.Tables.{Tables}
 use Rattle.page_store.specs.Store.{Store as Held, whole, with_home}
 use Rattle.page_store.proofs.Joined.{joined-stretch, joined-written, length-joined}
-use Rattle.kernel_mem.specs.MemoryWorld.{in_world, IsHome, with_open}
+use Rattle.kernel_mem.specs.MemoryWorld.{in_world, HasAllHome, with_open}
 use Rattle.kernel_mem.proofs.Reaching.{entry_same, opened_here, place_here, HasFrame, IsOpen, is_open, opened-pages}
 
 -- ---- what a stretch holds
@@ -97,7 +97,7 @@ read_page w t a n k e here own within place bytes =
 
 -- a stretch of a page, read from the page once its frame is granted
 pub stretch_read : (w : World) (s u : Held) (T : Tables) (t a n frame : ℕ) (page part : List ℕ)
-    → HasFrame T s t a Load frame → IsHome s → u ≡ with_open s frame t Load
+    → HasFrame T s t a Load frame → HasAllHome s → u ≡ with_open s frame t Load
     → 0 < n → a % 4096 + n ≤ 4096 → slice_get u.pages frame ≡ Some (Some page)
     → part ≡ take n (drop (a % 4096) (whole page))
     → copied_in (in_world w s T) t a n ≡ (in_world w u T, part)

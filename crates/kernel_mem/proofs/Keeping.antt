@@ -7,7 +7,7 @@ use Rattle.dos_world.specs.declared.Access.TheVariants.{Load, Store}
 use Rattle.dos_world.specs.World.{is_free}
 use Rattle.dos_world.specs.Reach.{is_foreign}
 use Rattle.page_store.specs.Store.{Store as Held, owner_at, with_grant, with_home}
-use Rattle.kernel_mem.specs.MemoryWorld.{with_open, IsHome, KeepsUses, KeepsOthers}
+use Rattle.kernel_mem.specs.MemoryWorld.{with_open, HasAllHome, KeepsUses, KeepsOthers}
 
 -- ---- one owner set
 
@@ -58,7 +58,7 @@ open-reads s u frame t used is =
       owned = λ k other h. was other k (set_owner s.owners frame k Shared (Of other) h);
     }
 
-pub same-others : (t : ℕ) (s : Held) → IsHome s → KeepsOthers t s s
+pub same-others : (t : ℕ) (s : Held) → HasAllHome s → KeepsOthers t s s
 same-others t s home = record {
   home = home;
   uses = refl;
@@ -68,7 +68,7 @@ same-others t s home = record {
       λ k other h. inr h;
 }
 
-open-others : (s : Held) (frame t : ℕ) → IsHome s → is_free (owner_at s frame) ≡ false
+open-others : (s : Held) (frame t : ℕ) → HasAllHome s → is_free (owner_at s frame) ≡ false
     → KeepsOthers t s (with_open s frame t Store)
 open-others s frame t home used = by (is_foreign t Store (owner_at s frame))
   where
@@ -89,7 +89,7 @@ open-others s frame t home used = by (is_foreign t Store (owner_at s frame))
 
 -- ---- where a page is written
 
-pub written-others : (s u : Held) (frame t : ℕ) (page : List ℕ) → IsHome s
+pub written-others : (s u : Held) (frame t : ℕ) (page : List ℕ) → HasAllHome s
     → is_free (owner_at s frame) ≡ false → u ≡ with_open s frame t Store
     → KeepsOthers t s (with_home u frame page)
 written-others s u frame t page home used is =

@@ -16,7 +16,7 @@ use Rattle.space_map.specs.Mapping.{IsRising, page_at, no_entry as no_page}
 use Rattle.proc_table.specs.Tables.{Tables, IsProcess, held_in, held_by}
 use Rattle.proc_table.proofs.Standing.{spaced_by}
 use Rattle.kernel_mem.specs.Memory.{entries_of}
-use Rattle.kernel_mem.specs.MemoryWorld.{in_world, space_in, IsHome}
+use Rattle.kernel_mem.specs.MemoryWorld.{in_world, space_in, HasAllHome}
 use Rattle.kernel_mem.specs.Forking.{entry_copied, IsUsedMore, taken_by, with_space}
 
 -- ---- what processes have, changed
@@ -204,7 +204,7 @@ pub record IsCopying (s0 : Store) (old_table : Tables) (pid child tid i : ℕ) (
   pub copies : (w : World) (U : Tables)
       → copied_space (in_world w s0 U) tid (take i (space_in old_table pid))
       ≡ (in_world w s U, space_in T child)
-  pub home : IsHome s
+  pub home : HasAllHome s
   pub count : length s.owners ≡ length s0.owners
   pub uses : (f : ℕ) → uses_at s f ≡ uses_at s0 f + entries_of (space_in T child) f
   pub taken : (f : ℕ) → is_free (owner_at s0 f) ≡ false → is_free (owner_at s f) ≡ false
@@ -360,7 +360,7 @@ own-space T p = ap (λ ps. with_processes ps)
     with_processes : List Process → Tables
     with_processes ps = record T { processes = ps }
 
-pub copying-none : (s : Store) (T : Tables) (pid child tid : ℕ) → IsHome s → space_in T child ≡ []
+pub copying-none : (s : Store) (T : Tables) (pid child tid : ℕ) → HasAllHome s → space_in T child ≡ []
     → IsCopying s T pid child tid 0 s T
 copying-none s T pid child tid home empty = record {
   table = own-space T child;

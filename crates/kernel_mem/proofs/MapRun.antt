@@ -14,7 +14,7 @@ use Rattle.page_store.proofs.Counts.{count_by-taken}
 use Rattle.proc_table.specs.Tables.{IsProcess, Tables, entry_replaced, held_by, run_put}
 use Rattle.kernel_mem.specs.Memory.{HasUsesOf, entries_of}
 use Rattle.kernel_mem.specs.Ranges.{maps_any, range_call}
-use Rattle.kernel_mem.specs.MemoryWorld.{in_world, space_in, IsHome}
+use Rattle.kernel_mem.specs.MemoryWorld.{in_world, space_in, HasAllHome}
 use Rattle.kernel_mem.proofs.Copies.{first_use}
 use Rattle.kernel_mem.specs.Forking.{with_space}
 use Rattle.kernel_mem.proofs.Mapping.{page_step}
@@ -74,7 +74,7 @@ pub record IsMapping (s0 : Store) (old_table : Tables) (t p page rights count i 
       (in_world w s0 old_table)
       (run_of page i) ≡ in_world w s T
   pub table : T ≡ held_by (with_space (space_in T p)) old_table p
-  pub home : IsHome s
+  pub home : HasAllHome s
   pub live : IsProcess T.processes p
   pub fresh : (k : ℕ) → i ≤ k → k < count → look (space_in T p) (page + k) ≡ None
   pub room : T.room ≡ old_table.room
@@ -82,7 +82,7 @@ pub record IsMapping (s0 : Store) (old_table : Tables) (t p page rights count i 
   pub free : free_count s + i ≡ free_count s0
   pub uses : HasUsesOf (space_in old_table p) s0 (space_in T p) s
 
-pub mapping-none : (s : Store) (T : Tables) (t p page rights count : ℕ) → IsHome s
+pub mapping-none : (s : Store) (T : Tables) (t p page rights count : ℕ) → HasAllHome s
     → IsProcess T.processes p → maps_any (space_in T p) page count ≡ false
     → IsMapping s T t p page rights count 0 s T
 mapping-none s T t p page rights count home live none = record {
@@ -103,7 +103,7 @@ pub mapping-more : (s0 s s1 : Store) (old_table T next_table : Tables)
     → s1 ≡ with_owned s frame t
     → next_table ≡ held_by (with_entry (page + i) (private_entry frame rights)) T p
     → ((w : World) → in_world w s1 next_table ≡ page_mapped t p rights (in_world w s T) (page + i))
-    → IsHome s1 → IsUnused s frame
+    → HasAllHome s1 → IsUnused s frame
     → IsMapping s0 old_table t p page rights count (i + 1) s1 next_table
 mapping-more s0 s s1 old_table T next_table t p page rights count i frame so_far found frames table
     one home unused
@@ -157,7 +157,7 @@ pub record IsFilling (s0 : Store) (old_table : Tables) (t p page rights count i 
       (space_in filled p))) old_table p
 
 pub filling-none : (s : Store) (old_table T : Tables) (t p page rights count : ℕ) (entry : Entry)
-    → IsHome s → IsProcess old_table.processes p
+    → HasAllHome s → IsProcess old_table.processes p
     → maps_any (space_in old_table p) page count ≡ false → entry ≡ private_entry 0 rights
     → T ≡ held_by (run_put page count entry) old_table p
     → IsFilling s old_table t p page rights count 0 s T
@@ -205,7 +205,7 @@ module _ (s0 s : Store) (old_table T : Tables) (t p page rights count i : ℕ)
   pub filling-more : (s1 : Store) (next_table : Tables) (frame : ℕ) → i < count
       → position is_free s.owners ≡ Some frame → s1 ≡ with_owned s frame t
       → next_table ≡ held_by (entry_replaced (page + i) (private_entry frame rights)) T p
-      → IsHome s1 → IsUnused s frame
+      → HasAllHome s1 → IsUnused s frame
       → IsFilling s0 old_table t p page rights count (i + 1) s1 next_table
   filling-more s1 next_table frame h found frames table home unused =
       let entry : Entry = private_entry frame rights in

@@ -13,7 +13,7 @@ use Rattle.proc_table.specs.Tables.{Tables}
 use Rattle.page_store.specs.Store.{Store as Held, owner_at, with_grant}
 use Rattle.page_store.proofs.Joined.{home-at}
 use Rattle.page_store.proofs.Counts.{owned-within}
-use Rattle.kernel_mem.specs.MemoryWorld.{in_world, AreMapped, IsHome, entry_in, is_allowed, with_open}
+use Rattle.kernel_mem.specs.MemoryWorld.{in_world, NamesUsedFrames, HasAllHome, entry_in, is_allowed, with_open}
 
 -- ---- one byte
 
@@ -216,7 +216,7 @@ pub record HasFrame (T : Tables) (s : Held) (t a : ℕ) (access : Access) (frame
   pub owned : is_free (owner_at s frame) ≡ false
   pub within : frame < length s.owners
 
-pub frame_of : (T : Tables) (s : Held) (t a : ℕ) (access : Access) (frame : ℕ) → AreMapped T s t
+pub frame_of : (T : Tables) (s : Held) (t a : ℕ) (access : Access) (frame : ℕ) → NamesUsedFrames T s t
     → is_allowed access (entry_in T t a) ≡ true → IfSome (entry_in T t a) (λ e. frame ≡ e.frame)
     → HasFrame T s t a access frame
 frame_of T s t a access frame mapped allowed same = by (entry_in T t a) refl allowed same
@@ -238,7 +238,7 @@ frame_of T s t a access frame mapped allowed same = by (entry_in T t a) refl all
 
 -- the same for a stretch of a page that is reached
 pub frame_reached : (T : Tables) (s : Held) (t a n : ℕ) (access : Access) (frame : ℕ)
-    → AreMapped T s t → 0 < n → a % 4096 + n ≤ 4096
+    → NamesUsedFrames T s t → 0 < n → a % 4096 + n ≤ 4096
     → ((w : World) → all_reach (in_world w s T) t a n access ≡ true)
     → IfSome (entry_in T t a) (λ e. frame ≡ e.frame)
     → HasFrame T s t a access frame
@@ -313,7 +313,7 @@ opened-pages s frame t access = by (is_foreign t access (owner_at s frame))
 
 -- the page of a frame that was opened is home
 pub opened-home : (s u : Held) (T : Tables) (t a : ℕ) (access : Access) (frame : ℕ)
-    → HasFrame T s t a access frame → IsHome s → u ≡ with_open s frame t access
+    → HasFrame T s t a access frame → HasAllHome s → u ≡ with_open s frame t access
     → (page : List ℕ) × (slice_get u.pages frame ≡ Some (Some page))
 opened-home s u T t a access frame has home is =
     let page = home-at s.pages frame home.home (omega (arith, home.owners, has.within)) in (

@@ -6,7 +6,7 @@ use Rattle.dos_world.specs.Calls.{Call}
 use Rattle.dos_world.specs.ThreadCalls.{ready_thread}
 use Rattle.dos_world.specs.declared.Entry.{Entry}
 use Rattle.page_store.specs.Store.{Store, owner_at, uses_at}
-use Rattle.kernel_mem.specs.MemoryWorld.{IsHome}
+use Rattle.kernel_mem.specs.MemoryWorld.{HasAllHome}
 
 -- what each entry of a space names isn't Free
 abbrev pub AreTaken : List (ℕ × Entry) → Store → Type 0
@@ -24,7 +24,7 @@ entry_copied w t e = (
 
 -- One use more, of this frame; all pages are home, and what was in use still is.
 pub record IsUsedMore (old : Store) (frame : ℕ) (new : Store) : Type 0 where
-  pub home : IsHome new
+  pub home : HasAllHome new
   pub count : length new.owners ≡ length old.owners
   pub uses : (f : ℕ) → uses_at new f ≡ uses_at old f + (if frame == f then 1 else 0)
   pub taken : (f : ℕ) → is_free (owner_at old f) ≡ false → is_free (owner_at new f) ≡ false

@@ -53,12 +53,12 @@ pub record IsCaller (table : Tables) (t : ℕ) : Type 0 where
       (λ thread. IsProcess table.processes thread.process)
 
 -- what t's entries name isn't Free
-abbrev pub AreMapped : Tables → Store → ℕ → Type 0
-AreMapped table s t = (address : ℕ) (e : Entry) → entry_in table t address ≡ Some e
+abbrev pub NamesUsedFrames : Tables → Store → ℕ → Type 0
+NamesUsedFrames table s t = (address : ℕ) (e : Entry) → entry_in table t address ≡ Some e
     → is_free (slice_index_or s.owners e.frame Free) ≡ false
 
 -- all pages are home, each with an owner
-pub record IsHome (s : Store) : Type 0 where
+pub record HasAllHome (s : Store) : Type 0 where
   pub home : All IsSome s.pages
   pub owners : length s.owners ≡ length s.pages
 
@@ -75,7 +75,7 @@ pub record KeepsUses (old new : Store) : Type 0 where
 -- What stays where t writes: all pages are home, no use came or went, and no frame became Free or
 -- another thread's than t's.
 pub record KeepsOthers (t : ℕ) (old new : Store) : Type 0 where
-  pub home : IsHome new
+  pub home : HasAllHome new
   pub uses : new.uses ≡ old.uses
   pub count : length new.owners ≡ length old.owners
   pub used : (frame : ℕ) → is_free (slice_index_or new.owners frame Free)

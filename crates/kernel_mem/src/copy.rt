@@ -2,7 +2,7 @@
 ghost use Rattle.std.specs.Prelude.{◌≡◌, ◌<◌, ◌≤◌, ◌+◌, ◌%◌, ◌^◌, true, false, ℕ, IfSome, is_ok, length, OnErr, Err, if◌then◌else◌};
 ghost use Rattle.dos_world.specs.World.{World};
 ghost use Rattle.dos_world.specs.Kernel.{all_reach, copied_in, copied_out};
-ghost use Rattle.kernel_mem.specs.MemoryWorld.{in_world, entry_in, is_allowed, with_open, IsCaller, IsHome, AreMapped, KeepsUses, KeepsOthers};
+ghost use Rattle.kernel_mem.specs.MemoryWorld.{in_world, entry_in, is_allowed, with_open, IsCaller, HasAllHome, NamesUsedFrames, KeepsUses, KeepsOthers};
 ghost use Rattle.page_store.specs.Store.{Store as Held};
 
 use dos_world::errors::EFAULT;
@@ -38,8 +38,8 @@ pub fn check(table: &Table, tid: u32, address: u32, length: u32, write: bool) ->
 pub fn copy_in(frames: &mut Frames, table: &Table, tid: u32, address: u32, buffer: &mut [u8])
     requires caller { IsCaller table.now tid }
     requires few { length buffer.old ≤ 4096 }
-    requires home { IsHome frames.old }
-    requires mapped { AreMapped table.now frames.old tid }
+    requires home { HasAllHome frames.old }
+    requires mapped { NamesUsedFrames table.now frames.old tid }
     requires checked { (w : World)
         → all_reach (in_world w frames.old table.now) tid address
         (length buffer.old) Access.Load ≡ true }
@@ -60,8 +60,8 @@ pub fn copy_in(frames: &mut Frames, table: &Table, tid: u32, address: u32, buffe
 pub fn copy_out(frames: &mut Frames, table: &Table, tid: u32, address: u32, bytes: &[u8])
     requires caller { IsCaller table.now tid }
     requires few { length bytes.now ≤ 4096 }
-    requires home { IsHome frames.old }
-    requires mapped { AreMapped table.now frames.old tid }
+    requires home { HasAllHome frames.old }
+    requires mapped { NamesUsedFrames table.now frames.old tid }
     requires checked { (w : World)
         → all_reach (in_world w frames.old table.now) tid address
         (length bytes.now) Access.Store ≡ true }
@@ -103,8 +103,8 @@ fn read_stretch(frames: &mut Frames, table: &Table, tid: u32, address: u64, part
     requires caller { IsCaller table.now tid }
     requires address { address < 2 ^ 33 }
     requires within { address % 4096 + length part.old ≤ 4096 }
-    requires home { IsHome frames.old }
-    requires mapped { AreMapped table.now frames.old tid }
+    requires home { HasAllHome frames.old }
+    requires mapped { NamesUsedFrames table.now frames.old tid }
     requires checked { (w : World)
         → all_reach (in_world w frames.old table.now) tid address (length part.old) Access.Load
         ≡ true }
@@ -126,8 +126,8 @@ fn write_stretch(frames: &mut Frames, table: &Table, tid: u32, address: u64, par
     requires caller { IsCaller table.now tid }
     requires address { address < 2 ^ 33 }
     requires within { address % 4096 + length part.now ≤ 4096 }
-    requires home { IsHome frames.old }
-    requires mapped { AreMapped table.now frames.old tid }
+    requires home { HasAllHome frames.old }
+    requires mapped { NamesUsedFrames table.now frames.old tid }
     requires checked { (w : World)
         → all_reach (in_world w frames.old table.now) tid address (length part.now) Access.Store
         ≡ true }
@@ -154,7 +154,7 @@ pub(crate) fn open(
 ) -> u32
     requires caller { IsCaller table.now tid }
     requires address { address < 2 ^ 33 }
-    requires mapped { AreMapped table.now frames.old tid }
+    requires mapped { NamesUsedFrames table.now frames.old tid }
     requires allowed { is_allowed access (entry_in table.now tid address) ≡ true }
     ensures frame { IfSome (entry_in table.now tid address) (λ e. result ≡ e.frame) }
     ensures opens { frames.new ≡ with_open frames.old result tid access }

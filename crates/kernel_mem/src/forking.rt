@@ -7,7 +7,7 @@ ghost use Rattle.dos_world.specs.ProcessCalls.{are_processes_full, copied_space,
 ghost use Rattle.page_store.specs.Store.{free_count, owner_at, uses_at};
 ghost use Rattle.dos_world.specs.World.{is_free};
 ghost use Rattle.proc_table.specs.Tables.{IsProcess, Tables, held_by, held_in, process_added, thread_in};
-ghost use Rattle.kernel_mem.specs.MemoryWorld.{in_world, space_in, IsCaller, IsHome};
+ghost use Rattle.kernel_mem.specs.MemoryWorld.{in_world, space_in, IsCaller, HasAllHome};
 ghost use Rattle.kernel_mem.specs.Memory.{entries_of};
 ghost use Rattle.kernel_mem.specs.Forking.{AreTaken, IsUsedMore, child_begun, child_without, entry_copied, fork_call, fork_result, taken_by, with_space};
 
@@ -21,7 +21,7 @@ use space_map::Space;
 /// few frames are free. A refusal changes nothing.
 pub fn fork(frames: &mut Frames, table: &mut Table, tid: u32) -> Result<u32, u8>
     requires caller { IsCaller table.old tid }
-    requires home { IsHome frames.old }
+    requires home { HasAllHome frames.old }
     requires taken { IfSome (thread_in table.old.threads tid)
         (λ thread. AreTaken (space_in table.old thread.process) frames.old) }
     requires few { IfSome (thread_in table.old.threads tid) (λ thread. (frame : ℕ)
@@ -32,7 +32,7 @@ pub fn fork(frames: &mut Frames, table: &mut Table, tid: u32) -> Result<u32, u8>
         ≡ fork_result result (in_world w frames.new table.new)) }
     ensures number { IfOk result (λ child. child ≡ length table.old.processes + 1) }
     ensures stays { OnErr result ((frames.new ≡ frames.old) × (table.new ≡ table.old)) }
-    ensures home { IsHome frames.new }
+    ensures home { HasAllHome frames.new }
     ensures count { length frames.new.owners ≡ length frames.old.owners }
     ensures room { table.new.room ≡ table.old.room }
     ensures uses { IfOk result (λ child. (frame : ℕ)
@@ -108,7 +108,7 @@ fn copy_space(frames: &mut Frames, table: &mut Table, pid: u32, child: u32, tid:
     requires child { IsProcess table.old.processes child }
     requires apart { pid ≢ child }
     requires empty { space_in table.old child ≡ [] }
-    requires home { IsHome frames.old }
+    requires home { HasAllHome frames.old }
     requires taken { AreTaken (space_in table.old pid) frames.old }
     requires few { (frame : ℕ)
         → uses_at frames.old frame + length (space_in table.old pid) < 2 ^ 32 - 1 }
@@ -117,7 +117,7 @@ fn copy_space(frames: &mut Frames, table: &mut Table, pid: u32, child: u32, tid:
         → copied_space (in_world w frames.old T) tid (space_in table.old pid)
         ≡ (in_world w frames.new T, space_in table.new child) }
     ensures table { table.new ≡ held_by (with_space (space_in table.new child)) table.old child }
-    ensures home { IsHome frames.new }
+    ensures home { HasAllHome frames.new }
     ensures count { length frames.new.owners ≡ length frames.old.owners }
     ensures uses { (frame : ℕ)
         → uses_at frames.new frame ≡ uses_at frames.old frame + entries_of
@@ -132,7 +132,7 @@ fn copy_space(frames: &mut Frames, table: &mut Table, pid: u32, child: u32, tid:
 
 // A private entry's copy has a fresh frame with the same bytes; a shared entry is used once more.
 fn copy_entry(frames: &mut Frames, tid: u32, entry: Entry) -> Entry
-    requires home { IsHome frames.old }
+    requires home { HasAllHome frames.old }
     requires taken { is_free (owner_at frames.old entry.frame) ≡ false }
     requires few { uses_at frames.old entry.frame < 2 ^ 32 - 1 }
     requires free { taken_by entry ≤ free_count frames.old }

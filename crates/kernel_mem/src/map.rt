@@ -6,7 +6,7 @@ ghost use Rattle.dos_world.specs.MemoryCalls.{mapped, mapped_fresh, private_entr
 ghost use Rattle.page_store.specs.Store.{IsUnused, free_count, uses_at, with_owned};
 ghost use Rattle.proc_table.specs.Tables.{IsProcess, entry_replaced, held_by, thread_in};
 ghost use Rattle.space_map.specs.Mapping.{IsMapped};
-ghost use Rattle.kernel_mem.specs.MemoryWorld.{space_in, in_world, IsCaller, IsHome};
+ghost use Rattle.kernel_mem.specs.MemoryWorld.{space_in, in_world, IsCaller, HasAllHome};
 ghost use Rattle.kernel_mem.specs.Memory.{HasUsesOf};
 ghost use Rattle.kernel_mem.specs.Forking.{with_space};
 ghost use Rattle.kernel_mem.specs.Ranges.{maps_any, range_call, result_in};
@@ -30,7 +30,7 @@ pub fn map_pages(
     rights: u32,
 ) -> Result<(), u8>
     requires caller { IsCaller table.old tid }
-    requires home { IsHome frames.old }
+    requires home { HasAllHome frames.old }
     requires room { IfSome (thread_in table.old.threads tid)
         (λ thread.
         length
@@ -46,7 +46,7 @@ pub fn map_pages(
         (λ thread. table.new ≡ held_by (with_space (space_in table.new thread.process)) table.old
         thread.process)) }
     ensures stays { OnErr result ((frames.new ≡ frames.old) × (table.new ≡ table.old)) }
-    ensures home { IsHome frames.new }
+    ensures home { HasAllHome frames.new }
     ensures room { table.new.room ≡ table.old.room }
     ensures count { length frames.new.owners ≡ length frames.old.owners }
 {
@@ -78,7 +78,7 @@ fn map_run(
     count: u32,
     rights: u32,
 )
-    requires home { IsHome frames.old }
+    requires home { HasAllHome frames.old }
     requires live { IsProcess table.old.processes pid }
     requires unmapped { maps_any (space_in table.old pid) page count ≡ false }
     requires room { length (space_in table.old pid) + count ≤ table.old.room }
@@ -92,7 +92,7 @@ fn map_run(
     ensures uses { HasUsesOf (space_in table.old pid) frames.old
         (space_in table.new pid) frames.new }
     ensures table { table.new ≡ held_by (with_space (space_in table.new pid)) table.old pid }
-    ensures home { IsHome frames.new }
+    ensures home { HasAllHome frames.new }
     ensures room { table.new.room ≡ table.old.room }
     ensures count { length frames.new.owners ≡ length frames.old.owners }
 {
@@ -112,7 +112,7 @@ fn fill_page(
     page: u32,
     rights: u32,
 ) -> u32
-    requires home { IsHome frames.old }
+    requires home { HasAllHome frames.old }
     requires live { IsProcess table.old.processes pid }
     requires mapped { IsMapped (space_in table.old pid) page }
     requires free { position is_free frames.old.owners ≢ None }
@@ -120,7 +120,7 @@ fn fill_page(
     ensures frames { frames.new ≡ with_owned frames.old result tid }
     ensures table { table.new
         ≡ held_by (entry_replaced page (private_entry result rights)) table.old pid }
-    ensures home { IsHome frames.new }
+    ensures home { HasAllHome frames.new }
     ensures unused { IsUnused frames.old result }
 {
     match frames.fresh(tid) {

@@ -5,7 +5,7 @@ ghost use Rattle.dos_world.specs.World.{World};
 ghost use Rattle.dos_world.specs.Kernel.{opened};
 ghost use Rattle.dos_world.specs.declared.Access.TheVariants.{Load};
 ghost use Rattle.proc_table.specs.Tables.{Tables};
-ghost use Rattle.kernel_mem.specs.MemoryWorld.{in_world, entry_in, IsCaller, IsHome, AreMapped, KeepsUses};
+ghost use Rattle.kernel_mem.specs.MemoryWorld.{in_world, entry_in, IsCaller, HasAllHome, NamesUsedFrames, KeepsUses};
 
 use crate::copy::{entry_of, open};
 use dos_world::{Access, Entry, Size};
@@ -22,7 +22,7 @@ pub fn entry_at(table: &Table, tid: u32, address: u32) -> Option<Entry>
 
 /// The word of 32 bits at an offset of a frame. Nothing is granted.
 pub fn word_at(frames: &Frames, frame: u32, offset: u32) -> u32
-    requires home { IsHome frames.now }
+    requires home { HasAllHome frames.now }
     requires frame { frame < length frames.now.owners }
     requires offset { offset + 4 ≤ 4096 }
     ensures { (w : World) (T : Tables)
@@ -35,7 +35,7 @@ pub fn word_at(frames: &Frames, frame: u32, offset: u32) -> u32
 /// the caller.
 pub fn grant_load(frames: &mut Frames, table: &Table, tid: u32, address: u32)
     requires caller { IsCaller table.now tid }
-    requires mapped { AreMapped table.now frames.old tid }
+    requires mapped { NamesUsedFrames table.now frames.old tid }
     requires entry { IsSome (entry_in table.now tid address) }
     ensures opens { (w : World)
         → opened (in_world w frames.old table.now) tid address Load

@@ -18,7 +18,7 @@ use Rattle.worker_pool.specs.Ran.{GrewBy}
 use Rattle.dpg_run.specs.Fits.{FitsFrom}
 use Rattle.dpg_run.specs.Machine.{Finish, Seen, ends, machine_from, rounds_from, run_from, status_in}
 use Rattle.dpg_run.specs.GroupRuns.{AreEnded, AreFronts, CutGroup, RanGroup, StoppedGroup}
-use Rattle.logged_runs.specs.Opened.{IsOpened}
+use Rattle.logged_runs.specs.Opened.{IsOpenedWith}
 use Rattle.logged_runs.specs.Runs.{Ended, Put, RanAhead, RanUntil, RanWhole}
 use Rattle.logged_runs.proofs.RoundsAsk.{no_end_before, rounds_never}
 
@@ -42,7 +42,7 @@ is_told ending rounds told ended none =
 -- The shim had told nothing before.
 module _ (k : Held) (before told : List Exchange) (o e o1 e1 : Option (List ℕ))
     (fresh : before ≡ []) (images : List Image) (config : Config)
-    (opened : IsOpened k images config) where
+    (opened : IsOpenedWith k images config) where
   abbrev More : Type 0
   More = ToldMore (telling before o e) (telling told o1 e1)
 

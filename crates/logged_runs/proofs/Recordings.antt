@@ -30,7 +30,7 @@ use Rattle.shim_log.specs.Room.{HadRoom, most_bytes}
 use Rattle.shim_log.proofs.RecorderLaws.{no_end, recording_given}
 use Rattle.dpg_run.specs.Machine.{Seen}
 use Rattle.dpg_run.specs.GroupRuns.{CutGroup, RanGroup, StoppedGroup}
-use Rattle.logged_runs.specs.Opened.{IsOpened}
+use Rattle.logged_runs.specs.Opened.{IsOpenedWith}
 use Rattle.logged_runs.specs.Runs.{Ended, Put, RanUntil, RanWhole}
 use Rattle.logged_runs.specs.Recording.{Recorded, RecordedAhead, RecordedUntil, plan_of}
 use Rattle.logged_runs.proofs.FromOpening.{ran_ahead, ran_until, ran_whole, put_ahead, put_until, until_no_end}
@@ -142,7 +142,7 @@ module _ (k : Held) (start after : LedgerState) (a b : Option Told) (m n : ℕ)
       (telling told o1 e1) work → GrewBy tally tally' work → IsLedger after
       → exchanges log ≡ told → log.header ≡ after.header → FitsLog log
       → length (logtext log) ≤ most_bytes → (images : List Image) (config : Config)
-      → IsOpened k images config
+      → IsOpenedWith k images config
       → (seen : Seen) × Recorded (plan_of images config start) a b log seen
       × Ended k' ending seen o e o1 e1 tally tally'
   of_start log k' ending tally tally' work run grew kept is header fits small images config opened =
@@ -167,7 +167,7 @@ module _ (k : Held) (start after : LedgerState) (a b : Option Told) (m n : ℕ)
   until : (stop : ShimStop)
       → StoppedGroup k.config k.state (telling (recorder_state start).told o e)
       (telling told o1 e1) after.asked → after.last ≡ Some stop → IsLedger after
-      → (images : List Image) (config : Config) → IsOpened k images config
+      → (images : List Image) (config : Config) → IsOpenedWith k images config
       → (output : List ℕ) × (error : List ℕ)
       × RecordedUntil (plan_of images config start) a b stop output error
       × Put o e o1 e1 output error
@@ -204,7 +204,7 @@ module _ (k : Held) (start after : LedgerState) (a b : Option Told) (m n : ℕ)
       (telling (recorder_state start).told o e) (telling told o1 e1) after.asked)
       → HasShimCause stop (recorder_state start) (recorder_state after) → IsLedger after
       → IfSome (shim_stop stop) (λ why. (images : List Image) (config : Config)
-      → IsOpened k images config → (output : List ℕ) × (error : List ℕ)
+      → IsOpenedWith k images config → (output : List ℕ) × (error : List ℕ)
       × RecordedUntil (plan_of images config start) a b why output error
       × Put o e o1 e1 output error)
   stopped_start HostFault run cause kept = until stops.HostFault run cause.1 kept
@@ -216,7 +216,7 @@ module _ (k : Held) (start after : LedgerState) (a b : Option Told) (m n : ℕ)
 
   -- it was cut off
   ahead_start : CutGroup k.config k.state (telling (recorder_state start).told o e)
-      (telling told o1 e1) → (images : List Image) (config : Config) → IsOpened k images config
+      (telling told o1 e1) → (images : List Image) (config : Config) → IsOpenedWith k images config
       → (output : List ℕ) × (error : List ℕ)
       × RecordedAhead (plan_of images config start) a b output error
       × Put o e o1 e1 output error
@@ -265,7 +265,7 @@ module _ (k : Held) (ledger start after : LedgerState) (a b : Option Told) (m n 
       (telling (recorder_state after).told o1 e1) work → GrewBy tally tally' work
       → IsLedger after → exchanges log ≡ (recorder_state after).told → log.header ≡ after.header
       → FitsLog log → length (logtext log) ≤ most_bytes → (images : List Image)
-      (config : Config) → IsOpened k images config
+      (config : Config) → IsOpenedWith k images config
       → (seen : Seen) × Recorded (plan_of images config ledger) a b log seen
       × Ended k' ending seen o e o1 e1 tally tally'
   recorded log k' ending tally tally' work run grew kept is header fits small images config opened =
@@ -279,19 +279,19 @@ module _ (k : Held) (ledger start after : LedgerState) (a b : Option Told) (m n 
       (telling (recorder_state start).told o e) (telling (recorder_state after).told o1 e1)
       after.asked) → HasShimCause stop (recorder_state start) (recorder_state after)
       → IsLedger after → IfSome (shim_stop stop) (λ why. (images : List Image) (config : Config)
-      → IsOpened k images config → (output : List ℕ) × (error : List ℕ)
+      → IsOpenedWith k images config → (output : List ℕ) × (error : List ℕ)
       × RecordedUntil (plan_of images config ledger) a b why output error
       × Put o e o1 e1 output error)
   stopped stop run cause kept =
       subst (λ (s : LedgerState). IfSome (shim_stop stop) (λ why. (images : List Image)
-      (config : Config) → IsOpened k images config → (output : List ℕ) × (error : List ℕ)
+      (config : Config) → IsOpenedWith k images config → (output : List ℕ) × (error : List ℕ)
       × RecordedUntil (plan_of images config s) a b why output error
       × Put o e o1 e1 output error)) same
       (stopped_start k start after a b m n o e o1 e1 follows begun stop run cause kept)
 
   pub recorded_ahead : CutGroup k.config k.state (telling (recorder_state start).told o e)
       (telling (recorder_state after).told o1 e1) → (images : List Image) (config : Config)
-      → IsOpened k images config → (output : List ℕ) × (error : List ℕ)
+      → IsOpenedWith k images config → (output : List ℕ) × (error : List ℕ)
       × RecordedAhead (plan_of images config ledger) a b output error
       × Put o e o1 e1 output error
   recorded_ahead cut images config opened =

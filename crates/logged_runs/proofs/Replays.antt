@@ -25,7 +25,7 @@ use Rattle.dpg_run.specs.Fits.{misfit}
 use Rattle.dpg_run.specs.Machine.{Seen, group}
 use Rattle.dpg_run.specs.GroupRuns.{CutGroup, RanGroup, StoppedGroup}
 use Rattle.dpg_run.proofs.MisfitLaws.{misfit_at}
-use Rattle.logged_runs.specs.Opened.{IsOpened}
+use Rattle.logged_runs.specs.Opened.{IsOpenedWith}
 use Rattle.logged_runs.specs.Runs.{Ended, Put, RanWhole}
 use Rattle.logged_runs.specs.Replaying.{Replayed, ReplayedAhead, ReplayedUntil, StopsReplay, config_of}
 use Rattle.logged_runs.proofs.FromOpening.{ran_ahead, ran_until, ran_whole, put_ahead, put_until}
@@ -91,7 +91,7 @@ module _ (k : Held) (before : List Exchange) (p : ReplayState) (o e o1 e1 : Opti
       let found = misfit_only stops.Memory run cause.1 kept in
       let is : stops.Memory ≡ stops.Misfit found.0 = found.1 in absurd cc
 
-  module _ (images : List Image) (opened : IsOpened k images (config_of p.log.header)) where
+  module _ (images : List Image) (opened : IsOpenedWith k images (config_of p.log.header)) where
     -- it came to the end of the log
     whole : (k' : Held) (ending : Ending) (tally tally' work : ℕ)
         → RanGroup k.config k.state (telling before o e) ending k'.state (telling told o1 e1) work
@@ -152,9 +152,9 @@ module _ (k : Held) (before : List Exchange) (p : ReplayState) (o e o1 e1 : Opti
   -- ---- the log that the replayer was made of
 
   module _ (log : Log) (same : p.log ≡ log) (images : List Image)
-      (opened : IsOpened k images (config_of log.header)) where
-    here : IsOpened k images (config_of p.log.header)
-    here = subst (λ (l : Log). IsOpened k images (config_of l.header)) (sym same) opened
+      (opened : IsOpenedWith k images (config_of log.header)) where
+    here : IsOpenedWith k images (config_of p.log.header)
+    here = subst (λ (l : Log). IsOpenedWith k images (config_of l.header)) (sym same) opened
 
     pub replayed : (k' : Held) (ending : Ending) (tally tally' work : ℕ)
         → RanGroup k.config k.state (telling before o e) ending k'.state (telling told o1 e1) work

@@ -6,6 +6,6 @@ use Rattle.group_open.specs.Opening.{opening}
 use Rattle.group_rounds.specs.Kernels.{Held, kernel_world}
 
 -- It was opened with these images and this configuration.
-pub record IsOpened (k : Held) (images : List Image) (config : Config) : Type 0 where
+pub record IsOpenedWith (k : Held) (images : List Image) (config : Config) : Type 0 where
   pub world : kernel_world k ≡ opening images config
   pub config_is : k.config ≡ config

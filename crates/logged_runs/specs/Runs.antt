@@ -45,7 +45,7 @@ pub record Put (out err out_after err_after : Option (List ℕ)) (output error :
   pub err_is : err_after ≡ grown err error
 
 -- A kernel in which a run has ended so shows what is seen of it: its report is that run's.
-pub record Shows (kernel : Held) (ending : Ending) (seen : Seen) : Type 0 where
+pub record ReportsRun (kernel : Held) (ending : Ending) (seen : Seen) : Type 0 where
   pub ending_is : seen.ending ≡ ending
   pub report_is : report_in (kernel_world kernel) ending ≡ report seen
 
@@ -53,6 +53,6 @@ pub record Shows (kernel : Held) (ending : Ending) (seen : Seen) : Type 0 where
 -- report, and what the workers' tally grew by.
 pub record Ended (kernel : Held) (ending : Ending) (seen : Seen)
     (out err out_after err_after : Option (List ℕ)) (tally tally_after : ℕ) : Type 0 where
-  pub shows : Shows kernel ending seen
+  pub shows : ReportsRun kernel ending seen
   pub put : Put out err out_after err_after seen.output seen.error
   pub counted : GrewBy tally tally_after seen.work

@@ -6,7 +6,7 @@ ghost use Rattle.elf_image.specs.Image.{Image};
 ghost use Rattle.dpg_run.specs.Machine.{Seen};
 ghost use Rattle.kernel_calls.specs.StateWorld.{HasSinkCause, shim_stop};
 ghost use Rattle.shim_log.specs.Ledger.{empty_ledger};
-ghost use Rattle.logged_runs.specs.Opened.{IsOpened};
+ghost use Rattle.logged_runs.specs.Opened.{IsOpenedWith};
 ghost use Rattle.logged_runs.specs.Runs.{Ended, Put};
 ghost use Rattle.logged_runs.specs.Recording.{Recorded, RecordedAhead, RecordedUntil, plan_of};
 
@@ -43,19 +43,19 @@ pub fn record_group<H: Host, O: Sink, E: Sink, W: Workers>(
     requires begins { ledger
         ≡ empty_ledger ledger.posts ledger.clock ledger.header ledger.room }
     ensures ran { IfOk result (λ x. (images : List Image) (config : Config)
-        → IsOpened kernel.old images config
+        → IsOpenedWith kernel.old images config
         → (seen : Seen) × Recorded (plan_of images config ledger) (H.told host.old)
         (H.told host.new) x.1 seen
         × Ended kernel.new x.0 seen (O.told out.old) (E.told err.old) (O.told out.new)
         (E.told err.new) (W.tally workers.old) (W.tally workers.new)) }
     ensures stopped { IfErr result (λ stop. IfSome (shim_stop stop) (λ why. (images : List Image)
-        (config : Config) → IsOpened kernel.old images config
+        (config : Config) → IsOpenedWith kernel.old images config
         → (output : List ℕ) × (error : List ℕ)
         × RecordedUntil (plan_of images config ledger) (H.told host.old) (H.told host.new) why
         output error
         × Put (O.told out.old) (E.told err.old) (O.told out.new) (E.told err.new) output error)) }
     ensures cut { OnErr result ((images : List Image) (config : Config)
-        → IsOpened kernel.old images config
+        → IsOpenedWith kernel.old images config
         → (output : List ℕ) × (error : List ℕ)
         × RecordedAhead (plan_of images config ledger) (H.told host.old) (H.told host.new)
         output error

@@ -5,7 +5,7 @@ ghost use Rattle.elf_image.specs.Image.{Image};
 ghost use Rattle.dpg_run.specs.Machine.{Seen};
 ghost use Rattle.kernel_calls.specs.StateWorld.{HasSinkCause};
 ghost use Rattle.kernel_calls.specs.declared.state.RunStop.TheVariants as stops;
-ghost use Rattle.logged_runs.specs.Opened.{IsOpened};
+ghost use Rattle.logged_runs.specs.Opened.{IsOpenedWith};
 ghost use Rattle.logged_runs.specs.Runs.{Ended, Put};
 ghost use Rattle.logged_runs.specs.Replaying.{Replayed, ReplayedAhead, ReplayedUntil, StopsReplay, config_of};
 
@@ -31,16 +31,16 @@ pub fn replay_group<O: Sink, E: Sink, W: Workers>(
     requires running { kernel.old.failed ≡ false }
     requires fresh { kernel.old.state.round ≡ 1 }
     ensures ran { IfOk result (λ ending. (images : List Image)
-        → IsOpened kernel.old images (config_of log.header)
+        → IsOpenedWith kernel.old images (config_of log.header)
         → (seen : Seen) × Replayed images log seen
         × Ended kernel.new ending seen (O.told out.old) (E.told err.old) (O.told out.new)
         (E.told err.new) (W.tally workers.old) (W.tally workers.new)) }
     ensures misfit { (found : Misfit) → IsErrOf result (stops.Misfit found) → (images : List Image)
-        → IsOpened kernel.old images (config_of log.header)
+        → IsOpenedWith kernel.old images (config_of log.header)
         → (output : List ℕ) × (error : List ℕ) × ReplayedUntil images log found output error
         × Put (O.told out.old) (E.told err.old) (O.told out.new) (E.told err.new) output error }
     ensures cut { OnErr result ((images : List Image)
-        → IsOpened kernel.old images (config_of log.header)
+        → IsOpenedWith kernel.old images (config_of log.header)
         → (output : List ℕ) × (error : List ℕ) × ReplayedAhead images log output error
         × Put (O.told out.old) (E.told err.old) (O.told out.new) (E.told err.new) output error) }
     ensures only { IfErr result StopsReplay }

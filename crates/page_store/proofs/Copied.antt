@@ -10,7 +10,7 @@ use Rattle.dos_world.specs.World.{is_free}
 use Rattle.dos_world.specs.Reach.{written}
 use Rattle.dos_world.specs.declared.Owner.{Owner}
 use Rattle.dos_world.specs.declared.Owner.TheVariants.{Free}
-use Rattle.page_store.specs.Store.{IsHomeIn, IsKept, IsPageCopied, is_unused, shown, whole}
+use Rattle.page_store.specs.Store.{IsHomeIn, AreTallied, IsPageCopied, is_unused, shown, whole}
 use Rattle.page_store.proofs.Pages.{length-whole}
 use Rattle.page_store.proofs.Joined.{written-whole}
 
@@ -38,7 +38,7 @@ copied-page pages from to away here page new source apart home read is wrote = r
 -- a Free frame has no use
 pub unused-at : (count : ℕ) (owners : List Owner) (uses : List ℕ) (free : ℕ)
     (frames : List Bool) (i : ℕ)
-    → IsKept count owners uses free frames → position is_free owners ≡ Some i → get_or uses i 0 ≡ 0
+    → AreTallied count owners uses free frames → position is_free owners ≡ Some i → get_or uses i 0 ≡ 0
 unused-at count owners uses free frames i kept found =
     let at = position-Some is_free owners i Free found in
     let none : is_unused (get_or uses i 0) ≡ true = sym (get_or-map is_unused uses i 0)
@@ -56,6 +56,6 @@ owned-apart owners from i owned found e =
 
 -- a use for each owner
 pub uses-each : (count : ℕ) (owners : List Owner) (uses : List ℕ) (free : ℕ) (frames : List Bool)
-    → IsKept count owners uses free frames → length uses ≡ length owners
+    → AreTallied count owners uses free frames → length uses ≡ length owners
 uses-each count owners uses free frames kept =
     sym (length-map uses is_unused) ∙ ap length (sym kept.agree) ∙ length-map owners is_free

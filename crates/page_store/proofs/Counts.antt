@@ -13,7 +13,7 @@ use Rattle.std.proofs.lemmas.Bool.Decides.{nat_tests}
 use Rattle.dos_world.specs.declared.Owner.{Owner}
 use Rattle.dos_world.specs.declared.Owner.TheVariants.{Free, Shared}
 use Rattle.dos_world.specs.World.{is_free}
-use Rattle.page_store.specs.Store.{is_unused, AreFreeFrom, IsKept}
+use Rattle.page_store.specs.Store.{is_unused, AreFreeFrom, AreTallied}
 use Rattle.hierarchical_bitmap.specs.Levels.{itself}
 
 -- ---- the count of Free owners
@@ -148,9 +148,9 @@ agree-uses bs uses i v e h =
 
 pub kept-granted : (count : ℕ) (owners : List Owner) (uses : List ℕ) (free : ℕ)
     (frames : List Bool) (i : ℕ) (y : Owner)
-    → IsKept count owners uses free frames → is_free (get_or owners i Free) ≡ false
+    → AreTallied count owners uses free frames → is_free (get_or owners i Free) ≡ false
     → is_free y ≡ false
-    → IsKept count (set owners i y) uses free frames
+    → AreTallied count (set owners i y) uses free frames
 kept-granted count owners uses free frames i y k e n = record {
   few = k.few;
   each = length-set owners i y ∙ k.each;
@@ -161,8 +161,8 @@ kept-granted count owners uses free frames i y k e n = record {
 
 pub kept-uses : (count : ℕ) (owners : List Owner) (uses : List ℕ) (free : ℕ)
     (frames : List Bool) (i v : ℕ)
-    → IsKept count owners uses free frames → is_unused (get_or uses i 0) ≡ is_unused v
-    → IsKept count owners (set uses i v) free frames
+    → AreTallied count owners uses free frames → is_unused (get_or uses i 0) ≡ is_unused v
+    → AreTallied count owners (set uses i v) free frames
 kept-uses count owners uses free frames i v k e = record {
   few = k.few;
   each = k.each;
@@ -173,10 +173,10 @@ kept-uses count owners uses free frames i v k e = record {
 
 pub kept-fresh : (count : ℕ) (owners : List Owner) (uses : List ℕ) (free : ℕ)
     (frames : List Bool) (i new_count : ℕ)
-    (y : Owner) (new : List Bool) → IsKept count owners uses free frames
+    (y : Owner) (new : List Bool) → AreTallied count owners uses free frames
     → position is_free owners ≡ Some i → is_free y ≡ false → new_count ≡ count
     → new ≡ set frames i false
-    → IsKept new_count (set owners i y) (set uses i 1) (free - 1) new
+    → AreTallied new_count (set owners i y) (set uses i 1) (free - 1) new
 kept-fresh count owners uses free frames i new_count y new k e n c m =
     let found = position-Some is_free owners i Free e in
     record {
@@ -189,7 +189,7 @@ kept-fresh count owners uses free frames i new_count y new k e n c m =
 
 -- the lowest Free frame is the first of the list
 pub kept-found : (count : ℕ) (owners : List Owner) (uses : List ℕ) (free : ℕ) (frames : List Bool)
-    (i : ℕ) → IsKept count owners uses free frames → Some i ≡ position itself frames
+    (i : ℕ) → AreTallied count owners uses free frames → Some i ≡ position itself frames
     → position is_free owners ≡ Some i
 kept-found count owners uses free frames i k found =
     sym (position-frames owners frames k.frames_are) ∙ sym found
@@ -201,8 +201,8 @@ kept-some owners free i k e = let found = position-Some is_free owners i Free e 
 
 pub kept-freed : (count : ℕ) (owners : List Owner) (uses : List ℕ) (free : ℕ)
     (frames : List Bool) (i : ℕ) (new : List Bool)
-    → IsKept count owners uses free frames → 0 < get_or uses i 0 → new ≡ set frames i true
-    → IsKept count (set owners i Free) (set uses i 0) (free + 1) new
+    → AreTallied count owners uses free frames → 0 < get_or uses i 0 → new ≡ set frames i true
+    → AreTallied count (set owners i Free) (set uses i 0) (free + 1) new
 kept-freed count owners uses free frames i new k h m =
     let owned = used-owned owners uses i k.agree h in
     record {
@@ -219,7 +219,7 @@ kept-freed count owners uses free frames i new k h m =
 
 pub kept-room : (count : ℕ) (owners : List Owner) (uses : List ℕ) (free : ℕ)
     (frames : List Bool) (i : ℕ)
-    → IsKept count owners uses free frames → 0 < get_or uses i 0 → free + 1 < 2 ^ 32
+    → AreTallied count owners uses free frames → 0 < get_or uses i 0 → free + 1 < 2 ^ 32
 kept-room count owners uses free frames i k h =
     let owned = used-owned owners uses i k.agree h in
     omega (
@@ -234,8 +234,8 @@ kept-room count owners uses free frames i k h =
 
 pub kept-more : (count : ℕ) (owners : List Owner) (uses : List ℕ) (free : ℕ)
     (frames : List Bool) (i v : ℕ)
-    → IsKept count owners uses free frames → is_free (get_or owners i Free) ≡ false
-    → IsKept count owners (set uses i (v + 1)) free frames
+    → AreTallied count owners uses free frames → is_free (get_or owners i Free) ≡ false
+    → AreTallied count owners (set uses i (v + 1)) free frames
 kept-more count owners uses free frames i v k e =
     let some : is_unused (v + 1) ≡ false = grind (arith, nat_tests) in
     kept-uses count owners uses free frames i (v + 1) k
@@ -244,8 +244,8 @@ kept-more count owners uses free frames i v k e =
 
 pub kept-fewer : (count : ℕ) (owners : List Owner) (uses : List ℕ) (free : ℕ)
     (frames : List Bool) (i v : ℕ)
-    → IsKept count owners uses free frames → 0 < get_or uses i 0 → v ≡ get_or uses i 0 → (v ≡ 1 → ⊥)
-    → IsKept count owners (set uses i (v - 1)) free frames
+    → AreTallied count owners uses free frames → 0 < get_or uses i 0 → v ≡ get_or uses i 0 → (v ≡ 1 → ⊥)
+    → AreTallied count owners (set uses i (v - 1)) free frames
 kept-fewer count owners uses free frames i v k h e n =
     let old : is_unused (get_or uses i 0) ≡ false = grind (arith, nat_tests) in
     let new : is_unused (v - 1) ≡ false = grind (arith, nat_tests) in
@@ -253,7 +253,7 @@ kept-fewer count owners uses free frames i v k h e n =
 
 pub kept-unused : (count : ℕ) (owners : List Owner) (uses : List ℕ) (frames : List Bool) (n : ℕ)
     → count ≡ n → owners ≡ replicate n Free → uses ≡ replicate n 0 → frames ≡ replicate n true
-    → n < 2 ^ 32 → IsKept count owners uses n frames
+    → n < 2 ^ 32 → AreTallied count owners uses n frames
 kept-unused count owners uses frames n e o u f h = record {
   few = omega arith;
   each = ap length o ∙ length-replicate n Free ∙ sym e;

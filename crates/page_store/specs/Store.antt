@@ -68,7 +68,7 @@ free_count s = count_by is_free s.owners
 
 -- What the frames keep beside the lists. A frame is Free exactly where it has no use; free is the
 -- count of Free owners, and frames says of each whether it is Free.
-pub record IsKept (count : ℕ) (owners : List Owner) (uses : List ℕ) (free : ℕ)
+pub record AreTallied (count : ℕ) (owners : List Owner) (uses : List ℕ) (free : ℕ)
     (frames : List Bool) : Type 0 where
   pub few : count < 2 ^ 32
   pub each : length owners ≡ count

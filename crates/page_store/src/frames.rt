@@ -31,7 +31,7 @@ pub struct Frames {
 
 impl Model for Frames {
     ghost use Rattle.std.specs.Prelude.{◌≤◌, length};
-    ghost use Rattle.page_store.specs.Store.{AreFreeFrom, IsKept, Store};
+    ghost use Rattle.page_store.specs.Store.{AreFreeFrom, AreTallied, Store};
 
     ghost Value = { Store };
 
@@ -43,7 +43,7 @@ impl Model for Frames {
     } };
 
     ghost invariant = { λ f.
-        IsKept (length f.pages.items) f.owners.items f.uses.items f.free f.free_frames
+        AreTallied (length f.pages.items) f.owners.items f.uses.items f.free f.free_frames
         × AreFreeFrom f.owners.items f.high × (f.high ≤ length f.pages.items) };
 }
 

@@ -12,7 +12,7 @@ use Rattle.dos_world.specs.World.{Thread, belongs_to, first_of, none_of}
 use Rattle.dos_world.specs.Kernel.{unless_of}
 use Rattle.dos_world.specs.ThreadCalls.{are_threads_full}
 use Rattle.proc_table.specs.Tables.{thread_in, next_in}
-use Rattle.proc_table.specs.Spread.{live_in, spread, AreRising, AreInOrder, IsKept, no_entry, IsAt, IsGapFor, IsGapAbove}
+use Rattle.proc_table.specs.Spread.{live_in, spread, AreRising, AreInOrder, IsSpreadKept, no_entry, IsAt, IsGapFor, IsGapAbove}
 use Rattle.proc_table.proofs.Spread.{from_low, rising_set, rising_push, rising_remove, rising_filter, spread_at, spread_length, spread_changed, spread_mapped, spread_pushed, numbers_spread, in_at, in_gap, in_set_here, in_set_other, in_removed_here, in_removed_other, in_filtered, first_found, next_found, kept_all}
 
 -- a place among the entries as a function is lent them
@@ -29,7 +29,7 @@ pub above_in : (es live : List (ℕ × Thread)) (t place : ℕ) → es ≡ live 
 above_in es live t place e gap = subst (λ xs. IsGapAbove xs t place) e gap
 
 module _ (live : List (ℕ × Thread)) (given capacity : ℕ) (now : List (Option Thread))
-    (shown : spread live given ≡ now) (kept : IsKept live given capacity) where
+    (shown : spread live given ≡ now) (kept : IsSpreadKept live given capacity) where
   pub order : AreInOrder live
   order = (given + 1, kept.rising)
 
@@ -130,7 +130,7 @@ module _ (live : List (ℕ × Thread)) (given capacity : ℕ) (now : List (Optio
       ∙ ap (λ ts. changed (option_map f) ts t) shown
 
   pub kept_set : (t place : ℕ) (x y : ℕ × Thread) (same : ℕ) → IsAt live t place
-      → x ≡ get_or live place x → y.0 ≡ x.0 → same ≡ capacity → IsKept (set live place y) given same
+      → x ≡ get_or live place x → y.0 ≡ x.0 → same ≡ capacity → IsSpreadKept (set live place y) given same
   kept_set t place x y same at read is c = record {
     rising = rising_set 1 (given + 1) live place y kept.rising at.within
         (is ∙ number_read t place x at read ∙ sym at.is);
@@ -143,7 +143,7 @@ module _ (live : List (ℕ × Thread)) (given capacity : ℕ) (now : List (Optio
   pushed x = spread_pushed live given x kept.rising ∙ ap (λ ts. ts ++ Some x ∷ []) shown
 
   pub kept_push : (new : List (ℕ × Thread)) (x : Thread) (grown : ℕ) → are_threads_full now ≡ false
-      → new ≡ live ++ (given + 1, x) ∷ [] → capacity ≤ grown → IsKept new (given + 1) grown
+      → new ≡ live ++ (given + 1, x) ∷ [] → capacity ≤ grown → IsSpreadKept new (given + 1) grown
   kept_push new x grown room is c =
       let left = room_left room in
       record {
@@ -169,7 +169,7 @@ module _ (live : List (ℕ × Thread)) (given capacity : ℕ) (now : List (Optio
       ∙ ap (λ ts. changed none_of ts t) shown
 
   pub kept_remove : (t place : ℕ) (new : List (ℕ × Thread)) (same : ℕ) → IsAt live t place
-      → new ≡ remove live place → same ≡ capacity → IsKept new given same
+      → new ≡ remove live place → same ≡ capacity → IsSpreadKept new given same
   kept_remove t place new same at is c = record {
     rising = subst (AreRising 1 (given + 1)) (sym is)
         (rising_remove 1 (given + 1) live place at.within kept.rising);
@@ -192,7 +192,7 @@ module _ (live : List (ℕ × Thread)) (given capacity : ℕ) (now : List (Optio
       ∙ ap (map (unless_of p)) shown
 
   pub kept_filter : (p : ℕ) (new : List (ℕ × Thread)) (same : ℕ)
-      → new ≡ filter (λ e. not (e.1.process == p)) live → same ≡ capacity → IsKept new given same
+      → new ≡ filter (λ e. not (e.1.process == p)) live → same ≡ capacity → IsSpreadKept new given same
   kept_filter p new same is c = record {
     rising = subst (AreRising 1 (given + 1)) (sym is)
         (rising_filter (λ e. not (e.1.process == p)) 1 (given + 1) live kept.rising);

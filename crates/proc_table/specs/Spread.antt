@@ -18,7 +18,7 @@ AreRising low high [] = Unit {0}
 AreRising low high (e ∷ live) = (low ≤ e.0) × (e.0 < high) × AreRising (suc e.0) high live
 
 -- At most 64 threads live, in rising number, and their memory was taken.
-pub record IsKept (live : List (ℕ × Thread)) (given capacity : ℕ) : Type 0 where
+pub record IsSpreadKept (live : List (ℕ × Thread)) (given capacity : ℕ) : Type 0 where
   pub rising : AreRising 1 (given + 1) live
   pub few : length live ≤ 64
   pub numbers : given ≤ 65535

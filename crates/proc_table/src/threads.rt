@@ -33,13 +33,13 @@ impl Model for Threads {
     ghost use Rattle.std.specs.Prelude.{List, Option};
     ghost use Rattle.std.specs.Vec.{vec_capacity};
     ghost use Rattle.dos_world.specs.World.{Thread as Flat};
-    ghost use Rattle.proc_table.specs.Spread.{IsKept, spread};
+    ghost use Rattle.proc_table.specs.Spread.{IsSpreadKept, spread};
 
     ghost Value = { List (Option Flat) };
 
     ghost view = { λ t. spread t.live.items t.given };
 
-    ghost invariant = { λ t. IsKept t.live.items t.given (vec_capacity t.live) };
+    ghost invariant = { λ t. IsSpreadKept t.live.items t.given (vec_capacity t.live) };
 }
 
 impl Threads {

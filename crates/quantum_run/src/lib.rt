@@ -9,9 +9,9 @@ mod pack;
 mod page_places;
 mod pages;
 mod run;
-mod thread_memory;
 mod slot;
 mod slots;
+mod thread_memory;
 
 pub use pack::{Pack, Shared, View, run_pack};
 pub use run::run_until_stop;

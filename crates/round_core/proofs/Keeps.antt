@@ -22,7 +22,7 @@ use Rattle.round_core.specs.Rest.{granted_by, page_granted, settled, Turn, on, o
 use Rattle.round_core.specs.Round.{RoundEnd, finished, stalled, all_alone, parallel, with_budget, with_budgets, budgets, counted, phases, is_none_of, begun, round_of}
 use Rattle.round_core.specs.Round.{went as went_on}
 use Rattle.round_core.specs.Protocol.{Protocol, Allows}
-use Rattle.round_core.specs.Invariants.{Holds, Keeps, IsKept, LeavesServed, LeavesEnd, is_built}
+use Rattle.round_core.specs.Invariants.{Holds, Keeps, IsInvariant, LeavesServed, LeavesEnd, is_built}
 use Rattle.round_core.proofs.Allowed.{then_allows}
 
 module _ (protocol : Protocol) (I : Holds) (k : Keeps protocol I) where
@@ -255,7 +255,7 @@ module _ (protocol : Protocol) (I : Holds) (k : Keeps protocol I) where
           ask (Signals (w.rounds + 1)) w.output w.error
           (λ answer. begun (ripen (signalled w (posts_of answer))))
 
-  pub kept_throughout : IsKept protocol I
+  pub kept_throughout : IsInvariant protocol I
   kept_throughout = record {
     alone_kept = alone_keeps;
     parallel_kept = parallel_keeps;

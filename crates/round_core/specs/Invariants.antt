@@ -85,7 +85,7 @@ LeavesEnd J (went_on w work) = (last : World) × (w ≡ counted last) × J last
 LeavesEnd J (finished w) = J w
 LeavesEnd J (stalled w) = J w
 
-pub record IsKept (protocol : Protocol) (I : Holds) : Type 0 where
+pub record IsInvariant (protocol : Protocol) (I : Holds) : Type 0 where
   -- a thread's quantum by itself, and the parallel phase
   pub alone_kept : (ts : List ℕ) (w : World) (t : ℕ) → I ts w → I ts (alone w t)
   pub parallel_kept : (ts : List ℕ) (w : World) → I ts w → I ts (parallel w)

@@ -1,5 +1,5 @@
 // Laws of the definitions, as contracts of functions that do nothing.
-ghost use Rattle.round_core.specs.Invariants.{IsKept, Keeps};
+ghost use Rattle.round_core.specs.Invariants.{IsInvariant, Keeps};
 ghost use Rattle.round_core.specs.Laws.{OnlyReadAndClockAsk, PartsAreAMix, QuantaCommute, RunsStaySame, ThreeGrantsAreEnough};
 
 /// No instruction needs more than three grants: after three it stops at no page.
@@ -37,7 +37,7 @@ pub trait Invariant {
 /// the serial phase and the round.
 pub fn invariants_are_kept<I: Invariant>()
     requires { Keeps I.protocol I.holds }
-    ensures { IsKept I.protocol I.holds }
+    ensures { IsInvariant I.protocol I.holds }
 {}
 
 /// All of a round but its last step leaves the quantum, the count of rounds and the services that

@@ -13,26 +13,26 @@ use Rattle.rv_exec.specs.Step.{◌>>=◌, half_at, load_at, store_at, claim_at, 
 -- ---- any memory
 
 -- what a memory of type M answers; a store gives the memory after it
-pub record Answers (M : Type 0) : Type 0 where
+pub record MemoryAnswers (M : Type 0) : Type 0 where
   pub fetch : M → ℕ → Result ℕ Reason
   pub load : M → ℕ → Size → Result ℕ Reason
   pub store : M → ℕ → Size → ℕ → Result M Reason
   pub claim : M → ℕ → Result ℕ Reason
 
 -- the instruction at pc, and its size in bytes
-abbrev pub instruction_in : {M : Type 0} → Answers M → M → ℕ → Result (Option Instr × ℕ) Reason
+abbrev pub instruction_in : {M : Type 0} → MemoryAnswers M → M → ℕ → Result (Option Instr × ℕ) Reason
 instruction_in answers m pc = do
   low ← answers.fetch m pc
   if low % 4 == 3 then (answers.fetch m ((pc + 2) % 2 ^ 32)
       >>= λ high. Ok (whole_word low high)) else Ok (None, 2)
 
 -- a word stored, where there is one
-abbrev pub store_if : {M : Type 0} → Answers M → M → ℕ → Option ℕ → Result M Reason
+abbrev pub store_if : {M : Type 0} → MemoryAnswers M → M → ℕ → Option ℕ → Result M Reason
 store_if answers m address None = Ok m
 store_if answers m address (Some word) = answers.store m address Word word
 
 -- registers and memory after an effect, or the reason for a stop
-abbrev pub effect_in : {M : Type 0} → Answers M → M → Effect → Result (Registers × M) Reason
+abbrev pub effect_in : {M : Type 0} → MemoryAnswers M → M → Effect → Result (Registers × M) Reason
 effect_in answers m (goes r) = Ok (r, m)
 effect_in answers m (loads address size next) = do
   n ← answers.load m address size
@@ -47,7 +47,7 @@ effect_in answers m (claims address next new) = do
 effect_in answers m (stops reason) = Err reason
 
 -- one instruction: registers and memory, or the reason for a stop
-abbrev pub one_in : {M : Type 0} → Answers M → Registers → M → Result (Registers × M) Reason
+abbrev pub one_in : {M : Type 0} → MemoryAnswers M → Registers → M → Result (Registers × M) Reason
 one_in answers r m = do
   found ← instruction_in answers m r.pc
   elim found.0 [ None ↦ Err (Fault 4) | Some instr ↦ effect_in answers m (effect instr found.1 r) ]
@@ -55,7 +55,7 @@ one_in answers r m = do
 -- ---- the flat world as t's memory
 
 -- all four answers
-abbrev pub world_answers : ℕ → Answers World
+abbrev pub world_answers : ℕ → MemoryAnswers World
 world_answers t = record {
   fetch = λ w address. half_at w t address;
   load = λ w address size. load_at w t address size;

@@ -1,6 +1,6 @@
 // Bytes that go out to memory, and a fork: both of a process with two pages, the second shared.
 ghost use Rattle.std.specs.Prelude.{◌≡◌, ◌∷◌, [], length, IfOk};
-ghost use Rattle.kernel_mem.specs.MemoryWorld.{IsCaller, IsHome};
+ghost use Rattle.kernel_mem.specs.MemoryWorld.{IsCaller, HasAllHome};
 ghost use Rattle.page_store.specs.Store.{AreHome};
 ghost use Rattle.store_tests.specs.Memory.{HasTwoPages, two_owners};
 
@@ -14,7 +14,7 @@ use std::test::Fail;
 
 // Four frames, of which two are thread 1's; the first begins with the word 0x64636261.
 fn two_frames(alloc: Global) -> Result<Frames, AllocError>
-    ensures home { IfOk result (λ f. IsHome f) }
+    ensures home { IfOk result (λ f. HasAllHome f) }
     ensures owners { IfOk result (λ f. f.owners ≡ two_owners) }
     ensures uses { IfOk result (λ f. f.uses ≡ 1 ∷ 1 ∷ 0 ∷ 0 ∷ []) }
 {
@@ -55,7 +55,7 @@ fn two_pages(alloc: Global) -> Result<Table, AllocError>
 fn write(frames: &mut Frames, table: &Table, address: u32, bytes: &[u8]) -> bool
     requires caller { IsCaller table.now 1 }
     requires pages { HasTwoPages table.now }
-    requires home { IsHome frames.old }
+    requires home { HasAllHome frames.old }
     requires owners { frames.old.owners ≡ two_owners }
 {
     if bytes.len() > 4096 {
@@ -73,7 +73,7 @@ fn write(frames: &mut Frames, table: &Table, address: u32, bytes: &[u8]) -> bool
 fn fork_first(frames: &mut Frames, table: &mut Table) -> Result<u32, u8>
     requires caller { IsCaller table.old 1 }
     requires pages { HasTwoPages table.old }
-    requires home { IsHome frames.old }
+    requires home { HasAllHome frames.old }
     requires owners { frames.old.owners ≡ two_owners }
     requires uses { frames.old.uses ≡ 1 ∷ 1 ∷ 0 ∷ 0 ∷ [] }
 {

@@ -1,6 +1,6 @@
 // What services do to the memory of process 1, whose first thread calls. The helpers ask first.
 ghost use Rattle.std.specs.Prelude.{◌≡◌, IfOk, MatchBool, true, false};
-ghost use Rattle.kernel_mem.specs.MemoryWorld.{IsCaller, IsHome};
+ghost use Rattle.kernel_mem.specs.MemoryWorld.{IsCaller, HasAllHome};
 
 use dos_world::{Entry, Owner, Regs, Size};
 use kernel_mem::{map_pages, share};
@@ -22,7 +22,7 @@ fn one_process(alloc: Global) -> Result<Table, AllocError>
 }
 
 fn four_frames(alloc: Global) -> Result<Frames, AllocError>
-    ensures { IfOk result (λ f. IsHome f) }
+    ensures { IfOk result (λ f. HasAllHome f) }
 {
     Frames::reserve(alloc, 4)
 }
@@ -39,9 +39,9 @@ fn is_caller(table: &Table, tid: u32) -> bool
 
 // Maps writable pages for thread 1. None where it doesn't live, or its space could become full.
 fn map(frames: &mut Frames, table: &mut Table, address: u32, pages: u32) -> Option<Result<(), u8>>
-    requires home { IsHome frames.old }
+    requires home { HasAllHome frames.old }
     requires room { table.old.room ≡ 4 }
-    ensures home { IsHome frames.new }
+    ensures home { HasAllHome frames.new }
     ensures room { table.new.room ≡ 4 }
 {
     if !is_caller(table, 1) {

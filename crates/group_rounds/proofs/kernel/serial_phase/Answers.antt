@@ -16,18 +16,18 @@ pub returns-clause-goes : goal.returns-clause-goes
 returns-clause-goes g c =
     let before = telling (g.S.Shim.state c.args.shim.now).told (g.O.Sink.told c.args.out.now)
     (g.E.Sink.told c.args.err.now) in
-    let after = telling (g.S.Shim.state c.serial_phase-served.new.shim).told
-    (g.O.Sink.told c.serial_phase-served.new.out)
-    (g.E.Sink.told c.serial_phase-served.new.err) in
-    on_ok_weaker c.serial_phase-served.result (λ goes.
+    let after = telling (g.S.Shim.state c.run_serial-served.new.shim).told
+    (g.O.Sink.told c.run_serial-served.new.out)
+    (g.E.Sink.told c.run_serial-served.new.err) in
+    on_ok_weaker c.run_serial-served.result (λ goes.
     subst (λ (k : Held). GoesTo k.config.quantum (λ w. serial_of w (ready_in k.state.table.threads))
     k.state before
-    (λ w. done w) c.serial_phase-served.new.state after) c.kernel.view_is
+    (λ w. done w) c.run_serial-served.new.state after) c.kernel.view_is
     (subst (λ (starters : List ℕ). GoesTo c.kernel.inside.config.quantum
     (λ w. serial_of w starters) c.kernel.inside.state before
-    (λ w. done w) c.serial_phase-served.new.state after)
+    (λ w. done w) c.run_serial-served.new.state after)
     (c.as_slice-starters.ensures.value ∙ c.gather.ensures.ready)
-    (goes c.kernel.inside.config.quantum))) c.serial_phase-served.ensures.goes
+    (goes c.kernel.inside.config.quantum))) c.run_serial-served.ensures.goes
 
 pub returns-clause-cut : goal.returns-clause-cut
 returns-clause-cut g c =
@@ -35,21 +35,21 @@ returns-clause-cut g c =
     telling (g.S.Shim.state c.args.shim.now).told (g.O.Sink.told c.args.out.now)
     (g.E.Sink.told c.args.err.now) in
     let after =
-    telling (g.S.Shim.state c.serial_phase-served.new.shim).told
-    (g.O.Sink.told c.serial_phase-served.new.out) (g.E.Sink.told c.serial_phase-served.new.err) in
-    on_err_weaker c.serial_phase-served.result (λ cut.
+    telling (g.S.Shim.state c.run_serial-served.new.shim).told
+    (g.O.Sink.told c.run_serial-served.new.out) (g.E.Sink.told c.run_serial-served.new.err) in
+    on_err_weaker c.run_serial-served.result (λ cut.
     subst (λ (k : Held). CutPlay k.config.quantum (λ w. w)
     (λ w. serial_of w (ready_in k.state.table.threads)) k.state
     before after) c.kernel.view_is
     (subst (λ (starters : List ℕ). CutPlay c.kernel.inside.config.quantum (λ w. w)
     (λ w. serial_of w starters) c.kernel.inside.state before after)
     (c.as_slice-starters.ensures.value ∙ c.gather.ensures.ready)
-    (cut c.kernel.inside.config.quantum))) c.serial_phase-served.ensures.cut
+    (cut c.kernel.inside.config.quantum))) c.run_serial-served.ensures.cut
 
 pub returns-clause-grows : goal.returns-clause-grows
-returns-clause-grows g c = on_err_weaker c.serial_phase-served.result
+returns-clause-grows g c = on_err_weaker c.run_serial-served.result
     (λ cut. cut_grew 0 (λ w. w) _ c.kernel.inside.state _ _ (cut 0))
-    c.serial_phase-served.ensures.cut
+    c.run_serial-served.ensures.cut
 
 pub returns-clause-asks : goal.returns-clause-asks
 returns-clause-asks g c =
@@ -57,10 +57,10 @@ returns-clause-asks g c =
     telling (g.S.Shim.state c.args.shim.now).told (g.O.Sink.told c.args.out.now)
     (g.E.Sink.told c.args.err.now) in
     let after =
-    telling (g.S.Shim.state c.serial_phase-served.new.shim).told
-    (g.O.Sink.told c.serial_phase-served.new.out) (g.E.Sink.told c.serial_phase-served.new.err) in
-    let asked = (g.S.Shim.state c.serial_phase-served.new.shim).asked in
-    if_err_weaker c.serial_phase-served.result _ _ (λ stop.
+    telling (g.S.Shim.state c.run_serial-served.new.shim).told
+    (g.O.Sink.told c.run_serial-served.new.out) (g.E.Sink.told c.run_serial-served.new.err) in
+    let asked = (g.S.Shim.state c.run_serial-served.new.shim).asked in
+    if_err_weaker c.run_serial-served.result _ _ (λ stop.
     some_weaker (shim_stop stop) _ _ (λ stopped.
     subst (λ (k : Held). StoppedPlay k.config.quantum
     (λ w. serial_of w (ready_in k.state.table.threads)) k.state
@@ -68,16 +68,16 @@ returns-clause-asks g c =
     (subst (λ (starters : List ℕ). StoppedPlay c.kernel.inside.config.quantum
     (λ w. serial_of w starters) c.kernel.inside.state before after asked)
     (c.as_slice-starters.ensures.value ∙ c.gather.ensures.ready)
-    (stopped c.kernel.inside.config.quantum)))) c.serial_phase-served.ensures.asks
+    (stopped c.kernel.inside.config.quantum)))) c.run_serial-served.ensures.asks
 
 -- ---- the state between two rounds is sound, and who is ready has a part
 
-pub serial_phase-served-requires-clause-sound : goal.serial_phase-served-requires-clause-sound
-serial_phase-served-requires-clause-sound g c =
+pub run_serial-served-requires-clause-sound : goal.run_serial-served-requires-clause-sound
+run_serial-served-requires-clause-sound g c =
     (c.kernel.invariant.3 (ap (λ (k : Held). k.failed) c.kernel.view_is ∙ c.requires.running)).sound
 
-pub serial_phase-served-requires-clause-parts : goal.serial_phase-served-requires-clause-parts
-serial_phase-served-requires-clause-parts g c =
+pub run_serial-served-requires-clause-parts : goal.run_serial-served-requires-clause-parts
+run_serial-served-requires-clause-parts g c =
     subst (λ ts. HaveParts ts c.kernel.inside.state)
     (sym (c.as_slice-starters.ensures.value ∙ c.gather.ensures.ready))
     (parts_begin c.kernel.inside.state

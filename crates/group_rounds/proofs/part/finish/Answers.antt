@@ -2,7 +2,7 @@ use Rattle.std.proofs.Common.{◌<◌, ◌≤◌, [], ◌∷◌, ◌∙◌, subs
 use Rattle.std.proofs.lemmas.Result.{err_from_is_err_and}
 use Rattle.kernel_calls.specs.StateWorld.{shim_stop}
 use Rattle.group_rounds.specs.StatePlays.{telling}
-use Rattle.group_rounds.specs.Parts.{Ran, part_measure}
+use Rattle.group_rounds.specs.Parts.{RanPart, part_measure}
 use Rattle.group_rounds.proofs.StatePlayLaws.{on_err, some_weaker}
 use Rattle.group_rounds.proofs.Sound.{parts_passed, parts_on, parts_off, ready_then}
 use Rattle.group_rounds.proofs.CauseLaws.{stood_yet, stood_then}
@@ -72,7 +72,7 @@ pub returns-in_default-clause-goes : goal.returns-in_default-clause-goes
 returns-in_default-clause-goes g c = λ q.
     goes_over_budget q c.args.tid c.args.state.now c.loop-reason.state c.run.new.state _ _
     (c.loop-reason.invariant.goes q)
-    (subst (Ran c.loop-reason.state c.args.tid c.run.new.state) c.in_default.is
+    (subst (RanPart c.loop-reason.state c.args.tid c.run.new.state) c.in_default.is
     c.run.ensures.ran)
 
 pub returns-in_err-take_turn-clause-cut : goal.returns-in_err-take_turn-clause-cut

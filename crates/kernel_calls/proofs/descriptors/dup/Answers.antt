@@ -3,7 +3,7 @@ use Rattle.dos_world.specs.Kernel.{minus}
 use Rattle.proc_table.specs.Tables.{Tables}
 use Rattle.dos_world.specs.DescriptorCalls.{dup}
 use Rattle.kernel_calls.specs.StateWorld.{IsCounted}
-use Rattle.kernel_calls.specs.CallResults.{GoesOn}
+use Rattle.kernel_calls.specs.CallResults.{ActsQuietly}
 use Rattle.kernel_calls.specs.declared.state.Served.TheVariants.{Went}
 use Rattle.kernel_calls.proofs.DescriptorRows.{dup_can_have, dup_full_row, dup_row}
 use Rattle.kernel_calls.proofs.Sending.{answering}
@@ -16,7 +16,7 @@ add_end-requires c = dup_can_have c.args.state.now c.requires.sound c.args.asked
     c.in-Some-open_lowest.ensures.lowest
 
 row : (c : goal.After-reply)
-    → GoesOn dup c.args.state.now c.args.asked.now Went c.reply.new.state
+    → ActsQuietly dup c.args.state.now c.args.asked.now Went c.reply.new.state
     × IsCounted c.reply.new.state
 row c = dup_row c.args.state.now c.requires.sound c.args.asked.now c.requires.asked
     c.in-Some.end c.in-Some-open_lowest.number c.open_lowest.new.self c.add_end.new.pipes

@@ -4,7 +4,7 @@ use Rattle.dos_world.specs.DescriptorCalls.{pipe}
 use Rattle.dos_world.specs.declared.End.TheVariants.{PipeRead}
 use Rattle.kernel_objects.specs.Pipework.{Pipework}
 use Rattle.kernel_calls.specs.StateWorld.{IsCounted}
-use Rattle.kernel_calls.specs.CallResults.{GoesOn}
+use Rattle.kernel_calls.specs.CallResults.{ActsQuietly}
 use Rattle.kernel_calls.specs.declared.state.Served.TheVariants.{Went}
 use Rattle.kernel_calls.proofs.Callers.{process_lives}
 use Rattle.kernel_calls.proofs.PipeRow.{have_32, lives_still, one_free, pipe_few, pipe_full, pipe_row}
@@ -40,7 +40,7 @@ open_free-writing-requires-clause-some c =
     c.open_free-reading.ensures.opens
 
 row : (c : goal.After-reply_two)
-    → GoesOn pipe c.args.state.now c.args.asked.now Went c.reply_two.new.state
+    → ActsQuietly pipe c.args.state.now c.args.asked.now Went c.reply_two.new.state
     × IsCounted c.reply_two.new.state
 row c = pipe_row c.args.state.now c.requires.sound c.args.asked.now c.requires.asked
     c.in-Some.pipe c.open_free-reading.result c.open_free-writing.result

@@ -5,7 +5,7 @@ use Rattle.dos_io.specs.Shims.{HasNoEnd}
 use Rattle.group_rounds.specs.StatePlays.{GoesTo, telling}
 use Rattle.group_rounds.specs.Outside.{HaveStood}
 use Rattle.group_rounds.specs.Parts.{KeepsCount}
-use Rattle.group_rounds.proofs.phases.serial_phase.Given as goal
+use Rattle.group_rounds.proofs.phases.run_serial.Given as goal
 
 abbrev pub invariant-loop-tid : goal.invariant-loop-tid
 invariant-loop-tid g l = record {

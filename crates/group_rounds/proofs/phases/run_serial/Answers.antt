@@ -5,7 +5,7 @@ use Rattle.kernel_calls.specs.StateWorld.{shim_stop}
 use Rattle.std.proofs.lemmas.Result.{err_from_is_err_and}
 use Rattle.group_rounds.proofs.CauseLaws.{stood_yet, stood_then}
 use Rattle.group_rounds.proofs.PhaseLaws.{serial_starts, serial_next, serial_ends, serial_cut, serial_stopped, parts_at}
-use Rattle.group_rounds.proofs.phases.serial_phase.Goals as goal
+use Rattle.group_rounds.proofs.phases.run_serial.Goals as goal
 
 pub loop-tid-init : goal.loop-tid-init
 loop-tid-init g c = record {
