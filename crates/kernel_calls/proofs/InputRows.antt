@@ -35,7 +35,8 @@ use Rattle.kernel_calls.proofs.Sending.{answering, descriptor_is}
 
 -- It asks nothing.
 pub unasked : (service : Service) (s : State) (a : Asked) (way : Served) (new : State)
-    (told : List Exchange) → ActsQuietly service s a way new → Consults service s a told told way new
+    (told : List Exchange) → ActsQuietly service s a way new
+    → Consults service s a told told way new
 unasked service s a way new told goes = record {
   exchanges = [];
   told_is = sym (append-nil told);

@@ -57,7 +57,8 @@ module _ (service one : FlatService) (is : service ≡ one) (s new : State) (a :
         })
 
     -- It sends nothing, too.
-    pub answers_goes : (told : List Exchange) (out err : Option (List ℕ)) → ActsQuietly one s a way new
+    pub answers_goes : (told : List Exchange) (out err : Option (List ℕ))
+        → ActsQuietly one s a way new
         → Answers (λ w. service (call_in w a)) s told told way new out out err err
     answers_goes told out err h =
         answers_sends told out out err err (quietly one s a way new out err h)

@@ -1,7 +1,7 @@
 //! The services over the kernel's state: what an ecall of a thread does.
 //!
-//! Each call is stated over the flat world of the state (`specs/StateWorld`), whatever the quantum and
-//! the bytes sent before, and keeps the state sound.
+//! Each call is stated over the flat world of the state (`specs/StateWorld`), whatever the quantum
+//! and the bytes sent before, and keeps the state sound.
 #![tactic(auto)]
 
 mod answering;

@@ -33,7 +33,8 @@ pub(crate) fn read_pipe(state: &mut State, asked: &Asked, pipe: u8) -> Served
     requires sound { IsSound state.old }
     requires asked { AreAsked state.old asked.now }
     requires pipe { pipe < 64 }
-    ensures goes_on { ActsQuietly (read_by (Some (PipeRead pipe))) state.old asked.now result state.new }
+    ensures goes_on { ActsQuietly (read_by (Some (PipeRead pipe))) state.old asked.now result
+        state.new }
     ensures counted { IsCounted state.new }
     ensures round { state.new.round ≡ state.old.round }
 {

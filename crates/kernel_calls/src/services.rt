@@ -217,7 +217,8 @@ fn perform<S: Shim, O: Sink, E: Sink>(
 fn perform_quietly(state: &mut State, service: QuietService, asked: &Asked) -> Served
     requires sound { IsSound state.old }
     requires asked { AreAsked state.old asked.now }
-    ensures goes_on { ActsQuietly (quiet_definition_of service) state.old asked.now result state.new }
+    ensures goes_on { ActsQuietly (quiet_definition_of service) state.old asked.now result
+        state.new }
     ensures counted { IsCounted state.new }
     ensures round { state.new.round ≡ state.old.round }
 {

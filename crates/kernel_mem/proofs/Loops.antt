@@ -360,8 +360,8 @@ own-space T p = ap (λ ps. with_processes ps)
     with_processes : List Process → Tables
     with_processes ps = record T { processes = ps }
 
-pub copying-none : (s : Store) (T : Tables) (pid child tid : ℕ) → HasAllHome s → space_in T child ≡ []
-    → IsCopying s T pid child tid 0 s T
+pub copying-none : (s : Store) (T : Tables) (pid child tid : ℕ) → HasAllHome s
+    → space_in T child ≡ [] → IsCopying s T pid child tid 0 s T
 copying-none s T pid child tid home empty = record {
   table = own-space T child;
   copies = λ w U. ap (λ (es : List (ℕ × Entry)). pair (in_world w s U) es) (sym empty);

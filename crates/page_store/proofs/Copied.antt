@@ -38,7 +38,8 @@ copied-page pages from to away here page new source apart home read is wrote = r
 -- a Free frame has no use
 pub unused-at : (count : ℕ) (owners : List Owner) (uses : List ℕ) (free : ℕ)
     (frames : List Bool) (i : ℕ)
-    → AreTallied count owners uses free frames → position is_free owners ≡ Some i → get_or uses i 0 ≡ 0
+    → AreTallied count owners uses free frames → position is_free owners ≡ Some i
+    → get_or uses i 0 ≡ 0
 unused-at count owners uses free frames i kept found =
     let at = position-Some is_free owners i Free found in
     let none : is_unused (get_or uses i 0) ≡ true = sym (get_or-map is_unused uses i 0)

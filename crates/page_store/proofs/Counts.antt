@@ -244,7 +244,8 @@ kept-more count owners uses free frames i v k e =
 
 pub kept-fewer : (count : ℕ) (owners : List Owner) (uses : List ℕ) (free : ℕ)
     (frames : List Bool) (i v : ℕ)
-    → AreTallied count owners uses free frames → 0 < get_or uses i 0 → v ≡ get_or uses i 0 → (v ≡ 1 → ⊥)
+    → AreTallied count owners uses free frames → 0 < get_or uses i 0 → v ≡ get_or uses i 0
+    → (v ≡ 1 → ⊥)
     → AreTallied count owners (set uses i (v - 1)) free frames
 kept-fewer count owners uses free frames i v k h e n =
     let old : is_unused (get_or uses i 0) ≡ false = grind (arith, nat_tests) in

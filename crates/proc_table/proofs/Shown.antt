@@ -130,7 +130,8 @@ module _ (live : List (ℕ × Thread)) (given capacity : ℕ) (now : List (Optio
       ∙ ap (λ ts. changed (option_map f) ts t) shown
 
   pub kept_set : (t place : ℕ) (x y : ℕ × Thread) (same : ℕ) → IsAt live t place
-      → x ≡ get_or live place x → y.0 ≡ x.0 → same ≡ capacity → IsSpreadKept (set live place y) given same
+      → x ≡ get_or live place x → y.0 ≡ x.0 → same ≡ capacity
+      → IsSpreadKept (set live place y) given same
   kept_set t place x y same at read is c = record {
     rising = rising_set 1 (given + 1) live place y kept.rising at.within
         (is ∙ number_read t place x at read ∙ sym at.is);
@@ -192,7 +193,8 @@ module _ (live : List (ℕ × Thread)) (given capacity : ℕ) (now : List (Optio
       ∙ ap (map (unless_of p)) shown
 
   pub kept_filter : (p : ℕ) (new : List (ℕ × Thread)) (same : ℕ)
-      → new ≡ filter (λ e. not (e.1.process == p)) live → same ≡ capacity → IsSpreadKept new given same
+      → new ≡ filter (λ e. not (e.1.process == p)) live → same ≡ capacity
+      → IsSpreadKept new given same
   kept_filter p new same is c = record {
     rising = subst (AreRising 1 (given + 1)) (sym is)
         (rising_filter (λ e. not (e.1.process == p)) 1 (given + 1) live kept.rising);

@@ -20,7 +20,8 @@ pub record MemoryAnswers (M : Type 0) : Type 0 where
   pub claim : M → ℕ → Result ℕ Reason
 
 -- the instruction at pc, and its size in bytes
-abbrev pub instruction_in : {M : Type 0} → MemoryAnswers M → M → ℕ → Result (Option Instr × ℕ) Reason
+abbrev pub instruction_in : {M : Type 0} → MemoryAnswers M → M → ℕ
+    → Result (Option Instr × ℕ) Reason
 instruction_in answers m pc = do
   low ← answers.fetch m pc
   if low % 4 == 3 then (answers.fetch m ((pc + 2) % 2 ^ 32)
