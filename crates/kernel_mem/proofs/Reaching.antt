@@ -217,7 +217,8 @@ pub record HasFrame (T : Tables) (s : Held) (t a : ℕ) (access : Access) (frame
   pub within : frame < length s.owners
 
 pub frame_of : (T : Tables) (s : Held) (t a : ℕ) (access : Access) (frame : ℕ)
-    → NamesUsedFrames T s t → is_allowed access (entry_in T t a) ≡ true → IfSome (entry_in T t a) (λ e. frame ≡ e.frame)
+    → NamesUsedFrames T s t → is_allowed access (entry_in T t a) ≡ true
+    → IfSome (entry_in T t a) (λ e. frame ≡ e.frame)
     → HasFrame T s t a access frame
 frame_of T s t a access frame mapped allowed same = by (entry_in T t a) refl allowed same
   where
