@@ -1,18 +1,24 @@
-ghost use Rattle.std.specs.Prelude.{◌≡◌, false, IfOk};
+ghost use Rattle.std.specs.Prelude.{◌≡◌, ◌≤◌, false, is_err, length, IfOk, OnOk};
+ghost use Rattle.dos_world.specs.Lawful.{IsConfig};
+ghost use Rattle.dos_io.specs.Quiet.{shown};
+ghost use Rattle.dos_io.specs.Shims.{HasNoEnd};
 ghost use Rattle.group_rounds.specs.Kernels.{IsFresh};
 
 use crate::guests::{ENDS_WITH_7, WRITES_HI, YIELDS, file};
-use dos_io::{MemorySink, Quiet};
+use dos_io::{MemorySink, Quiet, Shim, Sink};
 use dos_world::Config;
-use elf_image::read_image;
+use elf_image::{Image, read_image};
 use group_open::open_state;
 use group_rounds::{
     Kernel, RoundEnd, hand_out, parallel_phase, run_parts, run_round, serial_phase, take_in,
 };
 use kernel_calls::RunStop;
-use std::alloc::Global;
+use rv_isa::Instr;
+use std::alloc::{AllocError, Global};
+use std::process::Abort;
 use std::test::Fail;
-use worker_pool::{Serial, Tally};
+use std::thread::Threads;
+use worker_pool::{Serial, Tally, Workers};
 
 const CONFIG: Config = Config {
     quantum: 1000,
@@ -20,25 +26,36 @@ const CONFIG: Config = Config {
     frames: 40,
 };
 
-// both images as one group, which has run no round
+// a guest with this code
+fn guest(alloc: Global, code: &[Instr]) -> Result<Image, Fail> {
+    Ok(read_image(alloc, &file(alloc, code)?)?)
+}
+
+// these images as a group, which has run no round
+fn opened(alloc: Global, images: &[Image], config: Config) -> Result<Kernel, Fail>
+    requires some { 1 ≤ length images.now }
+    requires few { length images.now ≤ 8 }
+    requires config { IsConfig config }
+    ensures { IfOk result (λ kernel. IsFresh kernel config) }
+{
+    let state = open_state(alloc, images, &config)?;
+    Ok(Kernel::new(alloc, state, config)?)
+}
+
+// both guests as one group
 fn group(alloc: Global) -> Result<Kernel, Fail>
     ensures { IfOk result (λ kernel. IsFresh kernel CONFIG) }
 {
-    let images = [
-        read_image(alloc, &file(alloc, &ENDS_WITH_7)?)?,
-        read_image(alloc, &file(alloc, &WRITES_HI)?)?,
-    ];
-    let state = open_state(alloc, &images, &CONFIG)?;
-    Ok(Kernel::new(alloc, state, CONFIG)?)
+    let images = [guest(alloc, &ENDS_WITH_7)?, guest(alloc, &WRITES_HI)?];
+    opened(alloc, &images, CONFIG)
 }
 
-// the image that yields, which has run no round
+// the guest that yields
 fn yielding(alloc: Global) -> Result<Kernel, Fail>
     ensures { IfOk result (λ kernel. IsFresh kernel CONFIG) }
 {
-    let images = [read_image(alloc, &file(alloc, &YIELDS)?)?];
-    let state = open_state(alloc, &images, &CONFIG)?;
-    Ok(Kernel::new(alloc, state, CONFIG)?)
+    let images = [guest(alloc, &YIELDS)?];
+    opened(alloc, &images, CONFIG)
 }
 
 // the status of the process at a place, counted from 0; None too where there is none
@@ -49,102 +66,212 @@ fn status_at(kernel: &Kernel, place: u32) -> Option<u8> {
     None
 }
 
+// Of a round and its phases no more is said than what a next phase needs: the tests look.
+
+fn round_over<S: Shim, O: Sink, E: Sink, W: Workers>(
+    kernel: &mut Kernel,
+    shim: &mut S,
+    out: &mut O,
+    err: &mut E,
+    workers: &mut W,
+) -> Result<RoundEnd, RunStop>
+    requires running { kernel.old.failed ≡ false }
+    requires limit { kernel.old.state.round ≤ kernel.old.config.rounds }
+    requires told { HasNoEnd (S.state shim.old).told }
+    ensures failed { kernel.new.failed ≡ is_err result }
+    ensures told { OnOk result (HasNoEnd (S.state shim.new).told) }
+{
+    run_round(kernel, shim, out, err, workers)
+}
+
+fn serial_over<S: Shim, O: Sink, E: Sink>(
+    kernel: &mut Kernel,
+    shim: &mut S,
+    out: &mut O,
+    err: &mut E,
+) -> Result<(), RunStop>
+    requires running { kernel.old.failed ≡ false }
+    requires told { HasNoEnd (S.state shim.old).told }
+{
+    serial_phase(kernel, shim, out, err)
+}
+
+// The phase in its three steps, and how many instructions it ran.
+fn in_steps<R: Threads + Sync>(kernel: Kernel) -> (Kernel, u64)
+    requires { kernel.failed ≡ false }
+{
+    let mut tally = Tally::new();
+    let mut workers: Serial<'_, R> = Serial::new(&mut tally);
+    let handed = hand_out(kernel);
+    let ran = run_parts(handed, &mut workers);
+    workers.finish();
+    (take_in(ran), tally.count())
+}
+
+// The phase by itself, and how many instructions it ran.
+fn at_once<R: Threads + Sync>(kernel: Kernel) -> (Kernel, u64)
+    requires { kernel.failed ≡ false }
+{
+    let mut tally = Tally::new();
+    let mut workers: Serial<'_, R> = Serial::new(&mut tally);
+    let kernel = parallel_phase(kernel, &mut workers);
+    workers.finish();
+    (kernel, tally.count())
+}
+
+/// A shim that is asked, and two sinks.
+#[derive(Drop)]
+struct Outside {
+    shim: Quiet,
+    out: MemorySink,
+    err: MemorySink,
+}
+
+impl Outside {
+    // The sinks have room for 8 bytes each. The puts to output of these numbers fail.
+    fn new(alloc: Global, out_failing: &[u32]) -> Result<Outside, AllocError>
+        ensures { IfOk result (λ outside. HasNoEnd (shown outside.shim).told) }
+    {
+        Ok(Outside {
+            shim: Quiet::new(alloc),
+            out: MemorySink::new(alloc, 8, out_failing)?,
+            err: MemorySink::new(alloc, 8, &[])?,
+        })
+    }
+}
+
+// a round on one worker
+fn round<R: Threads + Sync>(kernel: &mut Kernel, outside: &mut Outside) -> Result<RoundEnd, RunStop>
+    requires running { kernel.old.failed ≡ false }
+    requires limit { kernel.old.state.round ≤ kernel.old.config.rounds }
+    requires told { HasNoEnd (shown outside.old.shim).told }
+    ensures failed { kernel.new.failed ≡ is_err result }
+    ensures told { OnOk result (HasNoEnd (shown outside.new.shim).told) }
+{
+    let Outside { shim, out, err } = outside;
+    let mut tally = Tally::new();
+    let mut workers: Serial<'_, R> = Serial::new(&mut tally);
+    round_over(kernel, shim, out, err, &mut workers)
+}
+
+// the serial phase by itself
+fn serial(kernel: &mut Kernel, outside: &mut Outside) -> Result<(), RunStop>
+    requires running { kernel.old.failed ≡ false }
+    requires told { HasNoEnd (shown outside.old.shim).told }
+{
+    let Outside { shim, out, err } = outside;
+    serial_over(kernel, shim, out, err)
+}
+
+// The serial phase behind a round that ended so. There is none behind one that failed.
+fn serial_behind(
+    end: Result<RoundEnd, RunStop>,
+    kernel: &mut Kernel,
+    outside: &mut Outside,
+) -> Result<(), RunStop>
+    requires running { kernel.old.failed ≡ is_err end }
+    requires told { OnOk end (HasNoEnd (shown outside.old.shim).told) }
+{
+    match end {
+        Ok(_) => serial(kernel, outside),
+        Err(stop) => Err(stop),
+    }
+}
+
+/// What a kernel shows.
+#[derive(Clone, Copy)]
+struct Seen {
+    failed: bool,
+    rounds: u32,
+    processes: u32,
+    live_threads: u32,
+    statuses: [Option<u8>; 2],
+}
+
+// The kernel is dropped here and nowhere else, since each drop of one is long to prove.
+fn last_of(kernel: Kernel) -> Seen {
+    Seen {
+        failed: kernel.is_failed(),
+        rounds: kernel.rounds(),
+        processes: kernel.processes(),
+        live_threads: kernel.state().table.live_threads(),
+        statuses: [status_at(&kernel, 0), status_at(&kernel, 1)],
+    }
+}
+
+fn check_seen(rt: &impl Abort, seen: &Seen, wanted: &Seen) {
+    assert_eq!(rt; seen.failed, wanted.failed);
+    assert_eq!(rt; seen.rounds, wanted.rounds);
+    assert_eq!(rt; seen.processes, wanted.processes);
+    assert_eq!(rt; seen.live_threads, wanted.live_threads);
+    assert_eq!(rt; seen.statuses, wanted.statuses);
+}
+
 #[test]
 fn two_processes_end_in_one_round(rt: HostRuntime) -> Result<(), Fail> {
+    let mut outside = Outside::new(rt.alloc(), &[])?;
     let mut kernel = group(rt.alloc())?;
-    let mut shim = Quiet::new(rt.alloc());
-    let mut out = MemorySink::new(rt.alloc(), 8, &[])?;
-    let mut err = MemorySink::new(rt.alloc(), 8, &[])?;
-    let mut tally = Tally::new();
-    let mut workers: Serial<'_, HostRuntime> = Serial::new(&mut tally);
-    let Ok(RoundEnd::Went) = run_round(&mut kernel, &mut shim, &mut out, &mut err, &mut workers)
-    else {
-        return Err("the phases weren't run".into());
-    };
-    assert_eq!(rt; out.bytes(), b"Hi\n".as_slice());
-    assert_eq!(rt; err.bytes(), b"".as_slice());
-    assert!(rt; !kernel.is_failed());
+    let end = round::<HostRuntime>(&mut kernel, &mut outside);
+    assert_eq!(rt; end, Ok(RoundEnd::Went));
+    assert_eq!(rt; outside.out.bytes(), b"Hi\n".as_slice());
+    assert_eq!(rt; outside.err.bytes(), b"".as_slice());
     assert_eq!(rt; kernel.config(), CONFIG);
-    assert_eq!(rt; kernel.processes(), 2);
-    assert_eq!(rt; status_at(&kernel, 0), Some(7));
-    assert_eq!(rt; status_at(&kernel, 1), Some(0));
-    assert_eq!(rt; kernel.state().table.live_threads(), 0);
-    assert_eq!(rt; kernel.rounds(), 1);
+    let wanted = Seen {
+        failed: false,
+        rounds: 1,
+        processes: 2,
+        live_threads: 0,
+        statuses: [Some(7), Some(0)],
+    };
+    check_seen(&rt, &last_of(kernel), &wanted);
     Ok(())
 }
 
 #[test]
 fn a_serial_phase_goes_on_where_a_thread_yielded(rt: HostRuntime) -> Result<(), Fail> {
+    let mut outside = Outside::new(rt.alloc(), &[])?;
     let mut kernel = yielding(rt.alloc())?;
-    let mut shim = Quiet::new(rt.alloc());
-    let mut out = MemorySink::new(rt.alloc(), 8, &[])?;
-    let mut err = MemorySink::new(rt.alloc(), 8, &[])?;
-    let mut tally = Tally::new();
-    let mut workers: Serial<'_, HostRuntime> = Serial::new(&mut tally);
-    let Ok(RoundEnd::Went) = run_round(&mut kernel, &mut shim, &mut out, &mut err, &mut workers)
-    else {
-        return Err("the phases weren't run".into());
-    };
-    assert_eq!(rt; out.bytes(), b"".as_slice());
-    assert_eq!(rt;
-        serial_phase(&mut kernel, &mut shim, &mut out, &mut err),
-        Ok(())
-    );
-    assert_eq!(rt; out.bytes(), b"Hi\n".as_slice());
-    assert_eq!(rt; kernel.rounds(), 1);
+    let end = round::<HostRuntime>(&mut kernel, &mut outside);
+    assert_eq!(rt; end, Ok(RoundEnd::Went));
+    assert_eq!(rt; outside.out.bytes(), b"".as_slice());
+    assert_eq!(rt; serial_behind(end, &mut kernel, &mut outside), Ok(()));
+    assert_eq!(rt; outside.out.bytes(), b"Hi\n".as_slice());
+    assert_eq!(rt; last_of(kernel).rounds, 1);
     Ok(())
 }
 
 #[test]
 fn a_sink_that_fails_stops_the_round(rt: HostRuntime) -> Result<(), Fail> {
+    let mut outside = Outside::new(rt.alloc(), &[1])?;
     let mut kernel = group(rt.alloc())?;
-    let mut shim = Quiet::new(rt.alloc());
-    let mut out = MemorySink::new(rt.alloc(), 8, &[1])?;
-    let mut err = MemorySink::new(rt.alloc(), 8, &[])?;
-    let mut tally = Tally::new();
-    let mut workers: Serial<'_, HostRuntime> = Serial::new(&mut tally);
-    assert_eq!(rt;
-        run_round(&mut kernel, &mut shim, &mut out, &mut err, &mut workers),
-        Err(RunStop::OutFault)
-    );
-    assert!(rt; kernel.is_failed());
-    assert_eq!(rt; kernel.rounds(), 0);
+    let end = round::<HostRuntime>(&mut kernel, &mut outside);
+    let last = last_of(kernel);
+    assert_eq!(rt; end, Err(RunStop::OutFault));
+    assert!(rt; last.failed);
+    assert_eq!(rt; last.rounds, 0);
     Ok(())
 }
 
 #[test]
 fn a_parallel_phase_in_three_steps(rt: HostRuntime) -> Result<(), Fail> {
-    let mut tally = Tally::new();
-    let mut workers: Serial<'_, HostRuntime> = Serial::new(&mut tally);
-    let handed = hand_out(group(rt.alloc())?);
-    let ran = run_parts(handed, &mut workers);
-    let mut kernel = take_in(ran);
-    workers.finish();
+    let mut outside = Outside::new(rt.alloc(), &[])?;
+    let (mut kernel, ran) = in_steps::<HostRuntime>(group(rt.alloc())?);
     // two instructions of one process and five of the other, each before its first service
-    assert_eq!(rt; tally.count(), 7);
+    assert_eq!(rt; ran, 7);
     assert!(rt; !kernel.is_failed());
     assert_eq!(rt; kernel.rounds(), 0);
-    let mut shim = Quiet::new(rt.alloc());
-    let mut out = MemorySink::new(rt.alloc(), 8, &[])?;
-    let mut err = MemorySink::new(rt.alloc(), 8, &[])?;
-    assert_eq!(rt;
-        serial_phase(&mut kernel, &mut shim, &mut out, &mut err),
-        Ok(())
-    );
-    assert_eq!(rt; out.bytes(), b"Hi\n".as_slice());
-    assert_eq!(rt; status_at(&kernel, 0), Some(7));
-    assert_eq!(rt; status_at(&kernel, 1), Some(0));
+    assert_eq!(rt; serial(&mut kernel, &mut outside), Ok(()));
+    assert_eq!(rt; outside.out.bytes(), b"Hi\n".as_slice());
+    assert_eq!(rt; last_of(kernel).statuses, [Some(7), Some(0)]);
     Ok(())
 }
 
 #[test]
 fn a_parallel_phase_stops_at_a_service(rt: HostRuntime) -> Result<(), Fail> {
-    let mut tally = Tally::new();
-    let mut workers: Serial<'_, HostRuntime> = Serial::new(&mut tally);
-    let kernel = parallel_phase(yielding(rt.alloc())?, &mut workers);
-    workers.finish();
-    assert_eq!(rt; tally.count(), 1);
-    assert!(rt; !kernel.is_failed());
-    assert_eq!(rt; kernel.state().table.live_threads(), 1);
+    let (kernel, ran) = at_once::<HostRuntime>(yielding(rt.alloc())?);
+    let last = last_of(kernel);
+    assert_eq!(rt; ran, 1);
+    assert!(rt; !last.failed);
+    assert_eq!(rt; last.live_threads, 1);
     Ok(())
 }
