@@ -4,12 +4,13 @@ ghost use Rattle.kernel_mem.specs.MemoryWorld.{IsCaller, HasAllHome};
 ghost use Rattle.page_store.specs.Store.{AreHome};
 ghost use Rattle.store_tests.specs.Memory.{HasTwoPages, two_owners};
 
-use crate::memory::{entry, frame, writable};
+use crate::memory::{check_entries, check_frames, check_free, writable};
 use dos_world::{Owner, Regs, Size};
 use kernel_mem::{check, copy_out, fork};
 use page_store::Frames;
 use proc_table::{SignalState, Table};
 use std::alloc::{AllocError, Global};
+use std::process::Abort;
 use std::test::Fail;
 
 // Four frames, of which two are thread 1's; the first begins with the word 0x64636261.
@@ -91,13 +92,19 @@ fn word_at(frames: &Frames, frame: u32, offset: u32) -> Option<u32> {
     Some(frames.lend(frame).read(offset, Size::Word))
 }
 
+// The words at these offsets of frames' pages.
+pub(crate) fn check_words(rt: &impl Abort, frames: &Frames, rows: &[(u32, u32, u32)]) {
+    for &(frame, offset, want) in rows {
+        assert_eq!(rt; word_at(frames, frame, offset), Some(want), "frame {frame}");
+    }
+}
+
 #[test]
 fn bytes_go_out_over_the_end_of_a_page(rt: HostRuntime) -> Result<(), Fail> {
     let mut frames = two_frames(rt.alloc())?;
     let table = two_pages(rt.alloc())?;
     assert!(rt; write(&mut frames, &table, 0x1_0fff, &[1, 2, 3]));
-    assert_eq!(rt; word_at(&frames, 0, 4092), Some(0x0100_0000));
-    assert_eq!(rt; word_at(&frames, 1, 0), Some(0x0302));
+    check_words(&rt, &frames, &[(0, 4092, 0x0100_0000), (1, 0, 0x0302)]);
     Ok(())
 }
 
@@ -106,11 +113,14 @@ fn a_child_has_copies_of_private_pages_and_the_shared_ones(rt: HostRuntime) -> R
     let mut frames = two_frames(rt.alloc())?;
     let mut table = two_pages(rt.alloc())?;
     assert_eq!(rt; fork_first(&mut frames, &mut table), Ok(2));
-    assert_eq!(rt; entry(&table, 2, 0x10), Some(writable(2, false)));
-    assert_eq!(rt; entry(&table, 2, 0x11), Some(writable(1, true)));
-    assert_eq!(rt; frame(&frames, 0), Some((Owner::Of(1), 1, 0x6463_6261)));
-    assert_eq!(rt; frame(&frames, 1), Some((Owner::Of(1), 2, 0)));
-    assert_eq!(rt; frame(&frames, 2), Some((Owner::Of(2), 1, 0x6463_6261)));
-    assert_eq!(rt; frames.free_count(), 1);
+    let rows = [(0x10, Some((2, false))), (0x11, Some((1, true)))];
+    check_entries(&rt, &table, 2, &rows);
+    let rows = [
+        (0, Owner::Of(1), 1, 0x6463_6261),
+        (1, Owner::Of(1), 2, 0),
+        (2, Owner::Of(2), 1, 0x6463_6261),
+    ];
+    check_frames(&rt, &frames, &rows);
+    check_free(&rt, &frames, 1);
     Ok(())
 }

@@ -7,6 +7,7 @@ use kernel_mem::{map_pages, share};
 use page_store::Frames;
 use proc_table::{SignalState, Table};
 use std::alloc::{AllocError, Global};
+use std::process::Abort;
 use std::test::Fail;
 
 // a table with process 1 and its thread 1, and room for 4 pages
@@ -64,8 +65,42 @@ fn share_pages(table: &mut Table, address: u32, pages: u32) -> Option<Result<(),
     Some(share(table, 1, address, pages))
 }
 
+fn check_map(
+    rt: &impl Abort,
+    frames: &mut Frames,
+    table: &mut Table,
+    range: (u32, u32),
+    wanted: Result<(), u8>,
+)
+    requires home { HasAllHome frames.old }
+    requires room { table.old.room ≡ 4 }
+    ensures home { HasAllHome frames.new }
+    ensures room { table.new.room ≡ 4 }
+{
+    let (address, pages) = range;
+    assert_eq!(rt;
+        map(frames, table, address, pages),
+        Some(wanted),
+        "address {address}"
+    );
+}
+
+fn check_share(
+    rt: &impl Abort,
+    table: &mut Table,
+    address: u32,
+    pages: u32,
+    wanted: Result<(), u8>,
+) {
+    assert_eq!(rt;
+        share_pages(table, address, pages),
+        Some(wanted),
+        "address {address}"
+    );
+}
+
 // A process's entry of a page.
-pub(crate) fn entry(table: &Table, pid: u32, page: u32) -> Option<Entry> {
+fn entry(table: &Table, pid: u32, page: u32) -> Option<Entry> {
     if !table.is_live(pid) {
         return None;
     }
@@ -73,7 +108,7 @@ pub(crate) fn entry(table: &Table, pid: u32, page: u32) -> Option<Entry> {
 }
 
 // A frame's owner and uses, and the word that its page begins with.
-pub(crate) fn frame(frames: &Frames, frame: u32) -> Option<(Owner, u32, u32)> {
+fn frame(frames: &Frames, frame: u32) -> Option<(Owner, u32, u32)> {
     if frame >= frames.count() {
         return None;
     }
@@ -98,19 +133,48 @@ pub(crate) fn writable(frame: u32, shared: bool) -> Entry
     }
 }
 
+// The frames of these pages of a process, and whether they are shared. None is for an entry that
+// isn't there.
+pub(crate) fn check_entries(
+    rt: &impl Abort,
+    table: &Table,
+    pid: u32,
+    rows: &[(u32, Option<(u32, bool)>)],
+) {
+    for &(page, want) in rows {
+        let wanted = match want {
+            Some((frame, shared)) => Some(writable(frame, shared)),
+            None => None,
+        };
+        assert_eq!(rt; entry(table, pid, page), wanted, "page {page}");
+    }
+}
+
+// Of these frames the owner, the uses and the first word.
+pub(crate) fn check_frames(rt: &impl Abort, frames: &Frames, rows: &[(u32, Owner, u32, u32)]) {
+    for &(number, owner, uses, word) in rows {
+        assert_eq!(rt;
+            frame(frames, number),
+            Some((owner, uses, word)),
+            "frame {number}"
+        );
+    }
+}
+
+pub(crate) fn check_free(rt: &impl Abort, frames: &Frames, wanted: u32) {
+    assert_eq!(rt; frames.free_count(), wanted);
+}
+
 #[test]
 fn pages_are_mapped_in_fresh_frames(rt: HostRuntime) -> Result<(), Fail> {
     let mut frames = four_frames(rt.alloc())?;
     let mut table = one_process(rt.alloc())?;
-    assert_eq!(rt; map(&mut frames, &mut table, 0x1_0001, 1), Some(Err(22)));
-    assert_eq!(rt; map(&mut frames, &mut table, 0x1_0000, 2), Some(Ok(())));
-    for number in 0..2 {
-        assert_eq!(rt;
-            entry(&table, 1, 0x10 + number),
-            Some(writable(number, false))
-        );
-        assert_eq!(rt; frame(&frames, number), Some((Owner::Of(1), 1, 0)));
-    }
+    check_map(&rt, &mut frames, &mut table, (0x1_0001, 1), Err(22));
+    check_map(&rt, &mut frames, &mut table, (0x1_0000, 2), Ok(()));
+    let rows = [(0x10, Some((0, false))), (0x11, Some((1, false)))];
+    check_entries(&rt, &table, 1, &rows);
+    let rows = [(0, Owner::Of(1), 1, 0), (1, Owner::Of(1), 1, 0)];
+    check_frames(&rt, &frames, &rows);
     Ok(())
 }
 
@@ -118,11 +182,11 @@ fn pages_are_mapped_in_fresh_frames(rt: HostRuntime) -> Result<(), Fail> {
 fn mapped_pages_and_too_many_are_refused(rt: HostRuntime) -> Result<(), Fail> {
     let mut frames = four_frames(rt.alloc())?;
     let mut table = one_process(rt.alloc())?;
-    assert_eq!(rt; map(&mut frames, &mut table, 0x1_0000, 2), Some(Ok(())));
-    assert_eq!(rt; map(&mut frames, &mut table, 0xf000, 2), Some(Err(22)));
-    assert_eq!(rt; map(&mut frames, &mut table, 0x2_0000, 3), Some(Err(12)));
-    assert_eq!(rt; entry(&table, 1, 0x20), None);
-    assert_eq!(rt; frames.free_count(), 2);
+    check_map(&rt, &mut frames, &mut table, (0x1_0000, 2), Ok(()));
+    check_map(&rt, &mut frames, &mut table, (0xf000, 2), Err(22));
+    check_map(&rt, &mut frames, &mut table, (0x2_0000, 3), Err(12));
+    check_entries(&rt, &table, 1, &[(0x20, None)]);
+    check_free(&rt, &frames, 2);
     Ok(())
 }
 
@@ -130,12 +194,12 @@ fn mapped_pages_and_too_many_are_refused(rt: HostRuntime) -> Result<(), Fail> {
 fn a_range_is_shared_where_all_of_it_is_mapped(rt: HostRuntime) -> Result<(), Fail> {
     let mut frames = four_frames(rt.alloc())?;
     let mut table = one_process(rt.alloc())?;
-    assert_eq!(rt; map(&mut frames, &mut table, 0x1_0000, 2), Some(Ok(())));
-    assert_eq!(rt; share_pages(&mut table, 0x1_1000, 2), Some(Err(22)));
-    assert_eq!(rt; entry(&table, 1, 0x11), Some(writable(1, false)));
-    assert_eq!(rt; share_pages(&mut table, 0x1_1000, 1), Some(Ok(())));
-    assert_eq!(rt; entry(&table, 1, 0x10), Some(writable(0, false)));
-    assert_eq!(rt; entry(&table, 1, 0x11), Some(writable(1, true)));
+    check_map(&rt, &mut frames, &mut table, (0x1_0000, 2), Ok(()));
+    check_share(&rt, &mut table, 0x1_1000, 2, Err(22));
+    check_entries(&rt, &table, 1, &[(0x11, Some((1, false)))]);
+    check_share(&rt, &mut table, 0x1_1000, 1, Ok(()));
+    let rows = [(0x10, Some((0, false))), (0x11, Some((1, true)))];
+    check_entries(&rt, &table, 1, &rows);
     Ok(())
 }
 
@@ -157,11 +221,14 @@ fn remove_run(table: &mut Table, page: u32, count: u32) {
 fn a_run_is_shared_and_unmapped_where_it_is_mapped(rt: HostRuntime) -> Result<(), Fail> {
     let mut frames = four_frames(rt.alloc())?;
     let mut table = one_process(rt.alloc())?;
-    assert_eq!(rt; map(&mut frames, &mut table, 0x1_0000, 3), Some(Ok(())));
+    check_map(&rt, &mut frames, &mut table, (0x1_0000, 3), Ok(()));
     share_run(&mut table, 0xf, 2);
     remove_run(&mut table, 0x12, 2);
-    assert_eq!(rt; entry(&table, 1, 0x10), Some(writable(0, true)));
-    assert_eq!(rt; entry(&table, 1, 0x11), Some(writable(1, false)));
-    assert_eq!(rt; entry(&table, 1, 0x12), None);
+    let rows = [
+        (0x10, Some((0, true))),
+        (0x11, Some((1, false))),
+        (0x12, None),
+    ];
+    check_entries(&rt, &table, 1, &rows);
     Ok(())
 }

@@ -1,13 +1,14 @@
 // As in `table`, the helpers ask first.
-use crate::table::add_process;
+use crate::table::{add_process, empty_table};
 use dos_world::ThreadState;
 use proc_table::Table;
 use std::alloc::{AllocError, Global};
+use std::process::Abort;
 use std::test::Fail;
 
 // a table with process 1 and its thread 1, which begins at 0x10000 and masks nothing
 fn one_thread(alloc: Global) -> Result<Table, AllocError> {
-    let mut table = Table::reserve(alloc, 16)?;
+    let mut table = empty_table(alloc)?;
     let _ = add_process(&mut table, 0);
     set_mask(&mut table, 1, 0);
     Ok(table)
@@ -37,27 +38,22 @@ fn wake(table: &mut Table, tid: u32, value: u32) {
     }
 }
 
-fn state(table: &Table, tid: u32) -> Option<ThreadState> {
-    if !table.is_thread(tid) {
-        return None;
-    }
-    Some(table.state(tid))
-}
-
-// A thread's pc and a0.
-fn pc_and_a0(table: &Table, tid: u32) -> Option<(u32, u32)> {
+// Whether a thread runs, its pc, its a0 and its mask.
+fn shown(table: &Table, tid: u32) -> Option<(ThreadState, u32, u32, u32)> {
     if !table.is_thread(tid) {
         return None;
     }
     let regs = table.regs(tid);
-    Some((regs.pc(), regs.get(10)))
+    Some((table.state(tid), regs.pc(), regs.get(10), table.mask(tid)))
 }
 
-fn mask(table: &Table, tid: u32) -> Option<u32> {
-    if !table.is_thread(tid) {
-        return None;
-    }
-    Some(table.mask(tid))
+// What thread 1 shows.
+fn check_shown(rt: &impl Abort, table: &Table, wanted: (ThreadState, u32, u32, u32)) {
+    assert_eq!(rt; shown(table, 1), Some(wanted));
+}
+
+fn check_mask(rt: &impl Abort, table: &mut Table, mask: u32, wanted: u32) {
+    assert_eq!(rt; set_mask(table, 1, mask), Some(wanted), "mask {mask}");
 }
 
 fn post(table: &mut Table, tid: u32, signal: u8) {
@@ -74,6 +70,10 @@ fn first_signal(table: &Table, tid: u32) -> Option<u8> {
         return None;
     }
     table.first_signal(tid)
+}
+
+fn check_first(rt: &impl Abort, table: &Table, wanted: Option<u8>) {
+    assert_eq!(rt; first_signal(table, 1), wanted);
 }
 
 // Whether a handler began: the thread lives, and fewer than 4 are saved.
@@ -98,39 +98,50 @@ fn restore(table: &mut Table, tid: u32) -> bool {
     table.restore(tid)
 }
 
+// A handler of the signal begins at thread 1, or doesn't.
+fn check_begun(rt: &impl Abort, table: &mut Table, signal: u8, wanted: bool) {
+    assert_eq!(rt;
+        begin_handler(table, 1, signal, 0x2_0000),
+        wanted,
+        "signal {signal}"
+    );
+}
+
+fn check_restored(rt: &impl Abort, table: &mut Table, wanted: bool) {
+    assert_eq!(rt; restore(table, 1), wanted);
+}
+
 #[test]
 fn a_thread_that_waits_is_woken_with_an_answer(rt: HostRuntime) -> Result<(), Fail> {
     let mut table = one_thread(rt.alloc())?;
     set_state(&mut table, 1, ThreadState::Asleep);
-    assert_eq!(rt; state(&table, 1), Some(ThreadState::Asleep));
-    assert_eq!(rt; pc_and_a0(&table, 1), Some((0x1_0000, 0)));
+    check_shown(&rt, &table, (ThreadState::Asleep, 0x1_0000, 0, 0));
     wake(&mut table, 1, 7);
-    assert_eq!(rt; state(&table, 1), Some(ThreadState::Ready));
-    assert_eq!(rt; pc_and_a0(&table, 1), Some((0x1_0004, 7)));
+    check_shown(&rt, &table, (ThreadState::Ready, 0x1_0004, 7, 0));
     Ok(())
 }
 
 #[test]
 fn signals_0_and_9_are_not_masked(rt: HostRuntime) -> Result<(), Fail> {
     let mut table = one_thread(rt.alloc())?;
-    assert_eq!(rt; set_mask(&mut table, 1, u32::MAX), Some(0xffff_fdfe));
-    assert_eq!(rt; set_mask(&mut table, 1, 0x201), Some(0));
-    assert_eq!(rt; set_mask(&mut table, 1, 6), Some(6));
+    check_mask(&rt, &mut table, u32::MAX, 0xffff_fdfe);
+    check_mask(&rt, &mut table, 0x201, 0);
+    check_mask(&rt, &mut table, 6, 6);
     Ok(())
 }
 
 #[test]
 fn the_lowest_unmasked_signal_comes_first_and_9_before_all(rt: HostRuntime) -> Result<(), Fail> {
     let mut table = one_thread(rt.alloc())?;
-    assert_eq!(rt; first_signal(&table, 1), None);
+    check_first(&rt, &table, None);
     post(&mut table, 1, 15);
-    assert_eq!(rt; first_signal(&table, 1), Some(15));
+    check_first(&rt, &table, Some(15));
     post(&mut table, 1, 2);
-    assert_eq!(rt; first_signal(&table, 1), Some(2));
-    assert_eq!(rt; set_mask(&mut table, 1, 4), Some(4));
-    assert_eq!(rt; first_signal(&table, 1), Some(15));
+    check_first(&rt, &table, Some(2));
+    check_mask(&rt, &mut table, 4, 4);
+    check_first(&rt, &table, Some(15));
     post(&mut table, 1, 9);
-    assert_eq!(rt; first_signal(&table, 1), Some(9));
+    check_first(&rt, &table, Some(9));
     Ok(())
 }
 
@@ -138,14 +149,12 @@ fn the_lowest_unmasked_signal_comes_first_and_9_before_all(rt: HostRuntime) -> R
 fn a_handler_begins_and_what_was_saved_comes_back(rt: HostRuntime) -> Result<(), Fail> {
     let mut table = one_thread(rt.alloc())?;
     post(&mut table, 1, 2);
-    assert!(rt; begin_handler(&mut table, 1, 2, 0x2_0000));
-    assert_eq!(rt; pc_and_a0(&table, 1), Some((0x2_0000, 2)));
-    assert_eq!(rt; mask(&table, 1), Some(4));
-    assert_eq!(rt; first_signal(&table, 1), None);
-    assert!(rt; restore(&mut table, 1));
-    assert_eq!(rt; pc_and_a0(&table, 1), Some((0x1_0000, 0)));
-    assert_eq!(rt; mask(&table, 1), Some(0));
-    assert!(rt; !restore(&mut table, 1));
+    check_begun(&rt, &mut table, 2, true);
+    check_shown(&rt, &table, (ThreadState::Ready, 0x2_0000, 2, 4));
+    check_first(&rt, &table, None);
+    check_restored(&rt, &mut table, true);
+    check_shown(&rt, &table, (ThreadState::Ready, 0x1_0000, 0, 0));
+    check_restored(&rt, &mut table, false);
     Ok(())
 }
 
@@ -153,10 +162,10 @@ fn a_handler_begins_and_what_was_saved_comes_back(rt: HostRuntime) -> Result<(),
 fn at_most_4_handlers_are_begun(rt: HostRuntime) -> Result<(), Fail> {
     let mut table = one_thread(rt.alloc())?;
     for signal in 1..5 {
-        assert!(rt; begin_handler(&mut table, 1, signal, 0x2_0000));
+        check_begun(&rt, &mut table, signal, true);
     }
-    assert!(rt; !begin_handler(&mut table, 1, 5, 0x2_0000));
-    assert_eq!(rt; mask(&table, 1), Some(0x1e));
+    check_begun(&rt, &mut table, 5, false);
+    check_shown(&rt, &table, (ThreadState::Ready, 0x2_0000, 4, 0x1e));
     Ok(())
 }
 

@@ -1,7 +1,9 @@
-ghost use Rattle.std.specs.Prelude.{◌≡◌};
+ghost use Rattle.std.specs.Prelude.{◌≡◌, IfOk};
 
 use dos_world::Entry;
 use space_map::Space;
+use std::alloc::{AllocError, Global};
+use std::process::Abort;
 use std::test::Fail;
 
 fn entry(frame: u32) -> Entry {
@@ -28,6 +30,26 @@ fn put(space: &mut Space, page: u32, frame: u32) -> bool
     true
 }
 
+// a space with room for 3 pages
+fn three_pages(alloc: Global) -> Result<Space, AllocError>
+    ensures { IfOk result (λ space. space.room ≡ 3) }
+{
+    Space::reserve(alloc, 3)
+}
+
+fn check_put(rt: &impl Abort, space: &mut Space, page: u32, frame: u32)
+    requires { space.old.room ≡ 3 }
+    ensures { space.new.room ≡ 3 }
+{
+    assert!(rt; put(space, page, frame), "page {page}");
+}
+
+fn check_looks(rt: &impl Abort, space: &Space, rows: &[(u32, Option<Entry>)]) {
+    for &(page, want) in rows {
+        assert_eq!(rt; space.look(page), want, "page {page}");
+    }
+}
+
 // The page at a place, and its frame.
 fn page_at(space: &Space, place: u32) -> Option<(u32, u32)> {
     if place >= space.len() {
@@ -52,41 +74,54 @@ fn share(space: &mut Space, page: u32) {
     }
 }
 
+fn check_removed(rt: &impl Abort, space: &mut Space, page: u32, wanted: Option<u32>) {
+    assert_eq!(rt; removed(space, page), wanted, "page {page}");
+}
+
+// The pages at these places, and their frames.
+fn check_places(rt: &impl Abort, space: &Space, rows: &[(u32, Option<(u32, u32)>)]) {
+    for &(place, want) in rows {
+        assert_eq!(rt; page_at(space, place), want, "place {place}");
+    }
+}
+
+fn check_count(rt: &impl Abort, space: &Space, wanted: u32) {
+    assert_eq!(rt; space.len(), wanted);
+}
+
 #[test]
 fn pages_stand_in_rising_order(rt: HostRuntime) -> Result<(), Fail> {
-    let mut space = Space::reserve(rt.alloc(), 3)?;
-    assert!(rt; put(&mut space, 0x10, 7));
-    assert!(rt; put(&mut space, 0xf_ffff, 8));
-    assert!(rt; put(&mut space, 0x1, 9));
-    for (place, page) in [
+    let mut space = three_pages(rt.alloc())?;
+    check_put(&rt, &mut space, 0x10, 7);
+    check_put(&rt, &mut space, 0xf_ffff, 8);
+    check_put(&rt, &mut space, 0x1, 9);
+    let rows = [
         (0, Some((0x1, 9))),
         (1, Some((0x10, 7))),
         (2, Some((0xf_ffff, 8))),
         (3, None),
-    ] {
-        assert_eq!(rt; page_at(&space, place), page);
-    }
-    assert_eq!(rt; space.look(0x11), None);
-    assert_eq!(rt; space.look(0), None);
+    ];
+    check_places(&rt, &space, &rows);
+    check_looks(&rt, &space, &[(0x11, None), (0, None)]);
     Ok(())
 }
 
 #[test]
 fn a_page_is_shared_and_goes(rt: HostRuntime) -> Result<(), Fail> {
-    let mut space = Space::reserve(rt.alloc(), 3)?;
-    assert!(rt; put(&mut space, 4, 1));
-    assert!(rt; put(&mut space, 5, 2));
+    let mut space = three_pages(rt.alloc())?;
+    check_put(&rt, &mut space, 4, 1);
+    check_put(&rt, &mut space, 5, 2);
     share(&mut space, 4);
     let shared = Entry {
         shared: true,
         ..entry(1)
     };
-    assert_eq!(rt; space.look(4), Some(shared));
-    assert_eq!(rt; space.look(5), Some(entry(2)));
-    assert_eq!(rt; removed(&mut space, 4), Some(1));
-    assert_eq!(rt; removed(&mut space, 4), None);
-    assert_eq!(rt; space.look(5), Some(entry(2)));
+    let rows = [(4, Some(shared)), (5, Some(entry(2)))];
+    check_looks(&rt, &space, &rows);
+    check_removed(&rt, &mut space, 4, Some(1));
+    check_removed(&rt, &mut space, 4, None);
+    check_looks(&rt, &space, &[(5, Some(entry(2)))]);
     space.clear();
-    assert_eq!(rt; space.len(), 0);
+    check_count(&rt, &space, 0);
     Ok(())
 }

@@ -1,8 +1,15 @@
 // What the table does where a number names no live process or thread is no part of its contract:
-// the helpers ask first.
+// the helpers ask first. They say nothing of what they did, and they compare, so that the proof of
+// a test is short.
 use dos_world::{End, Regs, ThreadState};
 use proc_table::{SignalState, Table};
+use std::alloc::{AllocError, Global};
+use std::process::Abort;
 use std::test::Fail;
+
+pub(crate) fn empty_table(alloc: Global) -> Result<Table, AllocError> {
+    Table::reserve(alloc, 16)
+}
 
 // A process with this parent, 0 where it has none, and one thread: both numbers.
 pub(crate) fn add_process(table: &mut Table, parent: u32) -> Option<Result<(u32, u32), u8>> {
@@ -31,53 +38,102 @@ pub(crate) fn end_process(table: &mut Table, pid: u32, status: u8) {
     }
 }
 
-#[test]
-fn numbers_are_given_from_1_and_not_again(rt: HostRuntime) -> Result<(), Fail> {
-    let mut table = Table::reserve(rt.alloc(), 16)?;
-    assert_eq!(rt; table.processes(), 0);
-    assert!(rt; !table.is_live(0));
-    assert_eq!(rt; add_process(&mut table, 0), Some(Ok((1, 1))));
-    assert_eq!(rt; add_thread(&mut table, 1, 0), Some(Ok(2)));
-    end_thread(&mut table, 2);
-    assert_eq!(rt; add_thread(&mut table, 1, 0), Some(Ok(3)));
-    assert_eq!(rt; add_process(&mut table, 1), Some(Ok((2, 4))));
-    end_process(&mut table, 2, 7);
-    assert_eq!(rt; add_process(&mut table, 0), Some(Ok((3, 5))));
-    assert_eq!(rt; table.processes(), 3);
-    assert_eq!(rt; table.live_processes(), 2);
-    assert_eq!(rt; table.live_threads(), 3);
-    for (tid, want) in [(1, true), (2, false), (3, true), (4, false), (5, true)] {
+fn check_new_process(
+    rt: &impl Abort,
+    table: &mut Table,
+    parent: u32,
+    wanted: Result<(u32, u32), u8>,
+) {
+    assert_eq!(rt; add_process(table, parent), Some(wanted), "parent {parent}");
+}
+
+fn check_new_thread(
+    rt: &impl Abort,
+    table: &mut Table,
+    pid: u32,
+    mask: u32,
+    wanted: Result<u32, u8>,
+) {
+    assert_eq!(rt; add_thread(table, pid, mask), Some(wanted), "process {pid}");
+}
+
+// Adds a process with each of these parents, whose number and whose thread's are the same.
+pub(crate) fn check_added(rt: &impl Abort, table: &mut Table, rows: &[(u32, u32)]) {
+    for &(parent, number) in rows {
+        check_new_process(rt, table, parent, Ok((number, number)));
+    }
+}
+
+// How many numbers of processes were given, and how many processes and threads live.
+fn check_counts(rt: &impl Abort, table: &Table, wanted: (u32, u32, u32)) {
+    let counts = (
+        table.processes(),
+        table.live_processes(),
+        table.live_threads(),
+    );
+    assert_eq!(rt; counts, wanted);
+}
+
+// Whether each of these threads lives.
+fn check_live(rt: &impl Abort, table: &Table, rows: &[(u32, bool)]) {
+    for &(tid, want) in rows {
         assert_eq!(rt; table.is_thread(tid), want, "thread {tid}");
     }
+}
+
+// How many threads of a process live, and the lowest of them.
+fn check_threads_of(rt: &impl Abort, table: &Table, pid: u32, wanted: (u32, Option<u32>)) {
+    assert_eq!(rt;
+        (table.threads_of(pid), table.first_thread(pid)),
+        wanted,
+        "process {pid}"
+    );
+}
+
+#[test]
+fn numbers_are_given_from_1_and_not_again(rt: HostRuntime) -> Result<(), Fail> {
+    let mut table = empty_table(rt.alloc())?;
+    check_counts(&rt, &table, (0, 0, 0));
+    assert!(rt; !table.is_live(0));
+    check_new_process(&rt, &mut table, 0, Ok((1, 1)));
+    check_new_thread(&rt, &mut table, 1, 0, Ok(2));
+    end_thread(&mut table, 2);
+    check_new_thread(&rt, &mut table, 1, 0, Ok(3));
+    check_new_process(&rt, &mut table, 1, Ok((2, 4)));
+    end_process(&mut table, 2, 7);
+    check_new_process(&rt, &mut table, 0, Ok((3, 5)));
+    check_counts(&rt, &table, (3, 2, 3));
+    let rows = [(1, true), (2, false), (3, true), (4, false), (5, true)];
+    check_live(&rt, &table, &rows);
     Ok(())
 }
 
 #[test]
 fn at_most_64_threads_live(rt: HostRuntime) -> Result<(), Fail> {
-    let mut table = Table::reserve(rt.alloc(), 16)?;
-    assert_eq!(rt; add_process(&mut table, 0), Some(Ok((1, 1))));
+    let mut table = empty_table(rt.alloc())?;
+    check_new_process(&rt, &mut table, 0, Ok((1, 1)));
     for number in 2..65 {
-        assert_eq!(rt; add_thread(&mut table, 1, 0), Some(Ok(number)));
+        check_new_thread(&rt, &mut table, 1, 0, Ok(number));
     }
-    assert_eq!(rt; add_thread(&mut table, 1, 0), Some(Err(11)));
-    assert_eq!(rt; add_process(&mut table, 0), Some(Err(11)));
+    check_new_thread(&rt, &mut table, 1, 0, Err(11));
+    check_new_process(&rt, &mut table, 0, Err(11));
     end_thread(&mut table, 10);
-    assert_eq!(rt; add_thread(&mut table, 1, 0), Some(Ok(65)));
-    assert_eq!(rt; table.threads_of(1), 64);
+    check_new_thread(&rt, &mut table, 1, 0, Ok(65));
+    check_threads_of(&rt, &table, 1, (64, Some(1)));
     Ok(())
 }
 
 #[test]
 fn at_most_32_processes_live(rt: HostRuntime) -> Result<(), Fail> {
-    let mut table = Table::reserve(rt.alloc(), 16)?;
+    let mut table = empty_table(rt.alloc())?;
     for number in 1..33 {
-        assert_eq!(rt; add_process(&mut table, 0), Some(Ok((number, number))));
+        check_new_process(&rt, &mut table, 0, Ok((number, number)));
     }
-    assert_eq!(rt; add_process(&mut table, 0), Some(Err(11)));
+    check_new_process(&rt, &mut table, 0, Err(11));
     end_process(&mut table, 7, 0);
-    assert_eq!(rt; table.live_processes(), 31);
-    assert_eq!(rt; add_process(&mut table, 0), Some(Ok((33, 33))));
-    assert_eq!(rt; add_process(&mut table, 0), Some(Err(11)));
+    check_counts(&rt, &table, (32, 31, 31));
+    check_new_process(&rt, &mut table, 0, Ok((33, 33)));
+    check_new_process(&rt, &mut table, 0, Err(11));
     Ok(())
 }
 
@@ -89,36 +145,42 @@ fn parent_and_status(table: &Table, pid: u32) -> Option<(u32, Option<u8>)> {
     Some((table.parent(pid), table.status(pid)))
 }
 
+fn check_ended(rt: &impl Abort, table: &Table, rows: &[(u32, (u32, Option<u8>))]) {
+    for &(pid, want) in rows {
+        assert_eq!(rt; parent_and_status(table, pid), Some(want), "process {pid}");
+    }
+}
+
 #[test]
 fn a_process_ends_with_its_threads_and_leaves_its_children(rt: HostRuntime) -> Result<(), Fail> {
-    let mut table = Table::reserve(rt.alloc(), 16)?;
-    for (parent, number) in [(0, 1), (1, 2), (2, 3)] {
-        assert_eq!(rt; add_process(&mut table, parent), Some(Ok((number, number))));
-    }
-    assert_eq!(rt; add_thread(&mut table, 1, 0), Some(Ok(4)));
-    assert_eq!(rt; table.threads_of(1), 2);
-    assert_eq!(rt; table.first_thread(1), Some(1));
+    let mut table = empty_table(rt.alloc())?;
+    check_added(&rt, &mut table, &[(0, 1), (1, 2), (2, 3)]);
+    check_new_thread(&rt, &mut table, 1, 0, Ok(4));
+    check_threads_of(&rt, &table, 1, (2, Some(1)));
     end_process(&mut table, 1, 9);
-    assert_eq!(rt; table.first_thread(1), None);
-    for (tid, want) in [(1, false), (2, true), (3, true), (4, false)] {
-        assert_eq!(rt; table.is_thread(tid), want, "thread {tid}");
-    }
-    for (pid, want) in [(1, (0, Some(9))), (2, (0, None)), (3, (2, None))] {
-        assert_eq!(rt; parent_and_status(&table, pid), Some(want), "process {pid}");
-    }
+    check_threads_of(&rt, &table, 1, (0, None));
+    let rows = [(1, false), (2, true), (3, true), (4, false)];
+    check_live(&rt, &table, &rows);
+    let rows = [(1, (0, Some(9))), (2, (0, None)), (3, (2, None))];
+    check_ended(&rt, &table, &rows);
     Ok(())
+}
+
+// The lowest live thread above each of these numbers.
+fn check_next(rt: &impl Abort, table: &Table, rows: &[(u32, Option<u32>)]) {
+    for &(after, want) in rows {
+        assert_eq!(rt; table.next_thread(after), want, "after {after}");
+    }
 }
 
 #[test]
 fn the_next_thread_is_one_that_lives(rt: HostRuntime) -> Result<(), Fail> {
-    let mut table = Table::reserve(rt.alloc(), 16)?;
-    assert_eq!(rt; table.next_thread(0), None);
-    for number in 1..6 {
-        assert_eq!(rt; add_process(&mut table, 0), Some(Ok((number, number))));
-    }
+    let mut table = empty_table(rt.alloc())?;
+    check_next(&rt, &table, &[(0, None)]);
+    check_added(&rt, &mut table, &[(0, 1), (0, 2), (0, 3), (0, 4), (0, 5)]);
     end_thread(&mut table, 2);
     end_thread(&mut table, 4);
-    for (after, want) in [
+    let rows = [
         (0, Some(1)),
         (1, Some(3)),
         (2, Some(3)),
@@ -126,9 +188,8 @@ fn the_next_thread_is_one_that_lives(rt: HostRuntime) -> Result<(), Fail> {
         (4, Some(5)),
         (5, None),
         (u32::MAX, None),
-    ] {
-        assert_eq!(rt; table.next_thread(after), want, "after {after}");
-    }
+    ];
+    check_next(&rt, &table, &rows);
     Ok(())
 }
 
@@ -146,19 +207,27 @@ fn close(table: &mut Table, number: u32) -> Option<End> {
     table.close(1, number)
 }
 
+fn check_opened(rt: &impl Abort, table: &mut Table, end: End, wanted: Option<u32>) {
+    assert_eq!(rt; open(table, end), wanted);
+}
+
+fn check_closed(rt: &impl Abort, table: &mut Table, number: u32, wanted: Option<End>) {
+    assert_eq!(rt; close(table, number), wanted, "descriptor {number}");
+}
+
 #[test]
 fn the_lowest_of_32_descriptors_comes_first(rt: HostRuntime) -> Result<(), Fail> {
-    let mut table = Table::reserve(rt.alloc(), 16)?;
-    assert_eq!(rt; add_process(&mut table, 0), Some(Ok((1, 1))));
+    let mut table = empty_table(rt.alloc())?;
+    check_new_process(&rt, &mut table, 0, Ok((1, 1)));
     for number in 0..32 {
-        assert_eq!(rt; open(&mut table, End::Output), Some(number));
+        check_opened(&rt, &mut table, End::Output, Some(number));
     }
-    assert_eq!(rt; open(&mut table, End::Input), None);
-    assert_eq!(rt; close(&mut table, 5), Some(End::Output));
-    assert_eq!(rt; close(&mut table, 5), None);
-    assert_eq!(rt; close(&mut table, 3), Some(End::Output));
-    assert_eq!(rt; open(&mut table, End::PipeRead(5)), Some(3));
-    assert_eq!(rt; close(&mut table, 3), Some(End::PipeRead(5)));
+    check_opened(&rt, &mut table, End::Input, None);
+    check_closed(&rt, &mut table, 5, Some(End::Output));
+    check_closed(&rt, &mut table, 5, None);
+    check_closed(&rt, &mut table, 3, Some(End::Output));
+    check_opened(&rt, &mut table, End::PipeRead(5), Some(3));
+    check_closed(&rt, &mut table, 3, Some(End::PipeRead(5)));
     Ok(())
 }
 
@@ -177,9 +246,9 @@ fn thread(table: &Table, tid: u32) -> Option<(u32, u32, ThreadState, u32)> {
 
 #[test]
 fn a_thread_begins_ready_with_its_mask(rt: HostRuntime) -> Result<(), Fail> {
-    let mut table = Table::reserve(rt.alloc(), 16)?;
-    assert_eq!(rt; add_process(&mut table, 0), Some(Ok((1, 1))));
-    assert_eq!(rt; add_thread(&mut table, 1, 6), Some(Ok(2)));
+    let mut table = empty_table(rt.alloc())?;
+    check_new_process(&rt, &mut table, 0, Ok((1, 1)));
+    check_new_thread(&rt, &mut table, 1, 6, Ok(2));
     // 0 and 9 can't be masked
     for (tid, mask) in [(1, 0xffff_fdfe), (2, 6)] {
         assert_eq!(rt; thread(&table, tid), Some((1, mask, ThreadState::Ready, 0)));
@@ -205,8 +274,8 @@ fn charged(table: &mut Table, tid: u32, regs: Regs, budget: u32) -> Option<(Opti
 
 #[test]
 fn a_call_costs_one_of_the_budget_and_the_reservation(rt: HostRuntime) -> Result<(), Fail> {
-    let mut table = Table::reserve(rt.alloc(), 16)?;
-    assert_eq!(rt; add_process(&mut table, 0), Some(Ok((1, 1))));
+    let mut table = empty_table(rt.alloc())?;
+    check_new_process(&rt, &mut table, 0, Ok((1, 1)));
     let mut regs = Regs::new(0x1_0000);
     regs.set_held(Some(0x2_0000));
     assert_eq!(rt; charged(&mut table, 1, regs, 3), Some((None, 2)));
