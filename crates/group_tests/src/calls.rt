@@ -160,32 +160,44 @@ pub fn call_each<R: Threads + Sync>(
     cases: &[Case],
 ) -> Result<(), Fail> {
     for case in cases {
-        call_failing(
+        let left = call_failing(
             rt,
             alloc,
             case.words,
             files,
             case.out_failing,
             case.err_failing,
-        )?
-        .expect(case.status, case.out, case.err)?;
+        )?;
+        work_of(left, case.status, case.out, case.err)?;
     }
     Ok(())
+}
+
+fn begins_with_option(words: &[&str]) -> bool {
+    let [option, _value, ..] = words else {
+        return false;
+    };
+    option.starts_with("--")
 }
 
 // The names of a run's words, which stand behind its options.
 fn names<'a>(texts: &'a [&'a str]) -> &'a [&'a str] {
     let mut rest = texts.get(1..).unwrap_or(&[]);
     for _ in 0..texts.len() {
-        let [option, _value, others @ ..] = rest else {
-            return rest;
-        };
-        if !option.starts_with("--") {
+        if !begins_with_option(rest) {
             return rest;
         }
-        rest = others;
+        rest = rest.get(2..).unwrap_or(&[]);
     }
     rest
+}
+
+// The words that replay the log of a run of these words.
+fn replay_words<'a>(alloc: Global, texts: &'a [&'a str]) -> Result<Vec<&'a str>, AllocError> {
+    let mut words = Vec::new(alloc);
+    words.extend_from_slice(&["replay", "--log", LOG])?;
+    words.extend_from_slice(names(texts))?;
+    Ok(words)
 }
 
 /// Replays the log of a run of these words, and compares it with what the run left.
@@ -196,17 +208,23 @@ pub fn expect_again<R: Threads + Sync>(
     files: &mut MemoryFiles,
     ran: &Left,
 ) -> Result<(), Fail> {
-    let mut words = Vec::new(alloc);
-    words.extend_from_slice(&["replay", "--log", LOG])?;
-    words.extend_from_slice(names(texts))?;
+    let words = replay_words(alloc, texts)?;
     let again = call(rt, alloc, &words, files, &[])?;
-    if again.status != ran.status || again.work != ran.work {
-        return Err(Fail::from("a replay with another status or tally"));
-    }
-    if again.out.bytes() != ran.out.bytes() || again.err.bytes() != ran.err.bytes() {
-        return Err(Fail::from("a replay with other bytes"));
-    }
-    Ok(())
+    again.expect_same(ran)
+}
+
+// What a run of these words left is this, and a replay of its log leaves the same.
+fn expect_twice<R: Threads + Sync>(
+    rt: &R,
+    alloc: Global,
+    texts: &[&str],
+    files: &mut MemoryFiles,
+    left: &Left,
+    wanted: (u8, &str, &str),
+) -> Result<(), Fail> {
+    let (status, out, err) = wanted;
+    left.expect(status, out, err)?;
+    expect_again(rt, alloc, texts, files, left)
 }
 
 /// Runs with these words, which leave this, and then replays the log.
@@ -219,9 +237,21 @@ pub fn run_twice<R: Threads + Sync>(
     out: &str,
     err: &str,
 ) -> Result<(), Fail> {
-    let left = call(rt, alloc, texts, files, &[])?;
-    left.expect(status, out, err)?;
-    expect_again(rt, alloc, texts, files, &left)
+    let wanted = (status, out, err);
+    run_twice_over(rt, alloc, texts, files, &NOTHING, wanted)
+}
+
+/// The same with this from outside.
+pub fn run_twice_over<R: Threads + Sync>(
+    rt: &R,
+    alloc: Global,
+    texts: &[&str],
+    files: &mut MemoryFiles,
+    outside: &Outside<'_>,
+    wanted: (u8, &str, &str),
+) -> Result<(), Fail> {
+    let left = call_over(rt, alloc, texts, files, outside)?;
+    expect_twice(rt, alloc, texts, files, &left, wanted)
 }
 
 /// The bytes of the log.
@@ -250,4 +280,21 @@ impl Left {
         }
         Ok(())
     }
+
+    // Whether a replay left what the run did.
+    fn expect_same(&self, ran: &Left) -> Result<(), Fail> {
+        if self.status != ran.status || self.work != ran.work {
+            return Err(Fail::from("a replay with another status or tally"));
+        }
+        if self.out.bytes() != ran.out.bytes() || self.err.bytes() != ran.err.bytes() {
+            return Err(Fail::from("a replay with other bytes"));
+        }
+        Ok(())
+    }
+}
+
+/// By how much the tally grew in a call that left what was wanted.
+pub fn work_of(left: Left, status: u8, out: &str, err: &str) -> Result<u64, Fail> {
+    left.expect(status, out, err)?;
+    Ok(left.work)
 }

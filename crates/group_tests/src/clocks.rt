@@ -1,8 +1,10 @@
 //! A guest that looks at the clock, and options in another order.
-use crate::calls::{LOG, NOTHING, Outside, call, call_over, expect_again, log_of};
-use crate::guests::words_file;
+use crate::calls::{LOG, NOTHING, Outside, call, log_of, run_twice, run_twice_over, work_of};
+use crate::guests::words_files;
 use dos_io::MemoryFiles;
+use std::alloc::Global;
 use std::test::*;
+use std::thread::Threads;
 
 // It looks at the clock three times, and prints the low word of each reading.
 const CLOCKS: [u32; 14] = [
@@ -22,23 +24,21 @@ const CLOCKS: [u32; 14] = [
     0x0000_0073,
 ];
 
+const HOST_CLOCKS: Outside<'static> = Outside {
+    clocks: &[72, 105, 33],
+    ..NOTHING
+};
+
 #[test]
 fn readings_are_the_hosts_or_counted(rt: HostRuntime) -> Result<(), Fail> {
     let alloc = rt.alloc();
-    let mut files = MemoryFiles::new(alloc, &[])?;
-    files.add("a", &words_file(alloc, &CLOCKS)?)?;
+    let mut files = words_files(alloc, &CLOCKS)?;
     let err = "process 1 status 0\nrounds 1 done\n";
     let words = ["run", "--clock-from", "65", "--clock-step", "3", "a"];
-    let left = call(&rt, alloc, &words, &mut files, &[])?;
-    left.expect(0, "A\0\0\0D\0\0\0G\0\0\0", err)?;
-    expect_again(&rt, alloc, &words, &mut files, &left)?;
-    let outside = Outside {
-        clocks: &[72, 105, 33],
-        ..NOTHING
-    };
-    let left = call_over(&rt, alloc, &["run", "a"], &mut files, &outside)?;
-    left.expect(0, "H\0\0\0i\0\0\0!\0\0\0", err)?;
-    expect_again(&rt, alloc, &["run", "a"], &mut files, &left)
+    let counted = "A\0\0\0D\0\0\0G\0\0\0";
+    run_twice(&rt, alloc, &words, &mut files, 0, counted, err)?;
+    let wanted = (0, "H\0\0\0i\0\0\0!\0\0\0", err);
+    run_twice_over(&rt, alloc, &["run", "a"], &mut files, &HOST_CLOCKS, wanted)
 }
 
 // It has printed the third reading with its 30th instruction; the signal comes behind the 32nd.
@@ -81,28 +81,37 @@ const RUN_REVERSED: [&str; 16] = [
     "a",
 ];
 
-#[test]
-fn options_have_no_order(rt: HostRuntime) -> Result<(), Fail> {
-    let alloc = rt.alloc();
-    let mut files = MemoryFiles::new(alloc, &[])?;
-    files.add("a", &words_file(alloc, &CLOCKS)?)?;
+const OTHERS: [&[&str]; 3] = [
+    &RUN_REVERSED,
+    &["replay", "--workers", "2", "--log", LOG, "a"],
+    &["replay", "--log", LOG, "--workers", "2", "a"],
+];
+
+// The call leaves what each of them does; its tally and the log behind it.
+fn work_and_log<R: Threads + Sync>(
+    rt: &R,
+    alloc: Global,
+    words: &[&str],
+    files: &mut MemoryFiles,
+) -> Result<(u64, Vec<u8>), Fail> {
     let (out, err) = (
         "A\0\0\0D\0\0\0G\0\0\0",
         "process 1 status 143\nrounds 2 done\n",
     );
-    let left = call(&rt, alloc, &RUN, &mut files, &[])?;
-    left.expect(0, out, err)?;
-    let log = log_of(&mut files)?;
-    let others: [&[&str]; 3] = [
-        &RUN_REVERSED,
-        &["replay", "--workers", "2", "--log", LOG, "a"],
-        &["replay", "--log", LOG, "--workers", "2", "a"],
-    ];
-    for words in others {
-        let again = call(&rt, alloc, words, &mut files, &[])?;
-        again.expect(0, out, err)?;
-        assert_eq!(rt; again.work, left.work);
-        assert_eq!(rt; log_of(&mut files)?.as_slice(), log.as_slice());
+    let left = call(rt, alloc, words, files, &[])?;
+    let work = work_of(left, 0, out, err)?;
+    Ok((work, log_of(files)?))
+}
+
+#[test]
+fn options_have_no_order(rt: HostRuntime) -> Result<(), Fail> {
+    let alloc = rt.alloc();
+    let mut files = words_files(alloc, &CLOCKS)?;
+    let (work, log) = work_and_log(&rt, alloc, &RUN, &mut files)?;
+    for words in &OTHERS {
+        let (again, copy) = work_and_log(&rt, alloc, words, &mut files)?;
+        assert_eq!(rt; again, work);
+        assert_eq!(rt; copy.as_slice(), log.as_slice());
     }
     Ok(())
 }

@@ -2,6 +2,8 @@
 use crate::calls::{Case, SILENT, call_each};
 use crate::files::usual_files;
 use crate::guests::{PRINTS_TO_BOTH, file_with};
+use dos_io::MemoryFiles;
+use std::alloc::Global;
 use std::test::Fail;
 
 // The guest's four puts and the report's two, in the order in which they come.
@@ -161,15 +163,20 @@ const OTHERS: [Case; 4] = [
     },
 ];
 
+fn guests(alloc: Global) -> Result<MemoryFiles, Fail> {
+    let mut files = usual_files(alloc)?;
+    let both = file_with(alloc, &PRINTS_TO_BOTH, b"abcdefgh\n", 0)?;
+    files.add("both", &both)?;
+    Ok(files)
+}
+
+const ALL: [&[Case]; 4] = [&PUTS, &LINES, &SUMMARY, &OTHERS];
+
 #[test]
 fn each_put_fails_in_turn(rt: HostRuntime) -> Result<(), Fail> {
     let alloc = rt.alloc();
-    let mut files = usual_files(alloc)?;
-    files.add(
-        "both",
-        &file_with(alloc, &PRINTS_TO_BOTH, b"abcdefgh\n", 0)?,
-    )?;
-    for cases in [PUTS.as_slice(), &LINES, &SUMMARY, &OTHERS] {
+    let mut files = guests(alloc)?;
+    for cases in &ALL {
         call_each(&rt, alloc, &mut files, cases)?;
     }
     Ok(())

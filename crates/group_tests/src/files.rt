@@ -1,7 +1,7 @@
 //! Files that the assembler doesn't make.
 use crate::guests::{PRINTS, SEVEN, file, file_with};
 use dos_io::MemoryFiles;
-use std::alloc::Global;
+use std::alloc::{AllocError, Global};
 use std::test::Fail;
 
 // The number of four bytes at a place of a file, if it is in it.
@@ -56,12 +56,27 @@ pub fn linked_file(alloc: Global) -> Result<Vec<u8>, Fail> {
 /// `empty` and `cut`, which are refused.
 pub fn usual_files(alloc: Global) -> Result<MemoryFiles, Fail> {
     let mut files = MemoryFiles::new(alloc, &[])?;
-    let whole = file(alloc, &SEVEN)?;
-    files.add("seven", &whole)?;
-    files.add("short", whole.get(..51).ok_or("an image has more bytes")?)?;
+    add_seven(alloc, &mut files)?;
     files.add("hi", &file_with(alloc, &PRINTS, b"Hi\n", 0)?)?;
     files.add("linked", &linked_file(alloc)?)?;
     files.add("empty", &no_headers(alloc)?)?;
     files.add("cut", &cut_file(alloc)?)?;
     Ok(files)
+}
+
+fn add_seven(alloc: Global, files: &mut MemoryFiles) -> Result<(), Fail> {
+    let whole = file(alloc, &SEVEN)?;
+    files.add("seven", &whole)?;
+    files.add("short", whole.get(..51).ok_or("an image has more bytes")?)?;
+    Ok(())
+}
+
+/// Adds a file of so many zeros.
+pub fn add_zeros(
+    alloc: Global,
+    files: &mut MemoryFiles,
+    name: &str,
+    length: usize,
+) -> Result<(), AllocError> {
+    files.add(name, &vec![in alloc; 0u8; length]?)
 }

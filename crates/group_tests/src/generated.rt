@@ -1,7 +1,9 @@
 //! The group that is made from a number.
-use crate::calls::call;
+use crate::calls::{call, work_of};
 use dos_io::MemoryFiles;
+use std::alloc::Global;
 use std::test::Fail;
+use std::thread::Threads;
 
 // What number 7 comes to with one thread and with 8.
 const ONE: &str =
@@ -10,28 +12,43 @@ const ONE: &str =
 const EIGHT: &str =
     "rounds 14 done\nprocess 1 status 0\noutput 32800 bytes\nsha256 960b87a6bce3e57eefc45993a88a37a062414cb1d9e710e960a5f06fab696e99\n";
 
+// The numbers of threads and of workers, and what is put to output.
+const ROWS: [(&str, &str, &str); 6] = [
+    ("1", "1", ONE),
+    ("1", "2", ONE),
+    ("1", "32", ONE),
+    ("8", "1", EIGHT),
+    ("8", "2", EIGHT),
+    ("8", "32", EIGHT),
+];
+
+fn run_row<R: Threads + Sync>(
+    rt: &R,
+    alloc: Global,
+    files: &mut MemoryFiles,
+    row: &(&str, &str, &str),
+) -> Result<(), Fail> {
+    let (threads, workers, out) = *row;
+    let words = [
+        "gen",
+        "--number",
+        "7",
+        "--threads",
+        threads,
+        "--workers",
+        workers,
+    ];
+    let left = call(rt, alloc, &words, files, &[])?;
+    work_of(left, 0, out, "")?;
+    Ok(())
+}
+
 #[test]
 fn it_is_the_same_with_any_number_of_workers(rt: HostRuntime) -> Result<(), Fail> {
     let alloc = rt.alloc();
     let mut files = MemoryFiles::new(alloc, &[])?;
-    for (threads, workers, out) in [
-        ("1", "1", ONE),
-        ("1", "2", ONE),
-        ("1", "32", ONE),
-        ("8", "1", EIGHT),
-        ("8", "2", EIGHT),
-        ("8", "32", EIGHT),
-    ] {
-        let words = [
-            "gen",
-            "--number",
-            "7",
-            "--threads",
-            threads,
-            "--workers",
-            workers,
-        ];
-        call(&rt, alloc, &words, &mut files, &[])?.expect(0, out, "")?;
+    for row in &ROWS {
+        run_row(&rt, alloc, &mut files, row)?;
     }
     Ok(())
 }

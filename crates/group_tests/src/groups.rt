@@ -1,8 +1,7 @@
 //! Groups of several images, and room for them.
 use crate::calls::{Case, SILENT, call, call_each};
 use crate::files::usual_files;
-use crate::guests::{LONG_WRITE, file_with};
-use dos_io::MemoryFiles;
+use crate::guests::{LONG_WRITE, files_with};
 use std::test::*;
 
 const GROUPS: [Case; 6] = [
@@ -47,14 +46,14 @@ const GROUPS: [Case; 6] = [
 #[test]
 fn images_are_processes_where_there_is_room(rt: HostRuntime) -> Result<(), Fail> {
     let alloc = rt.alloc();
-    call_each(&rt, alloc, &mut usual_files(alloc)?, &GROUPS)
+    let mut files = usual_files(alloc)?;
+    call_each(&rt, alloc, &mut files, &GROUPS)
 }
 
 #[test]
 fn a_write_puts_at_most_4096_bytes(rt: HostRuntime) -> Result<(), Fail> {
     let alloc = rt.alloc();
-    let mut files = MemoryFiles::new(alloc, &[])?;
-    files.add("a", &file_with(alloc, &LONG_WRITE, b"", 5000)?)?;
+    let mut files = files_with(alloc, &LONG_WRITE, b"", 5000)?;
     let left = call(&rt, alloc, &["run", "a"], &mut files, &[])?;
     // 4096 modulo 256 is 0, and 5000 modulo 256 is not
     assert_eq!(rt;

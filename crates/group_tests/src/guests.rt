@@ -1,7 +1,8 @@
 //! Guests, and the files of their images, made by the assembler.
+use dos_io::MemoryFiles;
 use rv_asm::Builder;
 use rv_isa::{AmoOp, BranchOp, ImmOp, Instr, LoadOp, StoreOp};
-use std::alloc::Global;
+use std::alloc::{AllocError, Global};
 use std::test::Fail;
 
 /// Where the code begins.
@@ -310,6 +311,23 @@ pub fn calls(alloc: Global, number: u32, arguments: (u32, u32, u32)) -> Result<V
     Ok(code)
 }
 
+fn put_code(builder: &mut Builder, code: &[Instr]) -> Result<(), Fail> {
+    for instr in code {
+        if !instr.is_valid() {
+            return Err(Fail::from("a field of an instruction is out of its range"));
+        }
+        builder.push(instr)?;
+    }
+    Ok(())
+}
+
+fn put_words(builder: &mut Builder, words: &[u32]) -> Result<(), AllocError> {
+    for word in words {
+        builder.word(*word)?;
+    }
+    Ok(())
+}
+
 /// The file of an image with this code and all rights.
 pub fn file(alloc: Global, code: &[Instr]) -> Result<Vec<u8>, Fail> {
     file_with(alloc, code, b"", 0)
@@ -329,12 +347,7 @@ pub fn file_at(
     zeros: u32,
 ) -> Result<Vec<u8>, Fail> {
     let mut builder = Builder::new(alloc, CODE, true)?;
-    for instr in code {
-        if !instr.is_valid() {
-            return Err(Fail::from("a field of an instruction is out of its range"));
-        }
-        builder.push(instr)?;
-    }
+    put_code(&mut builder, code)?;
     builder.data(address, text, zeros)?;
     Ok(builder.finish()?)
 }
@@ -342,8 +355,28 @@ pub fn file_at(
 /// The file of an image of these words, which may be written and executed.
 pub fn words_file(alloc: Global, words: &[u32]) -> Result<Vec<u8>, Fail> {
     let mut builder = Builder::new(alloc, CODE, true)?;
-    for word in words {
-        builder.word(*word)?;
-    }
+    put_words(&mut builder, words)?;
     Ok(builder.finish()?)
+}
+
+// Nothing but a guest named `a`, with this image.
+fn only(alloc: Global, image: &[u8]) -> Result<MemoryFiles, Fail> {
+    let mut files = MemoryFiles::new(alloc, &[])?;
+    files.add("a", image)?;
+    Ok(files)
+}
+
+/// Nothing but a guest named `a`, of this code, and behind it this text and so many zeros.
+pub fn files_with(
+    alloc: Global,
+    code: &[Instr],
+    text: &[u8],
+    zeros: u32,
+) -> Result<MemoryFiles, Fail> {
+    only(alloc, &file_with(alloc, code, text, zeros)?)
+}
+
+/// Nothing but a guest named `a`, of these words.
+pub fn words_files(alloc: Global, words: &[u32]) -> Result<MemoryFiles, Fail> {
+    only(alloc, &words_file(alloc, words)?)
 }

@@ -1,11 +1,15 @@
 //! What a run writes into its log, byte for byte, and what a replay says of other logs.
 use crate::calls::{
-    Case, LOG, NOTHING, Outside, SILENT, call, call_each, call_over, expect_again, log_of,
+    Case, LOG, Left, NOTHING, Outside, SILENT, call, call_each, call_over, expect_again, log_of,
+    work_of,
 };
-use crate::files::usual_files;
-use crate::guests::{SEVEN, file, words_file};
+use crate::files::{add_zeros, usual_files};
+use crate::guests::{SEVEN, file, files_with, words_file};
 use dos_io::MemoryFiles;
+use std::alloc::{AllocError, Global};
+use std::process::Abort;
 use std::test::*;
+use std::thread::Threads;
 
 // The log of a run that ends with 7 in its first round. Its digest is that of another program.
 const SEVEN_LOG: [u8; 64] = [
@@ -18,15 +22,29 @@ const SEVEN_LOG: [u8; 64] = [
 // An image that ends with 0.
 const ZERO: [u32; 3] = [0x0020_0893, 0x0000_0513, 0x0000_0073];
 
+fn check_log(rt: &impl Abort, files: &mut MemoryFiles) -> Result<(), Fail> {
+    assert_eq!(rt; log_of(files)?.as_slice(), SEVEN_LOG.as_slice());
+    Ok(())
+}
+
+// A run of the guest that ends with 7 left this.
+fn check_run<R: Threads + Sync + Abort>(
+    rt: &R,
+    alloc: Global,
+    files: &mut MemoryFiles,
+    left: &Left,
+) -> Result<(), Fail> {
+    left.expect(0, "", "process 1 status 7\nrounds 1 done\n")?;
+    check_log(rt, files)?;
+    expect_again(rt, alloc, &["run", "a"], files, left)
+}
+
 #[test]
 fn a_run_writes_its_log(rt: HostRuntime) -> Result<(), Fail> {
     let alloc = rt.alloc();
-    let mut files = MemoryFiles::new(alloc, &[])?;
-    files.add("a", &file(alloc, &SEVEN)?)?;
+    let mut files = files_with(alloc, &SEVEN, b"", 0)?;
     let left = call(&rt, alloc, &["run", "a"], &mut files, &[])?;
-    left.expect(0, "", "process 1 status 7\nrounds 1 done\n")?;
-    assert_eq!(rt; log_of(&mut files)?.as_slice(), SEVEN_LOG.as_slice());
-    expect_again(&rt, alloc, &["run", "a"], &mut files, &left)
+    check_run(&rt, alloc, &mut files, &left)
 }
 
 // A change of the log of a run: of one byte of it and a zero behind it, of which so many bytes are
@@ -89,19 +107,25 @@ const CHANGES: [Change; 8] = [
     },
 ];
 
+// The log with the change.
+fn add_changed(alloc: Global, files: &mut MemoryFiles, change: &Change) -> Result<(), AllocError> {
+    let mut log = Vec::from_slice(alloc, &SEVEN_LOG)?;
+    log.push(0)?;
+    if let Some(byte) = log.get_mut(change.place) {
+        *byte = change.value;
+    }
+    files.add(LOG, log.get(..change.length).unwrap_or(&[]))
+}
+
 #[test]
 fn other_logs_are_refused(rt: HostRuntime) -> Result<(), Fail> {
     let alloc = rt.alloc();
     let mut files = usual_files(alloc)?;
     for change in &CHANGES {
-        let mut log = Vec::from_slice(alloc, &SEVEN_LOG)?;
-        log.push(0)?;
-        if let Some(byte) = log.get_mut(change.place) {
-            *byte = change.value;
-        }
-        files.add(LOG, log.get(..change.length).unwrap_or(&[]))?;
+        add_changed(alloc, &mut files, change)?;
         let words = ["replay", "--log", LOG, "seven"];
-        call(&rt, alloc, &words, &mut files, &[])?.expect(4, "", change.line)?;
+        let left = call(&rt, alloc, &words, &mut files, &[])?;
+        work_of(left, 4, "", change.line)?;
     }
     Ok(())
 }
@@ -134,41 +158,42 @@ const IMAGES: [Case; 4] = [
     },
 ];
 
+fn add_zero(alloc: Global, files: &mut MemoryFiles) -> Result<(), Fail> {
+    files.add("zero", &words_file(alloc, &ZERO)?)?;
+    files.add(LOG, &SEVEN_LOG)?;
+    Ok(())
+}
+
 #[test]
 fn a_log_is_of_its_images(rt: HostRuntime) -> Result<(), Fail> {
     let alloc = rt.alloc();
     let mut files = usual_files(alloc)?;
-    files.add("zero", &words_file(alloc, &ZERO)?)?;
-    files.add(LOG, &SEVEN_LOG)?;
+    add_zero(alloc, &mut files)?;
     call_each(&rt, alloc, &mut files, &IMAGES)
 }
 
 #[test]
 fn the_longest_log_has_64_mebibytes(rt: HostRuntime) -> Result<(), Fail> {
     let alloc = rt.alloc();
-    let mut files = MemoryFiles::new(alloc, &[])?;
-    files.add("a", &file(alloc, &SEVEN)?)?;
-    files.add(LOG, &vec![in alloc; 0u8; 67108865]?)?;
-    call(&rt, alloc, &["replay", "--log", LOG, "a"], &mut files, &[])?.expect(
-        4,
-        "",
-        "dos: log too long\n",
-    )
+    let mut files = files_with(alloc, &SEVEN, b"", 0)?;
+    add_zeros(alloc, &mut files, LOG, 67108865)?;
+    let left = call(&rt, alloc, &["replay", "--log", LOG, "a"], &mut files, &[])?;
+    left.expect(4, "", "dos: log too long\n")
 }
+
+const REPORT_FAILING: Outside<'static> = Outside {
+    err_failing: &[1],
+    ..NOTHING
+};
 
 // The log stands where a line of the report fails, and not where it can't be written.
 #[test]
 fn the_log_is_written_before_the_report(rt: HostRuntime) -> Result<(), Fail> {
     let alloc = rt.alloc();
-    let mut files = MemoryFiles::new(alloc, &[])?;
-    files.add("a", &file(alloc, &SEVEN)?)?;
-    let outside = Outside {
-        err_failing: &[1],
-        ..NOTHING
-    };
-    call_over(&rt, alloc, &["run", "a"], &mut files, &outside)?.expect(6, "", "")?;
-    assert_eq!(rt; log_of(&mut files)?.as_slice(), SEVEN_LOG.as_slice());
-    Ok(())
+    let mut files = files_with(alloc, &SEVEN, b"", 0)?;
+    let left = call_over(&rt, alloc, &["run", "a"], &mut files, &REPORT_FAILING)?;
+    work_of(left, 6, "", "")?;
+    check_log(&rt, &mut files)
 }
 
 #[test]
@@ -176,5 +201,6 @@ fn a_log_that_cant_be_written_gives_five(rt: HostRuntime) -> Result<(), Fail> {
     let alloc = rt.alloc();
     let mut files = MemoryFiles::new(alloc, &[2])?;
     files.add("a", &file(alloc, &SEVEN)?)?;
-    call(&rt, alloc, &["run", "a"], &mut files, &[])?.expect(5, "", "dos: file fault\n")
+    let left = call(&rt, alloc, &["run", "a"], &mut files, &[])?;
+    left.expect(5, "", "dos: file fault\n")
 }

@@ -1,9 +1,13 @@
 //! What runs record: rounds, signals and input; and hosts and outputs that fail in a run.
-use crate::calls::{NOTHING, Outside, call, call_over, expect_again, has_log, log_of};
-use crate::guests::words_file;
+use crate::calls::{
+    Left, NOTHING, Outside, call, call_over, expect_again, has_log, log_of, work_of,
+};
+use crate::guests::{words_file, words_files};
 use dos_io::MemoryFiles;
 use std::alloc::Global;
+use std::process::Abort;
 use std::test::*;
+use std::thread::Threads;
 
 // It waits on a word of its own for ever.
 const WAITS: [u32; 6] = [
@@ -114,16 +118,36 @@ const GUESTS: [Guest; 6] = [
     },
 ];
 
+// A run left what was wanted, and a log of this length, whose replay leaves the same.
+fn check_run<R: Threads + Sync + Abort>(
+    rt: &R,
+    alloc: Global,
+    guest: &Guest,
+    files: &mut MemoryFiles,
+    left: &Left,
+) -> Result<(), Fail> {
+    left.expect(guest.status, "", guest.err)?;
+    assert_eq!(rt; log_of(files)?.len(), guest.length);
+    expect_again(rt, alloc, guest.words, files, left)
+}
+
+fn run_guest<R: Threads + Sync + Abort>(
+    rt: &R,
+    alloc: Global,
+    guest: &Guest,
+    files: &mut MemoryFiles,
+) -> Result<(), Fail> {
+    files.add("a", &words_file(alloc, guest.code)?)?;
+    let left = call(rt, alloc, guest.words, files, &[])?;
+    check_run(rt, alloc, guest, files, &left)
+}
+
 #[test]
 fn runs_are_recorded_round_by_round(rt: HostRuntime) -> Result<(), Fail> {
     let alloc = rt.alloc();
     let mut files = MemoryFiles::new(alloc, &[])?;
     for guest in &GUESTS {
-        files.add("a", &words_file(alloc, guest.code)?)?;
-        let left = call(&rt, alloc, guest.words, &mut files, &[])?;
-        left.expect(guest.status, "", guest.err)?;
-        assert_eq!(rt; log_of(&mut files)?.len(), guest.length);
-        expect_again(&rt, alloc, guest.words, &mut files, &left)?;
+        run_guest(&rt, alloc, guest, &mut files)?;
     }
     Ok(())
 }
@@ -151,51 +175,60 @@ const TEN: Outside<'static> = Outside {
     ..NOTHING
 };
 
-fn echo(alloc: Global) -> Result<MemoryFiles, Fail> {
-    let mut files = MemoryFiles::new(alloc, &[])?;
-    files.add("a", &words_file(alloc, &ECHOES)?)?;
-    Ok(files)
+fn check_echo<R: Threads + Sync + Abort>(
+    rt: &R,
+    alloc: Global,
+    files: &mut MemoryFiles,
+    left: &Left,
+) -> Result<(), Fail> {
+    left.expect(0, "0123456789", "process 1 status 0\nrounds 1 done\n")?;
+    assert_eq!(rt; log_of(files)?.len(), 100);
+    expect_again(rt, alloc, &["run", "a"], files, left)
 }
 
 #[test]
 fn input_is_recorded(rt: HostRuntime) -> Result<(), Fail> {
     let alloc = rt.alloc();
-    let mut files = echo(alloc)?;
+    let mut files = words_files(alloc, &ECHOES)?;
     let left = call_over(&rt, alloc, &["run", "a"], &mut files, &TEN)?;
-    left.expect(0, "0123456789", "process 1 status 0\nrounds 1 done\n")?;
-    assert_eq!(rt; log_of(&mut files)?.len(), 100);
-    expect_again(&rt, alloc, &["run", "a"], &mut files, &left)
+    check_echo(&rt, alloc, &mut files, &left)
 }
 
-#[test]
-fn a_host_that_fails_gives_five_and_no_log(rt: HostRuntime) -> Result<(), Fail> {
-    let alloc = rt.alloc();
-    let mut files = echo(alloc)?;
-    let outside = Outside {
-        host_failing: &[2],
-        ..TEN
-    };
-    call_over(&rt, alloc, &["run", "a"], &mut files, &outside)?.expect(
-        5,
-        "0123456789",
-        "dos: host fault\n",
-    )?;
+// A run of these words leaves this, and no log.
+fn run_unrecorded<R: Threads + Sync + Abort>(
+    rt: &R,
+    alloc: Global,
+    code: &[u32],
+    outside: &Outside<'_>,
+    wanted: (u8, &str, &str),
+) -> Result<(), Fail> {
+    let (status, out, err) = wanted;
+    let mut files = words_files(alloc, code)?;
+    let left = call_over(rt, alloc, &["run", "a"], &mut files, outside)?;
+    work_of(left, status, out, err)?;
     assert!(rt; !has_log(&mut files));
     Ok(())
 }
 
 #[test]
+fn a_host_that_fails_gives_five_and_no_log(rt: HostRuntime) -> Result<(), Fail> {
+    let outside = Outside {
+        host_failing: &[2],
+        ..TEN
+    };
+    let wanted = (5, "0123456789", "dos: host fault\n");
+    run_unrecorded(&rt, rt.alloc(), &ECHOES, &outside, wanted)
+}
+
+#[test]
 fn an_output_that_fails_in_a_run_gives_six_and_no_log(rt: HostRuntime) -> Result<(), Fail> {
-    let alloc = rt.alloc();
-    let mut files = echo(alloc)?;
     let outside = Outside {
         piece: 4,
         out_failing: &[3],
         ..TEN
     };
-    call_over(&rt, alloc, &["run", "a"], &mut files, &outside)?.expect(6, "01234567", "")?;
-    assert!(rt; !has_log(&mut files));
-    Ok(())
+    let wanted = (6, "01234567", "");
+    run_unrecorded(&rt, rt.alloc(), &ECHOES, &outside, wanted)
 }
 
 // It reads 4096 bytes again and again, 333 times a round.
@@ -213,15 +246,12 @@ const READS: [u32; 6] = [
 #[test]
 fn a_full_log_gives_ten_and_no_log(rt: HostRuntime) -> Result<(), Fail> {
     let alloc = rt.alloc();
-    let mut files = MemoryFiles::new(alloc, &[])?;
-    files.add("a", &words_file(alloc, &READS)?)?;
     let input = vec![in alloc; 0u8; 66895872]?;
     let outside = Outside {
         input: &input,
         piece: 4096,
         ..NOTHING
     };
-    call_over(&rt, alloc, &["run", "a"], &mut files, &outside)?.expect(10, "", "dos: log full\n")?;
-    assert!(rt; !has_log(&mut files));
-    Ok(())
+    let wanted = (10, "", "dos: log full\n");
+    run_unrecorded(&rt, alloc, &READS, &outside, wanted)
 }

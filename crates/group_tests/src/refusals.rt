@@ -1,52 +1,54 @@
 //! Calls that run no guest.
-use crate::calls::{Case, SILENT, call, call_each};
-use crate::files::usual_files;
+use crate::calls::{Case, SILENT, call, call_each, work_of};
+use crate::files::{add_zeros, usual_files};
 use std::test::Fail;
+
+const OTHERS: [&[&str]; 34] = [
+    &[],
+    &["run"],
+    &["seven"],
+    &["run", "-x"],
+    &["run", "seven", "-x"],
+    &["replay", "seven"],
+    &["replay", "--log", "seven"],
+    &["replay", "--log", "seven", "--quantum", "1000", "seven"],
+    &["gen", "--number", "7"],
+    &["gen", "--number", "7", "--threads", "33"],
+    &["gen", "--number", "4294967296", "--threads", "1"],
+    &["gen", "--number", "7", "--threads", "1", "seven"],
+    &["run", "--workers", "33", "seven"],
+    &["run", "--signals", "1:1:32", "seven"],
+    &["run", "--signals", "0:1:1", "seven"],
+    &["run", "--clock-from", "18446744073709551616", "seven"],
+    &["--help"],
+    &["run", "--help"],
+    &["--version"],
+    &["walk", "seven"],
+    &["inspect"],
+    &["inspect", "seven", "b"],
+    &["inspect", "-a"],
+    &["run", "--quantum", "15", "seven"],
+    &["run", "--quantum", "65537", "seven"],
+    &["run", "--quantum", "0016", "seven"],
+    &["run", "--rounds", "0", "seven"],
+    &["run", "--rounds", "1000001", "seven"],
+    &["run", "--frames", "15", "seven"],
+    &["run", "--frames", "16385", "seven"],
+    &["run", "--frames", "seven"],
+    &["run", "--frames", "16", "--frames", "16", "seven"],
+    &["run", "seven", "--frames", "18", "seven"],
+    &[
+        "run", "seven", "seven", "seven", "seven", "seven", "seven", "seven", "seven", "seven",
+    ],
+];
 
 #[test]
 fn other_words_are_refused(rt: HostRuntime) -> Result<(), Fail> {
     let alloc = rt.alloc();
     let mut files = usual_files(alloc)?;
-    let others: [&[&str]; 34] = [
-        &[],
-        &["run"],
-        &["seven"],
-        &["run", "-x"],
-        &["run", "seven", "-x"],
-        &["replay", "seven"],
-        &["replay", "--log", "seven"],
-        &["replay", "--log", "seven", "--quantum", "1000", "seven"],
-        &["gen", "--number", "7"],
-        &["gen", "--number", "7", "--threads", "33"],
-        &["gen", "--number", "4294967296", "--threads", "1"],
-        &["gen", "--number", "7", "--threads", "1", "seven"],
-        &["run", "--workers", "33", "seven"],
-        &["run", "--signals", "1:1:32", "seven"],
-        &["run", "--signals", "0:1:1", "seven"],
-        &["run", "--clock-from", "18446744073709551616", "seven"],
-        &["--help"],
-        &["run", "--help"],
-        &["--version"],
-        &["walk", "seven"],
-        &["inspect"],
-        &["inspect", "seven", "b"],
-        &["inspect", "-a"],
-        &["run", "--quantum", "15", "seven"],
-        &["run", "--quantum", "65537", "seven"],
-        &["run", "--quantum", "0016", "seven"],
-        &["run", "--rounds", "0", "seven"],
-        &["run", "--rounds", "1000001", "seven"],
-        &["run", "--frames", "15", "seven"],
-        &["run", "--frames", "16385", "seven"],
-        &["run", "--frames", "seven"],
-        &["run", "--frames", "16", "--frames", "16", "seven"],
-        &["run", "seven", "--frames", "18", "seven"],
-        &[
-            "run", "seven", "seven", "seven", "seven", "seven", "seven", "seven", "seven", "seven",
-        ],
-    ];
-    for texts in others {
-        call(&rt, alloc, texts, &mut files, &[])?.expect(2, "", "dos: words refused\n")?;
+    for texts in &OTHERS {
+        let left = call(&rt, alloc, texts, &mut files, &[])?;
+        work_of(left, 2, "", "dos: words refused\n")?;
     }
     Ok(())
 }
@@ -113,6 +115,6 @@ const FILES: [Case; 9] = [
 fn other_files_are_refused(rt: HostRuntime) -> Result<(), Fail> {
     let alloc = rt.alloc();
     let mut files = usual_files(alloc)?;
-    files.add("long", &vec![in alloc; 0u8; 4194305]?)?;
+    add_zeros(alloc, &mut files, "long", 4194305)?;
     call_each(&rt, alloc, &mut files, &FILES)
 }

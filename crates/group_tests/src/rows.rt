@@ -1,7 +1,6 @@
 //! Guests of one image.
 use crate::calls::run_twice;
 use crate::guests;
-use dos_io::MemoryFiles;
 use rv_isa::Instr;
 use std::alloc::Global;
 use std::test::Fail;
@@ -18,13 +17,16 @@ struct Row {
     err: &'static str,
 }
 
+fn run_row<R: Threads + Sync>(rt: &R, alloc: Global, row: &Row) -> Result<(), Fail> {
+    let mut files = guests::files_with(alloc, row.code, row.text, 0)?;
+    run_twice(
+        rt, alloc, row.words, &mut files, row.status, row.out, row.err,
+    )
+}
+
 fn run_rows<R: Threads + Sync>(rt: &R, alloc: Global, rows: &[Row]) -> Result<(), Fail> {
     for row in rows {
-        let mut files = MemoryFiles::new(alloc, &[])?;
-        files.add("a", &guests::file_with(alloc, row.code, row.text, 0)?)?;
-        run_twice(
-            rt, alloc, row.words, &mut files, row.status, row.out, row.err,
-        )?;
+        run_row(rt, alloc, row)?;
     }
     Ok(())
 }
@@ -286,8 +288,7 @@ fn run_silent<R: Threads + Sync>(
     code: &[Instr],
     err: &str,
 ) -> Result<(), Fail> {
-    let mut files = MemoryFiles::new(alloc, &[])?;
-    files.add("a", &guests::file(alloc, code)?)?;
+    let mut files = guests::files_with(alloc, code, b"", 0)?;
     run_twice(rt, alloc, words, &mut files, 0, "", err)
 }
 
@@ -367,19 +368,22 @@ fn a_quantum_ends_a_round(rt: HostRuntime) -> Result<(), Fail> {
     run_short(&rt, alloc, &shorter, "process 1 status 0\nrounds 1 done\n")
 }
 
+fn reserving(alloc: Global, nothing: usize) -> Result<Vec<Instr>, Fail> {
+    padded(
+        alloc,
+        &guests::RESERVES,
+        nothing,
+        &guests::STORES_IF_RESERVED,
+    )
+}
+
 // The store is made within one part, and not in the next.
 #[test]
 fn a_reservation_ends_with_its_part(rt: HostRuntime) -> Result<(), Fail> {
     let alloc = rt.alloc();
-    let (first, last) = (&guests::RESERVES, &guests::STORES_IF_RESERVED);
-    let whole = padded(alloc, first, 0, last)?;
-    run_silent(
-        &rt,
-        alloc,
-        &["run", "a"],
-        &whole,
-        "process 1 status 0\nrounds 1 done\n",
-    )?;
-    let parted = padded(alloc, first, 14, last)?;
+    let whole = reserving(alloc, 0)?;
+    let err = "process 1 status 0\nrounds 1 done\n";
+    run_silent(&rt, alloc, &["run", "a"], &whole, err)?;
+    let parted = reserving(alloc, 14)?;
     run_short(&rt, alloc, &parted, "process 1 status 1\nrounds 2 done\n")
 }

@@ -1,5 +1,5 @@
 //! The same with any number of workers: bytes, rounds and the tally.
-use crate::calls::{Left, NOTHING, call, call_by};
+use crate::calls::{Left, NOTHING, call, call_by, work_of};
 use crate::files::usual_files;
 use crate::guests::{
     BEHIND_NINE, ENDLESS, ENDS, MAKES_THREADS, PRINTS_BEHIND, RACE, file, file_at, file_with,
@@ -109,25 +109,32 @@ fn run_on_each<R: Threads + Sync>(
     for workers in &NUMBERS {
         let words = words_on(alloc, workers, row.rest)?;
         let left = call(rt, alloc, &words, files, &[])?;
-        left.expect(row.status, row.out, row.err)?;
-        if work.unwrap_or(left.work) != left.work {
+        let grown = work_of(left, row.status, row.out, row.err)?;
+        if work.unwrap_or(grown) != grown {
             return Err(Fail::from("another tally"));
         }
-        work = Some(left.work);
+        work = Some(grown);
     }
+    Ok(())
+}
+
+fn later(alloc: Global) -> Result<Vec<u8>, Fail> {
+    file(alloc, &padded(alloc, &[], 15, &ENDS)?)
+}
+
+fn add_guests(alloc: Global, files: &mut MemoryFiles) -> Result<(), Fail> {
+    let behind = file_at(alloc, &PRINTS_BEHIND, BEHIND_NINE, b"Hi\n", 0)?;
+    files.add("behind", &behind)?;
+    files.add("endless", &file(alloc, &ENDLESS)?)?;
+    files.add("later", &later(alloc)?)?;
+    files.add("race", &file_with(alloc, &RACE, b"0\0\0\0", 0)?)?;
+    files.add("threads", &file(alloc, &MAKES_THREADS)?)?;
     Ok(())
 }
 
 fn guests(alloc: Global) -> Result<MemoryFiles, Fail> {
     let mut files = usual_files(alloc)?;
-    files.add(
-        "behind",
-        &file_at(alloc, &PRINTS_BEHIND, BEHIND_NINE, b"Hi\n", 0)?,
-    )?;
-    files.add("endless", &file(alloc, &ENDLESS)?)?;
-    files.add("later", &file(alloc, &padded(alloc, &[], 15, &ENDS)?)?)?;
-    files.add("race", &file_with(alloc, &RACE, b"0\0\0\0", 0)?)?;
-    files.add("threads", &file(alloc, &MAKES_THREADS)?)?;
+    add_guests(alloc, &mut files)?;
     Ok(files)
 }
 
@@ -158,24 +165,48 @@ fn run_race<W: Workers>(
     left.expect(0, "11", "process 1 status 0\nrounds 4 done\n")
 }
 
+// By how much the tally grows on one thread.
+fn race_alone<R: Threads + Sync>(alloc: Global, files: &mut MemoryFiles) -> Result<u64, Fail> {
+    let mut tally = Tally::new();
+    let mut workers: Serial<'_, R> = Serial::new(&mut tally);
+    run_race(&mut workers, alloc, files)?;
+    workers.finish();
+    Ok(tally.count())
+}
+
+// The same with one hand, and with a board.
+fn race_spread<R: Threads + Sync>(
+    rt: &R,
+    alloc: Global,
+    files: &mut MemoryFiles,
+) -> Result<u64, Fail> {
+    let gate = OpenGate::new();
+    let mut tally = Tally::new();
+    let mut workers = Spread::new(rt, 1, &gate, &mut tally);
+    run_race(&mut workers, alloc, files)?;
+    workers.finish();
+    Ok(tally.count())
+}
+
+fn race_boarded<R: Threads + Sync>(
+    rt: &R,
+    alloc: Global,
+    files: &mut MemoryFiles,
+) -> Result<u64, Fail> {
+    let gate = OpenGate::new();
+    let mut tally = Tally::new();
+    let mut workers = Boarded::new(rt, alloc, 1, &gate, &mut tally);
+    run_race(&mut workers, alloc, files)?;
+    workers.finish();
+    Ok(tally.count())
+}
+
 #[test]
 fn each_pool_leaves_the_same(rt: HostRuntime) -> Result<(), Fail> {
     let alloc = rt.alloc();
     let mut files = guests(alloc)?;
-    let gate = OpenGate::new();
-    let mut serial = Tally::new();
-    let mut workers: Serial<'_, HostRuntime> = Serial::new(&mut serial);
-    run_race(&mut workers, alloc, &mut files)?;
-    workers.finish();
-    let mut spread = Tally::new();
-    let mut workers = Spread::new(&rt, 1, &gate, &mut spread);
-    run_race(&mut workers, alloc, &mut files)?;
-    workers.finish();
-    assert_eq!(rt; spread.count(), serial.count());
-    let mut boarded = Tally::new();
-    let mut workers = Boarded::new(&rt, alloc, 1, &gate, &mut boarded);
-    run_race(&mut workers, alloc, &mut files)?;
-    workers.finish();
-    assert_eq!(rt; boarded.count(), serial.count());
+    let alone = race_alone::<HostRuntime>(alloc, &mut files)?;
+    assert_eq!(rt; race_spread(&rt, alloc, &mut files)?, alone);
+    assert_eq!(rt; race_boarded(&rt, alloc, &mut files)?, alone);
     Ok(())
 }
