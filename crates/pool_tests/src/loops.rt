@@ -55,15 +55,22 @@ fn one_process(alloc: Global) -> Result<Table, AllocError>
     Ok(table)
 }
 
+// a pack of a thread that jumps on the spot
+fn looping(alloc: Global, number: u32) -> Result<Pack, AllocError>
+    ensures { IfOk result (λ p. IsLoop p) }
+{
+    let mut pack = Pack::reserve(alloc, 1)?;
+    pack.fill(number % 64 + 1, 1, Regs::new(0x10000), BUDGET);
+    Ok(pack)
+}
+
 fn packs(alloc: Global, count: u32) -> Result<Vec<Pack>, AllocError>
     ensures count { IfOk result (λ v. vec_len v ≡ count) }
     ensures loops { IfOk result (λ v. All IsLoop v.items) }
 {
     let mut packs = Vec::new(alloc);
     for place in 0..count {
-        let mut pack = Pack::reserve(alloc, 1)?;
-        pack.fill(place % 64 + 1, 1, Regs::new(0x10000), BUDGET);
-        packs.push(pack)?;
+        packs.push(looping(alloc, place)?)?;
     }
     Ok(packs)
 }
