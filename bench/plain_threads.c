@@ -24,11 +24,13 @@ static double now(void) {
   return t.tv_sec + t.tv_nsec * 1e-9;
 }
 
+/* Eight chains that don't wait for one another keep a core's units as busy as an interpreter does: where two of the
+   machine's processors share a core, they slow each other down, as they do the program. */
 static void compute(void) {
-  uint32_t value = 1;
+  uint32_t a = 1, b = 2, c = 3, d = 4, e = 5, f = 6, g = 7, h = 8;
   for (long i = 0; i < turns; i++) {
-    value = value * 1664525 + 1013904223;
-    __asm__ volatile("" : "+r"(value));
+    a += i, b ^= i, c += 5, d ^= 7, e += i, f ^= i, g += 11, h ^= 13;
+    __asm__ volatile("" : "+r"(a), "+r"(b), "+r"(c), "+r"(d), "+r"(e), "+r"(f), "+r"(g), "+r"(h));
   }
 }
 
