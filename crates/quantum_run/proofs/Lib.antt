@@ -1,6 +1,7 @@
 pub mod Threads
 pub mod Own
 pub mod Places
+pub mod Apart
 pub mod Reaching
 pub mod After
 pub mod RunSteps
