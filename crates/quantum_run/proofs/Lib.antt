@@ -11,6 +11,7 @@ pub mod Parts
 pub mod Overlay
 pub mod Alike
 pub mod Packing
+pub mod Filling
 pub mod Finishing
 pub mod Keeping
 pub mod Knowing
