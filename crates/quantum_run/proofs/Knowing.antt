@@ -1,10 +1,8 @@
 -- Words that are known stay so, as pages are found and written; and a memo that learns one more.
-use Rattle.std.proofs.Common.{ℕ, zero, suc, ◌+◌, ◌*◌, ◌/◌, ◌%◌, ◌^◌, ◌<◌, ◌≤◌, ◌≡◌, ◌≢◌, ◌⊎◌, inl, inr, refl, sym, ap, ◌∙◌, List, [], ◌∷◌, length, take, drop, set, Bool, true, false, replicate, Option, Ok, arith, subst, eqb, eq-eqb}
-use Rattle.std.specs.Prelude.{slice_index_or, ◌==◌, ◌||◌}
-use Rattle.std.specs.List.{list_any}
+use Rattle.std.proofs.Common.{ℕ, zero, suc, ◌+◌, ◌*◌, ◌/◌, ◌%◌, ◌^◌, ◌<◌, ◌≤◌, ◌≡◌, ◌≢◌, ◌⊎◌, inl, inr, refl, sym, ap, ◌∙◌, List, [], ◌∷◌, length, take, drop, set, true, false, Option, Ok, arith, subst, eqb}
+use Rattle.std.specs.Prelude.{slice_index_or}
 use Rattle.std.proofs.lemmas.Bool.{cases_lt}
 use Rattle.std.proofs.lemmas.List.{get_or-set_other, get_or-set_same, get_or_past, set_past}
-use Rattle.std.proofs.lemmas.List.Elements.{All-set, All-nil, All-cons, All-replicate}
 use Rattle.std.proofs.lemmas.Bool.Decides.{eqb_tells}
 use Rattle.dos_world.specs.World.{World}
 use Rattle.dos_world.specs.Reach.{width, written, bytes_of, number_of}
@@ -16,7 +14,7 @@ use Rattle.rv_exec.specs.Follows.{word_at}
 use Rattle.rv_form.specs.Notes.{Note, AreBelow, note_at, nothing, first_base}
 use Rattle.quantum_run.specs.declared.slot.Slot.{Slot}
 use Rattle.quantum_run.specs.Finding.{AreFramesOf, place_in}
-use Rattle.quantum_run.specs.Knowing.{AreApart, AreKnown, IsBase, IsKnown, IsNoCode, KeepsKnown, empty_slot, no_base, slot_of}
+use Rattle.quantum_run.specs.Knowing.{AreKnown, IsKnown, IsNoCode, KeepsKnown, empty_slot, no_base, slot_of}
 use Rattle.quantum_run.specs.Showing.{Still, Holds, ShowsKnown}
 use Rattle.quantum_run.proofs.Places.{length-bytes}
 use Rattle.quantum_run.proofs.Reaching.{word-found}
@@ -78,60 +76,6 @@ slot-there slots address fits found =
         let none : (slot_of slots address).page ≡ 0xFFFFFFFF =
         ap (λ (s : Slot). s.page) (get_or_past slots (address / 4096 % 64) empty_slot h) in
         absurd (omega (arith, none, found, fits))
-
--- a slot that has found nothing, whatever stands for slots that aren't there
-pub empty-page : (slots : List Slot) (place : ℕ) (none : Slot)
-    → (slice_index_or slots place none).page ≡ 0xFFFFFFFF
-    → (slice_index_or slots place empty_slot).page ≡ 0xFFFFFFFF
-empty-page [] place none is = refl
-empty-page (slot ∷ slots) zero none is = is
-empty-page (slot ∷ slots) (suc place) none is = empty-page slots place none is
-
--- no slot has this frame
-none-more : (slot : Slot) (slots : List Slot) (frame : ℕ) (b : Bool) → (slot.frame == frame) ≡ b
-    → (b || list_any (λ (s : Slot). s.frame == frame) slots) ≡ false
-    → (b ≡ false) × (list_any (λ (s : Slot). s.frame == frame) slots ≡ false)
-none-more slot slots frame true is q = cc
-none-more slot slots frame false is q = (refl, q)
-
-pub no-frame : (slots : List Slot) (frame : ℕ)
-    → list_any (λ (slot : Slot). slot.frame == frame) slots ≡ false → IsNoCode slots frame
-no-frame [] frame none = All-nil (λ (slot : Slot). slot.frame ≢ frame)
-no-frame (slot ∷ slots) frame none =
-    let more = none-more slot slots frame (slot.frame == frame) refl none in
-    All-cons (λ (s : Slot). s.frame ≢ frame) slot slots
-    (λ same. let yes = eq-eqb slot.frame frame same in let no = more.0 in cc)
-    (no-frame slots frame more.1)
-
--- where nothing is found for stores
-pub apart-none : (fetched : List Slot) (n : ℕ) → AreApart fetched (replicate n empty_slot)
-apart-none fetched n =
-    All-replicate (λ (slot : Slot). slot.page < 2 ^ 20 → IsNoCode fetched slot.frame) n empty_slot
-    (λ h. absurd (omega (arith, h)))
-
--- one more slot of a fetch, whose frame no store finds
-pub apart-fetched : (fetched stored : List Slot) (place : ℕ) (slot : Slot)
-    → AreApart fetched stored → IsNoCode stored slot.frame
-    → AreApart (set fetched place slot) stored
-apart-fetched fetched stored place slot apart free k d h small =
-    All-set (λ (s : Slot). s.frame ≢ (slice_index_or stored k d).frame) fetched place slot
-    (λ same. free k d h (sym same)) (apart k d h small)
-
--- one more slot for stores, of a frame that no fetch has found
-pub apart-stored : (fetched stored : List Slot) (place : ℕ) (slot : Slot)
-    → AreApart fetched stored → IsNoCode fetched slot.frame
-    → AreApart fetched (set stored place slot)
-apart-stored fetched stored place slot apart free =
-    All-set (λ (s : Slot). s.page < 2 ^ 20 → IsNoCode fetched s.frame) stored place slot
-    (λ small. free) apart
-
--- ---- bases
-
-pub base-none : (base : ℕ) → base ≡ no_base → IsBase base
-base-none base none = record {
-  given = λ some. absurd (some none);
-  room = subst (λ (b : ℕ). b ≤ 2 ^ 63) (sym none) (omega arith);
-}
 
 -- ---- what stays known
 

@@ -1,6 +1,7 @@
 pub mod Threads
 pub mod Own
 pub mod Places
+pub mod Apart
 pub mod Reaching
 pub mod After
 pub mod RunSteps
@@ -10,6 +11,7 @@ pub mod Parts
 pub mod Overlay
 pub mod Alike
 pub mod Packing
+pub mod Filling
 pub mod Finishing
 pub mod Keeping
 pub mod Knowing

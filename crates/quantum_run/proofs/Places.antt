@@ -1,6 +1,6 @@
 -- The frames that accesses find, and their pages.
 use Rattle.std.specs.Prelude.{slice_index_or}
-use Rattle.std.proofs.lemmas.List.Elements.{All-same, All-replicate}
+use Rattle.std.proofs.lemmas.List.Elements.{All-same, All-set, All-replicate}
 use Rattle.std.proofs.Common.{rules, replicate, ℕ, zero, suc, ◌+◌, ◌/◌, ◌%◌, ◌≡◌, ◌<◌, ◌≤◌, refl, sym, ap, ◌∙◌, subst, cond, not, Bool, true, false, List, [], ◌∷◌, length, map, drop, is_some, IsSome, All, set, slice_get, Option, Some, None, Result, Ok, Err, arith}
 use Rattle.dos_world.specs.World.{look}
 use Rattle.dos_world.specs.Reach.{has_right, is_foreign, width, written, bytes_of}
@@ -75,6 +75,59 @@ writes-found t owners entries Fetch address frame w h = absurd w
 writes-found t owners entries Load address frame w h = absurd w
 writes-found t owners entries Store address frame w h = h
 writes-found t owners entries Claim address frame w h = search rules
+
+-- and so is one more that is right
+pub more-found : (t : ℕ) (owners : List Owner) (entries : List (ℕ × Entry)) (access : Access)
+    (slots new : List Slot) (place : ℕ) (slot : Slot) → new ≡ set slots place slot
+    → IsFrameOf t owners entries access slot.page slot.frame
+    → AreFramesOf t owners entries access slots → AreFramesOf t owners entries access new
+more-found t owners entries access slots new place slot is right are =
+    let P : Slot → Type 0 = λ slot. IsFrameOf t owners entries access slot.page slot.frame in
+    All-same P new (set slots place slot) is (All-set P slots place slot right are)
+
+-- a frame that an access finds is found again at each address of its page
+pub found-again : (t : ℕ) (owners : List Owner) (entries : List (ℕ × Entry)) (access : Access)
+    (address frame : ℕ) → frame_for t owners entries access address ≡ Ok frame
+    → IsFrameOf t owners entries access (address / 4096) frame
+found-again t owners entries access address frame h a fits same =
+    subst (λ (page : ℕ). (elim (look entries page) as (λ _. Result ℕ Reason) [
+      | None ↦ Err (Fault 11)
+      | Some e ↦ frame_by t owners access a e
+    ]) ≡ Ok frame) (sym same) (by_entry (look entries (address / 4096)) h)
+  where
+    by_right : (right foreign : Bool) (f : ℕ)
+        → cond (not right) (Err (Fault 11)) (cond foreign (Err (Page address access)) (Ok f))
+        ≡ Ok frame
+        → cond (not right) (Err (Fault 11)) (cond foreign (Err (Page a access)) (Ok f)) ≡ Ok frame
+    by_right false foreign f q = q
+    by_right true true f q = cc
+    by_right true false f q = q
+
+    by_entry : (o : Option Entry)
+        → (elim o as (λ _. Result ℕ Reason) [
+          | None ↦ Err (Fault 11)
+          | Some e ↦ frame_by t owners access address e
+        ]) ≡ Ok frame
+        → (elim o as (λ _. Result ℕ Reason) [
+          | None ↦ Err (Fault 11)
+          | Some e ↦ frame_by t owners access a e
+        ]) ≡ Ok frame
+    by_entry None q = q
+    by_entry (Some e) q =
+        by_right (has_right access e) (is_foreign t access (slice_index_or owners e.frame Free))
+        e.frame q
+
+-- what a store or claim finds, stores find again
+pub stores-again : (t : ℕ) (owners : List Owner) (entries : List (ℕ × Entry)) (access : Access)
+    (address frame : ℕ) → IsWriting access → frame_for t owners entries access address ≡ Ok frame
+    → IsFrameOf t owners entries Store (address / 4096) frame
+stores-again t owners entries Fetch address frame w h = absurd w
+stores-again t owners entries Load address frame w h = absurd w
+stores-again t owners entries Store address frame w h =
+    found-again t owners entries Store address frame h
+stores-again t owners entries Claim address frame w h =
+    let store : frame_for t owners entries Store address ≡ Ok frame = search rules in
+    found-again t owners entries Store address frame store
 
 -- ---- pages
 

@@ -14,7 +14,7 @@ use crate::page_places::{Places, write_out};
 use crate::pages::{InPlace, Pages};
 use crate::thread_memory::Running;
 use dos_world::{Reason, Regs};
-use page_store::Frames;
+use page_store::{Frames, Page};
 use rv_exec::{Next, one_known};
 use rv_form::{Memo, place_after, place_of};
 use space_map::Space;
@@ -139,15 +139,51 @@ pub(crate) fn run_lent(
     ensures here { map is_some own.new ≡ map is_some own.old }
 {
     write_out(&mut own.pages, own.count);
-    let alloc = *own.pages.allocator();
+    run_written(&mut own.pages, frames, space, tid, memo, regs, budget)
+}
+
+/// The same where each place is written.
+#[inline(always)]
+fn run_written(
+    own: &mut Vec<Option<Page>>,
+    frames: &Frames,
+    space: &Space,
+    tid: u32,
+    memo: &mut Memo,
+    regs: &mut Regs,
+    budget: &mut u32,
+) -> Option<Reason>
+    requires level { length own.old.items ≡ length frames.now.pages }
+    requires reached { AreReached tid frames.now.owners space.now.entries
+        (overlay own.old.items frames.now.pages) }
+    requires own { AreOwn tid frames.now.owners space.now.entries (is_here own.old.items) }
+    requires within { AreWithin frames.now.owners space.now.entries }
+    ensures runs { (w : World)
+        → IsRunOf w (store_of frames.now.owners (overlay own.old.items frames.now.pages))
+        space.now.entries tid regs.old budget.old
+        → after_steps (budget.old - budget.new) w tid
+        ≡ Some (run_to w tid (overlay own.new.items frames.now.pages) regs.new budget.new) }
+    ensures stop { MatchOption result (budget.new ≡ 0)
+        (λ reason. (0 < budget.new)
+        × ((w : World)
+        → IsRunOf w
+        (store_of frames.now.owners (overlay own.old.items frames.now.pages))
+        space.now.entries tid regs.old budget.old
+        → step
+        (run_to w tid (overlay own.new.items frames.now.pages) regs.new budget.new)
+        tid ≡ Err reason)) }
+    ensures within { budget.new ≤ budget.old }
+    ensures here { map is_some own.new.items ≡ map is_some own.old.items }
+{
+    let alloc = *own.allocator();
     let pages = Lent {
-        own: mem::replace(&mut own.pages, Vec::new(alloc)),
+        own: mem::replace(own, Vec::new(alloc)),
         lent: frames.pages(),
         frames,
     };
     let mut memory = Running::new(pages, space, tid);
     let stop = run(&mut memory, memo, regs, budget);
-    own.pages = memory.pages.own;
+    *own = memory.pages.own;
     stop
 }
 

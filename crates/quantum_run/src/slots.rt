@@ -1,5 +1,5 @@
 // Slots for pages that were found.
-ghost use Rattle.std.specs.Prelude.{◌≡◌, ◌<◌, ◌==◌, ◌/◌, ◌%◌, ◌⊎◌, replicate};
+ghost use Rattle.std.specs.Prelude.{◌≡◌, ◌<◌, ◌==◌, ◌/◌, ◌%◌, ◌⊎◌, replicate, slice_set};
 ghost use Rattle.std.specs.List.{list_any};
 ghost use Rattle.quantum_run.specs.Knowing.{IsNoCode, empty_slot, no_base};
 
@@ -34,6 +34,18 @@ pub fn has_frame(slots: &[Slot; 64], frame: u32) -> bool
     ensures { result ≡ list_any (λ slot. slot.frame == frame) slots.now }
 {
     slots.iter().any(|slot| slot.frame == frame)
+}
+
+/// The slot of an address's page has this frame from now on.
+#[inline(always)]
+pub fn keep_frame(slots: &mut [Slot; 64], address: u32, frame: u32)
+    ensures { slots.new ≡ slice_set slots.old (address / 4096 % 64)
+        (record { page = address / 4096; frame = frame }) }
+{
+    slots[slot_place(address)] = Slot {
+        page: address / 4096,
+        frame,
+    };
 }
 
 /// No slot has this frame from now on: where one had, none has found anything.

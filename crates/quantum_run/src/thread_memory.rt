@@ -1,5 +1,5 @@
 // The memory of one thread over any pages.
-ghost use Rattle.std.specs.Prelude.{◌≡◌, ◌≢◌, ◌⊎◌, ◌+◌, ◌/◌, ◌%◌, ◌^◌, ◌<◌, ℕ, List, Option, Err, IfSome, true, slice_set};
+ghost use Rattle.std.specs.Prelude.{◌≡◌, ◌≢◌, ◌⊎◌, ◌+◌, ◌/◌, ◌%◌, ◌^◌, ◌<◌, ℕ, List, Option, Ok, Err, IfSome, true, slice_set};
 ghost use Rattle.std.specs.Option.{ok_or};
 ghost use Rattle.dos_world.specs.Reach.{bytes_of, width, written};
 ghost use Rattle.dos_world.specs.declared.Access.TheVariants.{Fetch, Load, Store};
@@ -12,7 +12,7 @@ ghost use Rattle.quantum_run.specs.Pages.{AreReached, AreOwn, AreWithin, IsHomeI
 
 use crate::pages::Pages;
 use crate::slot::Slot;
-use crate::slots::{base_beside, forget_frame, has_frame, nothing_found, slot_place};
+use crate::slots::{base_beside, forget_frame, has_frame, keep_frame, nothing_found, slot_place};
 use dos_world::{Access, Reason, Size};
 use rv_exec::Memory;
 use rv_form::{Memo, NO_BASE, place_of};
@@ -128,6 +128,41 @@ impl<'a, P: Pages> Running<'a, P> {
         Some(entry.frame)
     }
 
+    /// The frame of an address's page for a load, by a search; None where it is refused.
+    #[inline(always)]
+    fn find_to_load(&mut self, address: u32) -> Option<u32>
+        ensures value { ok_or result self.new.refused
+            ≡ frame_for self.old.tid
+            (P.owners self.old.pages) self.old.space.now.entries Load address }
+        ensures home { IfSome result (λ frame. IsHomeIn (P.pages self.new.pages) frame) }
+        ensures still { still self.new.tid (P.owners self.new.pages) self.new.space.now.entries
+            ≡ still self.old.tid (P.owners self.old.pages) self.old.space.now.entries }
+        ensures fixed { P.fixed self.new.pages ≡ P.fixed self.old.pages }
+        ensures pages { P.pages self.new.pages ≡ P.pages self.old.pages }
+        ensures same { (self.new.base ≡ self.old.base) × (self.new.fetched ≡ self.old.fetched) }
+    {
+        let Some(frame) = self.find(address, Access::Load) else {
+            return None;
+        };
+        self.load_again(address, frame);
+        Some(frame)
+    }
+
+    /// A load finds this frame from now on.
+    #[inline(always)]
+    fn load_again(&mut self, address: u32, frame: u32)
+        requires { frame_for self.old.tid (P.owners self.old.pages) self.old.space.now.entries
+            Load address ≡ Ok frame }
+        ensures still { still self.new.tid (P.owners self.new.pages) self.new.space.now.entries
+            ≡ still self.old.tid (P.owners self.old.pages) self.old.space.now.entries }
+        ensures fixed { P.fixed self.new.pages ≡ P.fixed self.old.pages }
+        ensures pages { P.pages self.new.pages ≡ P.pages self.old.pages }
+        ensures same { (self.new.base ≡ self.old.base) × (self.new.fetched ≡ self.old.fetched)
+            × (self.new.refused ≡ self.old.refused) }
+    {
+        keep_frame(&mut self.loaded, address, frame);
+    }
+
     /// The frame of an address's page for a load; None where it is refused.
     #[inline]
     fn frame_to_load(&mut self, address: u32) -> Option<u32>
@@ -141,17 +176,11 @@ impl<'a, P: Pages> Running<'a, P> {
         ensures pages { P.pages self.new.pages ≡ P.pages self.old.pages }
         ensures same { (self.new.base ≡ self.old.base) × (self.new.fetched ≡ self.old.fetched) }
     {
-        let place = slot_place(address);
-        let slot = self.loaded[place];
+        let slot = self.loaded[slot_place(address)];
         if slot.page == address / 4096 {
             return Some(slot.frame);
         }
-        let frame = self.find(address, Access::Load)?;
-        self.loaded[place] = Slot {
-            page: address / 4096,
-            frame,
-        };
-        Some(frame)
+        self.find_to_load(address)
     }
 
     /// A fetch finds this page from now on. Of a page that was in its slot nothing is known then,
@@ -199,6 +228,28 @@ impl<'a, P: Pages> Running<'a, P> {
         Some(frame)
     }
 
+    /// A store finds this frame from now on, unless a fetch has found it: nothing is known then.
+    #[inline(always)]
+    fn store_again(&mut self, address: u32, access: Access, frame: u32)
+        requires writing { IsWriting access }
+        requires frame { frame_for self.old.tid (P.owners self.old.pages)
+            self.old.space.now.entries access address ≡ Ok frame }
+        ensures free { (self.new.base ≡ no_base) ⊎ IsNoCode self.new.fetched frame }
+        ensures known { KeepsKnown self.old.base self.old.fetched (P.pages self.old.pages)
+            self.new.base self.new.fetched (P.pages self.new.pages) }
+        ensures still { still self.new.tid (P.owners self.new.pages) self.new.space.now.entries
+            ≡ still self.old.tid (P.owners self.old.pages) self.old.space.now.entries }
+        ensures fixed { P.fixed self.new.pages ≡ P.fixed self.old.pages }
+        ensures pages { P.pages self.new.pages ≡ P.pages self.old.pages }
+        ensures refused { self.new.refused ≡ self.old.refused }
+    {
+        if has_frame(&self.fetched, frame) {
+            self.base = NO_BASE;
+            return;
+        }
+        keep_frame(&mut self.stored, address, frame);
+    }
+
     /// The frame of an address's page for a store or claim, by a search; None where it is refused.
     /// Nothing is known any more where a fetch has found it.
     #[cold]
@@ -217,14 +268,10 @@ impl<'a, P: Pages> Running<'a, P> {
         ensures fixed { P.fixed self.new.pages ≡ P.fixed self.old.pages }
         ensures pages { P.pages self.new.pages ≡ P.pages self.old.pages }
     {
-        let frame = self.find(address, access)?;
-        if has_frame(&self.fetched, frame) {
-            self.base = NO_BASE;
-            return Some(frame);
-        }
-        let place = slot_place(address);
-        let page = address / 4096;
-        self.stored[place] = Slot { page, frame };
+        let Some(frame) = self.find(address, access) else {
+            return None;
+        };
+        self.store_again(address, access, frame);
         Some(frame)
     }
 

@@ -4,7 +4,8 @@ use Rattle.dos_world.specs.declared.Access.TheVariants.{Fetch, Store}
 use Rattle.quantum_run.specs.declared.slot.Slot.{Slot}
 use Rattle.quantum_run.specs.Finding.{AreFramesOf, IsFrameOf}
 use Rattle.quantum_run.specs.Knowing.{AreApart, IsBase, KeepsKnown}
-use Rattle.quantum_run.proofs.Knowing.{apart-fetched, apart-none, base-none, empty-page, keeps-found, keeps-none}
+use Rattle.quantum_run.proofs.Apart.{apart-fetched, apart-none, base-none, empty-page}
+use Rattle.quantum_run.proofs.Knowing.{keeps-found, keeps-none}
 use Rattle.quantum_run.proofs.Places.{none-found}
 use Rattle.quantum_run.proofs.thread_memory.Running.find_code.Goals as goal
 

@@ -2,7 +2,7 @@ use Rattle.dos_world.specs.declared.Access.TheVariants.{Fetch, Load, Store}
 use Rattle.std.proofs.Common.{List, sym, subst}
 use Rattle.quantum_run.specs.declared.slot.Slot.{Slot}
 use Rattle.quantum_run.specs.Knowing.{AreApart}
-use Rattle.quantum_run.proofs.Knowing.{apart-none}
+use Rattle.quantum_run.proofs.Apart.{apart-none}
 use Rattle.quantum_run.proofs.Places.{none-found}
 use Rattle.quantum_run.proofs.thread_memory.Running.new.Goals as goal
 
