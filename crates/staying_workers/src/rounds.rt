@@ -1,6 +1,6 @@
 // One call's packs, over a board that workers at their desks are sent.
 ghost use Rattle.std.specs.Prelude.{◌≡◌, ◌+◌, ◌<◌, ◌≤◌, ◌^◌, [], true, All, sum_by, IfOk, IfErr};
-ghost use Rattle.std.specs.Prelude.{vec_len, vec_capacity};
+ghost use Rattle.std.specs.Prelude.{false, IfSome, MatchOption, vec_len, vec_capacity};
 ghost use Rattle.hand_board.specs.Placed.{whole};
 ghost use Rattle.hand_board.specs.Seating.{AllFinished};
 ghost use Rattle.worker_pool.specs.Parts.{AreReady};
@@ -14,6 +14,37 @@ use std::alloc::Global;
 use std::sync::{Arc, Wait};
 use std::thread;
 use worker_pool::{Gate, sweep};
+
+// A chair for this seat, which is kept with the others too; where memory is wanting there is none.
+fn chair_for(
+    alloc: Global,
+    seat: &BoardSeat<Held>,
+    chairs: &mut Vec<Arc<Chair<Held>>>,
+) -> Option<Arc<Chair<Held>>>
+    requires fresh { (seat.now.found ≡ []) × (seat.now.hand ≡ []) }
+    requires chairs { All (λ c. (c.value.board ≡ seat.now.board) × (c.value.hand ≡ []))
+        chairs.old.items }
+    ensures chair { IfSome result
+        (λ c. c.value ≡ record seat.now { next = 0; ended = false }) }
+    ensures chairs { All (λ c. (c.value.board ≡ seat.now.board) × (c.value.hand ≡ []))
+        chairs.new.items }
+    ensures shares { MatchOption result
+        (sum_by (λ c. c.value.share) chairs.new.items
+        ≡ sum_by (λ c. c.value.share) chairs.old.items)
+        (λ _. sum_by (λ c. c.value.share) chairs.new.items
+        ≡ sum_by (λ c. c.value.share) chairs.old.items + seat.now.share) }
+{
+    let Ok(chair) = Arc::new(alloc, Chair::of(seat)) else {
+        return None;
+    };
+    let Ok(theirs) = Arc::try_clone(&chair) else {
+        return None;
+    };
+    if chairs.push(chair).is_err() {
+        return None;
+    }
+    Some(theirs)
+}
 
 // A seat is split off for one worker; where memory is wanting it stays.
 fn send<R: Wait>(
@@ -43,15 +74,9 @@ fn send<R: Wait>(
         return seat;
     };
     let (ours, other) = at.split(seat);
-    let Ok(chair) = Arc::new(alloc, Chair::of(&other)) else {
+    let Some(theirs) = chair_for(alloc, &other, chairs) else {
         return at.join(ours, other);
     };
-    let Ok(theirs) = Arc::try_clone(&chair) else {
-        return at.join(ours, other);
-    };
-    if chairs.push(chair).is_err() {
-        return at.join(ours, other);
-    }
     let order = Order::new(shared, theirs, other, first);
     desk.orders.put(rt, order);
     ours

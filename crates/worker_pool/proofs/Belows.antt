@@ -1,5 +1,5 @@
 -- Each move of a deque keeps every number below the bound.
-use Rattle.std.proofs.Common.{ℕ, ◌<◌, All, List, ◌++◌, length, subst}
+use Rattle.std.proofs.Common.{ℕ, zero, suc, ◌<◌, All, List, [], ◌∷◌, ◌++◌, length, subst, arith}
 use lib.Seq.{take-append_seam, drop-append_seam}
 use Rattle.std.proofs.lemmas.List.Elements.{All-append, All-take, All-drop}
 use Rattle.crossbeam_deque.specs.Tasks.{Pushes, Takes}
@@ -19,6 +19,14 @@ module _ (bound : ℕ) where
   pub pushes : (port : ℕ) (v : Unit {0}) (xs : List ℕ) → All (λ x. x < bound) xs
       → Pushes Holds port v xs (λ _. All (λ x. x < bound) xs)
   pushes port v xs new items views h _ = (tt, All-append (λ x. x < bound) items xs h new, new)
+
+  alone : (n : ℕ) → n < bound → All (λ x. x < bound) (n ∷ [])
+  alone n low zero d first = low
+  alone n low (suc i) d past = absurd (omega (arith, past))
+
+  pub pushes-one : (port : ℕ) (v : Unit {0}) (n : ℕ) → n < bound
+      → Pushes Holds port v (n ∷ []) (λ _. All (λ x. x < bound) (n ∷ []))
+  pushes-one port v n low = pushes port v (n ∷ []) (alone n low)
 
   pub takes : (port : ℕ) (v : Unit {0}) (most : ℕ)
       → Takes Holds port v most (λ xs _. All (λ x. x < bound) xs)

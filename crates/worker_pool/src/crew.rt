@@ -1,13 +1,15 @@
 // Threads that take parts from a board until none is left.
-ghost use Rattle.std.specs.Prelude.{◌≡◌, ◌<◌, ◌≤◌, ◌+◌, ◌*◌, ◌/◌, ◌-◌, ◌^◌, [], ℕ, true, length};
-ghost use Rattle.std.specs.Prelude.{IfOk, IfErr, vec_len, vec_capacity};
+ghost use Rattle.std.specs.Prelude.{◌≡◌, ◌<◌, ◌≤◌, ◌+◌, ◌*◌, ◌/◌, ◌-◌, ◌^◌, [], ◌∷◌, ℕ};
+ghost use Rattle.std.specs.Prelude.{true, false, length, IfOk, IfErr, vec_len, vec_capacity};
 ghost use Rattle.std.specs.Thread.{IsSync};
+ghost use mathlib.Core.Option.{some};
+ghost use lib.ListN.{get_elem?};
 ghost use Rattle.hand_board.specs.Seating.{AllFinished};
 ghost use Rattle.worker_pool.specs.Parts.{AreFifo, AreReady, IsSameSeat};
 
 use crate::deques::{Bound, Owner, Thief, deques, search};
 use crate::gate::Gate;
-use hand_board::{Board, BoardSeat, Part};
+use hand_board::{Board, BoardSeat, Job, Part};
 use std::alloc::Global;
 use std::marker::Brand;
 use std::thread::{Threads, join};
@@ -22,6 +24,41 @@ pub trait Task: Part + Drop {
         ensures { Self.finished self.old self.new };
 }
 
+// runs the only part in the seat's hand, as the board opened, and gives it back
+#[inline(always)]
+fn finish<T: Task, G: Gate>(board: &Board<T>, seat: &mut BoardSeat<T>, gate: &G, mut job: Job<T>)
+    requires board { seat.old.board ≡ board.now.id }
+    requires hand { seat.old.hand ≡ job.number ∷ [] }
+    requires opened { get_elem? seat.old.opened job.number ≡ some job.pack }
+    requires ready { AreReady T.ready seat.old.opened }
+    ensures { seat.new ≡ record seat.old { hand = [] } }
+{
+    gate.pass(job.number());
+    job.pack_mut().run();
+    board.give(seat, job);
+}
+
+// draws a part, runs it and gives it back, or false where none is left
+#[inline(always)]
+fn run_drawn<T: Task, G: Gate>(board: &Board<T>, seat: &mut BoardSeat<T>, gate: &G) -> bool
+    requires board { seat.old.board ≡ board.now.id }
+    requires free { seat.old.hand ≡ [] }
+    requires ready { AreReady T.ready seat.old.opened }
+    ensures same { IsSameSeat seat.old seat.new }
+    ensures free { seat.new.hand ≡ [] }
+    ensures more { result ≡ true → (seat.old.next < seat.new.next)
+        × (seat.new.next ≤ length board.now.opened) }
+    ensures over { result ≡ false → seat.new.ended ≡ true }
+{
+    match board.draw(seat) {
+        Some(job) => {
+            finish(board, seat, gate, job);
+            true
+        }
+        None => false,
+    }
+}
+
 /// Draws, runs and gives back until no part is left.
 pub fn sweep<T: Task, G: Gate>(board: &Board<T>, mut seat: BoardSeat<T>, gate: &G) -> BoardSeat<T>
     requires board { seat.board ≡ board.now.id }
@@ -30,11 +67,7 @@ pub fn sweep<T: Task, G: Gate>(board: &Board<T>, mut seat: BoardSeat<T>, gate: &
     ensures same { IsSameSeat seat result }
     ensures over { (result.ended ≡ true) × (result.hand ≡ []) }
 {
-    while let Some(mut job) = board.draw(&mut seat) {
-        gate.pass(job.number());
-        job.pack_mut().run();
-        board.give(&mut seat, job);
-    }
+    while run_drawn(board, &mut seat, gate) {}
     seat
 }
 
@@ -47,10 +80,8 @@ fn run_one<T: Task, G: Gate>(board: &Board<T>, seat: &mut BoardSeat<T>, gate: &G
     ensures same { IsSameSeat seat.old seat.new }
     ensures free { seat.new.hand ≡ [] }
 {
-    if let Some(mut job) = board.claim(seat, number) {
-        gate.pass(number);
-        job.pack_mut().run();
-        board.give(seat, job);
+    if let Some(job) = board.claim(seat, number) {
+        finish(board, seat, gate, job);
     }
 }
 

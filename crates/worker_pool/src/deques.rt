@@ -48,6 +48,16 @@ pub type Thief<B> = Stealer<u32, Global, (), Below<B>>;
 /// How often a steal that another one crossed is tried again.
 const RETRIES: u32 = 1000;
 
+// one number more, which is left out where the push is refused
+#[inline(always)]
+fn push_one<B: Bound>(owner: &mut Owner<B>, number: u32)
+    requires flavor { worker_flavor owner.old ≡ 0 }
+    requires bound { number < B.bound }
+    ensures { worker_flavor owner.new ≡ 0 }
+{
+    let _ = owner.push_as::<Below<B>>(number);
+}
+
 // the deque with the numbers from `first` in steps of `step`; one whose push is refused is left out
 fn dealt<B: Bound>(mut owner: Owner<B>, first: u32, step: u32, count: u32) -> Owner<B>
     requires flavor { worker_flavor owner ≡ 0 }
@@ -59,10 +69,44 @@ fn dealt<B: Bound>(mut owner: Owner<B>, first: u32, step: u32, count: u32) -> Ow
     let count = u64::from(count);
     let mut number = u64::from(first);
     while number < count {
-        let _ = owner.push_as::<Below<B>>(number as u32);
+        push_one(&mut owner, number as u32);
         number += step;
     }
     owner
+}
+
+// a worker's deque with its numbers, and the end for the others
+fn lane_of<B: Bound>(
+    alloc: Global,
+    count: u32,
+    lanes: u32,
+    lane: u32,
+) -> Option<(Owner<B>, Thief<B>)>
+    requires lane { lane < lanes }
+    requires bound { count ≤ B.bound }
+    ensures { IfSome result (λ ends. worker_flavor ends.0 ≡ 0) }
+{
+    let Ok(owner) = Owner::<B>::fifo_as(alloc, (count / lanes) as usize + 1) else {
+        return None;
+    };
+    match owner.stealer() {
+        Ok(thief) => Some((dealt(owner, lane, lanes, count), thief)),
+        Err(_) => None,
+    }
+}
+
+// both ends of one deque more are kept, or false where memory ends
+fn keep<B: Bound>(
+    owners: &mut Vec<Owner<B>>,
+    thieves: &mut Vec<Thief<B>>,
+    owner: Owner<B>,
+    thief: Thief<B>,
+) -> bool
+    requires owners { AreFifo owners.old.items }
+    requires owner { worker_flavor owner ≡ 0 }
+    ensures { AreFifo owners.new.items }
+{
+    thieves.push(thief).is_ok() && owners.push(owner).is_ok()
 }
 
 /// So many deques, first in first out, into which the numbers below `count` are dealt in turn.
@@ -78,14 +122,10 @@ pub(crate) fn deques<B: Bound>(
     let mut owners = Vec::new(alloc);
     let mut thieves = Vec::new(alloc);
     for lane in 0..lanes {
-        let Ok(owner) = Owner::<B>::fifo_as(alloc, (count / lanes) as usize + 1) else {
+        let Some((owner, thief)) = lane_of(alloc, count, lanes, lane) else {
             break;
         };
-        let Ok(thief) = owner.stealer() else {
-            break;
-        };
-        let owner = dealt(owner, lane, lanes, count);
-        if thieves.push(thief).is_err() || owners.push(owner).is_err() {
+        if !keep(&mut owners, &mut thieves, owner, thief) {
             break;
         }
     }
