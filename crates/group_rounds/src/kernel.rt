@@ -1,5 +1,6 @@
 // The kernel: the state, what the run was given, and who starts a round.
 ghost use Rattle.std.specs.Prelude.{ℕ, ◌≡◌, ◌≤◌, ◌-◌, [], false, is_err, length, IfErr, IfOk, IfSome, IsSome, OnErr, OnOk, OnSome};
+ghost use Rattle.std.specs.Vec.{vec_capacity};
 ghost use Rattle.dos_world.specs.Numbered.{numbered};
 ghost use Rattle.dos_world.specs.Play.{done};
 ghost use Rattle.dos_io.specs.Shims.{HasNoEnd};
@@ -57,6 +58,15 @@ impl Model for Kernel {
         × (k.packs ≡ k.config.frames) × (k.failed ≡ false → IsBetweenRounds k.state k.config) };
 }
 
+// room for the starters of a round, and the packs of a kernel with so many frames
+fn reserve(alloc: Global, frames: u32) -> Result<(Vec<u32>, Packs), AllocError>
+    ensures { IfOk result (λ kept. (kept.0.items ≡ []) × (64 ≤ vec_capacity kept.0)
+        × (kept.1 ≡ frames)) }
+{
+    let starters = Vec::with_capacity(alloc, THREADS)?;
+    Ok((starters, Packs::reserve(alloc, frames)?))
+}
+
 impl Kernel {
     /// A kernel with this state.
     pub fn new(alloc: Global, state: State, config: Config) -> Result<Kernel, AllocError>
@@ -70,11 +80,12 @@ impl Kernel {
                   false;
             }) }
     {
+        let (starters, packs) = reserve(alloc, config.frames)?;
         Ok(Kernel {
             state,
             config,
-            starters: Vec::with_capacity(alloc, THREADS)?,
-            packs: Packs::reserve(alloc, config.frames)?,
+            starters,
+            packs,
             failed: false,
         })
     }

@@ -339,6 +339,13 @@ pub(crate) fn run_parts<W: Workers>(
     }
 }
 
+// what stands in is kept again
+fn put_in(stand_in: &mut Option<Shared>, other: Shared)
+    ensures { IsSome stand_in.new }
+{
+    *stand_in = Some(other);
+}
+
 // each pack runs on the workers, with what stands in taken out and put back
 fn run_out<W: Workers>(
     state: &mut State,
@@ -358,10 +365,9 @@ fn run_out<W: Workers>(
         (budgets packs.old.items - budgets packs.new.items) }
     ensures fixed { W.fixed workers.new ≡ W.fixed workers.old }
 {
-    match stand_in.take() {
-        Some(other) => *stand_in = Some(run_parts(state, other, packs, workers)),
-        None => unreachable!(),
-    }
+    let other = stand_in.take().unwrap();
+    let other = run_parts(state, other, packs, workers);
+    put_in(stand_in, other);
 }
 
 /// All pages, registers and budgets of the packs come back, and the packs are spare.

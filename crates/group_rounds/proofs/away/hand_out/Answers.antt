@@ -1,4 +1,4 @@
-use Rattle.std.proofs.Common.{ℕ, List, ◌≤◌, ◌-◌, ◌≡◌, refl, sym, ap, ◌∙◌, subst, length, map, arith}
+use Rattle.std.proofs.Common.{ℕ, List, ◌≤◌, ◌-◌, ◌≡◌, refl, sym, ap, ◌∙◌, subst, length, map, le_trans, arith}
 use Rattle.round_core.specs.Round.{with_budgets}
 use Rattle.kernel_calls.specs.StateWorld.{sent, world_of}
 use Rattle.group_rounds.specs.Away.{WentOut, IsHandedOut}
@@ -14,6 +14,9 @@ pub gather-requires-clause-few : goal.gather-requires-clause-few
 gather-requires-clause-few c = few_live c.kernel.inside.state
     (c.kernel.invariant.3 (ap (λ (k : Held). k.failed) c.kernel.view_is ∙ c.requires)).sound
 
+pub gather-requires-clause-room : goal.gather-requires-clause-room
+gather-requires-clause-room c = c.kernel.invariant.0
+
 pub set_budgets-requires-clause-sound : goal.set_budgets-requires-clause-sound
 set_budgets-requires-clause-sound c =
     (c.kernel.invariant.3 (ap (λ (k : Held). k.failed) c.kernel.view_is ∙ c.requires)).sound
@@ -28,6 +31,37 @@ pub hand_out-requires-clause-apart : goal.hand_out-requires-clause-apart
 hand_out-requires-clause-apart c =
     ready-apart c.kernel.inside.state.table.threads c.as_slice-2.result.now
     (c.as_slice-2.ensures.value ∙ c.gather.ensures.ready)
+
+pub hand_out-requires-clause-sound : goal.hand_out-requires-clause-sound
+hand_out-requires-clause-sound c = c.set_budgets.ensures.sound
+
+pub hand_out-requires-clause-live : goal.hand_out-requires-clause-live
+hand_out-requires-clause-live c =
+    subst (AreLive c.set_budgets.new.state.table.threads)
+    (c.as_slice.ensures.value ∙ sym c.as_slice-2.ensures.value) c.set_budgets.ensures.live
+
+pub hand_out-requires-clause-none : goal.hand_out-requires-clause-none
+hand_out-requires-clause-none c = c.packs.invariant.0.none
+
+pub hand_out-requires-clause-room : goal.hand_out-requires-clause-room
+hand_out-requires-clause-room c =
+    let few = subst (λ (ts : List ℕ). length ts ≤ 64) (sym c.as_slice-2.ensures.value)
+    c.gather.ensures.few in
+    le_trans few c.packs.invariant.0.room
+
+pub hand_out-requires-clause-enough : goal.hand_out-requires-clause-enough
+hand_out-requires-clause-enough c =
+    let few = subst (λ (ts : List ℕ). length ts ≤ 64) (sym c.as_slice-2.ensures.value)
+    c.gather.ensures.few in
+    le_trans few c.packs.invariant.0.many
+
+pub hand_out-requires-clause-spare : goal.hand_out-requires-clause-spare
+hand_out-requires-clause-spare c =
+    let between =
+    c.kernel.invariant.3 (ap (λ (k : Held). k.failed) c.kernel.view_is ∙ c.requires) in
+    subst (λ (n : ℕ). AreSpare n c.packs.inside.spare.items)
+    (c.packs.view_is ∙ c.kernel.invariant.2 ∙ sym between.frames ∙ sym c.set_budgets.ensures.count
+    ∙ c.set_budgets.ensures.sound.counted.home.owners) c.packs.invariant.0.empty
 
 -- the state with the budgets set may stand between two rounds
 between-is : (c : goal.After-hand_out)

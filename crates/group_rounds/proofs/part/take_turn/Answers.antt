@@ -1,4 +1,4 @@
-use Rattle.std.proofs.Common.{◌<◌, ℕ, [], sym, ap, ◌∙◌, Option, None, Some}
+use Rattle.std.proofs.Common.{◌<◌, ℕ, [], ◌∷◌, sym, ap, ◌∙◌, Option, None, Some}
 use Rattle.std.specs.Prelude.{Err, IfSome}
 use Rattle.std.proofs.lemmas.Result.{err_from_is_err_and}
 use Rattle.dos_world.specs.World.{Thread}
@@ -8,6 +8,7 @@ use Rattle.kernel_calls.specs.StateWorld.{world_of}
 use Rattle.group_rounds.specs.StatePlays.{telling}
 use Rattle.group_rounds.proofs.StatePlayLaws.{on_err}
 use Rattle.group_rounds.proofs.TurnLaws.{grant_goes, grant_measure, fault_goes, service_goes, on_measure, on_lives, told_on, served_count, parts_left, asks_no_end, turn_asks, turn_cut}
+use Rattle.group_rounds.proofs.CauseLaws.{stood_yet, causes_ok}
 use Rattle.group_rounds.proofs.part.take_turn.Goals as goal
 
 -- ---- a fault
@@ -114,3 +115,34 @@ returns-in_err-way-in-Service-clause-cut g c =
     (λ q o e. c.requires.stops q o e ∙ ap Err c.in-Service.is) _ _ _ _ _ _
     c.in_err-way-in-Service.field-0.0 c.in_err-way-in-Service.ensures.told
     c.in_err-way-in-Service.ensures.asks c.in_err-way-in-Service.ensures.faults)
+
+-- ---- the rest, at each way out
+
+pub returns-in-Fault-clause-parts : goal.returns-in-Fault-clause-parts
+returns-in-Fault-clause-parts g c = λ ts. c.end_by_fault.ensures.parts ts
+
+pub returns-in-Fault-clause-causes : goal.returns-in-Fault-clause-causes
+returns-in-Fault-clause-causes g c =
+    causes_ok _ _ _ _ _ _ _ (stood_yet (g.S.Shim.state c.args.shim.now)
+    (g.O.Sink.faults c.args.out.now) (g.E.Sink.faults c.args.err.now))
+
+pub returns-in-Fault-clause-follows : goal.returns-in-Fault-clause-follows
+returns-in-Fault-clause-follows g c = g.met.S.Shim.reflexive c.args.shim.now
+
+pub returns-in-Page-clause-parts : goal.returns-in-Page-clause-parts
+returns-in-Page-clause-parts g c = λ ts. c.grant.ensures.parts (c.args.tid ∷ ts)
+
+pub returns-in-Page-clause-causes : goal.returns-in-Page-clause-causes
+returns-in-Page-clause-causes g c =
+    causes_ok _ _ _ _ _ _ _ (stood_yet (g.S.Shim.state c.args.shim.now)
+    (g.O.Sink.faults c.args.out.now) (g.E.Sink.faults c.args.err.now))
+
+pub returns-in-Page-clause-follows : goal.returns-in-Page-clause-follows
+returns-in-Page-clause-follows g c = g.met.S.Shim.reflexive c.args.shim.now
+
+pub returns-in_err-way-in-Service-clause-follows :
+    goal.returns-in_err-way-in-Service-clause-follows
+returns-in_err-way-in-Service-clause-follows g c = c.serve.ensures.follows
+
+pub returns-in_ok-way-in-Service-clause-follows : goal.returns-in_ok-way-in-Service-clause-follows
+returns-in_ok-way-in-Service-clause-follows g c = c.serve.ensures.follows

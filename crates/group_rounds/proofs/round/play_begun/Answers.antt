@@ -6,6 +6,7 @@ use Rattle.worker_pool.proofs.Growing.{grew-nothing}
 use Rattle.group_rounds.specs.StatePlays.{telling}
 use Rattle.group_rounds.proofs.StatePlayLaws.{on_err, some_weaker}
 use Rattle.group_rounds.proofs.RoundLaws.{begun_cut, begun_done, begun_goes, begun_stalls, begun_stopped}
+use Rattle.group_rounds.proofs.CauseLaws.{stood_yet, stood_then, causes_ok, causes_err}
 use Rattle.group_rounds.proofs.round.play_begun.Goals as goal
 
 pub returns-then-live_threads-eq0-clause-goes : goal.returns-then-live_threads-eq0-clause-goes
@@ -60,3 +61,59 @@ returns-in_err-run_phases-clause-asks g c =
     c.args.starters.now c.requires.ready
     (λ none. true≢false (sym (eq-eqb _ 0 none) ∙ sym c.is_empty.ensures ∙ c.if-is_empty.false))
     _ _ _) c.in_err-run_phases.ensures.asks)
+
+-- ---- the rest, at each way out
+
+pub returns-then-live_threads-eq0-clause-causes : goal.returns-then-live_threads-eq0-clause-causes
+returns-then-live_threads-eq0-clause-causes g c =
+    causes_ok _ _ _ _ _ _ _ (stood_yet (g.S.Shim.state c.args.shim.now)
+    (g.O.Sink.faults c.args.out.now) (g.E.Sink.faults c.args.err.now))
+
+pub returns-then-live_threads-eq0-clause-follows : goal.returns-then-live_threads-eq0-clause-follows
+returns-then-live_threads-eq0-clause-follows g c = g.met.S.Shim.reflexive c.args.shim.now
+
+pub returns-then-is_empty-clause-causes : goal.returns-then-is_empty-clause-causes
+returns-then-is_empty-clause-causes g c =
+    causes_ok _ _ _ _ _ _ _ (stood_yet (g.S.Shim.state c.args.shim.now)
+    (g.O.Sink.faults c.args.out.now) (g.E.Sink.faults c.args.err.now))
+
+pub returns-then-is_empty-clause-follows : goal.returns-then-is_empty-clause-follows
+returns-then-is_empty-clause-follows g c = g.met.S.Shim.reflexive c.args.shim.now
+
+pub returns-in_err-run_phases-clause-before_end : goal.returns-in_err-run_phases-clause-before_end
+returns-in_err-run_phases-clause-before_end g c =
+    let p = err_from_is_err_and c.from_residual.result c.from_residual.ensures.1 in
+    rw (p.1, p.2) c.in_err-run_phases.ensures.before_end
+
+pub returns-in_err-run_phases-clause-uncounted : goal.returns-in_err-run_phases-clause-uncounted
+returns-in_err-run_phases-clause-uncounted g c =
+    on_err c.from_residual.result _ c.in_err-run_phases.ensures.uncounted
+
+pub returns-in_err-run_phases-clause-causes : goal.returns-in_err-run_phases-clause-causes
+returns-in_err-run_phases-clause-causes g c =
+    let p = err_from_is_err_and c.from_residual.result c.from_residual.ensures.1 in
+    rw (p.1, p.2) (causes_err _ _ _ _ _ _ _ c.in_err-run_phases.ensures.causes)
+
+pub returns-in_err-run_phases-clause-follows : goal.returns-in_err-run_phases-clause-follows
+returns-in_err-run_phases-clause-follows g c = c.run_phases.ensures.follows
+
+pub returns-clause-sound : goal.returns-clause-sound
+returns-clause-sound g c = c.in_ok-run_phases.ensures.sound
+
+pub returns-clause-round : goal.returns-clause-round
+returns-clause-round g c = c.in_ok-run_phases.ensures.round
+
+pub returns-clause-count : goal.returns-clause-count
+returns-clause-count g c = c.in_ok-run_phases.ensures.count
+
+pub returns-clause-told : goal.returns-clause-told
+returns-clause-told g c = c.in_ok-run_phases.ensures.told
+
+pub returns-clause-causes : goal.returns-clause-causes
+returns-clause-causes g c =
+    causes_ok _ _ _ _ _ _ _ (stood_then c.in_ok-run_phases.field-0 _ _ _ _ _ _ _ _ _
+    (stood_yet (g.S.Shim.state c.args.shim.now) (g.O.Sink.faults c.args.out.now)
+    (g.E.Sink.faults c.args.err.now)) c.in_ok-run_phases.ensures.causes)
+
+pub returns-clause-follows : goal.returns-clause-follows
+returns-clause-follows g c = c.run_phases.ensures.follows

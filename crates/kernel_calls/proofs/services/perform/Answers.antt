@@ -1,4 +1,4 @@
-use Rattle.std.proofs.Common.{sym, ap, subst}
+use Rattle.std.proofs.Common.{refl, sym, ap, subst, le_refl}
 use Rattle.dos_world.specs.Services.{Service as FlatService, read, write, clock}
 use Rattle.kernel_calls.specs.Built.{definition_of, quiet_definition_of}
 use Rattle.kernel_calls.specs.StateWorld.{HasFaulted}
@@ -51,3 +51,88 @@ returns-in-Err-clock-clause-asks g c =
 
 pub returns-in-Err-clock-clause-grows : goal.returns-in-Err-clock-clause-grows
 returns-in-Err-clock-clause-grows g c = none_grown _ _
+
+-- ---- the rest, at each way out
+
+pub returns-in-Quiet-clause-counted : goal.returns-in-Quiet-clause-counted
+returns-in-Quiet-clause-counted g c = c.perform_quietly.ensures.counted
+
+pub returns-in-Quiet-clause-round : goal.returns-in-Quiet-clause-round
+returns-in-Quiet-clause-round g c = c.perform_quietly.ensures.round
+
+pub returns-in-Quiet-clause-causes : goal.returns-in-Quiet-clause-causes
+returns-in-Quiet-clause-causes g c = record {
+  out_later = le_refl _;
+  err_later = le_refl _;
+  sinks = tt;
+  stands = record { stops = refl; last = refl };
+}
+
+pub returns-in-Quiet-clause-follows : goal.returns-in-Quiet-clause-follows
+returns-in-Quiet-clause-follows g c = g.met.S.Shim.reflexive c.args.shim.now
+
+pub returns-in-Ok-clause-counted : goal.returns-in-Ok-clause-counted
+returns-in-Ok-clause-counted g c = c.in-Ok.ensures.counted
+
+pub returns-in-Ok-clause-round : goal.returns-in-Ok-clause-round
+returns-in-Ok-clause-round g c = c.read.ensures.round
+
+pub returns-in-Ok-clause-causes : goal.returns-in-Ok-clause-causes
+returns-in-Ok-clause-causes g c = record {
+  out_later = le_refl _;
+  err_later = le_refl _;
+  sinks = tt;
+  stands = record {
+    stops = c.in-Ok.ensures.stood.stops;
+    last = c.in-Ok.ensures.stood.last;
+  };
+}
+
+pub returns-in-Ok-clause-follows : goal.returns-in-Ok-clause-follows
+returns-in-Ok-clause-follows g c = c.read.ensures.follows
+
+pub returns-in-Ok-clock-clause-counted : goal.returns-in-Ok-clock-clause-counted
+returns-in-Ok-clock-clause-counted g c = c.in-Ok-clock.ensures.counted
+
+pub returns-in-Ok-clock-clause-round : goal.returns-in-Ok-clock-clause-round
+returns-in-Ok-clock-clause-round g c = c.clock.ensures.round
+
+pub returns-in-Ok-clock-clause-causes : goal.returns-in-Ok-clock-clause-causes
+returns-in-Ok-clock-clause-causes g c = record {
+  out_later = le_refl _;
+  err_later = le_refl _;
+  sinks = tt;
+  stands = record {
+    stops = c.in-Ok-clock.ensures.stood.stops;
+    last = c.in-Ok-clock.ensures.stood.last;
+  };
+}
+
+pub returns-in-Ok-clock-clause-follows : goal.returns-in-Ok-clock-clause-follows
+returns-in-Ok-clock-clause-follows g c = c.clock.ensures.follows
+
+pub returns-in-Ok-write-clause-counted : goal.returns-in-Ok-write-clause-counted
+returns-in-Ok-write-clause-counted g c = c.in-Ok-write.ensures.counted
+
+pub returns-in-Ok-write-clause-round : goal.returns-in-Ok-write-clause-round
+returns-in-Ok-write-clause-round g c = c.write.ensures.round
+
+pub returns-in-Ok-write-clause-causes : goal.returns-in-Ok-write-clause-causes
+returns-in-Ok-write-clause-causes g c = record {
+  out_later = c.write.ensures.causes.out_later;
+  err_later = c.write.ensures.causes.err_later;
+  sinks = tt;
+  stands = record { stops = refl; last = refl };
+}
+
+pub returns-in-Ok-write-clause-follows : goal.returns-in-Ok-write-clause-follows
+returns-in-Ok-write-clause-follows g c = g.met.S.Shim.reflexive c.args.shim.now
+
+pub returns-in-Err-write-clause-follows : goal.returns-in-Err-write-clause-follows
+returns-in-Err-write-clause-follows g c = g.met.S.Shim.reflexive c.args.shim.now
+
+pub returns-in-Err-clause-follows : goal.returns-in-Err-clause-follows
+returns-in-Err-clause-follows g c = c.read.ensures.follows
+
+pub returns-in-Err-clock-clause-follows : goal.returns-in-Err-clock-clause-follows
+returns-in-Err-clock-clause-follows g c = c.clock.ensures.follows
