@@ -131,8 +131,16 @@ pub(crate) fn generate<O: Sink, W: Workers>(
         return Err(Refusal::Memory);
     };
     let mut kernel = open(alloc, slice::from_ref(&image), CONFIG)?;
-    let ran = run_quietly(alloc, &mut kernel, workers)?;
-    match put_summary(&kernel, &ran, out) {
+    let ran = match run_quietly(alloc, &mut kernel, workers) {
+        Ok(ran) => ran,
+        Err(why) => {
+            drop(kernel);
+            return Err(why);
+        }
+    };
+    let put = put_summary(&kernel, &ran, out);
+    drop(kernel);
+    match put {
         Ok(()) => Ok(ran.ending),
         Err(_) => Err(Refusal::Sink),
     }

@@ -70,7 +70,8 @@ impl RunRequest<'_> {
     }
 }
 
-/// Opens the group of these images.
+/// Opens the group of these images. Its callers pass the kernel to `drop`: where the end of their
+/// scope drops it, their proof goes through all its parts, at each exit for half a minute.
 pub(crate) fn open(alloc: Global, images: &[Image], config: Config) -> Result<Kernel, Refusal>
     requires some { 1 ≤ length images.now }
     requires few { length images.now ≤ 8 }
@@ -225,9 +226,12 @@ pub(crate) fn run<F: Files, H: Host, O: Sink, E: Sink, W: Workers>(
         request.header(digests),
     ) {
         Ok(ledger) => ledger,
-        Err(_) => return Err(Refusal::Memory),
+        Err(_) => {
+            drop(kernel);
+            return Err(Refusal::Memory);
+        }
     };
-    run_opened(
+    let ended = run_opened(
         alloc,
         &mut kernel,
         ledger,
@@ -237,5 +241,7 @@ pub(crate) fn run<F: Files, H: Host, O: Sink, E: Sink, W: Workers>(
         out,
         err,
         workers,
-    )
+    );
+    drop(kernel);
+    ended
 }
