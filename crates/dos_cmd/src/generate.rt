@@ -130,7 +130,9 @@ pub(crate) fn generate<O: Sink, W: Workers>(
     let Ok(image) = generated_image(alloc, number, threads) else {
         return Err(Refusal::Memory);
     };
-    let mut kernel = open(alloc, slice::from_ref(&image), CONFIG)?;
+    let opened = open(alloc, slice::from_ref(&image), CONFIG);
+    drop(image);
+    let mut kernel = opened?;
     let ran = match run_quietly(alloc, &mut kernel, workers) {
         Ok(ran) => ran,
         Err(why) => {

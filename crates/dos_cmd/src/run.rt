@@ -70,8 +70,7 @@ impl RunRequest<'_> {
     }
 }
 
-/// Opens the group of these images. Its callers pass the kernel to `drop`: where the end of their
-/// scope drops it, their proof goes through all its parts, at each exit for half a minute.
+/// Opens the group of these images.
 pub(crate) fn open(alloc: Global, images: &[Image], config: Config) -> Result<Kernel, Refusal>
     requires some { 1 ≤ length images.now }
     requires few { length images.now ≤ 8 }
@@ -218,7 +217,9 @@ pub(crate) fn run<F: Files, H: Host, O: Sink, E: Sink, W: Workers>(
     ensures fixed { W.fixed workers.new ≡ W.fixed workers.old }
 {
     let (images, digests) = load_all(alloc, files, request.names)?;
-    let mut kernel = open(alloc, &images, request.config)?;
+    let opened = open(alloc, &images, request.config);
+    drop(images);
+    let mut kernel = opened?;
     let ledger = match Ledger::new(
         alloc,
         request.posts.as_slice(),

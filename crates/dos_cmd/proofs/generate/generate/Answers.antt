@@ -27,8 +27,8 @@ returns-in-Ok-put-clause-did g c =
     (c.in-Ok-run_quietly.ensures.ran (generated c.args.number c.args.threads ∷ []) gen_config opened)
     c.in-Ok-put.ensures.told
 
-pub returns-clause-leaves : goal.returns-clause-leaves
-returns-clause-leaves g c =
+pub returns-in-Err-put-clause-leaves : goal.returns-in-Err-put-clause-leaves
+returns-in-Err-put-clause-leaves g c =
     let opened = opened_with c.args.number c.args.threads c.in_ok-kernel.kernel
     c.from_ref.result.now (one_image c.args.number c.args.threads c.from_ref.result.now
     c.in-Ok.image c.from_ref.ensures.value c.in-Ok.ensures) c.in_ok-kernel.ensures.opened in
