@@ -130,9 +130,19 @@ pub(crate) fn generate<O: Sink, W: Workers>(
     let Ok(image) = generated_image(alloc, number, threads) else {
         return Err(Refusal::Memory);
     };
-    let mut kernel = open(alloc, slice::from_ref(&image), CONFIG)?;
-    let ran = run_quietly(alloc, &mut kernel, workers)?;
-    match put_summary(&kernel, &ran, out) {
+    let opened = open(alloc, slice::from_ref(&image), CONFIG);
+    drop(image);
+    let mut kernel = opened?;
+    let ran = match run_quietly(alloc, &mut kernel, workers) {
+        Ok(ran) => ran,
+        Err(why) => {
+            drop(kernel);
+            return Err(why);
+        }
+    };
+    let put = put_summary(&kernel, &ran, out);
+    drop(kernel);
+    match put {
         Ok(()) => Ok(ran.ending),
         Err(_) => Err(Refusal::Sink),
     }

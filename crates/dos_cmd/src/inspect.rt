@@ -37,7 +37,9 @@ pub(crate) fn inspect<F: Files, O: Sink>(
     ensures out_later { O.faults out.old ≤ O.faults out.new }
 {
     let (image, _digest) = load(alloc, files, 1, name)?;
-    match put_inspect(&image, out) {
+    let put = put_inspect(&image, out);
+    drop(image);
+    match put {
         Ok(()) => Ok(Ending::Done),
         Err(_) => Err(Refusal::Sink),
     }

@@ -3,6 +3,9 @@
 //! parts of an image; `gen` runs an image that is made from a number.
 #![tactic(auto)]
 
+// A kernel, images and a request are passed to `drop`: where the end of a scope drops them, the
+// function's proof goes through all their parts, at each exit; a kernel's take it half a minute.
+
 mod generate;
 mod images;
 mod inspect;

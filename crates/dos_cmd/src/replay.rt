@@ -118,8 +118,15 @@ fn replay_taken<O: Sink, E: Sink, W: Workers>(
 {
     let mut kernel = open(alloc, images, config_of(&log))?;
     match replay_group(&mut kernel, log, out, err, workers) {
-        Ok(ending) => report(&kernel, ending, err),
-        Err(stop) => Err(refusal_by(stop)),
+        Ok(ending) => {
+            let ended = report(&kernel, ending, err);
+            drop(kernel);
+            ended
+        }
+        Err(stop) => {
+            drop(kernel);
+            Err(refusal_by(stop))
+        }
     }
 }
 

@@ -217,7 +217,9 @@ pub(crate) fn run<F: Files, H: Host, O: Sink, E: Sink, W: Workers>(
     ensures fixed { W.fixed workers.new ≡ W.fixed workers.old }
 {
     let (images, digests) = load_all(alloc, files, request.names)?;
-    let mut kernel = open(alloc, &images, request.config)?;
+    let opened = open(alloc, &images, request.config);
+    drop(images);
+    let mut kernel = opened?;
     let ledger = match Ledger::new(
         alloc,
         request.posts.as_slice(),
@@ -225,9 +227,12 @@ pub(crate) fn run<F: Files, H: Host, O: Sink, E: Sink, W: Workers>(
         request.header(digests),
     ) {
         Ok(ledger) => ledger,
-        Err(_) => return Err(Refusal::Memory),
+        Err(_) => {
+            drop(kernel);
+            return Err(Refusal::Memory);
+        }
     };
-    run_opened(
+    let ended = run_opened(
         alloc,
         &mut kernel,
         ledger,
@@ -237,5 +242,7 @@ pub(crate) fn run<F: Files, H: Host, O: Sink, E: Sink, W: Workers>(
         out,
         err,
         workers,
-    )
+    );
+    drop(kernel);
+    ended
 }

@@ -127,7 +127,9 @@ fn command<F: Files, H: Host, O: Sink, E: Sink, W: Workers>(
     ensures fixed { W.fixed workers.new ≡ W.fixed workers.old }
 {
     let request = read_request(alloc, words)?;
-    execute(alloc, &request, files, host, out, err, workers)
+    let ended = execute(alloc, &request, files, host, out, err, workers);
+    drop(request);
+    ended
 }
 
 /// Does what the words ask for, and answers the exit status.

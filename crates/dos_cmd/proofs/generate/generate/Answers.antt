@@ -13,29 +13,26 @@ returns-in_err-kernel-clause-leaves g c =
     (one_image c.args.number c.args.threads c.from_ref.result.now c.in-Ok.image
     c.from_ref.ensures.value c.in-Ok.ensures) refl c.requires.few c.in_err-kernel.ensures.refused))
 
-pub returns-in_err-ran-clause-leaves : goal.returns-in_err-ran-clause-leaves
-returns-in_err-ran-clause-leaves g c =
-    let p = err_from_is_err_and c.from_residual-in_err-ran.result
-    c.from_residual-in_err-ran.ensures.1 in
-    rw (p.1, p.2) (λ n tells f h e k l m. leaves_memory c.args.number c.args.threads n tells f h _ e
-    _ _ _ _ c.in_err-ran.ensures.refused)
+pub returns-in-Err-clause-leaves : goal.returns-in-Err-clause-leaves
+returns-in-Err-clause-leaves g c = λ n tells f h e k l m.
+    leaves_memory c.args.number c.args.threads n tells f h _ e _ _ _ _ c.in-Err.ensures.refused
 
-pub returns-in-Ok-put_summary-clause-did : goal.returns-in-Ok-put_summary-clause-did
-returns-in-Ok-put_summary-clause-did g c =
+pub returns-in-Ok-put-clause-did : goal.returns-in-Ok-put-clause-did
+returns-in-Ok-put-clause-did g c =
     let opened = opened_with c.args.number c.args.threads c.in_ok-kernel.kernel
     c.from_ref.result.now (one_image c.args.number c.args.threads c.from_ref.result.now
     c.in-Ok.image c.from_ref.ensures.value c.in-Ok.ensures) c.in_ok-kernel.ensures.opened in
-    gen_did c.args.number c.args.threads c.run_quietly.new.kernel c.in_ok-ran.ran.ending
-    c.in_ok-ran.ran.count c.in_ok-ran.ran.digest _ _ _ _
-    (c.in_ok-ran.ensures.ran (generated c.args.number c.args.threads ∷ []) gen_config opened)
-    c.in-Ok-put_summary.ensures.told
+    gen_did c.args.number c.args.threads c.run_quietly.new.kernel c.in-Ok-run_quietly.ran.ending
+    c.in-Ok-run_quietly.ran.count c.in-Ok-run_quietly.ran.digest _ _ _ _
+    (c.in-Ok-run_quietly.ensures.ran (generated c.args.number c.args.threads ∷ []) gen_config opened)
+    c.in-Ok-put.ensures.told
 
-pub returns-clause-leaves : goal.returns-clause-leaves
-returns-clause-leaves g c =
+pub returns-in-Err-put-clause-leaves : goal.returns-in-Err-put-clause-leaves
+returns-in-Err-put-clause-leaves g c =
     let opened = opened_with c.args.number c.args.threads c.in_ok-kernel.kernel
     c.from_ref.result.now (one_image c.args.number c.args.threads c.from_ref.result.now
     c.in-Ok.image c.from_ref.ensures.value c.in-Ok.ensures) c.in_ok-kernel.ensures.opened in
-    gen_cut c.args.number c.args.threads c.run_quietly.new.kernel c.in_ok-ran.ran.ending
-    c.in_ok-ran.ran.count c.in_ok-ran.ran.digest _ _ _ _
-    (c.in_ok-ran.ensures.ran (generated c.args.number c.args.threads ∷ []) gen_config opened)
-    _ _ c.in-Err.ensures.cause.failed c.in-Err.ensures.front
+    gen_cut c.args.number c.args.threads c.run_quietly.new.kernel c.in-Ok-run_quietly.ran.ending
+    c.in-Ok-run_quietly.ran.count c.in-Ok-run_quietly.ran.digest _ _ _ _
+    (c.in-Ok-run_quietly.ensures.ran (generated c.args.number c.args.threads ∷ []) gen_config opened)
+    _ _ c.in-Err-put.ensures.cause.failed c.in-Err-put.ensures.front

@@ -35,8 +35,8 @@ returns-in-Ok-clause-did g c = λ h e t. record {
   };
 }
 
-pub returns-clause-leaves : goal.returns-clause-leaves
-returns-clause-leaves g c = λ h e t m n. (
+pub returns-in-Err-clause-leaves : goal.returns-in-Err-clause-leaves
+returns-in-Err-clause-leaves g c = λ h e t m n. (
   inl c.in-Err.ensures.cause.failed,
   refl,
   record {

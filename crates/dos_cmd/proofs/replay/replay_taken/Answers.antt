@@ -18,8 +18,8 @@ returns-in_err-kernel-clause-leaves g c =
     c.config_of.result c.config_of.ensures.config c.in_err-kernel.ensures.refused
     (says_nothing _ refl refl stay refl))
 
-pub returns-clause-leaves : goal.returns-clause-leaves
-returns-clause-leaves g c = λ tells f f' h k k' m stay.
+pub returns-in-Err-clause-leaves : goal.returns-in-Err-clause-leaves
+returns-in-Err-clause-leaves g c = λ tells f f' h k k' m stay.
     let opening = c.in_ok-kernel.ensures in
     let run = c.in-Err.ensures in
     let is = c.config_of.ensures.config in
@@ -46,12 +46,12 @@ returns-in-Ok-clause-did g c =
     replay_did c.args.log c.args.images.now c.in_ok-kernel.kernel c.replay_group.new.kernel
     c.in-Ok.ending (g.O.Sink.told c.args.out.now) (g.E.Sink.told c.args.err.now)
     (g.O.Sink.told c.replay_group.new.out) (g.E.Sink.told c.replay_group.new.err)
-    (g.E.Sink.told c.report.new.err) (g.W.Workers.tally c.args.workers.now)
-    (g.W.Workers.tally c.replay_group.new.workers) opened run.ran c.report.result
-    c.report.ensures.same c.report.ensures.told
+    (g.E.Sink.told c.report-ended.new.err) (g.W.Workers.tally c.args.workers.now)
+    (g.W.Workers.tally c.replay_group.new.workers) opened run.ran c.report-ended.result
+    c.report-ended.ensures.same c.report-ended.ensures.told
 
 pub returns-in-Ok-clause-room : goal.returns-in-Ok-clause-room
-returns-in-Ok-clause-room g c = on_ok c.report.result _
+returns-in-Ok-clause-room g c = on_ok c.report-ended.result _
     (has_room c.args.log c.args.images.now c.config_of.result c.config_of.ensures.config
     c.in_ok-kernel.ensures.room)
 
@@ -65,10 +65,10 @@ returns-in-Ok-clause-leaves g c =
     replay_cut c.args.log c.args.images.now c.in_ok-kernel.kernel c.replay_group.new.kernel
     c.in-Ok.ending (g.O.Sink.told c.args.out.now) (g.E.Sink.told c.args.err.now)
     (g.O.Sink.told c.replay_group.new.out) (g.E.Sink.told c.replay_group.new.err)
-    (g.E.Sink.told c.report.new.err) (g.W.Workers.tally c.args.workers.now)
+    (g.E.Sink.told c.report-ended.new.err) (g.W.Workers.tally c.args.workers.now)
     (g.W.Workers.tally c.replay_group.new.workers) opened run.ran
     (g.O.Sink.faults c.args.out.now) (g.O.Sink.faults c.replay_group.new.out)
     (g.E.Sink.faults c.args.err.now) (g.E.Sink.faults c.replay_group.new.err)
-    (g.E.Sink.faults c.report.new.err) c.report.result
+    (g.E.Sink.faults c.report-ended.new.err) c.report-ended.result
     (has_room c.args.log c.args.images.now c.config_of.result is opening.room)
-    c.report.ensures.sink run.err_later c.report.ensures.cause c.report.ensures.front
+    c.report-ended.ensures.sink run.err_later c.report-ended.ensures.cause c.report-ended.ensures.front

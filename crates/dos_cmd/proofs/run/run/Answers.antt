@@ -71,15 +71,15 @@ returns-clause-did g c =
     let a : RunAsked = run_asked r.config.quantum r.config.rounds r.config.frames r.posts.now
     r.clock_from r.clock_step r.log.now r.names.now in
     let o : Outside = outside (g.F.Files.tells c.args.files.now)
-    (g.F.Files.content c.args.files.now) (g.F.Files.content c.run_opened.new.files)
-    (g.H.Host.told c.args.host.now) (g.H.Host.told c.run_opened.new.host)
-    (g.O.Sink.told c.args.out.now) (g.O.Sink.told c.run_opened.new.out)
-    (g.E.Sink.told c.args.err.now) (g.E.Sink.told c.run_opened.new.err)
-    (g.W.Workers.tally c.args.workers.now) (g.W.Workers.tally c.run_opened.new.workers) in
+    (g.F.Files.content c.args.files.now) (g.F.Files.content c.run_opened-ended.new.files)
+    (g.H.Host.told c.args.host.now) (g.H.Host.told c.run_opened-ended.new.host)
+    (g.O.Sink.told c.args.out.now) (g.O.Sink.told c.run_opened-ended.new.out)
+    (g.E.Sink.told c.args.err.now) (g.E.Sink.told c.run_opened-ended.new.err)
+    (g.W.Workers.tally c.args.workers.now) (g.W.Workers.tally c.run_opened-ended.new.workers) in
     let told = same_images _ _ _ c.deref.ensures.value load.accepted in
     run_did a c.deref.result.now o (g.F.Files.tells c.load_all.new.files)
     (g.F.Files.content c.load_all.new.files) c.in_ok-kernel.kernel c.in-Ok.ledger
-    c.run_opened.result load.tells load.stays c.run_opened.ensures.did
+    c.run_opened-ended.result load.tells load.stays c.run_opened-ended.ensures.did
     (prepared a c.deref.result.now o c.in_ok-kernel.kernel c.in-Ok.ledger _ _ _ _ _
     opening.opened c.in-Ok.ensures c.as_slice.ensures c.clock.ensures c.header.ensures load.digests)
     (λ n. taken_with a n (g.F.Files.content c.args.files.now) c.deref.result.now opening.room told)
@@ -92,21 +92,21 @@ returns-clause-leaves g c =
     let a : RunAsked = run_asked r.config.quantum r.config.rounds r.config.frames r.posts.now
     r.clock_from r.clock_step r.log.now r.names.now in
     let o : Outside = outside (g.F.Files.tells c.args.files.now)
-    (g.F.Files.content c.args.files.now) (g.F.Files.content c.run_opened.new.files)
-    (g.H.Host.told c.args.host.now) (g.H.Host.told c.run_opened.new.host)
-    (g.O.Sink.told c.args.out.now) (g.O.Sink.told c.run_opened.new.out)
-    (g.E.Sink.told c.args.err.now) (g.E.Sink.told c.run_opened.new.err)
-    (g.W.Workers.tally c.args.workers.now) (g.W.Workers.tally c.run_opened.new.workers) in
+    (g.F.Files.content c.args.files.now) (g.F.Files.content c.run_opened-ended.new.files)
+    (g.H.Host.told c.args.host.now) (g.H.Host.told c.run_opened-ended.new.host)
+    (g.O.Sink.told c.args.out.now) (g.O.Sink.told c.run_opened-ended.new.out)
+    (g.E.Sink.told c.args.err.now) (g.E.Sink.told c.run_opened-ended.new.err)
+    (g.W.Workers.tally c.args.workers.now) (g.W.Workers.tally c.run_opened-ended.new.workers) in
     let f : Faults = faults (g.F.Files.faults c.load_all.new.files)
-    (g.F.Files.faults c.run_opened.new.files) (g.H.Host.faults c.args.host.now)
-    (g.H.Host.faults c.run_opened.new.host) (g.O.Sink.faults c.args.out.now)
-    (g.O.Sink.faults c.run_opened.new.out) (g.E.Sink.faults c.args.err.now)
-    (g.E.Sink.faults c.run_opened.new.err) in
+    (g.F.Files.faults c.run_opened-ended.new.files) (g.H.Host.faults c.args.host.now)
+    (g.H.Host.faults c.run_opened-ended.new.host) (g.O.Sink.faults c.args.out.now)
+    (g.O.Sink.faults c.run_opened-ended.new.out) (g.E.Sink.faults c.args.err.now)
+    (g.E.Sink.faults c.run_opened-ended.new.err) in
     let told = same_images _ _ _ c.deref.ensures.value load.accepted in
     run_leaves a c.deref.result.now o (g.F.Files.tells c.load_all.new.files)
     (g.F.Files.content c.load_all.new.files) f (g.F.Files.faults c.args.files.now)
-    c.in_ok-kernel.kernel c.in-Ok.ledger c.run_opened.result load.tells load.stays load.later
-    c.run_opened.ensures.leaves
+    c.in_ok-kernel.kernel c.in-Ok.ledger c.run_opened-ended.result load.tells load.stays load.later
+    c.run_opened-ended.ensures.leaves
     (prepared a c.deref.result.now o c.in_ok-kernel.kernel c.in-Ok.ledger _ _ _ _ _
     opening.opened c.in-Ok.ensures c.as_slice.ensures c.clock.ensures c.header.ensures load.digests)
     (λ n. taken_with a n (g.F.Files.content c.args.files.now) c.deref.result.now opening.room told)
