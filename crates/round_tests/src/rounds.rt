@@ -188,15 +188,18 @@ struct Seen {
     statuses: [Option<u8>; 2],
 }
 
-// The kernel is dropped here and nowhere else, since each drop of one is long to prove.
+// The kernel is dropped here and nowhere else, and by a call: at the end of a scope its drop is long
+// to prove.
 fn last_of(kernel: Kernel) -> Seen {
-    Seen {
+    let seen = Seen {
         failed: kernel.is_failed(),
         rounds: kernel.rounds(),
         processes: kernel.processes(),
         live_threads: kernel.state().table.live_threads(),
         statuses: [status_at(&kernel, 0), status_at(&kernel, 1)],
-    }
+    };
+    drop(kernel);
+    seen
 }
 
 fn check_seen(rt: &impl Abort, seen: &Seen, wanted: &Seen) {

@@ -180,13 +180,14 @@ fn are_left(
 }
 
 fn run_row<R: Threads + Sync>(alloc: Global, row: &Row, tally: &mut Tally) -> Result<bool, Fail> {
-    let mut kernel = opened(alloc, row)?;
     let mut host = MemoryHost::new(alloc, INPUT, 4, &READINGS, &[])?;
     let mut shim = recorder(alloc, &mut host, &row.posts)?;
     let mut out = MemorySink::new(alloc, 4096, &[])?;
     let mut err = MemorySink::new(alloc, 4096, &[])?;
+    let mut kernel = opened(alloc, row)?;
     let mut workers: Serial<'_, R> = Serial::new(tally);
     let ending = play(&mut kernel, &mut shim, &mut out, &mut err, &mut workers);
+    drop(kernel);
     Ok(ending == Some(row.ending) && are_left(alloc, row, &out, &err)?)
 }
 
