@@ -1,14 +1,19 @@
 -- What was given in two stretches was given in both together.
-use Rattle.std.proofs.Common.{◌≡◌, ℕ, suc, ◌+◌, ◌≤◌, List, [], ◌∷◌, ◌++◌, length, Option, Some, None, refl, sym, ap, ap₂, map, subst, ◌∙◌, append_assoc, arith}
+use Rattle.std.proofs.Common.{◌≡◌, ℕ, suc, ◌+◌, ◌≤◌, List, [], ◌∷◌, ◌++◌, length, Option, Some}
+use Rattle.std.proofs.Common.{None, refl, sym, ap, ap₂, map, subst, ◌∙◌, append_assoc, arith}
 use Rattle.dos_world.specs.declared.Post.{Post}
 use Rattle.dos_io.specs.declared.exchange.Exchange.{Exchange}
 use Rattle.dos_io.specs.declared.exchange.Exchange.TheVariants.{Signals, Input, Clock, End}
 use Rattle.dos_io.specs.declared.exchange.ClockRule.{ClockRule}
 use Rattle.dos_io.specs.declared.exchange.ClockRule.TheVariants.{FromHost, Counted}
 use Rattle.dos_world.specs.declared.Question.{Question}
-use Rattle.dos_world.specs.declared.Question.TheVariants.{Signals as signals_question, Input as input_question, Clock as clock_question, End as end_question}
+use Rattle.dos_world.specs.declared.Question.TheVariants.{Signals as signals_question}
+use Rattle.dos_world.specs.declared.Question.TheVariants.{Input as input_question}
+use Rattle.dos_world.specs.declared.Question.TheVariants.{Clock as clock_question}
+use Rattle.dos_world.specs.declared.Question.TheVariants.{End as end_question}
 use Rattle.dos_io.specs.Exchanges.{question_of}
-use Rattle.dos_io.specs.Given.{posts_in, counted_reading, GivesPosts, GivesInputs, readings, AreCountedFrom, GivesCounted, GivesReadings, GivesHost, Given}
+use Rattle.dos_io.specs.Given.{posts_in, counted_reading, GivesPosts, GivesInputs, readings}
+use Rattle.dos_io.specs.Given.{AreCountedFrom, GivesCounted, GivesReadings, GivesHost, Given}
 use Rattle.dos_io.specs.Hosts.{Told, taken}
 use Rattle.dos_io.specs.Outside.{Rose}
 

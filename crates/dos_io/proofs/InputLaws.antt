@@ -1,5 +1,6 @@
 -- Pieces of input stay filled, and an empty answer is the end.
-use Rattle.std.proofs.Common.{◌≡◌, ◌<◌, ℕ, zero, suc, Bool, true, false, cond, leb, List, [], ◌∷◌, length, take, drop, refl, arith}
+use Rattle.std.proofs.Common.{◌≡◌, ◌<◌, ℕ, zero, suc, Bool, true, false, cond, leb, List, [], ◌∷◌}
+use Rattle.std.proofs.Common.{length, take, drop, refl, arith}
 use Rattle.std.proofs.lemmas.Bool.{leb-false}
 use Rattle.std.proofs.lemmas.List.{length-drop}
 use Rattle.dos_io.specs.Hosts.{AreFilled, taken}

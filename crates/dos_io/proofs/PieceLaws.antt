@@ -1,7 +1,9 @@
 -- What a host in memory tells, after bytes left the front.
-use Rattle.std.proofs.Common.{◌≡◌, ◌<◌, ◌≤◌, ◌∙◌, ℕ, zero, suc, ◌-◌, ◌+◌, cond, eqb, List, [], ◌∷◌, length, take, drop, refl, sym, ap, ap₂, subst, arith, inl, inr}
+use Rattle.std.proofs.Common.{◌≡◌, ◌<◌, ◌≤◌, ◌∙◌, ℕ, zero, suc, ◌-◌, ◌+◌, cond, eqb, List, [], ◌∷◌}
+use Rattle.std.proofs.Common.{length, take, drop, refl, sym, ap, ap₂, subst, arith, inl, inr}
 use Rattle.std.proofs.lemmas.Bool.{le-leb, lt-leb, cases_lt, cases_eq, eq-eqb, ne_eqb}
-use Rattle.std.proofs.lemmas.List.{length-drop, length-take, take_all, take-take, drop_all, drop-drop, drop-take}
+use Rattle.std.proofs.lemmas.List.{length-drop, length-take, take_all, take-take, drop_all}
+use Rattle.std.proofs.lemmas.List.{drop-drop, drop-take}
 use Rattle.dos_io.specs.Hosts.{taken}
 use Rattle.dos_io.specs.HostMemory.{cut, pieces_of}
 

@@ -1,5 +1,6 @@
 -- Quiet answers bring no signal.
-use Rattle.std.proofs.Common.{◌≡◌, map, true, false, cond, nat_eq, List, [], ◌∷◌, ◌++◌, Some, None, IfSome, refl, sym, ap, subst, ◌∙◌}
+use Rattle.std.proofs.Common.{◌≡◌, map, true, false, cond, nat_eq, List, [], ◌∷◌, ◌++◌, Some, None}
+use Rattle.std.proofs.Common.{IfSome, refl, sym, ap, subst, ◌∙◌}
 use Rattle.std.proofs.lemmas.List.{append_cancel_left, map-append}
 use Rattle.dos_io.specs.declared.exchange.Exchange.{Exchange}
 use Rattle.dos_io.specs.declared.exchange.Exchange.TheVariants.{Signals, Input, Clock, End}
@@ -7,7 +8,10 @@ use Rattle.dos_io.specs.Exchanges.{HaveNoPosts}
 use Rattle.dos_io.specs.Shims.{ShimState}
 use Rattle.dos_io.specs.Quiet.{quiet_exchange, IsQuiet, AreQuiet, Quietness, shown, FollowsQuietly}
 use Rattle.dos_world.specs.declared.Question.{Question}
-use Rattle.dos_world.specs.declared.Question.TheVariants.{Signals as signals_question, Input as input_question, Clock as clock_question, End as end_question}
+use Rattle.dos_world.specs.declared.Question.TheVariants.{Signals as signals_question}
+use Rattle.dos_world.specs.declared.Question.TheVariants.{Input as input_question}
+use Rattle.dos_world.specs.declared.Question.TheVariants.{Clock as clock_question}
+use Rattle.dos_world.specs.declared.Question.TheVariants.{End as end_question}
 use Rattle.dos_io.specs.declared.shim.ShimStop.TheVariants.{Memory}
 
 pub quiet_no_posts : (es : List Exchange) → AreQuiet es → HaveNoPosts es

@@ -1,6 +1,7 @@
 -- The answers of these exchanges are those that the words and the host give, none skipped and none
 -- invented. This project's own rule.
-use Rattle.std.specs.Prelude.{ℕ, suc, ◌≡◌, ◌+◌, ◌*◌, ◌%◌, ◌^◌, List, [], ◌∷◌, ◌++◌, map, filter, Option, Some, None, ◌==◌, ⊤}
+use Rattle.std.specs.Prelude.{ℕ, suc, ◌≡◌, ◌+◌, ◌*◌, ◌%◌, ◌^◌, List, [], ◌∷◌, ◌++◌, map, filter}
+use Rattle.std.specs.Prelude.{Option, Some, None, ◌==◌, ⊤}
 use Rattle.dos_world.specs.declared.Post.{Post}
 use Rattle.dos_io.specs.declared.exchange.Exchange.{Exchange}
 use Rattle.dos_io.specs.declared.exchange.Exchange.TheVariants.{Signals, Input, Clock, End}

@@ -1,5 +1,6 @@
 -- A host in memory: its input in pieces, its readings, and its calls. This project's own rules.
-use Rattle.std.specs.Prelude.{ℕ, zero, suc, ◌-◌, Bool, true, false, List, [], ◌∷◌, length, take, drop, Option, Some, ◌==◌, if◌then◌else◌}
+use Rattle.std.specs.Prelude.{ℕ, zero, suc, ◌-◌, Bool, true, false, List, [], ◌∷◌, length, take}
+use Rattle.std.specs.Prelude.{drop, Option, Some, ◌==◌, if◌then◌else◌}
 use Rattle.dos_io.specs.Hosts.{Told}
 use Rattle.dos_io.specs.Calls.{CallState, succeeds}
 

@@ -1,5 +1,6 @@
 -- What a host tells: the input and the readings that are still to come. This project's own rule.
-use Rattle.std.specs.Prelude.{ℕ, List, [], ◌∷◌, length, take, drop, Option, Some, None, nat_le, if◌then◌else◌, ⊤}
+use Rattle.std.specs.Prelude.{ℕ, List, [], ◌∷◌, length, take, drop, Option, Some, None, nat_le}
+use Rattle.std.specs.Prelude.{if◌then◌else◌, ⊤}
 
 -- Input comes in pieces, as a terminal or a pipe gives it.
 pub record Told : Type 0 where

@@ -1,5 +1,6 @@
 -- What sinks and files tell, and how their faults are counted: this project's own rules.
-use Rattle.std.specs.Prelude.{◌≡◌, ℕ, ◌+◌, ◌-◌, ◌^◌, ◌≤◌, min, List, ◌++◌, take, Option, Some, None, Result, OnErr}
+use Rattle.std.specs.Prelude.{◌≡◌, ℕ, ◌+◌, ◌-◌, ◌^◌, ◌≤◌, min, List, ◌++◌, take, Option, Some, None}
+use Rattle.std.specs.Prelude.{Result, OnErr}
 
 -- a 64-bit count after one more, which stands still at its type's end
 abbrev pub counted : ℕ → ℕ

@@ -1,8 +1,12 @@
 -- What a quiet shim answers and shows. This project's own rule.
-use Rattle.std.specs.Prelude.{◌≡◌, ℕ, ◌==◌, if◌then◌else◌, List, [], ◌++◌, map, Option, Some, None, ⊤}
+use Rattle.std.specs.Prelude.{◌≡◌, ℕ, ◌==◌, if◌then◌else◌, List, [], ◌++◌, map, Option, Some, None}
+use Rattle.std.specs.Prelude.{⊤}
 use Rattle.std.specs.List.{AllByRecursion}
 use Rattle.dos_world.specs.declared.Question.{Question}
-use Rattle.dos_world.specs.declared.Question.TheVariants.{Signals as signals_question, Input as input_question, Clock as clock_question, End as end_question}
+use Rattle.dos_world.specs.declared.Question.TheVariants.{Signals as signals_question}
+use Rattle.dos_world.specs.declared.Question.TheVariants.{Input as input_question}
+use Rattle.dos_world.specs.declared.Question.TheVariants.{Clock as clock_question}
+use Rattle.dos_world.specs.declared.Question.TheVariants.{End as end_question}
 use Rattle.dos_io.specs.declared.exchange.Exchange.{Exchange}
 use Rattle.dos_io.specs.declared.exchange.Exchange.TheVariants.{Signals, Input, Clock, End}
 use Rattle.dos_io.specs.declared.shim.ShimStop.{ShimStop}

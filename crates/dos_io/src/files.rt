@@ -1,5 +1,6 @@
 // Named files, read and written whole.
-ghost use Rattle.std.specs.Prelude.{◌≡◌, ◌≢◌, IsTrue, Bool, OnOk, Some, ◌<◌, ◌≤◌, List, ℕ, Option, length, IfOk, IfSome, IsErrOf};
+ghost use Rattle.std.specs.Prelude.{◌≡◌, ◌≢◌, IsTrue, Bool, OnOk, Some, ◌<◌, ◌≤◌, List, ℕ, Option};
+ghost use Rattle.std.specs.Prelude.{length, IfOk, IfSome, IsErrOf};
 ghost use Rattle.dos_io.specs.Outside.{Rose};
 ghost use Rattle.dos_io.specs.declared.files.FileError.TheVariants.{Memory};
 

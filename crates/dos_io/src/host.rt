@@ -1,5 +1,6 @@
 // The host: where input and time come from.
-ghost use Rattle.std.specs.Prelude.{◌≡◌, ◌≤◌, ◌<◌, ℕ, length, take, drop, Option, IfOk, OnOk, OnErr, IfSome};
+ghost use Rattle.std.specs.Prelude.{◌≡◌, ◌≤◌, ◌<◌, ℕ, length, take, drop, Option, IfOk, OnOk};
+ghost use Rattle.std.specs.Prelude.{OnErr, IfSome};
 ghost use Rattle.dos_io.specs.Outside.{HasCause};
 ghost use Rattle.dos_io.specs.Hosts.{Told, AreFilled, taken, after_input, before_reading};
 

@@ -1,5 +1,6 @@
 //! Laws of what crosses the border. The functions do nothing; their contracts are the laws.
-ghost use Rattle.std.specs.Prelude.{◌≡◌, ◌+◌, ◌<◌, ◌++◌, ℕ, List, [], Option, Some, length, map, IfSome};
+ghost use Rattle.std.specs.Prelude.{◌≡◌, ◌+◌, ◌<◌, ◌++◌, ℕ, List, [], Option, Some, length, map};
+ghost use Rattle.std.specs.Prelude.{IfSome};
 ghost use Rattle.dos_world.specs.declared.Post.{Post};
 ghost use Rattle.dos_io.specs.declared.exchange.Exchange.{Exchange};
 ghost use Rattle.dos_io.specs.declared.exchange.ClockRule.{ClockRule};

@@ -1,5 +1,6 @@
 // A host in memory, which fails at the calls that it is told to.
-ghost use Rattle.std.specs.Prelude.{◌≡◌, ◌≤◌, ◌<◌, is_ok, length, take, drop, IfOk, OnOk, OnErr, IfSome};
+ghost use Rattle.std.specs.Prelude.{◌≡◌, ◌≤◌, ◌<◌, is_ok, length, take, drop, IfOk, OnOk, OnErr};
+ghost use Rattle.std.specs.Prelude.{IfSome};
 ghost use Rattle.dos_io.specs.Outside.{HasCause};
 ghost use Rattle.dos_io.specs.Calls.{no_calls, after_call};
 ghost use Rattle.dos_io.specs.Hosts.{taken, after_input, before_reading};

@@ -1,7 +1,13 @@
 // The shim of a group: what sees and decides each thing that crosses its border.
 ghost use Rattle.std.specs.Prelude.{◌≡◌, ◌≤◌, ◌<◌, length, take, drop, OnOk, IfOk, IfErr};
-ghost use Rattle.dos_world.specs.declared.Question.TheVariants.{Signals as signals_question, Input as input_question, Clock as clock_question, End as end_question};
-ghost use Rattle.dos_io.specs.declared.exchange.Exchange.TheVariants.{Signals as signals_exchange, Input as input_exchange, Clock as clock_exchange, End as end_exchange};
+ghost use Rattle.dos_world.specs.declared.Question.TheVariants.{Signals as signals_question};
+ghost use Rattle.dos_world.specs.declared.Question.TheVariants.{Input as input_question};
+ghost use Rattle.dos_world.specs.declared.Question.TheVariants.{Clock as clock_question};
+ghost use Rattle.dos_world.specs.declared.Question.TheVariants.{End as end_question};
+ghost use Rattle.dos_io.specs.declared.exchange.Exchange.TheVariants.{Signals as signals_exchange};
+ghost use Rattle.dos_io.specs.declared.exchange.Exchange.TheVariants.{Input as input_exchange};
+ghost use Rattle.dos_io.specs.declared.exchange.Exchange.TheVariants.{Clock as clock_exchange};
+ghost use Rattle.dos_io.specs.declared.exchange.Exchange.TheVariants.{End as end_exchange};
 
 use crate::signal_list::SignalList;
 use dos_world::{Ending, Misfit};

@@ -1,11 +1,14 @@
 -- A thread that lives and has its registers keeps them under what services change of the world.
-use Rattle.std.proofs.Common.{ℕ, zero, suc, ◌<◌, ◌≡◌, refl, sym, ap, ◌∙◌, Bool, cond, true, false, List, [], ◌∷◌, ◌++◌, length, Option, Some, None, option_map}
+use Rattle.std.proofs.Common.{ℕ, zero, suc, ◌<◌, ◌≡◌, refl, sym, ap, ◌∙◌, Bool, cond, true, false}
+use Rattle.std.proofs.Common.{List, [], ◌∷◌, ◌++◌, length, Option, Some, None, option_map}
 use Rattle.std.specs.Prelude.{slice_get, nat_lt, IsTrue}
 use Rattle.std.proofs.lemmas.Bool.{ltb-true, true≢false}
 use Rattle.std.proofs.lemmas.List.{length-set, get_or-set_same}
 use Rattle.dos_world.specs.Numbered.{numbered, changed, changed_at}
-use Rattle.dos_world.specs.World.{World, Thread, Registers, Entry, flat, with_thread, registers_by, get, set}
-use Rattle.dos_world.specs.Kernel.{awake, woken, posted, pending_with, with_fresh, copied_in, copied_out, opened}
+use Rattle.dos_world.specs.World.{World, Thread, Registers, Entry, flat, with_thread, registers_by}
+use Rattle.dos_world.specs.World.{get, set}
+use Rattle.dos_world.specs.Kernel.{awake, woken, posted, pending_with, with_fresh, copied_in}
+use Rattle.dos_world.specs.Kernel.{copied_out, opened}
 use Rattle.dos_world.specs.Bytes.{stored}
 use Rattle.dos_world.specs.Copying.{place_of}
 use Rattle.dos_world.specs.Reach.{Reached, fault, foreign, at, reach, grant}

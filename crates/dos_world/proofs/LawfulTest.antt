@@ -1,18 +1,37 @@
 -- What the test passes is lawful.
-use Rattle.std.proofs.Common.{ℕ, zero, suc, ◌+◌, ◌*◌, ◌%◌, ◌^◌, ◌<◌, ◌≤◌, ◌≡◌, ◌≢◌, ◌⊎◌, inl, inr, refl, sym, ap, ◌∙◌, subst, Bool, cond, true, false, not, List, [], ◌∷◌, length, map, Option, Some, None, arith}
-use Rattle.std.specs.Prelude.{filter, option_and_then, ◌&&◌, ◌||◌, ◌↔◌, ◌==◌, nat_lt, nat_le, All, AllPairs, IsTrue, IsFalse, IfSome, is_some, count_by, slice_index_or}
+use Rattle.std.proofs.Common.{ℕ, zero, suc, ◌+◌, ◌*◌, ◌%◌, ◌^◌, ◌<◌, ◌≤◌, ◌≡◌, ◌≢◌, ◌⊎◌, inl, inr}
+use Rattle.std.proofs.Common.{refl, sym, ap, ◌∙◌, subst, Bool, cond, true, false, not, List, []}
+use Rattle.std.proofs.Common.{◌∷◌, length, map, Option, Some, None, arith}
+use Rattle.std.specs.Prelude.{filter, option_and_then, ◌&&◌, ◌||◌, ◌↔◌, ◌==◌, nat_lt, nat_le, All}
+use Rattle.std.specs.Prelude.{AllPairs, IsTrue, IsFalse, IfSome, is_some, count_by, slice_index_or}
 use Rattle.std.specs.List.{list_all}
 use Rattle.std.specs.List.Sorted.{IsStrictlyIncreasing}
-use Rattle.std.proofs.lemmas.Bool.{and_parts, eqb-true, ltb-true, leb-true, cases_lt, not-true, true≢false}
+use Rattle.std.proofs.lemmas.Bool.{and_parts, eqb-true, ltb-true, leb-true, cases_lt, not-true}
+use Rattle.std.proofs.lemmas.Bool.{true≢false}
 use Rattle.std.proofs.lemmas.List.Sums.{AllPass-from_list_all, length-filter}
 use Rattle.std.proofs.lemmas.List.{get_or_past}
 use Rattle.std.proofs.lemmas.Option.{slice_get_past}
 use Rattle.dos_world.specs.Numbered.{numbered, run_of}
-use Rattle.dos_world.specs.World.{World, Process, status_of, Holdings, Thread, Sleeper, Registers, flat, all_holdings, live_process, thread_at, live_threads, threads_of, owner_of, is_free, is_state, has_bit, get, code_unit, holdings_of}
+use Rattle.dos_world.specs.World.{World, Process, status_of, Holdings, Thread, Sleeper, Registers}
+use Rattle.dos_world.specs.World.{flat, all_holdings, live_process, thread_at, live_threads}
+use Rattle.dos_world.specs.World.{threads_of, owner_of, is_free, is_state, has_bit, get, code_unit}
+use Rattle.dos_world.specs.World.{holdings_of}
 use Rattle.dos_world.specs.Counts.{is_mapped, is_open, uses_of}
 use Rattle.dos_world.specs.SignalCalls.{is_action}
-use Rattle.dos_world.specs.Lawful.{Lawful, FramesAreLawful, ProcessesAreLawful, ThreadsAreLawful, PipesAreLawful, IsWithinLimits, IsWithinRun, AreHoldings, AreRegisters, IsThread, IsWord, IsByte, IsPending, IsMask, IsAction, IsEnd, IsPage, IsSaved, IsAlone, IsSleeper, IsPipe, HasStatus, turns_asleep}
-use Rattle.dos_world.specs.IsLawful.{pairs_pass, has_status, passes_below, none_or, is_empty, same_truth, if_then, is_word, is_byte, is_pending, is_mask, is_end, is_page, are_registers, is_saved, is_thread, are_holdings, is_alone, is_sleeper, is_pipe, frees_unmapped, is_owner, has_thread, has_lower_parent, sleeps_once, is_asleep, is_empty_if_closed, has_bytes, is_lawful, is_lawful_but_for_frames, frames_are_lawful, processes_are_lawful, threads_are_lawful, pipes_are_lawful, is_within_limits, is_within_run}
+use Rattle.dos_world.specs.Lawful.{Lawful, FramesAreLawful, ProcessesAreLawful, ThreadsAreLawful}
+use Rattle.dos_world.specs.Lawful.{PipesAreLawful, IsWithinLimits, IsWithinRun, AreHoldings}
+use Rattle.dos_world.specs.Lawful.{AreRegisters, IsThread, IsWord, IsByte, IsPending, IsMask}
+use Rattle.dos_world.specs.Lawful.{IsAction, IsEnd, IsPage, IsSaved, IsAlone, IsSleeper, IsPipe}
+use Rattle.dos_world.specs.Lawful.{HasStatus, turns_asleep}
+use Rattle.dos_world.specs.IsLawful.{pairs_pass, has_status, passes_below, none_or, is_empty}
+use Rattle.dos_world.specs.IsLawful.{same_truth, if_then, is_word, is_byte, is_pending, is_mask}
+use Rattle.dos_world.specs.IsLawful.{is_end, is_page, are_registers, is_saved, is_thread}
+use Rattle.dos_world.specs.IsLawful.{are_holdings, is_alone, is_sleeper, is_pipe, frees_unmapped}
+use Rattle.dos_world.specs.IsLawful.{is_owner, has_thread, has_lower_parent, sleeps_once, is_asleep}
+use Rattle.dos_world.specs.IsLawful.{is_empty_if_closed, has_bytes, is_lawful}
+use Rattle.dos_world.specs.IsLawful.{is_lawful_but_for_frames, frames_are_lawful}
+use Rattle.dos_world.specs.IsLawful.{processes_are_lawful, threads_are_lawful, pipes_are_lawful}
+use Rattle.dos_world.specs.IsLawful.{is_within_limits, is_within_run}
 use Rattle.dos_world.specs.declared.Entry.{Entry}
 use Rattle.dos_world.specs.declared.Owner.{Owner}
 use Rattle.dos_world.specs.declared.Owner.TheVariants.{Free, Shared, Of}

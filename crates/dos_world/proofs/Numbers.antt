@@ -1,5 +1,6 @@
 -- Lists whose elements are numbered from 1: what a change of one element leaves of the others.
-use Rattle.std.proofs.Common.{ℕ, zero, suc, ◌≡◌, ◌≢◌, refl, ap, List, [], ◌∷◌, length, Option, Some, None, option_map}
+use Rattle.std.proofs.Common.{ℕ, zero, suc, ◌≡◌, ◌≢◌, refl, ap, List, [], ◌∷◌, length, Option, Some}
+use Rattle.std.proofs.Common.{None, option_map}
 use Rattle.std.specs.Prelude.{slice_get}
 use Rattle.dos_world.specs.Numbered.{numbered, changed, changed_at}
 use Rattle.dos_world.specs.World.{flat}

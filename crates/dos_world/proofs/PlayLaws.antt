@@ -1,6 +1,7 @@
 -- Laws of what asks, over lists of answers.
 use Rattle.std.proofs.Common.{ℕ, ◌≡◌, refl, ap, List, [], ◌∷◌, ◌++◌}
-use Rattle.dos_world.specs.Play.{Play, Answer, done, ask, ◌>>=◌, Outcome, gives, asks, over, questions}
+use Rattle.dos_world.specs.Play.{Play, Answer, done, ask, ◌>>=◌, Outcome, gives, asks, over}
+use Rattle.dos_world.specs.Play.{questions}
 use Rattle.dos_world.specs.Laws.{after, unused, over_then}
 use Rattle.dos_world.specs.declared.Question.{Question}
 

@@ -7,7 +7,8 @@ use Rattle.dos_world.specs.Services.{services}
 use Rattle.dos_world.specs.Refusals.{refusals, call_refusal}
 use Rattle.dos_world.specs.declared.Owner.TheVariants.{Shared, Of}
 use Rattle.dos_world.specs.declared.ThreadState.TheVariants.{Ready}
-use Rattle.dos_world.proofs.SmallWorld.{a_thread, a_process, world_with, small, arguments, served, goes_on, after, reply}
+use Rattle.dos_world.proofs.SmallWorld.{a_thread, a_process, world_with, small, arguments, served}
+use Rattle.dos_world.proofs.SmallWorld.{goes_on, after, reply}
 
 -- ---- map: 22 before 12
 

@@ -1,28 +1,52 @@
 -- Each service tests the conditions of its row in order, and what it gives where none holds is no
 -- refusal.
-use Rattle.std.proofs.Common.{ℕ, ◌+◌, ◌<◌, ◌≤◌, ◌≡◌, ◌⊎◌, inl, inr, refl, sym, ap, ◌∙◌, subst, Bool, cond, true, false, not, List, [], ◌∷◌, length, take, drop, min, ◌-◌, Option, Some, None, Ok, Err, arith}
+use Rattle.std.proofs.Common.{ℕ, ◌+◌, ◌<◌, ◌≤◌, ◌≡◌, ◌⊎◌, inl, inr, refl, sym, ap, ◌∙◌, subst, Bool}
+use Rattle.std.proofs.Common.{cond, true, false, not, List, [], ◌∷◌, length, take, drop, min, ◌-◌}
+use Rattle.std.proofs.Common.{Option, Some, None, Ok, Err, arith}
 use Rattle.std.specs.Prelude.{find, is_none, ◌==◌, ◌&&◌, ◌||◌, nat_lt, slice_index, IsTrue}
 use Rattle.std.proofs.lemmas.Bool.{le-ltb, cases_lt, eqb-true}
 use Rattle.std.proofs.lemmas.List.{get_or_past}
 use Rattle.dos_world.specs.Numbered.{run_of}
-use Rattle.dos_world.specs.World.{World, Thread, Holdings, Entry, Registers, first_of, entry_at, live_process, thread_at, with_holdings, with_thread, action_of, has_ended}
-use Rattle.dos_world.specs.Kernel.{answered, answered_two, has_reader, has_writer, free_frames, all_reach, opened, copied_out, posted, tidied}
+use Rattle.dos_world.specs.World.{World, Thread, Holdings, Entry, Registers, first_of, entry_at}
+use Rattle.dos_world.specs.World.{live_process, thread_at, with_holdings, with_thread, action_of}
+use Rattle.dos_world.specs.World.{has_ended}
+use Rattle.dos_world.specs.Kernel.{answered, answered_two, has_reader, has_writer, free_frames}
+use Rattle.dos_world.specs.Kernel.{all_reach, opened, copied_out, posted, tidied}
 use Rattle.dos_world.specs.Play.{Play, done}
-use Rattle.dos_world.specs.Calls.{Served, Service, went, waits, yields, Call, returns, returns_in, returns_two, refuses, refuses_in, replies, retries, mask_of}
-use Rattle.dos_world.specs.ThreadCalls.{thread_exit, thread_new, get_tid, yield, next_thread, with_new_thread, new_registers, ready_thread}
-use Rattle.dos_world.specs.ProcessCalls.{process_exit, get_pid, fork, forked_by, with_child, child_thread, copied_space, are_processes_full, private_entries, next_process, wait, wait_by, children_where, any_process, collected, status_at}
-use Rattle.dos_world.specs.DescriptorCalls.{pipe, pipe_by, close, dup, dup_by, read, read_by, read_input, read_pipe, write, write_by, write_output, write_error, write_some, count_of, descriptor, descriptors_of, free_descriptors, second_of, lowest_pipe, pipe_bytes, with_pipe, with_descriptor}
-use Rattle.dos_world.specs.FutexCalls.{futex_wait, futex_wait_at, futex_wake, futex_wake_at, by_entry, futex_word, is_off_word, asleep_at, all_woken, sleepers_at, sleeps_at}
-use Rattle.dos_world.specs.MemoryCalls.{map_pages, mapped_fresh, unmap, share, pages_of, without_pages, with_shared}
-use Rattle.dos_world.specs.SignalCalls.{sig_handler, sig_mask, sig_return, sig_return_by, saved_of, kill, with_action, masked, restored}
+use Rattle.dos_world.specs.Calls.{Served, Service, went, waits, yields, Call, returns, returns_in}
+use Rattle.dos_world.specs.Calls.{returns_two, refuses, refuses_in, replies, retries, mask_of}
+use Rattle.dos_world.specs.ThreadCalls.{thread_exit, thread_new, get_tid, yield, next_thread}
+use Rattle.dos_world.specs.ThreadCalls.{with_new_thread, new_registers, ready_thread}
+use Rattle.dos_world.specs.ProcessCalls.{process_exit, get_pid, fork, forked_by, with_child}
+use Rattle.dos_world.specs.ProcessCalls.{child_thread, copied_space, are_processes_full}
+use Rattle.dos_world.specs.ProcessCalls.{private_entries, next_process, wait, wait_by}
+use Rattle.dos_world.specs.ProcessCalls.{children_where, any_process, collected, status_at}
+use Rattle.dos_world.specs.DescriptorCalls.{pipe, pipe_by, close, dup, dup_by, read, read_by}
+use Rattle.dos_world.specs.DescriptorCalls.{read_input, read_pipe, write, write_by, write_output}
+use Rattle.dos_world.specs.DescriptorCalls.{write_error, write_some, count_of, descriptor}
+use Rattle.dos_world.specs.DescriptorCalls.{descriptors_of, free_descriptors, second_of}
+use Rattle.dos_world.specs.DescriptorCalls.{lowest_pipe, pipe_bytes, with_pipe, with_descriptor}
+use Rattle.dos_world.specs.FutexCalls.{futex_wait, futex_wait_at, futex_wake, futex_wake_at}
+use Rattle.dos_world.specs.FutexCalls.{by_entry, futex_word, is_off_word, asleep_at, all_woken}
+use Rattle.dos_world.specs.FutexCalls.{sleepers_at, sleeps_at}
+use Rattle.dos_world.specs.MemoryCalls.{map_pages, mapped_fresh, unmap, share, pages_of}
+use Rattle.dos_world.specs.MemoryCalls.{without_pages, with_shared}
+use Rattle.dos_world.specs.SignalCalls.{sig_handler, sig_mask, sig_return, sig_return_by, saved_of}
+use Rattle.dos_world.specs.SignalCalls.{kill, with_action, masked, restored}
 use Rattle.dos_world.specs.Services.{services, clock, round_number}
-use Rattle.dos_world.specs.Refusals.{Condition, refusals, conditions_by, first_that_holds, refused, is_unreadable, is_unwritable, is_unread, lacks_byte}
+use Rattle.dos_world.specs.Refusals.{Condition, refusals, conditions_by, first_that_holds, refused}
+use Rattle.dos_world.specs.Refusals.{is_unreadable, is_unwritable, is_unread, lacks_byte}
 use Rattle.dos_world.specs.Lawful.{IsAction}
 use Rattle.dos_world.specs.declared.Access.TheVariants.{Load, Store}
 use Rattle.dos_world.specs.declared.End.{End}
 use Rattle.dos_world.specs.declared.End.TheVariants.{Input, Output, Error, PipeRead, PipeWrite}
-use Rattle.dos_world.proofs.Caller.{lives, lives-changed, lives-more, lives-posted, threads-copied_in, threads-copied_out, threads-copied_space, threads-mapped_fresh, a0-set}
-use Rattle.dos_world.proofs.Unrefused.{NotRefused, IsNoError, gone-not, waits-not, yields-not, ask-not, answer-not, a0-two, small-no_error, mask-no_error, AreBelow, below-run, below-places, below-filter, below-first, wake-not, return-not}
+use Rattle.dos_world.proofs.Caller.{lives, lives-changed, lives-more, lives-posted}
+use Rattle.dos_world.proofs.Caller.{threads-copied_in, threads-copied_out, threads-copied_space}
+use Rattle.dos_world.proofs.Caller.{threads-mapped_fresh, a0-set}
+use Rattle.dos_world.proofs.Unrefused.{NotRefused, IsNoError, gone-not, waits-not, yields-not}
+use Rattle.dos_world.proofs.Unrefused.{ask-not, answer-not, a0-two, small-no_error, mask-no_error}
+use Rattle.dos_world.proofs.Unrefused.{AreBelow, below-run, below-places, below-filter, below-first}
+use Rattle.dos_world.proofs.Unrefused.{wake-not, return-not}
 use Rattle.dos_world.proofs.UsualCalls.{IsUsual}
 
 -- ---- conditions in order

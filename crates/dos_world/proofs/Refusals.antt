@@ -1,15 +1,19 @@
 -- A call that is refused changes its thread's registers alone, and which calls are refused.
-use Rattle.std.proofs.Common.{ℕ, ◌≡◌, inl, inr, refl, sym, ap, ◌∙◌, subst, Bool, cond, true, false, List, Option, Some, None, option_map}
+use Rattle.std.proofs.Common.{ℕ, ◌≡◌, inl, inr, refl, sym, ap, ◌∙◌, subst, Bool, cond, true, false}
+use Rattle.std.proofs.Common.{List, Option, Some, None, option_map}
 use Rattle.std.specs.Prelude.{slice_set, ◌==◌, ◌&&◌, find, is_some}
 use Rattle.std.specs.List.{list_any}
 use Rattle.std.proofs.lemmas.Bool.{and_parts, eqb-true}
 use Rattle.dos_world.specs.Numbered.{numbered, changed}
-use Rattle.dos_world.specs.World.{World, Thread, Registers, flat, thread_at, with_thread, with_registers, registers_by, get}
+use Rattle.dos_world.specs.World.{World, Thread, Registers, flat, thread_at, with_thread}
+use Rattle.dos_world.specs.World.{with_registers, registers_by, get}
 use Rattle.dos_world.specs.Kernel.{opened}
 use Rattle.dos_world.specs.Calls.{Call, Service, call_of, charged, refuses}
 use Rattle.dos_world.specs.Services.{services, service_by, service_for}
-use Rattle.dos_world.specs.Refusals.{refusals, conditions_by, first_that_holds, refusal_for, granted_before, refused_registers}
-use Rattle.dos_world.specs.Laws.{but_for_registers, SameButRegistersAndOwners, KeepsOwners, RefusedCallsChangeRegistersAlone, OnlyTheseAreRefused}
+use Rattle.dos_world.specs.Refusals.{refusals, conditions_by, first_that_holds, refusal_for}
+use Rattle.dos_world.specs.Refusals.{granted_before, refused_registers}
+use Rattle.dos_world.specs.Laws.{but_for_registers, SameButRegistersAndOwners, KeepsOwners}
+use Rattle.dos_world.specs.Laws.{RefusedCallsChangeRegistersAlone, OnlyTheseAreRefused}
 use Rattle.dos_world.specs.Reach.{Reached, fault, foreign, at, reach, grant}
 use Rattle.dos_world.specs.declared.Owner.{Owner}
 use Rattle.dos_world.specs.declared.Owner.TheVariants.{Shared}
@@ -18,7 +22,8 @@ use Rattle.dos_world.specs.declared.Size.TheVariants.{Byte}
 use Rattle.dos_world.proofs.Numbers.{changed_other, changed_there}
 use Rattle.dos_world.proofs.Unrefused.{NotRefused}
 use Rattle.dos_world.proofs.UsualCalls.{IsUsual, usual}
-use Rattle.dos_world.proofs.RefusalRows.{IsRow, refusal_play, checked-some, checked-none, found-row, all-rows}
+use Rattle.dos_world.proofs.RefusalRows.{IsRow, refusal_play, checked-some, checked-none, found-row}
+use Rattle.dos_world.proofs.RefusalRows.{all-rows}
 
 -- ---- what a refusal leaves
 

@@ -1,13 +1,16 @@
 -- What services answer in a small world, computed by the checker. What each comes to was worked out
 -- by hand from its rule.
 use Rattle.std.specs.Prelude.{ℕ, true, false, [], ◌∷◌, map, replicate, Some, None, ◌≡◌, refl}
-use Rattle.dos_world.specs.World.{World, live, ended, thread_at, live_threads, entry_at, owner_of, get, with_thread, blank, set}
+use Rattle.dos_world.specs.World.{World, live, ended, thread_at, live_threads, entry_at, owner_of}
+use Rattle.dos_world.specs.World.{get, with_thread, blank, set}
 use Rattle.dos_world.specs.Kernel.{minus, zero_page}
 use Rattle.dos_world.specs.Services.{services}
 use Rattle.dos_world.specs.Signals.{would_wait, ripen}
 use Rattle.dos_world.specs.declared.Owner.TheVariants.{Free, Shared, Of}
 use Rattle.dos_world.specs.declared.End.TheVariants.{Output}
-use Rattle.dos_world.proofs.SmallWorld.{a_thread, a_process, world_with, small, served, goes_on, waiting, yielding, asking, way_of, after, registers_at, reply}
+use Rattle.dos_world.proofs.SmallWorld.{a_thread, a_process, world_with, small, served, goes_on}
+use Rattle.dos_world.proofs.SmallWorld.{waiting, yielding, asking, way_of, after, registers_at}
+use Rattle.dos_world.proofs.SmallWorld.{reply}
 
 -- ---- any service
 

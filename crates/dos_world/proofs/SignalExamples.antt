@@ -1,12 +1,14 @@
 -- The signal point and sig_handler in a small world, computed by the checker. What each comes to
 -- was worked out by hand from its rule.
 use Rattle.std.specs.Prelude.{ℕ, false, [], ◌∷◌, replicate, slice_set, Some, None, ◌≡◌, refl}
-use Rattle.dos_world.specs.World.{World, Process, Thread, live, ended, thread_at, blank, set, live_threads}
+use Rattle.dos_world.specs.World.{World, Process, Thread, live, ended, thread_at, blank, set}
+use Rattle.dos_world.specs.World.{live_threads}
 use Rattle.dos_world.specs.Kernel.{minus}
 use Rattle.dos_world.specs.Services.{services}
 use Rattle.dos_world.specs.Signals.{signal_turn, signalled}
 use Rattle.dos_world.specs.declared.ThreadState.TheVariants.{Retry}
-use Rattle.dos_world.proofs.SmallWorld.{a_thread, two_pages, world_with, small, served, goes_on, after, reply}
+use Rattle.dos_world.proofs.SmallWorld.{a_thread, two_pages, world_with, small, served, goes_on}
+use Rattle.dos_world.proofs.SmallWorld.{after, reply}
 
 -- a process whose action for signal 15 is this one
 abbrev acting : ℕ → Process

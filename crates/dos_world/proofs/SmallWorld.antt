@@ -1,6 +1,7 @@
 -- A small world for worked examples: one process with two pages in three frames, and some threads.
 use Rattle.std.specs.Prelude.{ℕ, true, false, List, [], ◌∷◌, ◌++◌, replicate, Option, Some, None}
-use Rattle.dos_world.specs.World.{World, Process, Thread, Entry, Registers, live, thread_at, blank, get, set, with_held, with_registers}
+use Rattle.dos_world.specs.World.{World, Process, Thread, Entry, Registers, live, thread_at, blank}
+use Rattle.dos_world.specs.World.{get, set, with_held, with_registers}
 use Rattle.dos_world.specs.Play.{Outcome, gives, asks}
 use Rattle.dos_world.specs.Calls.{Served, went, waits, yields, gone}
 use Rattle.dos_world.specs.Services.{serve, all_services}

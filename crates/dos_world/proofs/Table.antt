@@ -1,8 +1,10 @@
 -- A number without a row is no service.
-use Rattle.std.proofs.Common.{ℕ, ◌<◌, ◌≤◌, ◌≡◌, ◌≢◌, ◌⊎◌, inl, inr, refl, ap, subst, sym, Bool, cond, true, false, not, List, [], ◌∷◌, Some, None, arith}
+use Rattle.std.proofs.Common.{ℕ, ◌<◌, ◌≤◌, ◌≡◌, ◌≢◌, ◌⊎◌, inl, inr, refl, ap, subst, sym, Bool}
+use Rattle.std.proofs.Common.{cond, true, false, not, List, [], ◌∷◌, Some, None, arith}
 use Rattle.std.specs.Prelude.{◌==◌, nat_le, find}
 use Rattle.std.specs.List.{list_all}
-use Rattle.std.proofs.lemmas.Bool.{and_parts, and_from, leb-true, ne_eqb, not_from_false, true≢false}
+use Rattle.std.proofs.lemmas.Bool.{and_parts, and_from, leb-true, ne_eqb, not_from_false}
+use Rattle.std.proofs.lemmas.Bool.{true≢false}
 use Rattle.dos_world.specs.Calls.{Call, Service, refuses}
 use Rattle.dos_world.specs.Services.{services, service_by, service_of}
 

@@ -1,11 +1,14 @@
 -- What an accepted call gives isn't what a refused one would give: a0 is no error's number, or
 -- something else has changed.
-use Rattle.std.proofs.Common.{ℕ, zero, suc, ◌+◌, ◌/◌, ◌%◌, ◌<◌, ◌≤◌, ◌≡◌, ◌≢◌, refl, sym, ap, ◌∙◌, subst, Bool, cond, true, false, not, List, [], ◌∷◌, length, map, filter, take, Option, Some, option_map, arith}
+use Rattle.std.proofs.Common.{ℕ, zero, suc, ◌+◌, ◌/◌, ◌%◌, ◌<◌, ◌≤◌, ◌≡◌, ◌≢◌, refl, sym, ap, ◌∙◌}
+use Rattle.std.proofs.Common.{subst, Bool, cond, true, false, not, List, [], ◌∷◌, length, map}
+use Rattle.std.proofs.Common.{filter, take, Option, Some, option_map, arith}
 use Rattle.std.specs.Prelude.{◌==◌, ◌&&◌, IsTrue}
 use Rattle.std.proofs.lemmas.Bool.{eqb-true, eq-eqb, and_parts, true≢false}
 use Rattle.std.proofs.lemmas.List.{get_or-set_other}
 use Rattle.dos_world.specs.Numbered.{numbered, places_from, run_of}
-use Rattle.dos_world.specs.World.{World, Thread, Registers, Sleeper, flat, thread_at, with_thread, with_registers, registers_by, first_of, get, set, has_bit}
+use Rattle.dos_world.specs.World.{World, Thread, Registers, Sleeper, flat, thread_at, with_thread}
+use Rattle.dos_world.specs.World.{with_registers, registers_by, first_of, get, set, has_bit}
 use Rattle.dos_world.specs.Kernel.{minus, answered, answered_two, opened, is_other, woken}
 use Rattle.dos_world.specs.Reach.{Reached, fault, foreign, at, reach, grant}
 use Rattle.dos_world.specs.Play.{Play, done, ask, Answer}

@@ -1,10 +1,12 @@
 -- A call in a lawful world: its thread lives, and its numbers are in range.
-use Rattle.std.proofs.Common.{ℕ, zero, suc, ◌≤◌, ◌≡◌, refl, sym, ap, ◌∙◌, subst, true, List, [], ◌∷◌, length, Option, Some, None, option_map, arith}
+use Rattle.std.proofs.Common.{ℕ, zero, suc, ◌≤◌, ◌≡◌, refl, sym, ap, ◌∙◌, subst, true, List, []}
+use Rattle.std.proofs.Common.{◌∷◌, length, Option, Some, None, option_map, arith}
 use Rattle.std.specs.Prelude.{slice_get, option_and_then, is_some, IsTrue, IsFalse, IfSome, All}
 use Rattle.std.proofs.lemmas.Bool.{lt-ltb, true≢false}
 use Rattle.std.proofs.lemmas.List.Elements.{All-head, All-tail}
 use Rattle.dos_world.specs.Numbered.{numbered}
-use Rattle.dos_world.specs.World.{World, Process, Holdings, Thread, flat, thread_at, live_process, holdings_of, all_holdings, has_bit}
+use Rattle.dos_world.specs.World.{World, Process, Holdings, Thread, flat, thread_at, live_process}
+use Rattle.dos_world.specs.World.{holdings_of, all_holdings, has_bit}
 use Rattle.dos_world.specs.Calls.{Call, call_of, charged, mask_of}
 use Rattle.dos_world.specs.Lawful.{Lawful, IsThread, AreHoldings, IsAction}
 use Rattle.dos_world.proofs.Numbers.{length-changed, changed_there}

@@ -1,6 +1,7 @@
 -- Numbers and pages in the flat list of bytes. Memory of this profile is little-endian: RISC-V
 -- unprivileged manual, edition 20191213, sections 1.5 and 2.6.
-use Rattle.std.specs.Prelude.{ℕ, zero, suc, ◌+◌, ◌*◌, ◌/◌, ◌%◌, List, [], ◌∷◌, ◌++◌, take, drop, slice_set}
+use Rattle.std.specs.Prelude.{ℕ, zero, suc, ◌+◌, ◌*◌, ◌/◌, ◌%◌, List, [], ◌∷◌, ◌++◌, take, drop}
+use Rattle.std.specs.Prelude.{slice_set}
 use Rattle.dos_world.specs.World.{World, page_size}
 
 -- the number that bytes stand for, the lowest first

@@ -2,7 +2,8 @@
 -- the ABI's calls (RISC-V ELF psABI, "Integer register convention"); the rest is this project's
 -- own.
 use Rattle.std.specs.Prelude.{ℕ, ◌-◌, Some, None, Result, Ok, Err}
-use Rattle.dos_world.specs.World.{World, Thread, thread_at, with_thread, with_registers, in_state, get, released}
+use Rattle.dos_world.specs.World.{World, Thread, thread_at, with_thread, with_registers, in_state}
+use Rattle.dos_world.specs.World.{get, released}
 use Rattle.dos_world.specs.Kernel.{minus, answered, answered_two}
 use Rattle.dos_world.specs.Play.{Play, Answer, done, ask}
 use Rattle.dos_world.specs.declared.Question.{Question}

@@ -1,6 +1,7 @@
 -- What isn't kept but counted from the lists of a world: frames in use, ends of pipes. This
 -- project's own rules.
-use Rattle.std.specs.Prelude.{ℕ, Bool, false, ◌||◌, List, [], length, filter, position, Option, Some, unwrap_or, ◌==◌, if◌then◌else◌, count_by, sum_by}
+use Rattle.std.specs.Prelude.{ℕ, Bool, false, ◌||◌, List, [], length, filter, position, Option}
+use Rattle.std.specs.Prelude.{Some, unwrap_or, ◌==◌, if◌then◌else◌, count_by, sum_by}
 use Rattle.std.specs.List.{list_any}
 use Rattle.dos_world.specs.Numbered.{map_from}
 use Rattle.dos_world.specs.World.{World, Holdings, all_holdings, is_free}

@@ -1,12 +1,16 @@
 -- The services of descriptors: pipe, read, write, close, dup. This project's own; error numbers are
 -- chosen after Linux's.
-use Rattle.std.specs.Prelude.{ℕ, ◌+◌, ◌-◌, min, Bool, not, List, [], ◌++◌, length, filter, find, take, drop, Option, Some, None, is_none, unwrap_or, ◌==◌, if◌then◌else◌, slice_get, slice_index_or, slice_set}
+use Rattle.std.specs.Prelude.{ℕ, ◌+◌, ◌-◌, min, Bool, not, List, [], ◌++◌, length, filter, find}
+use Rattle.std.specs.Prelude.{take, drop, Option, Some, None, is_none, unwrap_or, ◌==◌}
+use Rattle.std.specs.Prelude.{if◌then◌else◌, slice_get, slice_index_or, slice_set}
 use Rattle.dos_world.specs.Errors.{ebadf, efault, emfile, epipe}
 use Rattle.dos_world.specs.Numbered.{run_of}
 use Rattle.dos_world.specs.World.{World, Holdings, live_process, first_of, with_holdings, pipe_size}
-use Rattle.dos_world.specs.Kernel.{is_open, has_reader, has_writer, tidied, all_reach, copied_in, copied_out}
+use Rattle.dos_world.specs.Kernel.{is_open, has_reader, has_writer, tidied, all_reach, copied_in}
+use Rattle.dos_world.specs.Kernel.{copied_out}
 use Rattle.dos_world.specs.Play.{Play, Answer, input_of}
-use Rattle.dos_world.specs.Calls.{Served, Service, Call, asks_shim, returns, returns_in, returns_two, refuses, retries}
+use Rattle.dos_world.specs.Calls.{Served, Service, Call, asks_shim, returns, returns_in}
+use Rattle.dos_world.specs.Calls.{returns_two, refuses, retries}
 use Rattle.dos_world.specs.declared.Access.TheVariants.{Load, Store}
 use Rattle.dos_world.specs.declared.End.{End}
 use Rattle.dos_world.specs.declared.End.TheVariants.{Input, Output, Error, PipeRead, PipeWrite}

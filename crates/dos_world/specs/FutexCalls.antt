@@ -1,6 +1,7 @@
 -- The services of a thread that sleeps on a word: futex_wait and futex_wake. This project's own,
 -- after Linux's.
-use Rattle.std.specs.Prelude.{ℕ, ◌+◌, ◌*◌, ◌%◌, Bool, not, ◌&&◌, List, [], ◌∷◌, ◌++◌, length, map, filter, take, Option, Some, None, ◌==◌, if◌then◌else◌}
+use Rattle.std.specs.Prelude.{ℕ, ◌+◌, ◌*◌, ◌%◌, Bool, not, ◌&&◌, List, [], ◌∷◌, ◌++◌, length, map}
+use Rattle.std.specs.Prelude.{filter, take, Option, Some, None, ◌==◌, if◌then◌else◌}
 use Rattle.dos_world.specs.Errors.{eagain, efault, einval}
 use Rattle.dos_world.specs.World.{World, Entry, Sleeper, entry_at, with_thread, in_state, page_size}
 use Rattle.dos_world.specs.Bytes.{loaded}

@@ -1,9 +1,14 @@
 -- Whether a world is lawful, as a test that can be computed: so an opening and a worked example can
 -- be shown to be. What it passes is lawful.
-use Rattle.std.specs.Prelude.{ℕ, ◌+◌, ◌*◌, ◌%◌, ◌^◌, Bool, true, false, not, ◌&&◌, List, [], ◌∷◌, length, map, Option, Some, None, option_and_then, is_some, ◌==◌, nat_lt, nat_le, count_by, slice_index_or}
+use Rattle.std.specs.Prelude.{ℕ, ◌+◌, ◌*◌, ◌%◌, ◌^◌, Bool, true, false, not, ◌&&◌, List, [], ◌∷◌}
+use Rattle.std.specs.Prelude.{length, map, Option, Some, None, option_and_then, is_some, ◌==◌}
+use Rattle.std.specs.Prelude.{nat_lt, nat_le, count_by, slice_index_or}
 use Rattle.std.specs.List.{list_all}
 use Rattle.dos_world.specs.Numbered.{numbered, run_of}
-use Rattle.dos_world.specs.World.{World, Process, status_of, Holdings, Thread, Sleeper, Registers, holdings_of, all_holdings, live_process, thread_at, live_threads, threads_of, owner_of, is_free, is_state, has_bit, get, page_size, pipe_size}
+use Rattle.dos_world.specs.World.{World, Process, status_of, Holdings, Thread, Sleeper, Registers}
+use Rattle.dos_world.specs.World.{holdings_of, all_holdings, live_process, thread_at, live_threads}
+use Rattle.dos_world.specs.World.{threads_of, owner_of, is_free, is_state, has_bit, get, page_size}
+use Rattle.dos_world.specs.World.{pipe_size}
 use Rattle.dos_world.specs.Counts.{is_mapped, is_open, uses_of}
 use Rattle.dos_world.specs.SignalCalls.{is_action}
 use Rattle.dos_world.specs.Lawful.{turns_asleep}

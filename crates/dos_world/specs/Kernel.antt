@@ -1,14 +1,20 @@
 -- What several services and the signal point share: frames that are taken, threads that wake,
 -- signals that are posted, the end of a process. This project's own rules.
-use Rattle.std.specs.Prelude.{ℕ, ◌-◌, ◌^◌, Bool, false, not, List, [], ◌∷◌, length, map, filter, replicate, Option, None, Some, ◌==◌, nat_lt, if◌then◌else◌, slice_set}
+use Rattle.std.specs.Prelude.{ℕ, ◌-◌, ◌^◌, Bool, false, not, List, [], ◌∷◌, length, map, filter}
+use Rattle.std.specs.Prelude.{replicate, Option, None, Some, ◌==◌, nat_lt, if◌then◌else◌, slice_set}
 use Rattle.std.specs.List.{list_any}
 use Rattle.dos_world.specs.Numbered.{changed}
-use Rattle.dos_world.specs.World.{World, Sleeper, Process, Holdings, Thread, Registers, Entry, ended, is_child, parent_of, threads_of, first_thread, belongs_to, with_thread, without_thread, set, past, with_bit, page_size}
+use Rattle.dos_world.specs.World.{World, Sleeper, Process, Holdings, Thread, Registers, Entry}
+use Rattle.dos_world.specs.World.{ended, is_child, parent_of, threads_of, first_thread, belongs_to}
+use Rattle.dos_world.specs.World.{with_thread, without_thread, set, past, with_bit, page_size}
 use Rattle.dos_world.specs.Bytes.{with_page}
 use Rattle.dos_world.specs.declared.Owner.TheVariants.{Of}
 use Rattle.dos_world.specs.declared.ThreadState.TheVariants.{Ready}
-pub use Rattle.dos_world.specs.Counts.{maps_frame, is_mapped, free_frames, lowest_free_frame, reads_pipe, writes_pipe, has_reader, has_writer, is_open, tidied}
-pub use Rattle.dos_world.specs.Copying.{is_reached, all_reach, opened, place_of, copied_in, copied_out}
+pub use Rattle.dos_world.specs.Counts.{maps_frame, is_mapped, free_frames, lowest_free_frame}
+pub use Rattle.dos_world.specs.Counts.{reads_pipe, writes_pipe, has_reader, has_writer, is_open}
+pub use Rattle.dos_world.specs.Counts.{tidied}
+pub use Rattle.dos_world.specs.Copying.{is_reached, all_reach, opened, place_of, copied_in}
+pub use Rattle.dos_world.specs.Copying.{copied_out}
 
 -- ---- taking a frame
 

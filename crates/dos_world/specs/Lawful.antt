@@ -1,9 +1,14 @@
 -- Which worlds are lawful: what holds of the opening, and what every instruction, service and
 -- signal keeps. This project's own rules and limits.
-use Rattle.std.specs.Prelude.{ℕ, List, option_and_then, ◌≡◌, ◌≢◌, ◌⊎◌, ◌↔◌, ◌*◌, ◌%◌, ◌^◌, ◌<◌, ◌≤◌, ◌==◌, [], length, map, Option, Some, All, AllPairs, IsTrue, IsFalse, IfSome, count_by, is_some, slice_index_or, ⊤, if◌then◌else◌}
+use Rattle.std.specs.Prelude.{ℕ, List, option_and_then, ◌≡◌, ◌≢◌, ◌⊎◌, ◌↔◌, ◌*◌, ◌%◌, ◌^◌, ◌<◌, ◌≤◌}
+use Rattle.std.specs.Prelude.{◌==◌, [], length, map, Option, Some, All, AllPairs, IsTrue, IsFalse}
+use Rattle.std.specs.Prelude.{IfSome, count_by, is_some, slice_index_or, ⊤, if◌then◌else◌}
 use Rattle.std.specs.List.Sorted.{IsStrictlyIncreasing}
 use Rattle.dos_world.specs.Numbered.{numbered}
-use Rattle.dos_world.specs.World.{World, Process, status_of, holdings_of, Holdings, Thread, Sleeper, Registers, Entry, code_unit, all_holdings, live_process, thread_at, live_threads, threads_of, owner_of, is_state, has_bit, get, page_size, pipe_size}
+use Rattle.dos_world.specs.World.{World, Process, status_of, holdings_of, Holdings, Thread, Sleeper}
+use Rattle.dos_world.specs.World.{Registers, Entry, code_unit, all_holdings, live_process}
+use Rattle.dos_world.specs.World.{thread_at, live_threads, threads_of, owner_of, is_state, has_bit}
+use Rattle.dos_world.specs.World.{get, page_size, pipe_size}
 use Rattle.dos_world.specs.Counts.{is_mapped, is_open}
 pub use Rattle.dos_world.specs.Counts.{uses_of}
 use Rattle.dos_world.specs.declared.Owner.TheVariants.{Free, Of}

@@ -1,8 +1,10 @@
 -- Laws of the definitions; the functions of the module laws promise them.
-use Rattle.std.specs.Prelude.{ℕ, ◌≡◌, ◌≢◌, ◌⊎◌, ◌<◌, List, [], ◌∷◌, ◌++◌, Some, None, option_map, IsTrue, slice_set}
+use Rattle.std.specs.Prelude.{ℕ, ◌≡◌, ◌≢◌, ◌⊎◌, ◌<◌, List, [], ◌∷◌, ◌++◌, Some, None, option_map}
+use Rattle.std.specs.Prelude.{IsTrue, slice_set}
 use Rattle.dos_world.specs.Errors.{enosys}
 use Rattle.dos_world.specs.World.{World, Thread, thread_at, get, blank}
-use Rattle.dos_world.specs.Play.{Play, Answer, done, ask, ◌>>=◌, Outcome, gives, asks, over, questions}
+use Rattle.dos_world.specs.Play.{Play, Answer, done, ask, ◌>>=◌, Outcome, gives, asks, over}
+use Rattle.dos_world.specs.Play.{questions}
 use Rattle.dos_world.specs.Services.{service, service_of}
 use Rattle.dos_world.specs.Calls.{Call, call_of, went, refuses}
 use Rattle.dos_world.specs.Refusals.{call_refusal, refused}

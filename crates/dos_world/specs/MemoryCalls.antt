@@ -1,11 +1,14 @@
 -- The services of memory: map, unmap, share. This project's own; error numbers are chosen after
 -- Linux's.
-use Rattle.std.specs.Prelude.{ℕ, ◌+◌, ◌*◌, ◌/◌, ◌%◌, Bool, true, false, not, ◌&&◌, List, [], ◌∷◌, map, filter, Result, Ok, Err, is_some, ◌==◌, nat_lt, nat_le, if◌then◌else◌}
+use Rattle.std.specs.Prelude.{ℕ, ◌+◌, ◌*◌, ◌/◌, ◌%◌, Bool, true, false, not, ◌&&◌, List, [], ◌∷◌}
+use Rattle.std.specs.Prelude.{map, filter, Result, Ok, Err, is_some, ◌==◌, nat_lt, nat_le}
+use Rattle.std.specs.Prelude.{if◌then◌else◌}
 use Rattle.std.specs.List.{list_any, list_all}
 use Rattle.dos_world.specs.Errors.{einval, enomem}
 use Rattle.dos_world.specs.Numbered.{run_of}
 use Rattle.dos_world.specs.World.{World, Holdings, Entry, look, space_of, with_holdings, page_size}
-use Rattle.dos_world.specs.Kernel.{tidied, free_frames, lowest_free_frame, with_fresh, zero_page, with_entry}
+use Rattle.dos_world.specs.Kernel.{tidied, free_frames, lowest_free_frame, with_fresh, zero_page}
+use Rattle.dos_world.specs.Kernel.{with_entry}
 use Rattle.dos_world.specs.Calls.{Service, Call, replies}
 
 -- ---- the range: a1 pages from a0 on

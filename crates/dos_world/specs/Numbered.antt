@@ -1,6 +1,7 @@
 -- Lists whose elements are numbered from 1, as processes and threads are. No element has number 0.
 -- This project's own rule.
-use Rattle.std.specs.Prelude.{ℕ, zero, suc, Bool, List, [], ◌∷◌, Option, None, slice_get, if◌then◌else◌}
+use Rattle.std.specs.Prelude.{ℕ, zero, suc, Bool, List, [], ◌∷◌, Option, None, slice_get}
+use Rattle.std.specs.Prelude.{if◌then◌else◌}
 
 -- the element with this number
 abbrev pub numbered : {A : Type 0} → List A → ℕ → Option A

@@ -1,13 +1,20 @@
 -- The services of a process: process_exit, fork, wait, get_pid. This project's own; error numbers
 -- are chosen after Linux's.
-use Rattle.std.specs.Prelude.{ℕ, ◌+◌, ◌%◌, Bool, true, not, ◌&&◌, ◌||◌, List, [], ◌∷◌, ◌++◌, length, filter, Option, Some, None, Result, Ok, Err, ◌==◌, count_by, nat_lt, nat_le, if◌then◌else◌}
+use Rattle.std.specs.Prelude.{ℕ, ◌+◌, ◌%◌, Bool, true, not, ◌&&◌, ◌||◌, List, [], ◌∷◌, ◌++◌, length}
+use Rattle.std.specs.Prelude.{filter, Option, Some, None, Result, Ok, Err, ◌==◌, count_by, nat_lt}
+use Rattle.std.specs.Prelude.{nat_le, if◌then◌else◌}
 use Rattle.dos_world.specs.Errors.{eagain, echild, enomem}
 use Rattle.dos_world.specs.Numbered.{changed, numbers_of}
-use Rattle.dos_world.specs.World.{World, Process, Holdings, Thread, Entry, live, ended, live_process, process_at, all_holdings, thread_at, first_of, has_ended, is_child, status_of, released, page_of}
-use Rattle.dos_world.specs.Kernel.{answered, free_frames, lowest_free_frame, with_fresh, process_ended}
+use Rattle.dos_world.specs.World.{World, Process, Holdings, Thread, Entry, live, ended}
+use Rattle.dos_world.specs.World.{live_process, process_at, all_holdings, thread_at, first_of}
+use Rattle.dos_world.specs.World.{has_ended, is_child, status_of, released, page_of}
+use Rattle.dos_world.specs.Kernel.{answered, free_frames, lowest_free_frame, with_fresh}
+use Rattle.dos_world.specs.Kernel.{process_ended}
 use Rattle.dos_world.specs.Play.{done}
-use Rattle.dos_world.specs.Calls.{Service, Call, gone, returns, returns_two, refuses, replies, retries}
-use Rattle.dos_world.specs.ThreadCalls.{are_threads_full, next_thread, with_new_thread, ready_thread}
+use Rattle.dos_world.specs.Calls.{Service, Call, gone, returns, returns_two, refuses, replies}
+use Rattle.dos_world.specs.Calls.{retries}
+use Rattle.dos_world.specs.ThreadCalls.{are_threads_full, next_thread, with_new_thread}
+use Rattle.dos_world.specs.ThreadCalls.{ready_thread}
 
 -- 2: The process ends with status a0 mod 256.
 abbrev pub process_exit : Service

@@ -1,14 +1,20 @@
 -- Which calls are refused, with which number, and what is left of them. This project's own rules;
 -- error numbers are chosen after Linux's.
-use Rattle.std.specs.Prelude.{ℕ, ◌%◌, Bool, true, false, not, ◌&&◌, ◌||◌, List, [], ◌∷◌, find, Option, Some, None, is_some, is_none, ◌==◌, nat_lt, nat_le, if◌then◌else◌}
+use Rattle.std.specs.Prelude.{ℕ, ◌%◌, Bool, true, false, not, ◌&&◌, ◌||◌, List, [], ◌∷◌, find}
+use Rattle.std.specs.Prelude.{Option, Some, None, is_some, is_none, ◌==◌, nat_lt, nat_le}
+use Rattle.std.specs.Prelude.{if◌then◌else◌}
 use Rattle.std.specs.List.{list_any}
-use Rattle.dos_world.specs.Errors.{eagain, ebadf, echild, efault, einval, emfile, enomem, enosys, epipe, esrch}
-use Rattle.dos_world.specs.World.{World, Thread, Registers, code_unit, first_of, entry_at, live_process, thread_at, space_of, with_registers, get}
+use Rattle.dos_world.specs.Errors.{eagain, ebadf, echild, efault, einval, emfile, enomem, enosys}
+use Rattle.dos_world.specs.Errors.{epipe, esrch}
+use Rattle.dos_world.specs.World.{World, Thread, Registers, code_unit, first_of, entry_at}
+use Rattle.dos_world.specs.World.{live_process, thread_at, space_of, with_registers, get}
 use Rattle.dos_world.specs.Kernel.{minus, answered, has_reader, free_frames, all_reach, opened}
 use Rattle.dos_world.specs.Calls.{Call, call_of}
 use Rattle.dos_world.specs.ThreadCalls.{are_threads_full}
-use Rattle.dos_world.specs.ProcessCalls.{are_processes_full, private_entries, children_where, any_process}
-use Rattle.dos_world.specs.DescriptorCalls.{descriptor, free_descriptors, second_of, lowest_pipe, count_of}
+use Rattle.dos_world.specs.ProcessCalls.{are_processes_full, private_entries, children_where}
+use Rattle.dos_world.specs.ProcessCalls.{any_process}
+use Rattle.dos_world.specs.DescriptorCalls.{descriptor, free_descriptors, second_of, lowest_pipe}
+use Rattle.dos_world.specs.DescriptorCalls.{count_of}
 use Rattle.dos_world.specs.FutexCalls.{futex_word, is_off_word}
 use Rattle.dos_world.specs.MemoryCalls.{is_range, is_no_range, maps_page, lacks_page, all_rights}
 use Rattle.dos_world.specs.SignalCalls.{is_signal, is_action, saved_of, refused_in_place}

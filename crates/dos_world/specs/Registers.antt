@@ -1,6 +1,7 @@
 -- The registers of a thread. RISC-V unprivileged manual, edition 20191213, section 2.1 (pc, x0 to
 -- x31); the reservation of lr.w is this project's own.
-use Rattle.std.specs.Prelude.{ℕ, zero, suc, ◌+◌, ◌%◌, ◌^◌, List, Option, None, replicate, slice_index, slice_set}
+use Rattle.std.specs.Prelude.{ℕ, zero, suc, ◌+◌, ◌%◌, ◌^◌, List, Option, None, replicate}
+use Rattle.std.specs.Prelude.{slice_index, slice_set}
 
 -- pc, x0 to x31, and the address that lr.w reserved
 pub record Registers : Type 0 where

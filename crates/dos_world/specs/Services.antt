@@ -1,5 +1,6 @@
 -- The services by number, and what is served for a thread. This project's own.
-use Rattle.std.specs.Prelude.{ℕ, ◌+◌, ◌/◌, ◌%◌, ◌^◌, List, [], ◌∷◌, find, Option, Some, None, ◌==◌, if◌then◌else◌}
+use Rattle.std.specs.Prelude.{ℕ, ◌+◌, ◌/◌, ◌%◌, ◌^◌, List, [], ◌∷◌, find, Option, Some, None, ◌==◌}
+use Rattle.std.specs.Prelude.{if◌then◌else◌}
 use Rattle.std.specs.List.{list_any}
 use Rattle.dos_world.specs.Errors.{enosys}
 use Rattle.dos_world.specs.Numbered.{run_of}
@@ -7,13 +8,25 @@ use Rattle.dos_world.specs.World.{World, Thread, thread_at, get}
 use Rattle.dos_world.specs.Play.{Play, Answer, done, Outcome, over, reading_of}
 use Rattle.dos_world.specs.declared.Question.TheVariants.{Clock}
 pub use Rattle.dos_world.specs.World.{action_of}
-pub use Rattle.dos_world.specs.Calls.{Served, went, waits, yields, gone, Call, Service, charged, call_of, mask_of, asks_shim, returns, returns_in, returns_two, refuses, refuses_in, replies, retries}
-pub use Rattle.dos_world.specs.ThreadCalls.{thread_exit, thread_new, get_tid, yield, are_threads_full, next_thread, with_new_thread, new_registers, ready_thread}
-pub use Rattle.dos_world.specs.ProcessCalls.{process_exit, get_pid, fork, forked, forked_by, with_child, copied_space, private_entries, next_process, wait, wait_by, children_where, collected}
-pub use Rattle.dos_world.specs.DescriptorCalls.{pipe, close, dup, read, read_by, read_input, read_pipe, write, write_by, write_output, write_error, write_pipe, transfers, count_of, descriptor, descriptors_of, pipe_bytes, with_pipe}
+pub use Rattle.dos_world.specs.Calls.{Served, went, waits, yields, gone, Call, Service, charged}
+pub use Rattle.dos_world.specs.Calls.{call_of, mask_of, asks_shim, returns, returns_in, returns_two}
+pub use Rattle.dos_world.specs.Calls.{refuses, refuses_in, replies, retries}
+pub use Rattle.dos_world.specs.ThreadCalls.{thread_exit, thread_new, get_tid, yield}
+pub use Rattle.dos_world.specs.ThreadCalls.{are_threads_full, next_thread, with_new_thread}
+pub use Rattle.dos_world.specs.ThreadCalls.{new_registers, ready_thread}
+pub use Rattle.dos_world.specs.ProcessCalls.{process_exit, get_pid, fork, forked, forked_by}
+pub use Rattle.dos_world.specs.ProcessCalls.{with_child, copied_space, private_entries}
+pub use Rattle.dos_world.specs.ProcessCalls.{next_process, wait, wait_by, children_where, collected}
+pub use Rattle.dos_world.specs.DescriptorCalls.{pipe, close, dup, read, read_by, read_input}
+pub use Rattle.dos_world.specs.DescriptorCalls.{read_pipe, write, write_by, write_output}
+pub use Rattle.dos_world.specs.DescriptorCalls.{write_error, write_pipe, transfers, count_of}
+pub use Rattle.dos_world.specs.DescriptorCalls.{descriptor, descriptors_of, pipe_bytes, with_pipe}
 pub use Rattle.dos_world.specs.FutexCalls.{futex_wait, futex_wake}
-pub use Rattle.dos_world.specs.MemoryCalls.{map_pages, mapped, page_mapped, mapped_fresh, unmap, unmapped, share, shared, is_range, pages_of, is_page_mapped}
-pub use Rattle.dos_world.specs.SignalCalls.{sig_handler, sig_mask, sig_return, kill, is_signal, is_action}
+pub use Rattle.dos_world.specs.MemoryCalls.{map_pages, mapped, page_mapped, mapped_fresh, unmap}
+pub use Rattle.dos_world.specs.MemoryCalls.{unmapped, share, shared, is_range, pages_of}
+pub use Rattle.dos_world.specs.MemoryCalls.{is_page_mapped}
+pub use Rattle.dos_world.specs.SignalCalls.{sig_handler, sig_mask, sig_return, kill, is_signal}
+pub use Rattle.dos_world.specs.SignalCalls.{is_action}
 
 -- ---- 22 and 24
 

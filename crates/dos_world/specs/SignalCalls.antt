@@ -1,8 +1,11 @@
 -- The services of signals: sig_handler, sig_mask, sig_return, kill. This project's own; error and
 -- signal numbers are chosen after Linux's.
-use Rattle.std.specs.Prelude.{ℕ, ◌-◌, ◌%◌, Bool, not, ◌&&◌, ◌||◌, List, [], ◌∷◌, Some, None, is_none, ◌==◌, nat_lt, nat_le, if◌then◌else◌, slice_set}
+use Rattle.std.specs.Prelude.{ℕ, ◌-◌, ◌%◌, Bool, not, ◌&&◌, ◌||◌, List, [], ◌∷◌, Some, None}
+use Rattle.std.specs.Prelude.{is_none, ◌==◌, nat_lt, nat_le, if◌then◌else◌, slice_set}
 use Rattle.dos_world.specs.Errors.{einval, esrch}
-use Rattle.dos_world.specs.World.{Holdings, Thread, Registers, code_unit, live_process, thread_at, action_of, with_thread, with_registers, with_holdings, set, released, allowed_mask}
+use Rattle.dos_world.specs.World.{Holdings, Thread, Registers, code_unit, live_process, thread_at}
+use Rattle.dos_world.specs.World.{action_of, with_thread, with_registers, with_holdings, set}
+use Rattle.dos_world.specs.World.{released, allowed_mask}
 use Rattle.dos_world.specs.Kernel.{minus, posted}
 use Rattle.dos_world.specs.Play.{done}
 use Rattle.dos_world.specs.Calls.{Service, Call, went, mask_of, returns_in, refuses}

@@ -1,9 +1,12 @@
 -- The signal point of a round, and which waiting threads go on. This project's own rules; signal
 -- numbers are chosen after Linux's.
-use Rattle.std.specs.Prelude.{ℕ, ◌+◌, Bool, true, false, not, ◌&&◌, ◌||◌, List, [], ◌∷◌, length, filter, find, Option, Some, None, ◌==◌, nat_le, if◌then◌else◌}
+use Rattle.std.specs.Prelude.{ℕ, ◌+◌, Bool, true, false, not, ◌&&◌, ◌||◌, List, [], ◌∷◌, length}
+use Rattle.std.specs.Prelude.{filter, find, Option, Some, None, ◌==◌, nat_le, if◌then◌else◌}
 use Rattle.dos_world.specs.Errors.{eintr}
 use Rattle.dos_world.specs.Numbered.{numbers_of, run_of}
-use Rattle.dos_world.specs.World.{World, Thread, live_threads, thread_at, action_of, is_state, in_state, with_thread, has_bit, with_bit, without_bit, set, with_pc}
+use Rattle.dos_world.specs.World.{World, Thread, live_threads, thread_at, action_of, is_state}
+use Rattle.dos_world.specs.World.{in_state, with_thread, has_bit, with_bit, without_bit, set}
+use Rattle.dos_world.specs.World.{with_pc}
 use Rattle.dos_world.specs.Kernel.{minus, woken, posted, process_ended}
 use Rattle.dos_world.specs.Play.{Play, done, ask}
 use Rattle.dos_world.specs.Calls.{Served, went, waits, yields, gone}

@@ -1,6 +1,7 @@
 -- The services of a thread: thread_exit, thread_new, get_tid, yield. This project's own; error
 -- numbers are chosen after Linux's.
-use Rattle.std.specs.Prelude.{ℕ, ◌+◌, ◌%◌, Bool, not, ◌||◌, List, [], ◌∷◌, ◌++◌, length, Option, Some, is_some, ◌==◌, nat_le, if◌then◌else◌}
+use Rattle.std.specs.Prelude.{ℕ, ◌+◌, ◌%◌, Bool, not, ◌||◌, List, [], ◌∷◌, ◌++◌, length, Option}
+use Rattle.std.specs.Prelude.{Some, is_some, ◌==◌, nat_le, if◌then◌else◌}
 use Rattle.dos_world.specs.Errors.{eagain, einval}
 use Rattle.dos_world.specs.Numbered.{numbers_of}
 use Rattle.dos_world.specs.World.{World, Thread, Registers, code_unit, with_registers, set, blank}

@@ -1,6 +1,8 @@
 -- The flat world: a group of processes and threads as plain data. All rules here are this project's
 -- own.
-use Rattle.std.specs.Prelude.{ℕ, ◌-◌, ◌*◌, ◌/◌, Bool, true, false, not, ◌&&◌, List, [], ◌∷◌, take, drop, find, Option, Some, None, is_some, option_map, option_and_then, ◌==◌, slice_get, slice_index_or, slice_index}
+use Rattle.std.specs.Prelude.{ℕ, ◌-◌, ◌*◌, ◌/◌, Bool, true, false, not, ◌&&◌, List, [], ◌∷◌, take}
+use Rattle.std.specs.Prelude.{drop, find, Option, Some, None, is_some, option_map, option_and_then}
+use Rattle.std.specs.Prelude.{◌==◌, slice_get, slice_index_or, slice_index}
 use Rattle.dos_world.specs.Numbered.{numbered, changed, numbers_of}
 use Rattle.dos_world.specs.declared.Owner.{Owner}
 use Rattle.dos_world.specs.declared.Owner.TheVariants.{Free, Shared, Of}
@@ -8,7 +10,8 @@ use Rattle.dos_world.specs.declared.ThreadState.{ThreadState}
 use Rattle.dos_world.specs.declared.ThreadState.TheVariants.{Ready, Retry, Asleep}
 use Rattle.dos_world.specs.declared.End.{End}
 pub use Rattle.dos_world.specs.declared.Entry.{Entry}
-pub use Rattle.dos_world.specs.Registers.{Registers, get, set, with_pc, with_held, blank, released, past}
+pub use Rattle.dos_world.specs.Registers.{Registers, get, set, with_pc, with_held, blank, released}
+pub use Rattle.dos_world.specs.Registers.{past}
 pub use Rattle.dos_world.specs.SignalSet.{has_bit, with_bit, without_bit, allowed_mask}
 
 -- ---- the parts

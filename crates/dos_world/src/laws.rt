@@ -1,5 +1,7 @@
 // Laws of the definitions, as contracts of functions that do nothing.
-ghost use Rattle.dos_world.specs.Laws.{MoreAnswersGoOn, OneThenAnother, TheLastQuestionIsAsked, TestedIsLawful, RefusedCallsChangeRegistersAlone, OnlyTheseAreRefused, UnknownServicesAreRefused};
+ghost use Rattle.dos_world.specs.Laws.{MoreAnswersGoOn, OneThenAnother, TheLastQuestionIsAsked};
+ghost use Rattle.dos_world.specs.Laws.{TestedIsLawful, RefusedCallsChangeRegistersAlone};
+ghost use Rattle.dos_world.specs.Laws.{OnlyTheseAreRefused, UnknownServicesAreRefused};
 
 /// More answers of the shim go on where the first ran out.
 pub fn more_answers_go_on<A>()

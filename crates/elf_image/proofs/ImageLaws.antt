@@ -5,7 +5,8 @@ use Rattle.elf_image.specs.declared.error.ImageError.{ImageError}
 use Rattle.elf_image.specs.declared.header.Header.{Header}
 use Rattle.elf_image.specs.declared.part.Part.{Part}
 use Rattle.elf_image.specs.Fields.{e_entry}
-use Rattle.elf_image.specs.Image.{Image, IsLoadable, IsSound, image, image_of, part_headers, part_of, refusal}
+use Rattle.elf_image.specs.Image.{Image, IsLoadable, IsSound, image, image_of, part_headers}
+use Rattle.elf_image.specs.Image.{part_of, refusal}
 use Rattle.elf_image.proofs.SoundLaws.{loadable, sound}
 
 pub image-refused : (bytes : List ℕ) (error : ImageError) → refusal bytes ≡ Some error

@@ -1,7 +1,8 @@
 -- A file as a linker makes it: a note, the headers and code, the data, and the stack's header;
 -- sections stand behind.
 use Rattle.std.specs.Prelude.{ℕ, List, [], ◌∷◌, ◌++◌, replicate, true, false, Ok, ◌≡◌, refl}
-use Rattle.elf_image.specs.Image.{image, image_of, refusal, format_refusal, machine_refusal, table_refusal, segment_refusal, overlap_refusal, entry_refusal}
+use Rattle.elf_image.specs.Image.{image, image_of, refusal, format_refusal, machine_refusal}
+use Rattle.elf_image.specs.Image.{table_refusal, segment_refusal, overlap_refusal, entry_refusal}
 use Rattle.elf_image.specs.Fields.{headers, headers_from, header_at, half, word}
 use Rattle.elf_image.proofs.Files.{file_header, program_header, code}
 

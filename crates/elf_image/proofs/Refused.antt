@@ -1,11 +1,17 @@
 -- Each refusal on a small file, and beside it what is just accepted. The headings have the
 -- refusals' own numbers.
-use Rattle.std.specs.Prelude.{ℕ, List, [], ◌∷◌, ◌++◌, take, replicate, slice_set, true, false, Ok, Err, ◌≡◌, refl}
-use Rattle.elf_image.specs.declared.error.ImageError.TheVariants.{Short, NotElf, Class, ByteOrder, Version, Kind, Machine, Flags, HeaderTable, Dynamic, Segment, Overlap, NoLoad, Entry}
+use Rattle.std.specs.Prelude.{ℕ, List, [], ◌∷◌, ◌++◌, take, replicate, slice_set, true, false, Ok}
+use Rattle.std.specs.Prelude.{Err, ◌≡◌, refl}
+use Rattle.elf_image.specs.declared.error.ImageError.TheVariants.{Short, NotElf, Class, ByteOrder}
+use Rattle.elf_image.specs.declared.error.ImageError.TheVariants.{Version, Kind, Machine, Flags}
+use Rattle.elf_image.specs.declared.error.ImageError.TheVariants.{HeaderTable, Dynamic, Segment}
+use Rattle.elf_image.specs.declared.error.ImageError.TheVariants.{Overlap, NoLoad, Entry}
 use Rattle.elf_image.specs.declared.part.Part.{Part}
-use Rattle.elf_image.specs.Image.{Image, image, image_of, refusal, format_refusal, machine_refusal, table_refusal, segment_refusal, overlap_refusal, entry_refusal}
+use Rattle.elf_image.specs.Image.{Image, image, image_of, refusal, format_refusal, machine_refusal}
+use Rattle.elf_image.specs.Image.{table_refusal, segment_refusal, overlap_refusal, entry_refusal}
 use Rattle.elf_image.specs.Fields.{headers, headers_from, header_at, half, word}
-use Rattle.elf_image.proofs.Files.{file_header, program_header, code, with_header, with_two, smallest, changed}
+use Rattle.elf_image.proofs.Files.{file_header, program_header, code, with_header, with_two}
+use Rattle.elf_image.proofs.Files.{smallest, changed}
 
 -- ---- the smallest file, byte by byte
 

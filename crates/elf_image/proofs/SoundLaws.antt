@@ -1,10 +1,15 @@
 -- Of a file that isn't refused, each part can be loaded, and the image is sound.
-use Rattle.std.proofs.Common.{◌≡◌, ℕ, ◌+◌, ◌%◌, ◌≤◌, Bool, true, false, cond, not, ◌&&◌, ◌||◌, ◌⊎◌, inl, inr, List, [], ◌∷◌, length, take, drop, get_or, Option, Some, None, refl, sym, ap, subst, ◌∙◌, arith, length-drop}
-use Rattle.std.specs.Prelude.{map, filter, find, All, AllPairs, Any, option_map, nat_lt, nat_le, ◌==◌}
+use Rattle.std.proofs.Common.{◌≡◌, ℕ, ◌+◌, ◌%◌, ◌≤◌, Bool, true, false, cond, not, ◌&&◌, ◌||◌, ◌⊎◌}
+use Rattle.std.proofs.Common.{inl, inr, List, [], ◌∷◌, length, take, drop, get_or, Option, Some}
+use Rattle.std.proofs.Common.{None, refl, sym, ap, subst, ◌∙◌, arith, length-drop}
+use Rattle.std.specs.Prelude.{map, filter, find, All, AllPairs, Any, option_map, nat_lt, nat_le}
+use Rattle.std.specs.Prelude.{◌==◌}
 use Rattle.std.specs.List.{list_any}
-use Rattle.std.proofs.lemmas.Bool.{ltb-true, ltb-false, leb-true, eqb-true, eqb-false, not-false, and_parts, and_cases, or_parts}
+use Rattle.std.proofs.lemmas.Bool.{ltb-true, ltb-false, leb-true, eqb-true, eqb-false, not-false}
+use Rattle.std.proofs.lemmas.Bool.{and_parts, and_cases, or_parts}
 use Rattle.std.proofs.lemmas.List.{length-take, length-map, get_or-map}
-use Rattle.std.proofs.lemmas.List.Elements.{All-nil, All-cons, All-head, All-tail, All-map, All-filter, filter_passes}
+use Rattle.std.proofs.lemmas.List.Elements.{All-nil, All-cons, All-head, All-tail, All-map}
+use Rattle.std.proofs.lemmas.List.Elements.{All-filter, filter_passes}
 use Rattle.std.proofs.lemmas.List.Kept.{AllPairs-cons}
 use Rattle.std.proofs.lemmas.List.Sums.{length-filter, count_by-le-length}
 use Rattle.std.proofs.lemmas.List.Folds.{Any-from_list_any}
@@ -13,7 +18,12 @@ use Rattle.elf_image.specs.declared.error.ImageError.TheVariants as error
 use Rattle.elf_image.specs.declared.header.Header.{Header}
 use Rattle.elf_image.specs.declared.part.Part.{Part}
 use Rattle.elf_image.specs.Fields.{e_entry, e_phnum, headers}
-use Rattle.elf_image.specs.Image.{code_unit, is_load, is_part, is_executable, leaves_file, leaves_space, is_segment_bad, do_meet, holds_entry, end_of, IsLoadable, ◌when◌, ◌otherwise◌, format_refusal, machine_refusal, table_refusal, segment_error, segment_refusal, overlap_error, overlap_refusal, entry_refusal, part_headers, refusal, part_of, image_of, size_of, IsPlaced, IsApart, HoldsEntry, IsSound}
+use Rattle.elf_image.specs.Image.{code_unit, is_load, is_part, is_executable, leaves_file}
+use Rattle.elf_image.specs.Image.{leaves_space, is_segment_bad, do_meet, holds_entry, end_of}
+use Rattle.elf_image.specs.Image.{IsLoadable, ◌when◌, ◌otherwise◌, format_refusal, machine_refusal}
+use Rattle.elf_image.specs.Image.{table_refusal, segment_error, segment_refusal, overlap_error}
+use Rattle.elf_image.specs.Image.{overlap_refusal, entry_refusal, part_headers, refusal, part_of}
+use Rattle.elf_image.specs.Image.{image_of, size_of, IsPlaced, IsApart, HoldsEntry, IsSound}
 use Rattle.elf_image.proofs.TableLaws.{length-headers}
 
 -- ---- what no refusal means

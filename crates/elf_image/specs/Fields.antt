@@ -1,6 +1,7 @@
 -- The fields of an ELF32 file by the names that the System V ABI gives them, each at its offset.
 -- All numbers are little-endian. A byte past the file's end reads as 0.
-use Rattle.std.specs.Prelude.{◌<◌, ◌≤◌, length, ℕ, zero, suc, ◌+◌, ◌*◌, List, [], ◌∷◌, drop, slice_index}
+use Rattle.std.specs.Prelude.{◌<◌, ◌≤◌, length, ℕ, zero, suc, ◌+◌, ◌*◌, List, [], ◌∷◌, drop}
+use Rattle.std.specs.Prelude.{slice_index}
 use Rattle.std.specs.Int.{w16, w32, from_le_bytes}
 use Rattle.elf_image.specs.declared.header.Header.{Header}
 

@@ -1,14 +1,18 @@
 -- The image that a file is, or the first refusal that holds of it.
 -- What a field means is the System V ABI's (ELF32). Which files are accepted is this project's own
 -- profile.
-use Rattle.std.specs.Prelude.{◌≡◌, ℕ, ◌<◌, ◌≤◌, ◌⊎◌, IsTrue, All, AllPairs, Any, ◌+◌, ◌-◌, ◌*◌, ◌%◌, Bool, not, ◌&&◌, ◌||◌, bit_and, List, [], ◌∷◌, length, map, filter, find, take, drop, Option, Some, None, option_map, Result, Ok, Err, ◌==◌, nat_eq, nat_lt, nat_le, if◌then◌else◌, true, false}
+use Rattle.std.specs.Prelude.{◌≡◌, ℕ, ◌<◌, ◌≤◌, ◌⊎◌, IsTrue, All, AllPairs, Any, ◌+◌, ◌-◌, ◌*◌, ◌%◌}
+use Rattle.std.specs.Prelude.{Bool, not, ◌&&◌, ◌||◌, bit_and, List, [], ◌∷◌, length, map, filter}
+use Rattle.std.specs.Prelude.{find, take, drop, Option, Some, None, option_map, Result, Ok, Err}
+use Rattle.std.specs.Prelude.{◌==◌, nat_eq, nat_lt, nat_le, if◌then◌else◌, true, false}
 use Rattle.std.specs.List.{list_any, starts_with}
 use Rattle.std.specs.Option.{option_or}
 use Rattle.elf_image.specs.declared.error.ImageError.{ImageError}
 use Rattle.elf_image.specs.declared.error.ImageError.TheVariants as error
 use Rattle.elf_image.specs.declared.header.Header.{Header}
 use Rattle.elf_image.specs.declared.part.Part.{Part}
-use Rattle.elf_image.specs.Fields.{e_ident, e_type, e_machine, e_version, e_entry, e_phoff, e_flags, e_phentsize, e_phnum, headers}
+use Rattle.elf_image.specs.Fields.{e_ident, e_type, e_machine, e_version, e_entry, e_phoff, e_flags}
+use Rattle.elf_image.specs.Fields.{e_phentsize, e_phnum, headers}
 
 -- an entry address, and the parts in the table's order
 pub record Image : Type 0 where

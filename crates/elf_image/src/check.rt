@@ -3,7 +3,9 @@
 ghost use Rattle.std.specs.Prelude.{◌≡◌, ◌+◌, ◌*◌, ◌≤◌, length, OnOk, option_copied, find};
 ghost use Rattle.std.specs.List.{list_any};
 ghost use Rattle.elf_image.specs.Fields.{HasTable};
-ghost use Rattle.elf_image.specs.Image.{checked, format_refusal, machine_refusal, table_refusal, segment_refusal, overlap_refusal, entry_refusal, is_dynamic, is_segment_bad, do_meet, holds_entry};
+ghost use Rattle.elf_image.specs.Image.{checked, format_refusal, machine_refusal, table_refusal};
+ghost use Rattle.elf_image.specs.Image.{segment_refusal, overlap_refusal, entry_refusal};
+ghost use Rattle.elf_image.specs.Image.{is_dynamic, is_segment_bad, do_meet, holds_entry};
 
 use crate::ImageError;
 use crate::field::{

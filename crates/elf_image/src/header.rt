@@ -1,7 +1,9 @@
 //! Program headers.
 
 ghost use Rattle.std.specs.Prelude.{◌≡◌, ◌+◌, ◌≤◌, length};
-ghost use Rattle.elf_image.specs.Image.{is_load, is_dynamic, is_executable, is_writable, is_part, leaves_file, leaves_space, is_segment_bad, do_meet, holds_entry};
+ghost use Rattle.elf_image.specs.Image.{is_load, is_dynamic, is_executable, is_writable, is_part};
+ghost use Rattle.elf_image.specs.Image.{leaves_file, leaves_space, is_segment_bad, do_meet};
+ghost use Rattle.elf_image.specs.Image.{holds_entry};
 
 /// The kind of a segment that is loaded.
 const PT_LOAD: u32 = 1;

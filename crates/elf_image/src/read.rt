@@ -1,7 +1,9 @@
 //! Reading a file.
 
-ghost use Rattle.std.specs.Prelude.{◌≡◌, ◌≢◌, ◌≤◌, ◌<◌, length, map, take, drop, false, All, None, Some, IfOk, IfErr};
-ghost use Rattle.elf_image.specs.Image.{image, IsLoadable, leaves_file, part_headers, part_of, refusal};
+ghost use Rattle.std.specs.Prelude.{◌≡◌, ◌≢◌, ◌≤◌, ◌<◌, length, map, take, drop, false, All, None};
+ghost use Rattle.std.specs.Prelude.{Some, IfOk, IfErr};
+ghost use Rattle.elf_image.specs.Image.{image, IsLoadable, leaves_file, part_headers, part_of};
+ghost use Rattle.elf_image.specs.Image.{refusal};
 
 use crate::check::{
     check_entry, check_format, check_machine, check_overlap, check_segments, check_table,

@@ -1,5 +1,7 @@
 -- What a level says of the one below it, as bits are set and cleared, and at the lowest one.
-use Rattle.std.proofs.Common.{◌≡◌, ℕ, ◌+◌, ◌*◌, ◌/◌, ◌%◌, ◌^◌, ◌<◌, Bool, true, false, cond, inl, inr, List, length, get_or, Some, None, sym, ap, subst, ◌∙◌, arith, w64}
+use Rattle.std.proofs.Common.{◌≡◌, ℕ, ◌+◌, ◌*◌, ◌/◌, ◌%◌, ◌^◌, ◌<◌, Bool, true, false, cond, inl}
+use Rattle.std.proofs.Common.{inr, List, length, get_or, Some, None, sym, ap, subst, ◌∙◌, arith}
+use Rattle.std.proofs.Common.{w64}
 use Rattle.std.specs.Prelude.{position, nat_lt, ◌==◌}
 use Rattle.std.specs.Int.{bit_at, bit_not, trailing_zeros}
 use Rattle.std.specs.List.{position_or_len}
@@ -11,8 +13,14 @@ use Rattle.std.proofs.lemmas.Nat.{and_le_l}
 use Rattle.std.proofs.lemmas.Nat.Bits.{bit_at-zero, bit_at-trailing_zeros}
 use Rattle.std.proofs.lemmas.Bool.{cases_eq, cases_lt}
 use Rattle.std.proofs.lemmas.Bool.Decides.{nat_tests}
-use Rattle.hierarchical_bitmap.specs.Levels.{bit, bits, is_set, itself, mask, with_bit, without_bit, AreLevels, AreZeroBelow, IsLowest, IsSummary}
-use Rattle.hierarchical_bitmap.proofs.Bits.{zeros, length-zeros, with_bit-others, without_bit-others, length-with_bit, length-without_bit, some-bit, with_bit-same, with_bit-other, without_bit-same, without_bit-other, without_bit-word, zeros-bit, zeros-word, length-bits, position-is, position-is_none}
+use Rattle.hierarchical_bitmap.specs.Levels.{bit, bits, is_set, itself, mask, with_bit, without_bit}
+use Rattle.hierarchical_bitmap.specs.Levels.{AreLevels, AreZeroBelow, IsLowest, IsSummary}
+use Rattle.hierarchical_bitmap.proofs.Bits.{zeros, length-zeros, with_bit-others}
+use Rattle.hierarchical_bitmap.proofs.Bits.{without_bit-others, length-with_bit, length-without_bit}
+use Rattle.hierarchical_bitmap.proofs.Bits.{some-bit, with_bit-same, with_bit-other}
+use Rattle.hierarchical_bitmap.proofs.Bits.{without_bit-same, without_bit-other, without_bit-word}
+use Rattle.hierarchical_bitmap.proofs.Bits.{zeros-bit, zeros-word, length-bits, position-is}
+use Rattle.hierarchical_bitmap.proofs.Bits.{position-is_none}
 
 -- ---- a bit set or cleared below
 

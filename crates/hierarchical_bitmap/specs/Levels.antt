@@ -1,5 +1,6 @@
 -- Levels of words of 64 bits, and what one says of the other.
-use Rattle.std.specs.Prelude.{◌≡◌, ◌<◌, ◌≤◌, ℕ, ◌+◌, ◌*◌, ◌/◌, ◌%◌, ◌^◌, Bool, List, map, length, not, bit_and, bit_or, slice_set, slice_index, ◌==◌}
+use Rattle.std.specs.Prelude.{◌≡◌, ◌<◌, ◌≤◌, ℕ, ◌+◌, ◌*◌, ◌/◌, ◌%◌, ◌^◌, Bool, List, map, length}
+use Rattle.std.specs.Prelude.{not, bit_and, bit_or, slice_set, slice_index, ◌==◌}
 use Rattle.std.specs.List.{range_with_len}
 use Rattle.std.specs.Int.{bit_at, bit_not, w64}
 

@@ -1,5 +1,6 @@
 // Places, and which of them are set.
-ghost use Rattle.std.specs.Prelude.{◌≡◌, ◌<◌, ◌/◌, ◌+◌, length, true, false, position, replicate, slice_set, IfOk};
+ghost use Rattle.std.specs.Prelude.{◌≡◌, ◌<◌, ◌/◌, ◌+◌, length, true, false, position, replicate};
+ghost use Rattle.std.specs.Prelude.{slice_set, IfOk};
 ghost use Rattle.hierarchical_bitmap.specs.Levels.{itself};
 
 use crate::words::{clear_bit, first_word, lowest_in, set_bit};

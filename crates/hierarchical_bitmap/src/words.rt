@@ -1,6 +1,8 @@
 // One level: words of 64 bits. Bit k of a level is bit k % 64 of word k / 64.
-ghost use Rattle.std.specs.Prelude.{◌≡◌, ◌/◌, ◌^◌, ◌<◌, ◌==◌, length, position, slice_index, IfSome};
-ghost use Rattle.hierarchical_bitmap.specs.Levels.{is_set, AreZeroBelow, IsLowest, with_bit, without_bit};
+ghost use Rattle.std.specs.Prelude.{◌≡◌, ◌/◌, ◌^◌, ◌<◌, ◌==◌, length, position, slice_index};
+ghost use Rattle.std.specs.Prelude.{IfSome};
+ghost use Rattle.hierarchical_bitmap.specs.Levels.{is_set, AreZeroBelow, IsLowest, with_bit};
+ghost use Rattle.hierarchical_bitmap.specs.Levels.{without_bit};
 
 pub fn set_bit(words: &mut Vec<u64>, place: usize)
     requires { place / 64 < length words.old.items }

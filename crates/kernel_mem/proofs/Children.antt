@@ -1,15 +1,21 @@
 -- A child added to a table, and the flat world's fork.
-use Rattle.std.proofs.Common.{◌≡◌, ◌≢◌, ℕ, zero, suc, ◌+◌, ◌<◌, ◌≤◌, true, false, cond, List, [], ◌∷◌, ◌++◌, length, Option, Some, None, Ok, Err, IsSome, IfSome, option_and_then, refl, sym, ap, subst, ◌∙◌, arith}
+use Rattle.std.proofs.Common.{◌≡◌, ◌≢◌, ℕ, zero, suc, ◌+◌, ◌<◌, ◌≤◌, true, false, cond, List, []}
+use Rattle.std.proofs.Common.{◌∷◌, ◌++◌, length, Option, Some, None, Ok, Err, IsSome, IfSome}
+use Rattle.std.proofs.Common.{option_and_then, refl, sym, ap, subst, ◌∙◌, arith}
 use Rattle.std.specs.Prelude.{nat_lt, slice_get}
 use Rattle.dos_world.specs.declared.Entry.{Entry}
 use Rattle.dos_world.specs.Numbered.{changed, changed_at}
-use Rattle.dos_world.specs.World.{World, Process, Holdings, Thread, Registers, holdings_of, on_holdings, released}
+use Rattle.dos_world.specs.World.{World, Process, Holdings, Thread, Registers, holdings_of}
+use Rattle.dos_world.specs.World.{on_holdings, released}
 use Rattle.dos_world.specs.Kernel.{answered, free_frames}
 use Rattle.dos_world.specs.Calls.{Call}
 use Rattle.dos_world.specs.ThreadCalls.{ready_thread, with_new_thread}
-use Rattle.dos_world.specs.ProcessCalls.{are_processes_full, child_process, child_thread, copied_space, forked, forked_by, private_entries, with_child}
+use Rattle.dos_world.specs.ProcessCalls.{are_processes_full, child_process, child_thread}
+use Rattle.dos_world.specs.ProcessCalls.{copied_space, forked, forked_by, private_entries}
+use Rattle.dos_world.specs.ProcessCalls.{with_child}
 use Rattle.page_store.specs.Store.{Store}
-use Rattle.proc_table.specs.Tables.{Tables, IsProcess, IsThread, held_as, held_in, thread_in, held_by, new_process, process_added}
+use Rattle.proc_table.specs.Tables.{Tables, IsProcess, IsThread, held_as, held_in, thread_in}
+use Rattle.proc_table.specs.Tables.{held_by, new_process, process_added}
 use Rattle.kernel_mem.specs.MemoryWorld.{in_world, space_in}
 use Rattle.kernel_mem.specs.Forking.{child_begun, child_without, fork_call, with_space}
 

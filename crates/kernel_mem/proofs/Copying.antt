@@ -1,5 +1,7 @@
 -- The bytes of a stretch of a page, read and written once its frame is granted.
-use Rattle.std.proofs.Common.{◌≡◌, ℕ, zero, suc, ◌+◌, ◌*◌, ◌/◌, ◌%◌, ◌<◌, ◌≤◌, true, false, List, [], ◌∷◌, ◌++◌, length, get_or, take, drop, Some, refl, sym, ap, ◌∙◌, subst, arith}
+use Rattle.std.proofs.Common.{◌≡◌, ℕ, zero, suc, ◌+◌, ◌*◌, ◌/◌, ◌%◌, ◌<◌, ◌≤◌, true, false, List}
+use Rattle.std.proofs.Common.{[], ◌∷◌, ◌++◌, length, get_or, take, drop, Some, refl, sym, ap, ◌∙◌}
+use Rattle.std.proofs.Common.{subst, arith}
 use Rattle.std.specs.Prelude.{slice_get}
 use Rattle.std.proofs.Math.Seq.{drop-cons}
 use Rattle.dos_world.specs.declared.Entry.{Entry}
@@ -11,7 +13,8 @@ use Rattle.proc_table.specs.Tables.{Tables}
 use Rattle.page_store.specs.Store.{Store as Held, whole, with_home}
 use Rattle.page_store.proofs.Joined.{joined-stretch, joined-written, length-joined}
 use Rattle.kernel_mem.specs.MemoryWorld.{in_world, HasAllHome, with_open}
-use Rattle.kernel_mem.proofs.Reaching.{entry_same, opened_here, place_here, HasFrame, IsOpen, is_open, opened-pages}
+use Rattle.kernel_mem.proofs.Reaching.{entry_same, opened_here, place_here, HasFrame, IsOpen}
+use Rattle.kernel_mem.proofs.Reaching.{is_open, opened-pages}
 
 -- ---- what a stretch holds
 

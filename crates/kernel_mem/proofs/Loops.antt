@@ -1,5 +1,8 @@
 -- A space copied entry by entry.
-use Rattle.std.proofs.Common.{◌≡◌, ◌≢◌, ℕ, zero, suc, ◌+◌, ◌<◌, false, cond, inl, inr, List, [], ◌∷◌, ◌++◌, length, get_or, take, map, Option, Some, None, IsSome, IfSome, option_map, option_and_then, length-append, refl, sym, ap, subst, ◌∙◌, arith}
+use Rattle.std.proofs.Common.{◌≡◌, ◌≢◌, ℕ, zero, suc, ◌+◌, ◌<◌, false, cond, inl, inr, List, []}
+use Rattle.std.proofs.Common.{◌∷◌, ◌++◌, length, get_or, take, map, Option, Some, None, IsSome}
+use Rattle.std.proofs.Common.{IfSome, option_map, option_and_then, length-append, refl, sym, ap}
+use Rattle.std.proofs.Common.{subst, ◌∙◌, arith}
 use Rattle.std.specs.Prelude.{◌==◌, nat_lt, find}
 use Rattle.std.proofs.lemmas.Bool.{cases_eq}
 use Rattle.std.proofs.lemmas.Bool.Decides.{nat_tests}
@@ -8,7 +11,8 @@ use Rattle.std.proofs.lemmas.List.Sums.{sum_by-append, sum_by-cons}
 use Rattle.dos_world.specs.declared.Entry.{Entry}
 use Rattle.dos_world.specs.Numbered.{changed, changed_at}
 use Rattle.dos_world.proofs.Numbers.{changed_other}
-use Rattle.dos_world.specs.World.{World, Process, Holdings, Life, live, ended, holdings_of, on_holdings, live_changed, look, is_free}
+use Rattle.dos_world.specs.World.{World, Process, Holdings, Life, live, ended, holdings_of}
+use Rattle.dos_world.specs.World.{on_holdings, live_changed, look, is_free}
 use Rattle.dos_world.specs.Kernel.{put, with_entry}
 use Rattle.dos_world.specs.ProcessCalls.{copied_space, private_entries}
 use Rattle.page_store.specs.Store.{Store, free_count, owner_at, uses_at}

@@ -1,5 +1,7 @@
 -- What an access of a byte reaches, by the entry of its page, and the frame that is granted for it.
-use Rattle.std.proofs.Common.{◌≡◌, ℕ, zero, suc, ◌+◌, ◌-◌, ◌*◌, ◌/◌, ◌%◌, ◌<◌, ◌≤◌, Bool, true, false, not, cond, List, [], length, get_or-set_same, Option, Some, None, IfSome, refl, sym, ap, ◌∙◌, arith, eq-eqb}
+use Rattle.std.proofs.Common.{◌≡◌, ℕ, zero, suc, ◌+◌, ◌-◌, ◌*◌, ◌/◌, ◌%◌, ◌<◌, ◌≤◌, Bool, true}
+use Rattle.std.proofs.Common.{false, not, cond, List, [], length, get_or-set_same, Option, Some}
+use Rattle.std.proofs.Common.{None, IfSome, refl, sym, ap, ◌∙◌, arith, eq-eqb}
 use Rattle.std.specs.Prelude.{◌&&◌, ◌==◌, slice_get}
 use Rattle.dos_world.specs.declared.Owner.TheVariants.{Free}
 use Rattle.dos_world.specs.declared.Entry.{Entry}
@@ -7,13 +9,15 @@ use Rattle.dos_world.specs.declared.Access.{Access}
 use Rattle.dos_world.specs.declared.Access.TheVariants.{Fetch, Load, Store, Claim}
 use Rattle.dos_world.specs.declared.Size.TheVariants.{Byte}
 use Rattle.dos_world.specs.World.{World, is_free, look, entry_at, owner_of, space_of, thread_at}
-use Rattle.dos_world.specs.Reach.{reach, in_frame, has_right, is_foreign, grant, granted, Reached, fault, foreign, at}
+use Rattle.dos_world.specs.Reach.{reach, in_frame, has_right, is_foreign, grant, granted, Reached}
+use Rattle.dos_world.specs.Reach.{fault, foreign, at}
 use Rattle.dos_world.specs.Kernel.{all_reach, is_reached, opened, place_of}
 use Rattle.proc_table.specs.Tables.{Tables}
 use Rattle.page_store.specs.Store.{Store as Held, owner_at, with_grant}
 use Rattle.page_store.proofs.Joined.{home-at}
 use Rattle.page_store.proofs.Counts.{owned-within}
-use Rattle.kernel_mem.specs.MemoryWorld.{in_world, NamesUsedFrames, HasAllHome, entry_in, is_allowed, with_open}
+use Rattle.kernel_mem.specs.MemoryWorld.{in_world, NamesUsedFrames, HasAllHome, entry_in}
+use Rattle.kernel_mem.specs.MemoryWorld.{is_allowed, with_open}
 
 -- ---- one byte
 

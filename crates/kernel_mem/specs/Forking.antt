@@ -1,6 +1,8 @@
 -- What a fork does to frames and a table. This project's own rules.
-use Rattle.std.specs.Prelude.{◌≡◌, ◌+◌, ℕ, not, false, List, [], length, Some, Result, Ok, Err, slice_get, ◌==◌, if◌then◌else◌}
-use Rattle.dos_world.specs.World.{World, Process, Holdings, Thread, live, released, is_free, page_of}
+use Rattle.std.specs.Prelude.{◌≡◌, ◌+◌, ℕ, not, false, List, [], length, Some, Result, Ok, Err}
+use Rattle.std.specs.Prelude.{slice_get, ◌==◌, if◌then◌else◌}
+use Rattle.dos_world.specs.World.{World, Process, Holdings, Thread, live, released, is_free}
+use Rattle.dos_world.specs.World.{page_of}
 use Rattle.dos_world.specs.Kernel.{answered, lowest_free_frame, with_fresh}
 use Rattle.dos_world.specs.Calls.{Call}
 use Rattle.dos_world.specs.ThreadCalls.{ready_thread}

@@ -1,5 +1,6 @@
 -- Frames and a table set into a world. This project's own rules.
-use Rattle.std.specs.Prelude.{◌≡◌, ◌⊎◌, ◌/◌, ℕ, Bool, List, [], length, false, Option, None, Some, IsSome, IfSome, All, slice_index_or, if◌then◌else◌}
+use Rattle.std.specs.Prelude.{◌≡◌, ◌⊎◌, ◌/◌, ℕ, Bool, List, [], length, false, Option, None, Some}
+use Rattle.std.specs.Prelude.{IsSome, IfSome, All, slice_index_or, if◌then◌else◌}
 use Rattle.dos_world.specs.World.{World, is_free, look}
 use Rattle.dos_world.specs.Reach.{has_right, is_foreign}
 use Rattle.dos_world.specs.declared.Access.{Access}

@@ -1,15 +1,20 @@
 // A copy of a process.
-ghost use Rattle.std.specs.Prelude.{◌≡◌, ◌≢◌, ◌<◌, ◌≤◌, ◌+◌, ◌-◌, ◌^◌, ℕ, [], length, false, true, IfSome, IfOk, OnErr, if◌then◌else◌};
+ghost use Rattle.std.specs.Prelude.{◌≡◌, ◌≢◌, ◌<◌, ◌≤◌, ◌+◌, ◌-◌, ◌^◌, ℕ, [], length, false, true};
+ghost use Rattle.std.specs.Prelude.{IfSome, IfOk, OnErr, if◌then◌else◌};
 ghost use Rattle.dos_world.specs.World.{World};
 ghost use Rattle.dos_world.specs.Kernel.{answered};
 ghost use Rattle.dos_world.specs.World.{released};
-ghost use Rattle.dos_world.specs.ProcessCalls.{are_processes_full, copied_space, forked, private_entries};
+ghost use Rattle.dos_world.specs.ProcessCalls.{are_processes_full, copied_space, forked};
+ghost use Rattle.dos_world.specs.ProcessCalls.{private_entries};
 ghost use Rattle.page_store.specs.Store.{free_count, owner_at, uses_at};
 ghost use Rattle.dos_world.specs.World.{is_free};
-ghost use Rattle.proc_table.specs.Tables.{IsProcess, Tables, held_by, held_in, process_added, thread_in};
+ghost use Rattle.proc_table.specs.Tables.{IsProcess, Tables, held_by, held_in, process_added};
+ghost use Rattle.proc_table.specs.Tables.{thread_in};
 ghost use Rattle.kernel_mem.specs.MemoryWorld.{in_world, space_in, IsCaller, HasAllHome};
 ghost use Rattle.kernel_mem.specs.Memory.{entries_of};
-ghost use Rattle.kernel_mem.specs.Forking.{AreTaken, IsUsedMore, child_begun, child_without, entry_copied, fork_call, fork_result, taken_by, with_space};
+ghost use Rattle.kernel_mem.specs.Forking.{AreTaken, IsUsedMore, child_begun, child_without};
+ghost use Rattle.kernel_mem.specs.Forking.{entry_copied, fork_call, fork_result, taken_by};
+ghost use Rattle.kernel_mem.specs.Forking.{with_space};
 
 use dos_world::errors::{EAGAIN, ENOMEM};
 use dos_world::{Entry, Regs};

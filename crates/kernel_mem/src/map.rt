@@ -1,5 +1,6 @@
 // Fresh pages.
-ghost use Rattle.std.specs.Prelude.{◌≡◌, ◌≢◌, ◌<◌, ◌≤◌, ◌+◌, ◌/◌, ◌^◌, ℕ, false, None, Some, IfSome, OnErr, OnOk, length, position};
+ghost use Rattle.std.specs.Prelude.{◌≡◌, ◌≢◌, ◌<◌, ◌≤◌, ◌+◌, ◌/◌, ◌^◌, ℕ, false, None, Some};
+ghost use Rattle.std.specs.Prelude.{IfSome, OnErr, OnOk, length, position};
 ghost use Rattle.dos_world.specs.Numbered.{run_of};
 ghost use Rattle.dos_world.specs.World.{World, is_free};
 ghost use Rattle.dos_world.specs.MemoryCalls.{mapped, mapped_fresh, private_entry};

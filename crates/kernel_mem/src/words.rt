@@ -5,7 +5,8 @@ ghost use Rattle.dos_world.specs.World.{World};
 ghost use Rattle.dos_world.specs.Kernel.{opened};
 ghost use Rattle.dos_world.specs.declared.Access.TheVariants.{Load};
 ghost use Rattle.proc_table.specs.Tables.{Tables};
-ghost use Rattle.kernel_mem.specs.MemoryWorld.{in_world, entry_in, IsCaller, HasAllHome, NamesUsedFrames, KeepsUses};
+ghost use Rattle.kernel_mem.specs.MemoryWorld.{in_world, entry_in, IsCaller, HasAllHome};
+ghost use Rattle.kernel_mem.specs.MemoryWorld.{NamesUsedFrames, KeepsUses};
 
 use crate::copy::{entry_of, open};
 use dos_world::{Access, Entry, Size};

@@ -1,5 +1,8 @@
 -- Buffers and ends of pipes, changed at one place.
-use Rattle.std.proofs.Common.{◌≡◌, ◌≢◌, ℕ, zero, suc, ◌+◌, ◌-◌, ◌<◌, ◌≤◌, Bool, true, false, cond, inl, inr, List, [], ◌∷◌, length, get_or, set, Option, Some, None, length-set, get_or-set_same, get_or-set_other, refl, sym, ap, subst, ◌∙◌, arith}
+use Rattle.std.proofs.Common.{◌≡◌, ◌≢◌, ℕ, zero, suc, ◌+◌, ◌-◌, ◌<◌, ◌≤◌, Bool, true, false, cond}
+use Rattle.std.proofs.Common.{inl, inr, List, [], ◌∷◌, length, get_or, set, Option, Some, None}
+use Rattle.std.proofs.Common.{length-set, get_or-set_same, get_or-set_other, refl, sym, ap, subst}
+use Rattle.std.proofs.Common.{◌∙◌, arith}
 use Rattle.std.specs.Prelude.{◌==◌, ◌&&◌, not, find, replicate, All}
 use Rattle.std.proofs.lemmas.Bool.{cases_eq}
 use Rattle.std.proofs.lemmas.Bool.Decides.{nat_tests}
@@ -7,7 +10,9 @@ use Rattle.std.proofs.lemmas.List.{map-set, length-replicate}
 use Rattle.std.proofs.lemmas.List.Elements.{All-set, All-get_or, All-replicate}
 use Rattle.dos_world.specs.Numbered.{run_of}
 use Rattle.circular_buffer.specs.Buffer.{Buffer, buffer}
-use Rattle.kernel_objects.specs.Pipework.{Pipework, AreKept, IsPipeBuffer, held_bytes, ends_at, is_open_at, lowest_closed, with_bytes, with_ends, with_dropped}
+use Rattle.kernel_objects.specs.Pipework.{Pipework, AreKept, IsPipeBuffer, held_bytes, ends_at}
+use Rattle.kernel_objects.specs.Pipework.{is_open_at, lowest_closed, with_bytes, with_ends}
+use Rattle.kernel_objects.specs.Pipework.{with_dropped}
 
 -- ---- the bytes of a buffer
 

@@ -1,5 +1,7 @@
 -- What the pipes hold, and how many ends each has. This project's own rules.
-use Rattle.std.specs.Prelude.{◌≡◌, ℕ, ◌-◌, Bool, not, ◌&&◌, List, [], map, find, length, replicate, Option, All, slice_index, slice_index_or, slice_set, ◌==◌, true, false, if◌then◌else◌}
+use Rattle.std.specs.Prelude.{◌≡◌, ℕ, ◌-◌, Bool, not, ◌&&◌, List, [], map, find, length, replicate}
+use Rattle.std.specs.Prelude.{Option, All, slice_index, slice_index_or, slice_set, ◌==◌, true}
+use Rattle.std.specs.Prelude.{false, if◌then◌else◌}
 use Rattle.dos_world.specs.Numbered.{run_of}
 use Rattle.circular_buffer.specs.Buffer.{Buffer}
 

@@ -1,5 +1,6 @@
 // The threads that sleep on words, in the order in which they came.
-ghost use Rattle.std.specs.Prelude.{◌≡◌, ◌==◌, ◌<◌, [], ◌∷◌, ◌++◌, length, filter, find, option_map, not, None, IfOk, IfSome};
+ghost use Rattle.std.specs.Prelude.{◌≡◌, ◌==◌, ◌<◌, [], ◌∷◌, ◌++◌, length, filter, find};
+ghost use Rattle.std.specs.Prelude.{option_map, not, None, IfOk, IfSome};
 ghost use Rattle.std.specs.List.{list_any};
 ghost use Rattle.dos_world.specs.Kernel.{is_none_of_these, is_other};
 ghost use Rattle.kernel_objects.specs.Queue.{first_on, sleeps_on};

@@ -1,7 +1,11 @@
 // Pipes: the bytes that each holds, and how many ends it has.
-ghost use Rattle.std.specs.Prelude.{◌≡◌, ◌-◌, ◌+◌, ◌<◌, ◌≤◌, min, [], ◌++◌, length, take, drop, replicate, None, Some, true, false, IfOk, IfSome, All, if◌then◌else◌};
+ghost use Rattle.std.specs.Prelude.{◌≡◌, ◌-◌, ◌+◌, ◌<◌, ◌≤◌, min, [], ◌++◌, length, take, drop};
+ghost use Rattle.std.specs.Prelude.{replicate, None, Some, true, false, IfOk, IfSome, All};
+ghost use Rattle.std.specs.Prelude.{if◌then◌else◌};
 ghost use Rattle.circular_buffer.specs.Buffer.{buffer};
-ghost use Rattle.kernel_objects.specs.Pipework.{bytes_at, ends_at, is_open_at, lowest_closed, none_open, with_bytes, with_dropped, with_ends, with_opened};
+ghost use Rattle.kernel_objects.specs.Pipework.{bytes_at, ends_at, is_open_at, lowest_closed};
+ghost use Rattle.kernel_objects.specs.Pipework.{none_open, with_bytes, with_dropped, with_ends};
+ghost use Rattle.kernel_objects.specs.Pipework.{with_opened};
 
 use circular_buffer::HeapCircularBuffer;
 use std::alloc::{AllocError, Global};

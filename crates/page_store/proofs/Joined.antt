@@ -1,7 +1,13 @@
 -- The pages joined into one list of bytes, by place. No lemma asks how long a page is.
-use Rattle.std.proofs.Common.{◌≡◌, ℕ, zero, suc, ◌+◌, ◌-◌, ◌*◌, ◌<◌, ◌≤◌, List, [], ◌∷◌, ◌++◌, length, get_or, set, take, drop, replicate, slice_get, Option, Some, None, IsSome, All, refl, sym, ap, ◌∙◌, arith, length-append, append_assoc}
+use Rattle.std.proofs.Common.{◌≡◌, ℕ, zero, suc, ◌+◌, ◌-◌, ◌*◌, ◌<◌, ◌≤◌, List, [], ◌∷◌, ◌++◌}
+use Rattle.std.proofs.Common.{length, get_or, set, take, drop, replicate, slice_get, Option, Some}
+use Rattle.std.proofs.Common.{None, IsSome, All, refl, sym, ap, ◌∙◌, arith, length-append}
+use Rattle.std.proofs.Common.{append_assoc}
 use Rattle.std.specs.Prelude.{true, false}
-use Rattle.std.proofs.lemmas.List.{get_or_append_left, drop_all, append-nil, get_or-append_right, set-append_left, set-append_right, take-append-le, drop-append-le, take_all, length-drop, length-set, replicate-append-replicate}
+use Rattle.std.proofs.lemmas.List.{get_or_append_left, drop_all, append-nil, get_or-append_right}
+use Rattle.std.proofs.lemmas.List.{set-append_left, set-append_right, take-append-le}
+use Rattle.std.proofs.lemmas.List.{drop-append-le, take_all, length-drop, length-set}
+use Rattle.std.proofs.lemmas.List.{replicate-append-replicate}
 use Rattle.std.proofs.lemmas.List.Elements.{All-head, All-tail}
 use Rattle.std.proofs.Math.Seq.{drop-append_seam, drop-append-add, take-append-add}
 use Rattle.dos_world.specs.Reach.{with_page, written, number_of}

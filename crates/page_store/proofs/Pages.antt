@@ -1,6 +1,9 @@
 -- Pages by their bytes.
-use Rattle.std.proofs.Common.{◌≡◌, ℕ, suc, ◌+◌, ◌*◌, ◌^◌, ◌<◌, ◌≤◌, List, [], ◌∷◌, ◌++◌, length, get_or, set, take, drop, replicate, refl, sym, ap, ◌∙◌, arith, length-append, append_assoc, length-set}
-use Rattle.std.proofs.lemmas.List.{length-replicate, length-take, take-append-drop, take_more_set, drop-set-lt, drop-drop, drop_more}
+use Rattle.std.proofs.Common.{◌≡◌, ℕ, suc, ◌+◌, ◌*◌, ◌^◌, ◌<◌, ◌≤◌, List, [], ◌∷◌, ◌++◌, length}
+use Rattle.std.proofs.Common.{get_or, set, take, drop, replicate, refl, sym, ap, ◌∙◌, arith}
+use Rattle.std.proofs.Common.{length-append, append_assoc, length-set}
+use Rattle.std.proofs.lemmas.List.{length-replicate, length-take, take-append-drop, take_more_set}
+use Rattle.std.proofs.lemmas.List.{drop-set-lt, drop-drop, drop_more}
 use borrow.Rule.Slice.PartMut.{put_mid}
 use Rattle.std.proofs.Math.Seq.{take-append_seam}
 use Rattle.dos_world.specs.Kernel.{zero_page}

@@ -1,5 +1,8 @@
 -- What the frames hold, and the one list of bytes that their pages make. This project's own rules.
-use Rattle.std.specs.Prelude.{◌≡◌, ◌<◌, ◌≤◌, ℕ, ◌+◌, ◌-◌, ◌^◌, Bool, List, [], ◌∷◌, ◌++◌, map, take, drop, replicate, length, Option, Some, None, false, true, IsSome, All, count_by, slice_set, slice_get, slice_index, slice_index_or, ◌==◌, if◌then◌else◌}
+use Rattle.std.specs.Prelude.{◌≡◌, ◌<◌, ◌≤◌, ℕ, ◌+◌, ◌-◌, ◌^◌, Bool, List, [], ◌∷◌, ◌++◌, map, take}
+use Rattle.std.specs.Prelude.{drop, replicate, length, Option, Some, None, false, true, IsSome, All}
+use Rattle.std.specs.Prelude.{count_by, slice_set, slice_get, slice_index, slice_index_or, ◌==◌}
+use Rattle.std.specs.Prelude.{if◌then◌else◌}
 use Rattle.dos_world.specs.declared.Owner.{Owner}
 use Rattle.dos_world.specs.declared.Owner.TheVariants.{Of, Free}
 use Rattle.dos_world.specs.declared.Access.{Access}

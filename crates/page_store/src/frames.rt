@@ -1,10 +1,15 @@
 // Frames, each with a page at home or away, an owner and a number of uses.
-ghost use Rattle.std.specs.Prelude.{◌≡◌, ◌≢◌, ◌+◌, ◌-◌, ◌^◌, ◌<◌, ◌≤◌, ℕ, List, length, slice_get, Some, None, IfOk, IfSome, IsSome, MatchBool, position, replicate, false};
+ghost use Rattle.std.specs.Prelude.{◌≡◌, ◌≢◌, ◌+◌, ◌-◌, ◌^◌, ◌<◌, ◌≤◌, ℕ, List, length, slice_get};
+ghost use Rattle.std.specs.Prelude.{Some, None, IfOk, IfSome, IsSome, MatchBool, position};
+ghost use Rattle.std.specs.Prelude.{replicate, false};
 ghost use Rattle.std.specs.Borrow.{sem};
 ghost use Rattle.dos_world.specs.World.{is_free};
 ghost use Rattle.dos_world.specs.Kernel.{zero_page};
 ghost use Rattle.dos_world.specs.Reach.{granted};
-ghost use Rattle.page_store.specs.Store.{AreFreeFrom, AreHome, IsAway, IsCopied, IsHome, IsHomeIn, IsOwned, IsPageCopied, IsUnused, free_count, owner_at, unused, uses_at, with_away, with_owned, with_grant, with_home, with_less, with_more};
+ghost use Rattle.page_store.specs.Store.{AreFreeFrom, AreHome, IsAway, IsCopied, IsHome, IsHomeIn};
+ghost use Rattle.page_store.specs.Store.{IsOwned, IsPageCopied, IsUnused, free_count, owner_at};
+ghost use Rattle.page_store.specs.Store.{unused, uses_at, with_away, with_owned, with_grant};
+ghost use Rattle.page_store.specs.Store.{with_home, with_less, with_more};
 ghost use Rattle.page_store.specs.Lending.{LendsPage, LendsSlot};
 
 use crate::Page;

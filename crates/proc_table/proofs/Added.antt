@@ -1,14 +1,18 @@
 -- A new record with its links: the last child of its parent.
-use Rattle.std.proofs.Common.{◌≡◌, ◌≢◌, ℕ, ◌+◌, ◌<◌, ◌≤◌, true, List, [], ◌∷◌, ◌++◌, length, inl, inr, refl, sym, ap, ◌∙◌, subst, arith, length-append}
+use Rattle.std.proofs.Common.{◌≡◌, ◌≢◌, ℕ, ◌+◌, ◌<◌, ◌≤◌, true, List, [], ◌∷◌, ◌++◌, length, inl}
+use Rattle.std.proofs.Common.{inr, refl, sym, ap, ◌∙◌, subst, arith, length-append}
 use Rattle.std.specs.Prelude.{◌&&◌}
 use Rattle.std.proofs.lemmas.Bool.{cases_eq, cases_order}
 use Rattle.dos_world.specs.Numbered.{numbered}
 use Rattle.proc_table.specs.declared.record.Kept.TheVariants.{Live}
 use Rattle.proc_table.specs.declared.record.Links.{Links}
 use Rattle.proc_table.specs.declared.record.Record.{Record}
-use Rattle.proc_table.specs.Links.{AreLinked, AreLinkedBy, IsLinkable, is_child_at, is_uncollected, links_at, next_in, no_links, passes, previous_in, with_child, with_link}
+use Rattle.proc_table.specs.Links.{AreLinked, AreLinkedBy, IsLinkable, is_child_at, is_uncollected}
+use Rattle.proc_table.specs.Links.{links_at, next_in, no_links, passes, previous_in, with_child}
+use Rattle.proc_table.specs.Links.{with_link}
 use Rattle.proc_table.proofs.Grown.{grown}
-use Rattle.proc_table.proofs.Moved.{at_last, before_last, beyond, child_to, family, is_at, links_of, next_alike, not_at, previous_alike}
+use Rattle.proc_table.proofs.Moved.{at_last, before_last, beyond, child_to, family, is_at, links_of}
+use Rattle.proc_table.proofs.Moved.{next_alike, not_at, previous_alike}
 use Rattle.proc_table.proofs.Family.{link_length, link_next, link_previous}
 
 -- an element of a list that gets one more

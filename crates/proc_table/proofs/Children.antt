@@ -1,5 +1,7 @@
 -- The lowest child of a process: in the records, and in the processes that they stand for.
-use Rattle.std.proofs.Common.{◌≡◌, ◌≢◌, ℕ, zero, suc, ◌+◌, ◌-◌, ◌<◌, ◌≤◌, Bool, true, false, cond, List, [], ◌∷◌, map, length, get_or, slice_get, Option, Some, None, option_map, refl, sym, ap, ◌∙◌, arith}
+use Rattle.std.proofs.Common.{◌≡◌, ◌≢◌, ℕ, zero, suc, ◌+◌, ◌-◌, ◌<◌, ◌≤◌, Bool, true, false, cond}
+use Rattle.std.proofs.Common.{List, [], ◌∷◌, map, length, get_or, slice_get, Option, Some, None}
+use Rattle.std.proofs.Common.{option_map, refl, sym, ap, ◌∙◌, arith}
 use Rattle.std.specs.Prelude.{not, ◌&&◌, ◌||◌, ◌==◌, filter, is_none, position}
 use Rattle.std.proofs.lemmas.Bool.{and_parts}
 use Rattle.std.proofs.lemmas.Option.{slice_get-get_or}
@@ -11,7 +13,8 @@ use Rattle.dos_world.specs.ProcessCalls.{any_process}
 use Rattle.space_map.specs.Mapping.{Mapping}
 use Rattle.proc_table.specs.Children.{children_in, outcome, outcome_by, status_in}
 use Rattle.proc_table.specs.declared.collected.Collected.TheVariants.{Got, Wait, NoChild}
-use Rattle.proc_table.specs.Places.{holdings_in, process_by, shown, has_come, is_child_record, is_collected, first_child, place_kept, place_of, status_or_0}
+use Rattle.proc_table.specs.Places.{holdings_in, process_by, shown, has_come, is_child_record}
+use Rattle.proc_table.specs.Places.{is_collected, first_child, place_kept, place_of, status_or_0}
 use Rattle.proc_table.specs.Links.{passes, passes_at}
 use Rattle.proc_table.specs.declared.record.Belongings.{Belongings}
 use Rattle.proc_table.specs.declared.record.Kept.{Kept}

@@ -1,6 +1,8 @@
 -- The records of processes with their links: what is linked stays so with a new record, a collected
 -- child and the end of a process.
-use Rattle.std.proofs.Common.{◌≡◌, ◌≢◌, ◌⊎◌, ℕ, ◌<◌, ◌≤◌, Bool, true, false, cond, List, map, length, Option, Some, None, option_map, option_and_then, IsSome, inl, inr, refl, sym, ap, ◌∙◌, subst, arith}
+use Rattle.std.proofs.Common.{◌≡◌, ◌≢◌, ◌⊎◌, ℕ, ◌<◌, ◌≤◌, Bool, true, false, cond, List, map}
+use Rattle.std.proofs.Common.{length, Option, Some, None, option_map, option_and_then, IsSome, inl}
+use Rattle.std.proofs.Common.{inr, refl, sym, ap, ◌∙◌, subst, arith}
 use Rattle.std.specs.Prelude.{not, ◌&&◌, ◌==◌}
 use Rattle.std.proofs.lemmas.Bool.{cases_eq, cases_order}
 use Rattle.std.proofs.lemmas.Bool.Decides.{nat_tests}
@@ -10,10 +12,15 @@ use Rattle.proc_table.specs.declared.record.Kept.TheVariants.{Live, Ended}
 use Rattle.proc_table.specs.declared.record.Links.{Links}
 use Rattle.proc_table.specs.declared.record.Record.{Record}
 use Rattle.proc_table.specs.Places.{is_collected, kept_as, orphan_record, place_in, place_of}
-use Rattle.proc_table.specs.Links.{AreLinked, AreLinkedBy, IsLinkable, IsNext, childless, is_child_at, is_uncollected, links_at, next_in, passes, previous_in, with_link, with_next, with_previous}
+use Rattle.proc_table.specs.Links.{AreLinked, AreLinkedBy, IsLinkable, IsNext, childless}
+use Rattle.proc_table.specs.Links.{is_child_at, is_uncollected, links_at, next_in, passes}
+use Rattle.proc_table.specs.Links.{previous_in, with_link, with_next, with_previous}
 use Rattle.proc_table.proofs.Lengths.{changed_length, mapped_length}
 use Rattle.proc_table.proofs.Linked.{IsMoved, childless_linked, linked_same, true_false, unlinked}
-use Rattle.proc_table.proofs.Moved.{at_0, child_to, elsewhere, family, here, links_elsewhere, links_here, mapped, next_alike, next_leaves, next_length, next_moved, not_at, previous_alike, previous_leaves, previous_length, previous_moved}
+use Rattle.proc_table.proofs.Moved.{at_0, child_to, elsewhere, family, here, links_elsewhere}
+use Rattle.proc_table.proofs.Moved.{links_here, mapped, next_alike, next_leaves, next_length}
+use Rattle.proc_table.proofs.Moved.{next_moved, not_at, previous_alike, previous_leaves}
+use Rattle.proc_table.proofs.Moved.{previous_length, previous_moved}
 
 -- ---- one child after another
 

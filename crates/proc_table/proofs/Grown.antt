@@ -1,8 +1,10 @@
 -- A new child of a process, with the next number: the links lead to it as the last.
-use Rattle.std.proofs.Common.{◌≡◌, ◌≢◌, ◌⊎◌, ℕ, ◌+◌, ◌<◌, ◌≤◌, Bool, true, false, inl, inr, refl, sym, ap, ◌∙◌, subst, arith}
+use Rattle.std.proofs.Common.{◌≡◌, ◌≢◌, ◌⊎◌, ℕ, ◌+◌, ◌<◌, ◌≤◌, Bool, true, false, inl, inr, refl}
+use Rattle.std.proofs.Common.{sym, ap, ◌∙◌, subst, arith}
 use Rattle.std.proofs.lemmas.Bool.{cases_eq, cases_order}
 use Rattle.proc_table.specs.Links.{IsNext, AreLinkedBy}
-use Rattle.proc_table.proofs.Linked.{IsFamily, IsMoved, true_false, no_next, next_is, next_same, next_apart, led, head_first, head_last, stays}
+use Rattle.proc_table.proofs.Linked.{IsFamily, IsMoved, true_false, no_next, next_is, next_same}
+use Rattle.proc_table.proofs.Linked.{next_apart, led, head_first, head_last, stays}
 
 module _ (count : ℕ) (child : ℕ → ℕ → Bool) (family : IsFamily count child)
     (next previous : ℕ → ℕ → ℕ) (linked : AreLinkedBy count child next previous)

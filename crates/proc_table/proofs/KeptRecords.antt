@@ -1,5 +1,7 @@
 -- Records that are kept with their links: what each change leaves.
-use Rattle.std.proofs.Common.{◌≡◌, ℕ, ◌+◌, ◌<◌, ◌≤◌, Bool, true, false, List, [], ◌∷◌, ◌++◌, map, length, Option, Some, None, IsSome, refl, sym, ap, ◌∙◌, subst, arith, length-append}
+use Rattle.std.proofs.Common.{◌≡◌, ℕ, ◌+◌, ◌<◌, ◌≤◌, Bool, true, false, List, [], ◌∷◌, ◌++◌, map}
+use Rattle.std.proofs.Common.{length, Option, Some, None, IsSome, refl, sym, ap, ◌∙◌, subst, arith}
+use Rattle.std.proofs.Common.{length-append}
 use Rattle.std.specs.Prelude.{not, ◌&&◌, ◌==◌}
 use Rattle.std.proofs.lemmas.Bool.{and_parts}
 use Rattle.std.proofs.lemmas.List.{length-map}
@@ -7,11 +9,15 @@ use Rattle.dos_world.specs.Numbered.{numbered, changed}
 use Rattle.proc_table.specs.declared.record.Kept.TheVariants.{Live, Ended}
 use Rattle.proc_table.specs.declared.record.Links.{Links}
 use Rattle.proc_table.specs.declared.record.Record.{Record}
-use Rattle.proc_table.specs.Places.{has_come, is_child_record, is_collected, kept_as, orphan_record, place_in}
-use Rattle.proc_table.specs.Links.{AreKept, AreLinked, IsLinkable, childless, is_child_at, is_uncollected, next_in, passes, passes_at, previous_in, with_child, with_link}
+use Rattle.proc_table.specs.Places.{has_come, is_child_record, is_collected, kept_as, orphan_record}
+use Rattle.proc_table.specs.Places.{place_in}
+use Rattle.proc_table.specs.Links.{AreKept, AreLinked, IsLinkable, childless, is_child_at}
+use Rattle.proc_table.specs.Links.{is_uncollected, next_in, passes, passes_at, previous_in}
+use Rattle.proc_table.specs.Links.{with_child, with_link}
 use Rattle.proc_table.proofs.Lengths.{changed_length}
 use Rattle.proc_table.proofs.Moved.{child_from, child_to, given_in, live_given}
-use Rattle.proc_table.proofs.Family.{collected_linked, ended_linked, link_length, orphans_linked, others_linkable}
+use Rattle.proc_table.proofs.Family.{collected_linked, ended_linked, link_length, orphans_linked}
+use Rattle.proc_table.proofs.Family.{others_linkable}
 use Rattle.proc_table.proofs.Added.{added_linked, child_length, last_within}
 
 -- a child that has come is one that wasn't collected

@@ -1,6 +1,7 @@
 -- Children that are linked in rising number: what a new child, a collected one and the end of a
 -- parent do to the links.
-use Rattle.std.proofs.Common.{◌≡◌, ◌≢◌, ◌⊎◌, ℕ, ◌<◌, ◌≤◌, Bool, true, false, inl, inr, refl, sym, ap, ◌∙◌, subst, arith}
+use Rattle.std.proofs.Common.{◌≡◌, ◌≢◌, ◌⊎◌, ℕ, ◌<◌, ◌≤◌, Bool, true, false, inl, inr, refl, sym}
+use Rattle.std.proofs.Common.{ap, ◌∙◌, subst, arith}
 use Rattle.std.proofs.lemmas.Bool.{cases_eq, cases_order}
 use Rattle.proc_table.specs.Links.{IsNext, AreLinkedBy}
 

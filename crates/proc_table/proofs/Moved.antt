@@ -1,6 +1,9 @@
 -- The records of processes with their links: what is linked stays so with a new record, a collected
 -- child and the end of a process.
-use Rattle.std.proofs.Common.{◌≡◌, ◌≢◌, ℕ, zero, suc, ◌+◌, ◌-◌, ◌<◌, ◌≤◌, true, false, cond, List, [], ◌∷◌, ◌++◌, map, length, get_or, set, slice_get, Option, Some, None, option_map, option_and_then, IsSome, inl, inr, refl, sym, ap, ◌∙◌, subst, arith}
+use Rattle.std.proofs.Common.{◌≡◌, ◌≢◌, ℕ, zero, suc, ◌+◌, ◌-◌, ◌<◌, ◌≤◌, true, false, cond, List}
+use Rattle.std.proofs.Common.{[], ◌∷◌, ◌++◌, map, length, get_or, set, slice_get, Option, Some}
+use Rattle.std.proofs.Common.{None, option_map, option_and_then, IsSome, inl, inr, refl, sym, ap}
+use Rattle.std.proofs.Common.{◌∙◌, subst, arith}
 use Rattle.std.specs.Prelude.{not, ◌==◌}
 use Rattle.std.proofs.lemmas.Bool.{cases_eq, cases_order, and_parts}
 use Rattle.std.proofs.lemmas.Bool.Decides.{nat_tests}
@@ -9,7 +12,9 @@ use Rattle.dos_world.specs.Numbered.{numbered, changed, changed_at}
 use Rattle.proc_table.specs.declared.record.Links.{Links}
 use Rattle.proc_table.specs.declared.record.Record.{Record}
 use Rattle.proc_table.specs.Places.{is_collected, place_in, place_of}
-use Rattle.proc_table.specs.Links.{first_to, is_child_at, is_uncollected, last_to, links_at, next_in, next_to, no_links, passes, previous_in, previous_to, with_next, with_previous}
+use Rattle.proc_table.specs.Links.{first_to, is_child_at, is_uncollected, last_to, links_at}
+use Rattle.proc_table.specs.Links.{next_in, next_to, no_links, passes, previous_in, previous_to}
+use Rattle.proc_table.specs.Links.{with_next, with_previous}
 use Rattle.proc_table.proofs.Lengths.{changed_length}
 use Rattle.proc_table.proofs.Linked.{IsFamily, IsMoved}
 

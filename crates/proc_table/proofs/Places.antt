@@ -1,6 +1,9 @@
 -- Processes by record and place: what the lists show, and what a change at a place, a new record or
 -- an ended one does to it.
-use Rattle.std.proofs.Common.{◌≡◌, ◌≢◌, ℕ, zero, suc, ◌+◌, ◌-◌, ◌<◌, ◌≤◌, Bool, true, false, cond, List, [], ◌∷◌, ◌++◌, map, length, get_or, set, slice_get, count_by, Option, Some, None, option_map, option_and_then, refl, sym, ap, ◌∙◌, subst, arith, get_or-set_other, get_or-set_same}
+use Rattle.std.proofs.Common.{◌≡◌, ◌≢◌, ℕ, zero, suc, ◌+◌, ◌-◌, ◌<◌, ◌≤◌, Bool, true, false, cond}
+use Rattle.std.proofs.Common.{List, [], ◌∷◌, ◌++◌, map, length, get_or, set, slice_get, count_by}
+use Rattle.std.proofs.Common.{Option, Some, None, option_map, option_and_then, refl, sym, ap, ◌∙◌}
+use Rattle.std.proofs.Common.{subst, arith, get_or-set_other, get_or-set_same}
 use Rattle.std.specs.Prelude.{is_some, is_none, filter, position, nat_lt, slice_index_or}
 use Rattle.std.specs.List.{position_or_len}
 use Rattle.std.proofs.lemmas.List.Quantifiers.{position-Some}
@@ -9,12 +12,15 @@ use Rattle.std.proofs.lemmas.List.{length-map, map-append}
 use Rattle.std.proofs.lemmas.List.Sums.{length-filter, fails_before_first}
 use Rattle.std.proofs.lemmas.Option.{slice_get-get_or}
 use Rattle.dos_world.specs.Numbered.{numbered, changed, changed_at}
-use Rattle.dos_world.specs.World.{Process, Holdings, Life, live, holdings_of, all_holdings, on_holdings, live_changed}
+use Rattle.dos_world.specs.World.{Process, Holdings, Life, live, holdings_of, all_holdings}
+use Rattle.dos_world.specs.World.{on_holdings, live_changed}
 use Rattle.dos_world.specs.Kernel.{orphaned, ended_by}
 use Rattle.dos_world.specs.ProcessCalls.{collected_by}
 use Rattle.space_map.specs.Mapping.{Mapping, empty}
 use Rattle.proc_table.specs.Tables.{held_in, new_process}
-use Rattle.proc_table.specs.Places.{first_belongings, holdings_by, holdings_in, no_belongings, life_by, process_by, shown, place_kept, place_of, place_in, is_placed, orphan_record, status_or_0, IsHeld, AreHeld}
+use Rattle.proc_table.specs.Places.{first_belongings, holdings_by, holdings_in, no_belongings}
+use Rattle.proc_table.specs.Places.{life_by, process_by, shown, place_kept, place_of, place_in}
+use Rattle.proc_table.specs.Places.{is_placed, orphan_record, status_or_0, IsHeld, AreHeld}
 use Rattle.proc_table.specs.declared.record.Record.{Record}
 use Rattle.proc_table.specs.declared.record.Belongings.{Belongings}
 use Rattle.proc_table.specs.declared.record.Kept.{Kept}

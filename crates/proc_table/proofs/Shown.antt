@@ -1,6 +1,8 @@
 -- What the list of threads by number shows of those that live, and what a change among them does to
 -- it.
-use Rattle.std.proofs.Common.{◌≡◌, ℕ, ◌+◌, ◌<◌, ◌≤◌, Bool, false, List, [], ◌∷◌, ◌++◌, map, length, get_or, set, slice_get, Option, Some, None, option_map, IsSome, refl, sym, ap, ◌∙◌, subst, arith, length-set, length-append}
+use Rattle.std.proofs.Common.{◌≡◌, ℕ, ◌+◌, ◌<◌, ◌≤◌, Bool, false, List, [], ◌∷◌, ◌++◌, map, length}
+use Rattle.std.proofs.Common.{get_or, set, slice_get, Option, Some, None, option_map, IsSome, refl}
+use Rattle.std.proofs.Common.{sym, ap, ◌∙◌, subst, arith, length-set, length-append}
 use Rattle.std.specs.Prelude.{◌==◌, nat_le, nat_lt, not, ◌||◌, find, filter, is_some}
 use Rattle.std.specs.List.{remove}
 use Rattle.std.proofs.lemmas.List.{get_or_read, length-map}
@@ -12,8 +14,13 @@ use Rattle.dos_world.specs.World.{Thread, belongs_to, first_of, none_of}
 use Rattle.dos_world.specs.Kernel.{unless_of}
 use Rattle.dos_world.specs.ThreadCalls.{are_threads_full}
 use Rattle.proc_table.specs.Tables.{thread_in, next_in}
-use Rattle.proc_table.specs.Spread.{live_in, spread, AreRising, AreInOrder, IsSpreadKept, no_entry, IsAt, IsGapFor, IsGapAbove}
-use Rattle.proc_table.proofs.Spread.{from_low, rising_set, rising_push, rising_remove, rising_filter, spread_at, spread_length, spread_changed, spread_mapped, spread_pushed, numbers_spread, in_at, in_gap, in_set_here, in_set_other, in_removed_here, in_removed_other, in_filtered, first_found, next_found, kept_all}
+use Rattle.proc_table.specs.Spread.{live_in, spread, AreRising, AreInOrder, IsSpreadKept, no_entry}
+use Rattle.proc_table.specs.Spread.{IsAt, IsGapFor, IsGapAbove}
+use Rattle.proc_table.proofs.Spread.{from_low, rising_set, rising_push, rising_remove}
+use Rattle.proc_table.proofs.Spread.{rising_filter, spread_at, spread_length, spread_changed}
+use Rattle.proc_table.proofs.Spread.{spread_mapped, spread_pushed, numbers_spread, in_at, in_gap}
+use Rattle.proc_table.proofs.Spread.{in_set_here, in_set_other, in_removed_here, in_removed_other}
+use Rattle.proc_table.proofs.Spread.{in_filtered, first_found, next_found, kept_all}
 
 -- a place among the entries as a function is lent them
 pub at_in : (es live : List (ℕ × Thread)) (t place : ℕ) → es ≡ live → IsAt es t place

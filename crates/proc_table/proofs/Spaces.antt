@@ -1,5 +1,6 @@
 -- What a function knows that has found a live process's place, to change the space there.
-use Rattle.std.proofs.Common.{◌≡◌, ℕ, ◌<◌, List, length, get_or, set, Option, Some, IfSome, IsSome, sym, ap, subst, arith}
+use Rattle.std.proofs.Common.{◌≡◌, ℕ, ◌<◌, List, length, get_or, set, Option, Some, IfSome, IsSome}
+use Rattle.std.proofs.Common.{sym, ap, subst, arith}
 use Rattle.dos_world.specs.Numbered.{changed}
 use Rattle.dos_world.specs.World.{Holdings, on_holdings}
 use Rattle.dos_world.specs.declared.Entry.{Entry}
@@ -8,7 +9,8 @@ use Rattle.proc_table.specs.Tables.{IsProcess, held_in}
 use Rattle.proc_table.specs.Places.{Group, group, place_in, ArePlaced}
 use Rattle.proc_table.specs.declared.record.Record.{Record}
 use Rattle.proc_table.specs.declared.record.Belongings.{Belongings}
-use Rattle.proc_table.proofs.Standing.{lives, within, holds, space_read, room_read, space_written, placed_space, spaced_by}
+use Rattle.proc_table.proofs.Standing.{lives, within, holds, space_read, room_read, space_written}
+use Rattle.proc_table.proofs.Standing.{placed_space, spaced_by}
 
 -- a live process has a place
 pub place_of_live : {R : List Record} {holders : List (Option ℕ)} {S : List Mapping}

@@ -1,6 +1,9 @@
 -- Threads that live in rising number, what a search finds among them, and the list by number that
 -- is spread from them.
-use Rattle.std.proofs.Common.{◌≡◌, ◌≢◌, ℕ, zero, suc, ◌+◌, ◌<◌, ◌≤◌, Bool, true, false, cond, List, [], ◌∷◌, ◌++◌, map, length, get_or, set, slice_get, Option, Some, None, option_map, Result, Ok, Err, IfOk, IfErr, refl, sym, ap, ◌∙◌, subst, arith}
+use Rattle.std.proofs.Common.{◌≡◌, ◌≢◌, ℕ, zero, suc, ◌+◌, ◌<◌, ◌≤◌, Bool, true, false, cond, List}
+use Rattle.std.proofs.Common.{[], ◌∷◌, ◌++◌, map, length, get_or, set, slice_get, Option, Some}
+use Rattle.std.proofs.Common.{None, option_map, Result, Ok, Err, IfOk, IfErr, refl, sym, ap, ◌∙◌}
+use Rattle.std.proofs.Common.{subst, arith}
 use Rattle.std.specs.Prelude.{◌==◌, nat_lt, not, find, filter, is_some}
 use Rattle.std.specs.List.{remove}
 use Rattle.std.specs.List.Sorted.{IsSearchInRange, IsBinarySearchResult, IsNonDecreasingBy}
@@ -11,7 +14,8 @@ use Rattle.std.proofs.lemmas.Bool.Decides.{nat_tests}
 use Rattle.dos_world.specs.Numbered.{numbered, changed, changed_at, places_from, numbers_of, run_of}
 use Rattle.dos_world.specs.World.{Thread, flat, first_of}
 use Rattle.dos_world.specs.Kernel.{unless_of}
-use Rattle.proc_table.specs.Spread.{live_in, spread, AreRising, AreInOrder, no_entry, number_at, IsAt, IsGapFor, IsGapAbove}
+use Rattle.proc_table.specs.Spread.{live_in, spread, AreRising, AreInOrder, no_entry, number_at}
+use Rattle.proc_table.specs.Spread.{IsAt, IsGapFor, IsGapAbove}
 
 -- ---- numbers that rise
 

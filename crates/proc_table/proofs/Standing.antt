@@ -1,5 +1,9 @@
 -- What a table's records and places stand for, and what a change there does to it.
-use Rattle.std.proofs.Common.{◌≡◌, ◌≢◌, ℕ, zero, suc, ◌+◌, ◌-◌, ◌<◌, ◌≤◌, Bool, true, false, cond, List, [], ◌∷◌, ◌++◌, map, length, get_or, set, slice_get, replicate, count_by, inl, inr, Option, Some, None, option_map, option_and_then, IsSome, refl, sym, ap, ◌∙◌, subst, arith, length-set, get_or-set_other, get_or-set_same}
+use Rattle.std.proofs.Common.{◌≡◌, ◌≢◌, ℕ, zero, suc, ◌+◌, ◌-◌, ◌<◌, ◌≤◌, Bool, true, false, cond}
+use Rattle.std.proofs.Common.{List, [], ◌∷◌, ◌++◌, map, length, get_or, set, slice_get, replicate}
+use Rattle.std.proofs.Common.{count_by, inl, inr, Option, Some, None, option_map, option_and_then}
+use Rattle.std.proofs.Common.{IsSome, refl, sym, ap, ◌∙◌, subst, arith, length-set}
+use Rattle.std.proofs.Common.{get_or-set_other, get_or-set_same}
 use Rattle.std.specs.Prelude.{is_some, is_none, nat_le, position, All, slice_index_or}
 use Rattle.std.proofs.lemmas.List.{get_or_read}
 use Rattle.std.proofs.lemmas.List.Elements.{All-set, All-get_or, All-replicate}
@@ -13,12 +17,19 @@ use Rattle.dos_world.specs.ProcessCalls.{collected_by}
 use Rattle.dos_world.specs.declared.Entry.{Entry}
 use Rattle.space_map.specs.Mapping.{Mapping, empty}
 use Rattle.proc_table.specs.Tables.{held_as, held_in, IsParent, IsProcess, new_process}
-use Rattle.proc_table.specs.Places.{Group, group, kept_as, first_belongings, holdings_by, holdings_in, no_belongings, process_by, shown, place_of, place_in, is_placed, orphan_record, status_or_0, IsHeld, AreHeld, ArePlaced}
+use Rattle.proc_table.specs.Places.{Group, group, kept_as, first_belongings, holdings_by}
+use Rattle.proc_table.specs.Places.{holdings_in, no_belongings, process_by, shown, place_of}
+use Rattle.proc_table.specs.Places.{place_in, is_placed, orphan_record, status_or_0, IsHeld}
+use Rattle.proc_table.specs.Places.{AreHeld, ArePlaced}
 use Rattle.proc_table.specs.declared.record.Record.{Record}
 use Rattle.proc_table.specs.declared.record.Belongings.{Belongings}
 use Rattle.proc_table.specs.declared.record.Kept.TheVariants.{Live, Ended}
 use Rattle.proc_table.proofs.Moved.{changed_is, given_in, live_given, read_again}
-use Rattle.proc_table.proofs.Places.{collected_shown, marked_held, numbered_shown, shown_length, held_shown, held_at, changed_process, holdings_count, orphans_count, ended_held, orphans_held, held_pushed, all_kept, none_free, free_place, get_within, get_placed, get-set_same, shown_ended, shown_added}
+use Rattle.proc_table.proofs.Places.{collected_shown, marked_held, numbered_shown, shown_length}
+use Rattle.proc_table.proofs.Places.{held_shown, held_at, changed_process, holdings_count}
+use Rattle.proc_table.proofs.Places.{orphans_count, ended_held, orphans_held, held_pushed, all_kept}
+use Rattle.proc_table.proofs.Places.{none_free, free_place, get_within, get_placed, get-set_same}
+use Rattle.proc_table.proofs.Places.{shown_ended, shown_added}
 
 abbrev pub spaced_by : (List (ℕ × Entry) → List (ℕ × Entry)) → Holdings → Holdings
 spaced_by f h = record h { space = f h.space }

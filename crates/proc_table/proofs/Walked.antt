@@ -1,5 +1,7 @@
 -- A walk along the children of a process: what it finds, and what it writes.
-use Rattle.std.proofs.Common.{◌≡◌, ◌≢◌, ℕ, zero, suc, ◌+◌, ◌-◌, ◌<◌, ◌≤◌, Bool, true, false, cond, List, [], ◌∷◌, map, length, get_or, set, slice_get, Option, Some, None, inl, inr, refl, sym, ap, ◌∙◌, subst, arith}
+use Rattle.std.proofs.Common.{◌≡◌, ◌≢◌, ℕ, zero, suc, ◌+◌, ◌-◌, ◌<◌, ◌≤◌, Bool, true, false, cond}
+use Rattle.std.proofs.Common.{List, [], ◌∷◌, map, length, get_or, set, slice_get, Option, Some}
+use Rattle.std.proofs.Common.{None, inl, inr, refl, sym, ap, ◌∙◌, subst, arith}
 use Rattle.std.specs.Prelude.{◌&&◌, nat_lt}
 use Rattle.std.proofs.lemmas.Bool.{cases_lt, cases_order}
 use Rattle.std.proofs.lemmas.Bool.Decides.{nat_tests}
@@ -8,7 +10,8 @@ use Rattle.dos_world.specs.Numbered.{numbered, map_from}
 use Rattle.proc_table.specs.declared.record.Links.{Links}
 use Rattle.proc_table.specs.declared.record.Record.{Record}
 use Rattle.proc_table.specs.Places.{first_child, has_come, is_child_record, orphan_record}
-use Rattle.proc_table.specs.Links.{AreLinked, IsNext, is_child_at, is_uncollected, passes, passes_at}
+use Rattle.proc_table.specs.Links.{AreLinked, IsNext, is_child_at, is_uncollected, passes}
+use Rattle.proc_table.specs.Links.{passes_at}
 use Rattle.proc_table.proofs.Moved.{child_from, child_to, links_of, next_other, read_again}
 use Rattle.proc_table.proofs.Children.{lowest_at, lowest_nowhere}
 

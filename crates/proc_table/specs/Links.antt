@@ -1,6 +1,7 @@
 -- The children of each process that weren't collected, linked in rising number. This project's own
 -- rules.
-use Rattle.std.specs.Prelude.{◌≡◌, ◌⊎◌, ◌<◌, ◌≤◌, ◌==◌, ◌&&◌, not, ℕ, Bool, true, false, List, [], ◌∷◌, ◌++◌, length, Option, None, Some, if◌then◌else◌}
+use Rattle.std.specs.Prelude.{◌≡◌, ◌⊎◌, ◌<◌, ◌≤◌, ◌==◌, ◌&&◌, not, ℕ, Bool, true, false, List, []}
+use Rattle.std.specs.Prelude.{◌∷◌, ◌++◌, length, Option, None, Some, if◌then◌else◌}
 use Rattle.dos_world.specs.Numbered.{numbered, changed}
 use Rattle.proc_table.specs.Places.{is_collected}
 use Rattle.proc_table.specs.declared.record.Record.{Record}

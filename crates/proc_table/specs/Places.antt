@@ -1,5 +1,7 @@
 -- The processes of a table by number, and the places of those that live. This project's own rules.
-use Rattle.std.specs.Prelude.{◌≡◌, ℕ, suc, Bool, List, [], ◌∷◌, map, length, replicate, Option, Some, None, is_some, option_and_then, slice_get, slice_index_or, All, count_by, ◌&&◌, not, ◌||◌, ◌==◌, true, false, filter, if◌then◌else◌}
+use Rattle.std.specs.Prelude.{◌≡◌, ℕ, suc, Bool, List, [], ◌∷◌, map, length, replicate, Option}
+use Rattle.std.specs.Prelude.{Some, None, is_some, option_and_then, slice_get, slice_index_or, All}
+use Rattle.std.specs.Prelude.{count_by, ◌&&◌, not, ◌||◌, ◌==◌, true, false, filter, if◌then◌else◌}
 use Rattle.dos_world.specs.Numbered.{numbered, numbers_of}
 use Rattle.dos_world.specs.World.{first_of, Process, Holdings, Life, live, ended}
 use Rattle.dos_world.specs.declared.Entry.{Entry}

@@ -1,7 +1,8 @@
 -- Four slots in which a thread's registers and masks are saved, and which signal comes first. This
 -- project's own
 -- rules.
-use Rattle.std.specs.Prelude.{ℕ, zero, suc, Bool, not, ◌&&◌, List, [], ◌∷◌, find, Option, Some, None, if◌then◌else◌}
+use Rattle.std.specs.Prelude.{ℕ, zero, suc, Bool, not, ◌&&◌, List, [], ◌∷◌, find, Option, Some}
+use Rattle.std.specs.Prelude.{None, if◌then◌else◌}
 use Rattle.dos_world.specs.Numbered.{run_of}
 use Rattle.dos_world.specs.World.{Registers, has_bit, with_bit, without_bit}
 use Rattle.proc_table.specs.Tables.{Signals}

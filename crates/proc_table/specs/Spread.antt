@@ -1,5 +1,6 @@
 -- The threads of a table by number, spread from those that live. This project's own rules.
-use Rattle.std.specs.Prelude.{◌≡◌, ◌<◌, ◌≤◌, ℕ, suc, ◌+◌, List, [], ◌∷◌, map, length, find, Option, option_map, ◌==◌, slice_index_or}
+use Rattle.std.specs.Prelude.{◌≡◌, ◌<◌, ◌≤◌, ℕ, suc, ◌+◌, List, [], ◌∷◌, map, length, find, Option}
+use Rattle.std.specs.Prelude.{option_map, ◌==◌, slice_index_or}
 use Rattle.dos_world.specs.Numbered.{run_of}
 use Rattle.dos_world.specs.World.{Thread, blank}
 use Rattle.dos_world.specs.ThreadCalls.{ready_thread}

@@ -1,9 +1,12 @@
 -- What the table holds: the flat world's processes and threads, and the room of each space. This
 -- project's own rules.
-use Rattle.std.specs.Prelude.{◌≡◌, ◌⊎◌, ℕ, Bool, true, false, List, [], ◌∷◌, ◌++◌, map, find, replicate, Option, Some, None, IsSome, is_some, option_map, option_and_then, slice_get, unwrap_or, nat_lt}
+use Rattle.std.specs.Prelude.{◌≡◌, ◌⊎◌, ℕ, Bool, true, false, List, [], ◌∷◌, ◌++◌, map, find}
+use Rattle.std.specs.Prelude.{replicate, Option, Some, None, IsSome, is_some, option_map}
+use Rattle.std.specs.Prelude.{option_and_then, slice_get, unwrap_or, nat_lt}
 use Rattle.dos_world.specs.Numbered.{numbered, changed, numbers_of}
 pub use Rattle.dos_world.specs.World.{ran, with_budget}
-use Rattle.dos_world.specs.World.{Process, Thread, Holdings, Registers, live, ended, flat, holdings_of, on_holdings}
+use Rattle.dos_world.specs.World.{Process, Thread, Holdings, Registers, live, ended, flat}
+use Rattle.dos_world.specs.World.{holdings_of, on_holdings}
 use Rattle.dos_world.specs.Kernel.{unless_of, orphaned, ended_by}
 use Rattle.dos_world.specs.SignalCalls.{restored}
 use Rattle.dos_world.specs.declared.End.{End}

@@ -1,5 +1,8 @@
 // The processes by number, and the places of those that live.
-ghost use Rattle.std.specs.Prelude.{◌≡◌, ◌<◌, ◌≤◌, ◌+◌, ◌-◌, ◌^◌, [], ◌∷◌, ◌++◌, length, map, option_and_then, None, Some, true, false, is_some, is_none, nat_le, position, slice_get, slice_index, slice_set, unwrap_or, replicate, IfOk, IsSome, IfSome};
+ghost use Rattle.std.specs.Prelude.{◌≡◌, ◌<◌, ◌≤◌, ◌+◌, ◌-◌, ◌^◌, [], ◌∷◌, ◌++◌, length, map};
+ghost use Rattle.std.specs.Prelude.{option_and_then, None, Some, true, false, is_some, is_none};
+ghost use Rattle.std.specs.Prelude.{nat_le, position, slice_get, slice_index, slice_set, unwrap_or};
+ghost use Rattle.std.specs.Prelude.{replicate, IfOk, IsSome, IfSome};
 ghost use Rattle.std.specs.List.{list_any};
 ghost use Rattle.dos_world.specs.Numbered.{changed, numbered};
 ghost use Rattle.dos_world.specs.World.{all_holdings, look, on_holdings};
@@ -7,7 +10,9 @@ ghost use Rattle.dos_world.specs.Kernel.{ended_by, orphaned, with_entry, without
 ghost use Rattle.dos_world.specs.DescriptorCalls.{with_end};
 ghost use Rattle.dos_world.specs.SignalCalls.{is_signal, with_action};
 ghost use Rattle.space_map.specs.Mapping.{IsMapped, empty, in_run};
-ghost use Rattle.proc_table.specs.Tables.{IsParent, IsProcess, end_in, entry_replaced, held_as, held_in, last_status, new_process, run_put, run_shared, run_unmapped, without_ends};
+ghost use Rattle.proc_table.specs.Tables.{IsParent, IsProcess, end_in, entry_replaced, held_as};
+ghost use Rattle.proc_table.specs.Tables.{held_in, last_status, new_process, run_put, run_shared};
+ghost use Rattle.proc_table.specs.Tables.{run_unmapped, without_ends};
 ghost use Rattle.proc_table.specs.Children.{after_wait, outcome};
 ghost use Rattle.proc_table.specs.Places.{first_belongings, status_or_0};
 

@@ -1,10 +1,15 @@
 // The record of each number that was given, and the children of each process.
-ghost use Rattle.std.specs.Prelude.{◌≡◌, ◌<◌, ◌≤◌, ◌+◌, ◌-◌, [], ◌∷◌, ◌++◌, length, map, None, Some, true, false, position, slice_get, unwrap_or, IfOk, IsSome, IfSome};
+ghost use Rattle.std.specs.Prelude.{◌≡◌, ◌<◌, ◌≤◌, ◌+◌, ◌-◌, [], ◌∷◌, ◌++◌, length, map, None};
+ghost use Rattle.std.specs.Prelude.{Some, true, false, position, slice_get, unwrap_or, IfOk};
+ghost use Rattle.std.specs.Prelude.{IsSome, IfSome};
 ghost use Rattle.dos_world.specs.Numbered.{changed, numbered};
 ghost use Rattle.std.specs.Vec.{vec_capacity};
 ghost use Rattle.proc_table.specs.declared.record.Kept.TheVariants.{Live, Ended};
-ghost use Rattle.proc_table.specs.Places.{first_child, has_come, is_child_record, is_collected, kept_as, orphan_record, place_in};
-ghost use Rattle.proc_table.specs.Links.{AreLinked, IsLinkable, childless, next_in, no_links, passes_at, previous_in, with_child, with_link, with_next, with_previous};
+ghost use Rattle.proc_table.specs.Places.{first_child, has_come, is_child_record, is_collected};
+ghost use Rattle.proc_table.specs.Places.{kept_as, orphan_record, place_in};
+ghost use Rattle.proc_table.specs.Links.{AreLinked, IsLinkable, childless, next_in, no_links};
+ghost use Rattle.proc_table.specs.Links.{passes_at, previous_in, with_child, with_link, with_next};
+ghost use Rattle.proc_table.specs.Links.{with_previous};
 
 use crate::record::{Kept, Links, Record};
 use std::alloc::{AllocError, Global};

@@ -1,8 +1,11 @@
 // The table of processes and threads.
-ghost use Rattle.std.specs.Prelude.{◌≡◌, ◌<◌, ◌≤◌, ◌+◌, ◌-◌, ◌^◌, length, slice_index, None, Some, [], IfOk, IfErr, IsSome, IfSome, is_some, is_none, position, true, false};
+ghost use Rattle.std.specs.Prelude.{◌≡◌, ◌<◌, ◌≤◌, ◌+◌, ◌-◌, ◌^◌, length, slice_index, None, Some};
+ghost use Rattle.std.specs.Prelude.{[], IfOk, IfErr, IsSome, IfSome, is_some, is_none, position};
+ghost use Rattle.std.specs.Prelude.{true, false};
 ghost use Rattle.std.specs.List.{list_any};
 ghost use Rattle.dos_world.specs.Numbered.{numbered, changed, numbers_of};
-ghost use Rattle.dos_world.specs.World.{all_holdings, belongs_to, first_of, in_state, look, none_of, registers_by};
+ghost use Rattle.dos_world.specs.World.{all_holdings, belongs_to, first_of, in_state, look};
+ghost use Rattle.dos_world.specs.World.{none_of, registers_by};
 ghost use Rattle.dos_world.specs.Kernel.{awake, pending_with, with_entry, without_entries};
 ghost use Rattle.dos_world.specs.Calls.{charged};
 ghost use Rattle.dos_world.specs.ThreadCalls.{are_threads_full, ready_thread};
@@ -12,7 +15,12 @@ ghost use Rattle.dos_world.specs.SignalCalls.{is_signal, masked, with_action};
 ghost use Rattle.dos_world.specs.Signals.{chosen, cleared, handling};
 ghost use Rattle.space_map.specs.Mapping.{IsMapped, in_run};
 ghost use Rattle.proc_table.specs.Children.{after_wait, outcome};
-ghost use Rattle.proc_table.specs.Tables.{are_any, restored_in, IsParent, IsProcess, IsThread, end_in, entry_replaced, held_as, held_by, held_in, last_status, new_process, next_in, no_tables, ran, thread_by, thread_in, with_budget, with_ended, process_added, run_put, run_shared, run_unmapped, thread_added, without_ends};
+ghost use Rattle.proc_table.specs.Tables.{are_any, restored_in, IsParent, IsProcess, IsThread};
+ghost use Rattle.proc_table.specs.Tables.{end_in, entry_replaced, held_as, held_by, held_in};
+ghost use Rattle.proc_table.specs.Tables.{last_status, new_process, next_in, no_tables, ran};
+ghost use Rattle.proc_table.specs.Tables.{thread_by, thread_in, with_budget, with_ended};
+ghost use Rattle.proc_table.specs.Tables.{process_added, run_put, run_shared, run_unmapped};
+ghost use Rattle.proc_table.specs.Tables.{thread_added, without_ends};
 
 use crate::processes::Processes;
 use crate::thread::Thread;

@@ -1,5 +1,7 @@
 // The threads that live, in rising number.
-ghost use Rattle.std.specs.Prelude.{◌≡◌, true, ◌==◌, ◌≤◌, filter, find, count_by, slice_get, ◌<◌, ◌+◌, [], ◌∷◌, ◌++◌, length, map, option_map, None, Some, false, is_some, IfOk, IfErr, IsSome, IfSome};
+ghost use Rattle.std.specs.Prelude.{◌≡◌, true, ◌==◌, ◌≤◌, filter, find, count_by, slice_get, ◌<◌};
+ghost use Rattle.std.specs.Prelude.{◌+◌, [], ◌∷◌, ◌++◌, length, map, option_map, None, Some, false};
+ghost use Rattle.std.specs.Prelude.{is_some, IfOk, IfErr, IsSome, IfSome};
 ghost use Rattle.dos_world.specs.Numbered.{changed, numbers_of};
 ghost use Rattle.dos_world.specs.World.{belongs_to, first_of, none_of, registers_by};
 ghost use Rattle.dos_world.specs.Kernel.{pending_with, unless_of};

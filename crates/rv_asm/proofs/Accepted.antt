@@ -1,11 +1,16 @@
 -- A file with such headers is not refused.
-use Rattle.std.proofs.Common.{◌≡◌, ℕ, ◌+◌, ◌*◌, ◌%◌, ◌≤◌, Bool, true, false, ◌&&◌, List, [], ◌∷◌, length, None, Ok, refl, ap, ◌∙◌, arith}
+use Rattle.std.proofs.Common.{◌≡◌, ℕ, ◌+◌, ◌*◌, ◌%◌, ◌≤◌, Bool, true, false, ◌&&◌, List, [], ◌∷◌}
+use Rattle.std.proofs.Common.{length, None, Ok, refl, ap, ◌∙◌, arith}
 use Rattle.std.specs.Prelude.{map, filter, find, nat_lt, ◌==◌}
 use Rattle.std.specs.List.{list_any}
 use Rattle.std.proofs.lemmas.Bool.{lt-ltb, le-ltb, le-leb, and_from, and_right, or_from, ne_eqb}
 use Rattle.elf_image.specs.declared.header.Header.{Header}
 use Rattle.elf_image.specs.Fields.{e_entry, headers}
-use Rattle.elf_image.specs.Image.{image, image_of, part_of, part_headers, do_meet, holds_entry, is_dynamic, is_executable, is_load, is_part, is_segment_bad, leaves_file, leaves_space, end_of, format_refusal, machine_refusal, table_refusal, segment_refusal, overlap_refusal, entry_refusal, refusal}
+use Rattle.elf_image.specs.Image.{image, image_of, part_of, part_headers, do_meet, holds_entry}
+use Rattle.elf_image.specs.Image.{is_dynamic, is_executable, is_load, is_part, is_segment_bad}
+use Rattle.elf_image.specs.Image.{leaves_file, leaves_space, end_of, format_refusal}
+use Rattle.elf_image.specs.Image.{machine_refusal, table_refusal, segment_refusal, overlap_refusal}
+use Rattle.elf_image.specs.Image.{entry_refusal, refusal}
 use Rattle.rv_asm.proofs.FileFields.{HasHeader}
 
 -- ---- the file header

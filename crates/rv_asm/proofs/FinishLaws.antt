@@ -1,14 +1,19 @@
 -- The file of a builder whose parts are in range has the builder's image.
-use Rattle.std.proofs.Common.{◌≡◌, ℕ, suc, ◌+◌, ◌*◌, ◌%◌, ◌^◌, ◌<◌, ◌≤◌, ◌⊎◌, inl, inr, Bool, true, false, not, List, [], ◌∷◌, ◌++◌, length, Option, Result, Ok, Err, refl, ap, sym, subst, ◌∙◌, append_assoc, arith}
+use Rattle.std.proofs.Common.{◌≡◌, ℕ, suc, ◌+◌, ◌*◌, ◌%◌, ◌^◌, ◌<◌, ◌≤◌, ◌⊎◌, inl, inr, Bool, true}
+use Rattle.std.proofs.Common.{false, not, List, [], ◌∷◌, ◌++◌, length, Option, Result, Ok, Err}
+use Rattle.std.proofs.Common.{refl, ap, sym, subst, ◌∙◌, append_assoc, arith}
 use Rattle.std.specs.Prelude.{nat_le, ◌==◌, IsOkAnd}
-use Rattle.std.proofs.lemmas.Bool.{ltb-true, ltb-false, leb-true, eqb-false, not-true, and_parts, or_cases}
+use Rattle.std.proofs.lemmas.Bool.{ltb-true, ltb-false, leb-true, eqb-false, not-true, and_parts}
+use Rattle.std.proofs.lemmas.Bool.{or_cases}
 use Rattle.elf_image.specs.Image.{image}
 use Rattle.rv_asm.specs.declared.error.AsmError.{AsmError}
 use Rattle.rv_asm.specs.declared.error.AsmError.TheVariants as error
 use Rattle.rv_asm.specs.declared.item.Item.{Item}
 use Rattle.rv_asm.specs.Source.{Source, data_size, has_data}
 use Rattle.rv_asm.specs.Words.{word_of, before, words_from, assembled}
-use Rattle.rv_asm.specs.File.{code_flags, code_of, code_part, data_parts, do_meet, file_of, finished, headers_by, image_of, is_code_placed, is_data_placed, is_in_range, is_placed}
+use Rattle.rv_asm.specs.File.{code_flags, code_of, code_part, data_parts, do_meet, file_of}
+use Rattle.rv_asm.specs.File.{finished, headers_by, image_of, is_code_placed, is_data_placed}
+use Rattle.rv_asm.specs.File.{is_in_range, is_placed}
 use Rattle.rv_asm.proofs.FileFields.{one, two}
 use Rattle.rv_asm.proofs.ImageLaws.{IsCode, image-code, image-both}
 

@@ -1,11 +1,14 @@
 -- The image of a file that has such headers, then the code, then the data.
-use Rattle.std.proofs.Common.{◌≡◌, ℕ, ◌+◌, ◌-◌, ◌%◌, ◌^◌, ◌<◌, ◌≤◌, Bool, true, false, List, [], ◌∷◌, ◌++◌, length, take, drop, Ok, refl, ap, subst, ◌∙◌, arith, length-append}
+use Rattle.std.proofs.Common.{◌≡◌, ℕ, ◌+◌, ◌-◌, ◌%◌, ◌^◌, ◌<◌, ◌≤◌, Bool, true, false, List, []}
+use Rattle.std.proofs.Common.{◌∷◌, ◌++◌, length, take, drop, Ok, refl, ap, subst, ◌∙◌, arith}
+use Rattle.std.proofs.Common.{length-append}
 use Rattle.std.proofs.lemmas.List.{drop-drop, take_all}
 use Rattle.std.proofs.Math.Seq.{take-append_seam, drop-append_seam}
 use Rattle.elf_image.specs.declared.part.Part.{Part}
 use Rattle.elf_image.specs.Image.{Image, image, part_of, is_writable, is_executable, do_meet}
 use Rattle.rv_asm.specs.File.{code_flags}
-use Rattle.rv_asm.proofs.FileFields.{one, two, loads, one-header, two-header, one-headers, two-headers, one-rest, two-rest}
+use Rattle.rv_asm.proofs.FileFields.{one, two, loads, one-header, two-header, one-headers}
+use Rattle.rv_asm.proofs.FileFields.{two-headers, one-rest, two-rest}
 use Rattle.rv_asm.proofs.Accepted.{IsGood, IsEntered, image-one, image-two}
 
 -- ---- the rights

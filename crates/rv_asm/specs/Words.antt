@@ -1,6 +1,7 @@
 -- The words of a builder: an item stands at a place, counted from 0, and a jump or a branch goes to
 -- the place of its label.
-use Rattle.std.specs.Prelude.{ℕ, suc, ◌*◌, ◌^◌, ◌-ℤ◌, ℤ, pos, negsuc, Bool, nat_lt, List, [], ◌∷◌, Option, Some, None, Result, Ok, Err, if◌then◌else◌}
+use Rattle.std.specs.Prelude.{ℕ, suc, ◌*◌, ◌^◌, ◌-ℤ◌, ℤ, pos, negsuc, Bool, nat_lt, List, [], ◌∷◌}
+use Rattle.std.specs.Prelude.{Option, Some, None, Result, Ok, Err, if◌then◌else◌}
 use Rattle.rv_isa.specs.Encoding.{encoding}
 use Rattle.rv_isa.specs.declared.BranchOp.{BranchOp}
 use Rattle.rv_isa.specs.declared.Instr.TheVariants as instr

@@ -3,7 +3,8 @@
 ghost use Rattle.std.specs.Prelude.{◌≡◌, ◌%◌, ◌^◌, ◌<◌, length, IfOk, OnOk, OnErr, is_some, IsNone};
 ghost use Rattle.rv_isa.specs.Valid.{IsValid};
 ghost use Rattle.rv_isa.specs.Encoding.{encoding};
-ghost use Rattle.rv_asm.specs.Source.{empty_at, place_of, with_item, HasRegisters, with_label, with_here, with_data};
+ghost use Rattle.rv_asm.specs.Source.{empty_at, place_of, with_item, HasRegisters, with_label};
+ghost use Rattle.rv_asm.specs.Source.{with_here, with_data};
 
 mod finish;
 

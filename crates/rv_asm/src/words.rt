@@ -1,9 +1,11 @@
 //! The words of a builder.
 
-ghost use Rattle.std.specs.Prelude.{◌≡◌, ◌≢◌, ◌<◌, ◌≤◌, ◌*◌, ◌^◌, ◌↔◌, Ok, Err, All, length, ◌++◌, ◌∷◌, [], OnOk, IfOk, IfErr, IfSome, IfNone, true, false};
+ghost use Rattle.std.specs.Prelude.{◌≡◌, ◌≢◌, ◌<◌, ◌≤◌, ◌*◌, ◌^◌, ◌↔◌, Ok, Err, All, length, ◌++◌};
+ghost use Rattle.std.specs.Prelude.{◌∷◌, [], OnOk, IfOk, IfErr, IfSome, IfNone, true, false};
 ghost use Rattle.rv_isa.specs.Valid.{IsRegister, IsBranchOffset, IsJumpOffset};
 ghost use Rattle.rv_asm.specs.Source.{HasRegisters, place_of};
-ghost use Rattle.rv_asm.specs.Words.{branch_by, branch_limit, distance, fits, jump_by, jump_limit, word_of, words_from};
+ghost use Rattle.rv_asm.specs.Words.{branch_by, branch_limit, distance, fits, jump_by, jump_limit};
+ghost use Rattle.rv_asm.specs.Words.{word_of, words_from};
 
 use crate::error::AsmError;
 use crate::item::Item;

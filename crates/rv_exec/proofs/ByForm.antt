@@ -5,7 +5,8 @@ use Rattle.dos_world.specs.World.{World, Registers}
 use Rattle.dos_world.specs.declared.Reason.{Reason}
 use Rattle.rv_isa.specs.Meaning.{meaning}
 use Rattle.rv_isa.specs.declared.Instr.{Instr}
-use Rattle.rv_isa.specs.declared.Instr.TheVariants.{Upper, Jal, Jalr, Branch, Load, Store, Imm, Shift, Reg, Amo, Fence, Ecall, Ebreak}
+use Rattle.rv_isa.specs.declared.Instr.TheVariants.{Upper, Jal, Jalr, Branch, Load, Store, Imm}
+use Rattle.rv_isa.specs.declared.Instr.TheVariants.{Shift, Reg, Amo, Fence, Ecall, Ebreak}
 use Rattle.rv_form.specs.declared.form.Form.{Form}
 use Rattle.rv_form.specs.Forms.{IsFormOf, plain}
 use Rattle.rv_exec.specs.declared.Went.{Went}

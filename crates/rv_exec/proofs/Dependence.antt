@@ -1,6 +1,10 @@
 -- What a thread does depends on what it sees alone.
-use Rattle.std.proofs.Common.{ℕ, zero, suc, ◌+◌, ◌*◌, ◌/◌, ◌%◌, ◌^◌, ◌<◌, ◌≤◌, ◌≡◌, ◌≢◌, ◌⊎◌, inl, inr, refl, sym, ap, ◌∙◌, subst, Bool, cond, true, false, not, eqb, eqb-true, List, [], ◌∷◌, length, get_or, set, take, drop, Option, Some, None, Result, Ok, Err, arith, length-set}
-use Rattle.dos_world.specs.World.{World, Thread, Registers, entry_at, owner_of, thread_at, look, space_of}
+use Rattle.std.proofs.Common.{ℕ, zero, suc, ◌+◌, ◌*◌, ◌/◌, ◌%◌, ◌^◌, ◌<◌, ◌≤◌, ◌≡◌, ◌≢◌, ◌⊎◌, inl}
+use Rattle.std.proofs.Common.{inr, refl, sym, ap, ◌∙◌, subst, Bool, cond, true, false, not, eqb}
+use Rattle.std.proofs.Common.{eqb-true, List, [], ◌∷◌, length, get_or, set, take, drop, Option}
+use Rattle.std.proofs.Common.{Some, None, Result, Ok, Err, arith, length-set}
+use Rattle.dos_world.specs.World.{World, Thread, Registers, entry_at, owner_of, thread_at, look}
+use Rattle.dos_world.specs.World.{space_of}
 use Rattle.dos_world.specs.Bytes.{number_of, loaded, written, bytes_of}
 use Rattle.dos_world.specs.Reach.{fault, foreign, at, reach, in_frame, is_foreign, has_right, width}
 use Rattle.dos_world.specs.declared.Entry.{Entry}
@@ -19,8 +23,10 @@ use Rattle.rv_exec.specs.Laws.{AreAlike}
 use Rattle.rv_exec.proofs.Forms.{Wrote, own-frame, Ok-is, written_length}
 use Rattle.rv_isa.specs.declared.Instr.{Instr}
 use Rattle.rv_exec.specs.Effect.{Effect, goes, loads, stores, claims, stops, effect}
-use Rattle.rv_exec.specs.Step.{step, step_of, step_by, performed, reached, place_or_reason, half_at, whole_word, instruction_at, paid, paid_by, with_word, ◌>>=◌}
-use Rattle.rv_exec.proofs.Keeps.{bind_ok, within, at≢fault, at≢foreign, reached-at, length-bytes_of, Own, store, claim, reach-own}
+use Rattle.rv_exec.specs.Step.{step, step_of, step_by, performed, reached, place_or_reason, half_at}
+use Rattle.rv_exec.specs.Step.{whole_word, instruction_at, paid, paid_by, with_word, ◌>>=◌}
+use Rattle.rv_exec.proofs.Keeps.{bind_ok, within, at≢fault, at≢foreign, reached-at, length-bytes_of}
+use Rattle.rv_exec.proofs.Keeps.{Own, store, claim, reach-own}
 
 -- ---- numbers in bytes that agree
 

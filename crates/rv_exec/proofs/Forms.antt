@@ -1,5 +1,6 @@
 -- What a step changes, and what it writes: the forms of a step.
-use Rattle.std.proofs.Common.{ℕ, suc, ◌+◌, ◌/◌, ◌<◌, ◌≤◌, ◌≡◌, refl, ap, ◌∙◌, List, [], ◌∷◌, length, Option, Some, None, Result, Ok, Err, arith, length-set}
+use Rattle.std.proofs.Common.{ℕ, suc, ◌+◌, ◌/◌, ◌<◌, ◌≤◌, ◌≡◌, refl, ap, ◌∙◌, List, [], ◌∷◌, length}
+use Rattle.std.proofs.Common.{Option, Some, None, Result, Ok, Err, arith, length-set}
 use Rattle.dos_world.specs.World.{World, Thread, Registers, owner_of, thread_at}
 use Rattle.dos_world.specs.Bytes.{loaded, written, bytes_of}
 use Rattle.dos_world.specs.Reach.{width}
@@ -10,7 +11,8 @@ use Rattle.dos_world.specs.declared.Reason.{Reason}
 use Rattle.dos_world.specs.declared.Reason.TheVariants.{Fault}
 use Rattle.rv_isa.specs.declared.Instr.{Instr}
 use Rattle.rv_exec.specs.Effect.{Effect, goes, loads, stores, claims, stops, effect}
-use Rattle.rv_exec.specs.Step.{step, step_of, step_by, performed, reached, instruction_at, paid, with_word}
+use Rattle.rv_exec.specs.Step.{step, step_of, step_by, performed, reached, instruction_at, paid}
+use Rattle.rv_exec.specs.Step.{with_word}
 use Rattle.rv_exec.proofs.Keeps.{bind_ok, Own}
 
 -- ---- what a step changes: bytes, as many as before, and its thread

@@ -1,5 +1,6 @@
 -- The upper 32 bits of a product of two numbers of 64 bits that came from 32 bits.
-use Rattle.std.proofs.Common.{ℕ, ◌≡◌, ◌<◌, ◌≤◌, ◌*◌, ◌^◌, ◌-◌, ap, ◌∙◌, ℤ, pos, negsuc, ◌*ℤ◌, w32, w64, to_z, of_z, SFits, unsigned_abs, arith, lit<}
+use Rattle.std.proofs.Common.{ℕ, ◌≡◌, ◌<◌, ◌≤◌, ◌*◌, ◌^◌, ◌-◌, ap, ◌∙◌, ℤ, pos, negsuc, ◌*ℤ◌, w32}
+use Rattle.std.proofs.Common.{w64, to_z, of_z, SFits, unsigned_abs, arith, lit<}
 use Rattle.std.proofs.lemmas.Int.{ints, to_z-of_z, fits_signed_mul}
 use Rattle.std.specs.Int.{int_shr}
 

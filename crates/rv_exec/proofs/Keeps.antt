@@ -1,7 +1,11 @@
 -- What an instruction leaves as it was.
-use Rattle.std.proofs.Common.{ℕ, zero, suc, ◌+◌, ◌*◌, ◌/◌, ◌%◌, ◌<◌, ◌≤◌, ◌≡◌, ◌≢◌, ◌⊎◌, inl, inr, refl, ap, ◌∙◌, subst, Bool, cond, true, false, not, eqb, eqb-true, List, [], ◌∷◌, length, get_or, Option, Some, None, Result, Ok, Err, arith, get_or-set_other}
+use Rattle.std.proofs.Common.{ℕ, zero, suc, ◌+◌, ◌*◌, ◌/◌, ◌%◌, ◌<◌, ◌≤◌, ◌≡◌, ◌≢◌, ◌⊎◌, inl, inr}
+use Rattle.std.proofs.Common.{refl, ap, ◌∙◌, subst, Bool, cond, true, false, not, eqb, eqb-true}
+use Rattle.std.proofs.Common.{List, [], ◌∷◌, length, get_or, Option, Some, None, Result, Ok, Err}
+use Rattle.std.proofs.Common.{arith, get_or-set_other}
 use Rattle.dos_world.specs.World.{World, Thread, Registers, entry_at, owner_of, thread_at}
-use Rattle.dos_world.specs.Reach.{Reached, fault, foreign, at, reach, in_frame, is_foreign, has_right, width, loaded, written, bytes_of}
+use Rattle.dos_world.specs.Reach.{Reached, fault, foreign, at, reach, in_frame, is_foreign}
+use Rattle.dos_world.specs.Reach.{has_right, width, loaded, written, bytes_of}
 use Rattle.dos_world.specs.declared.Entry.{Entry}
 use Rattle.dos_world.specs.declared.Access.{Access}
 use Rattle.dos_world.specs.declared.Access.TheVariants.{Fetch, Load, Store, Claim}

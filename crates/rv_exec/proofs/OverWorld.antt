@@ -1,7 +1,9 @@
 -- step is one_in over the flat world, and one of the budget.
-use Rattle.std.proofs.Common.{ℕ, ◌+◌, ◌*◌, ◌%◌, ◌≡◌, refl, sym, ap, ◌∙◌, cond, not, eqb, Option, Some, None, Result, Ok, Err}
+use Rattle.std.proofs.Common.{ℕ, ◌+◌, ◌*◌, ◌%◌, ◌≡◌, refl, sym, ap, ◌∙◌, cond, not, eqb, Option}
+use Rattle.std.proofs.Common.{Some, None, Result, Ok, Err}
 use Rattle.dos_world.specs.World.{World, Thread, Registers, entry_at, owner_of, thread_at}
-use Rattle.dos_world.specs.Reach.{Reached, fault, foreign, at, reach, in_frame, is_foreign, width, loaded, stored, bytes_of}
+use Rattle.dos_world.specs.Reach.{Reached, fault, foreign, at, reach, in_frame, is_foreign, width}
+use Rattle.dos_world.specs.Reach.{loaded, stored, bytes_of}
 use Rattle.dos_world.specs.declared.Entry.{Entry}
 use Rattle.dos_world.specs.declared.Access.TheVariants.{Load, Store, Claim}
 use Rattle.dos_world.specs.declared.Size.TheVariants.{Word}
@@ -11,7 +13,8 @@ use Rattle.dos_world.specs.declared.Reason.{Reason}
 use Rattle.dos_world.specs.declared.Reason.TheVariants.{Page, Fault, Service}
 use Rattle.rv_isa.specs.declared.Instr.{Instr}
 use Rattle.rv_exec.specs.Effect.{Effect, goes, loads, stores, claims, stops, effect}
-use Rattle.rv_exec.specs.Step.{◌>>=◌, reached, step, step_by, performed, paid, with_word, instruction_at}
+use Rattle.rv_exec.specs.Step.{◌>>=◌, reached, step, step_by, performed, paid, with_word}
+use Rattle.rv_exec.specs.Step.{instruction_at}
 use Rattle.rv_exec.specs.Laws.{pays}
 use Rattle.rv_exec.specs.Over.{one_in, effect_in, store_if, world_answers}
 

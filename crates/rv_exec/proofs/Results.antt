@@ -1,11 +1,13 @@
 -- What operations compute, at values from the manual's tables and at the ends of their ranges;
 -- worked out by hand.
 use Rattle.std.specs.Prelude.{negsuc, true, false, ◌≡◌, refl}
-use Rattle.rv_isa.specs.declared.RegOp.TheVariants.{Add, Sub, Sll, Slt, Sltu, Srl, Sra, Mul, Mulh, Mulhsu, Mulhu, Div, Divu, Rem, Remu}
+use Rattle.rv_isa.specs.declared.RegOp.TheVariants.{Add, Sub, Sll, Slt, Sltu, Srl, Sra, Mul, Mulh}
+use Rattle.rv_isa.specs.declared.RegOp.TheVariants.{Mulhsu, Mulhu, Div, Divu, Rem, Remu}
 use Rattle.rv_isa.specs.declared.ImmOp.TheVariants.{Addi, Slti, Sltiu}
 use Rattle.rv_isa.specs.declared.LoadOp.TheVariants.{Lb, Lh, Lbu, Lhu}
 use Rattle.rv_isa.specs.declared.BranchOp.TheVariants.{Blt, Bltu}
-use Rattle.rv_exec.specs.Arithmetic.{register_result, immediate_result, load_result, is_taken, lesser, greater, plus}
+use Rattle.rv_exec.specs.Arithmetic.{register_result, immediate_result, load_result, is_taken}
+use Rattle.rv_exec.specs.Arithmetic.{lesser, greater, plus}
 
 -- -2^31 by -1
 division_overflows : register_result Div 0x80000000 0xFFFFFFFF ≡ 0x80000000

@@ -1,6 +1,7 @@
 -- A thread goes on as it did, to stop or to step, after a step of another: what it sees is the
 -- same.
-use Rattle.std.proofs.Common.{ℕ, ◌/◌, ◌≡◌, ◌≢◌, refl, sym, ap, ◌∙◌, subst, Bool, true, false, not, eqb, eqb-true, List, length, Some, option_map, get_or, Ok, Err, arith}
+use Rattle.std.proofs.Common.{ℕ, ◌/◌, ◌≡◌, ◌≢◌, refl, sym, ap, ◌∙◌, subst, Bool, true, false, not}
+use Rattle.std.proofs.Common.{eqb, eqb-true, List, length, Some, option_map, get_or, Ok, Err, arith}
 use Rattle.dos_world.specs.Numbered.{numbered}
 use Rattle.dos_world.specs.World.{World, Thread, entry_at, flat, owner_of, thread_at, with_thread}
 use Rattle.dos_world.specs.Reach.{is_foreign}

@@ -1,6 +1,8 @@
 -- What the instructions compute, on numbers below 2^32. RISC-V unprivileged manual, edition
 -- 20191213.
-use Rattle.std.specs.Prelude.{ℕ, ◌+◌, ◌-◌, ◌*◌, ◌/◌, ◌%◌, ◌^◌, Bool, not, ℤ, pos, ◌*ℤ◌, ◌==◌, nat_lt, int_lt, int_div, int_rem, if◌then◌else◌, bit_and, bit_or, bit_xor}
+use Rattle.std.specs.Prelude.{ℕ, ◌+◌, ◌-◌, ◌*◌, ◌/◌, ◌%◌, ◌^◌, Bool, not, ℤ, pos, ◌*ℤ◌, ◌==◌}
+use Rattle.std.specs.Prelude.{nat_lt, int_lt, int_div, int_rem, if◌then◌else◌, bit_and, bit_or}
+use Rattle.std.specs.Prelude.{bit_xor}
 use Rattle.std.specs.Int.{w8, w16, w32, cast_signed, cast_unsigned, int_shr}
 use Rattle.dos_world.specs.declared.Size.{Size}
 use Rattle.dos_world.specs.declared.Size.TheVariants.{Byte, Half, Word}
@@ -15,7 +17,9 @@ use Rattle.rv_isa.specs.declared.ImmOp.TheVariants.{Addi, Slti, Sltiu, Xori, Ori
 use Rattle.rv_isa.specs.declared.ShiftOp.{ShiftOp}
 use Rattle.rv_isa.specs.declared.ShiftOp.TheVariants.{Slli, Srli, Srai}
 use Rattle.rv_isa.specs.declared.RegOp.{RegOp}
-use Rattle.rv_isa.specs.declared.RegOp.TheVariants.{Add, Sub, Sll, Slt, Sltu, Xor, Srl, Sra, Or, And, Mul, Mulh, Mulhsu, Mulhu, Div, Divu, Rem, Remu}
+use Rattle.rv_isa.specs.declared.RegOp.TheVariants.{Add, Sub, Sll, Slt, Sltu, Xor, Srl, Sra, Or}
+use Rattle.rv_isa.specs.declared.RegOp.TheVariants.{And, Mul, Mulh, Mulhsu, Mulhu, Div, Divu, Rem}
+use Rattle.rv_isa.specs.declared.RegOp.TheVariants.{Remu}
 
 -- ---- numbers of 32 bits
 

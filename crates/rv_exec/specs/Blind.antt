@@ -1,9 +1,11 @@
 -- What a thread reaches doesn't depend on its registers or its budget. An implementation of the
 -- trait Memory cites it for its law `blind`.
-use Rattle.std.specs.Prelude.{ℕ, zero, suc, ◌≡◌, ◌/◌, refl, List, [], ◌∷◌, Option, Some, None, option_map, slice_get}
+use Rattle.std.specs.Prelude.{ℕ, zero, suc, ◌≡◌, ◌/◌, refl, List, [], ◌∷◌, Option, Some, None}
+use Rattle.std.specs.Prelude.{option_map, slice_get}
 use Rattle.std.proofs.Common.{sym, ap, ◌∙◌}
 use Rattle.dos_world.specs.Numbered.{numbered, changed, changed_at}
-use Rattle.dos_world.specs.World.{World, Thread, flat, thread_at, with_thread, entry_at, space_of, look}
+use Rattle.dos_world.specs.World.{World, Thread, flat, thread_at, with_thread, entry_at, space_of}
+use Rattle.dos_world.specs.World.{look}
 use Rattle.dos_world.specs.declared.Entry.{Entry}
 
 process_in : Option Thread → Option ℕ

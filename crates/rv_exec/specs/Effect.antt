@@ -1,15 +1,20 @@
 -- What an instruction does: it changes registers alone, or makes one access to memory, or stops.
 -- RISC-V unprivileged manual, edition 20191213; the reservation is this project's own.
-use Rattle.std.specs.Prelude.{ℕ, ◌+◌, ◌*◌, ◌/◌, ◌%◌, ◌^◌, min, max, Bool, true, false, not, Option, Some, None, ◌==◌, if◌then◌else◌, bit_and, bit_or, bit_xor}
+use Rattle.std.specs.Prelude.{ℕ, ◌+◌, ◌*◌, ◌/◌, ◌%◌, ◌^◌, min, max, Bool, true, false, not, Option}
+use Rattle.std.specs.Prelude.{Some, None, ◌==◌, if◌then◌else◌, bit_and, bit_or, bit_xor}
 use Rattle.dos_world.specs.World.{Registers, code_unit, get, set, with_pc, with_held}
 use Rattle.dos_world.specs.declared.Size.{Size}
 use Rattle.dos_world.specs.declared.Reason.{Reason}
 use Rattle.dos_world.specs.declared.Reason.TheVariants.{Fault, Service}
 use Rattle.rv_isa.specs.declared.AmoOp.{AmoOp}
-use Rattle.rv_isa.specs.declared.AmoOp.TheVariants.{LrW, ScW, AmoswapW, AmoaddW, AmoxorW, AmoandW, AmoorW, AmominW, AmomaxW, AmominuW, AmomaxuW}
+use Rattle.rv_isa.specs.declared.AmoOp.TheVariants.{LrW, ScW, AmoswapW, AmoaddW, AmoxorW, AmoandW}
+use Rattle.rv_isa.specs.declared.AmoOp.TheVariants.{AmoorW, AmominW, AmomaxW, AmominuW, AmomaxuW}
 use Rattle.rv_isa.specs.declared.Instr.{Instr}
-use Rattle.rv_isa.specs.declared.Instr.TheVariants.{Upper, Jal, Jalr, Branch, Load, Store, Imm, Shift, Reg, Amo, Fence, Ecall, Ebreak}
-pub use Rattle.rv_exec.specs.Arithmetic.{signed, unsigned, plus, test, register_result, immediate_result, shift_result, is_taken, load_size, load_result, store_size, lesser, greater}
+use Rattle.rv_isa.specs.declared.Instr.TheVariants.{Upper, Jal, Jalr, Branch, Load, Store, Imm}
+use Rattle.rv_isa.specs.declared.Instr.TheVariants.{Shift, Reg, Amo, Fence, Ecall, Ebreak}
+pub use Rattle.rv_exec.specs.Arithmetic.{signed, unsigned, plus, test, register_result}
+pub use Rattle.rv_exec.specs.Arithmetic.{immediate_result, shift_result, is_taken, load_size}
+pub use Rattle.rv_exec.specs.Arithmetic.{load_result, store_size, lesser, greater}
 
 pub data Effect : Type 0 where
   -- to these registers, with no access

@@ -1,5 +1,6 @@
 -- Laws of one instruction; the functions of the module laws promise them.
-use Rattle.std.specs.Prelude.{ℕ, ◌≡◌, ◌≢◌, ◌⊎◌, ◌/◌, List, length, Some, Result, Ok, Err, slice_index}
+use Rattle.std.specs.Prelude.{ℕ, ◌≡◌, ◌≢◌, ◌⊎◌, ◌/◌, List, length, Some, Result, Ok, Err}
+use Rattle.std.specs.Prelude.{slice_index}
 use Rattle.dos_world.specs.World.{World, Thread, Registers, owner_of, thread_at, entry_at}
 use Rattle.dos_world.specs.declared.Entry.{Entry}
 use Rattle.dos_world.specs.declared.Owner.TheVariants.{Free, Shared, Of}

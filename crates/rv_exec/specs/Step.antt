@@ -1,8 +1,10 @@
 -- One instruction of a thread on the flat world. The instructions are those of the unprivileged
 -- manual; what an access reaches is this project's own.
-use Rattle.std.specs.Prelude.{ℕ, ◌+◌, ◌-◌, ◌*◌, ◌%◌, ◌^◌, Option, Some, None, Result, Ok, Err, ◌==◌, if◌then◌else◌}
+use Rattle.std.specs.Prelude.{ℕ, ◌+◌, ◌-◌, ◌*◌, ◌%◌, ◌^◌, Option, Some, None, Result, Ok, Err, ◌==◌}
+use Rattle.std.specs.Prelude.{if◌then◌else◌}
 use Rattle.dos_world.specs.World.{World, Thread, Registers, thread_at, with_thread}
-use Rattle.dos_world.specs.Reach.{Reached, fault, foreign, at, reach, width, loaded, stored, bytes_of}
+use Rattle.dos_world.specs.Reach.{Reached, fault, foreign, at, reach, width, loaded, stored}
+use Rattle.dos_world.specs.Reach.{bytes_of}
 use Rattle.dos_world.specs.declared.Access.{Access}
 use Rattle.dos_world.specs.declared.Access.TheVariants.{Fetch, Load, Store, Claim}
 use Rattle.dos_world.specs.declared.Size.{Size}

@@ -1,5 +1,6 @@
 // Laws of the definitions, as contracts of functions that do nothing.
-ghost use Rattle.rv_exec.specs.Laws.{StepsKeep, StepsAreOneOverTheWorld, StopsStay, StepsCommute, StepsStay};
+ghost use Rattle.rv_exec.specs.Laws.{StepsKeep, StepsAreOneOverTheWorld, StopsStay, StepsCommute};
+ghost use Rattle.rv_exec.specs.Laws.{StepsStay};
 
 /// An instruction changes no owner of a frame, and no byte of a frame that isn't its thread's.
 pub fn steps_keep()

@@ -3,7 +3,8 @@
 ghost use Rattle.std.specs.Prelude.{◌≡◌, ◌+◌, ◌%◌, ◌^◌, ◌<◌, ℕ, true, false};
 ghost use Rattle.dos_world.specs.declared.Reason.{Reason};
 ghost use Rattle.dos_world.specs.World.{Registers, get, set, with_pc};
-ghost use Rattle.rv_isa.specs.declared.Instr.TheVariants.{Upper, Jal, Jalr, Branch, Imm, Shift, Reg};
+ghost use Rattle.rv_isa.specs.declared.Instr.TheVariants.{Upper, Jal, Jalr, Branch, Imm, Shift};
+ghost use Rattle.rv_isa.specs.declared.Instr.TheVariants.{Reg};
 ghost use Rattle.rv_exec.specs.Effect as effects;
 ghost use Rattle.rv_exec.specs.Effect.{effect};
 ghost use Rattle.rv_exec.specs.Arrivals.{SettlesAt};

@@ -1,5 +1,6 @@
 -- Notes of lines, where one is put, and where there are none.
-use Rattle.std.proofs.Common.{ℕ, zero, suc, ◌<◌, ◌≤◌, ◌≡◌, ◌⊎◌, inl, inr, refl, sym, ap, ◌∙◌, subst, List, [], ◌∷◌, length, set, map, replicate, arith, lit<}
+use Rattle.std.proofs.Common.{ℕ, zero, suc, ◌<◌, ◌≤◌, ◌≡◌, ◌⊎◌, inl, inr, refl, sym, ap, ◌∙◌, subst}
+use Rattle.std.proofs.Common.{List, [], ◌∷◌, length, set, map, replicate, arith, lit<}
 use Rattle.std.proofs.lemmas.Bool.{cases_lt}
 use Rattle.std.proofs.lemmas.List.Elements.{All-set, All-replicate}
 use Rattle.rv_form.specs.Notes.{Note, AreNotes, IsGiven, note_at, nothing, first_base}

@@ -4,7 +4,8 @@ use Rattle.std.specs.Prelude.{ℕ, ℤ, ◌≡◌, ◌≢◌, true, false, Optio
 use Rattle.std.specs.Int.{w32, cast_unsigned}
 use Rattle.rv_isa.specs.Meaning.{meaning}
 use Rattle.rv_isa.specs.declared.Instr.{Instr}
-use Rattle.rv_isa.specs.declared.Instr.TheVariants.{Upper, Jal, Jalr, Branch, Load, Store, Imm, Shift, Reg, Amo, Fence, Ecall, Ebreak}
+use Rattle.rv_isa.specs.declared.Instr.TheVariants.{Upper, Jal, Jalr, Branch, Load, Store, Imm}
+use Rattle.rv_isa.specs.declared.Instr.TheVariants.{Shift, Reg, Amo, Fence, Ecall, Ebreak}
 use Rattle.rv_isa.specs.declared.BranchOp.TheVariants as branches
 use Rattle.rv_isa.specs.declared.LoadOp.TheVariants as loads
 use Rattle.rv_isa.specs.declared.StoreOp.TheVariants as stores

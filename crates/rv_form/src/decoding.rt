@@ -2,7 +2,8 @@
 ghost use Rattle.std.specs.Prelude.{◌≡◌, ◌<◌, ℕ, ℤ, Some, None, false, bit_and};
 ghost use Rattle.rv_isa.specs.Fields as fields;
 ghost use Rattle.rv_isa.specs.Meaning.{meaning};
-ghost use Rattle.rv_isa.specs.declared.Instr.TheVariants.{Branch, Load, Store, Imm, Shift, Reg, Amo};
+ghost use Rattle.rv_isa.specs.declared.Instr.TheVariants.{Branch, Load, Store, Imm, Shift, Reg};
+ghost use Rattle.rv_isa.specs.declared.Instr.TheVariants.{Amo};
 ghost use Rattle.rv_form.specs.Forms.{instr_of, IsFormOf, IsNoOpcode};
 
 use crate::{Form, Op};

@@ -1,6 +1,7 @@
 // Forms that are remembered, each beside the word that it was made of and the key by which it is
 // found again.
-ghost use Rattle.std.specs.Prelude.{◌≡◌, ◌<◌, ◌≤◌, ◌^◌, ◌+◌, ◌⊎◌, slice_set, replicate, IsTrue, ◌↔◌};
+ghost use Rattle.std.specs.Prelude.{◌≡◌, ◌<◌, ◌≤◌, ◌^◌, ◌+◌, ◌⊎◌, slice_set, replicate, IsTrue};
+ghost use Rattle.std.specs.Prelude.{◌↔◌};
 ghost use Rattle.rv_form.specs.Forms.{IsFormOf};
 ghost use Rattle.rv_form.specs.Notes.{AreBelow, first_base, note_at, nothing};
 ghost use Rattle.rv_form.specs.Noted.{note_of, notes_of};

@@ -1,11 +1,17 @@
 -- What is encoded is decoded again: the meaning of a valid instruction's word is the instruction.
-use Rattle.std.proofs.Common.{◌≡◌, ℕ, ◌+◌, ◌*◌, ◌/◌, ◌%◌, ◌^◌, ◌<◌, ℤ, Bool, true, false, Some, refl, sym, ap, ◌∙◌, arith, lit<, ne_eqb}
+use Rattle.std.proofs.Common.{◌≡◌, ℕ, ◌+◌, ◌*◌, ◌/◌, ◌%◌, ◌^◌, ◌<◌, ℤ, Bool, true, false, Some}
+use Rattle.std.proofs.Common.{refl, sym, ap, ◌∙◌, arith, lit<, ne_eqb}
 use Rattle.std.specs.Prelude.{option_map, bit_and, ◌==◌, if◌then◌else◌}
 use Rattle.std.proofs.lemmas.Bool.{eqb-false}
-use Rattle.rv_isa.specs.Fields.{field, flag, rd, rs1, rs2, sign_extended, imm_i, imm_s, imm_b, imm_j, imm_u, bits_s, bits_b, bits_j}
-use Rattle.rv_isa.specs.Meaning.{meaning, found, branch, load, store, arithmetic, register, amo, fence, branch_in, load_in, store_in, arithmetic_in, register_in, amo_in, fence_in, system_in}
+use Rattle.rv_isa.specs.Fields.{field, flag, rd, rs1, rs2, sign_extended, imm_i, imm_s, imm_b}
+use Rattle.rv_isa.specs.Fields.{imm_j, imm_u, bits_s, bits_b, bits_j}
+use Rattle.rv_isa.specs.Meaning.{meaning, found, branch, load, store, arithmetic, register, amo}
+use Rattle.rv_isa.specs.Meaning.{fence, branch_in, load_in, store_in, arithmetic_in, register_in}
+use Rattle.rv_isa.specs.Meaning.{amo_in, fence_in, system_in}
 use Rattle.rv_isa.specs.Valid.{IsValid}
-use Rattle.rv_isa.specs.Encoding.{encoding, twos, r_type, i_type, s_type, b_type, u_type, j_type, one_if, branch_funct3, load_funct3, store_funct3, imm_funct3, shift_funct3, shift_funct7, reg_funct3, reg_funct7, amo_funct5}
+use Rattle.rv_isa.specs.Encoding.{encoding, twos, r_type, i_type, s_type, b_type, u_type, j_type}
+use Rattle.rv_isa.specs.Encoding.{one_if, branch_funct3, load_funct3, store_funct3, imm_funct3}
+use Rattle.rv_isa.specs.Encoding.{shift_funct3, shift_funct7, reg_funct3, reg_funct7, amo_funct5}
 use Rattle.rv_isa.specs.declared.BranchOp.{BranchOp}
 use Rattle.rv_isa.specs.declared.BranchOp.TheVariants.{Beq, Bne, Blt, Bge, Bltu, Bgeu}
 use Rattle.rv_isa.specs.declared.LoadOp.{LoadOp}
@@ -17,16 +23,26 @@ use Rattle.rv_isa.specs.declared.ImmOp.TheVariants.{Addi, Slti, Sltiu, Xori, Ori
 use Rattle.rv_isa.specs.declared.ShiftOp.{ShiftOp}
 use Rattle.rv_isa.specs.declared.ShiftOp.TheVariants.{Slli, Srli, Srai}
 use Rattle.rv_isa.specs.declared.RegOp.{RegOp}
-use Rattle.rv_isa.specs.declared.RegOp.TheVariants.{Add, Sub, Sll, Slt, Sltu, Xor, Srl, Sra, Or, And, Mul, Mulh, Mulhsu, Mulhu, Div, Divu, Rem, Remu}
+use Rattle.rv_isa.specs.declared.RegOp.TheVariants.{Add, Sub, Sll, Slt, Sltu, Xor, Srl, Sra, Or}
+use Rattle.rv_isa.specs.declared.RegOp.TheVariants.{And, Mul, Mulh, Mulhsu, Mulhu, Div, Divu, Rem}
+use Rattle.rv_isa.specs.declared.RegOp.TheVariants.{Remu}
 use Rattle.rv_isa.specs.declared.AmoOp.{AmoOp}
-use Rattle.rv_isa.specs.declared.AmoOp.TheVariants.{LrW, ScW, AmoswapW, AmoaddW, AmoxorW, AmoandW, AmoorW, AmominW, AmomaxW, AmominuW, AmomaxuW}
+use Rattle.rv_isa.specs.declared.AmoOp.TheVariants.{LrW, ScW, AmoswapW, AmoaddW, AmoxorW, AmoandW}
+use Rattle.rv_isa.specs.declared.AmoOp.TheVariants.{AmoorW, AmominW, AmomaxW, AmominuW, AmomaxuW}
 use Rattle.rv_isa.specs.declared.Arithmetic.TheVariants.{Plain, Shifts}
 use Rattle.rv_isa.specs.declared.Instr.{Instr}
-use Rattle.rv_isa.specs.declared.Instr.TheVariants.{Upper, Jal, Jalr, Branch, Load, Store, Imm, Shift, Reg, Amo, Fence, Ecall, Ebreak}
-use Rattle.rv_isa.proofs.ByOpcode.{meaning_branch, meaning_load, meaning_store, meaning_arithmetic, meaning_register, meaning_amo, meaning_fence, meaning_system, meaning_lui, meaning_auipc, meaning_jal, meaning_jalr}
-use Rattle.rv_isa.proofs.Codes.{bit_below, upper_below, branch_below, load_below, store_below, imm_below, shift_below, shift7_below, reg_below, reg7_below, amo_below, one_below}
-use Rattle.rv_isa.proofs.Masks.{opcode_mask, funct3_mask, funct7_mask, funct5_mask, funct5_alone_mask}
-use Rattle.rv_isa.proofs.Formats.{Fields, r_fields, i_fields, extended-twos_12, extended-twos_13, extended-twos_21, twos_below_12, twos_below_13, twos_below_21}
+use Rattle.rv_isa.specs.declared.Instr.TheVariants.{Upper, Jal, Jalr, Branch, Load, Store, Imm}
+use Rattle.rv_isa.specs.declared.Instr.TheVariants.{Shift, Reg, Amo, Fence, Ecall, Ebreak}
+use Rattle.rv_isa.proofs.ByOpcode.{meaning_branch, meaning_load, meaning_store, meaning_arithmetic}
+use Rattle.rv_isa.proofs.ByOpcode.{meaning_register, meaning_amo, meaning_fence, meaning_system}
+use Rattle.rv_isa.proofs.ByOpcode.{meaning_lui, meaning_auipc, meaning_jal, meaning_jalr}
+use Rattle.rv_isa.proofs.Codes.{bit_below, upper_below, branch_below, load_below, store_below}
+use Rattle.rv_isa.proofs.Codes.{imm_below, shift_below, shift7_below, reg_below, reg7_below}
+use Rattle.rv_isa.proofs.Codes.{amo_below, one_below}
+use Rattle.rv_isa.proofs.Masks.{opcode_mask, funct3_mask, funct7_mask, funct5_mask}
+use Rattle.rv_isa.proofs.Masks.{funct5_alone_mask}
+use Rattle.rv_isa.proofs.Formats.{Fields, r_fields, i_fields, extended-twos_12, extended-twos_13}
+use Rattle.rv_isa.proofs.Formats.{extended-twos_21, twos_below_12, twos_below_13, twos_below_21}
 
 -- ---- an operation by its codes
 

@@ -1,12 +1,16 @@
 -- Each row's instruction is valid, and its word is the one that it was read from.
-use Rattle.std.proofs.Common.{◌≡◌, ℕ, ◌+◌, ◌*◌, ◌^◌, ◌<◌, List, [], ◌∷◌, Bool, true, false, Option, Some, None, refl, sym, ap, ◌∙◌, arith, lit<, IfSome}
+use Rattle.std.proofs.Common.{◌≡◌, ℕ, ◌+◌, ◌*◌, ◌^◌, ◌<◌, List, [], ◌∷◌, Bool, true, false, Option}
+use Rattle.std.proofs.Common.{Some, None, refl, sym, ap, ◌∙◌, arith, lit<, IfSome}
 use Rattle.std.specs.Prelude.{option_map, bit_and, if◌then◌else◌}
 use Rattle.std.proofs.lemmas.Bool.{eqb-true}
 use Rattle.std.proofs.lemmas.Bool.Decides.{nat_tests}
 use Rattle.rv_isa.specs.Fields.{field, flag, rd, rs1, rs2, imm_i, imm_s, bits_s, bits_b, bits_j}
-use Rattle.rv_isa.specs.Meaning.{Row, fits, found, rows, base_rows, meaning, branch, load, store, arithmetic, register, amo, fence, system, jal, jalr, upper}
+use Rattle.rv_isa.specs.Meaning.{Row, fits, found, rows, base_rows, meaning, branch, load, store}
+use Rattle.rv_isa.specs.Meaning.{arithmetic, register, amo, fence, system, jal, jalr, upper}
 use Rattle.rv_isa.specs.Valid.{IsValid, IsSecond, IsImmediate}
-use Rattle.rv_isa.specs.Encoding.{encoding, twos, r_type, i_type, s_type, b_type, j_type, one_if, branch_funct3, load_funct3, store_funct3, imm_funct3, shift_funct3, shift_funct7, reg_funct3, reg_funct7, amo_funct5}
+use Rattle.rv_isa.specs.Encoding.{encoding, twos, r_type, i_type, s_type, b_type, j_type, one_if}
+use Rattle.rv_isa.specs.Encoding.{branch_funct3, load_funct3, store_funct3, imm_funct3}
+use Rattle.rv_isa.specs.Encoding.{shift_funct3, shift_funct7, reg_funct3, reg_funct7, amo_funct5}
 use Rattle.rv_isa.specs.declared.BranchOp.{BranchOp}
 use Rattle.rv_isa.specs.declared.BranchOp.TheVariants.{Beq, Bne, Blt, Bge, Bltu, Bgeu}
 use Rattle.rv_isa.specs.declared.LoadOp.{LoadOp}
@@ -18,16 +22,23 @@ use Rattle.rv_isa.specs.declared.ImmOp.TheVariants.{Addi, Slti, Sltiu, Xori, Ori
 use Rattle.rv_isa.specs.declared.ShiftOp.{ShiftOp}
 use Rattle.rv_isa.specs.declared.ShiftOp.TheVariants.{Slli, Srli, Srai}
 use Rattle.rv_isa.specs.declared.RegOp.{RegOp}
-use Rattle.rv_isa.specs.declared.RegOp.TheVariants.{Add, Sub, Sll, Slt, Sltu, Xor, Srl, Sra, Or, And, Mul, Mulh, Mulhsu, Mulhu, Div, Divu, Rem, Remu}
+use Rattle.rv_isa.specs.declared.RegOp.TheVariants.{Add, Sub, Sll, Slt, Sltu, Xor, Srl, Sra, Or}
+use Rattle.rv_isa.specs.declared.RegOp.TheVariants.{And, Mul, Mulh, Mulhsu, Mulhu, Div, Divu, Rem}
+use Rattle.rv_isa.specs.declared.RegOp.TheVariants.{Remu}
 use Rattle.rv_isa.specs.declared.AmoOp.{AmoOp}
-use Rattle.rv_isa.specs.declared.AmoOp.TheVariants.{LrW, ScW, AmoswapW, AmoaddW, AmoxorW, AmoandW, AmoorW, AmominW, AmomaxW, AmominuW, AmomaxuW}
+use Rattle.rv_isa.specs.declared.AmoOp.TheVariants.{LrW, ScW, AmoswapW, AmoaddW, AmoxorW, AmoandW}
+use Rattle.rv_isa.specs.declared.AmoOp.TheVariants.{AmoorW, AmominW, AmomaxW, AmominuW, AmomaxuW}
 use Rattle.rv_isa.specs.declared.SystemOp.{SystemOp}
 use Rattle.rv_isa.specs.declared.SystemOp.TheVariants.{Ecall as EcallOp, Ebreak as EbreakOp}
 use Rattle.rv_isa.specs.declared.Arithmetic.TheVariants.{Plain, Shifts}
-use Rattle.rv_isa.proofs.Codes.{branch_below, load_below, store_below, imm_below, shift_below, reg_below, amo_below, one_below}
+use Rattle.rv_isa.proofs.Codes.{branch_below, load_below, store_below, imm_below, shift_below}
+use Rattle.rv_isa.proofs.Codes.{reg_below, amo_below, one_below}
 use Rattle.rv_isa.specs.declared.Instr.{Instr}
-use Rattle.rv_isa.proofs.Masks.{opcode_mask, funct3_mask, funct7_mask, funct5_mask, funct5_alone_mask, word_mask}
-use Rattle.rv_isa.proofs.Formats.{i_parts, r_parts, s_parts, b_parts, u_parts, j_parts, twos-extended_12, twos-extended_13, twos-extended_21, immediate_range, branch_range, jump_range}
+use Rattle.rv_isa.proofs.Masks.{opcode_mask, funct3_mask, funct7_mask, funct5_mask}
+use Rattle.rv_isa.proofs.Masks.{funct5_alone_mask, word_mask}
+use Rattle.rv_isa.proofs.Formats.{i_parts, r_parts, s_parts, b_parts, u_parts, j_parts}
+use Rattle.rv_isa.proofs.Formats.{twos-extended_12, twos-extended_13, twos-extended_21}
+use Rattle.rv_isa.proofs.Formats.{immediate_range, branch_range, jump_range}
 
 abbrev GoesBack : Instr → ℕ → Type 0
 GoesBack instr w = IsValid instr × (encoding instr ≡ w)

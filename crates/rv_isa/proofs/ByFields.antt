@@ -1,12 +1,14 @@
 -- The operation of a word by its fields.
-use Rattle.std.proofs.Common.{◌≡◌, ◌≢◌, ℕ, ◌/◌, ◌%◌, ◌^◌, ◌<◌, List, [], ◌∷◌, ◌++◌, refl, sym, ap, ◌∙◌, arith, Bool, true, false, Some, None, ne_eqb, ◌⊎◌, inl, inr}
+use Rattle.std.proofs.Common.{◌≡◌, ◌≢◌, ℕ, ◌/◌, ◌%◌, ◌^◌, ◌<◌, List, [], ◌∷◌, ◌++◌, refl, sym, ap}
+use Rattle.std.proofs.Common.{◌∙◌, arith, Bool, true, false, Some, None, ne_eqb, ◌⊎◌, inl, inr}
 use Rattle.std.specs.Prelude.{bit_and, ◌==◌, ◌&&◌, ◌||◌, not, if◌then◌else◌}
 use Rattle.std.specs.List.{list_all}
 use Rattle.std.proofs.lemmas.Bool.{and_parts, and_from, eqb-true}
 use Rattle.std.proofs.lemmas.Nat.{and_mask}
 use Rattle.rv_isa.specs.Fields.{field}
 use Rattle.rv_isa.specs.declared.RegOp.{RegOp}
-use Rattle.rv_isa.specs.Meaning.{Row, fits, found, with_funct3, with_funct7, arithmetic_rows, register_rows, multiply_rows}
+use Rattle.rv_isa.specs.Meaning.{Row, fits, found, with_funct3, with_funct7, arithmetic_rows}
+use Rattle.rv_isa.specs.Meaning.{register_rows, multiply_rows}
 use Rattle.rv_isa.specs.Groups.{by_fields, arithmetic_by, register_by}
 use Rattle.rv_isa.proofs.Masks.{funct3_mask, funct7_mask}
 use Rattle.rv_isa.proofs.ByOpcode.{misses}

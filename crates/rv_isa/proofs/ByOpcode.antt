@@ -1,10 +1,16 @@
 -- The meaning of a word by its opcode: only rows with the word's opcode can fit it.
-use Rattle.std.proofs.Common.{◌≡◌, ◌≢◌, ℕ, ◌%◌, List, [], ◌∷◌, refl, sym, ap, ◌∙◌, arith, Bool, true, false, Option, Some, None, eq-eqb, ne_eqb}
+use Rattle.std.proofs.Common.{◌≡◌, ◌≢◌, ℕ, ◌%◌, List, [], ◌∷◌, refl, sym, ap, ◌∙◌, arith, Bool}
+use Rattle.std.proofs.Common.{true, false, Option, Some, None, eq-eqb, ne_eqb}
 use Rattle.std.specs.Prelude.{option_map, bit_and, ◌==◌, ◌&&◌, ◌++◌, if◌then◌else◌}
 use Rattle.std.proofs.lemmas.Nat.{and_mask, and_mod}
 use Rattle.std.proofs.lemmas.Bool.{and_parts, eqb-true, both_ways, false_from_ne_true}
 use Rattle.rv_isa.specs.declared.Instr.{Instr}
-use Rattle.rv_isa.specs.Meaning.{Row, by_opcode, by_funct3, fits, found, rows, base_rows, meaning, with_fields, upper, jal, jalr, branch, load, store, arithmetic, register, amo, fence, system, branch_rows, load_rows, store_rows, arithmetic_rows, register_rows, multiply_rows, atomic_rows, fence_rows, system_rows, branch_in, load_in, store_in, arithmetic_in, register_in, amo_in, fence_in, system_in}
+use Rattle.rv_isa.specs.Meaning.{Row, by_opcode, by_funct3, fits, found, rows, base_rows, meaning}
+use Rattle.rv_isa.specs.Meaning.{with_fields, upper, jal, jalr, branch, load, store, arithmetic}
+use Rattle.rv_isa.specs.Meaning.{register, amo, fence, system, branch_rows, load_rows, store_rows}
+use Rattle.rv_isa.specs.Meaning.{arithmetic_rows, register_rows, multiply_rows, atomic_rows}
+use Rattle.rv_isa.specs.Meaning.{fence_rows, system_rows, branch_in, load_in, store_in}
+use Rattle.rv_isa.specs.Meaning.{arithmetic_in, register_in, amo_in, fence_in, system_in}
 
 -- each mask looks at the whole opcode
 abbrev covers : {A : Type 0} → List (Row A) → Bool

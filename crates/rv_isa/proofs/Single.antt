@@ -1,5 +1,6 @@
 -- At most one row of the table fits a word: any two rows differ in a bit that both look at.
-use Rattle.std.proofs.Common.{◌≡◌, ℕ, ◌≤◌, List, [], ◌∷◌, refl, sym, ap, ◌∙◌, Bool, true, false, eq-eqb, length, filter, lit≤}
+use Rattle.std.proofs.Common.{◌≡◌, ℕ, ◌≤◌, List, [], ◌∷◌, refl, sym, ap, ◌∙◌, Bool, true, false}
+use Rattle.std.proofs.Common.{eq-eqb, length, filter, lit≤}
 use Rattle.std.specs.Prelude.{bit_and, not, ◌==◌, ◌&&◌, if◌then◌else◌}
 use Rattle.std.proofs.lemmas.Nat.{and_assoc, and_comm}
 use Rattle.std.proofs.lemmas.Bool.{and_parts, both_ways, eqb-true, not-true, false_from_ne_true}

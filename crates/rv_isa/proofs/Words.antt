@@ -1,17 +1,22 @@
 -- A word for each row of the table, as GNU's assembler gives it: the definitions say what it stands
 -- for, and give the word back.
-use Rattle.std.specs.Prelude.{◌≡◌, refl, ℕ, pos, negsuc, Some, None, Bool, true, false, List, [], ◌∷◌, map, if◌then◌else◌}
+use Rattle.std.specs.Prelude.{◌≡◌, refl, ℕ, pos, negsuc, Some, None, Bool, true, false, List, []}
+use Rattle.std.specs.Prelude.{◌∷◌, map, if◌then◌else◌}
 use Rattle.rv_isa.specs.Meaning.{Row, fits, meaning, rows, base_rows, found}
 use Rattle.rv_isa.specs.Encoding.{encoding}
 use Rattle.rv_isa.specs.declared.Instr.{Instr}
-use Rattle.rv_isa.specs.declared.Instr.TheVariants.{Upper, Jal, Jalr, Branch, Load, Store, Imm, Shift, Reg, Amo, Fence, Ecall, Ebreak}
+use Rattle.rv_isa.specs.declared.Instr.TheVariants.{Upper, Jal, Jalr, Branch, Load, Store, Imm}
+use Rattle.rv_isa.specs.declared.Instr.TheVariants.{Shift, Reg, Amo, Fence, Ecall, Ebreak}
 use Rattle.rv_isa.specs.declared.BranchOp.TheVariants.{Beq, Bne, Blt, Bge, Bltu, Bgeu}
 use Rattle.rv_isa.specs.declared.LoadOp.TheVariants.{Lb, Lh, Lw, Lbu, Lhu}
 use Rattle.rv_isa.specs.declared.StoreOp.TheVariants.{Sb, Sh, Sw}
 use Rattle.rv_isa.specs.declared.ImmOp.TheVariants.{Addi, Slti, Sltiu, Xori, Ori, Andi}
 use Rattle.rv_isa.specs.declared.ShiftOp.TheVariants.{Slli, Srli, Srai}
-use Rattle.rv_isa.specs.declared.RegOp.TheVariants.{Add, Sub, Sll, Slt, Sltu, Xor, Srl, Sra, Or, And, Mul, Mulh, Mulhsu, Mulhu, Div, Divu, Rem, Remu}
-use Rattle.rv_isa.specs.declared.AmoOp.TheVariants.{LrW, ScW, AmoswapW, AmoaddW, AmoxorW, AmoandW, AmoorW, AmominW, AmomaxW, AmominuW, AmomaxuW}
+use Rattle.rv_isa.specs.declared.RegOp.TheVariants.{Add, Sub, Sll, Slt, Sltu, Xor, Srl, Sra, Or}
+use Rattle.rv_isa.specs.declared.RegOp.TheVariants.{And, Mul, Mulh, Mulhsu, Mulhu, Div, Divu, Rem}
+use Rattle.rv_isa.specs.declared.RegOp.TheVariants.{Remu}
+use Rattle.rv_isa.specs.declared.AmoOp.TheVariants.{LrW, ScW, AmoswapW, AmoaddW, AmoxorW, AmoandW}
+use Rattle.rv_isa.specs.declared.AmoOp.TheVariants.{AmoorW, AmominW, AmomaxW, AmominuW, AmomaxuW}
 
 -- a word, and the instruction that it stands for: a row each, in the order of the rows
 unfoldable words : List (ℕ × Instr)

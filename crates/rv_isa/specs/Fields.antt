@@ -1,6 +1,7 @@
 -- The fields of an instruction word, and its five immediates: the RISC-V unprivileged manual,
 -- RV32I, "Base Instruction Formats" and "Immediate Encoding Variants".
-use Rattle.std.specs.Prelude.{ℕ, suc, ◌+◌, ◌-◌, ◌*◌, ◌/◌, ◌%◌, ◌^◌, Bool, ℤ, pos, negsuc, nat_lt, ◌==◌, if◌then◌else◌}
+use Rattle.std.specs.Prelude.{ℕ, suc, ◌+◌, ◌-◌, ◌*◌, ◌/◌, ◌%◌, ◌^◌, Bool, ℤ, pos, negsuc, nat_lt}
+use Rattle.std.specs.Prelude.{◌==◌, if◌then◌else◌}
 
 -- bits high down to low, as the manual writes them, high:low
 abbrev pub field : ℕ → ℕ → ℕ → ℕ

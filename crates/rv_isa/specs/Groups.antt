@@ -3,7 +3,8 @@
 use Rattle.std.specs.Prelude.{ℕ, List, [], ◌∷◌, ◌++◌, Option, Some, None, ◌==◌, if◌then◌else◌}
 use Rattle.rv_isa.specs.declared.Arithmetic.{Arithmetic}
 use Rattle.rv_isa.specs.declared.RegOp.{RegOp}
-use Rattle.rv_isa.specs.Meaning.{Row, with_funct3, with_funct7, arithmetic_rows, register_rows, multiply_rows}
+use Rattle.rv_isa.specs.Meaning.{Row, with_funct3, with_funct7, arithmetic_rows, register_rows}
+use Rattle.rv_isa.specs.Meaning.{multiply_rows}
 
 -- the name in the first row of these fields, where rows look at funct3, and some at funct7 too
 abbrev pub by_fields : {A : Type 0} → List (Row A) → ℕ → ℕ → ℕ → Option A

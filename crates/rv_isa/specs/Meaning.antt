@@ -1,6 +1,8 @@
 -- The instruction that a word stands for: RV32I, M, A and Zifencei, by the RISC-V unprivileged
 -- manual's instruction listings.
-use Rattle.std.specs.Prelude.{ℕ, ◌+◌, ◌*◌, ◌^◌, Bool, true, false, List, [], ◌∷◌, ◌++◌, map, Option, None, Some, option_map, ◌==◌, if◌then◌else◌, bit_and, filter, length, ◌≤◌}
+use Rattle.std.specs.Prelude.{ℕ, ◌+◌, ◌*◌, ◌^◌, Bool, true, false, List, [], ◌∷◌, ◌++◌, map, Option}
+use Rattle.std.specs.Prelude.{None, Some, option_map, ◌==◌, if◌then◌else◌, bit_and, filter, length}
+use Rattle.std.specs.Prelude.{◌≤◌}
 use Rattle.rv_isa.specs.Fields.{field, rd, rs1, rs2, flag, imm_i, imm_s, imm_b, imm_u, imm_j}
 use Rattle.rv_isa.specs.declared.BranchOp.{BranchOp}
 use Rattle.rv_isa.specs.declared.BranchOp.TheVariants.{Beq, Bne, Blt, Bge, Bltu, Bgeu}
@@ -13,13 +15,17 @@ use Rattle.rv_isa.specs.declared.ShiftOp.TheVariants.{Slli, Srli, Srai}
 use Rattle.rv_isa.specs.declared.Arithmetic.{Arithmetic}
 use Rattle.rv_isa.specs.declared.Arithmetic.TheVariants.{Plain, Shifts}
 use Rattle.rv_isa.specs.declared.RegOp.{RegOp}
-use Rattle.rv_isa.specs.declared.RegOp.TheVariants.{Add, Sub, Sll, Slt, Sltu, Xor, Srl, Sra, Or, And, Mul, Mulh, Mulhsu, Mulhu, Div, Divu, Rem, Remu}
+use Rattle.rv_isa.specs.declared.RegOp.TheVariants.{Add, Sub, Sll, Slt, Sltu, Xor, Srl, Sra, Or}
+use Rattle.rv_isa.specs.declared.RegOp.TheVariants.{And, Mul, Mulh, Mulhsu, Mulhu, Div, Divu, Rem}
+use Rattle.rv_isa.specs.declared.RegOp.TheVariants.{Remu}
 use Rattle.rv_isa.specs.declared.AmoOp.{AmoOp}
-use Rattle.rv_isa.specs.declared.AmoOp.TheVariants.{LrW, ScW, AmoswapW, AmoaddW, AmoxorW, AmoandW, AmoorW, AmominW, AmomaxW, AmominuW, AmomaxuW}
+use Rattle.rv_isa.specs.declared.AmoOp.TheVariants.{LrW, ScW, AmoswapW, AmoaddW, AmoxorW, AmoandW}
+use Rattle.rv_isa.specs.declared.AmoOp.TheVariants.{AmoorW, AmominW, AmomaxW, AmominuW, AmomaxuW}
 use Rattle.rv_isa.specs.declared.SystemOp.{SystemOp}
 use Rattle.rv_isa.specs.declared.SystemOp.TheVariants.{Ecall as EcallOp, Ebreak as EbreakOp}
 use Rattle.rv_isa.specs.declared.Instr.{Instr}
-use Rattle.rv_isa.specs.declared.Instr.TheVariants.{Upper, Jal, Jalr, Branch, Load, Store, Imm, Shift, Reg, Amo, Fence, Ecall, Ebreak}
+use Rattle.rv_isa.specs.declared.Instr.TheVariants.{Upper, Jal, Jalr, Branch, Load, Store, Imm}
+use Rattle.rv_isa.specs.declared.Instr.TheVariants.{Shift, Reg, Amo, Fence, Ecall, Ebreak}
 
 -- ---- tables of rows
 

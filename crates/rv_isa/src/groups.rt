@@ -2,7 +2,9 @@
 // opcode's word has none.
 ghost use Rattle.std.specs.Prelude.{◌≡◌, ◌==◌, ◌<◌, Some, bit_and};
 ghost use Rattle.rv_isa.specs.Groups.{by_fields, arithmetic_by, register_by};
-ghost use Rattle.rv_isa.specs.Meaning.{branch_rows, load_rows, store_rows, branch_in, load_in, store_in, arithmetic_in, register_in, amo_in, fence_in, system_in};
+ghost use Rattle.rv_isa.specs.Meaning.{branch_rows, load_rows, store_rows, branch_in, load_in};
+ghost use Rattle.rv_isa.specs.Meaning.{store_in, arithmetic_in, register_in, amo_in, fence_in};
+ghost use Rattle.rv_isa.specs.Meaning.{system_in};
 
 use crate::fields::{funct3, funct7, opcode};
 use crate::{AmoOp, Arithmetic, BranchOp, ImmOp, LoadOp, RegOp, ShiftOp, StoreOp, SystemOp};

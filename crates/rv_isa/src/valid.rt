@@ -1,6 +1,7 @@
 // Which instructions have a word.
 ghost use Rattle.std.specs.Prelude.{◌≤ℤ◌, ◌↔◌, IsTrue};
-ghost use Rattle.rv_isa.specs.Valid.{IsValid, IsEven, IsImmediate, IsBranchOffset, IsJumpOffset, IsSecond};
+ghost use Rattle.rv_isa.specs.Valid.{IsValid, IsEven, IsImmediate, IsBranchOffset, IsJumpOffset};
+ghost use Rattle.rv_isa.specs.Valid.{IsSecond};
 
 use crate::{AmoOp, Instr};
 

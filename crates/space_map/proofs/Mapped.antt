@@ -1,5 +1,6 @@
 -- A loop that maps a list in its place.
-use Rattle.std.proofs.Common.{◌≡◌, ℕ, zero, suc, ◌+◌, ◌<◌, List, [], ◌∷◌, ◌++◌, map, length, get_or, set, take, drop, refl, ap, ◌∙◌, arith}
+use Rattle.std.proofs.Common.{◌≡◌, ℕ, zero, suc, ◌+◌, ◌<◌, List, [], ◌∷◌, ◌++◌, map, length, get_or}
+use Rattle.std.proofs.Common.{set, take, drop, refl, ap, ◌∙◌, arith}
 
 map_step : {A : Type 0} (f : A → A) (xs : List A) (i : ℕ) (x : A) → i < length xs
     → x ≡ get_or (map f (take i xs) ++ drop i xs) i x

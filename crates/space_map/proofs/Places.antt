@@ -1,5 +1,7 @@
 -- What a search finds in a rising list of pages, and what a change at that place does.
-use Rattle.std.proofs.Common.{◌≡◌, ℕ, zero, suc, ◌+◌, ◌-◌, ◌<◌, ◌≤◌, List, [], ◌∷◌, length, get_or, set, map, Option, Some, None, Result, Ok, Err, IfOk, IfErr, refl, sym, ap, ap₂, ◌∙◌, subst, arith}
+use Rattle.std.proofs.Common.{◌≡◌, ℕ, zero, suc, ◌+◌, ◌-◌, ◌<◌, ◌≤◌, List, [], ◌∷◌, length, get_or}
+use Rattle.std.proofs.Common.{set, map, Option, Some, None, Result, Ok, Err, IfOk, IfErr, refl, sym}
+use Rattle.std.proofs.Common.{ap, ap₂, ◌∙◌, subst, arith}
 use Rattle.std.specs.Prelude.{Bool, true, false, ◌==◌, nat_lt, IsSome, filter, AllPairs}
 use Rattle.std.specs.List.{insert, remove}
 use Rattle.std.specs.List.Sorted.{IsSearchInRange, IsBinarySearchResult, IsNonDecreasingBy}
@@ -7,7 +9,9 @@ use Rattle.std.specs.Ordering.{nat_cmp, ordering_index}
 use Rattle.std.proofs.lemmas.Cmp.{ranked}
 use Rattle.std.proofs.lemmas.List.{length-map, get_or-map}
 use Rattle.std.proofs.lemmas.List.Sorted.{IsNonDecreasingBy-from_default}
-use Rattle.std.proofs.lemmas.List.Edits.{length-insert, get_or-insert_below, get_or-insert_at, get_or-insert_above, length-remove, get_or-remove_below, get_or-remove_above}
+use Rattle.std.proofs.lemmas.List.Edits.{length-insert, get_or-insert_below, get_or-insert_at}
+use Rattle.std.proofs.lemmas.List.Edits.{get_or-insert_above, length-remove, get_or-remove_below}
+use Rattle.std.proofs.lemmas.List.Edits.{get_or-remove_above}
 use Rattle.std.proofs.lemmas.Bool.Decides.{nat_tests}
 use Rattle.std.proofs.lemmas.List.Kept.{AllPairs-filter}
 use Rattle.std.proofs.lemmas.List.Sums.{length-filter, count_by-le-length}
@@ -15,7 +19,9 @@ use Rattle.dos_world.specs.declared.Entry.{Entry}
 use Rattle.dos_world.specs.World.{look}
 use Rattle.dos_world.specs.Kernel.{put}
 use Rattle.space_map.proofs.Mapped.{get_or_any}
-use Rattle.space_map.specs.Mapping.{no_entry, page_at, IsAt, IsGapFor, without, marked, with_shared, replaced, with_replaced, shared_in_run, with_shared_run, IsKept, IsRising, Mapping}
+use Rattle.space_map.specs.Mapping.{no_entry, page_at, IsAt, IsGapFor, without, marked, with_shared}
+use Rattle.space_map.specs.Mapping.{replaced, with_replaced, shared_in_run, with_shared_run, IsKept}
+use Rattle.space_map.specs.Mapping.{IsRising, Mapping}
 
 abbrev pub Rises : List (ℕ × Entry) → Type 0
 Rises es = (i j : ℕ) → i < j → j < length es → page_at es i < page_at es j

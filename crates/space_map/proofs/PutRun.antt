@@ -1,9 +1,14 @@
 -- A run of pages put into a space, at one place.
-use Rattle.std.proofs.Common.{◌≡◌, ℕ, zero, suc, ◌+◌, ◌-◌, ◌<◌, ◌≤◌, Bool, true, false, List, [], ◌∷◌, ◌++◌, length, get_or, map, take, drop, length-append, refl, sym, ap, ap₂, subst, ◌∙◌, arith}
+use Rattle.std.proofs.Common.{◌≡◌, ℕ, zero, suc, ◌+◌, ◌-◌, ◌<◌, ◌≤◌, Bool, true, false, List, []}
+use Rattle.std.proofs.Common.{◌∷◌, ◌++◌, length, get_or, map, take, drop, length-append, refl, sym}
+use Rattle.std.proofs.Common.{ap, ap₂, subst, ◌∙◌, arith}
 use Rattle.std.specs.Prelude.{nat_lt}
 use Rattle.std.specs.List.{insert_slice, list_any}
 use Rattle.std.proofs.lemmas.Bool.Decides.{nat_tests}
-use Rattle.std.proofs.lemmas.List.{append-nil, append_assoc, drop-append-le, drop_all, drop_at, get_or-append_right, get_or-drop, get_or-take, get_or_append_left, length-drop, length-take-le, take-append-le, take_at, take_rest}
+use Rattle.std.proofs.lemmas.List.{append-nil, append_assoc, drop-append-le, drop_all, drop_at}
+use Rattle.std.proofs.lemmas.List.{get_or-append_right, get_or-drop, get_or-take}
+use Rattle.std.proofs.lemmas.List.{get_or_append_left, length-drop, length-take-le, take-append-le}
+use Rattle.std.proofs.lemmas.List.{take_at, take_rest}
 use Rattle.std.proofs.lemmas.List.Folds.{list_any_at}
 use Rattle.dos_world.specs.declared.Entry.{Entry}
 use Rattle.dos_world.specs.Kernel.{put}

@@ -1,5 +1,7 @@
 -- The pages of a run stand together, so that all of them are found from the first one.
-use Rattle.std.proofs.Common.{◌≡◌, ℕ, zero, suc, ◌+◌, ◌-◌, ◌<◌, ◌≤◌, Bool, true, false, List, [], ◌∷◌, ◌++◌, length, get_or, map, take, drop, inl, inr, refl, sym, ap, ap₂, ◌∙◌, arith}
+use Rattle.std.proofs.Common.{◌≡◌, ℕ, zero, suc, ◌+◌, ◌-◌, ◌<◌, ◌≤◌, Bool, true, false, List, []}
+use Rattle.std.proofs.Common.{◌∷◌, ◌++◌, length, get_or, map, take, drop, inl, inr, refl, sym, ap}
+use Rattle.std.proofs.Common.{ap₂, ◌∙◌, arith}
 use Rattle.std.specs.Prelude.{nat_le, nat_lt, ◌&&◌, not, filter}
 use Rattle.std.specs.List.{list_any, remove_range, slice_range}
 use Rattle.std.proofs.lemmas.Bool.{cases_eq, cases_lt}
@@ -7,7 +9,8 @@ use Rattle.std.proofs.lemmas.Bool.Decides.{nat_tests}
 use Rattle.std.proofs.lemmas.List.Folds.{list_any_at}
 use Rattle.dos_world.specs.declared.Entry.{Entry}
 use Rattle.dos_world.specs.MemoryCalls.{share_if}
-use Rattle.space_map.specs.Mapping.{no_entry, page_at, in_run, shared_in_run, with_shared_run, without_run, IsAt, IsFirstFrom, IsGapFor, IsRun}
+use Rattle.space_map.specs.Mapping.{no_entry, page_at, in_run, shared_in_run, with_shared_run}
+use Rattle.space_map.specs.Mapping.{without_run, IsAt, IsFirstFrom, IsGapFor, IsRun}
 use Rattle.space_map.proofs.Places.{Rises}
 
 -- ---- a list of which one part passes a test

@@ -1,9 +1,12 @@
 // The pages of a process, in rising order.
-ghost use Rattle.std.specs.Prelude.{◌≡◌, ◌<◌, ◌≤◌, ◌+◌, ◌^◌, ◌++◌, length, map, take, drop, false, None, Some, [], slice_get, IfOk, IfErr};
+ghost use Rattle.std.specs.Prelude.{◌≡◌, ◌<◌, ◌≤◌, ◌+◌, ◌^◌, ◌++◌, length, map, take, drop, false};
+ghost use Rattle.std.specs.Prelude.{None, Some, [], slice_get, IfOk, IfErr};
 ghost use Rattle.dos_world.specs.World.{look};
 ghost use Rattle.dos_world.specs.Kernel.{put};
 ghost use Rattle.dos_world.specs.Numbered.{run_of};
-ghost use Rattle.space_map.specs.Mapping.{IsAt, IsFirstFrom, IsGapFor, IsMapped, IsRun, IsRising, empty, in_run, put_run, shared_in_run, with_replaced, with_shared, with_shared_run, without, without_run};
+ghost use Rattle.space_map.specs.Mapping.{IsAt, IsFirstFrom, IsGapFor, IsMapped, IsRun, IsRising};
+ghost use Rattle.space_map.specs.Mapping.{empty, in_run, put_run, shared_in_run, with_replaced};
+ghost use Rattle.space_map.specs.Mapping.{with_shared, with_shared_run, without, without_run};
 ghost use Rattle.std.specs.List.{insert_slice, list_any, remove_range, slice_range};
 ghost use Rattle.std.specs.Vec.{vec_capacity};
 

@@ -1,10 +1,13 @@
 //! The file of a builder.
 
-ghost use Rattle.std.specs.Prelude.{◌≡◌, ◌≢◌, ◌++◌, ◌≤◌, ◌<◌, ◌+◌, ◌^◌, length, OnOk, IfOk, IfErr, IsTrue, Ok, Err, IsOkAnd, true, false};
+ghost use Rattle.std.specs.Prelude.{◌≡◌, ◌≢◌, ◌++◌, ◌≤◌, ◌<◌, ◌+◌, ◌^◌, length, OnOk, IfOk, IfErr};
+ghost use Rattle.std.specs.Prelude.{IsTrue, Ok, Err, IsOkAnd, true, false};
 ghost use Rattle.elf_image.specs.Image.{image};
 ghost use Rattle.rv_asm.specs.Source.{data_size, has_data};
 ghost use Rattle.rv_asm.specs.Words.{assembled};
-ghost use Rattle.rv_asm.specs.File.{code_header, data_header, do_meet, file_of, finished, headers_by, image_of, is_code_placed, is_data_placed, is_in_range, is_placed};
+ghost use Rattle.rv_asm.specs.File.{code_header, data_header, do_meet, file_of, finished};
+ghost use Rattle.rv_asm.specs.File.{headers_by, image_of, is_code_placed, is_data_placed};
+ghost use Rattle.rv_asm.specs.File.{is_in_range, is_placed};
 
 use super::Builder;
 use crate::error::AsmError;

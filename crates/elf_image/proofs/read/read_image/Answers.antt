@@ -1,6 +1,7 @@
 use Rattle.std.proofs.Common.{◌∙◌, refl}
 use Rattle.std.proofs.lemmas.Result.{err_from_is_err_and}
-use Rattle.elf_image.proofs.ImageLaws.{image-refused, image-accepted, image-made, sound_made, loadable_of}
+use Rattle.elf_image.proofs.ImageLaws.{image-refused, image-accepted, image-made, sound_made}
+use Rattle.elf_image.proofs.ImageLaws.{loadable_of}
 use Rattle.elf_image.proofs.read.read_image.Goals as goal
 
 pub returns-in_err-headers-clause-refused : goal.returns-in_err-headers-clause-refused

@@ -1,7 +1,8 @@
 use Rattle.std.proofs.Common.{sym, subst, arith}
 use Rattle.page_store.specs.Store.{Store}
 use Rattle.kernel_mem.specs.Forking.{IsUsedMore}
-use Rattle.kernel_mem.proofs.Copies.{more-shared, more-copied, copied-private, fewer-free, some-free, one-private}
+use Rattle.kernel_mem.proofs.Copies.{more-shared, more-copied, copied-private, fewer-free}
+use Rattle.kernel_mem.proofs.Copies.{some-free, one-private}
 use Rattle.kernel_mem.proofs.forking.copy_entry.Goals as goal
 
 pub returns-then-entry-clause-more : goal.returns-then-entry-clause-more

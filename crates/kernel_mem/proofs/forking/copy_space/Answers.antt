@@ -1,4 +1,5 @@
-use Rattle.std.proofs.Common.{◌≡◌, ℕ, ◌<◌, List, length, get_or, slice_get, Some, None, sym, ap, subst, ◌∙◌, arith}
+use Rattle.std.proofs.Common.{◌≡◌, ℕ, ◌<◌, List, length, get_or, slice_get, Some, None, sym, ap}
+use Rattle.std.proofs.Common.{subst, ◌∙◌, arith}
 use Rattle.std.specs.Prelude.{◌==◌}
 use Rattle.std.proofs.lemmas.List.Sums.{count_by-le-length}
 use Rattle.std.proofs.lemmas.Option.{get_or_from_slice_get}
@@ -9,7 +10,8 @@ use Rattle.proc_table.specs.Tables.{Tables}
 use Rattle.kernel_mem.specs.MemoryWorld.{space_in}
 use Rattle.kernel_mem.specs.Forking.{with_space}
 use Rattle.kernel_mem.proofs.Copies.{private-more, private-left}
-use Rattle.kernel_mem.proofs.Loops.{space-is, lent-space, other-live, still-live, copying-none, of-space, look-above, pages-below, copying-more}
+use Rattle.kernel_mem.proofs.Loops.{space-is, lent-space, other-live, still-live, copying-none}
+use Rattle.kernel_mem.proofs.Loops.{of-space, look-above, pages-below, copying-more}
 use Rattle.kernel_mem.proofs.forking.copy_space.Goals as goal
 
 pub loop-index-init : goal.loop-index-init

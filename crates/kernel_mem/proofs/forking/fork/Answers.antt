@@ -1,4 +1,5 @@
-use Rattle.std.proofs.Common.{◌≡◌, ℕ, ◌+◌, ◌-◌, ◌^◌, ◌<◌, List, Ok, Err, length, sym, ap, subst, ◌∙◌, arith}
+use Rattle.std.proofs.Common.{◌≡◌, ℕ, ◌+◌, ◌-◌, ◌^◌, ◌<◌, List, Ok, Err, length, sym, ap, subst}
+use Rattle.std.proofs.Common.{◌∙◌, arith}
 use Rattle.std.specs.Prelude.{count_by}
 use Rattle.std.proofs.lemmas.Bool.Decides.{nat_tests}
 use Rattle.std.proofs.lemmas.List.Sums.{length-filter}
@@ -11,7 +12,9 @@ use Rattle.proc_table.specs.Tables.{IsProcess, thread_in}
 use Rattle.kernel_mem.specs.MemoryWorld.{in_world, space_in}
 use Rattle.kernel_mem.specs.Forking.{AreTaken, fork_call, fork_result}
 use Rattle.kernel_mem.proofs.Loops.{space-is}
-use Rattle.kernel_mem.proofs.Children.{HasChild, has-child, of-process, to-process, parent-lives, child-lives, apart, parent-space, child-space, forked-ok, forked-few}
+use Rattle.kernel_mem.proofs.Children.{HasChild, has-child, of-process, to-process, parent-lives}
+use Rattle.kernel_mem.proofs.Children.{child-lives, apart, parent-space, child-space, forked-ok}
+use Rattle.kernel_mem.proofs.Children.{forked-few}
 use Rattle.kernel_mem.proofs.forking.fork.Goals as goal
 
 pub returns-then-free_count-private_entries-clause-forks :

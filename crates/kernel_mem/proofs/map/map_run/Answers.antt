@@ -4,7 +4,8 @@ use Rattle.dos_world.specs.declared.Entry.{Entry}
 use Rattle.space_map.specs.Mapping.{in_run}
 use Rattle.kernel_mem.proofs.Copies.{some-free}
 use Rattle.kernel_mem.proofs.Loops.{of-space}
-use Rattle.kernel_mem.proofs.MapRun.{IsMapping, filling-none, filling-more, filling-lives, filling-mapped, filling-ends}
+use Rattle.kernel_mem.proofs.MapRun.{IsMapping, filling-none, filling-more, filling-lives}
+use Rattle.kernel_mem.proofs.MapRun.{filling-mapped, filling-ends}
 use Rattle.kernel_mem.proofs.Runs.{any_entry}
 use Rattle.kernel_mem.specs.MemoryWorld.{space_in}
 use Rattle.kernel_mem.proofs.map.map_run.Goals as goal

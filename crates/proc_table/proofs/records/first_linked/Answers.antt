@@ -2,7 +2,8 @@ use Rattle.std.proofs.Common.{◌∙◌, sym, arith}
 use Rattle.proc_table.specs.declared.record.Links.{Links}
 use Rattle.proc_table.specs.declared.record.Record.{Record}
 use Rattle.proc_table.specs.declared.record.Kept.TheVariants.{Live}
-use Rattle.proc_table.proofs.Walked.{child_next, child_within, reached_first, reached_it, reached_next, reached_none}
+use Rattle.proc_table.proofs.Walked.{child_next, child_within, reached_first, reached_it}
+use Rattle.proc_table.proofs.Walked.{reached_next, reached_none}
 use Rattle.proc_table.proofs.records.first_linked.Goals as goal
 
 -- what a read names where nothing stands

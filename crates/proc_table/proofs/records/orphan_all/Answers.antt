@@ -1,7 +1,9 @@
-use Rattle.std.proofs.Common.{rules, vec_len, ◌≡◌, ◌∙◌, List, length, refl, ap, get_or, set, ◌-◌, arith}
+use Rattle.std.proofs.Common.{rules, vec_len, ◌≡◌, ◌∙◌, List, length, refl, ap, get_or, set, ◌-◌}
+use Rattle.std.proofs.Common.{arith}
 use Rattle.proc_table.specs.declared.record.Links.{Links}
 use Rattle.proc_table.specs.declared.record.Record.{Record}
-use Rattle.proc_table.proofs.Walked.{child_next, child_within, first_next, orphaned_all, orphaned_first, orphaned_length, orphaned_next}
+use Rattle.proc_table.proofs.Walked.{child_next, child_within, first_next, orphaned_all}
+use Rattle.proc_table.proofs.Walked.{orphaned_first, orphaned_length, orphaned_next}
 use Rattle.proc_table.proofs.records.orphan_all.Goals as goal
 
 -- what a read names where nothing stands

@@ -1,5 +1,6 @@
 -- What the clauses of all files say of files that tell nothing, from the clauses of these files.
-use Rattle.std.proofs.Common.{◌≡◌, List, ℕ, Option, Some, None, Result, Ok, Err, IfOk, IsTrue, false, refl, arith}
+use Rattle.std.proofs.Common.{◌≡◌, List, ℕ, Option, Some, None, Result, Ok, Err, IfOk, IsTrue}
+use Rattle.std.proofs.Common.{false, refl, arith}
 use Rattle.std.proofs.lemmas.Result.{IfErr-at_err}
 use Rattle.dos_io.specs.Outside.{counted}
 use Rattle.dos_io.specs.declared.files.FileError.TheVariants.{TooLong, Fault}

@@ -1,7 +1,9 @@
 use Rattle.std.proofs.Common.{ℕ, ap, ◌∙◌, List, Bool, set, false, refl}
 use Rattle.hierarchical_bitmap.specs.Levels.{bits}
 use Rattle.hierarchical_bitmap.proofs.Bits.{bits-without_bit}
-use Rattle.hierarchical_bitmap.proofs.Summaries.{all-within, levels-are, levels-cleared, levels-left, levels-word_left, place-within, word-left, word-zero}
+use Rattle.hierarchical_bitmap.proofs.Summaries.{all-within, levels-are, levels-cleared}
+use Rattle.hierarchical_bitmap.proofs.Summaries.{levels-left, levels-word_left, place-within}
+use Rattle.hierarchical_bitmap.proofs.Summaries.{word-left, word-zero}
 use Rattle.hierarchical_bitmap.proofs.bitmap.Bitmap.clear.Goals as goal
 
 pub clear_bit-requires : goal.clear_bit-requires

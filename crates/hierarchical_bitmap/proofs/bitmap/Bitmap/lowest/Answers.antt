@@ -1,7 +1,8 @@
 use Rattle.std.proofs.Common.{◌≡◌, ◌<◌, ℕ, Bool, List, None, get_or, ap, sym, subst, ◌∙◌}
 use Rattle.std.specs.Prelude.{position}
 use Rattle.hierarchical_bitmap.specs.Levels.{is_set, itself, AreZeroBelow, IsLowest}
-use Rattle.hierarchical_bitmap.proofs.Summaries.{first-none, first-some, lowest-none, lowest-place, lowest-word_seen}
+use Rattle.hierarchical_bitmap.proofs.Summaries.{first-none, first-some, lowest-none, lowest-place}
+use Rattle.hierarchical_bitmap.proofs.Summaries.{lowest-word_seen}
 use Rattle.hierarchical_bitmap.proofs.bitmap.Bitmap.lowest.Goals as goal
 
 pub lowest_in-group-requires-clause-some : goal.lowest_in-group-requires-clause-some

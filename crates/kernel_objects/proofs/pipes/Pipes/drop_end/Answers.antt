@@ -1,7 +1,8 @@
 use Rattle.std.proofs.Common.{◌≡◌, ◌<◌, ℕ, List, length, get_or, refl, sym, ap, subst, ◌∙◌, arith}
 use Rattle.circular_buffer.specs.Buffer.{Buffer}
 use Rattle.kernel_objects.specs.declared.pipes.Pipes.TheInside.{Inside}
-use Rattle.kernel_objects.proofs.Pipeworks.{IsLess, less-writer, less-reader, room-at, kept-at, dropped-last}
+use Rattle.kernel_objects.proofs.Pipeworks.{IsLess, less-writer, less-reader, room-at, kept-at}
+use Rattle.kernel_objects.proofs.Pipeworks.{dropped-last}
 use Rattle.kernel_objects.proofs.pipes.Pipes.drop_end.Goals as goal
 use Rattle.kernel_objects.proofs.pipes.Pipes.drop_end.Goals.{then-writer, else-writer}
 

@@ -2,7 +2,8 @@ use Rattle.std.proofs.Common.{◌∙◌, ◌≡◌, ◌<◌, arith, length, refl
 use Rattle.std.specs.Prelude.{position}
 use Rattle.dos_world.specs.World.{is_free}
 use Rattle.dos_world.specs.declared.Owner.TheVariants.{Of, Free}
-use Rattle.page_store.proofs.Counts.{free-more, free-set, kept-found, kept-fresh, kept-some, position-frames}
+use Rattle.page_store.proofs.Counts.{free-more, free-set, kept-found, kept-fresh, kept-some}
+use Rattle.page_store.proofs.Counts.{position-frames}
 use Rattle.page_store.proofs.Copied.{unused-at, uses-each}
 use Rattle.std.proofs.lemmas.List.Quantifiers.{position-Some}
 use Rattle.page_store.proofs.frames.Frames.fresh.Goals as goal

@@ -1,10 +1,12 @@
-use Rattle.std.proofs.Common.{rules, vec_len, ◌≡◌, ◌<◌, ℕ, List, Option, Some, false, IsSome, All, length, get_or, set, refl, sym, ap, subst, ◌∙◌, length-set, arith}
+use Rattle.std.proofs.Common.{rules, vec_len, ◌≡◌, ◌<◌, ℕ, List, Option, Some, false, IsSome, All}
+use Rattle.std.proofs.Common.{length, get_or, set, refl, sym, ap, subst, ◌∙◌, length-set, arith}
 use Rattle.std.specs.Prelude.{position}
 use Rattle.std.proofs.lemmas.List.Quantifiers.{position-Some}
 use Rattle.dos_world.specs.World.{is_free}
 use Rattle.dos_world.specs.declared.Owner.TheVariants.{Free, Of}
 use Rattle.page_store.specs.Store.{Store}
-use Rattle.page_store.proofs.Counts.{free-more, free-set, kept-found, kept-fresh, kept-some, owned-within, position-frames}
+use Rattle.page_store.proofs.Counts.{free-more, free-set, kept-found, kept-fresh, kept-some}
+use Rattle.page_store.proofs.Counts.{owned-within, position-frames}
 use Rattle.page_store.proofs.Joined.{home-at}
 use Rattle.page_store.proofs.Copied.{owned-apart, unused-at, uses-each}
 use Rattle.page_store.proofs.frames.Frames.fresh_copy.Goals as goal

@@ -1,6 +1,7 @@
 use Rattle.std.proofs.Common.{◌+◌, ◌<◌, sym, ap, arith}
 use Rattle.space_map.specs.Mapping.{Mapping}
-use Rattle.proc_table.proofs.Standing.{has_place, added_standing, placed_added, given_shown, parent_within}
+use Rattle.proc_table.proofs.Standing.{has_place, added_standing, placed_added, given_shown}
+use Rattle.proc_table.proofs.Standing.{parent_within}
 use Rattle.proc_table.proofs.processes.Processes.add.Goals as goal
 
 pub unreachable-requires : goal.unreachable-requires

@@ -1,6 +1,7 @@
 use Rattle.std.proofs.Common.{◌∙◌}
 use Rattle.proc_table.proofs.Standing.{shown_now, collected_standing, placed_collected}
-use Rattle.proc_table.proofs.Children.{got_found, found_child, found_from, found_within, found_ended, found_status}
+use Rattle.proc_table.proofs.Children.{got_found, found_child, found_from, found_within}
+use Rattle.proc_table.proofs.Children.{found_ended, found_status}
 use Rattle.proc_table.proofs.processes.Processes.collect.Goals as goal
 
 pub collect-requires : goal.collect-requires

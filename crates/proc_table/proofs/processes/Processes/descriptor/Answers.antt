@@ -1,4 +1,5 @@
-use Rattle.std.proofs.Common.{rules, vec_len, ◌≡◌, ◌∙◌, length, Option, None, IfSome, slice_get, sym, ap, subst, arith}
+use Rattle.std.proofs.Common.{rules, vec_len, ◌≡◌, ◌∙◌, length, Option, None, IfSome, slice_get}
+use Rattle.std.proofs.Common.{sym, ap, subst, arith}
 use Rattle.std.specs.Prelude.{unwrap_or}
 use Rattle.proc_table.specs.Tables.{end_in}
 use Rattle.dos_world.specs.World.{Holdings}

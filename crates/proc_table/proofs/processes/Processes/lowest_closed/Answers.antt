@@ -1,4 +1,5 @@
-use Rattle.std.proofs.Common.{rules, vec_len, ◌≡◌, ◌∙◌, length, Option, IfSome, sym, ap, subst, arith}
+use Rattle.std.proofs.Common.{rules, vec_len, ◌≡◌, ◌∙◌, length, Option, IfSome, sym, ap, subst}
+use Rattle.std.proofs.Common.{arith}
 use Rattle.std.specs.Prelude.{position, is_none}
 use Rattle.dos_world.specs.World.{Holdings}
 use Rattle.proc_table.specs.declared.record.Belongings.{Belongings}

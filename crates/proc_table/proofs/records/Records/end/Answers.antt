@@ -1,4 +1,5 @@
-use Rattle.proc_table.proofs.KeptRecords.{ended_are_linked, ended_count, ended_few, ended_given, given_links, kept_ended}
+use Rattle.proc_table.proofs.KeptRecords.{ended_are_linked, ended_count, ended_few, ended_given}
+use Rattle.proc_table.proofs.KeptRecords.{given_links, kept_ended}
 use Rattle.std.proofs.Common.{◌∙◌}
 use Rattle.proc_table.proofs.records.Records.end.Goals as goal
 

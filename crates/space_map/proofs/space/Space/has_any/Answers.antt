@@ -1,4 +1,5 @@
-use Rattle.std.proofs.Common.{rules, vec_len, ◌≡◌, ◌<◌, ◌≤◌, ◌∙◌, ℕ, get_or, length, sym, ap, subst, arith}
+use Rattle.std.proofs.Common.{rules, vec_len, ◌≡◌, ◌<◌, ◌≤◌, ◌∙◌, ℕ, get_or, length, sym, ap, subst}
+use Rattle.std.proofs.Common.{arith}
 use Rattle.std.specs.List.{list_any}
 use Rattle.std.proofs.lemmas.List.{get_or_read}
 use Rattle.dos_world.specs.declared.Entry.{Entry}

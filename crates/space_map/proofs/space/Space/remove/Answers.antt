@@ -3,7 +3,8 @@ use Rattle.std.proofs.lemmas.List.{get_or_read}
 use Rattle.dos_world.specs.declared.Entry.{Entry}
 use Rattle.dos_world.specs.World.{look}
 use Rattle.space_map.specs.Mapping.{Mapping, IsAt, no_entry, without}
-use Rattle.space_map.proofs.Places.{look-at, look-gap, remove-without, kept-remove, shown-changed, nothing}
+use Rattle.space_map.proofs.Places.{look-at, look-gap, remove-without, kept-remove, shown-changed}
+use Rattle.space_map.proofs.Places.{nothing}
 use Rattle.space_map.specs.contracts.space.Space.{the_view}
 use Rattle.space_map.proofs.space.Space.remove.Goals as goal
 
