@@ -1,5 +1,6 @@
 -- What a replay leaves, by how it ends.
-use Rattle.std.proofs.Common.{◌≡◌, ◌≤◌, inl, inr, ℕ, Bool, List, [], map, append-nil, Option, Some, None, Result, Ok, Err, sym, ap, ◌∙◌, subst, refl}
+use Rattle.std.proofs.Common.{◌≡◌, ◌≤◌, inl, inr, ℕ, Bool, List, [], map, append-nil, Option, Some}
+use Rattle.std.proofs.Common.{None, Result, Ok, Err, sym, ap, ◌∙◌, subst, refl}
 use Rattle.std.specs.Prelude.{IfSome, IfOk, IfErr, OnOk, OnErr}
 use Rattle.dos_io.specs.Hosts.{Told}
 use Rattle.dos_io.specs.Outside.{grown, GrewByFront, HasCause}
@@ -17,7 +18,8 @@ use Rattle.dpg_run.specs.Machine.{Seen}
 use Rattle.dpg_run.specs.Report.{report, report_in}
 use Rattle.shim_log.specs.LogText.{Log}
 use Rattle.logged_runs.specs.Opened.{IsOpenedWith}
-use Rattle.logged_runs.specs.Replaying.{Replayed, ReplayedAhead, ReplayedUntil, StopsReplay, config_of}
+use Rattle.logged_runs.specs.Replaying.{Replayed, ReplayedAhead, ReplayedUntil, StopsReplay}
+use Rattle.logged_runs.specs.Replaying.{config_of}
 use Rattle.logged_runs.specs.Runs.{Ended, Put}
 use Rattle.dos_texts.specs.Exit.{ending_status}
 use Rattle.dos_texts.specs.declared.refusal.Refusal.{Refusal}

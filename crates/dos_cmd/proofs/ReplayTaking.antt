@@ -1,5 +1,6 @@
 -- What a replay takes its files for, from part to whole.
-use Rattle.std.proofs.Common.{◌≡◌, ◌≤◌, ◌<◌, refl, sym, ap, ap₂, ◌∙◌, subst, ℕ, Bool, true, false, List, [], ◌∷◌, length, map, Option, Some, None, Ok, Err, arith}
+use Rattle.std.proofs.Common.{◌≡◌, ◌≤◌, ◌<◌, refl, sym, ap, ap₂, ◌∙◌, subst, ℕ, Bool, true, false}
+use Rattle.std.proofs.Common.{List, [], ◌∷◌, length, map, Option, Some, None, Ok, Err, arith}
 use Rattle.std.specs.Prelude.{IfSome, option_and_then, ◌==◌, if◌then◌else◌}
 use Rattle.std.proofs.lemmas.Bool.Decides.{nat_tests}
 use Rattle.elf_image.specs.Image.{Image}
@@ -12,7 +13,8 @@ use Rattle.shim_log.specs.LogText.{Log}
 use Rattle.dos_texts.specs.declared.refusal.Refusal.{Refusal}
 use Rattle.dos_texts.specs.declared.refusal.Refusal.TheVariants as refusals
 use Rattle.dos_words.specs.Numbers.{Text}
-use Rattle.dos_cmd.specs.Judging.{Images, Judgement, agreed, by_log, digests_of, images_from, of_log, replay_judgement, with_images}
+use Rattle.dos_cmd.specs.Judging.{Images, Judgement, agreed, by_log, digests_of, images_from}
+use Rattle.dos_cmd.specs.Judging.{of_log, replay_judgement, with_images}
 use Rattle.dos_cmd.specs.ReplayLeaves.{OfLogFile, OfReading}
 use Rattle.dos_cmd.proofs.NotBegun.{has_room, no_room}
 

@@ -1,5 +1,6 @@
 -- What a call that asks for a run leaves.
-use Rattle.std.proofs.Common.{◌≡◌, ◌≤◌, inl, inr, ℕ, List, [], map, Bool, Option, Some, None, Result, Ok, Err, sym, ap, ◌∙◌, subst, refl}
+use Rattle.std.proofs.Common.{◌≡◌, ◌≤◌, inl, inr, ℕ, List, [], map, Bool, Option, Some, None}
+use Rattle.std.proofs.Common.{Result, Ok, Err, sym, ap, ◌∙◌, subst, refl}
 use Rattle.std.specs.Prelude.{IfSome, IfOk, IfErr, option_map}
 use Rattle.dos_io.specs.Outside.{Rose}
 use Rattle.dos_io.specs.declared.exchange.ClockRule.{ClockRule}
@@ -18,7 +19,8 @@ use Rattle.dos_texts.specs.declared.refusal.Refusal.TheVariants as refusals
 use Rattle.dos_words.specs.Numbers.{Text}
 use Rattle.dos_words.specs.declared.request.Request.{Request}
 use Rattle.dos_words.specs.declared.request.Request.TheVariants.{Run}
-use Rattle.dos_cmd.specs.Judging.{Images, Judgement, Taken, OfFiles, digests_of, images_from, judgement, of_images, with_room}
+use Rattle.dos_cmd.specs.Judging.{Images, Judgement, Taken, OfFiles, digests_of, images_from}
+use Rattle.dos_cmd.specs.Judging.{judgement, of_images, with_room}
 use Rattle.dos_cmd.specs.Outside.{Outside, Faults, Says}
 use Rattle.dos_cmd.specs.Results.{Begun, Did, Leaves}
 use Rattle.dos_cmd.specs.RunLeaves.{RunAsked, DidRun, IsPrepared, clock_rule, header_of}

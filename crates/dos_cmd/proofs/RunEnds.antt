@@ -1,5 +1,7 @@
 -- What a recorded run leaves, by how it ends.
-use Rattle.std.proofs.Common.{◌≡◌, ◌⊎◌, ◌≤◌, inl, inr, ℕ, List, [], ◌++◌, append-nil, Bool, true, false, Option, Result, Ok, Err, IsErrOf, sym, ap, ◌∙◌, subst, refl, arith}
+use Rattle.std.proofs.Common.{◌≡◌, ◌⊎◌, ◌≤◌, inl, inr, ℕ, List, [], ◌++◌, append-nil, Bool, true}
+use Rattle.std.proofs.Common.{false, Option, Result, Ok, Err, IsErrOf, sym, ap, ◌∙◌, subst, refl}
+use Rattle.std.proofs.Common.{arith}
 use Rattle.std.specs.Prelude.{IfSome, IfOk, IfErr, OnOk, OnErr, IsTrue, None, Some}
 use Rattle.std.specs.Str.{bytes_eq}
 use Rattle.std.proofs.lemmas.Slice.Eq.{bytes_eq-Decides}
@@ -26,7 +28,8 @@ use Rattle.dos_texts.specs.declared.refusal.Refusal.{Refusal}
 use Rattle.dos_texts.specs.declared.refusal.Refusal.TheVariants as refusals
 use Rattle.dos_words.specs.Numbers.{Text}
 use Rattle.dos_cmd.specs.Outside.{Outside, Faults, FilesStay, OthersStay, Holds}
-use Rattle.dos_cmd.specs.RunLeaves.{RunAsked, IsPlanned, IsPrepared, WasRecorded, DidRun, StoppedRun, UnwrittenRun, CutRun}
+use Rattle.dos_cmd.specs.RunLeaves.{RunAsked, IsPlanned, IsPrepared, WasRecorded, DidRun}
+use Rattle.dos_cmd.specs.RunLeaves.{StoppedRun, UnwrittenRun, CutRun}
 use Rattle.dos_cmd.specs.Stops.{refusal_by, LeavesRun}
 
 -- ---- counts of faults

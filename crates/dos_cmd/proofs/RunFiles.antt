@@ -1,5 +1,7 @@
 -- What files are taken for.
-use Rattle.std.proofs.Common.{◌≡◌, ◌≢◌, ◌⊎◌, ◌≤◌, ◌<◌, inl, inr, ℕ, suc, ◌+◌, List, [], ◌∷◌, ◌++◌, length, map, drop, Option, Some, None, Result, Ok, Err, true, sym, ap, ◌∙◌, subst, refl, append_assoc, arith}
+use Rattle.std.proofs.Common.{◌≡◌, ◌≢◌, ◌⊎◌, ◌≤◌, ◌<◌, inl, inr, ℕ, suc, ◌+◌, List, [], ◌∷◌, ◌++◌}
+use Rattle.std.proofs.Common.{length, map, drop, Option, Some, None, Result, Ok, Err, true, sym, ap}
+use Rattle.std.proofs.Common.{◌∙◌, subst, refl, append_assoc, arith}
 use Rattle.std.specs.Prelude.{IfSome, nat_lt, option_map, slice_get}
 use Rattle.std.specs.List.{AllByRecursion}
 use Rattle.std.proofs.lemmas.List.{append-nil, length-append}
@@ -14,7 +16,8 @@ use Rattle.sha2.specs.Sha256.{sha256}
 use Rattle.shim_log.specs.Bytes.{AreDigests, FitsDigest}
 use Rattle.dos_texts.specs.declared.refusal.Refusal.{Refusal}
 use Rattle.dos_texts.specs.declared.refusal.Refusal.TheVariants as refusals
-use Rattle.dos_cmd.specs.Judging.{limit, judged, verdict, Images, with_image, then_images, images_from, digests_of, OfFiles}
+use Rattle.dos_cmd.specs.Judging.{limit, judged, verdict, Images, with_image, then_images}
+use Rattle.dos_cmd.specs.Judging.{images_from, digests_of, OfFiles}
 
 -- ---- one file
 

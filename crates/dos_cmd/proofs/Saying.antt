@@ -1,5 +1,6 @@
 -- What a call leaves after its last line: error has grown by these bytes more.
-use Rattle.std.proofs.Common.{ℕ, ◌≡◌, ◌≤◌, refl, sym, ap, ◌∙◌, subst, inl, inr, arith, List, [], ◌++◌, append-nil, Option, Some, None}
+use Rattle.std.proofs.Common.{ℕ, ◌≡◌, ◌≤◌, refl, sym, ap, ◌∙◌, subst, inl, inr, arith, List, []}
+use Rattle.std.proofs.Common.{◌++◌, append-nil, Option, Some, None}
 use Rattle.dos_io.specs.Outside.{grown}
 use Rattle.dos_io.proofs.OutsideLaws.{grown-nothing, grown-twice}
 use Rattle.dos_io.specs.declared.shim.ShimStop.{ShimStop}
@@ -14,7 +15,8 @@ use Rattle.dos_words.specs.declared.request.Request.TheVariants.{Run, Replay, In
 use Rattle.dos_cmd.specs.Judging.{Taken}
 use Rattle.dos_cmd.specs.Outside.{Outside, Faults, Grew, Says, OutputFailed}
 use Rattle.dos_cmd.specs.ReplayLeaves.{Misfitted}
-use Rattle.dos_cmd.specs.Results.{Begun, NotTaken, Stopped, Unwritten, HasMisfit, OfLog, Cut, Leaves, Fails}
+use Rattle.dos_cmd.specs.Results.{Begun, NotTaken, Stopped, Unwritten, HasMisfit, OfLog, Cut}
+use Rattle.dos_cmd.specs.Results.{Leaves, Fails}
 
 -- error tells this in the end
 abbrev pub with_error : Outside → Option (List ℕ) → Outside

@@ -1,15 +1,18 @@
 -- Two calls from their words to what they leave, computed: a run of a guest of three instructions,
 -- which ends with 7, and the replay of the log that the run writes.
-use Rattle.std.specs.Prelude.{ℕ, ◌≡◌, ◌≢◌, List, [], ◌∷◌, ◌++◌, flat_map, replicate, Option, Some, None, Ok, true, codes, IfSome, option_map, option_and_then}
+use Rattle.std.specs.Prelude.{ℕ, ◌≡◌, ◌≢◌, List, [], ◌∷◌, ◌++◌, flat_map, replicate, Option, Some}
+use Rattle.std.specs.Prelude.{None, Ok, true, codes, IfSome, option_map, option_and_then}
 use Rattle.std.specs.Fmt.{digits}
 use Rattle.std.proofs.Common.{refl, ap, ap₂, ◌∙◌, subst}
-use Rattle.sha2.specs.Sha256.{compress, digest_bytes, first_words, hash_after, rounds, schedule, sha256}
+use Rattle.sha2.specs.Sha256.{compress, digest_bytes, first_words, hash_after, rounds, schedule}
+use Rattle.sha2.specs.Sha256.{sha256}
 use Rattle.dos_world.specs.Bytes.{bytes_of}
 use Rattle.dos_world.specs.declared.Config.{Config}
 use Rattle.dos_world.specs.declared.Ending.TheVariants.{Done}
 use Rattle.dos_world.specs.declared.Question.TheVariants.{Signals, End}
 use Rattle.rv_exec.specs.Computing.{computing}
-use Rattle.elf_image.specs.Image.{Image, image, image_of, refusal, format_refusal, machine_refusal, table_refusal, segment_refusal, overlap_refusal, entry_refusal}
+use Rattle.elf_image.specs.Image.{Image, image, image_of, refusal, format_refusal, machine_refusal}
+use Rattle.elf_image.specs.Image.{table_refusal, segment_refusal, overlap_refusal, entry_refusal}
 use Rattle.elf_image.specs.Fields.{headers, headers_from, header_at, half, word}
 use Rattle.dos_io.specs.Given.{GivesPosts}
 use Rattle.dos_io.specs.declared.exchange.Exchange.TheVariants.{Signals as signals}
@@ -17,7 +20,9 @@ use Rattle.dpg_run.specs.Machine.{Seen, group}
 use Rattle.dpg_run.specs.Report.{report}
 use Rattle.dpg_run.proofs.MisfitLaws.{fits_have_none}
 use Rattle.shim_log.specs.LogText.{Log, exchanges, logtext}
-use Rattle.shim_log.specs.Reading.{end_at, entry_at, header_at as log_header_at, header_number_at, log_at, magic_at, many_at, ranged_at, ranged_byte_at, signals_at, tail_at, version_at}
+use Rattle.shim_log.specs.Reading.{end_at, entry_at, header_at as log_header_at, header_number_at}
+use Rattle.shim_log.specs.Reading.{log_at, magic_at, many_at, ranged_at, ranged_byte_at, signals_at}
+use Rattle.shim_log.specs.Reading.{tail_at, version_at}
 use Rattle.log_files.specs.Judging.{disagreement, log_verdict}
 use Rattle.logged_runs.specs.Runs.{RanWhole}
 use Rattle.dos_texts.specs.Exit.{ending_status}
@@ -25,7 +30,8 @@ use Rattle.dos_words.specs.Numbers.{Text}
 use Rattle.dos_words.specs.Request.{request}
 use Rattle.dos_words.specs.declared.request.Request.{Request}
 use Rattle.dos_words.specs.declared.request.Request.TheVariants.{Run, Replay}
-use Rattle.dos_cmd.specs.Judging.{Taken, agreed, by_log, digests_of, images_from, judgement, of_images, replay_judgement, verdict, with_images, with_room}
+use Rattle.dos_cmd.specs.Judging.{Taken, agreed, by_log, digests_of, images_from, judgement}
+use Rattle.dos_cmd.specs.Judging.{of_images, replay_judgement, verdict, with_images, with_room}
 use Rattle.dos_cmd.specs.Outside.{Outside, Counted, FilesStay, Grew, Holds, OthersStay}
 use Rattle.dos_cmd.specs.Results.{MustDo, MustReplay}
 use Rattle.dos_cmd.specs.RunLeaves.{header_of}

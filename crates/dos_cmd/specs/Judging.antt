@@ -1,5 +1,6 @@
 -- Which files are taken for what the words ask for, or why they aren't. This project's own rules.
-use Rattle.std.specs.Prelude.{⊤, ℕ, suc, List, [], ◌∷◌, length, map, Option, Some, None, option_map, option_and_then, Result, Ok, Err, nat_lt, if◌then◌else◌}
+use Rattle.std.specs.Prelude.{⊤, ℕ, suc, List, [], ◌∷◌, length, map, Option, Some, None, option_map}
+use Rattle.std.specs.Prelude.{option_and_then, Result, Ok, Err, nat_lt, if◌then◌else◌}
 use Rattle.dos_world.specs.declared.Config.{Config}
 use Rattle.elf_image.specs.declared.error.ImageError.{ImageError}
 use Rattle.elf_image.specs.Image.{Image, image}

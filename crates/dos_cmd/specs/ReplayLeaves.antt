@@ -12,7 +12,8 @@ use Rattle.dos_texts.specs.Exit.{ending_status}
 use Rattle.dos_texts.specs.declared.refusal.Refusal.{Refusal}
 use Rattle.dos_texts.specs.declared.refusal.Refusal.TheVariants as refusals
 use Rattle.dos_cmd.specs.Judging.{OfFiles}
-use Rattle.dos_cmd.specs.Outside.{Outside, Faults, Counted, Grew, GrewUpToLast, FilesStay, HostStays, OutputFailed, Says}
+use Rattle.dos_cmd.specs.Outside.{Outside, Faults, Counted, Grew, GrewUpToLast, FilesStay}
+use Rattle.dos_cmd.specs.Outside.{HostStays, OutputFailed, Says}
 
 -- Files and host stay.
 pub record StaysAll (o : Outside) : Type 0 where

@@ -18,7 +18,8 @@ use Rattle.dos_words.specs.declared.request.Request.{Request}
 use Rattle.dos_words.specs.declared.request.Request.TheVariants.{Run, Replay, Inspect, Gen}
 use Rattle.dos_cmd.specs.Judging.{Taken, judgement}
 use Rattle.dos_cmd.specs.Outside.{Outside, Faults, FilesStay, OutputFailed, Says}
-use Rattle.dos_cmd.specs.RunLeaves.{RunAsked, DidRun, StoppedRun, UnwrittenRun, CutRun, CutRunReport}
+use Rattle.dos_cmd.specs.RunLeaves.{RunAsked, DidRun, StoppedRun, UnwrittenRun, CutRun}
+use Rattle.dos_cmd.specs.RunLeaves.{CutRunReport}
 use Rattle.dos_cmd.specs.ReplayLeaves.{DidReplay, Misfitted, CutReplay, CutReplayReport}
 use Rattle.dos_cmd.specs.Printing.{Inspected, Generated, CutInspect, CutSummary}
 

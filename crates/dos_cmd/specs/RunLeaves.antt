@@ -17,7 +17,8 @@ use Rattle.group_rounds.specs.Kernels.{Held}
 use Rattle.logged_runs.specs.Opened.{IsOpenedWith}
 use Rattle.shim_log.specs.Ledger.{LedgerState}
 use Rattle.dos_cmd.specs.Judging.{digests_of}
-use Rattle.dos_cmd.specs.Outside.{Outside, Counted, Grew, GrewUpToLast, FilesStay, OthersStay, Holds}
+use Rattle.dos_cmd.specs.Outside.{Outside, Counted, Grew, GrewUpToLast, FilesStay, OthersStay}
+use Rattle.dos_cmd.specs.Outside.{Holds}
 
 -- what `run` is asked for, but for its workers
 pub record RunAsked : Type 0 where

@@ -6,7 +6,8 @@ use Rattle.group_open.specs.Opening.{needed}
 use Rattle.dos_io.specs.Outside.{Rose}
 use Rattle.dos_io.specs.declared.shim.ShimStop.TheVariants as shims
 use Rattle.kernel_calls.specs.declared.state.RunStop.{RunStop}
-use Rattle.kernel_calls.specs.declared.state.RunStop.TheVariants.{HostFault, LogFull, Misfit, OutFault, ErrFault, Memory}
+use Rattle.kernel_calls.specs.declared.state.RunStop.TheVariants.{HostFault, LogFull, Misfit}
+use Rattle.kernel_calls.specs.declared.state.RunStop.TheVariants.{OutFault, ErrFault, Memory}
 use Rattle.dos_texts.specs.declared.refusal.Refusal.{Refusal}
 use Rattle.dos_texts.specs.declared.refusal.Refusal.TheVariants as refusals
 use Rattle.dos_cmd.specs.Outside.{Outside, Faults, FilesStay, OutputFailed}

@@ -1,5 +1,6 @@
 // The command `gen`.
-ghost use Rattle.std.specs.Prelude.{◌≡◌, ◌≤◌, ◌-◌, ◌++◌, ℕ, Bool, List, Option, [], map, false, IfOk, IfErr, OnOk, OnErr};
+ghost use Rattle.std.specs.Prelude.{◌≡◌, ◌≤◌, ◌-◌, ◌++◌, ℕ, Bool, List, Option, [], map, false};
+ghost use Rattle.std.specs.Prelude.{IfOk, IfErr, OnOk, OnErr};
 ghost use Rattle.dos_world.specs.declared.Config.{Config};
 ghost use Rattle.dos_io.specs.Hosts.{Told};
 ghost use Rattle.dos_io.specs.Outside.{grown, GrewByFront, HasCause};

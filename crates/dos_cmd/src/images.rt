@@ -1,5 +1,6 @@
 // The images of a call, read from their files.
-ghost use Rattle.std.specs.Prelude.{◌≡◌, ◌≢◌, ◌≤◌, ◌⊎◌, ℕ, List, map, length, IfOk, IfErr, IfSome, IsErrOf};
+ghost use Rattle.std.specs.Prelude.{◌≡◌, ◌≢◌, ◌≤◌, ◌⊎◌, ℕ, List, map, length, IfOk, IfErr, IfSome};
+ghost use Rattle.std.specs.Prelude.{IsErrOf};
 ghost use Rattle.dos_io.specs.Outside.{Rose};
 ghost use Rattle.sha2.specs.Sha256.{sha256};
 ghost use Rattle.shim_log.specs.Bytes.{AreDigests, FitsDigest};

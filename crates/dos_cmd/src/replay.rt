@@ -1,5 +1,6 @@
 // The command `replay`. It is lent no host.
-ghost use Rattle.std.specs.Prelude.{◌≡◌, ◌≤◌, ℕ, Bool, List, Option, [], length, map, IfOk, IfErr, IfSome, IsErrOf, OnOk, Ok, Err, None};
+ghost use Rattle.std.specs.Prelude.{◌≡◌, ◌≤◌, ℕ, Bool, List, Option, [], length, map, IfOk, IfErr};
+ghost use Rattle.std.specs.Prelude.{IfSome, IsErrOf, OnOk, Ok, Err, None};
 ghost use Rattle.dos_world.specs.Lawful.{IsConfig};
 ghost use Rattle.dos_io.specs.Hosts.{Told};
 ghost use Rattle.dos_io.specs.Outside.{Rose};

@@ -1,12 +1,14 @@
 //! The top call: from the words to the exit status.
-ghost use Rattle.std.specs.Prelude.{◌≡◌, ◌≢◌, ◌≤◌, ◌⊎◌, [], ℕ, None, Some, Ok, Err, IfOk, IfErr, map, string_bytes};
+ghost use Rattle.std.specs.Prelude.{◌≡◌, ◌≢◌, ◌≤◌, ◌⊎◌, [], None, Some, Ok, Err, IfOk, IfErr};
+ghost use Rattle.std.specs.Prelude.{map, string_bytes};
 ghost use Rattle.dos_words.specs.declared.request.Request.{Request as Asked};
 ghost use Rattle.dos_words.specs.Ranges.{FitsRequest};
 ghost use Rattle.dos_words.specs.Request.{request};
 ghost use Rattle.dos_texts.specs.Exit.{IsStatus, ending_status, refusal_status};
 ghost use Rattle.dos_cmd.specs.Judging.{Taken, judgement};
 ghost use Rattle.dos_cmd.specs.Outside.{outside, faults};
-ghost use Rattle.dos_cmd.specs.Results.{Begun, CutShort, Did, Fails, Finished, Leaves, MustDo, Refused};
+ghost use Rattle.dos_cmd.specs.Results.{Begun, CutShort, Did, Fails, Finished, Leaves, MustDo};
+ghost use Rattle.dos_cmd.specs.Results.{Refused};
 
 use crate::generate::generate;
 use crate::inspect::inspect;

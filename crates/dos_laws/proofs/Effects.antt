@@ -1,17 +1,23 @@
 -- The registers that an effect leaves are in range.
-use Rattle.std.proofs.Common.{ℕ, ◌+◌, ◌*◌, ◌/◌, ◌%◌, ◌^◌, ◌<◌, Bool, true, false, cond, not, Some, None, arith}
+use Rattle.std.proofs.Common.{ℕ, ◌+◌, ◌*◌, ◌/◌, ◌%◌, ◌^◌, ◌<◌, Bool, true, false, cond, not, Some}
+use Rattle.std.proofs.Common.{None, arith}
 use Rattle.std.specs.Prelude.{⊤, ◌==◌}
 use Rattle.dos_world.specs.World.{Registers, get, set, with_pc, code_unit}
 use Rattle.dos_world.specs.Lawful.{AreRegisters}
 use Rattle.dos_world.specs.declared.Reason.TheVariants.{Fault}
 use Rattle.rv_isa.specs.declared.AmoOp.{AmoOp}
-use Rattle.rv_isa.specs.declared.AmoOp.TheVariants.{LrW, ScW, AmoswapW, AmoaddW, AmoxorW, AmoandW, AmoorW, AmominW, AmomaxW, AmominuW, AmomaxuW}
+use Rattle.rv_isa.specs.declared.AmoOp.TheVariants.{LrW, ScW, AmoswapW, AmoaddW, AmoxorW, AmoandW}
+use Rattle.rv_isa.specs.declared.AmoOp.TheVariants.{AmoorW, AmominW, AmomaxW, AmominuW, AmomaxuW}
 use Rattle.rv_isa.specs.declared.Instr.{Instr}
-use Rattle.rv_isa.specs.declared.Instr.TheVariants.{Upper, Jal, Jalr, Branch, Load, Store, Imm, Shift, Reg, Amo, Fence, Ecall, Ebreak}
+use Rattle.rv_isa.specs.declared.Instr.TheVariants.{Upper, Jal, Jalr, Branch, Load, Store, Imm}
+use Rattle.rv_isa.specs.declared.Instr.TheVariants.{Shift, Reg, Amo, Fence, Ecall, Ebreak}
 use Rattle.rv_isa.specs.Valid.{IsValid}
-use Rattle.rv_exec.specs.Effect.{Effect, goes, loads, stores, claims, stops, effect, jumps, onward, next_address, atomic, is_taken, plus, test, is_held, register_result, immediate_result, shift_result, load_result}
+use Rattle.rv_exec.specs.Effect.{Effect, goes, loads, stores, claims, stops, effect, jumps, onward}
+use Rattle.rv_exec.specs.Effect.{next_address, atomic, is_taken, plus, test, is_held}
+use Rattle.rv_exec.specs.Effect.{register_result, immediate_result, shift_result, load_result}
 use Rattle.dos_laws.proofs.RegisterRanges.{set_ranges, with_pc_ranges, with_held_ranges, get_range}
-use Rattle.dos_laws.proofs.Words.{register_word, immediate_word, shift_word, load_word, plus_word, test_word}
+use Rattle.dos_laws.proofs.Words.{register_word, immediate_word, shift_word, load_word, plus_word}
+use Rattle.dos_laws.proofs.Words.{test_word}
 
 -- what an effect leaves of registers in range, whatever word it loads
 abbrev pub IsInRange : Effect → Type 0

@@ -1,5 +1,7 @@
 -- Threads and lists when a process ends.
-use Rattle.std.proofs.Common.{ℕ, zero, suc, ◌+◌, ◌<◌, ◌≤◌, ◌≡◌, ◌≢◌, ◌⊎◌, inl, inr, refl, sym, ap, ◌∙◌, subst, Bool, true, false, cond, List, [], ◌∷◌, length, map, Option, Some, None, arith, eq-eqb}
+use Rattle.std.proofs.Common.{ℕ, zero, suc, ◌+◌, ◌<◌, ◌≤◌, ◌≡◌, ◌≢◌, ◌⊎◌, inl, inr, refl, sym, ap}
+use Rattle.std.proofs.Common.{◌∙◌, subst, Bool, true, false, cond, List, [], ◌∷◌, length, map}
+use Rattle.std.proofs.Common.{Option, Some, None, arith, eq-eqb}
 use Rattle.std.specs.Prelude.{IfSome, IsTrue, is_some, slice_index_or, ◌==◌}
 use Rattle.std.proofs.lemmas.Bool.{cases_eq, cases_Bool, false≢true, eqb-true, ne_eqb}
 use Rattle.dos_world.specs.Numbered.{map_from, places_from}

@@ -1,12 +1,14 @@
 -- A fork leaves every lawful world lawful, where its caller is ready: such a world stands where the
 -- caller alone has a part left.
-use Rattle.std.proofs.Common.{ℕ, ◌≡◌, Bool, true, false, cond, [], Some, Result, Ok, Err, refl, sym, subst, arith}
+use Rattle.std.proofs.Common.{ℕ, ◌≡◌, Bool, true, false, cond, [], Some, Result, Ok, Err, refl, sym}
+use Rattle.std.proofs.Common.{subst, arith}
 use Rattle.std.specs.Prelude.{IfSome, nat_lt}
 use Rattle.std.proofs.lemmas.Bool.{ltb-false}
 use Rattle.dos_world.specs.World.{World, Thread, thread_at}
 use Rattle.dos_world.specs.Kernel.{free_frames}
 use Rattle.dos_world.specs.Calls.{Call}
-use Rattle.dos_world.specs.ProcessCalls.{are_processes_full, forked, forked_by, private_entries, with_child}
+use Rattle.dos_world.specs.ProcessCalls.{are_processes_full, forked, forked_by, private_entries}
+use Rattle.dos_world.specs.ProcessCalls.{with_child}
 use Rattle.dos_world.specs.Lawful.{Lawful}
 use Rattle.dos_world.specs.declared.ThreadState.TheVariants.{Ready}
 use Rattle.dos_laws.proofs.StandsCalls.{StandsCall, held}

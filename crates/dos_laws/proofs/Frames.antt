@@ -1,5 +1,7 @@
 -- Owners and bytes: a frame granted to a thread, and bytes written, keep a world lawful.
-use Rattle.std.proofs.Common.{ℕ, zero, suc, ◌/◌, ◌%◌, ◌<◌, ◌≤◌, ◌≡◌, ◌≢◌, ◌⊎◌, inl, inr, refl, sym, ap, ◌∙◌, subst, Bool, true, false, List, [], ◌∷◌, length, Some, None, arith, length-set}
+use Rattle.std.proofs.Common.{ℕ, zero, suc, ◌/◌, ◌%◌, ◌<◌, ◌≤◌, ◌≡◌, ◌≢◌, ◌⊎◌, inl, inr, refl, sym}
+use Rattle.std.proofs.Common.{ap, ◌∙◌, subst, Bool, true, false, List, [], ◌∷◌, length, Some, None}
+use Rattle.std.proofs.Common.{arith, length-set}
 use Rattle.std.specs.Prelude.{◌==◌, All, IsFalse, ◌↔◌, slice_set, slice_index_or}
 use Rattle.std.proofs.lemmas.Bool.{true≢false, cases_lt}
 use Rattle.std.proofs.lemmas.Bool.Decides.{eqb_tells}

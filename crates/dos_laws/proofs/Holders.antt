@@ -1,13 +1,16 @@
 -- What the processes have, where what one of them has changes: sums, tests and properties of all
 -- that is had.
-use Rattle.std.proofs.Common.{ℕ, zero, suc, ◌+◌, ◌<◌, ◌≡◌, refl, sym, ap, ◌∙◌, subst, Bool, true, false, cond, List, [], ◌∷◌, length, Option, Some, None, option_and_then, arith}
+use Rattle.std.proofs.Common.{ℕ, zero, suc, ◌+◌, ◌<◌, ◌≡◌, refl, sym, ap, ◌∙◌, subst, Bool, true}
+use Rattle.std.proofs.Common.{false, cond, List, [], ◌∷◌, length, Option, Some, None}
+use Rattle.std.proofs.Common.{option_and_then, arith}
 use Rattle.std.specs.Prelude.{All, IfSome, slice_get, is_some, count_by, sum_by, ◌||◌}
 use Rattle.std.specs.List.{list_any}
 use Rattle.std.proofs.lemmas.Bool.{true≢false}
 use Rattle.std.proofs.lemmas.List.Sums.{sum_by-cons}
 use Rattle.std.proofs.lemmas.List.Elements.{All-nil, All-cons, All-head, All-tail}
 use Rattle.dos_world.specs.Numbered.{numbered, changed, changed_at}
-use Rattle.dos_world.specs.World.{Process, Holdings, Life, live, ended, holdings_of, all_holdings, on_holdings, live_changed, status_of}
+use Rattle.dos_world.specs.World.{Process, Holdings, Life, live, ended, holdings_of, all_holdings}
+use Rattle.dos_world.specs.World.{on_holdings, live_changed, status_of}
 use Rattle.dos_laws.proofs.Stands.{HasStatus}
 
 -- ---- a test that passes somewhere counts

@@ -19,7 +19,8 @@ use Rattle.round_core.proofs.Keeps.{kept_throughout}
 use Rattle.round_core.proofs.KeepsBoth.{Both, both_kept}
 use Rattle.round_core.proofs.SameRun.{same_run_kept}
 use Rattle.dos_laws.specs.Plays.{world_served, world_ended}
-use Rattle.dos_laws.specs.Standing.{IsAwake, AreAwake, AreApart, LawfulWith, IsPost, IsFit, fit_protocol}
+use Rattle.dos_laws.specs.Standing.{IsAwake, AreAwake, AreApart, LawfulWith, IsPost, IsFit}
+use Rattle.dos_laws.specs.Standing.{fit_protocol}
 use Rattle.dos_laws.proofs.Outside.{lawful-counted}
 use Rattle.dos_laws.proofs.StandsKeeps.{stands_kept}
 

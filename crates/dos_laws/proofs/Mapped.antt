@@ -1,13 +1,16 @@
 -- In a lawful world the process of a live thread lives, and each frame that a live process maps is
 -- there and isn't Free.
-use Rattle.std.proofs.Common.{ℕ, zero, suc, ◌/◌, ◌<◌, ◌≡◌, ◌≢◌, refl, sym, ap, ◌∙◌, subst, Bool, true, false, cond, List, [], ◌∷◌, length, Option, Some, None, option_map, option_and_then, arith, eq-eqb}
+use Rattle.std.proofs.Common.{ℕ, zero, suc, ◌/◌, ◌<◌, ◌≡◌, ◌≢◌, refl, sym, ap, ◌∙◌, subst, Bool}
+use Rattle.std.proofs.Common.{true, false, cond, List, [], ◌∷◌, length, Option, Some, None}
+use Rattle.std.proofs.Common.{option_map, option_and_then, arith, eq-eqb}
 use Rattle.std.specs.Prelude.{slice_get, slice_index_or, All, IsTrue, IfSome, is_some, ◌==◌, find}
 use Rattle.std.specs.List.{list_any}
 use Rattle.std.proofs.lemmas.Bool.{or_left, or_right, true≢false}
 use Rattle.std.proofs.lemmas.List.Elements.{All-nil, All-head, All-tail}
 use Rattle.dos_world.specs.Numbered.{numbered}
 pub use Rattle.dos_world.proofs.UsualCalls.{held_all}
-use Rattle.dos_world.specs.World.{World, Process, Thread, Holdings, holdings_of, all_holdings, live_process, thread_at, space_of, entry_at, look, is_free}
+use Rattle.dos_world.specs.World.{World, Process, Thread, Holdings, holdings_of, all_holdings}
+use Rattle.dos_world.specs.World.{live_process, thread_at, space_of, entry_at, look, is_free}
 use Rattle.dos_world.specs.Counts.{is_mapped, maps_frame}
 use Rattle.dos_world.specs.Lawful.{Lawful, IsThread, AreHoldings, IsPage}
 use Rattle.dos_world.specs.declared.Entry.{Entry}

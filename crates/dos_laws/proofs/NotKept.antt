@@ -1,5 +1,6 @@
 -- What lawfulness alone doesn't keep: counterexamples, tested by the checker.
-use Rattle.std.proofs.Common.{ℕ, ◌<◌, ◌≡◌, refl, true, false, List, [], ◌∷◌, Option, Some, None, arith}
+use Rattle.std.proofs.Common.{ℕ, ◌<◌, ◌≡◌, refl, true, false, List, [], ◌∷◌, Option, Some, None}
+use Rattle.std.proofs.Common.{arith}
 use Rattle.std.specs.Prelude.{replicate}
 use Rattle.std.proofs.lemmas.Bool.{true≢false}
 use Rattle.dos_world.specs.World.{World, Process, Thread, Sleeper, live, blank, set}

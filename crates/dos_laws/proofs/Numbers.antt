@@ -1,5 +1,6 @@
 -- Lists whose elements are numbered from 1: what a change of one element leaves of the others.
-use Rattle.std.proofs.Common.{ℕ, zero, suc, ◌≡◌, refl, sym, ap, ◌∙◌, Bool, false, cond, List, [], ◌∷◌, Option, Some, None, option_map}
+use Rattle.std.proofs.Common.{ℕ, zero, suc, ◌≡◌, refl, sym, ap, ◌∙◌, Bool, false, cond, List, []}
+use Rattle.std.proofs.Common.{◌∷◌, Option, Some, None, option_map}
 use Rattle.std.specs.Prelude.{slice_get, map, All, IfSome}
 use Rattle.std.proofs.lemmas.List.Elements.{All-head, All-tail}
 pub use Rattle.dos_world.proofs.Numbers.{length-changed, changed_there}

@@ -1,11 +1,13 @@
 -- Registers stay in range, and so does a thread whose registers or budget change.
-use Rattle.std.proofs.Common.{ℕ, zero, suc, ◌+◌, ◌%◌, ◌^◌, ◌<◌, ◌≤◌, ◌≡◌, ◌⊎◌, inl, inr, refl, ◌∙◌, List, [], ◌∷◌, length, Option, None, arith, length-set}
+use Rattle.std.proofs.Common.{ℕ, zero, suc, ◌+◌, ◌%◌, ◌^◌, ◌<◌, ◌≤◌, ◌≡◌, ◌⊎◌, inl, inr, refl, ◌∙◌}
+use Rattle.std.proofs.Common.{List, [], ◌∷◌, length, Option, None, arith, length-set}
 use Rattle.std.specs.Prelude.{IfSome, slice_index, slice_set}
 use Rattle.std.proofs.lemmas.List.Elements.{All-set, All-replicate}
 use Rattle.std.proofs.lemmas.Bool.{cases_lt}
 use Rattle.std.proofs.lemmas.List.{get_or_past}
 use Rattle.dos_world.specs.World.{registers_by}
-use Rattle.dos_world.specs.Registers.{Registers, get, set, with_pc, with_held, blank, released, past}
+use Rattle.dos_world.specs.Registers.{Registers, get, set, with_pc, with_held, blank, released}
+use Rattle.dos_world.specs.Registers.{past}
 use Rattle.dos_world.specs.Kernel.{answered}
 use Rattle.dos_world.specs.Calls.{charged}
 use Rattle.dos_world.specs.ThreadCalls.{new_registers}

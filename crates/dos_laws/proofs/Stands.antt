@@ -1,11 +1,13 @@
 -- A lawful world whose statuses are bytes, and in which nobody who still has a part waits: the
 -- changes of threads that keep it so.
-use Rattle.std.proofs.Common.{ℕ, ◌+◌, ◌≤◌, ◌≡◌, ◌≢◌, ◌⊎◌, inl, inr, refl, sym, ap, ◌∙◌, subst, cond, List, [], ◌∷◌, ◌++◌, length, Option, Some, None, option_map, arith}
+use Rattle.std.proofs.Common.{ℕ, ◌+◌, ◌≤◌, ◌≡◌, ◌≢◌, ◌⊎◌, inl, inr, refl, sym, ap, ◌∙◌, subst, cond}
+use Rattle.std.proofs.Common.{List, [], ◌∷◌, ◌++◌, length, Option, Some, None, option_map, arith}
 use Rattle.std.specs.Prelude.{All, IfSome, IsTrue, ◌==◌, count_by, is_some}
 use Rattle.std.proofs.lemmas.Bool.{cases_eq}
 use Rattle.std.proofs.lemmas.List.Sums.{sum_by-cons, sum_by_push}
 use Rattle.dos_world.specs.Numbered.{numbered, changed, numbers_of}
-use Rattle.dos_world.specs.World.{World, Thread, Sleeper, flat, thread_at, live_process, belongs_to, with_thread, in_state}
+use Rattle.dos_world.specs.World.{World, Thread, Sleeper, flat, thread_at, live_process, belongs_to}
+use Rattle.dos_world.specs.World.{with_thread, in_state}
 pub use Rattle.dos_world.specs.Lawful.{HasStatus}
 use Rattle.dos_world.specs.Lawful.{Lawful, IsThread, IsSleeper, turns_asleep}
 use Rattle.dos_world.specs.declared.ThreadState.TheVariants.{Ready, Retry}

@@ -1,15 +1,20 @@
 -- A call of a thread that has its part in a world that stands, and the answers that leave it so;
 -- and which answers of the protocol fit.
-use Rattle.std.proofs.Common.{ℕ, zero, suc, ◌^◌, ◌<◌, ◌≤◌, ◌≡◌, ◌⊎◌, inl, inr, refl, sym, ap, ◌∙◌, subst, Bool, true, false, cond, List, ◌∷◌, length, Some, None, Result, Ok, Err, option_map, arith}
+use Rattle.std.proofs.Common.{ℕ, zero, suc, ◌^◌, ◌<◌, ◌≤◌, ◌≡◌, ◌⊎◌, inl, inr, refl, sym, ap, ◌∙◌}
+use Rattle.std.proofs.Common.{subst, Bool, true, false, cond, List, ◌∷◌, length, Some, None, Result}
+use Rattle.std.proofs.Common.{Ok, Err, option_map, arith}
 use Rattle.std.specs.Prelude.{IfSome, IsTrue, is_some, option_and_then}
 use Rattle.std.proofs.lemmas.Bool.{cases_lt, true≢false}
 use Rattle.std.proofs.lemmas.Option.{slice_get_past}
 use Rattle.dos_world.specs.Numbered.{numbered}
-use Rattle.dos_world.specs.World.{World, Process, Thread, Registers, Holdings, thread_at, live_process, holdings_of, with_registers, registers_by}
+use Rattle.dos_world.specs.World.{World, Process, Thread, Registers, Holdings, thread_at}
+use Rattle.dos_world.specs.World.{live_process, holdings_of, with_registers, registers_by}
 use Rattle.dos_world.specs.Kernel.{minus, answered, answered_two}
 use Rattle.dos_world.specs.Play.{Play}
-use Rattle.dos_world.specs.Calls.{Call, Served, charged, call_of, mask_of, returns_in, returns, returns_two, refuses, refuses_in, replies, retries}
-use Rattle.dos_world.specs.Lawful.{Lawful, IsThread, IsMask, AreRegisters, AreHoldings, turns_asleep}
+use Rattle.dos_world.specs.Calls.{Call, Served, charged, call_of, mask_of, returns_in, returns}
+use Rattle.dos_world.specs.Calls.{returns_two, refuses, refuses_in, replies, retries}
+use Rattle.dos_world.specs.Lawful.{Lawful, IsThread, IsMask, AreRegisters, AreHoldings}
+use Rattle.dos_world.specs.Lawful.{turns_asleep}
 use Rattle.dos_world.specs.declared.ThreadState.TheVariants.{Ready}
 use Rattle.dos_world.proofs.UsualCalls.{held_all}
 use Rattle.round_core.specs.Protocol.{Allows}

@@ -1,19 +1,30 @@
 -- A child, with a copy of its parent's space, keeps a world standing: 4.
-use Rattle.std.proofs.Common.{ℕ, zero, suc, ◌+◌, ◌<◌, ◌≤◌, ◌≡◌, ◌≢◌, ◌⊎◌, inl, inr, refl, sym, ap, ◌∙◌, subst, Bool, true, false, cond, not, List, [], ◌∷◌, ◌++◌, length, Option, Some, None, Ok, Err, option_and_then, arith, length-append, eq-eqb}
-use Rattle.std.specs.Prelude.{All, IfSome, IsTrue, IsFalse, ◌↔◌, ◌==◌, ◌&&◌, nat_lt, nat_le, slice_get, slice_index_or, is_some, sum_by}
+use Rattle.std.proofs.Common.{ℕ, zero, suc, ◌+◌, ◌<◌, ◌≤◌, ◌≡◌, ◌≢◌, ◌⊎◌, inl, inr, refl, sym, ap}
+use Rattle.std.proofs.Common.{◌∙◌, subst, Bool, true, false, cond, not, List, [], ◌∷◌, ◌++◌, length}
+use Rattle.std.proofs.Common.{Option, Some, None, Ok, Err, option_and_then, arith, length-append}
+use Rattle.std.proofs.Common.{eq-eqb}
+use Rattle.std.specs.Prelude.{All, IfSome, IsTrue, IsFalse, ◌↔◌, ◌==◌, ◌&&◌, nat_lt, nat_le}
+use Rattle.std.specs.Prelude.{slice_get, slice_index_or, is_some, sum_by}
 use Rattle.std.specs.List.{list_any}
 use Rattle.std.specs.List.Sorted.{IsStrictlyIncreasing}
-use Rattle.std.proofs.lemmas.Bool.{true≢false, or_cases, or_left, or_right, or_parts, leb-false, ltb-false}
+use Rattle.std.proofs.lemmas.Bool.{true≢false, or_cases, or_left, or_right, or_parts, leb-false}
+use Rattle.std.proofs.lemmas.Bool.{ltb-false}
 use Rattle.std.proofs.lemmas.List.Sums.{sum_by_push, get_or-le-sum_by}
 use Rattle.std.proofs.lemmas.List.Elements.{All-nil, All-cons, All-append}
 use Rattle.dos_world.specs.Numbered.{numbered, places_from, numbers_of}
-use Rattle.dos_world.specs.World.{World, Process, Holdings, Thread, all_holdings, live_process, thread_at, threads_of, holdings_of, owner_of, belongs_to, released, live_threads}
-use Rattle.dos_world.specs.Counts.{is_mapped, uses_of, is_open, has_reader, has_writer, reads_pipe, writes_pipe, free_frames}
+use Rattle.dos_world.specs.World.{World, Process, Holdings, Thread, all_holdings, live_process}
+use Rattle.dos_world.specs.World.{thread_at, threads_of, holdings_of, owner_of, belongs_to}
+use Rattle.dos_world.specs.World.{released, live_threads}
+use Rattle.dos_world.specs.Counts.{is_mapped, uses_of, is_open, has_reader, has_writer, reads_pipe}
+use Rattle.dos_world.specs.Counts.{writes_pipe, free_frames}
 use Rattle.dos_world.specs.Kernel.{answered}
 use Rattle.dos_world.specs.Calls.{Call, replies}
 use Rattle.dos_world.specs.ThreadCalls.{next_thread, with_new_thread, are_threads_full}
-use Rattle.dos_world.specs.ProcessCalls.{fork, forked_by, copied_space, private_entries, next_process, child_thread, child_process, with_child, are_processes_full}
-use Rattle.dos_world.specs.Lawful.{Lawful, IsThread, AreHoldings, IsAlone, IsPage, IsSleeper, turns_asleep}
+use Rattle.dos_world.specs.ProcessCalls.{fork, forked_by, copied_space, private_entries}
+use Rattle.dos_world.specs.ProcessCalls.{next_process, child_thread, child_process, with_child}
+use Rattle.dos_world.specs.ProcessCalls.{are_processes_full}
+use Rattle.dos_world.specs.Lawful.{Lawful, IsThread, AreHoldings, IsAlone, IsPage, IsSleeper}
+use Rattle.dos_world.specs.Lawful.{turns_asleep}
 use Rattle.dos_world.specs.declared.Entry.{Entry}
 use Rattle.dos_world.specs.declared.End.{End}
 use Rattle.dos_world.specs.declared.Owner.{Owner}
@@ -28,8 +39,10 @@ use Rattle.dos_laws.proofs.Spaces.{OtherFrame, pairs_from, pairs_to, uses_in, us
 use Rattle.dos_laws.proofs.Stands.{awake_by, HasStatus}
 use Rattle.dos_laws.proofs.StandsThreads.{more_awake, ready_is}
 use Rattle.dos_laws.proofs.StandsFrames.{free_unused, none_of_sum}
-use Rattle.dos_laws.proofs.StandsForks.{IsCopied, copied_is, copied_space_moved, privates, shareds, sum_split, uses_split, apart_from_uses, uses_from_apart}
-use Rattle.dos_laws.proofs.StandsCalls.{StandsCall, Leaves, law, held, held_is, caller_is, process_within, returns_in_stands, refuses_stands}
+use Rattle.dos_laws.proofs.StandsForks.{IsCopied, copied_is, copied_space_moved, privates, shareds}
+use Rattle.dos_laws.proofs.StandsForks.{sum_split, uses_split, apart_from_uses, uses_from_apart}
+use Rattle.dos_laws.proofs.StandsCalls.{StandsCall, Leaves, law, held, held_is, caller_is}
+use Rattle.dos_laws.proofs.StandsCalls.{process_within, returns_in_stands, refuses_stands}
 
 -- ---- one more at the end
 

@@ -1,19 +1,27 @@
 -- Bytes that a service reads from its caller's memory or writes to it keep a world standing: 7 and
 -- 8.
-use Rattle.std.proofs.Common.{ℕ, zero, suc, ◌-◌, ◌<◌, ◌≤◌, ◌≡◌, ◌⊎◌, inl, inr, refl, sym, ap, ◌∙◌, subst, Bool, true, false, cond, not, List, [], ◌∷◌, ◌++◌, length, Option, Some, None, min, take, drop, arith, length-set, length-append, ◌+◌, ◌*◌, ◌%◌}
+use Rattle.std.proofs.Common.{ℕ, zero, suc, ◌-◌, ◌<◌, ◌≤◌, ◌≡◌, ◌⊎◌, inl, inr, refl, sym, ap, ◌∙◌}
+use Rattle.std.proofs.Common.{subst, Bool, true, false, cond, not, List, [], ◌∷◌, ◌++◌, length}
+use Rattle.std.proofs.Common.{Option, Some, None, min, take, drop, arith, length-set, length-append}
+use Rattle.std.proofs.Common.{◌+◌, ◌*◌, ◌%◌}
 use Rattle.std.specs.Prelude.{All, IsFalse, ◌==◌, slice_get, slice_set, slice_index_or, unwrap_or}
 use Rattle.std.specs.List.{list_any}
 use Rattle.std.proofs.lemmas.Bool.{cases_eq, true≢false, or_left, or_right, eq-eqb}
 use Rattle.std.proofs.lemmas.List.{length-drop, get_or-set_other}
-use Rattle.std.proofs.lemmas.List.Elements.{All-nil, All-cons, All-head, All-tail, All-set, All-take, All-drop, All-append}
+use Rattle.std.proofs.lemmas.List.Elements.{All-nil, All-cons, All-head, All-tail, All-set}
+use Rattle.std.proofs.lemmas.List.Elements.{All-take, All-drop, All-append}
 use Rattle.dos_world.specs.World.{World, all_holdings, entry_at, owner_of}
 use Rattle.dos_world.specs.Bytes.{loaded, stored}
-use Rattle.dos_world.specs.Reach.{Reached, fault, foreign, at, reach, grant, in_frame, has_right, is_foreign, width}
+use Rattle.dos_world.specs.Reach.{Reached, fault, foreign, at, reach, grant, in_frame, has_right}
+use Rattle.dos_world.specs.Reach.{is_foreign, width}
 use Rattle.dos_world.specs.Copying.{opened, place_of, copied_in, copied_out, all_reach}
 use Rattle.dos_world.specs.Counts.{reads_pipe, writes_pipe, has_reader, has_writer, is_open}
 use Rattle.dos_world.specs.Play.{input_of}
 use Rattle.dos_world.specs.Calls.{Call, Service, returns, returns_in, refuses, retries}
-use Rattle.dos_world.specs.DescriptorCalls.{read, read_by, read_input, read_pipe, write, write_by, write_output, write_error, write_pipe, write_some, transfers, count_of, descriptor, descriptors_of, pipe_bytes, with_pipe}
+use Rattle.dos_world.specs.DescriptorCalls.{read, read_by, read_input, read_pipe, write, write_by}
+use Rattle.dos_world.specs.DescriptorCalls.{write_output, write_error, write_pipe, write_some}
+use Rattle.dos_world.specs.DescriptorCalls.{transfers, count_of, descriptor, descriptors_of}
+use Rattle.dos_world.specs.DescriptorCalls.{pipe_bytes, with_pipe}
 use Rattle.dos_world.specs.Lawful.{Lawful, IsByte, IsPipe}
 use Rattle.dos_world.specs.declared.Access.{Access}
 use Rattle.dos_world.specs.declared.Access.TheVariants.{Load, Store}
@@ -25,7 +33,9 @@ use Rattle.dos_laws.proofs.Mapped.{IsTaken, held_any, entry_taken}
 use Rattle.dos_laws.proofs.Numerals.{loaded_below}
 use Rattle.dos_laws.proofs.Frames.{lawful-grant, lawful-stored}
 use Rattle.dos_laws.proofs.Outside.{lawful-sent}
-use Rattle.dos_laws.proofs.StandsCalls.{StandsCall, Leaves, law, held, thread_within, returns_stands, returns_in_stands, refuses_stands, retries_stands, leaves_if}
+use Rattle.dos_laws.proofs.StandsCalls.{StandsCall, Leaves, law, held, thread_within}
+use Rattle.dos_laws.proofs.StandsCalls.{returns_stands, returns_in_stands, refuses_stands}
+use Rattle.dos_laws.proofs.StandsCalls.{retries_stands, leaves_if}
 use Rattle.dos_world.specs.declared.Entry.{Entry}
 use Rattle.dos_world.specs.declared.Size.{Size}
 

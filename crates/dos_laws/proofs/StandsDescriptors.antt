@@ -1,15 +1,22 @@
 -- The services of descriptors but for read and write keep a world standing: 6, 9, 10.
-use Rattle.std.proofs.Common.{ℕ, zero, suc, ◌+◌, ◌^◌, ◌<◌, ◌≤◌, ◌≡◌, ◌≢◌, refl, sym, ap, ◌∙◌, subst, Bool, true, false, cond, not, List, [], ◌∷◌, length, Option, Some, None, arith, length-set}
-use Rattle.std.specs.Prelude.{All, IfSome, ◌==◌, slice_get, slice_set, unwrap_or, count_by, filter, is_none}
+use Rattle.std.proofs.Common.{ℕ, zero, suc, ◌+◌, ◌^◌, ◌<◌, ◌≤◌, ◌≡◌, ◌≢◌, refl, sym, ap, ◌∙◌, subst}
+use Rattle.std.proofs.Common.{Bool, true, false, cond, not, List, [], ◌∷◌, length, Option, Some}
+use Rattle.std.proofs.Common.{None, arith, length-set}
+use Rattle.std.specs.Prelude.{All, IfSome, ◌==◌, slice_get, slice_set, unwrap_or, count_by, filter}
+use Rattle.std.specs.Prelude.{is_none}
 use Rattle.std.proofs.lemmas.Bool.{false≢true}
 use Rattle.std.proofs.lemmas.List.Sums.{sum_by-cons}
 use Rattle.std.proofs.lemmas.List.Elements.{All-nil, All-cons, All-head, All-tail, All-set}
 use Rattle.dos_world.specs.Numbered.{run_of}
-use Rattle.dos_world.specs.World.{World, Holdings, Thread, all_holdings, live_process, with_holdings, on_holdings, thread_at, first_of}
+use Rattle.dos_world.specs.World.{World, Holdings, Thread, all_holdings, live_process}
+use Rattle.dos_world.specs.World.{with_holdings, on_holdings, thread_at, first_of}
 use Rattle.dos_world.specs.Counts.{uses_of, is_open, reads_pipe, writes_pipe, tidied}
 use Rattle.dos_world.specs.Play.{Play}
 use Rattle.dos_world.specs.Calls.{Call, Served, returns_in, refuses}
-use Rattle.dos_world.specs.DescriptorCalls.{pipe, pipe_by, close, dup, dup_by, descriptor, descriptor_at, descriptors_of, with_end, with_descriptor, free_descriptors, second_of, lowest_pipe}
+use Rattle.dos_world.specs.DescriptorCalls.{pipe, pipe_by, close, dup, dup_by, descriptor}
+use Rattle.dos_world.specs.DescriptorCalls.{descriptor_at, descriptors_of, with_end}
+use Rattle.dos_world.specs.DescriptorCalls.{with_descriptor, free_descriptors, second_of}
+use Rattle.dos_world.specs.DescriptorCalls.{lowest_pipe}
 use Rattle.dos_world.specs.Lawful.{IsThread, AreHoldings, IsAlone, IsEnd}
 use Rattle.dos_world.specs.declared.Entry.{Entry}
 use Rattle.dos_world.specs.declared.End.{End}
@@ -17,12 +24,15 @@ use Rattle.dos_world.specs.declared.End.TheVariants.{PipeRead, PipeWrite}
 use Rattle.dos_world.proofs.UsualCalls.{held_all}
 use Rattle.dos_world.proofs.Numbers.{length-changed}
 use Rattle.dos_laws.specs.Standing.{LawfulWith}
-use Rattle.dos_laws.proofs.Holders.{any_counts, counts_any, sum_changed, all_changed, live_changed_same, count_changed, parents_changed, statuses_changed, has_changed}
+use Rattle.dos_laws.proofs.Holders.{any_counts, counts_any, sum_changed, all_changed}
+use Rattle.dos_laws.proofs.Holders.{live_changed_same, count_changed, parents_changed}
+use Rattle.dos_laws.proofs.Holders.{statuses_changed, has_changed}
 use Rattle.dos_laws.proofs.Spaces.{uses_in}
 use Rattle.dos_laws.proofs.StandsMasks.{found_in}
 use Rattle.dos_laws.proofs.StandsTidy.{IsLess, lawful-tidied}
 use Rattle.dos_laws.proofs.StandsHeld.{stands-with_holdings, alone}
-use Rattle.dos_laws.proofs.StandsCalls.{StandsCall, Leaves, law, held, held_is, returns_in_stands, returns_two_stands, refuses_stands}
+use Rattle.dos_laws.proofs.StandsCalls.{StandsCall, Leaves, law, held, held_is, returns_in_stands}
+use Rattle.dos_laws.proofs.StandsCalls.{returns_two_stands, refuses_stands}
 
 -- ---- a descriptor that is set
 

@@ -1,14 +1,20 @@
 -- The end of a process and of a thread keeps a world standing.
-use Rattle.std.proofs.Common.{ℕ, zero, suc, ◌+◌, ◌<◌, ◌≤◌, ◌≡◌, ◌≢◌, ◌⊎◌, inl, inr, refl, sym, ap, ◌∙◌, subst, Bool, true, false, cond, not, List, [], ◌∷◌, length, Option, Some, None, option_map, arith, eq-eqb}
-use Rattle.std.specs.Prelude.{All, IfSome, IsTrue, ◌==◌, ◌||◌, is_some, slice_get, slice_index_or, count_by, filter}
+use Rattle.std.proofs.Common.{ℕ, zero, suc, ◌+◌, ◌<◌, ◌≤◌, ◌≡◌, ◌≢◌, ◌⊎◌, inl, inr, refl, sym, ap}
+use Rattle.std.proofs.Common.{◌∙◌, subst, Bool, true, false, cond, not, List, [], ◌∷◌, length}
+use Rattle.std.proofs.Common.{Option, Some, None, option_map, arith, eq-eqb}
+use Rattle.std.specs.Prelude.{All, IfSome, IsTrue, ◌==◌, ◌||◌, is_some, slice_get, slice_index_or}
+use Rattle.std.specs.Prelude.{count_by, filter}
 use Rattle.std.specs.List.{list_any}
 use Rattle.std.proofs.lemmas.Bool.{cases_eq, true≢false, false≢true, ne_eqb, cond_both, eqb-false}
 use Rattle.std.proofs.lemmas.List.{length-map}
 use Rattle.std.proofs.lemmas.List.Sums.{get_or-le-sum_by}
 use Rattle.std.proofs.lemmas.Option.{slice_get-map}
 use Rattle.dos_world.specs.Numbered.{numbered, changed, changed_at, places_from, numbers_of}
-use Rattle.dos_world.specs.World.{World, Process, Thread, Sleeper, flat, all_holdings, live_process, thread_at, threads_of, belongs_to, parent_of, none_of, without_thread, is_child}
-use Rattle.dos_world.specs.Kernel.{unless_of, process_ended, thread_ended, orphaned, ended_by, is_none_of_these}
+use Rattle.dos_world.specs.World.{World, Process, Thread, Sleeper, flat, all_holdings, live_process}
+use Rattle.dos_world.specs.World.{thread_at, threads_of, belongs_to, parent_of, none_of}
+use Rattle.dos_world.specs.World.{without_thread, is_child}
+use Rattle.dos_world.specs.Kernel.{unless_of, process_ended, thread_ended, orphaned, ended_by}
+use Rattle.dos_world.specs.Kernel.{is_none_of_these}
 use Rattle.dos_world.specs.Counts.{maps_frame, uses_of, tidied}
 use Rattle.dos_world.specs.Lawful.{Lawful, IsThread, AreHoldings, IsAlone, IsSleeper, turns_asleep}
 use Rattle.dos_world.specs.declared.Entry.{Entry}
@@ -18,7 +24,8 @@ use Rattle.dos_laws.specs.Standing.{IsAwake, LawfulWith}
 use Rattle.dos_laws.specs.Ends.{ended_processes, closed}
 use Rattle.dos_laws.proofs.Numbers.{mapped_at}
 use Rattle.dos_laws.proofs.Parts.{part_all, part_length, part_any, part_sum}
-use Rattle.dos_laws.proofs.EndedProcesses.{statuses_new, ended_part, ended_length, others_live, ended_dead}
+use Rattle.dos_laws.proofs.EndedProcesses.{statuses_new, ended_part, ended_length, others_live}
+use Rattle.dos_laws.proofs.EndedProcesses.{ended_dead}
 use Rattle.dos_laws.proofs.Ends.{places_mapped, places_fewer, left_is, left_belongs, left_each}
 use Rattle.dos_laws.proofs.ThreadGone.{lawful-without_thread, gone_here}
 use Rattle.dos_laws.proofs.Stands.{awake_by, times, times-cons}

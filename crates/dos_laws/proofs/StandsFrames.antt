@@ -1,6 +1,9 @@
 -- A fresh frame: which one it is, that nothing uses it, and what is left when it is taken.
-use Rattle.std.proofs.Common.{ℕ, zero, suc, ◌+◌, ◌*◌, ◌<◌, ◌≤◌, ◌≡◌, refl, sym, ap, ◌∙◌, true, cond, List, [], ◌∷◌, ◌++◌, length, take, drop, Some, None, arith, length-append}
-use Rattle.std.specs.Prelude.{All, ◌==◌, filter, position, unwrap_or, slice_set, slice_index_or, sum_by}
+use Rattle.std.proofs.Common.{ℕ, zero, suc, ◌+◌, ◌*◌, ◌<◌, ◌≤◌, ◌≡◌, refl, sym, ap, ◌∙◌, true, cond}
+use Rattle.std.proofs.Common.{List, [], ◌∷◌, ◌++◌, length, take, drop, Some, None, arith}
+use Rattle.std.proofs.Common.{length-append}
+use Rattle.std.specs.Prelude.{All, ◌==◌, filter, position, unwrap_or, slice_set, slice_index_or}
+use Rattle.std.specs.Prelude.{sum_by}
 use Rattle.std.specs.List.{position_or_len}
 use Rattle.std.proofs.lemmas.Bool.{true≢false, false≢true, lt-ltb}
 use Rattle.std.proofs.lemmas.List.{length-take, length-drop, length-replicate}

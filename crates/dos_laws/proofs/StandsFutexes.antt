@@ -1,16 +1,21 @@
 -- The services of sleepers keep a world standing: 11 and 12. So does the ripening of waiting
 -- threads, and the ready threads may have their parts.
-use Rattle.std.proofs.Common.{ℕ, suc, ◌+◌, ◌%◌, ◌<◌, ◌≡◌, ◌≢◌, refl, sym, ap, ◌∙◌, subst, Bool, true, false, cond, not, List, [], ◌∷◌, ◌++◌, length, map, min, Option, Some, None, option_map, arith, eq-eqb}
+use Rattle.std.proofs.Common.{ℕ, suc, ◌+◌, ◌%◌, ◌<◌, ◌≡◌, ◌≢◌, refl, sym, ap, ◌∙◌, subst, Bool}
+use Rattle.std.proofs.Common.{true, false, cond, not, List, [], ◌∷◌, ◌++◌, length, map, min, Option}
+use Rattle.std.proofs.Common.{Some, None, option_map, arith, eq-eqb}
 use Rattle.std.specs.Prelude.{IfSome, ⊤, ◌==◌, filter, slice_get, is_some}
 use Rattle.std.proofs.lemmas.Bool.{ne_eqb, not-false, eqb-true, true≢false}
 use Rattle.std.proofs.lemmas.List.{length-take}
 use Rattle.std.proofs.lemmas.List.Elements.{All-nil, All-cons, All-append}
 use Rattle.dos_world.specs.Numbered.{numbered, places_from, numbers_of}
-use Rattle.dos_world.specs.World.{World, Thread, Sleeper, flat, thread_at, entry_at, ready_threads, is_state, in_state, with_thread}
+use Rattle.dos_world.specs.World.{World, Thread, Sleeper, flat, thread_at, entry_at, ready_threads}
+use Rattle.dos_world.specs.World.{is_state, in_state, with_thread}
 use Rattle.dos_world.specs.Kernel.{opened}
 use Rattle.dos_world.specs.Play.{done}
 use Rattle.dos_world.specs.Calls.{Call, Service, waits, refuses, refuses_in}
-use Rattle.dos_world.specs.FutexCalls.{futex_wait, futex_wake, at_word, by_entry, is_off_word, futex_wait_at, futex_wake_at, futex_word, asleep_at, all_woken, sleepers_at, sleeps_at}
+use Rattle.dos_world.specs.FutexCalls.{futex_wait, futex_wake, at_word, by_entry, is_off_word}
+use Rattle.dos_world.specs.FutexCalls.{futex_wait_at, futex_wake_at, futex_word, asleep_at}
+use Rattle.dos_world.specs.FutexCalls.{all_woken, sleepers_at, sleeps_at}
 use Rattle.dos_world.specs.Signals.{would_wait, made_ready, ripen}
 use Rattle.dos_world.specs.Lawful.{IsSleeper, turns_asleep}
 use Rattle.dos_world.specs.declared.Access.TheVariants.{Load}
@@ -19,10 +24,12 @@ use Rattle.dos_world.specs.declared.ThreadState.{ThreadState}
 use Rattle.dos_world.specs.declared.ThreadState.TheVariants.{Ready, Retry, Asleep}
 use Rattle.dos_laws.specs.Standing.{AreApart, AreAwake, IsAwake, IsNoneOf, LawfulWith}
 use Rattle.dos_laws.proofs.Mapped.{entry_taken}
-use Rattle.dos_laws.proofs.Stands.{awake_but, awake-other, lawful-changed, stands-ready, times, times-push, at_changed}
+use Rattle.dos_laws.proofs.Stands.{awake_but, awake-other, lawful-changed, stands-ready, times}
+use Rattle.dos_laws.proofs.Stands.{times-push, at_changed}
 use Rattle.dos_laws.proofs.StandsSignals.{stands-all_woken}
 use Rattle.dos_laws.proofs.StandsCopies.{IsMoved, opened_moved, stands-opened, given}
-use Rattle.dos_laws.proofs.StandsCalls.{StandsCall, Leaves, caller_awake, returns_in_stands, refuses_stands, refuses_in_stands, leaves_if}
+use Rattle.dos_laws.proofs.StandsCalls.{StandsCall, Leaves, caller_awake, returns_in_stands}
+use Rattle.dos_laws.proofs.StandsCalls.{refuses_stands, refuses_in_stands, leaves_if}
 
 -- ---- a thread that falls asleep
 

@@ -1,19 +1,27 @@
 -- What a process has changes, and a world goes on standing: descriptors, actions, marks of pages, a
 -- child that is collected. 5, 6, 10, 15, 16.
-use Rattle.std.proofs.Common.{ℕ, ◌-◌, ◌%◌, ◌<◌, ◌≤◌, ◌≡◌, ◌⊎◌, inl, inr, refl, sym, ◌∙◌, subst, Bool, true, false, cond, not, List, [], ◌∷◌, length, map, Option, Some, None, Ok, Err, arith, length-set}
-use Rattle.std.specs.Prelude.{All, IfSome, IsFalse, ◌↔◌, ◌==◌, ◌||◌, ◌&&◌, nat_lt, slice_index_or, count_by, is_some}
+use Rattle.std.proofs.Common.{ℕ, ◌-◌, ◌%◌, ◌<◌, ◌≤◌, ◌≡◌, ◌⊎◌, inl, inr, refl, sym, ◌∙◌, subst}
+use Rattle.std.proofs.Common.{Bool, true, false, cond, not, List, [], ◌∷◌, length, map, Option}
+use Rattle.std.proofs.Common.{Some, None, Ok, Err, arith, length-set}
+use Rattle.std.specs.Prelude.{All, IfSome, IsFalse, ◌↔◌, ◌==◌, ◌||◌, ◌&&◌, nat_lt, slice_index_or}
+use Rattle.std.specs.Prelude.{count_by, is_some}
 use Rattle.std.specs.List.{list_any}
-use Rattle.std.proofs.lemmas.Bool.{true≢false, false≢true, not-false, or_left, or_right, or_cases, or_parts, and_parts, eqb-true, ltb-true}
+use Rattle.std.proofs.lemmas.Bool.{true≢false, false≢true, not-false, or_left, or_right, or_cases}
+use Rattle.std.proofs.lemmas.Bool.{or_parts, and_parts, eqb-true, ltb-true}
 use Rattle.std.proofs.lemmas.List.Elements.{All-nil, All-cons, All-head, All-tail, All-set}
 use Rattle.dos_world.specs.Numbered.{numbered}
-use Rattle.dos_world.specs.World.{World, Process, Holdings, Thread, all_holdings, live_process, on_holdings, with_holdings, thread_at, owner_of, code_unit}
-use Rattle.dos_world.specs.Counts.{is_mapped, uses_of, is_open, has_reader, has_writer, reads_pipe, writes_pipe}
+use Rattle.dos_world.specs.World.{World, Process, Holdings, Thread, all_holdings, live_process}
+use Rattle.dos_world.specs.World.{on_holdings, with_holdings, thread_at, owner_of, code_unit}
+use Rattle.dos_world.specs.Counts.{is_mapped, uses_of, is_open, has_reader, has_writer, reads_pipe}
+use Rattle.dos_world.specs.Counts.{writes_pipe}
 use Rattle.dos_world.specs.Calls.{Call, returns_in, refuses, replies}
 use Rattle.dos_world.specs.Services.{action_of}
 use Rattle.dos_world.specs.DescriptorCalls.{pipe}
-use Rattle.dos_world.specs.MemoryCalls.{share, where_mapped, is_no_range, lacks_page, share_if, shared_in_pages, with_shared, in_pages}
+use Rattle.dos_world.specs.MemoryCalls.{share, where_mapped, is_no_range, lacks_page, share_if}
+use Rattle.dos_world.specs.MemoryCalls.{shared_in_pages, with_shared, in_pages}
 use Rattle.dos_world.specs.SignalCalls.{sig_handler, is_signal, is_action, with_action}
-use Rattle.dos_world.specs.Lawful.{Lawful, IsThread, AreHoldings, IsAction, IsAlone, IsByte, IsPage, IsSleeper}
+use Rattle.dos_world.specs.Lawful.{Lawful, IsThread, AreHoldings, IsAction, IsAlone, IsByte, IsPage}
+use Rattle.dos_world.specs.Lawful.{IsSleeper}
 use Rattle.dos_world.specs.declared.Entry.{Entry}
 use Rattle.dos_world.specs.declared.Owner.{Owner}
 use Rattle.dos_world.specs.declared.Owner.TheVariants.{Free, Of}
@@ -21,10 +29,14 @@ use Rattle.dos_world.specs.declared.End.{End}
 use Rattle.dos_world.proofs.UsualCalls.{held_all}
 use Rattle.dos_world.proofs.Numbers.{length-changed}
 use Rattle.dos_laws.specs.Standing.{LawfulWith}
-use Rattle.dos_laws.proofs.Holders.{held_by, any_counts, counts_any, sum_changed, all_changed, live_changed_same, count_changed, parents_changed, statuses_changed}
-use Rattle.dos_laws.proofs.Spaces.{pairs_from, pairs_to, pairs-mapped, all-mapped, Below, OtherFrame, rising_from, rising_to, uses_in, uses-mapped}
+use Rattle.dos_laws.proofs.Holders.{held_by, any_counts, counts_any, sum_changed, all_changed}
+use Rattle.dos_laws.proofs.Holders.{live_changed_same, count_changed, parents_changed}
+use Rattle.dos_laws.proofs.Holders.{statuses_changed}
+use Rattle.dos_laws.proofs.Spaces.{pairs_from, pairs_to, pairs-mapped, all-mapped, Below}
+use Rattle.dos_laws.proofs.Spaces.{OtherFrame, rising_from, rising_to, uses_in, uses-mapped}
 use Rattle.dos_laws.proofs.Stands.{HasStatus}
-use Rattle.dos_laws.proofs.StandsCalls.{StandsCall, Leaves, law, held, held_is, returns_in_stands, refuses_stands, leaves_if}
+use Rattle.dos_laws.proofs.StandsCalls.{StandsCall, Leaves, law, held, held_is, returns_in_stands}
+use Rattle.dos_laws.proofs.StandsCalls.{refuses_stands, leaves_if}
 use Rattle.dos_laws.proofs.StandsMasks.{handler_word}
 
 -- ---- other owners, bytes and processes

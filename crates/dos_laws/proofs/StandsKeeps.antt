@@ -1,7 +1,8 @@
 -- A lawful world goes on standing in every round: the invariant, for all services and all answers
 -- that fit.
 use Rattle.std.proofs.Common.{ℕ, ◌+◌, ◌/◌, ◌≡◌, refl, List, [], ◌∷◌, Option, Some, None, arith}
-use Rattle.dos_world.specs.World.{World, Thread, thread_at, entry_at, space_of, look, released, with_budget}
+use Rattle.dos_world.specs.World.{World, Thread, thread_at, entry_at, space_of, look, released}
+use Rattle.dos_world.specs.World.{with_budget}
 use Rattle.dos_world.specs.Calls.{Call, Service, call_of, refuses}
 use Rattle.dos_world.specs.declared.Entry.{Entry}
 use Rattle.round_core.specs.Rest.{process_of}
@@ -15,13 +16,18 @@ use Rattle.dos_laws.proofs.RegisterRanges.{with_held_ranges}
 use Rattle.dos_laws.proofs.Stands.{stands-with_thread}
 use Rattle.dos_laws.proofs.StandsSignals.{stands-posted}
 use Rattle.dos_laws.proofs.StandsEnds.{stands-process_ended}
-use Rattle.dos_laws.proofs.StandsCalls.{StandsCall, Leaves, call_stands, stands-passed, stands-registers, refuses_stands}
-use Rattle.dos_laws.proofs.StandsThreads.{thread_exit_stands, process_exit_stands, thread_new_stands, get_pid_stands, get_tid_stands, clock_stands, yield_stands, round_stands}
-use Rattle.dos_laws.proofs.StandsMasks.{sig_mask_stands, sig_return_stands, kill_stands, stands-signal_turn}
+use Rattle.dos_laws.proofs.StandsCalls.{StandsCall, Leaves, call_stands, stands-passed}
+use Rattle.dos_laws.proofs.StandsCalls.{stands-registers, refuses_stands}
+use Rattle.dos_laws.proofs.StandsThreads.{thread_exit_stands, process_exit_stands}
+use Rattle.dos_laws.proofs.StandsThreads.{thread_new_stands, get_pid_stands, get_tid_stands}
+use Rattle.dos_laws.proofs.StandsThreads.{clock_stands, yield_stands, round_stands}
+use Rattle.dos_laws.proofs.StandsMasks.{sig_mask_stands, sig_return_stands, kill_stands}
+use Rattle.dos_laws.proofs.StandsMasks.{stands-signal_turn}
 use Rattle.dos_laws.proofs.StandsCopies.{stands-grant, read_stands, write_stands}
 use Rattle.dos_laws.proofs.StandsHeld.{sig_handler_stands, share_stands}
 use Rattle.dos_laws.proofs.StandsDescriptors.{pipe_stands, close_stands, dup_stands}
-use Rattle.dos_laws.proofs.StandsFutexes.{futex_wait_stands, futex_wake_stands, stands-begins, stands-ripen}
+use Rattle.dos_laws.proofs.StandsFutexes.{futex_wait_stands, futex_wake_stands, stands-begins}
+use Rattle.dos_laws.proofs.StandsFutexes.{stands-ripen}
 use Rattle.dos_laws.proofs.StandsWaits.{wait_stands}
 use Rattle.dos_laws.proofs.StandsUnmap.{unmap_stands}
 use Rattle.dos_laws.proofs.StandsMaps.{map_stands}

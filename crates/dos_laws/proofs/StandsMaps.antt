@@ -1,16 +1,23 @@
 -- The service map keeps a world standing: each page gets a fresh frame. 13.
-use Rattle.std.proofs.Common.{ℕ, zero, suc, ◌+◌, ◌*◌, ◌/◌, ◌%◌, ◌<◌, ◌≤◌, ◌≡◌, ◌≢◌, ◌⊎◌, inl, inr, refl, sym, ap, ◌∙◌, subst, Bool, true, false, cond, not, List, [], ◌∷◌, length, Option, Some, None, Result, Ok, Err, arith, length-set, eq-eqb}
+use Rattle.std.proofs.Common.{ℕ, zero, suc, ◌+◌, ◌*◌, ◌/◌, ◌%◌, ◌<◌, ◌≤◌, ◌≡◌, ◌≢◌, ◌⊎◌, inl, inr}
+use Rattle.std.proofs.Common.{refl, sym, ap, ◌∙◌, subst, Bool, true, false, cond, not, List, []}
+use Rattle.std.proofs.Common.{◌∷◌, length, Option, Some, None, Result, Ok, Err, arith, length-set}
+use Rattle.std.proofs.Common.{eq-eqb}
 use Rattle.std.specs.Prelude.{All, IsFalse, ◌↔◌, ◌==◌, ◌&&◌, nat_lt, nat_le, is_some, count_by}
 use Rattle.std.specs.List.{list_any}
-use Rattle.std.proofs.lemmas.Bool.{cases_eq, true≢false, ne_eqb, or_cases, or_left, or_right, or_parts, and_parts, eqb-true, leb-true, ltb-false}
+use Rattle.std.proofs.lemmas.Bool.{cases_eq, true≢false, ne_eqb, or_cases, or_left, or_right}
+use Rattle.std.proofs.lemmas.Bool.{or_parts, and_parts, eqb-true, leb-true, ltb-false}
 use Rattle.std.proofs.lemmas.List.{get_or-set_same, get_or-set_other}
 use Rattle.std.proofs.lemmas.List.Elements.{All-nil, All-cons, All-head, All-tail}
 use Rattle.dos_world.specs.Numbered.{run_of}
-use Rattle.dos_world.specs.World.{World, Holdings, all_holdings, live_process, look, on_holdings, owner_of}
-use Rattle.dos_world.specs.Counts.{is_mapped, uses_of, is_open, has_reader, has_writer, reads_pipe, writes_pipe, free_frames, lowest_free_frame}
+use Rattle.dos_world.specs.World.{World, Holdings, all_holdings, live_process, look, on_holdings}
+use Rattle.dos_world.specs.World.{owner_of}
+use Rattle.dos_world.specs.Counts.{is_mapped, uses_of, is_open, has_reader, has_writer, reads_pipe}
+use Rattle.dos_world.specs.Counts.{writes_pipe, free_frames, lowest_free_frame}
 use Rattle.dos_world.specs.Kernel.{zero_page, with_entry, put}
 use Rattle.dos_world.specs.Calls.{Call, replies}
-use Rattle.dos_world.specs.MemoryCalls.{map_pages, page_mapped, mapped_fresh, pages_of, is_range, maps_page, is_page_mapped, private_entry}
+use Rattle.dos_world.specs.MemoryCalls.{map_pages, page_mapped, mapped_fresh, pages_of, is_range}
+use Rattle.dos_world.specs.MemoryCalls.{maps_page, is_page_mapped, private_entry}
 use Rattle.dos_world.specs.Lawful.{AreHoldings, IsAlone, IsPage}
 use Rattle.dos_world.specs.declared.Entry.{Entry}
 use Rattle.dos_world.specs.declared.End.{End}
@@ -18,11 +25,17 @@ use Rattle.dos_world.specs.declared.Owner.TheVariants.{Free, Of}
 use Rattle.dos_world.proofs.UsualCalls.{held_all}
 use Rattle.dos_world.proofs.Numbers.{length-changed}
 use Rattle.dos_laws.specs.Standing.{LawfulWith}
-use Rattle.dos_laws.proofs.Holders.{any_counts, counts_any, has_changed, sum_changed, all_changed, live_changed_same, count_changed, parents_changed, statuses_changed}
-use Rattle.dos_laws.proofs.Spaces.{OtherFrame, pairs_from, pairs_to, rising_from, rising_to, uses_in, uses-put, unused, all-put, rising-put, apart-put, look-put, unmapped_page}
+use Rattle.dos_laws.proofs.Holders.{any_counts, counts_any, has_changed, sum_changed, all_changed}
+use Rattle.dos_laws.proofs.Holders.{live_changed_same, count_changed, parents_changed}
+use Rattle.dos_laws.proofs.Holders.{statuses_changed}
+use Rattle.dos_laws.proofs.Spaces.{OtherFrame, pairs_from, pairs_to, rising_from, rising_to}
+use Rattle.dos_laws.proofs.Spaces.{uses_in, uses-put, unused, all-put, rising-put, apart-put}
+use Rattle.dos_laws.proofs.Spaces.{look-put, unmapped_page}
 use Rattle.dos_laws.proofs.StandsHeld.{lawful-laid}
-use Rattle.dos_laws.proofs.StandsFrames.{lowest_is, one_taken, free_unused, none_of_sum, page_bytes, zero_page_is}
-use Rattle.dos_laws.proofs.StandsCalls.{StandsCall, Leaves, held, thread_within, returns_in_stands, refuses_stands}
+use Rattle.dos_laws.proofs.StandsFrames.{lowest_is, one_taken, free_unused, none_of_sum, page_bytes}
+use Rattle.dos_laws.proofs.StandsFrames.{zero_page_is}
+use Rattle.dos_laws.proofs.StandsCalls.{StandsCall, Leaves, held, thread_within, returns_in_stands}
+use Rattle.dos_laws.proofs.StandsCalls.{refuses_stands}
 
 -- ---- one page more
 

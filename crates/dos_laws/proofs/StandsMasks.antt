@@ -1,15 +1,20 @@
 -- The services of masks, saved handlers and posts keep a world standing: 17, 18, 19. So does a
 -- thread's turn at the signal point.
-use Rattle.std.proofs.Common.{ℕ, zero, suc, ◌+◌, ◌-◌, ◌^◌, ◌<◌, ◌≤◌, ◌≡◌, ◌≢◌, inl, inr, refl, sym, ap, ◌∙◌, subst, Bool, true, false, cond, List, [], ◌∷◌, length, Option, Some, None, option_map, arith}
+use Rattle.std.proofs.Common.{ℕ, zero, suc, ◌+◌, ◌-◌, ◌^◌, ◌<◌, ◌≤◌, ◌≡◌, ◌≢◌, inl, inr, refl, sym}
+use Rattle.std.proofs.Common.{ap, ◌∙◌, subst, Bool, true, false, cond, List, [], ◌∷◌, length}
+use Rattle.std.proofs.Common.{Option, Some, None, option_map, arith}
 use Rattle.std.specs.Prelude.{All, ◌==◌, ◌||◌, nat_lt, nat_le, is_none, find, slice_index}
 use Rattle.std.proofs.lemmas.Bool.{cond_both, eqb-false, or_parts, ltb-false, leb-false}
 use Rattle.std.proofs.lemmas.List.Elements.{All-cons, All-head, All-tail}
 use Rattle.dos_world.specs.Numbered.{run_of}
-use Rattle.dos_world.specs.World.{World, Thread, Holdings, Registers, thread_at, live_process, action_of, with_thread, is_state, has_bit, set}
+use Rattle.dos_world.specs.World.{World, Thread, Holdings, Registers, thread_at, live_process}
+use Rattle.dos_world.specs.World.{action_of, with_thread, is_state, has_bit, set}
 use Rattle.dos_world.specs.Kernel.{minus, posted, woken, awake, process_ended}
 use Rattle.dos_world.specs.Calls.{Call, mask_of, returns_in, refuses}
-use Rattle.dos_world.specs.SignalCalls.{sig_mask, masked, sig_return, sig_return_by, saved_of, restored, refused_in_place, kill}
-use Rattle.dos_world.specs.Signals.{may_come, chosen, cleared, handling, interrupted, default_action, handler_action, delivered, turn_by, signal_turn}
+use Rattle.dos_world.specs.SignalCalls.{sig_mask, masked, sig_return, sig_return_by, saved_of}
+use Rattle.dos_world.specs.SignalCalls.{restored, refused_in_place, kill}
+use Rattle.dos_world.specs.Signals.{may_come, chosen, cleared, handling, interrupted}
+use Rattle.dos_world.specs.Signals.{default_action, handler_action, delivered, turn_by, signal_turn}
 use Rattle.dos_world.specs.Lawful.{IsSaved, IsAction, AreHoldings}
 use Rattle.dos_world.specs.declared.ThreadState.TheVariants.{Ready}
 use Rattle.dos_world.proofs.UsualCalls.{held_all}
@@ -17,9 +22,11 @@ use Rattle.dos_laws.specs.Standing.{LawfulWith}
 use Rattle.dos_laws.proofs.Numbers.{changed_there}
 use Rattle.dos_laws.proofs.RegisterRanges.{set_ranges, with_pc_ranges, with_held_ranges}
 use Rattle.dos_laws.proofs.Stands.{Changes, stands-with_thread}
-use Rattle.dos_laws.proofs.StandsSignals.{mask-allowed, mask-with, pending-cleared, cleared_change, stands-posted, stands-woken}
+use Rattle.dos_laws.proofs.StandsSignals.{mask-allowed, mask-with, pending-cleared, cleared_change}
+use Rattle.dos_laws.proofs.StandsSignals.{stands-posted, stands-woken}
 use Rattle.dos_laws.proofs.StandsEnds.{stands-process_ended}
-use Rattle.dos_laws.proofs.StandsCalls.{StandsCall, Leaves, caller_is, mask_is, returns_in_stands, refuses_stands, stands-registers, leaves_if}
+use Rattle.dos_laws.proofs.StandsCalls.{StandsCall, Leaves, caller_is, mask_is, returns_in_stands}
+use Rattle.dos_laws.proofs.StandsCalls.{refuses_stands, stands-registers, leaves_if}
 
 -- ---- the services
 

@@ -1,5 +1,8 @@
 -- Posts, and threads that wake: they keep a world standing. Pending sets and masks stay in range.
-use Rattle.std.proofs.Common.{ℕ, zero, suc, ◌+◌, ◌-◌, ◌*◌, ◌%◌, ◌/◌, ◌^◌, ◌<◌, ◌≤◌, ◌≡◌, ◌≢◌, ◌⊎◌, inl, inr, refl, sym, ap, ◌∙◌, subst, Bool, true, false, cond, not, List, [], ◌∷◌, length, Option, Some, None, option_map, max, min, arith, eqb-true, eq-eqb}
+use Rattle.std.proofs.Common.{ℕ, zero, suc, ◌+◌, ◌-◌, ◌*◌, ◌%◌, ◌/◌, ◌^◌, ◌<◌, ◌≤◌, ◌≡◌, ◌≢◌, ◌⊎◌}
+use Rattle.std.proofs.Common.{inl, inr, refl, sym, ap, ◌∙◌, subst, Bool, true, false, cond, not}
+use Rattle.std.proofs.Common.{List, [], ◌∷◌, length, Option, Some, None, option_map, max, min}
+use Rattle.std.proofs.Common.{arith, eqb-true, eq-eqb}
 use Rattle.std.specs.Prelude.{All, ◌==◌, filter, bit_or}
 use Rattle.std.specs.Int.{bit_at}
 use Rattle.std.proofs.Math.Nat.{pow-succ'}
@@ -7,14 +10,16 @@ use Rattle.std.proofs.lemmas.Nat.{or_lt, and_le_l}
 use Rattle.std.proofs.lemmas.Nat.Bits.{bit_at_or, bit_at_and, bit_at-pow_other}
 use Rattle.std.proofs.lemmas.Bool.{cond_both, ne_eqb, cases_eq}
 use Rattle.std.proofs.lemmas.List.Elements.{All-nil, All-cons, All-head, All-tail}
-use Rattle.dos_world.specs.World.{World, Thread, Sleeper, has_bit, with_bit, without_bit, allowed_mask, thread_at, first_thread, with_thread}
+use Rattle.dos_world.specs.World.{World, Thread, Sleeper, has_bit, with_bit, without_bit}
+use Rattle.dos_world.specs.World.{allowed_mask, thread_at, first_thread, with_thread}
 use Rattle.dos_world.specs.Kernel.{posted, pending_with, woken, awake, is_other}
 use Rattle.dos_world.specs.FutexCalls.{all_woken}
 use Rattle.dos_world.specs.Signals.{cleared}
 use Rattle.dos_world.specs.Lawful.{IsPending, IsMask, IsSleeper, turns_asleep}
 use Rattle.dos_laws.specs.Standing.{LawfulWith}
 use Rattle.dos_laws.proofs.RegisterRanges.{answered_ranges}
-use Rattle.dos_laws.proofs.Stands.{Changes, awake_by, lawful-changed, awake-changed, stands-with_thread, times, times-cons}
+use Rattle.dos_laws.proofs.Stands.{Changes, awake_by, lawful-changed, awake-changed}
+use Rattle.dos_laws.proofs.Stands.{stands-with_thread, times, times-cons}
 
 -- ---- sets of signals
 

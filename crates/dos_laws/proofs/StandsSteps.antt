@@ -1,5 +1,6 @@
 -- An instruction of any thread keeps a world standing.
-use Rattle.std.proofs.Common.{ℕ, ◌≡◌, refl, subst, List, Option, Some, None, Result, Ok, Err, arith, ◌+◌, ◌*◌, ◌%◌, ◌^◌, ◌<◌, Bool, true, false, cond}
+use Rattle.std.proofs.Common.{ℕ, ◌≡◌, refl, subst, List, Option, Some, None, Result, Ok, Err, arith}
+use Rattle.std.proofs.Common.{◌+◌, ◌*◌, ◌%◌, ◌^◌, ◌<◌, Bool, true, false, cond}
 use Rattle.std.specs.Prelude.{IfSome, ◌==◌}
 use Rattle.dos_world.specs.World.{World, Thread, Registers, thread_at}
 use Rattle.dos_world.specs.Reach.{width, loaded, stored, bytes_of}
@@ -11,7 +12,8 @@ use Rattle.dos_world.specs.declared.Reason.TheVariants.{Fault}
 use Rattle.rv_isa.specs.declared.Instr.{Instr}
 use Rattle.rv_isa.specs.Valid.{IsValid}
 use Rattle.rv_exec.specs.Effect.{Effect, goes, loads, stores, claims, stops, effect}
-use Rattle.rv_exec.specs.Step.{step, step_of, step_by, performed, paid, paid_by, with_word, reached, instruction_at, half_at, whole_word, ◌>>=◌}
+use Rattle.rv_exec.specs.Step.{step, step_of, step_by, performed, paid, paid_by, with_word, reached}
+use Rattle.rv_exec.specs.Step.{instruction_at, half_at, whole_word, ◌>>=◌}
 use Rattle.rv_exec.proofs.Keeps.{bind_ok}
 use Rattle.dos_laws.specs.Standing.{LawfulWith}
 use Rattle.dos_laws.proofs.Mapped.{of_thread}

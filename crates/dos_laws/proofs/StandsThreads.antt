@@ -1,6 +1,7 @@
 -- The services of threads, and the end of a process by its own call, keep a world standing: 1, 2,
 -- 3, 20 to 24.
-use Rattle.std.proofs.Common.{ℕ, zero, suc, ◌+◌, ◌%◌, ◌/◌, ◌^◌, ◌≤◌, ◌≡◌, refl, ap, subst, false, cond, not, List, [], ◌∷◌, ◌++◌, length, Option, Some, arith}
+use Rattle.std.proofs.Common.{ℕ, zero, suc, ◌+◌, ◌%◌, ◌/◌, ◌^◌, ◌≤◌, ◌≡◌, refl, ap, subst, false}
+use Rattle.std.proofs.Common.{cond, not, List, [], ◌∷◌, ◌++◌, length, Option, Some, arith}
 use Rattle.std.specs.Prelude.{All, IfSome, IsTrue, ◌==◌, slice_get, is_some, option_and_then}
 use Rattle.std.proofs.lemmas.List.Elements.{All-nil}
 use Rattle.dos_world.specs.Numbered.{numbered}
@@ -8,7 +9,8 @@ use Rattle.dos_world.specs.World.{World, Process, Thread, Registers, flat, holdi
 use Rattle.dos_world.specs.Kernel.{thread_ended, answered}
 use Rattle.dos_world.specs.Play.{Play, reading_of}
 use Rattle.dos_world.specs.Calls.{Call, Served, mask_of, returns_in, refuses}
-use Rattle.dos_world.specs.ThreadCalls.{thread_exit, thread_new, get_tid, yield, are_threads_full, ready_thread, new_registers, next_thread, with_new_thread}
+use Rattle.dos_world.specs.ThreadCalls.{thread_exit, thread_new, get_tid, yield, are_threads_full}
+use Rattle.dos_world.specs.ThreadCalls.{ready_thread, new_registers, next_thread, with_new_thread}
 use Rattle.dos_world.specs.ProcessCalls.{process_exit, get_pid}
 use Rattle.dos_world.specs.Services.{clock, round_number}
 use Rattle.dos_world.specs.Lawful.{IsThread, IsSaved, IsMask, AreRegisters, turns_asleep}
@@ -18,7 +20,10 @@ use Rattle.dos_laws.proofs.RegisterRanges.{new_ranges, answered_ranges}
 use Rattle.dos_laws.proofs.NewThread.{lawful-with_new_thread}
 use Rattle.dos_laws.proofs.Stands.{awake_by}
 use Rattle.dos_laws.proofs.StandsEnds.{stands-process_ended, stands-thread_ended}
-use Rattle.dos_laws.proofs.StandsCalls.{StandsCall, Leaves, law, process_alive, process_within, thread_within, mask_is, caller_awake, returns_stands, returns_in_stands, returns_two_stands, refuses_stands, stands-registers, stands-passed, leaves_if}
+use Rattle.dos_laws.proofs.StandsCalls.{StandsCall, Leaves, law, process_alive, process_within}
+use Rattle.dos_laws.proofs.StandsCalls.{thread_within, mask_is, caller_awake, returns_stands}
+use Rattle.dos_laws.proofs.StandsCalls.{returns_in_stands, returns_two_stands, refuses_stands}
+use Rattle.dos_laws.proofs.StandsCalls.{stands-registers, stands-passed, leaves_if}
 
 -- ---- a thread more
 

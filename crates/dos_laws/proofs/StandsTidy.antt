@@ -1,13 +1,16 @@
 -- Worlds in which less is had than in a lawful one: once they are tidied they are lawful.
-use Rattle.std.proofs.Common.{ℕ, suc, ◌<◌, ◌≤◌, ◌≡◌, ◌≢◌, ◌⊎◌, inl, inr, refl, sym, ap, ◌∙◌, subst, Bool, true, false, cond, List, [], ◌∷◌, length, arith}
+use Rattle.std.proofs.Common.{ℕ, suc, ◌<◌, ◌≤◌, ◌≡◌, ◌≢◌, ◌⊎◌, inl, inr, refl, sym, ap, ◌∙◌, subst}
+use Rattle.std.proofs.Common.{Bool, true, false, cond, List, [], ◌∷◌, length, arith}
 use Rattle.std.specs.Prelude.{All, IfSome, IsTrue, IsFalse, ◌↔◌, is_some, slice_index_or}
 use Rattle.std.proofs.lemmas.Bool.{cases_lt, true≢false}
 use Rattle.std.proofs.lemmas.List.{get_or_past}
 use Rattle.std.proofs.lemmas.List.Elements.{All-nil, All-cons, All-head, All-tail}
 use Rattle.dos_world.specs.Numbered.{numbered, map_from}
-use Rattle.dos_world.specs.World.{World, all_holdings, live_process, live_threads, thread_at, threads_of, owner_of}
+use Rattle.dos_world.specs.World.{World, all_holdings, live_process, live_threads, thread_at}
+use Rattle.dos_world.specs.World.{threads_of, owner_of}
 use Rattle.dos_world.specs.Counts.{is_mapped, is_open, owner_if_mapped, bytes_if_open, tidied}
-use Rattle.dos_world.specs.Lawful.{Lawful, IsThread, AreHoldings, IsAlone, IsSleeper, IsPipe, turns_asleep}
+use Rattle.dos_world.specs.Lawful.{Lawful, IsThread, AreHoldings, IsAlone, IsSleeper, IsPipe}
+use Rattle.dos_world.specs.Lawful.{turns_asleep}
 use Rattle.dos_world.specs.declared.Owner.{Owner}
 use Rattle.dos_world.specs.declared.Owner.TheVariants.{Free, Of}
 use Rattle.dos_laws.proofs.Ends.{length-map_from, get_or-map_from}

@@ -1,17 +1,22 @@
 -- The service unmap keeps a world standing: less is mapped, and what nothing maps any more is free.
 -- 14.
-use Rattle.std.proofs.Common.{ℕ, ◌≤◌, ◌≡◌, refl, sym, ap, ◌∙◌, cond, List, length, Option, Some, None, arith, eq-eqb}
+use Rattle.std.proofs.Common.{ℕ, ◌≤◌, ◌≡◌, refl, sym, ap, ◌∙◌, cond, List, length, Option, Some}
+use Rattle.std.proofs.Common.{None, arith, eq-eqb}
 use Rattle.std.specs.Prelude.{All, IfSome, ◌==◌, filter, slice_index_or, count_by}
 use Rattle.std.proofs.lemmas.List.Sums.{get_or-le-sum_by}
-use Rattle.dos_world.specs.World.{World, Holdings, Thread, all_holdings, live_process, with_holdings, on_holdings, thread_at}
+use Rattle.dos_world.specs.World.{World, Holdings, Thread, all_holdings, live_process}
+use Rattle.dos_world.specs.World.{with_holdings, on_holdings, thread_at}
 use Rattle.dos_world.specs.Counts.{uses_of, tidied}
 use Rattle.dos_world.specs.Calls.{Call}
 use Rattle.dos_world.specs.MemoryCalls.{unmap, without_pages, stays_mapped}
 use Rattle.dos_world.specs.Lawful.{IsThread, AreHoldings, IsAlone, IsPage}
 use Rattle.dos_world.specs.declared.Entry.{Entry}
 use Rattle.dos_world.proofs.Numbers.{length-changed}
-use Rattle.dos_laws.proofs.Holders.{any_counts, counts_any, sum_changed, all_changed, live_changed_same, count_changed, parents_changed, statuses_changed}
-use Rattle.dos_laws.proofs.Spaces.{Below, OtherFrame, pairs_from, pairs_to, pairs-filtered, rising_from, rising_to, uses_in, uses-filtered}
+use Rattle.dos_laws.proofs.Holders.{any_counts, counts_any, sum_changed, all_changed}
+use Rattle.dos_laws.proofs.Holders.{live_changed_same, count_changed, parents_changed}
+use Rattle.dos_laws.proofs.Holders.{statuses_changed}
+use Rattle.dos_laws.proofs.Spaces.{Below, OtherFrame, pairs_from, pairs_to, pairs-filtered}
+use Rattle.dos_laws.proofs.Spaces.{rising_from, rising_to, uses_in, uses-filtered}
 use Rattle.dos_laws.proofs.StandsSignals.{all-filtered}
 use Rattle.dos_laws.proofs.StandsTidy.{IsLess, lawful-tidied}
 use Rattle.dos_laws.proofs.StandsHeld.{h, alone, where_mapped_stands}

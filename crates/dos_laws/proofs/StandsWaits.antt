@@ -1,14 +1,19 @@
 -- The service wait keeps a world standing: the child that it collects has ended. 5.
-use Rattle.std.proofs.Common.{ℕ, zero, suc, ◌+◌, ◌^◌, ◌<◌, ◌≡◌, refl, sym, ap, ◌∙◌, subst, Bool, true, false, cond, List, [], ◌∷◌, length, Option, Some, None, option_and_then, arith}
-use Rattle.std.specs.Prelude.{All, IfSome, IsFalse, ◌↔◌, ◌==◌, ◌||◌, ◌&&◌, slice_get, filter, is_some, sum_by, count_by}
+use Rattle.std.proofs.Common.{ℕ, zero, suc, ◌+◌, ◌^◌, ◌<◌, ◌≡◌, refl, sym, ap, ◌∙◌, subst, Bool}
+use Rattle.std.proofs.Common.{true, false, cond, List, [], ◌∷◌, length, Option, Some, None}
+use Rattle.std.proofs.Common.{option_and_then, arith}
+use Rattle.std.specs.Prelude.{All, IfSome, IsFalse, ◌↔◌, ◌==◌, ◌||◌, ◌&&◌, slice_get, filter}
+use Rattle.std.specs.Prelude.{is_some, sum_by, count_by}
 use Rattle.std.specs.List.{list_any}
 use Rattle.std.proofs.lemmas.Bool.{true≢false, and_parts}
 use Rattle.std.proofs.lemmas.List.Elements.{All-cons, All-head, All-tail}
 use Rattle.dos_world.specs.Numbered.{numbered, changed_at, places_from, numbers_of}
-use Rattle.dos_world.specs.World.{World, Process, Holdings, Life, live, ended, all_holdings, holdings_of, first_of, has_ended, is_child, status_of, owner_of}
+use Rattle.dos_world.specs.World.{World, Process, Holdings, Life, live, ended, all_holdings}
+use Rattle.dos_world.specs.World.{holdings_of, first_of, has_ended, is_child, status_of, owner_of}
 use Rattle.dos_world.specs.Counts.{reads_pipe, writes_pipe}
 use Rattle.dos_world.specs.Calls.{Call, returns_two}
-use Rattle.dos_world.specs.ProcessCalls.{wait, wait_by, children_where, any_process, collected, collected_by, status_at}
+use Rattle.dos_world.specs.ProcessCalls.{wait, wait_by, children_where, any_process, collected}
+use Rattle.dos_world.specs.ProcessCalls.{collected_by, status_at}
 use Rattle.dos_world.specs.Lawful.{AreHoldings, IsAlone}
 use Rattle.dos_world.specs.declared.Owner.TheVariants.{Free}
 use Rattle.dos_world.proofs.Numbers.{length-changed}
@@ -16,7 +21,8 @@ use Rattle.dos_laws.specs.Standing.{LawfulWith}
 use Rattle.dos_laws.proofs.Holders.{held_by, in_front}
 use Rattle.dos_laws.proofs.Stands.{HasStatus}
 use Rattle.dos_laws.proofs.StandsHeld.{lawful-laid}
-use Rattle.dos_laws.proofs.StandsCalls.{StandsCall, Leaves, law, returns_two_stands, refuses_stands, retries_stands}
+use Rattle.dos_laws.proofs.StandsCalls.{StandsCall, Leaves, law, returns_two_stands, refuses_stands}
+use Rattle.dos_laws.proofs.StandsCalls.{retries_stands}
 
 -- ---- who is found
 

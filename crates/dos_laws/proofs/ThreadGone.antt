@@ -1,9 +1,12 @@
 -- A thread that goes, and isn't its process's last, leaves a world lawful.
-use Rattle.std.proofs.Common.{ℕ, zero, suc, ◌≤◌, ◌≡◌, ◌≢◌, ◌⊎◌, inl, inr, refl, sym, ap, ◌∙◌, subst, Bool, true, false, cond, List, [], ◌∷◌, length, Option, Some, None, arith}
+use Rattle.std.proofs.Common.{ℕ, zero, suc, ◌≤◌, ◌≡◌, ◌≢◌, ◌⊎◌, inl, inr, refl, sym, ap, ◌∙◌, subst}
+use Rattle.std.proofs.Common.{Bool, true, false, cond, List, [], ◌∷◌, length, Option, Some, None}
+use Rattle.std.proofs.Common.{arith}
 use Rattle.std.specs.Prelude.{IfSome, IsTrue, slice_get, is_some, ◌==◌}
 use Rattle.std.proofs.lemmas.Bool.{cases_Bool, cases_eq, eqb-true}
 use Rattle.dos_world.specs.Numbered.{numbered, changed, changed_at, places_from, numbers_of}
-use Rattle.dos_world.specs.World.{World, Thread, flat, none_of, thread_at, threads_of, live_process, belongs_to, without_thread}
+use Rattle.dos_world.specs.World.{World, Thread, flat, none_of, thread_at, threads_of, live_process}
+use Rattle.dos_world.specs.World.{belongs_to, without_thread}
 use Rattle.dos_world.specs.Lawful.{Lawful, IsThread, turns_asleep}
 use Rattle.dos_world.proofs.Numbers.{changed_other}
 use Rattle.dos_laws.proofs.Numbers.{length-changed}

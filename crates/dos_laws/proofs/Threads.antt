@@ -1,10 +1,13 @@
 -- Other threads in a lawful world: what they must keep, and a change of one of them that leaves all
 -- but its registers and its budget.
-use Rattle.std.proofs.Common.{ℕ, ◌≤◌, ◌≡◌, ◌≢◌, refl, sym, ap, ◌∙◌, subst, List, [], length, Option, Some, None, option_map, arith}
+use Rattle.std.proofs.Common.{ℕ, ◌≤◌, ◌≡◌, ◌≢◌, refl, sym, ap, ◌∙◌, subst, List, [], length, Option}
+use Rattle.std.proofs.Common.{Some, None, option_map, arith}
 use Rattle.std.specs.Prelude.{All, option_and_then, IfSome, IsTrue, is_some, ◌==◌}
 use Rattle.dos_world.specs.Numbered.{numbered, changed, numbers_of}
-use Rattle.dos_world.specs.World.{World, Process, holdings_of, Thread, flat, thread_at, live_process, belongs_to, with_thread}
-use Rattle.dos_world.specs.Lawful.{Lawful, IsThread, AreRegisters, IsPending, IsMask, IsSaved, turns_asleep}
+use Rattle.dos_world.specs.World.{World, Process, holdings_of, Thread, flat, thread_at}
+use Rattle.dos_world.specs.World.{live_process, belongs_to, with_thread}
+use Rattle.dos_world.specs.Lawful.{Lawful, IsThread, AreRegisters, IsPending, IsMask, IsSaved}
+use Rattle.dos_world.specs.Lawful.{turns_asleep}
 use Rattle.quantum_run.specs.Laws.{without_run}
 use Rattle.dos_laws.proofs.Numbers.{length-changed, numbers_same, each_kept, each_same}
 

@@ -1,5 +1,7 @@
 -- What the instructions compute of words are words: numbers below 2^32.
-use Rattle.std.proofs.Common.{ℕ, zero, suc, ◌-◌, ◌*◌, ◌/◌, ◌%◌, ◌^◌, ◌<◌, ◌≤◌, ℤ, pos, negsuc, neg_ℤ, ◌*ℤ◌, Bool, true, false, arith, lit<, w8, w16, w32, w64, to_z, SFits, unsigned_abs}
+use Rattle.std.proofs.Common.{ℕ, zero, suc, ◌-◌, ◌*◌, ◌/◌, ◌%◌, ◌^◌, ◌<◌, ◌≤◌, ℤ, pos, negsuc}
+use Rattle.std.proofs.Common.{neg_ℤ, ◌*ℤ◌, Bool, true, false, arith, lit<, w8, w16, w32, w64, to_z}
+use Rattle.std.proofs.Common.{SFits, unsigned_abs}
 use Rattle.std.specs.Prelude.{◌==◌, nat_lt, int_lt, int_div, int_rem}
 use Rattle.std.specs.Int.{int_shr, cast_signed}
 use Rattle.std.specs.Int.Signed.{mag, quot_z, rem_z, mag_shr, mag_rem}
@@ -10,14 +12,17 @@ use Rattle.std.proofs.lemmas.Nat.{mul-lt, or_lt, xor_lt}
 use Rattle.std.proofs.lemmas.Int.{ints, fits_signed_mul}
 use Rattle.std.proofs.lemmas.Bool.{cond_both}
 use Rattle.rv_isa.specs.declared.RegOp.{RegOp}
-use Rattle.rv_isa.specs.declared.RegOp.TheVariants.{Add, Sub, Sll, Slt, Sltu, Xor, Srl, Sra, Or, And, Mul, Mulh, Mulhsu, Mulhu, Div, Divu, Rem, Remu}
+use Rattle.rv_isa.specs.declared.RegOp.TheVariants.{Add, Sub, Sll, Slt, Sltu, Xor, Srl, Sra, Or}
+use Rattle.rv_isa.specs.declared.RegOp.TheVariants.{And, Mul, Mulh, Mulhsu, Mulhu, Div, Divu, Rem}
+use Rattle.rv_isa.specs.declared.RegOp.TheVariants.{Remu}
 use Rattle.rv_isa.specs.declared.ImmOp.{ImmOp}
 use Rattle.rv_isa.specs.declared.ImmOp.TheVariants.{Addi, Slti, Sltiu, Xori, Ori, Andi}
 use Rattle.rv_isa.specs.declared.ShiftOp.{ShiftOp}
 use Rattle.rv_isa.specs.declared.ShiftOp.TheVariants.{Slli, Srli, Srai}
 use Rattle.rv_isa.specs.declared.LoadOp.{LoadOp}
 use Rattle.rv_isa.specs.declared.LoadOp.TheVariants.{Lb, Lh, Lw, Lbu, Lhu}
-use Rattle.rv_exec.specs.Arithmetic.{signed, unsigned, plus, test, quotient, remainder, register_result, immediate_result, shift_result, load_result}
+use Rattle.rv_exec.specs.Arithmetic.{signed, unsigned, plus, test, quotient, remainder}
+use Rattle.rv_exec.specs.Arithmetic.{register_result, immediate_result, shift_result, load_result}
 use Rattle.dos_world.specs.Lawful.{IsWord}
 
 -- ---- signed numbers

@@ -17,7 +17,8 @@ use Rattle.round_core.specs.Laws.{IsNoPage}
 use Rattle.round_core.specs.Rest.{settled, serial_of}
 use Rattle.round_core.specs.Round.{RoundEnd, parallel, round_of}
 use Rattle.dos_laws.specs.Plays.{world_served, world_ended}
-use Rattle.dos_laws.specs.Standing.{IsAwake, AreAwake, AreApart, LawfulWith, IsPost, IsFit, fit_protocol}
+use Rattle.dos_laws.specs.Standing.{IsAwake, AreAwake, AreApart, LawfulWith, IsPost, IsFit}
+use Rattle.dos_laws.specs.Standing.{fit_protocol}
 use Rattle.dos_laws.specs.Taken.{IsTaken}
 
 -- ---- what holds in a lawful world

@@ -1,5 +1,8 @@
 // Laws of the definitions, as contracts of functions that do nothing.
-ghost use Rattle.dos_laws.specs.Laws.{EntriesAreTaken, ForksKeep, LawfulnessIsKept, NoPageIsLeft, ParallelPhasesKeep, ProcessEndsKeep, RipeningKeeps, RoundsKeep, SerialPhasesKeep, ServicesKeep, SignalPointsKeep, StepsKeep, ThreadEndsKeep, ThreadsHaveProcesses};
+ghost use Rattle.dos_laws.specs.Laws.{EntriesAreTaken, ForksKeep, LawfulnessIsKept, NoPageIsLeft};
+ghost use Rattle.dos_laws.specs.Laws.{ParallelPhasesKeep, ProcessEndsKeep, RipeningKeeps};
+ghost use Rattle.dos_laws.specs.Laws.{RoundsKeep, SerialPhasesKeep, ServicesKeep, SignalPointsKeep};
+ghost use Rattle.dos_laws.specs.Laws.{StepsKeep, ThreadEndsKeep, ThreadsHaveProcesses};
 
 // ---- what holds in a lawful world
 

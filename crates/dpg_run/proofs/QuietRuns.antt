@@ -1,6 +1,7 @@
 -- The questions of a run determine its quiet answers, and what was sent by then.
 use Rattle.std.proofs.Common.{ℕ, ◌≡◌, refl, sym, ap, ap₂, ◌∙◌, subst, List, [], ◌∷◌, ◌++◌, map}
-use Rattle.dos_world.specs.Play.{Play, Answer, Outcome, gives, asks, done, ask, ◌>>=◌, over, questions}
+use Rattle.dos_world.specs.Play.{Play, Answer, Outcome, gives, asks, done, ask, ◌>>=◌, over}
+use Rattle.dos_world.specs.Play.{questions}
 use Rattle.dos_world.specs.declared.Question.{Question}
 use Rattle.dos_io.specs.declared.exchange.Exchange.{Exchange}
 use Rattle.dos_io.specs.declared.exchange.Exchange.TheVariants.{Signals, Input, Clock, End}

@@ -1,13 +1,18 @@
 -- Rounds of the kernel one after another, and the end that the shim is told.
-use Rattle.std.proofs.Common.{ℕ, suc, ◌+◌, ◌-◌, ◌≡◌, refl, sym, ap, ap₂, ◌∙◌, subst, List, [], ◌∷◌, ◌++◌, length, append-nil, append_assoc, ◌<◌, ◌≤◌, Option, None, Some, arith}
-use Rattle.std.specs.Prelude.{◌==◌, Bool, true, false, not, map, is_some, if◌then◌else◌, Err, OnSome}
+use Rattle.std.proofs.Common.{ℕ, suc, ◌+◌, ◌-◌, ◌≡◌, refl, sym, ap, ap₂, ◌∙◌, subst, List, [], ◌∷◌}
+use Rattle.std.proofs.Common.{◌++◌, length, append-nil, append_assoc, ◌<◌, ◌≤◌, Option, None, Some}
+use Rattle.std.proofs.Common.{arith}
+use Rattle.std.specs.Prelude.{◌==◌, Bool, true, false, not, map, is_some, if◌then◌else◌, Err}
+use Rattle.std.specs.Prelude.{OnSome}
 use Rattle.std.proofs.lemmas.List.{map-append}
 use Rattle.dos_world.specs.Numbered.{numbers_of}
 use Rattle.dos_world.specs.World.{World}
-use Rattle.dos_world.specs.Play.{Play, Answer, Outcome, done, ask, asks, ◌>>=◌, over, questions, gives, posts}
+use Rattle.dos_world.specs.Play.{Play, Answer, Outcome, done, ask, asks, ◌>>=◌, over, questions}
+use Rattle.dos_world.specs.Play.{gives, posts}
 use Rattle.dos_world.specs.declared.Config.{Config}
 use Rattle.dos_world.specs.declared.Ending.{Ending}
-use Rattle.dos_world.specs.declared.Ending.TheVariants.{Done as done_ending, Limit as limit_ending, Stalled as stalled_ending}
+use Rattle.dos_world.specs.declared.Ending.TheVariants.{Done as done_ending, Limit as limit_ending}
+use Rattle.dos_world.specs.declared.Ending.TheVariants.{Stalled as stalled_ending}
 use Rattle.dos_world.specs.declared.Question.{Question}
 use Rattle.dos_world.specs.declared.Question.TheVariants.{End as end_question}
 use Rattle.dos_io.specs.declared.exchange.Exchange.{Exchange}
@@ -27,14 +32,16 @@ use Rattle.group_rounds.specs.Outside.{is_end}
 use Rattle.group_rounds.specs.Rounds.{CutRound, RanRound, StoppedRound}
 use Rattle.group_rounds.specs.declared.round.RoundEnd.{RoundEnd}
 use Rattle.group_rounds.specs.declared.round.RoundEnd.TheVariants.{Went, Done, Stalled}
-use Rattle.group_rounds.proofs.PlayLaws.{goes-append, goes-then, goes-over, goes-over_more, goes-questions, goes_by, stops_by}
+use Rattle.group_rounds.proofs.PlayLaws.{goes-append, goes-then, goes-over, goes-over_more}
+use Rattle.group_rounds.proofs.PlayLaws.{goes-questions, goes_by, stops_by}
 use Rattle.dos_io.proofs.OutsideLaws.{front-whole}
 use Rattle.group_rounds.proofs.StatePlayLaws.{told_nothing, told_so, told_then}
 use Rattle.group_rounds.proofs.FrontLaws.{HasSent, fronts_kept, fronts_over, fronts_then, sending}
 use Rattle.dpg_run.specs.Machine.{Finish, rounds_of, rounds_from, told_end, run_from, result_of}
 use Rattle.dpg_run.specs.Laws.{LeavesFinish, RunOwes}
 use Rattle.dpg_run.proofs.RunKeeps.{rounds_keep}
-use Rattle.dpg_run.specs.GroupRuns.{AreFronts, CutGroup, RanRounds, RanGroup, StoppedGroup, finish_in, has_failed}
+use Rattle.dpg_run.specs.GroupRuns.{AreFronts, CutGroup, RanRounds, RanGroup, StoppedGroup}
+use Rattle.dpg_run.specs.GroupRuns.{finish_in, has_failed}
 
 -- ---- fronts
 

@@ -1,6 +1,7 @@
 -- Whether a log's exchanges are those of a run, and where they first differ. This project's own
 -- rule.
-use Rattle.std.specs.Prelude.{ℕ, suc, ◌≡◌, Bool, true, false, ◌&&◌, List, [], ◌∷◌, map, Option, Some, None, ◌==◌}
+use Rattle.std.specs.Prelude.{ℕ, suc, ◌≡◌, Bool, true, false, ◌&&◌, List, [], ◌∷◌, map, Option}
+use Rattle.std.specs.Prelude.{Some, None, ◌==◌}
 use Rattle.dos_world.specs.Play.{Play, done, ask, questions}
 use Rattle.dos_world.specs.World.{World}
 use Rattle.dos_world.specs.declared.Config.{Config}

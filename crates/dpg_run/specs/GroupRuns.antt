@@ -1,6 +1,7 @@
 -- What it means that the kernel has run a group to its end, or that the run has stopped. This
 -- project's own rules.
-use Rattle.std.specs.Prelude.{ℕ, ◌≡◌, ◌-◌, Bool, true, false, not, List, [], ◌∷◌, ◌++◌, map, Option, Some, None, Result, Ok, Err}
+use Rattle.std.specs.Prelude.{ℕ, ◌≡◌, ◌-◌, Bool, true, false, not, List, [], ◌∷◌, ◌++◌, map, Option}
+use Rattle.std.specs.Prelude.{Some, None, Result, Ok, Err}
 use Rattle.dos_world.specs.World.{World}
 use Rattle.dos_world.specs.Play.{Play, done, over, questions, asks}
 use Rattle.dos_world.specs.declared.Config.{Config}
@@ -18,7 +19,8 @@ use Rattle.group_rounds.specs.Plays.{GoesOn}
 use Rattle.group_rounds.specs.StatePlays.{Telling, ToldMore}
 use Rattle.group_rounds.specs.Outside.{is_end}
 use Rattle.dpg_run.specs.Fits.{FitsFrom}
-use Rattle.dpg_run.specs.Machine.{Finish, Ran, machine_from, rounds_from, run_from, ends, needs, status_in}
+use Rattle.dpg_run.specs.Machine.{Finish, Ran, machine_from, rounds_from, run_from, ends, needs}
+use Rattle.dpg_run.specs.Machine.{status_in}
 
 -- how a run ended, in which world, after so much work
 abbrev pub finish_in : Ending → World → ℕ → Finish

@@ -1,5 +1,6 @@
 -- Laws of a whole run; the functions of the module laws promise them.
-use Rattle.std.specs.Prelude.{ℕ, ◌+◌, ◌<◌, ◌≡◌, ◌≤◌, List, [], length, All, ◌≢◌, ◌∷◌, ◌++◌, map, Some, None}
+use Rattle.std.specs.Prelude.{ℕ, ◌+◌, ◌<◌, ◌≡◌, ◌≤◌, List, [], length, All, ◌≢◌, ◌∷◌, ◌++◌, map}
+use Rattle.std.specs.Prelude.{Some, None}
 use Rattle.dos_world.specs.World.{World}
 use Rattle.dos_world.specs.Lawful.{Lawful, IsConfig}
 use Rattle.dos_world.specs.Play.{Answer, gives, over, questions}

@@ -1,7 +1,8 @@
 -- A whole run: the machine of one thread and one flat memory. This project's own profile.
 use Rattle.std.specs.Prelude.{ℕ, zero, suc, ◌+◌, ◌-◌, List, map, Option, Some, None, if◌then◌else◌}
 use Rattle.dos_world.specs.World.{World, Process, live, ended, live_threads}
-use Rattle.dos_world.specs.Play.{Play, Answer, Outcome, gives, asks, done, ask, ◌>>=◌, over, questions}
+use Rattle.dos_world.specs.Play.{Play, Answer, Outcome, gives, asks, done, ask, ◌>>=◌, over}
+use Rattle.dos_world.specs.Play.{questions}
 use Rattle.dos_world.specs.declared.Config.{Config}
 use Rattle.dos_world.specs.declared.Ending.{Ending}
 use Rattle.dos_world.specs.declared.Ending.TheVariants.{Done, Limit, Stalled}

@@ -1,7 +1,8 @@
 //! Laws of the definitions, as contracts of functions that do nothing.
 
 ghost use Rattle.dpg_run.specs.QuietRuns.{QuietRunsAreOne};
-ghost use Rattle.dpg_run.specs.Laws.{FitsHaveNoMisfit, GroupsEndLawful, MisfitsAreFirst, RunIsKept, RunOwes, RunsEndLawful, RunsKeepTheirLimit};
+ghost use Rattle.dpg_run.specs.Laws.{FitsHaveNoMisfit, GroupsEndLawful, MisfitsAreFirst, RunIsKept};
+ghost use Rattle.dpg_run.specs.Laws.{RunOwes, RunsEndLawful, RunsKeepTheirLimit};
 
 /// An invariant of a run: for each count of rounds, what holds in each world of the next one.
 pub trait RunInvariant {

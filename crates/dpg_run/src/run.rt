@@ -1,12 +1,14 @@
 // A whole run.
-ghost use Rattle.std.specs.Prelude.{ℕ, ◌≡◌, ◌≤◌, ◌-◌, ◌==◌, false, if◌then◌else◌, is_err, is_some, length, IfOk, IfErr, OnErr, OnOk, OnSome};
+ghost use Rattle.std.specs.Prelude.{ℕ, ◌≡◌, ◌≤◌, ◌-◌, ◌==◌, false, if◌then◌else◌, is_err, is_some};
+ghost use Rattle.std.specs.Prelude.{length, IfOk, IfErr, OnErr, OnOk, OnSome};
 ghost use Rattle.dos_world.specs.Numbered.{numbers_of};
 ghost use Rattle.dos_io.specs.Shims.{HasNoEnd};
 ghost use Rattle.kernel_calls.specs.StateWorld.{shim_stop};
 ghost use Rattle.worker_pool.specs.Ran.{GrewBy};
 ghost use Rattle.group_rounds.specs.StatePlays.{telling};
 ghost use Rattle.group_rounds.specs.Outside.{HaveCauses, is_end};
-ghost use Rattle.dpg_run.specs.GroupRuns.{AreEnded, CutGroup, RanGroup, RanRounds, StoppedGroup, has_failed};
+ghost use Rattle.dpg_run.specs.GroupRuns.{AreEnded, CutGroup, RanGroup, RanRounds, StoppedGroup};
+ghost use Rattle.dpg_run.specs.GroupRuns.{has_failed};
 ghost use Rattle.group_rounds.specs.Kernels.{IsBetweenRounds};
 
 use dos_io::{Shim, Sink};

@@ -1,10 +1,12 @@
 -- The image that is made from a number: a program for 1 to 32 threads, listed instruction by
 -- instruction. This project's own.
-use Rattle.std.specs.Prelude.{ℕ, ◌+◌, ◌*◌, ◌/◌, ◌%◌, ◌^◌, ◌-ℤ◌, ℤ, pos, negsuc, true, false, List, [], ◌∷◌, ◌++◌, map}
+use Rattle.std.specs.Prelude.{ℕ, ◌+◌, ◌*◌, ◌/◌, ◌%◌, ◌^◌, ◌-ℤ◌, ℤ, pos, negsuc, true, false, List}
+use Rattle.std.specs.Prelude.{[], ◌∷◌, ◌++◌, map}
 use Rattle.rv_isa.specs.Encoding.{encoding}
 use Rattle.rv_isa.specs.Fields.{sign_extended}
 use Rattle.rv_isa.specs.declared.Instr.{Instr}
-use Rattle.rv_isa.specs.declared.Instr.TheVariants.{Upper, Jal, Branch, Load, Store, Imm, Shift, Reg, Ecall}
+use Rattle.rv_isa.specs.declared.Instr.TheVariants.{Upper, Jal, Branch, Load, Store, Imm, Shift}
+use Rattle.rv_isa.specs.declared.Instr.TheVariants.{Reg, Ecall}
 use Rattle.rv_isa.specs.declared.BranchOp.TheVariants.{Beq, Bne}
 use Rattle.rv_isa.specs.declared.ImmOp.TheVariants.{Addi, Andi}
 use Rattle.rv_isa.specs.declared.LoadOp.TheVariants.{Lw}

@@ -1,9 +1,13 @@
 -- What taking the lowest Free frame does to frames that are filled from the lowest on.
-use Rattle.std.proofs.Common.{ℕ, suc, ◌+◌, ◌-◌, ◌*◌, ◌<◌, ◌≤◌, ◌≡◌, ◌⊎◌, inl, inr, refl, sym, ap, ◌∙◌, subst, cond, List, [], ◌∷◌, ◌++◌, length, get_or, set, take, drop, replicate, slice_get, Option, Some, None, IsSome, All, arith}
+use Rattle.std.proofs.Common.{ℕ, suc, ◌+◌, ◌-◌, ◌*◌, ◌<◌, ◌≤◌, ◌≡◌, ◌⊎◌, inl, inr, refl, sym, ap}
+use Rattle.std.proofs.Common.{◌∙◌, subst, cond, List, [], ◌∷◌, ◌++◌, length, get_or, set, take}
+use Rattle.std.proofs.Common.{drop, replicate, slice_get, Option, Some, None, IsSome, All, arith}
 use Rattle.std.specs.Prelude.{position, option_map}
 use Rattle.std.proofs.lemmas.Bool.{true≢false, lt-ltb, cases_lt}
 use Rattle.std.proofs.lemmas.List.Quantifiers.{position-Some}
-use Rattle.std.proofs.lemmas.List.{append-nil, append_assoc, length-append, length-replicate, length-set, set-set, set_at, take_at, drop_at, drop-replicate, drop-drop, get_or_append_left, replicate_more, length_push}
+use Rattle.std.proofs.lemmas.List.{append-nil, append_assoc, length-append, length-replicate}
+use Rattle.std.proofs.lemmas.List.{length-set, set-set, set_at, take_at, drop_at, drop-replicate}
+use Rattle.std.proofs.lemmas.List.{drop-drop, get_or_append_left, replicate_more, length_push}
 use Rattle.std.proofs.lemmas.List.Elements.{All-append, All-cons, All-nil, All-set}
 use Rattle.std.proofs.lemmas.Option.{slice_get-get_or}
 use Rattle.std.proofs.lemmas.List.{get_or-set_same}

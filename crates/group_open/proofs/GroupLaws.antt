@@ -1,6 +1,9 @@
 -- The first descriptors of a process, and an image more in a group.
-use Rattle.std.proofs.Common.{ℕ, suc, ◌+◌, ◌*◌, get_or, take, ◌<◌, ◌≤◌, ◌≡◌, ◌||◌, false, arith, [], ◌∷◌, ◌++◌, length, refl, sym, ap, ◌∙◌, subst, List, Option, Some, None, IsSome, replicate}
-use Rattle.std.specs.Prelude.{IfSome, flat_map, is_none, is_some, nat_le, option_and_then, position, slice_get, slice_set}
+use Rattle.std.proofs.Common.{ℕ, suc, ◌+◌, ◌*◌, get_or, take, ◌<◌, ◌≤◌, ◌≡◌, ◌||◌, false, arith, []}
+use Rattle.std.proofs.Common.{◌∷◌, ◌++◌, length, refl, sym, ap, ◌∙◌, subst, List, Option, Some}
+use Rattle.std.proofs.Common.{None, IsSome, replicate}
+use Rattle.std.specs.Prelude.{IfSome, flat_map, is_none, is_some, nat_le, option_and_then, position}
+use Rattle.std.specs.Prelude.{slice_get, slice_set}
 use Rattle.std.proofs.lemmas.Bool.{lt-leb, or_from}
 use Rattle.std.proofs.lemmas.List.Elements.{All-nil, All-replicate}
 use Rattle.std.proofs.lemmas.List.Sums.{sum_by_more_le}
@@ -15,8 +18,11 @@ use Rattle.page_store.specs.Store.{Store, unused}
 use Rattle.dos_world.specs.World.{Holdings, all_holdings, holdings_of, live, on_holdings}
 use Rattle.dos_world.specs.DescriptorCalls.{with_end}
 use Rattle.dos_world.specs.declared.End.{End}
-use Rattle.proc_table.specs.Tables.{Tables, IsProcess, held_by, held_in, new_process, no_tables, process_added}
-use Rattle.group_open.specs.Opening.{image_bytes, needed, opening_descriptors, opening_process, opening_registers, opening_thread, owners_from, page_count, processes_from, space_from}
+use Rattle.proc_table.specs.Tables.{Tables, IsProcess, held_by, held_in, new_process, no_tables}
+use Rattle.proc_table.specs.Tables.{process_added}
+use Rattle.group_open.specs.Opening.{image_bytes, needed, opening_descriptors, opening_process}
+use Rattle.group_open.specs.Opening.{opening_registers, opening_thread, owners_from, page_count}
+use Rattle.group_open.specs.Opening.{processes_from, space_from}
 use Rattle.group_open.specs.Filling.{HasPlace, HasRoom, IsFilled, IsTaken, OpensImage, with_more}
 use Rattle.std.proofs.lemmas.List.{append-nil, append_assoc, flat_map_more}
 use Rattle.dos_world.specs.declared.Entry.{Entry}
@@ -25,7 +31,8 @@ use Rattle.dos_world.specs.declared.Owner.TheVariants.{Free, Of}
 use Rattle.group_open.proofs.OpensLaws.{map_from_push}
 use Rattle.group_open.specs.Group.{FitsMore, IsOpened, with_first_ends, with_opened}
 use Rattle.group_open.proofs.Runs.{length_map_from}
-use Rattle.group_open.proofs.OpeningLaws.{holdings_length, needed_more, owners_length, places_at_most, processes_length}
+use Rattle.group_open.proofs.OpeningLaws.{holdings_length, needed_more, owners_length}
+use Rattle.group_open.proofs.OpeningLaws.{places_at_most, processes_length}
 use Rattle.group_open.proofs.HeldLaws.{held_after, held_if, held_none, held_same, held_twice}
 
 -- ---- descriptors

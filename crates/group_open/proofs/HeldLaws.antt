@@ -1,12 +1,15 @@
 -- What a process has, with entries behind its others.
-use Rattle.std.proofs.Common.{ℕ, zero, suc, ◌+◌, ◌<◌, ◌≤◌, ◌≡◌, refl, sym, ap, ◌∙◌, subst, List, [], ◌∷◌, ◌++◌, length, All, IsSome, arith}
-use Rattle.std.specs.Prelude.{Option, Some, None, IfSome, option_and_then, option_map, find, slice_get, nat_lt, ◌==◌}
+use Rattle.std.proofs.Common.{ℕ, zero, suc, ◌+◌, ◌<◌, ◌≤◌, ◌≡◌, refl, sym, ap, ◌∙◌, subst, List, []}
+use Rattle.std.proofs.Common.{◌∷◌, ◌++◌, length, All, IsSome, arith}
+use Rattle.std.specs.Prelude.{Option, Some, None, IfSome, option_and_then, option_map, find}
+use Rattle.std.specs.Prelude.{slice_get, nat_lt, ◌==◌}
 use Rattle.std.proofs.lemmas.Bool.{le-ltb, ne_eqb, cond-false}
 use Rattle.std.proofs.lemmas.List.{append-nil, append_assoc, length-append}
 use Rattle.std.proofs.lemmas.List.Elements.{All-head, All-tail, All-append, All-weaker}
 use Rattle.dos_world.specs.Numbered.{changed_at}
 use Rattle.dos_world.specs.declared.Entry.{Entry}
-use Rattle.dos_world.specs.World.{Holdings, Life, Process, holdings_of, live, ended, live_changed, look, on_holdings}
+use Rattle.dos_world.specs.World.{Holdings, Life, Process, holdings_of, live, ended, live_changed}
+use Rattle.dos_world.specs.World.{look, on_holdings}
 use Rattle.dos_world.specs.Kernel.{put, with_entry}
 use Rattle.proc_table.specs.Tables.{Tables, IsProcess, held_by, held_in}
 use Rattle.group_open.specs.Filling.{HasPlace, with_more}

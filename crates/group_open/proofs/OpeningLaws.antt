@@ -1,23 +1,35 @@
 -- The opening of accepted images that fit is lawful, field by field.
-use Rattle.std.proofs.Common.{ℕ, zero, suc, ◌+◌, ◌*◌, ◌-◌, ◌<◌, ◌≤◌, ◌≡◌, ◌≢◌, ◌⊎◌, inl, inr, refl, sym, ap, ◌∙◌, Bool, cond, true, false, List, [], ◌∷◌, length, arith}
-use Rattle.std.specs.Prelude.{◌↔◌, All, IsTrue, IsFalse, IfSome, is_some, option_and_then, flat_map, count_by, sum_by, ◌==◌, slice_get, slice_index_or, replicate}
+use Rattle.std.proofs.Common.{ℕ, zero, suc, ◌+◌, ◌*◌, ◌-◌, ◌<◌, ◌≤◌, ◌≡◌, ◌≢◌, ◌⊎◌, inl, inr, refl}
+use Rattle.std.proofs.Common.{sym, ap, ◌∙◌, Bool, cond, true, false, List, [], ◌∷◌, length, arith}
+use Rattle.std.specs.Prelude.{◌↔◌, All, IsTrue, IsFalse, IfSome, is_some, option_and_then, flat_map}
+use Rattle.std.specs.Prelude.{count_by, sum_by, ◌==◌, slice_get, slice_index_or, replicate}
 use Rattle.std.specs.List.{list_any}
-use Rattle.std.proofs.lemmas.Bool.{true≢false, false≢true, eq-eqb, cases_lt, or_left, or_right, or_from}
-use Rattle.std.proofs.lemmas.List.{get_or_append_left, get_or-append_right, length-append, length-replicate}
-use Rattle.std.proofs.lemmas.List.Elements.{All-nil, All-cons, All-head, All-tail, All-append, All-replicate, All-weaker}
+use Rattle.std.proofs.lemmas.Bool.{true≢false, false≢true, eq-eqb, cases_lt, or_left, or_right}
+use Rattle.std.proofs.lemmas.Bool.{or_from}
+use Rattle.std.proofs.lemmas.List.{get_or_append_left, get_or-append_right, length-append}
+use Rattle.std.proofs.lemmas.List.{length-replicate}
+use Rattle.std.proofs.lemmas.List.Elements.{All-nil, All-cons, All-head, All-tail, All-append}
+use Rattle.std.proofs.lemmas.List.Elements.{All-replicate, All-weaker}
 use Rattle.std.proofs.lemmas.List.Sums.{sum_by-cons}
 use Rattle.dos_world.specs.Numbered.{map_from, places_from, numbered}
-use Rattle.dos_world.specs.World.{Process, Holdings, flat, all_holdings, holdings_of, belongs_to, live_process, thread_at, threads_of, owner_of}
+use Rattle.dos_world.specs.World.{Process, Holdings, flat, all_holdings, holdings_of, belongs_to}
+use Rattle.dos_world.specs.World.{live_process, thread_at, threads_of, owner_of}
 use Rattle.dos_world.specs.Counts.{maps_frame, is_mapped}
-use Rattle.dos_world.specs.Lawful.{Lawful, FramesAreLawful, ProcessesAreLawful, ThreadsAreLawful, PipesAreLawful, IsWithinLimits, AreHoldings, IsThread, IsAlone, HasStatus, IsByte, IsConfig, IsPipe, IsSleeper, turns_asleep}
+use Rattle.dos_world.specs.Lawful.{Lawful, FramesAreLawful, ProcessesAreLawful, ThreadsAreLawful}
+use Rattle.dos_world.specs.Lawful.{PipesAreLawful, IsWithinLimits, AreHoldings, IsThread, IsAlone}
+use Rattle.dos_world.specs.Lawful.{HasStatus, IsByte, IsConfig, IsPipe, IsSleeper, turns_asleep}
 use Rattle.dos_world.specs.declared.Config.{Config}
 use Rattle.dos_world.specs.declared.Owner.{Owner}
 use Rattle.dos_world.specs.declared.Owner.TheVariants.{Free, Of}
 use Rattle.elf_image.specs.Image.{Image}
-use Rattle.group_open.specs.Opening.{opening, needed, page_count, image_bytes, owners_from, processes_from, opening_process, opening_thread}
+use Rattle.group_open.specs.Opening.{opening, needed, page_count, image_bytes, owners_from}
+use Rattle.group_open.specs.Opening.{processes_from, opening_process, opening_thread}
 use Rattle.group_open.specs.Laws.{IsAccepted, OpeningsAreLawful}
-use Rattle.group_open.proofs.Runs.{All-flat_map, length_with_zeros, same_everywhere, length_map_from, any_in_run, none_in_run, one_counted, none_counted}
-use Rattle.group_open.proofs.OpeningParts.{frame_of, opening_holdings, frames_within, holdings_in, maps_run, counts_run, thread_in, bytes_in, bytes_length}
+use Rattle.group_open.proofs.Runs.{All-flat_map, length_with_zeros, same_everywhere}
+use Rattle.group_open.proofs.Runs.{length_map_from, any_in_run, none_in_run, one_counted}
+use Rattle.group_open.proofs.Runs.{none_counted}
+use Rattle.group_open.proofs.OpeningParts.{frame_of, opening_holdings, frames_within, holdings_in}
+use Rattle.group_open.proofs.OpeningParts.{maps_run, counts_run, thread_in, bytes_in, bytes_length}
 
 -- ---- statuses
 

@@ -1,22 +1,33 @@
 -- The opening of one accepted image: its pages, its space, its process, its thread and its bytes.
-use Rattle.std.proofs.Common.{ℕ, ◌+◌, ◌*◌, ◌-◌, ◌/◌, ◌^◌, ◌<◌, ◌≤◌, ◌≡◌, ◌⊎◌, inl, inr, refl, sym, ap, ◌∙◌, subst, Bool, true, List, [], ◌∷◌, ◌++◌, length, map, Some, None, arith}
-use Rattle.std.specs.Prelude.{All, IsTrue, IfSome, is_some, option_and_then, flat_map, find, count_by, ◌==◌, nat_lt, slice_index, slice_index_or, replicate}
+use Rattle.std.proofs.Common.{ℕ, ◌+◌, ◌*◌, ◌-◌, ◌/◌, ◌^◌, ◌<◌, ◌≤◌, ◌≡◌, ◌⊎◌, inl, inr, refl, sym}
+use Rattle.std.proofs.Common.{ap, ◌∙◌, subst, Bool, true, List, [], ◌∷◌, ◌++◌, length, map, Some}
+use Rattle.std.proofs.Common.{None, arith}
+use Rattle.std.specs.Prelude.{All, IsTrue, IfSome, is_some, option_and_then, flat_map, find}
+use Rattle.std.specs.Prelude.{count_by, ◌==◌, nat_lt, slice_index, slice_index_or, replicate}
 use Rattle.std.specs.List.{list_any}
 use Rattle.std.proofs.lemmas.Bool.{ltb-true, cases_lt, cond_both}
 use Rattle.std.proofs.lemmas.List.{get_or-map, get_or_past, length-append, length-map, map-append}
-use Rattle.std.proofs.lemmas.List.Elements.{All-nil, All-cons, All-head, All-tail, All-append, All-replicate, All-map, All-weaker}
+use Rattle.std.proofs.lemmas.List.Elements.{All-nil, All-cons, All-head, All-tail, All-append}
+use Rattle.std.proofs.lemmas.List.Elements.{All-replicate, All-map, All-weaker}
 use Rattle.std.proofs.lemmas.List.Sums.{AllPass-from_list_all}
 use Rattle.dos_world.specs.Numbered.{map_from, run_of, numbered}
 use Rattle.dos_world.specs.World.{Process, Holdings, holdings_of}
 use Rattle.dos_world.specs.Counts.{maps_frame}
-use Rattle.dos_world.specs.Lawful.{AreHoldings, AreRegisters, IsThread, IsWord, IsByte, IsAction, IsEnd}
+use Rattle.dos_world.specs.Lawful.{AreHoldings, AreRegisters, IsThread, IsWord, IsByte, IsAction}
+use Rattle.dos_world.specs.Lawful.{IsEnd}
 use Rattle.dos_world.specs.declared.Entry.{Entry}
 use Rattle.dos_world.specs.declared.End.TheVariants.{Input, Output, Error}
 use Rattle.elf_image.specs.declared.part.Part.{Part}
 use Rattle.elf_image.specs.Image.{Image, IsSound, IsPlaced, HoldsEntry, size_of}
-use Rattle.group_open.specs.Opening.{pages_touched, part_pages, stack_pages, page_count, part_entry, stack_entry, space_from, opening_descriptors, opening_registers, opening_thread, part_byte, byte_at, page_bytes, image_bytes}
+use Rattle.group_open.specs.Opening.{pages_touched, part_pages, stack_pages, page_count, part_entry}
+use Rattle.group_open.specs.Opening.{stack_entry, space_from, opening_descriptors}
+use Rattle.group_open.specs.Opening.{opening_registers, opening_thread, part_byte, byte_at}
+use Rattle.group_open.specs.Opening.{page_bytes, image_bytes}
 use Rattle.group_open.specs.Laws.{IsAccepted, HasBytes}
-use Rattle.group_open.proofs.Runs.{All-flat_map, length_with_zeros, any_of_map, count_of_map, length_run, append_runs, at_run, within_run, places_kept, elements_kept, RisesWithin, rises_on, run_rises, rising_rises, within_rise, increases}
+use Rattle.group_open.proofs.Runs.{All-flat_map, length_with_zeros, any_of_map, count_of_map}
+use Rattle.group_open.proofs.Runs.{length_run, append_runs, at_run, within_run, places_kept}
+use Rattle.group_open.proofs.Runs.{elements_kept, RisesWithin, rises_on, run_rises, rising_rises}
+use Rattle.group_open.proofs.Runs.{within_rise, increases}
 
 -- ---- lists
 

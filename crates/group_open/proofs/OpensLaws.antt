@@ -1,6 +1,9 @@
 -- What opening one page after another comes to.
-use Rattle.std.proofs.Common.{ℕ, suc, ◌+◌, ◌*◌, ◌<◌, ◌≤◌, ◌≡◌, refl, sym, ap, ◌∙◌, subst, List, [], ◌∷◌, ◌++◌, length, replicate, All, arith}
-use Rattle.std.proofs.lemmas.List.{append-nil, append_assoc, flat_map_more, length-append, length-replicate, length_push, replicate_more, replicate-append-replicate}
+use Rattle.std.proofs.Common.{ℕ, suc, ◌+◌, ◌*◌, ◌<◌, ◌≤◌, ◌≡◌, refl, sym, ap, ◌∙◌, subst, List, []}
+use Rattle.std.proofs.Common.{◌∷◌, ◌++◌, length, replicate, All, arith}
+use Rattle.std.proofs.lemmas.List.{append-nil, append_assoc, flat_map_more, length-append}
+use Rattle.std.proofs.lemmas.List.{length-replicate, length_push, replicate_more}
+use Rattle.std.proofs.lemmas.List.{replicate-append-replicate}
 use Rattle.std.proofs.lemmas.List.Elements.{All-cons, All-head, All-nil, All-tail}
 use Rattle.std.specs.Prelude.{flat_map}
 use Rattle.dos_world.specs.Numbered.{map_from}
@@ -12,7 +15,8 @@ use Rattle.dos_world.specs.declared.Owner.{Owner}
 use Rattle.dos_world.specs.declared.Owner.TheVariants.{Of}
 use Rattle.page_store.specs.Store.{Store}
 use Rattle.proc_table.specs.Tables.{Tables, held_by}
-use Rattle.group_open.specs.Filling.{HasPlace, HasRoom, IsFilled, Opens, OpensParts, OpensStack, Takes, with_more}
+use Rattle.group_open.specs.Filling.{HasPlace, HasRoom, IsFilled, Opens, OpensParts, OpensStack}
+use Rattle.group_open.specs.Filling.{Takes, with_more}
 use Rattle.group_open.proofs.FillingLaws.{fill_next, frame_is, takes_count}
 use Rattle.group_open.proofs.HeldLaws.{entry_is_more, more_twice, opens_nothing}
 

@@ -1,10 +1,18 @@
 -- The pages that parts touch, in rising order, and the bytes and rights of each.
-use Rattle.std.proofs.Common.{ℕ, zero, suc, ◌+◌, ◌-◌, ◌*◌, ◌/◌, ◌<◌, ◌≤◌, ◌≡◌, ◌≢◌, ◌⊎◌, inl, inr, refl, sym, ap, ◌∙◌, subst, Bool, cond, true, false, ◌&&◌, ◌||◌, List, [], ◌∷◌, ◌++◌, length, take, drop, get_or, set, Option, Some, None, min, max, arith}
+use Rattle.std.proofs.Common.{ℕ, zero, suc, ◌+◌, ◌-◌, ◌*◌, ◌/◌, ◌<◌, ◌≤◌, ◌≡◌, ◌≢◌, ◌⊎◌, inl, inr}
+use Rattle.std.proofs.Common.{refl, sym, ap, ◌∙◌, subst, Bool, cond, true, false, ◌&&◌, ◌||◌, List}
+use Rattle.std.proofs.Common.{[], ◌∷◌, ◌++◌, length, take, drop, get_or, set, Option, Some, None}
+use Rattle.std.proofs.Common.{min, max, arith}
 use Rattle.std.specs.Prelude.{All, AllPairs, IfSome, find, filter, flat_map, nat_lt, nat_le, ◌==◌}
 use Rattle.std.specs.List.{list_any}
 use Rattle.std.specs.Option.{option_or}
-use Rattle.std.proofs.lemmas.Bool.{ltb-true, ltb-false, lt-ltb, le-ltb, leb-true, leb-false, le-leb, lt-leb, eqb-true, eqb-false, cases_lt, cond-true, cond-false, and_from, and_parts, and_left, and_right}
-use Rattle.std.proofs.lemmas.List.{append-nil, take_all, take_more, length-take, length-drop, length-set, get_or-set_other, get_or-set_same, get_or-take, get_or-drop, get_or_past, get_or_default, get_or-replicate, get_or-map, length-map, ext_get_or}
+use Rattle.std.proofs.lemmas.Bool.{ltb-true, ltb-false, lt-ltb, le-ltb, leb-true, leb-false, le-leb}
+use Rattle.std.proofs.lemmas.Bool.{lt-leb, eqb-true, eqb-false, cases_lt, cond-true, cond-false}
+use Rattle.std.proofs.lemmas.Bool.{and_from, and_parts, and_left, and_right}
+use Rattle.std.proofs.lemmas.List.{append-nil, take_all, take_more, length-take, length-drop}
+use Rattle.std.proofs.lemmas.List.{length-set, get_or-set_other, get_or-set_same, get_or-take}
+use Rattle.std.proofs.lemmas.List.{get_or-drop, get_or_past, get_or_default, get_or-replicate}
+use Rattle.std.proofs.lemmas.List.{get_or-map, length-map, ext_get_or}
 use Rattle.std.proofs.lemmas.List.Elements.{All-head, All-weaker, filter_passes}
 use Rattle.std.proofs.lemmas.List.Sums.{length-filter, count_by-le-length}
 use Rattle.std.proofs.lemmas.List.{length_push}
@@ -14,9 +22,11 @@ use Rattle.dos_world.specs.Numbered.{run_of}
 use Rattle.dos_world.specs.Bytes.{written}
 use Rattle.elf_image.specs.declared.part.Part.{Part}
 use Rattle.elf_image.specs.Image.{Image, IsSound, IsApart, size_of}
-use Rattle.group_open.specs.Opening.{pages_touched, with_number, rising, part_pages, touches, covers, part_byte, byte_at, page_bytes}
+use Rattle.group_open.specs.Opening.{pages_touched, with_number, rising, part_pages, touches}
+use Rattle.group_open.specs.Opening.{covers, part_byte, byte_at, page_bytes}
 use Rattle.group_open.specs.Pages.{lower_of, least_from, laid_over}
-use Rattle.group_open.proofs.Runs.{RisesWithin, within_rise, any_in_run, none_in_run, length_run, at_run}
+use Rattle.group_open.proofs.Runs.{RisesWithin, within_rise, any_in_run, none_in_run, length_run}
+use Rattle.group_open.proofs.Runs.{at_run}
 use Rattle.page_store.specs.Store.{whole}
 use Rattle.page_store.proofs.Pages.{length-whole, whole-zero_page}
 use Rattle.dos_world.specs.Kernel.{zero_page}

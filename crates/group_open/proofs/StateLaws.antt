@@ -1,9 +1,12 @@
 -- The world of the state that a group begins with, and that it is sound.
-use Rattle.std.proofs.Common.{Bool, true, false, cond, ℕ, zero, suc, ◌+◌, ◌-◌, ◌*◌, ◌<◌, ◌≤◌, ◌≡◌, ◌⊎◌, inl, inr, refl, sym, ap, ◌∙◌, subst, List, [], ◌∷◌, ◌++◌, length, replicate, Option, Some, None, All, arith}
+use Rattle.std.proofs.Common.{Bool, true, false, cond, ℕ, zero, suc, ◌+◌, ◌-◌, ◌*◌, ◌<◌, ◌≤◌, ◌≡◌}
+use Rattle.std.proofs.Common.{◌⊎◌, inl, inr, refl, sym, ap, ◌∙◌, subst, List, [], ◌∷◌, ◌++◌, length}
+use Rattle.std.proofs.Common.{replicate, Option, Some, None, All, arith}
 use Rattle.std.proofs.lemmas.List.Sums.{sum_by-cons}
 use Rattle.std.specs.Prelude.{count_by, flat_map, slice_index}
 use Rattle.std.proofs.lemmas.Bool.{cases_lt}
-use Rattle.std.proofs.lemmas.List.{get_or-append_right, get_or_append_left, get_or-replicate, length-append, length-replicate}
+use Rattle.std.proofs.lemmas.List.{get_or-append_right, get_or_append_left, get_or-replicate}
+use Rattle.std.proofs.lemmas.List.{length-append, length-replicate}
 use Rattle.dos_world.specs.World.{World, Process, Thread, Holdings, all_holdings}
 use Rattle.dos_world.specs.Counts.{reads_pipe, writes_pipe}
 use Rattle.dos_world.specs.declared.End.{End}
@@ -18,7 +21,8 @@ use Rattle.kernel_objects.specs.Pipework.{Pipework, ends_at}
 use Rattle.kernel_calls.specs.StateWorld.{IsSound, AreCounted, ends_of, world_of}
 use Rattle.kernel_calls.specs.declared.state.State.{State}
 use Rattle.page_store.specs.Store.{joined, uses_at}
-use Rattle.group_open.specs.Opening.{image_bytes, needed, opening, opening_descriptors, owners_from, page_count, processes_from}
+use Rattle.group_open.specs.Opening.{image_bytes, needed, opening, opening_descriptors, owners_from}
+use Rattle.group_open.specs.Opening.{page_count, processes_from}
 use Rattle.group_open.specs.Group.{IsStateOf}
 use Rattle.group_open.specs.Laws.{IsAccepted}
 use Rattle.group_open.proofs.OpeningLaws.{every_opening, one_use, owners_length, uses_after}

@@ -1,6 +1,7 @@
 -- Frames that are taken one after another from the lowest on, each mapped as a page of one process.
 -- This project's own rule.
-use Rattle.std.specs.Prelude.{◌≡◌, ◌<◌, ◌≤◌, ℕ, ◌+◌, ◌-◌, ◌*◌, List, ◌++◌, length, replicate, Some, false, All, IsSome, flat_map, position}
+use Rattle.std.specs.Prelude.{◌≡◌, ◌<◌, ◌≤◌, ℕ, ◌+◌, ◌-◌, ◌*◌, List, ◌++◌, length, replicate, Some}
+use Rattle.std.specs.Prelude.{false, All, IsSome, flat_map, position}
 use Rattle.dos_world.specs.World.{Holdings, is_free}
 use Rattle.dos_world.specs.declared.Entry.{Entry}
 use Rattle.dos_world.specs.declared.Owner.{Owner}
@@ -8,7 +9,8 @@ use Rattle.dos_world.specs.declared.Owner.TheVariants.{Free, Of}
 use Rattle.page_store.specs.Store.{Store, joined, whole, with_home, with_owned}
 use Rattle.dos_world.specs.Numbered.{map_from}
 use Rattle.elf_image.specs.Image.{Image}
-use Rattle.group_open.specs.Opening.{image_bytes, page_bytes, page_count, part_entry, space_from, stack_entry}
+use Rattle.group_open.specs.Opening.{image_bytes, page_bytes, page_count, part_entry, space_from}
+use Rattle.group_open.specs.Opening.{stack_entry}
 use Rattle.proc_table.specs.Tables.{Tables, held_by, held_in}
 
 -- whether an owner is some

@@ -1,6 +1,8 @@
 -- The world that a group opens with. This project's own rules; what a part of an image is comes
 -- from the System V ABI, "Program Loading".
-use Rattle.std.specs.Prelude.{ℕ, suc, ◌+◌, ◌-◌, ◌*◌, ◌/◌, Bool, true, false, List, [], ◌∷◌, ◌++◌, length, map, filter, find, flat_map, replicate, Option, Some, None, ◌==◌, ◌&&◌, nat_lt, nat_le, if◌then◌else◌, slice_index, sum_by}
+use Rattle.std.specs.Prelude.{ℕ, suc, ◌+◌, ◌-◌, ◌*◌, ◌/◌, Bool, true, false, List, [], ◌∷◌, ◌++◌}
+use Rattle.std.specs.Prelude.{length, map, filter, find, flat_map, replicate, Option, Some, None}
+use Rattle.std.specs.Prelude.{◌==◌, ◌&&◌, nat_lt, nat_le, if◌then◌else◌, slice_index, sum_by}
 use Rattle.std.specs.List.{list_any}
 use Rattle.dos_world.specs.Numbered.{run_of, map_from}
 use Rattle.dos_world.specs.World.{World, Process, live, Thread, Registers, set, blank}

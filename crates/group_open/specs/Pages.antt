@@ -1,5 +1,6 @@
 -- Which page of an image comes next, and how a part lies in a page.
-use Rattle.std.specs.Prelude.{ℕ, ◌+◌, ◌-◌, List, [], ◌∷◌, length, Option, Some, None, min, nat_lt, nat_le, ◌&&◌, if◌then◌else◌, slice_index}
+use Rattle.std.specs.Prelude.{ℕ, ◌+◌, ◌-◌, List, [], ◌∷◌, length, Option, Some, None, min, nat_lt}
+use Rattle.std.specs.Prelude.{nat_le, ◌&&◌, if◌then◌else◌, slice_index}
 use Rattle.elf_image.specs.declared.part.Part.{Part}
 
 -- the lower of two numbers, of which there may be none

@@ -1,13 +1,16 @@
 //! Frames that are taken one after another, each mapped as a page of one process.
 
-ghost use Rattle.std.specs.Prelude.{◌≡◌, ◌+◌, ◌<◌, ◌≤◌, ◌∷◌, [], ℕ, All, IfSome, IsSome, length, map, position, replicate, slice_get, Some};
+ghost use Rattle.std.specs.Prelude.{◌≡◌, ◌+◌, ◌<◌, ◌≤◌, ◌∷◌, [], ℕ, All, IfSome, IsSome, length};
+ghost use Rattle.std.specs.Prelude.{map, position, replicate, slice_get, Some};
 ghost use Rattle.dos_world.specs.Kernel.{zero_page};
 ghost use Rattle.dos_world.specs.World.{is_free};
 ghost use Rattle.dos_world.specs.Numbered.{map_from};
 ghost use Rattle.page_store.specs.Store.{AreHome, with_home, with_owned, whole};
 ghost use Rattle.proc_table.specs.Tables.{IsProcess, held_in};
-ghost use Rattle.group_open.specs.Opening.{image_bytes, page_bytes, page_count, part_entry, part_pages, space_from, stack_entry, stack_pages};
-ghost use Rattle.group_open.specs.Filling.{HasPlace, HasRoom, Opens, OpensImage, OpensParts, OpensStack, Takes};
+ghost use Rattle.group_open.specs.Opening.{image_bytes, page_bytes, page_count, part_entry};
+ghost use Rattle.group_open.specs.Opening.{part_pages, space_from, stack_entry, stack_pages};
+ghost use Rattle.group_open.specs.Filling.{HasPlace, HasRoom, Opens, OpensImage, OpensParts};
+ghost use Rattle.group_open.specs.Filling.{OpensStack, Takes};
 
 use crate::pages::{STACK_PAGES, entry_of, fill_page, next_page};
 use dos_world::{Entry, Owner};

@@ -1,6 +1,7 @@
 //! A process and a thread for each image.
 
-ghost use Rattle.std.specs.Prelude.{◌≡◌, ◌+◌, ◌<◌, ◌≤◌, ◌∷◌, ◌++◌, [], ℕ, List, None, IfSome, length, replicate, false};
+ghost use Rattle.std.specs.Prelude.{◌≡◌, ◌+◌, ◌<◌, ◌≤◌, ◌∷◌, ◌++◌, [], ℕ, List, None, IfSome};
+ghost use Rattle.std.specs.Prelude.{length, replicate, false};
 ghost use Rattle.dos_world.specs.ProcessCalls.{are_processes_full};
 ghost use Rattle.elf_image.specs.Image.{Image as FlatImage};
 ghost use Rattle.page_store.specs.Store.{unused};

@@ -1,11 +1,13 @@
 //! The pages of an image: which there are, and what is in them.
 
-ghost use Rattle.std.specs.Prelude.{◌≡◌, ◌≢◌, ◌+◌, ◌-◌, ◌*◌, ◌/◌, ◌<◌, ◌≤◌, ◌&&◌, ◌||◌, ℕ, All, IfSome, find, length, nat_le, slice_index};
+ghost use Rattle.std.specs.Prelude.{◌≡◌, ◌≢◌, ◌+◌, ◌-◌, ◌*◌, ◌/◌, ◌<◌, ◌≤◌, ◌&&◌, ◌||◌, ℕ, All};
+ghost use Rattle.std.specs.Prelude.{IfSome, find, length, nat_le, slice_index};
 ghost use Rattle.dos_world.specs.Kernel.{zero_page};
 ghost use Rattle.dos_world.specs.Lawful.{IsByte};
 ghost use Rattle.elf_image.specs.Image.{IsPlaced, IsSound, size_of};
 ghost use Rattle.page_store.specs.Store.{whole};
-ghost use Rattle.group_open.specs.Opening.{needed, page_bytes, page_count, pages_touched, part_entry, part_pages, touches};
+ghost use Rattle.group_open.specs.Opening.{needed, page_bytes, page_count, pages_touched};
+ghost use Rattle.group_open.specs.Opening.{part_entry, part_pages, touches};
 ghost use Rattle.group_open.specs.Laws.{HasBytes, IsAccepted};
 ghost use Rattle.group_open.specs.Pages.{laid_over, least_from, lower_of};
 

@@ -13,7 +13,8 @@ use Rattle.group_rounds.specs.Kernels.{Held, IsBetweenRounds}
 use Rattle.group_rounds.specs.Parts.{work_between}
 use Rattle.group_rounds.specs.Phases.{ready_in}
 use Rattle.group_rounds.proofs.PacksShow.{can-run}
-use Rattle.group_rounds.proofs.PacksBack.{starter-at, others, pages-apart, pages-away, threads-live, rooms, all-runs, sound-again, count-again}
+use Rattle.group_rounds.proofs.PacksBack.{starter-at, others, pages-apart, pages-away, threads-live}
+use Rattle.group_rounds.proofs.PacksBack.{rooms, all-runs, sound-again, count-again}
 use Rattle.group_rounds.proofs.PacksWork.{work-is}
 use Rattle.group_rounds.proofs.RoundLaws.{parallel_is}
 

@@ -1,12 +1,14 @@
 -- Causes of stops, joined over calls that follow one another.
-use Rattle.std.proofs.Common.{ℕ, ◌≤◌, ◌≡◌, refl, ◌∙◌, subst, Option, Some, None, Result, Ok, Err, arith}
+use Rattle.std.proofs.Common.{ℕ, ◌≤◌, ◌≡◌, refl, ◌∙◌, subst, Option, Some, None, Result, Ok, Err}
+use Rattle.std.proofs.Common.{arith}
 use Rattle.std.specs.Prelude.{IfErr, OnOk}
 use Rattle.dos_io.specs.Outside.{Rose, counted}
 use Rattle.dos_io.specs.Shims.{ShimState}
 use Rattle.dos_io.specs.declared.shim.ShimStop.{ShimStop}
 use Rattle.kernel_calls.specs.StateWorld.{HasSinkCause, shim_stop}
 use Rattle.kernel_calls.specs.declared.state.RunStop.{RunStop}
-use Rattle.kernel_calls.specs.declared.state.RunStop.TheVariants.{HostFault, LogFull, Misfit, OutFault, ErrFault, Memory}
+use Rattle.kernel_calls.specs.declared.state.RunStop.TheVariants.{HostFault, LogFull, Misfit}
+use Rattle.kernel_calls.specs.declared.state.RunStop.TheVariants.{OutFault, ErrFault, Memory}
 use Rattle.group_rounds.specs.Outside.{HasNotStopped, HasShimCause, HaveCauses, HaveStood}
 
 pub not_stopped_yet : (s : ShimState) → HasNotStopped s s

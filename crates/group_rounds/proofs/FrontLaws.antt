@@ -1,6 +1,7 @@
 -- The machine sends its bytes behind those that it has sent. So what is a front of them stays one,
 -- over any answers; and where a play was cut off, the sinks hold fronts of what the whole sends.
-use Rattle.std.proofs.Common.{ℕ, ◌≡◌, refl, sym, ap, ◌∙◌, subst, List, [], ◌∷◌, ◌++◌, append-nil, append_assoc, Option, None}
+use Rattle.std.proofs.Common.{ℕ, ◌≡◌, refl, sym, ap, ◌∙◌, subst, List, [], ◌∷◌, ◌++◌, append-nil}
+use Rattle.std.proofs.Common.{append_assoc, Option, None}
 use Rattle.std.specs.Prelude.{map, ⊤}
 use Rattle.std.proofs.lemmas.List.{map-append}
 use Rattle.dos_world.specs.World.{World}
@@ -9,7 +10,8 @@ use Rattle.dos_world.specs.Services.{Served as FlatServed, went, waits, yields, 
 use Rattle.dos_io.specs.declared.exchange.Exchange.{Exchange}
 use Rattle.dos_io.specs.Exchanges.{answer_of}
 use Rattle.dos_io.specs.Outside.{IsFront}
-use Rattle.dos_io.proofs.OutsideLaws.{grown-nothing, grown-front, front-behind, front-more, front-nothing}
+use Rattle.dos_io.proofs.OutsideLaws.{grown-nothing, grown-front, front-behind, front-more}
+use Rattle.dos_io.proofs.OutsideLaws.{front-nothing}
 use Rattle.dos_laws.specs.Plays.{world_served, world_ended}
 use Rattle.round_core.specs.Rest.{turns, after_service, serial_of}
 use Rattle.round_core.specs.Round.{RoundEnd as FlatEnd, round_of}
@@ -20,9 +22,11 @@ use Rattle.round_core.proofs.Allowed.{Comes, allows_less, over_comes}
 use Rattle.round_core.proofs.Keeps.{turns_keep, serial_keeps, round_keeps}
 use Rattle.round_core.proofs.SameRun.{sent_kept}
 use Rattle.round_core.proofs.Turning.{goes_on}
-use Rattle.kernel_calls.specs.StateWorld.{FaultsIn, HasFaulted, HaveGrown, sent, shim_stop, to_output, to_error, world_of}
+use Rattle.kernel_calls.specs.StateWorld.{FaultsIn, HasFaulted, HaveGrown, sent, shim_stop}
+use Rattle.kernel_calls.specs.StateWorld.{to_output, to_error, world_of}
 use Rattle.kernel_calls.specs.declared.state.RunStop.{RunStop}
-use Rattle.kernel_calls.specs.declared.state.RunStop.TheVariants.{HostFault, LogFull, Misfit, OutFault, ErrFault, Memory}
+use Rattle.kernel_calls.specs.declared.state.RunStop.TheVariants.{HostFault, LogFull, Misfit}
+use Rattle.kernel_calls.specs.declared.state.RunStop.TheVariants.{OutFault, ErrFault, Memory}
 use Rattle.kernel_calls.specs.declared.state.State.{State}
 use Rattle.group_rounds.specs.Fronts.{AreFrontsOf, CutPlay}
 use Rattle.group_rounds.specs.Plays.{GoesOn}

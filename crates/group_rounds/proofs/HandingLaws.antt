@@ -1,5 +1,8 @@
 -- Pages that come home, and threads that are set, one after another.
-use Rattle.std.proofs.Common.{ℕ, zero, suc, ◌<◌, ◌≡◌, ◌≢◌, ◌⊎◌, inl, inr, refl, sym, ap, ◌∙◌, subst, Bool, true, false, eqb, eqb-true, List, [], ◌∷◌, ◌++◌, length, set, Option, Some, None, IsSome, option_map, arith, length-set, append_assoc}
+use Rattle.std.proofs.Common.{ℕ, zero, suc, ◌<◌, ◌≡◌, ◌≢◌, ◌⊎◌, inl, inr, refl, sym, ap, ◌∙◌, subst}
+use Rattle.std.proofs.Common.{Bool, true, false, eqb, eqb-true, List, [], ◌∷◌, ◌++◌, length, set}
+use Rattle.std.proofs.Common.{Option, Some, None, IsSome, option_map, arith, length-set}
+use Rattle.std.proofs.Common.{append_assoc}
 use Rattle.std.specs.Prelude.{slice_get}
 use Rattle.dos_world.specs.Numbered.{changed}
 use Rattle.dos_world.specs.World.{Thread, flat}

@@ -1,5 +1,8 @@
 -- What the packs bring back makes the world of all parts.
-use Rattle.std.proofs.Common.{ℕ, zero, suc, ◌-◌, ◌*◌, ◌/◌, ◌%◌, ◌<◌, ◌≤◌, ◌≡◌, ◌≢◌, ◌⊎◌, inl, inr, refl, sym, ap, ◌∙◌, subst, Bool, true, false, List, [], ◌∷◌, ◌++◌, length, map, get_or, Option, Some, None, IsSome, All, option_map, eqb, eqb-true, arith}
+use Rattle.std.proofs.Common.{ℕ, zero, suc, ◌-◌, ◌*◌, ◌/◌, ◌%◌, ◌<◌, ◌≤◌, ◌≡◌, ◌≢◌, ◌⊎◌, inl, inr}
+use Rattle.std.proofs.Common.{refl, sym, ap, ◌∙◌, subst, Bool, true, false, List, [], ◌∷◌, ◌++◌}
+use Rattle.std.proofs.Common.{length, map, get_or, Option, Some, None, IsSome, All, option_map, eqb}
+use Rattle.std.proofs.Common.{eqb-true, arith}
 use Rattle.std.specs.Prelude.{slice_get}
 use Rattle.std.proofs.lemmas.List.{get_or_past}
 use Rattle.std.proofs.lemmas.List.Elements.{All-nil, All-cons}
@@ -19,7 +22,8 @@ use Rattle.proc_table.specs.Tables.{thread_in, IsThread}
 use Rattle.kernel_calls.specs.StateWorld.{IsSound, sent, world_of}
 use Rattle.kernel_objects.specs.Pipework.{Pipework}
 use Rattle.kernel_calls.specs.declared.state.State.{State}
-use Rattle.group_rounds.specs.Handing.{In, all_pages, AreApart, AreOthers, IsFor, Handing, PutBack, AreSet, pack_of, view_of}
+use Rattle.group_rounds.specs.Handing.{In, all_pages, AreApart, AreOthers, IsFor, Handing, PutBack}
+use Rattle.group_rounds.specs.Handing.{AreSet, pack_of, view_of}
 use Rattle.group_rounds.specs.Phases.{AreLive}
 use Rattle.worker_pool.specs.Ran.{AllRan, HasRun}
 use Rattle.group_rounds.proofs.HandingLaws.{in-left, in-right, in-either}
@@ -27,7 +31,8 @@ use Rattle.group_rounds.proofs.Sound.{sound_then, alone_keeps}
 use Rattle.kernel_objects.specs.Pipework.{Pipework}
 use Rattle.kernel_calls.proofs.Counted.{all_counted, counted_like}
 use Rattle.group_rounds.proofs.PacksRan.{among-of, among-at, apart-of, brought}
-use Rattle.group_rounds.proofs.PacksShow.{frames-at, frames-from, some-is, shows-it, below, opened-is, lives, frame-low}
+use Rattle.group_rounds.proofs.PacksShow.{frames-at, frames-from, some-is, shows-it, below}
+use Rattle.group_rounds.proofs.PacksShow.{opened-is, lives, frame-low}
 
 -- ---- lists
 

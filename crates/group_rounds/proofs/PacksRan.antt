@@ -1,8 +1,11 @@
 -- Packs that have run show the world of all parts, one after another.
-use Rattle.std.proofs.Common.{ℕ, zero, suc, ◌*◌, ◌≡◌, ◌≢◌, inl, inr, refl, sym, ap, ◌∙◌, subst, List, [], ◌∷◌, length, Option, Some, None, option_map, option_and_then, arith}
+use Rattle.std.proofs.Common.{ℕ, zero, suc, ◌*◌, ◌≡◌, ◌≢◌, inl, inr, refl, sym, ap, ◌∙◌, subst}
+use Rattle.std.proofs.Common.{List, [], ◌∷◌, length, Option, Some, None, option_map}
+use Rattle.std.proofs.Common.{option_and_then, arith}
 use Rattle.std.specs.Prelude.{slice_get, slice_index_or}
 use Rattle.dos_world.specs.Numbered.{numbered}
-use Rattle.dos_world.specs.World.{World, Thread, Process, is_state, holdings_of, thread_at, owner_of, page_of, look}
+use Rattle.dos_world.specs.World.{World, Thread, Process, is_state, holdings_of, thread_at}
+use Rattle.dos_world.specs.World.{owner_of, page_of, look}
 use Rattle.dos_world.specs.declared.Entry.{Entry}
 use Rattle.dos_world.specs.declared.Owner.{Owner}
 use Rattle.dos_world.specs.declared.Owner.TheVariants.{Free, Shared, Of}

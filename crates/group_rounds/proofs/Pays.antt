@@ -1,24 +1,48 @@
 -- What every service leaves: a caller that goes on lives and has paid one of its budget, and there
 -- are as many frames as before. None asks the question of the run's end.
-use Rattle.std.proofs.Common.{ℕ, zero, suc, ◌-◌, ◌%◌, ◌≡◌, refl, sym, ap, ◌∙◌, subst, Bool, true, false, cond, not, List, [], ◌∷◌, ◌++◌, length, length-set, Option, Some, None, option_map, Result, Ok, Err, min, take, drop}
+use Rattle.std.proofs.Common.{ℕ, zero, suc, ◌-◌, ◌%◌, ◌≡◌, refl, sym, ap, ◌∙◌, subst, Bool, true}
+use Rattle.std.proofs.Common.{false, cond, not, List, [], ◌∷◌, ◌++◌, length, length-set, Option}
+use Rattle.std.proofs.Common.{Some, None, option_map, Result, Ok, Err, min, take, drop}
 use Rattle.std.specs.Prelude.{◌==◌, ◌||◌, ◌&&◌, ⊤, filter, map, nat_le, nat_lt, is_none, slice_get}
 use Rattle.std.specs.List.{list_any}
 use Rattle.dos_world.specs.Errors.{enosys}
 use Rattle.dos_world.specs.Numbered.{changed, changed_at}
-use Rattle.dos_world.specs.World.{World, Thread, Holdings, Registers, flat, thread_at, get, first_thread, first_of, has_ended, threads_of, parent_of, live_process, with_thread, with_holdings, without_thread, registers_by, page_of, entry_at, action_of}
+use Rattle.dos_world.specs.World.{World, Thread, Holdings, Registers, flat, thread_at, get}
+use Rattle.dos_world.specs.World.{first_thread, first_of, has_ended, threads_of, parent_of}
+use Rattle.dos_world.specs.World.{live_process, with_thread, with_holdings, without_thread}
+use Rattle.dos_world.specs.World.{registers_by, page_of, entry_at, action_of}
 use Rattle.dos_world.specs.Reach.{Reached, fault, foreign, at, reach, grant, granted}
 use Rattle.dos_world.specs.Counts.{owner_if_mapped}
 use Rattle.dos_world.specs.Copying.{all_reach}
-use Rattle.dos_world.specs.Kernel.{answered, awake, minus, posted, pending_with, tidied, orphaned, ended_by, unless_of, is_none_of_these, process_ended, thread_ended, woken, opened, copied_in, copied_out, has_reader, has_writer, with_fresh, zero_page, free_frames, lowest_free_frame}
+use Rattle.dos_world.specs.Kernel.{answered, awake, minus, posted, pending_with, tidied, orphaned}
+use Rattle.dos_world.specs.Kernel.{ended_by, unless_of, is_none_of_these, process_ended}
+use Rattle.dos_world.specs.Kernel.{thread_ended, woken, opened, copied_in, copied_out, has_reader}
+use Rattle.dos_world.specs.Kernel.{has_writer, with_fresh, zero_page, free_frames}
+use Rattle.dos_world.specs.Kernel.{lowest_free_frame}
 use Rattle.dos_world.specs.Play.{Play, Answer, done, ask, asks, input_of, over, gives}
 use Rattle.dos_world.specs.Services.{service, service_for, service_of}
-use Rattle.dos_world.specs.Calls.{Call, Service, Served, went, waits, yields, gone, charged, call_of, returns, returns_in, returns_two, refuses, refuses_in, replies, retries, mask_of}
-use Rattle.dos_world.specs.ThreadCalls.{thread_new, are_threads_full, ready_thread, new_registers, next_thread, with_new_thread}
-use Rattle.dos_world.specs.ProcessCalls.{fork, forked_by, copied_space, are_processes_full, private_entries, with_child, next_process, wait, wait_by, children_where, any_process, collected, status_at}
-use Rattle.dos_world.specs.DescriptorCalls.{pipe, pipe_by, close, dup, dup_by, read, read_by, read_input, read_pipe, write, write_by, write_output, write_error, write_pipe, write_some, transfers, count_of, descriptor, free_descriptors, second_of, lowest_pipe, with_descriptor, pipe_bytes, with_pipe}
-use Rattle.dos_world.specs.FutexCalls.{futex_wait, futex_wake, at_word, by_entry, is_off_word, futex_wait_at, futex_wake_at, futex_word, all_woken, sleepers_at}
-use Rattle.dos_world.specs.MemoryCalls.{map_pages, page_mapped, mapped_fresh, pages_of, is_range, maps_page, where_mapped, is_no_range, lacks_page, without_pages, with_shared}
-use Rattle.dos_world.specs.SignalCalls.{sig_handler, is_signal, is_action, with_action, sig_mask, masked, sig_return, sig_return_by, restored, refused_in_place, saved_of, kill}
+use Rattle.dos_world.specs.Calls.{Call, Service, Served, went, waits, yields, gone, charged}
+use Rattle.dos_world.specs.Calls.{call_of, returns, returns_in, returns_two, refuses, refuses_in}
+use Rattle.dos_world.specs.Calls.{replies, retries, mask_of}
+use Rattle.dos_world.specs.ThreadCalls.{thread_new, are_threads_full, ready_thread, new_registers}
+use Rattle.dos_world.specs.ThreadCalls.{next_thread, with_new_thread}
+use Rattle.dos_world.specs.ProcessCalls.{fork, forked_by, copied_space, are_processes_full}
+use Rattle.dos_world.specs.ProcessCalls.{private_entries, with_child, next_process, wait, wait_by}
+use Rattle.dos_world.specs.ProcessCalls.{children_where, any_process, collected, status_at}
+use Rattle.dos_world.specs.DescriptorCalls.{pipe, pipe_by, close, dup, dup_by, read, read_by}
+use Rattle.dos_world.specs.DescriptorCalls.{read_input, read_pipe, write, write_by, write_output}
+use Rattle.dos_world.specs.DescriptorCalls.{write_error, write_pipe, write_some, transfers}
+use Rattle.dos_world.specs.DescriptorCalls.{count_of, descriptor, free_descriptors, second_of}
+use Rattle.dos_world.specs.DescriptorCalls.{lowest_pipe, with_descriptor, pipe_bytes, with_pipe}
+use Rattle.dos_world.specs.FutexCalls.{futex_wait, futex_wake, at_word, by_entry, is_off_word}
+use Rattle.dos_world.specs.FutexCalls.{futex_wait_at, futex_wake_at, futex_word, all_woken}
+use Rattle.dos_world.specs.FutexCalls.{sleepers_at}
+use Rattle.dos_world.specs.MemoryCalls.{map_pages, page_mapped, mapped_fresh, pages_of, is_range}
+use Rattle.dos_world.specs.MemoryCalls.{maps_page, where_mapped, is_no_range, lacks_page}
+use Rattle.dos_world.specs.MemoryCalls.{without_pages, with_shared}
+use Rattle.dos_world.specs.SignalCalls.{sig_handler, is_signal, is_action, with_action, sig_mask}
+use Rattle.dos_world.specs.SignalCalls.{masked, sig_return, sig_return_by, restored}
+use Rattle.dos_world.specs.SignalCalls.{refused_in_place, saved_of, kill}
 use Rattle.dos_world.specs.declared.Access.{Access}
 use Rattle.dos_world.specs.declared.Access.TheVariants.{Load, Store}
 use Rattle.dos_world.specs.declared.Size.TheVariants.{Byte}
@@ -27,7 +51,8 @@ use Rattle.dos_world.specs.declared.End.{End as end_kind}
 use Rattle.dos_world.specs.declared.End.TheVariants.{Input, Output, Error, PipeRead, PipeWrite}
 use Rattle.dos_world.specs.declared.Question.{Question}
 use Rattle.dos_io.specs.declared.exchange.Exchange.{Exchange}
-use Rattle.dos_io.specs.declared.exchange.Exchange.TheVariants.{Signals, Input as input_exchange, Clock, End}
+use Rattle.dos_io.specs.declared.exchange.Exchange.TheVariants.{Signals, Input as input_exchange}
+use Rattle.dos_io.specs.declared.exchange.Exchange.TheVariants.{Clock, End}
 use Rattle.dos_io.specs.Exchanges.{answer_of, question_of}
 use Rattle.dos_io.specs.Shims.{HasNoEnd}
 use Rattle.dos_laws.proofs.Ends.{length-map_from}

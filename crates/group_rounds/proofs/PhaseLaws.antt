@@ -1,5 +1,7 @@
 -- One starter more in a phase.
-use Rattle.std.proofs.Common.{ℕ, suc, ◌+◌, ◌<◌, ◌≤◌, ◌≡◌, refl, sym, ap, ◌∙◌, subst, Bool, cond, true, false, List, [], ◌∷◌, length, drop, get_or, drop-cons, Option, arith}
+use Rattle.std.proofs.Common.{ℕ, suc, ◌+◌, ◌<◌, ◌≤◌, ◌≡◌, refl, sym, ap, ◌∙◌, subst, Bool, cond}
+use Rattle.std.proofs.Common.{true, false, List, [], ◌∷◌, length, drop, get_or, drop-cons, Option}
+use Rattle.std.proofs.Common.{arith}
 use Rattle.std.specs.Prelude.{is_some}
 use Rattle.std.proofs.Math.ListN.{drop_of_length-le}
 use Rattle.dos_world.specs.World.{World}

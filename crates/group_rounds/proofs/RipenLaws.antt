@@ -1,5 +1,6 @@
 -- Threads that become ready, over the kernel's state.
-use Rattle.std.proofs.Common.{ℕ, ◌+◌, ◌<◌, ◌≤◌, ◌≡◌, sym, ap, ◌∙◌, subst, List, [], ◌∷◌, drop, get_or, length}
+use Rattle.std.proofs.Common.{ℕ, ◌+◌, ◌<◌, ◌≤◌, ◌≡◌, sym, ap, ◌∙◌, subst, List, [], ◌∷◌, drop}
+use Rattle.std.proofs.Common.{get_or, length}
 use Rattle.dos_world.specs.World.{in_state}
 use Rattle.dos_world.specs.Signals.{made_ready, ripen}
 use Rattle.dos_world.specs.declared.ThreadState.TheVariants.{Ready}

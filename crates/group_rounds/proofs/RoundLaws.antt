@@ -1,5 +1,7 @@
 -- A round over the kernel's state, by how far it came.
-use Rattle.std.proofs.Common.{ℕ, ◌+◌, ◌-◌, ◌≤◌, ◌≡◌, ◌≢◌, refl, sym, ap, ap₂, ◌∙◌, subst, Bool, cond, true, false, List, [], ◌∷◌, ◌++◌, length, append-nil, Option, Some, None, arith, eq-eqb}
+use Rattle.std.proofs.Common.{ℕ, ◌+◌, ◌-◌, ◌≤◌, ◌≡◌, ◌≢◌, refl, sym, ap, ap₂, ◌∙◌, subst, Bool}
+use Rattle.std.proofs.Common.{cond, true, false, List, [], ◌∷◌, ◌++◌, length, append-nil, Option}
+use Rattle.std.proofs.Common.{Some, None, arith, eq-eqb}
 use Rattle.std.specs.Prelude.{map, option_map, is_some}
 use Rattle.std.proofs.lemmas.Bool.{ne_eqb}
 use Rattle.dos_world.specs.Numbered.{numbers_of}
@@ -18,7 +20,9 @@ use Rattle.dos_io.specs.Shims.{HasNoEnd}
 use Rattle.dos_laws.specs.Plays.{world_ended}
 use Rattle.dos_laws.proofs.Numbers.{numbers_same}
 use Rattle.round_core.specs.Rest.{serial_of}
-use Rattle.round_core.specs.Round.{RoundEnd as FlatEnd, went, finished, stalled, is_none_of, begun, round_of, phases, counted, with_budgets, with_budget, budgets, all_alone, parallel}
+use Rattle.round_core.specs.Round.{RoundEnd as FlatEnd, went, finished, stalled, is_none_of, begun}
+use Rattle.round_core.specs.Round.{round_of, phases, counted, with_budgets, with_budget, budgets}
+use Rattle.round_core.specs.Round.{all_alone, parallel}
 use Rattle.kernel_calls.specs.StateWorld.{IsSound, sent, world_of}
 use Rattle.kernel_calls.specs.declared.state.State.{State}
 use Rattle.group_rounds.specs.declared.round.RoundEnd.{RoundEnd}
@@ -32,7 +36,8 @@ use Rattle.group_rounds.specs.Rounds.{AreStarters, CutRound, RanRound, StoppedRo
 use Rattle.group_rounds.proofs.PlayLaws.{goes-over, goes-questions}
 use Rattle.group_rounds.proofs.FrontLaws.{cut_behind, cut_from, cut_then}
 use Rattle.group_rounds.proofs.StopLaws.{stopped_behind, stopped_from, stopped_then}
-use Rattle.group_rounds.proofs.StatePlayLaws.{told_nothing, told_so, told_then, goes_still, goes_and, goes_behind, goes_from}
+use Rattle.group_rounds.proofs.StatePlayLaws.{told_nothing, told_so, told_then, goes_still}
+use Rattle.group_rounds.proofs.StatePlayLaws.{goes_and, goes_behind, goes_from}
 
 -- ---- told exchanges
 

@@ -1,13 +1,17 @@
 -- The signal point over the kernel's state.
-use Rattle.std.proofs.Common.{ℕ, zero, suc, ◌+◌, ◌-◌, ◌<◌, ◌≤◌, ◌≡◌, refl, sym, ap, ◌∙◌, subst, Bool, cond, true, false, List, [], ◌∷◌, drop, get_or, length, Option, Some, None, option_map, le-leb, eq-eqb, arith}
+use Rattle.std.proofs.Common.{ℕ, zero, suc, ◌+◌, ◌-◌, ◌<◌, ◌≤◌, ◌≡◌, refl, sym, ap, ◌∙◌, subst}
+use Rattle.std.proofs.Common.{Bool, cond, true, false, List, [], ◌∷◌, drop, get_or, length, Option}
+use Rattle.std.proofs.Common.{Some, None, option_map, le-leb, eq-eqb, arith}
 use Rattle.std.proofs.lemmas.Bool.{ne_eqb}
 use Rattle.std.specs.Prelude.{◌==◌, ◌||◌, IfSome, IsSome, find, slice_get, slice_index}
 use Rattle.dos_world.specs.Numbered.{run_of, numbers_of}
-use Rattle.dos_world.specs.World.{World, Thread, Sleeper, Holdings, has_bit, with_thread, first_of, belongs_to, action_of}
+use Rattle.dos_world.specs.World.{World, Thread, Sleeper, Holdings, has_bit, with_thread, first_of}
+use Rattle.dos_world.specs.World.{belongs_to, action_of}
 use Rattle.dos_world.specs.Kernel.{awake, posted, pending_with, process_ended}
 use Rattle.dos_world.specs.Lawful.{IsThread as InRange}
 use Rattle.dos_world.specs.SignalCalls.{is_signal}
-use Rattle.dos_world.specs.Signals.{all_posted, may_come, chosen, cleared, default_action, delivered, handler_action, signal_turn, signal_turns, turn_by}
+use Rattle.dos_world.specs.Signals.{all_posted, may_come, chosen, cleared, default_action}
+use Rattle.dos_world.specs.Signals.{delivered, handler_action, signal_turn, signal_turns, turn_by}
 use Rattle.dos_world.specs.declared.Post.{Post}
 use Rattle.dos_io.specs.Posts.{FitsPost, ArePosts}
 use Rattle.dos_laws.proofs.StandsKeeps.{stands_kept}

@@ -1,5 +1,7 @@
 -- What keeps a state sound, and who has a part in it.
-use Rattle.std.proofs.Common.{ℕ, zero, suc, ◌≤◌, ◌≡◌, refl, subst, Bool, cond, true, false, List, [], ◌∷◌, length, Option, Some, None, option_map, Result, Ok, Err, arith}
+use Rattle.std.proofs.Common.{ℕ, zero, suc, ◌≤◌, ◌≡◌, refl, subst, Bool, cond, true, false, List}
+use Rattle.std.proofs.Common.{[], ◌∷◌, length, Option, Some, None, option_map, Result, Ok, Err}
+use Rattle.std.proofs.Common.{arith}
 use Rattle.std.specs.Prelude.{IsSome, is_some, slice_get}
 use Rattle.dos_world.specs.Numbered.{changed, changed_at, numbers_of}
 use Rattle.dos_world.specs.World.{World, Thread, flat, entry_at, is_state, with_thread}

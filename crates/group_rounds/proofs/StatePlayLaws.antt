@@ -1,5 +1,6 @@
 -- Laws of plays that go on while the state changes.
-use Rattle.std.proofs.Common.{ℕ, ◌≡◌, sym, ap, ap₂, ◌∙◌, subst, List, [], ◌++◌, append-nil, append_assoc, Option}
+use Rattle.std.proofs.Common.{ℕ, ◌≡◌, sym, ap, ap₂, ◌∙◌, subst, List, [], ◌++◌, append-nil}
+use Rattle.std.proofs.Common.{append_assoc, Option}
 use Rattle.std.specs.Prelude.{Some, None, Result, Ok, Err, IfErr, IfOk, OnErr, OnOk, OnSome}
 use Rattle.dos_world.specs.World.{World}
 use Rattle.dos_world.specs.Play.{Play, done, ◌>>=◌}

@@ -1,8 +1,11 @@
 -- A thread that runs in place, and the grant of a page, over the kernel's state.
-use Rattle.std.proofs.Common.{ℕ, zero, suc, ◌-◌, ◌/◌, ◌<◌, ◌≤◌, ◌≡◌, refl, sym, ap, ap₂, ◌∙◌, subst, List, [], ◌∷◌, length, length-set, Option, Some, None, option_map, arith}
+use Rattle.std.proofs.Common.{ℕ, zero, suc, ◌-◌, ◌/◌, ◌<◌, ◌≤◌, ◌≡◌, refl, sym, ap, ap₂, ◌∙◌, subst}
+use Rattle.std.proofs.Common.{List, [], ◌∷◌, length, length-set, Option, Some, None, option_map}
+use Rattle.std.proofs.Common.{arith}
 use Rattle.std.specs.Prelude.{All, IsSome, IfSome, Err, MatchOption, slice_get}
 use Rattle.dos_world.specs.Numbered.{changed, changed_at}
-use Rattle.dos_world.specs.World.{World, Thread, Registers, Holdings, flat, space_of, look, entry_at}
+use Rattle.dos_world.specs.World.{World, Thread, Registers, Holdings, flat, space_of, look}
+use Rattle.dos_world.specs.World.{entry_at}
 use Rattle.dos_world.specs.Reach.{granted}
 use Rattle.dos_world.specs.declared.Access.{Access}
 use Rattle.dos_world.specs.declared.Entry.{Entry}

@@ -1,5 +1,7 @@
 -- What follows a stop of a thread, over the kernel's state.
-use Rattle.std.proofs.Common.{ℕ, zero, suc, ◌+◌, ◌-◌, ◌<◌, ◌≤◌, ◌≡◌, refl, sym, ap, ap₂, ◌∙◌, subst, Bool, cond, true, false, List, [], ◌∷◌, length, Option, Some, None, option_map, arith}
+use Rattle.std.proofs.Common.{ℕ, zero, suc, ◌+◌, ◌-◌, ◌<◌, ◌≤◌, ◌≡◌, refl, sym, ap, ap₂, ◌∙◌, subst}
+use Rattle.std.proofs.Common.{Bool, cond, true, false, List, [], ◌∷◌, length, Option, Some, None}
+use Rattle.std.proofs.Common.{option_map, arith}
 use Rattle.std.specs.Prelude.{map, Result, Ok, Err, IsSome, IfSome, OnSome, MatchOption}
 use Rattle.dos_world.specs.World.{World, Thread}
 use Rattle.dos_world.specs.Kernel.{process_ended}
@@ -24,9 +26,11 @@ use Rattle.quantum_run.specs.ThreadRuns.{after_steps}
 use Rattle.round_core.specs.Granting.{grants_needed}
 use Rattle.round_core.specs.Laws.{MapsWithin}
 use Rattle.round_core.specs.Rest.{page_granted, process_of, after_service, turns, rest_of}
-use Rattle.round_core.proofs.Turning.{goes_on, turns-granted, turns-fault, turns-service, turns-after_steps, few_grants, needed-granted}
+use Rattle.round_core.proofs.Turning.{goes_on, turns-granted, turns-fault, turns-service}
+use Rattle.round_core.proofs.Turning.{turns-after_steps, few_grants, needed-granted}
 use Rattle.proc_table.specs.Tables.{thread_in, IsThread}
-use Rattle.kernel_calls.specs.StateWorld.{HaveParts, IsSound, world_of, sent, way_in, left_after, Answers, Asks, HasFaulted, shim_stop}
+use Rattle.kernel_calls.specs.StateWorld.{HaveParts, IsSound, world_of, sent, way_in, left_after}
+use Rattle.kernel_calls.specs.StateWorld.{Answers, Asks, HasFaulted, shim_stop}
 use Rattle.kernel_calls.specs.declared.state.RunStop.{RunStop}
 use Rattle.kernel_calls.specs.declared.state.State.{State}
 use Rattle.kernel_calls.specs.declared.state.Served.{Served}
@@ -34,12 +38,18 @@ use Rattle.kernel_calls.specs.declared.state.Served.TheVariants.{Went, Waits, Yi
 use Rattle.group_rounds.specs.Fronts.{CutPlay, StoppedPlay}
 use Rattle.group_rounds.specs.Outside.{is_end}
 use Rattle.group_rounds.specs.StatePlays.{Telling, telling, GoesTo}
-use Rattle.group_rounds.specs.Parts.{KeepsCount, RanPart, budget_in, goes_on_after, turns_left, part_left, part_measure}
-use Rattle.group_rounds.proofs.FrontLaws.{cut_behind, cut_then, cut_from, fronts_after_service, service_cut}
-use Rattle.group_rounds.proofs.StopLaws.{cut_stopped, service_stopped, stopped_behind, stopped_from, stopped_then}
+use Rattle.group_rounds.specs.Parts.{KeepsCount, RanPart, budget_in, goes_on_after, turns_left}
+use Rattle.group_rounds.specs.Parts.{part_left, part_measure}
+use Rattle.group_rounds.proofs.FrontLaws.{cut_behind, cut_then, cut_from, fronts_after_service}
+use Rattle.group_rounds.proofs.FrontLaws.{service_cut}
+use Rattle.group_rounds.proofs.StopLaws.{cut_stopped, service_stopped, stopped_behind, stopped_from}
+use Rattle.group_rounds.proofs.StopLaws.{stopped_then}
 use Rattle.group_rounds.proofs.PlayLaws.{goes_by}
-use Rattle.group_rounds.proofs.StatePlayLaws.{goes_still, goes_behind, goes_from, goes_and, goes_served}
-use Rattle.group_rounds.proofs.Pays.{HasPaid, budget_at, no_end-append, no_end_over, process_ended-count, question_no_end, service_paid, service_pays}
+use Rattle.group_rounds.proofs.StatePlayLaws.{goes_still, goes_behind, goes_from, goes_and}
+use Rattle.group_rounds.proofs.StatePlayLaws.{goes_served}
+use Rattle.group_rounds.proofs.Pays.{HasPaid, budget_at, no_end-append, no_end_over}
+use Rattle.group_rounds.proofs.Pays.{process_ended-count, question_no_end, service_paid}
+use Rattle.group_rounds.proofs.Pays.{service_pays}
 use Rattle.group_rounds.proofs.ThreadRunLaws.{some_of}
 use Rattle.group_rounds.proofs.Sound.{parts_then, sound_one}
 

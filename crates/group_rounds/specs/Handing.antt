@@ -1,5 +1,6 @@
 -- Pages that are away with packs, and how they come back. This project's own rules.
-use Rattle.std.specs.Prelude.{ℕ, ◌≡◌, ◌≢◌, ◌⊎◌, ◌<◌, ◌≤◌, List, [], ◌∷◌, ◌++◌, length, Some, None, option_map, slice_get, slice_set}
+use Rattle.std.specs.Prelude.{ℕ, ◌≡◌, ◌≢◌, ◌⊎◌, ◌<◌, ◌≤◌, List, [], ◌∷◌, ◌++◌, length, Some, None}
+use Rattle.std.specs.Prelude.{option_map, slice_get, slice_set}
 use Rattle.dos_world.specs.declared.Owner.TheVariants.{Of}
 use Rattle.rv_exec.specs.Runs.{kept}
 use Rattle.page_store.specs.Store.{Store, whole, owner_at, with_away}

@@ -1,5 +1,6 @@
 -- A thread's part in a round, over the kernel's state. This project's own rules.
-use Rattle.std.specs.Prelude.{ℕ, ◌≡◌, ◌+◌, ◌-◌, ◌*◌, ◌<◌, List, length, sum_by, Option, Some, Err, MatchOption, Bool, true, false}
+use Rattle.std.specs.Prelude.{ℕ, ◌≡◌, ◌+◌, ◌-◌, ◌*◌, ◌<◌, List, length, sum_by, Option, Some, Err}
+use Rattle.std.specs.Prelude.{MatchOption, Bool, true, false}
 use Rattle.dos_world.specs.World.{World}
 use Rattle.dos_world.specs.Play.{Play, done}
 use Rattle.dos_world.specs.declared.Reason.{Reason}

@@ -1,5 +1,6 @@
 // The kernel: the state, what the run was given, and who starts a round.
-ghost use Rattle.std.specs.Prelude.{ℕ, ◌≡◌, ◌≤◌, ◌-◌, [], false, is_err, length, IfErr, IfOk, IfSome, IsSome, OnErr, OnOk, OnSome};
+ghost use Rattle.std.specs.Prelude.{ℕ, ◌≡◌, ◌≤◌, ◌-◌, [], false, is_err, length, IfErr, IfOk};
+ghost use Rattle.std.specs.Prelude.{IfSome, IsSome, OnErr, OnOk, OnSome};
 ghost use Rattle.std.specs.Vec.{vec_capacity};
 ghost use Rattle.dos_world.specs.Numbered.{numbered};
 ghost use Rattle.dos_world.specs.Play.{done};
@@ -12,7 +13,8 @@ ghost use Rattle.group_rounds.specs.StatePlays.{GoesTo, telling};
 ghost use Rattle.group_rounds.specs.Kernels.{IsBetweenRounds};
 ghost use Rattle.group_rounds.specs.Outside.{HaveCauses, is_end};
 ghost use Rattle.group_rounds.specs.Phases.{ready_in};
-ghost use Rattle.group_rounds.specs.Rounds.{AreStarters, CutRound, RanRound, StoppedRound, next_round, work_in};
+ghost use Rattle.group_rounds.specs.Rounds.{AreStarters, CutRound, RanRound, StoppedRound};
+ghost use Rattle.group_rounds.specs.Rounds.{next_round, work_in};
 ghost use Rattle.worker_pool.specs.Ran.{GrewBy};
 
 use crate::packs::Packs;

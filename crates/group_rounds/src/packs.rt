@@ -1,17 +1,20 @@
 // The parallel phase over packs: their pages go out, they run, and all comes back.
-ghost use Rattle.std.specs.Prelude.{◌≡◌, ◌≢◌, true, ◌+◌, ◌-◌, ◌^◌, ◌≤◌, ◌<◌, ◌++◌, ◌∷◌, ◌⊎◌, [], ℕ, List, Some, IfOk, IsSome, MatchOption, length, map, slice_get};
+ghost use Rattle.std.specs.Prelude.{◌≡◌, ◌≢◌, true, ◌+◌, ◌-◌, ◌^◌, ◌≤◌, ◌<◌, ◌++◌, ◌∷◌, ◌⊎◌, [], ℕ};
+ghost use Rattle.std.specs.Prelude.{List, Some, IfOk, IsSome, MatchOption, length, map, slice_get};
 ghost use Rattle.std.specs.Vec.{vec_capacity};
 ghost use Rattle.dos_world.specs.declared.Owner.TheVariants.{Of};
 ghost use Rattle.page_store.specs.Store.{AreHome, IsAway, IsHome, owner_at};
 ghost use Rattle.proc_table.specs.Tables.{IsThread};
 ghost use Rattle.quantum_run.specs.Shows.{Pack as pack_value};
-ghost use Rattle.quantum_run.specs.Packs.{HoldsNo, seen};
+ghost use Rattle.quantum_run.specs.Packs.{HoldsNo};
 ghost use Rattle.kernel_calls.specs.StateWorld.{IsSound, sent, world_of};
 ghost use Rattle.round_core.specs.Round.{all_alone};
 ghost use Rattle.group_rounds.specs.Parts.{KeepsCount, work_between};
 ghost use Rattle.worker_pool.specs.Ran.{AllCanRun, AllRan, GrewBy, budgets};
 ghost use Rattle.group_rounds.specs.Phases.{AreLive};
-ghost use Rattle.group_rounds.specs.Handing.{In, all_pages, AreApart, AreOthers, AreBegun, AreSpare, GoesOut, Handing, PutBack, AreSet, Stays, pack_of, view_of};
+ghost use Rattle.group_rounds.specs.Handing.{In, all_pages, AreApart, AreOthers, AreBegun};
+ghost use Rattle.group_rounds.specs.Handing.{AreSpare, GoesOut, Handing, PutBack, AreSet, Stays};
+ghost use Rattle.group_rounds.specs.Handing.{pack_of, view_of};
 
 use crate::in_place::{is_callers, run_each};
 use dos_world::Owner;

@@ -1,5 +1,6 @@
 // One thread's part in a round.
-ghost use Rattle.std.specs.Prelude.{◌≡◌, ◌+◌, ◌≤◌, ◌<◌, ◌∷◌, ℕ, List, false, true, IfOk, IfErr, OnOk, OnErr, OnSome, Err, if◌then◌else◌};
+ghost use Rattle.std.specs.Prelude.{◌≡◌, ◌+◌, ◌≤◌, ◌<◌, ◌∷◌, ℕ, List, false, true, IfOk, IfErr};
+ghost use Rattle.std.specs.Prelude.{OnOk, OnErr, OnSome, Err, if◌then◌else◌};
 ghost use Rattle.dos_world.specs.Kernel.{process_ended};
 ghost use Rattle.dos_world.specs.Play.{done};
 ghost use Rattle.dos_world.specs.World.{registers_by, released};
@@ -9,11 +10,13 @@ ghost use Rattle.rv_exec.specs.Step.{step};
 ghost use Rattle.quantum_run.specs.Alone.{alone, emptied};
 ghost use Rattle.round_core.specs.Rest.{page_granted, process_of, rest_of};
 ghost use Rattle.proc_table.specs.Tables.{IsThread, thread_by};
-ghost use Rattle.kernel_calls.specs.StateWorld.{HaveParts, IsReady, IsSound, sent, shim_stop, world_of};
+ghost use Rattle.kernel_calls.specs.StateWorld.{HaveParts, IsReady, IsSound, sent, shim_stop};
+ghost use Rattle.kernel_calls.specs.StateWorld.{world_of};
 ghost use Rattle.group_rounds.specs.Fronts.{CutPlay, StoppedPlay};
 ghost use Rattle.group_rounds.specs.StatePlays.{GoesTo, telling};
 ghost use Rattle.group_rounds.specs.Outside.{HaveCauses, is_end};
-ghost use Rattle.group_rounds.specs.Parts.{KeepsCount, RanPart, budget_in, goes_on_after, part_left, part_measure, turns_left};
+ghost use Rattle.group_rounds.specs.Parts.{KeepsCount, RanPart, budget_in, goes_on_after};
+ghost use Rattle.group_rounds.specs.Parts.{part_left, part_measure, turns_left};
 
 use dos_io::{Shim, Sink};
 use dos_world::{Access, Reason};

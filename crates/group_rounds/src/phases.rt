@@ -1,5 +1,6 @@
 // The phases of a round, over its starters.
-ghost use Rattle.std.specs.Prelude.{◌≡◌, ◌≤◌, ◌+◌, ◌++◌, ◌∷◌, [], ℕ, List, false, filter, is_some, length, IfErr, OnOk, OnErr, OnSome};
+ghost use Rattle.std.specs.Prelude.{◌≡◌, ◌≤◌, ◌+◌, ◌++◌, ◌∷◌, [], ℕ, List, false, filter, is_some};
+ghost use Rattle.std.specs.Prelude.{length, IfErr, OnOk, OnErr, OnSome};
 ghost use Rattle.std.specs.Vec.{vec_capacity};
 ghost use Rattle.dos_world.specs.Numbered.{numbers_of};
 ghost use Rattle.dos_world.specs.Play.{done};

@@ -1,5 +1,6 @@
 // One round.
-ghost use Rattle.std.specs.Prelude.{◌≡◌, ◌≤◌, ◌+◌, ℕ, List, length, Some, false, IfOk, IfErr, OnErr, OnOk, OnSome};
+ghost use Rattle.std.specs.Prelude.{◌≡◌, ◌≤◌, ◌+◌, ℕ, List, length, false, IfOk, IfErr};
+ghost use Rattle.std.specs.Prelude.{OnErr, OnOk, OnSome};
 ghost use Rattle.std.specs.Vec.{vec_capacity};
 ghost use Rattle.dos_world.specs.Play.{done};
 ghost use Rattle.dos_world.specs.Signals.{ripen, signalled};
@@ -14,7 +15,8 @@ ghost use Rattle.group_rounds.specs.StatePlays.{GoesTo, telling};
 ghost use Rattle.group_rounds.specs.Outside.{HaveCauses, is_end};
 ghost use Rattle.group_rounds.specs.Parts.{KeepsCount};
 ghost use Rattle.group_rounds.specs.Phases.{ready_in};
-ghost use Rattle.group_rounds.specs.Rounds.{AreStarters, CutRound, RanRound, StoppedRound, StopsRun, end_in, next_round, work_in};
+ghost use Rattle.group_rounds.specs.Rounds.{AreStarters, CutRound, RanRound, StoppedRound};
+ghost use Rattle.group_rounds.specs.Rounds.{StopsRun, end_in, next_round, work_in};
 ghost use Rattle.worker_pool.specs.Ran.{GrewBy};
 
 use crate::packs::Packs;

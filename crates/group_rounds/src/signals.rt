@@ -1,9 +1,10 @@
 // The signal point of a round: the posts, then a turn of each live thread.
-ghost use Rattle.std.specs.Prelude.{◌≡◌, ◌+◌, ◌≤◌, ◌<◌, ◌==◌, ◌||◌, ℕ, List, filter, length, true, is_some, IfSome};
+ghost use Rattle.std.specs.Prelude.{◌≡◌, ◌+◌, ◌≤◌, ◌<◌, ◌==◌, ◌||◌, ℕ, List, length, true};
+ghost use Rattle.std.specs.Prelude.{IfSome};
 ghost use Rattle.std.specs.Vec.{vec_capacity};
-ghost use Rattle.dos_world.specs.Numbered.{numbers_of};
 ghost use Rattle.dos_world.specs.SignalCalls.{is_signal};
-ghost use Rattle.dos_world.specs.Signals.{all_posted, default_action, delivered, handler_action, interrupted, signal_turn, signal_turns, signalled};
+ghost use Rattle.dos_world.specs.Signals.{all_posted, default_action, delivered, handler_action};
+ghost use Rattle.dos_world.specs.Signals.{interrupted, signal_turn, signal_turns, signalled};
 ghost use Rattle.proc_table.specs.Tables.{IsThread, thread_in};
 ghost use Rattle.kernel_calls.specs.Ending.{posted_in};
 ghost use Rattle.kernel_calls.specs.StateWorld.{IsCounted, IsSound, sent, world_of};

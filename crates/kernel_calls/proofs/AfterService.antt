@@ -11,7 +11,8 @@ use Rattle.dos_laws.specs.Standing.{LawfulWith, fit_protocol}
 use Rattle.dos_laws.proofs.Outside.{lawful-sent}
 use Rattle.dos_laws.proofs.Stands.{awake_by}
 use Rattle.dos_laws.proofs.StandsKeeps.{stands_kept}
-use Rattle.kernel_calls.specs.StateWorld.{Answers, HaveParts, IsCounted, IsReady, IsSound, left_after, sent, way_in, world_of}
+use Rattle.kernel_calls.specs.StateWorld.{Answers, HaveParts, IsCounted, IsReady, IsSound}
+use Rattle.kernel_calls.specs.StateWorld.{left_after, sent, way_in, world_of}
 use Rattle.kernel_calls.specs.declared.state.State.{State}
 use Rattle.kernel_calls.specs.declared.state.Served.{Served}
 use Rattle.kernel_calls.specs.declared.state.Served.TheVariants.{Went, Waits, Yields, Gone}

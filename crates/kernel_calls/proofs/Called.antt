@@ -1,21 +1,25 @@
 -- The service of a thread, from its registers to what it answers.
-use Rattle.std.proofs.Common.{◌≡◌, ℕ, List, [], map, Option, Some, None, IsSome, IfSome, sym, ap, ◌∙◌}
+use Rattle.std.proofs.Common.{◌≡◌, ℕ, List, [], map, Option, Some, None, IsSome, IfSome, sym, ap}
+use Rattle.std.proofs.Common.{◌∙◌}
 use Rattle.dos_world.specs.World.{World, Thread, Registers, get, with_thread}
 use Rattle.dos_world.specs.Play.{over, questions, gives}
-use Rattle.dos_world.specs.Services.{Call, charged, went, service, service_for, built_service, call_of}
+use Rattle.dos_world.specs.Services.{Call, charged, went, service, service_for, built_service}
+use Rattle.dos_world.specs.Services.{call_of}
 use Rattle.dos_io.specs.Exchanges.{answer_of}
 use Rattle.dos_io.specs.Shims.{ShimState}
 use Rattle.dos_io.specs.declared.shim.ShimStop.{ShimStop}
 use Rattle.dos_io.specs.declared.exchange.Exchange.{Exchange}
 use Rattle.proc_table.specs.Tables.{Tables, IsThread, thread_in}
-use Rattle.kernel_calls.specs.StateWorld.{Answers, Asks, FaultsIn, HasFaulted, sent, to_output, to_error, world_of}
+use Rattle.kernel_calls.specs.StateWorld.{Answers, Asks, FaultsIn, HasFaulted, sent, to_output}
+use Rattle.kernel_calls.specs.StateWorld.{to_error, world_of}
 use Rattle.kernel_calls.specs.Built.{definition_by, named, services_built}
 use Rattle.kernel_calls.specs.CallResults.{call_in, paid}
 use Rattle.kernel_calls.specs.declared.state.State.{State}
 use Rattle.kernel_calls.specs.declared.state.Asked.{Asked}
 use Rattle.kernel_calls.specs.declared.state.Served.{Served}
 use Rattle.kernel_calls.specs.declared.state.RunStop.{RunStop}
-use Rattle.kernel_calls.specs.declared.state.RunStop.TheVariants.{HostFault, LogFull, Misfit, OutFault, ErrFault, Memory}
+use Rattle.kernel_calls.specs.declared.state.RunStop.TheVariants.{HostFault, LogFull, Misfit}
+use Rattle.kernel_calls.specs.declared.state.RunStop.TheVariants.{OutFault, ErrFault, Memory}
 use Rattle.kernel_calls.specs.declared.naming.Service.{Service}
 use Rattle.kernel_calls.proofs.Named.{built_is}
 

@@ -1,5 +1,6 @@
 -- What is known of a caller, in a state of any lawful world.
-use Rattle.std.proofs.Common.{◌≡◌, ℕ, List, [], length, Option, Some, None, IsSome, IfSome, refl, sym, ap, subst}
+use Rattle.std.proofs.Common.{◌≡◌, ℕ, List, [], length, Option, Some, None, IsSome, IfSome, refl}
+use Rattle.std.proofs.Common.{sym, ap, subst}
 use Rattle.dos_world.specs.Lawful.{AreHoldings}
 use Rattle.dos_world.specs.World.{Holdings}
 use Rattle.dos_world.specs.declared.Entry.{Entry}

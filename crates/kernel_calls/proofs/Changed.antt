@@ -1,5 +1,6 @@
 -- Changes of one thread, and threads that are added.
-use Rattle.std.proofs.Common.{◌≡◌, ◌<◌, ℕ, zero, suc, List, [], ◌∷◌, ◌++◌, Option, Some, None, option_map, IsSome, IfSome, refl, sym, ap, subst, ◌∙◌}
+use Rattle.std.proofs.Common.{◌≡◌, ◌<◌, ℕ, zero, suc, List, [], ◌∷◌, ◌++◌, Option, Some, None}
+use Rattle.std.proofs.Common.{option_map, IsSome, IfSome, refl, sym, ap, subst, ◌∙◌}
 use Rattle.dos_world.specs.Numbered.{changed, changed_at}
 use Rattle.dos_world.specs.World.{Thread, Registers, registers_by}
 use Rattle.dos_world.specs.Kernel.{answered}

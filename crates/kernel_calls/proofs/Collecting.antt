@@ -7,7 +7,8 @@ use Rattle.dos_world.specs.World.{World, all_holdings, first_of, has_ended, is_c
 use Rattle.dos_world.specs.Kernel.{answered_two}
 use Rattle.dos_world.specs.Play.{done}
 use Rattle.dos_world.specs.Calls.{Call, returns_two, went}
-use Rattle.dos_world.specs.ProcessCalls.{any_process, children_where, collected, collected_by, wait, wait_by}
+use Rattle.dos_world.specs.ProcessCalls.{any_process, children_where, collected, collected_by, wait}
+use Rattle.dos_world.specs.ProcessCalls.{wait_by}
 use Rattle.dos_laws.proofs.StandsWaits.{filtered_at, held_same, place_is}
 use Rattle.proc_table.specs.Children.{after_wait, children_in, outcome, outcome_by, status_in}
 use Rattle.proc_table.specs.Tables.{Tables, thread_by}

@@ -1,10 +1,12 @@
 -- What changes of a state keep counted.
-use Rattle.std.proofs.Common.{◌≡◌, ℕ, ◌+◌, ◌≤◌, Bool, zero, suc, List, [], ◌∷◌, map, length, Option, Some, None, IsSome, refl, sym, ap, ◌∙◌, subst, arith}
+use Rattle.std.proofs.Common.{◌≡◌, ℕ, ◌+◌, ◌≤◌, Bool, zero, suc, List, [], ◌∷◌, map, length, Option}
+use Rattle.std.proofs.Common.{Some, None, IsSome, refl, sym, ap, ◌∙◌, subst, arith}
 use Rattle.std.specs.Prelude.{◌==◌, All, sum_by, count_by, slice_index}
 use Rattle.std.proofs.lemmas.List.Sums.{sum_by-cons}
 use Rattle.dos_world.specs.Counts.{reads_pipe, writes_pipe}
 use Rattle.dos_world.specs.Numbered.{changed, changed_at}
-use Rattle.dos_world.specs.World.{Process, Holdings, Thread, Sleeper, Life, all_holdings, holdings_of, live, ended, live_changed, on_holdings}
+use Rattle.dos_world.specs.World.{Process, Holdings, Thread, Sleeper, Life, all_holdings}
+use Rattle.dos_world.specs.World.{holdings_of, live, ended, live_changed, on_holdings}
 use Rattle.dos_world.specs.declared.End.{End}
 use Rattle.dos_world.specs.declared.Entry.{Entry}
 use Rattle.dos_laws.proofs.EndedProcesses.{before}

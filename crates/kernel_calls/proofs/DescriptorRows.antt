@@ -1,15 +1,18 @@
 -- What dup and close answer, and which state they leave.
-use Rattle.std.proofs.Common.{◌≡◌, ℕ, ◌+◌, ◌<◌, Bool, true, false, cond, List, [], ◌∷◌, length, Option, Some, None, IsSome, IfSome, refl, sym, ap, subst, ◌∙◌, arith}
+use Rattle.std.proofs.Common.{◌≡◌, ℕ, ◌+◌, ◌<◌, Bool, true, false, cond, List, [], ◌∷◌, length}
+use Rattle.std.proofs.Common.{Option, Some, None, IsSome, IfSome, refl, sym, ap, subst, ◌∙◌, arith}
 use Rattle.std.specs.Prelude.{nat_lt, ◌==◌, count_by, position, is_none, filter}
 use Rattle.std.proofs.lemmas.Iterator.Adapters.{position_from-zero}
 use Rattle.std.proofs.lemmas.List.{ext_get_or}
 use Rattle.dos_world.specs.Numbered.{run_of, changed, map_from}
-use Rattle.dos_world.specs.World.{World, Holdings, live_process, on_holdings, with_holdings, first_of, owner_of, registers_by}
+use Rattle.dos_world.specs.World.{World, Holdings, live_process, on_holdings, with_holdings}
+use Rattle.dos_world.specs.World.{first_of, owner_of, registers_by}
 use Rattle.dos_world.specs.Kernel.{answered, minus, tidied}
 use Rattle.dos_world.specs.Counts.{uses_of, is_mapped, owner_if_mapped, bytes_if_open}
 use Rattle.dos_world.specs.Play.{Play, done}
 use Rattle.dos_world.specs.Calls.{Call, Served as FlatServed, went, returns_in, refuses}
-use Rattle.dos_world.specs.DescriptorCalls.{close, descriptor, dup, dup_by, free_descriptors, with_end}
+use Rattle.dos_world.specs.DescriptorCalls.{close, descriptor, dup, dup_by, free_descriptors}
+use Rattle.dos_world.specs.DescriptorCalls.{with_end}
 use Rattle.dos_world.specs.Lawful.{Lawful, IsEnd}
 use Rattle.dos_world.specs.declared.End.{End}
 use Rattle.dos_world.specs.declared.Owner.{Owner}
@@ -28,7 +31,8 @@ use Rattle.kernel_calls.specs.declared.state.Served.TheVariants.{Went}
 use Rattle.kernel_calls.proofs.Callers.{has as known, process_lives}
 use Rattle.kernel_calls.proofs.Counted.{counted-thread_by}
 use Rattle.kernel_calls.proofs.DescriptorCounts.{end_at, first_free, lowest_is_free}
-use Rattle.kernel_calls.proofs.EndCounts.{bytes_stay, can_have, counted_less, counted_more, end_range, is_named, one_dropped}
+use Rattle.kernel_calls.proofs.EndCounts.{bytes_stay, can_have, counted_less, counted_more}
+use Rattle.kernel_calls.proofs.EndCounts.{end_range, is_named, one_dropped}
 use Rattle.kernel_calls.proofs.Keeping.{lawful_now}
 use Rattle.kernel_calls.proofs.ProcessEnds.{pipes_tidied}
 use Rattle.kernel_calls.proofs.Sending.{answering, descriptor_is}

@@ -1,5 +1,7 @@
 -- The kept counts of ends where one descriptor of a process is set.
-use Rattle.std.proofs.Common.{◌≡◌, ℕ, ◌+◌, ◌<◌, Bool, true, false, cond, inl, inr, List, [], ◌∷◌, length, get_or, set, take, Option, Some, None, length-set, get_or-set_same, get_or-set_other, refl, sym, ap, subst, ◌∙◌, arith}
+use Rattle.std.proofs.Common.{◌≡◌, ℕ, ◌+◌, ◌<◌, Bool, true, false, cond, inl, inr, List, [], ◌∷◌}
+use Rattle.std.proofs.Common.{length, get_or, set, take, Option, Some, None, length-set}
+use Rattle.std.proofs.Common.{get_or-set_same, get_or-set_other, refl, sym, ap, subst, ◌∙◌, arith}
 use Rattle.std.specs.Prelude.{◌==◌, count_by}
 use Rattle.std.proofs.lemmas.Bool.{cases_eq, ne_eqb, eq-eqb}
 use Rattle.std.proofs.lemmas.List.Elements.{All-get_or, All-nil, All-cons}
@@ -21,7 +23,8 @@ use Rattle.kernel_calls.specs.Ends.{CanHave, with_end_more}
 use Rattle.kernel_calls.specs.StateWorld.{AreCounted, IsCounted, ends_of, world_of}
 use Rattle.kernel_calls.specs.declared.state.State.{State}
 use Rattle.kernel_calls.proofs.DescriptorCounts.{IsFreeAt, ends_set, few_ends, open_within}
-use Rattle.kernel_calls.proofs.PipeEnds.{dropped-more, dropped-none, open-by, open-by-second, still-named}
+use Rattle.kernel_calls.proofs.PipeEnds.{dropped-more, dropped-none, open-by, open-by-second}
+use Rattle.kernel_calls.proofs.PipeEnds.{still-named}
 use Rattle.kernel_calls.proofs.ProcessEnds.{open-counted}
 
 -- ---- an end more

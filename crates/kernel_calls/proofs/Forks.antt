@@ -1,5 +1,7 @@
 -- A copy of a process: what the state has then, and what its pipes may have.
-use Rattle.std.proofs.Common.{◌≡◌, ℕ, ◌+◌, ◌-◌, ◌<◌, ◌≤◌, Bool, true, false, cond, List, [], ◌∷◌, ◌++◌, length, Option, Some, None, IsSome, IfSome, Result, Ok, Err, length-append, refl, sym, ap, subst, ◌∙◌, arith}
+use Rattle.std.proofs.Common.{◌≡◌, ℕ, ◌+◌, ◌-◌, ◌<◌, ◌≤◌, Bool, true, false, cond, List, [], ◌∷◌}
+use Rattle.std.proofs.Common.{◌++◌, length, Option, Some, None, IsSome, IfSome, Result, Ok, Err}
+use Rattle.std.proofs.Common.{length-append, refl, sym, ap, subst, ◌∙◌, arith}
 use Rattle.std.specs.Prelude.{◌^◌, All, IfErr, count_by, nat_le, nat_lt, sum_by}
 use Rattle.std.proofs.lemmas.Bool.{or_parts}
 use Rattle.std.proofs.lemmas.Bool.Decides.{nat_tests}
@@ -8,10 +10,13 @@ use Rattle.std.proofs.lemmas.List.Sums.{sum_by-append, sum_by-cons}
 use Rattle.dos_world.specs.Counts.{reads_pipe, writes_pipe}
 use Rattle.dos_world.specs.Kernel.{answered, free_frames, minus}
 use Rattle.dos_world.specs.Play.{Play, done}
-use Rattle.dos_world.specs.ProcessCalls.{are_processes_full, child_process, child_thread, copied_space, fork, forked, forked_by, next_process, private_entries, with_child}
+use Rattle.dos_world.specs.ProcessCalls.{are_processes_full, child_process, child_thread}
+use Rattle.dos_world.specs.ProcessCalls.{copied_space, fork, forked, forked_by, next_process}
+use Rattle.dos_world.specs.ProcessCalls.{private_entries, with_child}
 use Rattle.dos_world.specs.Calls.{Call, Served as FlatServed, replies, went}
 use Rattle.dos_world.specs.ThreadCalls.{are_threads_full, next_thread}
-use Rattle.dos_world.specs.World.{World, Holdings, Thread, all_holdings, live_process, registers_by, thread_at, with_registers}
+use Rattle.dos_world.specs.World.{World, Holdings, Thread, all_holdings, live_process, registers_by}
+use Rattle.dos_world.specs.World.{thread_at, with_registers}
 use Rattle.dos_world.specs.declared.Entry.{Entry}
 use Rattle.dos_laws.proofs.Mapped.{some_is}
 use Rattle.dos_laws.proofs.StandsChildren.{all_holdings-push}

@@ -1,11 +1,13 @@
 -- What reading answers where the shim is asked for input, and where it isn't.
-use Rattle.std.proofs.Common.{◌≡◌, ℕ, ◌+◌, ◌-◌, ◌≤◌, List, [], ◌∷◌, map, take, length, Option, Some, None, IfSome, refl, sym, ap, ◌∙◌, append-nil, arith}
+use Rattle.std.proofs.Common.{◌≡◌, ℕ, ◌+◌, ◌-◌, ◌≤◌, List, [], ◌∷◌, map, take, length, Option, Some}
+use Rattle.std.proofs.Common.{None, IfSome, refl, sym, ap, ◌∙◌, append-nil, arith}
 use Rattle.std.specs.Prelude.{All}
 use Rattle.std.proofs.lemmas.List.Elements.{All-nil, All-cons}
 use Rattle.dos_world.specs.World.{World}
 use Rattle.dos_world.specs.Kernel.{copied_out}
 use Rattle.dos_world.specs.Play.{input, over, questions, gives}
-use Rattle.dos_world.specs.Services.{Service, Call, went, refuses, read, read_by, read_input, returns_in}
+use Rattle.dos_world.specs.Services.{Service, Call, went, refuses, read, read_by, read_input}
+use Rattle.dos_world.specs.Services.{returns_in}
 use Rattle.dos_world.specs.Lawful.{IsByte}
 use Rattle.dos_world.specs.declared.End.{End}
 use Rattle.dos_world.specs.declared.End.TheVariants.{Input, Output, Error, PipeRead, PipeWrite}
@@ -19,15 +21,18 @@ use Rattle.dos_laws.specs.Standing.{IsFit, IsPost}
 use Rattle.kernel_mem.specs.MemoryWorld.{in_world}
 use Rattle.page_store.specs.Store.{Store}
 use Rattle.proc_table.specs.Tables.{held_in, end_in}
-use Rattle.kernel_calls.specs.StateWorld.{AsksFirst, IsSound, StopsAsking, base, sent, shim_stop, world_of}
-use Rattle.kernel_calls.specs.CallResults.{AreAsked, Consults, ActsQuietly, asked_count, call_in, source_of}
+use Rattle.kernel_calls.specs.StateWorld.{AsksFirst, IsSound, StopsAsking, base, sent, shim_stop}
+use Rattle.kernel_calls.specs.StateWorld.{world_of}
+use Rattle.kernel_calls.specs.CallResults.{AreAsked, Consults, ActsQuietly, asked_count, call_in}
+use Rattle.kernel_calls.specs.CallResults.{source_of}
 use Rattle.kernel_calls.specs.declared.state.State.{State}
 use Rattle.kernel_calls.specs.declared.state.Asked.{Asked}
 use Rattle.kernel_calls.specs.declared.state.Served.{Served}
 use Rattle.kernel_calls.specs.declared.state.Served.TheVariants.{Went}
 use Rattle.kernel_calls.specs.declared.state.RunStop.{RunStop}
 use Rattle.kernel_calls.specs.declared.reading.Source.{Source}
-use Rattle.kernel_calls.specs.declared.reading.Source.TheVariants.{Input as input_source, Pipe as pipe_source}
+use Rattle.kernel_calls.specs.declared.reading.Source.TheVariants.{Input as input_source}
+use Rattle.kernel_calls.specs.declared.reading.Source.TheVariants.{Pipe as pipe_source}
 use Rattle.kernel_calls.proofs.Keeping.{process_alive}
 use Rattle.kernel_calls.proofs.Sending.{answering, descriptor_is}
 

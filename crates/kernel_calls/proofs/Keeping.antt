@@ -1,5 +1,6 @@
 -- What a sound state gives, and what changes of a state keep it sound.
-use Rattle.std.proofs.Common.{◌≡◌, ℕ, ◌+◌, ◌-◌, ◌≤◌, true, List, length, Option, Some, None, IsSome, IfSome, option_map, refl, sym, ap, ◌∙◌, subst, arith}
+use Rattle.std.proofs.Common.{◌≡◌, ℕ, ◌+◌, ◌-◌, ◌≤◌, true, List, length, Option, Some, None, IsSome}
+use Rattle.std.proofs.Common.{IfSome, option_map, refl, sym, ap, ◌∙◌, subst, arith}
 use Rattle.std.specs.Prelude.{All, IsFalse, ◌↔◌, slice_index_or}
 use Rattle.dos_world.specs.World.{World, Thread, Sleeper, Registers, is_free}
 use Rattle.dos_world.specs.Services.{charged}

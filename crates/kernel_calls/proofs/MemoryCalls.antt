@@ -1,10 +1,12 @@
 -- The services of memory, from what the frames and the table come to.
-use Rattle.std.proofs.Common.{◌≡◌, ℕ, ◌+◌, ◌<◌, List, [], length, Result, Ok, Err, IfErr, IfSome, refl, sym, subst, ◌∙◌}
+use Rattle.std.proofs.Common.{◌≡◌, ℕ, ◌+◌, ◌<◌, List, [], length, Result, Ok, Err, IfErr, IfSome}
+use Rattle.std.proofs.Common.{refl, sym, subst, ◌∙◌}
 use Rattle.std.specs.Prelude.{OnErr, OnOk, filter}
 use Rattle.dos_world.specs.World.{World, with_holdings}
 use Rattle.dos_world.specs.Kernel.{tidied}
 use Rattle.dos_world.specs.Calls.{Call}
-use Rattle.dos_world.specs.MemoryCalls.{in_pages, mapped, shared, unmapped, where_mapped, with_shared, without_pages}
+use Rattle.dos_world.specs.MemoryCalls.{in_pages, mapped, shared, unmapped, where_mapped}
+use Rattle.dos_world.specs.MemoryCalls.{with_shared, without_pages}
 use Rattle.page_store.specs.Store.{Store, uses_at}
 use Rattle.proc_table.specs.Tables.{Tables, held_by, thread_in}
 use Rattle.kernel_mem.proofs.Children.{to-process}
@@ -17,7 +19,9 @@ use Rattle.kernel_calls.specs.CallResults.{AreAsked, call_in}
 use Rattle.kernel_calls.specs.declared.state.State.{State}
 use Rattle.kernel_calls.specs.declared.state.Asked.{Asked}
 use Rattle.kernel_calls.proofs.Callers.{Has, has, of-caller, process_lives}
-use Rattle.kernel_calls.proofs.Spaces.{counted-either, counted-shared, counted-space, counted-unmapped, map_numbers, number_of, range_numbers, same-in, unmapped_is, used-space, where-ok}
+use Rattle.kernel_calls.proofs.Spaces.{counted-either, counted-shared, counted-space}
+use Rattle.kernel_calls.proofs.Spaces.{counted-unmapped, map_numbers, number_of, range_numbers}
+use Rattle.kernel_calls.proofs.Spaces.{same-in, unmapped_is, used-space, where-ok}
 
 module _ (s : State) (a : Asked) (sound : IsSound s) (asked : AreAsked s a) where
   abbrev call : Call

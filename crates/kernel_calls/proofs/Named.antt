@@ -1,10 +1,13 @@
 -- The kernel's list of services is the definition's.
-use Rattle.std.proofs.Common.{◌≡◌, ℕ, Bool, true, false, cond, List, [], ◌∷◌, map, Some, None, refl, sym, ap, ◌∙◌}
+use Rattle.std.proofs.Common.{◌≡◌, ℕ, Bool, true, false, cond, List, [], ◌∷◌, map, Some, None, refl}
+use Rattle.std.proofs.Common.{sym, ap, ◌∙◌}
 use Rattle.std.specs.Prelude.{◌==◌, ◌||◌, find}
 use Rattle.std.specs.List.{list_any}
 use Rattle.dos_world.specs.Errors.{enosys}
-use Rattle.dos_world.specs.Services.{Service as FlatService, services, service_by, service_of, built_service, refuses}
-use Rattle.kernel_calls.specs.Built.{row_of, number_of, services_built, built_services, named, definition_by}
+use Rattle.dos_world.specs.Services.{Service as FlatService, services, service_by, service_of}
+use Rattle.dos_world.specs.Services.{built_service, refuses}
+use Rattle.kernel_calls.specs.Built.{row_of, number_of, services_built, built_services, named}
+use Rattle.kernel_calls.specs.Built.{definition_by}
 use Rattle.kernel_calls.specs.declared.naming.Service.{Service}
 
 -- each row is the definition's own

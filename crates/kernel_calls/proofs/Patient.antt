@@ -1,20 +1,27 @@
 -- The services that never wait: all but wait, read, write and futex_wait.
-use Rattle.std.proofs.Common.{◌≡◌, ◌≢◌, ℕ, Bool, true, false, cond, not, if◌then◌else◌, List, [], ◌∷◌, Option, Some, None, Result, Ok, Err, refl, sym, subst, eqb-true}
+use Rattle.std.proofs.Common.{◌≡◌, ◌≢◌, ℕ, Bool, true, false, cond, not, if◌then◌else◌, List, []}
+use Rattle.std.proofs.Common.{◌∷◌, Option, Some, None, Result, Ok, Err, refl, sym, subst, eqb-true}
 use Rattle.std.specs.Prelude.{◌==◌, ◌||◌, ◌%◌, find, is_none, nat_lt, ⊤}
-use Rattle.dos_world.specs.World.{World, Registers, Thread, action_of, entry_at, first_of, live_process, with_holdings}
+use Rattle.dos_world.specs.World.{World, Registers, Thread, action_of, entry_at, first_of}
+use Rattle.dos_world.specs.World.{live_process, with_holdings}
 use Rattle.dos_world.specs.Kernel.{posted, tidied}
 use Rattle.dos_world.specs.Play.{Play}
-use Rattle.dos_world.specs.Calls.{Call, Service, Served as FlatServed, mask_of, refuses, returns_in, replies}
-use Rattle.dos_world.specs.DescriptorCalls.{close, descriptor, dup, dup_by, free_descriptors, lowest_pipe, pipe, pipe_by, read, second_of, with_descriptor, write}
+use Rattle.dos_world.specs.Calls.{Call, Service, Served as FlatServed, mask_of, refuses, returns_in}
+use Rattle.dos_world.specs.Calls.{replies}
+use Rattle.dos_world.specs.DescriptorCalls.{close, descriptor, dup, dup_by, free_descriptors}
+use Rattle.dos_world.specs.DescriptorCalls.{lowest_pipe, pipe, pipe_by, read, second_of}
+use Rattle.dos_world.specs.DescriptorCalls.{with_descriptor, write}
 use Rattle.dos_world.specs.FutexCalls.{by_entry, futex_wait, futex_wake, futex_wake_at, is_off_word}
 use Rattle.dos_world.specs.MemoryCalls.{mapped, shared, unmapped}
 use Rattle.dos_world.specs.ProcessCalls.{forked, next_process, wait}
 use Rattle.dos_world.specs.Services.{services, service_by, service_of}
-use Rattle.dos_world.specs.SignalCalls.{is_action, is_signal, kill, saved_of, sig_handler, sig_return, sig_return_by, with_action}
+use Rattle.dos_world.specs.SignalCalls.{is_action, is_signal, kill, saved_of, sig_handler}
+use Rattle.dos_world.specs.SignalCalls.{sig_return, sig_return_by, with_action}
 use Rattle.dos_world.specs.Signals.{play_waits}
 use Rattle.dos_world.specs.declared.End.{End}
 use Rattle.dos_world.specs.declared.Entry.{Entry}
-use Rattle.dos_world.specs.ThreadCalls.{are_threads_full, new_registers, next_thread, ready_thread, thread_new, with_new_thread}
+use Rattle.dos_world.specs.ThreadCalls.{are_threads_full, new_registers, next_thread, ready_thread}
+use Rattle.dos_world.specs.ThreadCalls.{thread_new, with_new_thread}
 
 -- a service that never waits
 abbrev pub IsPatient : Service → Type 0

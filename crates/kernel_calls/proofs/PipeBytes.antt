@@ -1,5 +1,6 @@
 -- What reading from a pipe and writing to one answer, and which state they leave.
-use Rattle.std.proofs.Common.{◌≡◌, ◌≢◌, ℕ, ◌-◌, ◌<◌, ◌++◌, Bool, true, false, cond, List, length, take, drop, sym, ap, subst, ◌∙◌, arith}
+use Rattle.std.proofs.Common.{◌≡◌, ◌≢◌, ℕ, ◌-◌, ◌<◌, ◌++◌, Bool, true, false, cond, List, length}
+use Rattle.std.proofs.Common.{take, drop, sym, ap, subst, ◌∙◌, arith}
 use Rattle.std.specs.Prelude.{min, not, nat_lt, ◌==◌}
 use Rattle.std.proofs.lemmas.Bool.{eq-eqb, ne_eqb}
 use Rattle.std.proofs.lemmas.Bool.Decides.{nat_tests}
@@ -7,7 +8,8 @@ use Rattle.dos_world.specs.World.{World, in_state}
 use Rattle.dos_world.specs.Kernel.{copied_in, copied_out, has_reader, has_writer, minus}
 use Rattle.dos_world.specs.Counts.{reads_pipe, writes_pipe}
 use Rattle.dos_world.specs.Play.{Play, done}
-use Rattle.dos_world.specs.Calls.{Call, Served as FlatServed, went, waits, refuses, retries, returns, returns_in}
+use Rattle.dos_world.specs.Calls.{Call, Served as FlatServed, went, waits, refuses, retries}
+use Rattle.dos_world.specs.Calls.{returns, returns_in}
 use Rattle.dos_world.specs.DescriptorCalls.{read_pipe, with_pipe, write_pipe, write_some}
 use Rattle.dos_world.specs.declared.ThreadState.TheVariants.{Retry}
 use Rattle.kernel_mem.specs.MemoryWorld.{in_world}

@@ -1,5 +1,8 @@
 -- Ends of pipes that are dropped one after another.
-use Rattle.std.proofs.Common.{◌≡◌, ◌≢◌, ℕ, ◌+◌, ◌-◌, ◌<◌, Bool, true, false, cond, inl, inr, List, [], length, get_or, set, take, Option, Some, None, IsSome, IfSome, length-set, get_or-set_same, get_or-set_other, refl, sym, ap, subst, ◌∙◌, arith}
+use Rattle.std.proofs.Common.{◌≡◌, ◌≢◌, ℕ, ◌+◌, ◌-◌, ◌<◌, Bool, true, false, cond, inl, inr, List}
+use Rattle.std.proofs.Common.{[], length, get_or, set, take, Option, Some, None, IsSome, IfSome}
+use Rattle.std.proofs.Common.{length-set, get_or-set_same, get_or-set_other, refl, sym, ap, subst}
+use Rattle.std.proofs.Common.{◌∙◌, arith}
 use Rattle.std.specs.Prelude.{◌==◌, ◌&&◌, not, count_by}
 use Rattle.std.proofs.lemmas.Bool.{cases_eq, ne_eqb, eq-eqb}
 use Rattle.std.proofs.lemmas.Bool.Decides.{nat_tests}
@@ -12,7 +15,8 @@ use Rattle.dos_world.specs.Counts.{reads_pipe, writes_pipe}
 use Rattle.dos_world.specs.Lawful.{IsEnd}
 use Rattle.dos_world.specs.declared.End.{End}
 use Rattle.dos_world.specs.declared.End.TheVariants.{Input, Output, Error, PipeRead, PipeWrite}
-use Rattle.kernel_objects.specs.Pipework.{Pipework, bytes_at, ends_at, is_open_at, with_bytes, with_ends}
+use Rattle.kernel_objects.specs.Pipework.{Pipework, bytes_at, ends_at, is_open_at, with_bytes}
+use Rattle.kernel_objects.specs.Pipework.{with_ends}
 use Rattle.kernel_calls.specs.Ending.{AreDropped, AreNamed, IsNamed, without_end}
 
 -- ---- one end less

@@ -1,5 +1,6 @@
 -- What pipe answers, and which state it leaves.
-use Rattle.std.proofs.Common.{◌≡◌, ℕ, ◌+◌, ◌<◌, ◌≤◌, Bool, true, false, cond, List, [], ◌∷◌, length, get_or, Option, Some, None, IfSome, refl, sym, ap, subst, ◌∙◌, arith}
+use Rattle.std.proofs.Common.{◌≡◌, ℕ, ◌+◌, ◌<◌, ◌≤◌, Bool, true, false, cond, List, [], ◌∷◌, length}
+use Rattle.std.proofs.Common.{get_or, Option, Some, None, IfSome, refl, sym, ap, subst, ◌∙◌, arith}
 use Rattle.std.specs.Prelude.{◌==◌, ◌&&◌, not, count_by, position, is_none, filter, find, slice_set}
 use Rattle.std.proofs.lemmas.Bool.{eqb-true}
 use Rattle.std.proofs.lemmas.Iterator.Adapters.{position_from-zero}
@@ -10,7 +11,8 @@ use Rattle.dos_world.specs.Kernel.{answered_two, minus}
 use Rattle.dos_world.specs.Counts.{is_open}
 use Rattle.dos_world.specs.Play.{done}
 use Rattle.dos_world.specs.Calls.{Call, went, refuses}
-use Rattle.dos_world.specs.DescriptorCalls.{pipe, pipe_by, free_descriptors, second_of, lowest_pipe, with_end}
+use Rattle.dos_world.specs.DescriptorCalls.{pipe, pipe_by, free_descriptors, second_of, lowest_pipe}
+use Rattle.dos_world.specs.DescriptorCalls.{with_end}
 use Rattle.dos_world.specs.declared.End.{End}
 use Rattle.dos_world.specs.declared.End.TheVariants.{PipeRead, PipeWrite}
 use Rattle.dos_laws.proofs.Holders.{has_changed}
@@ -25,8 +27,10 @@ use Rattle.kernel_calls.specs.declared.state.Asked.{Asked}
 use Rattle.kernel_calls.specs.declared.state.Served.TheVariants.{Went}
 use Rattle.kernel_calls.proofs.Callers.{has as known, process_lives}
 use Rattle.kernel_calls.proofs.Counted.{counted-thread_by}
-use Rattle.kernel_calls.proofs.DescriptorCounts.{IsFreeAt, count_set, end_at, free_count, lowest_is_free, second_free}
-use Rattle.kernel_calls.proofs.DescriptorRows.{asker_has, counted_set, lowest_free, of_held, with_set}
+use Rattle.kernel_calls.proofs.DescriptorCounts.{IsFreeAt, count_set, end_at, free_count}
+use Rattle.kernel_calls.proofs.DescriptorCounts.{lowest_is_free, second_free}
+use Rattle.kernel_calls.proofs.DescriptorRows.{asker_has, counted_set, lowest_free, of_held}
+use Rattle.kernel_calls.proofs.DescriptorRows.{with_set}
 use Rattle.kernel_calls.proofs.EndCounts.{counted_more}
 use Rattle.kernel_calls.proofs.ProcessEnds.{open-counted, still_live}
 use Rattle.kernel_calls.proofs.Sending.{answering}

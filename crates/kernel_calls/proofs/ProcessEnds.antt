@@ -1,6 +1,9 @@
 -- The end of a process.
-use Rattle.std.proofs.Common.{◌≡◌, ℕ, zero, suc, ◌+◌, ◌<◌, Bool, true, false, cond, List, [], ◌∷◌, map, length, Option, Some, None, IsSome, refl, sym, ap, subst, ◌∙◌, arith}
-use Rattle.std.specs.Prelude.{All, IfSome, not, filter, sum_by, count_by, option_and_then, nat_lt, ◌==◌, ◌&&◌, ◌||◌}
+use Rattle.std.proofs.Common.{◌≡◌, ℕ, zero, suc, ◌+◌, ◌<◌, Bool, true, false, cond, List, [], ◌∷◌}
+use Rattle.std.proofs.Common.{map, length, Option, Some, None, IsSome, refl, sym, ap, subst, ◌∙◌}
+use Rattle.std.proofs.Common.{arith}
+use Rattle.std.specs.Prelude.{All, IfSome, not, filter, sum_by, count_by, option_and_then, nat_lt}
+use Rattle.std.specs.Prelude.{◌==◌, ◌&&◌, ◌||◌}
 use Rattle.std.specs.List.{list_any}
 use Rattle.std.proofs.lemmas.Bool.{eq-eqb}
 use Rattle.std.proofs.lemmas.Bool.Decides.{nat_tests}
@@ -8,9 +11,13 @@ use Rattle.std.proofs.lemmas.List.{ext_get_or}
 use Rattle.dos_world.specs.Numbered.{numbered, changed, changed_at, map_from, numbers_of}
 use Rattle.dos_world.specs.Lawful.{Lawful, AreHoldings}
 use Rattle.dos_world.specs.declared.End.{End}
-use Rattle.dos_world.specs.World.{World, Thread, Life, live as alive, ended, Process, Holdings, on_holdings, holdings_of, all_holdings, first_of, belongs_to, with_thread, parent_of}
-use Rattle.dos_world.specs.Kernel.{process_ended, posted, pending_with, orphaned, ended_by, is_none_of_these, unless_of, without_entries, tidied}
-use Rattle.dos_world.specs.Counts.{uses_of, is_mapped, is_open, owner_if_mapped, bytes_if_open, reads_pipe, writes_pipe}
+use Rattle.dos_world.specs.World.{World, Thread, Life, live as alive, ended, Process, Holdings}
+use Rattle.dos_world.specs.World.{on_holdings, holdings_of, all_holdings, first_of, belongs_to}
+use Rattle.dos_world.specs.World.{with_thread, parent_of}
+use Rattle.dos_world.specs.Kernel.{process_ended, posted, pending_with, orphaned, ended_by}
+use Rattle.dos_world.specs.Kernel.{is_none_of_these, unless_of, without_entries, tidied}
+use Rattle.dos_world.specs.Counts.{uses_of, is_mapped, is_open, owner_if_mapped, bytes_if_open}
+use Rattle.dos_world.specs.Counts.{reads_pipe, writes_pipe}
 use Rattle.dos_world.specs.declared.Owner.{Owner}
 use Rattle.dos_world.specs.declared.Owner.TheVariants.{Free}
 use Rattle.dos_laws.specs.Ends.{ended_processes, closed}
@@ -20,7 +27,8 @@ use Rattle.dos_laws.proofs.EndedProcesses.{orphans_have}
 use Rattle.dos_laws.proofs.Ends.{length-map_from, get_or-map_from}
 use Rattle.dos_laws.proofs.Mapped.{some_is, held_all}
 use Rattle.page_store.specs.Store.{Store, joined, uses_at, owner_at}
-use Rattle.proc_table.specs.Tables.{Tables, IsProcess, IsThread, thread_in, held_in, held_by, thread_by, with_ended}
+use Rattle.proc_table.specs.Tables.{Tables, IsProcess, IsThread, thread_in, held_in, held_by}
+use Rattle.proc_table.specs.Tables.{thread_by, with_ended}
 use Rattle.kernel_mem.specs.Memory.{AreUsed, IsDropped, entries_of}
 use Rattle.kernel_mem.specs.MemoryWorld.{space_in}
 use Rattle.kernel_objects.specs.Pipework.{Pipework, bytes_at, ends_at, is_open_at}

@@ -1,5 +1,6 @@
 -- What a row says of its service, as what the kernel promises of a call.
-use Rattle.std.proofs.Common.{◌≡◌, ℕ, List, [], ◌++◌, Option, None, Some, IfSome, refl, sym, ap, ◌∙◌, subst, append-nil}
+use Rattle.std.proofs.Common.{◌≡◌, ℕ, List, [], ◌++◌, Option, None, Some, IfSome, refl, sym, ap}
+use Rattle.std.proofs.Common.{◌∙◌, subst, append-nil}
 use Rattle.std.proofs.lemmas.List.Elements.{All-nil}
 use Rattle.dos_world.specs.World.{registers_by}
 use Rattle.dos_world.specs.Kernel.{answered}
@@ -14,7 +15,8 @@ use Rattle.kernel_calls.specs.declared.naming.QuietService.{QuietService}
 use Rattle.kernel_calls.specs.declared.state.RunStop.{RunStop}
 use Rattle.dos_io.specs.Shims.{ShimState}
 use Rattle.dos_io.specs.declared.shim.ShimStop.{ShimStop}
-use Rattle.kernel_calls.specs.StateWorld.{Answers, Asks, AsksFirst, HaveGrown, StopsAsking, sent, shim_stop, way_in, world_of}
+use Rattle.kernel_calls.specs.StateWorld.{Answers, Asks, AsksFirst, HaveGrown, StopsAsking, sent}
+use Rattle.kernel_calls.specs.StateWorld.{shim_stop, way_in, world_of}
 use Rattle.kernel_calls.specs.CallResults.{call_in, Consults, ActsQuietly, Sends}
 use Rattle.kernel_calls.specs.declared.state.State.{State}
 use Rattle.kernel_calls.specs.declared.state.Asked.{Asked}

@@ -1,11 +1,15 @@
 -- The branches of a write, and what a service sends.
-use Rattle.std.proofs.Common.{◌≡◌, ◌≢◌, ℕ, Bool, true, false, cond, List, [], ◌++◌, Option, Some, None, IsSome, IfSome, refl, sym, ap, subst, ◌∙◌, eq-eqb, append-nil, take}
+use Rattle.std.proofs.Common.{◌≡◌, ◌≢◌, ℕ, Bool, true, false, cond, List, [], ◌++◌, Option, Some}
+use Rattle.std.proofs.Common.{None, IsSome, IfSome, refl, sym, ap, subst, ◌∙◌, eq-eqb, append-nil}
+use Rattle.std.proofs.Common.{take}
 use Rattle.std.specs.Prelude.{unwrap_or, slice_get}
 use Rattle.std.proofs.lemmas.Bool.{ne_eqb}
 use Rattle.dos_world.specs.World.{World, Holdings, live_process, registers_by}
 use Rattle.dos_world.specs.Kernel.{copied_in, answered, minus}
 use Rattle.dos_world.specs.Play.{Play, done, over}
-use Rattle.dos_world.specs.Services.{Service, Served as FlatServed, Call, went, transfers, returns, returns_in, refuses, count_of, write_output, write_error, write, write_by, descriptor}
+use Rattle.dos_world.specs.Services.{Service, Served as FlatServed, Call, went, transfers, returns}
+use Rattle.dos_world.specs.Services.{returns_in, refuses, count_of, write_output, write_error}
+use Rattle.dos_world.specs.Services.{write, write_by, descriptor}
 use Rattle.dos_world.specs.declared.End.{End}
 use Rattle.dos_world.specs.declared.End.TheVariants.{Input, Output, Error, PipeRead, PipeWrite}
 use Rattle.dos_io.specs.Outside.{grown, GrewByFront}
@@ -13,14 +17,18 @@ use Rattle.dos_io.proofs.OutsideLaws.{grown-nothing}
 use Rattle.proc_table.specs.Tables.{thread_by, held_in, end_in}
 use Rattle.kernel_mem.specs.MemoryWorld.{in_world}
 use Rattle.kernel_objects.specs.Pipework.{Pipework}
-use Rattle.kernel_calls.specs.StateWorld.{IsSound, Stands, world_of, base, sent, way_in, FaultsIn, HaveGrown, to_output, to_error}
-use Rattle.kernel_calls.specs.CallResults.{AreAsked, call_in, ActsQuietly, Sends, Transfers, IsSent, IsCutOff, asked_count, are_readable, target_of}
+use Rattle.kernel_calls.specs.StateWorld.{IsSound, Stands, world_of, base, sent, way_in, FaultsIn}
+use Rattle.kernel_calls.specs.StateWorld.{HaveGrown, to_output, to_error}
+use Rattle.kernel_calls.specs.CallResults.{AreAsked, call_in, ActsQuietly, Sends, Transfers, IsSent}
+use Rattle.kernel_calls.specs.CallResults.{IsCutOff, asked_count, are_readable, target_of}
 use Rattle.kernel_calls.specs.declared.state.State.{State}
 use Rattle.kernel_calls.specs.declared.state.Asked.{Asked}
 use Rattle.kernel_calls.specs.declared.state.Served.{Served}
 use Rattle.kernel_calls.specs.declared.state.Served.TheVariants.{Went}
 use Rattle.kernel_calls.specs.declared.writing.Target.{Target}
-use Rattle.kernel_calls.specs.declared.writing.Target.TheVariants.{Output as output_target, Error as error_target, Pipe as pipe_target}
+use Rattle.kernel_calls.specs.declared.writing.Target.TheVariants.{Output as output_target}
+use Rattle.kernel_calls.specs.declared.writing.Target.TheVariants.{Error as error_target}
+use Rattle.kernel_calls.specs.declared.writing.Target.TheVariants.{Pipe as pipe_target}
 use Rattle.kernel_calls.proofs.Keeping.{process_alive}
 
 -- the state after an answer

@@ -1,5 +1,7 @@
 -- What the services of memory come to: one process has another space.
-use Rattle.std.proofs.Common.{◌≡◌, ℕ, ◌+◌, ◌<◌, Bool, true, false, cond, List, [], length, Option, Some, Result, Ok, Err, IfErr, All, IsSome, refl, sym, ap, subst, ◌∙◌, arith}
+use Rattle.std.proofs.Common.{◌≡◌, ℕ, ◌+◌, ◌<◌, Bool, true, false, cond, List, [], length, Option}
+use Rattle.std.proofs.Common.{Some, Result, Ok, Err, IfErr, All, IsSome, refl, sym, ap, subst, ◌∙◌}
+use Rattle.std.proofs.Common.{arith}
 use Rattle.std.specs.Prelude.{OnErr, OnOk, ◌==◌, ◌&&◌, not, nat_le, nat_lt, count_by, filter}
 use Rattle.std.proofs.lemmas.List.Filters.{sum_by-filter_both}
 use Rattle.dos_world.specs.Numbered.{map_from}
@@ -8,7 +10,10 @@ use Rattle.dos_world.specs.Kernel.{answered, minus, tidied, free_frames, without
 use Rattle.dos_world.specs.Counts.{uses_of, owner_if_mapped, bytes_if_open, reads_pipe, writes_pipe}
 use Rattle.dos_world.specs.Play.{Play, done}
 use Rattle.dos_world.specs.Calls.{Call, Served as FlatServed, replies, went}
-use Rattle.dos_world.specs.MemoryCalls.{in_pages, stays_mapped, mapped, where_mapped, is_range, is_no_range, lacks_page, maps_page, all_rights, without_pages, with_shared, shared_in_pages, share_if, mapped_fresh, pages_of}
+use Rattle.dos_world.specs.MemoryCalls.{in_pages, stays_mapped, mapped, where_mapped, is_range}
+use Rattle.dos_world.specs.MemoryCalls.{is_no_range, lacks_page, maps_page, all_rights}
+use Rattle.dos_world.specs.MemoryCalls.{without_pages, with_shared, shared_in_pages, share_if}
+use Rattle.dos_world.specs.MemoryCalls.{mapped_fresh, pages_of}
 use Rattle.dos_world.specs.declared.Entry.{Entry}
 use Rattle.dos_world.specs.declared.Owner.{Owner}
 use Rattle.dos_laws.proofs.Holders.{sum_changed}

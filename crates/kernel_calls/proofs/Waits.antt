@@ -1,5 +1,7 @@
 -- What calls of wait, read, write and futex_wait come to, where they would wait.
-use Rattle.std.proofs.Common.{◌≡◌, ◌≢◌, ℕ, suc, zero, ◌-◌, Bool, true, false, cond, not, List, length, take, drop, Option, Some, None, option_map, IfSome, refl, sym, ap, ◌∙◌, subst, arith}
+use Rattle.std.proofs.Common.{◌≡◌, ◌≢◌, ℕ, suc, zero, ◌-◌, Bool, true, false, cond, not, List}
+use Rattle.std.proofs.Common.{length, take, drop, Option, Some, None, option_map, IfSome, refl, sym}
+use Rattle.std.proofs.Common.{ap, ◌∙◌, subst, arith}
 use Rattle.std.specs.Prelude.{◌==◌, ◌&&◌, ◌%◌, ◌/◌, min, nat_le, nat_lt}
 use Rattle.std.proofs.lemmas.Bool.Decides.{nat_tests}
 use Rattle.dos_world.specs.World.{World, Holdings, Thread, entry_at, look}
@@ -8,9 +10,12 @@ use Rattle.dos_world.specs.Copying.{is_reached}
 use Rattle.dos_world.specs.Counts.{reads_pipe, writes_pipe}
 use Rattle.dos_world.specs.Reach.{fault, in_frame, reach}
 use Rattle.dos_world.specs.Play.{Play, done}
-use Rattle.dos_world.specs.Calls.{Call, Service, Served as FlatServed, charged, refuses, refuses_in, retries, returns, returns_in, waits}
-use Rattle.dos_world.specs.DescriptorCalls.{count_of, pipe_bytes, read_by, read_pipe, transfers, with_pipe, write_by, write_pipe, write_some}
-use Rattle.dos_world.specs.FutexCalls.{asleep_at, by_entry, futex_wait, futex_wait_at, futex_word, is_off_word}
+use Rattle.dos_world.specs.Calls.{Call, Service, Served as FlatServed, charged, refuses, refuses_in}
+use Rattle.dos_world.specs.Calls.{retries, returns, returns_in, waits}
+use Rattle.dos_world.specs.DescriptorCalls.{count_of, pipe_bytes, read_by, read_pipe, transfers}
+use Rattle.dos_world.specs.DescriptorCalls.{with_pipe, write_by, write_pipe, write_some}
+use Rattle.dos_world.specs.FutexCalls.{asleep_at, by_entry, futex_wait, futex_wait_at, futex_word}
+use Rattle.dos_world.specs.FutexCalls.{is_off_word}
 use Rattle.dos_world.specs.Lawful.{IsEnd}
 use Rattle.dos_world.specs.Signals.{play_waits}
 use Rattle.dos_world.specs.declared.Access.{Access}

@@ -2,11 +2,21 @@
 -- project's own; the definitions are those of dos_world.
 use Rattle.std.specs.Prelude.{ℕ, List, [], ◌∷◌, map, find, Option, Some, None, ◌==◌}
 use Rattle.dos_world.specs.Errors.{enosys}
-use Rattle.dos_world.specs.Services.{Service as FlatService, refuses, thread_exit, process_exit, thread_new, fork, wait, pipe, read, write, close, dup, futex_wait, futex_wake, map_pages, unmap, share, sig_handler, sig_mask, sig_return, kill, get_pid, get_tid, clock, yield, round_number}
+use Rattle.dos_world.specs.Services.{Service as FlatService, refuses, thread_exit, process_exit}
+use Rattle.dos_world.specs.Services.{thread_new, fork, wait, pipe, read, write, close, dup}
+use Rattle.dos_world.specs.Services.{futex_wait, futex_wake, map_pages, unmap, share, sig_handler}
+use Rattle.dos_world.specs.Services.{sig_mask, sig_return, kill, get_pid, get_tid, clock, yield}
+use Rattle.dos_world.specs.Services.{round_number}
 use Rattle.kernel_calls.specs.declared.naming.Service.{Service}
 use Rattle.kernel_calls.specs.declared.naming.Service.TheVariants.{Quiet, Read, Write, Clock}
 use Rattle.kernel_calls.specs.declared.naming.QuietService.{QuietService}
-use Rattle.kernel_calls.specs.declared.naming.QuietService.TheVariants.{ThreadExit, ProcessExit, ThreadNew, Fork, Wait, Pipe, Close, Dup, FutexWait, FutexWake, MapPages, Unmap, Share, SigHandler, SigMask, SigReturn, Kill, GetPid, GetTid, Yield, RoundNumber}
+use Rattle.kernel_calls.specs.declared.naming.QuietService.TheVariants.{ThreadExit, ProcessExit}
+use Rattle.kernel_calls.specs.declared.naming.QuietService.TheVariants.{ThreadNew, Fork, Wait, Pipe}
+use Rattle.kernel_calls.specs.declared.naming.QuietService.TheVariants.{Close, Dup, FutexWait}
+use Rattle.kernel_calls.specs.declared.naming.QuietService.TheVariants.{FutexWake, MapPages, Unmap}
+use Rattle.kernel_calls.specs.declared.naming.QuietService.TheVariants.{Share, SigHandler, SigMask}
+use Rattle.kernel_calls.specs.declared.naming.QuietService.TheVariants.{SigReturn, Kill, GetPid}
+use Rattle.kernel_calls.specs.declared.naming.QuietService.TheVariants.{GetTid, Yield, RoundNumber}
 
 -- each service that asks nothing and sends nothing, with its number and what it does
 abbrev pub quiet_row_of : QuietService → ℕ × FlatService

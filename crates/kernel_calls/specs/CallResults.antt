@@ -1,9 +1,11 @@
 -- What a call of a service comes to, once it is paid for. This project's own rules.
-use Rattle.std.specs.Prelude.{◌≡◌, ◌≤◌, ◌++◌, ℕ, min, Bool, List, Option, None, Some, Result, IfErr, IfSome, All, map, []}
+use Rattle.std.specs.Prelude.{◌≡◌, ◌≤◌, ◌++◌, ℕ, min, Bool, List, Option, None, Some, Result, IfErr}
+use Rattle.std.specs.Prelude.{IfSome, All, map, []}
 use Rattle.dos_world.specs.World.{World}
 use Rattle.dos_world.specs.Kernel.{all_reach}
 use Rattle.dos_world.specs.Play.{done, over, questions, gives}
-use Rattle.dos_world.specs.Services.{charged, Call, Service as FlatService, went, transfers, write_output, write_error}
+use Rattle.dos_world.specs.Services.{charged, Call, Service as FlatService, went, transfers}
+use Rattle.dos_world.specs.Services.{write_output, write_error}
 use Rattle.dos_world.specs.declared.Access.TheVariants.{Load}
 use Rattle.dos_world.specs.declared.End.{End}
 use Rattle.dos_world.specs.declared.End.TheVariants.{Input, Output, Error, PipeRead, PipeWrite}
@@ -19,9 +21,12 @@ use Rattle.kernel_calls.specs.declared.state.Served.{Served}
 use Rattle.kernel_calls.specs.declared.state.RunStop.{RunStop}
 use Rattle.kernel_calls.specs.declared.state.RunStop.TheVariants.{OutFault, ErrFault}
 use Rattle.kernel_calls.specs.declared.reading.Source.{Source}
-use Rattle.kernel_calls.specs.declared.reading.Source.TheVariants.{Input as input_source, Pipe as pipe_source}
+use Rattle.kernel_calls.specs.declared.reading.Source.TheVariants.{Input as input_source}
+use Rattle.kernel_calls.specs.declared.reading.Source.TheVariants.{Pipe as pipe_source}
 use Rattle.kernel_calls.specs.declared.writing.Target.{Target}
-use Rattle.kernel_calls.specs.declared.writing.Target.TheVariants.{Output as output_target, Error as error_target, Pipe as pipe_target}
+use Rattle.kernel_calls.specs.declared.writing.Target.TheVariants.{Output as output_target}
+use Rattle.kernel_calls.specs.declared.writing.Target.TheVariants.{Error as error_target}
+use Rattle.kernel_calls.specs.declared.writing.Target.TheVariants.{Pipe as pipe_target}
 
 -- these arguments, asked in this world
 abbrev pub call_in : World → Asked → Call

@@ -1,5 +1,6 @@
 -- What a child's descriptors do to pipes. This project's own rules.
-use Rattle.std.specs.Prelude.{◌≡◌, ◌≤◌, ◌+◌, ℕ, true, false, List, length, count_by, Option, Some, None}
+use Rattle.std.specs.Prelude.{◌≡◌, ◌≤◌, ◌+◌, ℕ, true, false, List, length, count_by, Option, Some}
+use Rattle.std.specs.Prelude.{None}
 use Rattle.dos_world.specs.Counts.{reads_pipe, writes_pipe}
 use Rattle.dos_world.specs.declared.End.{End}
 use Rattle.kernel_objects.specs.Pipework.{Pipework, ends_at}

@@ -1,5 +1,6 @@
 -- What the end of a process does to pipes. This project's own rules.
-use Rattle.std.specs.Prelude.{◌≡◌, ◌<◌, ◌≤◌, ◌+◌, ℕ, true, false, List, [], length, count_by, Option, Some, None, All, if◌then◌else◌}
+use Rattle.std.specs.Prelude.{◌≡◌, ◌<◌, ◌≤◌, ◌+◌, ℕ, true, false, List, [], length, count_by}
+use Rattle.std.specs.Prelude.{Option, Some, None, All, if◌then◌else◌}
 use Rattle.dos_world.specs.Counts.{reads_pipe, writes_pipe}
 use Rattle.dos_world.specs.Lawful.{IsEnd}
 use Rattle.dos_world.specs.declared.End.{End}

@@ -1,5 +1,6 @@
 -- Who sleeps on a word, and how they wake. This project's own rules.
-use Rattle.std.specs.Prelude.{◌≡◌, ◌≤◌, ℕ, List, length, map, filter, take, Option, All, count_by, ◌==◌}
+use Rattle.std.specs.Prelude.{◌≡◌, ◌≤◌, ℕ, List, length, map, filter, take, Option, All, count_by}
+use Rattle.std.specs.Prelude.{◌==◌}
 use Rattle.dos_world.specs.FutexCalls.{all_woken}
 use Rattle.dos_world.specs.World.{World, Thread, Sleeper}
 use Rattle.kernel_objects.specs.Queue.{sleeps_on}

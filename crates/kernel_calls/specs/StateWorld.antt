@@ -1,6 +1,8 @@
 -- The flat world of a state, what a sound state is, and what it means to have served. This
 -- project's own rules.
-use Rattle.std.specs.Prelude.{◌≡◌, ◌≤◌, ◌-◌, ◌++◌, ℕ, Bool, true, false, List, [], ◌∷◌, map, length, sum_by, count_by, Option, None, Some, Result, Ok, Err, IfErr, IfSome, All}
+use Rattle.std.specs.Prelude.{◌≡◌, ◌≤◌, ◌-◌, ◌++◌, ℕ, Bool, true, false, List, [], ◌∷◌, map, length}
+use Rattle.std.specs.Prelude.{sum_by, count_by, Option, None, Some, Result, Ok, Err, IfErr, IfSome}
+use Rattle.std.specs.Prelude.{All}
 use Rattle.dos_world.specs.World.{World, Process, Thread, Sleeper, all_holdings}
 use Rattle.dos_world.specs.Counts.{reads_pipe, writes_pipe}
 use Rattle.dos_world.specs.declared.End.{End}
@@ -15,7 +17,9 @@ use Rattle.dos_io.specs.Outside.{grown, GrewByFront, Rose}
 use Rattle.dos_io.specs.Shims.{ShimState, Stopped}
 use Rattle.dos_io.specs.declared.exchange.Exchange.{Exchange}
 use Rattle.dos_io.specs.declared.shim.ShimStop.{ShimStop}
-use Rattle.dos_io.specs.declared.shim.ShimStop.TheVariants.{HostFault as host_fault, LogFull as log_full, Misfit as misfit, Memory as memory}
+use Rattle.dos_io.specs.declared.shim.ShimStop.TheVariants.{HostFault as host_fault}
+use Rattle.dos_io.specs.declared.shim.ShimStop.TheVariants.{LogFull as log_full, Misfit as misfit}
+use Rattle.dos_io.specs.declared.shim.ShimStop.TheVariants.{Memory as memory}
 use Rattle.dos_laws.specs.Standing.{AreAwake, AreApart, IsFit}
 use Rattle.page_store.specs.Store.{uses_at}
 use Rattle.proc_table.specs.Tables.{Tables, thread_in}
@@ -25,7 +29,8 @@ use Rattle.kernel_calls.specs.declared.state.State.{State}
 use Rattle.kernel_calls.specs.declared.state.Served.{Served}
 use Rattle.kernel_calls.specs.declared.state.Served.TheVariants.{Went, Waits, Yields, Gone}
 use Rattle.kernel_calls.specs.declared.state.RunStop.{RunStop}
-use Rattle.kernel_calls.specs.declared.state.RunStop.TheVariants.{HostFault, LogFull, Misfit, OutFault, ErrFault, Memory}
+use Rattle.kernel_calls.specs.declared.state.RunStop.TheVariants.{HostFault, LogFull, Misfit}
+use Rattle.kernel_calls.specs.declared.state.RunStop.TheVariants.{OutFault, ErrFault, Memory}
 
 -- ---- the world of a state
 

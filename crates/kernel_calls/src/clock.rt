@@ -2,7 +2,8 @@
 ghost use Rattle.std.specs.Prelude.{◌≡◌, IfErr, OnErr, OnOk};
 ghost use Rattle.dos_world.specs.Services.{clock};
 ghost use Rattle.dos_io.specs.Shims.{HasNoEnd};
-ghost use Rattle.kernel_calls.specs.StateWorld.{HasNotStopped, IsCounted, IsSound, Stands, StopsAsking};
+ghost use Rattle.kernel_calls.specs.StateWorld.{HasNotStopped, IsCounted, IsSound, Stands};
+ghost use Rattle.kernel_calls.specs.StateWorld.{StopsAsking};
 ghost use Rattle.kernel_calls.specs.CallResults.{AreAsked, Consults, call_in};
 ghost use Rattle.kernel_calls.specs.declared.state.Served.TheVariants.{Went};
 

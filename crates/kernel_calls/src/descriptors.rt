@@ -1,5 +1,6 @@
 // The services of descriptors that move no byte.
-ghost use Rattle.std.specs.Prelude.{◌≡◌, ◌<◌, length, count_by, position, is_none, Some, IfSome, if◌then◌else◌};
+ghost use Rattle.std.specs.Prelude.{◌≡◌, ◌<◌, length, count_by, position, is_none, Some, IfSome};
+ghost use Rattle.std.specs.Prelude.{if◌then◌else◌};
 ghost use Rattle.dos_world.specs.DescriptorCalls.{close, dup, pipe, with_end};
 ghost use Rattle.proc_table.specs.Tables.{IsProcess, held_by, held_in};
 ghost use Rattle.kernel_calls.specs.Ends.{CanHave, with_end_more};

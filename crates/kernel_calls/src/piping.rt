@@ -1,11 +1,13 @@
 // The bytes of pipes: reading from one, and writing to one.
-ghost use Rattle.std.specs.Prelude.{◌≡◌, ◌≢◌, ◌<◌, ◌≤◌, ◌-◌, ◌++◌, min, [], length, take, drop, true, Some};
+ghost use Rattle.std.specs.Prelude.{◌≡◌, ◌≢◌, ◌<◌, ◌≤◌, ◌-◌, ◌++◌, min, [], length, take, drop};
+ghost use Rattle.std.specs.Prelude.{true, Some};
 ghost use Rattle.dos_world.specs.World.{World};
 ghost use Rattle.dos_world.specs.declared.Access.TheVariants.{Load, Store};
 ghost use Rattle.dos_world.specs.declared.End.TheVariants.{PipeRead, PipeWrite};
 ghost use Rattle.dos_world.specs.Kernel.{all_reach, copied_out};
 ghost use Rattle.dos_world.specs.DescriptorCalls.{read_by, read_pipe, write_by, write_pipe};
-ghost use Rattle.kernel_mem.specs.MemoryWorld.{in_world, NamesUsedFrames, IsCaller, HasAllHome, KeepsOthers};
+ghost use Rattle.kernel_mem.specs.MemoryWorld.{in_world, NamesUsedFrames, IsCaller, HasAllHome};
+ghost use Rattle.kernel_mem.specs.MemoryWorld.{KeepsOthers};
 ghost use Rattle.kernel_objects.specs.Pipework.{bytes_at, ends_at, is_open_at, with_bytes};
 ghost use Rattle.page_store.specs.Store.{Store as Held};
 ghost use Rattle.kernel_calls.specs.StateWorld.{IsCounted, IsSound};

@@ -1,5 +1,6 @@
 // Reading.
-ghost use Rattle.std.specs.Prelude.{◌≡◌, ◌<◌, ◌≤◌, length, take, true, All, IfErr, IfOk, OnErr, OnOk, Some};
+ghost use Rattle.std.specs.Prelude.{◌≡◌, ◌<◌, ◌≤◌, length, take, true, All, IfErr, IfOk, OnErr};
+ghost use Rattle.std.specs.Prelude.{OnOk, Some};
 ghost use Rattle.dos_world.specs.World.{World};
 ghost use Rattle.dos_world.specs.declared.Access.TheVariants.{Store};
 ghost use Rattle.dos_world.specs.declared.End.TheVariants.{Input};
@@ -11,8 +12,10 @@ ghost use Rattle.dos_io.specs.Shims.{HasNoEnd, Stopped, answered};
 ghost use Rattle.dos_io.specs.declared.exchange.Exchange.TheVariants.{Input as input_exchange};
 ghost use Rattle.kernel_mem.specs.MemoryWorld.{in_world};
 ghost use Rattle.page_store.specs.Store.{Store as Held};
-ghost use Rattle.kernel_calls.specs.StateWorld.{HasNotStopped, IsCounted, IsSound, Stands, StopsAsking};
-ghost use Rattle.kernel_calls.specs.CallResults.{AreAsked, Consults, asked_count, call_in, source_of};
+ghost use Rattle.kernel_calls.specs.StateWorld.{HasNotStopped, IsCounted, IsSound, Stands};
+ghost use Rattle.kernel_calls.specs.StateWorld.{StopsAsking};
+ghost use Rattle.kernel_calls.specs.CallResults.{AreAsked, Consults, asked_count, call_in};
+ghost use Rattle.kernel_calls.specs.CallResults.{source_of};
 ghost use Rattle.kernel_calls.specs.declared.state.Served.TheVariants.{Went};
 
 use crate::answering::{refuse_call, reply};

@@ -3,7 +3,9 @@ ghost use Rattle.std.specs.Prelude.{◌≡◌, ◌<◌, ℕ, List, ◌∷◌, If
 ghost use Rattle.dos_world.specs.Services.{service};
 ghost use Rattle.dos_io.specs.Shims.{HasNoEnd};
 ghost use Rattle.proc_table.specs.Tables.{IsThread, ran, thread_by, thread_in};
-ghost use Rattle.kernel_calls.specs.StateWorld.{Answers, Asks, HasCauses, HasFaulted, HaveGrown, HaveParts, IsCounted, IsReady, IsSound, Stands, left_after, sent, shim_stop, world_of};
+ghost use Rattle.kernel_calls.specs.StateWorld.{Answers, Asks, HasCauses, HasFaulted, HaveGrown};
+ghost use Rattle.kernel_calls.specs.StateWorld.{HaveParts, IsCounted, IsReady, IsSound, Stands};
+ghost use Rattle.kernel_calls.specs.StateWorld.{left_after, sent, shim_stop, world_of};
 ghost use Rattle.kernel_calls.specs.Built.{definition_by, definition_of, quiet_definition_of};
 ghost use Rattle.kernel_calls.specs.CallResults.{AreAsked, ActsQuietly, call_in, paid};
 

@@ -1,7 +1,8 @@
 // The services of signals.
 ghost use Rattle.std.specs.Prelude.{◌≡◌, ◌<◌, ◌==◌, ◌||◌, not, if◌then◌else◌};
 ghost use Rattle.dos_world.specs.World.{registers_by};
-ghost use Rattle.dos_world.specs.SignalCalls.{is_action, is_signal, kill, refused_in_place, sig_handler, sig_mask, sig_return};
+ghost use Rattle.dos_world.specs.SignalCalls.{is_action, is_signal, kill, refused_in_place};
+ghost use Rattle.dos_world.specs.SignalCalls.{sig_handler, sig_mask, sig_return};
 ghost use Rattle.proc_table.specs.Tables.{IsThread, thread_by};
 ghost use Rattle.kernel_calls.specs.Ending.{posted_in};
 ghost use Rattle.kernel_calls.specs.StateWorld.{IsCounted, IsSound};

@@ -2,7 +2,8 @@
 ghost use Rattle.std.specs.Prelude.{◌≡◌, ◌==◌, length};
 ghost use Rattle.dos_world.specs.Numbered.{numbers_of};
 ghost use Rattle.dos_world.specs.World.{belongs_to};
-ghost use Rattle.dos_world.specs.Services.{new_registers, process_exit, round_number, thread_exit, thread_new};
+ghost use Rattle.dos_world.specs.Services.{new_registers, process_exit, round_number, thread_exit};
+ghost use Rattle.dos_world.specs.Services.{thread_new};
 ghost use Rattle.kernel_calls.specs.StateWorld.{IsCounted, IsSound};
 ghost use Rattle.kernel_calls.specs.CallResults.{AreAsked, ActsQuietly};
 ghost use Rattle.kernel_calls.specs.declared.state.Served.TheVariants.{Gone, Went};

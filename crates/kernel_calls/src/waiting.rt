@@ -1,5 +1,6 @@
 // Whether the service that a thread calls would wait.
-ghost use Rattle.std.specs.Prelude.{◌≡◌, ◌<◌, ◌==◌, ◌&&◌, ℕ, List, length, not, true, false, nat_le, nat_lt, Some, if◌then◌else◌};
+ghost use Rattle.std.specs.Prelude.{◌≡◌, ◌<◌, ◌==◌, ◌&&◌, ℕ, List, length, not, true, false};
+ghost use Rattle.std.specs.Prelude.{nat_le, nat_lt, Some, if◌then◌else◌};
 ghost use Rattle.std.specs.List.{list_any};
 ghost use Rattle.dos_world.specs.World.{World};
 ghost use Rattle.dos_world.specs.Kernel.{all_reach};

@@ -5,10 +5,12 @@ ghost use Rattle.dos_world.specs.declared.Access.TheVariants.{Load};
 ghost use Rattle.dos_world.specs.Kernel.{all_reach, copied_in};
 ghost use Rattle.dos_world.specs.Services.{write};
 ghost use Rattle.dos_io.specs.Outside.{HasCause};
-ghost use Rattle.kernel_mem.specs.MemoryWorld.{in_world, NamesUsedFrames, IsCaller, HasAllHome, KeepsUses};
+ghost use Rattle.kernel_mem.specs.MemoryWorld.{in_world, NamesUsedFrames, IsCaller, HasAllHome};
+ghost use Rattle.kernel_mem.specs.MemoryWorld.{KeepsUses};
 ghost use Rattle.page_store.specs.Store.{Store as Held};
 ghost use Rattle.kernel_calls.specs.StateWorld.{HasFaulted, HaveGrown, IsCounted, IsSound, Stands};
-ghost use Rattle.kernel_calls.specs.CallResults.{AreAsked, HasSinkCauses, IsCutOff, IsSent, Sends, call_in, target_of};
+ghost use Rattle.kernel_calls.specs.CallResults.{AreAsked, HasSinkCauses, IsCutOff, IsSent, Sends};
+ghost use Rattle.kernel_calls.specs.CallResults.{call_in, target_of};
 ghost use Rattle.kernel_calls.specs.declared.state.Served.TheVariants.{Went};
 
 use crate::answering::{refuse_call, reply};

@@ -1,5 +1,6 @@
 -- Comparing digests one after the other, as a loop does.
-use Rattle.std.proofs.Common.{◌≡◌, ℕ, zero, suc, Bool, true, false, not, List, [], ◌∷◌, drop, Option, Some, refl, sym, subst}
+use Rattle.std.proofs.Common.{◌≡◌, ℕ, zero, suc, Bool, true, false, not, List, [], ◌∷◌, drop}
+use Rattle.std.proofs.Common.{Option, Some, refl, sym, subst}
 use Rattle.std.specs.List.{slice_get}
 use Rattle.std.specs.Str.{bytes_eq}
 use Rattle.log_files.specs.declared.refusal.LogRefusal.TheVariants.{Digest}

@@ -1,12 +1,14 @@
 -- What the file of a log is taken for, and whether a log is of the images of a call. This project's
 -- own rules.
-use Rattle.std.specs.Prelude.{ℕ, suc, ◌≡◌, List, [], ◌∷◌, length, Option, Some, None, Result, Ok, Err, ⊤, nat_lt, ◌==◌, if◌then◌else◌, bytes_eq}
+use Rattle.std.specs.Prelude.{ℕ, suc, ◌≡◌, List, [], ◌∷◌, length, Option, Some, None, Result, Ok}
+use Rattle.std.specs.Prelude.{Err, ⊤, nat_lt, ◌==◌, if◌then◌else◌, bytes_eq}
 use Rattle.shim_log.specs.declared.refusal.LogError.{LogError}
 use Rattle.shim_log.specs.LogText.{Log}
 use Rattle.shim_log.specs.Reading.{log_at}
 use Rattle.shim_log.specs.Room.{most_bytes}
 use Rattle.log_files.specs.declared.refusal.LogRefusal.{LogRefusal}
-use Rattle.log_files.specs.declared.refusal.LogRefusal.TheVariants.{TooLong, Refused, Images, Digest}
+use Rattle.log_files.specs.declared.refusal.LogRefusal.TheVariants.{TooLong, Refused, Images}
+use Rattle.log_files.specs.declared.refusal.LogRefusal.TheVariants.{Digest}
 use Rattle.log_files.specs.declared.refusal.LoadError.{LoadError}
 use Rattle.log_files.specs.declared.refusal.LoadError.TheVariants as load
 

@@ -1,5 +1,6 @@
 // A log, read from its file.
-ghost use Rattle.std.specs.Prelude.{◌≡◌, ◌≤◌, ℕ, List, length, IfOk, IfErr, IfSome, IsErrOf, Ok, Err};
+ghost use Rattle.std.specs.Prelude.{◌≡◌, ◌≤◌, ℕ, List, length, IfOk, IfErr, IfSome, IsErrOf, Ok};
+ghost use Rattle.std.specs.Prelude.{Err};
 ghost use Rattle.dos_io.specs.Outside.{Rose};
 ghost use Rattle.shim_log.specs.LogText.{logtext};
 ghost use Rattle.shim_log.specs.Ranges.{FitsLog};

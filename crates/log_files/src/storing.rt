@@ -1,5 +1,6 @@
 // A log, written to its file.
-ghost use Rattle.std.specs.Prelude.{◌≡◌, ◌≢◌, ◌≤◌, ℕ, List, IsTrue, IfSome, IsErrOf, OnOk, Some, Err};
+ghost use Rattle.std.specs.Prelude.{◌≡◌, ◌≢◌, ◌≤◌, ℕ, List, IsTrue, IfSome, IsErrOf, OnOk, Some};
+ghost use Rattle.std.specs.Prelude.{Err};
 ghost use Rattle.dos_io.specs.Outside.{Rose};
 ghost use Rattle.shim_log.specs.LogText.{logtext};
 

@@ -1,5 +1,6 @@
 -- A run of a kernel in which no round was run is one of its images.
-use Rattle.std.proofs.Common.{ℕ, ◌-◌, ◌≡◌, refl, sym, ap, ◌∙◌, subst, List, [], ◌∷◌, ◌++◌, map, Option}
+use Rattle.std.proofs.Common.{ℕ, ◌-◌, ◌≡◌, refl, sym, ap, ◌∙◌, subst, List, [], ◌∷◌, ◌++◌, map}
+use Rattle.std.proofs.Common.{Option}
 use Rattle.dos_world.specs.Play.{Play, over, questions, asks}
 use Rattle.dos_world.specs.World.{World}
 use Rattle.dos_world.specs.declared.Config.{Config}
@@ -16,7 +17,8 @@ use Rattle.group_rounds.specs.StatePlays.{telling, ToldMore}
 use Rattle.group_rounds.specs.Kernels.{Held, kernel_world}
 use Rattle.worker_pool.specs.Ran.{GrewBy}
 use Rattle.dpg_run.specs.Fits.{FitsFrom}
-use Rattle.dpg_run.specs.Machine.{Finish, Seen, ends, machine_from, rounds_from, run_from, status_in}
+use Rattle.dpg_run.specs.Machine.{Finish, Seen, ends, machine_from, rounds_from, run_from}
+use Rattle.dpg_run.specs.Machine.{status_in}
 use Rattle.dpg_run.specs.GroupRuns.{AreEnded, AreFronts, CutGroup, RanGroup, StoppedGroup}
 use Rattle.logged_runs.specs.Opened.{IsOpenedWith}
 use Rattle.logged_runs.specs.Runs.{Ended, Put, RanAhead, RanUntil, RanWhole}

@@ -1,5 +1,6 @@
 -- What the words and the host give determines a recorded run.
-use Rattle.std.proofs.Common.{ℕ, suc, ◌≡◌, refl, sym, ap, ◌∙◌, subst, List, [], ◌∷◌, ◌++◌, map, append_assoc, append-nil, Option, Some}
+use Rattle.std.proofs.Common.{ℕ, suc, ◌≡◌, refl, sym, ap, ◌∙◌, subst, List, [], ◌∷◌, ◌++◌, map}
+use Rattle.std.proofs.Common.{append_assoc, append-nil, Option, Some}
 use Rattle.std.proofs.lemmas.List.{append_cancel_left, map-append}
 use Rattle.dos_world.specs.Play.{Play, done, ask, questions}
 use Rattle.dos_world.specs.declared.Config.{Config}
@@ -7,7 +8,8 @@ use Rattle.dos_world.specs.declared.Ending.{Ending}
 use Rattle.dos_world.specs.declared.Post.{Post}
 use Rattle.dos_world.specs.declared.Question.{Question}
 use Rattle.dos_io.specs.Exchanges.{answer_of, question_of}
-use Rattle.dos_io.specs.Given.{AreCountedFrom, Given, GivesCounted, GivesHost, GivesInputs, GivesPosts, readings}
+use Rattle.dos_io.specs.Given.{AreCountedFrom, Given, GivesCounted, GivesHost, GivesInputs}
+use Rattle.dos_io.specs.Given.{GivesPosts, readings}
 use Rattle.dos_io.specs.Hosts.{Told, taken}
 use Rattle.dos_io.specs.declared.exchange.ClockRule.{ClockRule}
 use Rattle.dos_io.specs.declared.exchange.ClockRule.TheVariants.{Counted, FromHost}

@@ -1,5 +1,6 @@
 -- A run over a recorder that was asked nothing before.
-use Rattle.std.proofs.Common.{ℕ, ◌≡◌, ◌⊎◌, inl, inr, refl, sym, ap, ◌∙◌, subst, List, [], ◌∷◌, ◌++◌, append-nil, Option, Some, None, Err, IsErrOf}
+use Rattle.std.proofs.Common.{ℕ, ◌≡◌, ◌⊎◌, inl, inr, refl, sym, ap, ◌∙◌, subst, List, [], ◌∷◌, ◌++◌}
+use Rattle.std.proofs.Common.{append-nil, Option, Some, None, Err, IsErrOf}
 use Rattle.std.specs.Prelude.{IfSome, OnSome}
 use Rattle.dos_world.specs.declared.Config.{Config}
 use Rattle.dos_world.specs.declared.Ending.{Ending}
@@ -20,10 +21,12 @@ use Rattle.group_rounds.specs.Kernels.{Held}
 use Rattle.group_rounds.specs.Outside.{HasShimCause}
 use Rattle.kernel_calls.specs.StateWorld.{shim_stop}
 use Rattle.kernel_calls.specs.declared.state.RunStop.{RunStop}
-use Rattle.kernel_calls.specs.declared.state.RunStop.TheVariants.{HostFault, LogFull, Misfit, OutFault, ErrFault, Memory}
+use Rattle.kernel_calls.specs.declared.state.RunStop.TheVariants.{HostFault, LogFull, Misfit}
+use Rattle.kernel_calls.specs.declared.state.RunStop.TheVariants.{OutFault, ErrFault, Memory}
 use Rattle.worker_pool.specs.Ran.{GrewBy}
 use Rattle.shim_log.specs.declared.header.LogHeader.{LogHeader}
-use Rattle.shim_log.specs.Ledger.{Follows, IsLedger, LedgerState, MayStop, empty_ledger, end_of, recorder_state}
+use Rattle.shim_log.specs.Ledger.{Follows, IsLedger, LedgerState, MayStop, empty_ledger, end_of}
+use Rattle.shim_log.specs.Ledger.{recorder_state}
 use Rattle.shim_log.specs.LogText.{Log, exchanges, logtext}
 use Rattle.shim_log.specs.Ranges.{AreEntries, FitsLog}
 use Rattle.shim_log.specs.Room.{HadRoom, most_bytes}
@@ -33,7 +36,8 @@ use Rattle.dpg_run.specs.GroupRuns.{CutGroup, RanGroup, StoppedGroup}
 use Rattle.logged_runs.specs.Opened.{IsOpenedWith}
 use Rattle.logged_runs.specs.Runs.{Ended, Put, RanUntil, RanWhole}
 use Rattle.logged_runs.specs.Recording.{Recorded, RecordedAhead, RecordedUntil, plan_of}
-use Rattle.logged_runs.proofs.FromOpening.{ran_ahead, ran_until, ran_whole, put_ahead, put_until, until_no_end}
+use Rattle.logged_runs.proofs.FromOpening.{ran_ahead, ran_until, ran_whole, put_ahead, put_until}
+use Rattle.logged_runs.proofs.FromOpening.{until_no_end}
 use Rattle.std.proofs.Common.{◌≤◌, length}
 
 -- ---- the entries of a log, and those of the ledger that it was made of

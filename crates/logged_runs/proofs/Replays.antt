@@ -1,5 +1,6 @@
 -- A run over a replayer that was asked nothing before.
-use Rattle.std.proofs.Common.{ℕ, ◌≡◌, sym, ap, ◌∙◌, subst, List, [], length, Option, Some, None, Err, IsErrOf, arith}
+use Rattle.std.proofs.Common.{ℕ, ◌≡◌, sym, ap, ◌∙◌, subst, List, [], length, Option, Some, None}
+use Rattle.std.proofs.Common.{Err, IsErrOf, arith}
 use Rattle.std.specs.Prelude.{IfSome, OnSome}
 use Rattle.dos_world.specs.declared.Ending.{Ending}
 use Rattle.dos_world.specs.declared.Misfit.{Misfit}
@@ -15,11 +16,14 @@ use Rattle.group_rounds.specs.Kernels.{Held}
 use Rattle.group_rounds.specs.Outside.{HasShimCause}
 use Rattle.kernel_calls.specs.StateWorld.{shim_stop}
 use Rattle.kernel_calls.specs.declared.state.RunStop.{RunStop}
-use Rattle.kernel_calls.specs.declared.state.RunStop.TheVariants.{HostFault, LogFull, Misfit as MisfitFound, OutFault, ErrFault, Memory}
+use Rattle.kernel_calls.specs.declared.state.RunStop.TheVariants.{HostFault, LogFull}
+use Rattle.kernel_calls.specs.declared.state.RunStop.TheVariants.{Misfit as MisfitFound, OutFault}
+use Rattle.kernel_calls.specs.declared.state.RunStop.TheVariants.{ErrFault, Memory}
 use Rattle.worker_pool.specs.Ran.{GrewBy}
 use Rattle.shim_log.specs.LogText.{Log, exchanges}
 use Rattle.shim_log.specs.Ranges.{FitsLog}
-use Rattle.shim_log.specs.Replay.{FollowsLog, IsMisfitOf, IsReplay, ReplayState, StandsNext, replayer_state}
+use Rattle.shim_log.specs.Replay.{FollowsLog, IsMisfitOf, IsReplay, ReplayState, StandsNext}
+use Rattle.shim_log.specs.Replay.{replayer_state}
 use Rattle.shim_log.proofs.ReplayLaws.{ends_whole, stands_next}
 use Rattle.dpg_run.specs.Fits.{misfit}
 use Rattle.dpg_run.specs.Machine.{Seen, group}
@@ -27,7 +31,8 @@ use Rattle.dpg_run.specs.GroupRuns.{CutGroup, RanGroup, StoppedGroup}
 use Rattle.dpg_run.proofs.MisfitLaws.{misfit_at}
 use Rattle.logged_runs.specs.Opened.{IsOpenedWith}
 use Rattle.logged_runs.specs.Runs.{Ended, Put, RanWhole}
-use Rattle.logged_runs.specs.Replaying.{Replayed, ReplayedAhead, ReplayedUntil, StopsReplay, config_of}
+use Rattle.logged_runs.specs.Replaying.{Replayed, ReplayedAhead, ReplayedUntil, StopsReplay}
+use Rattle.logged_runs.specs.Replaying.{config_of}
 use Rattle.logged_runs.proofs.FromOpening.{ran_ahead, ran_until, ran_whole, put_ahead, put_until}
 
 abbrev some_misfit : Misfit → ShimStop

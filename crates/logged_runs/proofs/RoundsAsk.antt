@@ -1,5 +1,6 @@
 -- No round asks the question of the run's end, so it is told once, as a run's last.
-use Rattle.std.proofs.Common.{ℕ, zero, suc, ◌+◌, ◌≡◌, refl, sym, ap, ◌∙◌, subst, false, List, [], ◌∷◌, ◌++◌, map, Option, Some, None, Result, Ok, Err, cond}
+use Rattle.std.proofs.Common.{ℕ, zero, suc, ◌+◌, ◌≡◌, refl, sym, ap, ◌∙◌, subst, false, List, []}
+use Rattle.std.proofs.Common.{◌∷◌, ◌++◌, map, Option, Some, None, Result, Ok, Err, cond}
 use Rattle.std.specs.Prelude.{is_some, ⊤}
 use Rattle.std.proofs.lemmas.Bool.{cond_both}
 use Rattle.dos_world.specs.World.{World, Thread, thread_at, live_threads, ready_threads}
@@ -11,13 +12,16 @@ use Rattle.dos_world.specs.declared.Question.TheVariants.{Signals}
 use Rattle.dos_world.specs.declared.Reason.{Reason}
 use Rattle.dos_world.specs.declared.Reason.TheVariants.{Page, Fault, Service as service_reason}
 use Rattle.dos_io.specs.declared.exchange.Exchange.{Exchange}
-use Rattle.dos_io.specs.declared.exchange.Exchange.TheVariants.{Signals as signals, Input, Clock, End}
+use Rattle.dos_io.specs.declared.exchange.Exchange.TheVariants.{Signals as signals, Input, Clock}
+use Rattle.dos_io.specs.declared.exchange.Exchange.TheVariants.{End}
 use Rattle.dos_io.specs.Exchanges.{answer_of, question_of}
 use Rattle.dos_io.specs.Shims.{HasNoEnd}
 use Rattle.quantum_run.specs.Alone.{budget_of, emptied}
 use Rattle.round_core.specs.Protocol.{Allows}
-use Rattle.round_core.specs.Rest.{Turn, on, over_with, service_done, after_step, settled, turn, turns, rest_of, rest_if_live, serial_of}
-use Rattle.round_core.specs.Round.{RoundEnd, finished, stalled, parallel, with_budgets, is_none_of, phases, begun, round_of, counted, budgets}
+use Rattle.round_core.specs.Rest.{Turn, on, over_with, service_done, after_step, settled, turn}
+use Rattle.round_core.specs.Rest.{turns, rest_of, rest_if_live, serial_of}
+use Rattle.round_core.specs.Round.{RoundEnd, finished, stalled, parallel, with_budgets, is_none_of}
+use Rattle.round_core.specs.Round.{phases, begun, round_of, counted, budgets}
 use Rattle.round_core.specs.Round.{went as went_on}
 use Rattle.round_core.proofs.Allowed.{then_allows, allows_less}
 use Rattle.group_rounds.specs.Outside.{is_end}

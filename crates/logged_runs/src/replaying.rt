@@ -7,7 +7,8 @@ ghost use Rattle.kernel_calls.specs.StateWorld.{HasSinkCause};
 ghost use Rattle.kernel_calls.specs.declared.state.RunStop.TheVariants as stops;
 ghost use Rattle.logged_runs.specs.Opened.{IsOpenedWith};
 ghost use Rattle.logged_runs.specs.Runs.{Ended, Put};
-ghost use Rattle.logged_runs.specs.Replaying.{Replayed, ReplayedAhead, ReplayedUntil, StopsReplay, config_of};
+ghost use Rattle.logged_runs.specs.Replaying.{Replayed, ReplayedAhead, ReplayedUntil, StopsReplay};
+ghost use Rattle.logged_runs.specs.Replaying.{config_of};
 
 use dos_io::Sink;
 use dos_world::Ending;

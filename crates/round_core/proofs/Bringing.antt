@@ -1,9 +1,14 @@
 -- Pages, registers and budgets that are brought back from the packs make the world of the parallel
 -- phase.
-use Rattle.std.proofs.Common.{ℕ, zero, suc, ◌+◌, ◌*◌, ◌/◌, ◌%◌, ◌≡◌, ◌≢◌, ◌⊎◌, inl, inr, refl, sym, ap, ◌∙◌, subst, Bool, true, false, eqb, eqb-true, List, [], ◌∷◌, length, get_or, drop, Option, Some, None, option_map, Result, Ok, Err, arith}
+use Rattle.std.proofs.Common.{ℕ, zero, suc, ◌+◌, ◌*◌, ◌/◌, ◌%◌, ◌≡◌, ◌≢◌, ◌⊎◌, inl, inr, refl, sym}
+use Rattle.std.proofs.Common.{ap, ◌∙◌, subst, Bool, true, false, eqb, eqb-true, List, [], ◌∷◌}
+use Rattle.std.proofs.Common.{length, get_or, drop, Option, Some, None, option_map, Result, Ok, Err}
+use Rattle.std.proofs.Common.{arith}
 use Rattle.std.specs.Prelude.{fold, replicate, slice_get, slice_index_or}
 use Rattle.std.proofs.lemmas.List.{ext_get_or, get_or-take, get_or-drop}
-use Rattle.dos_world.specs.World.{World, Thread, Process, Sleeper, Registers, flat, thread_at, is_state, ready_threads, owner_of, page_of, registers_by, released}
+use Rattle.dos_world.specs.World.{World, Thread, Process, Sleeper, Registers, flat, thread_at}
+use Rattle.dos_world.specs.World.{is_state, ready_threads, owner_of, page_of, registers_by}
+use Rattle.dos_world.specs.World.{released}
 use Rattle.dos_world.specs.declared.Owner.{Owner}
 use Rattle.dos_world.specs.declared.Owner.TheVariants.{Free, Shared, Of}
 use Rattle.dos_world.specs.declared.ThreadState.TheVariants.{Ready}
@@ -20,8 +25,10 @@ use Rattle.quantum_run.proofs.Own.{alone-own}
 use Rattle.round_core.specs.Mix.{turns_of, members, HaveBegun}
 use Rattle.round_core.specs.Mixed.{stepped, mixed}
 use Rattle.round_core.specs.Round.{all_alone, parallel}
-use Rattle.round_core.proofs.Commute.{Among, Apart, finish, finish_all, all_alone-finish, places-apart, ready-in, steps-others, budget_in}
-use Rattle.round_core.proofs.Mix.{parts-are-a-mix, fold-emptied-same, begun-held, begun-budget, fold-append, turns-finish}
+use Rattle.round_core.proofs.Commute.{Among, Apart, finish, finish_all, all_alone-finish}
+use Rattle.round_core.proofs.Commute.{places-apart, ready-in, steps-others, budget_in}
+use Rattle.round_core.proofs.Mix.{parts-are-a-mix, fold-emptied-same, begun-held, begun-budget}
+use Rattle.round_core.proofs.Mix.{fold-append, turns-finish}
 
 -- ---- worlds that differ in parts of some threads
 

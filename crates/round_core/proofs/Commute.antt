@@ -1,10 +1,13 @@
 -- Instructions of several threads, in any order that is full, lead to the world of the parallel
 -- phase.
-use Rattle.std.proofs.Common.{ℕ, zero, suc, ◌+◌, ◌-◌, ◌≤◌, ◌≡◌, ◌≢◌, ◌⊎◌, inl, inr, refl, sym, ap, ◌∙◌, subst, Bool, cond, true, false, not, eqb, eqb-true, List, [], ◌∷◌, Option, Some, None, option_map, Result, Ok, Err, arith}
+use Rattle.std.proofs.Common.{ℕ, zero, suc, ◌+◌, ◌-◌, ◌≤◌, ◌≡◌, ◌≢◌, ◌⊎◌, inl, inr, refl, sym, ap}
+use Rattle.std.proofs.Common.{◌∙◌, subst, Bool, cond, true, false, not, eqb, eqb-true, List, []}
+use Rattle.std.proofs.Common.{◌∷◌, Option, Some, None, option_map, Result, Ok, Err, arith}
 use Rattle.std.specs.Prelude.{fold, is_err, Contains, slice_get, ◌&&◌, ◌==◌, IsTrue}
 use Rattle.std.specs.Result.{result_unwrap_or}
 use Rattle.dos_world.specs.Numbered.{places_from}
-use Rattle.dos_world.specs.World.{World, Thread, Registers, flat, thread_at, is_state, ready_threads, registers_by, released}
+use Rattle.dos_world.specs.World.{World, Thread, Registers, flat, thread_at, is_state}
+use Rattle.dos_world.specs.World.{ready_threads, registers_by, released}
 use Rattle.dos_world.specs.declared.Reason.{Reason}
 use Rattle.dos_world.specs.declared.ThreadState.TheVariants.{Ready}
 use Rattle.dos_world.proofs.Numbers.{changed_other, changed_there}

@@ -1,8 +1,11 @@
 -- The numbers of faults are small.
-use Rattle.std.proofs.Common.{ℕ, ◌+◌, ◌*◌, ◌%◌, ◌^◌, ◌≤◌, ◌≡◌, ap, Bool, cond, true, false, not, Option, Some, None, Result, Ok, Err, arith}
+use Rattle.std.proofs.Common.{ℕ, ◌+◌, ◌*◌, ◌%◌, ◌^◌, ◌≤◌, ◌≡◌, ap, Bool, cond, true, false, not}
+use Rattle.std.proofs.Common.{Option, Some, None, Result, Ok, Err, arith}
 use Rattle.std.specs.Prelude.{◌==◌}
-use Rattle.dos_world.specs.World.{World, Thread, Registers, code_unit, get, set, with_pc, entry_at, owner_of, thread_at}
-use Rattle.dos_world.specs.Reach.{fault, foreign, at, in_frame, is_foreign, has_right, width, loaded, stored, bytes_of}
+use Rattle.dos_world.specs.World.{World, Thread, Registers, code_unit, get, set, with_pc, entry_at}
+use Rattle.dos_world.specs.World.{owner_of, thread_at}
+use Rattle.dos_world.specs.Reach.{fault, foreign, at, in_frame, is_foreign, has_right, width}
+use Rattle.dos_world.specs.Reach.{loaded, stored, bytes_of}
 use Rattle.dos_world.specs.declared.Entry.{Entry}
 use Rattle.dos_world.specs.declared.Access.{Access}
 use Rattle.dos_world.specs.declared.Access.TheVariants.{Fetch, Load, Store, Claim}
@@ -11,11 +14,16 @@ use Rattle.dos_world.specs.declared.Size.TheVariants.{Half, Word}
 use Rattle.dos_world.specs.declared.Reason.{Reason}
 use Rattle.dos_world.specs.declared.Reason.TheVariants.{Fault}
 use Rattle.rv_isa.specs.declared.Instr.{Instr}
-use Rattle.rv_isa.specs.declared.Instr.TheVariants.{Upper, Jal, Jalr, Branch, Load as Instr_Load, Store as Instr_Store, Imm, Shift, Reg, Amo, Fence, Ecall, Ebreak}
+use Rattle.rv_isa.specs.declared.Instr.TheVariants.{Upper, Jal, Jalr, Branch, Load as Instr_Load}
+use Rattle.rv_isa.specs.declared.Instr.TheVariants.{Store as Instr_Store, Imm, Shift, Reg, Amo}
+use Rattle.rv_isa.specs.declared.Instr.TheVariants.{Fence, Ecall, Ebreak}
 use Rattle.rv_isa.specs.declared.AmoOp.{AmoOp}
-use Rattle.rv_isa.specs.declared.AmoOp.TheVariants.{LrW, ScW, AmoswapW, AmoaddW, AmoxorW, AmoandW, AmoorW, AmominW, AmomaxW, AmominuW, AmomaxuW}
-use Rattle.rv_exec.specs.Effect.{Effect, goes, loads, stores, claims, stops, effect, jumps, atomic, is_taken, plus}
-use Rattle.rv_exec.specs.Step.{step, step_of, step_by, performed, reached, place_or_reason, half_at, instruction_at, whole_word, paid, with_word, ◌>>=◌}
+use Rattle.rv_isa.specs.declared.AmoOp.TheVariants.{LrW, ScW, AmoswapW, AmoaddW, AmoxorW, AmoandW}
+use Rattle.rv_isa.specs.declared.AmoOp.TheVariants.{AmoorW, AmominW, AmomaxW, AmominuW, AmomaxuW}
+use Rattle.rv_exec.specs.Effect.{Effect, goes, loads, stores, claims, stops, effect, jumps, atomic}
+use Rattle.rv_exec.specs.Effect.{is_taken, plus}
+use Rattle.rv_exec.specs.Step.{step, step_of, step_by, performed, reached, place_or_reason, half_at}
+use Rattle.rv_exec.specs.Step.{instruction_at, whole_word, paid, with_word, ◌>>=◌}
 
 -- where it is a fault, its number is at most 11
 abbrev IsSmall : {A : Type 0} → Result A Reason → Type 0

@@ -1,9 +1,14 @@
 -- No instruction needs more than three grants: one for each page that it lies in, and one for its
 -- data.
-use Rattle.std.proofs.Common.{ℕ, zero, suc, ◌+◌, ◌*◌, ◌%◌, ◌^◌, ◌<◌, ◌≡◌, ◌≢◌, ◌⊎◌, inl, inr, refl, sym, ap, ◌∙◌, subst, Bool, cond, true, false, not, eqb, eq-eqb, length, Option, Some, None, Result, Ok, Err, arith, get_or-set_same, get_or-set_other, length-set}
+use Rattle.std.proofs.Common.{ℕ, zero, suc, ◌+◌, ◌*◌, ◌%◌, ◌^◌, ◌<◌, ◌≡◌, ◌≢◌, ◌⊎◌, inl, inr, refl}
+use Rattle.std.proofs.Common.{sym, ap, ◌∙◌, subst, Bool, cond, true, false, not, eqb, eq-eqb}
+use Rattle.std.proofs.Common.{length, Option, Some, None, Result, Ok, Err, arith, get_or-set_same}
+use Rattle.std.proofs.Common.{get_or-set_other, length-set}
 use Rattle.std.proofs.lemmas.Bool.{cases_eq}
-use Rattle.dos_world.specs.World.{World, Thread, Registers, code_unit, get, set, with_pc, entry_at, owner_of, thread_at}
-use Rattle.dos_world.specs.Reach.{Reached, fault, foreign, at, is_foreign, has_right, width, loaded, stored, bytes_of, grant, granted}
+use Rattle.dos_world.specs.World.{World, Thread, Registers, code_unit, get, set, with_pc, entry_at}
+use Rattle.dos_world.specs.World.{owner_of, thread_at}
+use Rattle.dos_world.specs.Reach.{Reached, fault, foreign, at, is_foreign, has_right, width, loaded}
+use Rattle.dos_world.specs.Reach.{stored, bytes_of, grant, granted}
 use Rattle.dos_world.specs.declared.Entry.{Entry}
 use Rattle.dos_world.specs.declared.Access.{Access}
 use Rattle.dos_world.specs.declared.Access.TheVariants.{Fetch, Load, Store, Claim}
@@ -13,12 +18,17 @@ use Rattle.dos_world.specs.declared.Owner.TheVariants.{Free}
 use Rattle.dos_world.specs.declared.Reason.{Reason}
 use Rattle.dos_world.specs.declared.Reason.TheVariants.{Page, Fault, Service}
 use Rattle.rv_isa.specs.declared.Instr.{Instr}
-use Rattle.rv_isa.specs.declared.Instr.TheVariants.{Upper, Jal, Jalr, Branch, Load as Instr_Load, Store as Instr_Store, Imm, Shift, Reg, Amo, Fence, Ecall, Ebreak}
+use Rattle.rv_isa.specs.declared.Instr.TheVariants.{Upper, Jal, Jalr, Branch, Load as Instr_Load}
+use Rattle.rv_isa.specs.declared.Instr.TheVariants.{Store as Instr_Store, Imm, Shift, Reg, Amo}
+use Rattle.rv_isa.specs.declared.Instr.TheVariants.{Fence, Ecall, Ebreak}
 use Rattle.rv_isa.specs.declared.AmoOp.{AmoOp}
-use Rattle.rv_isa.specs.declared.AmoOp.TheVariants.{LrW, ScW, AmoswapW, AmoaddW, AmoxorW, AmoandW, AmoorW, AmominW, AmomaxW, AmominuW, AmomaxuW}
+use Rattle.rv_isa.specs.declared.AmoOp.TheVariants.{LrW, ScW, AmoswapW, AmoaddW, AmoxorW, AmoandW}
+use Rattle.rv_isa.specs.declared.AmoOp.TheVariants.{AmoorW, AmominW, AmomaxW, AmominuW, AmomaxuW}
 use Rattle.rv_exec.proofs.Keeps.{bind_ok}
-use Rattle.rv_exec.specs.Effect.{Effect, goes, loads, stores, claims, stops, effect, jumps, atomic, is_taken, plus}
-use Rattle.rv_exec.specs.Step.{step, step_of, step_by, performed, reached, half_at, instruction_at, whole_word, paid, with_word, ◌>>=◌}
+use Rattle.rv_exec.specs.Effect.{Effect, goes, loads, stores, claims, stops, effect, jumps, atomic}
+use Rattle.rv_exec.specs.Effect.{is_taken, plus}
+use Rattle.rv_exec.specs.Step.{step, step_of, step_by, performed, reached, half_at, instruction_at}
+use Rattle.rv_exec.specs.Step.{whole_word, paid, with_word, ◌>>=◌}
 use Rattle.round_core.specs.Laws.{MapsWithin, IsNoPage}
 use Rattle.round_core.specs.Rest.{settled, page_granted, granted_by}
 

@@ -1,10 +1,13 @@
 -- What every change of a round keeps, the whole round keeps: one walk over the plays, for any
 -- invariant.
-use Rattle.std.proofs.Common.{ℕ, zero, suc, ◌+◌, ◌-◌, ◌≡◌, ◌⊎◌, inl, inr, refl, sym, ◌∙◌, subst, Bool, true, false, cond, List, [], ◌∷◌, Option, Some, None, Result, Ok, Err}
+use Rattle.std.proofs.Common.{ℕ, zero, suc, ◌+◌, ◌-◌, ◌≡◌, ◌⊎◌, inl, inr, refl, sym, ◌∙◌, subst}
+use Rattle.std.proofs.Common.{Bool, true, false, cond, List, [], ◌∷◌, Option, Some, None, Result}
+use Rattle.std.proofs.Common.{Ok, Err}
 use Rattle.std.specs.Prelude.{All, is_some}
 use Rattle.std.proofs.lemmas.Bool.{cond_both, cases_Bool}
 use Rattle.std.proofs.lemmas.List.Elements.{All-head, All-tail}
-use Rattle.dos_world.specs.World.{World, Thread, thread_at, entry_at, live_threads, ready_threads, with_thread, get}
+use Rattle.dos_world.specs.World.{World, Thread, thread_at, entry_at, live_threads, ready_threads}
+use Rattle.dos_world.specs.World.{with_thread, get}
 use Rattle.dos_world.specs.Kernel.{posted}
 use Rattle.dos_world.specs.Play.{Play, done, ask, posts_of}
 use Rattle.dos_world.specs.Calls.{Service, Served, went, waits, yields, gone, call_of, refuses}
@@ -18,11 +21,16 @@ use Rattle.dos_world.specs.declared.Reason.{Reason}
 use Rattle.dos_world.specs.declared.Reason.TheVariants.{Page, Fault, Service as service_reason}
 use Rattle.rv_exec.specs.Step.{step}
 use Rattle.quantum_run.specs.Alone.{budget_of, emptied, steps, alone}
-use Rattle.round_core.specs.Rest.{granted_by, page_granted, settled, Turn, on, over_with, service_done, after_step, turn, turns, rest_of, rest_if_live, serial_of}
-use Rattle.round_core.specs.Round.{RoundEnd, finished, stalled, all_alone, parallel, with_budget, with_budgets, budgets, counted, phases, is_none_of, begun, round_of}
+use Rattle.round_core.specs.Rest.{granted_by, page_granted, settled, Turn, on, over_with}
+use Rattle.round_core.specs.Rest.{service_done, after_step, turn, turns, rest_of, rest_if_live}
+use Rattle.round_core.specs.Rest.{serial_of}
+use Rattle.round_core.specs.Round.{RoundEnd, finished, stalled, all_alone, parallel, with_budget}
+use Rattle.round_core.specs.Round.{with_budgets, budgets, counted, phases, is_none_of, begun}
+use Rattle.round_core.specs.Round.{round_of}
 use Rattle.round_core.specs.Round.{went as went_on}
 use Rattle.round_core.specs.Protocol.{Protocol, Allows}
-use Rattle.round_core.specs.Invariants.{Holds, Keeps, IsInvariant, LeavesServed, LeavesEnd, is_built}
+use Rattle.round_core.specs.Invariants.{Holds, Keeps, IsInvariant, LeavesServed, LeavesEnd}
+use Rattle.round_core.specs.Invariants.{is_built}
 use Rattle.round_core.proofs.Allowed.{then_allows}
 
 module _ (protocol : Protocol) (I : Holds) (k : Keeps protocol I) where

@@ -1,8 +1,13 @@
 -- Whole parts of some of the ready threads are a mix of instructions, and each pack shows it.
-use Rattle.std.proofs.Common.{ℕ, zero, suc, ◌+◌, ◌-◌, ◌*◌, ◌/◌, ◌<◌, ◌≤◌, ◌≡◌, ◌≢◌, ◌⊎◌, inl, inr, refl, sym, ap, ◌∙◌, subst, Bool, cond, true, false, not, eqb, eqb-true, List, [], ◌∷◌, ◌++◌, length, get_or, take, drop, Option, Some, None, option_map, Result, Ok, Err, arith}
-use Rattle.std.specs.Prelude.{fold, replicate, slice_get, slice_index_or, option_and_then, ◌&&◌, ◌==◌, IfSome}
+use Rattle.std.proofs.Common.{ℕ, zero, suc, ◌+◌, ◌-◌, ◌*◌, ◌/◌, ◌<◌, ◌≤◌, ◌≡◌, ◌≢◌, ◌⊎◌, inl, inr}
+use Rattle.std.proofs.Common.{refl, sym, ap, ◌∙◌, subst, Bool, cond, true, false, not, eqb}
+use Rattle.std.proofs.Common.{eqb-true, List, [], ◌∷◌, ◌++◌, length, get_or, take, drop, Option}
+use Rattle.std.proofs.Common.{Some, None, option_map, Result, Ok, Err, arith}
+use Rattle.std.specs.Prelude.{fold, replicate, slice_get, slice_index_or, option_and_then, ◌&&◌}
+use Rattle.std.specs.Prelude.{◌==◌, IfSome}
 use Rattle.dos_world.specs.Numbered.{numbered, changed, changed_at}
-use Rattle.dos_world.specs.World.{World, Thread, Process, flat, thread_at, is_state, ready_threads, registers_by, released, owner_of, page_of, look, holdings_of}
+use Rattle.dos_world.specs.World.{World, Thread, Process, flat, thread_at, is_state, ready_threads}
+use Rattle.dos_world.specs.World.{registers_by, released, owner_of, page_of, look, holdings_of}
 use Rattle.dos_world.specs.declared.Entry.{Entry}
 use Rattle.dos_world.specs.declared.Owner.{Owner}
 use Rattle.dos_world.specs.declared.Owner.TheVariants.{Free, Shared, Of}
@@ -18,7 +23,9 @@ use Rattle.quantum_run.specs.Shows.{Pack, View, Shows, thread_space}
 use Rattle.quantum_run.proofs.After.{steps-ok, steps-stopped}
 use Rattle.round_core.specs.Mixed.{stepped, mixed}
 use Rattle.round_core.specs.Mix.{turns_of, members, HaveBegun, PacksShow}
-use Rattle.round_core.proofs.Commute.{Among, Apart, active, budget_in, finish, stepped-idle, stepped-stop, stepped-ok, stepped-others, finish-stepped, paid-budget, ready_of-change, places-apart, ready-in}
+use Rattle.round_core.proofs.Commute.{Among, Apart, active, budget_in, finish, stepped-idle}
+use Rattle.round_core.proofs.Commute.{stepped-stop, stepped-ok, stepped-others, finish-stepped}
+use Rattle.round_core.proofs.Commute.{paid-budget, ready_of-change, places-apart, ready-in}
 
 -- ---- pages that agree
 

@@ -1,8 +1,13 @@
 -- One thing for each service of the table, by its name; so for the service of each number.
-use Rattle.std.proofs.Common.{ℕ, ◌≡◌, refl, subst, Bool, true, false, cond, List, [], ◌∷◌, Some, eqb-true}
+use Rattle.std.proofs.Common.{ℕ, ◌≡◌, refl, subst, Bool, true, false, cond, List, [], ◌∷◌, Some}
+use Rattle.std.proofs.Common.{eqb-true}
 use Rattle.std.specs.Prelude.{⊤, find, ◌==◌}
 use Rattle.dos_world.specs.Calls.{Service, refuses}
-use Rattle.dos_world.specs.Services.{services, service_of, service_by, thread_exit, process_exit, thread_new, fork, wait, pipe, read, write, close, dup, futex_wait, futex_wake, map_pages, unmap, share, sig_handler, sig_mask, sig_return, kill, get_pid, get_tid, clock, yield, round_number}
+use Rattle.dos_world.specs.Services.{services, service_of, service_by, thread_exit, process_exit}
+use Rattle.dos_world.specs.Services.{thread_new, fork, wait, pipe, read, write, close, dup}
+use Rattle.dos_world.specs.Services.{futex_wait, futex_wake, map_pages, unmap, share, sig_handler}
+use Rattle.dos_world.specs.Services.{sig_mask, sig_return, kill, get_pid, get_tid, clock, yield}
+use Rattle.dos_world.specs.Services.{round_number}
 
 -- What holds of each service, with its number. A new service is a field more.
 pub record OfEach (K : ℕ → Service → Type 0) : Type 0 where

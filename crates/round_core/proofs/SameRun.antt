@@ -1,23 +1,46 @@
 -- All that a round does but its last step leaves the quantum, the count of rounds and the services
 -- of
 -- any world, and sends its bytes behind those that were sent; and only read and clock ask.
-use Rattle.std.proofs.Common.{ℕ, zero, suc, ◌+◌, ◌-◌, ◌%◌, ◌≡◌, ◌⊎◌, inl, inr, refl, sym, ap, ◌∙◌, subst, Bool, true, false, cond, not, List, [], ◌∷◌, ◌++◌, length, Option, Some, None, Result, Ok, Err, min, take, drop}
+use Rattle.std.proofs.Common.{ℕ, zero, suc, ◌+◌, ◌-◌, ◌%◌, ◌≡◌, ◌⊎◌, inl, inr, refl, sym, ap, ◌∙◌}
+use Rattle.std.proofs.Common.{subst, Bool, true, false, cond, not, List, [], ◌∷◌, ◌++◌, length}
+use Rattle.std.proofs.Common.{Option, Some, None, Result, Ok, Err, min, take, drop}
 use Rattle.std.specs.Prelude.{◌==◌, ◌||◌, ◌&&◌, filter, map, nat_le, nat_lt, is_none}
 use Rattle.std.specs.List.{list_any}
 use Rattle.std.proofs.lemmas.Bool.{false≢true}
 use Rattle.dos_world.specs.Numbered.{changed, numbers_of}
-use Rattle.dos_world.specs.World.{World, Thread, Holdings, Registers, thread_at, action_of, first_thread, first_of, has_ended, threads_of, parent_of, live_process, with_thread, with_holdings, without_thread, is_state, page_of, entry_at}
+use Rattle.dos_world.specs.World.{World, Thread, Holdings, Registers, thread_at, action_of}
+use Rattle.dos_world.specs.World.{first_thread, first_of, has_ended, threads_of, parent_of}
+use Rattle.dos_world.specs.World.{live_process, with_thread, with_holdings, without_thread}
+use Rattle.dos_world.specs.World.{is_state, page_of, entry_at}
 use Rattle.dos_world.specs.Reach.{Reached, fault, foreign, at, reach, grant}
-use Rattle.dos_world.specs.Kernel.{minus, posted, pending_with, tidied, orphaned, ended_by, unless_of, is_none_of_these, process_ended, thread_ended, woken, opened, copied_in, copied_out, has_reader, has_writer, with_fresh, free_frames}
+use Rattle.dos_world.specs.Kernel.{minus, posted, pending_with, tidied, orphaned, ended_by}
+use Rattle.dos_world.specs.Kernel.{unless_of, is_none_of_these, process_ended, thread_ended, woken}
+use Rattle.dos_world.specs.Kernel.{opened, copied_in, copied_out, has_reader, has_writer}
+use Rattle.dos_world.specs.Kernel.{with_fresh, free_frames}
 use Rattle.dos_world.specs.Play.{Play, input_of}
-use Rattle.dos_world.specs.Calls.{Call, Service, Served, call_of, returns, returns_in, refuses, refuses_in, replies, retries, mask_of}
-use Rattle.dos_world.specs.ThreadCalls.{thread_new, are_threads_full, ready_thread, new_registers, next_thread, with_new_thread}
-use Rattle.dos_world.specs.ProcessCalls.{fork, forked_by, copied_space, are_processes_full, private_entries, with_child, next_process, wait, wait_by, children_where, any_process}
-use Rattle.dos_world.specs.DescriptorCalls.{pipe, pipe_by, close, dup, dup_by, read, read_by, read_input, read_pipe, write, write_by, write_output, write_error, write_pipe, write_some, transfers, count_of, descriptor, free_descriptors, second_of, lowest_pipe, with_descriptor, pipe_bytes, with_pipe}
-use Rattle.dos_world.specs.FutexCalls.{futex_wait, futex_wake, at_word, by_entry, is_off_word, futex_wait_at, futex_wake_at, futex_word, all_woken, sleepers_at}
-use Rattle.dos_world.specs.MemoryCalls.{map_pages, page_mapped, mapped_fresh, pages_of, is_range, maps_page, where_mapped, is_no_range, lacks_page, without_pages, with_shared}
-use Rattle.dos_world.specs.SignalCalls.{sig_handler, is_signal, is_action, with_action, sig_return, sig_return_by, saved_of, kill}
-use Rattle.dos_world.specs.Signals.{chosen, cleared, handling, interrupted, default_action, handler_action, delivered, turn_by, signal_turn, would_wait, made_ready}
+use Rattle.dos_world.specs.Calls.{Call, Service, Served, call_of, returns, returns_in, refuses}
+use Rattle.dos_world.specs.Calls.{refuses_in, replies, retries, mask_of}
+use Rattle.dos_world.specs.ThreadCalls.{thread_new, are_threads_full, ready_thread, new_registers}
+use Rattle.dos_world.specs.ThreadCalls.{next_thread, with_new_thread}
+use Rattle.dos_world.specs.ProcessCalls.{fork, forked_by, copied_space, are_processes_full}
+use Rattle.dos_world.specs.ProcessCalls.{private_entries, with_child, next_process, wait, wait_by}
+use Rattle.dos_world.specs.ProcessCalls.{children_where, any_process}
+use Rattle.dos_world.specs.DescriptorCalls.{pipe, pipe_by, close, dup, dup_by, read, read_by}
+use Rattle.dos_world.specs.DescriptorCalls.{read_input, read_pipe, write, write_by, write_output}
+use Rattle.dos_world.specs.DescriptorCalls.{write_error, write_pipe, write_some, transfers}
+use Rattle.dos_world.specs.DescriptorCalls.{count_of, descriptor, free_descriptors, second_of}
+use Rattle.dos_world.specs.DescriptorCalls.{lowest_pipe, with_descriptor, pipe_bytes, with_pipe}
+use Rattle.dos_world.specs.FutexCalls.{futex_wait, futex_wake, at_word, by_entry, is_off_word}
+use Rattle.dos_world.specs.FutexCalls.{futex_wait_at, futex_wake_at, futex_word, all_woken}
+use Rattle.dos_world.specs.FutexCalls.{sleepers_at}
+use Rattle.dos_world.specs.MemoryCalls.{map_pages, page_mapped, mapped_fresh, pages_of, is_range}
+use Rattle.dos_world.specs.MemoryCalls.{maps_page, where_mapped, is_no_range, lacks_page}
+use Rattle.dos_world.specs.MemoryCalls.{without_pages, with_shared}
+use Rattle.dos_world.specs.SignalCalls.{sig_handler, is_signal, is_action, with_action, sig_return}
+use Rattle.dos_world.specs.SignalCalls.{sig_return_by, saved_of, kill}
+use Rattle.dos_world.specs.Signals.{chosen, cleared, handling, interrupted, default_action}
+use Rattle.dos_world.specs.Signals.{handler_action, delivered, turn_by, signal_turn, would_wait}
+use Rattle.dos_world.specs.Signals.{made_ready}
 use Rattle.dos_world.specs.declared.Access.{Access}
 use Rattle.dos_world.specs.declared.Access.TheVariants.{Load, Store}
 use Rattle.dos_world.specs.declared.Size.TheVariants.{Byte}
@@ -29,7 +52,8 @@ use Rattle.dos_world.specs.declared.ThreadState.TheVariants.{Ready, Retry}
 use Rattle.rv_exec.proofs.Stays.{step-form}
 use Rattle.round_core.specs.Rest.{process_of}
 use Rattle.round_core.specs.Protocol.{Protocol, Allows, silent_protocol}
-use Rattle.round_core.specs.Invariants.{Keeps, ServiceKeeps, LeavesServed, is_built, IsOf, MayAsk, HasNone}
+use Rattle.round_core.specs.Invariants.{Keeps, ServiceKeeps, LeavesServed, is_built, IsOf, MayAsk}
+use Rattle.round_core.specs.Invariants.{HasNone}
 use Rattle.round_core.proofs.Rows.{OfEach, by_number}
 
 -- What is said of a world's quantum, of its count of rounds, of its services, and of the bytes that

@@ -1,5 +1,6 @@
 -- What a turn and the turns after it come to, by what a step of the thread gives.
-use Rattle.std.proofs.Common.{ℕ, zero, suc, ◌+◌, ◌≤◌, ◌≡◌, refl, sym, ap, ◌∙◌, subst, Option, Some, None, Result, Ok, Err, arith}
+use Rattle.std.proofs.Common.{ℕ, zero, suc, ◌+◌, ◌≤◌, ◌≡◌, refl, sym, ap, ◌∙◌, subst, Option, Some}
+use Rattle.std.proofs.Common.{None, Result, Ok, Err, arith}
 use Rattle.dos_world.specs.World.{World}
 use Rattle.dos_world.specs.Kernel.{process_ended}
 use Rattle.dos_world.specs.Services.{service}
@@ -11,7 +12,8 @@ use Rattle.dos_world.specs.declared.Reason.TheVariants.{Page, Fault, Service}
 use Rattle.rv_exec.specs.Step.{step}
 use Rattle.quantum_run.specs.ThreadRuns.{after_steps}
 use Rattle.round_core.specs.Laws.{MapsWithin, IsNoPage}
-use Rattle.round_core.specs.Rest.{settled, page_granted, Turn, on, over_with, after_step, after_service, service_done, process_of, turn, turns}
+use Rattle.round_core.specs.Rest.{settled, page_granted, Turn, on, over_with, after_step}
+use Rattle.round_core.specs.Rest.{after_service, service_done, process_of, turn, turns}
 use Rattle.round_core.specs.Granting.{grants_needed}
 use Rattle.round_core.proofs.Grants.{three-are-enough}
 

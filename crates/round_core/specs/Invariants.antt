@@ -3,9 +3,11 @@
 --
 -- An invariant is of a world and of the threads that still have a serial part in this round. That
 -- index is what lets it say that nobody who waits or sleeps has a part.
-use Rattle.std.specs.Prelude.{ℕ, ◌+◌, ◌≡◌, ◌⊎◌, Bool, true, false, List, [], ◌∷◌, All, Some, Ok, Err, ◌==◌}
+use Rattle.std.specs.Prelude.{ℕ, ◌+◌, ◌≡◌, ◌⊎◌, Bool, true, false, List, [], ◌∷◌, All, Some, Ok}
+use Rattle.std.specs.Prelude.{Err, ◌==◌}
 use Rattle.std.specs.List.{list_any}
-use Rattle.dos_world.specs.World.{World, Thread, thread_at, entry_at, ready_threads, with_thread, with_budget}
+use Rattle.dos_world.specs.World.{World, Thread, thread_at, entry_at, ready_threads, with_thread}
+use Rattle.dos_world.specs.World.{with_budget}
 use Rattle.dos_world.specs.Reach.{grant}
 use Rattle.dos_world.specs.Kernel.{process_ended, posted}
 use Rattle.dos_world.specs.Calls.{Service, Served, went, waits, yields, gone, call_of, refuses}

@@ -1,5 +1,6 @@
 -- Whole parts of some of the ready threads, as a mix of their instructions. This project's own.
-use Rattle.std.specs.Prelude.{ℕ, suc, ◌≡◌, ◌++◌, Bool, List, [], ◌∷◌, replicate, Some, None, IfSome, IsTrue, slice_get, if◌then◌else◌}
+use Rattle.std.specs.Prelude.{ℕ, suc, ◌≡◌, ◌++◌, Bool, List, [], ◌∷◌, replicate, Some, None, IfSome}
+use Rattle.std.specs.Prelude.{IsTrue, slice_get, if◌then◌else◌}
 use Rattle.dos_world.specs.World.{World, thread_at, ready_threads, is_state}
 use Rattle.dos_world.specs.declared.ThreadState.TheVariants.{Ready}
 use Rattle.quantum_run.specs.Alone.{alone}

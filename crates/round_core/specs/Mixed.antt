@@ -1,5 +1,6 @@
 -- The parallel phase with its instructions in any order. This project's own.
-use Rattle.std.specs.Prelude.{ℕ, ◌≡◌, ◌⊎◌, ◌&&◌, not, List, fold, is_err, IsTrue, Contains, ◌==◌, if◌then◌else◌}
+use Rattle.std.specs.Prelude.{ℕ, ◌≡◌, ◌⊎◌, ◌&&◌, not, List, fold, is_err, IsTrue, Contains, ◌==◌}
+use Rattle.std.specs.Prelude.{if◌then◌else◌}
 use Rattle.std.specs.Result.{result_unwrap_or}
 use Rattle.dos_world.specs.World.{World, thread_at, ready_threads, is_state}
 use Rattle.dos_world.specs.declared.ThreadState.TheVariants.{Ready}

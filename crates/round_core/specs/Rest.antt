@@ -1,5 +1,6 @@
 -- The serial part of one thread, and the serial phase. This project's own profile.
-use Rattle.std.specs.Prelude.{ℕ, zero, suc, ◌+◌, List, [], ◌∷◌, Option, Some, None, is_some, Result, Ok, Err, if◌then◌else◌}
+use Rattle.std.specs.Prelude.{ℕ, zero, suc, ◌+◌, List, [], ◌∷◌, Option, Some, None, is_some, Result}
+use Rattle.std.specs.Prelude.{Ok, Err, if◌then◌else◌}
 use Rattle.dos_world.specs.World.{World, thread_at, entry_at}
 use Rattle.dos_world.specs.Reach.{grant}
 use Rattle.dos_world.specs.Kernel.{process_ended}

@@ -1,6 +1,7 @@
 // Laws of the definitions, as contracts of functions that do nothing.
 ghost use Rattle.round_core.specs.Invariants.{IsInvariant, Keeps};
-ghost use Rattle.round_core.specs.Laws.{OnlyReadAndClockAsk, PartsAreAMix, QuantaCommute, RunsStaySame, ThreeGrantsAreEnough};
+ghost use Rattle.round_core.specs.Laws.{OnlyReadAndClockAsk, PartsAreAMix, QuantaCommute};
+ghost use Rattle.round_core.specs.Laws.{RunsStaySame, ThreeGrantsAreEnough};
 
 /// No instruction needs more than three grants: after three it stops at no page.
 pub fn three_grants_are_enough()

@@ -188,8 +188,8 @@ struct Seen {
     statuses: [Option<u8>; 2],
 }
 
-// The kernel is dropped here and nowhere else, and by a call: at the end of a scope its drop is long
-// to prove.
+// The kernel is dropped here and nowhere else, and by a call: at the end of a scope its drop is
+// long to prove.
 fn last_of(kernel: Kernel) -> Seen {
     let seen = Seen {
         failed: kernel.is_failed(),

@@ -2,7 +2,9 @@
 -- linker's file needs; computed by the checker.
 use Rattle.std.specs.Prelude.{[], ◌∷◌, Some, ◌≡◌, refl, codes, true, false, replicate}
 use Rattle.dos_world.specs.Play.{posts, input}
-use Rattle.dos_world.specs.declared.Question.TheVariants.{Signals as signals_question, Input as input_question, End as end_question}
+use Rattle.dos_world.specs.declared.Question.TheVariants.{Signals as signals_question}
+use Rattle.dos_world.specs.declared.Question.TheVariants.{Input as input_question}
+use Rattle.dos_world.specs.declared.Question.TheVariants.{End as end_question}
 use Rattle.dos_world.specs.declared.Ending.TheVariants.{Done}
 use Rattle.rv_exec.specs.Computing.{computing}
 use Rattle.elf_image.specs.Image.{Image}

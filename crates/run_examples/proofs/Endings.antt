@@ -8,7 +8,8 @@ use Rattle.rv_exec.specs.Computing.{computing}
 use Rattle.elf_image.specs.Image.{Image}
 use Rattle.group_open.specs.Opening.{needed}
 use Rattle.dpg_run.specs.Machine.{machine, ends, needs}
-use Rattle.run_examples.proofs.Programs.{program, with_frames, with_quantum, ended, without_work, whole_machine}
+use Rattle.run_examples.proofs.Programs.{program, with_frames, with_quantum, ended, without_work}
+use Rattle.run_examples.proofs.Programs.{whole_machine}
 
 -- process_exit with 7: two instructions in the parallel phase, the ecall in the serial phase
 abbrev pub exits_with_7 : Image

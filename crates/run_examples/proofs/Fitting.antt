@@ -1,7 +1,9 @@
 -- The report of a small run, and whether exchanges fit it, computed by the checker.
 use Rattle.std.specs.Prelude.{[], ◌∷◌, ◌++◌, Some, None, ◌≡◌, refl, codes}
 use Rattle.std.specs.Fmt.{digits}
-use Rattle.dos_world.specs.declared.Question.TheVariants.{Signals as signals_question, Input as input_question, End as end_question}
+use Rattle.dos_world.specs.declared.Question.TheVariants.{Signals as signals_question}
+use Rattle.dos_world.specs.declared.Question.TheVariants.{Input as input_question}
+use Rattle.dos_world.specs.declared.Question.TheVariants.{End as end_question}
 use Rattle.dos_world.specs.declared.Ending.TheVariants.{Done, Limit}
 use Rattle.dos_io.specs.declared.exchange.Exchange.TheVariants.{Signals, Input, End}
 use Rattle.rv_exec.specs.Computing.{computing}

@@ -7,7 +7,8 @@ use Rattle.dos_world.specs.declared.Ending.TheVariants.{Done, Stalled}
 use Rattle.rv_exec.specs.Computing.{computing}
 use Rattle.elf_image.specs.Image.{Image}
 use Rattle.dpg_run.specs.Machine.{machine}
-use Rattle.run_examples.proofs.Programs.{program, with_frames, with_quantum, ended, without_work, whole_machine}
+use Rattle.run_examples.proofs.Programs.{program, with_frames, with_quantum, ended, without_work}
+use Rattle.run_examples.proofs.Programs.{whole_machine}
 
 -- Two threads load one word, yield, add 1 and store: one addition is lost, always.
 two_threads_lose_an_addition : without_work

@@ -2,7 +2,8 @@ use Rattle.std.proofs.Common.{[], ◌∷◌, refl}
 use Rattle.std.proofs.lemmas.Result.{err_from_is_err_and}
 use Rattle.generated_group.specs.Generated.{generated}
 use Rattle.dos_cmd.specs.Judging.{gen_config}
-use Rattle.dos_cmd.proofs.GenRuns.{gen_cut, gen_did, leaves_memory, never_without_room, one_image, opened_with}
+use Rattle.dos_cmd.proofs.GenRuns.{gen_cut, gen_did, leaves_memory, never_without_room, one_image}
+use Rattle.dos_cmd.proofs.GenRuns.{opened_with}
 use Rattle.dos_cmd.proofs.generate.generate.Goals as goal
 
 pub returns-in_err-kernel-clause-leaves : goal.returns-in_err-kernel-clause-leaves
@@ -24,7 +25,8 @@ returns-in-Ok-put-clause-did g c =
     c.in-Ok.image c.from_ref.ensures.value c.in-Ok.ensures) c.in_ok-kernel.ensures.opened in
     gen_did c.args.number c.args.threads c.run_quietly.new.kernel c.in-Ok-run_quietly.ran.ending
     c.in-Ok-run_quietly.ran.count c.in-Ok-run_quietly.ran.digest _ _ _ _
-    (c.in-Ok-run_quietly.ensures.ran (generated c.args.number c.args.threads ∷ []) gen_config opened)
+    (c.in-Ok-run_quietly.ensures.ran (generated c.args.number c.args.threads ∷ []) gen_config
+    opened)
     c.in-Ok-put.ensures.told
 
 pub returns-in-Err-put-clause-leaves : goal.returns-in-Err-put-clause-leaves
@@ -34,5 +36,6 @@ returns-in-Err-put-clause-leaves g c =
     c.in-Ok.image c.from_ref.ensures.value c.in-Ok.ensures) c.in_ok-kernel.ensures.opened in
     gen_cut c.args.number c.args.threads c.run_quietly.new.kernel c.in-Ok-run_quietly.ran.ending
     c.in-Ok-run_quietly.ran.count c.in-Ok-run_quietly.ran.digest _ _ _ _
-    (c.in-Ok-run_quietly.ensures.ran (generated c.args.number c.args.threads ∷ []) gen_config opened)
+    (c.in-Ok-run_quietly.ensures.ran (generated c.args.number c.args.threads ∷ []) gen_config
+    opened)
     _ _ c.in-Err-put.ensures.cause.failed c.in-Err-put.ensures.front

@@ -1,7 +1,8 @@
 use Rattle.std.proofs.Common.{refl}
 use Rattle.std.proofs.lemmas.Result.{err_from_is_err_and}
 use Rattle.dos_cmd.specs.Outside.{outside, faults}
-use Rattle.dos_cmd.proofs.ReplayEnds.{has_room, not_opened, on_ok, opened_by, replay_cut, replay_did, replay_stopped}
+use Rattle.dos_cmd.proofs.ReplayEnds.{has_room, not_opened, on_ok, opened_by, replay_cut}
+use Rattle.dos_cmd.proofs.ReplayEnds.{replay_did, replay_stopped}
 use Rattle.dos_cmd.proofs.NotBegun.{says_nothing}
 use Rattle.dos_cmd.proofs.RunEnds.{is_err_of}
 use Rattle.dos_cmd.proofs.replay.replay_taken.Goals as goal
@@ -71,4 +72,5 @@ returns-in-Ok-clause-leaves g c =
     (g.E.Sink.faults c.args.err.now) (g.E.Sink.faults c.replay_group.new.err)
     (g.E.Sink.faults c.report-ended.new.err) c.report-ended.result
     (has_room c.args.log c.args.images.now c.config_of.result is opening.room)
-    c.report-ended.ensures.sink run.err_later c.report-ended.ensures.cause c.report-ended.ensures.front
+    c.report-ended.ensures.sink run.err_later c.report-ended.ensures.cause
+    c.report-ended.ensures.front

@@ -5,7 +5,8 @@ use Rattle.dos_cmd.specs.Results.{run_asked}
 use Rattle.dos_cmd.specs.RunLeaves.{RunAsked}
 use Rattle.dos_cmd.proofs.NotBegun.{says_nothing}
 use Rattle.dos_cmd.proofs.RunEnds.{is_err_of}
-use Rattle.dos_cmd.proofs.RunCalls.{images_refused, not_opened, prepared, run_did, run_leaves, same_images, taken_with}
+use Rattle.dos_cmd.proofs.RunCalls.{images_refused, not_opened, prepared, run_did, run_leaves}
+use Rattle.dos_cmd.proofs.RunCalls.{same_images, taken_with}
 use Rattle.dos_cmd.proofs.run.run.Goals as goal
 
 pub returns-in_err-images-clause-leaves : goal.returns-in_err-images-clause-leaves

@@ -1,6 +1,8 @@
 use Rattle.std.proofs.Common.{inl, map, string_bytes}
 use Rattle.dos_texts.proofs.Statuses.{refusal_ends_not}
-use Rattle.dos_cmd.proofs.Calls.{status_ends, ends_not_six, ends_or_not, finished_as, finished_not_none, finished_not_refused, finished_must, fails_none, fails_refused, fails_must, refused_as, cut_short}
+use Rattle.dos_cmd.proofs.Calls.{status_ends, ends_not_six, ends_or_not, finished_as}
+use Rattle.dos_cmd.proofs.Calls.{finished_not_none, finished_not_refused, finished_must, fails_none}
+use Rattle.dos_cmd.proofs.Calls.{fails_refused, fails_must, refused_as, cut_short}
 use Rattle.dos_cmd.proofs.top.dos_main.Goals as goal
 
 -- ---- it did what it was asked for

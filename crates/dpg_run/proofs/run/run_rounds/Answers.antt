@@ -8,7 +8,9 @@ use Rattle.group_rounds.specs.Rounds.{next_round, work_in}
 use Rattle.group_rounds.specs.declared.round.RoundEnd.TheVariants.{Went, Done, Stalled}
 use Rattle.group_rounds.proofs.StatePlayLaws.{on_err}
 use Rattle.group_rounds.proofs.CauseLaws.{stood_yet, stood_then}
-use Rattle.dpg_run.proofs.RoundsRun.{ran_none, round_more, round_ends, round_stalls, round_stops, some_at, none_left, rounds_over, round_so, stopped_so, cut_so, round_cut, some_weaker}
+use Rattle.dpg_run.proofs.RoundsRun.{ran_none, round_more, round_ends, round_stalls, round_stops}
+use Rattle.dpg_run.proofs.RoundsRun.{some_at, none_left, rounds_over, round_so, stopped_so, cut_so}
+use Rattle.dpg_run.proofs.RoundsRun.{round_cut, some_weaker}
 use Rattle.dpg_run.proofs.run.run_rounds.Goals as goal
 
 -- a round of the loop is one that the configuration allows

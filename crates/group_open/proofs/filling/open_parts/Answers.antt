@@ -6,7 +6,8 @@ use Rattle.group_open.specs.Filling.{OpensParts}
 use Rattle.group_open.proofs.HeldLaws.{place_after}
 use Rattle.group_open.proofs.OpensLaws.{entries_below, parts_none, parts_more, room_after}
 use Rattle.group_open.proofs.Runs.{length_map_from}
-use Rattle.group_open.proofs.PageLaws.{all_below, fewer_below, pages_all, pages_below, pages_more, pages_none}
+use Rattle.group_open.proofs.PageLaws.{all_below, fewer_below, pages_all, pages_below, pages_more}
+use Rattle.group_open.proofs.PageLaws.{pages_none}
 use Rattle.group_open.proofs.filling.open_parts.Goals as goal
 
 pub loop-page-init : goal.loop-page-init

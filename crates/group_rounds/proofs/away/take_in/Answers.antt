@@ -1,7 +1,8 @@
 use Rattle.std.proofs.Common.{ℕ, ◌≤◌, ◌-◌, refl, sym, ◌∙◌, subst, arith, false}
 use Rattle.worker_pool.specs.Ran.{budgets}
 use Rattle.group_rounds.specs.Away.{Away, HaveRun, IsParallelOf}
-use Rattle.group_rounds.proofs.AwayLaws.{are-away, are-apart, are-live, are-others, have-room, between-again, is-parallel}
+use Rattle.group_rounds.proofs.AwayLaws.{are-away, are-apart, are-live, are-others, have-room}
+use Rattle.group_rounds.proofs.AwayLaws.{between-again, is-parallel}
 use Rattle.group_rounds.proofs.away.take_in.Goals as goal
 
 -- what went out, by the packs before they ran

@@ -1,4 +1,5 @@
-use Rattle.std.proofs.Common.{refl, ℕ, ◌≡◌, ◌++◌, ◌∷◌, [], ◌∙◌, ap, sym, subst, List, Some, None, inl}
+use Rattle.std.proofs.Common.{refl, ℕ, ◌≡◌, ◌++◌, ◌∷◌, [], ◌∙◌, ap, sym, subst, List, Some, None}
+use Rattle.std.proofs.Common.{inl}
 use Rattle.dos_world.specs.World.{Thread}
 use Rattle.quantum_run.specs.Shows.{Pack}
 use Rattle.quantum_run.specs.Packs.{empty_pack, with_thread_of}

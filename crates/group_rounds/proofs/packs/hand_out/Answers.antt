@@ -1,4 +1,5 @@
-use Rattle.std.proofs.Common.{◌∙◌, ◌++◌, ◌∷◌, [], ap, sym, length, map, take, get_or, slice_get, arith}
+use Rattle.std.proofs.Common.{◌∙◌, ◌++◌, ◌∷◌, [], ap, sym, length, map, take, get_or, slice_get}
+use Rattle.std.proofs.Common.{arith}
 use Rattle.group_rounds.specs.Handing.{pack_of}
 use Rattle.group_rounds.proofs.PacksShow.{take-more, map-more, pack_of-begun}
 use Rattle.group_rounds.proofs.packs.hand_out.Goals as goal

@@ -1,7 +1,8 @@
 use Rattle.std.proofs.Common.{◌+◌, ◌≡◌, ◌∙◌, refl, ap, length, arith}
 use Rattle.std.specs.Prelude.{slice_index_or}
 use Rattle.dos_world.specs.declared.Owner.TheVariants.{Free}
-use Rattle.group_rounds.proofs.HandingOut.{none-yet, none-free, page-home, handing-begins, handing-more, handing-rest}
+use Rattle.group_rounds.proofs.HandingOut.{none-yet, none-free, page-home, handing-begins}
+use Rattle.group_rounds.proofs.HandingOut.{handing-more, handing-rest}
 use Rattle.group_rounds.proofs.packs.hand_pages.Goals as goal
 
 pub loop-frame-init : goal.loop-frame-init

@@ -6,7 +6,8 @@ use Rattle.kernel_calls.specs.declared.state.State.{State}
 use Rattle.worker_pool.specs.Ran.{AllRan, GrewBy}
 use Rattle.group_rounds.specs.Handing.{AreSet, PutBack, view_of}
 use Rattle.group_rounds.proofs.PacksShow.{can-run}
-use Rattle.group_rounds.proofs.PacksBack.{starter-at, others, pages-apart, pages-away, threads-live, rooms, all-runs, sound-again}
+use Rattle.group_rounds.proofs.PacksBack.{starter-at, others, pages-apart, pages-away, threads-live}
+use Rattle.group_rounds.proofs.PacksBack.{rooms, all-runs, sound-again}
 use Rattle.group_rounds.proofs.PacksWork.{work-is}
 use Rattle.group_rounds.proofs.packs.parallel_packs.Goals as goal
 

@@ -1,4 +1,5 @@
-use Rattle.std.proofs.Common.{ℕ, ◌≡◌, ◌⊎◌, inl, inr, ◌∷◌, [], ◌∙◌, ap, refl, sym, subst, List, length, length-append, arith}
+use Rattle.std.proofs.Common.{ℕ, ◌≡◌, ◌⊎◌, inl, inr, ◌∷◌, [], ◌∙◌, ap, refl, sym, subst, List}
+use Rattle.std.proofs.Common.{length, length-append, arith}
 use Rattle.quantum_run.specs.Shows.{Pack}
 use Rattle.quantum_run.specs.Packs.{empty_pack}
 use Rattle.group_rounds.specs.Handing.{In, AreSpare}

@@ -1,7 +1,9 @@
-use Rattle.std.proofs.Common.{ℕ, List, ◌⊎◌, inl, inr, refl, ◌≡◌, ◌∙◌, ap, sym, subst, [], ◌∷◌, length, length-append, arith}
+use Rattle.std.proofs.Common.{ℕ, List, ◌⊎◌, inl, inr, refl, ◌≡◌, ◌∙◌, ap, sym, subst, [], ◌∷◌}
+use Rattle.std.proofs.Common.{length, length-append, arith}
 use Rattle.quantum_run.specs.Shows.{Pack}
 use Rattle.group_rounds.specs.Handing.{In, AreSpare}
-use Rattle.group_rounds.proofs.HandingLaws.{in-right, in-either, packs-are, taking-more, take-apart, take-away, take-live}
+use Rattle.group_rounds.proofs.HandingLaws.{in-right, in-either, packs-are, taking-more, take-apart}
+use Rattle.group_rounds.proofs.HandingLaws.{take-away, take-live}
 use Rattle.group_rounds.proofs.packs.take_in.Goals as goal
 
 pub take_back-requires-clause-away : goal.take_back-requires-clause-away

@@ -6,7 +6,8 @@ use Rattle.group_rounds.specs.Parts.{RanPart, part_measure}
 use Rattle.group_rounds.proofs.StatePlayLaws.{on_err, some_weaker}
 use Rattle.group_rounds.proofs.Sound.{parts_passed, parts_on, parts_off, ready_then}
 use Rattle.group_rounds.proofs.CauseLaws.{stood_yet, stood_then, causes_then, causes_ok, causes_err}
-use Rattle.group_rounds.proofs.TurnLaws.{rest_begins, run_measure, goes_further, goes_out, goes_over_budget, rest_cut, rest_stopped}
+use Rattle.group_rounds.proofs.TurnLaws.{rest_begins, run_measure, goes_further, goes_out}
+use Rattle.group_rounds.proofs.TurnLaws.{goes_over_budget, rest_cut, rest_stopped}
 use Rattle.group_rounds.proofs.part.finish.Goals as goal
 
 pub loop-reason-init : goal.loop-reason-init

@@ -3,7 +3,8 @@ use Rattle.dos_laws.specs.Standing.{LawfulWith}
 use Rattle.page_store.specs.Store.{Store}
 use Rattle.kernel_calls.specs.StateWorld.{IsSound, world_of, sent}
 use Rattle.group_rounds.proofs.Sound.{parts_then, grant_keeps}
-use Rattle.group_rounds.proofs.ThreadRunLaws.{space_is, granted_none, granted_one, owned_one, sound_granted}
+use Rattle.group_rounds.proofs.ThreadRunLaws.{space_is, granted_none, granted_one, owned_one}
+use Rattle.group_rounds.proofs.ThreadRunLaws.{sound_granted}
 use Rattle.group_rounds.proofs.part.grant.Goals as goal
 
 pub grant-requires : goal.grant-requires

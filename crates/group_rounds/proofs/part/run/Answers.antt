@@ -1,5 +1,7 @@
 use Rattle.std.proofs.Common.{◌≡◌, refl, sym, ◌∙◌, arith}
-use Rattle.group_rounds.proofs.ThreadRunLaws.{seen, mapped, space_is, registers_is, own_budget, budget_is, IsRunFrom, run_after, sound_after, parts_after, live_after}
+use Rattle.group_rounds.proofs.ThreadRunLaws.{seen, mapped, space_is, registers_is, own_budget}
+use Rattle.group_rounds.proofs.ThreadRunLaws.{budget_is, IsRunFrom, run_after, sound_after}
+use Rattle.group_rounds.proofs.ThreadRunLaws.{parts_after, live_after}
 use Rattle.group_rounds.proofs.part.run.Goals as goal
 
 pub run_until_stop-reason-requires-clause-mapped : goal.run_until_stop-reason-requires-clause-mapped

@@ -7,7 +7,9 @@ use Rattle.proc_table.specs.Tables.{thread_in}
 use Rattle.kernel_calls.specs.StateWorld.{world_of}
 use Rattle.group_rounds.specs.StatePlays.{telling}
 use Rattle.group_rounds.proofs.StatePlayLaws.{on_err}
-use Rattle.group_rounds.proofs.TurnLaws.{grant_goes, grant_measure, fault_goes, service_goes, on_measure, on_lives, told_on, served_count, parts_left, asks_no_end, turn_asks, turn_cut}
+use Rattle.group_rounds.proofs.TurnLaws.{grant_goes, grant_measure, fault_goes, service_goes}
+use Rattle.group_rounds.proofs.TurnLaws.{on_measure, on_lives, told_on, served_count, parts_left}
+use Rattle.group_rounds.proofs.TurnLaws.{asks_no_end, turn_asks, turn_cut}
 use Rattle.group_rounds.proofs.CauseLaws.{stood_yet, causes_ok}
 use Rattle.group_rounds.proofs.part.take_turn.Goals as goal
 

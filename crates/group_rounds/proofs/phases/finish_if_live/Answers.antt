@@ -1,7 +1,8 @@
 use Rattle.std.proofs.Common.{◌∙◌, sym}
 use Rattle.std.proofs.lemmas.Result.{on_ok_weaker, on_err_weaker}
 use Rattle.group_rounds.specs.StatePlays.{telling}
-use Rattle.group_rounds.proofs.PhaseLaws.{rest_of_live, rest_of_gone, rest_cut_live, rest_stopped_live}
+use Rattle.group_rounds.proofs.PhaseLaws.{rest_of_live, rest_of_gone, rest_cut_live}
+use Rattle.group_rounds.proofs.PhaseLaws.{rest_stopped_live}
 use Rattle.group_rounds.proofs.StatePlayLaws.{if_err_weaker, some_weaker}
 use Rattle.group_rounds.proofs.Sound.{parts_passed}
 use Rattle.kernel_calls.specs.StateWorld.{shim_stop}

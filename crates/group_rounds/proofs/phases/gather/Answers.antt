@@ -1,5 +1,6 @@
 use Rattle.std.proofs.Common.{◌∙◌, sym, arith}
-use Rattle.group_rounds.proofs.Starters.{gathered_none, gathered_next, gathered_all, fewer_left, room_left, next_lives, ready_numbers}
+use Rattle.group_rounds.proofs.Starters.{gathered_none, gathered_next, gathered_all, fewer_left}
+use Rattle.group_rounds.proofs.Starters.{room_left, next_lives, ready_numbers}
 use Rattle.group_rounds.specs.Phases.{is_ready}
 use Rattle.group_rounds.proofs.phases.gather.Goals as goal
 

@@ -1,7 +1,8 @@
 use Rattle.std.proofs.Common.{◌∙◌, sym, true, arith}
 use Rattle.std.specs.Prelude.{is_some}
 use Rattle.dos_world.specs.Numbered.{numbers_of}
-use Rattle.group_rounds.proofs.Starters.{gathered_none, gathered_next, gathered_all, fewer_left, room_left, filter_every}
+use Rattle.group_rounds.proofs.Starters.{gathered_none, gathered_next, gathered_all, fewer_left}
+use Rattle.group_rounds.proofs.Starters.{room_left, filter_every}
 use Rattle.group_rounds.proofs.phases.gather_live.Goals as goal
 
 pub loop-tid-init : goal.loop-tid-init

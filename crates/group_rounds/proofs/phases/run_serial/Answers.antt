@@ -4,7 +4,8 @@ use Rattle.group_rounds.proofs.StatePlayLaws.{on_err, some_weaker}
 use Rattle.kernel_calls.specs.StateWorld.{shim_stop}
 use Rattle.std.proofs.lemmas.Result.{err_from_is_err_and}
 use Rattle.group_rounds.proofs.CauseLaws.{stood_yet, stood_then}
-use Rattle.group_rounds.proofs.PhaseLaws.{serial_starts, serial_next, serial_ends, serial_cut, serial_stopped, parts_at}
+use Rattle.group_rounds.proofs.PhaseLaws.{serial_starts, serial_next, serial_ends, serial_cut}
+use Rattle.group_rounds.proofs.PhaseLaws.{serial_stopped, parts_at}
 use Rattle.group_rounds.proofs.phases.run_serial.Goals as goal
 
 pub loop-tid-init : goal.loop-tid-init

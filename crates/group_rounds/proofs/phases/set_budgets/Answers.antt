@@ -1,7 +1,8 @@
 use Rattle.std.proofs.Common.{ap, ◌∙◌, refl}
 use Rattle.round_core.specs.Round.{with_budgets}
 use Rattle.kernel_calls.specs.StateWorld.{sent, world_of}
-use Rattle.group_rounds.proofs.PhaseLaws.{budget_next, budget_sound, budget_parts, budget_live, drop_out}
+use Rattle.group_rounds.proofs.PhaseLaws.{budget_next, budget_sound, budget_parts, budget_live}
+use Rattle.group_rounds.proofs.PhaseLaws.{drop_out}
 use Rattle.group_rounds.proofs.phases.set_budgets.Goals as goal
 
 pub loop-tid-preserved : goal.loop-tid-preserved

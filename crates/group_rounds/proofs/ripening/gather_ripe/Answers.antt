@@ -2,7 +2,8 @@ use Rattle.std.proofs.Common.{[], ◌∙◌, sym, subst, arith}
 use Rattle.kernel_calls.specs.StateWorld.{sent, world_of}
 use Rattle.group_rounds.specs.Phases.{AreLive, is_ripe}
 use Rattle.group_rounds.proofs.Sound.{few_live}
-use Rattle.group_rounds.proofs.Starters.{gathered_none, gathered_next, gathered_all, fewer_left, room_left, next_lives, ripe_numbers, found_live}
+use Rattle.group_rounds.proofs.Starters.{gathered_none, gathered_next, gathered_all, fewer_left}
+use Rattle.group_rounds.proofs.Starters.{room_left, next_lives, ripe_numbers, found_live}
 use Rattle.group_rounds.proofs.ripening.gather_ripe.Goals as goal
 
 pub loop-tid-init : goal.loop-tid-init

@@ -5,7 +5,8 @@ use Rattle.kernel_calls.specs.StateWorld.{shim_stop}
 use Rattle.worker_pool.proofs.Growing.{grew-nothing}
 use Rattle.group_rounds.specs.StatePlays.{telling}
 use Rattle.group_rounds.proofs.StatePlayLaws.{on_err, some_weaker}
-use Rattle.group_rounds.proofs.RoundLaws.{begun_cut, begun_done, begun_goes, begun_stalls, begun_stopped}
+use Rattle.group_rounds.proofs.RoundLaws.{begun_cut, begun_done, begun_goes, begun_stalls}
+use Rattle.group_rounds.proofs.RoundLaws.{begun_stopped}
 use Rattle.group_rounds.proofs.CauseLaws.{stood_yet, stood_then, causes_ok, causes_err}
 use Rattle.group_rounds.proofs.round.play_begun.Goals as goal
 

@@ -7,7 +7,8 @@ use Rattle.worker_pool.proofs.Growing.{grew-nothing}
 use Rattle.group_rounds.specs.StatePlays.{telling}
 use Rattle.group_rounds.specs.Outside.{is_end}
 use Rattle.group_rounds.proofs.StatePlayLaws.{on_err, if_err_weaker, ok_weaker, some_weaker}
-use Rattle.group_rounds.proofs.RoundLaws.{nobody_starts, round_began, round_cut, round_done, round_ran, round_stopped, round_stops}
+use Rattle.group_rounds.proofs.RoundLaws.{nobody_starts, round_began, round_cut, round_done}
+use Rattle.group_rounds.proofs.RoundLaws.{round_ran, round_stopped, round_stops}
 use Rattle.group_rounds.proofs.StopLaws.{cut_stopped}
 use Rattle.dos_laws.specs.Plays.{world_ended}
 use Rattle.round_core.specs.Round.{round_of}

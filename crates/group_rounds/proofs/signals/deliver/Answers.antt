@@ -3,7 +3,8 @@ use Rattle.dos_world.specs.Signals.{cleared}
 use Rattle.proc_table.specs.Tables.{thread_in}
 use Rattle.kernel_calls.specs.StateWorld.{sent, world_of}
 use Rattle.group_rounds.proofs.ThreadRunLaws.{of_some}
-use Rattle.group_rounds.proofs.SignalLaws.{has_action, delivered_default, delivered_dropped, delivered_handled, if_some, thread_counted, thread_world}
+use Rattle.group_rounds.proofs.SignalLaws.{has_action, delivered_default, delivered_dropped}
+use Rattle.group_rounds.proofs.SignalLaws.{delivered_handled, if_some, thread_counted, thread_world}
 use Rattle.group_rounds.proofs.signals.deliver.Goals as goal
 
 pub returns-then-is_default-clause-delivers : goal.returns-then-is_default-clause-delivers

@@ -1,4 +1,6 @@
-use Rattle.kernel_calls.proofs.Forks.{caller_stays, child_count, child_lives, child_room, counted-forked, counted-refused, forks_child, refusal_number, refuses_fork, takes, uses_few}
+use Rattle.kernel_calls.proofs.Forks.{caller_stays, child_count, child_lives, child_room}
+use Rattle.kernel_calls.proofs.Forks.{counted-forked, counted-refused, forks_child, refusal_number}
+use Rattle.kernel_calls.proofs.Forks.{refuses_fork, takes, uses_few}
 use Rattle.kernel_calls.proofs.children.fork.Goals as goal
 
 pub fork-requires-clause-taken : goal.fork-requires-clause-taken

@@ -7,7 +7,8 @@ use Rattle.kernel_calls.specs.StateWorld.{IsCounted}
 use Rattle.kernel_calls.specs.CallResults.{ActsQuietly}
 use Rattle.kernel_calls.specs.declared.state.Served.TheVariants.{Went}
 use Rattle.kernel_calls.proofs.Callers.{process_lives}
-use Rattle.kernel_calls.proofs.PipeRow.{have_32, lives_still, one_free, pipe_few, pipe_full, pipe_row}
+use Rattle.kernel_calls.proofs.PipeRow.{have_32, lives_still, one_free, pipe_few, pipe_full}
+use Rattle.kernel_calls.proofs.PipeRow.{pipe_row}
 use Rattle.kernel_calls.proofs.Sending.{answering}
 use Rattle.kernel_calls.proofs.descriptors.pipe.Goals as goal
 

@@ -7,7 +7,8 @@ use Rattle.proc_table.specs.Tables.{Tables, IsProcess, with_ended, held_by}
 use Rattle.kernel_calls.specs.Ending.{posted_in}
 use Rattle.kernel_calls.specs.StateWorld.{IsSound, sent, world_of}
 use Rattle.kernel_calls.specs.declared.state.State.{State}
-use Rattle.kernel_calls.proofs.ProcessEnds.{are_used, ends, named, named-count, sound-ended, still_live}
+use Rattle.kernel_calls.proofs.ProcessEnds.{are_used, ends, named, named-count, sound-ended}
+use Rattle.kernel_calls.proofs.ProcessEnds.{still_live}
 use Rattle.kernel_calls.proofs.ending.end_process.Goals as goal
 
 pub drop_ends-requires-clause-count : goal.drop_ends-requires-clause-count

@@ -9,9 +9,11 @@ use Rattle.kernel_calls.specs.CallResults.{AreAsked, call_in, source_of}
 use Rattle.kernel_calls.specs.declared.state.State.{State}
 use Rattle.kernel_calls.specs.declared.state.Asked.{Asked}
 use Rattle.kernel_calls.specs.declared.reading.Source.{Source}
-use Rattle.kernel_calls.specs.declared.reading.Source.TheVariants.{Input as input_source, Pipe as pipe_source}
+use Rattle.kernel_calls.specs.declared.reading.Source.TheVariants.{Input as input_source}
+use Rattle.kernel_calls.specs.declared.reading.Source.TheVariants.{Pipe as pipe_source}
 use Rattle.kernel_calls.proofs.DescriptorRows.{named_range}
-use Rattle.kernel_calls.proofs.InputRows.{consults_as, end_of, reads_as, reads_none, source_end, stops_as, unasked}
+use Rattle.kernel_calls.proofs.InputRows.{consults_as, end_of, reads_as, reads_none, source_end}
+use Rattle.kernel_calls.proofs.InputRows.{stops_as, unasked}
 use Rattle.kernel_calls.proofs.reading.read.Goals as goal
 
 -- a read from a source, where the descriptor names it

@@ -4,7 +4,8 @@ use Rattle.kernel_calls.specs.Built.{definition_of, quiet_definition_of}
 use Rattle.kernel_calls.specs.StateWorld.{HasFaulted}
 use Rattle.kernel_calls.specs.CallResults.{call_in}
 use Rattle.kernel_calls.specs.declared.state.Served.TheVariants.{Went}
-use Rattle.kernel_calls.proofs.Rows.{answers_consults, answers_goes, answers_sends, none_grown, stops_asks}
+use Rattle.kernel_calls.proofs.Rows.{answers_consults, answers_goes, answers_sends, none_grown}
+use Rattle.kernel_calls.proofs.Rows.{stops_asks}
 use Rattle.kernel_calls.proofs.services.perform.Goals as goal
 
 pub returns-in-Quiet-clause-runs : goal.returns-in-Quiet-clause-runs

@@ -1,4 +1,10 @@
-use Rattle.kernel_calls.specs.declared.naming.QuietService.TheVariants.{ThreadExit, ProcessExit, ThreadNew, Fork, Wait, Pipe, Close, Dup, FutexWait, FutexWake, MapPages, Unmap, Share, SigHandler, SigMask, SigReturn, Kill, RoundNumber}
+use Rattle.kernel_calls.specs.declared.naming.QuietService.TheVariants.{ThreadExit, ProcessExit}
+use Rattle.kernel_calls.specs.declared.naming.QuietService.TheVariants.{ThreadNew, Fork, Wait, Pipe}
+use Rattle.kernel_calls.specs.declared.naming.QuietService.TheVariants.{Close, Dup, FutexWait}
+use Rattle.kernel_calls.specs.declared.naming.QuietService.TheVariants.{FutexWake, MapPages, Unmap}
+use Rattle.kernel_calls.specs.declared.naming.QuietService.TheVariants.{Share, SigHandler, SigMask}
+use Rattle.kernel_calls.specs.declared.naming.QuietService.TheVariants.{SigReturn, Kill}
+use Rattle.kernel_calls.specs.declared.naming.QuietService.TheVariants.{RoundNumber}
 use Rattle.kernel_calls.specs.declared.state.Served.TheVariants.{Gone, Went}
 use Rattle.kernel_calls.proofs.Rows.{goes_as}
 use Rattle.kernel_calls.proofs.services.perform_quietly.Goals as goal

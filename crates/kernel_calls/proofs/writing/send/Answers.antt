@@ -4,7 +4,8 @@ use Rattle.dos_world.specs.declared.Access.TheVariants.{Load}
 use Rattle.kernel_mem.specs.MemoryWorld.{in_world}
 use Rattle.kernel_calls.specs.StateWorld.{base, sent}
 use Rattle.kernel_calls.specs.CallResults.{asked_count}
-use Rattle.kernel_calls.proofs.Sending.{sent-nothing, sent-refusal, sent-bytes, cut-bytes, answering}
+use Rattle.kernel_calls.proofs.Sending.{sent-nothing, sent-refusal, sent-bytes, cut-bytes}
+use Rattle.kernel_calls.proofs.Sending.{answering}
 use Rattle.kernel_calls.proofs.writing.send.Goals as goal
 
 pub returns-then-count-eq0-clause-sends : goal.returns-then-count-eq0-clause-sends

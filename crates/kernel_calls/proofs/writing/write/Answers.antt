@@ -9,9 +9,13 @@ use Rattle.kernel_calls.specs.CallResults.{AreAsked, call_in, target_of}
 use Rattle.kernel_calls.specs.declared.state.State.{State}
 use Rattle.kernel_calls.specs.declared.state.Asked.{Asked}
 use Rattle.kernel_calls.specs.declared.writing.Target.{Target}
-use Rattle.kernel_calls.specs.declared.writing.Target.TheVariants.{Output as output_target, Error as error_target, Pipe as pipe_target}
+use Rattle.kernel_calls.specs.declared.writing.Target.TheVariants.{Output as output_target}
+use Rattle.kernel_calls.specs.declared.writing.Target.TheVariants.{Error as error_target}
+use Rattle.kernel_calls.specs.declared.writing.Target.TheVariants.{Pipe as pipe_target}
 use Rattle.kernel_calls.proofs.DescriptorRows.{named_range}
-use Rattle.kernel_calls.proofs.Sending.{end_of, target_end, writes_as, writes_none, quietly, sends-output, sends-error, faults-output, faults-error, output_grown, error_grown}
+use Rattle.kernel_calls.proofs.Sending.{end_of, target_end, writes_as, writes_none, quietly}
+use Rattle.kernel_calls.proofs.Sending.{sends-output, sends-error, faults-output, faults-error}
+use Rattle.kernel_calls.proofs.Sending.{output_grown, error_grown}
 use Rattle.kernel_calls.proofs.writing.write.Goals as goal
 
 -- a write to a target, where the descriptor names it

@@ -1,6 +1,7 @@
 use Rattle.std.proofs.Common.{sym, ◌∙◌}
 use Rattle.logged_runs.proofs.FromOpening.{is_told}
-use Rattle.logged_runs.proofs.Recordings.{followed, host_rose, no_end_told, recorded, recorded_ahead, stopped, this_stop}
+use Rattle.logged_runs.proofs.Recordings.{followed, host_rose, no_end_told, recorded}
+use Rattle.logged_runs.proofs.Recordings.{recorded_ahead, stopped, this_stop}
 use Rattle.logged_runs.proofs.recording.record_group.Goals as goal
 
 pub run_group-requires-clause-told : goal.run_group-requires-clause-told

@@ -2,7 +2,8 @@ use Rattle.std.proofs.Common.{sym, subst}
 use Rattle.dos_io.specs.Shims.{HasNoEnd}
 use Rattle.shim_log.specs.Replay.{replayer_state}
 use Rattle.logged_runs.proofs.FromOpening.{is_told}
-use Rattle.logged_runs.proofs.Replays.{only, replayed, replayed_ahead, replayed_until, nothing_told, same_log, this_stop}
+use Rattle.logged_runs.proofs.Replays.{only, replayed, replayed_ahead, replayed_until, nothing_told}
+use Rattle.logged_runs.proofs.Replays.{same_log, this_stop}
 use Rattle.logged_runs.proofs.replaying.replay_group.Goals as goal
 
 pub run_group-requires-clause-told : goal.run_group-requires-clause-told

@@ -30,7 +30,8 @@ use denote.Slice.{slice_val, shr_slice_vals, shr_slice_Tells}
 use denote.Triple.Entry.{on_entry, alive, Args}
 use denote.Triple.Spec.{Meets, triple_of}
 use denote.Triple.Table.{entered}
-use denote.Triple.Walked.{says, stay_none_ref, stay_none_slice, Stays, walk_of, Walks, ends_at, walked, AllGo, Goes-none_ref, Goes-none_slice, walk_Meets}
+use denote.Triple.Walked.{says, stay_none_ref, stay_none_slice, Stays, walk_of, Walks, ends_at}
+use denote.Triple.Walked.{walked, AllGo, Goes-none_ref, Goes-none_slice, walk_Meets}
 use Rattle.generated_group.specs.declared.trail.Trail.{Trail}
 use Rattle.generated_group.specs.contracts.trail.Trail.then.Key.{name as key}
 use Rattle.generated_group.specs.contracts.trail.Trail.then as f
