@@ -5,7 +5,7 @@ ghost use Rattle.dos_io.specs.Outside.{HasCause, Rose, counted};
 ghost use Rattle.dos_io.specs.System.{unread};
 
 use crate::{Host, HostFault};
-use std::io::Read;
+use std::io::{self, Read};
 use std::time::{Clock, SystemTime, UNIX_EPOCH};
 
 /// The most bytes that one question for input takes.
@@ -55,6 +55,33 @@ fn nanoseconds(clock: &impl Clock) -> Option<u64> {
     u64::try_from(since.as_nanos()).ok()
 }
 
+// So many bytes go into the front of `buf`, whose rest stays.
+fn copy_front(buf: &mut [u8], bytes: &[u8], count: usize)
+    requires room { count ≤ length buf.old }
+    requires bytes { count ≤ length bytes.now }
+    ensures front { take count buf.new ≡ take count bytes.now }
+    ensures rest { drop count buf.new ≡ drop count buf.old }
+{
+    buf[..count].copy_from_slice(&bytes[..count]);
+}
+
+// One read of a reader, for as many bytes as `buf` has, and `MOST` at most, into its front.
+fn read_front<I: Read>(reader: &mut I, buf: &mut [u8]) -> io::Result<usize>
+    requires { 0 < length buf.old }
+    ensures gave { IfOk result (λ k. Consumes (I.remaining reader.old) (I.remaining reader.new)
+        (take k buf.new)) }
+    ensures end { IfOk result (λ k. k ≡ 0 → IsAtEnd (I.remaining reader.new)) }
+    ensures kept { OnErr result (Keeps (I.remaining reader.old) (I.remaining reader.new)) }
+    ensures short { IfOk result (λ k. k ≤ length buf.old) }
+    ensures rest { IfOk result (λ k. drop k buf.new ≡ drop k buf.old) }
+{
+    let mut piece = [0; MOST];
+    let wanted = buf.len().min(MOST);
+    let count = reader.read(&mut piece[..wanted])?;
+    copy_front(buf, &piece, count);
+    Ok(count)
+}
+
 impl<'a, R: Clock, I: Read> Host for StdHost<'a, R, I> {
     // A reader of which nothing is known may come to be known at any call, so it is no host that
     // tells.
@@ -85,13 +112,10 @@ impl<'a, R: Clock, I: Read> Host for StdHost<'a, R, I> {
         ensures rest { IfOk result (λ k. drop k buf.new ≡ drop k buf.old) }
         ensures cause { HasCause self.old.faults self.new.faults result }
     {
-        let mut piece = [0; MOST];
-        let wanted = buf.len().min(MOST);
-        let Ok(count) = self.reader.read(&mut piece[..wanted]) else {
-            return Err(self.fault());
-        };
-        buf[..count].copy_from_slice(&piece[..count]);
-        Ok(count)
+        match read_front(&mut self.reader, buf) {
+            Ok(count) => Ok(count),
+            Err(_) => Err(self.fault()),
+        }
     }
 
     /// Nanoseconds since 1970. It is a fault where the clock can't be read, before 1970, and from

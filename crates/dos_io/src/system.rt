@@ -1,8 +1,8 @@
 // The outside over std. It tells nothing that all sinks and files tell; what its writers and
 // readers did stands in its own clauses.
 ghost use Rattle.std.specs.Prelude.{◌≡◌, ◌≢◌, None, false, ◌<◌, ◌≤◌, ◌+◌, ℕ, List, length, IfOk};
-ghost use Rattle.std.specs.Prelude.{OnOk, OnErr, IfErr, IfSome, IsErrOf};
-ghost use Rattle.std.specs.Io.KnownBytes.{Appends, Consumes, IsAtEnd};
+ghost use Rattle.std.specs.Prelude.{OnOk, OnErr, IfErr, IfSome, IsErrOf, take};
+ghost use Rattle.std.specs.Io.KnownBytes.{Appends, Consumes, IsAtEnd, Keeps};
 ghost use Rattle.dos_io.specs.Outside.{HasCause, counted};
 ghost use Rattle.dos_io.specs.System.{written, Gave, GaveMore, Took};
 
@@ -101,6 +101,25 @@ impl<'a, R: fs::Files> StdFiles<'a, R> {
 
 const PIECE: usize = 4096;
 
+// One read into the front of a piece, of at most one byte more than `left`.
+fn read_piece<I: Read>(input: &mut I, piece: &mut [u8], left: u64) -> Result<usize, FileError>
+    requires { length piece.old ≡ 4096 }
+    ensures gave { IfOk result (λ k. Consumes (I.remaining input.old) (I.remaining input.new)
+        (take k piece.new)) }
+    ensures end { IfOk result (λ k. k ≡ 0 → IsAtEnd (I.remaining input.new)) }
+    ensures kept { OnErr result (Keeps (I.remaining input.old) (I.remaining input.new)) }
+    ensures most { IfOk result (λ k. k ≤ left + 1) }
+    ensures within { IfOk result (λ k. k ≤ 4096) }
+    ensures room { length piece.new ≡ 4096 }
+    ensures fault { IfErr result (λ e. e ≡ FileError.Fault) }
+{
+    let wanted = left.min(PIECE as u64 - 1) as usize + 1;
+    match input.read(&mut piece[..wanted]) {
+        Ok(count) => Ok(count),
+        Err(_) => Err(FileError::Fault),
+    }
+}
+
 // All that a reader has left, where that is at most the limit. It takes at most one byte more.
 fn read_whole<I: Read>(alloc: Global, input: &mut I, limit: u64) -> Result<Vec<u8>, FileError>
     ensures bytes { IfOk result (λ v. Consumes (I.remaining input.old)
@@ -115,11 +134,7 @@ fn read_whole<I: Read>(alloc: Global, input: &mut I, limit: u64) -> Result<Vec<u
     let mut bytes = Vec::new(alloc);
     let mut piece = [0; PIECE];
     while bytes.len() as u64 <= limit {
-        let left = limit - bytes.len() as u64;
-        let wanted = left.min(PIECE as u64 - 1) as usize + 1;
-        let Ok(count) = input.read(&mut piece[..wanted]) else {
-            return Err(FileError::Fault);
-        };
+        let count = read_piece(input, &mut piece, limit - bytes.len() as u64)?;
         if count == 0 {
             return Ok(bytes);
         }

@@ -7,7 +7,7 @@ use Rattle.dos_io.proofs.system.read_whole.Goals as goal
 pub returns-in_err-extend_from_slice-clause-taken :
     goal.returns-in_err-extend_from_slice-clause-taken
 returns-in_err-extend_from_slice-clause-taken g c = (
-  c.loop-piece.bytes.items ++ take c.in-Ok.count c.read.new.buf,
-  Consumes-trans _ _ _ _ _ c.loop-piece.invariant.taken c.in-Ok.ensures.bytes.0,
+  c.loop-piece.bytes.items ++ take c.in_ok-count.count c.read_piece.new.piece,
+  Consumes-trans _ _ _ _ _ c.loop-piece.invariant.taken c.in_ok-count.ensures.gave,
   simp length-append (grind (arith, common_steps)),
 )
