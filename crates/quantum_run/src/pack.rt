@@ -174,6 +174,19 @@ pub fn run_pack(pack: &mut Pack, view: &View<'_>)
     ensures room { pack.new.room ≡ pack.old.room }
 {
     pack.begin();
+    run_out(pack, view);
+}
+
+/// Runs the pack's thread from where it stands until its next instruction stops or its budget is 0.
+pub fn run_out(pack: &mut Pack, view: &View<'_>)
+    requires can { CanRun pack.old (seen view.now) }
+    ensures out { RanOut pack.old (seen view.now) pack.new }
+    ensures thread { pack.new.thread ≡ pack.old.thread }
+    ensures process { pack.new.process ≡ pack.old.process }
+    ensures frames { frames_of pack.new.pages ≡ frames_of pack.old.pages }
+    ensures budget { pack.new.budget ≤ pack.old.budget }
+    ensures room { pack.new.room ≡ pack.old.room }
+{
     let _out = run_slice(pack, view, u32::MAX);
 }
 
