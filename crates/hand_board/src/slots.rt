@@ -54,11 +54,7 @@ fn finished<T: Part>(mut pack: T, word: u64) -> T
 }
 
 // the pack of slot i comes out, finished
-fn take<T: Part>(
-    closed: &mut Closed<Option<T>, Global>,
-    opened: &Snapshot<Vec<T>>,
-    i: usize,
-) -> T
+fn take<T: Part>(closed: &mut Closed<Option<T>, Global>, opened: &Snapshot<Vec<T>>, i: usize) -> T
     requires slot { (i < slots_len closed.old.slots)
         × (slice_index_or (slots_filled closed.old.slots) i false ≡ true) }
     requires number { i < length opened.now.value.items }

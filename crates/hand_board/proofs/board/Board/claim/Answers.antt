@@ -1,4 +1,4 @@
-use Rattle.std.proofs.Common.{rules, refl, ◌<◌, length, sym, subst, ap, ◌∙◌, arith, Some, ◌∷◌}
+use Rattle.std.proofs.Common.{refl, ◌<◌, length, sym, subst, ap, ◌∙◌, arith, Some, ◌∷◌}
 use Rattle.atomic_table.specs.Table.{rest}
 use mathlib.Core.Option.{some}
 use lib.ListN.{get_elem?}
