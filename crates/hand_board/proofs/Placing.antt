@@ -15,16 +15,17 @@ use Rattle.hand_board.specs.Placed.{Knowing, Lies, Placed, times, once, total, w
 use Rattle.hand_board.specs.Placed.{blanks, to_front, without_front, left_half, right_half}
 use Rattle.hand_board.specs.Placed.{spent_view, first_view}
 use Rattle.hand_board.proofs.Counts.{times_here, times_else, times_append, times_bring}
-use Rattle.hand_board.proofs.Counts.{once_one, once_none, once_most, split_at, apart_of, distinct_of}
-use Rattle.hand_board.proofs.Counts.{within_of, blanks_append, total_set, total_snoc, total_part}
-use Rattle.hand_board.proofs.Counts.{total_alone}
+use Rattle.hand_board.proofs.Counts.{once_one, once_none, once_most, split_at, apart_of}
+use Rattle.hand_board.proofs.Counts.{distinct_of, within_of, blanks_append, total_set}
+use Rattle.hand_board.proofs.Counts.{total_snoc, total_part, total_alone}
 use Rattle.hand_board.proofs.Front.{front, carries, others, long, valid}
 
 abbrev pub Homes : Type 0 → Type 0
 Homes T = List (maybe.Option (Option T))
 
 module _ {T : Type 0} (so : T → T → Type 0) (opened : List T) where
-  -- what lies at home in one phase lies there still, and so does the pack of i, if that is its phase
+  -- what lies at home in one phase lies there still, and so does the pack of i, if that is its
+  -- phase
   lies_moved : (ph qh : ℕ → ℕ) (homes hs : Homes T) (k : ℕ) → once k ≡ 0
       → ((j : ℕ) → ph j ≡ k → Lies so opened homes j) → (i : ℕ)
       → ((j : ℕ) → j ≢ i → qh j ≡ ph j)
@@ -100,8 +101,8 @@ module _ {T : Type 0} (fin way : T → T → Type 0) (opened : List T) where
 
   -- a number in a hand has phase 1
   pub in_hand : (ph : ℕ → ℕ) (homes : Homes T) (views : List (Knows T))
-      → Placed fin way opened ph homes views → (id i : ℕ) (v : Knows T) → get_elem? views id ≡ some v
-      → 0 < times i v.hand → ph i ≡ 1
+      → Placed fin way opened ph homes views → (id i : ℕ) (v : Knows T)
+      → get_elem? views id ≡ some v → 0 < times i v.hand → ph i ≡ 1
   in_hand ph homes views h id i v at has =
       let part = total_part (λ (u : Knows T). times i u.hand) views id v at in
       let all = h.held i in

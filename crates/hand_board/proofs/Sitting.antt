@@ -52,8 +52,8 @@ module _ {T : Type 0} where
 
 module _ {T : Type 0} (b : TableId) (share next : ℕ) (ended : Bool) where
   -- a seat that learned nothing is as it was
-  pub sits_same : (b2 : TableId) (m n : Me (Option T) (Knows T)) → Sits b m share next ended → b2 ≡ b
-      → n ≡ m → Sits b2 n share next ended
+  pub sits_same : (b2 : TableId) (m n : Me (Option T) (Knows T)) → Sits b m share next ended
+      → b2 ≡ b → n ≡ m → Sits b2 n share next ended
   sits_same b2 m n s same e = subst (λ z. Sits z n share next ended) (sym same)
       (subst (λ z. Sits b z share next ended) (sym e) s)
 

@@ -60,7 +60,8 @@ module _ {T : Type 0} (fin way : T → T → Type 0) (opened : List T) where
   written : (s : State (Option T) (Knows T)) → Holds fin way opened s
       → (i k id : ℕ) (v w : Knows T) (hs : Homes T)
       → get_elem? s.views id ≡ some v → i < length opened → 0 < k → k ≤ 3
-      → Placed fin way opened (λ j. slice_index (set s.words (i + 1) k) (j + 1)) hs (set s.views id w)
+      → Placed fin way opened (λ j. slice_index (set s.words (i + 1) k) (j + 1)) hs
+      (set s.views id w)
       → ((j : ℕ) → j ≢ i → 0 < times j w.found → 0 < times j v.found)
       → Holds fin way opened record {
         words = set s.words (i + 1) k;
@@ -358,8 +359,8 @@ module _ {T : Type 0} (fin way : T → T → Type 0) (opened : List T) where
       wide = h.wide;
       unused = h.unused;
       small = h.small;
-      placed = placed_same fin way opened _ s.homes s.views h.placed id m.0 (with_nothing_found m.0) at
-          share refl refl refl;
+      placed = placed_same fin way opened _ s.homes s.views h.placed id m.0
+          (with_nothing_found m.0) at share refl refl refl;
       begun = λ j u there_. ⊎_elim
           (λ t. subst (λ (z : Knows T). (i : ℕ) → 0 < times i z.found
           → slice_index s.words (i + 1) ≢ 0) t.1 (λ i p. absurd (omega (arith, p))))
