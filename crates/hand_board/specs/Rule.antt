@@ -48,8 +48,8 @@ module _ {T : Type 0} where
   abbrev pub with_resumed : ℕ → Knows T → Knows T
   with_resumed i v = record v { hand = i ∷ v.hand }
 
-  -- Where the word r of the number was 3 it is in hand, with its slot, in which what has come of its
-  -- pack lies under way. Else the seat is as it was.
+  -- Where the word r of the number was 3 it is in hand, with its slot, in which what has come of
+  -- its pack lies under way. Else the seat is as it was.
   abbrev pub ResumedAt : (T → T → Type 0) → ℕ → Me (Option T) (Knows T) → ℕ
       → Me (Option T) (Knows T) → Type 0
   ResumedAt under_way i m r n =

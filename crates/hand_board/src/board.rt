@@ -33,7 +33,7 @@ pub struct Board<T: Part> {
 }
 
 impl<T: Part> Model for Board<T> {
-    ghost use Rattle.std.specs.Prelude.{◌≡◌, vec_len, vec_capacity};
+    ghost use Rattle.std.specs.Prelude.{vec_len, vec_capacity};
     ghost use Rattle.hand_board.specs.Seating.{Standing, Stands, standing};
 
     ghost Value = { Standing T };
@@ -41,9 +41,8 @@ impl<T: Part> Model for Board<T> {
     ghost view = { λ b. standing b.table.shared.table_id b.table.shared.key.value.items
         (vec_capacity b.room) };
 
-    ghost invariant = { λ b. Stands b.table.shared.table_id b.table.shared.key.value.items b.count
-        (vec_len b.room) (vec_capacity b.room)
-        × (b.opened.value.items ≡ b.table.shared.key.value.items) };
+    ghost invariant = { λ b. Stands b.table.shared.table_id b.table.shared.key.value.items
+        b.opened.value.items b.count (vec_len b.room) (vec_capacity b.room) };
 }
 
 fn later(a: u32, b: u32) -> u32

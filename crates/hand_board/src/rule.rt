@@ -6,7 +6,8 @@ use std::collections::LinkedList;
 use std::marker::PhantomData;
 use std::snapshot::Snapshot;
 
-/// A value that can be worked on until it is finished: what threads take from a board and give back.
+/// A value that can be worked on until it is finished: what threads take from a board and give
+/// back.
 pub trait Part {
     // What a value needs to be worked on.
     ghost ready: { Self → Type 0 };

@@ -1,6 +1,6 @@
 // Packs on their way into the slots of a table, and back.
 ghost use Rattle.std.specs.Prelude.{◌≡◌, ◌≢◌, ◌<◌, ◌≤◌, ◌+◌, ℕ, true, false, map, Some};
-ghost use Rattle.std.specs.Prelude.{slice_index_or, slice_set, vec_len, vec_capacity};
+ghost use Rattle.std.specs.Prelude.{length, slice_index_or, slice_set, vec_len, vec_capacity};
 ghost use Rattle.std.specs.Mem.Slots.{slots_items, slots_filled, slots_len, IsFull};
 ghost use mathlib.Core.Option.{some};
 ghost use lib.ListN.{get_elem?};
@@ -44,8 +44,8 @@ pub(crate) fn empty<T>(mut slots: Vec<Option<T>>, room: &mut Vec<T>)
 // a pack under way is worked on until its end, and a finished one stays as it is
 fn finished<T: Part>(mut pack: T, word: u64) -> T
     requires { word ≡ 3 → T.ready pack }
-    ensures under_way { word ≡ 3 → T.ends pack.entry result }
-    ensures finished { word ≢ 3 → result ≡ pack.entry }
+    ensures under_way { word ≡ 3 → T.ends pack result }
+    ensures finished { word ≢ 3 → result ≡ pack }
 {
     if word == 3 {
         pack.finish();
@@ -54,14 +54,10 @@ fn finished<T: Part>(mut pack: T, word: u64) -> T
 }
 
 // the pack of slot i comes out, finished
-fn take<T: Part>(
-    closed: &mut Closed<Option<T>, Global>,
-    opened: &Snapshot<Vec<T>>,
-    i: usize,
-) -> T
+fn take<T: Part>(closed: &mut Closed<Option<T>, Global>, opened: &Snapshot<Vec<T>>, i: usize) -> T
     requires slot { (i < slots_len closed.old.slots)
         × (slice_index_or (slots_filled closed.old.slots) i false ≡ true) }
-    requires number { i < vec_len opened.now.value }
+    requires number { i < length opened.now.value.items }
     requires word { IsFull closed.old.words × (i + 1 < slots_len closed.old.words) }
     requires rests { Rests T.finished (IsUnderWay T.ready T.ends T.finished)
         opened.now.value.items (slots_items closed.old.words) (slots_items closed.old.slots) i }
@@ -87,7 +83,7 @@ pub(crate) fn take_all<T: Part>(
     requires full { IsFull closed.old.slots × IsFull closed.old.words }
     requires words { slots_len closed.old.words ≡ slots_len closed.old.slots + 1 }
     requires room { (vec_len room.old ≡ 0) × (slots_len closed.old.slots ≤ vec_capacity room.old) }
-    requires opened { vec_len opened.now.value ≡ slots_len closed.old.slots }
+    requires opened { length opened.now.value.items ≡ slots_len closed.old.slots }
     requires rest { (i : ℕ) → Rests T.finished (IsUnderWay T.ready T.ends T.finished)
         opened.now.value.items (slots_items closed.old.words) (slots_items closed.old.slots) i }
     ensures finished { AllFinished T.finished opened.now.value.items room.new.items }

@@ -111,7 +111,8 @@ fn a_pack_put_back_is_resumed_or_finished_at_the_close(rt: HostRuntime) -> Resul
     };
     zero.pack_mut().finish();
     board.give(&mut right, zero);
-    let packs = board.close(board.join(left, right));
+    let seat = board.join(left, right);
+    let packs = board.close(seat);
     // the first was worked on here, the second by the close, the third not at all
     assert_eq!(rt; packs.len(), 3);
     assert_eq!(rt; (packs[0].value, packs[1].value, packs[2].value), (11, 12, 3));
