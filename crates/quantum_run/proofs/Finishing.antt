@@ -1,5 +1,5 @@
 -- A pack that has run for so many instructions, in each world that it showed.
-use Rattle.std.proofs.Common.{ℕ, zero, suc, ◌*◌, ◌/◌, ◌%◌, ◌<◌, ◌≤◌, ◌≡◌, ◌⊎◌, inl, inr, refl, sym, ap, ◌∙◌, Bool, true, false, List, [], ◌∷◌, length, map, get_or, slice_get, is_some, Option, Some, None, option_map}
+use Rattle.std.proofs.Common.{ℕ, zero, suc, ◌*◌, ◌/◌, ◌%◌, ◌≡◌, ◌⊎◌, inl, inr, refl, sym, ap, ◌∙◌, Bool, true, false, List, [], ◌∷◌, length, map, get_or, slice_get, is_some, Option, Some, None, option_map}
 use Rattle.std.specs.Prelude.{slice_index_or}
 use Rattle.dos_world.specs.Numbered.{numbered}
 use Rattle.dos_world.specs.World.{World, Thread, Process, Registers, thread_at, owner_of, page_of, look, entry_at, space_of}

@@ -1,4 +1,4 @@
-use Rattle.std.proofs.Common.{ℕ, ◌+◌, ◌<◌, ◌≡◌, ◌≢◌, ◌⊎◌, inl, inr, ◌∙◌, sym, ap, true, false, eqb-true, is_some, arith}
+use Rattle.std.proofs.Common.{◌≡◌, ◌≢◌, ◌⊎◌, inl, inr, ◌∙◌, sym, ap, true, false, eqb-true, is_some, arith}
 use Rattle.std.proofs.lemmas.Bool.{eqb-false}
 use Rattle.quantum_run.specs.Shows.{Pack, frames_of}
 use Rattle.quantum_run.proofs.Packing.{frames-paired, packed-kept, same-length}
@@ -79,20 +79,19 @@ returns-clause-more c = λ on.
     elim c.if-is_some.branch as (λ _. (is_some stop ≡ false) × (floor ≢ 0)) [
       | then-is_some b ↦ absurd (never (sym b.if-is_some.true ∙ sym b.result-is ∙ on))
       | else-is_some b ↦ (
-          sym c.is_some.ensures ∙ b.if-is_some.false,
-          eqb-false floor 0 (sym b.result-is ∙ on),
-        )
+        sym c.is_some.ensures ∙ b.if-is_some.false,
+        eqb-false floor 0 (sym b.result-is ∙ on),
+      )
     ] in
     let at : n.budget ≡ floor = floor-left _ stop n.budget floor goes.0 e.stop in
     let whole : k.left ≡ c.args.pack.now.budget = ap (λ (p : Pack). p.budget) c.pack.view_is in
-    let less = c.saturating_sub-floor.ensures in
-    (
+    let less = c.saturating_sub-floor.ensures in (
       slice-leads k.tid k.pid k.regs.value k.left k.held.items k.own _ c.pack.invariant
-      v.frames.now v.table.now c.space-space.result.now.entries c.space-space.ensures.entries
-      c.args.pack.now c.pack.view_is c.requires.can
-      (sym c.count-count.ensures.owners ∙ c.count-count.ensures.pages)
-      c.deref.result.now c.deref.ensures n.own n.regs n.budget floor stop e.here e.within
-      e.runs e.stop,
+          v.frames.now v.table.now c.space-space.result.now.entries c.space-space.ensures.entries
+          c.args.pack.now c.pack.view_is c.requires.can
+          (sym c.count-count.ensures.owners ∙ c.count-count.ensures.pages)
+          c.deref.result.now c.deref.ensures n.own n.regs n.budget floor stop e.here e.within
+          e.runs e.stop,
       omega (arith, at, goes.1),
       omega (arith, at, goes.1, less, whole),
     )
