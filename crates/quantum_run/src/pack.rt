@@ -187,7 +187,8 @@ pub fn run_out(pack: &mut Pack, view: &View<'_>)
     ensures budget { pack.new.budget ≤ pack.old.budget }
     ensures room { pack.new.room ≡ pack.old.room }
 {
-    let _out = run_slice(pack, view, u32::MAX);
+    let whole = pack.budget();
+    let _out = run_slice(pack, view, whole);
 }
 
 /// Runs the pack's thread from where it stands until its next instruction stops or its budget is

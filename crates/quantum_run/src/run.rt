@@ -110,7 +110,8 @@ pub(crate) fn run<P: Pages>(
     stop
 }
 
-/// The run of a thread over pages of its own, with the frames lent.
+/// The run of a thread over pages of its own, with the frames lent, until its budget has come down
+/// to the floor.
 pub(crate) fn run_lent(
     own: &mut Places,
     frames: &Frames,
