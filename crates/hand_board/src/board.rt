@@ -25,8 +25,6 @@ const WHOLE: u64 = 1 << 32;
 pub struct Board<T: Part> {
     // Word 0 isn't used; word i + 1 and slot i are those of number i.
     pub(crate) table: Table<Option<T>, Knows<T>, Snapshot<Vec<T>>, Once<T>, Global>,
-    // The packs as the board opened, which only clauses read.
-    opened: Snapshot<Vec<T>>,
     count: u32,
     // The vector that the packs came in, now without them: they come home into it.
     room: Vec<T>,
@@ -41,8 +39,8 @@ impl<T: Part> Model for Board<T> {
     ghost view = { λ b. standing b.table.shared.table_id b.table.shared.key.value.items
         (vec_capacity b.room) };
 
-    ghost invariant = { λ b. Stands b.table.shared.table_id b.table.shared.key.value.items
-        b.opened.value.items b.count (vec_len b.room) (vec_capacity b.room) };
+    ghost invariant = { λ b. Stands b.table.shared.table_id b.table.shared.key.value.items b.count
+        (vec_len b.room) (vec_capacity b.room) };
 }
 
 fn later(a: u32, b: u32) -> u32
@@ -111,7 +109,6 @@ impl<T: Part> Board<T> {
             Ok((table, seat)) => Ok((
                 Board {
                     table,
-                    opened,
                     count: count as u32,
                     room: packs,
                 },
@@ -349,6 +346,7 @@ impl<T: Part> Board<T> {
         ensures finished { AllFinished T.finished self.opened result.items }
         ensures capacity { vec_capacity result ≡ self.room }
     {
+        let opened = Snapshot::of(&self);
         let BoardSeat {
             seat,
             share: _,
@@ -357,7 +355,6 @@ impl<T: Part> Board<T> {
         } = seat;
         let Board {
             table,
-            opened,
             count: _,
             mut room,
         } = self;

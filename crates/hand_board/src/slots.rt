@@ -7,6 +7,7 @@ ghost use lib.ListN.{get_elem?};
 ghost use Rattle.hand_board.specs.Placed.{IsUnderWay};
 ghost use Rattle.hand_board.specs.Seating.{AllFinished, Rests, values};
 
+use crate::board::Board;
 use crate::rule::Part;
 use atomic_table::Closed;
 use std::alloc::Global;
@@ -54,14 +55,14 @@ fn finished<T: Part>(mut pack: T, word: u64) -> T
 }
 
 // the pack of slot i comes out, finished
-fn take<T: Part>(closed: &mut Closed<Option<T>, Global>, opened: &Snapshot<Vec<T>>, i: usize) -> T
+fn take<T: Part>(closed: &mut Closed<Option<T>, Global>, opened: &Snapshot<Board<T>>, i: usize) -> T
     requires slot { (i < slots_len closed.old.slots)
         × (slice_index_or (slots_filled closed.old.slots) i false ≡ true) }
-    requires number { i < length opened.now.value.items }
+    requires number { i < length opened.now.value.opened }
     requires word { IsFull closed.old.words × (i + 1 < slots_len closed.old.words) }
     requires rests { Rests T.finished (IsUnderWay T.ready T.ends T.finished)
-        opened.now.value.items (slots_items closed.old.words) (slots_items closed.old.slots) i }
-    ensures finished { (x : T) → get_elem? opened.now.value.items i ≡ some x → T.finished x result }
+        opened.now.value.opened (slots_items closed.old.words) (slots_items closed.old.slots) i }
+    ensures finished { (x : T) → get_elem? opened.now.value.opened i ≡ some x → T.finished x result }
     ensures closed { (slots_items closed.new.slots ≡ slots_items closed.old.slots)
         × (slots_filled closed.new.slots ≡ slice_set (slots_filled closed.old.slots) i false)
         × (slots_len closed.new.slots ≡ slots_len closed.old.slots)
@@ -77,16 +78,16 @@ fn take<T: Part>(closed: &mut Closed<Option<T>, Global>, opened: &Snapshot<Vec<T
 /// The packs of a closed table come back, in order, each finished from its opening.
 pub(crate) fn take_all<T: Part>(
     closed: &mut Closed<Option<T>, Global>,
-    opened: &Snapshot<Vec<T>>,
+    opened: &Snapshot<Board<T>>,
     room: &mut Vec<T>,
 )
     requires full { IsFull closed.old.slots × IsFull closed.old.words }
     requires words { slots_len closed.old.words ≡ slots_len closed.old.slots + 1 }
     requires room { (vec_len room.old ≡ 0) × (slots_len closed.old.slots ≤ vec_capacity room.old) }
-    requires opened { length opened.now.value.items ≡ slots_len closed.old.slots }
+    requires opened { length opened.now.value.opened ≡ slots_len closed.old.slots }
     requires rest { (i : ℕ) → Rests T.finished (IsUnderWay T.ready T.ends T.finished)
-        opened.now.value.items (slots_items closed.old.words) (slots_items closed.old.slots) i }
-    ensures finished { AllFinished T.finished opened.now.value.items room.new.items }
+        opened.now.value.opened (slots_items closed.old.words) (slots_items closed.old.slots) i }
+    ensures finished { AllFinished T.finished opened.now.value.opened room.new.items }
     ensures free { (k : ℕ) → k < slots_len closed.new.slots
         → slice_index_or (slots_filled closed.new.slots) k false ≡ false }
     ensures capacity { vec_capacity room.new ≡ vec_capacity room.old }

@@ -18,7 +18,7 @@ loop-i-preserved g c =
     let opened = c.requires.opened in
     let len = c.push_reserved.ensures.len in
     let cap = c.push_reserved.ensures.capacity in
-    let xs = c.args.opened.now.value.items in
+    let xs = c.args.opened.now.value.opened in
     let t = there xs c.loop-i.i (omega arith) in (
       e.0,
       e.1,

@@ -12,7 +12,7 @@ invariant-loop-i g l =
     × (slots_items l.closed.slots ≡ slots_items l.fn.closed.slots)
     × (slots_len l.closed.slots ≡ slots_len l.fn.closed.slots)
     × (l.closed.words ≡ l.fn.closed.words)
-    × AllFinished g.T.Part.finished (take l.i l.fn.opened.value.items) l.room.items
+    × AllFinished g.T.Part.finished (take l.i l.fn.opened.value.opened) l.room.items
     × (l.i ≤ slots_len l.closed.slots)
     × (vec_len l.room ≤ l.i)
     × (slots_len l.closed.slots ≤ vec_capacity l.room)
