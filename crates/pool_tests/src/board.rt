@@ -115,7 +115,10 @@ fn a_pack_put_back_is_resumed_or_finished_at_the_close(rt: HostRuntime) -> Resul
     let packs = board.close(seat);
     // the first was worked on here, the second by the close, the third not at all
     assert_eq!(rt; packs.len(), 3);
-    assert_eq!(rt; (packs[0].value, packs[1].value, packs[2].value), (11, 12, 3));
+    assert_eq!(rt;
+        (packs[0].value, packs[1].value, packs[2].value),
+        (11, 12, 3)
+    );
     Ok(())
 }
 
