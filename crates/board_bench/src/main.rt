@@ -28,7 +28,13 @@ struct Blank;
 impl Part for Blank {
     ghost use Rattle.std.specs.Prelude.{◌≡◌};
 
+    ghost ready = { λ _. Unit {0} };
+
+    ghost ends = { λ x y. x ≡ y };
+
     ghost finished = { λ x y. x ≡ y };
+
+    fn finish(&mut self) {}
 }
 
 fn parts(alloc: Global, count: u32) -> Result<Vec<Blank>, AllocError>

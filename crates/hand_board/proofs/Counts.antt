@@ -32,6 +32,9 @@ times_append x (y ∷ ys) m = omega (arith, times_append x ys m)
 pub once_one : (w : ℕ) → once w ≢ 0 → w ≡ 1
 once_one w n = dite (ℕ_discrete w 1) (λ e. e) (λ ne. absurd (n (ap one_if (ne_eqb w 1 ne))))
 
+pub once_none : (w : ℕ) → w ≢ 1 → once w ≡ 0
+once_none w n = ap one_if (ne_eqb w 1 n)
+
 without_here : (x y : ℕ) (l : List ℕ) → y ≡ x → without x (y ∷ l) ≡ l
 without_here x y l e = rw (eq-eqb y x e) refl
 
@@ -130,7 +133,7 @@ times_bring i j l h = let r = split_at i l h in
 pub once_most : (w : ℕ) → once w ≤ 1
 once_most w = dite (ℕ_discrete w 1) (λ e. let a : once w ≡ 1 = ap one_if (eq-eqb w 1 e) in
     omega arith)
-    (λ n. let a : once w ≡ 0 = ap one_if (ne_eqb w 1 n) in
+    (λ n. let a = once_none w n in
     omega arith)
 
 pub times_without : (i j : ℕ) (l : List ℕ) → times j (without i l) ≤ times j l

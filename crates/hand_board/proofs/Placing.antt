@@ -11,33 +11,46 @@ use lib.ListN.{get_elem?}
 use Rattle.atomic_table.specs.Table.{Act, Valid, carried_after, homes_after}
 use Rattle.atomic_table.proofs.Lists.{at_set, at_snoc, set_here, set_else, at_map}
 use Rattle.hand_board.specs.declared.rule.Knows.{Knows}
-use Rattle.hand_board.specs.Placed.{Knowing, Placed, times, once, total, whole, without, tail}
+use Rattle.hand_board.specs.Placed.{Knowing, Lies, Placed, times, once, total, whole, without, tail}
 use Rattle.hand_board.specs.Placed.{blanks, to_front, without_front, left_half, right_half}
 use Rattle.hand_board.specs.Placed.{spent_view, first_view}
-use Rattle.hand_board.proofs.Counts.{there, times_here, times_else, times_append, times_bring}
-use Rattle.hand_board.proofs.Counts.{once_one, once_most, split_at, apart_of, distinct_of}
-use Rattle.hand_board.proofs.Counts.{within_of, blanks_append, total_set, total_snoc, total_part}
-use Rattle.hand_board.proofs.Counts.{total_alone}
+use Rattle.hand_board.proofs.Counts.{times_here, times_else, times_append, times_bring}
+use Rattle.hand_board.proofs.Counts.{once_one, once_none, once_most, split_at, apart_of}
+use Rattle.hand_board.proofs.Counts.{distinct_of, within_of, blanks_append, total_set}
+use Rattle.hand_board.proofs.Counts.{total_snoc, total_part, total_alone}
 use Rattle.hand_board.proofs.Front.{front, carries, others, long, valid}
 
 abbrev pub Homes : Type 0 → Type 0
 Homes T = List (maybe.Option (Option T))
 
-module _ {T : Type 0} (fin : T → T → Type 0) (opened : List T) where
+module _ {T : Type 0} (so : T → T → Type 0) (opened : List T) where
+  -- what lies at home in one phase lies there still, and so does the pack of i, if that is its
+  -- phase
+  lies_moved : (ph qh : ℕ → ℕ) (homes hs : Homes T) (k : ℕ) → once k ≡ 0
+      → ((j : ℕ) → ph j ≡ k → Lies so opened homes j) → (i : ℕ)
+      → ((j : ℕ) → j ≢ i → qh j ≡ ph j)
+      → ((j : ℕ) → j ≢ i → once (ph j) ≡ 0 → get_elem? hs j ≡ get_elem? homes j)
+      → (qh i ≡ k → Lies so opened hs i) → (j : ℕ) → qh j ≡ k → Lies so opened hs j
+  lies_moved ph qh homes hs k out h i as_was same here j e = dite (ℕ_discrete j i)
+      (λ q. subst (Lies so opened hs) (sym q) (here (ap qh (sym q) ∙ e)))
+      (λ n x there_. let is_k : ph j ≡ k = sym (as_was j n) ∙ e in
+      let t = h j is_k x there_ in
+      (t.0, same j n (ap once is_k ∙ out) ∙ t.1, t.2))
+
+module _ {T : Type 0} (fin way : T → T → Type 0) (opened : List T) where
   -- the phase of i changes, and the seat id has a new view
   pub placed_moved : (ph qh : ℕ → ℕ) (homes hs : Homes T) (views : List (Knows T))
-      → Placed fin opened ph homes views → (i id : ℕ) (v w : Knows T)
+      → Placed fin way opened ph homes views → (i id : ℕ) (v w : Knows T)
       → get_elem? views id ≡ some v → 0 < v.share → qh i ≢ 0 → ((j : ℕ) → j ≢ i → qh j ≡ ph j)
       → length hs ≡ length homes
       → ((j : ℕ) → j ≢ i → once (ph j) ≡ 0 → get_elem? hs j ≡ get_elem? homes j)
-      → ((x : T) → get_elem? opened i ≡ some x → qh i ≡ 2
-      → (y : T) × (get_elem? hs i ≡ some (some (Some y))) × fin x y)
+      → (qh i ≡ 2 → Lies fin opened hs i) → (qh i ≡ 3 → Lies way opened hs i)
       → w.opened ≡ v.opened → w.share ≡ v.share
       → ((j : ℕ) → j ≢ i → times j w.hand ≡ times j v.hand)
       → times i w.hand + once (ph i) ≡ times i v.hand + once (qh i)
-      → Placed fin opened qh hs (set views id w)
-  placed_moved ph qh homes hs views h i id v w at share begun as_was long_ same ends opens shares_
-      apart_ here_ =
+      → Placed fin way opened qh hs (set views id w)
+  placed_moved ph qh homes hs views h i id v w at share begun as_was long_ same ends waits opens
+      shares_ apart_ here_ =
       let mine = h.knowing id v at in
       record {
         level = long_ ∙ h.level;
@@ -56,14 +69,8 @@ module _ {T : Type 0} (fin : T → T → Type 0) (opened : List T) where
             let r = ap once (as_was j n) in
             let a = apart_ j n in
             omega arith);
-        done = λ j x there_ e. dite (ℕ_discrete j i)
-            (λ q. let t =
-            ends x (subst (λ n. get_elem? opened n ≡ some x) q there_)
-            (ap qh (sym q) ∙ e) in
-            (t.0, subst (λ n. get_elem? hs n ≡ some (some (Some t.0))) (sym q) t.1, t.2))
-            (λ n. let two : ph j ≡ 2 = sym (as_was j n) ∙ e in
-            let t = h.done j x there_ two in
-            (t.0, same j n (ap once two) ∙ t.1, t.2));
+        done = lies_moved fin opened ph qh homes hs 2 refl h.done i as_was same ends;
+        waiting = lies_moved way opened ph qh homes hs 3 refl h.waiting i as_was same waits;
         shares =
             let p = total_set (λ (u : Knows T). u.share) views id v w at in
             let q = h.shares in
@@ -77,60 +84,52 @@ module _ {T : Type 0} (fin : T → T → Type 0) (opened : List T) where
             (at_set views id j w u there_);
       }
 
-  -- phase 0 to 1: the pack leaves its home for this hand
+  -- to phase 1: the pack leaves its home for this hand
   pub placed_taken : (ph qh : ℕ → ℕ) (homes : Homes T) (views : List (Knows T))
-      → Placed fin opened ph homes views → (i id : ℕ) (v w : Knows T)
-      → get_elem? views id ≡ some v → 0 < v.share → i < length opened → ph i ≡ 0 → qh i ≡ 1
+      → Placed fin way opened ph homes views → (i id : ℕ) (v w : Knows T)
+      → get_elem? views id ≡ some v → 0 < v.share → once (ph i) ≡ 0 → qh i ≡ 1
       → ((j : ℕ) → j ≢ i → qh j ≡ ph j)
       → w.opened ≡ v.opened → w.share ≡ v.share → w.hand ≡ i ∷ v.hand
-      → (x : T) × (get_elem? opened i ≡ some x) × (get_elem? homes i ≡ some (some (Some x)))
-      × Placed fin opened qh (set homes i none) (set views id w)
-  placed_taken ph qh homes views h i id v w at share lt free held as_was opens shares_ hand =
-      let t = there opened i lt in
-      let a : once (ph i) ≡ 0 = ap once free in
-      let b : once (qh i) ≡ 1 = ap once held in (
-        t.0,
-        t.1,
-        h.unbegun i t.0 t.1 free,
-        placed_moved ph qh homes (set homes i none) views h i id v w at share
-            (λ z. absurd (omega arith)) as_was (length-set homes i none)
-            (λ j q _. set_else homes i j none q) (λ x _ q. absurd (omega arith)) opens shares_
-            (λ j q. ap (times j) hand ∙ times_else j i v.hand (λ e. q (sym e)))
-            (let c = ap (times i) hand in let d = times_here i v.hand in omega arith),
-      )
+      → Placed fin way opened qh (set homes i none) (set views id w)
+  placed_taken ph qh homes views h i id v w at share free held as_was opens shares_ hand =
+      let b : once (qh i) ≡ 1 = ap once held in
+      placed_moved ph qh homes (set homes i none) views h i id v w at share
+      (λ z. absurd (omega arith)) as_was (length-set homes i none)
+      (λ j q _. set_else homes i j none q) (λ q. absurd (omega arith)) (λ q. absurd (omega arith))
+      opens shares_ (λ j q. ap (times j) hand ∙ times_else j i v.hand (λ e. q (sym e)))
+      (let c = ap (times i) hand in let d = times_here i v.hand in omega arith)
 
   -- a number in a hand has phase 1
   pub in_hand : (ph : ℕ → ℕ) (homes : Homes T) (views : List (Knows T))
-      → Placed fin opened ph homes views → (id i : ℕ) (v : Knows T) → get_elem? views id ≡ some v
-      → 0 < times i v.hand → ph i ≡ 1
+      → Placed fin way opened ph homes views → (id i : ℕ) (v : Knows T)
+      → get_elem? views id ≡ some v → 0 < times i v.hand → ph i ≡ 1
   in_hand ph homes views h id i v at has =
       let part = total_part (λ (u : Knows T). times i u.hand) views id v at in
       let all = h.held i in
       once_one _ (omega arith)
 
-  -- phase 1 to 2: the pack at the front of this hand goes home, finished
+  -- phase 1 to 2 or 3: the pack at the front of this hand goes home, finished or under way
   pub placed_given : (ph qh : ℕ → ℕ) (homes : Homes T) (views : List (Knows T))
-      → Placed fin opened ph homes views → (i id : ℕ) (v : Knows T) (y : T) (hand : List ℕ)
-      → get_elem? views id ≡ some v → 0 < v.share → i < length opened → v.hand ≡ i ∷ hand → qh i ≡ 2
-      → ((j : ℕ) → j ≢ i → qh j ≡ ph j)
-      → ((x : T) → get_elem? v.opened i ≡ some x → fin x y)
-      → Placed fin opened qh (set homes i (some (Some y))) (set views id (without_front v))
-  placed_given ph qh homes views h i id v y hand at share lt has two as_was ends =
+      → Placed fin way opened ph homes views → (i id : ℕ) (v : Knows T) (y : T) (hand : List ℕ)
+      → get_elem? views id ≡ some v → 0 < v.share → i < length opened → v.hand ≡ i ∷ hand
+      → 2 ≤ qh i → ((j : ℕ) → j ≢ i → qh j ≡ ph j)
+      → ((x : T) → get_elem? v.opened i ≡ some x → (qh i ≡ 2 → fin x y) × (qh i ≡ 3 → way x y))
+      → Placed fin way opened qh (set homes i (some (Some y))) (set views id (without_front v))
+  placed_given ph qh homes views h i id v y hand at share lt has high as_was comes =
       let says = (h.knowing id v at).told share in
       let here : times i v.hand ≡ suc (times i hand) = ap (times i) has ∙ times_here i hand in
       let one : ph i ≡ 1 = in_hand ph homes views h id i v at (omega arith) in
       let a : once (ph i) ≡ 1 = ap once one in
-      let b : once (qh i) ≡ 0 = ap once two in
+      let b : once (qh i) ≡ 0 = once_none (qh i) (λ e. absurd (omega arith)) in
       let level = h.level in
+      let home = set_here homes i (some (Some y)) (omega arith) in
+      let now = λ (x : T) (at2 : get_elem? opened i ≡ some x). comes x
+      (ap (λ l. get_elem? l i) says ∙ at2) in
       placed_moved ph qh homes (set homes i (some (Some y))) views h i id v
       (without_front v) at share (λ z. absurd (omega arith)) as_was
       (length-set homes i (some (Some y)))
       (λ j n _. set_else homes i j (some (Some y)) n)
-      (λ x at2 _. (
-        y,
-        set_here homes i (some (Some y)) (omega arith),
-        ends x (ap (λ l. get_elem? l i) says ∙ at2),
-      ))
+      (λ e x at2. (y, home, (now x at2).0 e)) (λ e x at2. (y, home, (now x at2).1 e))
       refl refl
       (λ j n. ap (λ z. times j (tail z)) has
       ∙ sym (ap (times j) has ∙ times_else j i hand (λ q. n (sym q))))
@@ -138,14 +137,15 @@ module _ {T : Type 0} (fin : T → T → Type 0) (opened : List T) where
 
   -- where a view keeps its packs, its share and its hand
   pub placed_same : (ph : ℕ → ℕ) (homes : Homes T) (views : List (Knows T))
-      → Placed fin opened ph homes views → (id : ℕ) (v w : Knows T)
+      → Placed fin way opened ph homes views → (id : ℕ) (v w : Knows T)
       → get_elem? views id ≡ some v → 0 < v.share → w.opened ≡ v.opened → w.share ≡ v.share
-      → w.hand ≡ v.hand → Placed fin opened ph homes (set views id w)
+      → w.hand ≡ v.hand → Placed fin way opened ph homes (set views id w)
   placed_same ph homes views h id v w at share opens shares_ hand =
       record {
         level = h.level;
         unbegun = h.unbegun;
         done = h.done;
+        waiting = h.waiting;
         held = λ j. let p = total_set (λ (u : Knows T). times j u.hand) views id v w at in
             let q = h.held j in
             let a = ap (times j) hand in
@@ -167,11 +167,11 @@ module _ {T : Type 0} (fin : T → T → Type 0) (opened : List T) where
 
   -- the slot of i comes to the front of those that the seat has
   pub placed_brought : (ph : ℕ → ℕ) (homes : Homes T) (views : List (Knows T))
-      → Placed fin opened ph homes views → (low : (k : ℕ) → ph k ≡ 1 → k < length opened)
+      → Placed fin way opened ph homes views → (low : (k : ℕ) → ph k ≡ 1 → k < length opened)
       → (i id : ℕ) (v : Knows T)
       → get_elem? views id ≡ some v → 0 < v.share → 0 < times i v.hand
       → (a : Act (Option T)) × Valid homes (blanks v.hand) a
-      × Placed fin opened ph (homes_after homes (blanks v.hand) a) (set views id (to_front i v))
+      × Placed fin way opened ph (homes_after homes (blanks v.hand) a) (set views id (to_front i v))
       × (carried_after (blanks v.hand) a ≡ blanks (i ∷ without i v.hand))
   placed_brought ph homes views h low i id v at share has =
       let r = split_at i v.hand has in
@@ -194,7 +194,7 @@ module _ {T : Type 0} (fin : T → T → Type 0) (opened : List T) where
       let z = low k (in_hand ph homes views h id k v at (omega arith)) in
       omega arith in
       let F : List (ℕ × Option T) → Type 0 = λ c. Valid homes c act
-      × Placed fin opened ph (homes_after homes c act) (set views id (to_front i v))
+      × Placed fin way opened ph (homes_after homes c act) (set views id (to_front i v))
       × (carried_after c act ≡ blanks (i ∷ without i v.hand)) in
       let f : F (blanks pre ++ (i, None) ∷ blanks post) = (
         valid homes (blanks pre) (blanks post) i None (omega arith)
@@ -209,7 +209,7 @@ module _ {T : Type 0} (fin : T → T → Type 0) (opened : List T) where
             let b = total_part (λ (u : Knows T). times j u.hand) views id v at in
             let c = h.held j in
             omega arith)))
-            (λ x _ two. absurd (omega arith)) refl refl
+            (λ two. absurd (omega arith)) (λ three. absurd (omega arith)) refl refl
             (λ j _. times_bring i j v.hand has)
             (let a = times_bring i i v.hand has in omega arith),
         carries (blanks pre) (blanks post) i None
@@ -220,15 +220,16 @@ module _ {T : Type 0} (fin : T → T → Type 0) (opened : List T) where
 
   -- one share becomes two, and the hand stays with the first
   pub placed_split : (ph : ℕ → ℕ) (homes : Homes T) (views : List (Knows T))
-      → Placed fin opened ph homes views → (id : ℕ) (v : Knows T) → get_elem? views id ≡ some v
+      → Placed fin way opened ph homes views → (id : ℕ) (v : Knows T) → get_elem? views id ≡ some v
       → 2 ≤ v.share
-      → Placed fin opened ph homes (set views id (left_half v) ++ right_half v ∷ [])
+      → Placed fin way opened ph homes (set views id (left_half v) ++ right_half v ∷ [])
   placed_split ph homes views h id v at two =
       let mine = h.knowing id v at in
       record {
         level = h.level;
         unbegun = h.unbegun;
         done = h.done;
+        waiting = h.waiting;
         held = λ i. let p =
             total_set (λ (u : Knows T). times i u.hand) views id v (left_half v) at in
             let q =
@@ -259,16 +260,17 @@ module _ {T : Type 0} (fin : T → T → Type 0) (opened : List T) where
 
   -- two shares become one, and the other seat has nothing
   pub placed_joined : (ph : ℕ → ℕ) (homes : Homes T) (views : List (Knows T))
-      → Placed fin opened ph homes views → (id : ℕ) (v : Knows T) (other : ℕ) (w b : Knows T)
+      → Placed fin way opened ph homes views → (id : ℕ) (v : Knows T) (other : ℕ) (w b : Knows T)
       → get_elem? views id ≡ some v → 0 < v.share → get_elem? (set views id b) other ≡ some w
       → w.hand ≡ [] → b.opened ≡ v.opened → b.share ≡ v.share + w.share → b.hand ≡ v.hand
-      → Placed fin opened ph homes (set (set views id b) other spent_view)
+      → Placed fin way opened ph homes (set (set views id b) other spent_view)
   placed_joined ph homes views h id v other w b at share at_other empty opens sum hand =
       let mine = h.knowing id v at in
       record {
         level = h.level;
         unbegun = h.unbegun;
         done = h.done;
+        waiting = h.waiting;
         held = λ i. let p = total_set (λ (u : Knows T). times i u.hand) views id v b at in
             let q =
             total_set (λ (u : Knows T). times i u.hand)
@@ -300,13 +302,14 @@ module _ {T : Type 0} (fin : T → T → Type 0) (opened : List T) where
 
   -- all at home, in phase 0
   pub placed_opens : (ph : ℕ → ℕ) → ((i : ℕ) → ph i ≡ 0) → (xs : List (Option T))
-      → xs ≡ map Some opened → Placed fin opened ph (map some xs) (first_view opened ∷ [])
+      → xs ≡ map Some opened → Placed fin way opened ph (map some xs) (first_view opened ∷ [])
   placed_opens ph zeros xs e =
-      subst (λ l. Placed fin opened ph (map some l) (first_view opened ∷ [])) (sym e) record {
+      subst (λ l. Placed fin way opened ph (map some l) (first_view opened ∷ [])) (sym e) record {
         level = simp length-map;
         unbegun = λ i x at _. at_map some (map Some opened) i (Some x) (at_map Some opened i x at);
         held = λ i. sym (ap once (zeros i));
-        done = λ i x at two. absurd (let z = zeros i in omega arith);
+        done = λ i two. absurd (let z = zeros i in omega arith);
+        waiting = λ i three. absurd (let z = zeros i in omega arith);
         shares = refl;
         knowing = λ j v at. first_only j v at;
       }
@@ -323,7 +326,7 @@ module _ {T : Type 0} (fin : T → T → Type 0) (opened : List T) where
 
   -- no share is above the whole
   pub placed_share : (ph : ℕ → ℕ) (homes : Homes T) (views : List (Knows T))
-      → Placed fin opened ph homes views → (id : ℕ) (v : Knows T) → get_elem? views id ≡ some v
+      → Placed fin way opened ph homes views → (id : ℕ) (v : Knows T) → get_elem? views id ≡ some v
       → v.share ≤ whole
   placed_share ph homes views h id v at =
       let p = total_part (λ (u : Knows T). u.share) views id v at in
@@ -332,7 +335,7 @@ module _ {T : Type 0} (fin : T → T → Type 0) (opened : List T) where
 
   -- who has every share and nothing in hand knows that no number is in a hand
   pub none_out : (ph : ℕ → ℕ) (homes : Homes T) (views : List (Knows T))
-      → Placed fin opened ph homes views → (id : ℕ) (v : Knows T) → get_elem? views id ≡ some v
+      → Placed fin way opened ph homes views → (id : ℕ) (v : Knows T) → get_elem? views id ≡ some v
       → v.share ≡ whole → v.hand ≡ [] → (i : ℕ) → ph i ≢ 1
   none_out ph homes views h id v at all empty i one =
       let alone = total_alone (λ (u : Knows T). times i u.hand)

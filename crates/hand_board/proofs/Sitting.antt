@@ -8,7 +8,8 @@ use Rattle.atomic_table.specs.Table.{Me, rest}
 use Rattle.atomic_table.specs.Seated.{TableId}
 use Rattle.hand_board.specs.declared.rule.Knows.{Knows}
 use Rattle.hand_board.specs.Placed.{times, whole, without, blanks, to_front, without_front}
-use Rattle.hand_board.specs.Rule.{with_found, with_claimed, with_nothing_found, joined}
+use Rattle.hand_board.specs.Rule.{with_found, with_claimed, with_resumed, with_nothing_found}
+use Rattle.hand_board.specs.Rule.{joined}
 use Rattle.hand_board.specs.Seating.{Sits, Seating, seating, Has}
 use Rattle.hand_board.proofs.Counts.{times_else, times_append, times_without}
 
@@ -50,6 +51,12 @@ module _ {T : Type 0} where
   filled v l a m i x y d e = e ∙ ap (λ z. (z.0, (i, y) ∷ rest z.1)) d
 
 module _ {T : Type 0} (b : TableId) (share next : ℕ) (ended : Bool) where
+  -- a seat that learned nothing is as it was
+  pub sits_same : (b2 : TableId) (m n : Me (Option T) (Knows T)) → Sits b m share next ended
+      → b2 ≡ b → n ≡ m → Sits b2 n share next ended
+  sits_same b2 m n s same e = subst (λ z. Sits z n share next ended) (sym same)
+      (subst (λ z. Sits b z share next ended) (sym e) s)
+
   -- what is found is found still, and more
   pub sits_found : (b2 : TableId) (m n : Me (Option T) (Knows T)) (i : ℕ)
       → Sits b m share next ended → b2 ≡ b → n ≡ (with_found i m.0, m.1)
@@ -66,11 +73,11 @@ module _ {T : Type 0} (b : TableId) (share next : ℕ) (ended : Bool) where
         all = λ t k h. grows i k m.0.found (s.all t k h);
       })
 
-  -- the number claimed is below the count, and its slot is empty
-  pub sits_drawn : (b2 : TableId) (m n : Me (Option T) (Knows T)) (i : ℕ)
+  -- the number resumed is below the count, and its slot is empty
+  pub sits_resumed : (b2 : TableId) (m n : Me (Option T) (Knows T)) (i : ℕ)
       → Sits b m share next ended → i < length m.0.opened → b2 ≡ b
-      → n ≡ (with_claimed i m.0, (i, None) ∷ m.1) → Sits b2 n share next ended
-  sits_drawn b2 m n i s lt same e =
+      → n ≡ (with_resumed i m.0, (i, None) ∷ m.1) → Sits b2 n share next ended
+  sits_resumed b2 m n i s lt same e =
       subst (λ z. Sits z n share next ended) (sym same)
       (subst (λ z. Sits b z share next ended) (sym e) record {
         sized = s.sized;
@@ -79,9 +86,16 @@ module _ {T : Type 0} (b : TableId) (share next : ℕ) (ended : Bool) where
         positive = s.positive;
         low = λ k h. dite (ℕ_discrete i k) (λ q. subst (λ z. z < length m.0.opened) q lt)
             (λ q. s.low k (subst (λ z. 0 < z) (times_else k i m.0.hand q) h));
-        below = λ k h. grows i k m.0.found (s.below k h);
-        all = λ t k h. grows i k m.0.found (s.all t k h);
+        below = s.below;
+        all = s.all;
       })
+
+  -- so is the number claimed, and it is found too
+  pub sits_drawn : (b2 : TableId) (m n : Me (Option T) (Knows T)) (i : ℕ)
+      → Sits b m share next ended → i < length m.0.opened → b2 ≡ b
+      → n ≡ (with_claimed i m.0, (i, None) ∷ m.1) → Sits b2 n share next ended
+  sits_drawn b2 m n i s lt same e = sits_resumed b2 (with_found i m.0, m.1) n i
+      (sits_found b m (with_found i m.0, m.1) i s refl refl) lt same e
 
   -- the hand has only lost a number
   pub sits_given : (b2 : TableId) (m n : Me (Option T) (Knows T)) (i : ℕ)
@@ -101,6 +115,10 @@ module _ {T : Type 0} (b : TableId) (share next : ℕ) (ended : Bool) where
       })
 
   -- and what contracts see of the seat, after each
+  pub shows_same : (b2 : TableId) (m n : Me (Option T) (Knows T)) (v : Seating T)
+      → seating b m share next ended ≡ v → b2 ≡ b → n ≡ m → seating b2 n share next ended ≡ v
+  shows_same b2 m n v e same new = ap₂ (λ x y. seating x y share next ended) same new ∙ e
+
   pub shows_found : (b2 : TableId) (m n : Me (Option T) (Knows T)) (v : Seating T) (i : ℕ)
       → seating b m share next ended ≡ v → b2 ≡ b → n ≡ (with_found i m.0, m.1)
       → seating b2 n share next ended ≡ record v { found = i ∷ v.found }
@@ -112,6 +130,12 @@ module _ {T : Type 0} (b : TableId) (share next : ℕ) (ended : Bool) where
       → seating b2 n share next ended ≡ record v { found = i ∷ v.found; hand = i ∷ v.hand }
   shows_drawn b2 m n v i e same new = ap₂ (λ x y. seating x y share next ended) same new
       ∙ ap (λ (z : Seating T). record z { found = i ∷ z.found; hand = i ∷ z.hand }) e
+
+  pub shows_resumed : (b2 : TableId) (m n : Me (Option T) (Knows T)) (v : Seating T) (i : ℕ)
+      → seating b m share next ended ≡ v → b2 ≡ b → n ≡ (with_resumed i m.0, (i, None) ∷ m.1)
+      → seating b2 n share next ended ≡ record v { hand = i ∷ v.hand }
+  shows_resumed b2 m n v i e same new = ap₂ (λ x y. seating x y share next ended) same new
+      ∙ ap (λ (z : Seating T). record z { hand = i ∷ z.hand }) e
 
   pub shows_given : (b2 : TableId) (m n : Me (Option T) (Knows T)) (v : Seating T) (i : ℕ)
       → seating b m share next ended ≡ v → b2 ≡ b

@@ -1,16 +1,18 @@
 -- Packs on their way into slots and back.
-use Rattle.std.proofs.Common.{◌≡◌, ℕ, zero, suc, ◌+◌, ◌<◌, List, [], ◌∷◌, ◌++◌, length, refl, sym}
-use Rattle.std.proofs.Common.{ap, ◌∙◌, subst, arith, append_assoc, add-one, Option, Some, None, map}
+use Rattle.std.proofs.Common.{◌≡◌, ◌≢◌, ℕ, zero, suc, ◌+◌, ◌<◌, List, [], ◌∷◌, ◌++◌, length}
+use Rattle.std.proofs.Common.{refl, sym, ap, ◌∙◌, subst, arith, append_assoc, add-one}
+use Rattle.std.proofs.Common.{Option, Some, None, map}
 use Rattle.std.proofs.Common.{replicate, get_or, set, Bool, false, get_or-set_other}
 use mathlib.Core.Logic.{dite}
 use native.Mathlib.Decide.{ℕ_discrete}
 use Rattle.std.specs.Mem.Slots.Ownership.{Filled}
 use Rattle.std.proofs.lemmas.List.{reverse-append}
 use Rattle.std.specs.Prelude.{reverse, slice_index}
-use mathlib.Core.Option.{some, some-injective}
-use lib.ListN.{get_elem?, drop}
-use Rattle.atomic_table.proofs.Lists.{drop_at}
-use Rattle.hand_board.specs.Seating.{values, AllFinished}
+use mathlib.Core.Option.{some, some-injective, some-ne-none}
+use lib.ListN.{get_elem?, take}
+use Rattle.hand_board.specs.Seating.{values, AllFinished, Rests}
+use Rattle.hand_board.proofs.Counts.{there}
+use Rattle.hand_board.proofs.Sitting.{inside}
 
 pub values_map : {T : Type 0} → (xs : List T) → values (map Some xs) ≡ xs
 values_map [] = refl
@@ -20,6 +22,12 @@ pub all_zero : (n i : ℕ) → slice_index (replicate n 0) i ≡ 0
 all_zero zero i = refl
 all_zero (suc n) zero = refl
 all_zero (suc n) (suc i) = all_zero n i
+
+-- a word that stands there is the one that is read
+pub read_at : (ws : List ℕ) (i w : ℕ) → get_elem? ws i ≡ some w → slice_index ws i ≡ w
+read_at [] i w e = absurd (some-ne-none w (sym e))
+read_at (x ∷ xs) zero w e = some-injective x w e
+read_at (x ∷ xs) (suc i) w e = read_at xs i w e
 
 module _ {T : Type 0} where
   -- a pack that is popped off the reversed packs stands next in the slots
@@ -38,38 +46,47 @@ module _ {T : Type 0} where
       → r ++ values (reverse p) ≡ r ++ values (reverse (p ++ None ∷ []))
   skips r p = ap (λ z. r ++ values z) (sym (reverse-append p (None ∷ [])))
 
-  -- the pack of slot i stands next
-  pub takes_out : (r : List T) (l : List (Option T)) (i : ℕ) (x : T) → get_elem? l i ≡ some (Some x)
-      → (r ++ x ∷ []) ++ values (drop (suc i) l) ≡ r ++ values (drop i l)
-  takes_out r l i x e = append_assoc r (x ∷ []) (values (drop (suc i) l))
-      ∙ ap (λ z. r ++ values z) (sym (drop_at l i (Some x) e))
+  -- a pack that is finished from the opening that is next stands next
+  one_finished : (fin : T → T → Type 0) (xs ys : List T) (i : ℕ) (x y : T)
+      → AllFinished fin (take i xs) ys → get_elem? xs i ≡ some x → fin x y
+      → AllFinished fin (take (suc i) xs) (ys ++ y ∷ [])
+  one_finished fin [] ys i x y h at f = absurd (some-ne-none x (sym at))
+  one_finished fin (a ∷ xs) [] zero x y h at f =
+      (subst (λ z. fin z y) (sym (some-injective a x at)) f, tt)
+  one_finished fin (a ∷ xs) (b ∷ ys) zero x y h at f = absurd h
+  one_finished fin (a ∷ xs) [] (suc i) x y h at f = absurd h
+  one_finished fin (a ∷ xs) (b ∷ ys) (suc i) x y h at f =
+      (h.0, one_finished fin xs ys i x y h.1 at f)
 
-  pub takes_none : (r : List T) (l : List (Option T)) (i : ℕ) → get_elem? l i ≡ some None
-      → r ++ values (drop (suc i) l) ≡ r ++ values (drop i l)
-  takes_none r l i e = ap (λ z. r ++ values z) (sym (drop_at l i None e))
+  pub more_finished : (fin : T → T → Type 0) (xs ys zs : List T) (i : ℕ) (x y : T)
+      → AllFinished fin (take i xs) ys → get_elem? xs i ≡ some x → fin x y → zs ≡ ys ++ y ∷ []
+      → AllFinished fin (take (i + 1) xs) zs
+  more_finished fin xs ys zs i x y h at f e =
+      subst (λ l. AllFinished fin (take (i + 1) xs) l) (sym e)
+      (subst (λ n. AllFinished fin (take n xs) (ys ++ y ∷ [])) (sym (add-one i))
+      (one_finished fin xs ys i x y h at f))
 
-  -- where each slot has a pack finished from its opening, so has the list of them
-  pub all_finished : (fin : T → T → Type 0) (xs : List T) (os : List (Option T))
-      → length xs ≡ length os
-      → ((i : ℕ) (x : T) → get_elem? xs i ≡ some x → (y : T) × (get_elem? os i ≡ some (Some y))
-      × fin x y) → AllFinished fin xs (values os)
-  all_finished fin [] [] e h = tt
-  all_finished fin [] (o ∷ os) e h = absurd (omega arith)
-  all_finished fin (x ∷ xs) [] e h = absurd (omega arith)
-  all_finished fin (x ∷ xs) (None ∷ os) e h =
-      let t = h 0 x refl in
-      absurd (none_some t.0 (some-injective _ _ t.1))
-    where
-      none_some : (y : T) → ◌≡◌ {A = Option T} None (Some y) → ⊥
-      none_some y e = cc
-  all_finished fin (x ∷ xs) (Some y ∷ os) e h = let t = h 0 x refl in (
-    same_finished t.0 (some-injective _ _ t.1) t.2,
-    all_finished fin xs os (omega arith)
-        (λ i z at. h (suc i) z at),
-  )
-    where
-      same_finished : (z : T) → ◌≡◌ {A = Option T} (Some y) (Some z) → fin x z → fin x y
-      same_finished z q f = let p : z ≡ y = cc in subst (λ u. fin x u) p f
+  -- the pack that comes out of slot i is finished, or under way where the word is 3
+  pub comes_to_rest : (fin way : T → T → Type 0) (xs : List T) (ws : List ℕ) (os : List (Option T))
+      (i w : ℕ) (o : Option T) (p : T) → Rests fin way xs ws os i → get_elem? ws (i + 1) ≡ some w
+      → get_elem? os i ≡ some o → o ≡ Some p → (x : T) → get_elem? xs i ≡ some x
+      → (w ≢ 3 → fin x p) × (w ≡ 3 → way x p)
+  comes_to_rest fin way xs ws os i w o p rests word slot is x at =
+      let t = rests x at in
+      let same : t.0 ≡ p = inside t.0 p (some-injective _ _ (sym t.1 ∙ slot ∙ ap some is)) in
+      let reads = read_at ws (i + 1) w word in (
+        (λ n. subst (fin x) same (t.2 (λ e. n (sym reads ∙ e)))),
+        (λ e. subst (way x) same (t.3 (reads ∙ e))),
+      )
+
+  -- and no slot is empty
+  pub none_empty : (fin way : T → T → Type 0) (xs : List T) (ws : List ℕ) (os : List (Option T))
+      (i : ℕ) → Rests fin way xs ws os i → i < length xs → get_elem? os i ≡ some None → ⊥
+  none_empty fin way xs ws os i rests lt slot =
+      let t = there xs i lt in
+      let r = rests t.0 t.1 in
+      let e : ◌≡◌ {A = Option T} None (Some r.0) = some-injective _ _ (sym slot ∙ r.1) in
+      cc
 
 pub emptied_here : (l : List Bool) (i : ℕ) → get_or (set l i false) i false ≡ false
 emptied_here [] zero = refl
@@ -89,18 +106,3 @@ more_empty l m i n n2 e same full none_ = (
       (λ q. subst (λ z. get_or (set l i false) z false ≡ false) (sym q) (emptied_here l i))
       (λ n. get_or-set_other l i k false false n ∙ none_ k (omega arith))),
 )
-
-module _ {T : Type 0} where
-  pub one_more : (q r : List T) (l m : List (Option T)) (i : ℕ) (v : Option T) (x : T) (t : List T)
-      → q ≡ r ++ x ∷ [] → m ≡ l → get_elem? l i ≡ some v → v ≡ Some x → r ++ values (drop i l) ≡ t
-      → q ++ values (drop (i + 1) m) ≡ t
-  one_more q r l m i v x t a b c d e = ap (λ z. z ++ values (drop (i + 1) m)) a
-      ∙ ap (λ z. (r ++ x ∷ []) ++ values (drop (i + 1) z)) b
-      ∙ ap (λ n. (r ++ x ∷ []) ++ values (drop n l)) (add-one i) ∙ takes_out r l i x (c ∙ ap some d)
-      ∙ e
-
-  pub no_more : (r : List T) (l m : List (Option T)) (i : ℕ) (v : Option T) (t : List T) → m ≡ l
-      → get_elem? l i ≡ some v → v ≡ None → r ++ values (drop i l) ≡ t
-      → r ++ values (drop (i + 1) m) ≡ t
-  no_more r l m i v t b c d e = ap (λ z. r ++ values (drop (i + 1) z)) b
-      ∙ ap (λ n. r ++ values (drop n l)) (add-one i) ∙ takes_none r l i (c ∙ ap some d) ∙ e

@@ -35,6 +35,11 @@ total f (v ∷ vs) = f v + total f vs
 abbrev pub once : ℕ → ℕ
 once phase = one_if (phase == 1)
 
+-- What has come of x can be worked on, and where that ends x is finished.
+abbrev pub IsUnderWay : {T : Type 0} → (ready : T → Type 0) → (ends finished : T → T → Type 0) → T
+    → T → Type 0
+IsUnderWay {T} ready ends finished x y = ready y × ((z : T) → ends y z → finished x z)
+
 -- the shares of all seats
 abbrev pub whole : ℕ
 whole = 4294967296
@@ -50,17 +55,22 @@ module _ {T : Type 0} where
     pub told : 0 < v.share → v.opened ≡ opened
     pub spent : v.share ≡ 0 → (v.hand ≡ []) × (v.found ≡ [])
 
+  -- what has come of the pack of a number lies at home, and is so related to its opening
+  abbrev pub Lies : (T → T → Type 0) → List T → List (maybe.Option (Option T)) → ℕ → Type 0
+  Lies so opened homes i = (x : T) → get_elem? opened i ≡ some x
+      → (y : T) × (get_elem? homes i ≡ some (some (Some y))) × so x y
+
   -- The pack of a number lies at home, as it opened, in phase 0; it is in one hand in phase 1; it
-  -- lies
-  -- at home, finished, in phase 2. `homes` has what lies in each slot that no seat holds.
-  pub record Placed (finished : T → T → Type 0) (opened : List T) (phase : ℕ → ℕ)
+  -- lies at home finished in phase 2, and put back under way in phase 3. `homes` has what lies in
+  -- each slot that no seat holds.
+  pub record Placed (finished under_way : T → T → Type 0) (opened : List T) (phase : ℕ → ℕ)
       (homes : List (maybe.Option (Option T))) (views : List (Knows T)) : Type 0 where
     pub level : length homes ≡ length opened
     pub unbegun : (i : ℕ) (x : T) → get_elem? opened i ≡ some x → phase i ≡ 0
         → get_elem? homes i ≡ some (some (Some x))
     pub held : (i : ℕ) → total (λ (v : Knows T). times i v.hand) views ≡ once (phase i)
-    pub done : (i : ℕ) (x : T) → get_elem? opened i ≡ some x → phase i ≡ 2
-        → (y : T) × (get_elem? homes i ≡ some (some (Some y))) × finished x y
+    pub done : (i : ℕ) → phase i ≡ 2 → Lies finished opened homes i
+    pub waiting : (i : ℕ) → phase i ≡ 3 → Lies under_way opened homes i
     pub shares : total (λ (v : Knows T). v.share) views ≡ whole
     pub knowing : (j : ℕ) (v : Knows T) → get_elem? views j ≡ some v → Knowing opened v
 

@@ -11,14 +11,15 @@ use Rattle.hand_board.specs.Placed.{Placed, times, without, whole, blanks, to_fr
 
 module _ {T : Type 0} where
   -- Word 0 isn't used. The word of number i is word i + 1: 0 while its pack lies at home as the
-  -- board opened, 1 while it is in a hand, 2 when it lies at home finished.
-  pub record Holds (finished : T → T → Type 0) (opened : List T)
+  -- board opened, 1 while it is in a hand, 2 when it lies at home finished, 3 while it lies at home
+  -- put back under way.
+  pub record Holds (finished under_way : T → T → Type 0) (opened : List T)
       (s : State (Option T) (Knows T)) : Type 0 where
     pub wide : length s.words ≡ length opened + 1
     pub unused : slice_index s.words 0 ≡ 0
-    pub small : (i : ℕ) → slice_index s.words (i + 1) ≤ 2
+    pub small : (i : ℕ) → slice_index s.words (i + 1) ≤ 3
     -- where the packs are, the shares, and what seats know
-    pub placed : Placed finished opened (λ i. slice_index s.words (i + 1)) s.homes s.views
+    pub placed : Placed finished under_way opened (λ i. slice_index s.words (i + 1)) s.homes s.views
     -- what a seat has found is begun
     pub begun : (j : ℕ) (v : Knows T) → get_elem? s.views j ≡ some v → (i : ℕ) → 0 < times i v.found
         → slice_index s.words (i + 1) ≢ 0
@@ -42,6 +43,23 @@ module _ {T : Type 0} where
   abbrev pub Claimed : Step (Option T) → Me (Option T) (Knows T) → ℕ → Me (Option T) (Knows T)
       → Type 0
   Claimed st m r n = (i : ℕ) → st.word ≡ i + 1 → ClaimedAt i m r n
+
+  -- with i in hand
+  abbrev pub with_resumed : ℕ → Knows T → Knows T
+  with_resumed i v = record v { hand = i ∷ v.hand }
+
+  -- Where the word r of the number was 3 it is in hand, with its slot, in which what has come of
+  -- its pack lies under way. Else the seat is as it was.
+  abbrev pub ResumedAt : (T → T → Type 0) → ℕ → Me (Option T) (Knows T) → ℕ
+      → Me (Option T) (Knows T) → Type 0
+  ResumedAt under_way i m r n =
+      (r ≡ 3 → (x : T) × (y : T) × (get_elem? m.0.opened i ≡ some x) × under_way x y
+      × (n ≡ (with_resumed i m.0, (i, Some y) ∷ m.1)))
+      × (r ≢ 3 → n ≡ m)
+
+  abbrev pub Resumed : (T → T → Type 0) → Step (Option T) → Me (Option T) (Knows T) → ℕ
+      → Me (Option T) (Knows T) → Type 0
+  Resumed under_way st m r n = (i : ℕ) → st.word ≡ i + 1 → ResumedAt under_way i m r n
 
   -- the number of the word comes to the front of the hand
   abbrev pub BroughtAt : ℕ → Me (Option T) (Knows T) → Me (Option T) (Knows T) → Type 0

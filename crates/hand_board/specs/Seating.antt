@@ -1,6 +1,8 @@
 -- A seat as its callers see it, and what is always true of one.
-use Rattle.std.specs.Prelude.{◌≡◌, ℕ, Bool, true, ◌+◌, ◌<◌, ◌≤◌, List, [], ◌∷◌, length, Option}
-use Rattle.std.specs.Prelude.{Some, None}
+use Rattle.std.specs.Prelude.{◌≡◌, ◌≢◌, ℕ, Bool, true, ◌+◌, ◌<◌, ◌≤◌, List, [], ◌∷◌, length}
+use Rattle.std.specs.Prelude.{Option, Some, None, slice_index}
+use mathlib.Core.Option.{some}
+use lib.ListN.{get_elem?}
 use Rattle.atomic_table.specs.Seated.{TableId}
 use Rattle.atomic_table.specs.Table.{Me}
 use Rattle.hand_board.specs.declared.rule.Knows.{Knows}
@@ -48,6 +50,15 @@ module _ {T : Type 0} where
   values [] = []
   values (None ∷ os) = values os
   values (Some x ∷ os) = x ∷ values os
+
+  -- what lies in slot i of a closed table: what has come of its pack, finished, or under way where
+  -- its word is 3
+  abbrev pub Rests : (finished under_way : T → T → Type 0) → List T → List ℕ → List (Option T) → ℕ
+      → Type 0
+  Rests finished under_way opened words slots i = (x : T) → get_elem? opened i ≡ some x
+      → (y : T) × (get_elem? slots i ≡ some (Some y))
+      × (slice_index words (i + 1) ≢ 3 → finished x y)
+      × (slice_index words (i + 1) ≡ 3 → under_way x y)
 
   -- as many, each finished from its opening, in order
   abbrev pub AllFinished : (T → T → Type 0) → List T → List T → Type 0

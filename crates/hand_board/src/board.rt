@@ -4,13 +4,14 @@ ghost use Rattle.std.specs.Prelude.{true, false, length, max, vec_len, vec_capac
 ghost use Rattle.std.specs.Prelude.{IfSome, IfNone, IfOk, IfErr, Some};
 ghost use mathlib.Core.Option.{some};
 ghost use lib.ListN.{get_elem?};
-ghost use Rattle.hand_board.specs.Placed.{times, without, whole};
+ghost use Rattle.atomic_table.specs.Table.{rest};
+ghost use Rattle.hand_board.specs.Placed.{IsUnderWay, times, without, whole};
 ghost use Rattle.hand_board.specs.Seating.{Has, AllFinished};
 
-use crate::rule::{Bring, Claim, Give, Halve, Knows, Merge, Once, Part, Weigh};
+use crate::rule::{Bring, Claim, Give, Halve, Knows, Merge, Once, Part, Resume, Weigh};
 use crate::seat::{BoardSeat, Job};
 use crate::slots::{empty, fill, take_all};
-use atomic_table::{Refused, Table};
+use atomic_table::{Refused, Seat, Shared, Table};
 use std::alloc::Global;
 use std::marker::Model;
 use std::snapshot::Snapshot;
@@ -53,6 +54,24 @@ fn one_of(a: bool, b: bool) -> bool
     ensures { result ≡ (a || b) }
 {
     a || b
+}
+
+// the pack in the slot that the seat took last leaves it
+fn lift<T: Part>(
+    shared: &Shared<Option<T>, Knows<T>, Snapshot<Vec<T>>, Once<T>>,
+    seat: &mut Seat<Option<T>, Knows<T>>,
+    slot: usize,
+) -> T
+    requires table { seat.old.table_id ≡ shared.now.table_id }
+    requires full { (x : T) × (seat.old.me.1 ≡ (slot, Some x) ∷ rest seat.old.me.1) }
+    ensures table { seat.new.table_id ≡ seat.old.table_id }
+    ensures pack { seat.old.me.1 ≡ (slot, Some result) ∷ rest seat.old.me.1 }
+    ensures seat { seat.new.me ≡ (seat.old.me.0, (slot, None) ∷ rest seat.old.me.1) }
+{
+    match shared.exchange(seat, slot, None) {
+        Some(pack) => pack,
+        None => unreachable!(),
+    }
 }
 
 impl<T: Part> Board<T> {
@@ -137,10 +156,34 @@ impl<T: Part> Board<T> {
         if found != 0 {
             return None;
         }
-        match shared.exchange(&mut seat.seat, index, None) {
-            Some(pack) => Some(Job { number, pack }),
-            None => unreachable!(),
+        let pack = lift(shared, &mut seat.seat, index);
+        Some(Job { number, pack })
+    }
+
+    /// The pack of this number, which was put back under way, where its word was 3 at this call's
+    /// one exchange: no other hand has it. Else None, and the seat is as it was.
+    pub fn resume(&self, seat: &mut BoardSeat<T>, number: u32) -> Option<Job<T>>
+        requires board { seat.old.board ≡ self.now.id }
+        requires number { number < length self.now.opened }
+        ensures some { IfSome result
+            (λ j. (j.number ≡ number)
+            × ((x : T) × (get_elem? seat.old.opened number ≡ some x)
+            × IsUnderWay T.ready T.ends T.finished x j.pack)
+            × (seat.new ≡ record seat.old { hand = number ∷ seat.old.hand })) }
+        ensures none { IfNone result (seat.new ≡ seat.old) }
+    {
+        let shared = &self.table.shared;
+        let index = number as usize;
+        // a look takes no exchange: a word that isn't 3 is left alone
+        if shared.peek(index + 1) != 3 {
+            return None;
         }
+        let found = shared.compare_exchange::<Resume<T>>(&mut seat.seat, index + 1, 3, 1);
+        if found != 3 {
+            return None;
+        }
+        let pack = lift(shared, &mut seat.seat, index);
+        Some(Job { number, pack })
     }
 
     /// A pack that this seat didn't know to be begun, as the board opened; no other hand has it.
@@ -188,6 +231,31 @@ impl<T: Part> Board<T> {
             → T.finished x job.pack }
         ensures { seat.new ≡ record seat.old { hand = without job.number seat.old.hand } }
     {
+        self.lay(seat, job, 2);
+    }
+
+    /// A pack goes home under way, for whoever resumes it. Its number is in this seat's hand, which
+    /// may have others, and leaves it.
+    pub fn put_back(&self, seat: &mut BoardSeat<T>, job: Job<T>)
+        requires board { seat.old.board ≡ self.now.id }
+        requires hand { 0 < times job.number seat.old.hand }
+        requires under_way { (x : T) → get_elem? seat.old.opened job.number ≡ some x
+            → IsUnderWay T.ready T.ends T.finished x job.pack }
+        ensures { seat.new ≡ record seat.old { hand = without job.number seat.old.hand } }
+    {
+        self.lay(seat, job, 3);
+    }
+
+    // a pack goes home, and its word becomes 2 where it is finished, or 3 where it is under way
+    fn lay(&self, seat: &mut BoardSeat<T>, job: Job<T>, word: u64)
+        requires board { seat.old.board ≡ self.now.id }
+        requires hand { 0 < times job.number seat.old.hand }
+        requires word { (2 ≤ word) × (word ≤ 3) }
+        requires pack { (x : T) → get_elem? seat.old.opened job.number ≡ some x
+            → (word ≡ 2 → T.finished x job.pack)
+            × (word ≡ 3 → IsUnderWay T.ready T.ends T.finished x job.pack) }
+        ensures { seat.new ≡ record seat.old { hand = without job.number seat.old.hand } }
+    {
         let Job { number, pack } = job;
         let shared = &self.table.shared;
         let index = number as usize;
@@ -196,7 +264,7 @@ impl<T: Part> Board<T> {
             None => {}
             Some(_) => unreachable!(),
         }
-        shared.store::<Give>(&mut seat.seat, index + 1, 2);
+        shared.store::<Give>(&mut seat.seat, index + 1, word);
     }
 
     /// Two seats of one with a share of at least 2. The first keeps the hand and half of the share,
@@ -269,14 +337,16 @@ impl<T: Part> Board<T> {
         }
     }
 
-    /// All packs, in order, each finished from its opening, in the vector that they came in. The
-    /// seat has the whole share, has ended, and has nothing in hand.
+    /// All packs, in order, each finished from its opening, in the vector that they came in: one
+    /// that was put back and not resumed is finished here. The seat has the whole share, has ended,
+    /// and has nothing in hand.
     pub fn close(self, seat: BoardSeat<T>) -> Vec<T>
         requires board { seat.board ≡ self.id }
         requires whole { (seat.share ≡ whole) × (seat.ended ≡ true) × (seat.hand ≡ []) }
         ensures finished { AllFinished T.finished self.opened result.items }
         ensures capacity { vec_capacity result ≡ self.room }
     {
+        let opened = Snapshot::of(&self);
         let BoardSeat {
             seat,
             share: _,
@@ -289,7 +359,7 @@ impl<T: Part> Board<T> {
             mut room,
         } = self;
         let mut closed = table.close_with(seat);
-        take_all(&mut closed, &mut room);
+        take_all(&mut closed, &opened, &mut room);
         closed.free();
         room
     }

@@ -6,10 +6,22 @@ use std::collections::LinkedList;
 use std::marker::PhantomData;
 use std::snapshot::Snapshot;
 
-/// A value that can be finished: what threads take from a board and give back.
+/// A value that can be worked on until it is finished: what threads take from a board and give
+/// back.
 pub trait Part {
+    // What a value needs to be worked on.
+    ghost ready: { Self → Type 0 };
+
+    // Of a value and of a later one: the later one is where work on the earlier one ends.
+    ghost ends: { Self → Self → Type 0 };
+
     // Of a value as the board opened, and of a later value: the later one is finished from it.
     ghost finished: { Self → Self → Type 0 };
+
+    /// Works on it until its end.
+    fn finish(&mut self)
+        requires { ready self.old }
+        ensures { Self.ends self.old self.new };
 }
 
 /// What a seat knows: the packs as the board opened, its share, the numbers in its hand, and those
@@ -27,10 +39,11 @@ pub struct Once<T> {
 }
 
 impl<T: Part> TableRule<Option<T>, Knows<T>, Snapshot<Vec<T>>> for Once<T> {
-    ghost use Rattle.hand_board.specs.Placed.{first_view};
+    ghost use Rattle.hand_board.specs.Placed.{IsUnderWay, first_view};
     ghost use Rattle.hand_board.specs.Rule.{Holds};
 
-    ghost holds = { λ key. Holds T.finished key.value.items };
+    ghost holds = { λ key. Holds T.finished (IsUnderWay T.ready T.ends T.finished)
+        key.value.items };
 
     ghost first = { λ key. first_view key.value.items };
 }
@@ -44,6 +57,18 @@ impl<T> Play<Option<T>, Knows<T>> for Claim {
     ghost then = { Claimed };
 }
 
+/// The word of a number goes from 3 to 1, if it is 3: the pack that was put back is in hand again.
+pub(crate) struct Resume<T> {
+    part: PhantomData<T>,
+}
+
+impl<T: Part> Play<Option<T>, Knows<T>> for Resume<T> {
+    ghost use Rattle.hand_board.specs.Placed.{IsUnderWay};
+    ghost use Rattle.hand_board.specs.Rule.{Resumed};
+
+    ghost then = { Resumed (IsUnderWay T.ready T.ends T.finished) };
+}
+
 /// The slot of a number in hand becomes the one that the seat's next exchange is with.
 pub(crate) struct Bring;
 
@@ -53,7 +78,7 @@ impl<T> Play<Option<T>, Knows<T>> for Bring {
     ghost then = { Brought };
 }
 
-/// The word of the number at the front of the hand becomes 2, and the number leaves the hand.
+/// The word of the number at the front of the hand becomes 2 or 3, and the number leaves the hand.
 pub(crate) struct Give;
 
 impl<T> Play<Option<T>, Knows<T>> for Give {

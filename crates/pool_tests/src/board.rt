@@ -13,7 +13,16 @@ struct Number {
 impl Part for Number {
     ghost use Rattle.std.specs.Prelude.{ℕ, ◌≤◌};
 
+    ghost ready = { λ _. Unit {0} };
+
+    ghost ends = { λ x y. x.value ≤ y.value };
+
     ghost finished = { λ x y. x.value ≤ y.value };
+
+    // ten more, so that a test sees which numbers were worked on
+    fn finish(&mut self) {
+        self.value = self.value.saturating_add(10);
+    }
 }
 
 // 1, 2 and 3
@@ -71,6 +80,45 @@ fn a_number_in_hand_is_not_claimed(rt: HostRuntime) -> Result<(), Fail> {
     assert!(rt; board.claim(&mut left, 1).is_some());
     assert!(rt; board.claim(&mut right, 1).is_none());
     assert!(rt; board.claim(&mut left, 1).is_none());
+    Ok(())
+}
+
+#[test]
+fn a_pack_put_back_is_resumed_or_finished_at_the_close(rt: HostRuntime) -> Result<(), Fail> {
+    let Ok((board, seat)) = Board::new(rt.alloc(), numbers(rt.alloc())?) else {
+        return no_memory();
+    };
+    let (mut left, mut right) = board.split(seat);
+    assert!(rt; board.resume(&mut right, 0).is_none());
+    let zero = board.draw(&mut left);
+    let one = board.draw(&mut left);
+    let two = board.draw(&mut left);
+    assert!(rt; board.draw(&mut left).is_none());
+    assert!(rt; zero.is_some() && one.is_some() && two.is_some());
+    let (Some(zero), Some(one), Some(two)) = (zero, one, two) else {
+        return Ok(());
+    };
+    assert_eq!(rt; (zero.number(), one.number(), two.number()), (0, 1, 2));
+    assert!(rt; board.resume(&mut right, 0).is_none());
+    board.put_back(&mut left, zero);
+    board.put_back(&mut left, one);
+    board.give(&mut left, two);
+    assert!(rt; board.resume(&mut right, 2).is_none());
+    let zero = board.resume(&mut right, 0);
+    assert!(rt; zero.is_some());
+    let Some(mut zero) = zero else {
+        return Ok(());
+    };
+    zero.pack_mut().finish();
+    board.give(&mut right, zero);
+    let seat = board.join(left, right);
+    let packs = board.close(seat);
+    // the first was worked on here, the second by the close, the third not at all
+    assert_eq!(rt; packs.len(), 3);
+    assert_eq!(rt;
+        (packs[0].value, packs[1].value, packs[2].value),
+        (11, 12, 3)
+    );
     Ok(())
 }
 

@@ -77,6 +77,28 @@ steps-stopped (suc m) w t reason is =
     ap (λ (r : Result World Reason). elim r as (λ _. World) [ Ok v ↦ steps m v t | Err cause ↦ w ])
     is
 
+-- Where none of them stopped, that is where they all led.
+pub steps-all : (n : ℕ) (w v : World) (t : ℕ) → after_steps n w t ≡ Some v → steps n w t ≡ v
+steps-all n w v t h = let all : n ≡ n + 0 = omega arith in
+    ap (λ k. steps k w t) all ∙ steps-after n 0 w v t h
+
+-- And they go on from where any of them led, whether one stopped or not., whether one stopped or not
+pub steps-split : (n m : ℕ) (w : World) (t : ℕ) → steps (n + m) w t ≡ steps m (steps n w t) t
+steps-split zero m w t = let none : 0 + m ≡ m = omega arith in ap (λ k. steps k w t) none
+steps-split (suc n) m w t =
+    let count : suc n + m ≡ suc (n + m) = omega arith in
+    ap (λ k. steps k w t) count ∙ by_step (λ next. steps-split n m next t) (step w t) refl
+  where
+    by_step : ((next : World) → steps (n + m) next t ≡ steps m (steps n next t) t)
+        → (r : Result World Reason) → step w t ≡ r
+        → steps (suc (n + m)) w t ≡ steps m (steps (suc n) w t) t
+    by_step more (Ok next) is =
+        steps-ok (n + m) w next t is ∙ more next
+        ∙ ap (λ v. steps m v t) (sym (steps-ok n w next t is))
+    by_step more (Err reason) is =
+        steps-stopped (suc (n + m)) w t reason is ∙ sym (steps-stopped m w t reason is)
+        ∙ ap (λ v. steps m v t) (sym (steps-stopped (suc n) w t reason is))
+
 -- ---- what they change: bytes, and their thread
 
 abbrev with_bytes : List ℕ → World → World

@@ -1,28 +1,25 @@
--- A pack that has run, in each world that it showed.
-use Rattle.std.proofs.Common.{ℕ, zero, suc, ◌*◌, ◌/◌, ◌%◌, ◌<◌, ◌≤◌, ◌≡◌, ◌⊎◌, inl, inr, refl, sym, ap, ◌∙◌, Bool, true, false, List, [], ◌∷◌, length, map, get_or, slice_get, is_some, Option, Some, None, option_map, Err}
-use Rattle.std.specs.Prelude.{slice_index_or, MatchOption, ◌-◌}
+-- A pack that has run for so many instructions, in each world that it showed.
+use Rattle.std.proofs.Common.{ℕ, zero, suc, ◌*◌, ◌/◌, ◌%◌, ◌≡◌, ◌⊎◌, inl, inr, refl, sym, ap, ◌∙◌, Bool, true, false, List, [], ◌∷◌, length, map, get_or, slice_get, is_some, Option, Some, None, option_map}
+use Rattle.std.specs.Prelude.{slice_index_or}
 use Rattle.dos_world.specs.Numbered.{numbered}
-use Rattle.dos_world.specs.World.{World, Thread, Process, Registers, thread_at, owner_of, page_of, look, entry_at, space_of, released}
+use Rattle.dos_world.specs.World.{World, Thread, Process, Registers, thread_at, owner_of, page_of, look, entry_at, space_of}
 use Rattle.dos_world.specs.declared.Entry.{Entry}
 use Rattle.dos_world.specs.declared.Owner.{Owner}
 use Rattle.dos_world.specs.declared.Owner.TheVariants.{Free, Shared, Of}
-use Rattle.dos_world.specs.declared.Reason.{Reason}
 use Rattle.page_store.specs.Store.{whole, joined}
 use Rattle.page_store.proofs.Joined.{length-joined}
 use Rattle.rv_exec.specs.Laws.{AreAlike}
 use Rattle.rv_exec.specs.Runs.{kept}
-use Rattle.rv_exec.specs.Step.{step}
-use Rattle.quantum_run.specs.Alone.{alone}
-use Rattle.quantum_run.specs.Laws.{without_run}
+use Rattle.quantum_run.specs.Alone.{steps}
+use Rattle.quantum_run.specs.Laws.{without_run, DiffersInOwn}
 use Rattle.quantum_run.specs.Pages.{is_here, overlay}
 use Rattle.quantum_run.specs.Packs.{IsPacked, bytes_at, paired}
-use Rattle.quantum_run.specs.ThreadRuns.{IsRunOf, after_steps, run_to, ran, store_of}
+use Rattle.quantum_run.specs.ThreadRuns.{IsRunOf, run_to, ran, store_of}
 use Rattle.quantum_run.specs.Shows.{Pack, View, Shows, thread_space}
-use Rattle.quantum_run.proofs.Alike.{alone-alike}
+use Rattle.quantum_run.proofs.Alike.{steps-alike-all}
 use Rattle.quantum_run.proofs.Overlay.{length-overlay}
-use Rattle.quantum_run.proofs.Own.{alone-own}
+use Rattle.quantum_run.proofs.Own.{steps-own}
 use Rattle.quantum_run.proofs.Packing.{paired-at, paired-is, page-own, page-lent, byte-in-page, page-same, same-here, same-length}
-use Rattle.quantum_run.proofs.Parts.{run-alone}
 use Rattle.quantum_run.proofs.Threads.{seen-changed}
 
 pub entry-space : (w : World) (t address : ℕ)
@@ -82,16 +79,10 @@ module _ (t pid : ℕ) (r : Registers) (budget : ℕ) (held : List ℕ)
     (space : numbered spaces pid ≡ Some (Some entries))
     (owned : (i frame : ℕ) → slice_get held i ≡ Some frame
     → slice_index_or owners frame Free ≡ Of t)
-    (after : List (Option (List ℕ))) (begun r' : Registers) (left : ℕ) (stop : Option Reason)
+    (after : List (Option (List ℕ))) (r' : Registers) (left n : ℕ)
     (same : map is_some after ≡ map is_some table)
-    (begins : begun ≡ released r) (less : left ≤ budget)
-    (runs : (u : World) → IsRunOf u (store_of owners (overlay table lent)) entries t begun budget
-    → after_steps (budget - left) u t ≡ Some (run_to u t (overlay after lent) r' left))
-    (stops : MatchOption stop (left ≡ 0)
-    (λ reason. (0 < left)
-    × ((u : World)
-    → IsRunOf u (store_of owners (overlay table lent)) entries t begun budget
-    → step (run_to u t (overlay after lent) r' left) t ≡ Err reason))) where
+    (ends : (u : World) → IsRunOf u (store_of owners (overlay table lent)) entries t r budget
+    → steps n u t ≡ run_to u t (overlay after lent) r' left) where
   abbrev view : View
   view = record { owners = owners; pages = map (option_map whole) lent; spaces = spaces }
 
@@ -185,19 +176,24 @@ module _ (t pid : ℕ) (r : Registers) (budget : ℕ) (held : List ℕ)
       thread = shows.thread;
     }
 
-    alone-is : alone u t ≡ run_to u t (overlay after lent) r' left
-    alone-is = run-alone u (store_of owners (overlay table lent)) entries t r begun r'
-        (overlay after lent) budget left stop run-of begins less runs stops
+    abbrev end : World
+    end = steps n w t
 
-    alikes : AreAlike t (alone w t) (alone u t)
-    alikes = alone-alike t w u alike
+    changed : DiffersInOwn t w end
+    changed = steps-own n w t
+
+    end-is : steps n u t ≡ run_to u t (overlay after lent) r' left
+    end-is = ends u run-of
+
+    alikes : AreAlike t end (steps n u t)
+    alikes = steps-alike-all n t w u alike
 
     bytes-after : alikes.bytes ≡ joined (overlay after lent)
-    bytes-after = sym (ap (λ (x : World). x.bytes) alikes.is) ∙ ap (λ (x : World). x.bytes) alone-is
+    bytes-after = sym (ap (λ (x : World). x.bytes) alikes.is) ∙ ap (λ (x : World). x.bytes) end-is
 
-    thread-after : option_map kept (thread_at (alone w t) t) ≡ Some (r', left)
+    thread-after : option_map kept (thread_at end t) ≡ Some (r', left)
     thread-after =
-        ap (λ (x : World). option_map kept (thread_at x t)) (sym alikes.is ∙ alone-is)
+        ap (λ (x : World). option_map kept (thread_at x t)) (sym alikes.is ∙ end-is)
         ∙ seen-changed kept (ran r' left) w.threads t
         ∙ some-kept (thread_at w t) (r, budget) shows.thread
       where
@@ -206,33 +202,32 @@ module _ (t pid : ℕ) (r : Registers) (budget : ℕ) (held : List ℕ)
         some-kept None k q = cc
         some-kept (Some x) k q = refl
 
-    owner-after : (frame : ℕ) → owner_of (alone w t) frame ≡ owner_of w frame
+    owner-after : (frame : ℕ) → owner_of end frame ≡ owner_of w frame
     owner-after frame = ap (λ (os : List Owner). slice_index_or os frame Free)
-        (alone-own w t).owners
+        changed.owners
 
     level-after : length after ≡ length lent
     level-after = same-length table after same ∙ level
 
     -- an own page, afterwards
     page-after : (i frame : ℕ) → slice_get held i ≡ Some frame → owner_of w frame ≡ Of t
-        → bytes_at after frame ≡ page_of ((alone w t).bytes) frame
+        → bytes_at after frame ≡ page_of end.bytes frame
     page-after i frame at mine =
         sym (page-own after lent frame level-after
         (same-here table after frame same ∙ packed.here i frame at))
         ∙ ap (λ bytes. page_of bytes frame) (sym bytes-after)
-        ∙ page-same alikes.bytes ((alone w t).bytes) frame alikes.count
-        (λ k is. alikes.kept k (inl (ap (owner_of (alone w t)) is ∙ owner-after frame ∙ mine)))
+        ∙ page-same alikes.bytes end.bytes frame alikes.count
+        (λ k is. alikes.kept k (inl (ap (owner_of end) is ∙ owner-after frame ∙ mine)))
 
-    pub finished : Shows now view (alone w t)
+    pub finished : Shows now view end
     finished =
-        let d = alone-own w t in
-        let spaces-same : thread_space (alone w t) t ≡ thread_space w t =
-        space-same (alone w t) w t d.processes d.thread in
+        let spaces-same : thread_space end t ≡ thread_space w t =
+        space-same end w t changed.processes changed.thread in
         record {
-          owners = shows.owners ∙ sym d.owners;
+          owners = shows.owners ∙ sym changed.owners;
           thread = thread-after;
           space = shows.space ∙ ap (λ x. Some (Some x)) (sym spaces-same);
-          count = d.count ∙ shows.count ∙ ap (λ (os : List Owner). 4096 * length os) (sym d.owners);
+          count = changed.count ∙ shows.count ∙ ap (λ (os : List Owner). 4096 * length os) (sym changed.owners);
           mapped = λ page e has free.
               shows.mapped page e (ap (λ x. look x page) (sym spaces-same) ∙ has)
               (sym (owner-after e.frame) ∙ free);
@@ -260,9 +255,9 @@ module _ (t pid : ℕ) (r : Registers) (budget : ℕ) (held : List ℕ)
         shared≢own q = cc
 
         shared-page : (frame : ℕ) → owner_of w frame ≡ Shared
-            → page_of w.bytes frame ≡ page_of ((alone w t).bytes) frame
+            → page_of w.bytes frame ≡ page_of end.bytes frame
         shared-page frame all =
-            page-same w.bytes ((alone w t).bytes) frame (sym (alone-own w t).count)
+            page-same w.bytes end.bytes frame (sym changed.count)
             (λ k is. sym
-            ((alone-own w t).bytes k
+            (changed.bytes k
             (λ mine. shared≢own (sym all ∙ ap (owner_of w) (sym is) ∙ mine))))

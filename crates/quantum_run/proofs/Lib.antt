@@ -15,3 +15,5 @@ pub mod Filling
 pub mod Finishing
 pub mod Keeping
 pub mod Knowing
+pub mod Slices
+pub mod Ready

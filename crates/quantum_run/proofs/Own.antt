@@ -84,7 +84,7 @@ step-own w w' t h =
     subst (DiffersInOwn t w) (sym form.is)
     (changed_own w t form.bytes (paid_by form.registers) (λ thread. refl) form.count kept)
 
-steps-own : (n : ℕ) (w : World) (t : ℕ) → DiffersInOwn t w (steps n w t)
+pub steps-own : (n : ℕ) (w : World) (t : ℕ) → DiffersInOwn t w (steps n w t)
 steps-own zero w t = differs_in_nothing t w
 steps-own (suc n) w t = go (λ next. steps-own n next t) (step w t) refl
   where

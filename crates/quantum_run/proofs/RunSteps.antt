@@ -38,16 +38,16 @@ reaches-more before after w t r r' budget left some within one reached =
           runs = q.1;
         }
 
-pub goes-stopped : (before after : World → Type 0) (w : World) (t : ℕ) (r r' : Registers)
+pub goes-stopped : (floor : ℕ) (before after : World → Type 0) (w : World) (t : ℕ) (r r' : Registers)
     (budget left : ℕ) (reason : Reason)
     → ((u : World) → Runs before u t r left → Steps after u t r' left (Stop reason) (step u t))
-    → Reaches before w t r budget left → Goes after w t r' budget left (Some reason)
-goes-stopped before after w t r r' budget left reason one reached =
+    → Reaches before w t r budget left → Goes floor after w t r' budget left (Some reason)
+goes-stopped floor before after w t r r' budget left reason one reached =
     by_step (step reached.now t) refl (one reached.now reached.runs)
   where
     by_step : (o : Result World Reason) → step reached.now t ≡ o
         → Steps after reached.now t r' left (Stop reason) o
-        → Goes after w t r' budget left (Some reason)
+        → Goes floor after w t r' budget left (Some reason)
     by_step (Ok next) is q = absurd (Step≢Stop reason (sym q.0))
     by_step (Err cause) is q = record {
       reaches = record { now = reached.now; ran = reached.ran; runs = q.1 };
@@ -67,11 +67,11 @@ reaches-shown before after w t r budget left shows reached = record {
   };
 }
 
-pub goes-shown : (before after : World → Type 0) (w : World) (t : ℕ) (r : Registers)
+pub goes-shown : (floor : ℕ) (before after : World → Type 0) (w : World) (t : ℕ) (r : Registers)
     (budget left : ℕ) (stop : Option Reason) → ((u : World) → before u → after u)
-    → Goes before w t r budget left stop → Goes after w t r budget left stop
+    → Goes floor before w t r budget left stop → Goes floor after w t r budget left stop
 unfolding reaches-shown
-goes-shown before after w t r budget left stop shows goes = record {
+goes-shown floor before after w t r budget left stop shows goes = record {
   reaches = reaches-shown before after w t r budget left shows goes.reaches;
   stops = goes.stops;
 }

@@ -54,13 +54,13 @@ begins t owners entries fixed pages w r budget run = record {
 }
 
 -- It shows a world whatever it holds; so what stands still in each of them stands still.
-pub stands : {F : Type 0} (old new : Still) (fixed after : F)
+pub stands : {F : Type 0} (floor : ℕ) (old new : Still) (fixed after : F)
     (pages left_pages : List (Option (List ℕ))) (r r' : Registers) (budget left : ℕ)
     (stop : Option Reason)
     → ((w : World) → Runs (ShowsBy old fixed pages (old, fixed) 1) w 1 r budget
-    → Goes (ShowsBy new after left_pages (old, fixed) 1) w 1 r' budget left stop)
+    → Goes floor (ShowsBy new after left_pages (old, fixed) 1) w 1 r' budget left stop)
     → (new ≡ old) × (after ≡ fixed)
-stands old new fixed after pages left_pages r r' budget left stop goes =
+stands floor old new fixed after pages left_pages r r' budget left stop goes =
     let somewhere : Runs (ShowsBy old fixed pages (old, fixed) 1)
     (witness old pages r budget) 1 r budget =
     record {
@@ -75,15 +75,15 @@ stands old new fixed after pages left_pages r r' budget left stop goes =
     let gone = goes (witness old pages r budget) somewhere in
     (gone.reaches.runs.shown.still, gone.reaches.runs.shown.fixed_is)
 
-module _ {F : Type 0} (t : ℕ) (owners : List Owner) (entries : List (ℕ × Entry)) (new : Still)
+module _ {F : Type 0} (floor t : ℕ) (owners : List Owner) (entries : List (ℕ × Entry)) (new : Still)
     (fixed after : F) (pages left_pages : List (Option (List ℕ))) (r r' : Registers)
     (budget left : ℕ) (stop : Option Reason)
     (goes : (w : World) → Runs
     (ShowsBy (still t owners entries) fixed pages (still t owners entries, fixed) t) w t
-    r budget → Goes (ShowsBy new after left_pages (still t owners entries, fixed) t) w t
+    r budget → Goes floor (ShowsBy new after left_pages (still t owners entries, fixed) t) w t
     r' budget left stop)
     (w : World) (run : IsRunOf w (store_of owners pages) entries t r budget) where
-  gone : Goes (ShowsBy new after left_pages (still t owners entries, fixed) t) w t r' budget left
+  gone : Goes floor (ShowsBy new after left_pages (still t owners entries, fixed) t) w t r' budget left
       stop
   gone = goes w (begins t owners entries fixed pages w r budget run)
 
@@ -98,14 +98,14 @@ module _ {F : Type 0} (t : ℕ) (owners : List Owner) (entries : List (ℕ × En
   pub ends : after_steps (budget - left) w t ≡ Some (run_to w t left_pages r' left)
   ends = gone.reaches.ran ∙ ap Some now-is
 
-  pub stops : Stops (run_to w t left_pages r' left) t left stop
-  stops = subst (λ (u : World). Stops u t left stop) now-is gone.stops
+  pub stops : Stops floor (run_to w t left_pages r' left) t left stop
+  stops = subst (λ (u : World). Stops floor u t left stop) now-is gone.stops
 
 -- what the run says of its end, and what the world says
-pub stops-both : (stop : Option Reason) (left t : ℕ) (IsOf : World → Type 0) (end : World → World)
-    → MatchOption stop (left ≡ 0) (λ reason. 0 < left)
-    → ((w : World) → IsOf w → Stops (end w) t left stop)
-    → MatchOption stop (left ≡ 0)
+pub stops-both : (stop : Option Reason) (floor left t : ℕ) (IsOf : World → Type 0) (end : World → World)
+    → MatchOption stop (left ≡ floor) (λ reason. 0 < left)
+    → ((w : World) → IsOf w → Stops floor (end w) t left stop)
+    → MatchOption stop (left ≡ floor)
     (λ reason. (0 < left) × ((w : World) → IsOf w → step (end w) t ≡ Err reason))
-stops-both None left t IsOf end out at_end = out
-stops-both (Some reason) left t IsOf end some at_end = (some, at_end)
+stops-both None floor left t IsOf end out at_end = out
+stops-both (Some reason) floor left t IsOf end some at_end = (some, at_end)

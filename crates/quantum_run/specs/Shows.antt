@@ -3,11 +3,11 @@
 use Rattle.std.specs.Prelude.{ℕ, ◌≡◌, ◌≢◌, ◌*◌, ◌<◌, List, [], map, length, Option, Some, None, option_map, slice_get, slice_index_or}
 use Rattle.dos_world.specs.Numbered.{numbered}
 use Rattle.rv_exec.specs.Runs.{kept}
-use Rattle.dos_world.specs.World.{World, Registers, thread_at, space_of, owner_of, look, page_of}
+use Rattle.dos_world.specs.World.{World, Registers, thread_at, space_of, owner_of, look, page_of, released}
 use Rattle.dos_world.specs.declared.Entry.{Entry}
 use Rattle.dos_world.specs.declared.Owner.{Owner}
 use Rattle.dos_world.specs.declared.Owner.TheVariants.{Free, Shared, Of}
-use Rattle.quantum_run.specs.Alone.{alone}
+use Rattle.quantum_run.specs.Alone.{budget_of, steps, alone}
 
 -- the owners of the frames, the pages that are at home, and the spaces of the processes, numbered
 -- from 1: None where one has ended
@@ -63,6 +63,22 @@ pub record Shows (p : Pack) (v : View) (w : World) : Type 0 where
 -- The later pack is the thread's whole part, in each world that the pack and the view show.
 abbrev pub Finished : Pack → View → Pack → Type 0
 Finished p v after = (w : World) → Shows p v w → Shows after v (alone w p.thread)
+
+-- ---- a part in slices
+
+-- the pack as its thread's part begins: without a reservation
+abbrev pub begun : Pack → Pack
+begun p = record p { registers = released p.registers }
+
+-- The later pack is the thread run out from where the earlier one stands, until it stops or its
+-- budget is 0, in each world that the earlier pack and the view show.
+abbrev pub RanOut : Pack → View → Pack → Type 0
+RanOut p v after =
+    (w : World) → Shows p v w → Shows after v (steps (budget_of w p.thread) w p.thread)
+
+-- Where the thread runs out from the later pack, it runs out from the earlier one.
+abbrev pub LeadsTo : Pack → View → Pack → Type 0
+LeadsTo p v later = (after : Pack) → RanOut later v after → RanOut p v after
 
 -- the frames of these pages
 abbrev pub frames_of : List (ℕ × List ℕ) → List ℕ

@@ -38,11 +38,11 @@ pub record IsRunOf (w : World) (s : Store) (entries : List (ℕ × Entry)) (t : 
   pub space : thread_space w t ≡ entries
   pub thread : option_map kept (thread_at w t) ≡ Some (registers, budget)
 
--- what the end of a run says of the world that it ends in: the budget is used up, or the next
--- instruction stops
-abbrev pub Stops : World → ℕ → ℕ → Option Reason → Type 0
-Stops w t left None = left ≡ 0
-Stops w t left (Some reason) = step w t ≡ Err reason
+-- what the end of a run says of the world that it ends in: the budget has come down to the floor,
+-- or the next instruction stops
+abbrev pub Stops : ℕ → World → ℕ → ℕ → Option Reason → Type 0
+Stops floor w t left None = left ≡ floor
+Stops floor w t left (Some reason) = step w t ≡ Err reason
 
 -- From w on, t went as far as its budget fell, to a world that the memory shows.
 pub record Reaches (shows : World → Type 0) (w : World) (t : ℕ) (registers : Registers)
@@ -52,7 +52,7 @@ pub record Reaches (shows : World → Type 0) (w : World) (t : ℕ) (registers :
   pub runs : Runs shows now t registers left
 
 -- And it stopped there for this reason, or for none.
-pub record Goes (shows : World → Type 0) (w : World) (t : ℕ) (registers : Registers)
+pub record Goes (floor : ℕ) (shows : World → Type 0) (w : World) (t : ℕ) (registers : Registers)
     (budget left : ℕ) (stop : Option Reason) : Type 0 where
   pub reaches : Reaches shows w t registers budget left
-  pub stops : Stops reaches.now t left stop
+  pub stops : Stops floor reaches.now t left stop

@@ -13,5 +13,5 @@ mod slot;
 mod slots;
 mod thread_memory;
 
-pub use pack::{Pack, Shared, View, run_pack};
+pub use pack::{Pack, Shared, View, run_out, run_pack, run_slice};
 pub use run::run_until_stop;

@@ -1,7 +1,7 @@
 // A thread with the pages that are its own, apart from the frames.
-ghost use Rattle.std.specs.Prelude.{◌≡◌, ◌<◌, ◌≤◌, ◌++◌, ◌∷◌, [], length, map, replicate, None, IfOk, MatchOption};
+ghost use Rattle.std.specs.Prelude.{◌≡◌, ◌<◌, ◌≤◌, ◌+◌, ◌++◌, ◌∷◌, [], length, map, replicate, true, false, None, IfOk, MatchOption};
 ghost use Rattle.page_store.specs.Store.{whole};
-ghost use Rattle.quantum_run.specs.Shows.{CanRun, Finished, frames_of};
+ghost use Rattle.quantum_run.specs.Shows.{CanRun, Finished, LeadsTo, RanOut, begun, frames_of};
 ghost use Rattle.quantum_run.specs.Packs.{HoldsNo, empty_pack, seen, seen_in, with_page, with_thread_of};
 
 use crate::late_memo::LateMemo;
@@ -132,6 +132,13 @@ impl Pack {
         }
     }
 
+    /// The thread's part begins: it has no reservation.
+    pub fn begin(&mut self)
+        ensures { self.new ≡ begun self.old }
+    {
+        self.regs.set_held(None);
+    }
+
     /// The thread's number.
     pub fn tid(&self) -> u32
         ensures { result ≡ self.now.thread }
@@ -166,13 +173,45 @@ pub fn run_pack(pack: &mut Pack, view: &View<'_>)
     ensures budget { pack.new.budget ≤ pack.old.budget }
     ensures room { pack.new.room ≡ pack.old.room }
 {
+    pack.begin();
+    run_out(pack, view);
+}
+
+/// Runs the pack's thread from where it stands until its next instruction stops or its budget is 0.
+pub fn run_out(pack: &mut Pack, view: &View<'_>)
+    requires can { CanRun pack.old (seen view.now) }
+    ensures out { RanOut pack.old (seen view.now) pack.new }
+    ensures thread { pack.new.thread ≡ pack.old.thread }
+    ensures process { pack.new.process ≡ pack.old.process }
+    ensures frames { frames_of pack.new.pages ≡ frames_of pack.old.pages }
+    ensures budget { pack.new.budget ≤ pack.old.budget }
+    ensures room { pack.new.room ≡ pack.old.room }
+{
+    let whole = pack.budget();
+    let _out = run_slice(pack, view, whole);
+}
+
+/// Runs the pack's thread from where it stands until its next instruction stops or its budget is
+/// 0, but no more than `most` instructions: whether it has run out. It takes no memory and no
+/// lock.
+pub fn run_slice(pack: &mut Pack, view: &View<'_>, most: u32) -> bool
+    requires can { CanRun pack.old (seen view.now) }
+    ensures out { result ≡ true → RanOut pack.old (seen view.now) pack.new }
+    ensures more { result ≡ false → LeadsTo pack.old (seen view.now) pack.new
+        × (0 < pack.new.budget) × (pack.new.budget + most ≡ pack.old.budget) }
+    ensures thread { pack.new.thread ≡ pack.old.thread }
+    ensures process { pack.new.process ≡ pack.old.process }
+    ensures frames { frames_of pack.new.pages ≡ frames_of pack.old.pages }
+    ensures budget { pack.new.budget ≤ pack.old.budget }
+    ensures room { pack.new.room ≡ pack.old.room }
+{
     // that each page has an owner is known of the frames themselves
     let _count = view.frames.count();
     let space = view.table.space(pack.pid);
     let mut regs = *pack.regs;
-    regs.set_held(None);
     let mut left = pack.left;
-    let _reason = run_lent(
+    let floor = left.saturating_sub(most);
+    let stop = run_lent(
         &mut pack.own,
         view.frames,
         space,
@@ -180,7 +219,9 @@ pub fn run_pack(pack: &mut Pack, view: &View<'_>)
         pack.memo.get(),
         &mut regs,
         &mut left,
+        floor,
     );
     *pack.regs = regs;
     pack.left = left;
+    stop.is_some() || floor == 0
 }

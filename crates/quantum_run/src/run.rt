@@ -20,36 +20,38 @@ use rv_form::{Memo, place_after, place_of};
 use space_map::Space;
 use std::mem;
 
-/// Instructions on a memory, each for one of the budget, until one stops or the budget is 0. While
-/// they run, pc stands beside the registers, and with it the place at which the memo may have its
-/// word. Nothing is known when they begin.
+/// Instructions on a memory, each for one of the budget, until one stops or the budget has come
+/// down to the floor. While they run, pc stands beside the registers, and with it the place at
+/// which the memo may have its word. Nothing is known when they begin.
 #[inline(always)]
 fn go<P: Pages>(
     regs: &mut Regs,
     memory: &mut Running<'_, P>,
     memo: &mut Memo,
     budget: &mut u32,
+    floor: u32,
 ) -> Option<Reason>
-    requires { memory.old.base ≡ no_base }
+    requires known { memory.old.base ≡ no_base }
+    requires floor { floor ≤ budget.old }
     ensures runs { (f : Still × P.Fixed) (t : ℕ) (w : World)
         → Runs (ShowsBy
         (still memory.old.tid (P.owners memory.old.pages) memory.old.space.now.entries)
         (P.fixed memory.old.pages) (P.pages memory.old.pages) f t) w t regs.old budget.old
-        → Goes (ShowsBy
+        → Goes floor (ShowsBy
         (still memory.new.tid (P.owners memory.new.pages) memory.new.space.now.entries)
         (P.fixed memory.new.pages) (P.pages memory.new.pages) f t) w t regs.new budget.old
         budget.new result }
-    ensures stop { MatchOption result (budget.new ≡ 0) (λ reason. 0 < budget.new) }
+    ensures stop { MatchOption result (budget.new ≡ floor) (λ reason. 0 < budget.new) }
     ensures within { budget.new ≤ budget.old }
 {
     let mut pc = regs.pc();
     let mut place = place_of(pc);
-    let mut left = *budget;
+    let mut left = *budget - floor;
     let mut why = Reason::Service;
     while left > 0 {
         if !memory.knows(memo, place, pc, &mut why) {
             regs.set_pc(pc);
-            *budget = left;
+            *budget = left + floor;
             return Some(why);
         }
         match one_known(regs, memory, memo.form(place), pc, &mut why) {
@@ -63,32 +65,34 @@ fn go<P: Pages>(
             }
             Next::Not => {
                 regs.set_pc(pc);
-                *budget = left;
+                *budget = left + floor;
                 return Some(why);
             }
         }
         left -= 1;
     }
     regs.set_pc(pc);
-    *budget = left;
+    *budget = left + floor;
     None
 }
 
-/// The run of the thread whose memory this is.
+/// The run of the thread whose memory this is, until its budget has come down to the floor.
 #[inline(never)]
 pub(crate) fn run<P: Pages>(
     memory: &mut Running<'_, P>,
     memo: &mut Memo,
     regs: &mut Regs,
     budget: &mut u32,
+    floor: u32,
 ) -> Option<Reason>
-    requires { memory.old.base ≡ no_base }
+    requires known { memory.old.base ≡ no_base }
+    requires floor { floor ≤ budget.old }
     ensures runs { (w : World)
         → IsRunOf w (store_of (P.owners memory.old.pages) (P.pages memory.old.pages))
         memory.old.space.now.entries memory.old.tid regs.old budget.old
         → after_steps (budget.old - budget.new) w memory.old.tid
         ≡ Some (run_to w memory.old.tid (P.pages memory.new.pages) regs.new budget.new) }
-    ensures stop { MatchOption result (budget.new ≡ 0)
+    ensures stop { MatchOption result (budget.new ≡ floor)
         (λ reason. (0 < budget.new)
         × ((w : World)
         → IsRunOf w
@@ -101,12 +105,13 @@ pub(crate) fn run<P: Pages>(
     ensures fixed { P.fixed memory.new.pages ≡ P.fixed memory.old.pages }
 {
     let mut own = *regs;
-    let stop = go(&mut own, memory, memo, budget);
+    let stop = go(&mut own, memory, memo, budget, floor);
     *regs = own;
     stop
 }
 
-/// The run of a thread over pages of its own, with the frames lent.
+/// The run of a thread over pages of its own, with the frames lent, until its budget has come down
+/// to the floor.
 pub(crate) fn run_lent(
     own: &mut Places,
     frames: &Frames,
@@ -115,18 +120,20 @@ pub(crate) fn run_lent(
     memo: &mut Memo,
     regs: &mut Regs,
     budget: &mut u32,
+    floor: u32,
 ) -> Option<Reason>
     requires level { length own.old ≡ length frames.now.pages }
     requires reached { AreReached tid frames.now.owners space.now.entries
         (overlay own.old frames.now.pages) }
     requires own { AreOwn tid frames.now.owners space.now.entries (is_here own.old) }
     requires within { AreWithin frames.now.owners space.now.entries }
+    requires floor { floor ≤ budget.old }
     ensures runs { (w : World)
         → IsRunOf w (store_of frames.now.owners (overlay own.old frames.now.pages))
         space.now.entries tid regs.old budget.old
         → after_steps (budget.old - budget.new) w tid
         ≡ Some (run_to w tid (overlay own.new frames.now.pages) regs.new budget.new) }
-    ensures stop { MatchOption result (budget.new ≡ 0)
+    ensures stop { MatchOption result (budget.new ≡ floor)
         (λ reason. (0 < budget.new)
         × ((w : World)
         → IsRunOf w
@@ -139,7 +146,16 @@ pub(crate) fn run_lent(
     ensures here { map is_some own.new ≡ map is_some own.old }
 {
     write_out(&mut own.pages, own.count);
-    run_written(&mut own.pages, frames, space, tid, memo, regs, budget)
+    run_written(
+        &mut own.pages,
+        frames,
+        space,
+        tid,
+        memo,
+        regs,
+        budget,
+        floor,
+    )
 }
 
 /// The same where each place is written.
@@ -152,18 +168,20 @@ fn run_written(
     memo: &mut Memo,
     regs: &mut Regs,
     budget: &mut u32,
+    floor: u32,
 ) -> Option<Reason>
     requires level { length own.old.items ≡ length frames.now.pages }
     requires reached { AreReached tid frames.now.owners space.now.entries
         (overlay own.old.items frames.now.pages) }
     requires own { AreOwn tid frames.now.owners space.now.entries (is_here own.old.items) }
     requires within { AreWithin frames.now.owners space.now.entries }
+    requires floor { floor ≤ budget.old }
     ensures runs { (w : World)
         → IsRunOf w (store_of frames.now.owners (overlay own.old.items frames.now.pages))
         space.now.entries tid regs.old budget.old
         → after_steps (budget.old - budget.new) w tid
         ≡ Some (run_to w tid (overlay own.new.items frames.now.pages) regs.new budget.new) }
-    ensures stop { MatchOption result (budget.new ≡ 0)
+    ensures stop { MatchOption result (budget.new ≡ floor)
         (λ reason. (0 < budget.new)
         × ((w : World)
         → IsRunOf w
@@ -182,7 +200,7 @@ fn run_written(
         frames,
     };
     let mut memory = Running::new(pages, space, tid);
-    let stop = run(&mut memory, memo, regs, budget);
+    let stop = run(&mut memory, memo, regs, budget, floor);
     *own = memory.pages.own;
     stop
 }
@@ -211,7 +229,7 @@ fn run_in_place(
     ensures home { AreHome frames.new }
 {
     let mut memory = Running::new(InPlace { frames }, space, tid);
-    run(&mut memory, memo, regs, budget)
+    run(&mut memory, memo, regs, budget, 0)
 }
 
 /// Runs instructions of thread `tid` in the frames, each for one of the budget, until one stops or

@@ -3,7 +3,7 @@ use Rattle.std.specs.Prelude.{◌≡◌, List, map, All}
 use Rattle.quantum_run.specs.Packs.{seen_in}
 use Rattle.quantum_run.specs.Shows.{Pack}
 use Rattle.quantum_run.specs.declared.pack.Shared.{Shared}
-use Rattle.worker_pool.specs.Ran.{HasRun}
+use Rattle.worker_pool.specs.Ran.{HasRun, HasRunOut}
 use Rattle.staying_workers.specs.Ready.{MayRun}
 use Rattle.staying_workers.specs.declared.held.Held.{Held}
 
@@ -16,6 +16,11 @@ Share s hs = All (λ (h : Held). h.shared.value ≡ s) hs
 
 abbrev pub IsReady : Held → Type 0
 IsReady h = MayRun h.pack (seen_in h.shared.value)
+
+-- the later pack is the earlier one run out, and what it shares is as it was
+abbrev pub IsRunOut : Held → Held → Type 0
+IsRunOut before after = (after.shared.value ≡ before.shared.value)
+    × HasRunOut (seen_in before.shared.value) before.pack after.pack
 
 -- the later pack is the earlier one's whole part, and what it shares is as it was
 abbrev pub IsFinished : Held → Held → Type 0

@@ -3,10 +3,10 @@ ghost use Rattle.std.specs.Prelude.{◌≡◌, ◌+◌, ◌<◌, ◌≤◌, All,
 ghost use Rattle.staying_workers.specs.Lending.{Share, packs_of};
 
 use hand_board::Part;
-use quantum_run::{Pack, Shared, run_pack};
+use quantum_run::{Pack, Shared, run_out, run_slice};
 use std::alloc::{AllocError, Global};
 use std::sync::Arc;
-use worker_pool::Task;
+use worker_pool::{SLICE, Task};
 
 /// A pack, and an owner of what all packs of the call share.
 #[derive(Drop)]
@@ -18,19 +18,28 @@ pub struct Held {
 }
 
 impl Part for Held {
-    ghost use Rattle.staying_workers.specs.Lending.{IsFinished};
-
-    ghost finished = { IsFinished };
-}
-
-impl Task for Held {
-    ghost use Rattle.staying_workers.specs.Lending.{IsReady};
+    ghost use Rattle.staying_workers.specs.Lending.{IsFinished, IsReady, IsRunOut};
 
     ghost ready = { IsReady };
 
-    fn run(&mut self) {
+    ghost ends = { IsRunOut };
+
+    ghost finished = { IsFinished };
+
+    fn finish(&mut self) {
         let shared: &Shared = &self.shared;
-        run_pack(&mut self.pack, &shared.view());
+        run_out(&mut self.pack, &shared.view());
+    }
+}
+
+impl Task for Held {
+    fn begin(&mut self) {
+        self.pack.begin();
+    }
+
+    fn go_on(&mut self) -> bool {
+        let shared: &Shared = &self.shared;
+        run_slice(&mut self.pack, &shared.view(), SLICE)
     }
 }
 

@@ -6,10 +6,10 @@ ghost use Rattle.worker_pool.specs.Parts.{AreReady};
 use crate::held::Held;
 use hand_board::{Board, BoardSeat, Chair};
 use std::sync::Arc;
-use worker_pool::{Gate, sweep_from};
+use worker_pool::{Gate, share_from};
 
-/// Run the packs of this board that nobody has begun, from this number on and then those before it,
-/// and leave the seat in this chair.
+/// Run packs of this board in slices, from this number on and then those before it, until none lies
+/// at home that isn't finished, and leave the seat in this chair.
 #[derive(Drop)]
 pub struct Order {
     board: Arc<Board<Held>>,
@@ -54,7 +54,7 @@ impl Order {
         } = self;
         let at: &Board<Held> = &board;
         let place: &Chair<Held> = &chair;
-        let seat = sweep_from(at, seat, gate, first);
+        let seat = share_from(at, seat, gate, first);
         place.leave(at, seat);
     }
 

@@ -13,7 +13,7 @@ use hand_board::{Board, BoardSeat, Chair};
 use std::alloc::Global;
 use std::sync::{Arc, Wait};
 use std::thread;
-use worker_pool::{Gate, sweep};
+use worker_pool::{Gate, share, sweep};
 
 // A chair for this seat, which is kept with the others too; where memory is wanting there is none.
 fn chair_for(
@@ -169,7 +169,7 @@ pub(crate) fn sole<X, R: Wait>(rt: &R, mut shared: Arc<X>) -> X
     unreachable!()
 }
 
-// The orders at so many desks are at their end, and no pack is left. One that no worker has begun
+// The orders at so many desks are at their end, and each pack has been begun. One that no worker has begun
 // is taken back, so that nobody waits for a worker that sleeps or has no processor.
 fn end_orders<R: Wait>(rt: &R, desks: &[Desk], orders: usize, looks: u32) {
     for desk in desks.iter().take(orders) {
@@ -201,7 +201,7 @@ fn run_board<R: Wait, G: Gate>(
     let mut chairs = Vec::new(alloc);
     let seat = send_all(rt, alloc, &board, seat, desks, &mut chairs);
     let at: &Board<Held> = &board;
-    let seat = sweep(at, seat, gate);
+    let seat = share(at, seat, gate);
     end_orders(rt, desks, chairs.len(), looks);
     let seat = gather(rt, at, seat, chairs);
     let board = sole(rt, board);

@@ -1,3 +1,4 @@
 pub mod Belows
 pub mod RanPacks
+pub mod SliceRuns
 pub mod Growing

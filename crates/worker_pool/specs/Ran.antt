@@ -1,16 +1,24 @@
 -- What workers need of packs, and what they leave. This project's own rules.
 use Rattle.std.specs.Prelude.{ℕ, ◌≡◌, ◌+◌, ◌%◌, ◌^◌, ◌<◌, ◌≤◌, List, [], ◌∷◌, All, length, Some}
 use Rattle.std.specs.Prelude.{slice_get, slice_index_or}
-use Rattle.quantum_run.specs.Shows.{Pack, View, CanRun, Finished, frames_of}
+use Rattle.quantum_run.specs.Shows.{Pack, View, CanRun, Finished, RanOut, frames_of}
 
--- the pack as its thread's whole part has left it
-pub record HasRun (v : View) (p q : Pack) : Type 0 where
-  pub finished : Finished p v q
+-- The later pack is the earlier one after a run that ended in this way, and else the same.
+pub record HasRunBy (ended : Pack → View → Pack → Type 0) (v : View) (p q : Pack) : Type 0 where
+  pub finished : ended p v q
   pub thread : q.thread ≡ p.thread
   pub process : q.process ≡ p.process
   pub frames : frames_of q.pages ≡ frames_of p.pages
   pub budget : q.budget ≤ p.budget
   pub room : q.room ≡ p.room
+
+-- the pack as its thread's whole part has left it
+abbrev pub HasRun : View → Pack → Pack → Type 0
+HasRun = HasRunBy Finished
+
+-- the pack as its thread has left it, run out from where it stood
+abbrev pub HasRunOut : View → Pack → Pack → Type 0
+HasRunOut = HasRunBy RanOut
 
 -- as many packs, each run, in order
 pub record AllRan (v : View) (old new : List Pack) : Type 0 where

@@ -4,6 +4,7 @@ ghost use Rattle.std.specs.Prelude.{true, false, length, IfOk, IfErr, vec_len, v
 ghost use Rattle.std.specs.Thread.{IsSync};
 ghost use mathlib.Core.Option.{some};
 ghost use lib.ListN.{get_elem?};
+ghost use Rattle.hand_board.specs.Placed.{IsUnderWay};
 ghost use Rattle.hand_board.specs.Seating.{AllFinished};
 ghost use Rattle.worker_pool.specs.Parts.{AreFifo, AreReady, IsSameSeat};
 
@@ -14,14 +15,18 @@ use std::alloc::Global;
 use std::marker::Brand;
 use std::thread::{Threads, join};
 
-/// A part that can be run until it is finished.
+/// A part that can be run, whole or in slices.
 pub trait Task: Part + Drop {
-    ghost ready: { Self → Type 0 };
+    /// Its run begins.
+    fn begin(&mut self)
+        requires { Self.ready self.old }
+        ensures { IsUnderWay Self.ready Self.ends Self.finished self.old self.new };
 
-    /// Runs it.
-    fn run(&mut self)
-        requires { ready self.old }
-        ensures { Self.finished self.old self.new };
+    /// Runs it some way on: whether it is at its end.
+    fn go_on(&mut self) -> bool
+        requires { Self.ready self.old }
+        ensures ends { result ≡ true → Self.ends self.old self.new }
+        ensures more { result ≡ false → IsUnderWay Self.ready Self.ends Self.ends self.old self.new };
 }
 
 // runs the only part in the seat's hand, as the board opened, and gives it back
@@ -34,7 +39,8 @@ fn finish<T: Task, G: Gate>(board: &Board<T>, seat: &mut BoardSeat<T>, gate: &G,
     ensures { seat.new ≡ record seat.old { hand = [] } }
 {
     gate.pass(job.number());
-    job.pack_mut().run();
+    job.pack_mut().begin();
+    job.pack_mut().finish();
     board.give(seat, job);
 }
 
@@ -83,48 +89,6 @@ fn run_one<T: Task, G: Gate>(board: &Board<T>, seat: &mut BoardSeat<T>, gate: &G
     if let Some(job) = board.claim(seat, number) {
         finish(board, seat, gate, job);
     }
-}
-
-// runs those of these numbers that nobody has begun
-fn run_between<T: Task, G: Gate>(
-    board: &Board<T>,
-    mut seat: BoardSeat<T>,
-    gate: &G,
-    from: u32,
-    to: u32,
-) -> BoardSeat<T>
-    requires board { seat.board ≡ board.now.id }
-    requires free { seat.hand ≡ [] }
-    requires ready { AreReady T.ready seat.opened }
-    requires numbers { to ≤ length board.now.opened }
-    ensures same { IsSameSeat seat result }
-    ensures free { result.hand ≡ [] }
-{
-    for number in from..to {
-        run_one(board, &mut seat, gate, number);
-    }
-    seat
-}
-
-/// Runs each part that nobody has begun, from this number on and then those before it. Whoever
-/// begins at the same number in each call finds most often the parts that it ran before, which its
-/// processor still has at hand.
-pub fn sweep_from<T: Task, G: Gate>(
-    board: &Board<T>,
-    seat: BoardSeat<T>,
-    gate: &G,
-    first: u32,
-) -> BoardSeat<T>
-    requires board { seat.board ≡ board.now.id }
-    requires free { seat.hand ≡ [] }
-    requires ready { AreReady T.ready seat.opened }
-    ensures same { IsSameSeat seat result }
-    ensures free { result.hand ≡ [] }
-{
-    let count = board.count();
-    let first = first.min(count);
-    let seat = run_between(board, seat, gate, first, count);
-    run_between(board, seat, gate, 0, first)
 }
 
 // turns until one finds no number, and at most one more than there are parts

@@ -4,8 +4,9 @@ ghost use Rattle.quantum_run.specs.Packs.{seen};
 ghost use Rattle.worker_pool.specs.Lending.{See, packs_of};
 
 use crate::crew::Task;
+use crate::slices::SLICE;
 use hand_board::Part;
-use quantum_run::{Pack, View, run_pack};
+use quantum_run::{Pack, View, run_out, run_slice};
 
 /// A pack, and the view that is lent to it: what the pack becomes depends on both.
 #[derive(Drop)]
@@ -17,19 +18,26 @@ pub struct Lent<'a> {
 }
 
 impl<'a> Part for Lent<'a> {
-    ghost use Rattle.worker_pool.specs.Lending.{IsFinished};
+    ghost use Rattle.worker_pool.specs.Lending.{IsFinished, IsReady, IsRunOut};
+
+    ghost ready = { IsReady };
+
+    ghost ends = { IsRunOut };
 
     ghost finished = { IsFinished };
+
+    fn finish(&mut self) {
+        run_out(&mut self.pack, self.view);
+    }
 }
 
 impl<'a> Task for Lent<'a> {
-    ghost use Rattle.quantum_run.specs.Packs.{seen};
-    ghost use Rattle.quantum_run.specs.Shows.{CanRun};
+    fn begin(&mut self) {
+        self.pack.begin();
+    }
 
-    ghost ready = { λ x. CanRun x.pack (seen x.view.now) };
-
-    fn run(&mut self) {
-        run_pack(&mut self.pack, self.view);
+    fn go_on(&mut self) -> bool {
+        run_slice(&mut self.pack, self.view, SLICE)
     }
 }
 

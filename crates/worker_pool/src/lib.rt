@@ -12,14 +12,16 @@ mod gate;
 mod lent;
 mod pace;
 mod pools;
+mod slices;
 mod tally;
 mod ways;
 mod workers;
 
-pub use crew::{Task, sweep, sweep_from};
+pub use crew::{Task, sweep};
 pub use gate::{Gate, OpenGate};
 pub use lent::Lent;
 pub use pools::{Boarded, Serial, Spread, Stealing};
+pub use slices::{SLICE, share, share_from};
 pub use tally::Tally;
 pub use ways::{Hands, Nobody, Staff, Way, run_in_place};
 pub use workers::Workers;

@@ -1,4 +1,4 @@
-use Rattle.std.proofs.Common.{ℕ, ◌-◌, ◌<◌, List, None, Some, sym, subst, arith}
+use Rattle.std.proofs.Common.{ℕ, ◌+◌, ◌-◌, ◌≡◌, ◌<◌, List, None, Some, sym, subst, arith}
 use Rattle.dos_world.specs.World.{World, Registers, with_pc}
 use Rattle.rv_exec.specs.Arrivals.{arrived}
 use Rattle.rv_exec.specs.declared.next.Next.TheVariants.{On, To, Not}
@@ -29,18 +29,18 @@ returns-in-Not-clause-runs g c = λ f t w runs.
     let notes = c.knows.new.memo in
     let after = c.one_known.new.memory in
     let why = c.one_known.new.why in
-    let left = c.loop-left.left in
+    let floor = c.args.floor in let left = c.loop-left.left + floor in
     let budget = c.args.budget.now in
     let before_regs = with_pc c.loop-left.regs c.loop-left.pc in
     let after_regs = arrived c.one_known.new.regs c.loop-left.pc Not in
     let old = shown g c.loop-left.memory f c.loop-left.memo t in
     let new = shown g c.knows.new.self f notes t in
-    subst (λ (r : Registers). Goes (ShowsBy
+    subst (λ (r : Registers). Goes floor (ShowsBy
     (still after.tid (g.P.Pages.owners after.pages) after.space.now.entries)
     (g.P.Pages.fixed after.pages) (g.P.Pages.pages after.pages) f t) w t r budget left (Some why))
     (sym c.set_pc-in-Not.ensures)
-    (goes-shown (shown g after f notes t) _ w t after_regs budget left (Some why) (λ u s. s.shows)
-    (goes-stopped (both old new) (shown g after f notes t) w t before_regs after_regs budget
+    (goes-shown floor (shown g after f notes t) _ w t after_regs budget left (Some why) (λ u s. s.shows)
+    (goes-stopped floor (both old new) (shown g after f notes t) w t before_regs after_regs budget
     left why (λ u ru. c.in-Not.ensures (f, notes) t u left (note_at notes c.loop-left.place).word
     c.form.ensures (c.if-not-knows.ensures.word f t u ru.shown.0).1
     (record { shown = ru.shown.1; thread = ru.thread }))
@@ -53,17 +53,17 @@ returns-then-not-knows-clause-runs g c = λ f t w runs.
     let n = c.knows.new.self in
     let notes = c.knows.new.memo in
     let why = c.knows.new.why in
-    let left = c.loop-left.left in
+    let floor = c.args.floor in let left = c.loop-left.left + floor in
     let budget = c.args.budget.now in
     let regs = with_pc c.loop-left.regs c.loop-left.pc in
     let old = shown g c.loop-left.memory f c.loop-left.memo t in
     let new = shown g n f notes t in
-    subst (λ (r : Registers). Goes (ShowsBy
+    subst (λ (r : Registers). Goes floor (ShowsBy
     (still n.tid (g.P.Pages.owners n.pages) n.space.now.entries)
     (g.P.Pages.fixed n.pages) (g.P.Pages.pages n.pages) f t) w t r budget left (Some why))
     (sym c.set_pc.ensures)
-    (goes-shown new _ w t regs budget left (Some why) (λ u s. s.shows)
-    (goes-stopped old new w t regs regs budget left why
+    (goes-shown floor new _ w t regs budget left (Some why) (λ u s. s.shows)
+    (goes-stopped floor old new w t regs regs budget left why
     (λ u ru. let r = c.if-not-knows.ensures.word f t u ru.shown in
     steps old new t (blind_known (still n.tid (g.P.Pages.owners n.pages) n.space.now.entries)
     (g.P.Pages.fixed n.pages) (g.P.Pages.pages n.pages) n.base n.fetched (f, notes) t)
@@ -76,34 +76,37 @@ loop-left-preserved g c = (
   λ f t w runs.
       let notes = c.knows.new.memo in
       let pc = c.loop-left.pc in
-      let left = c.loop-left.left in
+      let floor = c.args.floor in let left = c.loop-left.left + floor in
       let budget = c.args.budget.now in
       let inv = c.loop-left.invariant in
       let before_regs = with_pc c.loop-left.regs pc in
       let old = shown g c.loop-left.memory f c.loop-left.memo t in
       let new = shown g c.knows.new.self f notes t in
-      let R : Running g.row.P.Denot g.P.Pages → Registers → ℕ → Type 0 =
-      λ x r p. Reaches (shown g x f notes t) w t (with_pc r p) budget (left - 1) in
+      let less : left - 1 ≡ c.loop-left.left - 1 + floor = omega (arith, c.loop-left-test.true) in
+      let some : 0 < left = omega (arith, c.loop-left-test.true) in
+      let R : Running g.row.P.Denot g.P.Pages → Registers → ℕ → ℕ → Type 0 =
+      λ x r p n. Reaches (shown g x f notes t) w t (with_pc r p) budget n in
       let after = c.one_known.new.memory in
       let r = c.one_known.new.regs in
       let reached : Reaches (both old new) w t before_regs budget left =
       reaches-shown old (both old new) w t before_regs budget left
       (λ u s. (s, (c.if-not-knows.ensures.word f t u s).0)) (inv.0 f t w runs) in
-      elim c.match-one_known.branch as (λ _. R after r c.match-one_known.pc) [
-        | in-On b ↦ subst (λ x. R after r x) (sym b.pc-is)
+      subst (λ n. R after r c.match-one_known.pc n) less
+      (elim c.match-one_known.branch as (λ _. R after r c.match-one_known.pc (left - 1)) [
+        | in-On b ↦ subst (λ x. R after r x (left - 1)) (sym b.pc-is)
             (reaches-more (both old new) (shown g after f notes t) w t before_regs
-            (arrived r pc On) budget left c.loop-left-test.true inv.1
+            (arrived r pc On) budget left some inv.1
             (λ u ru. b.in-On.ensures (f, notes) t u left (note_at notes c.loop-left.place).word
             c.form.ensures (c.if-not-knows.ensures.word f t u ru.shown.0).1
             (record { shown = ru.shown.1; thread = ru.thread })) reached)
-        | in-To b ↦ subst (λ x. R after r x) (sym b.pc-is)
+        | in-To b ↦ subst (λ x. R after r x (left - 1)) (sym b.pc-is)
             (reaches-more (both old new) (shown g after f notes t) w t before_regs
-            (arrived r pc (To b.in-To.target)) budget left c.loop-left-test.true inv.1
+            (arrived r pc (To b.in-To.target)) budget left some inv.1
             (λ u ru. b.in-To.ensures (f, notes) t u left (note_at notes c.loop-left.place).word
             c.form.ensures (c.if-not-knows.ensures.word f t u ru.shown.0).1
             (record { shown = ru.shown.1; thread = ru.thread })) reached)
-      ],
-  omega (arith, c.loop-left.invariant.1),
+      ]),
+  omega (arith, c.loop-left-test.true, c.loop-left.invariant.1),
   elim c.match-one_known.branch as (λ _. c.match-one_known.place < 1024) [
     | in-On b ↦ omega (arith, b.place-is, b.place_after-place.ensures)
     | in-To b ↦ omega (arith, b.place-is, b.place_of-place-in-To.ensures)
@@ -113,9 +116,9 @@ loop-left-preserved g c = (
 pub returns-clause-runs : goal.returns-clause-runs
 returns-clause-runs g c = λ f t w runs.
     let m = c.loop-left.memory in
-    let left = c.loop-left.left in
+    let floor = c.args.floor in let left = c.loop-left.left + floor in
     let budget = c.args.budget.now in
-    subst (λ (r : Registers). Goes (ShowsBy
+    subst (λ (r : Registers). Goes floor (ShowsBy
     (still m.tid (g.P.Pages.owners m.pages) m.space.now.entries)
     (g.P.Pages.fixed m.pages) (g.P.Pages.pages m.pages) f t) w t r budget left None)
     (sym c.set_pc-2.ensures)

@@ -8,7 +8,7 @@ pub returns-clause-runs : goal.returns-clause-runs
 returns-clause-runs g c =
     let m = c.args.memory.now in
     let n = c.go-stop.new.memory in
-    ends m.tid (g.P.Pages.owners m.pages) m.space.now.entries
+    ends c.args.floor m.tid (g.P.Pages.owners m.pages) m.space.now.entries
     (still n.tid (g.P.Pages.owners n.pages) n.space.now.entries) (g.P.Pages.fixed m.pages)
     (g.P.Pages.fixed n.pages)
     (g.P.Pages.pages m.pages)
@@ -23,13 +23,13 @@ pub returns-clause-stop : goal.returns-clause-stop
 returns-clause-stop g c =
     let m = c.args.memory.now in
     let n = c.go-stop.new.memory in
-    stops-both c.go-stop.result c.go-stop.new.budget m.tid
+    stops-both c.go-stop.result c.args.floor c.go-stop.new.budget m.tid
     (λ w. IsRunOf w
     (store_of (g.P.Pages.owners m.pages) (g.P.Pages.pages m.pages)) m.space.now.entries
     m.tid c.args.regs.now c.args.budget.now)
     (λ w. run_to w m.tid (g.P.Pages.pages n.pages) c.go-stop.new.regs c.go-stop.new.budget)
     c.go-stop.ensures.stop
-    (stops m.tid (g.P.Pages.owners m.pages) m.space.now.entries
+    (stops c.args.floor m.tid (g.P.Pages.owners m.pages) m.space.now.entries
     (still n.tid (g.P.Pages.owners n.pages) n.space.now.entries)
     (g.P.Pages.fixed m.pages) (g.P.Pages.fixed n.pages)
     (g.P.Pages.pages m.pages)
@@ -45,7 +45,7 @@ returns-clause-owners g c =
     let m = c.args.memory.now in
     let n = c.go-stop.new.memory in
     ap (λ (x : Still). x.owners)
-    (stands (still m.tid (g.P.Pages.owners m.pages) m.space.now.entries)
+    (stands c.args.floor (still m.tid (g.P.Pages.owners m.pages) m.space.now.entries)
     (still n.tid (g.P.Pages.owners n.pages) n.space.now.entries)
     (g.P.Pages.fixed m.pages) (g.P.Pages.fixed n.pages)
     (g.P.Pages.pages m.pages)
@@ -60,7 +60,7 @@ pub returns-clause-fixed : goal.returns-clause-fixed
 returns-clause-fixed g c =
     let m = c.args.memory.now in
     let n = c.go-stop.new.memory in
-    (stands (still m.tid (g.P.Pages.owners m.pages) m.space.now.entries)
+    (stands c.args.floor (still m.tid (g.P.Pages.owners m.pages) m.space.now.entries)
     (still n.tid (g.P.Pages.owners n.pages) n.space.now.entries)
     (g.P.Pages.fixed m.pages) (g.P.Pages.fixed n.pages)
     (g.P.Pages.pages m.pages)

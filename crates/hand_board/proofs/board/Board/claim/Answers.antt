@@ -1,4 +1,4 @@
-use Rattle.std.proofs.Common.{rules, refl, ◌<◌, length, sym, subst, ap, ◌∙◌, arith, Some, ◌∷◌}
+use Rattle.std.proofs.Common.{refl, ◌<◌, length, sym, subst, ap, ◌∙◌, arith, Some, ◌∷◌}
 use Rattle.atomic_table.specs.Table.{rest}
 use mathlib.Core.Option.{some}
 use lib.ListN.{get_elem?}
@@ -21,7 +21,7 @@ compare_exchange-found-requires g c =
     in (
       ap (λ z. z.board) c.seat.view_is ∙ c.requires.board ∙ sym (ap (λ z. z.id) c.self.view_is),
       omega arith,
-      claims g.T.Part.finished c.self.inside.table.shared.key.value.items _ _
+      claims _ _ c.self.inside.table.shared.key.value.items _ _
           c.args.number _ lt (omega arith),
     )
 
@@ -37,41 +37,32 @@ returns-then-found-ne0-clause-none g c = let t =
     (λ e. absurd (c.if-found-ne0.true e)) in
     shows_found _ _ _ _ _ _ _ _ c.args.number c.seat.view_is c.compare_exchange-found.ensures.0 t
 
-pub exchange-requires : goal.exchange-requires
-exchange-requires g c = let t =
-    (c.compare_exchange-found.ensures.2 c.args.number refl).0 c.if-found-ne0.false in (
-      c.compare_exchange-found.ensures.0 ∙ ap (λ z. z.board) c.seat.view_is ∙ c.requires.board
-          ∙ sym (ap (λ z. z.id) c.self.view_is),
-      (
-        Some t.0,
-        ap (λ z. z.1) t.3
-            ∙ ap (λ l. (c.args.number, Some t.0) ∷ rest l.1) (sym t.3),
-      ),
-    )
+pub lift-pack-requires-clause-table : goal.lift-pack-requires-clause-table
+lift-pack-requires-clause-table g c = c.compare_exchange-found.ensures.0
+    ∙ ap (λ z. z.board) c.seat.view_is ∙ c.requires.board ∙ sym (ap (λ z. z.id) c.self.view_is)
 
-pub unreachable-requires : goal.unreachable-requires
-unreachable-requires g c = let t =
+pub lift-pack-requires-clause-full : goal.lift-pack-requires-clause-full
+lift-pack-requires-clause-full g c = let t =
     (c.compare_exchange-found.ensures.2 c.args.number refl).0 c.if-found-ne0.false in
-    let r = second _ _ _ _ _ _ (sym c.exchange.ensures.2 ∙ ap (λ z. z.1) t.3) in
-    let n = c.in-None.is in search rules
+    (t.0, ap (λ z. z.1) t.3 ∙ ap (λ l. (c.args.number, Some t.0) ∷ rest l.1) (sym t.3))
 
 pub invariant_of-seat-2 : goal.invariant_of-seat-2
 invariant_of-seat-2 g c = let t =
     (c.compare_exchange-found.ensures.2 c.args.number refl).0 c.if-found-ne0.false in
     sits_drawn _ _ _ _ _ _ _ c.args.number c.seat.invariant (within _ _ _ t.1)
-    (c.exchange.ensures.0 ∙ c.compare_exchange-found.ensures.0)
-    (emptied _ _ _ _ _ _ t.3 c.exchange.ensures.3)
+    (c.lift-pack.ensures.table ∙ c.compare_exchange-found.ensures.0)
+    (emptied _ _ _ _ _ _ t.3 c.lift-pack.ensures.seat)
 
 pub returns-clause-some : goal.returns-clause-some
 returns-clause-some g c = let t =
     (c.compare_exchange-found.ensures.2 c.args.number refl).0 c.if-found-ne0.false in
-    let r = second _ _ _ _ _ _ (sym c.exchange.ensures.2 ∙ ap (λ z. z.1) t.3) in
+    let r = second _ _ _ _ _ _ (sym c.lift-pack.ensures.pack ∙ ap (λ z. z.1) t.3) in
     let e = c.seat.view_is in (
       refl,
       ap (λ z. get_elem? z.opened c.args.number) (sym e) ∙ t.1
-          ∙ ap some (inside _ _ (sym r ∙ c.in-Some.is)),
+          ∙ ap some (inside _ _ (sym r)),
       ap (λ z. times c.args.number z.found) (sym e) ∙ t.2,
       shows_drawn _ _ _ _ _ _ _ _ c.args.number e
-          (c.exchange.ensures.0 ∙ c.compare_exchange-found.ensures.0)
-          (emptied _ _ _ _ _ _ t.3 c.exchange.ensures.3),
+          (c.lift-pack.ensures.table ∙ c.compare_exchange-found.ensures.0)
+          (emptied _ _ _ _ _ _ t.3 c.lift-pack.ensures.seat),
     )

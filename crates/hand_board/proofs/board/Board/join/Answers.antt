@@ -16,7 +16,7 @@ join_seat-requires g c =
       ap (λ z. z.board) c.right.view_is ∙ c.requires.right ∙ sym (ap (λ z. z.id) c.self.view_is),
       r.slots ∙ ap blanks empty,
       omega arith,
-      joins g.T.Part.finished c.self.inside.table.shared.key.value.items _ _ _ _
+      joins _ _ c.self.inside.table.shared.key.value.items _ _ _ _
           (omega arith) empty,
     )
 
@@ -26,7 +26,7 @@ load-requires g c =
       c.join_seat.ensures.0 ∙ ap (λ z. z.board) c.left.view_is ∙ c.requires.left
           ∙ sym (ap (λ z. z.id) c.self.view_is),
       omega arith,
-      weighs g.T.Part.finished c.self.inside.table.shared.key.value.items _ _ _,
+      weighs _ _ c.self.inside.table.shared.key.value.items _ _ _,
     )
 
 pub invariant_of-result : goal.invariant_of-result

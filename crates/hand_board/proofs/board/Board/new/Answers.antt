@@ -16,7 +16,7 @@ new-requires g c =
     let ok = c.args.packs.ok in
     let l = b.len in
     let al = a.len in
-    opens g.T.Part.finished c.of-opened.result.value.items c.as_slice.result.now (omega arith)
+    opens _ _ c.of-opened.result.value.items c.as_slice.result.now (omega arith)
     (λ i. ap (λ l. slice_index l i) zeros ∙ all_zero _ i) _
     (c.fill.ensures.items ∙ ap (λ v. map Some v.items) (sym d))
 

@@ -10,6 +10,6 @@ split_seat-other-requires g c =
     let two = subst (λ z. 2 ≤ z.share) (sym c.seat.view_is) c.requires.share in (
       ap (λ z. z.board) c.seat.view_is ∙ c.requires.board ∙ sym (ap (λ z. z.id) c.self.view_is),
       omega arith,
-      splits g.T.Part.finished c.self.inside.table.shared.key.value.items _ _
+      splits _ _ c.self.inside.table.shared.key.value.items _ _
           (omega arith),
     )

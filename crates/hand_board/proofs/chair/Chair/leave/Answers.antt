@@ -11,7 +11,7 @@ load-requires g c =
     let w = c.board.invariant.sized.0 in (
       ap (λ z. z.board) c.seat.view_is ∙ c.requires.board ∙ sym (ap (λ z. z.id) c.board.view_is),
       omega arith,
-      forgets_all g.T.Part.finished c.board.inside.table.shared.key.value.items _ _ _ (omega arith),
+      forgets_all _ _ c.board.inside.table.shared.key.value.items _ _ _ (omega arith),
     )
 
 pub give-requires-clause-seat : goal.give-requires-clause-seat

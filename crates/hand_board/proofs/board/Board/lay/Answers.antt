@@ -4,7 +4,7 @@ use lib.ListN.{get_elem?}
 use Rattle.hand_board.specs.Placed.{to_front, times, without}
 use Rattle.hand_board.proofs.Steps.{comes_at, gives_back}
 use Rattle.hand_board.proofs.Sitting.{second, sits_given, shows_given, gone, filled}
-use Rattle.hand_board.proofs.board.Board.give.Goals as goal
+use Rattle.hand_board.proofs.board.Board.lay.Goals as goal
 
 pub load-requires : goal.load-requires
 load-requires g c =
@@ -19,7 +19,7 @@ load-requires g c =
     let low = s.low c.args.job.number has in let same = ap (λ z. z.words) e in (
       e,
       omega arith,
-      comes_at g.T.Part.finished c.self.inside.table.shared.key.value.items _ _
+      comes_at _ _ c.self.inside.table.shared.key.value.items _ _
           c.args.job.number _ s.slots (omega arith) has,
     )
 
@@ -46,11 +46,12 @@ store-requires g c = let t = c.load.ensures.2 c.args.job.number refl in
     let low = s.low c.args.job.number has in let same = ap (λ z. z.words) e in (
       c.exchange.ensures.0 ∙ c.load.ensures.0 ∙ e,
       omega arith,
-      gives_back g.T.Part.finished c.self.inside.table.shared.key.value.items _ _ c.args.job.number
+      gives_back _ _ c.self.inside.table.shared.key.value.items _ _ c.args.job.number c.args.word
           _ (to_front c.args.job.number c.seat.inside.seat.me.0) c.args.job.pack
           (without c.args.job.number c.seat.inside.seat.me.0.hand)
           (filled _ _ _ _ _ _ _ t c.exchange.ensures.3) refl (omega arith)
-          (λ x at. c.requires.finished x
+          c.requires.word
+          (λ x at. c.requires.pack x
           (ap (λ z. get_elem? z.opened c.args.job.number) (sym c.seat.view_is) ∙ at)),
     )
 
