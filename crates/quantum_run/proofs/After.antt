@@ -1,5 +1,6 @@
 -- So many instructions of a thread, one after another.
-use Rattle.std.proofs.Common.{ℕ, zero, suc, ◌+◌, ◌≡◌, refl, sym, ap, ◌∙◌, subst, List, Option, Some, None, option_map, Result, Ok, Err, arith}
+use Rattle.std.proofs.Common.{ℕ, zero, suc, ◌+◌, ◌≡◌, refl, sym, ap, ◌∙◌, subst, List, Option, Some}
+use Rattle.std.proofs.Common.{None, option_map, Result, Ok, Err, arith}
 use Rattle.dos_world.specs.World.{World, Registers, thread_at, with_thread}
 use Rattle.dos_world.specs.declared.Reason.{Reason}
 use Rattle.rv_exec.specs.Step.{step, paid_by}

@@ -1,5 +1,6 @@
 -- Slots that have found nothing, slots of fetches beside those of stores, and the base of no key.
-use Rattle.std.proofs.Common.{ℕ, zero, suc, ◌^◌, ◌<◌, ◌≤◌, ◌≡◌, ◌≢◌, refl, sym, List, [], ◌∷◌, set, Bool, true, false, replicate, arith, subst, eq-eqb}
+use Rattle.std.proofs.Common.{ℕ, zero, suc, ◌^◌, ◌<◌, ◌≤◌, ◌≡◌, ◌≢◌, refl, sym, List, [], ◌∷◌, set}
+use Rattle.std.proofs.Common.{Bool, true, false, replicate, arith, subst, eq-eqb}
 use Rattle.std.specs.Prelude.{slice_index_or, ◌==◌, ◌||◌}
 use Rattle.std.specs.List.{list_any}
 use Rattle.std.proofs.lemmas.List.Elements.{All-same, All-set, All-nil, All-cons, All-replicate}

@@ -1,8 +1,11 @@
 -- A pack that has run for so many instructions, in each world that it showed.
-use Rattle.std.proofs.Common.{ℕ, zero, suc, ◌*◌, ◌/◌, ◌%◌, ◌≡◌, ◌⊎◌, inl, inr, refl, sym, ap, ◌∙◌, Bool, true, false, List, [], ◌∷◌, length, map, get_or, slice_get, is_some, Option, Some, None, option_map}
+use Rattle.std.proofs.Common.{ℕ, zero, suc, ◌*◌, ◌/◌, ◌%◌, ◌≡◌, ◌⊎◌, inl, inr, refl, sym, ap, ◌∙◌}
+use Rattle.std.proofs.Common.{Bool, true, false, List, [], ◌∷◌, length, map, get_or, slice_get}
+use Rattle.std.proofs.Common.{is_some, Option, Some, None, option_map}
 use Rattle.std.specs.Prelude.{slice_index_or}
 use Rattle.dos_world.specs.Numbered.{numbered}
-use Rattle.dos_world.specs.World.{World, Thread, Process, Registers, thread_at, owner_of, page_of, look, entry_at, space_of}
+use Rattle.dos_world.specs.World.{World, Thread, Process, Registers, thread_at, owner_of, page_of}
+use Rattle.dos_world.specs.World.{look, entry_at, space_of}
 use Rattle.dos_world.specs.declared.Entry.{Entry}
 use Rattle.dos_world.specs.declared.Owner.{Owner}
 use Rattle.dos_world.specs.declared.Owner.TheVariants.{Free, Shared, Of}
@@ -19,7 +22,8 @@ use Rattle.quantum_run.specs.Shows.{Pack, View, Shows, thread_space}
 use Rattle.quantum_run.proofs.Alike.{steps-alike-all}
 use Rattle.quantum_run.proofs.Overlay.{length-overlay}
 use Rattle.quantum_run.proofs.Own.{steps-own}
-use Rattle.quantum_run.proofs.Packing.{paired-at, paired-is, page-own, page-lent, byte-in-page, page-same, same-here, same-length}
+use Rattle.quantum_run.proofs.Packing.{paired-at, paired-is, page-own, page-lent, byte-in-page}
+use Rattle.quantum_run.proofs.Packing.{page-same, same-here, same-length}
 use Rattle.quantum_run.proofs.Threads.{seen-changed}
 
 pub entry-space : (w : World) (t address : ℕ)

@@ -1,5 +1,8 @@
 -- A pack with a page more, and with one less.
-use Rattle.std.proofs.Common.{ℕ, zero, suc, ◌+◌, ◌^◌, ◌<◌, ◌≤◌, ◌≡◌, ◌≢◌, ◌⊎◌, inl, inr, refl, sym, ap, ◌∙◌, subst, Bool, true, false, eqb, eqb-true, List, [], ◌∷◌, ◌++◌, length, set, slice_get, is_some, replicate, Option, Some, None, arith, length-set, length-append}
+use Rattle.std.proofs.Common.{ℕ, zero, suc, ◌+◌, ◌^◌, ◌<◌, ◌≤◌, ◌≡◌, ◌≢◌, ◌⊎◌, inl, inr, refl, sym}
+use Rattle.std.proofs.Common.{ap, ◌∙◌, subst, Bool, true, false, eqb, eqb-true, List, [], ◌∷◌, ◌++◌}
+use Rattle.std.proofs.Common.{length, set, slice_get, is_some, replicate, Option, Some, None, arith}
+use Rattle.std.proofs.Common.{length-set, length-append}
 use Rattle.page_store.specs.Store.{whole, shown}
 use Rattle.dos_world.specs.World.{Registers}
 use Rattle.quantum_run.specs.Shows.{Pack}

@@ -1,5 +1,7 @@
 -- Words that are known stay so, as pages are found and written; and a memo that learns one more.
-use Rattle.std.proofs.Common.{ℕ, zero, suc, ◌+◌, ◌*◌, ◌/◌, ◌%◌, ◌^◌, ◌<◌, ◌≤◌, ◌≡◌, ◌≢◌, ◌⊎◌, inl, inr, refl, sym, ap, ◌∙◌, List, [], ◌∷◌, length, take, drop, set, true, false, Option, Ok, arith, subst, eqb}
+use Rattle.std.proofs.Common.{ℕ, zero, suc, ◌+◌, ◌*◌, ◌/◌, ◌%◌, ◌^◌, ◌<◌, ◌≤◌, ◌≡◌, ◌≢◌, ◌⊎◌, inl}
+use Rattle.std.proofs.Common.{inr, refl, sym, ap, ◌∙◌, List, [], ◌∷◌, length, take, drop, set, true}
+use Rattle.std.proofs.Common.{false, Option, Ok, arith, subst, eqb}
 use Rattle.std.specs.Prelude.{slice_index_or}
 use Rattle.std.proofs.lemmas.Bool.{cases_lt}
 use Rattle.std.proofs.lemmas.List.{get_or-set_other, get_or-set_same, get_or_past, set_past}
@@ -14,7 +16,8 @@ use Rattle.rv_exec.specs.Follows.{word_at}
 use Rattle.rv_form.specs.Notes.{Note, AreBelow, note_at, nothing, first_base}
 use Rattle.quantum_run.specs.declared.slot.Slot.{Slot}
 use Rattle.quantum_run.specs.Finding.{AreFramesOf, place_in}
-use Rattle.quantum_run.specs.Knowing.{AreKnown, IsKnown, IsNoCode, KeepsKnown, empty_slot, no_base, slot_of}
+use Rattle.quantum_run.specs.Knowing.{AreKnown, IsKnown, IsNoCode, KeepsKnown, empty_slot, no_base}
+use Rattle.quantum_run.specs.Knowing.{slot_of}
 use Rattle.quantum_run.specs.Showing.{Still, Holds, ShowsKnown}
 use Rattle.quantum_run.proofs.Places.{length-bytes}
 use Rattle.quantum_run.proofs.Reaching.{word-found}

@@ -1,5 +1,6 @@
 -- Own pages before lent ones.
-use Rattle.std.proofs.Common.{ℕ, zero, suc, ◌<◌, ◌≡◌, refl, sym, ap, ◌∙◌, subst, true, List, [], ◌∷◌, length, map, set, slice_get, is_some, Option, Some, None, arith}
+use Rattle.std.proofs.Common.{ℕ, zero, suc, ◌<◌, ◌≡◌, refl, sym, ap, ◌∙◌, subst, true, List, []}
+use Rattle.std.proofs.Common.{◌∷◌, length, map, set, slice_get, is_some, Option, Some, None, arith}
 use Rattle.std.specs.Prelude.{slice_index_or, IsSome}
 use Rattle.quantum_run.specs.Pages.{is_here, overlay}
 

@@ -1,7 +1,9 @@
 -- What the parallel part of a thread changes.
-use Rattle.std.proofs.Common.{ℕ, zero, suc, ◌/◌, ◌≡◌, ◌≢◌, refl, sym, ap, ◌∙◌, subst, List, length, get_or, option_map, Result, Ok, Err}
+use Rattle.std.proofs.Common.{ℕ, zero, suc, ◌/◌, ◌≡◌, ◌≢◌, refl, sym, ap, ◌∙◌, subst, List, length}
+use Rattle.std.proofs.Common.{get_or, option_map, Result, Ok, Err}
 use Rattle.std.specs.Prelude.{slice_index_or}
-use Rattle.dos_world.specs.World.{World, Thread, flat, thread_at, owner_of, with_thread, registers_by, released}
+use Rattle.dos_world.specs.World.{World, Thread, flat, thread_at, owner_of, with_thread}
+use Rattle.dos_world.specs.World.{registers_by, released}
 use Rattle.dos_world.specs.declared.Owner.{Owner}
 use Rattle.dos_world.specs.declared.Owner.TheVariants.{Free, Of}
 use Rattle.dos_world.specs.declared.Reason.{Reason}

@@ -1,7 +1,11 @@
 -- What a pack holds, by frame.
-use Rattle.std.proofs.Common.{ℕ, zero, suc, ◌+◌, ◌-◌, ◌*◌, ◌/◌, ◌%◌, ◌^◌, ◌<◌, ◌≤◌, ◌≡◌, ◌≢◌, ◌⊎◌, inl, inr, refl, sym, ap, ◌∙◌, subst, cond, not, Bool, true, false, eqb, eqb-true, List, [], ◌∷◌, length, map, min, get_or, take, drop, slice_get, is_some, Option, Some, None, Result, Ok, Err, arith}
+use Rattle.std.proofs.Common.{ℕ, zero, suc, ◌+◌, ◌-◌, ◌*◌, ◌/◌, ◌%◌, ◌^◌, ◌<◌, ◌≤◌, ◌≡◌, ◌≢◌, ◌⊎◌}
+use Rattle.std.proofs.Common.{inl, inr, refl, sym, ap, ◌∙◌, subst, cond, not, Bool, true, false}
+use Rattle.std.proofs.Common.{eqb, eqb-true, List, [], ◌∷◌, length, map, min, get_or, take, drop}
+use Rattle.std.proofs.Common.{slice_get, is_some, Option, Some, None, Result, Ok, Err, arith}
 use Rattle.std.specs.Prelude.{slice_index_or}
-use Rattle.std.proofs.lemmas.List.{ext_get_or, get_or-take, get_or-drop, length-take, length-drop, get_or_past}
+use Rattle.std.proofs.lemmas.List.{ext_get_or, get_or-take, get_or-drop, length-take, length-drop}
+use Rattle.std.proofs.lemmas.List.{get_or_past}
 use Rattle.std.proofs.lemmas.Bool.{cases_lt}
 use Rattle.dos_world.specs.World.{page_of, look}
 use Rattle.dos_world.specs.Reach.{has_right, is_foreign}

@@ -1,7 +1,10 @@
 -- A run is a part.
-use Rattle.std.proofs.Common.{ℕ, suc, ◌+◌, ◌-◌, ◌<◌, ◌≤◌, ◌≡◌, ◌⊎◌, inl, inr, true, is_some, refl, sym, ap, ◌∙◌, subst, List, [], Option, Some, None, option_map, Ok, Err, arith}
+use Rattle.std.proofs.Common.{ℕ, suc, ◌+◌, ◌-◌, ◌<◌, ◌≤◌, ◌≡◌, ◌⊎◌, inl, inr, true, is_some, refl}
+use Rattle.std.proofs.Common.{sym, ap, ◌∙◌, subst, List, [], Option, Some, None, option_map, Ok}
+use Rattle.std.proofs.Common.{Err, arith}
 use Rattle.std.specs.Prelude.{MatchOption}
-use Rattle.dos_world.specs.World.{World, Thread, Registers, thread_at, space_of, registers_by, released}
+use Rattle.dos_world.specs.World.{World, Thread, Registers, thread_at, space_of, registers_by}
+use Rattle.dos_world.specs.World.{released}
 use Rattle.dos_world.specs.declared.Entry.{Entry}
 use Rattle.dos_world.specs.declared.Reason.{Reason}
 use Rattle.page_store.specs.Store.{Store, joined}

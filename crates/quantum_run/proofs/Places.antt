@@ -1,7 +1,10 @@
 -- The frames that accesses find, and their pages.
 use Rattle.std.specs.Prelude.{slice_index_or}
 use Rattle.std.proofs.lemmas.List.Elements.{All-same, All-set, All-replicate}
-use Rattle.std.proofs.Common.{rules, replicate, ℕ, zero, suc, ◌+◌, ◌/◌, ◌%◌, ◌≡◌, ◌<◌, ◌≤◌, refl, sym, ap, ◌∙◌, subst, cond, not, Bool, true, false, List, [], ◌∷◌, length, map, drop, is_some, IsSome, All, set, slice_get, Option, Some, None, Result, Ok, Err, arith}
+use Rattle.std.proofs.Common.{rules, replicate, ℕ, zero, suc, ◌+◌, ◌/◌, ◌%◌, ◌≡◌, ◌<◌, ◌≤◌, refl}
+use Rattle.std.proofs.Common.{sym, ap, ◌∙◌, subst, cond, not, Bool, true, false, List, [], ◌∷◌}
+use Rattle.std.proofs.Common.{length, map, drop, is_some, IsSome, All, set, slice_get, Option, Some}
+use Rattle.std.proofs.Common.{None, Result, Ok, Err, arith}
 use Rattle.dos_world.specs.World.{look}
 use Rattle.dos_world.specs.Reach.{has_right, is_foreign, width, written, bytes_of}
 use Rattle.dos_world.specs.declared.Access.{Access}
@@ -18,7 +21,8 @@ use Rattle.std.proofs.lemmas.List.Elements.{All-nil, All-cons, All-head, All-tai
 use Rattle.page_store.proofs.Joined.{joined-number, joined-written}
 use Rattle.quantum_run.specs.ThreadRuns.{AreMapped}
 use Rattle.quantum_run.specs.declared.slot.Slot.{Slot}
-use Rattle.quantum_run.specs.Finding.{AreFramesOf, IsFrameOf, IsWriting, frame_by, frame_for, place_in}
+use Rattle.quantum_run.specs.Finding.{AreFramesOf, IsFrameOf, IsWriting, frame_by, frame_for}
+use Rattle.quantum_run.specs.Finding.{place_in}
 use Rattle.quantum_run.specs.Knowing.{empty_slot}
 use Rattle.quantum_run.specs.Pages.{is_here}
 

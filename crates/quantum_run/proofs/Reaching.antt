@@ -1,9 +1,12 @@
 -- What the flat world answers to an access, by the frame that is found for it.
-use Rattle.std.proofs.Common.{ℕ, ◌+◌, ◌*◌, ◌/◌, ◌%◌, ◌^◌, ◌<◌, ◌≡◌, ◌≢◌, refl, sym, ap, ◌∙◌, subst, cond, not, Bool, true, false, eqb, eq-eqb, ne_eqb, List, [], ◌∷◌, take, drop, Option, Some, None, Result, Ok, Err, arith}
+use Rattle.std.proofs.Common.{ℕ, ◌+◌, ◌*◌, ◌/◌, ◌%◌, ◌^◌, ◌<◌, ◌≡◌, ◌≢◌, refl, sym, ap, ◌∙◌, subst}
+use Rattle.std.proofs.Common.{cond, not, Bool, true, false, eqb, eq-eqb, ne_eqb, List, [], ◌∷◌}
+use Rattle.std.proofs.Common.{take, drop, Option, Some, None, Result, Ok, Err, arith}
 use Rattle.std.specs.Prelude.{slice_index_or}
 use Rattle.std.proofs.lemmas.List.{drop-drop}
 use Rattle.dos_world.specs.World.{World, look, entry_at}
-use Rattle.dos_world.specs.Reach.{fault, foreign, at, in_frame, has_right, is_foreign, width, number_of, loaded}
+use Rattle.dos_world.specs.Reach.{fault, foreign, at, in_frame, has_right, is_foreign, width}
+use Rattle.dos_world.specs.Reach.{number_of, loaded}
 use Rattle.dos_world.specs.declared.Access.{Access}
 use Rattle.dos_world.specs.declared.Access.TheVariants.{Fetch}
 use Rattle.dos_world.specs.declared.Entry.{Entry}

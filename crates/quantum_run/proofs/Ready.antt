@@ -1,5 +1,7 @@
 -- A pack that can run over a view: what its run needs, and what that comes to.
-use Rattle.std.proofs.Common.{ℕ, zero, suc, [], ◌∷◌, IfSome, ◌-◌, ◌<◌, ◌≤◌, ◌≡◌, ◌≢◌, ◌⊎◌, ◌∙◌, sym, ap, subst, refl, true, false, List, map, is_some, length, Option, Some, None, option_map, slice_get, Ok, Err, arith}
+use Rattle.std.proofs.Common.{ℕ, zero, suc, [], ◌∷◌, IfSome, ◌-◌, ◌<◌, ◌≤◌, ◌≡◌, ◌≢◌, ◌⊎◌, ◌∙◌, sym}
+use Rattle.std.proofs.Common.{ap, subst, refl, true, false, List, map, is_some, length, Option}
+use Rattle.std.proofs.Common.{Some, None, option_map, slice_get, Ok, Err, arith}
 use Rattle.std.specs.Prelude.{MatchOption, slice_index_or}
 use Rattle.std.proofs.lemmas.List.{length-map}
 use Rattle.dos_world.specs.Numbered.{numbered}

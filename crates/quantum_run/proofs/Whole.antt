@@ -1,9 +1,11 @@
 -- From the frames to the memory of a run in place, and back.
 use Rattle.std.specs.Prelude.{MatchOption}
 use Rattle.rv_exec.specs.Step.{step}
-use Rattle.std.proofs.Common.{ℕ, ◌<◌, ◌-◌, ◌/◌, ◌≡◌, refl, ap, ◌∙◌, subst, List, [], Option, Some, None, Err}
+use Rattle.std.proofs.Common.{ℕ, ◌<◌, ◌-◌, ◌/◌, ◌≡◌, refl, ap, ◌∙◌, subst, List, [], Option, Some}
+use Rattle.std.proofs.Common.{None, Err}
 use Rattle.std.specs.Prelude.{slice_index_or}
-use Rattle.dos_world.specs.World.{World, Thread, Registers, thread_at, with_thread, space_of, entry_at, look}
+use Rattle.dos_world.specs.World.{World, Thread, Registers, thread_at, with_thread, space_of}
+use Rattle.dos_world.specs.World.{entry_at, look}
 use Rattle.dos_world.specs.Reach.{is_foreign}
 use Rattle.dos_world.specs.declared.Entry.{Entry}
 use Rattle.dos_world.specs.declared.Owner.{Owner}

@@ -1,6 +1,7 @@
 -- A world for each memory that shows one: so what stands still in all of them stands still. In it
 -- the thread that runs is 1, and every other one is 2.
-use Rattle.std.proofs.Common.{ℕ, zero, suc, ◌≡◌, refl, cond, not, Bool, true, false, List, [], ◌∷◌, map, Option, Some}
+use Rattle.std.proofs.Common.{ℕ, zero, suc, ◌≡◌, refl, cond, not, Bool, true, false, List, [], ◌∷◌}
+use Rattle.std.proofs.Common.{map, Option, Some}
 use Rattle.std.specs.Prelude.{slice_index_or, ◌==◌, if◌then◌else◌}
 use Rattle.dos_world.specs.World.{World, Registers, live}
 use Rattle.dos_world.specs.Reach.{is_foreign}

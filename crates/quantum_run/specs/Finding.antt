@@ -1,6 +1,7 @@
 -- Which frame an access reaches, by the owners of the frames and the entries of a space. This
 -- project's own rules.
-use Rattle.std.specs.Prelude.{ℕ, ◌≡◌, ◌≢◌, ◌+◌, ◌*◌, ◌<◌, ◌/◌, ◌%◌, ◌^◌, List, Option, Some, None, Result, Ok, Err, not, if◌then◌else◌, slice_get, slice_index_or, All}
+use Rattle.std.specs.Prelude.{ℕ, ◌≡◌, ◌≢◌, ◌+◌, ◌*◌, ◌<◌, ◌/◌, ◌%◌, ◌^◌, List, Option, Some, None}
+use Rattle.std.specs.Prelude.{Result, Ok, Err, not, if◌then◌else◌, slice_get, slice_index_or, All}
 use Rattle.dos_world.specs.World.{look}
 use Rattle.dos_world.specs.Reach.{has_right, is_foreign}
 use Rattle.dos_world.specs.declared.Access.{Access}

@@ -1,5 +1,6 @@
 -- Which words are known to stand at which addresses, while a thread runs. This project's own rules.
-use Rattle.std.specs.Prelude.{ℕ, ◌≡◌, ◌≢◌, ◌+◌, ◌<◌, ◌≤◌, ◌/◌, ◌%◌, ◌^◌, List, All, Option, slice_index_or}
+use Rattle.std.specs.Prelude.{ℕ, ◌≡◌, ◌≢◌, ◌+◌, ◌<◌, ◌≤◌, ◌/◌, ◌%◌, ◌^◌, List, All, Option}
+use Rattle.std.specs.Prelude.{slice_index_or}
 use Rattle.dos_world.specs.declared.Size.TheVariants.{Word}
 use Rattle.page_store.specs.Store.{joined, number_at}
 use Rattle.rv_form.specs.Notes.{Note, first_base, note_at}

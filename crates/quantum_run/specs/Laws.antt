@@ -1,5 +1,6 @@
 -- Laws of the parallel part and of runs; the functions of the module laws promise them.
-use Rattle.std.specs.Prelude.{ℕ, ◌≡◌, ◌≢◌, ◌+◌, ◌-◌, ◌/◌, ◌<◌, ◌≤◌, List, length, Option, Some, Err, MatchOption, option_map, slice_index}
+use Rattle.std.specs.Prelude.{ℕ, ◌≡◌, ◌≢◌, ◌+◌, ◌-◌, ◌/◌, ◌<◌, ◌≤◌, List, length, Option, Some, Err}
+use Rattle.std.specs.Prelude.{MatchOption, option_map, slice_index}
 use Rattle.dos_world.specs.World.{World, Thread, Registers, thread_at, owner_of, blank, released}
 use Rattle.dos_world.specs.declared.Entry.{Entry}
 use Rattle.dos_world.specs.declared.Owner.TheVariants.{Of}

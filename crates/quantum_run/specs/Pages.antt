@@ -1,5 +1,6 @@
 -- The pages that a thread reaches. This project's own rules.
-use Rattle.std.specs.Prelude.{ℕ, ◌≡◌, ◌<◌, Bool, true, false, List, [], ◌∷◌, is_some, Option, Some, None, Ok, length, slice_get, slice_set}
+use Rattle.std.specs.Prelude.{ℕ, ◌≡◌, ◌<◌, Bool, true, false, List, [], ◌∷◌, is_some, Option, Some}
+use Rattle.std.specs.Prelude.{None, Ok, length, slice_get, slice_set}
 use Rattle.dos_world.specs.World.{look}
 use Rattle.dos_world.specs.Reach.{written}
 use Rattle.dos_world.specs.declared.Access.{Access}

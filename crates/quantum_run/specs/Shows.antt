@@ -1,9 +1,11 @@
 -- What a pack, which is a thread with the pages that are its own, and the view that is lent to it
 -- show of a world. This project's own rule.
-use Rattle.std.specs.Prelude.{ℕ, ◌≡◌, ◌≢◌, ◌*◌, ◌<◌, List, [], map, length, Option, Some, None, option_map, slice_get, slice_index_or}
+use Rattle.std.specs.Prelude.{ℕ, ◌≡◌, ◌≢◌, ◌*◌, ◌<◌, List, [], map, length, Option, Some, None}
+use Rattle.std.specs.Prelude.{option_map, slice_get, slice_index_or}
 use Rattle.dos_world.specs.Numbered.{numbered}
 use Rattle.rv_exec.specs.Runs.{kept}
-use Rattle.dos_world.specs.World.{World, Registers, thread_at, space_of, owner_of, look, page_of, released}
+use Rattle.dos_world.specs.World.{World, Registers, thread_at, space_of, owner_of, look, page_of}
+use Rattle.dos_world.specs.World.{released}
 use Rattle.dos_world.specs.declared.Entry.{Entry}
 use Rattle.dos_world.specs.declared.Owner.{Owner}
 use Rattle.dos_world.specs.declared.Owner.TheVariants.{Free, Shared, Of}

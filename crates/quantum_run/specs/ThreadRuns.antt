@@ -1,5 +1,6 @@
 -- A thread that runs in place, over the frames and its space. This project's own rules.
-use Rattle.std.specs.Prelude.{ℕ, zero, suc, ◌≡◌, ◌<◌, ◌-◌, List, [], Option, Some, None, Ok, Err, option_map, length}
+use Rattle.std.specs.Prelude.{ℕ, zero, suc, ◌≡◌, ◌<◌, ◌-◌, List, [], Option, Some, None, Ok, Err}
+use Rattle.std.specs.Prelude.{option_map, length}
 pub use Rattle.dos_world.specs.World.{ran}
 use Rattle.dos_world.specs.World.{World, Registers, thread_at, with_thread, look}
 use Rattle.dos_world.specs.declared.Entry.{Entry}

@@ -1,5 +1,6 @@
 // Laws of the definitions, as contracts of functions that do nothing.
-ghost use Rattle.quantum_run.specs.Laws.{PartsChangeTheirOwn, RunsAreEmptied, RunsAreParts, StepsGoOn, StopsEndSteps};
+ghost use Rattle.quantum_run.specs.Laws.{PartsChangeTheirOwn, RunsAreEmptied, RunsAreParts};
+ghost use Rattle.quantum_run.specs.Laws.{StepsGoOn, StopsEndSteps};
 
 /// The parallel part of a thread changes at most its registers, its budget and the bytes of frames
 /// that are its own.

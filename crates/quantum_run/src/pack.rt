@@ -1,8 +1,10 @@
 // A thread with the pages that are its own, apart from the frames.
-ghost use Rattle.std.specs.Prelude.{◌≡◌, ◌<◌, ◌≤◌, ◌+◌, ◌++◌, ◌∷◌, [], length, map, replicate, true, false, None, IfOk, MatchOption};
+ghost use Rattle.std.specs.Prelude.{◌≡◌, ◌<◌, ◌≤◌, ◌+◌, ◌++◌, ◌∷◌, [], length, map, replicate};
+ghost use Rattle.std.specs.Prelude.{true, false, None, IfOk, MatchOption};
 ghost use Rattle.page_store.specs.Store.{whole};
 ghost use Rattle.quantum_run.specs.Shows.{CanRun, Finished, LeadsTo, RanOut, begun, frames_of};
-ghost use Rattle.quantum_run.specs.Packs.{HoldsNo, empty_pack, seen, seen_in, with_page, with_thread_of};
+ghost use Rattle.quantum_run.specs.Packs.{HoldsNo, empty_pack, seen, seen_in, with_page};
+ghost use Rattle.quantum_run.specs.Packs.{with_thread_of};
 
 use crate::late_memo::LateMemo;
 use crate::page_places::Places;

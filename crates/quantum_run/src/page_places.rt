@@ -1,5 +1,6 @@
 // Places for pages, by frame.
-ghost use Rattle.std.specs.Prelude.{◌≡◌, ◌≤◌, ◌<◌, length, replicate, slice_get, slice_set, IfOk, Some, None};
+ghost use Rattle.std.specs.Prelude.{◌≡◌, ◌≤◌, ◌<◌, length, replicate, slice_get, slice_set, IfOk};
+ghost use Rattle.std.specs.Prelude.{Some, None};
 ghost use Rattle.std.specs.Vec.{vec_capacity};
 ghost use Rattle.quantum_run.specs.PagePlaces.{filled};
 

@@ -1,5 +1,6 @@
 // The pages that one thread reaches, by frame.
-ghost use Rattle.std.specs.Prelude.{◌≡◌, ◌+◌, ◌^◌, ◌<◌, ◌≤◌, ℕ, Bool, true, List, Option, Some, length, slice_get, slice_index_or};
+ghost use Rattle.std.specs.Prelude.{◌≡◌, ◌+◌, ◌^◌, ◌<◌, ◌≤◌, ℕ, Bool, true, List, Option, Some};
+ghost use Rattle.std.specs.Prelude.{length, slice_get, slice_index_or};
 ghost use Rattle.dos_world.specs.Reach.{bytes_of, width};
 ghost use Rattle.dos_world.specs.declared.Owner.{Owner as owner_type};
 ghost use Rattle.dos_world.specs.declared.Owner.TheVariants.{Free};

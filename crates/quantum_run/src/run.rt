@@ -1,12 +1,14 @@
 // The loop, over any memory and in place.
-ghost use Rattle.std.specs.Prelude.{◌≡◌, ◌<◌, ◌≤◌, ◌-◌, ℕ, List, Some, Err, MatchOption, length, map, is_some};
+ghost use Rattle.std.specs.Prelude.{◌≡◌, ◌<◌, ◌≤◌, ◌-◌, ℕ, List, Some, Err, MatchOption, length};
+ghost use Rattle.std.specs.Prelude.{map, is_some};
 ghost use Rattle.dos_world.specs.World.{World};
 ghost use Rattle.page_store.specs.Store.{AreHome};
 ghost use Rattle.rv_exec.specs.Runs.{Runs};
 ghost use Rattle.rv_exec.specs.Step.{step};
 ghost use Rattle.quantum_run.specs.Knowing.{no_base};
 ghost use Rattle.quantum_run.specs.Pages.{AreOwn, AreReached, AreWithin, is_here, overlay};
-ghost use Rattle.quantum_run.specs.ThreadRuns.{AreMapped, Goes, IsRunOf, after_steps, run_to, store_of};
+ghost use Rattle.quantum_run.specs.ThreadRuns.{AreMapped, Goes, IsRunOf, after_steps, run_to};
+ghost use Rattle.quantum_run.specs.ThreadRuns.{store_of};
 ghost use Rattle.quantum_run.specs.Showing.{ShowsBy, Still, still};
 
 use crate::lent::Lent;

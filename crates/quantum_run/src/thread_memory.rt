@@ -1,5 +1,6 @@
 // The memory of one thread over any pages.
-ghost use Rattle.std.specs.Prelude.{◌≡◌, ◌≢◌, ◌⊎◌, ◌+◌, ◌/◌, ◌%◌, ◌^◌, ◌<◌, ℕ, List, Option, Ok, Err, IfSome, true, slice_set};
+ghost use Rattle.std.specs.Prelude.{◌≡◌, ◌≢◌, ◌⊎◌, ◌+◌, ◌/◌, ◌%◌, ◌^◌, ◌<◌, ℕ, List, Option, Ok};
+ghost use Rattle.std.specs.Prelude.{Err, IfSome, true, slice_set};
 ghost use Rattle.std.specs.Option.{ok_or};
 ghost use Rattle.dos_world.specs.Reach.{bytes_of, width, written};
 ghost use Rattle.dos_world.specs.declared.Access.TheVariants.{Fetch, Load, Store};
@@ -7,7 +8,8 @@ ghost use Rattle.page_store.specs.Store.{joined, number_at};
 ghost use Rattle.rv_form.specs.Notes.{note_at};
 ghost use Rattle.quantum_run.specs.Showing.{HasWordOrReason, ShowsKnown, Still, still};
 ghost use Rattle.quantum_run.specs.Finding.{AreFramesOf, IsFrameOf, IsWriting, frame_for, place_in};
-ghost use Rattle.quantum_run.specs.Knowing.{AreApart, AreKnown, IsBase, IsKnown, IsNoCode, KeepsKnown, no_base, slot_of};
+ghost use Rattle.quantum_run.specs.Knowing.{AreApart, AreKnown, IsBase, IsKnown, IsNoCode};
+ghost use Rattle.quantum_run.specs.Knowing.{KeepsKnown, no_base, slot_of};
 ghost use Rattle.quantum_run.specs.Pages.{AreReached, AreOwn, AreWithin, IsHomeIn};
 
 use crate::pages::Pages;

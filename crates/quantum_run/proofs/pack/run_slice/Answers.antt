@@ -1,8 +1,10 @@
-use Rattle.std.proofs.Common.{◌≡◌, ◌≢◌, ◌⊎◌, inl, inr, ◌∙◌, sym, ap, true, false, eqb-true, is_some, arith}
+use Rattle.std.proofs.Common.{◌≡◌, ◌≢◌, ◌⊎◌, inl, inr, ◌∙◌, sym, ap, true, false, eqb-true, is_some}
+use Rattle.std.proofs.Common.{arith}
 use Rattle.std.proofs.lemmas.Bool.{eqb-false}
 use Rattle.quantum_run.specs.Shows.{Pack, frames_of}
 use Rattle.quantum_run.proofs.Packing.{frames-paired, packed-kept, same-length}
-use Rattle.quantum_run.proofs.Ready.{floor-left, ready-reached, ready-own, ready-within, slice-leads, slice-out}
+use Rattle.quantum_run.proofs.Ready.{floor-left, ready-reached, ready-own, ready-within}
+use Rattle.quantum_run.proofs.Ready.{slice-leads, slice-out}
 use Rattle.quantum_run.proofs.pack.run_slice.Goals as goal
 use Rattle.quantum_run.proofs.pack.run_slice.Goals.{then-is_some, else-is_some}
 

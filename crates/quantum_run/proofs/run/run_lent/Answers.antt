@@ -1,4 +1,5 @@
-use Rattle.std.proofs.Common.{ℕ, ◌≡◌, ◌<◌, ◌-◌, ◌∙◌, List, Option, Some, Err, MatchOption, ap, map, is_some, length, sym, subst}
+use Rattle.std.proofs.Common.{ℕ, ◌≡◌, ◌<◌, ◌-◌, ◌∙◌, List, Option, Some, Err, MatchOption, ap, map}
+use Rattle.std.proofs.Common.{is_some, length, sym, subst}
 use Rattle.dos_world.specs.World.{World}
 use Rattle.rv_exec.specs.Step.{step}
 use Rattle.quantum_run.specs.Pages.{overlay}

@@ -1,6 +1,8 @@
-use Rattle.std.proofs.Common.{◌≡◌, ◌<◌, sym, ap, ◌∙◌, subst, true, length, map, is_some, slice_set, Some}
+use Rattle.std.proofs.Common.{◌≡◌, ◌<◌, sym, ap, ◌∙◌, subst, true, length, map, is_some, slice_set}
+use Rattle.std.proofs.Common.{Some}
 use Rattle.quantum_run.specs.Pages.{overlay, is_here}
-use Rattle.quantum_run.proofs.Overlay.{here-page, here-within, here-set, some-set, overlay-own, overlay-set, get-of, Some-one}
+use Rattle.quantum_run.proofs.Overlay.{here-page, here-within, here-set, some-set, overlay-own}
+use Rattle.quantum_run.proofs.Overlay.{overlay-set, get-of, Some-one}
 use Rattle.quantum_run.proofs.lent.LentPages.write.Goals as goal
 
 pub returns-clause-pages : goal.returns-clause-pages

@@ -1,4 +1,5 @@
-use Rattle.std.proofs.Common.{◌≡◌, ◌∙◌, ◌++◌, ◌∷◌, [], sym, ap, subst, length, length-set, ℕ, List, Option, None, vec_capacity, arith}
+use Rattle.std.proofs.Common.{◌≡◌, ◌∙◌, ◌++◌, ◌∷◌, [], sym, ap, subst, length, length-set, ℕ, List}
+use Rattle.std.proofs.Common.{Option, None, vec_capacity, arith}
 use Rattle.page_store.specs.Store.{whole}
 use Rattle.quantum_run.specs.Packs.{IsPacked, paired}
 use Rattle.quantum_run.proofs.Keeping.{packed-less, paired-without, packed-view}

@@ -1,4 +1,5 @@
-use Rattle.std.proofs.Common.{ℕ, Bool, Ok, Err, ◌+◌, ◌^◌, ◌<◌, ◌≤◌, ◌≡◌, ◌≢◌, ◌⊎◌, inl, inr, refl, sym, ap, ◌∙◌, subst, arith}
+use Rattle.std.proofs.Common.{ℕ, Bool, Ok, Err, ◌+◌, ◌^◌, ◌<◌, ◌≤◌, ◌≡◌, ◌≢◌, ◌⊎◌, inl, inr, refl}
+use Rattle.std.proofs.Common.{sym, ap, ◌∙◌, subst, arith}
 use Rattle.std.specs.Prelude.{MatchBool}
 use Rattle.rv_exec.specs.Follows.{word_at}
 use Rattle.rv_form.specs.Notes.{first_base, note_at}
