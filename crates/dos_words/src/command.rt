@@ -1,6 +1,6 @@
 //! The words as `clap` is told of them: the program's commands, each with its options and names.
-ghost use Rattle.std.specs.Prelude.{◌≡◌, IfOk, false};
-ghost use Rattle.clap.specs.Words.{app_of, shape_of, rule_of, with_rule, new_app};
+ghost use Rattle.std.specs.Prelude.{◌≡◌, IfOk, false, map, fold};
+ghost use Rattle.clap.specs.Words.{Shape, app_of, shape_of, rule_of, with_rule, with_subcommand, new_app};
 ghost use Rattle.clap.specs.declared.builder.command.Command.TheViews.{out-Command as fields_of};
 ghost use Rattle.dos_words.specs.Commands.{run, replay, inspect, gen};
 ghost use Rattle.dos_words.specs.Clap.{option_rule, names_rule, command_shape, bare_app, words_app};
@@ -37,19 +37,40 @@ fn with_names<'a>(alloc: Global, command: Command<'a>) -> Result<Command<'a>, Al
     Ok(more)
 }
 
+/// With options more, in their order.
+fn with_options<'a>(
+    alloc: Global,
+    command: Command<'a>,
+    names: &[&'a str],
+) -> Result<Command<'a>, AllocError>
+    ensures app { IfOk result (λ c.
+        app_of c
+        ≡ fold with_rule (app_of command.entry) (map (λ s. option_rule s.now) names.now)) }
+    ensures local { (fields_of command.entry).has_globals ≡ false
+        → IfOk result (λ c. (fields_of c).has_globals ≡ false) }
+{
+    let mut more = command;
+    for name in names {
+        more = with_option(alloc, more, name)?;
+    }
+    Ok(more)
+}
+
 fn run_command<'a>(alloc: Global) -> Result<Command<'a>, AllocError>
     ensures shape { IfOk result (λ c. shape_of c ≡ command_shape run) }
     ensures local { IfOk result (λ c. (fields_of c).has_globals ≡ false) }
 {
-    let command = Command::new(alloc, "run");
-    let command = with_option(alloc, command, "quantum")?;
-    let command = with_option(alloc, command, "rounds")?;
-    let command = with_option(alloc, command, "frames")?;
-    let command = with_option(alloc, command, "workers")?;
-    let command = with_option(alloc, command, "signals")?;
-    let command = with_option(alloc, command, "clock-from")?;
-    let command = with_option(alloc, command, "clock-step")?;
-    let command = with_option(alloc, command, "log")?;
+    let options = [
+        "quantum",
+        "rounds",
+        "frames",
+        "workers",
+        "signals",
+        "clock-from",
+        "clock-step",
+        "log",
+    ];
+    let command = with_options(alloc, Command::new(alloc, "run"), &options)?;
     let command = with_names(alloc, command)?;
     Ok(command)
 }
@@ -58,9 +79,7 @@ fn replay_command<'a>(alloc: Global) -> Result<Command<'a>, AllocError>
     ensures shape { IfOk result (λ c. shape_of c ≡ command_shape replay) }
     ensures local { IfOk result (λ c. (fields_of c).has_globals ≡ false) }
 {
-    let command = Command::new(alloc, "replay");
-    let command = with_option(alloc, command, "workers")?;
-    let command = with_option(alloc, command, "log")?;
+    let command = with_options(alloc, Command::new(alloc, "replay"), &["workers", "log"])?;
     let command = with_names(alloc, command)?;
     Ok(command)
 }
@@ -78,10 +97,8 @@ fn gen_command<'a>(alloc: Global) -> Result<Command<'a>, AllocError>
     ensures shape { IfOk result (λ c. shape_of c ≡ command_shape gen) }
     ensures local { IfOk result (λ c. (fields_of c).has_globals ≡ false) }
 {
-    let command = Command::new(alloc, "gen");
-    let command = with_option(alloc, command, "number")?;
-    let command = with_option(alloc, command, "threads")?;
-    let command = with_option(alloc, command, "workers")?;
+    let options = ["number", "threads", "workers"];
+    let command = with_options(alloc, Command::new(alloc, "gen"), &options)?;
     Ok(command)
 }
 
@@ -95,18 +112,33 @@ fn bare_command<'a>(alloc: Global) -> Command<'a>
         .disable_help_subcommand(true)
 }
 
+/// With one command more, where that one was made.
+fn with_command<'a>(
+    whole: Command<'a>,
+    made: Result<Command<'a>, AllocError>,
+) -> Result<Command<'a>, AllocError>
+    ensures { (shape : Shape)
+        → IfOk made.entry (λ c. shape_of c ≡ shape)
+        → IfOk made.entry (λ c. (fields_of c).has_globals ≡ false)
+        → IfOk result (λ c. app_of c ≡ with_subcommand (app_of whole.entry) shape) }
+{
+    match made {
+        Err(error) => {
+            drop(whole);
+            Err(error)
+        }
+        Ok(command) => whole.subcommand(command),
+    }
+}
+
 /// The program with its commands.
 pub fn words_command<'a>(alloc: Global) -> Result<Command<'a>, AllocError>
     ensures { IfOk result (λ c. app_of c ≡ words_app) }
 {
-    let run = run_command(alloc)?;
-    let replay = replay_command(alloc)?;
-    let inspect = inspect_command(alloc)?;
-    let generate = gen_command(alloc)?;
     let whole = bare_command(alloc);
-    let whole = whole.subcommand(run)?;
-    let whole = whole.subcommand(replay)?;
-    let whole = whole.subcommand(inspect)?;
-    let whole = whole.subcommand(generate)?;
+    let whole = with_command(whole, run_command(alloc))?;
+    let whole = with_command(whole, replay_command(alloc))?;
+    let whole = with_command(whole, inspect_command(alloc))?;
+    let whole = with_command(whole, gen_command(alloc))?;
     Ok(whole)
 }
