@@ -1,6 +1,6 @@
 //! The words as `clap` is told of them: the program's commands, each with its options and names.
-ghost use Rattle.std.specs.Prelude.{◌≡◌, IfOk, false, map, fold};
-ghost use Rattle.clap.specs.Words.{Shape, app_of, shape_of, rule_of, with_rule, with_subcommand, new_app};
+ghost use Rattle.std.specs.Prelude.{◌≡◌, IfOk, false, map, fold, ◌∷◌, []};
+ghost use Rattle.clap.specs.Words.{App, Shape, app_of, shape_of, rule_of, with_rule, with_subcommand, new_app};
 ghost use Rattle.clap.specs.declared.builder.command.Command.TheViews.{out-Command as fields_of};
 ghost use Rattle.dos_words.specs.Commands.{run, replay, inspect, gen};
 ghost use Rattle.dos_words.specs.Clap.{option_rule, names_rule, command_shape, bare_app, words_app};
@@ -20,8 +20,7 @@ fn with_option<'a>(
         → IfOk result (λ c. (fields_of c).has_globals ≡ false) }
 {
     let option = Arg::new(alloc, name).long(name).action(ArgAction::Set);
-    let more = command.arg(option)?;
-    Ok(more)
+    command.arg(option)
 }
 
 /// With the names behind the options: there is at least one.
@@ -33,8 +32,7 @@ fn with_names<'a>(alloc: Global, command: Command<'a>) -> Result<Command<'a>, Al
     let names = Arg::new(alloc, "names")
         .action(ArgAction::Set)
         .num_args(1..);
-    let more = command.arg(names)?;
-    Ok(more)
+    command.arg(names)
 }
 
 /// With options more, in their order.
@@ -71,26 +69,23 @@ fn run_command<'a>(alloc: Global) -> Result<Command<'a>, AllocError>
         "log",
     ];
     let command = with_options(alloc, Command::new(alloc, "run"), &options)?;
-    let command = with_names(alloc, command)?;
-    Ok(command)
+    with_names(alloc, command)
 }
 
 fn replay_command<'a>(alloc: Global) -> Result<Command<'a>, AllocError>
     ensures shape { IfOk result (λ c. shape_of c ≡ command_shape replay) }
     ensures local { IfOk result (λ c. (fields_of c).has_globals ≡ false) }
 {
-    let command = with_options(alloc, Command::new(alloc, "replay"), &["workers", "log"])?;
-    let command = with_names(alloc, command)?;
-    Ok(command)
+    let options = ["workers", "log"];
+    let command = with_options(alloc, Command::new(alloc, "replay"), &options)?;
+    with_names(alloc, command)
 }
 
 fn inspect_command<'a>(alloc: Global) -> Result<Command<'a>, AllocError>
     ensures shape { IfOk result (λ c. shape_of c ≡ command_shape inspect) }
     ensures local { IfOk result (λ c. (fields_of c).has_globals ≡ false) }
 {
-    let command = Command::new(alloc, "inspect");
-    let command = with_names(alloc, command)?;
-    Ok(command)
+    with_names(alloc, Command::new(alloc, "inspect"))
 }
 
 fn gen_command<'a>(alloc: Global) -> Result<Command<'a>, AllocError>
@@ -98,8 +93,7 @@ fn gen_command<'a>(alloc: Global) -> Result<Command<'a>, AllocError>
     ensures local { IfOk result (λ c. (fields_of c).has_globals ≡ false) }
 {
     let options = ["number", "threads", "workers"];
-    let command = with_options(alloc, Command::new(alloc, "gen"), &options)?;
-    Ok(command)
+    with_options(alloc, Command::new(alloc, "gen"), &options)
 }
 
 /// The program itself. Its words are without its name; help is no word of it.
@@ -117,10 +111,10 @@ fn with_command<'a>(
     whole: Command<'a>,
     made: Result<Command<'a>, AllocError>,
 ) -> Result<Command<'a>, AllocError>
-    ensures { (shape : Shape)
+    ensures { (app : App) (shape : Shape) → app_of whole.entry ≡ app
         → IfOk made.entry (λ c. shape_of c ≡ shape)
         → IfOk made.entry (λ c. (fields_of c).has_globals ≡ false)
-        → IfOk result (λ c. app_of c ≡ with_subcommand (app_of whole.entry) shape) }
+        → IfOk result (λ c. app_of c ≡ with_subcommand app shape) }
 {
     match made {
         Err(error) => {
@@ -131,14 +125,20 @@ fn with_command<'a>(
     }
 }
 
+/// The program with the commands that run images from files.
+fn runs_command<'a>(alloc: Global) -> Result<Command<'a>, AllocError>
+    ensures { IfOk result (λ c.
+        app_of c ≡ fold with_subcommand bare_app (map command_shape (run ∷ replay ∷ []))) }
+{
+    let whole = with_command(bare_command(alloc), run_command(alloc))?;
+    with_command(whole, replay_command(alloc))
+}
+
 /// The program with its commands.
 pub fn words_command<'a>(alloc: Global) -> Result<Command<'a>, AllocError>
     ensures { IfOk result (λ c. app_of c ≡ words_app) }
 {
-    let whole = bare_command(alloc);
-    let whole = with_command(whole, run_command(alloc))?;
-    let whole = with_command(whole, replay_command(alloc))?;
-    let whole = with_command(whole, inspect_command(alloc))?;
-    let whole = with_command(whole, gen_command(alloc))?;
-    Ok(whole)
+    let runs = runs_command(alloc)?;
+    let whole = with_command(runs, inspect_command(alloc))?;
+    with_command(whole, gen_command(alloc))
 }
