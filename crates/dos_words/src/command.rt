@@ -8,7 +8,25 @@ ghost use Rattle.dos_words.specs.Clap.{option_rule, names_rule, command_shape, b
 use clap::{Arg, ArgAction, Command};
 use std::alloc::{AllocError, Global};
 
-/// With one option more: it takes one value.
+/// An option: it takes one value.
+fn option_argument<'a>(alloc: Global, name: &'a str) -> Arg<'a>
+    ensures rule { rule_of result ≡ option_rule name.entry.now }
+    ensures local { result.global ≡ false }
+{
+    Arg::new(alloc, name).long(name).action(ArgAction::Set)
+}
+
+/// The names behind the options: there is at least one.
+fn names_argument<'a>(alloc: Global) -> Arg<'a>
+    ensures rule { rule_of result ≡ names_rule }
+    ensures local { result.global ≡ false }
+{
+    Arg::new(alloc, "names")
+        .action(ArgAction::Set)
+        .num_args(1..)
+}
+
+/// With one option more.
 fn with_option<'a>(
     alloc: Global,
     command: Command<'a>,
@@ -19,20 +37,16 @@ fn with_option<'a>(
     ensures local { (fields_of command.entry).has_globals ≡ false
         → IfOk result (λ c. (fields_of c).has_globals ≡ false) }
 {
-    let option = Arg::new(alloc, name).long(name).action(ArgAction::Set);
-    command.arg(option)
+    command.arg(option_argument(alloc, name))
 }
 
-/// With the names behind the options: there is at least one.
+/// With the names behind the options.
 fn with_names<'a>(alloc: Global, command: Command<'a>) -> Result<Command<'a>, AllocError>
     ensures app { IfOk result (λ c. app_of c ≡ with_rule (app_of command.entry) names_rule) }
     ensures local { (fields_of command.entry).has_globals ≡ false
         → IfOk result (λ c. (fields_of c).has_globals ≡ false) }
 {
-    let names = Arg::new(alloc, "names")
-        .action(ArgAction::Set)
-        .num_args(1..);
-    command.arg(names)
+    command.arg(names_argument(alloc))
 }
 
 /// With options more, in their order.
