@@ -148,11 +148,20 @@ fn runs_command<'a>(alloc: Global) -> Result<Command<'a>, AllocError>
     with_command(whole, replay_command(alloc))
 }
 
+/// The program with the commands that read files.
+fn files_command<'a>(alloc: Global) -> Result<Command<'a>, AllocError>
+    ensures { IfOk result (λ c.
+        app_of c
+        ≡ fold with_subcommand bare_app (map command_shape (run ∷ replay ∷ inspect ∷ []))) }
+{
+    let whole = runs_command(alloc)?;
+    with_command(whole, inspect_command(alloc))
+}
+
 /// The program with its commands.
 pub fn words_command<'a>(alloc: Global) -> Result<Command<'a>, AllocError>
     ensures { IfOk result (λ c. app_of c ≡ words_app) }
 {
-    let runs = runs_command(alloc)?;
-    let whole = with_command(runs, inspect_command(alloc))?;
+    let whole = files_command(alloc)?;
     with_command(whole, gen_command(alloc))
 }
