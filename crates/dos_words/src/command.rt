@@ -1,6 +1,6 @@
 //! The words as `clap` is told of them: the program's commands, each with its options and names.
-ghost use Rattle.std.specs.Prelude.{◌≡◌, IfOk, false};
-ghost use Rattle.clap.specs.Words.{app_of, shape_of, rule_of, with_rule, new_app};
+ghost use Rattle.std.specs.Prelude.{◌≡◌, IfOk, false, map, fold, ◌∷◌, []};
+ghost use Rattle.clap.specs.Words.{App, Shape, app_of, shape_of, rule_of, with_rule, with_subcommand, new_app};
 ghost use Rattle.clap.specs.declared.builder.command.Command.TheViews.{out-Command as fields_of};
 ghost use Rattle.dos_words.specs.Commands.{run, replay, inspect, gen};
 ghost use Rattle.dos_words.specs.Clap.{option_rule, names_rule, command_shape, bare_app, words_app};
@@ -8,7 +8,25 @@ ghost use Rattle.dos_words.specs.Clap.{option_rule, names_rule, command_shape, b
 use clap::{Arg, ArgAction, Command};
 use std::alloc::{AllocError, Global};
 
-/// With one option more: it takes one value.
+/// An option: it takes one value.
+fn option_argument<'a>(alloc: Global, name: &'a str) -> Arg<'a>
+    ensures rule { rule_of result ≡ option_rule name.entry.now }
+    ensures local { result.global ≡ false }
+{
+    Arg::new(alloc, name).long(name).action(ArgAction::Set)
+}
+
+/// The names behind the options: there is at least one.
+fn names_argument<'a>(alloc: Global) -> Arg<'a>
+    ensures rule { rule_of result ≡ names_rule }
+    ensures local { result.global ≡ false }
+{
+    Arg::new(alloc, "names")
+        .action(ArgAction::Set)
+        .num_args(1..)
+}
+
+/// With one option more.
 fn with_option<'a>(
     alloc: Global,
     command: Command<'a>,
@@ -19,21 +37,34 @@ fn with_option<'a>(
     ensures local { (fields_of command.entry).has_globals ≡ false
         → IfOk result (λ c. (fields_of c).has_globals ≡ false) }
 {
-    let option = Arg::new(alloc, name).long(name).action(ArgAction::Set);
-    let more = command.arg(option)?;
-    Ok(more)
+    command.arg(option_argument(alloc, name))
 }
 
-/// With the names behind the options: there is at least one.
+/// With the names behind the options.
 fn with_names<'a>(alloc: Global, command: Command<'a>) -> Result<Command<'a>, AllocError>
     ensures app { IfOk result (λ c. app_of c ≡ with_rule (app_of command.entry) names_rule) }
     ensures local { (fields_of command.entry).has_globals ≡ false
         → IfOk result (λ c. (fields_of c).has_globals ≡ false) }
 {
-    let names = Arg::new(alloc, "names")
-        .action(ArgAction::Set)
-        .num_args(1..);
-    let more = command.arg(names)?;
+    command.arg(names_argument(alloc))
+}
+
+/// With options more, in their order.
+fn with_options<'a>(
+    alloc: Global,
+    command: Command<'a>,
+    names: &[&'a str],
+) -> Result<Command<'a>, AllocError>
+    ensures app { IfOk result (λ c.
+        app_of c
+        ≡ fold with_rule (app_of command.entry) (map (λ s. option_rule s.now) names.now)) }
+    ensures local { (fields_of command.entry).has_globals ≡ false
+        → IfOk result (λ c. (fields_of c).has_globals ≡ false) }
+{
+    let mut more = command;
+    for name in names {
+        more = with_option(alloc, more, name)?;
+    }
     Ok(more)
 }
 
@@ -41,48 +72,42 @@ fn run_command<'a>(alloc: Global) -> Result<Command<'a>, AllocError>
     ensures shape { IfOk result (λ c. shape_of c ≡ command_shape run) }
     ensures local { IfOk result (λ c. (fields_of c).has_globals ≡ false) }
 {
-    let command = Command::new(alloc, "run");
-    let command = with_option(alloc, command, "quantum")?;
-    let command = with_option(alloc, command, "rounds")?;
-    let command = with_option(alloc, command, "frames")?;
-    let command = with_option(alloc, command, "workers")?;
-    let command = with_option(alloc, command, "signals")?;
-    let command = with_option(alloc, command, "clock-from")?;
-    let command = with_option(alloc, command, "clock-step")?;
-    let command = with_option(alloc, command, "log")?;
-    let command = with_names(alloc, command)?;
-    Ok(command)
+    let options = [
+        "quantum",
+        "rounds",
+        "frames",
+        "workers",
+        "signals",
+        "clock-from",
+        "clock-step",
+        "log",
+    ];
+    let command = with_options(alloc, Command::new(alloc, "run"), &options)?;
+    with_names(alloc, command)
 }
 
 fn replay_command<'a>(alloc: Global) -> Result<Command<'a>, AllocError>
     ensures shape { IfOk result (λ c. shape_of c ≡ command_shape replay) }
     ensures local { IfOk result (λ c. (fields_of c).has_globals ≡ false) }
 {
-    let command = Command::new(alloc, "replay");
-    let command = with_option(alloc, command, "workers")?;
-    let command = with_option(alloc, command, "log")?;
-    let command = with_names(alloc, command)?;
-    Ok(command)
+    let options = ["workers", "log"];
+    let command = with_options(alloc, Command::new(alloc, "replay"), &options)?;
+    with_names(alloc, command)
 }
 
 fn inspect_command<'a>(alloc: Global) -> Result<Command<'a>, AllocError>
     ensures shape { IfOk result (λ c. shape_of c ≡ command_shape inspect) }
     ensures local { IfOk result (λ c. (fields_of c).has_globals ≡ false) }
 {
-    let command = Command::new(alloc, "inspect");
-    let command = with_names(alloc, command)?;
-    Ok(command)
+    with_names(alloc, Command::new(alloc, "inspect"))
 }
 
 fn gen_command<'a>(alloc: Global) -> Result<Command<'a>, AllocError>
     ensures shape { IfOk result (λ c. shape_of c ≡ command_shape gen) }
     ensures local { IfOk result (λ c. (fields_of c).has_globals ≡ false) }
 {
-    let command = Command::new(alloc, "gen");
-    let command = with_option(alloc, command, "number")?;
-    let command = with_option(alloc, command, "threads")?;
-    let command = with_option(alloc, command, "workers")?;
-    Ok(command)
+    let options = ["number", "threads", "workers"];
+    with_options(alloc, Command::new(alloc, "gen"), &options)
 }
 
 /// The program itself. Its words are without its name; help is no word of it.
@@ -95,18 +120,48 @@ fn bare_command<'a>(alloc: Global) -> Command<'a>
         .disable_help_subcommand(true)
 }
 
+/// With one command more, where that one was made.
+fn with_command<'a>(
+    whole: Command<'a>,
+    made: Result<Command<'a>, AllocError>,
+) -> Result<Command<'a>, AllocError>
+    ensures { (app : App) (shape : Shape) → app_of whole.entry ≡ app
+        → IfOk made.entry (λ c. shape_of c ≡ shape)
+        → IfOk made.entry (λ c. (fields_of c).has_globals ≡ false)
+        → IfOk result (λ c. app_of c ≡ with_subcommand app shape) }
+{
+    match made {
+        Err(error) => {
+            drop(whole);
+            Err(error)
+        }
+        Ok(command) => whole.subcommand(command),
+    }
+}
+
+/// The program with the commands that run images from files.
+fn runs_command<'a>(alloc: Global) -> Result<Command<'a>, AllocError>
+    ensures { IfOk result (λ c.
+        app_of c ≡ fold with_subcommand bare_app (map command_shape (run ∷ replay ∷ []))) }
+{
+    let whole = with_command(bare_command(alloc), run_command(alloc))?;
+    with_command(whole, replay_command(alloc))
+}
+
+/// The program with the commands that read files.
+fn files_command<'a>(alloc: Global) -> Result<Command<'a>, AllocError>
+    ensures { IfOk result (λ c.
+        app_of c
+        ≡ fold with_subcommand bare_app (map command_shape (run ∷ replay ∷ inspect ∷ []))) }
+{
+    let whole = runs_command(alloc)?;
+    with_command(whole, inspect_command(alloc))
+}
+
 /// The program with its commands.
 pub fn words_command<'a>(alloc: Global) -> Result<Command<'a>, AllocError>
     ensures { IfOk result (λ c. app_of c ≡ words_app) }
 {
-    let run = run_command(alloc)?;
-    let replay = replay_command(alloc)?;
-    let inspect = inspect_command(alloc)?;
-    let generate = gen_command(alloc)?;
-    let whole = bare_command(alloc);
-    let whole = whole.subcommand(run)?;
-    let whole = whole.subcommand(replay)?;
-    let whole = whole.subcommand(inspect)?;
-    let whole = whole.subcommand(generate)?;
-    Ok(whole)
+    let whole = files_command(alloc)?;
+    with_command(whole, gen_command(alloc))
 }
