@@ -11,7 +11,7 @@ use quantum_run::{Pack, Shared};
 use std::alloc::{AllocError, Global};
 use worker_pool::Workers;
 
-/// The budget of each pack, which it uses up.
+/// The budget of each pack, which it uses up, where none is given.
 pub const BUDGET: u32 = 7;
 
 const JUMP: u32 = 0x0000_006f; // jal x0, 0
@@ -56,30 +56,40 @@ fn one_process(alloc: Global) -> Result<Table, AllocError>
 }
 
 // a pack of a thread that jumps on the spot
-fn looping(alloc: Global, number: u32) -> Result<Pack, AllocError>
+fn looping(alloc: Global, number: u32, budget: u32) -> Result<Pack, AllocError>
     ensures { IfOk result (λ p. IsLoop p) }
 {
     let mut pack = Pack::reserve(alloc, 1)?;
-    pack.fill(number % 64 + 1, 1, Regs::new(0x10000), BUDGET);
+    pack.fill(number % 64 + 1, 1, Regs::new(0x10000), budget);
     Ok(pack)
 }
 
-fn packs(alloc: Global, count: u32) -> Result<Vec<Pack>, AllocError>
+fn packs(alloc: Global, count: u32, budget: u32) -> Result<Vec<Pack>, AllocError>
     ensures count { IfOk result (λ v. vec_len v ≡ count) }
     ensures loops { IfOk result (λ v. All IsLoop v.items) }
 {
     let mut packs = Vec::new(alloc);
     for place in 0..count {
-        packs.push(looping(alloc, place)?)?;
+        packs.push(looping(alloc, place, budget)?)?;
     }
     Ok(packs)
 }
 
 /// The workers run so many packs.
 pub fn run<W: Workers>(alloc: Global, workers: &mut W, count: u32) -> Result<(), AllocError> {
+    run_for(alloc, workers, count, BUDGET)
+}
+
+/// The same, each for so many instructions.
+pub fn run_for<W: Workers>(
+    alloc: Global,
+    workers: &mut W,
+    count: u32,
+    budget: u32,
+) -> Result<(), AllocError> {
     let frames = one_frame(alloc)?;
     let table = one_process(alloc)?;
-    let mut packs = packs(alloc, count)?;
+    let mut packs = packs(alloc, count, budget)?;
     let _shared = workers.run_all(&mut packs, Shared { frames, table });
     Ok(())
 }

@@ -2,7 +2,7 @@
 ghost use Rattle.std.specs.Prelude.{◌<◌, ◌≤◌};
 
 use crate::gates::Holding;
-use crate::loops::run;
+use crate::loops::{BUDGET, run_for};
 use staying_workers::{Office, Staying, open};
 use std::alloc::{AllocError, Global};
 use std::sync::Wait;
@@ -11,11 +11,26 @@ use std::thread;
 use std::thread::Threads;
 use worker_pool::{Tally, Workers};
 
-// so many packs, three times
-fn rounds<W: Workers>(alloc: Global, workers: &mut W, count: u32) -> Result<(), AllocError> {
-    run(alloc, workers, count)?;
-    run(alloc, workers, count)?;
-    run(alloc, workers, count)
+// so many packs for so many instructions each
+#[derive(Clone, Copy)]
+struct Load {
+    packs: u32,
+    budget: u32,
+}
+
+// packs that are each run in one slice
+fn short(packs: u32) -> Load {
+    Load {
+        packs,
+        budget: BUDGET,
+    }
+}
+
+// three times
+fn rounds<W: Workers>(alloc: Global, workers: &mut W, load: Load) -> Result<(), AllocError> {
+    run_for(alloc, workers, load.packs, load.budget)?;
+    run_for(alloc, workers, load.packs, load.budget)?;
+    run_for(alloc, workers, load.packs, load.budget)
 }
 
 // by so many workers at this office
@@ -26,13 +41,13 @@ fn work<R: Threads + Wait + Sync>(
     gate: &Holding,
     tally: &mut Tally,
     workers: u32,
-    count: u32,
+    load: Load,
 ) -> Result<(), AllocError>
     requires { (0 < workers) × (workers ≤ 32) }
 {
     let mut pool = Staying::new(rt, alloc, office, gate, tally);
     pool.hire(workers);
-    let done = rounds(alloc, &mut pool, count);
+    let done = rounds(alloc, &mut pool, load);
     pool.finish();
     done
 }
@@ -44,7 +59,7 @@ fn stay<R: Threads + Wait + Sync>(
     gate: &Holding,
     tally: &mut Tally,
     workers: u32,
-    count: u32,
+    load: Load,
 ) -> Result<(), AllocError>
     requires { (0 < workers) × (workers ≤ 32) }
 {
@@ -57,7 +72,7 @@ fn stay<R: Threads + Wait + Sync>(
             requires { (0 < workers) × (workers ≤ 32) }
         {
             open(rt, scope, office, gate);
-            let done = work(rt, alloc, office, gate, tally, workers, count);
+            let done = work(rt, alloc, office, gate, tally, workers, load);
             office.close();
             done
         },
@@ -69,7 +84,7 @@ fn stay<R: Threads + Wait + Sync>(
 fn two_at_once_staying(rt: HostRuntime) -> Result<(), Fail> {
     let gate = Holding::until(2);
     let mut tally = Tally::new();
-    stay(&rt, rt.alloc(), &gate, &mut tally, 2, 2)?;
+    stay(&rt, rt.alloc(), &gate, &mut tally, 2, short(2))?;
     assert_eq!(rt; gate.seen(), (6, 3, 0));
     assert_eq!(rt; tally.count(), 42);
     Ok(())
@@ -80,7 +95,7 @@ fn two_at_once_staying(rt: HostRuntime) -> Result<(), Fail> {
 fn one_goes_round_staying(rt: HostRuntime) -> Result<(), Fail> {
     let gate = Holding::until(14);
     let mut tally = Tally::new();
-    stay(&rt, rt.alloc(), &gate, &mut tally, 2, 4)?;
+    stay(&rt, rt.alloc(), &gate, &mut tally, 2, short(4))?;
     assert_eq!(rt; gate.seen(), (12, 15, 0));
     Ok(())
 }
@@ -89,7 +104,7 @@ fn one_goes_round_staying(rt: HostRuntime) -> Result<(), Fail> {
 fn each_number_passes_once_staying(rt: HostRuntime) -> Result<(), Fail> {
     let gate = Holding::until(0);
     let mut tally = Tally::new();
-    stay(&rt, rt.alloc(), &gate, &mut tally, 32, 64)?;
+    stay(&rt, rt.alloc(), &gate, &mut tally, 32, short(64))?;
     assert_eq!(rt; gate.seen(), (192, u64::MAX, 0));
     assert_eq!(rt; tally.count(), 1344);
     Ok(())
@@ -100,8 +115,23 @@ fn each_number_passes_once_staying(rt: HostRuntime) -> Result<(), Fail> {
 fn one_alone_staying(rt: HostRuntime) -> Result<(), Fail> {
     let gate = Holding::until(0);
     let mut tally = Tally::new();
-    stay(&rt, rt.alloc(), &gate, &mut tally, 1, 3)?;
+    stay(&rt, rt.alloc(), &gate, &mut tally, 1, short(3))?;
     assert_eq!(rt; gate.seen(), (9, 7, 0));
     assert_eq!(rt; tally.count(), 63);
+    Ok(())
+}
+
+// each pack is run in four slices, and passes the gate once
+#[test]
+fn packs_run_in_slices_staying(rt: HostRuntime) -> Result<(), Fail> {
+    let gate = Holding::until(2);
+    let mut tally = Tally::new();
+    let load = Load {
+        packs: 4,
+        budget: 50_000,
+    };
+    stay(&rt, rt.alloc(), &gate, &mut tally, 2, load)?;
+    assert_eq!(rt; gate.seen(), (12, 15, 0));
+    assert_eq!(rt; tally.count(), 600_000);
     Ok(())
 }

@@ -1,7 +1,7 @@
 -- A pack whose part is run in slices.
 use Rattle.std.proofs.Common.{◌∙◌, arith}
 use Rattle.quantum_run.specs.Shows.{Pack, View, CanRun, LeadsTo, begun}
-use Rattle.quantum_run.proofs.Slices.{begun-can, begun-runs, still-can}
+use Rattle.quantum_run.proofs.Slices.{begun-runs, still-can}
 use Rattle.worker_pool.specs.Ran.{HasRun, HasRunBy, HasRunOut}
 
 -- a pack whose part has begun, and runs out, has run

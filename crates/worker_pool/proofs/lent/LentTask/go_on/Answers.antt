@@ -1,4 +1,3 @@
-use Rattle.std.proofs.Common.{false}
 use Rattle.quantum_run.specs.Packs.{seen}
 use Rattle.quantum_run.specs.Shows.{LeadsTo}
 use Rattle.worker_pool.specs.Ran.{HasRunBy}

@@ -1,5 +1,5 @@
 use Rattle.pool_tests.proofs.Looping.{all-can}
-use Rattle.pool_tests.proofs.loops.run.Goals as goal
+use Rattle.pool_tests.proofs.loops.run_for.Goals as goal
 
 pub run_all-shared-requires-clause-can : goal.run_all-shared-requires-clause-can
 run_all-shared-requires-clause-can g c κs within =
