@@ -6,7 +6,9 @@ use Rattle.dos_world.specs.declared.Question.TheVariants as question
 use Rattle.elf_image.specs.declared.error.ImageError.TheVariants as image
 use Rattle.shim_log.specs.declared.refusal.LogError.TheVariants as log
 use Rattle.dos_texts.specs.Exit.{line}
-use Rattle.dos_texts.specs.Lines.{words_refused, image_too_long, image_refused, no_room, log_too_long, log_refused, images_differ, digests_differ, misfit, file_fault, host_fault, out_of_memory, log_full}
+use Rattle.dos_texts.specs.Lines.{words_refused, image_too_long, image_refused, no_room}
+use Rattle.dos_texts.specs.Lines.{log_too_long, log_refused, images_differ, digests_differ, misfit}
+use Rattle.dos_texts.specs.Lines.{file_fault, host_fault, out_of_memory, log_full}
 
 abbrev ended : List ℕ
 ended = 10 ∷ []

@@ -1,5 +1,6 @@
 -- Lines of text.
-use Rattle.std.proofs.Common.{◌≡◌, length, ◌++◌, ◌∷◌, [], List, ℕ, suc, ◌-◌, ◌/◌, ◌%◌, ◌<◌, sym, ap, ◌∙◌, append_assoc, arith}
+use Rattle.std.proofs.Common.{◌≡◌, length, ◌++◌, ◌∷◌, [], List, ℕ, suc, ◌-◌, ◌/◌, ◌%◌, ◌<◌, sym, ap}
+use Rattle.std.proofs.Common.{◌∙◌, append_assoc, arith}
 use Rattle.std.proofs.Math.Utf8.{encode}
 use Rattle.std.proofs.lemmas.Str.{encode_ascii}
 use Rattle.dos_texts.specs.Lines.{hex, hex_digit}

@@ -1,7 +1,9 @@
 -- The lines of parts, put one by one.
-use Rattle.std.proofs.Common.{◌≡◌, ◌<◌, ◌≤◌, ◌+◌, ◌++◌, ◌∷◌, [], List, ℕ, Option, length, take, drop, get_or, flat_map, sym, ap, ◌∙◌, arith}
+use Rattle.std.proofs.Common.{◌≡◌, ◌<◌, ◌≤◌, ◌+◌, ◌++◌, ◌∷◌, [], List, ℕ, Option, length, take}
+use Rattle.std.proofs.Common.{drop, get_or, flat_map, sym, ap, ◌∙◌, arith}
 use Rattle.std.proofs.lemmas.Grind.{flat_map-append}
-use Rattle.std.proofs.lemmas.List.{append-nil, append_assoc, take-append-drop, take_more, flat_map_more, take_all}
+use Rattle.std.proofs.lemmas.List.{append-nil, append_assoc, take-append-drop, take_more}
+use Rattle.std.proofs.lemmas.List.{flat_map_more, take_all}
 use Rattle.dos_io.proofs.OutsideLaws.{grown-nothing}
 use Rattle.dos_io.specs.Outside.{grown, GrewByFront}
 use Rattle.dos_texts.proofs.Pieces.{front_of_whole}

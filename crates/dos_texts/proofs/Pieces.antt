@@ -1,5 +1,6 @@
 -- Pieces put one after another: what is told, and fronts.
-use Rattle.std.proofs.Common.{ℕ, ◌+◌, ◌≡◌, min, sym, ap, ◌∙◌, List, [], ◌++◌, length, take, Option, Result, Ok, Err, arith}
+use Rattle.std.proofs.Common.{ℕ, ◌+◌, ◌≡◌, min, sym, ap, ◌∙◌, List, [], ◌++◌, length, take, Option}
+use Rattle.std.proofs.Common.{Result, Ok, Err, arith}
 use Rattle.std.specs.Prelude.{OnErr, OnOk}
 use Rattle.std.proofs.lemmas.List.{append-nil, append_assoc, take-append-le, take_min}
 use Rattle.std.proofs.Math.Seq.{take-append-add}

@@ -1,6 +1,7 @@
 -- What a run reports, and what `inspect` and `gen` print.
 use Rattle.std.specs.Fmt.{digits}
-use Rattle.std.specs.Prelude.{ℕ, List, [], ◌∷◌, ◌++◌, codes, replicate, true, false, Some, None, ◌≡◌, refl}
+use Rattle.std.specs.Prelude.{ℕ, List, [], ◌∷◌, ◌++◌, codes, replicate, true, false, Some, None}
+use Rattle.std.specs.Prelude.{◌≡◌, refl}
 use Rattle.dos_world.specs.declared.Ending.TheVariants.{Done, Limit, Stalled}
 use Rattle.dos_texts.specs.Report.{report_of}
 use Rattle.dos_texts.specs.Printed.{entry_line, part_line, inspect_lines, summary_of}

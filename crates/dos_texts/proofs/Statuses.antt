@@ -1,12 +1,14 @@
 -- The table of exits, read backwards.
-use Rattle.std.proofs.Common.{◌≡◌, ◌≢◌, ◌⊎◌, ◌≤◌, ℕ, List, Option, inl, inr, refl, sym, ◌∙◌, subst, arith}
+use Rattle.std.proofs.Common.{◌≡◌, ◌≢◌, ◌⊎◌, ◌≤◌, ℕ, List, Option, inl, inr, refl, sym, ◌∙◌, subst}
+use Rattle.std.proofs.Common.{arith}
 use Rattle.dos_io.specs.Outside.{GrewByFront}
 use Rattle.dos_io.proofs.OutsideLaws.{grown-nothing}
 use Rattle.dos_world.specs.declared.Ending.{Ending}
 use Rattle.dos_world.specs.declared.Ending.TheVariants as endings
 use Rattle.dos_world.specs.declared.Misfit.{Misfit}
 use Rattle.log_files.specs.declared.refusal.LogRefusal.{LogRefusal}
-use Rattle.log_files.specs.declared.refusal.LogRefusal.TheVariants.{TooLong, Refused, Images, Digest}
+use Rattle.log_files.specs.declared.refusal.LogRefusal.TheVariants.{TooLong, Refused, Images}
+use Rattle.log_files.specs.declared.refusal.LogRefusal.TheVariants.{Digest}
 use Rattle.dos_texts.specs.Exit.{line_of, ending_status, refusal_status, IsStatus}
 use Rattle.dos_texts.specs.declared.refusal.Refusal.{Refusal}
 use Rattle.dos_texts.specs.declared.refusal.Refusal.TheVariants as refusals

@@ -6,8 +6,12 @@ use Rattle.dos_world.specs.declared.Ending.TheVariants.{Done, Limit, Stalled}
 use Rattle.dos_texts.specs.Report.{line_feed}
 use Rattle.elf_image.specs.Image.{refusal_number}
 use Rattle.log_files.specs.declared.refusal.LogRefusal.{LogRefusal}
-use Rattle.log_files.specs.declared.refusal.LogRefusal.TheVariants.{TooLong, Refused, Images, Digest}
-use Rattle.dos_texts.specs.Lines.{Message, words_refused, image_too_long, image_refused, no_room, log_too_long, log_refused, images_differ, digests_differ, misfit, file_fault, host_fault, out_of_memory, log_full, indexes_text, refusal_text, question_text, digest_text}
+use Rattle.log_files.specs.declared.refusal.LogRefusal.TheVariants.{TooLong, Refused, Images}
+use Rattle.log_files.specs.declared.refusal.LogRefusal.TheVariants.{Digest}
+use Rattle.dos_texts.specs.Lines.{Message, words_refused, image_too_long, image_refused, no_room}
+use Rattle.dos_texts.specs.Lines.{log_too_long, log_refused, images_differ, digests_differ, misfit}
+use Rattle.dos_texts.specs.Lines.{file_fault, host_fault, out_of_memory, log_full, indexes_text}
+use Rattle.dos_texts.specs.Lines.{refusal_text, question_text, digest_text}
 use Rattle.dos_texts.specs.declared.refusal.Refusal.{Refusal}
 use Rattle.dos_texts.specs.declared.refusal.Refusal.TheVariants as refusals
 

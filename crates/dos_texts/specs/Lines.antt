@@ -1,12 +1,14 @@
 -- The messages, and the parts of their lines. This project's own texts; numbers are decimal.
-use Rattle.std.specs.Prelude.{ℕ, zero, suc, ◌+◌, ◌/◌, ◌%◌, List, [], ◌∷◌, ◌++◌, flat_map, nat_lt, if◌then◌else◌, codes, decimal}
+use Rattle.std.specs.Prelude.{ℕ, zero, suc, ◌+◌, ◌/◌, ◌%◌, List, [], ◌∷◌, ◌++◌, flat_map, nat_lt}
+use Rattle.std.specs.Prelude.{if◌then◌else◌, codes, decimal}
 use Rattle.dos_world.specs.declared.Question.{Question}
 use Rattle.dos_world.specs.declared.Question.TheVariants.{Signals, Input, Clock, End}
 use Rattle.dos_texts.specs.Report.{ending_word}
 use Rattle.elf_image.specs.declared.error.ImageError.{ImageError}
 use Rattle.elf_image.specs.declared.error.ImageError.TheVariants.{Segment, Overlap}
 use Rattle.shim_log.specs.declared.refusal.LogError.{LogError}
-use Rattle.shim_log.specs.declared.refusal.LogError.TheVariants.{Short, Magic, Version, Header, Entry, AfterEnd}
+use Rattle.shim_log.specs.declared.refusal.LogError.TheVariants.{Short, Magic, Version, Header}
+use Rattle.shim_log.specs.declared.refusal.LogError.TheVariants.{Entry, AfterEnd}
 
 -- Images are counted from 1 in the order of the words, a log's entries from 0. Want of memory
 -- refuses no image.

@@ -1,5 +1,7 @@
 -- Canonical words ask for the same by clap.
-use Rattle.std.proofs.Common.{◌≡◌, ◌∙◌, ◌≤◌, ◌⊎◌, ℕ, inl, inr, Bool, cond, true, false, refl, sym, ap, ap₂, subst, arith, List, [], ◌∷◌, ◌++◌, length, append-nil, Option, Some, None}
+use Rattle.std.proofs.Common.{◌≡◌, ◌∙◌, ◌≤◌, ◌⊎◌, ℕ, inl, inr, Bool, cond, true, false, refl, sym}
+use Rattle.std.proofs.Common.{ap, ap₂, subst, arith, List, [], ◌∷◌, ◌++◌, length, append-nil}
+use Rattle.std.proofs.Common.{Option, Some, None}
 use Rattle.std.specs.Prelude.{codes, option_and_then, unwrap_or, slice_get}
 use Rattle.std.specs.List.{list_all, AllByRecursion}
 use Rattle.std.specs.Str.{bytes_eq}
@@ -15,15 +17,19 @@ use Rattle.dos_words.specs.declared.request.Request.{Request}
 use Rattle.dos_words.specs.Numbers.{Text}
 use Rattle.dos_words.specs.Asked.{Values, run_asked, replay_asked, inspect_asked, gen_asked}
 use Rattle.dos_words.specs.Commands.{Command, run, replay, inspect, gen, command_named}
-use Rattle.dos_words.specs.Canonical.{Pairs, pairs_and_names, are_once, is_allowed, are_allowed, values_in, canonical}
-use Rattle.dos_words.specs.Clap.{words_app, values_among, names_among, asked_by, where_taken, clap_request}
+use Rattle.dos_words.specs.Canonical.{Pairs, pairs_and_names, are_once, is_allowed, are_allowed}
+use Rattle.dos_words.specs.Canonical.{values_in, canonical}
+use Rattle.dos_words.specs.Clap.{words_app, values_among, names_among, asked_by, where_taken}
+use Rattle.dos_words.specs.Clap.{clap_request}
 use Rattle.dos_words.specs.Request.{request_by, request}
 use Rattle.dos_words.proofs.Walks.{IsOption, AreOptions, AreFresh, words_of, rows_of}
-use Rattle.dos_words.proofs.Levels.{TakesNames, IsLevel, ArePlain, IsTaken, names_rows, pairs_taken, names_taken, stray_refused}
+use Rattle.dos_words.proofs.Levels.{TakesNames, IsLevel, ArePlain, IsTaken, names_rows, pairs_taken}
+use Rattle.dos_words.proofs.Levels.{names_taken, stray_refused}
 use Rattle.dos_words.proofs.Tops.{Enters, fault_is, entered_is}
 use Rattle.dos_words.proofs.Splits.{Parts, Splits, splits, few_names}
 use Rattle.dos_words.proofs.RangeLaws.{some_is, bind_some, guard_some}
-use Rattle.dos_words.proofs.Options.{same_text, are_options, options_are, are_fresh, either_way, reads_value, reads_names}
+use Rattle.dos_words.proofs.Options.{same_text, are_options, options_are, are_fresh, either_way}
+use Rattle.dos_words.proofs.Options.{reads_value, reads_names}
 
 -- ---- the commands as clap builds them
 

@@ -1,18 +1,25 @@
 -- What clap makes of a command's canonical words.
-use Rattle.std.proofs.Common.{◌≡◌, ◌∙◌, ◌≤◌, ℕ, Bool, cond, true, false, refl, sym, ap, arith, ◌||◌, append-nil, append_assoc, List, [], ◌∷◌, ◌++◌, length, Some, None, eqb, ltb}
+use Rattle.std.proofs.Common.{◌≡◌, ◌∙◌, ◌≤◌, ℕ, Bool, cond, true, false, refl, sym, ap, arith, ◌||◌}
+use Rattle.std.proofs.Common.{append-nil, append_assoc, List, [], ◌∷◌, ◌++◌, length, Some, None}
+use Rattle.std.proofs.Common.{eqb, ltb}
 use Rattle.std.specs.Prelude.{codes}
 use Rattle.std.specs.List.{fold, list_all}
 use Rattle.std.proofs.lemmas.Bool.{and_parts, le-ltb, ne_eqb}
 use Rattle.clap.specs.Lexer.{usize_max}
-use Rattle.clap.specs.Walk.{Row, Rule, Waiting, idle, positional, Walk, walked, nothing_held, settled_rows, has_row, is_pending, reading_by, is_empty, with_default, default_rows, rows_after, finished, arg_by_id, arg_by_index}
+use Rattle.clap.specs.Walk.{Row, Rule, Waiting, idle, positional, Walk, walked, nothing_held}
+use Rattle.clap.specs.Walk.{settled_rows, has_row, is_pending, reading_by, is_empty, with_default}
+use Rattle.clap.specs.Walk.{default_rows, rows_after, finished, arg_by_id, arg_by_index}
 use Rattle.clap.specs.Simple.{Shape}
 use Rattle.clap.specs.declared.error.kind.ErrorKind.TheVariants as kind
-use Rattle.clap.specs.Faults.{settle_fault, walk_fault, turn_fault, defaults_fault, default_fault, given_default_fault, level_fault, check_fault, values_fault}
+use Rattle.clap.specs.Faults.{settle_fault, walk_fault, turn_fault, defaults_fault, default_fault}
+use Rattle.clap.specs.Faults.{given_default_fault, level_fault, check_fault, values_fault}
 use Rattle.clap.specs.Kinds.{Kinds}
 use Rattle.clap.proofs.SimpleLemmas.{is_nil}
 use Rattle.dos_words.specs.Numbers.{Text}
 use Rattle.dos_words.specs.Canonical.{Pairs}
-use Rattle.dos_words.proofs.Walks.{names_built, Pending, held, at, row_of, adds_row, IsPlain, AreOptions, words_of, rows_of, AreFresh, Goes, one_word, and_then, pairs_walk}
+use Rattle.dos_words.proofs.Walks.{names_built, Pending, held, at, row_of, adds_row, IsPlain}
+use Rattle.dos_words.proofs.Walks.{AreOptions, words_of, rows_of, AreFresh, Goes, one_word}
+use Rattle.dos_words.proofs.Walks.{and_then, pairs_walk}
 
 -- what clap finds for the names
 pub record TakesNames (shape : Shape) : Type 0 where

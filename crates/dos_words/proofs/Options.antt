@@ -1,5 +1,6 @@
 -- Allowed pairs are options that clap finds, each once, and their rows have the same values.
-use Rattle.std.proofs.Common.{◌≡◌, ◌∙◌, Bool, cond, true, false, not, refl, sym, ap, ap₂, subst, ◌||◌, List, [], ◌∷◌, ◌++◌, map, Option, Some, None, find}
+use Rattle.std.proofs.Common.{◌≡◌, ◌∙◌, Bool, cond, true, false, not, refl, sym, ap, ap₂, subst}
+use Rattle.std.proofs.Common.{◌||◌, List, [], ◌∷◌, ◌++◌, map, Option, Some, None, find}
 use Rattle.std.specs.Prelude.{codes, option_and_then, slice_get, is_some, unwrap_or}
 use Rattle.std.specs.List.{list_all, list_any, AllByRecursion}
 use Rattle.std.specs.Str.{bytes_eq}
@@ -10,7 +11,8 @@ use Rattle.clap.specs.Walk.{Row, Rule, has_row, first_of, all_of, arg_by_long, a
 use Rattle.clap.specs.Simple.{Shape}
 use Rattle.dos_words.specs.Numbers.{Text}
 use Rattle.dos_words.specs.Canonical.{Pairs, dashed, value_in, are_once, is_allowed}
-use Rattle.dos_words.proofs.Walks.{option_built, IsOption, IsOptionWord, row_of_pair, id_of, rows_of, AreOptions, AreFresh}
+use Rattle.dos_words.proofs.Walks.{option_built, IsOption, IsOptionWord, row_of_pair, id_of}
+use Rattle.dos_words.proofs.Walks.{rows_of, AreOptions, AreFresh}
 use Rattle.dos_words.proofs.Levels.{names_rows}
 use Rattle.dos_words.proofs.Splits.{HavePlain}
 

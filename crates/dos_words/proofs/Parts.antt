@@ -1,5 +1,7 @@
 -- A text cut at its separators, one part after the other.
-use Rattle.std.proofs.Common.{◌≡◌, ◌∙◌, ◌<◌, ℕ, suc, Bool, cond, not, true, false, eqb, List, [], ◌∷◌, take, drop, length, Option, Some, None, Bor, refl, ap, arith, add-one}
+use Rattle.std.proofs.Common.{◌≡◌, ◌∙◌, ◌<◌, ℕ, suc, Bool, cond, not, true, false, eqb, List, []}
+use Rattle.std.proofs.Common.{◌∷◌, take, drop, length, Option, Some, None, Bor, refl, ap, arith}
+use Rattle.std.proofs.Common.{add-one}
 use Rattle.std.specs.Prelude.{MatchOption, ◌+◌, is_some}
 use Rattle.std.specs.Option.{option_map_or}
 use Rattle.std.specs.List.{position_or_len, before_first, after_first}

@@ -1,5 +1,6 @@
 -- Each request that is given has its numbers in range.
-use Rattle.std.proofs.Common.{◌≡◌, ◌∙◌, ◌≤◌, ℕ, suc, Bool, cond, true, false, leb, ◌&&◌, List, [], ◌∷◌, length, Option, Some, None, refl, ap, subst, arith}
+use Rattle.std.proofs.Common.{◌≡◌, ◌∙◌, ◌≤◌, ℕ, suc, Bool, cond, true, false, leb, ◌&&◌, List, []}
+use Rattle.std.proofs.Common.{◌∷◌, length, Option, Some, None, refl, ap, subst, arith}
 use Rattle.std.specs.Prelude.{option_and_then, bytes_eq, codes, IfSome}
 use Rattle.std.specs.List.{AllByRecursion}
 use Rattle.std.specs.Int.{IsInRange}
@@ -9,11 +10,15 @@ use Rattle.clap.specs.Words.{Row, fault_of, subcommand_of}
 use Rattle.clap.specs.Kinds.{Kinds}
 use Rattle.dos_words.specs.declared.request.Request.{Request}
 use Rattle.dos_words.specs.declared.request.Request.TheVariants.{Run, Replay, Inspect, Gen}
-use Rattle.dos_words.specs.Numbers.{Text, number, where_within, number_within, parts_by, post_in, posts_in_all, colon, comma}
-use Rattle.dos_words.specs.Asked.{Values, number_or, posts_or_none, number_if_given, most_u64, workers_of, images_of, run_asked, replay_asked, inspect_asked, gen_asked}
+use Rattle.dos_words.specs.Numbers.{Text, number, where_within, number_within, parts_by, post_in}
+use Rattle.dos_words.specs.Numbers.{posts_in_all, colon, comma}
+use Rattle.dos_words.specs.Asked.{Values, number_or, posts_or_none, number_if_given, most_u64}
+use Rattle.dos_words.specs.Asked.{workers_of, images_of, run_asked, replay_asked, inspect_asked}
+use Rattle.dos_words.specs.Asked.{gen_asked}
 use Rattle.dos_words.specs.Commands.{Command, run, replay, inspect, gen, command_named}
 use Rattle.dos_words.specs.Canonical.{pairs_and_names, are_allowed, canonical, values_in}
-use Rattle.dos_words.specs.Clap.{words_app, asked_by, where_taken, values_among, names_among, clap_request}
+use Rattle.dos_words.specs.Clap.{words_app, asked_by, where_taken, values_among, names_among}
+use Rattle.dos_words.specs.Clap.{clap_request}
 use Rattle.dos_words.specs.Request.{request_by, request}
 use Rattle.dos_words.specs.Ranges.{FitsAskedPost, FitsRequest}
 

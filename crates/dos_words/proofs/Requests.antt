@@ -1,5 +1,6 @@
 -- What canonical words ask for: defaults, all options, and the bounds of each number.
-use Rattle.std.specs.Prelude.{ℕ, List, [], ◌∷◌, ◌++◌, flat_map, replicate, Some, None, codes, ◌≡◌, refl}
+use Rattle.std.specs.Prelude.{ℕ, List, [], ◌∷◌, ◌++◌, flat_map, replicate, Some, None, codes, ◌≡◌}
+use Rattle.std.specs.Prelude.{refl}
 use Rattle.dos_words.specs.declared.request.Request.TheVariants.{Run, Replay, Inspect, Gen}
 use Rattle.dos_words.specs.Request.{request}
 use Rattle.dos_world.specs.declared.Post.{Post}

@@ -1,5 +1,6 @@
 -- Canonical words are their pairs' words, and then the names.
-use Rattle.std.proofs.Common.{◌≡◌, ◌≤◌, Bool, cond, true, false, not, refl, ap, subst, arith, List, [], ◌∷◌, length, Option, Some, None, eqb}
+use Rattle.std.proofs.Common.{◌≡◌, ◌≤◌, Bool, cond, true, false, not, refl, ap, subst, arith, List}
+use Rattle.std.proofs.Common.{[], ◌∷◌, length, Option, Some, None, eqb}
 use Rattle.std.specs.Prelude.{option_and_then}
 use Rattle.std.specs.List.{list_all}
 use Rattle.std.proofs.lemmas.Bool.{and_parts}

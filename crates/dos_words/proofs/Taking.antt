@@ -1,7 +1,9 @@
 -- What clap takes and what it refuses.
-use Rattle.std.proofs.Common.{◌≡◌, ◌∙◌, inl, inr, refl, sym, ap, ap₂, true, List, [], ◌∷◌, Option, None}
+use Rattle.std.proofs.Common.{◌≡◌, ◌∙◌, inl, inr, refl, sym, ap, ap₂, true, List, [], ◌∷◌, Option}
+use Rattle.std.proofs.Common.{None}
 use Rattle.std.specs.Prelude.{option_and_then}
-use Rattle.clap.specs.Words.{App, Row, kind_of, is_simple, is_simple_and_free, fault_of, subcommand_of}
+use Rattle.clap.specs.Words.{App, Row, kind_of, is_simple, is_simple_and_free, fault_of}
+use Rattle.clap.specs.Words.{subcommand_of}
 use Rattle.clap.specs.Kinds.{Kinds, HasKind}
 use Rattle.clap.specs.declared.error.Error.{Error}
 use Rattle.clap.specs.declared.error.kind.ErrorKind.TheVariants as kind

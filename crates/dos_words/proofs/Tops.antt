@@ -1,8 +1,10 @@
 -- What clap makes of words that begin with the name of a command.
-use Rattle.std.proofs.Common.{◌≡◌, ◌∙◌, false, refl, sym, ap, append-nil, append_assoc, List, [], ◌∷◌, ◌++◌, Some, find}
+use Rattle.std.proofs.Common.{◌≡◌, ◌∙◌, false, refl, sym, ap, append-nil, append_assoc, List, []}
+use Rattle.std.proofs.Common.{◌∷◌, ◌++◌, Some, find}
 use Rattle.std.specs.Prelude.{option_map}
 use Rattle.std.specs.List.{fold}
-use Rattle.clap.specs.Walk.{Names, Rule, Walk, walked, walk, walk_from, nothing_held, answers_to, rows_after, stop_after}
+use Rattle.clap.specs.Walk.{Names, Rule, Walk, walked, walk, walk_from, nothing_held, answers_to}
+use Rattle.clap.specs.Walk.{rows_after, stop_after}
 use Rattle.clap.specs.Simple.{App, Shape, names_of, label_of, entered, rows_at}
 use Rattle.clap.specs.Faults.{walk_fault, turn_fault, defaults_fault, level_fault, built_fault}
 use Rattle.clap.specs.Kinds.{Kinds, or_else}

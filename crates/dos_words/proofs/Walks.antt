@@ -1,11 +1,15 @@
 -- How clap walks over options and their values, at the level of one command.
-use Rattle.std.proofs.Common.{◌≡◌, ◌∙◌, ℕ, Bool, cond, true, false, refl, sym, ap, subst, ◌||◌, append-nil, append_assoc, List, [], ◌∷◌, ◌++◌, Option, Some, None, eqb}
+use Rattle.std.proofs.Common.{◌≡◌, ◌∙◌, ℕ, Bool, cond, true, false, refl, sym, ap, subst, ◌||◌}
+use Rattle.std.proofs.Common.{append-nil, append_assoc, List, [], ◌∷◌, ◌++◌, Option, Some, None}
+use Rattle.std.proofs.Common.{eqb}
 use Rattle.std.specs.Prelude.{codes, drop}
 use Rattle.std.specs.List.{fold}
 use Rattle.std.specs.Str.{bytes_eq}
 use Rattle.std.proofs.lemmas.Slice.Eq.{bytes_eq-Decides}
 use Rattle.clap.specs.Lexer.{long_of}
-use Rattle.clap.specs.Walk.{Held, Row, Rule, Waiting, idle, option, Walk, walked, settled_rows, has_row, is_pending, with_values, without, at_row, reading_by, more_values, arg_by_long, arg_by_id}
+use Rattle.clap.specs.Walk.{Held, Row, Rule, Waiting, idle, option, Walk, walked, settled_rows}
+use Rattle.clap.specs.Walk.{has_row, is_pending, with_values, without, at_row, reading_by}
+use Rattle.clap.specs.Walk.{more_values, arg_by_long, arg_by_id}
 use Rattle.clap.specs.Simple.{Shape, filled, with_index}
 use Rattle.clap.specs.declared.builder.value_parser.Reading.{Reading}
 use Rattle.clap.specs.declared.parser.matches.ValueSource.TheVariants.{CommandLine}

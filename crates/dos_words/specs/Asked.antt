@@ -1,7 +1,8 @@
 -- What the values of a command's options and its names ask for: the ranges, and what stands for an
 -- option that isn't given. This project's own rule. Whoever has read the words says the value of an
 -- option by its name without the dashes.
-use Rattle.std.specs.Prelude.{ℕ, ◌-◌, ◌^◌, List, [], ◌∷◌, length, Option, Some, None, if◌then◌else◌, codes}
+use Rattle.std.specs.Prelude.{ℕ, ◌-◌, ◌^◌, List, [], ◌∷◌, length, Option, Some, None, if◌then◌else◌}
+use Rattle.std.specs.Prelude.{codes}
 use Rattle.std.specs.Int.{is_in_range}
 use Rattle.std.specs.Option.{option_map_or}
 use Rattle.dos_world.specs.declared.Post.{Post}

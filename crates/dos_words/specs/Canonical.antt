@@ -1,7 +1,8 @@
 -- Canonical words: the command, options in any order, each at most once as the two words `--name
 -- value`, and then the names. No value or name is empty or begins with `-`. This project's own
 -- rule.
-use Rattle.std.specs.Prelude.{Bool, true, false, not, ◌&&◌, List, [], ◌∷◌, Option, Some, None, is_some, ◌==◌, if◌then◌else◌, bytes_eq}
+use Rattle.std.specs.Prelude.{Bool, true, false, not, ◌&&◌, List, [], ◌∷◌, Option, Some, None}
+use Rattle.std.specs.Prelude.{is_some, ◌==◌, if◌then◌else◌, bytes_eq}
 use Rattle.std.specs.List.{list_any, list_all}
 use Rattle.std.specs.Map.{lookup}
 use Rattle.dos_words.specs.Numbers.{Text, ◌>>=◌}

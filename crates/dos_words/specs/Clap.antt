@@ -1,8 +1,10 @@
 -- What `clap`'s definition of a simple command takes, with the commands as its subcommands: each
 -- option sets one value, and the names are one positional argument of one or more values. Help and
 -- version are no words of it.
-use Rattle.std.specs.Prelude.{true, List, [], ◌∷◌, ◌++◌, map, fold, Option, Some, None, unwrap_or, codes, if◌then◌else◌}
-use Rattle.clap.specs.Words.{App, Rule, Row, Shape, new_app, new_rule, with_rule, with_subcommand, all_of, first_of, fault_of, subcommand_of}
+use Rattle.std.specs.Prelude.{true, List, [], ◌∷◌, ◌++◌, map, fold, Option, Some, None, unwrap_or}
+use Rattle.std.specs.Prelude.{codes, if◌then◌else◌}
+use Rattle.clap.specs.Words.{App, Rule, Row, Shape, new_app, new_rule, with_rule, with_subcommand}
+use Rattle.clap.specs.Words.{all_of, first_of, fault_of, subcommand_of}
 use Rattle.clap.specs.Kinds.{Kinds}
 use Rattle.clap.specs.Lexer.{usize_max}
 use Rattle.clap.specs.declared.builder.action.ArgAction.TheVariants.{Set}

@@ -1,6 +1,7 @@
 //! The words as `clap` is told of them: the program's commands, each with its options and names.
 ghost use Rattle.std.specs.Prelude.{◌≡◌, IfOk, false, map, fold, ◌∷◌, []};
-ghost use Rattle.clap.specs.Words.{App, Shape, app_of, shape_of, rule_of, with_rule, with_subcommand, new_app};
+ghost use Rattle.clap.specs.Words.{App, Shape, app_of, shape_of, rule_of, with_rule};
+ghost use Rattle.clap.specs.Words.{with_subcommand, new_app};
 ghost use Rattle.clap.specs.declared.builder.command.Command.TheViews.{out-Command as fields_of};
 ghost use Rattle.dos_words.specs.Commands.{run, replay, inspect, gen};
 ghost use Rattle.dos_words.specs.Clap.{option_rule, names_rule, command_shape, bare_app, words_app};

@@ -2,7 +2,8 @@
 ghost use Rattle.std.specs.Prelude.{◌≡◌, ◌≤◌, ◌<◌, ◌^◌, length};
 ghost use Rattle.std.specs.Char.{is_ascii_digit};
 ghost use Rattle.std.specs.List.{list_all};
-ghost use Rattle.dos_words.specs.Numbers.{has_leading_zero, is_number, decimal_value, number_within};
+ghost use Rattle.dos_words.specs.Numbers.{has_leading_zero, is_number, decimal_value};
+ghost use Rattle.dos_words.specs.Numbers.{number_within};
 
 fn are_digits(text: &[u8]) -> bool
     ensures { result ≡ list_all is_ascii_digit text.now }

@@ -1,8 +1,11 @@
 //! The words read: what `clap` finds in them, by the program's own ranges.
-ghost use Rattle.std.specs.Prelude.{◌≡◌, List, map, length, nat_lt, option_map, option_and_then, string_bytes, codes};
+ghost use Rattle.std.specs.Prelude.{◌≡◌, List, map, length, nat_lt, option_map, option_and_then};
+ghost use Rattle.std.specs.Prelude.{string_bytes, codes};
 ghost use Rattle.clap.specs.Words.{rows_of, found_of, subcommand_rows_of};
 ghost use Rattle.dos_words.specs.Numbers.{number_within};
-ghost use Rattle.dos_words.specs.Asked.{most_u64, number_or, number_if_given, posts_or_none, images_of, run_asked, replay_asked, inspect_asked, gen_asked};
+ghost use Rattle.dos_words.specs.Asked.{most_u64, number_or, number_if_given, posts_or_none};
+ghost use Rattle.dos_words.specs.Asked.{images_of, run_asked, replay_asked, inspect_asked};
+ghost use Rattle.dos_words.specs.Asked.{gen_asked};
 ghost use Rattle.dos_words.specs.Clap.{asked_by, clap_request};
 ghost use Rattle.dos_words.specs.Request.{request};
 ghost use Rattle.dos_words.specs.Reads.{Reads, values_found, names_given, names_found};

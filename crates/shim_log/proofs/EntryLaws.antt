@@ -1,5 +1,6 @@
 -- An entry that is read is the entry that was written, and what was written is read again.
-use Rattle.std.proofs.Common.{◌≡◌, ℕ, zero, suc, ◌^◌, ◌<◌, ◌≤◌, List, [], ◌∷◌, ◌++◌, length, drop, Ok, refl, sym, ap, subst, arith}
+use Rattle.std.proofs.Common.{◌≡◌, ℕ, zero, suc, ◌^◌, ◌<◌, ◌≤◌, List, [], ◌∷◌, ◌++◌, length, drop}
+use Rattle.std.proofs.Common.{Ok, refl, sym, ap, subst, arith}
 use Rattle.std.specs.Int.{w16, w32, w64, to_le_bytes}
 use Rattle.std.specs.List.{flat_map}
 use Rattle.dos_world.specs.declared.Post.{Post}
@@ -11,8 +12,12 @@ use Rattle.dos_io.specs.Posts.{FitsPost}
 use Rattle.shim_log.specs.Bytes.{IsBytes}
 use Rattle.shim_log.specs.Ranges.{FitsSignals, FitsInput, FitsClock, InRange}
 use Rattle.shim_log.specs.LogText.{post_text, ending_code, entry_text}
-use Rattle.shim_log.specs.Reading.{place, bytes_at, many_at, post_at, signals_at, input_at, clock_at, ending_by, end_at, entry_of_kind, entry_at}
-use Rattle.shim_log.proofs.FieldLaws.{bind_ok, ok_is, Takes, then, number_then, number_again, wide16, wide32, wide64, ranged_then, ranged_again, ranged_byte_then, ranged_byte_again, bytes_take, bytes_again, one, many_take, many_again}
+use Rattle.shim_log.specs.Reading.{place, bytes_at, many_at, post_at, signals_at, input_at}
+use Rattle.shim_log.specs.Reading.{clock_at, ending_by, end_at, entry_of_kind, entry_at}
+use Rattle.shim_log.proofs.FieldLaws.{bind_ok, ok_is, Takes, then, number_then, number_again}
+use Rattle.shim_log.proofs.FieldLaws.{wide16, wide32, wide64, ranged_then, ranged_again}
+use Rattle.shim_log.proofs.FieldLaws.{ranged_byte_then, ranged_byte_again, bytes_take, bytes_again}
+use Rattle.shim_log.proofs.FieldLaws.{one, many_take, many_again}
 
 -- its text behind the kind
 abbrev behind_kind : Exchange → List ℕ

@@ -1,5 +1,6 @@
 -- What a ledger keeps in its type stays.
-use Rattle.std.proofs.Common.{◌≡◌, ℕ, ◌+◌, ◌*◌, ◌^◌, ◌≤◌, ◌<◌, List, [], ◌∷◌, ◌++◌, length, Option, Some, None, refl, sym, ap, subst, ◌∙◌, append_assoc, arith, inl, inr}
+use Rattle.std.proofs.Common.{◌≡◌, ℕ, ◌+◌, ◌*◌, ◌^◌, ◌≤◌, ◌<◌, List, [], ◌∷◌, ◌++◌, length, Option}
+use Rattle.std.proofs.Common.{Some, None, refl, sym, ap, subst, ◌∙◌, append_assoc, arith, inl, inr}
 use Rattle.std.proofs.lemmas.List.{append-nil, length-append}
 use Rattle.dos_world.specs.declared.Post.{Post}
 use Rattle.dos_world.specs.declared.Question.{Question}
@@ -16,13 +17,15 @@ use Rattle.dos_io.specs.Outside.{Rose}
 use Rattle.dos_io.proofs.GivenLaws.{given_none}
 use Rattle.shim_log.specs.declared.header.LogHeader.{LogHeader}
 use Rattle.shim_log.specs.LogText.{entry_text, entries_text, logtext}
-use Rattle.shim_log.specs.Ranges.{FitsHeader, FitsLog, InRange, NotEnd, AreEntries, FitsInput, FitsClock}
+use Rattle.shim_log.specs.Ranges.{FitsHeader, FitsLog, InRange, NotEnd, AreEntries, FitsInput}
+use Rattle.shim_log.specs.Ranges.{FitsClock}
 use Rattle.shim_log.proofs.LengthLaws.{header_length, signals_length, input_length, text_length}
 use Rattle.dos_io.specs.declared.exchange.Exchange.TheVariants.{Signals, Input, Clock, End}
 use Rattle.dos_io.specs.Posts.{ArePosts}
 use Rattle.dos_io.specs.Given.{posts_in}
 use Rattle.shim_log.specs.Room.{most_bytes, IsOver, NoRoom, HadRoom}
-use Rattle.shim_log.specs.Ledger.{LedgerState, ArePlanned, end_of, recorder_state, MayStop, IsNoMisfit, IsLedger, stopped, added, closed, Follows}
+use Rattle.shim_log.specs.Ledger.{LedgerState, ArePlanned, end_of, recorder_state, MayStop}
+use Rattle.shim_log.specs.Ledger.{IsNoMisfit, IsLedger, stopped, added, closed, Follows}
 use Rattle.shim_log.proofs.EntriesTextLaws.{all_push, text_push}
 use Rattle.shim_log.proofs.LogLaws.{entries_short}
 

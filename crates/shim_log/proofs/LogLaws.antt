@@ -1,5 +1,6 @@
 -- A log that is read is the log that was written, and what was written is read again.
-use Rattle.std.proofs.Common.{◌≡◌, ℕ, zero, suc, ◌^◌, ◌<◌, ◌≤◌, eqb, List, [], ◌∷◌, ◌++◌, length, Result, Ok, Err, refl, sym, ap, subst, ◌∙◌, append_assoc, arith}
+use Rattle.std.proofs.Common.{◌≡◌, ℕ, zero, suc, ◌^◌, ◌<◌, ◌≤◌, eqb, List, [], ◌∷◌, ◌++◌, length}
+use Rattle.std.proofs.Common.{Result, Ok, Err, refl, sym, ap, subst, ◌∙◌, append_assoc, arith}
 use Rattle.std.specs.Int.{w16, w32, to_le_bytes}
 use Rattle.std.specs.List.{AllByRecursion, concat, flat_map}
 use Rattle.std.specs.Str.{bytes_eq}
@@ -16,8 +17,11 @@ use Rattle.shim_log.specs.declared.header.LogHeader.{LogHeader}
 use Rattle.shim_log.specs.Bytes.{IsBytes, FitsDigest}
 use Rattle.shim_log.specs.Ranges.{NotEnd, AreEntries, FitsHeader, FitsLog}
 use Rattle.shim_log.specs.LogText.{Log, magic, header_text, entry_text, entries_text, logtext}
-use Rattle.shim_log.specs.Reading.{place, bytes_at, number_at, many_at, entry_at, after_entry, tail_at, magic_at, version_at, header_at, log_at}
-use Rattle.shim_log.proofs.FieldLaws.{bind_ok, guard_true, done, ok_is, Takes, then, number_takes, number_again, wide16, wide32, header_then, header_again, bytes_take, bytes_again, many_take, many_again}
+use Rattle.shim_log.specs.Reading.{place, bytes_at, number_at, many_at, entry_at, after_entry}
+use Rattle.shim_log.specs.Reading.{tail_at, magic_at, version_at, header_at, log_at}
+use Rattle.shim_log.proofs.FieldLaws.{bind_ok, guard_true, done, ok_is, Takes, then, number_takes}
+use Rattle.shim_log.proofs.FieldLaws.{number_again, wide16, wide32, header_then, header_again}
+use Rattle.shim_log.proofs.FieldLaws.{bytes_take, bytes_again, many_take, many_again}
 use Rattle.shim_log.proofs.EntryLaws.{SpellsEntry, entry_takes, entry_again}
 
 -- ---- entries up to the end

@@ -1,5 +1,6 @@
 -- What a recorder shows after an answer.
-use Rattle.std.proofs.Common.{◌≡◌, ℕ, ◌≤◌, List, [], ◌∷◌, ◌++◌, length, Option, Some, None, IfSome, inl, refl, sym, ap, subst, ◌∙◌, arith}
+use Rattle.std.proofs.Common.{◌≡◌, ℕ, ◌≤◌, List, [], ◌∷◌, ◌++◌, length, Option, Some, None, IfSome}
+use Rattle.std.proofs.Common.{inl, refl, sym, ap, subst, ◌∙◌, arith}
 use Rattle.std.proofs.lemmas.List.{append-nil}
 use Rattle.dos_world.specs.declared.Post.{Post}
 use Rattle.dos_world.specs.declared.Ending.{Ending}
@@ -15,7 +16,8 @@ use Rattle.dos_io.specs.declared.shim.ShimStop.TheVariants.{HostFault}
 use Rattle.dos_io.specs.Given.{posts_in, readings, Given, GivesHost, GivesCounted}
 use Rattle.dos_io.specs.Shims.{answered, HasNoEnd}
 use Rattle.shim_log.specs.declared.header.LogHeader.{LogHeader}
-use Rattle.shim_log.specs.Ledger.{LedgerState, end_of, recorder_state, empty_ledger, added, stopped, closed, Follows, next_reading}
+use Rattle.shim_log.specs.Ledger.{LedgerState, end_of, recorder_state, empty_ledger, added, stopped}
+use Rattle.shim_log.specs.Ledger.{closed, Follows, next_reading}
 use Rattle.shim_log.proofs.LedgerLaws.{follows_adds, follows_stop}
 
 pub readings_short : (es : List Exchange) → length (readings es) ≤ length es

@@ -2,8 +2,11 @@
 -- bytes in them.
 use Rattle.std.specs.Prelude.{ℕ, List, [], ◌∷◌, ◌++◌, take, slice_set, Ok, Err, ◌≡◌, refl}
 use Rattle.dos_io.specs.declared.exchange.Exchange.TheVariants.{Signals}
-use Rattle.shim_log.specs.declared.refusal.LogError.TheVariants.{Short, Magic, Version, Header, Entry, AfterEnd}
-use Rattle.shim_log.specs.Reading.{log_at, header_at, magic_at, version_at, header_number_at, many_at, tail_at, entry_at, signals_at, post_at, input_at, clock_at, end_at, ranged_at, ranged_byte_at}
+use Rattle.shim_log.specs.declared.refusal.LogError.TheVariants.{Short, Magic, Version, Header}
+use Rattle.shim_log.specs.declared.refusal.LogError.TheVariants.{Entry, AfterEnd}
+use Rattle.shim_log.specs.Reading.{log_at, header_at, magic_at, version_at, header_number_at}
+use Rattle.shim_log.specs.Reading.{many_at, tail_at, entry_at, signals_at, post_at, input_at}
+use Rattle.shim_log.specs.Reading.{clock_at, end_at, ranged_at, ranged_byte_at}
 use Rattle.shim_log.proofs.Texts.{smallest, text}
 
 -- the text with another byte at a place

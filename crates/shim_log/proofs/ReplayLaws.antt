@@ -1,5 +1,7 @@
 -- The next entry of a log, where so many were answered.
-use Rattle.std.proofs.Common.{◌≡◌, ◌≤◌, ◌<◌, ◌∙◌, ◌+◌, ◌-◌, ℕ, zero, suc, List, [], ◌∷◌, ◌++◌, length, take, drop, Some, None, Ok, Err, refl, sym, ap, append_assoc, arith, Option, option_map}
+use Rattle.std.proofs.Common.{◌≡◌, ◌≤◌, ◌<◌, ◌∙◌, ◌+◌, ◌-◌, ℕ, zero, suc, List, [], ◌∷◌, ◌++◌}
+use Rattle.std.proofs.Common.{length, take, drop, Some, None, Ok, Err, refl, sym, ap, append_assoc}
+use Rattle.std.proofs.Common.{arith, Option, option_map}
 use Rattle.std.specs.List.{slice_get}
 use Rattle.std.proofs.lemmas.List.{take_more, take-append-drop, drop_at, length-append}
 use Rattle.std.proofs.lemmas.List.Concat.{flat_map-cons}
@@ -7,7 +9,10 @@ use Rattle.std.proofs.lemmas.Option.{get_or_from_slice_get, slice_get_within}
 use Rattle.dos_world.specs.declared.Ending.{Ending}
 use Rattle.dos_world.specs.declared.Post.{Post}
 use Rattle.dos_world.specs.declared.Question.{Question}
-use Rattle.dos_world.specs.declared.Question.TheVariants.{Signals as signals_question, Input as input_question, Clock as clock_question, End as end_question}
+use Rattle.dos_world.specs.declared.Question.TheVariants.{Signals as signals_question}
+use Rattle.dos_world.specs.declared.Question.TheVariants.{Input as input_question}
+use Rattle.dos_world.specs.declared.Question.TheVariants.{Clock as clock_question}
+use Rattle.dos_world.specs.declared.Question.TheVariants.{End as end_question}
 use Rattle.dos_io.specs.declared.exchange.Exchange.{Exchange}
 use Rattle.dos_io.specs.declared.exchange.Exchange.TheVariants.{Signals, Input, Clock, End}
 use Rattle.dos_io.specs.declared.shim.ShimStop.{ShimStop}
@@ -17,7 +22,8 @@ use Rattle.shim_log.specs.declared.refusal.LogError.{LogError}
 use Rattle.shim_log.specs.LogText.{entry_text, entries_text, exchanges}
 use Rattle.shim_log.specs.Ranges.{AreEntries}
 use Rattle.shim_log.specs.Reading.{entry_at}
-use Rattle.shim_log.specs.Replay.{ReplayState, StandsNext, IsMisfitOf, replayer_state, replay_advanced}
+use Rattle.shim_log.specs.Replay.{ReplayState, StandsNext, IsMisfitOf, replayer_state}
+use Rattle.shim_log.specs.Replay.{replay_advanced}
 use Rattle.shim_log.proofs.FieldLaws.{ok_is}
 use Rattle.shim_log.proofs.EntryLaws.{entry_again}
 

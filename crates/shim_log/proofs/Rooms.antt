@@ -2,7 +2,10 @@
 use Rattle.std.specs.Prelude.{ℕ, ◌+◌, ◌<◌, List, [], ◌∷◌, codes, ◌≡◌, refl}
 use Rattle.dos_world.specs.declared.Post.{Post}
 use Rattle.dos_world.specs.declared.Ending.TheVariants.{Done}
-use Rattle.dos_world.specs.declared.Question.TheVariants.{Signals as signals_question, Input as input_question, Clock as clock_question, End as end_question}
+use Rattle.dos_world.specs.declared.Question.TheVariants.{Signals as signals_question}
+use Rattle.dos_world.specs.declared.Question.TheVariants.{Input as input_question}
+use Rattle.dos_world.specs.declared.Question.TheVariants.{Clock as clock_question}
+use Rattle.dos_world.specs.declared.Question.TheVariants.{End as end_question}
 use Rattle.dos_io.specs.declared.exchange.Exchange.TheVariants.{Signals, Input}
 use Rattle.shim_log.specs.Room.{most_bytes, NoRoom}
 use Rattle.shim_log.proofs.Texts.{smallest}

@@ -3,7 +3,9 @@ use Rattle.std.specs.Prelude.{ℕ, List, [], ◌∷◌, ◌++◌, length, replic
 use Rattle.dos_world.specs.declared.Ending.TheVariants.{Done, Limit, Stalled}
 use Rattle.dos_io.specs.declared.exchange.Exchange.TheVariants.{Signals, Input, Clock, End}
 use Rattle.shim_log.specs.LogText.{Log, exchanges, header_text, entry_text, logtext}
-use Rattle.shim_log.specs.Reading.{log_at, header_at, magic_at, version_at, header_number_at, many_at, tail_at, entry_at, signals_at, post_at, input_at, clock_at, end_at, ranged_at, ranged_byte_at}
+use Rattle.shim_log.specs.Reading.{log_at, header_at, magic_at, version_at, header_number_at}
+use Rattle.shim_log.specs.Reading.{many_at, tail_at, entry_at, signals_at, post_at, input_at}
+use Rattle.shim_log.specs.Reading.{clock_at, end_at, ranged_at, ranged_byte_at}
 
 -- ---- the log of a run of the smallest image: one round, no signals, done
 

@@ -1,5 +1,6 @@
 -- Reading a whole log.
-use Rattle.std.proofs.Common.{◌≡◌, ◌≤◌, ℕ, ltb, List, length, take, drop, Result, Ok, Err, IfOk, ap, subst, arith}
+use Rattle.std.proofs.Common.{◌≡◌, ◌≤◌, ℕ, ltb, List, length, take, drop, Result, Ok, Err, IfOk, ap}
+use Rattle.std.proofs.Common.{subst, arith}
 use Rattle.std.proofs.lemmas.Bool.{ltb-false}
 use Rattle.std.proofs.lemmas.List.{length-take, length-append}
 use Rattle.shim_log.specs.declared.refusal.LogError.TheVariants as refusal

@@ -1,10 +1,12 @@
 -- What a recorder keeps, beside its host, and what it makes of it. This project's own rule.
-use Rattle.std.specs.Prelude.{◌≡◌, ◌≤◌, ◌+◌, ◌++◌, ◌⊎◌, ℕ, List, [], ◌∷◌, length, Option, Some, None, ⊤, IfSome}
+use Rattle.std.specs.Prelude.{◌≡◌, ◌≤◌, ◌+◌, ◌++◌, ◌⊎◌, ℕ, List, [], ◌∷◌, length, Option, Some}
+use Rattle.std.specs.Prelude.{None, ⊤, IfSome}
 use Rattle.std.specs.List.{AllByRecursion}
 use Rattle.dos_world.specs.declared.Post.{Post}
 use Rattle.dos_world.specs.declared.Ending.{Ending}
 use Rattle.dos_world.specs.declared.Question.{Question}
-use Rattle.dos_world.specs.declared.Question.TheVariants.{Signals, Input, Clock, End as end_question}
+use Rattle.dos_world.specs.declared.Question.TheVariants.{Signals, Input, Clock}
+use Rattle.dos_world.specs.declared.Question.TheVariants.{End as end_question}
 use Rattle.dos_io.specs.declared.exchange.Exchange.{Exchange}
 use Rattle.dos_io.specs.declared.exchange.Exchange.TheVariants.{End}
 use Rattle.dos_io.specs.declared.exchange.ClockRule.{ClockRule}

@@ -1,6 +1,7 @@
 -- Reading a log from left to right. Fields are read in their order, each is tested as soon as it is
 -- read, and the first thing that is wrong is answered with its place. This project's own rule.
-use Rattle.std.specs.Prelude.{◌-◌, ℕ, zero, suc, List, [], ◌∷◌, length, take, drop, Result, Ok, Err, nat_lt, ◌==◌, if◌then◌else◌}
+use Rattle.std.specs.Prelude.{◌-◌, ℕ, zero, suc, List, [], ◌∷◌, length, take, drop, Result, Ok, Err}
+use Rattle.std.specs.Prelude.{nat_lt, ◌==◌, if◌then◌else◌}
 use Rattle.std.specs.Int.{Width, w16, w32, w64, byte_len, from_le_bytes, is_in_range}
 use Rattle.std.specs.Str.{bytes_eq}
 use Rattle.dos_world.specs.declared.Post.{Post}

@@ -1,5 +1,6 @@
 -- A recorder follows itself, and following goes on.
-use Rattle.std.proofs.Common.{◌≡◌, ℕ, ◌+◌, ◌≤◌, ◌⊎◌, List, [], ◌++◌, length, Option, Some, refl, sym, ap, subst, ◌∙◌, append_assoc, arith, inl, inr}
+use Rattle.std.proofs.Common.{◌≡◌, ℕ, ◌+◌, ◌≤◌, ◌⊎◌, List, [], ◌++◌, length, Option, Some, refl}
+use Rattle.std.proofs.Common.{sym, ap, subst, ◌∙◌, append_assoc, arith, inl, inr}
 use Rattle.std.proofs.lemmas.List.{append-nil, length-append}
 use Rattle.dos_world.specs.declared.Post.{Post}
 use Rattle.dos_io.specs.declared.exchange.Exchange.{Exchange}
@@ -8,7 +9,8 @@ use Rattle.dos_io.specs.declared.shim.ShimStop.TheVariants.{HostFault}
 use Rattle.dos_io.specs.Hosts.{Told}
 use Rattle.dos_io.specs.Given.{readings, Given}
 use Rattle.dos_io.specs.Outside.{Rose}
-use Rattle.dos_io.proofs.GivenLaws.{given_then, given_none, readings_append, rose_before, rose_after}
+use Rattle.dos_io.proofs.GivenLaws.{given_then, given_none, readings_append, rose_before}
+use Rattle.dos_io.proofs.GivenLaws.{rose_after}
 use Rattle.shim_log.specs.Ledger.{LedgerState, recorder_state, Follows}
 
 pub follows_itself : (s : LedgerState) (a : Option Told) (m : ℕ) → Follows s s a a m m

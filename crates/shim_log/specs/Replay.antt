@@ -1,5 +1,6 @@
 -- What a replayer keeps, and what it makes of it. This project's own rule.
-use Rattle.std.specs.Prelude.{◌≡◌, ◌≢◌, ◌≤◌, ◌+◌, ◌++◌, ◌∷◌, ℕ, List, take, length, Option, Some, None, option_map, IfSome}
+use Rattle.std.specs.Prelude.{◌≡◌, ◌≢◌, ◌≤◌, ◌+◌, ◌++◌, ◌∷◌, ℕ, List, take, length, Option, Some}
+use Rattle.std.specs.Prelude.{None, option_map, IfSome}
 use Rattle.std.specs.List.{slice_get}
 use Rattle.dos_world.specs.declared.Question.{Question}
 use Rattle.dos_io.specs.declared.exchange.Exchange.{Exchange}

@@ -1,7 +1,10 @@
 // Entries, kept as their text.
 
-ghost use Rattle.std.specs.Prelude.{◌≡◌, ◌≤◌, ◌<◌, ◌+◌, ◌*◌, ◌-◌, ◌++◌, ◌∷◌, [], ℕ, List, length, OnOk, IfOk};
-ghost use Rattle.dos_io.specs.declared.exchange.Exchange.TheVariants.{Signals as signals, Input as input, Clock as clock};
+ghost use Rattle.std.specs.Prelude.{◌≡◌, ◌≤◌, ◌<◌, ◌+◌, ◌*◌, ◌-◌, ◌++◌, ◌∷◌, [], ℕ, List, length};
+ghost use Rattle.std.specs.Prelude.{OnOk, IfOk};
+ghost use Rattle.dos_io.specs.declared.exchange.Exchange.TheVariants.{Signals as signals};
+ghost use Rattle.dos_io.specs.declared.exchange.Exchange.TheVariants.{Input as input};
+ghost use Rattle.dos_io.specs.declared.exchange.Exchange.TheVariants.{Clock as clock};
 ghost use Rattle.shim_log.specs.EntriesText.{entries_of, IsEntriesText};
 ghost use Rattle.shim_log.specs.LogText.{entries_text};
 ghost use Rattle.shim_log.specs.Ranges.{AreEntries};

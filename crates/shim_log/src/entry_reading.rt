@@ -2,7 +2,8 @@
 
 ghost use Rattle.std.specs.Prelude.{◌≡◌, ◌≤◌, ◌++◌, ℕ, List, length, IfOk};
 ghost use Rattle.shim_log.specs.Gives.{Gives, behind};
-ghost use Rattle.shim_log.specs.Reading.{post_at, many_at, signals_at, input_at, clock_at, end_at, ending_by, entry_at};
+ghost use Rattle.shim_log.specs.Reading.{post_at, many_at, signals_at, input_at, clock_at, end_at};
+ghost use Rattle.shim_log.specs.Reading.{ending_by, entry_at};
 ghost use Rattle.shim_log.specs.Views.{posts_in_text, exchange_of};
 ghost use Rattle.shim_log.specs.LogText.{entry_text};
 ghost use Rattle.shim_log.specs.Ranges.{InRange};

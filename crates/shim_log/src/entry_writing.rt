@@ -1,10 +1,13 @@
 // The text of an entry, put behind a text that has room for it.
 
-ghost use Rattle.std.specs.Prelude.{◌≡◌, ◌≤◌, ◌<◌, ◌+◌, ◌*◌, ◌++◌, ◌∷◌, [], ℕ, List, length, vec_len};
+ghost use Rattle.std.specs.Prelude.{◌≡◌, ◌≤◌, ◌<◌, ◌+◌, ◌*◌, ◌++◌, ◌∷◌, [], ℕ, List, length};
+ghost use Rattle.std.specs.Prelude.{vec_len};
 ghost use Rattle.std.specs.Prelude.{vec_capacity};
 ghost use Rattle.std.specs.List.{flat_map};
 ghost use Rattle.std.specs.Int.{w16, w32, w64, to_le_bytes};
-ghost use Rattle.dos_io.specs.declared.exchange.Exchange.TheVariants.{Signals as signals, Input as input, Clock as clock};
+ghost use Rattle.dos_io.specs.declared.exchange.Exchange.TheVariants.{Signals as signals};
+ghost use Rattle.dos_io.specs.declared.exchange.Exchange.TheVariants.{Input as input};
+ghost use Rattle.dos_io.specs.declared.exchange.Exchange.TheVariants.{Clock as clock};
 ghost use Rattle.shim_log.specs.LogText.{post_text, entry_text};
 
 use dos_io::SignalList;

@@ -2,7 +2,8 @@
 ghost use Rattle.std.specs.Prelude.{◌≡◌, ◌≤◌, ℕ, List, length, IfOk};
 ghost use Rattle.std.specs.Int.{w16, w32, w64};
 ghost use Rattle.shim_log.specs.Gives.{Gives};
-ghost use Rattle.shim_log.specs.Reading.{place, bytes_at, number_at, byte_at, ranged_at, ranged_byte_at, header_number_at};
+ghost use Rattle.shim_log.specs.Reading.{place, bytes_at, number_at, byte_at, ranged_at};
+ghost use Rattle.shim_log.specs.Reading.{ranged_byte_at, header_number_at};
 
 use crate::refusal::LogError;
 

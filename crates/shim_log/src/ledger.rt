@@ -1,12 +1,18 @@
 // What a recorder keeps, beside its host.
-ghost use Rattle.std.specs.Prelude.{◌≡◌, ◌≤◌, ◌<◌, ◌+◌, ◌*◌, ◌↔◌, ◌++◌, ◌∷◌, [], ℕ, List, length, IsTrue, slice_get, Some, None, IfOk, OnOk, IfErr, IsErrOf, ◌≢◌, IfSome};
-ghost use Rattle.dos_io.specs.declared.exchange.Exchange.TheVariants.{Signals as signals, Input as input, Clock as clock_exchange};
+ghost use Rattle.std.specs.Prelude.{◌≡◌, ◌≤◌, ◌<◌, ◌+◌, ◌*◌, ◌↔◌, ◌++◌, ◌∷◌, [], ℕ, List, length};
+ghost use Rattle.std.specs.Prelude.{IsTrue, slice_get, Some, None, IfOk, OnOk, IfErr, IsErrOf, ◌≢◌};
+ghost use Rattle.std.specs.Prelude.{IfSome};
+ghost use Rattle.dos_io.specs.declared.exchange.Exchange.TheVariants.{Signals as signals};
+ghost use Rattle.dos_io.specs.declared.exchange.Exchange.TheVariants.{Input as input};
+ghost use Rattle.dos_io.specs.declared.exchange.Exchange.TheVariants.{Clock as clock_exchange};
 ghost use Rattle.dos_io.specs.Given.{readings, posts_in};
 ghost use Rattle.dos_io.specs.Shims.{HasNoEnd};
 ghost use Rattle.shim_log.specs.LogText.{exchanges, logtext};
 ghost use Rattle.shim_log.specs.Ranges.{FitsHeader};
 ghost use Rattle.shim_log.specs.Room.{IsOver, NoRoom};
-ghost use Rattle.shim_log.specs.Ledger.{LedgerState, IsLedger, recorder_state, ArePlanned, AddsEntry, MayStop, stopped, added, closed, empty_ledger, next_reading};
+ghost use Rattle.shim_log.specs.Ledger.{LedgerState, IsLedger, recorder_state, ArePlanned};
+ghost use Rattle.shim_log.specs.Ledger.{AddsEntry, MayStop, stopped, added, closed, empty_ledger};
+ghost use Rattle.shim_log.specs.Ledger.{next_reading};
 
 use crate::entries::Entries;
 use crate::header::LogHeader;

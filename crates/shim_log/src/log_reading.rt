@@ -4,7 +4,8 @@ ghost use Rattle.std.specs.Prelude.{◌≡◌, ◌≤◌, ◌<◌, ℕ, List, le
 ghost use Rattle.shim_log.specs.declared.header.LogHeader.{LogHeader};
 ghost use Rattle.shim_log.specs.EntriesText.{IsEntriesText};
 ghost use Rattle.shim_log.specs.Gives.{Gives, ReadsAs};
-ghost use Rattle.shim_log.specs.Reading.{magic_at, version_at, header_at, bytes_at, many_at, tail_at, log_at};
+ghost use Rattle.shim_log.specs.Reading.{magic_at, version_at, header_at, bytes_at, many_at};
+ghost use Rattle.shim_log.specs.Reading.{tail_at, log_at};
 ghost use Rattle.shim_log.specs.Views.{log_of};
 ghost use Rattle.shim_log.specs.LogText.{Log as LogValue, logtext};
 ghost use Rattle.shim_log.specs.Ranges.{FitsHeader, FitsLog};

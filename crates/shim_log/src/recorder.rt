@@ -3,7 +3,8 @@ ghost use Rattle.std.specs.Prelude.{◌≡◌, ◌≤◌, ◌<◌, ℕ, List, []
 ghost use Rattle.dos_io.specs.Shims.{HasNoEnd};
 ghost use Rattle.shim_log.specs.LogText.{exchanges, logtext};
 ghost use Rattle.shim_log.specs.Ranges.{FitsHeader};
-ghost use Rattle.shim_log.specs.Ledger.{LedgerState, IsLedger, ArePlanned, recorder_state, empty_ledger, Follows};
+ghost use Rattle.shim_log.specs.Ledger.{LedgerState, IsLedger, ArePlanned, recorder_state};
+ghost use Rattle.shim_log.specs.Ledger.{empty_ledger, Follows};
 
 use crate::header::LogHeader;
 use crate::ledger::Ledger;

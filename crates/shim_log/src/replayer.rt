@@ -1,11 +1,13 @@
 // A shim that answers out of a log.
-ghost use Rattle.std.specs.Prelude.{◌≡◌, ◌≢◌, ◌≤◌, ◌<◌, ◌+◌, length, drop, ◌∷◌, slice_get, Some, None, OnOk, IfErr, IfOk, IsTrue, ◌↔◌};
+ghost use Rattle.std.specs.Prelude.{◌≡◌, ◌≢◌, ◌≤◌, ◌<◌, ◌+◌, length, drop, ◌∷◌, slice_get, Some};
+ghost use Rattle.std.specs.Prelude.{None, OnOk, IfErr, IfOk, IsTrue, ◌↔◌};
 ghost use Rattle.dos_io.specs.Exchanges.{question_of};
 ghost use Rattle.dos_io.specs.Posts.{ArePosts};
 ghost use Rattle.shim_log.specs.LogText.{entries_text, exchanges};
 ghost use Rattle.shim_log.specs.Ranges.{InRange};
 ghost use Rattle.shim_log.specs.Views.{posts_in_text, exchange_of};
-ghost use Rattle.shim_log.specs.Replay.{ReplayState, IsReplay, IsMisfitOf, replayer_state, replay_stopped, replay_advanced};
+ghost use Rattle.shim_log.specs.Replay.{ReplayState, IsReplay, IsMisfitOf, replayer_state};
+ghost use Rattle.shim_log.specs.Replay.{replay_stopped, replay_advanced};
 
 use crate::entry::Entry;
 use crate::entry_reading::read_entry;

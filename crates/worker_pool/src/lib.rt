@@ -3,7 +3,8 @@
 //!
 //! Whatever the way, `Workers::run_all` leaves each pack as `run_pack` does, in order: in place on
 //! the caller's own thread; on threads with an even part each; on threads that draw packs from a
-//! board; or on threads that have a deque of numbers each and steal from one another.
+//! board; or on threads that have a deque of numbers each and steal from one another. `share` and
+//! `share_from` run parts from a board in slices, for threads that stay.
 #![tactic(auto)]
 
 mod crew;

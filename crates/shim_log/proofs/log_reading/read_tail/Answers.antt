@@ -1,7 +1,8 @@
 use Rattle.std.proofs.Common.{◌∙◌, sym, arith}
 use Rattle.std.proofs.lemmas.Result.{err_from_is_err_and}
 use Rattle.shim_log.specs.Views.{exchange_of}
-use Rattle.shim_log.proofs.TailLoop.{walk_goes_on, walk_text, walk_ends, walk_refuses, walk_runs_out}
+use Rattle.shim_log.proofs.TailLoop.{walk_goes_on, walk_text, walk_ends, walk_refuses}
+use Rattle.shim_log.proofs.TailLoop.{walk_runs_out}
 use Rattle.shim_log.proofs.log_reading.read_tail.Goals as goal
 
 pub returns-in_err-entry-clause-value : goal.returns-in_err-entry-clause-value

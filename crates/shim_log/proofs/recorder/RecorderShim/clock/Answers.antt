@@ -1,5 +1,6 @@
 use Rattle.std.proofs.Common.{arith, refl}
-use Rattle.shim_log.proofs.RecorderLaws.{stops_follow, adds_ok, adds_follow, given_counted, given_read}
+use Rattle.shim_log.proofs.RecorderLaws.{stops_follow, adds_ok, adds_follow, given_counted}
+use Rattle.shim_log.proofs.RecorderLaws.{given_read}
 use Rattle.shim_log.proofs.recorder.RecorderShim.clock.Goals as goal
 
 pub returns-in-Some-clause-ok : goal.returns-in-Some-clause-ok
