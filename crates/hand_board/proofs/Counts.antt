@@ -146,8 +146,3 @@ times_without i j (y ∷ ys) = dite (ℕ_discrete y i)
     ap (times j) (without_else i y ys n) in
     let b = times_without i j ys in
     omega arith)
-
-pub total_less : {V : Type 0} (f g : V → ℕ) (vs : List V) → ((v : V) → f v ≤ g v)
-    → total f vs ≤ total g vs
-total_less f g [] h = omega arith
-total_less f g (x ∷ xs) h = let a = h x in let b = total_less f g xs h in omega arith

@@ -30,22 +30,6 @@ read_at (x ∷ xs) zero w e = some-injective x w e
 read_at (x ∷ xs) (suc i) w e = read_at xs i w e
 
 module _ {T : Type 0} where
-  -- a pack that is popped off the reversed packs stands next in the slots
-  pub goes_in : (s : List (Option T)) (p : List T) (x : T)
-      → (s ++ Some x ∷ []) ++ map Some (reverse p) ≡ s ++ map Some (reverse (p ++ x ∷ []))
-  goes_in s p x = append_assoc s (Some x ∷ []) (map Some (reverse p))
-      ∙ ap (λ z. s ++ map Some z) (sym (reverse-append p (x ∷ [])))
-
-  -- a pack that is popped off the reversed slots stands next in the vector
-  pub comes_out : (r : List T) (p : List (Option T)) (x : T)
-      → (r ++ x ∷ []) ++ values (reverse p) ≡ r ++ values (reverse (p ++ Some x ∷ []))
-  comes_out r p x = append_assoc r (x ∷ []) (values (reverse p))
-      ∙ ap (λ z. r ++ values z) (sym (reverse-append p (Some x ∷ [])))
-
-  pub skips : (r : List T) (p : List (Option T))
-      → r ++ values (reverse p) ≡ r ++ values (reverse (p ++ None ∷ []))
-  skips r p = ap (λ z. r ++ values z) (sym (reverse-append p (None ∷ [])))
-
   -- a pack that is finished from the opening that is next stands next
   one_finished : (fin : T → T → Type 0) (xs ys : List T) (i : ℕ) (x y : T)
       → AllFinished fin (take i xs) ys → get_elem? xs i ≡ some x → fin x y

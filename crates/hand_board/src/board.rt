@@ -186,6 +186,14 @@ impl<T: Part> Board<T> {
         Some(Job { number, pack })
     }
 
+    /// Whether the pack of this number was in a hand when this call looked. Nothing follows from it
+    /// for what comes after the look, so it only tells who waits whether to look again.
+    pub fn was_in_hand(&self, number: u32) -> bool
+        requires { number < length self.now.opened }
+    {
+        self.table.shared.peek(number as usize + 1) == 1
+    }
+
     /// A pack that this seat didn't know to be begun, as the board opened; no other hand has it.
     /// None exactly where each number was found begun, by this call or before: the seat has then
     /// ended, and its draws answer None without a step. Numbers are tried in rising order, from

@@ -9,9 +9,13 @@ ghost use Rattle.worker_pool.specs.Parts.{AreReady, IsSameSeat, IsOnItsWay};
 use crate::crew::Task;
 use crate::gate::Gate;
 use hand_board::{Board, BoardSeat, Job};
+use std::hint::spin_loop;
 
 /// How many instructions a slice has at most, some 38 microseconds.
 pub const SLICE: u32 = 16_384;
+
+// how often a thread looks at a board whose parts are all in other hands before it leaves it
+const LOOKS: u32 = 20_000;
 
 // runs the only part in the seat's hand some way on: it goes home at its end, or under way
 fn go_on<T: Task>(board: &Board<T>, seat: &mut BoardSeat<T>, mut job: Job<T>)
@@ -115,8 +119,18 @@ fn resume_between<T: Task>(board: &Board<T>, seat: &mut BoardSeat<T>, from: u32,
     more
 }
 
-// slices of what lies at home under way, from this number on and then those before it, until a
-// look at all numbers finds none: each other one is in a hand, whose thread looks again, or finished
+// whether a part was in a hand at a look at all numbers
+fn is_any_in_hand<T: Task>(board: &Board<T>) -> bool {
+    for number in 0..board.count() {
+        if board.was_in_hand(number) {
+            return true;
+        }
+    }
+    false
+}
+
+// slices of what lies at home under way, from this number on and then those before it. A thread
+// that has run one looks on while parts are in other hands, since they come home after a slice.
 fn resume_all<T: Task>(board: &Board<T>, mut seat: BoardSeat<T>, first: u32) -> BoardSeat<T>
     requires board { seat.board ≡ board.now.id }
     requires free { seat.hand ≡ [] }
@@ -124,11 +138,17 @@ fn resume_all<T: Task>(board: &Board<T>, mut seat: BoardSeat<T>, first: u32) -> 
     ensures same { IsSameSeat seat result }
     ensures rest { (result.hand ≡ []) × (result.ended ≡ seat.ended) }
 {
+    let mut looks = 0;
     for _ in 0..u32::MAX {
         let later = resume_between(board, &mut seat, first, board.count());
         let earlier = resume_between(board, &mut seat, 0, first);
-        if !later && !earlier {
+        if later || earlier {
+            looks = LOOKS;
+        } else if looks == 0 || !is_any_in_hand(board) {
             break;
+        } else {
+            looks -= 1;
+            spin_loop();
         }
     }
     seat
