@@ -1,11 +1,11 @@
 // The board, and what a seat does at it.
 ghost use Rattle.std.specs.Prelude.{◌≡◌, ◌<◌, ◌≤◌, ◌+◌, ◌-◌, ◌/◌, ◌^◌, ◌∷◌, ◌++◌, ◌||◌, [], ℕ};
-ghost use Rattle.std.specs.Prelude.{true, false, length, max, vec_len, vec_capacity};
-ghost use Rattle.std.specs.Prelude.{IfSome, IfNone, IfOk, IfErr, Some};
+ghost use Rattle.std.specs.Prelude.{true, false, length, max, replicate, vec_len, vec_capacity};
+ghost use Rattle.std.specs.Prelude.{IfSome, IfNone, IfOk, IfErr, Some, None};
 ghost use mathlib.Core.Option.{some};
 ghost use lib.ListN.{get_elem?};
 ghost use Rattle.atomic_table.specs.Table.{rest};
-ghost use Rattle.hand_board.specs.Placed.{IsUnderWay, times, without, whole};
+ghost use Rattle.hand_board.specs.Placed.{IsUnderWay, first_view, times, without, whole};
 ghost use Rattle.hand_board.specs.Seating.{Has, AllFinished};
 
 use crate::rule::{Bring, Claim, Give, Halve, Knows, Merge, Once, Part, Resume, Weigh};
@@ -56,6 +56,60 @@ fn one_of(a: bool, b: bool) -> bool
     a || b
 }
 
+// the words of so many packs, each 0, and room for their slots, or None where memory ends
+#[inline]
+fn room_for<T>(alloc: Global, count: usize) -> Option<(Vec<u64>, Vec<Option<T>>)>
+    requires { count < 2 ^ 32 }
+    ensures words { IfSome result (λ r. r.0.items ≡ replicate (count + 1) 0) }
+    ensures slots { IfSome result (λ r. (vec_len r.1 ≡ 0) × (count ≤ vec_capacity r.1)) }
+{
+    let Ok(words) = (vec![in alloc; 0; count + 1]) else {
+        return None;
+    };
+    let Ok(slots) = Vec::with_capacity(alloc, count) else {
+        return None;
+    };
+    Some((words, slots))
+}
+
+// the board of a new table, with the room that its packs came in, and its first seat
+#[inline]
+fn board_of<T: Part>(
+    table: Table<Option<T>, Knows<T>, Snapshot<Vec<T>>, Once<T>, Global>,
+    seat: Seat<Option<T>, Knows<T>>,
+    count: u32,
+    room: Vec<T>,
+) -> (Board<T>, BoardSeat<T>)
+    requires sized { (table.shared.table_id.words ≡ count + 1)
+        × (table.shared.table_id.slots ≡ count) }
+    requires all { length table.shared.key.value.items ≡ count }
+    requires roomy { (vec_len room ≡ 0) × (count ≤ vec_capacity room) }
+    requires seat { (seat.table_id ≡ table.shared.table_id)
+        × (seat.me ≡ (first_view table.shared.key.value.items, [])) }
+    ensures board { (result.0.id ≡ table.shared.table_id)
+        × (result.0.opened ≡ table.shared.key.value.items) × (result.0.room ≡ vec_capacity room) }
+    ensures seat { result.1
+        ≡ record {
+          board = table.shared.table_id;
+          opened = table.shared.key.value.items;
+          share = whole;
+          found = [];
+          hand = [];
+          next = 0;
+          ended = false;
+        } }
+{
+    (
+        Board { table, count, room },
+        BoardSeat {
+            seat,
+            share: WHOLE,
+            next: 0,
+            ended: false,
+        },
+    )
+}
+
 // the pack in the slot that the seat took last leaves it
 fn lift<T: Part>(
     shared: &Shared<Option<T>, Knows<T>, Snapshot<Vec<T>>, Once<T>>,
@@ -71,6 +125,24 @@ fn lift<T: Part>(
     match shared.exchange(seat, slot, None) {
         Some(pack) => pack,
         None => unreachable!(),
+    }
+}
+
+// a pack goes into the slot that the seat took last, which is empty
+fn put<T: Part>(
+    shared: &Shared<Option<T>, Knows<T>, Snapshot<Vec<T>>, Once<T>>,
+    seat: &mut Seat<Option<T>, Knows<T>>,
+    slot: usize,
+    pack: T,
+)
+    requires table { seat.old.table_id ≡ shared.now.table_id }
+    requires empty { seat.old.me.1 ≡ (slot, None) ∷ rest seat.old.me.1 }
+    ensures table { seat.new.table_id ≡ seat.old.table_id }
+    ensures seat { seat.new.me ≡ (seat.old.me.0, (slot, Some pack) ∷ rest seat.old.me.1) }
+{
+    match shared.exchange(seat, slot, Some(pack)) {
+        None => {}
+        Some(_) => unreachable!(),
     }
 }
 
@@ -97,28 +169,13 @@ impl<T: Part> Board<T> {
             (λ v. (v.items ≡ packs.items) × (vec_capacity v ≡ vec_capacity packs)) }
     {
         let count = packs.len();
-        let Ok(words) = (vec![in alloc; 0; count + 1]) else {
-            return Err(packs);
-        };
-        let Ok(mut slots) = Vec::with_capacity(alloc, count) else {
+        let Some((words, mut slots)) = room_for(alloc, count) else {
             return Err(packs);
         };
         let opened = Snapshot::of(&packs);
         fill(&mut packs, &mut slots);
         match Table::new(alloc, words.as_slice(), slots, &opened) {
-            Ok((table, seat)) => Ok((
-                Board {
-                    table,
-                    count: count as u32,
-                    room: packs,
-                },
-                BoardSeat {
-                    seat,
-                    share: WHOLE,
-                    next: 0,
-                    ended: false,
-                },
-            )),
+            Ok((table, seat)) => Ok(board_of(table, seat, count as u32, packs)),
             Err(Refused { slots }) => {
                 empty(slots, &mut packs);
                 Err(packs)
@@ -268,10 +325,7 @@ impl<T: Part> Board<T> {
         let shared = &self.table.shared;
         let index = number as usize;
         shared.load::<Bring>(&mut seat.seat, index + 1);
-        match shared.exchange(&mut seat.seat, index, Some(pack)) {
-            None => {}
-            Some(_) => unreachable!(),
-        }
+        put(shared, &mut seat.seat, index, pack);
         shared.store::<Give>(&mut seat.seat, index + 1, word);
     }
 

@@ -3,7 +3,7 @@ use Rattle.atomic_table.specs.Table.{rest}
 use lib.ListN.{get_elem?}
 use Rattle.hand_board.specs.Placed.{to_front, times, without}
 use Rattle.hand_board.proofs.Steps.{comes_at, gives_back}
-use Rattle.hand_board.proofs.Sitting.{second, sits_given, shows_given, gone, filled}
+use Rattle.hand_board.proofs.Sitting.{sits_given, shows_given, gone, filled}
 use Rattle.hand_board.proofs.board.Board.lay.Goals as goal
 
 pub load-requires : goal.load-requires
@@ -23,18 +23,13 @@ load-requires g c =
           c.args.job.number _ s.slots (omega arith) has,
     )
 
-pub exchange-requires : goal.exchange-requires
-exchange-requires g c = let t = c.load.ensures.2 c.args.job.number refl in (
-  c.load.ensures.0 ∙ ap (λ z. z.board) c.seat.view_is ∙ c.requires.board
-      ∙ sym (ap (λ z. z.id) c.self.view_is),
-  (None, ap (λ z. z.1) t ∙ ap (λ l. (c.args.job.number, None) ∷ rest l.1) (sym t)),
-)
-
-pub unreachable-requires : goal.unreachable-requires
-unreachable-requires g c = let t = c.load.ensures.2 c.args.job.number refl in
-    let r = second _ _ _ _ _ _ (sym c.exchange.ensures.2 ∙ ap (λ z. z.1) t) in
-    let n = c.in-Some.is in
-    cc
+pub put-requires : goal.put-requires
+put-requires g c = let t = c.load.ensures.2 c.args.job.number refl in
+    record {
+      table = c.load.ensures.0 ∙ ap (λ z. z.board) c.seat.view_is ∙ c.requires.board
+          ∙ sym (ap (λ z. z.id) c.self.view_is);
+      empty = ap (λ z. z.1) t ∙ ap (λ l. (c.args.job.number, None) ∷ rest l.1) (sym t);
+    }
 
 pub store-requires : goal.store-requires
 store-requires g c = let t = c.load.ensures.2 c.args.job.number refl in
@@ -44,12 +39,12 @@ store-requires g c = let t = c.load.ensures.2 c.args.job.number refl in
     let has = subst (λ z. 0 < times c.args.job.number z.hand)
     (sym c.seat.view_is) c.requires.hand in
     let low = s.low c.args.job.number has in let same = ap (λ z. z.words) e in (
-      c.exchange.ensures.0 ∙ c.load.ensures.0 ∙ e,
+      c.put.ensures.table ∙ c.load.ensures.0 ∙ e,
       omega arith,
       gives_back _ _ c.self.inside.table.shared.key.value.items _ _ c.args.job.number c.args.word
           _ (to_front c.args.job.number c.seat.inside.seat.me.0) c.args.job.pack
           (without c.args.job.number c.seat.inside.seat.me.0.hand)
-          (filled _ _ _ _ _ _ _ t c.exchange.ensures.3) refl (omega arith)
+          (filled _ _ _ _ _ _ _ t c.put.ensures.seat) refl (omega arith)
           c.requires.word
           (λ x at. c.requires.pack x
           (ap (λ z. get_elem? z.opened c.args.job.number) (sym c.seat.view_is) ∙ at)),
@@ -58,11 +53,11 @@ store-requires g c = let t = c.load.ensures.2 c.args.job.number refl in
 pub invariant_of-seat : goal.invariant_of-seat
 invariant_of-seat g c = let t = c.load.ensures.2 c.args.job.number refl in
     sits_given _ _ _ _ _ _ _ c.args.job.number c.seat.invariant
-    (c.store.ensures.0 ∙ c.exchange.ensures.0 ∙ c.load.ensures.0)
-    (gone _ _ _ _ _ _ _ _ t c.exchange.ensures.3 c.store.ensures.2)
+    (c.store.ensures.0 ∙ c.put.ensures.table ∙ c.load.ensures.0)
+    (gone _ _ _ _ _ _ _ _ t c.put.ensures.seat c.store.ensures.2)
 
 pub returns : goal.returns
 returns g c = let t = c.load.ensures.2 c.args.job.number refl in
     shows_given _ _ _ _ _ c.seat.inside.seat.me _ _ c.args.job.number c.seat.view_is
-    (c.store.ensures.0 ∙ c.exchange.ensures.0 ∙ c.load.ensures.0)
-    (gone _ _ _ _ _ _ _ _ t c.exchange.ensures.3 c.store.ensures.2)
+    (c.store.ensures.0 ∙ c.put.ensures.table ∙ c.load.ensures.0)
+    (gone _ _ _ _ _ _ _ _ t c.put.ensures.seat c.store.ensures.2)
