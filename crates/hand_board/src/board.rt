@@ -129,6 +129,7 @@ fn lift<T: Part>(
 }
 
 // a pack goes into the slot that the seat took last, which is empty
+#[inline]
 fn put<T: Part>(
     shared: &Shared<Option<T>, Knows<T>, Snapshot<Vec<T>>, Once<T>>,
     seat: &mut Seat<Option<T>, Knows<T>>,
