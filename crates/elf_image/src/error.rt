@@ -1,5 +1,6 @@
 //! Why a file is no image.
 
+use std::fmt;
 use thiserror::Error;
 
 /// Why a file was refused. The first fourteen are tested in this order, and the first that holds is
@@ -7,51 +8,36 @@ use thiserror::Error;
 #[derive(Clone, Copy, Debug, PartialEq, Eq, Hash, Error)]
 pub enum ImageError {
     /// The file has fewer than 52 bytes, so it has no file header.
-    #[error("the file is too short for a file header")]
     Short,
     /// The first four bytes are not `7F 45 4C 46`.
-    #[error("the file is no ELF file")]
     NotElf,
     /// The file is not of the class of 32 bits.
-    #[error("the file is not of 32 bits")]
     Class,
     /// The file's numbers are not little-endian.
-    #[error("the file is not little-endian")]
     ByteOrder,
     /// The version, in `e_ident` or in `e_version`, is not 1.
-    #[error("the file's version is not 1")]
     Version,
     /// `e_type` is not `ET_EXEC`.
-    #[error("the file is no executable")]
     Kind,
     /// `e_machine` is not `EM_RISCV`.
-    #[error("the file is not for RISC-V")]
     Machine,
     /// `e_flags` asks for instructions or registers that guests have not.
-    #[error("the file asks for an extension")]
     Flags,
     /// There are over 64 program headers, or their table is not of entries of 32 bytes within the
     /// file.
-    #[error("the table of program headers is unsound")]
     HeaderTable,
     /// The file wants a dynamic linker or an interpreter.
-    #[error("the file is not static")]
     Dynamic,
     /// The segment with this index in the table has more bytes than memory, or leaves the file or a
     /// guest's addresses.
-    #[error("segment {0} does not fit")]
     Segment(u32),
     /// The segments with these two indexes share an address; the first is the lower.
-    #[error("segments {0} and {1} overlap")]
     Overlap(u32, u32),
     /// No segment takes memory.
-    #[error("the file has nothing to load")]
     NoLoad,
     /// The entry is not a multiple of 4, or in no segment that may be executed.
-    #[error("the entry is in no code")]
     Entry,
     /// There was no memory to hold the parts. The file may be sound.
-    #[error("out of memory")]
     Memory,
 }
 
@@ -80,6 +66,37 @@ impl ImageError {
             ImageError::NoLoad => 13,
             ImageError::Entry => 14,
             ImageError::Memory => 0,
+        }
+    }
+
+    // What is wrong, in words, without the indexes of segments.
+    fn text(&self) -> &'static str {
+        match self {
+            ImageError::Short => "the file is too short for a file header",
+            ImageError::NotElf => "the file is no ELF file",
+            ImageError::Class => "the file is not of 32 bits",
+            ImageError::ByteOrder => "the file is not little-endian",
+            ImageError::Version => "the file's version is not 1",
+            ImageError::Kind => "the file is no executable",
+            ImageError::Machine => "the file is not for RISC-V",
+            ImageError::Flags => "the file asks for an extension",
+            ImageError::HeaderTable => "the table of program headers is unsound",
+            ImageError::Dynamic => "the file is not static",
+            ImageError::Segment(_) => "a segment does not fit",
+            ImageError::Overlap(_, _) => "segments overlap",
+            ImageError::NoLoad => "the file has nothing to load",
+            ImageError::Entry => "the entry is in no code",
+            ImageError::Memory => "out of memory",
+        }
+    }
+}
+
+impl fmt::Display for ImageError {
+    fn fmt<W: fmt::Write>(&self, f: &mut fmt::Formatter<W>) -> fmt::Result {
+        match self {
+            ImageError::Segment(index) => write!(f, "segment {index} does not fit"),
+            ImageError::Overlap(low, high) => write!(f, "segments {low} and {high} overlap"),
+            _ => f.write_str(self.text()),
         }
     }
 }
