@@ -1,6 +1,6 @@
 -- What clap takes and what it refuses.
 use Rattle.std.proofs.Common.{◌≡◌, ◌∙◌, inl, inr, refl, sym, ap, ap₂, true, List, [], ◌∷◌, Option}
-use Rattle.std.proofs.Common.{None}
+use Rattle.std.proofs.Common.{None, Err, subst}
 use Rattle.std.specs.Prelude.{option_and_then}
 use Rattle.clap.specs.Words.{App, Row, kind_of, is_simple, is_simple_and_free, fault_of}
 use Rattle.clap.specs.Words.{subcommand_of}
@@ -9,7 +9,10 @@ use Rattle.clap.specs.declared.error.Error.{Error}
 use Rattle.clap.specs.declared.error.kind.ErrorKind.TheVariants as kind
 use Rattle.clap.proofs.OnLiterals.{clap_on_literals}
 use Rattle.dos_words.specs.declared.request.Request.{Request}
+use Rattle.dos_words.specs.declared.error.WordsError.{WordsError}
+use Rattle.dos_words.specs.declared.error.WordsError.TheVariants.{Refused, Memory}
 use Rattle.dos_words.specs.Numbers.{Text}
+use Rattle.dos_words.specs.Reads.{Reads, Takes}
 use Rattle.dos_words.specs.Clap.{words_app, asked_by, where_taken, clap_request}
 
 -- clap's own definition says all of these commands
@@ -34,3 +37,18 @@ taken_by app words found same fault is =
     ap₂ where_taken (ap (λ (a : App). fault_of a words) (sym same) ∙ fault)
     (ap (option_and_then asked_by)
     (ap (λ (a : App). subcommand_of a words) (sym same) ∙ sym is))
+
+-- where clap has an error, and why there is no request then
+pub takes_none : (why : WordsError) (e : Error) (words : List Text) (app : App)
+    → app ≡ words_app → HasKind (fault_of app words) e
+    → (why ≡ Refused → kind_of e ≡ kind.OutOfMemory → ⊥) → Takes (Err why) words
+takes_none Memory e words app same has not = tt
+takes_none Refused e words app same has not =
+    refused_by (fault_of words_app words) e _
+    (subst (λ (a : App). HasKind (fault_of a words) e) same has) (not refl)
+
+-- what takes nothing reads nothing
+pub reads_none : (why : WordsError) (words : List Text) → Takes (Err why) words
+    → Reads {A = Request} (Err why) (clap_request words)
+reads_none Memory words takes = tt
+reads_none Refused words takes = takes

@@ -122,7 +122,7 @@ fn bare_command<'a>(alloc: Global) -> Command<'a>
 }
 
 /// With one command more, where that one was made.
-fn with_command<'a>(
+fn with_made<'a>(
     whole: Command<'a>,
     made: Result<Command<'a>, AllocError>,
 ) -> Result<Command<'a>, AllocError>
@@ -140,12 +140,31 @@ fn with_command<'a>(
     }
 }
 
+/// With one command more, where both were made.
+fn with_command<'a>(
+    whole: Result<Command<'a>, AllocError>,
+    made: Result<Command<'a>, AllocError>,
+) -> Result<Command<'a>, AllocError>
+    ensures { (app : App) (shape : Shape) → IfOk whole.entry (λ c. app_of c ≡ app)
+        → IfOk made.entry (λ c. shape_of c ≡ shape)
+        → IfOk made.entry (λ c. (fields_of c).has_globals ≡ false)
+        → IfOk result (λ c. app_of c ≡ with_subcommand app shape) }
+{
+    match whole {
+        Err(error) => {
+            drop(made);
+            Err(error)
+        }
+        Ok(whole) => with_made(whole, made),
+    }
+}
+
 /// The program with the commands that run images from files.
 fn runs_command<'a>(alloc: Global) -> Result<Command<'a>, AllocError>
     ensures { IfOk result (λ c.
         app_of c ≡ fold with_subcommand bare_app (map command_shape (run ∷ replay ∷ []))) }
 {
-    let whole = with_command(bare_command(alloc), run_command(alloc))?;
+    let whole = with_made(bare_command(alloc), run_command(alloc));
     with_command(whole, replay_command(alloc))
 }
 
@@ -155,14 +174,12 @@ fn files_command<'a>(alloc: Global) -> Result<Command<'a>, AllocError>
         app_of c
         ≡ fold with_subcommand bare_app (map command_shape (run ∷ replay ∷ inspect ∷ []))) }
 {
-    let whole = runs_command(alloc)?;
-    with_command(whole, inspect_command(alloc))
+    with_command(runs_command(alloc), inspect_command(alloc))
 }
 
 /// The program with its commands.
 pub fn words_command<'a>(alloc: Global) -> Result<Command<'a>, AllocError>
     ensures { IfOk result (λ c. app_of c ≡ words_app) }
 {
-    let whole = files_command(alloc)?;
-    with_command(whole, gen_command(alloc))
+    with_command(files_command(alloc), gen_command(alloc))
 }

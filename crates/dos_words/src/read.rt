@@ -1,22 +1,23 @@
 //! The words read: what `clap` finds in them, by the program's own ranges.
-ghost use Rattle.std.specs.Prelude.{◌≡◌, List, map, length, nat_lt, option_map, option_and_then};
+ghost use Rattle.std.specs.Prelude.{◌≡◌, ◌≢◌, List, map, length, nat_lt, option_map};
+ghost use Rattle.std.specs.Prelude.{option_and_then};
 ghost use Rattle.std.specs.Prelude.{string_bytes, codes};
-ghost use Rattle.clap.specs.Words.{rows_of, found_of, subcommand_rows_of};
+ghost use Rattle.clap.specs.Words.{app_of, kind_of, rows_of, found_of, subcommand_rows_of};
 ghost use Rattle.dos_words.specs.Numbers.{number_within};
 ghost use Rattle.dos_words.specs.Asked.{most_u64, number_or, number_if_given, posts_or_none};
 ghost use Rattle.dos_words.specs.Asked.{images_of, run_asked, replay_asked, inspect_asked};
 ghost use Rattle.dos_words.specs.Asked.{gen_asked};
-ghost use Rattle.dos_words.specs.Clap.{asked_by, clap_request};
+ghost use Rattle.dos_words.specs.Clap.{words_app, asked_by, clap_request};
 ghost use Rattle.dos_words.specs.Request.{request};
-ghost use Rattle.dos_words.specs.Reads.{Reads, values_found, names_given, names_found};
+ghost use Rattle.dos_words.specs.Reads.{Reads, Takes, values_found, names_given, names_found};
 
 use crate::command::words_command;
 use crate::error::WordsError;
 use crate::number::{number_within, small_within};
 use crate::posts::read_posts;
 use crate::request::{Names, Posts, Request, Text};
-use clap::ArgMatches;
 use clap::error::ErrorKind;
+use clap::{ArgMatches, Command, Error};
 use std::alloc::Global;
 
 /// The value of an option, if it is given.
@@ -251,18 +252,47 @@ fn read_found(alloc: Global, matches: &ArgMatches<'_>) -> Result<Request, WordsE
     }
 }
 
+/// Why there is no request where `clap` has this error.
+fn refusal_of(e: Error) -> WordsError
+    ensures { result ≡ WordsError.Refused → kind_of e ≢ ErrorKind.OutOfMemory }
+{
+    match e.kind() {
+        ErrorKind::OutOfMemory => WordsError::Memory,
+        _ => WordsError::Refused,
+    }
+}
+
+/// What `clap` finds in the words by these commands, or why it takes none of them.
+fn taken<'a>(command: Command<'a>, words: &'a [String]) -> Result<ArgMatches<'a>, WordsError>
+    ensures { app_of command.entry ≡ words_app → Takes result (map string_bytes words.now) }
+{
+    match command.try_get_matches_from(words) {
+        Err(e) => Err(refusal_of(e)),
+        Ok(matches) => Ok(matches),
+    }
+}
+
+/// What `clap` takes of the words by these commands.
+fn read_taken<'a>(
+    alloc: Global,
+    command: Command<'a>,
+    words: &'a [String],
+) -> Result<Request, WordsError>
+    ensures { app_of command.entry ≡ words_app
+        → Reads result (clap_request (map string_bytes words.now)) }
+{
+    match taken(command, words) {
+        Err(error) => Err(error),
+        Ok(matches) => read_found(alloc, &matches),
+    }
+}
+
 /// What `clap` takes of the words.
 fn read_by_clap(alloc: Global, words: &[String]) -> Result<Request, WordsError>
     ensures { Reads result (clap_request (map string_bytes words.now)) }
 {
     let command = words_command(alloc)?;
-    match command.try_get_matches_from(words) {
-        Err(e) => match e.kind() {
-            ErrorKind::OutOfMemory => Err(WordsError::Memory),
-            _ => Err(WordsError::Refused),
-        },
-        Ok(matches) => read_found(alloc, &matches),
-    }
+    read_taken(alloc, command, words)
 }
 
 /// What the words ask for. They are without the program's name.

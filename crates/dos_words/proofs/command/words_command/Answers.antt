@@ -3,5 +3,5 @@ use Rattle.dos_words.specs.Clap.{command_shape}
 use Rattle.dos_words.proofs.command.words_command.Goals as goal
 
 pub returns : goal.returns
-returns c = c.with_command.ensures _ (command_shape gen) c.in_ok-whole.ensures
+returns c = c.with_command.ensures _ (command_shape gen) c.files_command.ensures
     c.gen_command.ensures.shape c.gen_command.ensures.local
