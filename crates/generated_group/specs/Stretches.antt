@@ -22,6 +22,16 @@ words_of code = map (λ instr. Word (encoding instr)) code
 abbrev pub with_code : Source → List Instr → Source
 with_code source code = record source { items = source.items ++ words_of code }
 
+-- the code that makes a thread, if there is one more to be made, between two labels
+abbrev pub start_items : (threads next first : ℕ) → List Item
+start_items threads next first =
+    words_of (slice_range (start_threads threads) 1 2) ++ (Branch Beq 9 5 first ∷ [])
+    ++ words_of (slice_range (start_threads threads) 3 9) ++ (Jump 0 next ∷ [])
+
+abbrev pub with_start : Source → (threads next first : ℕ) → Source
+with_start source threads next first =
+    record source { items = source.items ++ start_items threads next first }
+
 -- the labels 0 and 1 stand before the words 1 and 10
 abbrev pub started : ℕ → Source
 started threads = record {

@@ -3,10 +3,10 @@
 ghost use Rattle.std.specs.Prelude.{◌≡◌, ◌≤◌, ◌∷◌, [], length, false, Some, OnOk, IfOk};
 ghost use Rattle.rv_asm.specs.Source.{empty_at};
 ghost use Rattle.generated_group.specs.Generated.{set_up, print};
-ghost use Rattle.generated_group.specs.Stretches.{started, told, with_code, worked};
+ghost use Rattle.generated_group.specs.Stretches.{started, told, with_code, with_start, worked};
 
 use crate::code::{add_lower, load_upper, push_all};
-use rv_asm::Builder;
+use rv_asm::{Builder, Label};
 use rv_isa::{BranchOp, ImmOp, Instr, LoadOp, RegOp, ShiftOp, StoreOp};
 use std::alloc::{AllocError, Global};
 
@@ -136,17 +136,18 @@ macro_rules! sw {
     };
 }
 
-// The first thread makes the others, each with its index. They begin behind the instruction that
-// gives the first one its own.
-fn start_threads(builder: &mut Builder, threads: u32) -> Result<(), AllocError>
-    requires empty { builder.old ≡ empty_at 0x10000 false }
-    requires few { threads ≤ 32 }
-    ensures { OnOk result (builder.new ≡ started threads) }
+// The first thread goes on at `first` once it has made all the others; else it makes one with the
+// next index, and goes back to `next`.
+fn start_next(
+    builder: &mut Builder,
+    threads: u32,
+    next: Label,
+    first: Label,
+) -> Result<(), AllocError>
+    requires { threads ≤ 32 }
+    ensures { OnOk result
+        (builder.new ≡ with_start builder.old threads next.number first.number) }
 {
-    let next = builder.label()?;
-    let first = builder.label()?;
-    builder.push(&addi!(COUNT, ZERO, 1))?;
-    builder.here(next);
     builder.push(&addi!(PLACE, ZERO, threads as i32))?;
     builder.branch(BranchOp::Beq, COUNT, PLACE, first)?;
     push_all(
@@ -165,6 +166,21 @@ fn start_threads(builder: &mut Builder, threads: u32) -> Result<(), AllocError>
         ],
     )?;
     builder.jump(ZERO, next)?;
+    Ok(())
+}
+
+// The first thread makes the others, each with its index. They begin behind the instruction that
+// gives the first one its own.
+fn start_threads(builder: &mut Builder, threads: u32) -> Result<(), AllocError>
+    requires empty { builder.old ≡ empty_at 0x10000 false }
+    requires few { threads ≤ 32 }
+    ensures { OnOk result (builder.new ≡ started threads) }
+{
+    let next = builder.label()?;
+    let first = builder.label()?;
+    builder.push(&addi!(COUNT, ZERO, 1))?;
+    builder.here(next);
+    start_next(builder, threads, next, first)?;
     builder.here(first);
     Ok(())
 }
