@@ -1,5 +1,6 @@
+use crate::images::{Wanted, check_image, set_word};
 use dos_io::Sink;
-use elf_image::Part;
+use elf_image::Image;
 use generated_group::{DigestSink, DropSink, generated_image};
 use std::process::Abort;
 use std::test::Fail;
@@ -21,36 +22,42 @@ const PROGRAM: [u8; 200] = [
     0x93, 0x08, 0x10, 0x00, 0x73, 0x00, 0x00, 0x00,
 ];
 
-/// The code differs from that for 7 and one thread in three words alone: that of the threads, and
-/// the two that put the number into a register.
-fn check_code(rt: &impl Abort, part: &Part, threads: [u8; 4], upper: [u8; 4], lower: [u8; 4]) {
-    let code = part.bytes.as_slice();
-    assert_eq!(rt; (part.address, part.zeros, part.index), (0x1_0000, 0, 0));
-    assert_eq!(rt; (part.write, part.exec), (false, true));
-    assert_eq!(rt; code.len(), 200);
-    assert_eq!(rt; &code[..4], &PROGRAM[..4]);
-    assert_eq!(rt; &code[4..8], threads.as_slice());
-    assert_eq!(rt; &code[8..64], &PROGRAM[8..64]);
-    assert_eq!(rt; &code[64..68], upper.as_slice());
-    assert_eq!(rt; &code[68..72], lower.as_slice());
-    assert_eq!(rt; &code[72..], &PROGRAM[72..]);
+/// The program for 7 and one thread, with three other words: that of the threads, and the two that
+/// put the number into a register.
+fn program(threads: u32, upper: u32, lower: u32) -> [u8; 200] {
+    let mut code = PROGRAM;
+    set_word(&mut code, 4, threads);
+    set_word(&mut code, 64, upper);
+    set_word(&mut code, 68, lower);
+    code
 }
 
-/// Zeros alone, that may be written.
-fn check_pages(rt: &impl Abort, part: &Part, zeros: u32) {
-    assert_eq!(rt;
-        (part.address, part.zeros, part.index),
-        (0x2_0000, zeros, 1)
-    );
-    assert_eq!(rt; (part.write, part.exec), (true, false));
-    assert_eq!(rt; part.bytes.len(), 0);
+/// An image has this code, and so many pages of zeros that may be written.
+fn check_parts(rt: &impl Abort, image: &Image, code: &[u8], zeros: u32) {
+    let code = Wanted {
+        address: 0x1_0000,
+        zeros: 0,
+        index: 0,
+        write: false,
+        exec: true,
+        bytes: code,
+    };
+    let pages = Wanted {
+        address: 0x2_0000,
+        zeros,
+        index: 1,
+        write: true,
+        exec: false,
+        bytes: &[],
+    };
+    check_image(rt, image, 0x1_0000, &[code, pages]);
 }
 
 #[test]
 fn words_and_pages(rt: HostRuntime) -> Result<(), Fail> {
     for (number, threads, word, upper, lower) in [
         // addi x5, x0, 1 and 8 and 32; lui x20 and addi x20, x20
-        (7, 1, 0x0010_0293u32, 0x0000_0A37u32, 0x007A_0A13u32),
+        (7, 1, 0x0010_0293, 0x0000_0A37, 0x007A_0A13),
         (7, 8, 0x0080_0293, 0x0000_0A37, 0x007A_0A13),
         (0x7FF, 32, 0x0200_0293, 0x0000_0A37, 0x7FFA_0A13),
         (0x800, 8, 0x0080_0293, 0x0000_1A37, 0x800A_0A13),
@@ -60,17 +67,8 @@ fn words_and_pages(rt: HostRuntime) -> Result<(), Fail> {
         (0xFFFF_FFFF, 8, 0x0080_0293, 0x0000_0A37, 0xFFFA_0A13),
     ] {
         let image = generated_image(rt.alloc(), number, threads)?;
-        assert_eq!(rt; image.entry(), 0x1_0000);
-        let parts = image.parts();
-        assert_eq!(rt; parts.len(), 2);
-        check_code(
-            &rt,
-            &parts[0],
-            word.to_le_bytes(),
-            upper.to_le_bytes(),
-            lower.to_le_bytes(),
-        );
-        check_pages(&rt, &parts[1], 4096 * (threads + 1));
+        let code = program(word, upper, lower);
+        check_parts(&rt, &image, &code, 4096 * (threads + 1));
     }
     Ok(())
 }

@@ -63,7 +63,7 @@ pub fn check_image(rt: &impl Abort, image: &Image, entry: u32, wanted: &[Wanted<
 }
 
 /// Writes a number of four bytes, if it is in the file.
-fn set_word(file: &mut [u8], place: usize, value: u32) {
+pub fn set_word(file: &mut [u8], place: usize, value: u32) {
     if file.len() >= 4 && place <= file.len() - 4 {
         file[place..place + 4].copy_from_slice(&value.to_le_bytes());
     }
