@@ -100,9 +100,11 @@ fn a_pack_put_back_is_resumed_or_finished_at_the_close(rt: HostRuntime) -> Resul
     };
     assert_eq!(rt; (zero.number(), one.number(), two.number()), (0, 1, 2));
     assert!(rt; board.resume(&mut right, 0).is_none());
+    assert!(rt; board.was_in_hand(0) && board.was_in_hand(2));
     board.put_back(&mut left, zero);
     board.put_back(&mut left, one);
     board.give(&mut left, two);
+    assert!(rt; !board.was_in_hand(0) && !board.was_in_hand(2));
     assert!(rt; board.resume(&mut right, 2).is_none());
     let zero = board.resume(&mut right, 0);
     assert!(rt; zero.is_some());
