@@ -30,7 +30,7 @@ use Rattle.dos_words.specs.Numbers.{Text}
 use Rattle.dos_cmd.specs.Outside.{Outside, Faults, FilesStay, OthersStay, Holds}
 use Rattle.dos_cmd.specs.RunLeaves.{RunAsked, IsPlanned, IsPrepared, WasRecorded, DidRun}
 use Rattle.dos_cmd.specs.RunLeaves.{StoppedRun, UnwrittenRun, CutRun}
-use Rattle.dos_cmd.specs.Stops.{refusal_by, LeavesRun}
+use Rattle.dos_cmd.specs.Stops.{refusal_by, IsUnreported, IsUnwritten, IsWritten, LeavesRun}
 
 -- ---- counts of faults
 
@@ -178,7 +178,7 @@ unwritten_so asked images o f name why log_is unwritten (inr k) rose others =
     subst (λ (r : Refusal). LeavesRun asked images o f r) (sym k.0)
     (inr (all_stay o name k.1 others, unwritten))
 
-pub run_unwritten : (o : Outside) (f : Faults) (kernel after : Held) (ledger : LedgerState)
+run_unwritten : (o : Outside) (f : Faults) (kernel after : Held) (ledger : LedgerState)
     (name : Text) (ending : Ending) (log : Log) (why : Refusal)
     → Whole kernel after ledger ending log o o.err_after
     → (why ≡ refusals.Files) ⊎ ((why ≡ refusals.Memory)
@@ -200,10 +200,9 @@ run_unwritten o f kernel after ledger name ending log why whole is rose others a
     }) is rose others
 
 -- what the log's file holds
-holds : (o : Outside) (name : Text) (text : List ℕ)
-    → IfSome (o.files name) (λ _. o.files_after name ≡ Some text)
-    → (IsTrue o.files_tell → o.files_after name ≡ Some text) → Holds o name text
-holds o name text told all = record { where_told = told; where_all_tell = all }
+holds : (o : Outside) (name : Text) (log : Log)
+    → IsWritten log o.files_tell o.files o.files_after name → Holds o name (logtext log)
+holds o name log w = record { where_told = w.where_told; where_all_tell = w.where_all_tell }
 
 did_so : (o : Outside) (kernel after : Held) (ledger : LedgerState) (name : Text)
     (ending : Ending) (log : Log) (err_then : Option (List ℕ))
@@ -231,20 +230,18 @@ did_so o kernel after ledger name ending log err_then whole written others told 
 pub run_did : (o : Outside) (kernel after : Held) (ledger : LedgerState) (name : Text)
     (ending : Ending) (log : Log) (err_then : Option (List ℕ)) (r : Result Ending Refusal)
     → Whole kernel after ledger ending log o err_then
-    → IfSome (o.files name) (λ _. o.files_after name ≡ Some (logtext log))
-    → (IsTrue o.files_tell → o.files_after name ≡ Some (logtext log)) → OthersStay o name
+    → OnOk r (IsWritten log o.files_tell o.files o.files_after name) → OthersStay o name
     → IfOk r (λ ended. ended ≡ ending)
     → OnOk r (o.err_after ≡ grown err_then (report_in (kernel_world after) ending))
     → IfOk r (λ ended. (asked : RunAsked) (images : List Image)
     → IsPrepared asked images kernel ledger name o
     → DidRun asked images (ending_status ended) o)
-run_did o kernel after ledger name ending log err_then (Err why) whole content all others same
-    told = tt
-run_did o kernel after ledger name ending log err_then (Ok ended) whole content all others same
-    told = λ asked images p.
+run_did o kernel after ledger name ending log err_then (Err why) whole written others same told = tt
+run_did o kernel after ledger name ending log err_then (Ok ended) whole written others same told =
+    λ asked images p.
     subst (λ (e : Ending). DidRun asked images (ending_status e) o) (sym same)
-    (did_so o kernel after ledger name ending log err_then whole
-    (holds o name (logtext log) content all) others told asked images p)
+    (did_so o kernel after ledger name ending log err_then whole (holds o name log written) others
+    told asked images p)
 
 cut_so : (o : Outside) (f : Faults) (kernel after : Held) (ledger : LedgerState) (name : Text)
     (ending : Ending) (log : Log) (err_then : Option (List ℕ))
@@ -273,20 +270,66 @@ cut_so o f kernel after ledger name ending log err_then whole written others ros
       }),
     )
 
-pub run_cut : (o : Outside) (f : Faults) (kernel after : Held) (ledger : LedgerState) (name : Text)
-    (ending : Ending) (log : Log) (err_then : Option (List ℕ)) (rises : ℕ)
+-- what leaves it without a report
+abbrev pub Unended : (after : Held) → (name : Text) → Ending → Log → (o : Outside) → (f : Faults)
+    → (err_then : Option (List ℕ)) → (rises : ℕ) → Refusal → Type 0
+Unended after name ending log o f err_then rises why =
+    IsUnwritten why o.files o.files_after name f.files f.files_after err_then o.err_after
+    ⊎ IsUnreported why log o.files_tell o.files o.files_after name rises f.err_after err_then
+    o.err_after (report_in (kernel_world after) ending)
+
+unended_so : (o : Outside) (f : Faults) (kernel after : Held) (ledger : LedgerState) (name : Text)
+    (ending : Ending) (log : Log) (err_then : Option (List ℕ)) (rises : ℕ) (why : Refusal)
+    → Whole kernel after ledger ending log o err_then → OthersStay o name → f.err ≤ rises
+    → Unended after name ending log o f err_then rises why → (asked : RunAsked)
+    (images : List Image) → IsPrepared asked images kernel ledger name o
+    → LeavesRun asked images o f why
+unended_so o f kernel after ledger name ending log err_then rises why whole others later (inl u) =
+    run_unwritten o f kernel after ledger name ending log why
+    (subst (λ (t : Option (List ℕ)). Whole kernel after ledger ending log o t) (sym u.err_stays)
+    whole) u.cause u.rose others
+unended_so o f kernel after ledger name ending log err_then rises why whole others later (inr u) =
+    λ asked images p. subst (λ (w : Refusal). LeavesRun asked images o f w) (sym u.is)
+    (cut_so o f kernel after ledger name ending log err_then whole (holds o name log u.written)
+    others (then_rose f.err rises f.err_after later u.rose) u.front asked images p)
+
+pub run_unended : (o : Outside) (f : Faults) (kernel after : Held) (ledger : LedgerState)
+    (name : Text) (ending : Ending) (log : Log) (err_then : Option (List ℕ)) (rises : ℕ)
     (r : Result Ending Refusal) → Whole kernel after ledger ending log o err_then
-    → IfSome (o.files name) (λ _. o.files_after name ≡ Some (logtext log))
-    → (IsTrue o.files_tell → o.files_after name ≡ Some (logtext log)) → OthersStay o name
-    → IfErr r (λ why. why ≡ refusals.Sink) → f.err ≤ rises → HasCause rises f.err_after r
-    → OnErr r (GrewByFront err_then o.err_after (report_in (kernel_world after) ending))
+    → OthersStay o name → f.err ≤ rises
+    → IfErr r (Unended after name ending log o f err_then rises)
     → IfErr r (λ why. (asked : RunAsked) (images : List Image)
     → IsPrepared asked images kernel ledger name o → LeavesRun asked images o f why)
-run_cut o f kernel after ledger name ending log err_then rises (Ok ended) whole content all others
-    sink later cause front = tt
-run_cut o f kernel after ledger name ending log err_then rises (Err why) whole content all others
-    sink later cause front = λ asked images p.
-    subst (λ (w : Refusal). LeavesRun asked images o f w) (sym sink)
-    (cut_so o f kernel after ledger name ending log err_then whole
-    (holds o name (logtext log) content all) others
-    (then_rose f.err rises f.err_after later cause.failed) front asked images p)
+run_unended o f kernel after ledger name ending log err_then rises (Ok ended) whole others later
+    left = tt
+run_unended o f kernel after ledger name ending log err_then rises (Err why) whole others later
+    left = unended_so o f kernel after ledger name ending log err_then rises why whole others later
+    left
+
+-- ---- the log's file, and the report
+
+pub written_then : {T E : Type 0} (r : Result T E) (log : Log) (tells : Bool)
+    (files after : Text → Option (List ℕ)) (name : Text)
+    → IfSome (files name) (λ _. after name ≡ Some (logtext log))
+    → (IsTrue tells → after name ≡ Some (logtext log)) → OnOk r (IsWritten log tells files after name)
+written_then (Err e) log tells files after name told all = tt
+written_then (Ok x) log tells files after name told all =
+    record { where_told = told; where_all_tell = all }
+
+pub unreported : (r : Result Ending Refusal) (log : Log) (tells : Bool)
+    (files after : Text → Option (List ℕ)) (name : Text) (j j' k l : ℕ)
+    (err err_after : Option (List ℕ)) (report : List ℕ)
+    → IfSome (files name) (λ _. after name ≡ Some (logtext log))
+    → (IsTrue tells → after name ≡ Some (logtext log)) → IfErr r (λ why. why ≡ refusals.Sink)
+    → HasCause k l r → OnErr r (GrewByFront err err_after report)
+    → IfErr r (λ why. IsUnwritten why files after name j j' err err_after
+    ⊎ IsUnreported why log tells files after name k l err err_after report)
+unreported (Ok ended) log tells files after name j j' k l err err_after report told all sink cause
+    front = tt
+unreported (Err why) log tells files after name j j' k l err err_after report told all sink cause
+    front = inr (record {
+      is = sink;
+      written = record { where_told = told; where_all_tell = all };
+      rose = cause.failed;
+      front = front;
+    })

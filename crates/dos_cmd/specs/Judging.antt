@@ -1,6 +1,7 @@
 -- Which files are taken for what the words ask for, or why they aren't. This project's own rules.
-use Rattle.std.specs.Prelude.{⊤, ℕ, suc, List, [], ◌∷◌, length, map, Option, Some, None, option_map}
-use Rattle.std.specs.Prelude.{option_and_then, Result, Ok, Err, nat_lt, if◌then◌else◌}
+use Rattle.std.specs.Prelude.{⊤, ℕ, ◌≡◌, suc, List, [], ◌∷◌, ◌++◌, length, map, Option, Some, None}
+use Rattle.std.specs.Prelude.{option_map, option_and_then, IfSome, Result, Ok, Err, nat_lt}
+use Rattle.std.specs.Prelude.{if◌then◌else◌}
 use Rattle.dos_world.specs.declared.Config.{Config}
 use Rattle.elf_image.specs.declared.error.ImageError.{ImageError}
 use Rattle.elf_image.specs.Image.{Image, image}
@@ -10,6 +11,7 @@ use Rattle.log_files.specs.Judging.{disagreement, log_verdict}
 use Rattle.log_files.specs.declared.refusal.LogRefusal.{LogRefusal}
 use Rattle.logged_runs.specs.Replaying.{config_of}
 use Rattle.sha2.specs.Sha256.{sha256}
+use Rattle.shim_log.specs.Bytes.{FitsDigest}
 use Rattle.shim_log.specs.LogText.{Log}
 use Rattle.dos_texts.specs.declared.refusal.Refusal.{Refusal}
 use Rattle.dos_texts.specs.declared.refusal.Refusal.TheVariants as refusals
@@ -138,3 +140,15 @@ OfFiles (refusals.Image image error) P = P (refusals.Image image error)
 OfFiles refusals.Files P = ⊤
 OfFiles refusals.Memory P = ⊤
 OfFiles _ P = ⊥
+
+-- One more file is read as the image of its number, as far as it is told: its image goes last, and
+-- its digest.
+pub record IsNext (number : ℕ) (told : Option (List ℕ)) (images longer : List Image)
+    (digests more : List (List ℕ)) : Type 0 where
+  pub parsed : Image
+  pub digest : List ℕ
+  pub accepted : IfSome told (λ file. verdict number file ≡ Ok parsed)
+  pub digest_is : IfSome told (λ file. digest ≡ sha256 file)
+  pub fits : FitsDigest digest
+  pub image_last : longer ≡ images ++ parsed ∷ []
+  pub digest_last : more ≡ digests ++ digest ∷ []

@@ -1,10 +1,10 @@
 // The images of a call, read from their files.
-ghost use Rattle.std.specs.Prelude.{◌≡◌, ◌≢◌, ◌≤◌, ◌⊎◌, ℕ, List, map, length, IfOk, IfErr, IfSome};
-ghost use Rattle.std.specs.Prelude.{IsErrOf};
+ghost use Rattle.std.specs.Prelude.{◌≡◌, ◌≢◌, ◌≤◌, ◌<◌, ◌⊎◌, ℕ, List, map, length, IfOk, IfErr};
+ghost use Rattle.std.specs.Prelude.{IfSome, IsErrOf, OnOk};
 ghost use Rattle.dos_io.specs.Outside.{Rose};
 ghost use Rattle.sha2.specs.Sha256.{sha256};
 ghost use Rattle.shim_log.specs.Bytes.{AreDigests, FitsDigest};
-ghost use Rattle.dos_cmd.specs.Judging.{verdict, images_from, digests_of, OfFiles};
+ghost use Rattle.dos_cmd.specs.Judging.{verdict, images_from, digests_of, IsNext, OfFiles};
 
 use dos_io::{FileError, Files};
 use dos_texts::Refusal;
@@ -61,6 +61,32 @@ pub(crate) fn load<F: Files>(
     }
 }
 
+// Reads the file of a name as the image of this number. It goes behind the images before it, and
+// the file's digest behind theirs.
+fn load_next<F: Files>(
+    alloc: Global,
+    files: &mut F,
+    image: u32,
+    name: &str,
+    images: &mut Vec<Image>,
+    digests: &mut Digests,
+) -> Result<(), Refusal>
+    requires { length digests.old < 8 }
+    ensures accepted { OnOk result (IsNext image (F.content files.old name.now)
+        images.old.items images.new.items digests.old digests.new) }
+    ensures refused { IfErr result (λ why. OfFiles why (λ why. IfSome
+        (F.content files.old name.now) (λ file. verdict image file ≡ Err why))) }
+    ensures fault { IsErrOf result Refusal.Files → Rose (F.faults files.old) (F.faults files.new) }
+    ensures later { F.faults files.old ≤ F.faults files.new }
+    ensures stays { (n : List ℕ) → F.content files.new n ≡ F.content files.old n }
+    ensures tells { F.tells files.new ≡ F.tells files.old }
+{
+    let (parsed, digest) = load(alloc, files, image, name)?;
+    images.push(parsed)?;
+    digests.push(digest);
+    Ok(())
+}
+
 /// Reads the files of these names as images, one after another; beside them the files' digests.
 pub(crate) fn load_all<F: Files>(
     alloc: Global,
@@ -85,9 +111,15 @@ pub(crate) fn load_all<F: Files>(
     let mut images = Vec::new(alloc);
     let mut digests = Digests::new();
     for index in 0..names.len() {
-        let (image, digest) = load(alloc, files, index as u32 + 1, names.at(index))?;
-        images.push(image)?;
-        digests.push(digest);
+        let number = index as u32 + 1;
+        load_next(
+            alloc,
+            files,
+            number,
+            names.at(index),
+            &mut images,
+            &mut digests,
+        )?;
     }
     Ok((images, digests))
 }

@@ -1,21 +1,23 @@
 // The command `run`.
-ghost use Rattle.std.specs.Prelude.{◌≡◌, ◌≢◌, ◌≤◌, ◌⊎◌, ℕ, List, [], length, IfOk, IfErr, IfSome};
-ghost use Rattle.std.specs.Prelude.{IsErrOf, IsTrue, OnOk, OnErr, Some, false};
+ghost use Rattle.std.specs.Prelude.{◌≡◌, ◌≢◌, ◌≤◌, ◌⊎◌, ℕ, List, [], length, map, IfOk, IfErr};
+ghost use Rattle.std.specs.Prelude.{IfSome, IsErrOf, IsTrue, OnOk, OnErr, Some, false};
 ghost use Rattle.dos_world.specs.Lawful.{IsConfig};
 ghost use Rattle.dos_io.specs.Outside.{GrewByFront, HasCause, Rose, grown};
 ghost use Rattle.dpg_run.specs.Report.{report_in};
 ghost use Rattle.group_rounds.specs.Kernels.{kernel_world};
+ghost use Rattle.shim_log.specs.Bytes.{AreDigests};
 ghost use Rattle.shim_log.specs.LogText.{logtext};
 ghost use Rattle.elf_image.specs.Image.{Image as Parsed};
 ghost use Rattle.group_open.specs.Opening.{needed};
 ghost use Rattle.logged_runs.specs.Opened.{IsOpenedWith};
 ghost use Rattle.shim_log.specs.Ledger.{ArePlanned, empty_ledger};
 ghost use Rattle.dos_texts.specs.Exit.{ending_status};
+ghost use Rattle.dos_cmd.specs.Judging.{digests_of};
 ghost use Rattle.dos_cmd.specs.Outside.{outside, faults};
 ghost use Rattle.dos_cmd.specs.RunLeaves.{DidRun, IsPrepared, RunAsked, clock_rule, header_of};
 ghost use Rattle.dos_cmd.specs.Results.{Begun, Did, Leaves};
-ghost use Rattle.dos_cmd.specs.Requests.{run_request};
-ghost use Rattle.dos_cmd.specs.Stops.{IsNotOpened, LeavesRun};
+ghost use Rattle.dos_cmd.specs.Requests.{AreOpened, IsNotBegun, IsReady, run_request};
+ghost use Rattle.dos_cmd.specs.Stops.{IsNotOpened, IsUnreported, IsUnwritten, IsWritten, LeavesRun};
 
 use crate::images::load_all;
 use crate::stops::refusal_by;
@@ -132,6 +134,35 @@ pub(crate) fn report<E: Sink>(
     }
 }
 
+// Writes the log of a run that has ended so, and puts its report. After a fault of the files, or
+// for want of memory, nothing was put.
+fn conclude<F: Files, E: Sink>(
+    alloc: Global,
+    kernel: &Kernel,
+    ending: Ending,
+    log: &Log,
+    name: &str,
+    files: &mut F,
+    err: &mut E,
+) -> Result<Ending, Refusal>
+    ensures same { IfOk result (λ ended. ended ≡ ending) }
+    ensures written { OnOk result (IsWritten log.now (F.tells files.old) (F.content files.old)
+        (F.content files.new) name.now) }
+    ensures told { OnOk result (E.told err.new
+        ≡ grown (E.told err.old) (report_in (kernel_world kernel.now) ending)) }
+    ensures leaves { IfErr result (λ why. IsUnwritten why (F.content files.old)
+        (F.content files.new) name.now (F.faults files.old) (F.faults files.new) (E.told err.old)
+        (E.told err.new) ⊎ IsUnreported why log.now (F.tells files.old) (F.content files.old)
+        (F.content files.new) name.now (E.faults err.old) (E.faults err.new) (E.told err.old)
+        (E.told err.new) (report_in (kernel_world kernel.now) ending)) }
+    ensures others { (n : List ℕ) → n ≢ name.now → F.content files.new n ≡ F.content files.old n }
+    ensures files_later { F.faults files.old ≤ F.faults files.new }
+    ensures err_later { E.faults err.old ≤ E.faults err.new }
+{
+    store(alloc, files, name, log)?;
+    report(kernel, ending, err)
+}
+
 /// Runs a group that was opened, writes its log and puts its report.
 fn run_opened<F: Files, H: Host, O: Sink, E: Sink, W: Workers>(
     alloc: Global,
@@ -174,12 +205,70 @@ fn run_opened<F: Files, H: Host, O: Sink, E: Sink, W: Workers>(
     ensures err_later { E.faults err.old ≤ E.faults err.new }
     ensures fixed { W.fixed workers.new ≡ W.fixed workers.old }
 {
-    let (ending, log) = match record_group(kernel, host, ledger, out, err, workers) {
-        Ok(recorded) => recorded,
-        Err(stop) => return Err(refusal_by(stop)),
-    };
-    store(alloc, files, name, &log)?;
-    report(kernel, ending, err)
+    match record_group(kernel, host, ledger, out, err, workers) {
+        Ok((ending, log)) => conclude(alloc, kernel, ending, &log, name, files, err),
+        Err(stop) => Err(refusal_by(stop)),
+    }
+}
+
+// Reads the images of a run and opens their group; beside it the digests of their files.
+fn open_named<F: Files>(
+    alloc: Global,
+    request: &RunRequest<'_>,
+    files: &mut F,
+) -> Result<(Kernel, Digests), Refusal>
+    requires range { IsConfig request.now.config }
+    requires some { 1 ≤ length request.now.names.now }
+    requires few { length request.now.names.now ≤ 8 }
+    ensures opened { IfOk result (λ x. AreOpened request.now (F.content files.old) x.0) }
+    ensures running { IfOk result (λ x. x.0.failed ≡ false) }
+    ensures fresh { IfOk result (λ x. x.0.state.round ≡ 1) }
+    ensures digests { IfOk result (λ x. IfSome
+        (digests_of (map (F.content files.old) request.now.names.now)) (λ all. x.1 ≡ all)) }
+    ensures digest_count { IfOk result (λ x. length x.1 ≡ length request.now.names.now) }
+    ensures are_digests { IfOk result (λ x. AreDigests x.1) }
+    ensures leaves { IfErr result (IsNotBegun request.now (F.tells files.old)
+        (F.content files.old) (F.content files.new) (F.faults files.old) (F.faults files.new)) }
+    ensures later { F.faults files.old ≤ F.faults files.new }
+    ensures stays { (n : List ℕ) → F.content files.new n ≡ F.content files.old n }
+    ensures tells { F.tells files.new ≡ F.tells files.old }
+{
+    let (images, digests) = load_all(alloc, files, request.names)?;
+    let opened = open(alloc, &images, request.config);
+    drop(images);
+    Ok((opened?, digests))
+}
+
+// Makes all ready for a run: its group, opened, and a ledger of nothing yet.
+fn prepare<F: Files>(
+    alloc: Global,
+    request: &RunRequest<'_>,
+    files: &mut F,
+) -> Result<(Kernel, Ledger), Refusal>
+    requires range { IsConfig request.now.config }
+    requires some { 1 ≤ length request.now.names.now }
+    requires few { length request.now.names.now ≤ 8 }
+    requires few_posts { length request.now.posts.now ≤ 32 }
+    requires planned { ArePlanned request.now.posts.now }
+    ensures ready { IfOk result (λ x. IsReady request.now (F.content files.old) x.0 x.1) }
+    ensures running { IfOk result (λ x. x.0.failed ≡ false) }
+    ensures fresh { IfOk result (λ x. x.0.state.round ≡ 1) }
+    ensures begins { IfOk result (λ x. x.1 ≡ empty_ledger x.1.posts x.1.clock x.1.header x.1.room) }
+    ensures leaves { IfErr result (IsNotBegun request.now (F.tells files.old)
+        (F.content files.old) (F.content files.new) (F.faults files.old) (F.faults files.new)) }
+    ensures later { F.faults files.old ≤ F.faults files.new }
+    ensures stays { (n : List ℕ) → F.content files.new n ≡ F.content files.old n }
+    ensures tells { F.tells files.new ≡ F.tells files.old }
+{
+    let (kernel, digests) = open_named(alloc, request, files)?;
+    let posts = request.posts.as_slice();
+    match Ledger::new(alloc, posts, request.clock(), request.header(digests)) {
+        Ok(ledger) => Ok((kernel, ledger)),
+        Err(_) => {
+            drop(kernel);
+            Err(Refusal::Memory)
+        }
+    }
 }
 
 /// Does what `run` is asked for.
@@ -217,22 +306,7 @@ pub(crate) fn run<F: Files, H: Host, O: Sink, E: Sink, W: Workers>(
     ensures err_later { E.faults err.old ≤ E.faults err.new }
     ensures fixed { W.fixed workers.new ≡ W.fixed workers.old }
 {
-    let (images, digests) = load_all(alloc, files, request.names)?;
-    let opened = open(alloc, &images, request.config);
-    drop(images);
-    let mut kernel = opened?;
-    let ledger = match Ledger::new(
-        alloc,
-        request.posts.as_slice(),
-        request.clock(),
-        request.header(digests),
-    ) {
-        Ok(ledger) => ledger,
-        Err(_) => {
-            drop(kernel);
-            return Err(Refusal::Memory);
-        }
-    };
+    let (mut kernel, ledger) = prepare(alloc, request, files)?;
     let ended = run_opened(
         alloc,
         &mut kernel,

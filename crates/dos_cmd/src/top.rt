@@ -22,6 +22,20 @@ use dos_world::{Config, Ending};
 use std::alloc::Global;
 use worker_pool::Workers;
 
+// Hires as many workers as are asked for, where packs are to be run.
+fn hire<W: Workers>(request: &Request, workers: &mut W)
+    requires { FitsRequest request.now }
+    ensures tally { W.tally workers.new ≡ W.tally workers.old }
+    ensures fixed { W.fixed workers.new ≡ W.fixed workers.old }
+{
+    match request {
+        Request::Run { workers: hired, .. } => workers.hire(*hired),
+        Request::Replay { workers: hired, .. } => workers.hire(*hired),
+        Request::Inspect { .. } => {}
+        Request::Gen { workers: hired, .. } => workers.hire(*hired),
+    }
+}
+
 /// Does what is asked for.
 fn execute<F: Files, H: Host, O: Sink, E: Sink, W: Workers>(
     alloc: Global,
@@ -53,51 +67,42 @@ fn execute<F: Files, H: Host, O: Sink, E: Sink, W: Workers>(
     ensures err_later { E.faults err.old ≤ E.faults err.new }
     ensures fixed { W.fixed workers.new ≡ W.fixed workers.old }
 {
+    hire(request, workers);
     match request {
         Request::Run {
             quantum,
             rounds,
             frames,
-            workers: hired,
             posts,
             clock_from,
             clock_step,
             log,
             names,
+            ..
         } => {
-            let config = Config {
-                quantum: *quantum,
-                rounds: *rounds,
-                frames: *frames,
-            };
             let asked = RunRequest {
-                config,
+                config: Config {
+                    quantum: *quantum,
+                    rounds: *rounds,
+                    frames: *frames,
+                },
                 posts,
                 clock_from: *clock_from,
                 clock_step: *clock_step,
                 log: log.as_str(),
                 names,
             };
-            workers.hire(*hired);
             run(alloc, &asked, files, host, out, err, workers)
         }
-        Request::Replay {
-            workers: hired,
-            log,
-            names,
-        } => {
-            workers.hire(*hired);
+        Request::Replay { log, names, .. } => {
             replay(alloc, log.as_str(), names, files, out, err, workers)
         }
         Request::Inspect { name } => inspect(alloc, name.as_str(), files, out),
         Request::Gen {
             number,
             threads,
-            workers: hired,
-        } => {
-            workers.hire(*hired);
-            generate(alloc, *number, *threads, out, workers)
-        }
+            ..
+        } => generate(alloc, *number, *threads, out, workers),
     }
 }
 

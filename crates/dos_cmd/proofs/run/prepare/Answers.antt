@@ -1,0 +1,27 @@
+use Rattle.std.proofs.Common.{inl, refl}
+use Rattle.std.proofs.lemmas.Result.{err_from_is_err_and}
+use Rattle.dos_cmd.specs.Requests.{asked_by}
+use Rattle.dos_cmd.proofs.NotBegun.{says_nothing}
+use Rattle.dos_cmd.proofs.RunCalls.{prepared}
+use Rattle.dos_cmd.proofs.run.prepare.Goals as goal
+
+pub returns-in_err-kernel-clause-leaves : goal.returns-in_err-kernel-clause-leaves
+returns-in_err-kernel-clause-leaves g c =
+    let p = err_from_is_err_and c.from_residual.result c.from_residual.ensures.1 in
+    rw (p.1, p.2) c.in_err-kernel.ensures.leaves
+
+pub returns-in-Ok-clause-ready : goal.returns-in-Ok-clause-ready
+returns-in-Ok-clause-ready g c =
+    let opening = c.in_ok-kernel.ensures in
+    let named = opening.opened in record {
+      images = named.images;
+      taken = named.taken;
+      prepared = λ o. prepared (asked_by c.args.request.now) named.images
+          (record o { files = g.F.Files.content c.args.files.now }) c.in_ok-kernel.kernel
+          c.in-Ok.ledger _ _ _ _ _ named.opened c.in-Ok.ensures c.as_slice-posts.ensures c.clock.ensures
+          c.header.ensures opening.digests;
+    }
+
+pub returns-in-Err-clause-leaves : goal.returns-in-Err-clause-leaves
+returns-in-Err-clause-leaves g c = λ n h out err t k l m.
+    inl (says_nothing _ refl refl c.open_named.ensures.stays refl)
