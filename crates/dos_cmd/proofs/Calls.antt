@@ -10,7 +10,6 @@ use Rattle.dos_words.specs.Ranges.{FitsAskedPost, FitsRequest}
 use Rattle.shim_log.specs.Ledger.{ArePlanned}
 use Rattle.dos_io.specs.Outside.{grown, GrewByFront, IsFront, Rose}
 use Rattle.dos_world.specs.declared.Ending.{Ending}
-use Rattle.dos_world.specs.declared.Ending.TheVariants as endings
 use Rattle.dos_world.specs.declared.Misfit.{Misfit}
 use Rattle.dpg_run.specs.Fits.{misfit}
 use Rattle.dpg_run.specs.Machine.{group}

@@ -6,7 +6,6 @@ use Rattle.dos_io.specs.declared.shim.ShimStop.TheVariants as stops
 use Rattle.dos_world.specs.declared.Misfit.{Misfit}
 use Rattle.dos_world.specs.declared.Post.{Post}
 use Rattle.dpg_run.specs.Fits.{misfit}
-use Rattle.elf_image.specs.Image.{Image}
 use Rattle.logged_runs.specs.Replaying.{config_of}
 use Rattle.shim_log.specs.LogText.{Log, exchanges}
 use Rattle.dos_texts.specs.Exit.{refusal_status, line_of}

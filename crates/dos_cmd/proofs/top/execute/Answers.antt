@@ -1,4 +1,4 @@
-use Rattle.std.proofs.Common.{refl, rules}
+use Rattle.std.proofs.Common.{rules}
 use Rattle.dos_cmd.proofs.Calls.{did_as, err_at, leaves_as, ok_at, planned_of}
 use Rattle.dos_cmd.proofs.top.execute.Goals as goal
 
