@@ -5,6 +5,8 @@ pub mod Decimals
 pub mod Parts
 pub mod PostLists
 mod Taking
+mod Shapes
+mod RunParts
 pub mod Walks
 pub mod Levels
 pub mod Tops

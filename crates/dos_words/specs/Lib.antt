@@ -6,3 +6,4 @@ pub mod Clap
 pub mod Request
 pub mod Ranges
 pub mod Reads
+pub mod RunParts

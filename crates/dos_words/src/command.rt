@@ -27,27 +27,51 @@ fn names_argument<'a>(alloc: Global) -> Arg<'a>
         .num_args(1..)
 }
 
-/// With one option more.
-fn with_option<'a>(
-    alloc: Global,
-    command: Command<'a>,
-    name: &'a str,
+/// With one argument more, where there is a command yet.
+fn with_argument<'a>(
+    command: Result<Command<'a>, AllocError>,
+    argument: Arg<'a>,
 ) -> Result<Command<'a>, AllocError>
-    ensures app { IfOk result (λ c.
-        app_of c ≡ with_rule (app_of command.entry) (option_rule name.entry.now)) }
-    ensures local { (fields_of command.entry).has_globals ≡ false
+    requires { argument.global ≡ false }
+    ensures app { (app : App) → IfOk command.entry (λ c. app_of c ≡ app)
+        → IfOk result (λ c. app_of c ≡ with_rule app (rule_of argument.entry)) }
+    ensures local { IfOk command.entry (λ c. (fields_of c).has_globals ≡ false)
         → IfOk result (λ c. (fields_of c).has_globals ≡ false) }
 {
-    command.arg(option_argument(alloc, name))
+    match command {
+        Err(error) => {
+            drop(argument);
+            Err(error)
+        }
+        Ok(command) => command.arg(argument),
+    }
 }
 
-/// With the names behind the options.
-fn with_names<'a>(alloc: Global, command: Command<'a>) -> Result<Command<'a>, AllocError>
-    ensures app { IfOk result (λ c. app_of c ≡ with_rule (app_of command.entry) names_rule) }
-    ensures local { (fields_of command.entry).has_globals ≡ false
+/// With one option more, where there is a command yet.
+fn with_option<'a>(
+    alloc: Global,
+    command: Result<Command<'a>, AllocError>,
+    name: &'a str,
+) -> Result<Command<'a>, AllocError>
+    ensures app { (app : App) → IfOk command.entry (λ c. app_of c ≡ app)
+        → IfOk result (λ c. app_of c ≡ with_rule app (option_rule name.entry.now)) }
+    ensures local { IfOk command.entry (λ c. (fields_of c).has_globals ≡ false)
         → IfOk result (λ c. (fields_of c).has_globals ≡ false) }
 {
-    command.arg(names_argument(alloc))
+    with_argument(command, option_argument(alloc, name))
+}
+
+/// With the names behind the options, where there is a command yet.
+fn with_names<'a>(
+    alloc: Global,
+    command: Result<Command<'a>, AllocError>,
+) -> Result<Command<'a>, AllocError>
+    ensures app { (app : App) → IfOk command.entry (λ c. app_of c ≡ app)
+        → IfOk result (λ c. app_of c ≡ with_rule app names_rule) }
+    ensures local { IfOk command.entry (λ c. (fields_of c).has_globals ≡ false)
+        → IfOk result (λ c. (fields_of c).has_globals ≡ false) }
+{
+    with_argument(command, names_argument(alloc))
 }
 
 /// With options more, in their order.
@@ -62,11 +86,11 @@ fn with_options<'a>(
     ensures local { (fields_of command.entry).has_globals ≡ false
         → IfOk result (λ c. (fields_of c).has_globals ≡ false) }
 {
-    let mut more = command;
+    let mut more = Ok(command);
     for name in names {
-        more = with_option(alloc, more, name)?;
+        more = with_option(alloc, more, name);
     }
-    Ok(more)
+    more
 }
 
 fn run_command<'a>(alloc: Global) -> Result<Command<'a>, AllocError>
@@ -83,7 +107,7 @@ fn run_command<'a>(alloc: Global) -> Result<Command<'a>, AllocError>
         "clock-step",
         "log",
     ];
-    let command = with_options(alloc, Command::new(alloc, "run"), &options)?;
+    let command = with_options(alloc, Command::new(alloc, "run"), &options);
     with_names(alloc, command)
 }
 
@@ -92,7 +116,7 @@ fn replay_command<'a>(alloc: Global) -> Result<Command<'a>, AllocError>
     ensures local { IfOk result (λ c. (fields_of c).has_globals ≡ false) }
 {
     let options = ["workers", "log"];
-    let command = with_options(alloc, Command::new(alloc, "replay"), &options)?;
+    let command = with_options(alloc, Command::new(alloc, "replay"), &options);
     with_names(alloc, command)
 }
 
@@ -100,7 +124,7 @@ fn inspect_command<'a>(alloc: Global) -> Result<Command<'a>, AllocError>
     ensures shape { IfOk result (λ c. shape_of c ≡ command_shape inspect) }
     ensures local { IfOk result (λ c. (fields_of c).has_globals ≡ false) }
 {
-    with_names(alloc, Command::new(alloc, "inspect"))
+    with_names(alloc, Ok(Command::new(alloc, "inspect")))
 }
 
 fn gen_command<'a>(alloc: Global) -> Result<Command<'a>, AllocError>

@@ -10,6 +10,7 @@ ghost use Rattle.dos_words.specs.Asked.{gen_asked};
 ghost use Rattle.dos_words.specs.Clap.{words_app, asked_by, clap_request};
 ghost use Rattle.dos_words.specs.Request.{request};
 ghost use Rattle.dos_words.specs.Reads.{Reads, Takes, values_found, names_given, names_found};
+ghost use Rattle.dos_words.specs.RunParts.{limits_asked, clock_asked, files_asked};
 
 use crate::command::words_command;
 use crate::error::WordsError;
@@ -108,36 +109,78 @@ fn text_of(alloc: Global, matches: &ArgMatches<'_>, name: &str) -> Result<Text, 
     }
 }
 
-/// What `run` asks for.
-fn read_run(alloc: Global, matches: &ArgMatches<'_>) -> Result<Request, WordsError>
-    ensures { Reads result (run_asked (values_found matches.now) (names_found matches.now)) }
+/// How far a run goes, each number in its range.
+#[derive(Clone, Copy)]
+struct Limits {
+    quantum: u32,
+    rounds: u32,
+    frames: u32,
+    workers: u32,
+}
+
+/// The limits of a run.
+fn limits_of(matches: &ArgMatches<'_>) -> Option<Limits>
+    ensures { result ≡ limits_asked (values_found matches.now) }
 {
     let Some(quantum) = number_of(matches, "quantum", 16, 65536, 1000) else {
-        return Err(WordsError::Refused);
+        return None;
     };
     let Some(rounds) = number_of(matches, "rounds", 1, 1000000, 100000) else {
-        return Err(WordsError::Refused);
+        return None;
     };
     let Some(frames) = number_of(matches, "frames", 16, 16384, 4096) else {
-        return Err(WordsError::Refused);
+        return None;
     };
     let Some(workers) = number_of(matches, "workers", 1, 32, 4) else {
-        return Err(WordsError::Refused);
+        return None;
     };
-    let posts = posts_of(alloc, matches)?;
-    let Some(clock_from) = clock_from_of(matches) else {
-        return Err(WordsError::Refused);
-    };
-    let Some(clock_step) = clock_step_of(matches) else {
-        return Err(WordsError::Refused);
-    };
-    let log = text_of(alloc, matches, "log")?;
-    let names = images_of(alloc, matches)?;
-    Ok(Request::Run {
+    Some(Limits {
         quantum,
         rounds,
         frames,
         workers,
+    })
+}
+
+/// The first reading of a counted clock, if it is given, and what the clock goes on by.
+fn clock_of(matches: &ArgMatches<'_>) -> Option<(Option<u64>, u64)>
+    ensures { result ≡ clock_asked (values_found matches.now) }
+{
+    let Some(from) = clock_from_of(matches) else {
+        return None;
+    };
+    let Some(step) = clock_step_of(matches) else {
+        return None;
+    };
+    Some((from, step))
+}
+
+/// The file of the log, and those of the images.
+fn files_of(alloc: Global, matches: &ArgMatches<'_>) -> Result<(Text, Names), WordsError>
+    ensures { Reads result (files_asked (values_found matches.now) (names_found matches.now)) }
+{
+    let log = text_of(alloc, matches, "log")?;
+    let names = images_of(alloc, matches)?;
+    Ok((log, names))
+}
+
+/// What `run` asks for.
+fn read_run(alloc: Global, matches: &ArgMatches<'_>) -> Result<Request, WordsError>
+    ensures { Reads result (run_asked (values_found matches.now) (names_found matches.now)) }
+{
+    let Some(limits) = limits_of(matches) else {
+        return Err(WordsError::Refused);
+    };
+    let Some((clock_from, clock_step)) = clock_of(matches) else {
+        return Err(WordsError::Refused);
+    };
+    let posts = posts_of(alloc, matches)?;
+    let (log, names) = files_of(alloc, matches)?;
+    Ok(Request::Run {
+        quantum: limits.quantum,
+        rounds: limits.rounds,
+        frames: limits.frames,
+        workers: limits.workers,
         posts,
         clock_from,
         clock_step,
@@ -153,8 +196,7 @@ fn read_replay(alloc: Global, matches: &ArgMatches<'_>) -> Result<Request, Words
     let Some(workers) = number_of(matches, "workers", 1, 32, 4) else {
         return Err(WordsError::Refused);
     };
-    let log = text_of(alloc, matches, "log")?;
-    let names = images_of(alloc, matches)?;
+    let (log, names) = files_of(alloc, matches)?;
     Ok(Request::Replay {
         workers,
         log,

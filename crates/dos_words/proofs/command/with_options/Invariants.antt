@@ -1,14 +1,16 @@
-use Rattle.std.proofs.Common.{◌≡◌, false, drop, map, fold}
+use Rattle.std.proofs.Common.{◌≡◌, false, take, map, fold, IfOk}
 use Rattle.clap.specs.Words.{app_of, with_rule}
 use Rattle.clap.specs.declared.builder.command.Command.TheViews.{out-Command as fields_of}
 use Rattle.dos_words.specs.Clap.{option_rule}
 use Rattle.dos_words.proofs.command.with_options.Given as goal
 
--- the names that are left give the whole
+-- it has the names so far
 abbrev pub invariant-loop-name : goal.invariant-loop-name
 invariant-loop-name l = record {
-  app : fold with_rule (app_of l.more) (map (λ s. option_rule s.now) (drop l.name-index l.names))
-      ≡ fold with_rule (app_of l.initial.more) (map (λ s. option_rule s.now) l.names);
-  local : (fields_of l.initial.more).has_globals ≡ false
-      → (fields_of l.more).has_globals ≡ false;
+  app : IfOk l.more (λ c.
+      app_of c
+      ≡ fold with_rule (app_of l.fn.command)
+      (map (λ s. option_rule s.now) (take l.name-index l.names)));
+  local : (fields_of l.fn.command).has_globals ≡ false
+      → IfOk l.more (λ c. (fields_of c).has_globals ≡ false);
 }
