@@ -10,3 +10,4 @@ pub mod Gives
 pub mod Views
 pub mod Replay
 pub mod ReplayerFollows
+pub mod Passing

@@ -1,12 +1,13 @@
 // Entries, from left to right.
 
-ghost use Rattle.std.specs.Prelude.{◌≡◌, ◌≤◌, ◌++◌, ℕ, List, length, IfOk};
+ghost use Rattle.std.specs.Prelude.{◌≡◌, ◌≤◌, ◌++◌, ℕ, List, length, IfOk, IfErr, Err};
 ghost use Rattle.shim_log.specs.Gives.{Gives, behind};
 ghost use Rattle.shim_log.specs.Reading.{post_at, many_at, signals_at, input_at, clock_at, end_at};
 ghost use Rattle.shim_log.specs.Reading.{ending_by, entry_at};
 ghost use Rattle.shim_log.specs.Views.{posts_in_text, exchange_of};
 ghost use Rattle.shim_log.specs.LogText.{entry_text};
 ghost use Rattle.shim_log.specs.Ranges.{InRange};
+ghost use Rattle.shim_log.specs.Passing.{PassesEntry};
 
 use crate::entry::Entry;
 use crate::field_reading::{
@@ -131,4 +132,19 @@ pub(crate) fn read_entry(end: usize, bytes: &[u8]) -> Result<(Entry<'_>, &[u8]),
     ensures parts { IfOk result (λ x. bytes.now ≡ entry_text (exchange_of x.0) ++ x.1.now) }
 {
     read_any_entry(end, bytes)
+}
+
+// How the run ended, where the next entry is the end, and the bytes behind the entry.
+#[inline]
+pub(crate) fn pass_entry(
+    end: usize,
+    bytes: &[u8],
+) -> Result<(Option<(Ending, u32)>, &[u8]), LogError>
+    ensures passed { IfOk result (λ x. PassesEntry end bytes.now x.0 x.1.now) }
+    ensures refused { IfErr result (λ e. entry_at end bytes.now ≡ Err e) }
+{
+    match read_entry(end, bytes) {
+        Ok((entry, rest)) => Ok((entry.end(), rest)),
+        Err(error) => Err(error),
+    }
 }

@@ -1,17 +1,18 @@
 // Reading a log, from left to right. What decides takes no memory, so a refusal is never hidden by
 // the want of it.
-ghost use Rattle.std.specs.Prelude.{◌≡◌, ◌≤◌, ◌<◌, ℕ, List, length, take, IfOk, Ok};
+ghost use Rattle.std.specs.Prelude.{◌≡◌, ◌≤◌, ◌<◌, ◌-◌, ℕ, List, length, take, IfOk, Ok};
+ghost use Rattle.std.specs.Str.{bytes_eq};
 ghost use Rattle.shim_log.specs.declared.header.LogHeader.{LogHeader};
 ghost use Rattle.shim_log.specs.EntriesText.{IsEntriesText};
 ghost use Rattle.shim_log.specs.Gives.{Gives, ReadsAs};
 ghost use Rattle.shim_log.specs.Reading.{magic_at, version_at, header_at, bytes_at, many_at};
 ghost use Rattle.shim_log.specs.Reading.{tail_at, log_at};
 ghost use Rattle.shim_log.specs.Views.{log_of};
-ghost use Rattle.shim_log.specs.LogText.{Log as LogValue, logtext};
+ghost use Rattle.shim_log.specs.LogText.{Log as LogValue, magic, logtext};
 ghost use Rattle.shim_log.specs.Ranges.{FitsHeader, FitsLog};
 
 use crate::entries::Entries;
-use crate::entry_reading::read_entry;
+use crate::entry_reading::pass_entry;
 use crate::field_reading::{place, read_bytes, read_header_u16, read_header_u32, read_u16};
 use crate::header::{Digests, LogHeader};
 use crate::log::Log;
@@ -36,6 +37,22 @@ fn front(bytes: &[u8], count: usize) -> &[u8]
     &bytes[..count]
 }
 
+// What stands behind a header: the text in front of the bytes that are left, and the end.
+fn tail_of(bytes: &[u8], left: usize, count: u32, ending: Ending, rounds: u32) -> Tail<'_>
+    requires { left ≤ length bytes.now }
+    ensures text { result.text.now ≡ take (length bytes.now - left) bytes.now }
+    ensures count { result.count ≡ count }
+    ensures ending { result.ending ≡ ending }
+    ensures rounds { result.rounds ≡ rounds }
+{
+    Tail {
+        text: front(bytes, bytes.len() - left),
+        count,
+        ending,
+        rounds,
+    }
+}
+
 // The entries and the end, and the bytes behind it.
 fn read_tail(end: usize, bytes: &[u8]) -> Result<(Tail<'_>, &[u8]), LogError>
     requires { length bytes.now ≤ 67108864 }
@@ -45,15 +62,10 @@ fn read_tail(end: usize, bytes: &[u8]) -> Result<(Tail<'_>, &[u8]), LogError>
 {
     let mut rest = bytes;
     for count in 0..bytes.len() {
-        let (entry, after) = read_entry(end, rest)?;
-        match entry.end() {
+        let (last, after) = pass_entry(end, rest)?;
+        match last {
             Some((ending, rounds)) => {
-                let tail = Tail {
-                    text: front(bytes, bytes.len() - rest.len()),
-                    count: count as u32,
-                    ending,
-                    rounds,
-                };
+                let tail = tail_of(bytes, rest.len(), count as u32, ending, rounds);
                 return Ok((tail, after));
             }
             None => {}
@@ -63,12 +75,19 @@ fn read_tail(end: usize, bytes: &[u8]) -> Result<(Tail<'_>, &[u8]), LogError>
     Err(LogError::Short(place(end, rest)))
 }
 
+// Whether a log begins with these bytes.
+fn is_magic(front: &[u8]) -> bool
+    ensures { result ≡ bytes_eq front.now magic }
+{
+    front == b"DPGL".as_slice()
+}
+
 #[tactic(auto, unfolding(crate::specs::Reading::magic_at))]
 fn read_magic(end: usize, bytes: &[u8]) -> Result<&[u8], LogError>
     ensures { Gives (λ x. x.now) result (magic_at end bytes.now) }
 {
     let (front, rest) = read_bytes(4, end, bytes)?;
-    if front == b"DPGL".as_slice() {
+    if is_magic(front) {
         return Ok(rest);
     }
     Err(LogError::Magic)
