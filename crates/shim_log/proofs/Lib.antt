@@ -15,3 +15,4 @@ pub mod ReplayLaws
 pub mod PostLaws
 pub mod LedgerLaws
 pub mod RecorderLaws
+mod HeaderParts

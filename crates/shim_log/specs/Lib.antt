@@ -11,3 +11,4 @@ pub mod Views
 pub mod Replay
 pub mod ReplayerFollows
 pub mod Passing
+pub mod HeaderParts

@@ -7,6 +7,7 @@ ghost use Rattle.shim_log.specs.EntriesText.{IsEntriesText};
 ghost use Rattle.shim_log.specs.Gives.{Gives, ReadsAs};
 ghost use Rattle.shim_log.specs.Reading.{magic_at, version_at, header_at, bytes_at, many_at};
 ghost use Rattle.shim_log.specs.Reading.{tail_at, log_at};
+ghost use Rattle.shim_log.specs.HeaderParts.{start_at, fields_at};
 ghost use Rattle.shim_log.specs.Views.{log_of};
 ghost use Rattle.shim_log.specs.LogText.{Log as LogValue, magic, logtext};
 ghost use Rattle.shim_log.specs.Ranges.{FitsHeader, FitsLog};
@@ -128,13 +129,19 @@ fn read_digests(count: u16, end: usize, bytes: &[u8]) -> Result<(Digests, &[u8])
     Ok((digests, rest))
 }
 
-#[tactic(auto, unfolding(crate::specs::Reading::header_at))]
-fn read_header(end: usize, bytes: &[u8]) -> Result<(LogHeader, &[u8]), LogError>
-    ensures { Gives (λ x. (x.0, x.1.now)) result (header_at end bytes.now) }
+// The bytes behind the first ones and the version, which are tested.
+fn pass_start(end: usize, bytes: &[u8]) -> Result<&[u8], LogError>
+    ensures { Gives (λ x. x.now) result (start_at end bytes.now) }
 {
     let rest = read_magic(end, bytes)?;
-    let rest = read_version(end, rest)?;
-    let (images, rest) = read_header_u16(1, 8, end, rest)?;
+    read_version(end, rest)
+}
+
+// The header's fields behind the version.
+fn read_fields(end: usize, bytes: &[u8]) -> Result<(LogHeader, &[u8]), LogError>
+    ensures { Gives (λ x. (x.0, x.1.now)) result (fields_at end bytes.now) }
+{
+    let (images, rest) = read_header_u16(1, 8, end, bytes)?;
     let (quantum, rest) = read_header_u32(16, 65536, end, rest)?;
     let (rounds, rest) = read_header_u32(1, 1000000, end, rest)?;
     let (frames, rest) = read_header_u32(16, 16384, end, rest)?;
@@ -146,6 +153,13 @@ fn read_header(end: usize, bytes: &[u8]) -> Result<(LogHeader, &[u8]), LogError>
         digests,
     };
     Ok((header, rest))
+}
+
+fn read_header(end: usize, bytes: &[u8]) -> Result<(LogHeader, &[u8]), LogError>
+    ensures { Gives (λ x. (x.0, x.1.now)) result (header_at end bytes.now) }
+{
+    let rest = pass_start(end, bytes)?;
+    read_fields(end, rest)
 }
 
 // The header, and what stands behind it up to the last byte.
