@@ -24,7 +24,8 @@ returns-in-Some-clause-value c =
     c.loop-count.invariant header passed.entry c.in_ok-last.after.now
     c.tail_of-tail.result.text.now c.tail_of-tail.result.ending c.tail_of-tail.result.rounds
     c.loop-count-test.true passed.read
-    (rw (c.tail_of-tail.ensures.ending, c.tail_of-tail.ensures.rounds) (passed.last_is ∙ c.in-Some.is))
+    (rw (c.tail_of-tail.ensures.ending, c.tail_of-tail.ensures.rounds)
+    (passed.last_is ∙ c.in-Some.is))
     c.tail_of-tail.ensures.text
 
 pub returns-in-Some-clause-text : goal.returns-in-Some-clause-text
