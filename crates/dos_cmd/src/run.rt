@@ -71,6 +71,27 @@ impl RunRequest<'_> {
             digests,
         }
     }
+
+    /// A ledger of nothing yet, for images of files with these digests. The error is want of memory.
+    fn ledger(&self, alloc: Global, digests: Digests) -> Result<Ledger, Refusal>
+        requires range { IsConfig self.now.config }
+        requires some { 1 ≤ length self.now.names.now }
+        requires few { length self.now.names.now ≤ 8 }
+        requires few_posts { length self.now.posts.now ≤ 32 }
+        requires planned { ArePlanned self.now.posts.now }
+        requires digest_count { length digests ≡ length self.now.names.now }
+        requires are_digests { AreDigests digests }
+        ensures empty { IfOk result (λ ledger. ledger ≡ empty_ledger self.now.posts.now
+            (clock_rule self.now.clock_from self.now.clock_step)
+            (header_of self.now.config digests) ledger.room) }
+        ensures memory { IfErr result (λ why. why ≡ Refusal.Memory) }
+    {
+        let posts = self.posts.as_slice();
+        match Ledger::new(alloc, posts, self.clock(), self.header(digests)) {
+            Ok(ledger) => Ok(ledger),
+            Err(_) => Err(Refusal::Memory),
+        }
+    }
 }
 
 /// Opens the group of these images.
@@ -261,12 +282,11 @@ fn prepare<F: Files>(
     ensures tells { F.tells files.new ≡ F.tells files.old }
 {
     let (kernel, digests) = open_named(alloc, request, files)?;
-    let posts = request.posts.as_slice();
-    match Ledger::new(alloc, posts, request.clock(), request.header(digests)) {
+    match request.ledger(alloc, digests) {
         Ok(ledger) => Ok((kernel, ledger)),
-        Err(_) => {
+        Err(why) => {
             drop(kernel);
-            Err(Refusal::Memory)
+            Err(why)
         }
     }
 }

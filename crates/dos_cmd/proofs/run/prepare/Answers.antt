@@ -18,10 +18,10 @@ returns-in-Ok-clause-ready g c =
       taken = named.taken;
       prepared = λ o. prepared (asked_by c.args.request.now) named.images
           (record o { files = g.F.Files.content c.args.files.now }) c.in_ok-kernel.kernel
-          c.in-Ok.ledger _ _ _ _ _ named.opened c.in-Ok.ensures c.as_slice-posts.ensures c.clock.ensures
-          c.header.ensures opening.digests;
+          c.in-Ok.ledger _ _ _ _ _ named.opened c.in-Ok.ensures.empty refl refl refl
+          opening.digests;
     }
 
 pub returns-in-Err-clause-leaves : goal.returns-in-Err-clause-leaves
-returns-in-Err-clause-leaves g c = λ n h out err t k l m.
-    inl (says_nothing _ refl refl c.open_named.ensures.stays refl)
+returns-in-Err-clause-leaves g c = rw c.in-Err.ensures.memory
+    (λ n h out err t k l m. inl (says_nothing _ refl refl c.open_named.ensures.stays refl))
