@@ -33,6 +33,7 @@ use Rattle.group_rounds.specs.StatePlays.{GoesTo, Telling}
 use Rattle.group_rounds.specs.Parts.{work_between}
 use Rattle.group_rounds.specs.Phases.{ready_in}
 use Rattle.group_rounds.specs.Rounds.{AreStarters, CutRound, RanRound, StoppedRound, end_in}
+use Rattle.group_rounds.specs.Rounds.{rest_of_round}
 use Rattle.group_rounds.proofs.PlayLaws.{goes-over, goes-questions}
 use Rattle.group_rounds.proofs.FrontLaws.{cut_behind, cut_from, cut_then}
 use Rattle.group_rounds.proofs.StopLaws.{stopped_behind, stopped_from, stopped_then}
@@ -48,6 +49,32 @@ no_end_more (Signals r l ∷ es) round list h = no_end_more es round list h
 no_end_more (Input r t m b ∷ es) round list h = no_end_more es round list h
 no_end_more (Clock r t n ∷ es) round list h = no_end_more es round list h
 no_end_more (End e r ∷ es) round list h = absurd h
+
+-- ---- the serial phase, and the round counted behind it
+
+module _ (starters : List ℕ) (halfway last after : State) (before told : Telling)
+    (goes : (q : ℕ) → GoesTo q (λ w. serial_of w starters) halfway before (λ w. done w) last told)
+    (first : 1 ≤ last.round) (count : after ≡ record last { round = last.round + 1 })
+    (q work : ℕ) where
+  -- what follows the serial phase
+  abbrev ended : World → Play FlatEnd
+  ended w = done (went (counted w) work)
+
+  counted_is : (o e : List ℕ) → counted (sent o e (world_of q last)) ≡ sent o e (world_of q after)
+  counted_is o e =
+      let rounds : last.round - 1 + 1 ≡ last.round + 1 - 1 = omega (arith, first) in
+      ap (λ n. record (sent o e (world_of q last)) { rounds = n }) rounds
+      ∙ ap (λ s. sent o e (world_of q s)) (sym count)
+
+  pub serial_ends : GoesTo q (λ w. rest_of_round work w starters) halfway before
+      (λ w. done (went w work)) after told
+  serial_ends =
+      goes_and q (λ w. serial_of w starters >>= ended) ended (λ w. done (went w work))
+      halfway last after before told told
+      (goes_behind q (λ w. serial_of w starters) (λ w. done w) ended halfway last before told
+      (goes q))
+      (goes_still q ended (λ w. done (went w work)) last after told
+      (λ o e. ap (λ w. done (went w work)) (counted_is o e)))
 
 -- ---- the phases
 
@@ -95,29 +122,15 @@ module _ (quantum : ℕ) (start opening halfway : State) (starters : List ℕ)
       (budgets (sent o e (world_of quantum opening)) starters - budgets w starters)))
       (parallel_is o e)
 
-  module _ (last after : State) (before told : Telling)
-      (goes : (q : ℕ) → GoesTo q (λ w. serial_of w starters) halfway before (λ w. done w) last told)
-      (first : 1 ≤ last.round) (count : after ≡ record last { round = last.round + 1 }) where
-    counted_is : (o e : List ℕ) → counted (sent o e (world_of quantum last))
-        ≡ sent o e (world_of quantum after)
-    counted_is o e =
-        let rounds : last.round - 1 + 1 ≡ last.round + 1 - 1 = omega (arith, first) in
-        ap (λ n. record (sent o e (world_of quantum last)) { rounds = n }) rounds
-        ∙ ap (λ s. sent o e (world_of quantum s)) (sym count)
-
-    pub phases_go : GoesTo quantum (λ w. phases w starters) start before (λ w. done (went w work))
-        after told
-    phases_go =
-        goes_and quantum (λ w. phases w starters) (λ w. serial_of w starters >>= at_last)
-        (λ w. done (went w work)) start halfway after before before told
-        (goes_still quantum (λ w. phases w starters) (λ w. serial_of w starters >>= at_last) start
-        halfway before phases_are)
-        (goes_and quantum (λ w. serial_of w starters >>= at_last) at_last (λ w. done (went w work))
-        halfway last after before told told
-        (goes_behind quantum (λ w. serial_of w starters) (λ w. done w) at_last halfway last before
-        told (goes quantum))
-        (goes_still quantum at_last (λ w. done (went w work)) last after told
-        (λ o e. ap (λ w. done (went w work)) (counted_is o e))))
+  pub phases_go : (after : State) (before told : Telling)
+      → GoesTo quantum (λ w. rest_of_round work w starters) halfway before
+      (λ w. done (went w work)) after told
+      → GoesTo quantum (λ w. phases w starters) start before (λ w. done (went w work)) after told
+  phases_go after before told ends =
+      goes_and quantum (λ w. phases w starters) (λ w. rest_of_round work w starters)
+      (λ w. done (went w work)) start halfway after before before told
+      (goes_still quantum (λ w. phases w starters) (λ w. rest_of_round work w starters) start
+      halfway before phases_are) ends
 
   -- where a sink failed in the serial phase
   pub phases_cut : (before after : Telling)

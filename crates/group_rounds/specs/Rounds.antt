@@ -3,14 +3,17 @@
 use Rattle.std.specs.Prelude.{ℕ, ◌≡◌, ◌+◌, List, [], ◌∷◌, ◌++◌, map, Option, Some}
 use Rattle.dos_world.specs.World.{World, ready_threads}
 use Rattle.dos_world.specs.Signals.{signalled, ripen}
-use Rattle.dos_world.specs.Play.{over, questions, gives, posts_of}
+use Rattle.dos_world.specs.Play.{Play, done, ◌>>=◌, over, questions, gives, posts_of}
+use Rattle.dos_world.specs.declared.Post.{Post}
 use Rattle.dos_world.specs.declared.Question.{Question}
 use Rattle.dos_io.specs.declared.exchange.Exchange.{Exchange}
+use Rattle.dos_io.specs.declared.exchange.Exchange.TheVariants.{Signals}
 use Rattle.dos_io.specs.declared.shim.ShimStop.{ShimStop}
 use Rattle.dos_io.specs.Exchanges.{question_of, answer_of}
-use Rattle.dos_io.specs.Shims.{ShimState, Stopped}
+use Rattle.dos_io.specs.Shims.{ShimState, Stopped, answered}
 use Rattle.dos_laws.specs.Plays.{world_ended}
-use Rattle.round_core.specs.Round.{RoundEnd as FlatEnd, went, finished, stalled, round_of}
+use Rattle.round_core.specs.Rest.{serial_of}
+use Rattle.round_core.specs.Round.{RoundEnd as FlatEnd, went, finished, stalled, counted, round_of}
 use Rattle.kernel_calls.specs.StateWorld.{sent, shim_stop, world_of}
 use Rattle.kernel_calls.specs.declared.state.RunStop.{RunStop}
 use Rattle.kernel_calls.specs.declared.state.State.{State}
@@ -28,7 +31,21 @@ pub record StopsRun (stop : RunStop) (before : ShimState) (question : Question)
   pub is : shim_stop stop ≡ Some reason
   pub stopped : Stopped before question reason after
 
+-- The shim has answered with a list of signals, and the new state's world is the old one's after the
+-- signal point, with who waits no longer ready. It is so whatever bytes were sent.
+pub record HasOpened (old : State) (before : ShimState) (new : State) (after : ShimState) : Type 0
+  where
+    pub list : List Post
+    pub answered_is : after ≡ answered before (Signals old.round list)
+    pub begins : (q : ℕ) (o e : List ℕ)
+        → ripen (signalled (sent o e (world_of q old)) list) ≡ sent o e (world_of q new)
+
 -- ---- rounds
+
+-- what follows a parallel phase of so many instructions: the serial phase of these starters, and
+-- then the round is counted
+abbrev pub rest_of_round : (work : ℕ) → World → (starters : List ℕ) → Play FlatEnd
+rest_of_round work w starters = serial_of w starters >>= λ last. done (went (counted last) work)
 
 -- how a round ended, in this world, after so many instructions of its parallel phase
 abbrev pub end_in : RoundEnd → ℕ → World → FlatEnd

@@ -17,10 +17,10 @@ ghost use Rattle.group_rounds.specs.Rounds.{AreStarters, CutRound, RanRound, Sto
 ghost use Rattle.group_rounds.specs.Rounds.{next_round, work_in};
 ghost use Rattle.worker_pool.specs.Ran.{GrewBy};
 
+use crate::RoundEnd;
 use crate::packs::Packs;
-use crate::phases::gather;
+use crate::phases::run_ready;
 use crate::round::play_round;
-use crate::{RoundEnd, phases};
 use dos_io::{Shim, Sink};
 use dos_world::Config;
 use kernel_calls::{RunStop, State};
@@ -243,9 +243,7 @@ pub fn serial_phase<S: Shim, O: Sink, E: Sink>(
         (O.faults out.new) (E.faults err.old) (E.faults err.new) }
     ensures follows { S.follows shim.old shim.new }
 {
-    gather(&kernel.state.table, &mut kernel.starters);
-    let starters = kernel.starters.as_slice();
-    let served = phases::run_serial(&mut kernel.state, starters, shim, out, err);
+    let served = run_ready(&mut kernel.state, &mut kernel.starters, shim, out, err);
     kernel.failed = served.is_err();
     served
 }

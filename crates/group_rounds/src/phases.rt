@@ -179,3 +179,44 @@ pub(crate) fn run_serial<S: Shim, O: Sink, E: Sink>(
     }
     Ok(())
 }
+
+/// The serial phase of the threads that are ready, gathered into `starters`.
+pub(crate) fn run_ready<S: Shim, O: Sink, E: Sink>(
+    state: &mut State,
+    starters: &mut Vec<u32>,
+    shim: &mut S,
+    out: &mut O,
+    err: &mut E,
+) -> Result<(), RunStop>
+    requires sound { IsSound state.old }
+    requires room { 64 ≤ vec_capacity starters.old }
+    requires told { HasNoEnd (S.state shim.old).told }
+    ensures goes { OnOk result ((q : ℕ)
+        → GoesTo q (λ w. serial_of w (ready_in state.old.table.threads)) state.old
+        (telling (S.state shim.old).told (O.told out.old) (E.told err.old))
+        (λ w. done w) state.new
+        (telling (S.state shim.new).told (O.told out.new) (E.told err.new))) }
+    ensures starters { starters.new.items ≡ ready_in state.old.table.threads }
+    ensures room { 64 ≤ vec_capacity starters.new }
+    ensures sound { OnOk result (IsSound state.new) }
+    ensures round { state.new.round ≡ state.old.round }
+    ensures count { OnOk result (KeepsCount state.old state.new) }
+    ensures asks { IfErr result (λ stop. OnSome (shim_stop stop)
+        ((q : ℕ) → StoppedPlay q (λ w. serial_of w (ready_in state.old.table.threads)) state.old
+        (telling (S.state shim.old).told (O.told out.old) (E.told err.old))
+        (telling (S.state shim.new).told (O.told out.new) (E.told err.new))
+        (S.state shim.new).asked)) }
+    ensures before_end { IfErr result
+        (λ stop. OnSome (shim_stop stop) (is_end (S.state shim.new).asked ≡ false)) }
+    ensures told { OnOk result (HasNoEnd (S.state shim.new).told) }
+    ensures cut { OnErr result ((q : ℕ)
+        → CutPlay q (λ w. w) (λ w. serial_of w (ready_in state.old.table.threads)) state.old
+        (telling (S.state shim.old).told (O.told out.old) (E.told err.old))
+        (telling (S.state shim.new).told (O.told out.new) (E.told err.new))) }
+    ensures causes { HaveCauses result (S.state shim.old) (S.state shim.new) (O.faults out.old)
+        (O.faults out.new) (E.faults err.old) (E.faults err.new) }
+    ensures follows { S.follows shim.old shim.new }
+{
+    gather(&state.table, starters);
+    run_serial(state, starters.as_slice(), shim, out, err)
+}

@@ -8,15 +8,17 @@ ghost use Rattle.dos_world.specs.declared.Question.TheVariants.{Signals as signa
 ghost use Rattle.dos_io.specs.Shims.{HasNoEnd, answered};
 ghost use Rattle.dos_io.specs.declared.exchange.Exchange.TheVariants.{Signals as signals_exchange};
 ghost use Rattle.dos_laws.specs.Plays.{world_ended};
+ghost use Rattle.round_core.specs.Rest.{serial_of};
 ghost use Rattle.round_core.specs.Round.{begun, phases, went};
-ghost use Rattle.kernel_calls.specs.StateWorld.{IsSound, sent, shim_stop, world_of};
+ghost use Rattle.kernel_calls.specs.StateWorld.{HaveParts, IsSound, sent, shim_stop, world_of};
 ghost use Rattle.group_rounds.specs.Fronts.{CutPlay, StoppedPlay};
 ghost use Rattle.group_rounds.specs.StatePlays.{GoesTo, telling};
 ghost use Rattle.group_rounds.specs.Outside.{HaveCauses, is_end};
 ghost use Rattle.group_rounds.specs.Parts.{KeepsCount};
 ghost use Rattle.group_rounds.specs.Phases.{ready_in};
-ghost use Rattle.group_rounds.specs.Rounds.{AreStarters, CutRound, RanRound, StoppedRound};
-ghost use Rattle.group_rounds.specs.Rounds.{StopsRun, end_in, next_round, work_in};
+ghost use Rattle.group_rounds.specs.Rounds.{AreStarters, CutRound, HasOpened, RanRound};
+ghost use Rattle.group_rounds.specs.Rounds.{StoppedRound, StopsRun, end_in, next_round};
+ghost use Rattle.group_rounds.specs.Rounds.{rest_of_round, work_in};
 ghost use Rattle.worker_pool.specs.Ran.{GrewBy};
 
 use crate::packs::Packs;
@@ -75,6 +77,85 @@ fn begin_round(state: &mut State, starters: &mut Vec<u32>, list: &SignalList)
     gather(&state.table, starters);
 }
 
+// The shim is asked for the signals of a round, and the round begins with what it answers.
+fn open_round<S: Shim>(
+    state: &mut State,
+    starters: &mut Vec<u32>,
+    shim: &mut S,
+) -> Result<(), RunStop>
+    requires sound { IsSound state.old }
+    requires room { 64 ≤ vec_capacity starters.old }
+    requires told { HasNoEnd (S.state shim.old).told }
+    ensures opened { OnOk result
+        (HasOpened state.old (S.state shim.old) state.new (S.state shim.new)) }
+    ensures stopped { IfErr result
+        (λ stop. StopsRun stop (S.state shim.old) (signals_question state.old.round)
+        (S.state shim.new)) }
+    ensures told { OnOk result (HasNoEnd (S.state shim.new).told) }
+    ensures sound { OnOk result (IsSound state.new) }
+    ensures starters { OnOk result (starters.new.items ≡ ready_in state.new.table.threads) }
+    ensures few { OnOk result (length starters.new.items ≤ 64) }
+    ensures room { 64 ≤ vec_capacity starters.new }
+    ensures round { state.new.round ≡ state.old.round }
+    ensures count { KeepsCount state.old state.new }
+    ensures follows { S.follows shim.old shim.new }
+{
+    let mut list = SignalList::new();
+    match ask_signals(state.round, &mut list, shim) {
+        Ok(()) => {
+            begin_round(state, starters, &list);
+            Ok(())
+        }
+        Err(stop) => Err(stop),
+    }
+}
+
+// The serial phase of a round, and then the round is counted.
+fn finish_round<S: Shim, O: Sink, E: Sink>(
+    state: &mut State,
+    starters: &[u32],
+    shim: &mut S,
+    out: &mut O,
+    err: &mut E,
+) -> Result<(), RunStop>
+    requires sound { IsSound state.old }
+    requires parts { HaveParts starters.now state.old }
+    requires limit { state.old.round ≤ 1000000 }
+    requires told { HasNoEnd (S.state shim.old).told }
+    ensures goes { OnOk result ((q work : ℕ)
+        → GoesTo q (λ w. rest_of_round work w starters.now) state.old
+        (telling (S.state shim.old).told (O.told out.old) (E.told err.old))
+        (λ w. done (went w work)) state.new
+        (telling (S.state shim.new).told (O.told out.new) (E.told err.new))) }
+    ensures sound { OnOk result (IsSound state.new) }
+    ensures round { OnOk result (state.new.round ≡ state.old.round + 1) }
+    ensures uncounted { OnErr result (state.new.round ≡ state.old.round) }
+    ensures count { OnOk result (KeepsCount state.old state.new) }
+    ensures asks { IfErr result (λ stop. OnSome (shim_stop stop)
+        ((q : ℕ) → StoppedPlay q (λ w. serial_of w starters.now) state.old
+        (telling (S.state shim.old).told (O.told out.old) (E.told err.old))
+        (telling (S.state shim.new).told (O.told out.new) (E.told err.new))
+        (S.state shim.new).asked)) }
+    ensures before_end { IfErr result
+        (λ stop. OnSome (shim_stop stop) (is_end (S.state shim.new).asked ≡ false)) }
+    ensures told { OnOk result (HasNoEnd (S.state shim.new).told) }
+    ensures cut { OnErr result ((q : ℕ)
+        → CutPlay q (λ w. w) (λ w. serial_of w starters.now) state.old
+        (telling (S.state shim.old).told (O.told out.old) (E.told err.old))
+        (telling (S.state shim.new).told (O.told out.new) (E.told err.new))) }
+    ensures causes { HaveCauses result (S.state shim.old) (S.state shim.new) (O.faults out.old)
+        (O.faults out.new) (E.faults err.old) (E.faults err.new) }
+    ensures follows { S.follows shim.old shim.new }
+{
+    match run_serial(state, starters, shim, out, err) {
+        Ok(()) => {
+            count_round(state);
+            Ok(())
+        }
+        Err(stop) => Err(stop),
+    }
+}
+
 // the phases of a round with these starters, and the round counted
 fn run_phases<S: Shim, O: Sink, E: Sink, W: Workers>(
     state: &mut State,
@@ -122,9 +203,7 @@ fn run_phases<S: Shim, O: Sink, E: Sink, W: Workers>(
 {
     set_budgets(state, starters, quantum);
     packs.run(state, starters, workers);
-    run_serial(state, starters, shim, out, err)?;
-    count_round(state);
-    Ok(())
+    finish_round(state, starters, shim, out, err)
 }
 
 // what follows the signal point, with these starters
@@ -234,17 +313,17 @@ pub(crate) fn play_round<S: Shim, O: Sink, E: Sink, W: Workers>(
     if state.table.live_threads() == 0 {
         return Ok(RoundEnd::Done);
     }
-    let mut list = SignalList::new();
-    ask_signals(state.round, &mut list, shim)?;
-    begin_round(state, starters, &list);
-    play_begun(
-        state,
-        starters.as_slice(),
-        packs,
-        quantum,
-        shim,
-        out,
-        err,
-        workers,
-    )
+    match open_round(state, starters, shim) {
+        Ok(()) => play_begun(
+            state,
+            starters.as_slice(),
+            packs,
+            quantum,
+            shim,
+            out,
+            err,
+            workers,
+        ),
+        Err(stop) => Err(stop),
+    }
 }

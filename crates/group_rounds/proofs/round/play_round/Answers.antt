@@ -1,12 +1,12 @@
 use Rattle.std.proofs.Common.{ℕ, ◌≡◌, ◌≤◌, refl, sym, ap, ◌∙◌, subst, length, le_refl}
 use Rattle.std.specs.Prelude.{IfOk, OnErr, OnOk, OnSome, Option, Some, None}
-use Rattle.std.proofs.lemmas.Result.{IfOk-weaker, err_from_is_err_and, on_err_weaker}
+use Rattle.std.proofs.lemmas.Result.{IfOk-weaker, on_err_weaker}
 use Rattle.dos_io.specs.Shims.{ShimState}
 use Rattle.kernel_calls.specs.StateWorld.{shim_stop}
 use Rattle.worker_pool.proofs.Growing.{grew-nothing}
 use Rattle.group_rounds.specs.StatePlays.{telling}
 use Rattle.group_rounds.specs.Outside.{is_end}
-use Rattle.group_rounds.proofs.StatePlayLaws.{on_err, if_err_weaker, ok_weaker, some_weaker}
+use Rattle.group_rounds.proofs.StatePlayLaws.{if_err_weaker, ok_weaker, some_weaker}
 use Rattle.group_rounds.proofs.RoundLaws.{nobody_starts, round_began, round_cut, round_done}
 use Rattle.group_rounds.proofs.RoundLaws.{round_ran, round_stopped, round_stops}
 use Rattle.group_rounds.proofs.StopLaws.{cut_stopped}
@@ -38,71 +38,70 @@ on_some : {A : Type 0} (o : Option A) (P : Type 0) → P → OnSome o P
 on_some None P h = tt
 on_some (Some x) P h = h
 
-pub returns-in_err-ask_signals-clause-asks : goal.returns-in_err-ask_signals-clause-asks
-returns-in_err-ask_signals-clause-asks g c =
-    let p = err_from_is_err_and c.from_residual.result c.from_residual.ensures.1 in
-    rw (p.1, p.2) (on_some _ _
+pub returns-in-Err-clause-asks : goal.returns-in-Err-clause-asks
+returns-in-Err-clause-asks g c =
+    on_some _ _
     (round_stops c.args.quantum c.args.state.now c.requires.sound
     (λ none. c.if-live_threads-eq0.false (c.live_threads.ensures ∙ none)) _ _ _
-    c.in_err-ask_signals.ensures.stopped.stopped.told refl refl
-    c.in_err-ask_signals.ensures.stopped.stopped.asked))
+    c.in-Err.ensures.stopped.stopped.told refl refl c.in-Err.ensures.stopped.stopped.asked)
 
-pub returns-in_err-ask_signals-clause-cut : goal.returns-in_err-ask_signals-clause-cut
-returns-in_err-ask_signals-clause-cut g c =
-    on_err c.from_residual.result _
-    (cut_stopped c.args.quantum world_ended (λ w. round_of w) c.args.state.now _ _ _
+pub returns-in-Err-clause-cut : goal.returns-in-Err-clause-cut
+returns-in-Err-clause-cut g c =
+    cut_stopped c.args.quantum world_ended (λ w. round_of w) c.args.state.now _ _ _
     (round_stops c.args.quantum c.args.state.now c.requires.sound
     (λ none. c.if-live_threads-eq0.false (c.live_threads.ensures ∙ none)) _ _ _
-    c.in_err-ask_signals.ensures.stopped.stopped.told refl refl
-    c.in_err-ask_signals.ensures.stopped.stopped.asked))
+    c.in-Err.ensures.stopped.stopped.told refl refl c.in-Err.ensures.stopped.stopped.asked)
 
-pub returns-in_err-ask_signals-clause-before_end : goal.returns-in_err-ask_signals-clause-before_end
-returns-in_err-ask_signals-clause-before_end g c =
-    let p = err_from_is_err_and c.from_residual.result c.from_residual.ensures.1 in
-    rw (p.1, p.2) (on_some _ _ (ap is_end c.in_err-ask_signals.ensures.stopped.stopped.asked))
+pub returns-in-Err-clause-before_end : goal.returns-in-Err-clause-before_end
+returns-in-Err-clause-before_end g c =
+    on_some _ _ (ap is_end c.in-Err.ensures.stopped.stopped.asked)
 
 -- ---- and goes on after the signal point
 
-pub returns-clause-runs : goal.returns-clause-runs
-returns-clause-runs g c =
+pub returns-in-Ok-clause-runs : goal.returns-in-Ok-clause-runs
+returns-in-Ok-clause-runs g c =
     IfOk-weaker c.play_begun.result _ _
     (λ end k. (
       k.0,
       round_ran c.args.quantum c.args.state.now c.requires.sound
           (λ none. c.if-live_threads-eq0.false (c.live_threads.ensures ∙ none))
-          c.ask_signals.new.list c.begin_round.new.state c.begin_round.ensures.begins _ _
-          (ap (λ (s : ShimState). s.told) c.in_ok-ask_signals.ensures.answered) refl refl
+          c.in-Ok.ensures.opened.list c.open_round.new.state
+          c.in-Ok.ensures.opened.begins _ _
+          (ap (λ (s : ShimState). s.told) c.in-Ok.ensures.opened.answered_is) refl refl
           end c.play_begun.new.state _ k.0 k.1,
       k.2,
     )) c.play_begun.ensures.goes
 
-pub returns-clause-starters : goal.returns-clause-starters
-returns-clause-starters g c =
+pub returns-in-Ok-clause-starters : goal.returns-in-Ok-clause-starters
+returns-in-Ok-clause-starters g c =
     ok_weaker c.play_begun.result _ _
     (λ end k. round_began c.args.quantum c.args.state.now c.requires.sound
     (λ none. c.if-live_threads-eq0.false (c.live_threads.ensures ∙ none))
-    c.ask_signals.new.list c.begin_round.new.state c.begin_round.ensures.begins _ _
-    (ap (λ (s : ShimState). s.told) c.in_ok-ask_signals.ensures.answered) refl refl
-    c.args.starters.now.items c.begin_round.new.starters.items end c.play_begun.new.state _
-    k.0 c.begin_round.ensures.starters k.1) c.play_begun.ensures.goes
+    c.in-Ok.ensures.opened.list c.open_round.new.state
+    c.in-Ok.ensures.opened.begins _ _
+    (ap (λ (s : ShimState). s.told) c.in-Ok.ensures.opened.answered_is) refl refl
+    c.args.starters.now.items c.open_round.new.starters.items end c.play_begun.new.state _
+    k.0 c.in-Ok.ensures.starters k.1) c.play_begun.ensures.goes
 
-pub returns-clause-asks : goal.returns-clause-asks
-returns-clause-asks g c =
+pub returns-in-Ok-clause-asks : goal.returns-in-Ok-clause-asks
+returns-in-Ok-clause-asks g c =
     if_err_weaker c.play_begun.result _ _
     (λ stop. some_weaker (shim_stop stop) _ _
     (round_stopped c.args.quantum c.args.state.now c.requires.sound
     (λ none. c.if-live_threads-eq0.false (c.live_threads.ensures ∙ none))
-    c.ask_signals.new.list c.begin_round.new.state c.begin_round.ensures.begins _ _
-    (ap (λ (s : ShimState). s.told) c.in_ok-ask_signals.ensures.answered) refl refl
+    c.in-Ok.ensures.opened.list c.open_round.new.state
+    c.in-Ok.ensures.opened.begins _ _
+    (ap (λ (s : ShimState). s.told) c.in-Ok.ensures.opened.answered_is) refl refl
     _ _)) c.play_begun.ensures.asks
 
-pub returns-clause-cut : goal.returns-clause-cut
-returns-clause-cut g c =
+pub returns-in-Ok-clause-cut : goal.returns-in-Ok-clause-cut
+returns-in-Ok-clause-cut g c =
     on_err_weaker c.play_begun.result
     (round_cut c.args.quantum c.args.state.now c.requires.sound
     (λ none. c.if-live_threads-eq0.false (c.live_threads.ensures ∙ none))
-    c.ask_signals.new.list c.begin_round.new.state c.begin_round.ensures.begins _ _
-    (ap (λ (s : ShimState). s.told) c.in_ok-ask_signals.ensures.answered) refl refl
+    c.in-Ok.ensures.opened.list c.open_round.new.state
+    c.in-Ok.ensures.opened.begins _ _
+    (ap (λ (s : ShimState). s.told) c.in-Ok.ensures.opened.answered_is) refl refl
     _) c.play_begun.ensures.cut
 
 -- ---- the rest, at each way out
@@ -115,81 +114,81 @@ returns-then-live_threads-eq0-clause-causes g c =
 pub returns-then-live_threads-eq0-clause-follows : goal.returns-then-live_threads-eq0-clause-follows
 returns-then-live_threads-eq0-clause-follows g c = g.met.S.Shim.reflexive c.args.shim.now
 
-pub returns-in_err-ask_signals-clause-uncounted : goal.returns-in_err-ask_signals-clause-uncounted
-returns-in_err-ask_signals-clause-uncounted g c = on_err c.from_residual.result _ refl
+pub returns-in-Err-clause-uncounted : goal.returns-in-Err-clause-uncounted
+returns-in-Err-clause-uncounted g c = c.open_round.ensures.round
 
-pub returns-in_err-ask_signals-clause-follows : goal.returns-in_err-ask_signals-clause-follows
-returns-in_err-ask_signals-clause-follows g c = c.ask_signals.ensures.follows
+pub returns-in-Err-clause-follows : goal.returns-in-Err-clause-follows
+returns-in-Err-clause-follows g c = c.open_round.ensures.follows
 
 pub play_begun-requires-clause-sound : goal.play_begun-requires-clause-sound
-play_begun-requires-clause-sound g c = λ κs outlive. c.begin_round.ensures.sound
+play_begun-requires-clause-sound g c = λ κs outlive. c.in-Ok.ensures.sound
 
 pub play_begun-requires-clause-level : goal.play_begun-requires-clause-level
 play_begun-requires-clause-level g c = λ κs outlive.
-    c.requires.level ∙ sym c.begin_round.ensures.count
+    c.requires.level ∙ sym c.open_round.ensures.count
 
 pub play_begun-requires-clause-few : goal.play_begun-requires-clause-few
 play_begun-requires-clause-few g c = λ κs outlive.
     subst (λ starters. length starters ≤ 64) (sym c.as_slice.ensures.value)
-    c.begin_round.ensures.few
+    c.in-Ok.ensures.few
 
 pub play_begun-requires-clause-ready : goal.play_begun-requires-clause-ready
 play_begun-requires-clause-ready g c = λ κs outlive.
-    c.as_slice.ensures.value ∙ c.begin_round.ensures.starters
+    c.as_slice.ensures.value ∙ c.in-Ok.ensures.starters
 
 pub play_begun-requires-clause-limit : goal.play_begun-requires-clause-limit
 play_begun-requires-clause-limit g c = λ κs outlive.
-    subst (λ (n : ℕ). n ≤ 1000000) (sym c.begin_round.ensures.round) c.requires.limit
+    subst (λ (n : ℕ). n ≤ 1000000) (sym c.open_round.ensures.round) c.requires.limit
 
 pub play_begun-requires-clause-told : goal.play_begun-requires-clause-told
-play_begun-requires-clause-told g c = λ κs outlive. c.in_ok-ask_signals.ensures.told
+play_begun-requires-clause-told g c = λ κs outlive. c.in-Ok.ensures.told
 
-pub returns-clause-before_end : goal.returns-clause-before_end
-returns-clause-before_end g c = c.play_begun.ensures.before_end
+pub returns-in-Ok-clause-before_end : goal.returns-in-Ok-clause-before_end
+returns-in-Ok-clause-before_end g c = c.play_begun.ensures.before_end
 
-pub returns-clause-room : goal.returns-clause-room
-returns-clause-room g c = c.begin_round.ensures.room
+pub returns-in-Ok-clause-room : goal.returns-in-Ok-clause-room
+returns-in-Ok-clause-room g c = c.open_round.ensures.room
 
-pub returns-clause-sound : goal.returns-clause-sound
-returns-clause-sound g c = c.play_begun.ensures.sound
+pub returns-in-Ok-clause-sound : goal.returns-in-Ok-clause-sound
+returns-in-Ok-clause-sound g c = c.play_begun.ensures.sound
 
-pub returns-clause-round : goal.returns-clause-round
-returns-clause-round g c =
+pub returns-in-Ok-clause-round : goal.returns-in-Ok-clause-round
+returns-in-Ok-clause-round g c =
     subst (λ (n : ℕ). IfOk c.play_begun.result
     (λ end. c.play_begun.new.state.round ≡ next_round end n))
-    c.begin_round.ensures.round c.play_begun.ensures.round
+    c.open_round.ensures.round c.play_begun.ensures.round
 
-pub returns-clause-packs : goal.returns-clause-packs
-returns-clause-packs g c = c.play_begun.ensures.packs
+pub returns-in-Ok-clause-packs : goal.returns-in-Ok-clause-packs
+returns-in-Ok-clause-packs g c = c.play_begun.ensures.packs
 
-pub returns-clause-uncounted : goal.returns-clause-uncounted
-returns-clause-uncounted g c =
+pub returns-in-Ok-clause-uncounted : goal.returns-in-Ok-clause-uncounted
+returns-in-Ok-clause-uncounted g c =
     subst (λ (n : ℕ). OnErr c.play_begun.result (c.play_begun.new.state.round ≡ n))
-    c.begin_round.ensures.round c.play_begun.ensures.uncounted
+    c.open_round.ensures.round c.play_begun.ensures.uncounted
 
-pub returns-clause-count : goal.returns-clause-count
-returns-clause-count g c =
+pub returns-in-Ok-clause-count : goal.returns-in-Ok-clause-count
+returns-in-Ok-clause-count g c =
     subst (λ (n : ℕ). OnOk c.play_begun.result
     (length c.play_begun.new.state.frames.owners ≡ n))
-    c.begin_round.ensures.count c.play_begun.ensures.count
+    c.open_round.ensures.count c.play_begun.ensures.count
 
-pub returns-clause-told : goal.returns-clause-told
-returns-clause-told g c = c.play_begun.ensures.told
+pub returns-in-Ok-clause-told : goal.returns-in-Ok-clause-told
+returns-in-Ok-clause-told g c = c.play_begun.ensures.told
 
-pub returns-clause-causes : goal.returns-clause-causes
-returns-clause-causes g c =
+pub returns-in-Ok-clause-causes : goal.returns-in-Ok-clause-causes
+returns-in-Ok-clause-causes g c =
     causes_then c.play_begun.result (g.S.Shim.state c.args.shim.now) _ _ _ _ _ _ _ _ (record {
       out_later = le_refl _;
       err_later = le_refl _;
       stands = record {
-        stops = ap (λ (s : ShimState). s.stops) c.in_ok-ask_signals.ensures.answered;
-        last = ap (λ (s : ShimState). s.last) c.in_ok-ask_signals.ensures.answered;
+        stops = ap (λ (s : ShimState). s.stops) c.in-Ok.ensures.opened.answered_is;
+        last = ap (λ (s : ShimState). s.last) c.in-Ok.ensures.opened.answered_is;
       };
     }) c.play_begun.ensures.causes
 
-pub returns-clause-follows : goal.returns-clause-follows
-returns-clause-follows g c =
-    g.met.S.Shim.transitive _ _ _ c.ask_signals.ensures.follows c.play_begun.ensures.follows
+pub returns-in-Ok-clause-follows : goal.returns-in-Ok-clause-follows
+returns-in-Ok-clause-follows g c =
+    g.met.S.Shim.transitive _ _ _ c.open_round.ensures.follows c.play_begun.ensures.follows
 
-pub returns-clause-fixed : goal.returns-clause-fixed
-returns-clause-fixed g c = c.play_begun.ensures.fixed
+pub returns-in-Ok-clause-fixed : goal.returns-in-Ok-clause-fixed
+returns-in-Ok-clause-fixed g c = c.play_begun.ensures.fixed
