@@ -16,7 +16,6 @@ ghost use Rattle.kernel_calls.specs.StateWorld.{HasNotStopped, IsCounted, IsSoun
 ghost use Rattle.kernel_calls.specs.StateWorld.{StopsAsking};
 ghost use Rattle.kernel_calls.specs.CallResults.{AreAsked, Consults, asked_count, call_in};
 ghost use Rattle.kernel_calls.specs.CallResults.{source_of};
-ghost use Rattle.kernel_calls.specs.declared.state.Served.TheVariants.{Went};
 
 use crate::answering::{refuse_call, reply};
 use crate::piping::{put_out, read_pipe};
@@ -54,10 +53,7 @@ pub(crate) fn read<S: Shim>(
     ensures follows { S.follows shim.old shim.new }
 {
     match source_of(state.table.descriptor(asked.process, asked.a0)) {
-        Some(Source::Input) => match read_input(state, asked, shim) {
-            Ok(()) => Ok(Served::Went),
-            Err(stop) => Err(stop),
-        },
+        Some(Source::Input) => read_input(state, asked, shim),
         Some(Source::Pipe(pipe)) => Ok(read_pipe(state, asked, pipe)),
         None => {
             refuse_call(state, asked.thread, EBADF);
@@ -78,12 +74,12 @@ fn source_of(end: Option<End>) -> Option<Source>
 }
 
 // Bytes of the input.
-fn read_input<S: Shim>(state: &mut State, asked: &Asked, shim: &mut S) -> Result<(), RunStop>
+fn read_input<S: Shim>(state: &mut State, asked: &Asked, shim: &mut S) -> Result<Served, RunStop>
     requires sound { IsSound state.old }
     requires asked { AreAsked state.old asked.now }
     requires told { HasNoEnd (S.state shim.old).told }
-    ensures consults { OnOk result (Consults (read_by (Some Input)) state.old asked.now
-        (S.state shim.old).told (S.state shim.new).told Went state.new) }
+    ensures consults { IfOk result (λ way. Consults (read_by (Some Input)) state.old asked.now
+        (S.state shim.old).told (S.state shim.new).told way state.new) }
     ensures counted { OnOk result (IsCounted state.new) }
     ensures stands { OnErr result (Stands state.old state.new) }
     ensures round { state.new.round ≡ state.old.round }
@@ -96,16 +92,13 @@ fn read_input<S: Shim>(state: &mut State, asked: &Asked, shim: &mut S) -> Result
     let count = asked.a2.min(4096);
     if count == 0 {
         reply(state, asked.thread, 0);
-        return Ok(());
+        return Ok(Served::Went);
     }
     match check(&state.table, asked.thread, asked.a1, count, true) {
-        Ok(()) => match ask_input(state, asked, shim, count) {
-            Ok(()) => Ok(()),
-            Err(stop) => Err(stop),
-        },
+        Ok(()) => ask_input(state, asked, shim, count),
         Err(number) => {
             refuse_call(state, asked.thread, number);
-            Ok(())
+            Ok(Served::Went)
         }
     }
 }
@@ -116,7 +109,7 @@ fn ask_input<S: Shim>(
     asked: &Asked,
     shim: &mut S,
     count: u32,
-) -> Result<(), RunStop>
+) -> Result<Served, RunStop>
     requires sound { IsSound state.old }
     requires asked { AreAsked state.old asked.now }
     requires told { HasNoEnd (S.state shim.old).told }
@@ -125,8 +118,8 @@ fn ask_input<S: Shim>(
     requires reach { (w : World) (s : Held)
         → all_reach (in_world w s state.old.table) asked.now.thread asked.now.a1 count Store
         ≡ true }
-    ensures consults { OnOk result (Consults read_input state.old asked.now
-        (S.state shim.old).told (S.state shim.new).told Went state.new) }
+    ensures consults { IfOk result (λ way. Consults read_input state.old asked.now
+        (S.state shim.old).told (S.state shim.new).told way state.new) }
     ensures counted { OnOk result (IsCounted state.new) }
     ensures stands { OnErr result (Stands state.old state.new) }
     ensures round { state.new.round ≡ state.old.round }
@@ -139,7 +132,7 @@ fn ask_input<S: Shim>(
         Ok(moved) => {
             put_out(&mut state.frames, &state.table, asked, &state.buffer, moved);
             reply(state, asked.thread, moved);
-            Ok(())
+            Ok(Served::Went)
         }
         Err(stop) => Err(run_stop(stop)),
     }

@@ -1,4 +1,5 @@
 use Rattle.std.proofs.Common.{◌≡◌, ℕ, List, Option, Some, IfSome, refl, sym, ap, ◌∙◌}
+use Rattle.std.proofs.lemmas.Result.{IfErr-weaker, IfOk-weaker}
 use Rattle.dos_world.specs.Play.{done}
 use Rattle.dos_world.specs.Services.{went, read, read_by}
 use Rattle.dos_world.specs.declared.End.{End}
@@ -33,21 +34,23 @@ read_pipe-requires-clause-pipe g c =
     (source_end c.descriptor.result (pipe_source c.in-Some-Pipe.pipe)
     (cc (c.in-Some-Pipe.is, c.in-Some-Pipe.field-0-is, c.source_of.ensures)))
 
-pub returns-in-Ok-clause-consults : goal.returns-in-Ok-clause-consults
-returns-in-Ok-clause-consults g c =
-    consults_as read (read_by (Some Input)) c.args.state.now c.args.asked.now
+pub returns-in-Some-Input-clause-consults : goal.returns-in-Some-Input-clause-consults
+returns-in-Some-Input-clause-consults g c =
+    IfOk-weaker c.read_input.result _ _ (λ way. consults_as read (read_by (Some Input))
+    c.args.state.now c.args.asked.now
     (from_source c.args.state.now c.requires.sound c.args.asked.now c.requires.asked
     c.descriptor.result input_source c.descriptor.ensures
     (cc (c.in-Some-Input.is, c.in-Some-Input.field-0-is, c.source_of.ensures)))
-    _ _ _ _ c.in-Ok.ensures.consults
+    _ _ way _) c.read_input.ensures.consults
 
-pub returns-in-Err-clause-asks : goal.returns-in-Err-clause-asks
-returns-in-Err-clause-asks g c =
-    stops_as read (read_by (Some Input)) c.args.state.now c.args.asked.now
+pub returns-in-Some-Input-clause-asks : goal.returns-in-Some-Input-clause-asks
+returns-in-Some-Input-clause-asks g c =
+    IfErr-weaker c.read_input.result _ _ (λ stop. stops_as read (read_by (Some Input))
+    c.args.state.now c.args.asked.now
     (from_source c.args.state.now c.requires.sound c.args.asked.now c.requires.asked
     c.descriptor.result input_source c.descriptor.ensures
     (cc (c.in-Some-Input.is, c.in-Some-Input.field-0-is, c.source_of.ensures)))
-    c.in-Err.stop _ _ c.in-Err.ensures.asks
+    stop _ _) c.read_input.ensures.asks
 
 pub returns-in-Some-Pipe-clause-consults : goal.returns-in-Some-Pipe-clause-consults
 returns-in-Some-Pipe-clause-consults g c =

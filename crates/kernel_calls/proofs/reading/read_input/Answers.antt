@@ -1,4 +1,5 @@
-use Rattle.std.proofs.Common.{◌≡◌, true, false, Some, sym, ap, ◌∙◌}
+use Rattle.std.proofs.Common.{◌≡◌, true, false, Some, sym, subst, ◌∙◌}
+use Rattle.std.proofs.lemmas.Result.{IfErr-weaker, IfOk-weaker}
 use Rattle.dos_world.specs.Kernel.{minus}
 use Rattle.dos_world.specs.Services.{read_by, read_input}
 use Rattle.dos_world.specs.declared.Access.TheVariants.{Store}
@@ -22,23 +23,26 @@ returns-in-Err-clause-consults g c =
     (reached_as read_input Store c.args.state.now c.args.asked.now false
     c.min-count.result c.min-count.ensures c.in-Err.ensures.reach)
     (let is : c.in-Err.number ≡ 14 = cc (c.in-Err.ensures.refusal) in
-    c.refuse_call.ensures.answers
-    ∙ ap (λ n. answering c.args.state.now c.args.asked.now.thread (minus n)) is))
+    subst (λ n. c.refuse_call.new.state
+    ≡ answering c.args.state.now c.args.asked.now.thread (minus n)) is
+    c.refuse_call.ensures.answers))
 
-pub returns-in-Ok-ask_input-clause-consults : goal.returns-in-Ok-ask_input-clause-consults
-returns-in-Ok-ask_input-clause-consults g c =
-    consults_as (read_by (Some Input)) read_input c.args.state.now c.args.asked.now
+pub returns-in-Ok-clause-consults : goal.returns-in-Ok-clause-consults
+returns-in-Ok-clause-consults g c =
+    IfOk-weaker c.ask_input.result _ _ (λ way. consults_as (read_by (Some Input)) read_input
+    c.args.state.now c.args.asked.now
     (does_move read_input Store c.args.state.now c.args.asked.now
     (λ e. c.if-count-eq0.false (c.min-count.ensures ∙ e))
     (reached_as read_input Store c.args.state.now c.args.asked.now true
     c.min-count.result c.min-count.ensures c.in-Ok.ensures.reach))
-    _ _ _ _ c.in-Ok-ask_input.ensures.consults
+    _ _ way _) c.ask_input.ensures.consults
 
-pub returns-in-Err-ask_input-clause-asks : goal.returns-in-Err-ask_input-clause-asks
-returns-in-Err-ask_input-clause-asks g c =
-    stops_as (read_by (Some Input)) read_input c.args.state.now c.args.asked.now
+pub returns-in-Ok-clause-asks : goal.returns-in-Ok-clause-asks
+returns-in-Ok-clause-asks g c =
+    IfErr-weaker c.ask_input.result _ _ (λ stop. stops_as (read_by (Some Input)) read_input
+    c.args.state.now c.args.asked.now
     (does_move read_input Store c.args.state.now c.args.asked.now
     (λ e. c.if-count-eq0.false (c.min-count.ensures ∙ e))
     (reached_as read_input Store c.args.state.now c.args.asked.now true
     c.min-count.result c.min-count.ensures c.in-Ok.ensures.reach))
-    c.in-Err-ask_input.stop _ _ c.in-Err-ask_input.ensures.asks
+    stop _ _) c.ask_input.ensures.asks
