@@ -31,14 +31,14 @@ pub record StopsRun (stop : RunStop) (before : ShimState) (question : Question)
   pub is : shim_stop stop ≡ Some reason
   pub stopped : Stopped before question reason after
 
--- The shim has answered with a list of signals, and the new state's world is the old one's after the
--- signal point, with who waits no longer ready. It is so whatever bytes were sent.
-pub record HasOpened (old : State) (before : ShimState) (new : State) (after : ShimState) : Type 0
-  where
-    pub list : List Post
-    pub answered_is : after ≡ answered before (Signals old.round list)
-    pub begins : (q : ℕ) (o e : List ℕ)
-        → ripen (signalled (sent o e (world_of q old)) list) ≡ sent o e (world_of q new)
+-- The shim has answered with a list of signals. The signal point, and then that who waits no longer
+-- is ready, makes the new state's world of the old one's, whatever bytes were sent.
+pub record HasOpened (old : State) (before : ShimState) (new : State) (after : ShimState) :
+    Type 0 where
+  pub list : List Post
+  pub answered_is : after ≡ answered before (Signals old.round list)
+  pub begins : (q : ℕ) (o e : List ℕ)
+      → ripen (signalled (sent o e (world_of q old)) list) ≡ sent o e (world_of q new)
 
 -- ---- rounds
 

@@ -114,6 +114,45 @@ returns-then-live_threads-eq0-clause-causes g c =
 pub returns-then-live_threads-eq0-clause-follows : goal.returns-then-live_threads-eq0-clause-follows
 returns-then-live_threads-eq0-clause-follows g c = g.met.S.Shim.reflexive c.args.shim.now
 
+pub returns-then-live_threads-eq0-clause-room : goal.returns-then-live_threads-eq0-clause-room
+returns-then-live_threads-eq0-clause-room g c = c.requires.room
+
+pub returns-then-live_threads-eq0-clause-sound : goal.returns-then-live_threads-eq0-clause-sound
+returns-then-live_threads-eq0-clause-sound g c = c.requires.sound
+
+pub returns-then-live_threads-eq0-clause-round : goal.returns-then-live_threads-eq0-clause-round
+returns-then-live_threads-eq0-clause-round g c = refl
+
+pub returns-then-live_threads-eq0-clause-packs : goal.returns-then-live_threads-eq0-clause-packs
+returns-then-live_threads-eq0-clause-packs g c = refl
+
+pub returns-then-live_threads-eq0-clause-count : goal.returns-then-live_threads-eq0-clause-count
+returns-then-live_threads-eq0-clause-count g c = refl
+
+pub returns-then-live_threads-eq0-clause-told : goal.returns-then-live_threads-eq0-clause-told
+returns-then-live_threads-eq0-clause-told g c = c.requires.told
+
+pub returns-then-live_threads-eq0-clause-fixed : goal.returns-then-live_threads-eq0-clause-fixed
+returns-then-live_threads-eq0-clause-fixed g c = refl
+
+pub returns-in-Err-clause-room : goal.returns-in-Err-clause-room
+returns-in-Err-clause-room g c = c.open_round.ensures.room
+
+pub returns-in-Err-clause-packs : goal.returns-in-Err-clause-packs
+returns-in-Err-clause-packs g c = refl
+
+pub returns-in-Err-clause-fixed : goal.returns-in-Err-clause-fixed
+returns-in-Err-clause-fixed g c = refl
+
+pub open_round-requires-clause-sound : goal.open_round-requires-clause-sound
+open_round-requires-clause-sound g c = c.requires.sound
+
+pub open_round-requires-clause-room : goal.open_round-requires-clause-room
+open_round-requires-clause-room g c = c.requires.room
+
+pub open_round-requires-clause-told : goal.open_round-requires-clause-told
+open_round-requires-clause-told g c = c.requires.told
+
 pub returns-in-Err-clause-uncounted : goal.returns-in-Err-clause-uncounted
 returns-in-Err-clause-uncounted g c = c.open_round.ensures.round
 
