@@ -1,3 +1,4 @@
 pub mod Lending
 pub mod Parts
 pub mod Ran
+pub mod Teams

@@ -7,6 +7,7 @@ ghost use lib.ListN.{get_elem?};
 ghost use Rattle.hand_board.specs.Placed.{IsUnderWay};
 ghost use Rattle.hand_board.specs.Seating.{AllFinished};
 ghost use Rattle.worker_pool.specs.Parts.{AreFifo, AreReady, IsSameSeat};
+ghost use Rattle.worker_pool.specs.Teams.{CanWork};
 
 use crate::deques::{Bound, Owner, Thief, deques, search};
 use crate::gate::Gate;
@@ -117,78 +118,117 @@ fn seek<B: Bound, T: Task, G: Gate>(
     seat
 }
 
-// one worker: it goes by the deques, or draws from the board where there are none
-fn work_alone<B: Bound, T: Task, G: Gate>(
-    board: &Board<T>,
+// what all workers of a call are lent
+#[derive(Drop)]
+struct Workshop<'a, B: Bound, T: Task, G> {
+    board: &'a Board<T>,
+    gate: &'a G,
+    thieves: &'a [Thief<B>],
+}
+
+// workers `first`, `first + 1` and so on, with one seat for all
+#[derive(Drop)]
+struct Team<T: Task> {
     seat: BoardSeat<T>,
-    gate: &G,
-    thieves: &[Thief<B>],
-    me: u32,
+    first: u32,
+    workers: u32,
+}
+
+// two teams of one that has two workers at least: the first half, rounded down, and the others
+fn halves<B: Bound, T: Task>(board: &Board<T>, team: Team<T>) -> (Team<T>, Team<T>)
+    requires can { CanWork T.ready B.bound board.now team }
+    requires two { 2 ≤ team.workers }
+    ensures left { CanWork T.ready B.bound board.now result.0 }
+    ensures right { CanWork T.ready B.bound board.now result.1 }
+    ensures fewer { (result.0.workers < team.workers) × (result.1.workers < team.workers) }
+    ensures opened { result.0.seat.opened ≡ team.seat.opened }
+    ensures share { result.0.seat.share + result.1.seat.share ≡ team.seat.share }
+{
+    let Team {
+        seat,
+        first,
+        workers,
+    } = team;
+    let half = workers / 2;
+    let (left, right) = board.split(seat);
+    (
+        Team {
+            seat: left,
+            first,
+            workers: half,
+        },
+        Team {
+            seat: right,
+            first: first + half,
+            workers: workers - half,
+        },
+    )
+}
+
+// the first deques, which are so many workers' own, and the rest
+fn deal_out<B: Bound>(owners: &mut [Owner<B>], workers: u32) -> (&mut [Owner<B>], &mut [Owner<B>])
+    requires { AreFifo owners.old }
+    ensures first { AreFifo result.0.now }
+    ensures rest { AreFifo result.1.now }
+{
+    let cut = owners.len().min(workers as usize);
+    owners.split_at_mut(cut)
+}
+
+// a team of one worker: it goes by the deques, or draws from the board where there are none
+fn work_alone<B: Bound, T: Task, G: Gate>(
+    shop: &Workshop<'_, B, T, G>,
+    team: Team<T>,
     own: &mut [Owner<B>],
 ) -> BoardSeat<T>
-    requires board { seat.board ≡ board.now.id }
-    requires free { seat.hand ≡ [] }
-    requires ready { AreReady T.ready seat.opened }
-    requires bound { B.bound ≤ length board.now.opened }
+    requires can { CanWork T.ready B.bound shop.now.board.now team }
     requires own { AreFifo own.old }
-    ensures same { IsSameSeat seat result }
+    ensures same { IsSameSeat team.seat result }
     ensures free { result.hand ≡ [] }
 {
-    if thieves.is_empty() {
-        sweep(board, seat, gate)
+    let Team {
+        seat,
+        first: me,
+        workers: _,
+    } = team;
+    if shop.thieves.is_empty() {
+        sweep(shop.board, seat, shop.gate)
     } else {
-        seek(board, seat, gate, thieves, me, own)
+        seek(shop.board, seat, shop.gate, shop.thieves, me, own)
     }
 }
 
-// workers `first`, `first + 1` and so on, each in a thread of its own; the first deques left in
-// `owners` are theirs
+// the workers of a team, each in a thread of its own; the first deques left in `owners` are theirs
 fn work<B: Bound + Send + Sync, T: Task + Send + Sync, R: Threads + Sync, G: Gate + Sync>(
     rt: &R,
-    board: &Board<T>,
-    seat: BoardSeat<T>,
-    gate: &G,
-    thieves: &[Thief<B>],
-    first: u32,
-    workers: u32,
+    shop: &Workshop<'_, B, T, G>,
+    team: Team<T>,
     owners: &mut [Owner<B>],
 ) -> BoardSeat<T>
-    requires board { seat.board ≡ board.now.id }
-    requires free { seat.hand ≡ [] }
-    requires ready { AreReady T.ready seat.opened }
-    requires share { workers ≤ seat.share }
-    requires bound { B.bound ≤ length board.now.opened }
+    requires can { CanWork T.ready B.bound shop.now.board.now team }
     requires owners { AreFifo owners.old }
-    requires few { first + workers ≤ 32 }
-    ensures same { IsSameSeat seat result }
+    ensures same { IsSameSeat team.seat result }
     ensures free { result.hand ≡ [] }
 {
-    if workers <= 1 {
-        return work_alone(board, seat, gate, thieves, first, owners);
+    if team.workers <= 1 {
+        return work_alone(shop, team, owners);
     }
-    let half = workers / 2;
-    let more = workers - half;
-    let next = first + half;
-    let (left, right) = board.split(seat);
-    let cut = owners.len().min(half as usize);
-    let (mine, theirs) = owners.split_at_mut(cut);
+    let (left, right) = halves::<B, T>(shop.board, team);
+    let (mine, theirs) = deal_out(owners, left.workers);
     let (left, right) = join(
         rt,
         move || -> BoardSeat<T>
-            requires { IsSync R.row × IsSync G.row × (left.board ≡ board.now.id) × (left.hand ≡ [])
-                × AreReady T.ready left.opened × (half ≤ left.share)
-                × (B.bound ≤ length board.now.opened) × AreFifo mine.now × (first + half ≤ 32) }
-            ensures { IsSameSeat left result × (result.hand ≡ []) }
-        { work(rt, board, left, gate, thieves, first, half, mine) },
+            requires { IsSync R.row × IsSync G.row × CanWork T.ready B.bound shop.now.board.now left
+                × AreFifo mine.now }
+            ensures { IsSameSeat left.seat result × (result.hand ≡ []) }
+        { work(rt, shop, left, mine) },
         move || -> BoardSeat<T>
-            requires { IsSync R.row × IsSync G.row × (right.board ≡ board.now.id)
-                × (right.hand ≡ []) × AreReady T.ready right.opened × (more ≤ right.share)
-                × (B.bound ≤ length board.now.opened) × AreFifo theirs.now
-                × (next + more ≤ 32) }
-            ensures { IsSameSeat right result × (result.hand ≡ []) }
-        { work(rt, board, right, gate, thieves, next, more, theirs) },
+            requires { IsSync R.row × IsSync G.row
+                × CanWork T.ready B.bound shop.now.board.now right × AreFifo theirs.now }
+            ensures { IsSameSeat right.seat result × (result.hand ≡ []) }
+        { work(rt, shop, right, theirs) },
     );
-    board.join(left, right)
+    shop.board.join(left, right)
 }
 
 // all workers, with so many deques, into which the numbers are dealt
@@ -211,16 +251,17 @@ fn work_all<B: Bound + Send + Sync, T: Task + Send + Sync, R: Threads + Sync, G:
     ensures free { result.hand ≡ [] }
 {
     let (mut owners, thieves) = deques::<B>(alloc, board.count(), lanes);
-    work(
-        rt,
+    let shop = Workshop {
         board,
-        seat,
         gate,
-        thieves.as_slice(),
-        0,
+        thieves: thieves.as_slice(),
+    };
+    let team = Team {
+        seat,
+        first: 0,
         workers,
-        owners.as_mut_slice(),
-    )
+    };
+    work(rt, &shop, team, owners.as_mut_slice())
 }
 
 /// Runs each part over a board, by `workers` threads, from 1 to 32, the caller's among them. Where

@@ -147,6 +147,27 @@ pub fn run_in_place<G: Gate>(gate: &G, packs: &mut Vec<Pack>, view: &View<'_>)
     }
 }
 
+// on so many threads with an even part each
+fn run_evenly<R: Threads + Sync, G: Gate + Sync>(
+    rt: &R,
+    threads: u32,
+    gate: &G,
+    packs: &mut [Pack],
+    view: &View<'_>,
+)
+    requires threads { 0 < threads }
+    requires count { length packs.old < 2 ^ 32 }
+    requires can { AllRunnable (seen view.now) packs.old }
+    ensures number { length packs.new ≡ length packs.old }
+    ensures each { EachRan (seen view.now) packs.old packs.new }
+{
+    let run = |number: usize, pack: &mut Pack|
+        requires { (number < 2 ^ 32) × CanRun pack.now (seen view.now) }
+        ensures { HasRun (seen view.entry.now) pack.entry.now pack.exit.now }
+    { run_gated(gate, number, pack, view) };
+    thread::for_each_mut(rt, packs, threads as usize, &run);
+}
+
 // on threads with an even part each: with one worker, or one pack, or few instructions of late, on
 // the caller's own
 fn run_spread<R: Threads + Sync, G: Gate + Sync>(
@@ -160,14 +181,8 @@ fn run_spread<R: Threads + Sync, G: Gate + Sync>(
     ensures each { EachRan (seen view.now) packs.old.items packs.new.items }
     ensures room { vec_capacity packs.new ≡ vec_capacity packs.old }
 {
-    let gate = hands.gate;
     let workers = hands.enough_for(packs.len());
-    thread::for_each_mut(
-        hands.rt,
-        packs.as_mut_slice(),
-        workers as usize,
-        &|number, pack| run_gated(gate, number, pack, view),
-    );
+    run_evenly(hands.rt, workers, hands.gate, packs.as_mut_slice(), view);
 }
 
 // as many deques as workers where they steal from one another, else none

@@ -1,4 +1,4 @@
-use Rattle.std.proofs.Common.{length, sym, subst, ap, arith, List}
+use Rattle.std.proofs.Common.{◌∙◌, length, sym, subst, ap, arith, List}
 use Rattle.quantum_run.specs.Packs.{seen}
 use Rattle.quantum_run.specs.Shows.{Pack}
 use Rattle.worker_pool.specs.Lending.{packs_of, IsFinished}
@@ -33,3 +33,23 @@ returns-in-Ok-run_each-clause-number g c =
     let n = ap (λ (l : List Pack). length l) c.take_back.ensures.packs in
     let m = packs-length c.in-Ok-run_each.lent.items in
     omega arith
+
+-- where the board isn't made the packs are as they were
+pub run_spread-requires-in-Err-clause-can : goal.run_spread-requires-in-Err-clause-can
+run_spread-requires-in-Err-clause-can g c κs within =
+    let same = c.take_back-in-Err.ensures.packs ∙ ap packs_of c.in-Err.ensures.err.0
+    ∙ c.lend.ensures.packs in
+    subst (AllRunnable (seen c.args.view.now)) (sym same) c.requires.can
+
+pub returns-in-Err-clause-each : goal.returns-in-Err-clause-each
+returns-in-Err-clause-each g c =
+    let same = c.take_back-in-Err.ensures.packs ∙ ap packs_of c.in-Err.ensures.err.0
+    ∙ c.lend.ensures.packs in
+    subst (λ (l : List Pack). EachRan (seen c.args.view.now) l c.run_spread-in-Err.new.packs.items)
+    same c.run_spread-in-Err.ensures.each
+
+pub returns-in-Err-clause-number : goal.returns-in-Err-clause-number
+returns-in-Err-clause-number g c =
+    let same = c.take_back-in-Err.ensures.packs ∙ ap packs_of c.in-Err.ensures.err.0
+    ∙ c.lend.ensures.packs in
+    c.run_spread-in-Err.ensures.number ∙ ap (λ (l : List Pack). length l) same
