@@ -26,17 +26,22 @@ left shows r after answer (loads address size next) settles = absurd settles
 left shows r after answer (stores address size value r') settles = absurd settles
 left shows r after answer (claims address next new) settles = absurd settles
 
-module _ (form : Form) (op : Op) (is : form.op ≡ op) {Fixed : Type 0} (pc : ℕ)
-    (r after : Registers) (next : Next) (why : Reason) where
-  pub performed : (old new : Fixed → ℕ → World → Type 0)
+module _ (form : Form) (op : Op) (is : form.op ≡ op) (pc : ℕ) (r after : Registers) (next : Next)
+    (why : Reason) where
+  pub settles : SettlesAt pc next why r after (effect_of_op op form)
+      → SettlesAt pc next why r after (effect_of_form form)
+  settles does =
+      subst (λ (o : Op). SettlesAt pc next why r after (effect_of_op o form)) (sym is) does
+
+  pub performed : {Fixed : Type 0} (old new : Fixed → ℕ → World → Type 0)
       → PerformsAt old new pc r after next why (effect_of_op op form)
       → PerformsAt old new pc r after next why (effect_of_form form)
   performed old new does =
       subst (λ (o : Op). PerformsAt old new pc r after next why (effect_of_op o form)) (sym is) does
 
-  pub settled : (shows : Fixed → ℕ → World → Type 0)
+  pub settled : {Fixed : Type 0} (shows : Fixed → ℕ → World → Type 0)
       → SettlesAt pc next why r after (effect_of_op op form)
       → PerformsAt shows shows pc r after next why (effect_of_form form)
-  settled shows settles =
+  settled shows does =
       performed shows shows (left shows (with_pc r pc) (arrived after pc next) (went next why)
-      (effect_of_op op form (with_pc r pc)) settles)
+      (effect_of_op op form (with_pc r pc)) does)

@@ -4,6 +4,7 @@ pub mod Step
 pub mod Over
 pub mod Follows
 pub mod Instruction
+pub mod Kinds
 pub mod Runs
 pub mod Blind
 pub mod OnePage
