@@ -17,12 +17,7 @@ use rv_isa::{AmoOp, BranchOp, ImmOp, LoadOp, RegOp, ShiftOp, StoreOp};
 /// A load or store by its form.
 #[inline(always)]
 #[tactic(auto, unfolding(crate::specs::Effect::effect, rv_form::specs::Forms::instr_of))]
-fn access_by_form<M: Memory>(
-    regs: &mut Regs,
-    memory: &mut M,
-    form: &Form,
-    why: &mut Reason,
-) -> Next
+fn access_by_form<M: Memory>(regs: &mut Regs, memory: &mut M, form: &Form, why: &mut Reason) -> Next
     requires { IsAccess form.now.op }
     ensures { (pc : ℕ) → PerformsAt (M.shows memory.old) (M.shows memory.new) pc regs.old regs.new
         result why.new (effect_of_form form.now) }
@@ -43,12 +38,7 @@ fn access_by_form<M: Memory>(
 /// An AMO by its form.
 #[inline(always)]
 #[tactic(auto, unfolding(crate::specs::Effect::effect, rv_form::specs::Forms::instr_of))]
-fn amo_by_form<M: Memory>(
-    regs: &mut Regs,
-    memory: &mut M,
-    form: &Form,
-    why: &mut Reason,
-) -> Next
+fn amo_by_form<M: Memory>(regs: &mut Regs, memory: &mut M, form: &Form, why: &mut Reason) -> Next
     requires { IsAmo form.now.op }
     ensures { (pc : ℕ) → PerformsAt (M.shows memory.old) (M.shows memory.new) pc regs.old regs.new
         result why.new (effect_of_form form.now) }
@@ -181,14 +171,8 @@ pub fn perform_form<M: Memory>(
         | Op::Sra
         | Op::Or
         | Op::And => register_by_form(regs, form),
-        Op::Mul
-        | Op::Mulh
-        | Op::Mulhsu
-        | Op::Mulhu
-        | Op::Div
-        | Op::Divu
-        | Op::Rem
-        | Op::Remu => multiply_by_form(regs, form),
+        Op::Mul | Op::Mulh | Op::Mulhsu | Op::Mulhu | Op::Div | Op::Divu | Op::Rem | Op::Remu =>
+            multiply_by_form(regs, form),
         Op::Fence => Next::On,
         Op::Ecall => service(why),
         Op::Ebreak => fault(why, 5),
