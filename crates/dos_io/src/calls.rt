@@ -7,7 +7,7 @@ use std::marker::Model;
 
 /// The calls of an object in memory: the numbers of those that are to fail, and how many were made
 /// and failed.
-#[derive(Debug, Drop)]
+#[derive(Drop)]
 pub(crate) struct Calls {
     failing: Vec<u32>,
     made: u64,

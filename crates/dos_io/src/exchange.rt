@@ -57,7 +57,7 @@ pub enum Exchange {
 }
 
 /// Where the readings of a clock come from.
-#[derive(Clone, Copy, Debug, PartialEq, Eq)]
+#[derive(Clone, Copy)]
 pub enum ClockRule {
     /// Each reading is the host's.
     FromHost,

@@ -13,7 +13,7 @@ use std::marker::Model;
 
 /// A sink in memory. It fails at the calls whose numbers it is given, and where a piece is longer
 /// than the room that is left, and at no other call.
-#[derive(Debug, Drop)]
+#[derive(Drop)]
 pub struct MemorySink {
     bytes: Vec<u8>,
     room: usize,

@@ -13,7 +13,7 @@ use std::marker::Model;
 
 /// A host in memory. Its input comes in pieces of one size, the last one perhaps shorter. It fails
 /// at the calls whose numbers it is given, and where no reading is left, and at no other call.
-#[derive(Debug, Drop)]
+#[derive(Drop)]
 pub struct MemoryHost {
     input: Vec<u8>,
     given: usize,

@@ -5,7 +5,7 @@ ghost use Rattle.dos_io.specs.Outside.{grown, GrewByFront, HasCause};
 use thiserror::Error;
 
 /// A sink did not take the whole of a piece.
-#[derive(Clone, Copy, Debug, PartialEq, Eq, Hash, Error)]
+#[derive(Clone, Copy, Debug, PartialEq, Eq, Error)]
 #[error("the write failed")]
 pub struct SinkFault;
 

@@ -27,7 +27,7 @@ pub fn ending_status(ending: Ending) -> u8
 }
 
 /// Why a call came to no report. Images are counted from 1, in the order of the words.
-#[derive(Clone, Copy, Debug, PartialEq, Eq)]
+#[derive(Clone, Copy, PartialEq, Eq)]
 pub enum Refusal {
     /// The words ask for nothing.
     Words,

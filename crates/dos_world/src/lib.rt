@@ -24,7 +24,7 @@ pub enum Access {
 }
 
 /// How much an access takes.
-#[derive(Clone, Copy, Debug, PartialEq, Eq)]
+#[derive(Clone, Copy)]
 pub enum Size {
     /// 8 bits.
     Byte,
@@ -96,7 +96,7 @@ pub enum Reason {
 }
 
 /// A signal, 1 to 31, for the process of this number.
-#[derive(Clone, Copy, Debug, PartialEq, Eq)]
+#[derive(Clone, Copy, PartialEq, Eq)]
 pub struct Post {
     pub pid: u32,
     pub signal: u8,

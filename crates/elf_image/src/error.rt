@@ -5,7 +5,7 @@ use thiserror::Error;
 
 /// Why a file was refused. The first fourteen are tested in this order, and the first that holds is
 /// answered.
-#[derive(Clone, Copy, Debug, PartialEq, Eq, Hash, Error)]
+#[derive(Clone, Copy, Debug, PartialEq, Eq, Error)]
 pub enum ImageError {
     /// The file has fewer than 52 bytes, so it has no file header.
     Short,

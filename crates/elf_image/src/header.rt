@@ -27,7 +27,7 @@ const LOWEST: u32 = 0x1000;
 const STACK: u64 = 0xEFFF_0000;
 
 /// One entry of the table of program headers, with its index there.
-#[derive(Clone, Copy, Debug, Default)]
+#[derive(Clone, Copy, Default)]
 pub struct Header {
     /// Its index in the table, from 0 on.
     pub index: u32,

@@ -5,7 +5,7 @@ ghost use Rattle.std.specs.Prelude.{◌≡◌, ◌==◌, length};
 use std::marker::Model;
 
 /// Owned bytes.
-#[derive(Debug, Drop)]
+#[derive(Drop)]
 pub struct Bytes {
     items: Vec<u8>,
 }
@@ -49,7 +49,7 @@ impl Bytes {
 }
 
 /// A stretch of memory that an image begins with: bytes of the file at an address, then zeros.
-#[derive(Debug, Drop)]
+#[derive(Drop)]
 pub struct Part {
     /// The address of its first byte.
     pub address: u32,
@@ -66,7 +66,7 @@ pub struct Part {
 }
 
 /// The parts of an image.
-#[derive(Debug, Drop)]
+#[derive(Drop)]
 pub struct Parts {
     items: Vec<Part>,
 }

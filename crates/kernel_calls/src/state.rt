@@ -36,7 +36,7 @@ pub(crate) struct Asked {
 }
 
 /// How a service leaves its thread.
-#[derive(Clone, Copy, Debug, PartialEq, Eq)]
+#[derive(Clone, Copy)]
 pub enum Served {
     /// It goes on.
     Went,

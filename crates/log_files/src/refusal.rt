@@ -3,7 +3,7 @@
 use shim_log::LogError;
 
 /// Why a log isn't replayed with the images of a call.
-#[derive(Clone, Copy, Debug, PartialEq, Eq)]
+#[derive(Clone, Copy, PartialEq, Eq)]
 pub enum LogRefusal {
     /// Its file is longer than 67108864 bytes (64 MiB).
     TooLong,
@@ -16,7 +16,7 @@ pub enum LogRefusal {
 }
 
 /// Why there is no log of a file.
-#[derive(Clone, Copy, Debug, PartialEq, Eq)]
+#[derive(Clone, Copy)]
 pub enum LoadError {
     /// The file is refused.
     Log(LogRefusal),

@@ -3,10 +3,12 @@
 use rv_isa::{AmoOp, BranchOp, ImmOp, Instr, LoadOp, RegOp, ShiftOp, StoreOp, decode, encode};
 use std::process::Abort;
 
+// What a word is decoded to is seen by its word: no two valid instructions have the same one.
 fn both_ways(rt: &impl Abort, word: u32, instr: Instr) {
-    assert_eq!(rt; decode(word), Some(instr), "decoding {word}");
     assert!(rt; instr.is_valid());
     assert_eq!(rt; encode(&instr), word, "encoding {word}");
+    let decoded = decode(word).expect(rt, "a word of the table");
+    assert_eq!(rt; encode(&decoded), word, "decoding {word}");
 }
 
 #[test]
@@ -260,6 +262,6 @@ fn words_without_a_meaning(rt: HostRuntime) {
         0x41f2_9393,
         0x0062_a063,
     ] {
-        assert_eq!(rt; decode(word), None, "decoding {word}");
+        assert!(rt; decode(word).is_none(), "decoding {word}");
     }
 }

@@ -3,13 +3,13 @@
 use rv_isa::BranchOp;
 
 /// A place in the code, by its number among the labels of its builder, which counts from 0.
-#[derive(Clone, Copy, Debug, PartialEq, Eq)]
+#[derive(Clone, Copy)]
 pub struct Label {
     pub number: u32,
 }
 
 /// What a word is made of. Labels go by their numbers, and registers are below 32.
-#[derive(Clone, Copy, Debug, PartialEq, Eq)]
+#[derive(Clone, Copy)]
 pub enum Item {
     /// The word itself.
     Word(u32),

@@ -2,7 +2,7 @@
 ghost use Rattle.std.specs.Prelude.{◌≡◌, ◌<◌};
 
 /// What an instruction does, over all opcodes.
-#[derive(Clone, Copy, Debug, PartialEq, Eq)]
+#[derive(Clone, Copy)]
 pub enum Op {
     /// No instruction.
     Illegal,
@@ -69,7 +69,7 @@ pub enum Op {
 
 /// An instruction with the fields of its word. A field that the operation doesn't use is any
 /// number.
-#[derive(Clone, Copy, Debug, PartialEq, Eq)]
+#[derive(Clone, Copy)]
 pub struct Form {
     pub op: Op,
     pub rd: u8,

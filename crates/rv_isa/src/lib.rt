@@ -22,7 +22,7 @@ pub use groups::{
 };
 
 /// The conditional branches, opcode 0x63.
-#[derive(Clone, Copy, Debug, PartialEq, Eq)]
+#[derive(Clone, Copy)]
 pub enum BranchOp {
     Beq,
     Bne,
@@ -33,7 +33,7 @@ pub enum BranchOp {
 }
 
 /// The loads, opcode 0x03.
-#[derive(Clone, Copy, Debug, PartialEq, Eq)]
+#[derive(Clone, Copy)]
 pub enum LoadOp {
     Lb,
     Lh,
@@ -43,7 +43,7 @@ pub enum LoadOp {
 }
 
 /// The stores, opcode 0x23.
-#[derive(Clone, Copy, Debug, PartialEq, Eq)]
+#[derive(Clone, Copy)]
 pub enum StoreOp {
     Sb,
     Sh,
@@ -51,7 +51,7 @@ pub enum StoreOp {
 }
 
 /// The operations on a register and a signed immediate, opcode 0x13.
-#[derive(Clone, Copy, Debug, PartialEq, Eq)]
+#[derive(Clone, Copy)]
 pub enum ImmOp {
     Addi,
     Slti,
@@ -62,7 +62,7 @@ pub enum ImmOp {
 }
 
 /// The shifts by a constant, opcode 0x13 too.
-#[derive(Clone, Copy, Debug, PartialEq, Eq)]
+#[derive(Clone, Copy)]
 pub enum ShiftOp {
     Slli,
     Srli,
@@ -70,7 +70,7 @@ pub enum ShiftOp {
 }
 
 /// What a word with the opcode 0x13 does.
-#[derive(Clone, Copy, Debug, PartialEq, Eq)]
+#[derive(Clone, Copy)]
 pub enum Arithmetic {
     /// On rs1 and the immediate of the format I.
     Plain(ImmOp),
@@ -79,7 +79,7 @@ pub enum Arithmetic {
 }
 
 /// The operations on two registers, opcode 0x33: those of RV32I and then those of M.
-#[derive(Clone, Copy, Debug, PartialEq, Eq)]
+#[derive(Clone, Copy)]
 pub enum RegOp {
     Add,
     Sub,
@@ -102,7 +102,7 @@ pub enum RegOp {
 }
 
 /// The atomic operations of A on a word, opcode 0x2F.
-#[derive(Clone, Copy, Debug, PartialEq, Eq)]
+#[derive(Clone, Copy)]
 pub enum AmoOp {
     LrW,
     ScW,
@@ -118,14 +118,14 @@ pub enum AmoOp {
 }
 
 /// The two calls out of the program, opcode 0x73.
-#[derive(Clone, Copy, Debug, PartialEq, Eq)]
+#[derive(Clone, Copy)]
 pub enum SystemOp {
     Ecall,
     Ebreak,
 }
 
 /// An instruction with its fields. `rd`, `rs1` and `rs2` number registers.
-#[derive(Clone, Copy, Debug, PartialEq, Eq)]
+#[derive(Clone, Copy)]
 pub enum Instr {
     /// auipc, or lui. `imm` is the number itself, its low 12 bits 0.
     Upper {
