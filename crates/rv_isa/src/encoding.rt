@@ -1,6 +1,8 @@
 // From an instruction to its word: the six formats, and the codes of each operation.
 ghost use Rattle.std.specs.Prelude.{◌≡◌, ◌<◌, ◌^◌, ◌%◌};
 ghost use Rattle.rv_isa.specs.Encoding as words;
+ghost use Rattle.rv_isa.specs.declared.Instr.TheVariants.{Upper, Jal, Jalr, Branch, Load, Store, Imm};
+ghost use Rattle.rv_isa.specs.declared.Instr.TheVariants.{Shift, Reg, Amo, Fence};
 ghost use Rattle.rv_isa.specs.Meaning.{meaning};
 ghost use Rattle.rv_isa.specs.Valid.{IsValid, IsImmediate, IsBranchOffset, IsJumpOffset};
 
@@ -232,44 +234,121 @@ fn amo_funct7(op: AmoOp, aq: bool, rl: bool) -> u32
     (amo_funct5(op) << 2) + (u32::from(aq) << 1) + u32::from(rl)
 }
 
+// ---- the word of each kind of instruction
+
+fn upper(auipc: bool, rd: u8, imm: u32) -> u32
+    requires { IsValid (Upper auipc rd imm) }
+    ensures { result ≡ words.encoding (Upper auipc rd imm) }
+{
+    let opcode = if auipc { 0x17 } else { 0x37 };
+    u_type(opcode, rd, imm)
+}
+
+fn jal(rd: u8, offset: i32) -> u32
+    requires { IsValid (Jal rd offset) }
+    ensures { result ≡ words.encoding (Jal rd offset) }
+{
+    j_type(0x6f, rd, jump_bits(offset))
+}
+
+fn jalr(rd: u8, rs1: u8, offset: i32) -> u32
+    requires { IsValid (Jalr rd rs1 offset) }
+    ensures { result ≡ words.encoding (Jalr rd rs1 offset) }
+{
+    i_type(0x67, 0, rd, rs1, immediate_bits(offset))
+}
+
+fn branch(op: BranchOp, rs1: u8, rs2: u8, offset: i32) -> u32
+    requires { IsValid (Branch op rs1 rs2 offset) }
+    ensures { result ≡ words.encoding (Branch op rs1 rs2 offset) }
+{
+    b_type(0x63, branch_funct3(op), rs1, rs2, branch_bits(offset))
+}
+
+fn load(op: LoadOp, rd: u8, rs1: u8, offset: i32) -> u32
+    requires { IsValid (Load op rd rs1 offset) }
+    ensures { result ≡ words.encoding (Load op rd rs1 offset) }
+{
+    i_type(0x03, load_funct3(op), rd, rs1, immediate_bits(offset))
+}
+
+fn store(op: StoreOp, rs1: u8, rs2: u8, offset: i32) -> u32
+    requires { IsValid (Store op rs1 rs2 offset) }
+    ensures { result ≡ words.encoding (Store op rs1 rs2 offset) }
+{
+    s_type(0x23, store_funct3(op), rs1, rs2, immediate_bits(offset))
+}
+
+fn arithmetic(op: ImmOp, rd: u8, rs1: u8, imm: i32) -> u32
+    requires { IsValid (Imm op rd rs1 imm) }
+    ensures { result ≡ words.encoding (Imm op rd rs1 imm) }
+{
+    i_type(0x13, imm_funct3(op), rd, rs1, immediate_bits(imm))
+}
+
+fn shift(op: ShiftOp, rd: u8, rs1: u8, amount: u8) -> u32
+    requires { IsValid (Shift op rd rs1 amount) }
+    ensures { result ≡ words.encoding (Shift op rd rs1 amount) }
+{
+    r_type(0x13, shift_funct3(op), shift_funct7(op), rd, rs1, amount)
+}
+
+fn register(op: RegOp, rd: u8, rs1: u8, rs2: u8) -> u32
+    requires { IsValid (Reg op rd rs1 rs2) }
+    ensures { result ≡ words.encoding (Reg op rd rs1 rs2) }
+{
+    r_type(0x33, reg_funct3(op), reg_funct7(op), rd, rs1, rs2)
+}
+
+fn amo(op: AmoOp, rd: u8, rs1: u8, rs2: u8, aq: bool, rl: bool) -> u32
+    requires { IsValid (Amo op rd rs1 rs2 aq rl) }
+    ensures { result ≡ words.encoding (Amo op rd rs1 rs2 aq rl) }
+{
+    r_type(0x2f, 2, amo_funct7(op, aq, rl), rd, rs1, rs2)
+}
+
+fn fence(fetch: bool, rd: u8, rs1: u8, imm: u16) -> u32
+    requires { IsValid (Fence fetch rd rs1 imm) }
+    ensures { result ≡ words.encoding (Fence fetch rd rs1 imm) }
+{
+    i_type(0x0f, u32::from(fetch), rd, rs1, u32::from(imm))
+}
+
 fn by_format(instr: &Instr) -> u32
     requires { IsValid instr.now }
     ensures { result ≡ words.encoding instr.now }
 {
-    match *instr {
-        Instr::Upper { auipc, rd, imm } => u_type(if auipc { 0x17 } else { 0x37 }, rd, imm),
-        Instr::Jal { rd, offset } => j_type(0x6f, rd, jump_bits(offset)),
-        Instr::Jalr { rd, rs1, offset } => i_type(0x67, 0, rd, rs1, immediate_bits(offset)),
+    let instr = *instr;
+    match instr {
+        Instr::Upper { auipc, rd, imm } => upper(auipc, rd, imm),
+        Instr::Jal { rd, offset } => jal(rd, offset),
+        Instr::Jalr { rd, rs1, offset } => jalr(rd, rs1, offset),
         Instr::Branch {
             op,
             rs1,
             rs2,
             offset,
-        } => b_type(0x63, branch_funct3(op), rs1, rs2, branch_bits(offset)),
+        } => branch(op, rs1, rs2, offset),
         Instr::Load {
             op,
             rd,
             rs1,
             offset,
-        } => i_type(0x03, load_funct3(op), rd, rs1, immediate_bits(offset)),
+        } => load(op, rd, rs1, offset),
         Instr::Store {
             op,
             rs1,
             rs2,
             offset,
-        } => s_type(0x23, store_funct3(op), rs1, rs2, immediate_bits(offset)),
-        Instr::Imm { op, rd, rs1, imm } => {
-            i_type(0x13, imm_funct3(op), rd, rs1, immediate_bits(imm))
-        }
+        } => store(op, rs1, rs2, offset),
+        Instr::Imm { op, rd, rs1, imm } => arithmetic(op, rd, rs1, imm),
         Instr::Shift {
             op,
             rd,
             rs1,
             amount,
-        } => r_type(0x13, shift_funct3(op), shift_funct7(op), rd, rs1, amount),
-        Instr::Reg { op, rd, rs1, rs2 } => {
-            r_type(0x33, reg_funct3(op), reg_funct7(op), rd, rs1, rs2)
-        }
+        } => shift(op, rd, rs1, amount),
+        Instr::Reg { op, rd, rs1, rs2 } => register(op, rd, rs1, rs2),
         Instr::Amo {
             op,
             rd,
@@ -277,13 +356,13 @@ fn by_format(instr: &Instr) -> u32
             rs2,
             aq,
             rl,
-        } => r_type(0x2f, 2, amo_funct7(op, aq, rl), rd, rs1, rs2),
+        } => amo(op, rd, rs1, rs2, aq, rl),
         Instr::Fence {
             fetch,
             rd,
             rs1,
             imm,
-        } => i_type(0x0f, u32::from(fetch), rd, rs1, u32::from(imm)),
+        } => fence(fetch, rd, rs1, imm),
         Instr::Ecall => 0x0000_0073,
         Instr::Ebreak => 0x0010_0073,
     }
