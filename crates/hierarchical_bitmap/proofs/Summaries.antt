@@ -346,3 +346,29 @@ lowest-none count places words groups l none =
       | inr past ↦ get_or_past (bits count places) k false
           (omega (arith, past, length-bits count places))
     ])
+
+-- ---- every number of a word, and every place, is below 2^32
+
+pub lengths-few : (count : ℕ) (places words groups : List ℕ) → AreLevels count places words groups
+    → (length places < 2 ^ 32) × (length words < 2 ^ 32) × (length groups < 2 ^ 32)
+lengths-few count places words groups l = (
+  omega (arith, l.few, l.places_are),
+  omega (arith, l.few, l.places_are, l.words_are),
+  omega (arith, l.few, l.places_are, l.words_are, l.groups_are),
+)
+
+pub few-within : (xs seen : List ℕ) (i : ℕ) → seen ≡ xs → length xs < 2 ^ 32 → i < length seen
+    → i < 2 ^ 32
+few-within xs seen i is few within = omega (arith, ap (λ (ys : List ℕ). length ys) is, few, within)
+
+pub few-some : (xs seen : List ℕ) (i : ℕ) → seen ≡ xs → length xs < 2 ^ 32 → 0 < get_or seen i 0
+    → i < 2 ^ 32
+few-some xs seen i is few some = few-within xs seen i is few (elim (cases_lt i (length seen)) [
+  | inl within ↦ within
+  | inr past ↦ absurd (omega (arith, some, get_or_past seen i 0 past))
+])
+
+pub few-lowest : (count place : ℕ) (places words groups : List ℕ)
+    → AreLevels count places words groups → IsLowest places place → place < 2 ^ 32
+few-lowest count place places words groups l low =
+    omega (arith, l.few, (lowest-place count place places words groups l low).0)
