@@ -7,7 +7,7 @@ use Rattle.std.specs.List.{insert, remove}
 use Rattle.std.specs.List.Sorted.{IsSearchInRange, IsBinarySearchResult, IsNonDecreasingBy}
 use Rattle.std.specs.Ordering.{nat_cmp, ordering_index}
 use Rattle.std.proofs.lemmas.Cmp.{ranked}
-use Rattle.std.proofs.lemmas.List.{length-map, get_or-map}
+use Rattle.std.proofs.lemmas.List.{length-map, length-set, get_or-map}
 use Rattle.std.proofs.lemmas.List.Sorted.{IsNonDecreasingBy-from_default}
 use Rattle.std.proofs.lemmas.List.Edits.{length-insert, get_or-insert_below, get_or-insert_at}
 use Rattle.std.proofs.lemmas.List.Edits.{get_or-insert_above, length-remove, get_or-remove_below}
@@ -297,6 +297,22 @@ kept-shared page count es new room capacity same k e c = record {
   taken = omega (arith, k.taken);
   few = k.few;
 }
+
+-- the page's entry changed in its place
+pub kept-set : (es : List (ℕ × Entry)) (room capacity page place : ℕ) (entry : Entry)
+    → IsKept es room capacity → IsAt es page place → IsKept (set es place (page, entry)) room capacity
+kept-set es room capacity page place entry k at = record {
+  rising = subst Rises (sym (set-replaced es page place entry k.rising at))
+      (rises-map (replaced page entry) (λ x. refl) es k.rising);
+  fits = omega (arith, length-set es place (page, entry), k.fits);
+  taken = k.taken;
+  few = k.few;
+}
+
+-- where the search found the page, in the entries themselves
+pub at-inside : (m n : Mapping) (page place : ℕ) → m ≡ n → IsAt n.entries page place
+    → IsAt m.entries page place
+at-inside m n page place e at = subst (λ (x : Mapping). IsAt x.entries page place) (sym e) at
 
 pub kept-put : (es new : List (ℕ × Entry)) (room capacity grown page place : ℕ) (entry : Entry)
     → IsKept es room capacity → IsGapFor es page place → length es < room

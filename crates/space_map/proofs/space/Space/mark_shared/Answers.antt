@@ -1,21 +1,45 @@
-use Rattle.std.proofs.Common.{◌≡◌, ℕ, true, get_or, ap, sym, subst}
+use Rattle.std.proofs.Common.{◌≡◌, ◌<◌, ℕ, true, get_or, length, vec_len, rules, refl, sym, subst}
+use Rattle.std.proofs.Common.{ap}
 use Rattle.std.proofs.lemmas.List.{get_or_read}
 use Rattle.dos_world.specs.declared.Entry.{Entry}
-use Rattle.space_map.specs.Mapping.{Mapping, IsAt, no_entry, with_shared}
-use Rattle.space_map.proofs.Places.{look-gap, set-shared, shown-changed, nothing}
+use Rattle.space_map.specs.Mapping.{no_entry, with_shared}
+use Rattle.space_map.proofs.Places.{look-gap, set-shared, shown-changed, nothing, kept-set}
+use Rattle.space_map.proofs.Places.{at-inside}
 use Rattle.space_map.specs.contracts.space.Space.{the_view}
 use Rattle.space_map.proofs.space.Space.mark_shared.Goals as goal
+
+pub index-requires : goal.index-requires
+index-requires c =
+    let at = at-inside (the_view c.self.inside) _ _ _ c.self.view_is c.in-Ok.ensures.found in
+    let count : vec_len c.self.inside.entries ≡ length c.self.inside.entries.items = search rules in
+    subst (λ (n : ℕ). c.in-Ok.place < n) (sym count) at.within
+
+pub index_mut-requires : goal.index_mut-requires
+index_mut-requires c =
+    let at = at-inside (the_view c.self.inside) _ _ _ c.self.view_is c.in-Ok.ensures.found in
+    let count : vec_len c.self.inside.entries ≡ length c.self.inside.entries.items = search rules in
+    subst (λ (n : ℕ). c.in-Ok.place < n) (sym count) at.within
+
+pub invariant_of-self : goal.invariant_of-self
+invariant_of-self c =
+    let at = at-inside (the_view c.self.inside) _ _ _ c.self.view_is c.in-Ok.ensures.found in
+    kept-set c.self.inside.entries.items _ _ c.args.page c.in-Ok.place
+    (record c.index.result.now.1 { shared = true }) c.self.invariant at
+
+pub same-self : goal.same-self
+same-self c = refl
 
 pub unreachable-requires : goal.unreachable-requires
 unreachable-requires c = nothing _
     (look-gap c.args.self.now.entries c.args.page c.in-Err.field-0 c.in-Err.ensures.gap)
     c.requires
 
+pub unreachable-unreachable : goal.unreachable-unreachable
+unreachable-unreachable c = c.unreachable.result
+
 pub returns : goal.returns
 returns c =
-    let at : IsAt c.self.inside.entries.items c.args.page c.in-Ok.place =
-    subst (λ (m : Mapping). IsAt m.entries c.args.page c.in-Ok.place)
-    (sym c.self.view_is) c.in-Ok.ensures.found in
+    let at = at-inside (the_view c.self.inside) _ _ _ c.self.view_is c.in-Ok.ensures.found in
     let read : c.index.result.now ≡ get_or c.self.inside.entries.items c.in-Ok.place (0, no_entry) =
     get_or_read _ _ _ at.within c.index.ensures _ in
     shown-changed (with_shared c.args.page)

@@ -1,18 +1,36 @@
-use Rattle.std.proofs.Common.{sym, subst}
-use Rattle.space_map.specs.Mapping.{Mapping, IsAt, with_replaced}
-use Rattle.space_map.proofs.Places.{look-gap, set-replaced, shown-changed, nothing}
+use Rattle.std.proofs.Common.{◌≡◌, ◌<◌, ℕ, length, vec_len, rules, refl, sym, subst}
+use Rattle.space_map.specs.Mapping.{with_replaced}
+use Rattle.space_map.proofs.Places.{look-gap, set-replaced, shown-changed, nothing, kept-set}
+use Rattle.space_map.proofs.Places.{at-inside}
 use Rattle.space_map.specs.contracts.space.Space.{the_view}
 use Rattle.space_map.proofs.space.Space.replace.Goals as goal
+
+pub index_mut-requires : goal.index_mut-requires
+index_mut-requires c =
+    let at = at-inside (the_view c.self.inside) _ _ _ c.self.view_is c.in-Ok.ensures.found in
+    let count : vec_len c.self.inside.entries ≡ length c.self.inside.entries.items = search rules in
+    subst (λ (n : ℕ). c.in-Ok.place < n) (sym count) at.within
+
+pub invariant_of-self : goal.invariant_of-self
+invariant_of-self c =
+    let at = at-inside (the_view c.self.inside) _ _ _ c.self.view_is c.in-Ok.ensures.found in
+    kept-set c.self.inside.entries.items _ _ c.args.page c.in-Ok.place c.args.entry c.self.invariant
+    at
+
+pub same-self : goal.same-self
+same-self c = refl
 
 pub unreachable-requires : goal.unreachable-requires
 unreachable-requires c = nothing _
     (look-gap c.args.self.now.entries c.args.page c.in-Err.field-0 c.in-Err.ensures.gap)
     c.requires
 
+pub unreachable-unreachable : goal.unreachable-unreachable
+unreachable-unreachable c = c.unreachable.result
+
 pub returns : goal.returns
 returns c =
-    let at = subst (λ (m : Mapping). IsAt m.entries c.args.page c.in-Ok.place)
-    (sym c.self.view_is) c.in-Ok.ensures.found in
+    let at = at-inside (the_view c.self.inside) _ _ _ c.self.view_is c.in-Ok.ensures.found in
     shown-changed (with_replaced c.args.page c.args.entry)
     (the_view c.self.inside) c.args.self.now _ c.self.view_is
     (set-replaced c.self.inside.entries.items c.args.page c.in-Ok.place c.args.entry
