@@ -300,7 +300,8 @@ kept-shared page count es new room capacity same k e c = record {
 
 -- the page's entry changed in its place
 pub kept-set : (es : List (ℕ × Entry)) (room capacity page place : ℕ) (entry : Entry)
-    → IsKept es room capacity → IsAt es page place → IsKept (set es place (page, entry)) room capacity
+    → IsKept es room capacity → IsAt es page place
+    → IsKept (set es place (page, entry)) room capacity
 kept-set es room capacity page place entry k at = record {
   rising = subst Rises (sym (set-replaced es page place entry k.rising at))
       (rises-map (replaced page entry) (λ x. refl) es k.rising);
