@@ -1,8 +1,8 @@
 // From an instruction to its word: the six formats, and the codes of each operation.
 ghost use Rattle.std.specs.Prelude.{◌≡◌, ◌<◌, ◌^◌, ◌%◌};
 ghost use Rattle.rv_isa.specs.Encoding as words;
-ghost use Rattle.rv_isa.specs.declared.Instr.TheVariants.{Upper, Jal, Jalr, Branch, Load, Store, Imm};
-ghost use Rattle.rv_isa.specs.declared.Instr.TheVariants.{Shift, Reg, Amo, Fence};
+ghost use Rattle.rv_isa.specs.declared.Instr.TheVariants.{Upper, Jal, Jalr, Branch, Load, Store};
+ghost use Rattle.rv_isa.specs.declared.Instr.TheVariants.{Imm, Shift, Reg, Amo, Fence};
 ghost use Rattle.rv_isa.specs.Meaning.{meaning};
 ghost use Rattle.rv_isa.specs.Valid.{IsValid, IsImmediate, IsBranchOffset, IsJumpOffset};
 
