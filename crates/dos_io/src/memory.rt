@@ -1,6 +1,6 @@
 // A sink and files in memory, which fail at the calls that they are told to.
 ghost use Rattle.std.specs.Prelude.{◌≡◌, ◌≢◌, ◌↔◌, ◌<◌, ◌≤◌, ℕ, List, [], Some, None, not, true};
-ghost use Rattle.std.specs.Prelude.{is_ok, length, IsTrue, OnOk, OnErr, IfOk, IfSome, IsErrOf};
+ghost use Rattle.std.specs.Prelude.{is_ok, length, IsTrue, OnOk, OnErr, IfOk, IfSome, IsErrOf, string_bytes};
 ghost use Rattle.dos_io.specs.Outside.{grown, GrewByFront, HasCause, Rose};
 ghost use Rattle.dos_io.specs.Calls.{no_calls, after_call, put_succeeds, after_put};
 ghost use Rattle.dos_io.specs.Memory.{held, calls_of, get_succeeds, set_succeeds};
@@ -113,11 +113,36 @@ impl MemoryFiles {
         ensures err { OnErr result (held self.new name.now ≡ held self.old name.now) }
         ensures calls { calls_of self.new ≡ calls_of self.old }
     {
-        let key = String::from_str(self.alloc, name)?;
-        let content = Vec::from_slice(self.alloc, bytes)?;
+        let (key, content) = owned(self.alloc, name, bytes)?;
         self.contents.insert(key, content)?;
         Ok(())
     }
+
+    // A copy of what is held under a name, which is a fault where nothing is.
+    fn copy(&self, name: &str, limit: u64) -> Result<Vec<u8>, FileError>
+        ensures bytes { IfOk result (λ v. held self.now name.now ≡ Some v.items) }
+        ensures within { IfOk result (λ v. length v.items ≤ limit) }
+        ensures too_long { IsErrOf result FileError.TooLong → IfSome (held self.now name.now)
+            (λ t. limit < length t) }
+        ensures fault { IsErrOf result FileError.Fault → held self.now name.now ≡ None }
+    {
+        match self.contents.get(name) {
+            Some(bytes) if bytes.len() as u64 <= limit => Ok(Vec::from_slice(self.alloc, bytes)?),
+            Some(_) => Err(FileError::TooLong),
+            None => Err(FileError::Fault),
+        }
+    }
+}
+
+// A name and its content, in memory of their own.
+fn owned(alloc: Global, name: &str, bytes: &[u8]) -> Result<(String, Vec<u8>), AllocError>
+    ensures name { IfOk result (λ entry. string_bytes entry.0 ≡ name.now) }
+    ensures content { IfOk result (λ entry. entry.1.items ≡ bytes.now) }
+{
+    Ok((
+        String::from_str(alloc, name)?,
+        Vec::from_slice(alloc, bytes)?,
+    ))
 }
 
 impl Files for MemoryFiles {
@@ -143,15 +168,10 @@ impl Files for MemoryFiles {
         ensures stays { (n : List ℕ) → held self.new n ≡ held self.old n }
         ensures later { (calls_of self.old).faults ≤ (calls_of self.new).faults }
     {
-        let content = self.contents.get(name);
-        if !self.calls.count(content.is_some()) {
+        if !self.calls.count(self.contents.contains_key(name)) {
             return Err(FileError::Fault);
         }
-        match content {
-            Some(bytes) if bytes.len() as u64 <= limit => Ok(Vec::from_slice(self.alloc, bytes)?),
-            Some(_) => Err(FileError::TooLong),
-            None => unreachable!(),
-        }
+        self.copy(name, limit)
     }
 
     fn set(&mut self, name: &str, bytes: &[u8]) -> Result<(), FileError>
@@ -170,9 +190,7 @@ impl Files for MemoryFiles {
         if !self.calls.count(true) {
             return Err(FileError::Fault);
         }
-        let name = String::from_str(self.alloc, name)?;
-        let content = Vec::from_slice(self.alloc, bytes)?;
-        self.contents.insert(name, content)?;
+        self.add(name, bytes)?;
         Ok(())
     }
 }
