@@ -1,9 +1,11 @@
 //! Reading a file.
 
 ghost use Rattle.std.specs.Prelude.{◌≡◌, ◌≢◌, ◌≤◌, ◌<◌, length, map, take, drop, false, All, None};
-ghost use Rattle.std.specs.Prelude.{Some, IfOk, IfErr};
+ghost use Rattle.std.specs.Prelude.{Some, OnOk, IfOk, IfErr};
 ghost use Rattle.elf_image.specs.Image.{image, IsLoadable, leaves_file, part_headers, part_of};
-ghost use Rattle.elf_image.specs.Image.{refusal};
+ghost use Rattle.elf_image.specs.Image.{refusal, format_refusal, machine_refusal, table_refusal};
+ghost use Rattle.elf_image.specs.Fields.{HasTable};
+ghost use Rattle.std.specs.Option.{option_or};
 
 use crate::check::{
     check_entry, check_format, check_machine, check_overlap, check_segments, check_table,
@@ -56,6 +58,21 @@ fn parts_of(alloc: Global, bytes: &[u8], headers: &[Header]) -> Result<Parts, Al
     Ok(Parts::new(parts))
 }
 
+// The checks that need no program header.
+fn check_bytes(bytes: &[u8]) -> Result<(), ImageError>
+    ensures header { OnOk result (52 ≤ length bytes.now) }
+    ensures table { OnOk result (HasTable bytes.now) }
+    ensures format { OnOk result (format_refusal bytes.now ≡ None) }
+    ensures machine { OnOk result (machine_refusal bytes.now ≡ None) }
+    ensures in_file { OnOk result (table_refusal bytes.now ≡ None) }
+    ensures refused { IfErr result (λ error. option_or (format_refusal bytes.now)
+        (option_or (machine_refusal bytes.now) (table_refusal bytes.now)) ≡ Some error) }
+{
+    check_format(bytes)?;
+    check_machine(bytes)?;
+    check_table(bytes)
+}
+
 // The headers of the parts, of a file that is not refused.
 #[tactic(auto, unfolding(crate::specs::Image::refusal))]
 fn accepted_headers(bytes: &[u8]) -> Result<Headers, ImageError>
@@ -64,9 +81,7 @@ fn accepted_headers(bytes: &[u8]) -> Result<Headers, ImageError>
     ensures parts { IfOk result (λ parts. parts.items ≡ part_headers bytes.now) }
     ensures refused { IfErr result (λ error. refusal bytes.now ≡ Some error) }
 {
-    check_format(bytes)?;
-    check_machine(bytes)?;
-    check_table(bytes)?;
+    check_bytes(bytes)?;
     let table = headers(bytes);
     check_segments(&table, bytes.len() as u64)?;
     let parts = part_headers(&table);
