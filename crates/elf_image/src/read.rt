@@ -4,6 +4,7 @@ ghost use Rattle.std.specs.Prelude.{◌≡◌, ◌≢◌, ◌≤◌, ◌<◌, le
 ghost use Rattle.std.specs.Prelude.{Some, OnOk, IfOk, IfErr};
 ghost use Rattle.elf_image.specs.Image.{image, IsLoadable, leaves_file, part_headers, part_of};
 ghost use Rattle.elf_image.specs.Image.{refusal, format_refusal, machine_refusal, table_refusal};
+ghost use Rattle.elf_image.specs.Image.{overlap_refusal, entry_refusal};
 ghost use Rattle.elf_image.specs.Fields.{HasTable};
 ghost use Rattle.std.specs.Option.{option_or};
 
@@ -73,6 +74,17 @@ fn check_bytes(bytes: &[u8]) -> Result<(), ImageError>
     check_table(bytes)
 }
 
+// The checks of the parts' headers among each other and with the entry.
+fn check_parts(parts: &[Header], entry: u32) -> Result<(), ImageError>
+    ensures apart { OnOk result (overlap_refusal parts.now ≡ None) }
+    ensures entered { OnOk result (entry_refusal entry parts.now ≡ None) }
+    ensures refused { IfErr result (λ error. option_or (overlap_refusal parts.now)
+        (entry_refusal entry parts.now) ≡ Some error) }
+{
+    check_overlap(parts)?;
+    check_entry(parts, entry)
+}
+
 // The headers of the parts, of a file that is not refused.
 #[tactic(auto, unfolding(crate::specs::Image::refusal))]
 fn accepted_headers(bytes: &[u8]) -> Result<Headers, ImageError>
@@ -85,8 +97,7 @@ fn accepted_headers(bytes: &[u8]) -> Result<Headers, ImageError>
     let table = headers(bytes);
     check_segments(&table, bytes.len() as u64)?;
     let parts = part_headers(&table);
-    check_overlap(&parts)?;
-    check_entry(&parts, word(bytes, E_ENTRY))?;
+    check_parts(&parts, word(bytes, E_ENTRY))?;
     Ok(parts)
 }
 
