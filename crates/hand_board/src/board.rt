@@ -72,6 +72,57 @@ fn room_for<T>(alloc: Global, count: usize) -> Option<(Vec<u64>, Vec<Option<T>>)
     Some((words, slots))
 }
 
+// a new table of these words, with the packs in its slots, and its first seat; where memory ends the
+// packs are in their vector again
+fn table_in<T: Part>(
+    alloc: Global,
+    words: &[u64],
+    mut slots: Vec<Option<T>>,
+    packs: &mut Vec<T>,
+) -> Option<(Table<Option<T>, Knows<T>, Snapshot<Vec<T>>, Once<T>, Global>, Seat<Option<T>, Knows<T>>)>
+    requires words { words.now ≡ replicate (vec_len packs.old + 1) 0 }
+    requires slots { (vec_len slots ≡ 0) × (vec_len packs.old ≤ vec_capacity slots) }
+    ensures some { IfSome result (λ r. (r.0.shared.table_id.words ≡ vec_len packs.old + 1)
+        × (r.0.shared.table_id.slots ≡ vec_len packs.old)
+        × (r.0.shared.key.value.items ≡ packs.old.items)
+        × (r.1.table_id ≡ r.0.shared.table_id)
+        × (r.1.me ≡ (first_view r.0.shared.key.value.items, []))
+        × (vec_len packs.new ≡ 0)) }
+    ensures none { IfNone result (packs.new.items ≡ packs.old.items) }
+    ensures capacity { vec_capacity packs.new ≡ vec_capacity packs.old }
+{
+    let opened = Snapshot::of(&*packs);
+    fill(packs, &mut slots);
+    match Table::new(alloc, words, slots, &opened) {
+        Ok(made) => Some(made),
+        Err(Refused { slots }) => {
+            empty(slots, packs);
+            None
+        }
+    }
+}
+
+// the same in memory of its own
+fn table_of<T: Part>(
+    alloc: Global,
+    packs: &mut Vec<T>,
+) -> Option<(Table<Option<T>, Knows<T>, Snapshot<Vec<T>>, Once<T>, Global>, Seat<Option<T>, Knows<T>>)>
+    requires { vec_len packs.old < 2 ^ 32 }
+    ensures some { IfSome result (λ r. (r.0.shared.table_id.words ≡ vec_len packs.old + 1)
+        × (r.0.shared.table_id.slots ≡ vec_len packs.old)
+        × (r.0.shared.key.value.items ≡ packs.old.items)
+        × (r.1.table_id ≡ r.0.shared.table_id)
+        × (r.1.me ≡ (first_view r.0.shared.key.value.items, []))
+        × (vec_len packs.new ≡ 0)) }
+    ensures none { IfNone result (packs.new.items ≡ packs.old.items) }
+    ensures capacity { vec_capacity packs.new ≡ vec_capacity packs.old }
+{
+    let Some((words, slots)) = room_for(alloc, packs.len()) else {
+        return None;
+    };
+    table_in(alloc, words.as_slice(), slots, packs)
+}
+
 // the board of a new table, with the room that its packs came in, and its first seat
 #[inline]
 fn board_of<T: Part>(
@@ -114,16 +165,17 @@ fn board_of<T: Part>(
 fn lift<T: Part>(
     shared: &Shared<Option<T>, Knows<T>, Snapshot<Vec<T>>, Once<T>>,
     seat: &mut Seat<Option<T>, Knows<T>>,
-    slot: usize,
-) -> T
+    number: u32,
+) -> Job<T>
     requires table { seat.old.table_id ≡ shared.now.table_id }
-    requires full { (x : T) × (seat.old.me.1 ≡ (slot, Some x) ∷ rest seat.old.me.1) }
+    requires full { (x : T) × (seat.old.me.1 ≡ (number, Some x) ∷ rest seat.old.me.1) }
     ensures table { seat.new.table_id ≡ seat.old.table_id }
-    ensures pack { seat.old.me.1 ≡ (slot, Some result) ∷ rest seat.old.me.1 }
-    ensures seat { seat.new.me ≡ (seat.old.me.0, (slot, None) ∷ rest seat.old.me.1) }
+    ensures number { result.number ≡ number }
+    ensures pack { seat.old.me.1 ≡ (number, Some result.pack) ∷ rest seat.old.me.1 }
+    ensures seat { seat.new.me ≡ (seat.old.me.0, (number, None) ∷ rest seat.old.me.1) }
 {
-    match shared.exchange(seat, slot, None) {
-        Some(pack) => pack,
+    match shared.exchange(seat, number as usize, None) {
+        Some(pack) => Job { number, pack },
         None => unreachable!(),
     }
 }
@@ -169,18 +221,10 @@ impl<T: Part> Board<T> {
         ensures err { IfErr result
             (λ v. (v.items ≡ packs.items) × (vec_capacity v ≡ vec_capacity packs)) }
     {
-        let count = packs.len();
-        let Some((words, mut slots)) = room_for(alloc, count) else {
-            return Err(packs);
-        };
-        let opened = Snapshot::of(&packs);
-        fill(&mut packs, &mut slots);
-        match Table::new(alloc, words.as_slice(), slots, &opened) {
-            Ok((table, seat)) => Ok(board_of(table, seat, count as u32, packs)),
-            Err(Refused { slots }) => {
-                empty(slots, &mut packs);
-                Err(packs)
-            }
+        let count = packs.len() as u32;
+        match table_of(alloc, &mut packs) {
+            Some((table, seat)) => Ok(board_of(table, seat, count, packs)),
+            None => Err(packs),
         }
     }
 
@@ -214,8 +258,7 @@ impl<T: Part> Board<T> {
         if found != 0 {
             return None;
         }
-        let pack = lift(shared, &mut seat.seat, index);
-        Some(Job { number, pack })
+        Some(lift(shared, &mut seat.seat, number))
     }
 
     /// The pack of this number, which was put back under way, where its word was 3 at this call's
@@ -240,8 +283,7 @@ impl<T: Part> Board<T> {
         if found != 3 {
             return None;
         }
-        let pack = lift(shared, &mut seat.seat, index);
-        Some(Job { number, pack })
+        Some(lift(shared, &mut seat.seat, number))
     }
 
     /// Whether the pack of this number was in a hand when this call looked. Nothing follows from it
@@ -278,11 +320,13 @@ impl<T: Part> Board<T> {
         }
         let mut number = seat.next;
         while number < count {
-            if let Some(job) = self.claim(seat, number) {
-                seat.next = number + 1;
-                return Some(job);
+            match self.claim(seat, number) {
+                Some(job) => {
+                    seat.next = number + 1;
+                    return Some(job);
+                }
+                None => number += 1,
             }
-            number += 1;
         }
         seat.ended = true;
         None

@@ -37,12 +37,12 @@ returns-then-found-ne0-clause-none g c = let t =
     (λ e. absurd (c.if-found-ne0.true e)) in
     shows_found _ _ _ _ _ _ _ _ c.args.number c.seat.view_is c.compare_exchange-found.ensures.0 t
 
-pub lift-pack-requires-clause-table : goal.lift-pack-requires-clause-table
-lift-pack-requires-clause-table g c = c.compare_exchange-found.ensures.0
+pub lift-requires-clause-table : goal.lift-requires-clause-table
+lift-requires-clause-table g c = c.compare_exchange-found.ensures.0
     ∙ ap (λ z. z.board) c.seat.view_is ∙ c.requires.board ∙ sym (ap (λ z. z.id) c.self.view_is)
 
-pub lift-pack-requires-clause-full : goal.lift-pack-requires-clause-full
-lift-pack-requires-clause-full g c = let t =
+pub lift-requires-clause-full : goal.lift-requires-clause-full
+lift-requires-clause-full g c = let t =
     (c.compare_exchange-found.ensures.2 c.args.number refl).0 c.if-found-ne0.false in
     (t.0, ap (λ z. z.1) t.3 ∙ ap (λ l. (c.args.number, Some t.0) ∷ rest l.1) (sym t.3))
 
@@ -50,19 +50,19 @@ pub invariant_of-seat-2 : goal.invariant_of-seat-2
 invariant_of-seat-2 g c = let t =
     (c.compare_exchange-found.ensures.2 c.args.number refl).0 c.if-found-ne0.false in
     sits_drawn _ _ _ _ _ _ _ c.args.number c.seat.invariant (within _ _ _ t.1)
-    (c.lift-pack.ensures.table ∙ c.compare_exchange-found.ensures.0)
-    (emptied _ _ _ _ _ _ t.3 c.lift-pack.ensures.seat)
+    (c.lift.ensures.table ∙ c.compare_exchange-found.ensures.0)
+    (emptied _ _ _ _ _ _ t.3 c.lift.ensures.seat)
 
 pub returns-clause-some : goal.returns-clause-some
 returns-clause-some g c = let t =
     (c.compare_exchange-found.ensures.2 c.args.number refl).0 c.if-found-ne0.false in
-    let r = second _ _ _ _ _ _ (sym c.lift-pack.ensures.pack ∙ ap (λ z. z.1) t.3) in
+    let r = second _ _ _ _ _ _ (sym c.lift.ensures.pack ∙ ap (λ z. z.1) t.3) in
     let e = c.seat.view_is in (
-      refl,
+      c.lift.ensures.number,
       ap (λ z. get_elem? z.opened c.args.number) (sym e) ∙ t.1
           ∙ ap some (inside _ _ (sym r)),
       ap (λ z. times c.args.number z.found) (sym e) ∙ t.2,
       shows_drawn _ _ _ _ _ _ _ _ c.args.number e
-          (c.lift-pack.ensures.table ∙ c.compare_exchange-found.ensures.0)
-          (emptied _ _ _ _ _ _ t.3 c.lift-pack.ensures.seat),
+          (c.lift.ensures.table ∙ c.compare_exchange-found.ensures.0)
+          (emptied _ _ _ _ _ _ t.3 c.lift.ensures.seat),
     )

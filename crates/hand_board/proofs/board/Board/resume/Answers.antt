@@ -33,8 +33,12 @@ returns-then-found-ne3-clause-none g c = let t =
     (c.compare_exchange-found.ensures.2 c.args.number refl).1 c.if-found-ne3.true in
     shows_same _ _ _ _ _ _ _ _ c.seat.view_is c.compare_exchange-found.ensures.0 t
 
-pub lift-pack-requires-clause-full : goal.lift-pack-requires-clause-full
-lift-pack-requires-clause-full g c = let t =
+pub lift-requires-clause-table : goal.lift-requires-clause-table
+lift-requires-clause-table g c = c.compare_exchange-found.ensures.0
+    ∙ ap (λ z. z.board) c.seat.view_is ∙ c.requires.board ∙ sym (ap (λ z. z.id) c.self.view_is)
+
+pub lift-requires-clause-full : goal.lift-requires-clause-full
+lift-requires-clause-full g c = let t =
     (c.compare_exchange-found.ensures.2 c.args.number refl).0 c.if-found-ne3.false in
     (t.1, ap (λ z. z.1) t.4 ∙ ap (λ l. (c.args.number, Some t.1) ∷ rest l.1) (sym t.4))
 
@@ -42,15 +46,15 @@ pub invariant_of-seat-2 : goal.invariant_of-seat-2
 invariant_of-seat-2 g c = let t =
     (c.compare_exchange-found.ensures.2 c.args.number refl).0 c.if-found-ne3.false in
     sits_resumed _ _ _ _ _ _ _ c.args.number c.seat.invariant (within _ _ _ t.2)
-    (c.lift-pack.ensures.table ∙ c.compare_exchange-found.ensures.0)
-    (emptied _ _ _ _ _ _ t.4 c.lift-pack.ensures.seat)
+    (c.lift.ensures.table ∙ c.compare_exchange-found.ensures.0)
+    (emptied _ _ _ _ _ _ t.4 c.lift.ensures.seat)
 
 pub returns-clause-some : goal.returns-clause-some
 returns-clause-some g c = let t =
     (c.compare_exchange-found.ensures.2 c.args.number refl).0 c.if-found-ne3.false in
-    let r = second _ _ _ _ _ _ (sym c.lift-pack.ensures.pack ∙ ap (λ z. z.1) t.4) in
+    let r = second _ _ _ _ _ _ (sym c.lift.ensures.pack ∙ ap (λ z. z.1) t.4) in
     let e = c.seat.view_is in (
-      refl,
+      c.lift.ensures.number,
       (
         t.0,
         ap (λ z. get_elem? z.opened c.args.number) (sym e) ∙ t.2,
@@ -58,6 +62,6 @@ returns-clause-some g c = let t =
             (sym (inside _ _ r)) t.3,
       ),
       shows_resumed _ _ _ _ _ _ _ _ c.args.number e
-          (c.lift-pack.ensures.table ∙ c.compare_exchange-found.ensures.0)
-          (emptied _ _ _ _ _ _ t.4 c.lift-pack.ensures.seat),
+          (c.lift.ensures.table ∙ c.compare_exchange-found.ensures.0)
+          (emptied _ _ _ _ _ _ t.4 c.lift.ensures.seat),
     )
