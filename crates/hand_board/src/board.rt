@@ -1,7 +1,7 @@
 // The board, and what a seat does at it.
 ghost use Rattle.std.specs.Prelude.{◌≡◌, ◌<◌, ◌≤◌, ◌+◌, ◌-◌, ◌/◌, ◌^◌, ◌∷◌, ◌++◌, ◌||◌, [], ℕ};
 ghost use Rattle.std.specs.Prelude.{true, false, length, max, replicate, vec_len, vec_capacity};
-ghost use Rattle.std.specs.Prelude.{IfSome, IfNone, IfOk, IfErr, Some, None};
+ghost use Rattle.std.specs.Prelude.{IfSome, IfNone, IfOk, IfErr, Some, None, map};
 ghost use mathlib.Core.Option.{some};
 ghost use lib.ListN.{get_elem?};
 ghost use Rattle.atomic_table.specs.Table.{rest};
@@ -72,28 +72,35 @@ fn room_for<T>(alloc: Global, count: usize) -> Option<(Vec<u64>, Vec<Option<T>>)
     Some((words, slots))
 }
 
-// a new table of these words, with the packs in its slots, and its first seat; where memory ends the
-// packs are in their vector again
+// a new table of these words and slots, and its first seat; where memory ends the packs come back
+// out of the slots
 fn table_in<T: Part>(
     alloc: Global,
     words: &[u64],
-    mut slots: Vec<Option<T>>,
+    slots: Vec<Option<T>>,
+    opened: &Snapshot<Vec<T>>,
     packs: &mut Vec<T>,
-) -> Option<(Table<Option<T>, Knows<T>, Snapshot<Vec<T>>, Once<T>, Global>, Seat<Option<T>, Knows<T>>)>
-    requires words { words.now ≡ replicate (vec_len packs.old + 1) 0 }
-    requires slots { (vec_len slots ≡ 0) × (vec_len packs.old ≤ vec_capacity slots) }
-    ensures some { IfSome result (λ r. (r.0.shared.table_id.words ≡ vec_len packs.old + 1)
-        × (r.0.shared.table_id.slots ≡ vec_len packs.old)
-        × (r.0.shared.key.value.items ≡ packs.old.items)
+) -> Option<
+    (
+        Table<Option<T>, Knows<T>, Snapshot<Vec<T>>, Once<T>, Global>,
+        Seat<Option<T>, Knows<T>>,
+    ),
+>
+    requires words { words.now ≡ replicate (length opened.now.value.items + 1) 0 }
+    requires slots { slots.items ≡ map Some opened.now.value.items }
+    requires packs { (vec_len packs.old ≡ 0)
+        × (length opened.now.value.items ≤ vec_capacity packs.old) }
+    ensures some { IfSome result
+        (λ r. (r.0.shared.table_id.words ≡ length opened.now.value.items + 1)
+        × (r.0.shared.table_id.slots ≡ length opened.now.value.items)
+        × (r.0.shared.key.value.items ≡ opened.now.value.items)
         × (r.1.table_id ≡ r.0.shared.table_id)
-        × (r.1.me ≡ (first_view r.0.shared.key.value.items, []))
+        × (r.1.me ≡ (first_view opened.now.value.items, []))
         × (vec_len packs.new ≡ 0)) }
-    ensures none { IfNone result (packs.new.items ≡ packs.old.items) }
+    ensures none { IfNone result (packs.new.items ≡ opened.now.value.items) }
     ensures capacity { vec_capacity packs.new ≡ vec_capacity packs.old }
 {
-    let opened = Snapshot::of(&*packs);
-    fill(packs, &mut slots);
-    match Table::new(alloc, words, slots, &opened) {
+    match Table::new(alloc, words, slots, opened) {
         Ok(made) => Some(made),
         Err(Refused { slots }) => {
             empty(slots, packs);
@@ -102,25 +109,34 @@ fn table_in<T: Part>(
     }
 }
 
-// the same in memory of its own
+// a new table with the packs in its slots, and its first seat; where memory ends the packs are in
+// their vector again
 fn table_of<T: Part>(
     alloc: Global,
     packs: &mut Vec<T>,
-) -> Option<(Table<Option<T>, Knows<T>, Snapshot<Vec<T>>, Once<T>, Global>, Seat<Option<T>, Knows<T>>)>
+) -> Option<
+    (
+        Table<Option<T>, Knows<T>, Snapshot<Vec<T>>, Once<T>, Global>,
+        Seat<Option<T>, Knows<T>>,
+    ),
+>
     requires { vec_len packs.old < 2 ^ 32 }
-    ensures some { IfSome result (λ r. (r.0.shared.table_id.words ≡ vec_len packs.old + 1)
-        × (r.0.shared.table_id.slots ≡ vec_len packs.old)
+    ensures some { IfSome result
+        (λ r. (r.0.shared.table_id.words ≡ length packs.old.items + 1)
+        × (r.0.shared.table_id.slots ≡ length packs.old.items)
         × (r.0.shared.key.value.items ≡ packs.old.items)
         × (r.1.table_id ≡ r.0.shared.table_id)
-        × (r.1.me ≡ (first_view r.0.shared.key.value.items, []))
+        × (r.1.me ≡ (first_view packs.old.items, []))
         × (vec_len packs.new ≡ 0)) }
     ensures none { IfNone result (packs.new.items ≡ packs.old.items) }
     ensures capacity { vec_capacity packs.new ≡ vec_capacity packs.old }
 {
-    let Some((words, slots)) = room_for(alloc, packs.len()) else {
+    let Some((words, mut slots)) = room_for(alloc, packs.len()) else {
         return None;
     };
-    table_in(alloc, words.as_slice(), slots, packs)
+    let opened = Snapshot::of(&*packs);
+    fill(packs, &mut slots);
+    table_in(alloc, words.as_slice(), slots, &opened, packs)
 }
 
 // the board of a new table, with the room that its packs came in, and its first seat

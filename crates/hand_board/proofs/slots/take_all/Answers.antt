@@ -1,4 +1,6 @@
-use Rattle.std.proofs.Common.{◌∙◌, arith}
+use Rattle.std.proofs.Common.{◌∙◌, subst, arith}
+use lib.Seq.{take_all}
+use Rattle.hand_board.specs.Seating.{AllFinished}
 use Rattle.hand_board.proofs.Counts.{there}
 use Rattle.hand_board.proofs.Values.{more_finished, more_empty}
 use Rattle.hand_board.proofs.slots.take_all.Goals as goal
@@ -33,3 +35,19 @@ loop-i-preserved g c =
       omega arith,
       cap ∙ inv.9,
     )
+
+pub returns-clause-finished : goal.returns-clause-finished
+returns-clause-finished g c =
+    let over = c.loop-i-test.false in
+    let count = c.slot_count.ensures in
+    let same = c.loop-i.invariant.3 in
+    let opened = c.requires.opened in
+    let xs = c.args.opened.now.value.opened in
+    subst (λ l. AllFinished g.T.Part.finished l c.loop-i.room.items)
+    (take_all c.loop-i.i xs (omega arith)) c.loop-i.invariant.5
+
+pub returns-clause-free : goal.returns-clause-free
+returns-clause-free g c k low =
+    let over = c.loop-i-test.false in
+    let count = c.slot_count.ensures in
+    c.loop-i.invariant.1 k (omega arith)

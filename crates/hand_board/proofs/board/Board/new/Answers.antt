@@ -1,19 +1,19 @@
 use Rattle.std.proofs.Common.{◌≤◌, ◌+◌, List, [], length, false, sym, subst, ap, ap₂, ◌∙◌, arith}
 use Rattle.atomic_table.specs.Seated.{TableId}
-use Rattle.hand_board.specs.Placed.{whole}
+use Rattle.hand_board.specs.Placed.{whole, first_view}
 use Rattle.hand_board.specs.Seating.{Seating}
 use Rattle.hand_board.proofs.board.Board.new.Goals as goal
 
 abbrev first_seat : {T : Type 0} → TableId → List T → Seating T
 first_seat id opened = record {
-    board = id;
-    opened = opened;
-    share = whole;
-    found = [];
-    hand = [];
-    next = 0;
-    ended = false;
-  }
+  board = id;
+  opened = opened;
+  share = whole;
+  found = [];
+  hand = [];
+  next = 0;
+  ended = false;
+}
 
 pub overflow_cast-count : goal.overflow_cast-count
 overflow_cast-count g c = omega arith
@@ -24,7 +24,7 @@ table_of-requires g c = c.requires
 pub board_of-requires-clause-sized : goal.board_of-requires-clause-sized
 board_of-requires-clause-sized g c =
     let s = c.in-Some.ensures.some in
-    let n = sym c.len-count.ensures in
+    let n = sym (c.len-count.ensures ∙ c.args.packs.ok.0) in
     (s.0 ∙ ap (λ z. z + 1) n, s.1 ∙ n)
 
 pub board_of-requires-clause-all : goal.board_of-requires-clause-all
@@ -41,7 +41,7 @@ board_of-requires-clause-roomy g c = (
 pub board_of-requires-clause-seat : goal.board_of-requires-clause-seat
 board_of-requires-clause-seat g c =
     let s = c.in-Some.ensures.some in
-    (s.3, s.4)
+    (s.3, s.4 ∙ ap (λ l. (first_view l, [])) (sym s.2))
 
 pub returns-in-Some-clause-seat : goal.returns-in-Some-clause-seat
 returns-in-Some-clause-seat g c = c.board_of.ensures.seat
