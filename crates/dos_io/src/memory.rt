@@ -1,6 +1,7 @@
 // A sink and files in memory, which fail at the calls that they are told to.
 ghost use Rattle.std.specs.Prelude.{◌≡◌, ◌≢◌, ◌↔◌, ◌<◌, ◌≤◌, ℕ, List, [], Some, None, not, true};
-ghost use Rattle.std.specs.Prelude.{is_ok, length, IsTrue, OnOk, OnErr, IfOk, IfSome, IsErrOf, string_bytes};
+ghost use Rattle.std.specs.Prelude.{is_ok, length, string_bytes, IsTrue, OnOk, OnErr, IfOk};
+ghost use Rattle.std.specs.Prelude.{IfSome, IsErrOf};
 ghost use Rattle.dos_io.specs.Outside.{grown, GrewByFront, HasCause, Rose};
 ghost use Rattle.dos_io.specs.Calls.{no_calls, after_call, put_succeeds, after_put};
 ghost use Rattle.dos_io.specs.Memory.{held, calls_of, get_succeeds, set_succeeds};
