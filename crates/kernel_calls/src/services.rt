@@ -200,18 +200,9 @@ fn perform<S: Shim, O: Sink, E: Sink>(
 {
     match service {
         Service::Quiet(service) => Ok(perform_quietly(state, service, asked)),
-        Service::Read => match read(state, asked, shim) {
-            Ok(way) => Ok(way),
-            Err(stop) => Err(stop),
-        },
-        Service::Write => match write(state, asked, out, err) {
-            Ok(way) => Ok(way),
-            Err(stop) => Err(stop),
-        },
-        Service::Clock => match clock(state, asked, shim) {
-            Ok(()) => Ok(Served::Went),
-            Err(stop) => Err(stop),
-        },
+        Service::Read => read(state, asked, shim),
+        Service::Write => write(state, asked, out, err),
+        Service::Clock => clock(state, asked, shim),
     }
 }
 

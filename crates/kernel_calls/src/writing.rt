@@ -54,14 +54,8 @@ pub(crate) fn write<O: Sink, E: Sink>(
         (E.faults err.new) }
 {
     match target_of(state.table.descriptor(asked.process, asked.a0)) {
-        Some(Target::Output) => match send(state, asked, out) {
-            Ok(()) => Ok(Served::Went),
-            Err(SinkFault) => Err(RunStop::OutFault),
-        },
-        Some(Target::Error) => match send(state, asked, err) {
-            Ok(()) => Ok(Served::Went),
-            Err(SinkFault) => Err(RunStop::ErrFault),
-        },
+        Some(Target::Output) => send(state, asked, out, RunStop::OutFault),
+        Some(Target::Error) => send(state, asked, err, RunStop::ErrFault),
         Some(Target::Pipe(pipe)) => Ok(write_pipe(state, asked, pipe)),
         None => {
             refuse_call(state, asked.thread, EBADF);
@@ -82,13 +76,20 @@ fn target_of(end: Option<End>) -> Option<Target>
     }
 }
 
-// The bytes to one sink, by one put.
-fn send<S: Sink>(state: &mut State, asked: &Asked, sink: &mut S) -> Result<(), SinkFault>
+// The bytes to one sink, by one put. The run stops by this fault if the sink fails.
+fn send<S: Sink>(
+    state: &mut State,
+    asked: &Asked,
+    sink: &mut S,
+    fault: RunStop,
+) -> Result<Served, RunStop>
     requires sound { IsSound state.old }
     requires asked { AreAsked state.old asked.now }
     ensures sends { OnOk result
         (IsSent state.old asked.now state.new (S.told sink.old) (S.told sink.new)) }
-    ensures counted { IsCounted state.new }
+    ensures way { IfOk result (λ way. way ≡ Went) }
+    ensures stop { IfErr result (λ stop. stop ≡ fault) }
+    ensures counted { OnOk result (IsCounted state.new) }
     ensures stands { OnErr result (Stands state.old state.new) }
     ensures round { state.new.round ≡ state.old.round }
     ensures cut { OnErr result
@@ -98,7 +99,7 @@ fn send<S: Sink>(state: &mut State, asked: &Asked, sink: &mut S) -> Result<(), S
     let count = asked.a2.min(4096);
     if count == 0 {
         reply(state, asked.thread, 0);
-        return Ok(());
+        return Ok(Served::Went);
     }
     match check(&state.table, asked.thread, asked.a1, count, false) {
         Ok(()) => {
@@ -106,14 +107,14 @@ fn send<S: Sink>(state: &mut State, asked: &Asked, sink: &mut S) -> Result<(), S
             match sink.put(&state.buffer[..count as usize]) {
                 Ok(()) => {
                     reply(state, asked.thread, count);
-                    Ok(())
+                    Ok(Served::Went)
                 }
-                Err(fault) => Err(fault),
+                Err(SinkFault) => Err(fault),
             }
         }
         Err(number) => {
             refuse_call(state, asked.thread, number);
-            Ok(())
+            Ok(Served::Went)
         }
     }
 }

@@ -37,6 +37,16 @@ returns-in-Ok-put-clause-sends g c =
     (c.reply-in-Ok-put.ensures.answers
     ∙ ap (answering c.take_in.new.state c.args.asked.now.thread) same)
 
+pub returns-in-Ok-put-clause-cause : goal.returns-in-Ok-put-clause-cause
+returns-in-Ok-put-clause-cause g c =
+    record { later = c.in-Ok-put.ensures.cause.later; failed = tt }
+
+pub returns-in-Err-put-clause-cause : goal.returns-in-Err-put-clause-cause
+returns-in-Err-put-clause-cause g c = record {
+  later = c.in-Err-put.ensures.cause.later;
+  failed = c.in-Err-put.ensures.cause.failed;
+}
+
 pub returns-in-Err-clause-sends : goal.returns-in-Err-clause-sends
 returns-in-Err-clause-sends g c =
     let same : c.min-count.result ≡ asked_count c.args.asked.now = c.min-count.ensures in

@@ -1,4 +1,5 @@
-use Rattle.std.proofs.Common.{◌≡◌, ℕ, List, Option, Some, IfSome, refl, sym, ap, ◌∙◌}
+use Rattle.std.proofs.Common.{◌≡◌, ℕ, List, Option, Some, IfSome, refl, sym, ap, ◌∙◌, le_refl}
+use Rattle.std.proofs.lemmas.Result.{on_err_weaker}
 use Rattle.dos_world.specs.Play.{done}
 use Rattle.dos_world.specs.Services.{went, write, write_by}
 use Rattle.dos_world.specs.declared.End.{End}
@@ -12,7 +13,10 @@ use Rattle.kernel_calls.specs.declared.writing.Target.{Target}
 use Rattle.kernel_calls.specs.declared.writing.Target.TheVariants.{Output as output_target}
 use Rattle.kernel_calls.specs.declared.writing.Target.TheVariants.{Error as error_target}
 use Rattle.kernel_calls.specs.declared.writing.Target.TheVariants.{Pipe as pipe_target}
+use Rattle.kernel_calls.specs.declared.state.RunStop.TheVariants.{OutFault, ErrFault}
+use Rattle.kernel_calls.specs.declared.state.Served.TheVariants.{Went}
 use Rattle.kernel_calls.proofs.DescriptorRows.{named_range}
+use Rattle.kernel_calls.proofs.Outcomes.{ok_is, err_is}
 use Rattle.kernel_calls.proofs.Sending.{end_of, target_end, writes_as, writes_none, quietly}
 use Rattle.kernel_calls.proofs.Sending.{sends-output, sends-error, faults-output, faults-error}
 use Rattle.kernel_calls.proofs.Sending.{output_grown, error_grown}
@@ -35,21 +39,87 @@ write_pipe-requires-clause-pipe g c =
     (target_end c.descriptor.result (pipe_target c.in-Some-Pipe.pipe)
     (cc (c.in-Some-Pipe.is, c.in-Some-Pipe.field-0-is, c.target_of.ensures)))
 
-pub returns-in-Ok-clause-sends : goal.returns-in-Ok-clause-sends
-returns-in-Ok-clause-sends g c =
-    sends-output write c.args.state.now c.args.asked.now c.send.new.state _ _ _
+-- ---- to a sink
+
+pub returns-in-Some-Output-clause-sends : goal.returns-in-Some-Output-clause-sends
+returns-in-Some-Output-clause-sends g c =
+    ok_is _ c.send.result _ Went
+    (sends-output write c.args.state.now c.args.asked.now c.send.new.state _ _ _
     (to_target c.args.state.now c.requires.sound c.args.asked.now c.requires.asked
     c.descriptor.result output_target c.descriptor.ensures
-    (cc (c.in-Some-Output.is, c.in-Some-Output.field-0-is, c.target_of.ensures)))
-    c.in-Ok.ensures.sends
+    (cc (c.in-Some-Output.is, c.in-Some-Output.field-0-is, c.target_of.ensures))))
+    c.send.ensures.sends c.send.ensures.way
 
-pub returns-in-Ok-send-clause-sends : goal.returns-in-Ok-send-clause-sends
-returns-in-Ok-send-clause-sends g c =
-    sends-error write c.args.state.now c.args.asked.now c.send-in-Some-Error.new.state _ _ _
+pub returns-in-Some-Output-clause-counted : goal.returns-in-Some-Output-clause-counted
+returns-in-Some-Output-clause-counted g c = c.send.ensures.counted
+
+pub returns-in-Some-Output-clause-stands : goal.returns-in-Some-Output-clause-stands
+returns-in-Some-Output-clause-stands g c = c.send.ensures.stands
+
+pub returns-in-Some-Output-clause-round : goal.returns-in-Some-Output-clause-round
+returns-in-Some-Output-clause-round g c = c.send.ensures.round
+
+pub returns-in-Some-Output-clause-grows : goal.returns-in-Some-Output-clause-grows
+returns-in-Some-Output-clause-grows g c =
+    on_err_weaker c.send.result (output_grown _ _ _ _ _ _) c.send.ensures.cut
+
+pub returns-in-Some-Output-clause-faults : goal.returns-in-Some-Output-clause-faults
+returns-in-Some-Output-clause-faults g c =
+    err_is _ c.send.result _ OutFault
+    (faults-output write c.args.state.now c.args.asked.now c.send.new.state _ _ _
+    (to_target c.args.state.now c.requires.sound c.args.asked.now c.requires.asked
+    c.descriptor.result output_target c.descriptor.ensures
+    (cc (c.in-Some-Output.is, c.in-Some-Output.field-0-is, c.target_of.ensures))))
+    c.send.ensures.cut c.send.ensures.stop
+
+pub returns-in-Some-Output-clause-causes : goal.returns-in-Some-Output-clause-causes
+returns-in-Some-Output-clause-causes g c = record {
+  out_later = c.send.ensures.cause.later;
+  err_later = le_refl _;
+  sinks = err_is _ c.send.result _ OutFault (λ rose. rose) c.send.ensures.cause.failed
+      c.send.ensures.stop;
+}
+
+pub returns-in-Some-Error-clause-sends : goal.returns-in-Some-Error-clause-sends
+returns-in-Some-Error-clause-sends g c =
+    ok_is _ c.send-in-Some-Error.result _ Went
+    (sends-error write c.args.state.now c.args.asked.now c.send-in-Some-Error.new.state _ _ _
     (to_target c.args.state.now c.requires.sound c.args.asked.now c.requires.asked
     c.descriptor.result error_target c.descriptor.ensures
-    (cc (c.in-Some-Error.is, c.in-Some-Error.field-0-is, c.target_of.ensures)))
-    c.in-Ok-send.ensures.sends
+    (cc (c.in-Some-Error.is, c.in-Some-Error.field-0-is, c.target_of.ensures))))
+    c.send-in-Some-Error.ensures.sends c.send-in-Some-Error.ensures.way
+
+pub returns-in-Some-Error-clause-counted : goal.returns-in-Some-Error-clause-counted
+returns-in-Some-Error-clause-counted g c = c.send-in-Some-Error.ensures.counted
+
+pub returns-in-Some-Error-clause-stands : goal.returns-in-Some-Error-clause-stands
+returns-in-Some-Error-clause-stands g c = c.send-in-Some-Error.ensures.stands
+
+pub returns-in-Some-Error-clause-round : goal.returns-in-Some-Error-clause-round
+returns-in-Some-Error-clause-round g c = c.send-in-Some-Error.ensures.round
+
+pub returns-in-Some-Error-clause-grows : goal.returns-in-Some-Error-clause-grows
+returns-in-Some-Error-clause-grows g c =
+    on_err_weaker c.send-in-Some-Error.result (error_grown _ _ _ _ _ _) c.send-in-Some-Error.ensures.cut
+
+pub returns-in-Some-Error-clause-faults : goal.returns-in-Some-Error-clause-faults
+returns-in-Some-Error-clause-faults g c =
+    err_is _ c.send-in-Some-Error.result _ ErrFault
+    (faults-error write c.args.state.now c.args.asked.now c.send-in-Some-Error.new.state _ _ _
+    (to_target c.args.state.now c.requires.sound c.args.asked.now c.requires.asked
+    c.descriptor.result error_target c.descriptor.ensures
+    (cc (c.in-Some-Error.is, c.in-Some-Error.field-0-is, c.target_of.ensures))))
+    c.send-in-Some-Error.ensures.cut c.send-in-Some-Error.ensures.stop
+
+pub returns-in-Some-Error-clause-causes : goal.returns-in-Some-Error-clause-causes
+returns-in-Some-Error-clause-causes g c = record {
+  err_later = c.send-in-Some-Error.ensures.cause.later;
+  out_later = le_refl _;
+  sinks = err_is _ c.send-in-Some-Error.result _ ErrFault (λ rose. rose) c.send-in-Some-Error.ensures.cause.failed
+      c.send-in-Some-Error.ensures.stop;
+}
+
+-- ---- to a pipe, or to nothing
 
 pub returns-in-Some-Pipe-clause-sends : goal.returns-in-Some-Pipe-clause-sends
 returns-in-Some-Pipe-clause-sends g c =
@@ -68,25 +138,3 @@ returns-in-None-clause-sends g c =
     (call_in (sent o e (world_of q c.args.state.now)) c.args.asked.now)
     (sym c.target_of.ensures ∙ c.in-None.is)
     ∙ ap (λ s. done (went (sent o e (world_of q s)))) (sym c.refuse_call.ensures.answers))
-
-pub returns-in-Err-clause-grows : goal.returns-in-Err-clause-grows
-returns-in-Err-clause-grows g c = output_grown _ _ _ _ _ _ c.in-Err.ensures.cut
-
-pub returns-in-Err-send-clause-grows : goal.returns-in-Err-send-clause-grows
-returns-in-Err-send-clause-grows g c = error_grown _ _ _ _ _ _ c.in-Err-send.ensures.cut
-
-pub returns-in-Err-clause-faults : goal.returns-in-Err-clause-faults
-returns-in-Err-clause-faults g c = faults-output write c.args.state.now c.args.asked.now
-    c.send.new.state _ _ _
-    (to_target c.args.state.now c.requires.sound c.args.asked.now c.requires.asked
-    c.descriptor.result output_target c.descriptor.ensures
-    (cc (c.in-Some-Output.is, c.in-Some-Output.field-0-is, c.target_of.ensures)))
-    c.in-Err.ensures.cut
-
-pub returns-in-Err-send-clause-faults : goal.returns-in-Err-send-clause-faults
-returns-in-Err-send-clause-faults g c = faults-error write c.args.state.now c.args.asked.now
-    c.send-in-Some-Error.new.state _ _ _
-    (to_target c.args.state.now c.requires.sound c.args.asked.now c.requires.asked
-    c.descriptor.result error_target c.descriptor.ensures
-    (cc (c.in-Some-Error.is, c.in-Some-Error.field-0-is, c.target_of.ensures)))
-    c.in-Err-send.ensures.cut
