@@ -20,3 +20,5 @@ pub mod RipenLaws
 pub mod PacksWork
 pub mod InPlaceLaws
 pub mod AwayLaws
+pub mod ServedLaws
+pub mod EndLaws

@@ -82,14 +82,19 @@ impl Kernel {
                   false;
             }) }
     {
-        let (starters, packs) = reserve(alloc, config.frames)?;
-        Ok(Kernel {
-            state,
-            config,
-            starters,
-            packs,
-            failed: false,
-        })
+        match reserve(alloc, config.frames) {
+            Ok((starters, packs)) => Ok(Kernel {
+                state,
+                config,
+                starters,
+                packs,
+                failed: false,
+            }),
+            Err(error) => {
+                drop(state);
+                Err(error)
+            }
+        }
     }
 
     /// Whether a round has failed: nothing more is said of it then.

@@ -195,8 +195,10 @@ fn take_turn<S: Shim, O: Sink, E: Sink>(
             Ok(false)
         }
         Reason::Service => {
-            let way = serve(state, tid, shim, out, err)?;
-            Ok(goes_on_after(way))
+            match serve(state, tid, shim, out, err) {
+                Ok(way) => Ok(goes_on_after(way)),
+                Err(stop) => Err(stop),
+            }
         }
     }
 }

@@ -19,6 +19,7 @@ ghost use Rattle.group_rounds.specs.Phases.{ready_in};
 ghost use Rattle.group_rounds.specs.Rounds.{AreStarters, CutRound, HasOpened, RanRound};
 ghost use Rattle.group_rounds.specs.Rounds.{StoppedRound, StopsRun, end_in, next_round};
 ghost use Rattle.group_rounds.specs.Rounds.{rest_of_round, work_in};
+ghost use Rattle.group_rounds.specs.declared.round.RoundEnd.TheVariants.{Went};
 ghost use Rattle.worker_pool.specs.Ran.{GrewBy};
 
 use crate::packs::Packs;
@@ -117,7 +118,7 @@ fn finish_round<S: Shim, O: Sink, E: Sink>(
     shim: &mut S,
     out: &mut O,
     err: &mut E,
-) -> Result<(), RunStop>
+) -> Result<RoundEnd, RunStop>
     requires sound { IsSound state.old }
     requires parts { HaveParts starters.now state.old }
     requires limit { state.old.round ≤ 1000000 }
@@ -127,6 +128,7 @@ fn finish_round<S: Shim, O: Sink, E: Sink>(
         (telling (S.state shim.old).told (O.told out.old) (E.told err.old))
         (λ w. done (went w work)) state.new
         (telling (S.state shim.new).told (O.told out.new) (E.told err.new))) }
+    ensures end { IfOk result (λ end. end ≡ Went) }
     ensures sound { OnOk result (IsSound state.new) }
     ensures round { OnOk result (state.new.round ≡ state.old.round + 1) }
     ensures uncounted { OnErr result (state.new.round ≡ state.old.round) }
@@ -150,7 +152,7 @@ fn finish_round<S: Shim, O: Sink, E: Sink>(
     match run_serial(state, starters, shim, out, err) {
         Ok(()) => {
             count_round(state);
-            Ok(())
+            Ok(RoundEnd::Went)
         }
         Err(stop) => Err(stop),
     }
@@ -166,7 +168,7 @@ fn run_phases<S: Shim, O: Sink, E: Sink, W: Workers>(
     out: &mut O,
     err: &mut E,
     workers: &mut W,
-) -> Result<(), RunStop>
+) -> Result<RoundEnd, RunStop>
     requires sound { IsSound state.old }
     requires level { packs.old ≡ length state.old.frames.owners }
     requires few { length starters.now ≤ 64 }
@@ -180,6 +182,7 @@ fn run_phases<S: Shim, O: Sink, E: Sink, W: Workers>(
         (λ w. done (went w work)) state.new
         (telling (S.state shim.new).told (O.told out.new) (E.told err.new))
         × GrewBy (W.tally workers.old) (W.tally workers.new) work) }
+    ensures end { IfOk result (λ end. end ≡ Went) }
     ensures sound { OnOk result (IsSound state.new) }
     ensures round { OnOk result (state.new.round ≡ state.old.round + 1) }
     ensures packs { packs.new ≡ packs.old }
@@ -257,8 +260,7 @@ fn play_begun<S: Shim, O: Sink, E: Sink, W: Workers>(
     if starters.is_empty() {
         return Ok(RoundEnd::Stalled);
     }
-    run_phases(state, starters, packs, quantum, shim, out, err, workers)?;
-    Ok(RoundEnd::Went)
+    run_phases(state, starters, packs, quantum, shim, out, err, workers)
 }
 
 /// One round over the state under a quantum, its starters gathered into `starters`.

@@ -1,16 +1,17 @@
-use Rattle.std.proofs.Common.{◌<◌, ℕ, [], ◌∷◌, sym, ap, ◌∙◌, Option, None, Some}
+use Rattle.std.proofs.Common.{◌<◌, ℕ, [], ◌∷◌, sym, ap, subst, ◌∙◌, Option, None}
+use Rattle.std.proofs.Common.{Some}
 use Rattle.std.specs.Prelude.{Err, IfSome}
-use Rattle.std.proofs.lemmas.Result.{err_from_is_err_and}
 use Rattle.dos_world.specs.World.{Thread}
+use Rattle.dos_world.specs.Services.{service}
 use Rattle.round_core.proofs.Faults.{step-small}
-use Rattle.proc_table.specs.Tables.{thread_in}
+use Rattle.proc_table.specs.Tables.{IsThread, Tables, thread_in}
 use Rattle.kernel_calls.specs.StateWorld.{world_of}
 use Rattle.group_rounds.specs.StatePlays.{telling}
-use Rattle.group_rounds.proofs.StatePlayLaws.{on_err}
 use Rattle.group_rounds.proofs.TurnLaws.{grant_goes, grant_measure, fault_goes, service_goes}
 use Rattle.group_rounds.proofs.TurnLaws.{on_measure, on_lives, told_on, served_count, parts_left}
 use Rattle.group_rounds.proofs.TurnLaws.{asks_no_end, turn_asks, turn_cut}
 use Rattle.group_rounds.proofs.CauseLaws.{stood_yet, causes_ok}
+use Rattle.group_rounds.proofs.ServedLaws.{served_not, served_well}
 use Rattle.group_rounds.proofs.part.take_turn.Goals as goal
 
 -- ---- a fault
@@ -60,63 +61,58 @@ serve-requires-clause-budget g c =
     go None h = tt
     go (Some thread) h = h
 
-pub returns-in_err-way-in-Service-clause-asks : goal.returns-in_err-way-in-Service-clause-asks
-returns-in_err-way-in-Service-clause-asks g c =
-    let p = err_from_is_err_and c.from_residual.result c.from_residual.ensures.1 in
-    rw (p.1, p.2) (turn_asks c.args.state.now c.args.tid c.requires.budget
+pub returns-in-Err-clause-asks : goal.returns-in-Err-clause-asks
+returns-in-Err-clause-asks g c =
+    turn_asks c.args.state.now c.args.tid c.requires.budget
     (λ q o e. c.requires.stops q o e ∙ ap Err c.in-Service.is) _ _ _ _ _ _
-    c.in_err-way-in-Service.field-0.0 c.in_err-way-in-Service.ensures.asks)
+    c.in-Err.stop c.in-Err.ensures.asks
 
-pub returns-in_err-way-in-Service-clause-before_end :
-    goal.returns-in_err-way-in-Service-clause-before_end
-returns-in_err-way-in-Service-clause-before_end g c =
-    let p = err_from_is_err_and c.from_residual.result c.from_residual.ensures.1 in
-    rw (p.1, p.2) (asks_no_end c.args.state.now c.args.tid c.requires.live _ _ _ _ _ _
-    c.in_err-way-in-Service.field-0.0 c.in_err-way-in-Service.ensures.asks)
+pub returns-in-Err-clause-before_end : goal.returns-in-Err-clause-before_end
+returns-in-Err-clause-before_end g c =
+    asks_no_end c.args.state.now c.args.tid c.requires.live _ _ _ _ _ _
+    c.in-Err.stop c.in-Err.ensures.asks
 
-pub returns-in_ok-way-in-Service-clause-parts : goal.returns-in_ok-way-in-Service-clause-parts
-returns-in_ok-way-in-Service-clause-parts g c = λ ts parts.
+pub returns-in-Ok-clause-parts : goal.returns-in-Ok-clause-parts
+returns-in-Ok-clause-parts g c = λ ts parts.
     rw c.goes_on_after.ensures
-    (parts_left c.in_ok-way-in-Service.way c.args.tid ts c.serve.new.state
-    (c.in_ok-way-in-Service.ensures.parts ts parts))
+    (parts_left c.in-Ok.way c.args.tid ts c.serve.new.state
+    (c.in-Ok.ensures.parts ts parts))
 
-pub returns-in_ok-way-in-Service-clause-goes : goal.returns-in_ok-way-in-Service-clause-goes
-returns-in_ok-way-in-Service-clause-goes g c = λ q.
+pub returns-in-Ok-clause-goes : goal.returns-in-Ok-clause-goes
+returns-in-Ok-clause-goes g c = λ q.
     rw c.goes_on_after.ensures
     (service_goes c.args.state.now c.serve.new.state c.args.tid
-    c.requires.live _ _ c.in_ok-way-in-Service.way _ _ _ _
-    c.in_ok-way-in-Service.ensures.runs c.requires.budget
+    c.requires.live _ _ c.in-Ok.way _ _ _ _
+    c.in-Ok.ensures.runs c.requires.budget
     (λ q o e. c.requires.stops q o e ∙ ap Err c.in-Service.is) q)
 
-pub returns-in_ok-way-in-Service-clause-less : goal.returns-in_ok-way-in-Service-clause-less
-returns-in_ok-way-in-Service-clause-less g c = λ on.
+pub returns-in-Ok-clause-less : goal.returns-in-Ok-clause-less
+returns-in-Ok-clause-less g c = λ on.
     on_measure c.args.state.now c.serve.new.state c.args.tid c.requires.live _ _
-    c.in_ok-way-in-Service.way _ _ _ _ c.in_ok-way-in-Service.ensures.runs c.requires.budget
+    c.in-Ok.way _ _ _ _ c.in-Ok.ensures.runs c.requires.budget
     (sym c.goes_on_after.ensures ∙ on)
 
-pub returns-in_ok-way-in-Service-clause-live : goal.returns-in_ok-way-in-Service-clause-live
-returns-in_ok-way-in-Service-clause-live g c = λ on.
+pub returns-in-Ok-clause-live : goal.returns-in-Ok-clause-live
+returns-in-Ok-clause-live g c = λ on.
     on_lives c.args.state.now c.serve.new.state c.args.tid c.requires.live _ _
-    c.in_ok-way-in-Service.way _ _ _ _ c.in_ok-way-in-Service.ensures.runs
+    c.in-Ok.way _ _ _ _ c.in-Ok.ensures.runs
     (sym c.goes_on_after.ensures ∙ on)
 
-pub returns-in_ok-way-in-Service-clause-told : goal.returns-in_ok-way-in-Service-clause-told
-returns-in_ok-way-in-Service-clause-told g c =
+pub returns-in-Ok-clause-told : goal.returns-in-Ok-clause-told
+returns-in-Ok-clause-told g c =
     told_on c.args.state.now c.serve.new.state c.args.tid c.requires.live _ _
-    c.in_ok-way-in-Service.way _ _ _ _ c.in_ok-way-in-Service.ensures.runs c.requires.told
+    c.in-Ok.way _ _ _ _ c.in-Ok.ensures.runs c.requires.told
 
-pub returns-in_ok-way-in-Service-clause-count : goal.returns-in_ok-way-in-Service-clause-count
-returns-in_ok-way-in-Service-clause-count g c =
+pub returns-in-Ok-clause-count : goal.returns-in-Ok-clause-count
+returns-in-Ok-clause-count g c =
     served_count c.args.state.now c.serve.new.state c.args.tid c.requires.live _ _
-    c.in_ok-way-in-Service.way _ _ _ _ c.in_ok-way-in-Service.ensures.runs
+    c.in-Ok.way _ _ _ _ c.in-Ok.ensures.runs
 
-pub returns-in_err-way-in-Service-clause-cut : goal.returns-in_err-way-in-Service-clause-cut
-returns-in_err-way-in-Service-clause-cut g c =
-    on_err c.from_residual.result _
-    (turn_cut c.args.state.now c.serve.new.state c.args.tid c.requires.budget
+pub returns-in-Err-clause-cut : goal.returns-in-Err-clause-cut
+returns-in-Err-clause-cut g c =
+    turn_cut c.args.state.now c.serve.new.state c.args.tid c.requires.budget
     (λ q o e. c.requires.stops q o e ∙ ap Err c.in-Service.is) _ _ _ _ _ _
-    c.in_err-way-in-Service.field-0.0 c.in_err-way-in-Service.ensures.told
-    c.in_err-way-in-Service.ensures.asks c.in_err-way-in-Service.ensures.faults)
+    c.in-Err.stop c.in-Err.ensures.told c.in-Err.ensures.asks c.in-Err.ensures.faults
 
 -- ---- the rest, at each way out
 
@@ -142,9 +138,81 @@ returns-in-Page-clause-causes g c =
 pub returns-in-Page-clause-follows : goal.returns-in-Page-clause-follows
 returns-in-Page-clause-follows g c = g.met.S.Shim.reflexive c.args.shim.now
 
-pub returns-in_err-way-in-Service-clause-follows :
-    goal.returns-in_err-way-in-Service-clause-follows
-returns-in_err-way-in-Service-clause-follows g c = c.serve.ensures.follows
+pub returns-in-Err-clause-causes : goal.returns-in-Err-clause-causes
+returns-in-Err-clause-causes g c =
+    served_not _ _ _ _ _ _ (λ w. service w c.args.tid) c.args.state.now _ _ _ _ c.in-Err.stop
+    c.in-Err.ensures.causes c.in-Err.ensures.asks
 
-pub returns-in_ok-way-in-Service-clause-follows : goal.returns-in_ok-way-in-Service-clause-follows
-returns-in_ok-way-in-Service-clause-follows g c = c.serve.ensures.follows
+pub returns-in-Err-clause-round : goal.returns-in-Err-clause-round
+returns-in-Err-clause-round g c = c.serve.ensures.round
+
+pub returns-in-Err-clause-follows : goal.returns-in-Err-clause-follows
+returns-in-Err-clause-follows g c = c.serve.ensures.follows
+
+pub returns-in-Ok-clause-causes : goal.returns-in-Ok-clause-causes
+returns-in-Ok-clause-causes g c =
+    served_well _ _ _ _ _ _ _ c.in-Ok.way c.in-Ok.ensures.causes
+
+pub returns-in-Ok-clause-sound : goal.returns-in-Ok-clause-sound
+returns-in-Ok-clause-sound g c = c.serve.ensures.sound
+
+pub returns-in-Ok-clause-round : goal.returns-in-Ok-clause-round
+returns-in-Ok-clause-round g c = c.serve.ensures.round
+
+pub returns-in-Ok-clause-follows : goal.returns-in-Ok-clause-follows
+returns-in-Ok-clause-follows g c = c.serve.ensures.follows
+
+pub returns-in-Page-clause-sound : goal.returns-in-Page-clause-sound
+returns-in-Page-clause-sound g c = c.grant.ensures.sound
+
+pub returns-in-Page-clause-live : goal.returns-in-Page-clause-live
+returns-in-Page-clause-live g c = λ on.
+    subst (λ (t : Tables). IsThread t.threads c.args.tid) (sym c.grant.ensures.table)
+    c.requires.live
+
+pub returns-in-Page-clause-round : goal.returns-in-Page-clause-round
+returns-in-Page-clause-round g c = c.grant.ensures.round
+
+pub returns-in-Page-clause-count : goal.returns-in-Page-clause-count
+returns-in-Page-clause-count g c = c.grant.ensures.count
+
+pub returns-in-Page-clause-told : goal.returns-in-Page-clause-told
+returns-in-Page-clause-told g c = c.requires.told
+
+pub returns-in-Fault-clause-sound : goal.returns-in-Fault-clause-sound
+returns-in-Fault-clause-sound g c = c.end_by_fault.ensures.sound
+
+pub returns-in-Fault-clause-live : goal.returns-in-Fault-clause-live
+returns-in-Fault-clause-live g c = λ on. cc
+
+pub returns-in-Fault-clause-round : goal.returns-in-Fault-clause-round
+returns-in-Fault-clause-round g c = c.end_by_fault.ensures.round
+
+pub returns-in-Fault-clause-count : goal.returns-in-Fault-clause-count
+returns-in-Fault-clause-count g c = c.end_by_fault.ensures.count
+
+pub returns-in-Fault-clause-told : goal.returns-in-Fault-clause-told
+returns-in-Fault-clause-told g c = c.requires.told
+
+-- ---- the calls
+
+pub grant-requires : goal.grant-requires
+grant-requires g c = record { sound = c.requires.sound; live = c.requires.live }
+
+pub end_by_fault-requires-clause-sound : goal.end_by_fault-requires-clause-sound
+end_by_fault-requires-clause-sound g c = c.requires.sound
+
+pub end_by_fault-requires-clause-live : goal.end_by_fault-requires-clause-live
+end_by_fault-requires-clause-live g c = c.requires.live
+
+pub serve-requires-clause-sound : goal.serve-requires-clause-sound
+serve-requires-clause-sound g c = c.requires.sound
+
+pub serve-requires-clause-live : goal.serve-requires-clause-live
+serve-requires-clause-live g c = c.requires.live
+
+pub serve-requires-clause-ready : goal.serve-requires-clause-ready
+serve-requires-clause-ready g c = c.requires.ready
+
+pub serve-requires-clause-told : goal.serve-requires-clause-told
+serve-requires-clause-told g c = c.requires.told

@@ -3,7 +3,7 @@ use Rattle.group_rounds.specs.StatePlays.{telling}
 use Rattle.group_rounds.proofs.StatePlayLaws.{on_err, some_weaker}
 use Rattle.kernel_calls.specs.StateWorld.{shim_stop}
 use Rattle.std.proofs.lemmas.Result.{err_from_is_err_and}
-use Rattle.group_rounds.proofs.CauseLaws.{stood_yet, stood_then}
+use Rattle.group_rounds.proofs.CauseLaws.{stood_yet, stood_then, causes_err, causes_ok, causes_then}
 use Rattle.group_rounds.proofs.PhaseLaws.{serial_starts, serial_next, serial_ends, serial_cut}
 use Rattle.group_rounds.proofs.PhaseLaws.{serial_stopped, parts_at}
 use Rattle.group_rounds.proofs.phases.run_serial.Goals as goal
@@ -66,3 +66,65 @@ returns-in_err-finish_if_live-clause-asks g c =
     (λ k q. serial_stopped q c.args.state.now c.loop-tid.state _ _ _ _ c.args.starters.now
     c.loop-tid.tid-index _ c.loop-tid-test.true refl (c.loop-tid.invariant.goes q) (k q))
     c.in_err-finish_if_live.ensures.asks)
+
+-- ---- the rest, at each way out
+
+pub finish_if_live-requires-clause-sound : goal.finish_if_live-requires-clause-sound
+finish_if_live-requires-clause-sound g c = c.loop-tid.invariant.sound
+
+pub finish_if_live-requires-clause-told : goal.finish_if_live-requires-clause-told
+finish_if_live-requires-clause-told g c = c.loop-tid.invariant.told
+
+pub returns-in_err-finish_if_live-clause-goes : goal.returns-in_err-finish_if_live-clause-goes
+returns-in_err-finish_if_live-clause-goes g c =
+    let p = err_from_is_err_and c.from_residual.result c.from_residual.ensures.1 in rw p.1 tt
+
+pub returns-in_err-finish_if_live-clause-sound : goal.returns-in_err-finish_if_live-clause-sound
+returns-in_err-finish_if_live-clause-sound g c =
+    let p = err_from_is_err_and c.from_residual.result c.from_residual.ensures.1 in rw p.1 tt
+
+pub returns-in_err-finish_if_live-clause-count : goal.returns-in_err-finish_if_live-clause-count
+returns-in_err-finish_if_live-clause-count g c =
+    let p = err_from_is_err_and c.from_residual.result c.from_residual.ensures.1 in rw p.1 tt
+
+pub returns-in_err-finish_if_live-clause-told : goal.returns-in_err-finish_if_live-clause-told
+returns-in_err-finish_if_live-clause-told g c =
+    let p = err_from_is_err_and c.from_residual.result c.from_residual.ensures.1 in rw p.1 tt
+
+pub returns-in_err-finish_if_live-clause-round : goal.returns-in_err-finish_if_live-clause-round
+returns-in_err-finish_if_live-clause-round g c =
+    c.finish_if_live.ensures.round ∙ c.loop-tid.invariant.round
+
+pub returns-in_err-finish_if_live-clause-before_end :
+    goal.returns-in_err-finish_if_live-clause-before_end
+returns-in_err-finish_if_live-clause-before_end g c =
+    let p = err_from_is_err_and c.from_residual.result c.from_residual.ensures.1 in
+    rw (p.1, p.2) c.in_err-finish_if_live.ensures.before_end
+
+pub returns-in_err-finish_if_live-clause-causes : goal.returns-in_err-finish_if_live-clause-causes
+returns-in_err-finish_if_live-clause-causes g c =
+    let p = err_from_is_err_and c.from_residual.result c.from_residual.ensures.1 in
+    rw (p.1, p.2) (causes_then _ _ _ _ _ _ _ _ _ _ c.loop-tid.invariant.stood
+    (causes_err _ _ _ _ _ _ _ c.in_err-finish_if_live.ensures.causes))
+
+pub returns-in_err-finish_if_live-clause-follows : goal.returns-in_err-finish_if_live-clause-follows
+returns-in_err-finish_if_live-clause-follows g c =
+    g.met.S.Shim.transitive _ _ _ c.loop-tid.invariant.follows c.finish_if_live.ensures.follows
+
+pub returns-clause-sound : goal.returns-clause-sound
+returns-clause-sound g c = c.loop-tid.invariant.sound
+
+pub returns-clause-round : goal.returns-clause-round
+returns-clause-round g c = c.loop-tid.invariant.round
+
+pub returns-clause-count : goal.returns-clause-count
+returns-clause-count g c = c.loop-tid.invariant.count
+
+pub returns-clause-told : goal.returns-clause-told
+returns-clause-told g c = c.loop-tid.invariant.told
+
+pub returns-clause-causes : goal.returns-clause-causes
+returns-clause-causes g c = causes_ok _ _ _ _ _ _ _ c.loop-tid.invariant.stood
+
+pub returns-clause-follows : goal.returns-clause-follows
+returns-clause-follows g c = c.loop-tid.invariant.follows

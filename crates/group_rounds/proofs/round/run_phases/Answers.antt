@@ -52,3 +52,6 @@ returns-clause-asks g c =
     (λ stopped. phases_stopped c.args.quantum c.args.state.now c.set_budgets.new.state
     c.run.new.state c.args.starters.now c.requires.ready c.set_budgets.ensures.sets
     c.run.ensures.runs _ _ _ (stopped c.args.quantum))) c.finish_round.ensures.asks
+
+pub returns-clause-end : goal.returns-clause-end
+returns-clause-end g c = c.finish_round.ensures.end
