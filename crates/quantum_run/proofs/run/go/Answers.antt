@@ -1,4 +1,4 @@
-use Rattle.std.proofs.Common.{ℕ, ◌+◌, ◌-◌, ◌≡◌, ◌<◌, List, None, Some, sym, subst, arith}
+use Rattle.std.proofs.Common.{ℕ, ◌+◌, ◌-◌, ◌≡◌, ◌<◌, ◌≤◌, List, None, Some, sym, subst, arith}
 use Rattle.dos_world.specs.World.{World, Registers, with_pc}
 use Rattle.rv_exec.specs.Arrivals.{arrived}
 use Rattle.rv_exec.specs.declared.next.Next.TheVariants.{On, To, Not}
@@ -128,3 +128,50 @@ returns-clause-runs g c = λ f t w runs.
           (c.loop-left.invariant.0 f t w runs);
       stops = omega (arith, c.loop-left-test.false);
     })
+
+-- ---- the numbers, at each way out
+
+some-more : (left floor : ℕ) → 0 < left → 0 < left + floor
+some-more left floor some = omega arith
+
+one-less : (left : ℕ) → 0 < left → left - 1 < left
+one-less left some = omega arith
+
+none-more : (left floor : ℕ) → left ≤ 0 → left + floor ≡ floor
+none-more left floor none = omega arith
+
+pub overflow_sub-left : goal.overflow_sub-left
+overflow_sub-left g c = c.requires.floor
+
+pub knows-requires : goal.knows-requires
+knows-requires g c = c.loop-left.invariant.2
+
+pub form-requires : goal.form-requires
+form-requires g c = c.loop-left.invariant.2
+
+pub place_after-place-requires : goal.place_after-place-requires
+place_after-place-requires g c = c.loop-left.invariant.2
+
+pub returns-then-not-knows-clause-stop : goal.returns-then-not-knows-clause-stop
+returns-then-not-knows-clause-stop g c = some-more _ _ c.loop-left-test.true
+
+pub returns-then-not-knows-clause-within : goal.returns-then-not-knows-clause-within
+returns-then-not-knows-clause-within g c = c.loop-left.invariant.1
+
+pub returns-in-Not-clause-stop : goal.returns-in-Not-clause-stop
+returns-in-Not-clause-stop g c = some-more _ _ c.loop-left-test.true
+
+pub returns-in-Not-clause-within : goal.returns-in-Not-clause-within
+returns-in-Not-clause-within g c = c.loop-left.invariant.1
+
+pub overflow_sub-left-in-loop-left : goal.overflow_sub-left-in-loop-left
+overflow_sub-left-in-loop-left g c = c.loop-left-test.true
+
+pub loop-left-smaller : goal.loop-left-smaller
+loop-left-smaller g c = one-less _ c.loop-left-test.true
+
+pub returns-clause-stop : goal.returns-clause-stop
+returns-clause-stop g c = none-more _ _ c.loop-left-test.false
+
+pub returns-clause-within : goal.returns-clause-within
+returns-clause-within g c = c.loop-left.invariant.1
