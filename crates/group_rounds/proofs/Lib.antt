@@ -22,3 +22,4 @@ pub mod InPlaceLaws
 pub mod AwayLaws
 pub mod ServedLaws
 pub mod EndLaws
+pub mod StopCauses

@@ -36,9 +36,11 @@ fill_next-requires-clause-some c =
 
 pub fill_next-requires-clause-room : goal.fill_next-requires-clause-room
 fill_next-requires-clause-room c =
-    room-left _ _ _ _ _ (ap length c.loop-tid.invariant.packs
+    room-left _ _ _ _ _
+    (ap length c.loop-tid.invariant.packs
     ∙ so-far (pack_of c.args.state.now.table (length c.args.state.now.frames.pages))
-    c.args.starters.now c.loop-tid.tid-index (less-or-same _ _ c.loop-tid-test.true)) c.loop-tid-test.true c.requires.room c.loop-tid.invariant.room
+    c.args.starters.now c.loop-tid.tid-index (less-or-same _ _ c.loop-tid-test.true))
+    c.loop-tid-test.true c.requires.room c.loop-tid.invariant.room
 
 pub fill_next-requires-clause-empty : goal.fill_next-requires-clause-empty
 fill_next-requires-clause-empty c = λ p here. (c.loop-tid.invariant.spare p here).0

@@ -10,26 +10,40 @@ use Rattle.group_rounds.proofs.StatePlayLaws.{if_err_weaker, ok_weaker, some_wea
 use Rattle.group_rounds.proofs.RoundLaws.{nobody_starts, round_began, round_cut, round_done}
 use Rattle.group_rounds.proofs.RoundLaws.{round_ran, round_stopped, round_stops}
 use Rattle.group_rounds.proofs.StopLaws.{cut_stopped}
+use Rattle.group_rounds.proofs.StopCauses.{stops_causes}
 use Rattle.dos_laws.specs.Plays.{world_ended}
 use Rattle.round_core.specs.Round.{round_of}
 use Rattle.group_rounds.specs.Rounds.{next_round}
 use Rattle.group_rounds.proofs.CauseLaws.{stood_yet, causes_then, causes_ok}
 use Rattle.group_rounds.proofs.round.play_round.Goals as goal
 
-pub returns-then-live_threads-eq0-clause-runs : goal.returns-then-live_threads-eq0-clause-runs
-returns-then-live_threads-eq0-clause-runs g c = (
-  0,
-  round_done c.args.quantum c.args.state.now
-      (telling (g.S.Shim.state c.args.shim.now).told (g.O.Sink.told c.args.out.now)
-      (g.E.Sink.told c.args.err.now))
-      (sym c.live_threads.ensures ∙ c.if-live_threads-eq0.true),
-  grew-nothing (g.W.Workers.tally c.args.workers.now),
-)
-
-pub returns-then-live_threads-eq0-clause-starters :
-    goal.returns-then-live_threads-eq0-clause-starters
-returns-then-live_threads-eq0-clause-starters g c =
-    nobody_starts c.args.state.now (g.S.Shim.state c.args.shim.now).told c.args.starters.now.items
+pub returns-then-live_threads-eq0 : goal.returns-then-live_threads-eq0
+returns-then-live_threads-eq0 g c = record {
+  runs = (
+    0,
+    round_done c.args.quantum c.args.state.now
+        (telling (g.S.Shim.state c.args.shim.now).told (g.O.Sink.told c.args.out.now)
+        (g.E.Sink.told c.args.err.now))
+        (sym c.live_threads.ensures ∙ c.if-live_threads-eq0.true),
+    grew-nothing (g.W.Workers.tally c.args.workers.now),
+  );
+  asks = tt;
+  cut = tt;
+  before_end = tt;
+  starters = nobody_starts c.args.state.now (g.S.Shim.state c.args.shim.now).told
+      c.args.starters.now.items;
+  room = c.requires.room;
+  sound = c.requires.sound;
+  round = refl;
+  packs = refl;
+  uncounted = tt;
+  count = refl;
+  told = c.requires.told;
+  causes = causes_ok _ _ _ _ _ _ _ (stood_yet (g.S.Shim.state c.args.shim.now)
+      (g.O.Sink.faults c.args.out.now) (g.E.Sink.faults c.args.err.now));
+  follows = g.met.S.Shim.reflexive c.args.shim.now;
+  fixed = refl;
+}
 
 -- ---- the shim stops at the first question
 
@@ -38,111 +52,33 @@ on_some : {A : Type 0} (o : Option A) (P : Type 0) → P → OnSome o P
 on_some None P h = tt
 on_some (Some x) P h = h
 
-pub returns-in-Err-clause-asks : goal.returns-in-Err-clause-asks
-returns-in-Err-clause-asks g c =
-    on_some _ _
-    (round_stops c.args.quantum c.args.state.now c.requires.sound
-    (λ none. c.if-live_threads-eq0.false (c.live_threads.ensures ∙ none)) _ _ _
-    c.in-Err.ensures.stopped.stopped.told refl refl c.in-Err.ensures.stopped.stopped.asked)
-
-pub returns-in-Err-clause-cut : goal.returns-in-Err-clause-cut
-returns-in-Err-clause-cut g c =
-    cut_stopped c.args.quantum world_ended (λ w. round_of w) c.args.state.now _ _ _
-    (round_stops c.args.quantum c.args.state.now c.requires.sound
-    (λ none. c.if-live_threads-eq0.false (c.live_threads.ensures ∙ none)) _ _ _
-    c.in-Err.ensures.stopped.stopped.told refl refl c.in-Err.ensures.stopped.stopped.asked)
-
-pub returns-in-Err-clause-before_end : goal.returns-in-Err-clause-before_end
-returns-in-Err-clause-before_end g c =
-    on_some _ _ (ap is_end c.in-Err.ensures.stopped.stopped.asked)
+pub returns-in-Err : goal.returns-in-Err
+returns-in-Err g c = record {
+  runs = tt;
+  asks = on_some _ _
+      (round_stops c.args.quantum c.args.state.now c.requires.sound
+      (λ none. c.if-live_threads-eq0.false (c.live_threads.ensures ∙ none)) _ _ _
+      c.in-Err.ensures.stopped.stopped.told refl refl c.in-Err.ensures.stopped.stopped.asked);
+  cut = cut_stopped c.args.quantum world_ended (λ w. round_of w) c.args.state.now _ _ _
+      (round_stops c.args.quantum c.args.state.now c.requires.sound
+      (λ none. c.if-live_threads-eq0.false (c.live_threads.ensures ∙ none)) _ _ _
+      c.in-Err.ensures.stopped.stopped.told refl refl c.in-Err.ensures.stopped.stopped.asked);
+  before_end = on_some _ _ (ap is_end c.in-Err.ensures.stopped.stopped.asked);
+  starters = tt;
+  room = c.open_round.ensures.room;
+  sound = tt;
+  round = tt;
+  packs = refl;
+  uncounted = c.open_round.ensures.round;
+  count = tt;
+  told = tt;
+  causes = stops_causes _ _ (g.S.Shim.state c.args.shim.now)
+      (g.S.Shim.state c.open_round.new.shim) _ _ c.in-Err.ensures.stopped;
+  follows = c.open_round.ensures.follows;
+  fixed = refl;
+}
 
 -- ---- and goes on after the signal point
-
-pub returns-in-Ok-clause-runs : goal.returns-in-Ok-clause-runs
-returns-in-Ok-clause-runs g c =
-    IfOk-weaker c.play_begun.result _ _
-    (λ end k. (
-      k.0,
-      round_ran c.args.quantum c.args.state.now c.requires.sound
-          (λ none. c.if-live_threads-eq0.false (c.live_threads.ensures ∙ none))
-          c.in-Ok.ensures.opened.list c.open_round.new.state
-          c.in-Ok.ensures.opened.begins _ _
-          (ap (λ (s : ShimState). s.told) c.in-Ok.ensures.opened.answered_is) refl refl
-          end c.play_begun.new.state _ k.0 k.1,
-      k.2,
-    )) c.play_begun.ensures.goes
-
-pub returns-in-Ok-clause-starters : goal.returns-in-Ok-clause-starters
-returns-in-Ok-clause-starters g c =
-    ok_weaker c.play_begun.result _ _
-    (λ end k. round_began c.args.quantum c.args.state.now c.requires.sound
-    (λ none. c.if-live_threads-eq0.false (c.live_threads.ensures ∙ none))
-    c.in-Ok.ensures.opened.list c.open_round.new.state
-    c.in-Ok.ensures.opened.begins _ _
-    (ap (λ (s : ShimState). s.told) c.in-Ok.ensures.opened.answered_is) refl refl
-    c.args.starters.now.items c.open_round.new.starters.items end c.play_begun.new.state _
-    k.0 c.in-Ok.ensures.starters k.1) c.play_begun.ensures.goes
-
-pub returns-in-Ok-clause-asks : goal.returns-in-Ok-clause-asks
-returns-in-Ok-clause-asks g c =
-    if_err_weaker c.play_begun.result _ _
-    (λ stop. some_weaker (shim_stop stop) _ _
-    (round_stopped c.args.quantum c.args.state.now c.requires.sound
-    (λ none. c.if-live_threads-eq0.false (c.live_threads.ensures ∙ none))
-    c.in-Ok.ensures.opened.list c.open_round.new.state
-    c.in-Ok.ensures.opened.begins _ _
-    (ap (λ (s : ShimState). s.told) c.in-Ok.ensures.opened.answered_is) refl refl
-    _ _)) c.play_begun.ensures.asks
-
-pub returns-in-Ok-clause-cut : goal.returns-in-Ok-clause-cut
-returns-in-Ok-clause-cut g c =
-    on_err_weaker c.play_begun.result
-    (round_cut c.args.quantum c.args.state.now c.requires.sound
-    (λ none. c.if-live_threads-eq0.false (c.live_threads.ensures ∙ none))
-    c.in-Ok.ensures.opened.list c.open_round.new.state
-    c.in-Ok.ensures.opened.begins _ _
-    (ap (λ (s : ShimState). s.told) c.in-Ok.ensures.opened.answered_is) refl refl
-    _) c.play_begun.ensures.cut
-
--- ---- the rest, at each way out
-
-pub returns-then-live_threads-eq0-clause-causes : goal.returns-then-live_threads-eq0-clause-causes
-returns-then-live_threads-eq0-clause-causes g c =
-    causes_ok _ _ _ _ _ _ _ (stood_yet (g.S.Shim.state c.args.shim.now)
-    (g.O.Sink.faults c.args.out.now) (g.E.Sink.faults c.args.err.now))
-
-pub returns-then-live_threads-eq0-clause-follows : goal.returns-then-live_threads-eq0-clause-follows
-returns-then-live_threads-eq0-clause-follows g c = g.met.S.Shim.reflexive c.args.shim.now
-
-pub returns-then-live_threads-eq0-clause-room : goal.returns-then-live_threads-eq0-clause-room
-returns-then-live_threads-eq0-clause-room g c = c.requires.room
-
-pub returns-then-live_threads-eq0-clause-sound : goal.returns-then-live_threads-eq0-clause-sound
-returns-then-live_threads-eq0-clause-sound g c = c.requires.sound
-
-pub returns-then-live_threads-eq0-clause-round : goal.returns-then-live_threads-eq0-clause-round
-returns-then-live_threads-eq0-clause-round g c = refl
-
-pub returns-then-live_threads-eq0-clause-packs : goal.returns-then-live_threads-eq0-clause-packs
-returns-then-live_threads-eq0-clause-packs g c = refl
-
-pub returns-then-live_threads-eq0-clause-count : goal.returns-then-live_threads-eq0-clause-count
-returns-then-live_threads-eq0-clause-count g c = refl
-
-pub returns-then-live_threads-eq0-clause-told : goal.returns-then-live_threads-eq0-clause-told
-returns-then-live_threads-eq0-clause-told g c = c.requires.told
-
-pub returns-then-live_threads-eq0-clause-fixed : goal.returns-then-live_threads-eq0-clause-fixed
-returns-then-live_threads-eq0-clause-fixed g c = refl
-
-pub returns-in-Err-clause-room : goal.returns-in-Err-clause-room
-returns-in-Err-clause-room g c = c.open_round.ensures.room
-
-pub returns-in-Err-clause-packs : goal.returns-in-Err-clause-packs
-returns-in-Err-clause-packs g c = refl
-
-pub returns-in-Err-clause-fixed : goal.returns-in-Err-clause-fixed
-returns-in-Err-clause-fixed g c = refl
 
 pub open_round-requires-clause-sound : goal.open_round-requires-clause-sound
 open_round-requires-clause-sound g c = c.requires.sound
@@ -152,12 +88,6 @@ open_round-requires-clause-room g c = c.requires.room
 
 pub open_round-requires-clause-told : goal.open_round-requires-clause-told
 open_round-requires-clause-told g c = c.requires.told
-
-pub returns-in-Err-clause-uncounted : goal.returns-in-Err-clause-uncounted
-returns-in-Err-clause-uncounted g c = c.open_round.ensures.round
-
-pub returns-in-Err-clause-follows : goal.returns-in-Err-clause-follows
-returns-in-Err-clause-follows g c = c.open_round.ensures.follows
 
 pub play_begun-requires-clause-sound : goal.play_begun-requires-clause-sound
 play_begun-requires-clause-sound g c = λ κs outlive. c.in-Ok.ensures.sound
@@ -182,52 +112,64 @@ play_begun-requires-clause-limit g c = λ κs outlive.
 pub play_begun-requires-clause-told : goal.play_begun-requires-clause-told
 play_begun-requires-clause-told g c = λ κs outlive. c.in-Ok.ensures.told
 
-pub returns-in-Ok-clause-before_end : goal.returns-in-Ok-clause-before_end
-returns-in-Ok-clause-before_end g c = c.play_begun.ensures.before_end
-
-pub returns-in-Ok-clause-room : goal.returns-in-Ok-clause-room
-returns-in-Ok-clause-room g c = c.open_round.ensures.room
-
-pub returns-in-Ok-clause-sound : goal.returns-in-Ok-clause-sound
-returns-in-Ok-clause-sound g c = c.play_begun.ensures.sound
-
-pub returns-in-Ok-clause-round : goal.returns-in-Ok-clause-round
-returns-in-Ok-clause-round g c =
-    subst (λ (n : ℕ). IfOk c.play_begun.result
-    (λ end. c.play_begun.new.state.round ≡ next_round end n))
-    c.open_round.ensures.round c.play_begun.ensures.round
-
-pub returns-in-Ok-clause-packs : goal.returns-in-Ok-clause-packs
-returns-in-Ok-clause-packs g c = c.play_begun.ensures.packs
-
-pub returns-in-Ok-clause-uncounted : goal.returns-in-Ok-clause-uncounted
-returns-in-Ok-clause-uncounted g c =
-    subst (λ (n : ℕ). OnErr c.play_begun.result (c.play_begun.new.state.round ≡ n))
-    c.open_round.ensures.round c.play_begun.ensures.uncounted
-
-pub returns-in-Ok-clause-count : goal.returns-in-Ok-clause-count
-returns-in-Ok-clause-count g c =
-    subst (λ (n : ℕ). OnOk c.play_begun.result
-    (length c.play_begun.new.state.frames.owners ≡ n))
-    c.open_round.ensures.count c.play_begun.ensures.count
-
-pub returns-in-Ok-clause-told : goal.returns-in-Ok-clause-told
-returns-in-Ok-clause-told g c = c.play_begun.ensures.told
-
-pub returns-in-Ok-clause-causes : goal.returns-in-Ok-clause-causes
-returns-in-Ok-clause-causes g c =
-    causes_then c.play_begun.result (g.S.Shim.state c.args.shim.now) _ _ _ _ _ _ _ _ (record {
-      out_later = le_refl _;
-      err_later = le_refl _;
-      stands = record {
-        stops = ap (λ (s : ShimState). s.stops) c.in-Ok.ensures.opened.answered_is;
-        last = ap (λ (s : ShimState). s.last) c.in-Ok.ensures.opened.answered_is;
-      };
-    }) c.play_begun.ensures.causes
-
-pub returns-in-Ok-clause-follows : goal.returns-in-Ok-clause-follows
-returns-in-Ok-clause-follows g c =
-    g.met.S.Shim.transitive _ _ _ c.open_round.ensures.follows c.play_begun.ensures.follows
-
-pub returns-in-Ok-clause-fixed : goal.returns-in-Ok-clause-fixed
-returns-in-Ok-clause-fixed g c = c.play_begun.ensures.fixed
+pub returns-in-Ok : goal.returns-in-Ok
+returns-in-Ok g c = record {
+  runs = IfOk-weaker c.play_begun.result _ _
+      (λ end k. (
+        k.0,
+        round_ran c.args.quantum c.args.state.now c.requires.sound
+            (λ none. c.if-live_threads-eq0.false (c.live_threads.ensures ∙ none))
+            c.in-Ok.ensures.opened.list c.open_round.new.state
+            c.in-Ok.ensures.opened.begins _ _
+            (ap (λ (s : ShimState). s.told) c.in-Ok.ensures.opened.answered_is) refl refl
+            end c.play_begun.new.state _ k.0 k.1,
+        k.2,
+      )) c.play_begun.ensures.goes;
+  asks = if_err_weaker c.play_begun.result _ _
+      (λ stop. some_weaker (shim_stop stop) _ _
+      (round_stopped c.args.quantum c.args.state.now c.requires.sound
+      (λ none. c.if-live_threads-eq0.false (c.live_threads.ensures ∙ none))
+      c.in-Ok.ensures.opened.list c.open_round.new.state
+      c.in-Ok.ensures.opened.begins _ _
+      (ap (λ (s : ShimState). s.told) c.in-Ok.ensures.opened.answered_is) refl refl
+      _ _)) c.play_begun.ensures.asks;
+  cut = on_err_weaker c.play_begun.result
+      (round_cut c.args.quantum c.args.state.now c.requires.sound
+      (λ none. c.if-live_threads-eq0.false (c.live_threads.ensures ∙ none))
+      c.in-Ok.ensures.opened.list c.open_round.new.state
+      c.in-Ok.ensures.opened.begins _ _
+      (ap (λ (s : ShimState). s.told) c.in-Ok.ensures.opened.answered_is) refl refl
+      _) c.play_begun.ensures.cut;
+  before_end = c.play_begun.ensures.before_end;
+  starters = ok_weaker c.play_begun.result _ _
+      (λ end k. round_began c.args.quantum c.args.state.now c.requires.sound
+      (λ none. c.if-live_threads-eq0.false (c.live_threads.ensures ∙ none))
+      c.in-Ok.ensures.opened.list c.open_round.new.state
+      c.in-Ok.ensures.opened.begins _ _
+      (ap (λ (s : ShimState). s.told) c.in-Ok.ensures.opened.answered_is) refl refl
+      c.args.starters.now.items c.open_round.new.starters.items end c.play_begun.new.state _
+      k.0 c.in-Ok.ensures.starters k.1) c.play_begun.ensures.goes;
+  room = c.open_round.ensures.room;
+  sound = c.play_begun.ensures.sound;
+  round = subst (λ (n : ℕ). IfOk c.play_begun.result
+      (λ end. c.play_begun.new.state.round ≡ next_round end n))
+      c.open_round.ensures.round c.play_begun.ensures.round;
+  packs = c.play_begun.ensures.packs;
+  uncounted = subst (λ (n : ℕ). OnErr c.play_begun.result (c.play_begun.new.state.round ≡ n))
+      c.open_round.ensures.round c.play_begun.ensures.uncounted;
+  count = subst (λ (n : ℕ). OnOk c.play_begun.result
+      (length c.play_begun.new.state.frames.owners ≡ n))
+      c.open_round.ensures.count c.play_begun.ensures.count;
+  told = c.play_begun.ensures.told;
+  causes =
+      causes_then c.play_begun.result (g.S.Shim.state c.args.shim.now) _ _ _ _ _ _ _ _ (record {
+        out_later = le_refl _;
+        err_later = le_refl _;
+        stands = record {
+          stops = ap (λ (s : ShimState). s.stops) c.in-Ok.ensures.opened.answered_is;
+          last = ap (λ (s : ShimState). s.last) c.in-Ok.ensures.opened.answered_is;
+        };
+      }) c.play_begun.ensures.causes;
+  follows = g.met.S.Shim.transitive _ _ _ c.open_round.ensures.follows c.play_begun.ensures.follows;
+  fixed = c.play_begun.ensures.fixed;
+}
