@@ -87,7 +87,8 @@ returns-in-Read-clause-follows g c = c.read.ensures.follows
 pub returns-in-Clock-clause-runs : goal.returns-in-Clock-clause-runs
 returns-in-Clock-clause-runs g c =
     IfOk-weaker c.clock.result _ _ (λ way. answers_consults (definition_of c.args.service) clock
-    (ap definition_of c.in-Clock.is) c.args.state.now c.clock.new.state c.args.asked.now way _ _ _ _)
+    (ap definition_of c.in-Clock.is) c.args.state.now c.clock.new.state c.args.asked.now way
+    _ _ _ _)
     c.clock.ensures.consults
 
 pub returns-in-Clock-clause-counted : goal.returns-in-Clock-clause-counted

@@ -100,7 +100,8 @@ returns-in-Some-Error-clause-round g c = c.send-in-Some-Error.ensures.round
 
 pub returns-in-Some-Error-clause-grows : goal.returns-in-Some-Error-clause-grows
 returns-in-Some-Error-clause-grows g c =
-    on_err_weaker c.send-in-Some-Error.result (error_grown _ _ _ _ _ _) c.send-in-Some-Error.ensures.cut
+    on_err_weaker c.send-in-Some-Error.result (error_grown _ _ _ _ _ _)
+    c.send-in-Some-Error.ensures.cut
 
 pub returns-in-Some-Error-clause-faults : goal.returns-in-Some-Error-clause-faults
 returns-in-Some-Error-clause-faults g c =
@@ -115,8 +116,8 @@ pub returns-in-Some-Error-clause-causes : goal.returns-in-Some-Error-clause-caus
 returns-in-Some-Error-clause-causes g c = record {
   err_later = c.send-in-Some-Error.ensures.cause.later;
   out_later = le_refl _;
-  sinks = err_is _ c.send-in-Some-Error.result _ ErrFault (λ rose. rose) c.send-in-Some-Error.ensures.cause.failed
-      c.send-in-Some-Error.ensures.stop;
+  sinks = err_is _ c.send-in-Some-Error.result _ ErrFault (λ rose. rose)
+      c.send-in-Some-Error.ensures.cause.failed c.send-in-Some-Error.ensures.stop;
 }
 
 -- ---- to a pipe, or to nothing
