@@ -1,9 +1,10 @@
 //! The state that a group begins with.
 
-ghost use Rattle.std.specs.Prelude.{◌≡◌, ◌≢◌, ◌+◌, ◌<◌, ◌≤◌, ℕ, Err, IfErr, IfOk, length};
+ghost use Rattle.std.specs.Prelude.{◌≡◌, ◌≢◌, ◌+◌, ◌<◌, ◌≤◌, ℕ, Err, IfErr, IfOk, [], length};
 ghost use Rattle.dos_world.specs.Lawful.{IsConfig};
 ghost use Rattle.kernel_calls.specs.StateWorld.{IsSound, world_of};
-ghost use Rattle.group_open.specs.Group.{IsStateOf};
+ghost use Rattle.kernel_objects.specs.Pipework.{none_open};
+ghost use Rattle.group_open.specs.Group.{IsOpened, IsStateOf};
 ghost use Rattle.group_open.specs.Opening.{needed, opening};
 
 use crate::OpenError;
@@ -17,18 +18,55 @@ use page_store::Frames;
 use proc_table::Table;
 use std::alloc::{AllocError, Global};
 
+// pipes of which none is open, and a queue of nobody
+fn reserve_objects(alloc: Global) -> Result<(Pipes, FutexQueue), AllocError>
+    ensures pipes { IfOk result (λ x. x.0 ≡ none_open) }
+    ensures futexes { IfOk result (λ x. x.1 ≡ []) }
+{
+    let pipes = Pipes::reserve(alloc)?;
+    match FutexQueue::reserve(alloc) {
+        Ok(futexes) => Ok((pipes, futexes)),
+        Err(why) => {
+            drop(pipes);
+            Err(why)
+        }
+    }
+}
+
+// these images, opened in frames that they fit
+fn open_all(alloc: Global, images: &[Image], frames: u32) -> Result<(Frames, Table), AllocError>
+    requires few { length images.now ≤ 8 }
+    requires fits { needed images.now ≤ frames }
+    ensures { IfOk result (λ x. IsOpened frames x.0 x.1 images.now) }
+{
+    let mut store = Frames::reserve(alloc, frames)?;
+    match Table::reserve(alloc, frames) {
+        Ok(mut table) => {
+            open_images(&mut store, &mut table, images);
+            Ok((store, table))
+        }
+        Err(why) => {
+            drop(store);
+            Err(why)
+        }
+    }
+}
+
 // the state of these images, in frames that they fit
 fn state_of(alloc: Global, images: &[Image], frames: u32) -> Result<State, AllocError>
     requires few { length images.now ≤ 8 }
     requires fits { needed images.now ≤ frames }
     ensures { IfOk result (λ state. IsStateOf frames images.now state) }
 {
-    let mut store = Frames::reserve(alloc, frames)?;
-    let mut table = Table::reserve(alloc, frames)?;
-    let pipes = Pipes::reserve(alloc)?;
-    let futexes = FutexQueue::reserve(alloc)?;
-    open_images(&mut store, &mut table, images);
-    Ok(new_state(store, table, pipes, futexes))
+    let (pipes, futexes) = reserve_objects(alloc)?;
+    match open_all(alloc, images, frames) {
+        Ok((store, table)) => Ok(new_state(store, table, pipes, futexes)),
+        Err(why) => {
+            drop(pipes);
+            drop(futexes);
+            Err(why)
+        }
+    }
 }
 
 /// The state before the first round of a group of 1 to 8 images: image i, counted from 1, is
