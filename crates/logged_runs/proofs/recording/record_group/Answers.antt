@@ -1,8 +1,15 @@
-use Rattle.std.proofs.Common.{sym, ◌∙◌}
+use Rattle.std.proofs.Common.{◌≡◌, sym, ◌∙◌, Ok, Err}
+use Rattle.std.specs.Prelude.{Result}
 use Rattle.logged_runs.proofs.FromOpening.{is_told}
 use Rattle.logged_runs.proofs.Recordings.{followed, host_rose, no_end_told, recorded}
 use Rattle.logged_runs.proofs.Recordings.{recorded_ahead, stopped, this_stop}
 use Rattle.logged_runs.proofs.recording.record_group.Goals as goal
+
+pub run_group-requires-clause-running : goal.run_group-requires-clause-running
+run_group-requires-clause-running g c = λ κs alive. c.requires.running
+
+pub run_group-requires-clause-fresh : goal.run_group-requires-clause-fresh
+run_group-requires-clause-fresh g c = λ κs alive. c.requires.fresh
 
 pub run_group-requires-clause-told : goal.run_group-requires-clause-told
 run_group-requires-clause-told g c = λ κs alive.
@@ -13,75 +20,58 @@ into_parts-host-requires g c =
     let run = c.in-Ok.ensures in
     record { ended = is_told _ _ _ run.told_end }
 
-pub returns-in-Ok-clause-ran : goal.returns-in-Ok-clause-ran
-returns-in-Ok-clause-ran g c =
+-- what ended hasn't stopped
+not_stopped : {T E : Type 0} (x : T) (e : E) → Ok x ≡ Err e → ⊥
+not_stopped x e is = cc
+
+pub returns-in-Ok : goal.returns-in-Ok
+returns-in-Ok g c =
     let run = c.in-Ok.ensures in
     let parts = c.into_parts-host.ensures in
     let left = c.host-1.given.1 (sym (parts.same ∙ run.follows.0 ∙ c.of-shim.ensures.host))
     ∙ c.hand_back.ensures ∙ parts.value in
     let follows = followed g.H.Host.told g.H.Host.faults _ _ _ _ _ _ c.of-shim.ensures.value left
     run.follows.1 in
-    recorded c.args.kernel.now c.args.ledger c.of-shim.result.ledger
-    c.run_group.new.shim.ledger _ _ _ _ _ _ _ _ c.of-shim.ensures.ledger c.requires.begins
-    follows c.into_parts-host.result.1
-    c.run_group.new.kernel c.in-Ok.ending _ _ run.runs.0 run.runs.1 run.runs.2 c.look.ensures
-    parts.log parts.header c.len-exchanges.ensures.fits parts.small
+    record {
+      ran = recorded c.args.kernel.now c.args.ledger c.of-shim.result.ledger
+          c.run_group.new.shim.ledger _ _ _ _ _ _ _ _ c.of-shim.ensures.ledger c.requires.begins
+          follows c.into_parts-host.result.1
+          c.run_group.new.kernel c.in-Ok.ending _ _ run.runs.0 run.runs.1 run.runs.2 c.look.ensures
+          parts.log parts.header c.len-exchanges.ensures.fits parts.small;
+      stopped = tt;
+      cut = tt;
+      host_cause = λ is. absurd (not_stopped _ _ is);
+      sinks = tt;
+      host_later = follows.grows;
+      out_later = run.causes.out_later;
+      err_later = run.causes.err_later;
+      fixed = run.fixed;
+    }
 
-pub returns-in-Ok-clause-host_later : goal.returns-in-Ok-clause-host_later
-returns-in-Ok-clause-host_later g c =
-    let run = c.in-Ok.ensures in
-    let parts = c.into_parts-host.ensures in
-    let left = c.host-1.given.1 (sym (parts.same ∙ run.follows.0 ∙ c.of-shim.ensures.host))
-    ∙ c.hand_back.ensures ∙ parts.value in
-    let follows = followed g.H.Host.told g.H.Host.faults _ _ _ _ _ _ c.of-shim.ensures.value left
-    run.follows.1 in
-    follows.grows
-
-pub returns-in-Err-clause-stopped : goal.returns-in-Err-clause-stopped
-returns-in-Err-clause-stopped g c =
+pub returns-in-Err : goal.returns-in-Err
+returns-in-Err g c =
     let run = c.in-Err.ensures in
     let host = c.into_host.ensures in
     let left = c.host-in-Err-1.given.1 (sym (host.same ∙ run.follows.0 ∙ c.of-shim.ensures.host))
     ∙ c.hand_back-in-Err.ensures ∙ host.value in
     let follows = followed g.H.Host.told g.H.Host.faults _ _ _ _ _ _ c.of-shim.ensures.value left
     run.follows.1 in
-    stopped c.args.kernel.now c.args.ledger c.of-shim.result.ledger
-    c.run_group.new.shim.ledger _ _ _ _ _ _ _ _ c.of-shim.ensures.ledger c.requires.begins
-    follows c.in-Err.stop run.asks
-    run.causes.shim c.look-in-Err.ensures
-
-pub returns-in-Err-clause-cut : goal.returns-in-Err-clause-cut
-returns-in-Err-clause-cut g c =
-    let run = c.in-Err.ensures in
-    let host = c.into_host.ensures in
-    let left = c.host-in-Err-1.given.1 (sym (host.same ∙ run.follows.0 ∙ c.of-shim.ensures.host))
-    ∙ c.hand_back-in-Err.ensures ∙ host.value in
-    let follows = followed g.H.Host.told g.H.Host.faults _ _ _ _ _ _ c.of-shim.ensures.value left
-    run.follows.1 in
-    recorded_ahead c.args.kernel.now c.args.ledger c.of-shim.result.ledger
-    c.run_group.new.shim.ledger _ _ _ _ _ _ _ _ c.of-shim.ensures.ledger c.requires.begins
-    follows run.cut
-
-pub returns-in-Err-clause-host_cause : goal.returns-in-Err-clause-host_cause
-returns-in-Err-clause-host_cause g c = λ is.
-    let run = c.in-Err.ensures in
-    let host = c.into_host.ensures in
-    let left = c.host-in-Err-1.given.1 (sym (host.same ∙ run.follows.0 ∙ c.of-shim.ensures.host))
-    ∙ c.hand_back-in-Err.ensures ∙ host.value in
-    let follows = followed g.H.Host.told g.H.Host.faults _ _ _ _ _ _ c.of-shim.ensures.value left
-    run.follows.1 in
-    host_rose c.args.kernel.now c.args.ledger c.of-shim.result.ledger
-    c.run_group.new.shim.ledger _ _ _ _ (g.O.Sink.told c.args.out.now) (g.E.Sink.told
-    c.args.err.now) (g.O.Sink.told c.args.out.now)
-    (g.E.Sink.told c.args.err.now) c.of-shim.ensures.ledger c.requires.begins follows
-    c.in-Err.stop run.causes.shim (this_stop _ _ is)
-
-pub returns-in-Err-clause-host_later : goal.returns-in-Err-clause-host_later
-returns-in-Err-clause-host_later g c =
-    let run = c.in-Err.ensures in
-    let host = c.into_host.ensures in
-    let left = c.host-in-Err-1.given.1 (sym (host.same ∙ run.follows.0 ∙ c.of-shim.ensures.host))
-    ∙ c.hand_back-in-Err.ensures ∙ host.value in
-    let follows = followed g.H.Host.told g.H.Host.faults _ _ _ _ _ _ c.of-shim.ensures.value left
-    run.follows.1 in
-    follows.grows
+    record {
+      ran = tt;
+      stopped = stopped c.args.kernel.now c.args.ledger c.of-shim.result.ledger
+          c.run_group.new.shim.ledger _ _ _ _ _ _ _ _ c.of-shim.ensures.ledger c.requires.begins
+          follows c.in-Err.stop run.asks run.causes.shim c.look-in-Err.ensures;
+      cut = recorded_ahead c.args.kernel.now c.args.ledger c.of-shim.result.ledger
+          c.run_group.new.shim.ledger _ _ _ _ _ _ _ _ c.of-shim.ensures.ledger c.requires.begins
+          follows run.cut;
+      host_cause = λ is. host_rose c.args.kernel.now c.args.ledger c.of-shim.result.ledger
+          c.run_group.new.shim.ledger _ _ _ _ (g.O.Sink.told c.args.out.now) (g.E.Sink.told
+          c.args.err.now) (g.O.Sink.told c.args.out.now)
+          (g.E.Sink.told c.args.err.now) c.of-shim.ensures.ledger c.requires.begins follows
+          c.in-Err.stop run.causes.shim (this_stop _ _ is);
+      sinks = run.causes.sinks;
+      host_later = follows.grows;
+      out_later = run.causes.out_later;
+      err_later = run.causes.err_later;
+      fixed = run.fixed;
+    }
