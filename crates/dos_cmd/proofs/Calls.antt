@@ -1,12 +1,13 @@
 -- What follows for a call from how it ended.
 use Rattle.std.proofs.Common.{ℕ, zero, suc, ◌≡◌, ◌≢◌, ◌≤◌, ◌⊎◌, refl, sym, ap, ◌∙◌, subst, inl, inr}
-use Rattle.std.proofs.Common.{arith, List, [], ◌∷◌, take, drop, Option, Some, None, IfSome, Result}
-use Rattle.std.proofs.Common.{Ok, Err}
+use Rattle.std.proofs.Common.{arith, List, [], ◌∷◌, take, drop, Option, Some, None, IfSome}
+use Rattle.std.proofs.Common.{Result, Ok, Err}
 use Rattle.std.proofs.lemmas.List.{take-append-drop}
-use Rattle.std.specs.Prelude.{IfOk, IfErr}
+use Rattle.std.specs.Prelude.{IfOk, IfErr, IsErrOf}
 use Rattle.std.specs.List.{AllByRecursion}
+use Rattle.std.specs.Int.{IsInRange}
 use Rattle.dos_world.specs.declared.Post.{Post}
-use Rattle.dos_words.specs.Ranges.{FitsAskedPost, FitsRequest}
+use Rattle.dos_words.specs.Ranges.{FitsAskedPost, FitsRequest, FitsRun}
 use Rattle.shim_log.specs.Ledger.{ArePlanned}
 use Rattle.dos_io.specs.Outside.{grown, GrewByFront, IsFront, Rose}
 use Rattle.dos_world.specs.declared.Ending.{Ending}
@@ -26,7 +27,7 @@ use Rattle.dos_words.specs.Request.{request}
 use Rattle.dos_words.specs.declared.request.Request.{Request}
 use Rattle.dos_words.specs.declared.request.Request.TheVariants.{Run, Replay, Inspect, Gen}
 use Rattle.dos_cmd.specs.Judging.{Taken, judgement}
-use Rattle.dos_cmd.specs.Outside.{Outside, Faults, OutputFailed}
+use Rattle.dos_cmd.specs.Outside.{Outside, Faults, OutputFailed, Says}
 use Rattle.dos_cmd.specs.ReplayLeaves.{DidReplay, Misfitted}
 use Rattle.dos_cmd.specs.Results.{Begun, NotTaken, OfLog, Did, HasMisfit, Stopped, Leaves, Finished}
 use Rattle.dos_cmd.specs.Results.{Fails, Refused, CutShort, MustReplay, MustDo}
@@ -324,11 +325,14 @@ are_planned (post ∷ posts) h = (
   are_planned posts h.1,
 )
 
-pub planned_of : (asked : Request) (q r f w : ℕ) (posts : List (ℕ × Post)) (start : Option ℕ)
+pub fits_run : (asked : Request) (q r f w : ℕ) (posts : List (ℕ × Post)) (start : Option ℕ)
     (step : ℕ) (log : Text) (names : List Text) → asked ≡ Run q r f w posts start step log names
-    → FitsRequest asked → ArePlanned posts
-planned_of asked q r f w posts start step log names is fits =
-    are_planned posts (subst FitsRequest is fits).posts_fit
+    → FitsRequest asked → FitsRun q r f w posts start step names
+fits_run asked q r f w posts start step log names is fits = subst FitsRequest is fits
+
+pub fits_gen : (asked : Request) (number threads w : ℕ) → asked ≡ Gen number threads w
+    → FitsRequest asked → IsInRange 1 32 threads
+fits_gen asked number threads w is fits = (subst FitsRequest is fits).1
 
 -- the tally was this before
 abbrev with_tally : Outside → ℕ → Outside
@@ -360,3 +364,30 @@ pub err_at : {A : Type 0} (r : Result Ending Refusal) (P : A → Refusal → Typ
     → IfErr r (λ why. (x : A) → P x why) → IfErr r (P a)
 err_at (Ok ending) P a h = tt
 err_at (Err why) P a h = h a
+
+-- ---- what is done for words
+
+words_err : (why : Refusal) → why ≡ refusals.Words
+    → IsErrOf {T = Request} (Err why) refusals.Words
+words_err why is = cc
+
+-- the words weren't read
+pub not_read : (words : List Text) (o : Outside) (f : Faults) (why : Refusal)
+    → (IsErrOf {T = Request} (Err why) refusals.Words → request words ≡ None)
+    → (why ≡ refusals.Words) ⊎ (why ≡ refusals.Memory) → Says o [] → Fails words o f why []
+not_read words o f why none (inl is) says = inl (none (words_err why is), is, says)
+not_read words o f why none (inr is) says = inr (inl (is, says))
+
+-- what was asked for by them
+pub finished_by : (r : Result Ending Refusal) (words : List Text) (asked : Request) (o : Outside)
+    → request words ≡ Some asked
+    → IfOk r (λ ending. Begun asked o (λ taken. Did asked taken (ending_status ending) o))
+    → IfOk r (λ ending. Finished words (ending_status ending) o)
+finished_by (Ok ending) words asked o asks h = record { asked = asked; asks = asks; begun = h }
+finished_by (Err why) words asked o asks h = tt
+
+pub fails_by : (r : Result Ending Refusal) (words : List Text) (asked : Request) (o : Outside)
+    (f : Faults) → request words ≡ Some asked → IfErr r (λ why. Leaves asked o f why [])
+    → IfErr r (λ why. Fails words o f why [])
+fails_by (Ok ending) words asked o f asks h = tt
+fails_by (Err why) words asked o f asks h = inr (inr (asked, asks, h))

@@ -1,4 +1,4 @@
-use Rattle.std.proofs.Common.{refl}
+use Rattle.std.proofs.Common.{le_refl, refl}
 use Rattle.std.proofs.lemmas.Result.{err_from_is_err_and}
 use Rattle.dos_words.specs.declared.request.Request.TheVariants as requests
 use Rattle.dos_cmd.specs.Outside.{outside, faults}
@@ -7,43 +7,56 @@ use Rattle.dos_cmd.proofs.NotBegun.{leaves_reading, says_nothing}
 use Rattle.dos_cmd.proofs.RunEnds.{is_err_of}
 use Rattle.dos_cmd.proofs.replay.replay.Goals as goal
 
-pub returns-in_err-log-clause-leaves : goal.returns-in_err-log-clause-leaves
-returns-in_err-log-clause-leaves g c =
+pub returns-in_err-log : goal.returns-in_err-log
+returns-in_err-log g c =
     let p = err_from_is_err_and c.from_residual.result c.from_residual.ensures.1 in
-    let take = c.in_err-log.ensures in
-    rw (p.1, p.2) (λ n h m. leaves_reading (requests.Replay n c.args.log.now c.args.names.now)
-    (outside (g.F.Files.tells c.args.files.now) (g.F.Files.content c.args.files.now)
-    (g.F.Files.content c.take.new.files) h h (g.O.Sink.told c.args.out.now)
-    (g.O.Sink.told c.args.out.now) (g.E.Sink.told c.args.err.now) (g.E.Sink.told c.args.err.now)
-    (g.W.Workers.tally c.args.workers.now) (g.W.Workers.tally c.args.workers.now))
-    (faults (g.F.Files.faults c.args.files.now) (g.F.Files.faults c.take.new.files) m m
-    (g.O.Sink.faults c.args.out.now) (g.O.Sink.faults c.args.out.now)
-    (g.E.Sink.faults c.args.err.now) (g.E.Sink.faults c.args.err.now)) _ take.refused
-    (λ e. take.fault (is_err_of _ _ e)) (says_nothing _ refl refl take.stays refl))
+    rw (p.1, p.2) (record {
+      did = tt;
+      leaves = let take = c.in_err-log.ensures in
+          (λ n h m. leaves_reading (requests.Replay n c.args.log.now c.args.names.now)
+          (outside (g.F.Files.tells c.args.files.now) (g.F.Files.content c.args.files.now)
+          (g.F.Files.content c.take.new.files) h h (g.O.Sink.told c.args.out.now)
+          (g.O.Sink.told c.args.out.now) (g.E.Sink.told c.args.err.now) (g.E.Sink.told
+          c.args.err.now)
+          (g.W.Workers.tally c.args.workers.now) (g.W.Workers.tally c.args.workers.now))
+          (faults (g.F.Files.faults c.args.files.now) (g.F.Files.faults c.take.new.files) m m
+          (g.O.Sink.faults c.args.out.now) (g.O.Sink.faults c.args.out.now)
+          (g.E.Sink.faults c.args.err.now) (g.E.Sink.faults c.args.err.now)) _ take.refused
+          (λ e. take.fault (is_err_of _ _ e)) (says_nothing _ refl refl take.stays refl));
+      files_later = c.take.ensures.later;
+      out_later = le_refl _;
+      err_later = le_refl _;
+      fixed = refl;
+    })
 
-pub returns-clause-did : goal.returns-clause-did
-returns-clause-did g c =
+pub returns : goal.returns
+returns g c =
     let take = c.in_ok-log.ensures in
-    replay_begun c.in_ok-log.log c.deref.result.now c.args.log.now c.args.names.now
-    (g.F.Files.tells c.args.files.now) (g.F.Files.content c.args.files.now)
-    (g.F.Files.content c.take.new.files) (g.O.Sink.told c.args.out.now)
-    (g.E.Sink.told c.args.err.now) (g.O.Sink.told c.replay_taken.new.out)
-    (g.E.Sink.told c.replay_taken.new.err) (g.W.Workers.tally c.args.workers.now)
-    (g.W.Workers.tally c.replay_taken.new.workers) c.replay_taken.result
-    (same_images _ c.in_ok-log.log _ _ c.deref.ensures.value take.taken)
-    c.replay_taken.ensures.room take.stays c.replay_taken.ensures.did
+    record {
+      did = replay_begun c.in_ok-log.log c.deref.result.now c.args.log.now c.args.names.now
+          (g.F.Files.tells c.args.files.now) (g.F.Files.content c.args.files.now)
+          (g.F.Files.content c.take.new.files) (g.O.Sink.told c.args.out.now)
+          (g.E.Sink.told c.args.err.now) (g.O.Sink.told c.replay_taken.new.out)
+          (g.E.Sink.told c.replay_taken.new.err) (g.W.Workers.tally c.args.workers.now)
+          (g.W.Workers.tally c.replay_taken.new.workers) c.replay_taken.result
+          (same_images _ c.in_ok-log.log _ _ c.deref.ensures.value take.taken)
+          c.replay_taken.ensures.room take.stays c.replay_taken.ensures.did;
+      leaves = replay_leaves c.in_ok-log.log c.deref.result.now c.args.log.now c.args.names.now
+          (g.F.Files.tells c.args.files.now) (g.F.Files.content c.args.files.now)
+          (g.F.Files.content c.take.new.files) (g.O.Sink.told c.args.out.now)
+          (g.E.Sink.told c.args.err.now) (g.O.Sink.told c.replay_taken.new.out)
+          (g.E.Sink.told c.replay_taken.new.err) (g.W.Workers.tally c.args.workers.now)
+          (g.W.Workers.tally c.replay_taken.new.workers) (g.F.Files.faults c.args.files.now)
+          (g.F.Files.faults c.take.new.files) (g.O.Sink.faults c.args.out.now)
+          (g.O.Sink.faults c.replay_taken.new.out) (g.E.Sink.faults c.args.err.now)
+          (g.E.Sink.faults c.replay_taken.new.err) c.replay_taken.result
+          (same_images _ c.in_ok-log.log _ _ c.deref.ensures.value take.taken) take.stays
+          c.replay_taken.ensures.leaves;
+      files_later = c.take.ensures.later;
+      out_later = c.replay_taken.ensures.out_later;
+      err_later = c.replay_taken.ensures.err_later;
+      fixed = c.replay_taken.ensures.fixed;
+    }
 
-pub returns-clause-leaves : goal.returns-clause-leaves
-returns-clause-leaves g c =
-    let take = c.in_ok-log.ensures in
-    replay_leaves c.in_ok-log.log c.deref.result.now c.args.log.now c.args.names.now
-    (g.F.Files.tells c.args.files.now) (g.F.Files.content c.args.files.now)
-    (g.F.Files.content c.take.new.files) (g.O.Sink.told c.args.out.now)
-    (g.E.Sink.told c.args.err.now) (g.O.Sink.told c.replay_taken.new.out)
-    (g.E.Sink.told c.replay_taken.new.err) (g.W.Workers.tally c.args.workers.now)
-    (g.W.Workers.tally c.replay_taken.new.workers) (g.F.Files.faults c.args.files.now)
-    (g.F.Files.faults c.take.new.files) (g.O.Sink.faults c.args.out.now)
-    (g.O.Sink.faults c.replay_taken.new.out) (g.E.Sink.faults c.args.err.now)
-    (g.E.Sink.faults c.replay_taken.new.err) c.replay_taken.result
-    (same_images _ c.in_ok-log.log _ _ c.deref.ensures.value take.taken) take.stays
-    c.replay_taken.ensures.leaves
+pub take-requires : goal.take-requires
+take-requires g c = c.requires

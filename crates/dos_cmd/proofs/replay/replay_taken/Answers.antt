@@ -1,4 +1,4 @@
-use Rattle.std.proofs.Common.{refl}
+use Rattle.std.proofs.Common.{le_refl, le_trans, refl}
 use Rattle.std.proofs.lemmas.Result.{err_from_is_err_and}
 use Rattle.dos_cmd.specs.Outside.{outside, faults}
 use Rattle.dos_cmd.proofs.ReplayEnds.{has_room, not_opened, on_ok, opened_by, replay_cut}
@@ -7,70 +7,84 @@ use Rattle.dos_cmd.proofs.NotBegun.{says_nothing}
 use Rattle.dos_cmd.proofs.RunEnds.{is_err_of}
 use Rattle.dos_cmd.proofs.replay.replay_taken.Goals as goal
 
-pub returns-in_err-kernel-clause-leaves : goal.returns-in_err-kernel-clause-leaves
-returns-in_err-kernel-clause-leaves g c =
+pub returns-in_err-kernel : goal.returns-in_err-kernel
+returns-in_err-kernel g c =
     let p = err_from_is_err_and c.from_residual.result c.from_residual.ensures.1 in
-    rw (p.1, p.2) (λ tells f f' h k k' m stay. not_opened c.args.log c.args.images.now
-    (outside tells f f' h h (g.O.Sink.told c.args.out.now) (g.O.Sink.told c.args.out.now)
-    (g.E.Sink.told c.args.err.now) (g.E.Sink.told c.args.err.now)
-    (g.W.Workers.tally c.args.workers.now) (g.W.Workers.tally c.args.workers.now))
-    (faults k k' m m (g.O.Sink.faults c.args.out.now) (g.O.Sink.faults c.args.out.now)
-    (g.E.Sink.faults c.args.err.now) (g.E.Sink.faults c.args.err.now)) _
-    c.config_of.result c.config_of.ensures.config c.in_err-kernel.ensures.refused
-    (says_nothing _ refl refl stay refl))
+    rw (p.1, p.2) (record {
+      did = tt;
+      room = tt;
+      leaves = (λ tells f f' h k k' m stay. not_opened c.args.log c.args.images.now
+          (outside tells f f' h h (g.O.Sink.told c.args.out.now) (g.O.Sink.told c.args.out.now)
+          (g.E.Sink.told c.args.err.now) (g.E.Sink.told c.args.err.now)
+          (g.W.Workers.tally c.args.workers.now) (g.W.Workers.tally c.args.workers.now))
+          (faults k k' m m (g.O.Sink.faults c.args.out.now) (g.O.Sink.faults c.args.out.now)
+          (g.E.Sink.faults c.args.err.now) (g.E.Sink.faults c.args.err.now)) _
+          c.config_of.result c.config_of.ensures.config c.in_err-kernel.ensures.refused
+          (says_nothing _ refl refl stay refl));
+      out_later = le_refl _;
+      err_later = le_refl _;
+      fixed = refl;
+    })
 
-pub returns-in-Err-clause-leaves : goal.returns-in-Err-clause-leaves
-returns-in-Err-clause-leaves g c = λ tells f f' h k k' m stay.
-    let opening = c.in_ok-kernel.ensures in
-    let run = c.in-Err.ensures in
-    let is = c.config_of.ensures.config in
-    let opened = opened_by c.args.log c.args.images.now c.in_ok-kernel.kernel c.config_of.result is
-    opening.opened in
-    replay_stopped c.args.log c.args.images.now
-    (outside tells f f' h h (g.O.Sink.told c.args.out.now) (g.O.Sink.told c.replay_group.new.out)
-    (g.E.Sink.told c.args.err.now) (g.E.Sink.told c.replay_group.new.err)
-    (g.W.Workers.tally c.args.workers.now) (g.W.Workers.tally c.replay_group.new.workers))
-    (faults k k' m m (g.O.Sink.faults c.args.out.now) (g.O.Sink.faults c.replay_group.new.out)
-    (g.E.Sink.faults c.args.err.now) (g.E.Sink.faults c.replay_group.new.err)) c.in-Err.stop _
-    c.refusal_by.ensures
-    (has_room c.args.log c.args.images.now c.config_of.result is opening.room) run.only
-    (λ found e. run.misfit found (is_err_of _ _ e) c.args.images.now opened)
-    (run.cut c.args.images.now opened) run.sinks
-    (record { files_stay = stay; host_stays = λ i. h })
+pub returns-in-Err : goal.returns-in-Err
+returns-in-Err g c = record {
+  did = tt;
+  room = tt;
+  leaves = λ tells f f' h k k' m stay.
+      let opening = c.in_ok-kernel.ensures in
+      let run = c.in-Err.ensures in
+      let is = c.config_of.ensures.config in
+      let opened = opened_by c.args.log c.args.images.now c.in_ok-kernel.kernel c.config_of.result
+      is
+      opening.opened in
+      replay_stopped c.args.log c.args.images.now
+      (outside tells f f' h h (g.O.Sink.told c.args.out.now) (g.O.Sink.told c.replay_group.new.out)
+      (g.E.Sink.told c.args.err.now) (g.E.Sink.told c.replay_group.new.err)
+      (g.W.Workers.tally c.args.workers.now) (g.W.Workers.tally c.replay_group.new.workers))
+      (faults k k' m m (g.O.Sink.faults c.args.out.now) (g.O.Sink.faults c.replay_group.new.out)
+      (g.E.Sink.faults c.args.err.now) (g.E.Sink.faults c.replay_group.new.err)) c.in-Err.stop _
+      c.refusal_by.ensures
+      (has_room c.args.log c.args.images.now c.config_of.result is opening.room) run.only
+      (λ found e. run.misfit found (is_err_of _ _ e) c.args.images.now opened)
+      (run.cut c.args.images.now opened) run.sinks
+      (record { files_stay = stay; host_stays = λ i. h });
+  out_later = c.in-Err.ensures.out_later;
+  err_later = c.in-Err.ensures.err_later;
+  fixed = c.in-Err.ensures.fixed;
+}
 
-pub returns-in-Ok-clause-did : goal.returns-in-Ok-clause-did
-returns-in-Ok-clause-did g c =
+pub returns-in-Ok : goal.returns-in-Ok
+returns-in-Ok g c =
     let opening = c.in_ok-kernel.ensures in
     let run = c.in-Ok.ensures in
     let opened = opened_by c.args.log c.args.images.now c.in_ok-kernel.kernel c.config_of.result
     c.config_of.ensures.config opening.opened in
-    replay_did c.args.log c.args.images.now c.in_ok-kernel.kernel c.replay_group.new.kernel
-    c.in-Ok.ending (g.O.Sink.told c.args.out.now) (g.E.Sink.told c.args.err.now)
-    (g.O.Sink.told c.replay_group.new.out) (g.E.Sink.told c.replay_group.new.err)
-    (g.E.Sink.told c.report-ended.new.err) (g.W.Workers.tally c.args.workers.now)
-    (g.W.Workers.tally c.replay_group.new.workers) opened run.ran c.report-ended.result
-    c.report-ended.ensures.same c.report-ended.ensures.told
-
-pub returns-in-Ok-clause-room : goal.returns-in-Ok-clause-room
-returns-in-Ok-clause-room g c = on_ok c.report-ended.result _
-    (has_room c.args.log c.args.images.now c.config_of.result c.config_of.ensures.config
-    c.in_ok-kernel.ensures.room)
-
-pub returns-in-Ok-clause-leaves : goal.returns-in-Ok-clause-leaves
-returns-in-Ok-clause-leaves g c =
-    let opening = c.in_ok-kernel.ensures in
-    let run = c.in-Ok.ensures in
     let is = c.config_of.ensures.config in
     let opened = opened_by c.args.log c.args.images.now c.in_ok-kernel.kernel c.config_of.result is
     opening.opened in
-    replay_cut c.args.log c.args.images.now c.in_ok-kernel.kernel c.replay_group.new.kernel
-    c.in-Ok.ending (g.O.Sink.told c.args.out.now) (g.E.Sink.told c.args.err.now)
-    (g.O.Sink.told c.replay_group.new.out) (g.E.Sink.told c.replay_group.new.err)
-    (g.E.Sink.told c.report-ended.new.err) (g.W.Workers.tally c.args.workers.now)
-    (g.W.Workers.tally c.replay_group.new.workers) opened run.ran
-    (g.O.Sink.faults c.args.out.now) (g.O.Sink.faults c.replay_group.new.out)
-    (g.E.Sink.faults c.args.err.now) (g.E.Sink.faults c.replay_group.new.err)
-    (g.E.Sink.faults c.report-ended.new.err) c.report-ended.result
-    (has_room c.args.log c.args.images.now c.config_of.result is opening.room)
-    c.report-ended.ensures.sink run.err_later c.report-ended.ensures.cause
-    c.report-ended.ensures.front
+    record {
+      did = replay_did c.args.log c.args.images.now c.in_ok-kernel.kernel c.replay_group.new.kernel
+          c.in-Ok.ending (g.O.Sink.told c.args.out.now) (g.E.Sink.told c.args.err.now)
+          (g.O.Sink.told c.replay_group.new.out) (g.E.Sink.told c.replay_group.new.err)
+          (g.E.Sink.told c.report-ended.new.err) (g.W.Workers.tally c.args.workers.now)
+          (g.W.Workers.tally c.replay_group.new.workers) opened run.ran c.report-ended.result
+          c.report-ended.ensures.same c.report-ended.ensures.told;
+      room = on_ok c.report-ended.result _
+          (has_room c.args.log c.args.images.now c.config_of.result c.config_of.ensures.config
+          c.in_ok-kernel.ensures.room);
+      leaves = replay_cut c.args.log c.args.images.now c.in_ok-kernel.kernel
+          c.replay_group.new.kernel
+          c.in-Ok.ending (g.O.Sink.told c.args.out.now) (g.E.Sink.told c.args.err.now)
+          (g.O.Sink.told c.replay_group.new.out) (g.E.Sink.told c.replay_group.new.err)
+          (g.E.Sink.told c.report-ended.new.err) (g.W.Workers.tally c.args.workers.now)
+          (g.W.Workers.tally c.replay_group.new.workers) opened run.ran
+          (g.O.Sink.faults c.args.out.now) (g.O.Sink.faults c.replay_group.new.out)
+          (g.E.Sink.faults c.args.err.now) (g.E.Sink.faults c.replay_group.new.err)
+          (g.E.Sink.faults c.report-ended.new.err) c.report-ended.result
+          (has_room c.args.log c.args.images.now c.config_of.result is opening.room)
+          c.report-ended.ensures.sink run.err_later c.report-ended.ensures.cause
+          c.report-ended.ensures.front;
+      out_later = c.in-Ok.ensures.out_later;
+      err_later = le_trans c.in-Ok.ensures.err_later c.report-ended.ensures.cause.later;
+      fixed = c.in-Ok.ensures.fixed;
+    }

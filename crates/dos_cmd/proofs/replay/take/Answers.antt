@@ -1,48 +1,98 @@
-use Rattle.std.proofs.Common.{◌≡◌, ap, subst, length, Some, None, arith}
+use Rattle.std.proofs.Common.{◌≡◌, ◌∙◌, ◌≤◌, ℕ, ap, le_trans, length, subst, sym, Some, None, Ok}
+use Rattle.std.proofs.Common.{Err, arith}
+use Rattle.std.specs.Prelude.{IsErrOf}
 use Rattle.std.proofs.lemmas.Result.{err_from_is_err_and}
 use Rattle.log_files.specs.Judging.{disagreement}
+use Rattle.log_files.specs.declared.refusal.LogRefusal.{LogRefusal}
 use Rattle.shim_log.specs.declared.header.LogHeader.{LogHeader}
+use Rattle.dos_texts.specs.declared.refusal.Refusal.{Refusal}
+use Rattle.dos_texts.specs.declared.refusal.Refusal.TheVariants as refusals
 use Rattle.dos_cmd.proofs.NotBegun.{of_files}
+use Rattle.dos_cmd.proofs.RunEnds.{is_err_of, then_rose}
 use Rattle.dos_cmd.proofs.ReplayTaking.{images_refused, reading_refused, same_count, taken_after}
 use Rattle.dos_cmd.proofs.replay.take.Goals as goal
 
-pub returns-in_err-log-clause-refused : goal.returns-in_err-log-clause-refused
-returns-in_err-log-clause-refused g c =
-    let p = err_from_is_err_and c.from_residual.result c.from_residual.ensures.1 in
-    rw (p.1, p.2) (reading_refused _ _ _ c.in_err-log.ensures.refused)
+same_why : {T : Type 0} (why other : Refusal) → IsErrOf {T = T} (Err why) other → why ≡ other
+same_why why other is = cc
 
-pub returns-in_err-images-clause-refused : goal.returns-in_err-images-clause-refused
-returns-in_err-images-clause-refused g c =
+not_err : {T E : Type 0} (x : T) (e : E) → Ok x ≡ Err e → ⊥
+not_err x e is = cc
+
+-- a log that disagrees isn't a fault of the files
+not_files : {T : Type 0} (why : LogRefusal)
+    → IsErrOf {T = T} (Err (refusals.Log why)) refusals.Files → ⊥
+not_files why is = cc
+
+few_as : (n m : ℕ) → n ≡ m → m ≤ 8 → n ≤ 8
+few_as n m is few = subst (λ k. k ≤ 8) (sym is) few
+
+pub load_all-requires : goal.load_all-requires
+load_all-requires g c = c.requires
+
+pub returns-in_err-log : goal.returns-in_err-log
+returns-in_err-log g c =
+    let p = err_from_is_err_and c.from_residual.result c.from_residual.ensures.1 in
+    rw (p.1, p.2) (record {
+      taken = tt;
+      some = tt;
+      few = tt;
+      refused = (reading_refused _ _ _ c.in_err-log.ensures.refused);
+      fault = λ is. c.in_err-log.ensures.fault (is_err_of _ _ (same_why _ _ is));
+      later = c.read.ensures.later;
+      stays = c.read.ensures.stays;
+    })
+
+pub returns-in_err-images : goal.returns-in_err-images
+returns-in_err-images g c =
     let p = err_from_is_err_and c.from_residual-in_err-images.result
     c.from_residual-in_err-images.ensures.1 in
-    rw (p.1, p.2) (of_files _ _ _
-    (λ w h. images_refused (g.F.Files.content c.args.files.now)
-    (g.F.Files.content c.read.new.files) c.args.log.now c.args.names.now c.in_ok-log.log w
-    c.read.ensures.stays c.in_ok-log.ensures.accepted h)
-    c.in_err-images.ensures.refused)
+    rw (p.1, p.2) (record {
+      taken = tt;
+      some = tt;
+      few = tt;
+      refused = (of_files _ _ _
+          (λ w h. images_refused (g.F.Files.content c.args.files.now)
+          (g.F.Files.content c.read.new.files) c.args.log.now c.args.names.now c.in_ok-log.log w
+          c.read.ensures.stays c.in_ok-log.ensures.accepted h)
+          c.in_err-images.ensures.refused);
+      fault = λ is. then_rose _ _ _ c.read.ensures.later
+          (c.in_err-images.ensures.fault (is_err_of _ _ (same_why _ _ is)));
+      later = le_trans c.read.ensures.later c.load_all.ensures.later;
+      stays = λ n. c.load_all.ensures.stays n ∙ c.read.ensures.stays n;
+    })
 
-pub returns-in-Ok-clause-taken : goal.returns-in-Ok-clause-taken
-returns-in-Ok-clause-taken g c =
-    taken_after (g.F.Files.content c.args.files.now) (g.F.Files.content c.read.new.files)
-    c.args.log.now c.args.names.now c.in_ok-log.log c.in_ok-images.images.items
-    c.in_ok-images.digests None c.read.ensures.stays c.in_ok-log.ensures.accepted
-    c.in_ok-images.ensures.accepted c.in_ok-images.ensures.digests
-    (subst (λ (h : LogHeader). disagreement c.in_ok-images.digests h.digests ≡ None)
-    c.header.ensures c.in-Ok.ensures)
+pub returns-in-Ok : goal.returns-in-Ok
+returns-in-Ok g c = record {
+  taken = taken_after (g.F.Files.content c.args.files.now) (g.F.Files.content c.read.new.files)
+      c.args.log.now c.args.names.now c.in_ok-log.log c.in_ok-images.images.items
+      c.in_ok-images.digests None c.read.ensures.stays c.in_ok-log.ensures.accepted
+      c.in_ok-images.ensures.accepted c.in_ok-images.ensures.digests
+      (subst (λ (h : LogHeader). disagreement c.in_ok-images.digests h.digests ≡ None)
+      c.header.ensures c.in-Ok.ensures);
+  some = let load = c.in_ok-images.ensures in
+      let same = same_count c.in_ok-images.digests c.header.result.now.digests c.in-Ok.ensures in
+      let logged = ap (λ (h : LogHeader). length h.digests) c.header.ensures in
+      let fits = c.len-len.ensures.fits.header.count.0 in
+      omega (arith, same, logged, fits, load.count, load.digest_count);
+  few = few_as _ _ c.in_ok-images.ensures.count c.requires;
+  refused = tt;
+  fault = λ is. absurd (not_err _ _ is);
+  later = le_trans c.read.ensures.later c.load_all.ensures.later;
+  stays = λ n. c.load_all.ensures.stays n ∙ c.read.ensures.stays n;
+}
 
-pub returns-in-Ok-clause-some : goal.returns-in-Ok-clause-some
-returns-in-Ok-clause-some g c =
-    let load = c.in_ok-images.ensures in
-    let same = same_count c.in_ok-images.digests c.header.result.now.digests c.in-Ok.ensures in
-    let logged = ap (λ (h : LogHeader). length h.digests) c.header.ensures in
-    let fits = c.len-len.ensures.fits.header.count.0 in
-    omega (arith, same, logged, fits, load.count, load.digest_count)
-
-pub returns-in-Err-clause-refused : goal.returns-in-Err-clause-refused
-returns-in-Err-clause-refused g c =
-    taken_after (g.F.Files.content c.args.files.now) (g.F.Files.content c.read.new.files)
-    c.args.log.now c.args.names.now c.in_ok-log.log c.in_ok-images.images.items
-    c.in_ok-images.digests (Some c.in-Err.why) c.read.ensures.stays c.in_ok-log.ensures.accepted
-    c.in_ok-images.ensures.accepted c.in_ok-images.ensures.digests
-    (subst (λ (h : LogHeader). disagreement c.in_ok-images.digests h.digests ≡ Some c.in-Err.why)
-    c.header.ensures c.in-Err.ensures)
+pub returns-in-Err : goal.returns-in-Err
+returns-in-Err g c = record {
+  taken = tt;
+  some = tt;
+  few = tt;
+  refused = taken_after (g.F.Files.content c.args.files.now) (g.F.Files.content c.read.new.files)
+      c.args.log.now c.args.names.now c.in_ok-log.log c.in_ok-images.images.items
+      c.in_ok-images.digests (Some c.in-Err.why) c.read.ensures.stays c.in_ok-log.ensures.accepted
+      c.in_ok-images.ensures.accepted c.in_ok-images.ensures.digests
+      (subst (λ (h : LogHeader). disagreement c.in_ok-images.digests h.digests ≡ Some c.in-Err.why)
+      c.header.ensures c.in-Err.ensures);
+  fault = λ is. absurd (not_files _ is);
+  later = le_trans c.read.ensures.later c.load_all.ensures.later;
+  stays = λ n. c.load_all.ensures.stays n ∙ c.read.ensures.stays n;
+}

@@ -1,34 +1,28 @@
+use Rattle.std.proofs.Common.{le_refl, le_trans, refl}
 use Rattle.std.proofs.lemmas.Result.{err_from_is_err_and}
 use Rattle.dos_cmd.specs.Outside.{Outside, Faults, outside, faults}
 use Rattle.dos_cmd.specs.Requests.{asked_by}
 use Rattle.dos_cmd.proofs.RunCalls.{run_did, run_leaves}
 use Rattle.dos_cmd.proofs.run.run.Goals as goal
 
-pub returns-in_err-kernel-clause-leaves : goal.returns-in_err-kernel-clause-leaves
-returns-in_err-kernel-clause-leaves g c =
+pub returns-in_err-kernel : goal.returns-in_err-kernel
+returns-in_err-kernel g c =
     let p = err_from_is_err_and c.from_residual.result c.from_residual.ensures.1 in
-    rw (p.1, p.2) (λ n. c.in_err-kernel.ensures.leaves n (g.H.Host.told c.args.host.now)
-    (g.O.Sink.told c.args.out.now) (g.E.Sink.told c.args.err.now)
-    (g.W.Workers.tally c.args.workers.now) (g.H.Host.faults c.args.host.now)
-    (g.O.Sink.faults c.args.out.now) (g.E.Sink.faults c.args.err.now))
+    rw (p.1, p.2) (record {
+      did = tt;
+      leaves = (λ n. c.in_err-kernel.ensures.leaves n (g.H.Host.told c.args.host.now)
+          (g.O.Sink.told c.args.out.now) (g.E.Sink.told c.args.err.now)
+          (g.W.Workers.tally c.args.workers.now) (g.H.Host.faults c.args.host.now)
+          (g.O.Sink.faults c.args.out.now) (g.E.Sink.faults c.args.err.now));
+      files_later = c.prepare.ensures.later;
+      host_later = le_refl _;
+      out_later = le_refl _;
+      err_later = le_refl _;
+      fixed = refl;
+    })
 
-pub returns-clause-did : goal.returns-clause-did
-returns-clause-did g c =
-    let at = c.in_ok-kernel.ensures in
-    let ready = at.ready in
-    let o : Outside = outside (g.F.Files.tells c.args.files.now)
-    (g.F.Files.content c.args.files.now) (g.F.Files.content c.run_opened-ended.new.files)
-    (g.H.Host.told c.args.host.now) (g.H.Host.told c.run_opened-ended.new.host)
-    (g.O.Sink.told c.args.out.now) (g.O.Sink.told c.run_opened-ended.new.out)
-    (g.E.Sink.told c.args.err.now) (g.E.Sink.told c.run_opened-ended.new.err)
-    (g.W.Workers.tally c.args.workers.now) (g.W.Workers.tally c.run_opened-ended.new.workers) in
-    run_did (asked_by c.args.request.now) ready.images o (g.F.Files.tells c.prepare.new.files)
-    (g.F.Files.content c.prepare.new.files) c.in_ok-kernel.kernel c.in_ok-kernel.ledger
-    c.run_opened-ended.result at.tells at.stays c.run_opened-ended.ensures.did (ready.prepared o)
-    ready.taken
-
-pub returns-clause-leaves : goal.returns-clause-leaves
-returns-clause-leaves g c =
+pub returns : goal.returns
+returns g c =
     let at = c.in_ok-kernel.ensures in
     let ready = at.ready in
     let o : Outside = outside (g.F.Files.tells c.args.files.now)
@@ -42,7 +36,40 @@ returns-clause-leaves g c =
     (g.H.Host.faults c.run_opened-ended.new.host) (g.O.Sink.faults c.args.out.now)
     (g.O.Sink.faults c.run_opened-ended.new.out) (g.E.Sink.faults c.args.err.now)
     (g.E.Sink.faults c.run_opened-ended.new.err) in
-    run_leaves (asked_by c.args.request.now) ready.images o (g.F.Files.tells c.prepare.new.files)
-    (g.F.Files.content c.prepare.new.files) f (g.F.Files.faults c.args.files.now)
-    c.in_ok-kernel.kernel c.in_ok-kernel.ledger c.run_opened-ended.result at.tells at.stays at.later
-    c.run_opened-ended.ensures.leaves (ready.prepared o) ready.taken
+    record {
+      did = run_did (asked_by c.args.request.now) ready.images o (g.F.Files.tells
+          c.prepare.new.files)
+          (g.F.Files.content c.prepare.new.files) c.in_ok-kernel.kernel c.in_ok-kernel.ledger
+          c.run_opened-ended.result at.tells at.stays c.run_opened-ended.ensures.did (ready.prepared
+          o)
+          ready.taken;
+      leaves = run_leaves (asked_by c.args.request.now) ready.images o (g.F.Files.tells
+          c.prepare.new.files)
+          (g.F.Files.content c.prepare.new.files) f (g.F.Files.faults c.args.files.now)
+          c.in_ok-kernel.kernel c.in_ok-kernel.ledger c.run_opened-ended.result at.tells at.stays
+          at.later
+          c.run_opened-ended.ensures.leaves (ready.prepared o) ready.taken;
+      files_later = le_trans c.prepare.ensures.later c.run_opened-ended.ensures.files_later;
+      host_later = c.run_opened-ended.ensures.host_later;
+      out_later = c.run_opened-ended.ensures.out_later;
+      err_later = c.run_opened-ended.ensures.err_later;
+      fixed = c.run_opened-ended.ensures.fixed;
+    }
+
+pub prepare-requires : goal.prepare-requires
+prepare-requires g c = record {
+  range = c.requires.range;
+  some = c.requires.some;
+  few = c.requires.few;
+  few_posts = c.requires.few_posts;
+  planned = c.requires.planned;
+}
+
+pub run_opened-ended-requires-clause-running : goal.run_opened-ended-requires-clause-running
+run_opened-ended-requires-clause-running g c = λ κs alive. c.in_ok-kernel.ensures.running
+
+pub run_opened-ended-requires-clause-fresh : goal.run_opened-ended-requires-clause-fresh
+run_opened-ended-requires-clause-fresh g c = λ κs alive. c.in_ok-kernel.ensures.fresh
+
+pub run_opened-ended-requires-clause-begins : goal.run_opened-ended-requires-clause-begins
+run_opened-ended-requires-clause-begins g c = λ κs alive. c.in_ok-kernel.ensures.begins

@@ -1,0 +1,36 @@
+use Rattle.std.proofs.Common.{le_refl, map, refl, string_bytes}
+use Rattle.std.proofs.lemmas.Result.{err_from_is_err_and}
+use Rattle.dos_cmd.proofs.Calls.{fails_by, finished_by, not_read}
+use Rattle.dos_cmd.proofs.NotBegun.{says_nothing}
+use Rattle.dos_cmd.proofs.top.command.Goals as goal
+
+pub returns-in_err-request : goal.returns-in_err-request
+returns-in_err-request g c =
+    let p = err_from_is_err_and c.from_residual.result c.from_residual.ensures.1 in
+    let read = c.in_err-request.ensures in
+    rw (p.1, p.2) (record {
+      finished = tt;
+      fails = not_read (map string_bytes c.args.words.now) _ _ _ read.refused read.only
+          (says_nothing _ refl refl (λ n. refl) refl);
+      files_later = le_refl _;
+      host_later = le_refl _;
+      out_later = le_refl _;
+      err_later = le_refl _;
+      fixed = refl;
+    })
+
+pub returns : goal.returns
+returns g c =
+    let asked = c.in_ok-request.ensures.asked in
+    let ended = c.execute-ended.ensures in
+    record {
+      finished = finished_by c.execute-ended.result (map string_bytes c.args.words.now)
+          c.in_ok-request.request _ asked ended.did;
+      fails = fails_by c.execute-ended.result (map string_bytes c.args.words.now)
+          c.in_ok-request.request _ _ asked ended.leaves;
+      files_later = ended.files_later;
+      host_later = ended.host_later;
+      out_later = ended.out_later;
+      err_later = ended.err_later;
+      fixed = ended.fixed;
+    }
