@@ -29,6 +29,9 @@ allowed config here read round at same kept is lt =
     let less = below config read round same lt in
     subst (λ (c : Config). at ≤ c.rounds) (sym kept) (omega (arith, is, less))
 
+less_nothing : (n : ℕ) → n ≡ n - 0
+less_nothing n = omega arith
+
 pub run_round-requires-clause-running : goal.run_round-requires-clause-running
 run_round-requires-clause-running g c = λ κs alive. c.loop-round.invariant.running
 
@@ -46,7 +49,7 @@ loop-round-init g c = record {
   runs = (
     0,
     ran_none c.args.kernel.now.config c.args.kernel.now.config.rounds
-        (c.args.kernel.now.config.rounds - 0) c.args.kernel.now.state _ (omega arith),
+        (c.args.kernel.now.config.rounds - 0) c.args.kernel.now.state _ (less_nothing _),
     grew-nothing (g.W.Workers.tally c.args.workers.now),
   );
   running = c.requires.running;
