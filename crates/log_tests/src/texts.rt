@@ -1,4 +1,9 @@
-//! Texts of logs, spelled by hand.
+//! Texts of logs, spelled by hand, and what is read and written of them.
+ghost use Rattle.std.specs.Prelude.{◌≤◌, length};
+
+use shim_log::{Log, ReadError, read_log, write_log};
+use std::alloc::Global;
+use std::process::Abort;
 
 /// The log of a run of one image that ended as done in its first round, without an input: the
 /// image's digest is 32 bytes of 7.
@@ -18,3 +23,21 @@ pub const EACH_KIND: [u8; 101] = [
     0x00, 0x00, 0x00, 0x01, 0x00, 0x00, 0x00, 0x05, 0x00, 0x00, 0x00, 0x00, 0x00, 0x00, 0x00, 0x00,
     0x00, 0x02, 0x00, 0x00, 0x00,
 ];
+
+/// These are the bytes.
+pub fn are(rt: &impl Abort, bytes: &[u8], wanted: &[u8]) {
+    assert_eq!(rt; bytes, wanted);
+}
+
+/// The text is refused so; none where it is a log.
+pub fn is_read(rt: &impl Abort, alloc: Global, text: &[u8], refusal: Option<ReadError>)
+    requires { length text.now ≤ 67108864 }
+{
+    assert_eq!(rt; read_log(alloc, text).err(), refusal);
+}
+
+/// The log is written as this text.
+pub fn is_written(rt: &impl Abort, alloc: Global, log: &Log, text: &[u8]) {
+    let written = write_log(alloc, log).expect(rt, "memory");
+    are(rt, &written, text);
+}
