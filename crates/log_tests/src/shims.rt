@@ -3,6 +3,8 @@ ghost use Rattle.std.specs.Prelude.{◌≡◌, ◌≤◌, ◌<◌, length};
 ghost use Rattle.dos_io.specs.Shims.{HasNoEnd};
 
 use dos_io::{Shim, ShimStop, SignalList};
+use dos_world::Ending;
+use std::process::Abort;
 
 /// The signals of a round.
 pub fn signals<S: Shim>(shim: &mut S, round: u32, list: &mut SignalList) -> Result<(), ShimStop>
@@ -48,19 +50,79 @@ pub fn full_inputs<S: Shim>(shim: &mut S, buf: &mut [u8], count: u32) -> u32
     full
 }
 
+/// The shim's answer to a question for the signals of a round.
+pub fn answers_signals<S: Shim>(
+    rt: &impl Abort,
+    shim: &mut S,
+    round: u32,
+    list: &mut SignalList,
+    answer: Result<(), ShimStop>,
+)
+    requires { HasNoEnd (S.state shim.old).told }
+    ensures { HasNoEnd (S.state shim.new).told }
+{
+    assert_eq!(rt; signals(shim, round, list), answer);
+}
+
+/// So many signals came.
+pub fn came(rt: &impl Abort, list: &SignalList, count: usize) {
+    assert_eq!(rt; list.len(), count);
+}
+
+/// The shim's answer to a question for input.
+pub fn answers_input<S: Shim>(
+    rt: &impl Abort,
+    shim: &mut S,
+    buf: &mut [u8],
+    answer: Result<usize, ShimStop>,
+)
+    requires told { HasNoEnd (S.state shim.old).told }
+    requires some { 0 < length buf.old }
+    requires few { length buf.old ≤ 4096 }
+    ensures { HasNoEnd (S.state shim.new).told }
+{
+    assert_eq!(rt; input(shim, buf), answer);
+}
+
+/// So many inputs fill the buffer, each of them.
+pub fn fills<S: Shim>(rt: &impl Abort, shim: &mut S, buf: &mut [u8], count: u32)
+    requires told { HasNoEnd (S.state shim.old).told }
+    requires some { 0 < length buf.old }
+    requires few { length buf.old ≤ 4096 }
+    ensures { HasNoEnd (S.state shim.new).told }
+{
+    assert_eq!(rt; full_inputs(shim, buf, count), count);
+}
+
+/// The shim's answer to a question for a reading.
+pub fn answers_clock<S: Shim>(rt: &impl Abort, shim: &mut S, answer: Result<u64, ShimStop>)
+    requires { HasNoEnd (S.state shim.old).told }
+    ensures { HasNoEnd (S.state shim.new).told }
+{
+    assert_eq!(rt; clock(shim), answer);
+}
+
+/// The shim takes the end.
+pub fn takes_end<S: Shim>(rt: &impl Abort, shim: &mut S, ending: Ending, rounds: u32)
+    requires { HasNoEnd (S.state shim.old).told }
+{
+    assert_eq!(rt; shim.end(ending, rounds), Ok(()));
+}
+
 #[cfg(test)]
 mod tests {
     use super::*;
     use dos_io::Quiet;
-    use dos_world::{Ending, Post};
+    use dos_world::Post;
 
     #[test]
     fn no_signal_comes_to_a_quiet_group(rt: HostRuntime) {
         let mut shim = Quiet::new(rt.alloc());
         let mut list = SignalList::new();
         list.push(Post { pid: 1, signal: 9 });
-        assert_eq!(rt; signals(&mut shim, 1, &mut list), Ok(()));
-        assert_eq!(rt; list.len(), 0);
+        answers_signals(&rt, &mut shim, 1, &mut list, Ok(()));
+        came(&rt, &list, 0);
+        drop(shim);
     }
 
     #[test]
@@ -74,8 +136,9 @@ mod tests {
     #[test]
     fn the_clock_of_a_quiet_group_stands_still(rt: HostRuntime) {
         let mut shim = Quiet::new(rt.alloc());
-        assert_eq!(rt; clock(&mut shim), Ok(0));
-        assert_eq!(rt; clock(&mut shim), Ok(0));
-        assert_eq!(rt; shim.end(Ending::Done, 3), Ok(()));
+        answers_clock(&rt, &mut shim, Ok(0));
+        answers_clock(&rt, &mut shim, Ok(0));
+        takes_end(&rt, &mut shim, Ending::Done, 3);
+        drop(shim);
     }
 }
