@@ -1,33 +1,59 @@
 //! Files in memory and over std.
 use dos_io::{FileError, Files, MemoryFiles, StdFiles};
-use std::test::Fail;
+use std::process::Abort;
 
-#[test]
-fn files_give_what_they_were_given(rt: HostRuntime) -> Result<(), Fail> {
-    let mut files = MemoryFiles::new(rt.alloc(), &[3, 5])?;
-    files.add("a", b"abc")?;
-    assert_eq!(rt; files.get("a", 3)?.as_slice(), b"abc".as_slice());
-    assert_eq!(rt; files.get("a", 2).err(), Some(FileError::TooLong));
-    assert_eq!(rt; files.get("a", 3).err(), Some(FileError::Fault));
-    assert_eq!(rt; files.get("b", 3).err(), Some(FileError::Fault));
-    assert_eq!(rt; files.set("b", b"x"), Err(FileError::Fault));
-    assert_eq!(rt; files.set("b", b"xy"), Ok(()));
-    assert_eq!(rt; files.get("b", 3)?.as_slice(), b"xy".as_slice());
-    assert_eq!(rt; files.get("a", 3)?.as_slice(), b"abc".as_slice());
-    Ok(())
+// The file is given, and has these bytes.
+fn gives(rt: &impl Abort, files: &mut impl Files, name: &str, limit: u64, bytes: &[u8]) {
+    let given = files.get(name, limit).expect(rt, "a file that is given");
+    assert_eq!(rt; given.as_slice(), bytes);
+}
+
+fn gives_no(rt: &impl Abort, files: &mut impl Files, name: &str, limit: u64, error: FileError) {
+    assert_eq!(rt; files.get(name, limit).err(), Some(error));
+}
+
+fn sets(
+    rt: &impl Abort,
+    files: &mut impl Files,
+    name: &str,
+    bytes: &[u8],
+    answer: Result<(), FileError>,
+) {
+    assert_eq!(rt; files.set(name, bytes), answer);
 }
 
 #[test]
-fn files_are_read_within_their_limit(rt: HostRuntime) -> Result<(), Fail> {
+fn files_give_what_they_were_given(rt: HostRuntime) {
+    let mut files = MemoryFiles::new(rt.alloc(), &[3, 5]).expect(&rt, "memory");
+    files.add("a", b"abc").expect(&rt, "memory");
+    gives(&rt, &mut files, "a", 3, b"abc");
+    gives_no(&rt, &mut files, "a", 2, FileError::TooLong);
+    gives_no(&rt, &mut files, "a", 3, FileError::Fault);
+    gives_no(&rt, &mut files, "b", 3, FileError::Fault);
+    sets(&rt, &mut files, "b", b"x", Err(FileError::Fault));
+    sets(&rt, &mut files, "b", b"xy", Ok(()));
+    gives(&rt, &mut files, "b", 3, b"xy");
+    gives(&rt, &mut files, "a", 3, b"abc");
+    drop(files);
+}
+
+#[test]
+fn files_are_read_within_their_limit(rt: HostRuntime) {
+    let content = vec![in rt.alloc(); 7u8; 9000].expect(&rt, "memory");
     let mut files = StdFiles::new(&rt, rt.alloc());
-    assert_eq!(rt; files.get("none", 9).err(), Some(FileError::Fault));
-    let content = vec![in rt.alloc(); 7u8; 9000]?;
-    files.set("nine", &content)?;
-    assert_eq!(rt; files.get("nine", 9000)?.as_slice(), content.as_slice());
-    assert_eq!(rt; files.get("nine", 8999).err(), Some(FileError::TooLong));
-    assert_eq!(rt; files.get("nine", 0).err(), Some(FileError::TooLong));
-    assert_eq!(rt; files.set("no/such/folder", b"x"), Err(FileError::Fault));
-    files.set("nine", b"")?;
-    assert_eq!(rt; files.get("nine", 0)?.len(), 0);
-    Ok(())
+    gives_no(&rt, &mut files, "none", 9, FileError::Fault);
+    sets(&rt, &mut files, "nine", &content, Ok(()));
+    gives(&rt, &mut files, "nine", 9000, &content);
+    gives_no(&rt, &mut files, "nine", 8999, FileError::TooLong);
+    gives_no(&rt, &mut files, "nine", 0, FileError::TooLong);
+    sets(
+        &rt,
+        &mut files,
+        "no/such/folder",
+        b"x",
+        Err(FileError::Fault),
+    );
+    sets(&rt, &mut files, "nine", b"", Ok(()));
+    gives(&rt, &mut files, "nine", 0, b"");
+    drop(content);
 }
