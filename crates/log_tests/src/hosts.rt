@@ -1,35 +1,55 @@
 //! Hosts in memory and over std.
+ghost use Rattle.std.specs.Prelude.{◌<◌, length};
+
+use crate::texts::are;
 use dos_io::{Host, HostFault, MemoryHost, StdHost};
 use std::io;
 use std::io::Read;
-use std::test::Fail;
+use std::process::Abort;
+
+/// The host's answer to a question for input.
+pub fn brings(
+    rt: &impl Abort,
+    host: &mut impl Host,
+    buf: &mut [u8],
+    answer: Result<usize, HostFault>,
+)
+    requires { 0 < length buf.old }
+{
+    assert_eq!(rt; host.input(buf), answer);
+}
+
+// The host's answer to a question for a reading.
+fn reads(rt: &impl Abort, host: &mut impl Host, answer: Result<u64, HostFault>) {
+    assert_eq!(rt; host.clock(), answer);
+}
 
 #[test]
-fn a_host_gives_its_pieces_and_its_readings(rt: HostRuntime) -> Result<(), Fail> {
-    let mut host = MemoryHost::new(rt.alloc(), b"01234567", 5, &[7], &[2])?;
+fn a_host_gives_its_pieces_and_its_readings(rt: HostRuntime) {
+    let mut host = MemoryHost::new(rt.alloc(), b"01234567", 5, &[7], &[2]).expect(&rt, "memory");
     let mut buf = [b'.'; 4];
-    assert_eq!(rt; host.input(&mut buf), Ok(4));
-    assert_eq!(rt; buf, *b"0123");
-    assert_eq!(rt; host.input(&mut buf), Err(HostFault {}));
-    assert_eq!(rt; host.input(&mut buf), Ok(1));
-    assert_eq!(rt; buf, *b"4123");
-    assert_eq!(rt; host.clock(), Ok(7));
-    assert_eq!(rt; host.clock(), Err(HostFault {}));
-    assert_eq!(rt; host.input(&mut buf), Ok(3));
-    assert_eq!(rt; host.input(&mut buf), Ok(0));
-    Ok(())
+    brings(&rt, &mut host, &mut buf, Ok(4));
+    are(&rt, &buf, b"0123");
+    brings(&rt, &mut host, &mut buf, Err(HostFault {}));
+    brings(&rt, &mut host, &mut buf, Ok(1));
+    are(&rt, &buf, b"4123");
+    reads(&rt, &mut host, Ok(7));
+    reads(&rt, &mut host, Err(HostFault {}));
+    brings(&rt, &mut host, &mut buf, Ok(3));
+    brings(&rt, &mut host, &mut buf, Ok(0));
+    drop(host);
 }
 
 #[test]
 fn the_host_over_std_gives_what_its_reader_gives(rt: HostRuntime) {
     let mut host = StdHost::new(b"0123456".as_slice(), &rt);
     let mut buf = [b'.'; 4];
-    assert_eq!(rt; host.input(&mut buf), Ok(4));
-    assert_eq!(rt; buf, *b"0123");
-    assert_eq!(rt; host.input(&mut buf), Ok(3));
-    assert_eq!(rt; buf, *b"4563");
-    assert_eq!(rt; host.input(&mut buf), Ok(0));
-    assert_eq!(rt; buf, *b"4563");
+    brings(&rt, &mut host, &mut buf, Ok(4));
+    are(&rt, &buf, b"0123");
+    brings(&rt, &mut host, &mut buf, Ok(3));
+    are(&rt, &buf, b"4563");
+    brings(&rt, &mut host, &mut buf, Ok(0));
+    are(&rt, &buf, b"4563");
 }
 
 /// A reader that fails at its second call, and gives one byte at each other.
@@ -56,10 +76,10 @@ impl Read for Failing {
 fn a_reader_that_fails_is_a_fault_and_may_go_on(rt: HostRuntime) {
     let mut host = StdHost::new(Failing { calls: 0 }, &rt);
     let mut buf = [b'.'; 4];
-    assert_eq!(rt; host.input(&mut buf), Ok(1));
-    assert_eq!(rt; host.input(&mut buf), Err(HostFault {}));
-    assert_eq!(rt; host.input(&mut buf), Ok(1));
-    assert_eq!(rt; buf, [3, b'.', b'.', b'.']);
+    brings(&rt, &mut host, &mut buf, Ok(1));
+    brings(&rt, &mut host, &mut buf, Err(HostFault {}));
+    brings(&rt, &mut host, &mut buf, Ok(1));
+    are(&rt, &buf, &[3, b'.', b'.', b'.']);
 }
 
 #[test]
