@@ -1,18 +1,24 @@
 //! Sinks in memory and over std.
+use crate::texts::are;
 use dos_io::{MemorySink, Sink, SinkFault, StdErr, StdOut};
 use std::io;
 use std::io::Write;
-use std::test::Fail;
+use std::process::Abort;
+
+// The sink's answer to a piece.
+fn puts(rt: &impl Abort, sink: &mut impl Sink, piece: &[u8], answer: Result<(), SinkFault>) {
+    assert_eq!(rt; sink.put(piece), answer);
+}
 
 #[test]
-fn a_sink_fails_where_it_is_told_to_and_where_it_is_full(rt: HostRuntime) -> Result<(), Fail> {
-    let mut sink = MemorySink::new(rt.alloc(), 5, &[2])?;
-    assert_eq!(rt; sink.put(b"abc"), Ok(()));
-    assert_eq!(rt; sink.put(b"d"), Err(SinkFault));
-    assert_eq!(rt; sink.put(b"def"), Err(SinkFault));
-    assert_eq!(rt; sink.put(b"de"), Ok(()));
-    assert_eq!(rt; sink.bytes(), b"abcde".as_slice());
-    Ok(())
+fn a_sink_fails_where_it_is_told_to_and_where_it_is_full(rt: HostRuntime) {
+    let mut sink = MemorySink::new(rt.alloc(), 5, &[2]).expect(&rt, "memory");
+    puts(&rt, &mut sink, b"abc", Ok(()));
+    puts(&rt, &mut sink, b"d", Err(SinkFault));
+    puts(&rt, &mut sink, b"def", Err(SinkFault));
+    puts(&rt, &mut sink, b"de", Ok(()));
+    are(&rt, sink.bytes(), b"abcde");
+    drop(sink);
 }
 
 /// A writer that takes `room` bytes, and refuses the next.
@@ -38,13 +44,13 @@ impl Write for Full {
 
 #[test]
 fn the_standard_sinks_take_bytes(rt: HostRuntime) {
-    assert_eq!(rt; StdOut::new(rt.stdout()).put(b"out\xff\n"), Ok(()));
-    assert_eq!(rt; StdErr::new(rt.stderr()).put(b"err\xff\n"), Ok(()));
+    puts(&rt, &mut StdOut::new(rt.stdout()), b"out\xff\n", Ok(()));
+    puts(&rt, &mut StdErr::new(rt.stderr()), b"err\xff\n", Ok(()));
 }
 
 #[test]
 fn a_writer_that_is_full_is_a_fault(rt: HostRuntime) {
     let mut sink = StdErr::new(Full { room: 3 });
-    assert_eq!(rt; sink.put(b"ab"), Ok(()));
-    assert_eq!(rt; sink.put(b"cd"), Err(SinkFault));
+    puts(&rt, &mut sink, b"ab", Ok(()));
+    puts(&rt, &mut sink, b"cd", Err(SinkFault));
 }
