@@ -1,6 +1,6 @@
 //! A log cut at every length.
-use crate::texts::EACH_KIND;
-use shim_log::{LogError, ReadError, read_log};
+use crate::texts::{EACH_KIND, is_read};
+use shim_log::{LogError, ReadError};
 
 /// Where the fields of `EACH_KIND` begin.
 const FIELDS: [u64; 25] = [
@@ -22,10 +22,7 @@ fn last_field(length: u64) -> u64 {
 fn a_log_cut_at_any_length_is_short_at_the_field_that_is_cut(rt: HostRuntime) {
     for length in 0..EACH_KIND.len() {
         let short = ReadError::Refused(LogError::Short(last_field(length as u64)));
-        assert_eq!(rt;
-            read_log(rt.alloc(), &EACH_KIND[..length]).err(),
-            Some(short)
-        );
+        is_read(&rt, rt.alloc(), &EACH_KIND[..length], Some(short));
     }
-    assert_eq!(rt; read_log(rt.alloc(), &EACH_KIND).err(), None);
+    is_read(&rt, rt.alloc(), &EACH_KIND, None);
 }
