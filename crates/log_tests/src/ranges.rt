@@ -1,15 +1,16 @@
 //! Each field of a log at and past each end of its range.
-use crate::texts::EACH_KIND;
-use shim_log::{LogError, ReadError, read_log};
+use crate::texts::{EACH_KIND, is_read};
+use shim_log::{LogError, ReadError};
 use std::alloc::Global;
+use std::process::Abort;
 
-/// How `EACH_KIND` is read where the bytes from a place on are others; none where it is a log.
-fn refusal(alloc: Global, place: usize, bytes: &[u8]) -> Option<ReadError> {
+/// `EACH_KIND` is refused so where the bytes from a place on are others; none where it is a log.
+fn changed(rt: &impl Abort, alloc: Global, place: usize, bytes: &[u8], refusal: Option<ReadError>) {
     let mut text = EACH_KIND;
     for (to, from) in text.iter_mut().skip(place).zip(bytes) {
         *to = *from;
     }
-    read_log(alloc, &text).err()
+    is_read(rt, alloc, &text, refusal);
 }
 
 /// Texts that are refused: the place, the bytes that stand there, and the refusal.
@@ -66,16 +67,14 @@ const READ: [(usize, &[u8]); 18] = [
 #[test]
 fn what_is_out_of_its_range_is_refused_with_its_place(rt: HostRuntime) {
     for (place, bytes, wrong) in REFUSED {
-        assert_eq!(rt;
-            refusal(rt.alloc(), place, bytes),
-            Some(ReadError::Refused(wrong))
-        );
+        let refusal = Some(ReadError::Refused(wrong));
+        changed(&rt, rt.alloc(), place, bytes, refusal);
     }
 }
 
 #[test]
 fn each_end_of_each_range_is_read(rt: HostRuntime) {
     for (place, bytes) in READ {
-        assert_eq!(rt; refusal(rt.alloc(), place, bytes), None);
+        changed(&rt, rt.alloc(), place, bytes, None);
     }
 }
