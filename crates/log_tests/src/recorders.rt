@@ -4,13 +4,13 @@ ghost use Rattle.dos_io.specs.Shims.{HasNoEnd};
 ghost use Rattle.shim_log.specs.Ledger.{recorder_state};
 ghost use Rattle.shim_log.specs.Ranges.{FitsHeader};
 
-use crate::shims::{clock, full_inputs, input, signals};
-use crate::texts::SMALLEST;
-use dos_io::{ClockRule, Host, MemoryHost, Shim, ShimStop, SignalList};
+use crate::hosts::brings;
+use crate::shims::{answers_clock, answers_input, answers_signals, came, fills};
+use crate::texts::{SMALLEST, are, is_written};
+use dos_io::{ClockRule, HostFault, MemoryHost, Shim, ShimStop, SignalList};
 use dos_world::{Ending, Post};
-use shim_log::{Digests, Ledger, Log, LogHeader, Recorder, write_log};
+use shim_log::{Digests, Ledger, Log, LogHeader, Recorder};
 use std::alloc::{AllocError, Global};
-use std::test::Fail;
 
 /// The usual numbers, and one digest.
 fn header() -> LogHeader
@@ -49,77 +49,72 @@ pub fn finished(mut shim: Recorder<'_, MemoryHost>, rounds: u32) -> Result<Log, 
 }
 
 #[test]
-fn a_run_without_answers_has_the_smallest_log(rt: HostRuntime) -> Result<(), Fail> {
-    let mut host = MemoryHost::new(rt.alloc(), b"", 1, &[], &[])?;
-    let mut shim = recorder(rt.alloc(), &mut host, ClockRule::FromHost)?;
+fn a_run_without_answers_has_the_smallest_log(rt: HostRuntime) {
+    let mut host = MemoryHost::new(rt.alloc(), b"", 1, &[], &[]).expect(&rt, "memory");
+    let mut shim = recorder(rt.alloc(), &mut host, ClockRule::FromHost).expect(&rt, "memory");
     let mut list = SignalList::new();
-    assert_eq!(rt; signals(&mut shim, 1, &mut list), Ok(()));
-    let Ok(log) = finished(shim, 1) else {
-        panic!(rt; "no log");
-    };
-    assert_eq!(rt;
-        write_log(rt.alloc(), &log)?.as_slice(),
-        SMALLEST.as_slice()
-    );
-    Ok(())
+    answers_signals(&rt, &mut shim, 1, &mut list, Ok(()));
+    let log = finished(shim, 1).expect(&rt, "a log");
+    is_written(&rt, rt.alloc(), &log, &SMALLEST);
+    drop(log);
+    drop(host);
 }
 
 #[test]
-fn a_round_has_its_posts(rt: HostRuntime) -> Result<(), Fail> {
-    let mut host = MemoryHost::new(rt.alloc(), b"", 1, &[], &[])?;
-    let mut shim = recorder(rt.alloc(), &mut host, ClockRule::FromHost)?;
+fn a_round_has_its_posts(rt: HostRuntime) {
+    let mut host = MemoryHost::new(rt.alloc(), b"", 1, &[], &[]).expect(&rt, "memory");
+    let mut shim = recorder(rt.alloc(), &mut host, ClockRule::FromHost).expect(&rt, "memory");
     let mut list = SignalList::new();
-    assert_eq!(rt; signals(&mut shim, 1, &mut list), Ok(()));
-    assert_eq!(rt; list.len(), 0);
-    assert_eq!(rt; signals(&mut shim, 2, &mut list), Ok(()));
-    assert_eq!(rt; list.len(), 1);
-    Ok(())
+    answers_signals(&rt, &mut shim, 1, &mut list, Ok(()));
+    came(&rt, &list, 0);
+    answers_signals(&rt, &mut shim, 2, &mut list, Ok(()));
+    came(&rt, &list, 1);
+    drop(shim);
+    drop(host);
 }
 
 #[test]
-fn a_counted_clock_counts(rt: HostRuntime) -> Result<(), Fail> {
-    let mut host = MemoryHost::new(rt.alloc(), b"", 1, &[], &[])?;
-    let mut shim = recorder(
-        rt.alloc(),
-        &mut host,
-        ClockRule::Counted { from: 5, step: 3 },
-    )?;
-    assert_eq!(rt; clock(&mut shim), Ok(5));
-    assert_eq!(rt; clock(&mut shim), Ok(8));
-    assert_eq!(rt; clock(&mut shim), Ok(11));
-    Ok(())
+fn a_counted_clock_counts(rt: HostRuntime) {
+    let mut host = MemoryHost::new(rt.alloc(), b"", 1, &[], &[]).expect(&rt, "memory");
+    let rule = ClockRule::Counted { from: 5, step: 3 };
+    let mut shim = recorder(rt.alloc(), &mut host, rule).expect(&rt, "memory");
+    answers_clock(&rt, &mut shim, Ok(5));
+    answers_clock(&rt, &mut shim, Ok(8));
+    answers_clock(&rt, &mut shim, Ok(11));
+    drop(shim);
+    drop(host);
 }
 
 #[test]
-fn a_full_log_asks_nothing_and_takes_what_is_smaller(rt: HostRuntime) -> Result<(), Fail> {
-    let bytes = vec![in rt.alloc(); 7u8; 66_895_872]?;
-    let mut host = MemoryHost::new(rt.alloc(), &bytes, 4096, &[], &[16334])?;
-    let mut shim = recorder(
-        rt.alloc(),
-        &mut host,
-        ClockRule::Counted { from: 0, step: 1 },
-    )?;
+fn a_full_log_asks_nothing_and_takes_what_is_smaller(rt: HostRuntime) {
+    let bytes = vec![in rt.alloc(); 7u8; 66_895_872].expect(&rt, "memory");
+    let mut host = MemoryHost::new(rt.alloc(), &bytes, 4096, &[], &[16334]).expect(&rt, "memory");
+    let rule = ClockRule::Counted { from: 0, step: 1 };
+    let mut shim = recorder(rt.alloc(), &mut host, rule).expect(&rt, "memory");
     let mut buf = [0; 4096];
-    assert_eq!(rt; full_inputs(&mut shim, &mut buf, 16332), 16332);
-    assert_eq!(rt; input(&mut shim, &mut buf), Err(ShimStop::LogFull));
-    assert_eq!(rt; clock(&mut shim), Ok(0));
-    let host = shim.into_host();
+    fills(&rt, &mut shim, &mut buf, 16332);
+    answers_input(&rt, &mut shim, &mut buf, Err(ShimStop::LogFull));
+    answers_clock(&rt, &mut shim, Ok(0));
+    let asked = shim.into_host();
     // Its calls 1 to 16332 were made and none more: call 16334 alone fails.
-    assert_eq!(rt; host.input(&mut buf), Ok(0));
-    assert_eq!(rt; host.input(&mut buf).is_err(), true);
-    Ok(())
+    brings(&rt, asked, &mut buf, Ok(0));
+    brings(&rt, asked, &mut buf, Err(HostFault {}));
+    drop(host);
+    drop(bytes);
 }
 
 #[test]
-fn any_input_passes(rt: HostRuntime) -> Result<(), Fail> {
-    let bytes = vec![in rt.alloc(); 0xffu8; 4099]?;
-    let mut host = MemoryHost::new(rt.alloc(), &bytes, 4096, &[], &[2])?;
-    let mut shim = recorder(rt.alloc(), &mut host, ClockRule::FromHost)?;
+fn any_input_passes(rt: HostRuntime) {
+    let bytes = vec![in rt.alloc(); 0xffu8; 4099].expect(&rt, "memory");
+    let mut host = MemoryHost::new(rt.alloc(), &bytes, 4096, &[], &[2]).expect(&rt, "memory");
+    let mut shim = recorder(rt.alloc(), &mut host, ClockRule::FromHost).expect(&rt, "memory");
     let mut buf = [0; 4096];
-    assert_eq!(rt; input(&mut shim, &mut buf), Ok(4096));
-    assert_eq!(rt; input(&mut shim, &mut buf), Err(ShimStop::HostFault));
-    assert_eq!(rt; input(&mut shim, &mut buf), Ok(3));
-    assert_eq!(rt; input(&mut shim, &mut buf), Ok(0));
-    assert_eq!(rt; buf[4095], 0xff);
-    Ok(())
+    answers_input(&rt, &mut shim, &mut buf, Ok(4096));
+    answers_input(&rt, &mut shim, &mut buf, Err(ShimStop::HostFault));
+    answers_input(&rt, &mut shim, &mut buf, Ok(3));
+    answers_input(&rt, &mut shim, &mut buf, Ok(0));
+    are(&rt, &buf[4095..], &[0xff]);
+    drop(shim);
+    drop(host);
+    drop(bytes);
 }
