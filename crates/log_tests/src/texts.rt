@@ -29,11 +29,18 @@ pub fn are(rt: &impl Abort, bytes: &[u8], wanted: &[u8]) {
     assert_eq!(rt; bytes, wanted);
 }
 
+// Why the text is refused; none where it is a log.
+fn refusal_of(alloc: Global, text: &[u8]) -> Option<ReadError>
+    requires { length text.now ≤ 67108864 }
+{
+    read_log(alloc, text).err()
+}
+
 /// The text is refused so; none where it is a log.
 pub fn is_read(rt: &impl Abort, alloc: Global, text: &[u8], refusal: Option<ReadError>)
     requires { length text.now ≤ 67108864 }
 {
-    assert_eq!(rt; read_log(alloc, text).err(), refusal);
+    assert_eq!(rt; refusal_of(alloc, text), refusal);
 }
 
 /// The log is written as this text.
