@@ -66,15 +66,15 @@ const READ: [(usize, &[u8]); 18] = [
 
 #[test]
 fn what_is_out_of_its_range_is_refused_with_its_place(rt: HostRuntime) {
-    for (place, bytes, wrong) in REFUSED {
-        let refusal = Some(ReadError::Refused(wrong));
-        changed(&rt, rt.alloc(), place, bytes, refusal);
+    for (place, bytes, wrong) in &REFUSED {
+        let refusal = Some(ReadError::Refused(*wrong));
+        changed(&rt, rt.alloc(), *place, bytes, refusal);
     }
 }
 
 #[test]
 fn each_end_of_each_range_is_read(rt: HostRuntime) {
-    for (place, bytes) in READ {
-        changed(&rt, rt.alloc(), place, bytes, None);
+    for (place, bytes) in &READ {
+        changed(&rt, rt.alloc(), *place, bytes, None);
     }
 }
