@@ -11,6 +11,7 @@ use dos_io::{ClockRule, HostFault, MemoryHost, Shim, ShimStop, SignalList};
 use dos_world::{Ending, Post};
 use shim_log::{Digests, Ledger, Log, LogHeader, Recorder};
 use std::alloc::{AllocError, Global};
+use std::process::Abort;
 
 /// The usual numbers, and one digest.
 fn header() -> LogHeader
@@ -85,10 +86,18 @@ fn a_counted_clock_counts(rt: HostRuntime) {
     drop(host);
 }
 
+// A host whose input is one byte, so many times, in pieces of 4096, and whose call of this number
+// fails.
+fn full_host(rt: &impl Abort, alloc: Global, byte: u8, count: usize, failing: u32) -> MemoryHost {
+    let bytes = vec![in alloc; byte; count].expect(rt, "memory");
+    let host = MemoryHost::new(alloc, &bytes, 4096, &[], &[failing]).expect(rt, "memory");
+    drop(bytes);
+    host
+}
+
 #[test]
 fn a_full_log_asks_nothing_and_takes_what_is_smaller(rt: HostRuntime) {
-    let bytes = vec![in rt.alloc(); 7u8; 66_895_872].expect(&rt, "memory");
-    let mut host = MemoryHost::new(rt.alloc(), &bytes, 4096, &[], &[16334]).expect(&rt, "memory");
+    let mut host = full_host(&rt, rt.alloc(), 7, 66_895_872, 16334);
     let rule = ClockRule::Counted { from: 0, step: 1 };
     let mut shim = recorder(rt.alloc(), &mut host, rule).expect(&rt, "memory");
     let mut buf = [0; 4096];
@@ -100,21 +109,18 @@ fn a_full_log_asks_nothing_and_takes_what_is_smaller(rt: HostRuntime) {
     brings(&rt, asked, &mut buf, Ok(0));
     brings(&rt, asked, &mut buf, Err(HostFault {}));
     drop(host);
-    drop(bytes);
 }
 
 #[test]
 fn any_input_passes(rt: HostRuntime) {
-    let bytes = vec![in rt.alloc(); 0xffu8; 4099].expect(&rt, "memory");
-    let mut host = MemoryHost::new(rt.alloc(), &bytes, 4096, &[], &[2]).expect(&rt, "memory");
+    let mut host = full_host(&rt, rt.alloc(), 0xff, 4099, 2);
     let mut shim = recorder(rt.alloc(), &mut host, ClockRule::FromHost).expect(&rt, "memory");
     let mut buf = [0; 4096];
     answers_input(&rt, &mut shim, &mut buf, Ok(4096));
     answers_input(&rt, &mut shim, &mut buf, Err(ShimStop::HostFault));
     answers_input(&rt, &mut shim, &mut buf, Ok(3));
     answers_input(&rt, &mut shim, &mut buf, Ok(0));
-    are(&rt, &buf[4095..], &[0xff]);
+    are(&rt, &[buf[4095]], &[0xff]);
     drop(shim);
     drop(host);
-    drop(bytes);
 }
