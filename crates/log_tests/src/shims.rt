@@ -112,6 +112,7 @@ pub fn takes_end<S: Shim>(rt: &impl Abort, shim: &mut S, ending: Ending, rounds:
 #[cfg(test)]
 mod tests {
     use super::*;
+    use crate::texts::are;
     use dos_io::Quiet;
     use dos_world::Post;
 
@@ -129,8 +130,9 @@ mod tests {
     fn the_input_of_a_quiet_group_is_at_its_end(rt: HostRuntime) {
         let mut shim = Quiet::new(rt.alloc());
         let mut buf = [7; 4];
-        assert_eq!(rt; input(&mut shim, &mut buf), Ok(0));
-        assert_eq!(rt; buf, [7; 4]);
+        answers_input(&rt, &mut shim, &mut buf, Ok(0));
+        are(&rt, &buf, &[7; 4]);
+        drop(shim);
     }
 
     #[test]
