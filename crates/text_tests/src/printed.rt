@@ -1,44 +1,60 @@
 //! The lines of reports, of `inspect` and of `gen`.
-use dos_io::{MemorySink, SinkFault};
+use dos_io::{MemorySink, Sink, SinkFault};
 use dos_texts::{process_line, put_inspect, put_output, rounds_line};
 use dos_world::Ending;
 use elf_image::{Image, read_image};
 use rv_asm::Builder;
 use std::alloc::Global;
-use std::test::Fail;
+use std::process::Abort;
+
+// The line of a process says this.
+fn process_says(rt: &impl Abort, number: u32, status: Option<u8>, text: &str) {
+    assert_eq!(rt; process_line(number, status).as_str(), text);
+}
+
+// The line of the rounds says this.
+fn rounds_say(rt: &impl Abort, rounds: u32, ending: Ending, text: &str) {
+    assert_eq!(rt; rounds_line(rounds, ending).as_str(), text);
+}
 
 #[test]
 fn reports(rt: HostRuntime) {
-    assert_eq!(rt; process_line(1, Some(7)).as_str(), "process 1 status 7\n");
-    assert_eq!(rt;
-        process_line(4294967295, Some(255)).as_str(),
-        "process 4294967295 status 255\n"
+    process_says(&rt, 1, Some(7), "process 1 status 7\n");
+    process_says(
+        &rt,
+        4294967295,
+        Some(255),
+        "process 4294967295 status 255\n",
     );
-    assert_eq!(rt; process_line(2, None).as_str(), "process 2 live\n");
-    assert_eq!(rt; rounds_line(1, Ending::Done).as_str(), "rounds 1 done\n");
-    assert_eq!(rt;
-        rounds_line(100000, Ending::Limit).as_str(),
-        "rounds 100000 limit\n"
-    );
-    assert_eq!(rt;
-        rounds_line(0, Ending::Stalled).as_str(),
-        "rounds 0 stalled\n"
-    );
+    process_says(&rt, 2, None, "process 2 live\n");
+    rounds_say(&rt, 1, Ending::Done, "rounds 1 done\n");
+    rounds_say(&rt, 100000, Ending::Limit, "rounds 100000 limit\n");
+    rounds_say(&rt, 0, Ending::Stalled, "rounds 0 stalled\n");
 }
 
 /// An image of three words of code, and of two bytes of data with six zeros behind them.
-fn image(alloc: Global, write: bool) -> Result<Image, Fail> {
-    let mut builder = Builder::new(alloc, 0x10000, write)?;
+fn image(rt: &impl Abort, alloc: Global, write: bool) -> Image {
+    let mut builder = Builder::new(alloc, 0x10000, write).expect(rt, "memory");
     for word in [0x00700513, 0x05d00893, 0x00000073] {
-        builder.word(word)?;
+        builder.word(word).expect(rt, "memory");
     }
-    builder.data(0xab000, b"Hi", 6)?;
-    let file = builder.finish()?;
-    Ok(read_image(alloc, &file)?)
+    builder.data(0xab000, b"Hi", 6).expect(rt, "memory");
+    let file = builder.finish().expect(rt, "a file");
+    read_image(alloc, &file).expect(rt, "an image")
+}
+
+// The answer where the lines of an image are put.
+fn inspects(rt: &impl Abort, image: &Image, out: &mut impl Sink, answer: Result<(), SinkFault>) {
+    assert_eq!(rt; put_inspect(image, out), answer);
+}
+
+/// The sink has these lines.
+pub fn has(rt: &impl Abort, out: &MemorySink, lines: &str) {
+    assert_eq!(rt; out.bytes(), lines.as_bytes());
 }
 
 #[test]
-fn parts_of_images(rt: HostRuntime) -> Result<(), Fail> {
+fn parts_of_images(rt: HostRuntime) {
     let alloc = rt.alloc();
     let cases: [(bool, &str); 2] = [
         (
@@ -51,28 +67,45 @@ fn parts_of_images(rt: HostRuntime) -> Result<(), Fail> {
         ),
     ];
     for (write, lines) in cases {
-        let mut out = MemorySink::new(alloc, 4096, &[])?;
-        assert_eq!(rt; put_inspect(&image(alloc, write)?, &mut out), Ok(()));
-        assert_eq!(rt; out.bytes(), lines.as_bytes());
+        let image = image(&rt, alloc, write);
+        let mut out = MemorySink::new(alloc, 4096, &[]).expect(&rt, "memory");
+        inspects(&rt, &image, &mut out, Ok(()));
+        has(&rt, &out, lines);
+        drop(out);
+        drop(image);
     }
-    let mut out = MemorySink::new(alloc, 4096, &[2])?;
-    assert_eq!(rt; put_inspect(&image(alloc, true)?, &mut out), Err(SinkFault));
-    assert_eq!(rt; out.bytes(), b"entry 00010000\n".as_slice());
-    Ok(())
+    let image = image(&rt, alloc, true);
+    let mut out = MemorySink::new(alloc, 4096, &[2]).expect(&rt, "memory");
+    inspects(&rt, &image, &mut out, Err(SinkFault));
+    has(&rt, &out, "entry 00010000\n");
+    drop(out);
+    drop(image);
+}
+
+// The answer where the lines of an output are put.
+fn outputs_put(
+    rt: &impl Abort,
+    count: u64,
+    digest: &[u8; 32],
+    out: &mut impl Sink,
+    answer: Result<(), SinkFault>,
+) {
+    assert_eq!(rt; put_output(count, digest, out), answer);
 }
 
 #[test]
-fn outputs(rt: HostRuntime) -> Result<(), Fail> {
+fn outputs(rt: HostRuntime) {
     let alloc = rt.alloc();
     let mut digest = [0xff; 32];
     digest[0] = 0x0a;
-    let mut out = MemorySink::new(alloc, 4096, &[])?;
-    assert_eq!(rt; put_output(18446744073709551615, &digest, &mut out), Ok(()));
+    let mut out = MemorySink::new(alloc, 4096, &[]).expect(&rt, "memory");
+    outputs_put(&rt, 18446744073709551615, &digest, &mut out, Ok(()));
     let lines =
         "output 18446744073709551615 bytes\nsha256 0affffffffffffffffffffffffffffffffffffffffffffffffffffffffffffff\n";
-    assert_eq!(rt; out.bytes(), lines.as_bytes());
-    let mut out = MemorySink::new(alloc, 4096, &[2])?;
-    assert_eq!(rt; put_output(0, &digest, &mut out), Err(SinkFault));
-    assert_eq!(rt; out.bytes(), b"output 0 bytes\n".as_slice());
-    Ok(())
+    has(&rt, &out, lines);
+    drop(out);
+    let mut out = MemorySink::new(alloc, 4096, &[2]).expect(&rt, "memory");
+    outputs_put(&rt, 0, &digest, &mut out, Err(SinkFault));
+    has(&rt, &out, "output 0 bytes\n");
+    drop(out);
 }
