@@ -1,4 +1,5 @@
 //! Refusals, each with its status and its line.
+use crate::printed::has;
 use dos_io::MemorySink;
 use dos_texts::{Refusal, put_refusal};
 use dos_world::{Ending, Misfit, Question};
@@ -7,20 +8,25 @@ use log_files::LogRefusal;
 use shim_log::LogError;
 use std::alloc::Global;
 use std::process::Abort;
-use std::test::Fail;
+
+// The status of a refusal, and its line in a sink of its own, which fails at these calls.
+fn says(rt: &impl Abort, alloc: Global, failing: &[u32], refusal: Refusal, status: u8, line: &str) {
+    let mut err = MemorySink::new(alloc, 192, failing).expect(rt, "memory");
+    let said = put_refusal(refusal, &mut err);
+    has(rt, &err, line);
+    drop(err);
+    assert_eq!(rt; said, status);
+}
 
 /// Puts the line of each refusal to a sink of its own.
-fn say(rt: &impl Abort, alloc: Global, rows: &[(Refusal, u8, &str)]) -> Result<(), Fail> {
+fn say(rt: &impl Abort, alloc: Global, rows: &[(Refusal, u8, &str)]) {
     for (refusal, status, line) in rows {
-        let mut err = MemorySink::new(alloc, 192, &[])?;
-        assert_eq!(rt; put_refusal(*refusal, &mut err), *status);
-        assert_eq!(rt; err.bytes(), line.as_bytes());
+        says(rt, alloc, &[], *refusal, *status, line);
     }
-    Ok(())
 }
 
 #[test]
-fn plain_refusals(rt: HostRuntime) -> Result<(), Fail> {
+fn plain_refusals(rt: HostRuntime) {
     let rows = [
         (Refusal::Words, 2, "dos: words refused\n"),
         (Refusal::Files, 5, "dos: file fault\n"),
@@ -29,11 +35,11 @@ fn plain_refusals(rt: HostRuntime) -> Result<(), Fail> {
         (Refusal::Memory, 9, "dos: out of memory\n"),
         (Refusal::LogFull, 10, "dos: log full\n"),
     ];
-    say(&rt, rt.alloc(), &rows)
+    say(&rt, rt.alloc(), &rows);
 }
 
 #[test]
-fn refusals_of_images(rt: HostRuntime) -> Result<(), Fail> {
+fn refusals_of_images(rt: HostRuntime) {
     let rows = [
         (Refusal::TooLong(2), 3, "dos: image 2 too long\n"),
         (
@@ -62,11 +68,11 @@ fn refusals_of_images(rt: HostRuntime) -> Result<(), Fail> {
             "dos: needs 18446744073709551615 frames, has 16384\n",
         ),
     ];
-    say(&rt, rt.alloc(), &rows)
+    say(&rt, rt.alloc(), &rows);
 }
 
 #[test]
-fn refusals_of_logs(rt: HostRuntime) -> Result<(), Fail> {
+fn refusals_of_logs(rt: HostRuntime) {
     let rows = [
         (Refusal::Log(LogRefusal::TooLong), 4, "dos: log too long\n"),
         (
@@ -110,7 +116,7 @@ fn refusals_of_logs(rt: HostRuntime) -> Result<(), Fail> {
             "dos: image 1 has digest 0a0a0a0a0a0a0a0a0a0a0a0a0a0a0a0a0a0a0a0a0a0a0a0a0a0a0a0a0a0a0a0a, log has 9c9c9c9c9c9c9c9c9c9c9c9c9c9c9c9c9c9c9c9c9c9c9c9c9c9c9c9c9c9c9c9c\n",
         ),
     ];
-    say(&rt, rt.alloc(), &rows)
+    say(&rt, rt.alloc(), &rows);
 }
 
 /// The refusal of a run that asks for `asked` where its log has `kept`.
@@ -119,7 +125,7 @@ fn differs(entry: u32, kept: Question, asked: Question) -> Refusal {
 }
 
 #[test]
-fn misfits(rt: HostRuntime) -> Result<(), Fail> {
+fn misfits(rt: HostRuntime) {
     let signals = Question::Signals { round: 2 };
     let clock = Question::Clock { round: 3, tid: 2 };
     let input = Question::Input {
@@ -156,13 +162,10 @@ fn misfits(rt: HostRuntime) -> Result<(), Fail> {
             "dos: log entry 4294967295 is end stalled rounds 4294967295, asked signals round 2\n",
         ),
     ];
-    say(&rt, rt.alloc(), &rows)
+    say(&rt, rt.alloc(), &rows);
 }
 
 #[test]
-fn a_line_that_is_not_taken_is_a_fault(rt: HostRuntime) -> Result<(), Fail> {
-    let mut err = MemorySink::new(rt.alloc(), 192, &[1])?;
-    assert_eq!(rt; put_refusal(Refusal::Words, &mut err), 6);
-    assert_eq!(rt; err.bytes(), b"".as_slice());
-    Ok(())
+fn a_line_that_is_not_taken_is_a_fault(rt: HostRuntime) {
+    says(&rt, rt.alloc(), &[1], Refusal::Words, 6, "");
 }
