@@ -1,7 +1,6 @@
 use crate::table::{check_added, empty_table, end_process};
 use proc_table::{Collected, Table};
 use std::process::Abort;
-use std::test::Fail;
 
 fn end_processes(table: &mut Table, rows: &[(u32, u8)]) {
     for &(pid, status) in rows {
@@ -31,8 +30,8 @@ fn check_collected(rt: &impl Abort, table: &mut Table, rows: &[(u32, u32, Collec
 }
 
 #[test]
-fn a_wait_finds_the_lowest_child_that_has_ended(rt: HostRuntime) -> Result<(), Fail> {
-    let mut table = empty_table(rt.alloc())?;
+fn a_wait_finds_the_lowest_child_that_has_ended(rt: HostRuntime) {
+    let mut table = empty_table(rt.alloc()).expect(&rt, "memory");
     check_added(&rt, &mut table, &[(0, 1), (1, 2), (1, 3), (1, 4)]);
     check_waits(
         &rt,
@@ -47,12 +46,12 @@ fn a_wait_finds_the_lowest_child_that_has_ended(rt: HostRuntime) -> Result<(), F
         (1, 4, Collected::Got { pid: 4, status: 40 }),
     ];
     check_waits(&rt, &table, &rows);
-    Ok(())
+    drop(table);
 }
 
 #[test]
-fn a_child_is_collected_once(rt: HostRuntime) -> Result<(), Fail> {
-    let mut table = empty_table(rt.alloc())?;
+fn a_child_is_collected_once(rt: HostRuntime) {
+    let mut table = empty_table(rt.alloc()).expect(&rt, "memory");
     check_added(&rt, &mut table, &[(0, 1), (1, 2), (1, 3)]);
     end_processes(&mut table, &[(2, 20), (3, 30)]);
     let rows = [
@@ -62,12 +61,12 @@ fn a_child_is_collected_once(rt: HostRuntime) -> Result<(), Fail> {
         (1, 0, Collected::NoChild),
     ];
     check_collected(&rt, &mut table, &rows);
-    Ok(())
+    drop(table);
 }
 
 #[test]
-fn children_of_several_parents_end_out_of_order(rt: HostRuntime) -> Result<(), Fail> {
-    let mut table = empty_table(rt.alloc())?;
+fn children_of_several_parents_end_out_of_order(rt: HostRuntime) {
+    let mut table = empty_table(rt.alloc()).expect(&rt, "memory");
     let added = [(0, 1), (1, 2), (1, 3), (2, 4), (1, 5), (2, 6), (1, 7)];
     check_added(&rt, &mut table, &added);
     end_processes(&mut table, &[(5, 50), (3, 30), (6, 60)]);
@@ -89,12 +88,12 @@ fn children_of_several_parents_end_out_of_order(rt: HostRuntime) -> Result<(), F
         (1, 0, Collected::Wait),
     ];
     check_collected(&rt, &mut table, &rows);
-    Ok(())
+    drop(table);
 }
 
 #[test]
-fn orphans_are_nobodys_children(rt: HostRuntime) -> Result<(), Fail> {
-    let mut table = empty_table(rt.alloc())?;
+fn orphans_are_nobodys_children(rt: HostRuntime) {
+    let mut table = empty_table(rt.alloc()).expect(&rt, "memory");
     let added = [(0, 1), (1, 2), (2, 3), (2, 4), (1, 5), (2, 6)];
     check_added(&rt, &mut table, &added);
     end_processes(&mut table, &[(4, 40), (3, 30)]);
@@ -110,5 +109,5 @@ fn orphans_are_nobodys_children(rt: HostRuntime) -> Result<(), Fail> {
         (1, 0, Collected::Wait),
     ];
     check_collected(&rt, &mut table, &rows);
-    Ok(())
+    drop(table);
 }

@@ -11,7 +11,6 @@ use page_store::Frames;
 use proc_table::{SignalState, Table};
 use std::alloc::{AllocError, Global};
 use std::process::Abort;
-use std::test::Fail;
 
 // Four frames, of which two are thread 1's; the first begins with the word 0x64636261.
 fn two_frames(alloc: Global) -> Result<Frames, AllocError>
@@ -71,6 +70,15 @@ fn write(frames: &mut Frames, table: &Table, address: u32, bytes: &[u8]) -> bool
     }
 }
 
+fn check_written(rt: &impl Abort, frames: &mut Frames, table: &Table, address: u32, bytes: &[u8])
+    requires caller { IsCaller table.now 1 }
+    requires pages { HasTwoPages table.now }
+    requires home { HasAllHome frames.old }
+    requires owners { frames.old.owners ≡ two_owners }
+{
+    assert!(rt; write(frames, table, address, bytes));
+}
+
 fn fork_first(frames: &mut Frames, table: &mut Table) -> Result<u32, u8>
     requires caller { IsCaller table.old 1 }
     requires pages { HasTwoPages table.old }
@@ -79,6 +87,16 @@ fn fork_first(frames: &mut Frames, table: &mut Table) -> Result<u32, u8>
     requires uses { frames.old.uses ≡ 1 ∷ 1 ∷ 0 ∷ 0 ∷ [] }
 {
     fork(frames, table, 1)
+}
+
+fn check_forked(rt: &impl Abort, frames: &mut Frames, table: &mut Table, wanted: Result<u32, u8>)
+    requires caller { IsCaller table.old 1 }
+    requires pages { HasTwoPages table.old }
+    requires home { HasAllHome frames.old }
+    requires owners { frames.old.owners ≡ two_owners }
+    requires uses { frames.old.uses ≡ 1 ∷ 1 ∷ 0 ∷ 0 ∷ [] }
+{
+    assert_eq!(rt; fork_first(frames, table), wanted);
 }
 
 // The word at an offset of a frame's page.
@@ -100,19 +118,20 @@ pub(crate) fn check_words(rt: &impl Abort, frames: &Frames, rows: &[(u32, u32, u
 }
 
 #[test]
-fn bytes_go_out_over_the_end_of_a_page(rt: HostRuntime) -> Result<(), Fail> {
-    let mut frames = two_frames(rt.alloc())?;
-    let table = two_pages(rt.alloc())?;
-    assert!(rt; write(&mut frames, &table, 0x1_0fff, &[1, 2, 3]));
+fn bytes_go_out_over_the_end_of_a_page(rt: HostRuntime) {
+    let mut frames = two_frames(rt.alloc()).expect(&rt, "memory");
+    let table = two_pages(rt.alloc()).expect(&rt, "memory");
+    check_written(&rt, &mut frames, &table, 0x1_0fff, &[1, 2, 3]);
     check_words(&rt, &frames, &[(0, 4092, 0x0100_0000), (1, 0, 0x0302)]);
-    Ok(())
+    drop(table);
+    drop(frames);
 }
 
 #[test]
-fn a_child_has_copies_of_private_pages_and_the_shared_ones(rt: HostRuntime) -> Result<(), Fail> {
-    let mut frames = two_frames(rt.alloc())?;
-    let mut table = two_pages(rt.alloc())?;
-    assert_eq!(rt; fork_first(&mut frames, &mut table), Ok(2));
+fn a_child_has_copies_of_private_pages_and_the_shared_ones(rt: HostRuntime) {
+    let mut frames = two_frames(rt.alloc()).expect(&rt, "memory");
+    let mut table = two_pages(rt.alloc()).expect(&rt, "memory");
+    check_forked(&rt, &mut frames, &mut table, Ok(2));
     let rows = [(0x10, Some((2, false))), (0x11, Some((1, true)))];
     check_entries(&rt, &table, 2, &rows);
     let rows = [
@@ -122,5 +141,6 @@ fn a_child_has_copies_of_private_pages_and_the_shared_ones(rt: HostRuntime) -> R
     ];
     check_frames(&rt, &frames, &rows);
     check_free(&rt, &frames, 1);
-    Ok(())
+    drop(table);
+    drop(frames);
 }

@@ -8,7 +8,6 @@ use page_store::Frames;
 use proc_table::{SignalState, Table};
 use std::alloc::{AllocError, Global};
 use std::process::Abort;
-use std::test::Fail;
 
 // a table with process 1 and its thread 1, and room for 4 pages
 fn one_process(alloc: Global) -> Result<Table, AllocError>
@@ -166,41 +165,44 @@ pub(crate) fn check_free(rt: &impl Abort, frames: &Frames, wanted: u32) {
 }
 
 #[test]
-fn pages_are_mapped_in_fresh_frames(rt: HostRuntime) -> Result<(), Fail> {
-    let mut frames = four_frames(rt.alloc())?;
-    let mut table = one_process(rt.alloc())?;
+fn pages_are_mapped_in_fresh_frames(rt: HostRuntime) {
+    let mut frames = four_frames(rt.alloc()).expect(&rt, "memory");
+    let mut table = one_process(rt.alloc()).expect(&rt, "memory");
     check_map(&rt, &mut frames, &mut table, (0x1_0001, 1), Err(22));
     check_map(&rt, &mut frames, &mut table, (0x1_0000, 2), Ok(()));
     let rows = [(0x10, Some((0, false))), (0x11, Some((1, false)))];
     check_entries(&rt, &table, 1, &rows);
     let rows = [(0, Owner::Of(1), 1, 0), (1, Owner::Of(1), 1, 0)];
     check_frames(&rt, &frames, &rows);
-    Ok(())
+    drop(table);
+    drop(frames);
 }
 
 #[test]
-fn mapped_pages_and_too_many_are_refused(rt: HostRuntime) -> Result<(), Fail> {
-    let mut frames = four_frames(rt.alloc())?;
-    let mut table = one_process(rt.alloc())?;
+fn mapped_pages_and_too_many_are_refused(rt: HostRuntime) {
+    let mut frames = four_frames(rt.alloc()).expect(&rt, "memory");
+    let mut table = one_process(rt.alloc()).expect(&rt, "memory");
     check_map(&rt, &mut frames, &mut table, (0x1_0000, 2), Ok(()));
     check_map(&rt, &mut frames, &mut table, (0xf000, 2), Err(22));
     check_map(&rt, &mut frames, &mut table, (0x2_0000, 3), Err(12));
     check_entries(&rt, &table, 1, &[(0x20, None)]);
     check_free(&rt, &frames, 2);
-    Ok(())
+    drop(table);
+    drop(frames);
 }
 
 #[test]
-fn a_range_is_shared_where_all_of_it_is_mapped(rt: HostRuntime) -> Result<(), Fail> {
-    let mut frames = four_frames(rt.alloc())?;
-    let mut table = one_process(rt.alloc())?;
+fn a_range_is_shared_where_all_of_it_is_mapped(rt: HostRuntime) {
+    let mut frames = four_frames(rt.alloc()).expect(&rt, "memory");
+    let mut table = one_process(rt.alloc()).expect(&rt, "memory");
     check_map(&rt, &mut frames, &mut table, (0x1_0000, 2), Ok(()));
     check_share(&rt, &mut table, 0x1_1000, 2, Err(22));
     check_entries(&rt, &table, 1, &[(0x11, Some((1, false)))]);
     check_share(&rt, &mut table, 0x1_1000, 1, Ok(()));
     let rows = [(0x10, Some((0, false))), (0x11, Some((1, true)))];
     check_entries(&rt, &table, 1, &rows);
-    Ok(())
+    drop(table);
+    drop(frames);
 }
 
 // Shares those of a run of pages that process 1 maps.
@@ -218,9 +220,9 @@ fn remove_run(table: &mut Table, page: u32, count: u32) {
 }
 
 #[test]
-fn a_run_is_shared_and_unmapped_where_it_is_mapped(rt: HostRuntime) -> Result<(), Fail> {
-    let mut frames = four_frames(rt.alloc())?;
-    let mut table = one_process(rt.alloc())?;
+fn a_run_is_shared_and_unmapped_where_it_is_mapped(rt: HostRuntime) {
+    let mut frames = four_frames(rt.alloc()).expect(&rt, "memory");
+    let mut table = one_process(rt.alloc()).expect(&rt, "memory");
     check_map(&rt, &mut frames, &mut table, (0x1_0000, 3), Ok(()));
     share_run(&mut table, 0xf, 2);
     remove_run(&mut table, 0x12, 2);
@@ -230,5 +232,6 @@ fn a_run_is_shared_and_unmapped_where_it_is_mapped(rt: HostRuntime) -> Result<()
         (0x12, None),
     ];
     check_entries(&rt, &table, 1, &rows);
-    Ok(())
+    drop(table);
+    drop(frames);
 }

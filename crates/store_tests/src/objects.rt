@@ -1,7 +1,6 @@
 use kernel_objects::{FutexQueue, Pipes};
 use std::alloc::{AllocError, Global};
 use std::process::Abort;
-use std::test::Fail;
 
 // thread 1 asleep on the first word of frame 7, and then 2 and 3 on its second
 fn three_sleepers(alloc: Global) -> Result<FutexQueue, AllocError> {
@@ -21,14 +20,14 @@ fn check_woken(rt: &impl Abort, queue: &mut FutexQueue, offset: u32, wanted: Opt
 }
 
 #[test]
-fn the_first_sleeper_on_a_word_wakes(rt: HostRuntime) -> Result<(), Fail> {
-    let mut queue = three_sleepers(rt.alloc())?;
+fn the_first_sleeper_on_a_word_wakes(rt: HostRuntime) {
+    let mut queue = three_sleepers(rt.alloc()).expect(&rt, "memory");
     check_woken(&rt, &mut queue, 4, Some(2));
     remove(&mut queue, 1);
     check_woken(&rt, &mut queue, 0, None);
     check_woken(&rt, &mut queue, 4, Some(3));
     check_woken(&rt, &mut queue, 4, None);
-    Ok(())
+    drop(queue);
 }
 
 // The first pipe, with three bytes in it and two ends that read.
@@ -52,9 +51,9 @@ fn check_len(rt: &impl Abort, pipes: &Pipes, wanted: u32) {
 }
 
 #[test]
-fn bytes_go_through_a_pipe_in_order(rt: HostRuntime) -> Result<(), Fail> {
-    let mut pipes = three_bytes(&rt, rt.alloc())?;
+fn bytes_go_through_a_pipe_in_order(rt: HostRuntime) {
+    let mut pipes = three_bytes(&rt, rt.alloc()).expect(&rt, "memory");
     check_taken(&rt, &mut pipes, [1, 2]);
     check_len(&rt, &pipes, 1);
-    Ok(())
+    drop(pipes);
 }

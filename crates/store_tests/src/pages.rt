@@ -7,7 +7,6 @@ use dos_world::{Owner, Size};
 use page_store::{Frames, Page};
 use std::alloc::{AllocError, Global};
 use std::process::Abort;
-use std::test::Fail;
 
 // Of what the helpers do to a page nothing is said: the tests look.
 
@@ -42,8 +41,8 @@ fn check_last(rt: &impl Abort, page: &Page, wanted: &[u8]) {
 }
 
 #[test]
-fn numbers_are_little_endian_up_to_the_last_byte(rt: HostRuntime) -> Result<(), Fail> {
-    let mut page = blank(rt.alloc())?;
+fn numbers_are_little_endian_up_to_the_last_byte(rt: HostRuntime) {
+    let mut page = blank(rt.alloc()).expect(&rt, "memory");
     write(&mut page, 4092, Size::Word, 0x1122_3344);
     check_last(&rt, &page, &[0, 0x44, 0x33, 0x22, 0x11]);
     check_read(&rt, &page, 4092, Size::Word, 0x1122_3344);
@@ -57,7 +56,7 @@ fn numbers_are_little_endian_up_to_the_last_byte(rt: HostRuntime) -> Result<(), 
     check_read(&rt, &page, 0, Size::Word, 0x736f_6400);
     clear(&mut page);
     check_read(&rt, &page, 4092, Size::Word, 0);
-    Ok(())
+    drop(page);
 }
 
 fn one_frame(alloc: Global) -> Result<Frames, AllocError>
@@ -110,8 +109,8 @@ fn check_frame(rt: &impl Abort, frames: &Frames, wanted: (Owner, u32, u32)) {
 }
 
 #[test]
-fn a_freed_frame_comes_back_with_zeros(rt: HostRuntime) -> Result<(), Fail> {
-    let mut frames = one_frame(rt.alloc())?;
+fn a_freed_frame_comes_back_with_zeros(rt: HostRuntime) {
+    let mut frames = one_frame(rt.alloc()).expect(&rt, "memory");
     check_fresh(&rt, &mut frames, 7, Some(0));
     check_frame(&rt, &frames, (Owner::Of(7), 0, 0));
     write_last(&mut frames, 5);
@@ -121,7 +120,7 @@ fn a_freed_frame_comes_back_with_zeros(rt: HostRuntime) -> Result<(), Fail> {
     check_frame(&rt, &frames, (Owner::Free, 1, 5));
     check_fresh(&rt, &mut frames, 8, Some(0));
     check_frame(&rt, &frames, (Owner::Of(8), 0, 0));
-    Ok(())
+    drop(frames);
 }
 
 fn two_frames(alloc: Global) -> Result<Frames, AllocError> {
@@ -146,10 +145,10 @@ fn check_away(rt: &impl Abort, frames: &mut Frames) {
 }
 
 #[test]
-fn a_page_goes_and_comes_back(rt: HostRuntime) -> Result<(), Fail> {
-    let mut frames = two_frames(rt.alloc())?;
+fn a_page_goes_and_comes_back(rt: HostRuntime) {
+    let mut frames = two_frames(rt.alloc()).expect(&rt, "memory");
     check_words(&rt, &frames, &[(1, 0, 0)]);
     check_away(&rt, &mut frames);
     check_words(&rt, &frames, &[(1, 0, 9), (0, 0, 0)]);
-    Ok(())
+    drop(frames);
 }

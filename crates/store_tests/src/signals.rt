@@ -4,7 +4,6 @@ use dos_world::ThreadState;
 use proc_table::Table;
 use std::alloc::{AllocError, Global};
 use std::process::Abort;
-use std::test::Fail;
 
 // a table with process 1 and its thread 1, which begins at 0x10000 and masks nothing
 fn one_thread(alloc: Global) -> Result<Table, AllocError> {
@@ -112,27 +111,27 @@ fn check_restored(rt: &impl Abort, table: &mut Table, wanted: bool) {
 }
 
 #[test]
-fn a_thread_that_waits_is_woken_with_an_answer(rt: HostRuntime) -> Result<(), Fail> {
-    let mut table = one_thread(rt.alloc())?;
+fn a_thread_that_waits_is_woken_with_an_answer(rt: HostRuntime) {
+    let mut table = one_thread(rt.alloc()).expect(&rt, "memory");
     set_state(&mut table, 1, ThreadState::Asleep);
     check_shown(&rt, &table, (ThreadState::Asleep, 0x1_0000, 0, 0));
     wake(&mut table, 1, 7);
     check_shown(&rt, &table, (ThreadState::Ready, 0x1_0004, 7, 0));
-    Ok(())
+    drop(table);
 }
 
 #[test]
-fn signals_0_and_9_are_not_masked(rt: HostRuntime) -> Result<(), Fail> {
-    let mut table = one_thread(rt.alloc())?;
+fn signals_0_and_9_are_not_masked(rt: HostRuntime) {
+    let mut table = one_thread(rt.alloc()).expect(&rt, "memory");
     check_mask(&rt, &mut table, u32::MAX, 0xffff_fdfe);
     check_mask(&rt, &mut table, 0x201, 0);
     check_mask(&rt, &mut table, 6, 6);
-    Ok(())
+    drop(table);
 }
 
 #[test]
-fn the_lowest_unmasked_signal_comes_first_and_9_before_all(rt: HostRuntime) -> Result<(), Fail> {
-    let mut table = one_thread(rt.alloc())?;
+fn the_lowest_unmasked_signal_comes_first_and_9_before_all(rt: HostRuntime) {
+    let mut table = one_thread(rt.alloc()).expect(&rt, "memory");
     check_first(&rt, &table, None);
     post(&mut table, 1, 15);
     check_first(&rt, &table, Some(15));
@@ -142,12 +141,12 @@ fn the_lowest_unmasked_signal_comes_first_and_9_before_all(rt: HostRuntime) -> R
     check_first(&rt, &table, Some(15));
     post(&mut table, 1, 9);
     check_first(&rt, &table, Some(9));
-    Ok(())
+    drop(table);
 }
 
 #[test]
-fn a_handler_begins_and_what_was_saved_comes_back(rt: HostRuntime) -> Result<(), Fail> {
-    let mut table = one_thread(rt.alloc())?;
+fn a_handler_begins_and_what_was_saved_comes_back(rt: HostRuntime) {
+    let mut table = one_thread(rt.alloc()).expect(&rt, "memory");
     post(&mut table, 1, 2);
     check_begun(&rt, &mut table, 2, true);
     check_shown(&rt, &table, (ThreadState::Ready, 0x2_0000, 2, 4));
@@ -155,18 +154,18 @@ fn a_handler_begins_and_what_was_saved_comes_back(rt: HostRuntime) -> Result<(),
     check_restored(&rt, &mut table, true);
     check_shown(&rt, &table, (ThreadState::Ready, 0x1_0000, 0, 0));
     check_restored(&rt, &mut table, false);
-    Ok(())
+    drop(table);
 }
 
 #[test]
-fn at_most_4_handlers_are_begun(rt: HostRuntime) -> Result<(), Fail> {
-    let mut table = one_thread(rt.alloc())?;
+fn at_most_4_handlers_are_begun(rt: HostRuntime) {
+    let mut table = one_thread(rt.alloc()).expect(&rt, "memory");
     for signal in 1..5 {
         check_begun(&rt, &mut table, signal, true);
     }
     check_begun(&rt, &mut table, 5, false);
     check_shown(&rt, &table, (ThreadState::Ready, 0x2_0000, 4, 0x1e));
-    Ok(())
+    drop(table);
 }
 
 fn action(table: &Table, signal: u8) -> Option<u32> {
@@ -188,13 +187,17 @@ fn set_action(table: &mut Table, signal: u8, action: u32) {
     }
 }
 
+fn check_actions(rt: &impl Abort, table: &Table, rows: &[(u8, u32)]) {
+    for &(signal, want) in rows {
+        assert_eq!(rt; action(table, signal), Some(want), "signal {signal}");
+    }
+}
+
 #[test]
-fn each_signal_has_an_action_of_its_own(rt: HostRuntime) -> Result<(), Fail> {
-    let mut table = one_thread(rt.alloc())?;
+fn each_signal_has_an_action_of_its_own(rt: HostRuntime) {
+    let mut table = one_thread(rt.alloc()).expect(&rt, "memory");
     set_action(&mut table, 1, 0x2_0000);
     set_action(&mut table, 31, 1);
-    for (signal, want) in [(1, 0x2_0000), (2, 0), (30, 0), (31, 1)] {
-        assert_eq!(rt; action(&table, signal), Some(want), "signal {signal}");
-    }
-    Ok(())
+    check_actions(&rt, &table, &[(1, 0x2_0000), (2, 0), (30, 0), (31, 1)]);
+    drop(table);
 }

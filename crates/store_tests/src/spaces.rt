@@ -4,7 +4,6 @@ use dos_world::Entry;
 use space_map::Space;
 use std::alloc::{AllocError, Global};
 use std::process::Abort;
-use std::test::Fail;
 
 fn entry(frame: u32) -> Entry {
     Entry {
@@ -90,8 +89,8 @@ fn check_count(rt: &impl Abort, space: &Space, wanted: u32) {
 }
 
 #[test]
-fn pages_stand_in_rising_order(rt: HostRuntime) -> Result<(), Fail> {
-    let mut space = three_pages(rt.alloc())?;
+fn pages_stand_in_rising_order(rt: HostRuntime) {
+    let mut space = three_pages(rt.alloc()).expect(&rt, "memory");
     check_put(&rt, &mut space, 0x10, 7);
     check_put(&rt, &mut space, 0xf_ffff, 8);
     check_put(&rt, &mut space, 0x1, 9);
@@ -103,12 +102,12 @@ fn pages_stand_in_rising_order(rt: HostRuntime) -> Result<(), Fail> {
     ];
     check_places(&rt, &space, &rows);
     check_looks(&rt, &space, &[(0x11, None), (0, None)]);
-    Ok(())
+    drop(space);
 }
 
 #[test]
-fn a_page_is_shared_and_goes(rt: HostRuntime) -> Result<(), Fail> {
-    let mut space = three_pages(rt.alloc())?;
+fn a_page_is_shared_and_goes(rt: HostRuntime) {
+    let mut space = three_pages(rt.alloc()).expect(&rt, "memory");
     check_put(&rt, &mut space, 4, 1);
     check_put(&rt, &mut space, 5, 2);
     share(&mut space, 4);
@@ -123,5 +122,5 @@ fn a_page_is_shared_and_goes(rt: HostRuntime) -> Result<(), Fail> {
     check_looks(&rt, &space, &[(5, Some(entry(2)))]);
     space.clear();
     check_count(&rt, &space, 0);
-    Ok(())
+    drop(space);
 }

@@ -5,7 +5,6 @@ use dos_world::{End, Regs, ThreadState};
 use proc_table::{SignalState, Table};
 use std::alloc::{AllocError, Global};
 use std::process::Abort;
-use std::test::Fail;
 
 pub(crate) fn empty_table(alloc: Global) -> Result<Table, AllocError> {
     Table::reserve(alloc, 16)
@@ -81,6 +80,11 @@ fn check_live(rt: &impl Abort, table: &Table, rows: &[(u32, bool)]) {
     }
 }
 
+// This process doesn't live.
+fn check_not_live(rt: &impl Abort, table: &Table, pid: u32) {
+    assert!(rt; !table.is_live(pid));
+}
+
 // How many threads of a process live, and the lowest of them.
 fn check_threads_of(rt: &impl Abort, table: &Table, pid: u32, wanted: (u32, Option<u32>)) {
     assert_eq!(rt;
@@ -91,10 +95,10 @@ fn check_threads_of(rt: &impl Abort, table: &Table, pid: u32, wanted: (u32, Opti
 }
 
 #[test]
-fn numbers_are_given_from_1_and_not_again(rt: HostRuntime) -> Result<(), Fail> {
-    let mut table = empty_table(rt.alloc())?;
+fn numbers_are_given_from_1_and_not_again(rt: HostRuntime) {
+    let mut table = empty_table(rt.alloc()).expect(&rt, "memory");
     check_counts(&rt, &table, (0, 0, 0));
-    assert!(rt; !table.is_live(0));
+    check_not_live(&rt, &table, 0);
     check_new_process(&rt, &mut table, 0, Ok((1, 1)));
     check_new_thread(&rt, &mut table, 1, 0, Ok(2));
     end_thread(&mut table, 2);
@@ -105,12 +109,12 @@ fn numbers_are_given_from_1_and_not_again(rt: HostRuntime) -> Result<(), Fail> {
     check_counts(&rt, &table, (3, 2, 3));
     let rows = [(1, true), (2, false), (3, true), (4, false), (5, true)];
     check_live(&rt, &table, &rows);
-    Ok(())
+    drop(table);
 }
 
 #[test]
-fn at_most_64_threads_live(rt: HostRuntime) -> Result<(), Fail> {
-    let mut table = empty_table(rt.alloc())?;
+fn at_most_64_threads_live(rt: HostRuntime) {
+    let mut table = empty_table(rt.alloc()).expect(&rt, "memory");
     check_new_process(&rt, &mut table, 0, Ok((1, 1)));
     for number in 2..65 {
         check_new_thread(&rt, &mut table, 1, 0, Ok(number));
@@ -120,12 +124,12 @@ fn at_most_64_threads_live(rt: HostRuntime) -> Result<(), Fail> {
     end_thread(&mut table, 10);
     check_new_thread(&rt, &mut table, 1, 0, Ok(65));
     check_threads_of(&rt, &table, 1, (64, Some(1)));
-    Ok(())
+    drop(table);
 }
 
 #[test]
-fn at_most_32_processes_live(rt: HostRuntime) -> Result<(), Fail> {
-    let mut table = empty_table(rt.alloc())?;
+fn at_most_32_processes_live(rt: HostRuntime) {
+    let mut table = empty_table(rt.alloc()).expect(&rt, "memory");
     for number in 1..33 {
         check_new_process(&rt, &mut table, 0, Ok((number, number)));
     }
@@ -134,7 +138,7 @@ fn at_most_32_processes_live(rt: HostRuntime) -> Result<(), Fail> {
     check_counts(&rt, &table, (32, 31, 31));
     check_new_process(&rt, &mut table, 0, Ok((33, 33)));
     check_new_process(&rt, &mut table, 0, Err(11));
-    Ok(())
+    drop(table);
 }
 
 // The parent and the status of a process whose number was given.
@@ -152,8 +156,8 @@ fn check_ended(rt: &impl Abort, table: &Table, rows: &[(u32, (u32, Option<u8>))]
 }
 
 #[test]
-fn a_process_ends_with_its_threads_and_leaves_its_children(rt: HostRuntime) -> Result<(), Fail> {
-    let mut table = empty_table(rt.alloc())?;
+fn a_process_ends_with_its_threads_and_leaves_its_children(rt: HostRuntime) {
+    let mut table = empty_table(rt.alloc()).expect(&rt, "memory");
     check_added(&rt, &mut table, &[(0, 1), (1, 2), (2, 3)]);
     check_new_thread(&rt, &mut table, 1, 0, Ok(4));
     check_threads_of(&rt, &table, 1, (2, Some(1)));
@@ -163,7 +167,7 @@ fn a_process_ends_with_its_threads_and_leaves_its_children(rt: HostRuntime) -> R
     check_live(&rt, &table, &rows);
     let rows = [(1, (0, Some(9))), (2, (0, None)), (3, (2, None))];
     check_ended(&rt, &table, &rows);
-    Ok(())
+    drop(table);
 }
 
 // The lowest live thread above each of these numbers.
@@ -174,8 +178,8 @@ fn check_next(rt: &impl Abort, table: &Table, rows: &[(u32, Option<u32>)]) {
 }
 
 #[test]
-fn the_next_thread_is_one_that_lives(rt: HostRuntime) -> Result<(), Fail> {
-    let mut table = empty_table(rt.alloc())?;
+fn the_next_thread_is_one_that_lives(rt: HostRuntime) {
+    let mut table = empty_table(rt.alloc()).expect(&rt, "memory");
     check_next(&rt, &table, &[(0, None)]);
     check_added(&rt, &mut table, &[(0, 1), (0, 2), (0, 3), (0, 4), (0, 5)]);
     end_thread(&mut table, 2);
@@ -190,7 +194,7 @@ fn the_next_thread_is_one_that_lives(rt: HostRuntime) -> Result<(), Fail> {
         (u32::MAX, None),
     ];
     check_next(&rt, &table, &rows);
-    Ok(())
+    drop(table);
 }
 
 fn open(table: &mut Table, end: End) -> Option<u32> {
@@ -216,8 +220,8 @@ fn check_closed(rt: &impl Abort, table: &mut Table, number: u32, wanted: Option<
 }
 
 #[test]
-fn the_lowest_of_32_descriptors_comes_first(rt: HostRuntime) -> Result<(), Fail> {
-    let mut table = empty_table(rt.alloc())?;
+fn the_lowest_of_32_descriptors_comes_first(rt: HostRuntime) {
+    let mut table = empty_table(rt.alloc()).expect(&rt, "memory");
     check_new_process(&rt, &mut table, 0, Ok((1, 1)));
     for number in 0..32 {
         check_opened(&rt, &mut table, End::Output, Some(number));
@@ -228,7 +232,7 @@ fn the_lowest_of_32_descriptors_comes_first(rt: HostRuntime) -> Result<(), Fail>
     check_closed(&rt, &mut table, 3, Some(End::Output));
     check_opened(&rt, &mut table, End::PipeRead(5), Some(3));
     check_closed(&rt, &mut table, 3, Some(End::PipeRead(5)));
-    Ok(())
+    drop(table);
 }
 
 // A thread's process, mask, state and budget.
@@ -244,16 +248,21 @@ fn thread(table: &Table, tid: u32) -> Option<(u32, u32, ThreadState, u32)> {
     ))
 }
 
+// These threads of process 1 have just begun, with these masks.
+fn check_begun(rt: &impl Abort, table: &Table, rows: &[(u32, u32)]) {
+    for &(tid, mask) in rows {
+        assert_eq!(rt; thread(table, tid), Some((1, mask, ThreadState::Ready, 0)));
+    }
+}
+
 #[test]
-fn a_thread_begins_ready_with_its_mask(rt: HostRuntime) -> Result<(), Fail> {
-    let mut table = empty_table(rt.alloc())?;
+fn a_thread_begins_ready_with_its_mask(rt: HostRuntime) {
+    let mut table = empty_table(rt.alloc()).expect(&rt, "memory");
     check_new_process(&rt, &mut table, 0, Ok((1, 1)));
     check_new_thread(&rt, &mut table, 1, 6, Ok(2));
     // 0 and 9 can't be masked
-    for (tid, mask) in [(1, 0xffff_fdfe), (2, 6)] {
-        assert_eq!(rt; thread(&table, tid), Some((1, mask, ThreadState::Ready, 0)));
-    }
-    Ok(())
+    check_begun(&rt, &table, &[(1, 0xffff_fdfe), (2, 6)]);
+    drop(table);
 }
 
 // Sets a thread's run, and charges it for a call.
@@ -272,12 +281,17 @@ fn charged(table: &mut Table, tid: u32, regs: Regs, budget: u32) -> Option<(Opti
     Some((table.regs(tid).held(), table.budget(tid)))
 }
 
+// What thread 1 holds, and its budget, when it was charged for a call with a budget of 3.
+fn check_charged(rt: &impl Abort, table: &mut Table, regs: Regs, wanted: (Option<u32>, u32)) {
+    assert_eq!(rt; charged(table, 1, regs, 3), Some(wanted));
+}
+
 #[test]
-fn a_call_costs_one_of_the_budget_and_the_reservation(rt: HostRuntime) -> Result<(), Fail> {
-    let mut table = empty_table(rt.alloc())?;
+fn a_call_costs_one_of_the_budget_and_the_reservation(rt: HostRuntime) {
+    let mut table = empty_table(rt.alloc()).expect(&rt, "memory");
     check_new_process(&rt, &mut table, 0, Ok((1, 1)));
     let mut regs = Regs::new(0x1_0000);
     regs.set_held(Some(0x2_0000));
-    assert_eq!(rt; charged(&mut table, 1, regs, 3), Some((None, 2)));
-    Ok(())
+    check_charged(&rt, &mut table, regs, (None, 2));
+    drop(table);
 }
