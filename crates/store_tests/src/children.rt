@@ -1,3 +1,4 @@
+use crate::checks::same_at;
 use crate::table::{check_added, empty_table, end_process};
 use proc_table::{Collected, Table};
 use std::process::Abort;
@@ -11,20 +12,24 @@ fn end_processes(table: &mut Table, rows: &[(u32, u8)]) {
 // What waits of these parents would come to, which collect nothing.
 fn check_waits(rt: &impl Abort, table: &Table, rows: &[(u32, u32, Collected)]) {
     for &(parent, which, want) in rows {
-        assert_eq!(rt;
+        same_at(
+            rt,
             table.child_ended(parent, which),
             want,
-            "parent {parent}, which {which}"
+            "parent, which",
+            (parent, which),
         );
     }
 }
 
 fn check_collected(rt: &impl Abort, table: &mut Table, rows: &[(u32, u32, Collected)]) {
     for &(parent, which, want) in rows {
-        assert_eq!(rt;
+        same_at(
+            rt,
             table.collect(parent, which),
             want,
-            "parent {parent}, which {which}"
+            "parent, which",
+            (parent, which),
         );
     }
 }

@@ -4,6 +4,7 @@ ghost use Rattle.kernel_mem.specs.MemoryWorld.{IsCaller, HasAllHome};
 ghost use Rattle.page_store.specs.Store.{AreHome};
 ghost use Rattle.store_tests.specs.Memory.{HasTwoPages, two_owners};
 
+use crate::checks::{same, same_at};
 use crate::memory::{check_entries, check_frames, check_free, writable};
 use dos_world::{Owner, Regs, Size};
 use kernel_mem::{check, copy_out, fork};
@@ -96,7 +97,7 @@ fn check_forked(rt: &impl Abort, frames: &mut Frames, table: &mut Table, wanted:
     requires owners { frames.old.owners ≡ two_owners }
     requires uses { frames.old.uses ≡ 1 ∷ 1 ∷ 0 ∷ 0 ∷ [] }
 {
-    assert_eq!(rt; fork_first(frames, table), wanted);
+    same(rt, fork_first(frames, table), wanted);
 }
 
 // The word at an offset of a frame's page.
@@ -113,7 +114,13 @@ fn word_at(frames: &Frames, frame: u32, offset: u32) -> Option<u32> {
 // The words at these offsets of frames' pages.
 pub(crate) fn check_words(rt: &impl Abort, frames: &Frames, rows: &[(u32, u32, u32)]) {
     for &(frame, offset, want) in rows {
-        assert_eq!(rt; word_at(frames, frame, offset), Some(want), "frame {frame}");
+        same_at(
+            rt,
+            word_at(frames, frame, offset),
+            Some(want),
+            "frame",
+            frame,
+        );
     }
 }
 

@@ -2,6 +2,7 @@
 ghost use Rattle.std.specs.Prelude.{◌≡◌, IfOk, MatchBool, true, false};
 ghost use Rattle.kernel_mem.specs.MemoryWorld.{IsCaller, HasAllHome};
 
+use crate::checks::{same, same_at};
 use dos_world::{Entry, Owner, Regs, Size};
 use kernel_mem::{map_pages, share};
 use page_store::Frames;
@@ -77,10 +78,12 @@ fn check_map(
     ensures room { table.new.room ≡ 4 }
 {
     let (address, pages) = range;
-    assert_eq!(rt;
+    same_at(
+        rt,
         map(frames, table, address, pages),
         Some(wanted),
-        "address {address}"
+        "address",
+        address,
     );
 }
 
@@ -91,10 +94,12 @@ fn check_share(
     pages: u32,
     wanted: Result<(), u8>,
 ) {
-    assert_eq!(rt;
+    same_at(
+        rt,
         share_pages(table, address, pages),
         Some(wanted),
-        "address {address}"
+        "address",
+        address,
     );
 }
 
@@ -145,23 +150,25 @@ pub(crate) fn check_entries(
             Some((frame, shared)) => Some(writable(frame, shared)),
             None => None,
         };
-        assert_eq!(rt; entry(table, pid, page), wanted, "page {page}");
+        same_at(rt, entry(table, pid, page), wanted, "page", page);
     }
 }
 
 // Of these frames the owner, the uses and the first word.
 pub(crate) fn check_frames(rt: &impl Abort, frames: &Frames, rows: &[(u32, Owner, u32, u32)]) {
     for &(number, owner, uses, word) in rows {
-        assert_eq!(rt;
+        same_at(
+            rt,
             frame(frames, number),
             Some((owner, uses, word)),
-            "frame {number}"
+            "frame",
+            number,
         );
     }
 }
 
 pub(crate) fn check_free(rt: &impl Abort, frames: &Frames, wanted: u32) {
-    assert_eq!(rt; frames.free_count(), wanted);
+    same(rt, frames.free_count(), wanted);
 }
 
 #[test]

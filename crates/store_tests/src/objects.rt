@@ -1,3 +1,4 @@
+use crate::checks::same_at;
 use kernel_objects::{FutexQueue, Pipes};
 use std::alloc::{AllocError, Global};
 use std::process::Abort;
@@ -16,7 +17,7 @@ fn remove(queue: &mut FutexQueue, tid: u32) {
 }
 
 fn check_woken(rt: &impl Abort, queue: &mut FutexQueue, offset: u32, wanted: Option<u32>) {
-    assert_eq!(rt; queue.wake_one(7, offset), wanted, "offset {offset}");
+    same_at(rt, queue.wake_one(7, offset), wanted, "offset", offset);
 }
 
 #[test]

@@ -2,6 +2,7 @@ ghost use Rattle.std.specs.Prelude.{◌+◌, ◌≤◌, length, IfOk};
 ghost use Rattle.dos_world.specs.Reach.{width};
 ghost use Rattle.page_store.specs.Store.{AreHome};
 
+use crate::checks::{same, same_at};
 use crate::copies::check_words;
 use dos_world::{Owner, Size};
 use page_store::{Frames, Page};
@@ -33,7 +34,7 @@ fn clear(page: &mut Page) {
 fn check_read(rt: &impl Abort, page: &Page, offset: u32, size: Size, wanted: u32)
     requires { offset + width size ≤ 4096 }
 {
-    assert_eq!(rt; page.read(offset, size), wanted, "offset {offset}");
+    same_at(rt, page.read(offset, size), wanted, "offset", offset);
 }
 
 fn check_last(rt: &impl Abort, page: &Page, wanted: &[u8]) {
@@ -69,7 +70,7 @@ fn check_fresh(rt: &impl Abort, frames: &mut Frames, tid: u32, wanted: Option<u3
     requires { AreHome frames.old }
     ensures { AreHome frames.new }
 {
-    assert_eq!(rt; frames.fresh(tid), wanted, "thread {tid}");
+    same_at(rt, frames.fresh(tid), wanted, "thread", tid);
 }
 
 // Writes the last word of frame 0's page, where it is home.
@@ -105,7 +106,7 @@ fn last(frames: &Frames) -> Option<(Owner, u32, u32)> {
 }
 
 fn check_frame(rt: &impl Abort, frames: &Frames, wanted: (Owner, u32, u32)) {
-    assert_eq!(rt; last(frames), Some(wanted));
+    same(rt, last(frames), Some(wanted));
 }
 
 #[test]
@@ -141,7 +142,7 @@ fn written_away(frames: &mut Frames) -> Option<bool> {
 }
 
 fn check_away(rt: &impl Abort, frames: &mut Frames) {
-    assert_eq!(rt; written_away(frames), Some(false));
+    same(rt, written_away(frames), Some(false));
 }
 
 #[test]

@@ -1,4 +1,5 @@
 // As in `table`, the helpers ask first.
+use crate::checks::{same, same_at};
 use crate::table::{add_process, empty_table};
 use dos_world::ThreadState;
 use proc_table::Table;
@@ -48,11 +49,11 @@ fn shown(table: &Table, tid: u32) -> Option<(ThreadState, u32, u32, u32)> {
 
 // What thread 1 shows.
 fn check_shown(rt: &impl Abort, table: &Table, wanted: (ThreadState, u32, u32, u32)) {
-    assert_eq!(rt; shown(table, 1), Some(wanted));
+    same(rt, shown(table, 1), Some(wanted));
 }
 
 fn check_mask(rt: &impl Abort, table: &mut Table, mask: u32, wanted: u32) {
-    assert_eq!(rt; set_mask(table, 1, mask), Some(wanted), "mask {mask}");
+    same_at(rt, set_mask(table, 1, mask), Some(wanted), "mask", mask);
 }
 
 fn post(table: &mut Table, tid: u32, signal: u8) {
@@ -72,7 +73,7 @@ fn first_signal(table: &Table, tid: u32) -> Option<u8> {
 }
 
 fn check_first(rt: &impl Abort, table: &Table, wanted: Option<u8>) {
-    assert_eq!(rt; first_signal(table, 1), wanted);
+    same(rt, first_signal(table, 1), wanted);
 }
 
 // Whether a handler began: the thread lives, and fewer than 4 are saved.
@@ -99,15 +100,17 @@ fn restore(table: &mut Table, tid: u32) -> bool {
 
 // A handler of the signal begins at thread 1, or doesn't.
 fn check_begun(rt: &impl Abort, table: &mut Table, signal: u8, wanted: bool) {
-    assert_eq!(rt;
+    same_at(
+        rt,
         begin_handler(table, 1, signal, 0x2_0000),
         wanted,
-        "signal {signal}"
+        "signal",
+        signal,
     );
 }
 
 fn check_restored(rt: &impl Abort, table: &mut Table, wanted: bool) {
-    assert_eq!(rt; restore(table, 1), wanted);
+    same(rt, restore(table, 1), wanted);
 }
 
 #[test]
@@ -189,7 +192,7 @@ fn set_action(table: &mut Table, signal: u8, action: u32) {
 
 fn check_actions(rt: &impl Abort, table: &Table, rows: &[(u8, u32)]) {
     for &(signal, want) in rows {
-        assert_eq!(rt; action(table, signal), Some(want), "signal {signal}");
+        same_at(rt, action(table, signal), Some(want), "signal", signal);
     }
 }
 

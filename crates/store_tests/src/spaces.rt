@@ -1,5 +1,6 @@
 ghost use Rattle.std.specs.Prelude.{◌≡◌, IfOk};
 
+use crate::checks::{same, same_at};
 use dos_world::Entry;
 use space_map::Space;
 use std::alloc::{AllocError, Global};
@@ -40,12 +41,12 @@ fn check_put(rt: &impl Abort, space: &mut Space, page: u32, frame: u32)
     requires { space.old.room ≡ 3 }
     ensures { space.new.room ≡ 3 }
 {
-    assert!(rt; put(space, page, frame), "page {page}");
+    same_at(rt, put(space, page, frame), true, "page", page);
 }
 
 fn check_looks(rt: &impl Abort, space: &Space, rows: &[(u32, Option<Entry>)]) {
     for &(page, want) in rows {
-        assert_eq!(rt; space.look(page), want, "page {page}");
+        same_at(rt, space.look(page), want, "page", page);
     }
 }
 
@@ -74,18 +75,18 @@ fn share(space: &mut Space, page: u32) {
 }
 
 fn check_removed(rt: &impl Abort, space: &mut Space, page: u32, wanted: Option<u32>) {
-    assert_eq!(rt; removed(space, page), wanted, "page {page}");
+    same_at(rt, removed(space, page), wanted, "page", page);
 }
 
 // The pages at these places, and their frames.
 fn check_places(rt: &impl Abort, space: &Space, rows: &[(u32, Option<(u32, u32)>)]) {
     for &(place, want) in rows {
-        assert_eq!(rt; page_at(space, place), want, "place {place}");
+        same_at(rt, page_at(space, place), want, "place", place);
     }
 }
 
 fn check_count(rt: &impl Abort, space: &Space, wanted: u32) {
-    assert_eq!(rt; space.len(), wanted);
+    same(rt, space.len(), wanted);
 }
 
 #[test]

@@ -1,6 +1,7 @@
 // What the table does where a number names no live process or thread is no part of its contract:
 // the helpers ask first. They say nothing of what they did, and they compare, so that the proof of
 // a test is short.
+use crate::checks::{same, same_at};
 use dos_world::{End, Regs, ThreadState};
 use proc_table::{SignalState, Table};
 use std::alloc::{AllocError, Global};
@@ -43,7 +44,13 @@ fn check_new_process(
     parent: u32,
     wanted: Result<(u32, u32), u8>,
 ) {
-    assert_eq!(rt; add_process(table, parent), Some(wanted), "parent {parent}");
+    same_at(
+        rt,
+        add_process(table, parent),
+        Some(wanted),
+        "parent",
+        parent,
+    );
 }
 
 fn check_new_thread(
@@ -53,7 +60,13 @@ fn check_new_thread(
     mask: u32,
     wanted: Result<u32, u8>,
 ) {
-    assert_eq!(rt; add_thread(table, pid, mask), Some(wanted), "process {pid}");
+    same_at(
+        rt,
+        add_thread(table, pid, mask),
+        Some(wanted),
+        "process",
+        pid,
+    );
 }
 
 // Adds a process with each of these parents, whose number and whose thread's are the same.
@@ -70,13 +83,13 @@ fn check_counts(rt: &impl Abort, table: &Table, wanted: (u32, u32, u32)) {
         table.live_processes(),
         table.live_threads(),
     );
-    assert_eq!(rt; counts, wanted);
+    same(rt, counts, wanted);
 }
 
 // Whether each of these threads lives.
 fn check_live(rt: &impl Abort, table: &Table, rows: &[(u32, bool)]) {
     for &(tid, want) in rows {
-        assert_eq!(rt; table.is_thread(tid), want, "thread {tid}");
+        same_at(rt, table.is_thread(tid), want, "thread", tid);
     }
 }
 
@@ -87,10 +100,12 @@ fn check_not_live(rt: &impl Abort, table: &Table, pid: u32) {
 
 // How many threads of a process live, and the lowest of them.
 fn check_threads_of(rt: &impl Abort, table: &Table, pid: u32, wanted: (u32, Option<u32>)) {
-    assert_eq!(rt;
+    same_at(
+        rt,
         (table.threads_of(pid), table.first_thread(pid)),
         wanted,
-        "process {pid}"
+        "process",
+        pid,
     );
 }
 
@@ -151,7 +166,13 @@ fn parent_and_status(table: &Table, pid: u32) -> Option<(u32, Option<u8>)> {
 
 fn check_ended(rt: &impl Abort, table: &Table, rows: &[(u32, (u32, Option<u8>))]) {
     for &(pid, want) in rows {
-        assert_eq!(rt; parent_and_status(table, pid), Some(want), "process {pid}");
+        same_at(
+            rt,
+            parent_and_status(table, pid),
+            Some(want),
+            "process",
+            pid,
+        );
     }
 }
 
@@ -173,7 +194,7 @@ fn a_process_ends_with_its_threads_and_leaves_its_children(rt: HostRuntime) {
 // The lowest live thread above each of these numbers.
 fn check_next(rt: &impl Abort, table: &Table, rows: &[(u32, Option<u32>)]) {
     for &(after, want) in rows {
-        assert_eq!(rt; table.next_thread(after), want, "after {after}");
+        same_at(rt, table.next_thread(after), want, "after", after);
     }
 }
 
@@ -212,11 +233,11 @@ fn close(table: &mut Table, number: u32) -> Option<End> {
 }
 
 fn check_opened(rt: &impl Abort, table: &mut Table, end: End, wanted: Option<u32>) {
-    assert_eq!(rt; open(table, end), wanted);
+    same(rt, open(table, end), wanted);
 }
 
 fn check_closed(rt: &impl Abort, table: &mut Table, number: u32, wanted: Option<End>) {
-    assert_eq!(rt; close(table, number), wanted, "descriptor {number}");
+    same_at(rt, close(table, number), wanted, "descriptor", number);
 }
 
 #[test]
@@ -251,7 +272,11 @@ fn thread(table: &Table, tid: u32) -> Option<(u32, u32, ThreadState, u32)> {
 // These threads of process 1 have just begun, with these masks.
 fn check_begun(rt: &impl Abort, table: &Table, rows: &[(u32, u32)]) {
     for &(tid, mask) in rows {
-        assert_eq!(rt; thread(table, tid), Some((1, mask, ThreadState::Ready, 0)));
+        same(
+            rt,
+            thread(table, tid),
+            Some((1, mask, ThreadState::Ready, 0)),
+        );
     }
 }
 
@@ -283,7 +308,7 @@ fn charged(table: &mut Table, tid: u32, regs: Regs, budget: u32) -> Option<(Opti
 
 // What thread 1 holds, and its budget, when it was charged for a call with a budget of 3.
 fn check_charged(rt: &impl Abort, table: &mut Table, regs: Regs, wanted: (Option<u32>, u32)) {
-    assert_eq!(rt; charged(table, 1, regs, 3), Some(wanted));
+    same(rt, charged(table, 1, regs, 3), Some(wanted));
 }
 
 #[test]

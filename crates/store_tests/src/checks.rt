@@ -1,0 +1,18 @@
+// What all tests compare with. An assert is a way out, so it stands here, where nothing big lives.
+use std::fmt::Debug;
+use std::process::Abort;
+
+pub(crate) fn same<T: Copy + PartialEq + Debug>(rt: &impl Abort, seen: T, wanted: T) {
+    assert_eq!(rt; seen, wanted);
+}
+
+// A failure tells the case too.
+pub(crate) fn same_at<T: Copy + PartialEq + Debug, C: Copy + Debug>(
+    rt: &impl Abort,
+    seen: T,
+    wanted: T,
+    what: &str,
+    case: C,
+) {
+    assert_eq!(rt; seen, wanted, "{what} {case:?}");
+}
