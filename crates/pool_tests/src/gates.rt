@@ -1,4 +1,5 @@
 // A gate that holds one worker until others have come.
+use std::process::Abort;
 use std::sync::atomic::{AtomicU64, Ordering};
 use std::thread;
 use worker_pool::Gate;
@@ -50,4 +51,9 @@ impl Gate for Holding {
         }
         self.missed.fetch_add(1, Ordering::SeqCst);
     }
+}
+
+/// How many have passed, the numbers that have, and how many misses there were.
+pub(crate) fn check_seen(rt: &impl Abort, gate: &Holding, wanted: (u64, u64, u64)) {
+    assert_eq!(rt; gate.seen(), wanted);
 }

@@ -1,8 +1,9 @@
 // Workers that stay over several calls.
 ghost use Rattle.std.specs.Prelude.{◌<◌, ◌≤◌};
 
-use crate::gates::Holding;
+use crate::gates::{Holding, check_seen};
 use crate::loops::{BUDGET, run_for};
+use crate::pools::check_count;
 use staying_workers::{Office, Staying, open};
 use std::alloc::{AllocError, Global};
 use std::sync::Wait;
@@ -81,57 +82,52 @@ fn stay<R: Threads + Wait + Sync>(
 
 // 0 is held until 1 has entered, at the first call; both are in later
 #[test]
-fn two_at_once_staying(rt: HostRuntime) -> Result<(), Fail> {
+fn two_at_once_staying(rt: HostRuntime) {
     let gate = Holding::until(2);
     let mut tally = Tally::new();
-    stay(&rt, rt.alloc(), &gate, &mut tally, 2, short(2))?;
-    assert_eq!(rt; gate.seen(), (6, 3, 0));
-    assert_eq!(rt; tally.count(), 42);
-    Ok(())
+    stay(&rt, rt.alloc(), &gate, &mut tally, 2, short(2)).expect(&rt, "memory");
+    check_seen(&rt, &gate, (6, 3, 0));
+    check_count(&rt, &tally, 42);
 }
 
 // 0 is held until 1, 2 and 3 have entered: the other worker runs all three
 #[test]
-fn one_goes_round_staying(rt: HostRuntime) -> Result<(), Fail> {
+fn one_goes_round_staying(rt: HostRuntime) {
     let gate = Holding::until(14);
     let mut tally = Tally::new();
-    stay(&rt, rt.alloc(), &gate, &mut tally, 2, short(4))?;
-    assert_eq!(rt; gate.seen(), (12, 15, 0));
-    Ok(())
+    stay(&rt, rt.alloc(), &gate, &mut tally, 2, short(4)).expect(&rt, "memory");
+    check_seen(&rt, &gate, (12, 15, 0));
 }
 
 #[test]
-fn each_number_passes_once_staying(rt: HostRuntime) -> Result<(), Fail> {
+fn each_number_passes_once_staying(rt: HostRuntime) {
     let gate = Holding::until(0);
     let mut tally = Tally::new();
-    stay(&rt, rt.alloc(), &gate, &mut tally, 32, short(64))?;
-    assert_eq!(rt; gate.seen(), (192, u64::MAX, 0));
-    assert_eq!(rt; tally.count(), 1344);
-    Ok(())
+    stay(&rt, rt.alloc(), &gate, &mut tally, 32, short(64)).expect(&rt, "memory");
+    check_seen(&rt, &gate, (192, u64::MAX, 0));
+    check_count(&rt, &tally, 1344);
 }
 
 // nobody is hired: the caller runs all
 #[test]
-fn one_alone_staying(rt: HostRuntime) -> Result<(), Fail> {
+fn one_alone_staying(rt: HostRuntime) {
     let gate = Holding::until(0);
     let mut tally = Tally::new();
-    stay(&rt, rt.alloc(), &gate, &mut tally, 1, short(3))?;
-    assert_eq!(rt; gate.seen(), (9, 7, 0));
-    assert_eq!(rt; tally.count(), 63);
-    Ok(())
+    stay(&rt, rt.alloc(), &gate, &mut tally, 1, short(3)).expect(&rt, "memory");
+    check_seen(&rt, &gate, (9, 7, 0));
+    check_count(&rt, &tally, 63);
 }
 
 // each pack is run in four slices, and passes the gate once
 #[test]
-fn packs_run_in_slices_staying(rt: HostRuntime) -> Result<(), Fail> {
+fn packs_run_in_slices_staying(rt: HostRuntime) {
     let gate = Holding::until(2);
     let mut tally = Tally::new();
     let load = Load {
         packs: 4,
         budget: 50_000,
     };
-    stay(&rt, rt.alloc(), &gate, &mut tally, 2, load)?;
-    assert_eq!(rt; gate.seen(), (12, 15, 0));
-    assert_eq!(rt; tally.count(), 600_000);
-    Ok(())
+    stay(&rt, rt.alloc(), &gate, &mut tally, 2, load).expect(&rt, "memory");
+    check_seen(&rt, &gate, (12, 15, 0));
+    check_count(&rt, &tally, 600_000);
 }
