@@ -1,0 +1,82 @@
+use Rattle.std.proofs.Common.{◌≡◌, ◌∙◌, refl, sym, ap, subst, true, false, List, [], ◌∷◌, Option}
+use Rattle.std.proofs.Common.{Some, Result, find}
+use Rattle.std.specs.Prelude.{bytes_eq, option_and_then}
+use Rattle.clap.specs.Words.{Row, rows_of, found_of}
+use Rattle.dos_words.specs.declared.request.Request.{Request}
+use Rattle.dos_words.specs.declared.error.WordsError.{WordsError}
+use Rattle.dos_words.specs.Numbers.{Text}
+use Rattle.dos_words.specs.Commands.{Command, command_named, run, replay, inspect, gen}
+use Rattle.dos_words.specs.Clap.{values_among, names_among, asked_by}
+use Rattle.dos_words.specs.Reads.{Reads}
+use Rattle.dos_words.proofs.read.read_command.Goals as goal
+
+abbrev among : Text → List Command → Option Command
+among name commands = find (λ command. bytes_eq name command.name) commands
+
+first_named : (name : Text) (command : Command) (more : List Command)
+    → bytes_eq name command.name ≡ true → among name (command ∷ more) ≡ Some command
+first_named name command more is = rw is refl
+
+later_named : (name : Text) (command : Command) (more : List Command)
+    → bytes_eq name command.name ≡ false → among name (command ∷ more) ≡ among name more
+later_named name command more is = rw is refl
+
+-- those that come after a command
+abbrev behind_replay : List Command
+behind_replay = inspect ∷ gen ∷ []
+
+abbrev behind_run : List Command
+behind_run = replay ∷ behind_replay
+
+-- what the command asks for that was found
+abbrev asked_of : List Row → Option Command → Option Request
+asked_of rows found =
+    option_and_then (λ (command : Command). command.asked (values_among rows) (names_among rows))
+    found
+
+-- what is read is what the command asks for that has the name
+reads_named : (name : Text) (rows : List Row) (found : Option Command)
+    (result : Result Request WordsError) → command_named name ≡ found
+    → Reads result (asked_of rows found) → Reads result (asked_by (name, rows))
+reads_named name rows found result is reads =
+    subst (Reads result) (sym (ap (asked_of rows) is)) reads
+
+pub returns-then-eq : goal.returns-then-eq
+returns-then-eq c =
+    let name : Text = c.args.name.now in
+    reads_named name (rows_of (found_of c.args.matches.now)) (Some run) c.read_run.result
+    (first_named name run behind_run (sym c.if-eq.ensures)) c.read_run.ensures
+
+pub returns-then-eq-2 : goal.returns-then-eq-2
+returns-then-eq-2 c =
+    let name : Text = c.args.name.now in
+    reads_named name (rows_of (found_of c.args.matches.now)) (Some replay) c.read_replay.result
+    (later_named name run behind_run (sym c.if-eq.ensures)
+    ∙ first_named name replay behind_replay (sym c.if-eq-2.ensures)) c.read_replay.ensures
+
+pub returns-then-eq-3 : goal.returns-then-eq-3
+returns-then-eq-3 c =
+    let name : Text = c.args.name.now in
+    reads_named name (rows_of (found_of c.args.matches.now)) (Some inspect) c.read_inspect.result
+    (later_named name run behind_run (sym c.if-eq.ensures)
+    ∙ later_named name replay behind_replay (sym c.if-eq-2.ensures)
+    ∙ first_named name inspect (gen ∷ []) (sym c.if-eq-3.ensures)) c.read_inspect.ensures
+
+pub returns-then-eq-4 : goal.returns-then-eq-4
+returns-then-eq-4 c =
+    let name : Text = c.args.name.now in
+    reads_named name (rows_of (found_of c.args.matches.now)) (Some gen) c.read_gen.result
+    (later_named name run behind_run (sym c.if-eq.ensures)
+    ∙ later_named name replay behind_replay (sym c.if-eq-2.ensures)
+    ∙ later_named name inspect (gen ∷ []) (sym c.if-eq-3.ensures)
+    ∙ first_named name gen [] (sym c.if-eq-4.ensures)) c.read_gen.ensures
+
+pub returns : goal.returns
+returns c =
+    let name : Text = c.args.name.now in
+    let rows : List Row = rows_of (found_of c.args.matches.now) in
+    ap (asked_of rows)
+    (later_named name run behind_run (sym c.if-eq.ensures)
+    ∙ later_named name replay behind_replay (sym c.if-eq-2.ensures)
+    ∙ later_named name inspect (gen ∷ []) (sym c.if-eq-3.ensures)
+    ∙ later_named name gen [] (sym c.if-eq-4.ensures))
