@@ -33,6 +33,15 @@ pub bind_ok : {A B : Type 0} (r : Result A LogError) (f : A → Result B LogErro
 bind_ok (Ok x) f y e = (x, refl, e)
 bind_ok (Err d) f y e = absurd cc
 
+-- what comes of a step's value, and of its refusal
+pub goes : {A B : Type 0} (r : Result A LogError) (f : A → Result B LogError) (x : A)
+    → r ≡ Ok x → (r >>= f) ≡ f x
+goes {A = A} r f x is = ap (λ (r : Result A LogError). r >>= f) is
+
+pub stops : {A B : Type 0} (r : Result A LogError) (f : A → Result B LogError) (e : LogError)
+    → r ≡ Err e → (r >>= f) ≡ Err e
+stops {A = A} r f e is = ap (λ (r : Result A LogError). r >>= f) is
+
 -- a test that did not fail
 pub guard_ok : {A : Type 0} (b : Bool) (d : LogError) (x y : A) → cond b (Err d) (Ok x) ≡ Ok y
     → (b ≡ false) × (x ≡ y)

@@ -18,10 +18,13 @@ use Rattle.shim_log.specs.Bytes.{IsBytes, FitsDigest}
 use Rattle.shim_log.specs.Ranges.{NotEnd, AreEntries, FitsHeader, FitsLog}
 use Rattle.shim_log.specs.LogText.{Log, magic, header_text, entry_text, entries_text, logtext}
 use Rattle.shim_log.specs.Reading.{place, bytes_at, number_at, many_at, entry_at, after_entry}
-use Rattle.shim_log.specs.Reading.{tail_at, magic_at, version_at, header_at, log_at}
+use Rattle.shim_log.specs.Reading.{tail_at, magic_at, version_at, header_number_at, header_at}
+use Rattle.shim_log.specs.Reading.{log_at}
+use Rattle.shim_log.specs.HeaderParts.{fields_at}
 use Rattle.shim_log.proofs.FieldLaws.{bind_ok, guard_true, done, ok_is, Takes, then, number_takes}
 use Rattle.shim_log.proofs.FieldLaws.{number_again, wide16, wide32, header_then, header_again}
-use Rattle.shim_log.proofs.FieldLaws.{bytes_take, bytes_again, many_take, many_again}
+use Rattle.shim_log.proofs.FieldLaws.{bytes_take, bytes_again, SpellsMany, many_take, many_again}
+use Rattle.shim_log.proofs.FieldLaws.{goes}
 use Rattle.shim_log.proofs.EntryLaws.{SpellsEntry, entry_takes, entry_again}
 
 -- ---- entries up to the end
@@ -176,6 +179,49 @@ header_spelled bytes rest n h count text =
     subst (λ (m : ℕ). Takes bytes (fields (concat h.digests) m) rest) (sym count)
     (subst (λ (t : List ℕ). Takes bytes (fields t n) rest) (sym (concat_is h.digests)) text)
 
+-- Fields that were taken one behind the other are a header. The lists are what is left at each.
+header_made : (bytes s v i q r f rest : List ℕ) (n quantum rounds frames : ℕ)
+    (digests : List (List ℕ)) → Takes bytes magic s → Takes s (to_le_bytes w16 1) v
+    → Takes v (to_le_bytes w16 n) i → Takes i (to_le_bytes w32 quantum) q
+    → Takes q (to_le_bytes w32 rounds) r → Takes r (to_le_bytes w32 frames) f
+    → SpellsMany (λ d. d) FitsDigest n f (digests, rest) → 1 ≤ n → n < suc 8 → 16 ≤ quantum
+    → quantum < suc 65536 → 1 ≤ rounds → rounds < suc 1000000 → 16 ≤ frames → frames < suc 16384
+    → SpellsHeader bytes
+    (record { quantum = quantum; rounds = rounds; frames = frames; digests = digests }, rest)
+header_made bytes s v i q r f rest n quantum rounds frames digests a b c d g h k n0 n1 q0 q1 r0 r1
+    f0 f1 =
+    let made : LogHeader =
+    record { quantum = quantum; rounds = rounds; frames = frames; digests = digests } in
+    record {
+      takes = header_spelled bytes rest n made k.count
+          (then _ _ _ _ _ a (then _ _ _ _ _ b
+          (then _ _ _ _ _ c (then _ _ _ _ _ d
+          (then _ _ _ _ _ g (then _ _ _ _ _ h k.takes))))));
+      fits = record {
+        quantum = (q0, at_most quantum _ q1);
+        rounds = (r0, at_most rounds _ r1);
+        frames = (f0, at_most frames _ f1);
+        count = (count_least _ n 1 k.count n0, count_most _ n _ k.count n1);
+        digests = k.fits;
+      };
+    }
+
+-- the fields behind the first bytes and the version
+fields_take : (end : ℕ) (bytes s v : List ℕ) (x : LogHeader × List ℕ) → Takes bytes magic s
+    → Takes s (to_le_bytes w16 1) v → fields_at end v ≡ Ok x → SpellsHeader bytes x
+fields_take end bytes s v x p q e =
+    let c = header_then w16 _ wide16 1 8 end v _ x q.rest_fits e in
+    let d = header_then w32 _ wide32 16 65536 end c.rest _ x c.takes.rest_fits c.more in
+    let f = header_then w32 _ wide32 1 1000000 end d.rest _ x d.takes.rest_fits d.more in
+    let g = header_then w32 _ wide32 16 16384 end f.rest _ x f.takes.rest_fits f.more in
+    let h = bind_ok (many_at (bytes_at 32) c.n end g.rest) _ x g.more in
+    let k = many_take (bytes_at 32) (λ d. d) FitsDigest digest_takes c.n end g.rest h.0
+    g.takes.rest_fits h.1 in
+    subst (SpellsHeader bytes)
+    (ok_is (record { quantum = d.n; rounds = f.n; frames = g.n; digests = h.0.0 }, h.0.1) x h.2)
+    (header_made bytes s v c.rest d.rest f.rest g.rest h.0.1 c.n d.n f.n g.n h.0.0 p q c.takes
+    d.takes f.takes g.takes k c.least c.most d.least d.most f.least f.most g.least g.most)
+
 pub header_takes : (end : ℕ) (bytes : List ℕ) (x : LogHeader × List ℕ) → IsBytes bytes
     → header_at end bytes ≡ Ok x → SpellsHeader bytes x
 unfolding header_at
@@ -184,52 +230,42 @@ header_takes end bytes x fits e =
     let p = magic_takes end bytes a.0 fits a.1 in
     let b = bind_ok (version_at end a.0) _ x a.2 in
     let q = version_takes end a.0 b.0 p.rest_fits b.1 in
-    let c = header_then w16 _ wide16 1 8 end b.0 _ x q.rest_fits b.2 in
-    let d = header_then w32 _ wide32 16 65536 end c.rest _ x c.takes.rest_fits c.more in
-    let f = header_then w32 _ wide32 1 1000000 end d.rest _ x d.takes.rest_fits d.more in
-    let g = header_then w32 _ wide32 16 16384 end f.rest _ x f.takes.rest_fits f.more in
-    let h = bind_ok (many_at (bytes_at 32) c.n end g.rest) _ x g.more in
-    let k = many_take (bytes_at 32) (λ d. d) FitsDigest digest_takes c.n end g.rest h.0
-    g.takes.rest_fits h.1 in
-    let text = then _ _ _ _ _ p (then _ _ _ _ _ q
-    (then _ _ _ _ _ c.takes (then _ _ _ _ _ d.takes
-    (then _ _ _ _ _ f.takes (then _ _ _ _ _ g.takes k.takes))))) in
-    subst (SpellsHeader bytes)
-    (ok_is (record { quantum = d.n; rounds = f.n; frames = g.n; digests = h.0.0 }, h.0.1) x h.2)
-    (record {
-      takes = header_spelled bytes h.0.1 c.n (record
-          { quantum = d.n; rounds = f.n; frames = g.n; digests = h.0.0 }) k.count text;
-      fits = record {
-        quantum = (d.least, at_most d.n _ d.most);
-        rounds = (f.least, at_most f.n _ f.most);
-        frames = (g.least, at_most g.n _ g.most);
-        count = (count_least _ c.n 1 k.count c.least, count_most _ c.n _ k.count c.most);
-        digests = k.fits;
-      };
-    })
+    fields_take end bytes a.0 b.0 x p q b.2
+
+magic_again : (end : ℕ) (rest : List ℕ) → magic_at end (magic ++ rest) ≡ Ok rest
+unfolding magic_at
+magic_again end rest = rw (bytes_again end magic rest) refl
+
+version_again : (end : ℕ) (rest : List ℕ) → version_at end (to_le_bytes w16 1 ++ rest) ≡ Ok rest
+unfolding version_at
+version_again end rest = rw (number_again w16 _ wide16 end 1 rest (omega arith)) refl
 
 pub header_again_all : (end : ℕ) (h : LogHeader) (rest : List ℕ) → FitsHeader h
     → header_at end (header_text h ++ rest) ≡ Ok (h, rest)
-unfolding header_at magic_at version_at
+unfolding header_at
 header_again_all end h rest fits =
     let r4 : List ℕ = concat h.digests ++ rest in
     let r3 : List ℕ = to_le_bytes w32 h.frames ++ r4 in
     let r2 : List ℕ = to_le_bytes w32 h.rounds ++ r3 in
     let r1 : List ℕ = to_le_bytes w32 h.quantum ++ r2 in
     let r0 : List ℕ = to_le_bytes w16 (length h.digests) ++ r1 in
-    rw (
-      bytes_again end magic (to_le_bytes w16 1 ++ r0),
-      number_again w16 _ wide16 end 1 r0 (omega arith),
-      header_again w16 _ wide16 1 8 end (length h.digests) r1 (omega (arith, fits.count.1))
-          fits.count.0 fits.count.1,
-      header_again w32 _ wide32 16 65536 end h.quantum r2 (omega (arith, fits.quantum.1))
-          fits.quantum.0 fits.quantum.1,
-      header_again w32 _ wide32 1 1000000 end h.rounds r3 (omega (arith, fits.rounds.1))
-          fits.rounds.0 fits.rounds.1,
-      header_again w32 _ wide32 16 16384 end h.frames r4 (omega (arith, fits.frames.1))
-          fits.frames.0 fits.frames.1,
-      digests_again end h.digests rest fits.digests,
-    ) refl
+    goes (magic_at end (magic ++ (to_le_bytes w16 1 ++ r0))) _ (to_le_bytes w16 1 ++ r0)
+    (magic_again end (to_le_bytes w16 1 ++ r0))
+    ∙ goes (version_at end (to_le_bytes w16 1 ++ r0)) _ r0 (version_again end r0)
+    ∙ goes (header_number_at w16 1 8 end r0) _ (length h.digests, r1)
+    (header_again w16 _ wide16 1 8 end (length h.digests) r1 (omega (arith, fits.count.1))
+    fits.count.0 fits.count.1)
+    ∙ goes (header_number_at w32 16 65536 end r1) _ (h.quantum, r2)
+    (header_again w32 _ wide32 16 65536 end h.quantum r2 (omega (arith, fits.quantum.1))
+    fits.quantum.0 fits.quantum.1)
+    ∙ goes (header_number_at w32 1 1000000 end r2) _ (h.rounds, r3)
+    (header_again w32 _ wide32 1 1000000 end h.rounds r3 (omega (arith, fits.rounds.1))
+    fits.rounds.0 fits.rounds.1)
+    ∙ goes (header_number_at w32 16 16384 end r3) _ (h.frames, r4)
+    (header_again w32 _ wide32 16 16384 end h.frames r4 (omega (arith, fits.frames.1))
+    fits.frames.0 fits.frames.1)
+    ∙ goes (many_at (bytes_at 32) (length h.digests) end r4) _ (h.digests, rest)
+    (digests_again end h.digests rest fits.digests)
 
 -- ---- the whole text
 
@@ -306,4 +342,4 @@ log_again log fits =
     (entries_text log.entries ++ x)) (sym (append-nil last))
     ∙ tail_again log.header (length (entries_text log.entries ++ last)) end log.entries log.ending
     log.rounds [] enough fits.entries fits.rounds in
-    rw (head, tail) refl
+    goes _ _ _ head ∙ goes _ _ _ tail
