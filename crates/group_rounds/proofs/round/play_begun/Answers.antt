@@ -72,9 +72,9 @@ returns g c = record {
   goes = ok_is _ c.run_phases.result _ Went (λ k. (
     k.0,
     begun_goes c.args.quantum c.args.state.now
-      (λ none. c.if-live_threads-eq0.false (c.live_threads.ensures ∙ none))
-      c.args.starters.now c.requires.ready
-      (λ none. true≢false (sym (eq-eqb _ 0 none) ∙ sym c.is_empty.ensures ∙ c.if-is_empty.false))
+        (λ none. c.if-live_threads-eq0.false (c.live_threads.ensures ∙ none))
+        c.args.starters.now c.requires.ready
+        (λ none. true≢false (sym (eq-eqb _ 0 none) ∙ sym c.is_empty.ensures ∙ c.if-is_empty.false))
         _ _ c.run_phases.new.state k.0 k.1,
     k.2,
   )) c.run_phases.ensures.goes c.run_phases.ensures.end;
