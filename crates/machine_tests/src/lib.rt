@@ -5,6 +5,8 @@
 #[cfg(test)]
 mod assembler;
 #[cfg(test)]
+mod checks;
+#[cfg(test)]
 mod generated;
 #[cfg(test)]
 mod images;
