@@ -1,12 +1,12 @@
 ghost use Rattle.std.specs.Prelude.{◌≡◌, ◌%◌, OnOk, OnErr};
 
-use crate::images::{SMALLEST, Wanted, check_image};
+use crate::checks::{same, same_at};
+use crate::images::{SMALLEST, Wanted, check_file};
 use elf_image::read_image;
 use rv_asm::{AsmError, Builder, Label};
 use rv_isa::{BranchOp, ImmOp, Instr};
 use std::alloc::{AllocError, Global};
 use std::process::Abort;
-use std::test::Fail;
 
 /// `addi x17, x0, 2`, `addi x10, x0, 7` and `ecall`.
 fn three_instructions(alloc: Global, write: bool) -> Result<Builder, AllocError> {
@@ -28,16 +28,29 @@ fn finished(builder: Builder) -> Result<Vec<u8>, AsmError> {
     builder.finish()
 }
 
-#[test]
-fn the_smallest_file(rt: HostRuntime) -> Result<(), Fail> {
-    let file = finished(three_instructions(rt.alloc(), true)?)?;
-    assert_eq!(rt; file.as_slice(), SMALLEST.as_slice());
-    Ok(())
+/// The file of three instructions.
+fn smallest(alloc: Global, write: bool) -> Result<Vec<u8>, AsmError> {
+    finished(three_instructions(alloc, write)?)
+}
+
+/// A file is so long, and so it goes on at a place.
+fn check_bytes(rt: &impl Abort, file: &[u8], len: usize, place: usize, bytes: &[u8]) {
+    let is_there = file
+        .get(place..)
+        .is_some_and(|rest| rest.starts_with(bytes));
+    same(rt, (file.len(), is_there), (len, true));
 }
 
 #[test]
-fn the_smallest_file_may_not_be_written(rt: HostRuntime) -> Result<(), Fail> {
-    let file = finished(three_instructions(rt.alloc(), false)?)?;
+fn the_smallest_file(rt: HostRuntime) {
+    let file = smallest(rt.alloc(), true).expect(&rt, "a file");
+    check_bytes(&rt, &file, 96, 0, &SMALLEST);
+    drop(file);
+}
+
+#[test]
+fn the_smallest_file_may_not_be_written(rt: HostRuntime) {
+    let file = smallest(rt.alloc(), false).expect(&rt, "a file");
     let part = Wanted {
         address: 0x1_0000,
         zeros: 0,
@@ -46,8 +59,8 @@ fn the_smallest_file_may_not_be_written(rt: HostRuntime) -> Result<(), Fail> {
         exec: true,
         bytes: &SMALLEST[84..],
     };
-    check_image(&rt, &read_image(rt.alloc(), &file)?, 0x1_0000, &[part]);
-    Ok(())
+    check_file(&rt, rt.alloc(), &file, 0x1_0000, &[part]);
+    drop(file);
 }
 
 /// Adds so many words that are 0.
@@ -81,23 +94,18 @@ fn branch_back(alloc: Global, between: u32) -> Result<Vec<u8>, AsmError> {
 }
 
 #[test]
-fn branches_reach_so_far(rt: HostRuntime) -> Result<(), Fail> {
+fn branches_reach_so_far(rt: HostRuntime) {
     // offset 4096: the label is before word 1024
-    assert_eq!(rt;
-        branch_ahead(rt.alloc(), 1023).err(),
-        Some(AsmError::Reach(0))
-    );
+    let too_far = branch_ahead(rt.alloc(), 1023).err();
+    same(&rt, too_far, Some(AsmError::Reach(0)));
     // offset 4092: bne x1, x2, +4092
-    let file = branch_ahead(rt.alloc(), 1022)?;
-    assert_eq!(rt; file.len(), 4176);
-    assert_eq!(rt; &file[84..88], [0xE3, 0x9E, 0x20, 0x7E].as_slice());
+    let file = branch_ahead(rt.alloc(), 1022).expect(&rt, "a file");
+    check_bytes(&rt, &file, 4176, 84, &[0xE3, 0x9E, 0x20, 0x7E]);
+    drop(file);
     // offset -4100, and -4096
-    assert_eq!(rt;
-        branch_back(rt.alloc(), 1025).err(),
-        Some(AsmError::Reach(1025))
-    );
-    assert_eq!(rt; branch_back(rt.alloc(), 1024).err(), None);
-    Ok(())
+    let too_far = branch_back(rt.alloc(), 1025).err();
+    same(&rt, too_far, Some(AsmError::Reach(1025)));
+    same(&rt, branch_back(rt.alloc(), 1024).err(), None);
 }
 
 /// A builder with one word, and a label behind it. Whether the label was set before, and is now.
@@ -111,23 +119,27 @@ fn with_label(alloc: Global) -> Result<(Builder, Label, (bool, bool)), AllocErro
     Ok((builder, label, (before, now)))
 }
 
-#[test]
-fn jumps_and_branches_go_back(rt: HostRuntime) -> Result<(), Fail> {
-    let (mut builder, label, is_set) = with_label(rt.alloc())?;
-    assert_eq!(rt; is_set, (false, true));
+/// A jump and a branch to a label behind the first word. Whether it was set before, and is now.
+fn going_back(alloc: Global) -> Result<(Vec<u8>, (bool, bool)), AsmError> {
+    let (mut builder, label, is_set) = with_label(alloc)?;
     builder.word(0x1122_3344)?;
     builder.jump(1, label)?;
     builder.branch(BranchOp::Bne, 10, 0, label)?;
-    let file = finished(builder)?;
-    assert_eq!(rt; file.len(), 100);
+    Ok((finished(builder)?, is_set))
+}
+
+#[test]
+fn jumps_and_branches_go_back(rt: HostRuntime) {
+    let (file, is_set) = going_back(rt.alloc()).expect(&rt, "a file");
     let words = [
         0, 0, 0, 0, //
         0x44, 0x33, 0x22, 0x11, //
         0xEF, 0xF0, 0xDF, 0xFF, // jal x1, -4
         0xE3, 0x1C, 0x05, 0xFE, // bne x10, x0, -8
     ];
-    assert_eq!(rt; &file[84..], words.as_slice());
-    Ok(())
+    check_bytes(&rt, &file, 100, 84, &words);
+    drop(file);
+    same(&rt, is_set, (false, true));
 }
 
 /// A jump to a label that isn't set.
@@ -158,20 +170,17 @@ fn two_refusals(alloc: Global) -> Result<Builder, AllocError> {
 }
 
 /// Why there is no file.
-fn refusal(builder: Builder) -> Option<AsmError> {
-    builder.finish().err()
+fn check_refusal(rt: &impl Abort, builder: Result<Builder, AllocError>, wanted: AsmError) {
+    let builder = builder.expect(rt, "memory");
+    same(rt, builder.finish().err(), Some(wanted));
 }
 
 #[test]
-fn the_first_word_without_a_meaning_is_told(rt: HostRuntime) -> Result<(), Fail> {
-    let empty = Builder::new(rt.alloc(), 0x1_0000, true)?;
-    assert_eq!(rt; refusal(empty), Some(AsmError::Range));
-    assert_eq!(rt; refusal(unset(rt.alloc())?), Some(AsmError::Unset(0)));
-    assert_eq!(rt;
-        refusal(two_refusals(rt.alloc())?),
-        Some(AsmError::Unset(1))
-    );
-    Ok(())
+fn the_first_word_without_a_meaning_is_told(rt: HostRuntime) {
+    let empty = Builder::new(rt.alloc(), 0x1_0000, true);
+    check_refusal(&rt, empty, AsmError::Range);
+    check_refusal(&rt, unset(rt.alloc()), AsmError::Unset(0));
+    check_refusal(&rt, two_refusals(rt.alloc()), AsmError::Unset(1));
 }
 
 /// Data in place of what there was.
@@ -198,11 +207,8 @@ type DataRow = (u32, u32, Option<AsmError>);
 
 fn check_data(rt: &impl Abort, alloc: Global, rows: &[DataRow]) {
     for &(address, zeros, refusal) in rows {
-        assert_eq!(rt;
-            with_data(alloc, address, b"abc", zeros).err(),
-            refusal,
-            "{zeros} zeros at {address}"
-        );
+        let seen = with_data(alloc, address, b"abc", zeros).err();
+        same_at(rt, seen, refusal, (address, zeros));
     }
 }
 
@@ -222,19 +228,25 @@ fn data_is_apart_and_below_the_stack(rt: HostRuntime) {
     check_data(&rt, rt.alloc(), &rows);
 }
 
-#[test]
-fn code_is_below_the_stack(rt: HostRuntime) -> Result<(), Fail> {
-    for base in [0, 0xEFFF_0000] {
-        let mut builder = Builder::new(rt.alloc(), base, false)?;
-        builder.word(0x73)?;
-        assert_eq!(rt; refusal(builder), Some(AsmError::Range));
-    }
-    Ok(())
+/// One word, at this address.
+fn one_word(alloc: Global, base: u32) -> Result<Builder, AllocError>
+    requires { base % 4096 ≡ 0 }
+{
+    let mut builder = Builder::new(alloc, base, false)?;
+    builder.word(0x73)?;
+    Ok(builder)
 }
 
 #[test]
-fn data_reads_back(rt: HostRuntime) -> Result<(), Fail> {
-    let file = with_data(rt.alloc(), 0x2_0002, b"abc", 5)?;
+fn code_is_below_the_stack(rt: HostRuntime) {
+    for base in [0, 0xEFFF_0000] {
+        check_refusal(&rt, one_word(rt.alloc(), base), AsmError::Range);
+    }
+}
+
+#[test]
+fn data_reads_back(rt: HostRuntime) {
+    let file = with_data(rt.alloc(), 0x2_0002, b"abc", 5).expect(&rt, "a file");
     let code = Wanted {
         address: 0x1_0000,
         zeros: 0,
@@ -251,19 +263,20 @@ fn data_reads_back(rt: HostRuntime) -> Result<(), Fail> {
         exec: false,
         bytes: b"abc",
     };
-    check_image(
-        &rt,
-        &read_image(rt.alloc(), &file)?,
-        0x1_0000,
-        &[code, data],
-    );
-    Ok(())
+    check_file(&rt, rt.alloc(), &file, 0x1_0000, &[code, data]);
+    drop(file);
+}
+
+/// How many parts the image of a file has.
+fn part_count(rt: &impl Abort, alloc: Global, file: &[u8]) -> usize {
+    let image = read_image(alloc, file).expect(rt, "an image");
+    image.parts().len()
 }
 
 #[test]
-fn no_data_is_no_part(rt: HostRuntime) -> Result<(), Fail> {
-    let file = with_data(rt.alloc(), 0x2_0002, b"", 0)?;
-    assert_eq!(rt; read_image(rt.alloc(), &file)?.parts().len(), 1);
-    assert_eq!(rt; file.len(), 88);
-    Ok(())
+fn no_data_is_no_part(rt: HostRuntime) {
+    let file = with_data(rt.alloc(), 0x2_0002, b"", 0).expect(&rt, "a file");
+    let parts = part_count(&rt, rt.alloc(), &file);
+    same(&rt, (file.len(), parts), (88, 1));
+    drop(file);
 }

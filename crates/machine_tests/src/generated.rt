@@ -1,9 +1,12 @@
+ghost use Rattle.std.specs.Prelude.{◌≤◌};
+
+use crate::checks::same;
 use crate::images::{Wanted, check_image, set_word};
-use dos_io::Sink;
+use dos_io::{Sink, SinkFault};
 use elf_image::Image;
 use generated_group::{DigestSink, DropSink, generated_image};
+use std::alloc::Global;
 use std::process::Abort;
-use std::test::Fail;
 
 /// The program for number 7 and one thread, as LLVM's assembler makes it of its listing.
 const PROGRAM: [u8; 200] = [
@@ -53,8 +56,18 @@ fn check_parts(rt: &impl Abort, image: &Image, code: &[u8], zeros: u32) {
     check_image(rt, image, 0x1_0000, &[code, pages]);
 }
 
+/// The image of a number and threads has this code.
+fn check_program(rt: &impl Abort, alloc: Global, number: u32, threads: u32, code: &[u8])
+    requires some { 1 ≤ threads }
+    requires few { threads ≤ 32 }
+{
+    let image = generated_image(alloc, number, threads).expect(rt, "memory");
+    check_parts(rt, &image, code, 4096 * (threads + 1));
+    drop(image);
+}
+
 #[test]
-fn words_and_pages(rt: HostRuntime) -> Result<(), Fail> {
+fn words_and_pages(rt: HostRuntime) {
     for (number, threads, word, upper, lower) in [
         // addi x5, x0, 1 and 8 and 32; lui x20 and addi x20, x20
         (7, 1, 0x0010_0293, 0x0000_0A37, 0x007A_0A13),
@@ -66,11 +79,9 @@ fn words_and_pages(rt: HostRuntime) -> Result<(), Fail> {
         (0xFFFF_F7FF, 8, 0x0080_0293, 0xFFFF_FA37, 0x7FFA_0A13),
         (0xFFFF_FFFF, 8, 0x0080_0293, 0x0000_0A37, 0xFFFA_0A13),
     ] {
-        let image = generated_image(rt.alloc(), number, threads)?;
         let code = program(word, upper, lower);
-        check_parts(&rt, &image, &code, 4096 * (threads + 1));
+        check_program(&rt, rt.alloc(), number, threads, &code);
     }
-    Ok(())
 }
 
 /// The digest of `abc` (FIPS 180-4's example).
@@ -80,7 +91,7 @@ const ABC: [u8; 32] = [
 ];
 
 /// Puts one piece after another.
-fn put_all<S: Sink>(sink: &mut S, pieces: &[&[u8]]) -> Result<(), Fail> {
+fn put_all<S: Sink>(sink: &mut S, pieces: &[&[u8]]) -> Result<(), SinkFault> {
     for piece in pieces {
         sink.put(piece)?;
     }
@@ -88,13 +99,11 @@ fn put_all<S: Sink>(sink: &mut S, pieces: &[&[u8]]) -> Result<(), Fail> {
 }
 
 #[test]
-fn sinks_that_keep_no_bytes(rt: HostRuntime) -> Result<(), Fail> {
+fn sinks_that_keep_no_bytes(rt: HostRuntime) {
     let pieces: [&[u8]; 3] = [b"a", b"", b"bc"];
     let mut sink = DigestSink::new();
-    put_all(&mut sink, &pieces)?;
+    let went = put_all(&mut sink, &pieces).is_ok();
     let (count, digest) = sink.finish();
-    assert_eq!(rt; count, 3);
-    assert_eq!(rt; digest, ABC);
-    put_all(&mut DropSink, &pieces)?;
-    Ok(())
+    same(&rt, (went, count, digest), (true, 3, ABC));
+    same(&rt, put_all(&mut DropSink, &pieces).is_ok(), true);
 }

@@ -1,7 +1,7 @@
+use crate::checks::{same, same_at};
 use elf_image::{Image, ImageError, Part, read_image};
 use std::alloc::{AllocError, Global};
 use std::process::Abort;
-use std::test::Fail;
 
 /// Three instructions that end the process, at 0x00010000 with all rights: one program header, and
 /// the code behind it.
@@ -32,7 +32,7 @@ const LINKED: [u8; 196] = [
 ];
 
 /// What a part of an image is to be.
-#[derive(Drop)]
+#[derive(Clone, Copy)]
 pub struct Wanted<'a> {
     pub address: u32,
     pub zeros: u32,
@@ -52,14 +52,24 @@ fn is_as_wanted(part: &Part, wanted: &Wanted<'_>) -> bool {
         && part.bytes.as_slice() == wanted.bytes
 }
 
+fn check_parts(rt: &impl Abort, parts: &[Part], wanted: &[Wanted<'_>]) {
+    for (part, wanted) in parts.iter().zip(wanted) {
+        same_at(rt, is_as_wanted(part, wanted), true, wanted.index);
+    }
+}
+
 /// An image has this entry and these parts.
 pub fn check_image(rt: &impl Abort, image: &Image, entry: u32, wanted: &[Wanted<'_>]) {
-    assert_eq!(rt; image.entry(), entry);
     let parts = image.parts();
-    assert_eq!(rt; parts.len(), wanted.len());
-    for (part, wanted) in parts.iter().zip(wanted) {
-        assert!(rt; is_as_wanted(part, wanted), "part {}", wanted.index);
-    }
+    same(rt, (image.entry(), parts.len()), (entry, wanted.len()));
+    check_parts(rt, parts, wanted);
+}
+
+/// A file is accepted, with this entry and these parts.
+pub fn check_file(rt: &impl Abort, alloc: Global, file: &[u8], entry: u32, wanted: &[Wanted<'_>]) {
+    let image = read_image(alloc, file).expect(rt, "an image");
+    check_image(rt, &image, entry, wanted);
+    drop(image);
 }
 
 /// Writes a number of four bytes, if it is in the file.
@@ -109,7 +119,7 @@ const BY_BYTE: [ByteRow; 31] = [
 /// Numbers that stand at places of the linker's file, and the refusal.
 type WordsRow = (&'static [(usize, u32)], Option<ImageError>);
 
-const BY_WORDS: [WordsRow; 33] = [
+static BY_WORDS: [WordsRow; 33] = [
     (&[], None),
     // no table: neither its place nor its headers' size counts
     (&[(42, 0), (28, 0xFFFF_FFFF)], Some(ImageError::NoLoad)),
@@ -176,17 +186,18 @@ fn with_words(alloc: Global, mut file: [u8; 196], words: &[(usize, u32)]) -> Opt
 
 fn check_bytes(rt: &impl Abort, alloc: Global, file: [u8; 96], rows: &[ByteRow]) {
     for &(place, byte, refusal) in rows {
-        assert_eq!(rt;
+        same_at(
+            rt,
             with_byte(alloc, file, place, byte),
             refusal,
-            "{byte} at {place}"
+            (place, byte),
         );
     }
 }
 
 fn check_words(rt: &impl Abort, alloc: Global, file: [u8; 196], rows: &[WordsRow]) {
     for &(words, refusal) in rows {
-        assert_eq!(rt; with_words(alloc, file, words), refusal, "{words:?}");
+        same_at(rt, with_words(alloc, file, words), refusal, words);
     }
 }
 
@@ -214,8 +225,12 @@ fn cut_refusal(len: usize) -> Option<ImageError> {
 /// Each front of the linker's file.
 fn check_fronts(rt: &impl Abort, alloc: Global, file: &[u8]) {
     for len in 0..=file.len() {
-        let refusal = read_image(alloc, &file[..len]).err();
-        assert_eq!(rt; refusal, cut_refusal(len), "at {len}");
+        same_at(
+            rt,
+            read_image(alloc, &file[..len]).err(),
+            cut_refusal(len),
+            len,
+        );
     }
 }
 
@@ -238,22 +253,17 @@ fn with_count(alloc: Global, file: &mut [u8], count: u32) -> Option<ImageError> 
 }
 
 #[test]
-fn takes_64_headers(rt: HostRuntime) -> Result<(), Fail> {
-    let mut file = joined(rt.alloc(), &SMALLEST[..52], &[0; 65 * 32])?;
-    assert_eq!(rt;
-        with_count(rt.alloc(), &mut file, 64),
-        Some(ImageError::NoLoad)
-    );
-    assert_eq!(rt;
-        with_count(rt.alloc(), &mut file, 65),
-        Some(ImageError::HeaderTable)
-    );
-    Ok(())
+fn takes_64_headers(rt: HostRuntime) {
+    let mut file = joined(rt.alloc(), &SMALLEST[..52], &[0; 65 * 32]).expect(&rt, "memory");
+    let at_most = with_count(rt.alloc(), &mut file, 64);
+    let one_more = with_count(rt.alloc(), &mut file, 65);
+    drop(file);
+    let refusals = (Some(ImageError::NoLoad), Some(ImageError::HeaderTable));
+    same(&rt, (at_most, one_more), refusals);
 }
 
 #[test]
-fn reads_the_smallest_file(rt: HostRuntime) -> Result<(), Fail> {
-    let image = read_image(rt.alloc(), &SMALLEST)?;
+fn reads_the_smallest_file(rt: HostRuntime) {
     let part = Wanted {
         address: 0x10000,
         zeros: 0,
@@ -262,8 +272,7 @@ fn reads_the_smallest_file(rt: HostRuntime) -> Result<(), Fail> {
         exec: true,
         bytes: &SMALLEST[84..],
     };
-    check_image(&rt, &image, 0x10000, &[part]);
-    Ok(())
+    check_file(&rt, rt.alloc(), &SMALLEST, 0x10000, &[part]);
 }
 
 /// Why a file is refused with other sizes in the file and in memory.
@@ -273,20 +282,24 @@ fn with_sizes(alloc: Global, mut file: [u8; 96], sizes: [u32; 2]) -> Option<Imag
     read_image(alloc, &file).err()
 }
 
-#[test]
-fn refuses_by_the_sizes(rt: HostRuntime) {
-    for (sizes, refusal) in [
-        ([12, 13], None),
-        ([13, 12], Some(ImageError::Segment(0))),
-        ([13, 13], Some(ImageError::Segment(0))),
-    ] {
-        assert_eq!(rt; with_sizes(rt.alloc(), SMALLEST, sizes), refusal);
+fn check_sizes(rt: &impl Abort, alloc: Global, rows: &[([u32; 2], Option<ImageError>)]) {
+    for &(sizes, refusal) in rows {
+        same_at(rt, with_sizes(alloc, SMALLEST, sizes), refusal, sizes);
     }
 }
 
 #[test]
-fn reads_a_linkers_file(rt: HostRuntime) -> Result<(), Fail> {
-    let image = read_image(rt.alloc(), &LINKED)?;
+fn refuses_by_the_sizes(rt: HostRuntime) {
+    let rows = [
+        ([12, 13], None),
+        ([13, 12], Some(ImageError::Segment(0))),
+        ([13, 13], Some(ImageError::Segment(0))),
+    ];
+    check_sizes(&rt, rt.alloc(), &rows);
+}
+
+#[test]
+fn reads_a_linkers_file(rt: HostRuntime) {
     let code = Wanted {
         address: 0x10000,
         zeros: 0,
@@ -303,25 +316,21 @@ fn reads_a_linkers_file(rt: HostRuntime) -> Result<(), Fail> {
         exec: false,
         bytes: &[1, 2, 3, 4],
     };
-    check_image(&rt, &image, 0x100B4, &[code, data]);
-    Ok(())
+    check_file(&rt, rt.alloc(), &LINKED, 0x100B4, &[code, data]);
 }
 
-fn check_text(rt: &impl Abort, alloc: Global, error: ImageError, text: &str) -> Result<(), Fail> {
-    assert_eq!(rt; format!(in alloc; "{error}")?.as_str(), text);
-    Ok(())
+fn check_text(rt: &impl Abort, alloc: Global, error: ImageError, text: &str) {
+    let told = format!(in alloc; "{error}").expect(rt, "memory");
+    let is_told = told.as_str() == text;
+    drop(told);
+    same_at(rt, is_told, true, error);
 }
 
 #[test]
-fn tells_a_refusal(rt: HostRuntime) -> Result<(), Fail> {
+fn tells_a_refusal(rt: HostRuntime) {
     let overlap = ImageError::Overlap(1, 2);
-    check_text(
-        &rt,
-        rt.alloc(),
-        ImageError::Segment(3),
-        "segment 3 does not fit",
-    )?;
-    check_text(&rt, rt.alloc(), overlap, "segments 1 and 2 overlap")?;
-    assert_eq!(rt; overlap.number(), 12);
-    Ok(())
+    let segment = ImageError::Segment(3);
+    check_text(&rt, rt.alloc(), segment, "segment 3 does not fit");
+    check_text(&rt, rt.alloc(), overlap, "segments 1 and 2 overlap");
+    same(&rt, overlap.number(), 12);
 }

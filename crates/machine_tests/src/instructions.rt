@@ -1,14 +1,15 @@
 // One word for each row of the table, and the edges of each immediate. GNU as and objdump agree on
 // each.
+use crate::checks::same_at;
 use rv_isa::{AmoOp, BranchOp, ImmOp, Instr, LoadOp, RegOp, ShiftOp, StoreOp, decode, encode};
 use std::process::Abort;
 
 // What a word is decoded to is seen by its word: no two valid instructions have the same one.
 fn both_ways(rt: &impl Abort, word: u32, instr: Instr) {
     assert!(rt; instr.is_valid());
-    assert_eq!(rt; encode(&instr), word, "encoding {word}");
+    same_at(rt, encode(&instr), word, "encoding");
     let decoded = decode(word).expect(rt, "a word of the table");
-    assert_eq!(rt; encode(&decoded), word, "decoding {word}");
+    same_at(rt, encode(&decoded), word, "decoding");
 }
 
 #[test]
@@ -262,6 +263,6 @@ fn words_without_a_meaning(rt: HostRuntime) {
         0x41f2_9393,
         0x0062_a063,
     ] {
-        assert!(rt; decode(word).is_none(), "decoding {word}");
+        same_at(&rt, decode(word).is_none(), true, word);
     }
 }
