@@ -1,20 +1,28 @@
 //! What the words of each command ask for.
-use crate::requests::{DEFAULTS, NO_CLOCK, are_names, asked, numbers, runs};
-use dos_words::{Request, WordsError};
+use crate::checks::{same, same_at};
+use crate::requests::{
+    DEFAULTS, NO_CLOCK, are_names, asked, check_refused, has_names, numbers, runs,
+};
+use dos_words::Request;
 use std::alloc::Global;
+use std::process::Abort;
 
 /// Whether these words ask for a run of these numbers with the log `l` and the image `a`.
 fn runs_a(alloc: Global, texts: &[&str], wanted: [u64; 6]) -> bool {
     match asked(alloc, texts) {
-        Ok(request) => numbers(&request) == Some(wanted) && runs(&request, "l", &["a"]),
+        Ok(request) => numbers(&request) == Some(wanted) && has_names(&request, "l", &["a"]),
         Err(_) => false,
     }
+}
+
+fn check_run(rt: &impl Abort, alloc: Global, texts: &[&str], wanted: [u64; 6]) {
+    same_at(rt, runs_a(alloc, texts, wanted), true, texts);
 }
 
 #[test]
 fn options_stand_in_any_order(rt: HostRuntime) {
     let alloc = rt.alloc();
-    assert!(rt; runs_a(alloc, &["run", "--log", "l", "a"], DEFAULTS));
+    check_run(&rt, alloc, &["run", "--log", "l", "a"], DEFAULTS);
     let wanted = [16, 1, 17, 2, 7, 5];
     let one = [
         "run",
@@ -52,22 +60,20 @@ fn options_stand_in_any_order(rt: HostRuntime) {
         "16",
         "a",
     ];
-    assert!(rt; runs_a(alloc, &one, wanted));
-    assert!(rt; runs_a(alloc, &other, wanted));
+    check_run(&rt, alloc, &one, wanted);
+    check_run(&rt, alloc, &other, wanted);
 }
 
 #[test]
 fn words_of_other_forms_are_taken(rt: HostRuntime) {
     let alloc = rt.alloc();
-    assert!(rt; runs_a(alloc, &["run", "--log=l", "a"], DEFAULTS));
-    assert!(rt; runs_a(alloc, &["run", "a", "--log", "l"], DEFAULTS));
-    assert!(rt; runs_a(alloc, &["run", "--log", "l", "--", "a"], DEFAULTS));
+    check_run(&rt, alloc, &["run", "--log=l", "a"], DEFAULTS);
+    check_run(&rt, alloc, &["run", "a", "--log", "l"], DEFAULTS);
+    check_run(&rt, alloc, &["run", "--log", "l", "--", "a"], DEFAULTS);
     let workers = [1000, 100000, 4096, 2, 1, NO_CLOCK];
-    assert!(rt; runs_a(alloc, &["run", "--workers=2", "a", "--log=l"], workers));
-    match asked(alloc, &["run", "--log", "l", "--", "-a", "--log"]) {
-        Ok(request) => assert!(rt; runs(&request, "l", &["-a", "--log"])),
-        Err(_) => assert!(rt; false),
-    }
+    check_run(&rt, alloc, &["run", "--workers=2", "a", "--log=l"], workers);
+    let dashed = ["run", "--log", "l", "--", "-a", "--log"];
+    same(&rt, runs(alloc, &dashed, "l", &["-a", "--log"]), true);
 }
 
 #[test]
@@ -75,14 +81,11 @@ fn one_to_eight_names_are_taken(rt: HostRuntime) {
     let alloc = rt.alloc();
     let eight = ["a", "b", "c", "d", "e", "f", "g", "h"];
     let words = ["run", "--log", "l", "a", "b", "c", "d", "e", "f", "g", "h"];
-    match asked(alloc, &words) {
-        Ok(request) => assert!(rt; runs(&request, "l", &eight)),
-        Err(_) => assert!(rt; false),
-    }
+    same(&rt, runs(alloc, &words, "l", &eight), true);
     let nine = [
         "run", "--log", "l", "a", "b", "c", "d", "e", "f", "g", "h", "i",
     ];
-    assert_eq!(rt; asked(alloc, &nine).err(), Some(WordsError::Refused));
+    check_refused(&rt, alloc, &nine);
 }
 
 /// Whether these words ask for a replay of the log `l` with these workers and the images `a`, `b`.
@@ -121,27 +124,21 @@ fn generates(alloc: Global, texts: &[&str]) -> Option<[u32; 3]> {
     }
 }
 
+fn check_replay(rt: &impl Abort, alloc: Global, texts: &[&str], wanted: u32) {
+    same_at(rt, replays(alloc, texts, wanted), true, texts);
+}
+
 #[test]
 fn other_commands_are_read(rt: HostRuntime) {
     let alloc = rt.alloc();
-    assert!(rt; replays(alloc, &["replay", "--log", "l", "a", "b"], 4));
-    assert!(rt;
-        replays(
-            alloc,
-            &["replay", "--log", "l", "--workers", "1", "a", "b"],
-            1
-        )
-    );
-    assert!(rt;
-        replays(
-            alloc,
-            &["replay", "--workers", "32", "--log", "l", "a", "b"],
-            32
-        )
-    );
-    assert!(rt; inspects_a(alloc, &["inspect", "a"]));
+    check_replay(&rt, alloc, &["replay", "--log", "l", "a", "b"], 4);
+    let least = ["replay", "--log", "l", "--workers", "1", "a", "b"];
+    check_replay(&rt, alloc, &least, 1);
+    let most = ["replay", "--workers", "32", "--log", "l", "a", "b"];
+    check_replay(&rt, alloc, &most, 32);
+    same(&rt, inspects_a(alloc, &["inspect", "a"]), true);
     let least = ["gen", "--number", "0", "--threads", "1"];
-    assert_eq!(rt; generates(alloc, &least), Some([0, 1, 4]));
+    same(&rt, generates(alloc, &least), Some([0, 1, 4]));
     let most = [
         "gen",
         "--workers",
@@ -151,5 +148,5 @@ fn other_commands_are_read(rt: HostRuntime) {
         "--number",
         "4294967295",
     ];
-    assert_eq!(rt; generates(alloc, &most), Some([4294967295, 32, 32]));
+    same(&rt, generates(alloc, &most), Some([4294967295, 32, 32]));
 }

@@ -1,10 +1,14 @@
 //! Each number at and past each end of its range, and how numbers are spelled.
-use crate::requests::{DEFAULTS, asked, numbers};
-use dos_words::WordsError;
-use std::test::Fail;
+use crate::checks::same_at;
+use crate::requests::{DEFAULTS, asked, check_refused, numbers};
+use std::alloc::Global;
+use std::process::Abort;
 
-/// Options of a run with their values, and the number that they give at its place.
-const READ: [(&str, &str, usize, u64); 15] = [
+/// An option with its value, and the number that it gives at its place.
+type Row = (&'static str, &'static str, usize, u64);
+
+/// Options of a run.
+static READ: [Row; 15] = [
     ("--quantum", "16", 0, 16),
     ("--quantum", "65536", 0, 65536),
     ("--rounds", "1", 1, 1),
@@ -38,7 +42,7 @@ const READ: [(&str, &str, usize, u64); 15] = [
 ];
 
 /// Options of a run with values that are refused.
-const REFUSED: [(&str, &str); 21] = [
+static REFUSED: [(&str, &str); 21] = [
     ("--quantum", "15"),
     ("--quantum", "65537"),
     ("--rounds", "0"),
@@ -62,26 +66,44 @@ const REFUSED: [(&str, &str); 21] = [
     ("--quantum", "\u{661}6"),
 ];
 
-#[test]
-fn numbers_in_range_are_read(rt: HostRuntime) -> Result<(), Fail> {
-    for (option, value, place, number) in READ {
-        let request = asked(rt.alloc(), &["run", option, value, "--log", "l", "a"]);
-        let mut wanted = DEFAULTS;
-        if let Some(changed) = wanted.get_mut(place) {
-            *changed = number;
-        }
-        match request {
-            Ok(request) => assert_eq!(rt; numbers(&request), Some(wanted)),
-            Err(_) => return Err(Fail::from("refused")),
-        }
+/// The numbers of a run with this option, if the words ask for one.
+fn numbers_with(alloc: Global, option: &str, value: &str) -> Option<[u64; 6]> {
+    match asked(alloc, &["run", option, value, "--log", "l", "a"]) {
+        Ok(request) => numbers(&request),
+        Err(_) => None,
     }
-    Ok(())
+}
+
+/// The numbers where no option but one gives one.
+fn changed(place: usize, number: u64) -> [u64; 6] {
+    let mut numbers = DEFAULTS;
+    if let Some(changed) = numbers.get_mut(place) {
+        *changed = number;
+    }
+    numbers
+}
+
+fn check_read(rt: &impl Abort, alloc: Global, rows: &[Row]) {
+    for &(option, value, place, number) in rows {
+        let wanted = Some(changed(place, number));
+        same_at(
+            rt,
+            numbers_with(alloc, option, value),
+            wanted,
+            (option, value),
+        );
+    }
+}
+
+#[test]
+fn numbers_in_range_are_read(rt: HostRuntime) {
+    check_read(&rt, rt.alloc(), &READ);
 }
 
 #[test]
 fn other_numbers_are_refused(rt: HostRuntime) {
-    for (option, value) in REFUSED {
-        let request = asked(rt.alloc(), &["run", option, value, "--log", "l", "a"]);
-        assert_eq!(rt; request.err(), Some(WordsError::Refused));
+    for &(option, value) in &REFUSED {
+        let words = ["run", option, value, "--log", "l", "a"];
+        check_refused(&rt, rt.alloc(), &words);
     }
 }

@@ -1,8 +1,7 @@
 //! Words that ask for nothing.
-use crate::requests::asked;
-use dos_words::WordsError;
+use crate::requests::check_refused;
 
-const REFUSED: [&[&str]; 40] = [
+static REFUSED: [&[&str]; 40] = [
     &[],
     &[""],
     &["a"],
@@ -47,20 +46,22 @@ const REFUSED: [&[&str]; 40] = [
 
 #[test]
 fn other_words_are_refused(rt: HostRuntime) {
-    for texts in REFUSED {
-        assert_eq!(rt; asked(rt.alloc(), texts).err(), Some(WordsError::Refused));
+    for &texts in &REFUSED {
+        check_refused(&rt, rt.alloc(), texts);
     }
 }
 
-const OUT_OF_RANGE: [(&str, &str); 4] = [("4294967296", "1"), ("1", "0"), ("1", "33"), ("01", "1")];
+static OUT_OF_RANGE: [(&str, &str); 4] = [
+    ("4294967296", "1"),
+    ("1", "0"),
+    ("1", "33"),
+    ("01", "1"),
+];
 
 #[test]
 fn generated_runs_are_in_range(rt: HostRuntime) {
-    for (number, threads) in OUT_OF_RANGE {
-        let request = asked(
-            rt.alloc(),
-            &["gen", "--number", number, "--threads", threads],
-        );
-        assert_eq!(rt; request.err(), Some(WordsError::Refused));
+    for &(number, threads) in &OUT_OF_RANGE {
+        let words = ["gen", "--number", number, "--threads", threads];
+        check_refused(&rt, rt.alloc(), &words);
     }
 }

@@ -1,6 +1,8 @@
 //! Requests of words.
+use crate::checks::same_at;
 use dos_words::{Names, Request, WordsError, read_words};
 use std::alloc::{AllocError, Global};
+use std::process::Abort;
 
 fn words_of(alloc: Global, texts: &[&str]) -> Result<Vec<String>, AllocError> {
     let mut words = Vec::new(alloc);
@@ -14,6 +16,16 @@ fn words_of(alloc: Global, texts: &[&str]) -> Result<Vec<String>, AllocError> {
 pub fn asked(alloc: Global, texts: &[&str]) -> Result<Request, WordsError> {
     let words = words_of(alloc, texts)?;
     read_words(alloc, &words)
+}
+
+/// These words ask for nothing.
+pub fn check_refused(rt: &impl Abort, alloc: Global, texts: &[&str]) {
+    same_at(
+        rt,
+        asked(alloc, texts).err(),
+        Some(WordsError::Refused),
+        texts,
+    );
 }
 
 /// In place of the first reading of a clock that isn't given.
@@ -57,11 +69,19 @@ pub fn are_names(names: &Names, wanted: &[&str]) -> bool {
 }
 
 /// Whether a run has this log and these names.
-pub fn runs(request: &Request, log_wanted: &str, names_wanted: &[&str]) -> bool {
+pub fn has_names(request: &Request, log_wanted: &str, names_wanted: &[&str]) -> bool {
     match request {
         Request::Run { log, names, .. } => {
             log.as_str() == log_wanted && are_names(names, names_wanted)
         }
         _ => false,
+    }
+}
+
+/// Whether these words ask for a run with this log and these names.
+pub fn runs(alloc: Global, texts: &[&str], log: &str, names: &[&str]) -> bool {
+    match asked(alloc, texts) {
+        Ok(request) => has_names(&request, log, names),
+        Err(_) => false,
     }
 }
