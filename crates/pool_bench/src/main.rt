@@ -7,9 +7,7 @@
 
 ghost use Rattle.std.specs.Prelude.{◌≡◌, ◌<◌, ◌≤◌};
 
-mod loops;
-
-use loops::run;
+use loop_packs::{Load, run};
 use staying_workers::{Office, Staying, open};
 use std::alloc::{AllocError, Global};
 use std::io::ErrorKind;
@@ -28,26 +26,6 @@ enum Pool {
     Staying,
 }
 
-/// What is run.
-#[derive(Clone, Copy)]
-struct Load {
-    packs: u32,
-    first: u32,
-    others: u32,
-    calls: u32,
-}
-
-fn play<W: Workers>(alloc: Global, workers: &mut W, load: Load) -> Result<(), AllocError> {
-    run(
-        alloc,
-        workers,
-        load.packs,
-        load.first,
-        load.others,
-        load.calls,
-    )
-}
-
 fn play_hired<R: Threads + Wait + Sync>(
     rt: &R,
     alloc: Global,
@@ -61,7 +39,7 @@ fn play_hired<R: Threads + Wait + Sync>(
 {
     let mut workers = Staying::new(rt, alloc, office, gate, tally);
     workers.hire(hired);
-    let played = play(alloc, &mut workers, load);
+    let played = run(alloc, &mut workers, load);
     workers.finish();
     played
 }
@@ -107,16 +85,16 @@ fn measure<R: Threads + Wait + Sync>(
     match pool {
         Pool::Serial => {
             let mut workers: Serial<'_, R> = Serial::new(&mut tally);
-            play(alloc, &mut workers, load)?;
+            run(alloc, &mut workers, load)?;
         }
-        Pool::Spread => play(alloc, &mut Spread::new(rt, hired, &gate, &mut tally), load)?,
-        Pool::Boarded => play(
+        Pool::Spread => run(alloc, &mut Spread::new(rt, hired, &gate, &mut tally), load)?,
+        Pool::Boarded => run(
             alloc,
             &mut Boarded::new(rt, alloc, hired, &gate, &mut tally),
             load,
         )?,
         Pool::Stealing => {
-            play(
+            run(
                 alloc,
                 &mut Stealing::new(rt, alloc, hired, &gate, &mut tally),
                 load,
@@ -154,21 +132,40 @@ fn words(rt: &HostRuntime) -> io::Result<Vec<String>> {
     Ok(words)
 }
 
-fn main(rt: HostRuntime) -> io::Result<()> {
-    let words = words(&rt)?;
+/// Runs what six words say, and prints how many instructions that were.
+fn run_six<R: Threads + Wait + Sync + Print>(
+    rt: &R,
+    alloc: Global,
+    six: &[String],
+) -> io::Result<()> {
+    let [pool, hired, packs, first, others, calls] = six else {
+        return Err(ErrorKind::InvalidInput.into());
+    };
+    let load = Load {
+        packs: number(packs)?,
+        first: number(first)?,
+        others: number(others)?,
+        calls: number(calls)?,
+    };
+    let workers = number(hired)?.max(1).min(32);
+    let ran = measure(rt, alloc, pool_named(pool)?, workers, load)?;
+    println!(rt; "{pool} {workers} {packs} {first} {others} {calls}: {ran}")
+}
+
+fn run_all<R: Threads + Wait + Sync + Print>(
+    rt: &R,
+    alloc: Global,
+    words: &[String],
+) -> io::Result<()> {
     for six in words.chunks(6) {
-        let [pool, hired, packs, first, others, calls] = six else {
-            return Err(ErrorKind::InvalidInput.into());
-        };
-        let load = Load {
-            packs: number(packs)?,
-            first: number(first)?,
-            others: number(others)?,
-            calls: number(calls)?,
-        };
-        let hired = number(hired)?.max(1).min(32);
-        let ran = measure(&rt, rt.alloc(), pool_named(pool)?, hired, load)?;
-        println!(rt; "{pool} {hired} {packs} {first} {others} {calls}: {ran}")?;
+        run_six(rt, alloc, six)?;
     }
     Ok(())
+}
+
+fn main(rt: HostRuntime) -> io::Result<()> {
+    let words = words(&rt)?;
+    let ran = run_all(&rt, rt.alloc(), &words);
+    drop(words);
+    ran
 }

@@ -7,8 +7,6 @@ mod board;
 #[cfg(test)]
 mod gates;
 #[cfg(test)]
-mod loops;
-#[cfg(test)]
 mod pools;
 #[cfg(test)]
 mod stays;

@@ -2,12 +2,25 @@
 ghost use Rattle.std.specs.Prelude.{◌<◌, ◌≤◌};
 
 use crate::gates::{Holding, check_seen};
-use crate::loops::run;
+use loop_packs::{Load, run};
 use std::alloc::Global;
 use std::process::Abort;
 use std::test::*;
 use std::thread::Threads;
 use worker_pool::{Boarded, Gate, OpenGate, Serial, Spread, Stealing, Tally, Workers};
+
+// The budget of each pack, which it uses up, where none is given.
+pub(crate) const BUDGET: u32 = 7;
+
+// So many packs, each for so many instructions.
+pub(crate) fn evenly(packs: u32, budget: u32) -> Load {
+    Load {
+        packs,
+        first: budget,
+        others: budget,
+        calls: 1,
+    }
+}
 
 // The tally is at so many instructions.
 pub(crate) fn check_count(rt: &impl Abort, tally: &Tally, wanted: u64) {
@@ -16,7 +29,7 @@ pub(crate) fn check_count(rt: &impl Abort, tally: &Tally, wanted: u64) {
 
 // So many packs are run.
 fn run_packs<W: Workers>(rt: &impl Abort, alloc: Global, workers: &mut W, packs: u32) {
-    run(alloc, workers, packs).expect(rt, "memory");
+    run(alloc, workers, evenly(packs, BUDGET)).expect(rt, "memory");
 }
 
 fn serial<R: Threads + Sync + Abort>(rt: &R, alloc: Global, tally: &mut Tally, packs: u32) {

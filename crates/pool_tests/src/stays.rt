@@ -2,8 +2,8 @@
 ghost use Rattle.std.specs.Prelude.{◌<◌, ◌≤◌};
 
 use crate::gates::{Holding, check_seen};
-use crate::loops::{BUDGET, run_for};
-use crate::pools::check_count;
+use crate::pools::{BUDGET, check_count, evenly};
+use loop_packs::{Load, run};
 use staying_workers::{Office, Staying, open};
 use std::alloc::{AllocError, Global};
 use std::sync::Wait;
@@ -12,26 +12,16 @@ use std::thread;
 use std::thread::Threads;
 use worker_pool::{Tally, Workers};
 
-// so many packs for so many instructions each
-#[derive(Clone, Copy)]
-struct Load {
-    packs: u32,
-    budget: u32,
-}
-
 // packs that are each run in one slice
 fn short(packs: u32) -> Load {
-    Load {
-        packs,
-        budget: BUDGET,
-    }
+    evenly(packs, BUDGET)
 }
 
 // three times
 fn rounds<W: Workers>(alloc: Global, workers: &mut W, load: Load) -> Result<(), AllocError> {
-    run_for(alloc, workers, load.packs, load.budget)?;
-    run_for(alloc, workers, load.packs, load.budget)?;
-    run_for(alloc, workers, load.packs, load.budget)
+    run(alloc, workers, load)?;
+    run(alloc, workers, load)?;
+    run(alloc, workers, load)
 }
 
 // by so many workers at this office
@@ -123,10 +113,7 @@ fn one_alone_staying(rt: HostRuntime) {
 fn packs_run_in_slices_staying(rt: HostRuntime) {
     let gate = Holding::until(2);
     let mut tally = Tally::new();
-    let load = Load {
-        packs: 4,
-        budget: 50_000,
-    };
+    let load = evenly(4, 50_000);
     stay(&rt, rt.alloc(), &gate, &mut tally, 2, load).expect(&rt, "memory");
     check_seen(&rt, &gate, (12, 15, 0));
     check_count(&rt, &tally, 600_000);

@@ -17,7 +17,7 @@ use Rattle.quantum_run.specs.Shows.{Pack, View, CanRun, frames_of}
 use Rattle.worker_pool.specs.Ran.{AllCanRun}
 use Rattle.page_store.proofs.Joined.{home-at}
 use Rattle.worker_pool.proofs.RanPacks.{index-at}
-use Rattle.pool_bench.specs.Loops.{HasOneShared, IsLoop, page_of_code}
+use Rattle.loop_packs.specs.Loops.{HasOneShared, IsLoop, page_of_code}
 
 -- the one view that there is, but for the page
 abbrev the_view : List ℕ → View

@@ -1,8 +1,11 @@
-// Packs that jump on the spot until their budget is 0: one page, which is shared, and one process.
+//! Packs that jump on the spot until their budget is 0: what the tests and the bench of workers let
+//! them run. Beside them there is one page, which is shared, and one process.
+#![tactic(auto)]
+
 ghost use Rattle.std.specs.Prelude.{◌≡◌, ◌∷◌, [], All, IfOk, Some, ◌<◌, ◌^◌, length, map, vec_len};
 ghost use Rattle.page_store.specs.Store.{AreHome};
 ghost use Rattle.quantum_run.specs.Packs.{space_in};
-ghost use Rattle.pool_bench.specs.Loops.{HasOneShared, IsLoop, page_of_code};
+ghost use Rattle.loop_packs.specs.Loops.{HasOneShared, IsLoop, page_of_code};
 
 use dos_world::{Access, Entry, Regs, Size};
 use page_store::Frames;
@@ -10,6 +13,16 @@ use proc_table::{SignalState, Table};
 use quantum_run::{Pack, Shared};
 use std::alloc::{AllocError, Global};
 use worker_pool::Workers;
+
+/// What is run: so many packs, as often as this. The first has one budget each time, all others
+/// another, in instructions.
+#[derive(Clone, Copy)]
+pub struct Load {
+    pub packs: u32,
+    pub first: u32,
+    pub others: u32,
+    pub calls: u32,
+}
 
 const JUMP: u32 = 0x0000_006f; // jal x0, 0
 
@@ -50,6 +63,16 @@ fn one_process(alloc: Global) -> Result<Table, AllocError>
     };
     table.put_entry(1, 0x10, entry);
     Ok(table)
+}
+
+// what the packs are lent
+fn lent(alloc: Global) -> Result<Shared, AllocError>
+    ensures frames { IfOk result (λ s. HasOneShared s.frames) }
+    ensures table { IfOk result (λ s. map space_in s.table.processes ≡ Some page_of_code ∷ []) }
+{
+    let table = one_process(alloc)?;
+    let frames = one_frame(alloc)?;
+    Ok(Shared { frames, table })
 }
 
 // a pack of a thread that jumps on the spot
@@ -93,44 +116,37 @@ fn refill(packs: &mut Vec<Pack>, first: u32, others: u32)
 }
 
 // as often as this
-fn repeat<W: Workers>(
-    workers: &mut W,
-    packs: &mut Vec<Pack>,
-    mut shared: Shared,
-    first: u32,
-    others: u32,
-    calls: u32,
-)
+fn repeat<W: Workers>(workers: &mut W, packs: &mut Vec<Pack>, mut shared: Shared, load: Load)
     requires count { vec_len packs.old < 2 ^ 32 }
     requires loops { All IsLoop packs.old.items }
     requires frames { HasOneShared shared.frames }
     requires table { map space_in shared.table.processes ≡ Some page_of_code ∷ [] }
 {
-    for _ in 0..calls {
-        refill(packs, first, others);
+    for _ in 0..load.calls {
+        refill(packs, load.first, load.others);
         shared = workers.run_all(packs, shared);
     }
 }
 
-/// The workers run so many packs, as often as this: the first has one budget, all others another.
-pub fn run<W: Workers>(
+// these packs, with what they are lent
+fn run_packs<W: Workers>(
     alloc: Global,
     workers: &mut W,
-    count: u32,
-    first: u32,
-    others: u32,
-    calls: u32,
-) -> Result<(), AllocError> {
-    let frames = one_frame(alloc)?;
-    let table = one_process(alloc)?;
-    let mut packs = packs(alloc, count)?;
-    repeat(
-        workers,
-        &mut packs,
-        Shared { frames, table },
-        first,
-        others,
-        calls,
-    );
+    packs: &mut Vec<Pack>,
+    load: Load,
+) -> Result<(), AllocError>
+    requires count { vec_len packs.old < 2 ^ 32 }
+    requires loops { All IsLoop packs.old.items }
+{
+    let shared = lent(alloc)?;
+    repeat(workers, packs, shared, load);
     Ok(())
+}
+
+/// The workers run a load, with packs of its own.
+pub fn run<W: Workers>(alloc: Global, workers: &mut W, load: Load) -> Result<(), AllocError> {
+    let mut packs = packs(alloc, load.packs)?;
+    let ran = run_packs(alloc, workers, &mut packs, load);
+    drop(packs);
+    ran
 }

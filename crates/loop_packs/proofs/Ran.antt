@@ -4,7 +4,7 @@ use Rattle.std.specs.Prelude.{All, slice_get, slice_index_or}
 use Rattle.quantum_run.specs.Shows.{Pack, View, frames_of}
 use Rattle.worker_pool.specs.Ran.{AllRan, EachRan, HasRun}
 use Rattle.worker_pool.proofs.RanPacks.{each-of}
-use Rattle.pool_bench.specs.Loops.{IsLoop}
+use Rattle.loop_packs.specs.Loops.{IsLoop}
 
 no-pages : (ps : List (ℕ × List ℕ)) → frames_of ps ≡ [] → ps ≡ []
 no-pages [] e = λ _. []

@@ -1,6 +1,6 @@
 use Rattle.std.proofs.Common.{◌≡◌, All, vec_len}
-use Rattle.pool_bench.specs.Loops.{IsLoop}
-use Rattle.pool_bench.proofs.loops.repeat.Given as goal
+use Rattle.loop_packs.specs.Loops.{IsLoop}
+use Rattle.loop_packs.proofs.repeat.Given as goal
 
 abbrev pub invariant-loop : goal.invariant-loop
 invariant-loop g l = (vec_len l.packs ≡ vec_len l.fn.packs) × All IsLoop l.packs.items

@@ -2,9 +2,9 @@ use Rattle.std.proofs.Common.{◌∙◌, subst, sym}
 use Rattle.quantum_run.specs.Packs.{seen_in}
 use Rattle.quantum_run.specs.declared.pack.Shared.{Shared}
 use Rattle.worker_pool.specs.Ran.{AllCanRun}
-use Rattle.pool_bench.proofs.Looping.{all-can}
-use Rattle.pool_bench.proofs.Ran.{loops-after}
-use Rattle.pool_bench.proofs.loops.repeat.Goals as goal
+use Rattle.loop_packs.proofs.CanLoop.{all-can}
+use Rattle.loop_packs.proofs.Ran.{loops-after}
+use Rattle.loop_packs.proofs.repeat.Goals as goal
 
 pub run_all-shared-requires-clause-can : goal.run_all-shared-requires-clause-can
 run_all-shared-requires-clause-can g c κs within =

@@ -1,6 +1,6 @@
 use Rattle.std.proofs.Common.{◌≡◌, All, vec_len}
-use Rattle.pool_bench.specs.Loops.{IsLoop}
-use Rattle.pool_bench.proofs.loops.packs.Given as goal
+use Rattle.loop_packs.specs.Loops.{IsLoop}
+use Rattle.loop_packs.proofs.packs.Given as goal
 
 abbrev pub invariant-loop-place : goal.invariant-loop-place
 invariant-loop-place l = (vec_len l.packs ≡ l.place) × All IsLoop l.packs.items

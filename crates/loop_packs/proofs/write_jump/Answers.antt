@@ -1,6 +1,6 @@
 use Rattle.std.proofs.Common.{arith}
 use Rattle.page_store.proofs.Joined.{home-at}
-use Rattle.pool_tests.proofs.loops.write_jump.Goals as goal
+use Rattle.loop_packs.proofs.write_jump.Goals as goal
 
 pub lend_mut-requires : goal.lend_mut-requires
 lend_mut-requires c =

@@ -1,0 +1,2 @@
+mod CanLoop
+mod Ran

@@ -1,6 +1,0 @@
-use Rattle.std.proofs.Common.{◌≡◌, All, vec_len}
-use Rattle.pool_tests.specs.Loops.{IsLoop}
-use Rattle.pool_tests.proofs.loops.packs.Given as goal
-
-abbrev pub invariant-loop-place : goal.invariant-loop-place
-invariant-loop-place l = (vec_len l.packs ≡ l.place) × All IsLoop l.packs.items
