@@ -2,7 +2,7 @@
 use rv_asm::Builder;
 use rv_isa::{ImmOp, Instr};
 use std::alloc::Global;
-use std::test::Fail;
+use std::process::Abort;
 
 /// `addi rd, rs1, imm`.
 macro_rules! addi {
@@ -32,20 +32,8 @@ pub const WRITES_HI: [Instr; 9] = [
     Instr::Ecall,
 ];
 
-/// Yields first, and then does the same.
-pub const YIELDS: [Instr; 11] = [
-    addi!(17, 0, 23),
-    Instr::Ecall,
-    addi!(17, 0, 8),
-    addi!(10, 0, 1),
-    TEXT_PAGE,
-    addi!(11, 11, 0x100),
-    addi!(12, 0, 3),
-    Instr::Ecall,
-    addi!(17, 0, 2),
-    addi!(10, 0, 0),
-    Instr::Ecall,
-];
+/// Yields.
+pub const YIELDS: [Instr; 2] = [addi!(17, 0, 23), Instr::Ecall];
 
 /// `lui x11, 0x10`: the page of the code, at whose byte 0x100 the text lies.
 const TEXT_PAGE: Instr = Instr::Upper {
@@ -54,15 +42,23 @@ const TEXT_PAGE: Instr = Instr::Upper {
     imm: 0x1_0000,
 };
 
-/// The file of an image with this code at 0x10000, and the text `Hi` and a line feed at 0x10100.
-pub fn file(alloc: Global, code: &[Instr]) -> Result<Vec<u8>, Fail> {
-    let mut builder = Builder::new(alloc, 0x1_0000, false)?;
+fn put(rt: &impl Abort, builder: &mut Builder, code: &[Instr]) {
     for instr in code {
-        if !instr.is_valid() {
-            return Err("an instruction has a field out of its range".into());
-        }
-        builder.push(instr)?;
+        assert!(rt;
+            instr.is_valid(),
+            "a field of an instruction is out of its range"
+        );
+        builder.push(instr).expect(rt, "memory");
     }
-    builder.data(0x1_0100, b"Hi\n", 0)?;
-    Ok(builder.finish()?)
+}
+
+/// The file of an image with the code of these parts at 0x10000, one behind the other, and the text
+/// `Hi` and a line feed at 0x10100.
+pub fn file(rt: &impl Abort, alloc: Global, parts: &[&[Instr]]) -> Vec<u8> {
+    let mut builder = Builder::new(alloc, 0x1_0000, false).expect(rt, "memory");
+    for part in parts {
+        put(rt, &mut builder, part);
+    }
+    builder.data(0x1_0100, b"Hi\n", 0).expect(rt, "memory");
+    builder.finish().expect(rt, "an image")
 }

@@ -1,14 +1,14 @@
 ghost use Rattle.std.specs.Prelude.{◌≤◌, ◌<◌, length};
 
+use crate::checks::{same, same_at};
 use dos_world::{Config, End, Entry, Owner, Size};
-use elf_image::{Image, ImageError, read_image};
+use elf_image::{Image, read_image};
 use group_open::{OpenError, entry_of, fill_page, needed, next_page, open_state, page_count};
 use kernel_calls::State;
 use page_store::{Frames, Page};
 use proc_table::Table;
-use std::alloc::{AllocError, Global};
+use std::alloc::Global;
 use std::process::Abort;
-use std::test::Fail;
 
 /// Three parts: code in page 0x10 that may be executed, data from the end of that page into the
 /// next that may be written, and one zero in page 5 with no right but to be read.
@@ -28,23 +28,23 @@ const PARTS: [u8; 160] = [
 
 // Of what the helpers give nothing is said: the tests look.
 
-fn read(alloc: Global, file: &[u8]) -> Result<Image, ImageError> {
-    read_image(alloc, file)
+fn read(rt: &impl Abort, alloc: Global, file: &[u8]) -> Image {
+    read_image(alloc, file).expect(rt, "an image")
 }
 
-fn image(alloc: Global) -> Result<Image, ImageError> {
-    read(alloc, &PARTS)
+fn image(rt: &impl Abort, alloc: Global) -> Image {
+    read(rt, alloc, &PARTS)
 }
 
 fn check_pages(rt: &impl Abort, image: &Image, rows: &[(u32, Option<u32>)]) {
     for &(from, page) in rows {
-        assert_eq!(rt; next_page(image, from), page, "from {from}");
+        same_at(rt, next_page(image, from), page, from);
     }
 }
 
 #[test]
-fn pages_come_in_rising_order(rt: HostRuntime) -> Result<(), Fail> {
-    let image = image(rt.alloc())?;
+fn pages_come_in_rising_order(rt: HostRuntime) {
+    let images = [image(&rt, rt.alloc())];
     let rows = [
         (0, Some(5)),
         (5, Some(5)),
@@ -52,10 +52,10 @@ fn pages_come_in_rising_order(rt: HostRuntime) -> Result<(), Fail> {
         (0x11, Some(0x11)),
         (0x12, None),
     ];
-    check_pages(&rt, &image, &rows);
-    assert_eq!(rt; page_count(&image), 19);
-    assert_eq!(rt; needed(&[image]), 19);
-    Ok(())
+    check_pages(&rt, &images[0], &rows);
+    same(&rt, page_count(&images[0]), 19);
+    same(&rt, needed(&images), 19);
+    drop(images);
 }
 
 /// An entry with these rights that isn't shared.
@@ -70,47 +70,46 @@ fn entry(frame: u32, write: bool, exec: bool) -> Entry {
 
 fn check_rights(rt: &impl Abort, image: &Image, rows: &[(u32, bool, bool)]) {
     for &(page, write, exec) in rows {
-        assert_eq!(rt;
-            entry_of(image, page, 7),
-            entry(7, write, exec),
-            "page {page}"
-        );
+        same_at(rt, entry_of(image, page, 7), entry(7, write, exec), page);
     }
 }
 
 #[test]
-fn a_page_has_the_rights_of_all_its_parts(rt: HostRuntime) -> Result<(), Fail> {
+fn a_page_has_the_rights_of_all_its_parts(rt: HostRuntime) {
+    let image = image(&rt, rt.alloc());
     let rows = [
         (5, false, false),
         (0x10, true, true),
         (0x11, true, false),
         (0x12, false, false),
     ];
-    check_rights(&rt, &image(rt.alloc())?, &rows);
-    Ok(())
+    check_rights(&rt, &image, &rows);
+    drop(image);
 }
 
 /// The image's page with this number, below that of the stack's end.
-fn filled(alloc: Global, image: &Image, number: u32) -> Result<Page, AllocError>
+fn filled(rt: &impl Abort, alloc: Global, image: &Image, number: u32) -> Page
     requires { number < 0xF0000 }
 {
-    let mut page = Page::new(alloc)?;
+    let mut page = Page::new(alloc).expect(rt, "memory");
     fill_page(image, number, &mut page);
-    Ok(page)
+    page
 }
 
 #[test]
-fn a_part_goes_on_in_the_next_page(rt: HostRuntime) -> Result<(), Fail> {
-    let image = image(rt.alloc())?;
-    let first = filled(rt.alloc(), &image, 0x10)?;
-    assert_eq!(rt; first.read(0, Size::Word), 0x73);
-    assert_eq!(rt; first.read(4, Size::Word), 0x6F);
-    assert_eq!(rt; first.read(8, Size::Byte), 0);
-    assert_eq!(rt; first.read(4093, Size::Byte), 0);
-    assert_eq!(rt; first.read(4094, Size::Half), 0x0201);
-    let second = filled(rt.alloc(), &image, 0x11)?;
-    assert_eq!(rt; second.read(0, Size::Word), 0x0403);
-    Ok(())
+fn a_part_goes_on_in_the_next_page(rt: HostRuntime) {
+    let image = image(&rt, rt.alloc());
+    let first = filled(&rt, rt.alloc(), &image, 0x10);
+    same(&rt, first.read(0, Size::Word), 0x73);
+    same(&rt, first.read(4, Size::Word), 0x6F);
+    same(&rt, first.read(8, Size::Byte), 0);
+    same(&rt, first.read(4093, Size::Byte), 0);
+    same(&rt, first.read(4094, Size::Half), 0x0201);
+    drop(first);
+    let second = filled(&rt, rt.alloc(), &image, 0x11);
+    same(&rt, second.read(0, Size::Word), 0x0403);
+    drop(second);
+    drop(image);
 }
 
 /// Why these images aren't opened with so many frames.
@@ -128,27 +127,49 @@ fn refusal(alloc: Global, images: &[Image], frames: u32) -> Option<OpenError>
     open_state(alloc, images, &config).err()
 }
 
+fn check_refusal(
+    rt: &impl Abort,
+    alloc: Global,
+    images: &[Image],
+    frames: u32,
+    wanted: Option<OpenError>,
+)
+    requires some { 1 ≤ length images.now }
+    requires few { length images.now ≤ 8 }
+    requires least { 16 ≤ frames }
+    requires most { frames ≤ 16384 }
+{
+    same_at(rt, refusal(alloc, images, frames), wanted, frames);
+}
+
+fn no_room(needed: u64, frames: u32) -> Option<OpenError> {
+    Some(OpenError::NoRoom { needed, frames })
+}
+
 #[test]
-fn images_that_need_more_frames_are_refused(rt: HostRuntime) -> Result<(), Fail> {
-    let one = [image(rt.alloc())?];
-    let two = [image(rt.alloc())?, image(rt.alloc())?];
-    let refused = |needed, frames| Some(OpenError::NoRoom { needed, frames });
-    assert_eq!(rt; refusal(rt.alloc(), &one, 18), refused(19, 18));
-    assert_eq!(rt; refusal(rt.alloc(), &one, 19), None);
-    assert_eq!(rt; refusal(rt.alloc(), &two, 37), refused(38, 37));
-    assert_eq!(rt; refusal(rt.alloc(), &two, 38), None);
-    Ok(())
+fn images_that_need_more_frames_are_refused(rt: HostRuntime) {
+    let alloc = rt.alloc();
+    let one = [image(&rt, alloc)];
+    check_refusal(&rt, alloc, &one, 18, no_room(19, 18));
+    check_refusal(&rt, alloc, &one, 19, None);
+    drop(one);
+    let two = [image(&rt, alloc), image(&rt, alloc)];
+    check_refusal(&rt, alloc, &two, 37, no_room(38, 37));
+    check_refusal(&rt, alloc, &two, 38, None);
+    drop(two);
 }
 
 /// The state of a group of two such images, before its first round.
-fn opened(alloc: Global) -> Result<State, Fail> {
-    let images = [image(alloc)?, image(alloc)?];
+fn opened(rt: &impl Abort, alloc: Global) -> State {
+    let images = [image(rt, alloc), image(rt, alloc)];
     let config = Config {
         quantum: 16,
         rounds: 1,
         frames: 40,
     };
-    Ok(open_state(alloc, &images, &config)?)
+    let state = open_state(alloc, &images, &config).expect(rt, "room");
+    drop(images);
+    state
 }
 
 /// Where a thread lives, its process, its pc and its stack pointer.
@@ -167,22 +188,27 @@ fn end_of(table: &Table, pid: u32, number: u32) -> Option<End> {
     table.descriptor(pid, number)
 }
 
+fn check_ends(rt: &impl Abort, table: &Table, pid: u32, rows: &[(u32, Option<End>)]) {
+    for &(number, end) in rows {
+        same_at(rt, end_of(table, pid, number), end, number);
+    }
+}
+
 #[test]
-fn each_image_has_a_process_and_a_thread(rt: HostRuntime) -> Result<(), Fail> {
-    let state = opened(rt.alloc())?;
-    assert_eq!(rt; state.round, 1);
-    assert_eq!(rt; state.table.processes(), 2);
-    assert_eq!(rt; thread(&state.table, 2), Some((2, 0x10004, 0xefff_fff0)));
-    assert!(rt; state.table.is_live(2));
-    for (number, end) in [
+fn each_image_has_a_process_and_a_thread(rt: HostRuntime) {
+    let state = opened(&rt, rt.alloc());
+    same(&rt, (state.round, state.table.processes()), (1, 2));
+    let wanted = Some((2, 0x10004, 0xefff_fff0));
+    same(&rt, thread(&state.table, 2), wanted);
+    same(&rt, state.table.is_live(2), true);
+    let rows = [
         (0, Some(End::Input)),
         (1, Some(End::Output)),
         (2, Some(End::Error)),
         (3, None),
-    ] {
-        assert_eq!(rt; end_of(&state.table, 2, number), end);
-    }
-    Ok(())
+    ];
+    check_ends(&rt, &state.table, 2, &rows);
+    drop(state);
 }
 
 /// A frame's owner and its uses.
@@ -204,17 +230,26 @@ fn word_at(frames: &Frames, frame: u32, offset: u32) -> Option<u32> {
     Some(frames.lend(frame).read(offset, Size::Word))
 }
 
+fn check_frames(rt: &impl Abort, frames: &Frames, rows: &[(u32, Owner, u32)]) {
+    for &(number, owner, uses) in rows {
+        same_at(rt, frame(frames, number), Some((owner, uses)), number);
+    }
+}
+
 #[test]
-fn frames_are_taken_in_order(rt: HostRuntime) -> Result<(), Fail> {
-    let state = opened(rt.alloc())?;
-    assert_eq!(rt; state.frames.count(), 40);
-    assert_eq!(rt; frame(&state.frames, 18), Some((Owner::Of(1), 1)));
-    assert_eq!(rt; frame(&state.frames, 19), Some((Owner::Of(2), 1)));
-    assert_eq!(rt; frame(&state.frames, 37), Some((Owner::Of(2), 1)));
-    assert_eq!(rt; frame(&state.frames, 38), Some((Owner::Free, 0)));
-    assert_eq!(rt; word_at(&state.frames, 20, 4092), Some(0x0201_0000));
-    assert_eq!(rt; word_at(&state.frames, 21, 0), Some(0x0403));
-    Ok(())
+fn frames_are_taken_in_order(rt: HostRuntime) {
+    let state = opened(&rt, rt.alloc());
+    same(&rt, state.frames.count(), 40);
+    let rows = [
+        (18, Owner::Of(1), 1),
+        (19, Owner::Of(2), 1),
+        (37, Owner::Of(2), 1),
+        (38, Owner::Free, 0),
+    ];
+    check_frames(&rt, &state.frames, &rows);
+    same(&rt, word_at(&state.frames, 20, 4092), Some(0x0201_0000));
+    same(&rt, word_at(&state.frames, 21, 0), Some(0x0403));
+    drop(state);
 }
 
 /// How many pages a process has.
@@ -239,17 +274,14 @@ fn page_at(table: &Table, pid: u32, place: u32) -> Option<(u32, Entry)> {
 
 fn check_space(rt: &impl Abort, table: &Table, pid: u32, rows: &[(u32, u32, Entry)]) {
     for &(place, page, entry) in rows {
-        assert!(rt;
-            page_at(table, pid, place) == Some((page, entry)),
-            "page {page}"
-        );
+        same_at(rt, page_at(table, pid, place), Some((page, entry)), page);
     }
 }
 
 #[test]
-fn the_stack_lies_above_the_parts(rt: HostRuntime) -> Result<(), Fail> {
-    let state = opened(rt.alloc())?;
-    assert_eq!(rt; pages(&state.table, 2), Some(19));
+fn the_stack_lies_above_the_parts(rt: HostRuntime) {
+    let state = opened(&rt, rt.alloc());
+    same(&rt, pages(&state.table, 2), Some(19));
     let rows = [
         (0, 5, entry(19, false, false)),
         (1, 0x10, entry(20, true, true)),
@@ -258,5 +290,5 @@ fn the_stack_lies_above_the_parts(rt: HostRuntime) -> Result<(), Fail> {
         (18, 0xe_ffff, entry(37, true, false)),
     ];
     check_space(&rt, &state.table, 2, &rows);
-    Ok(())
+    drop(state);
 }

@@ -5,13 +5,13 @@ ghost use Rattle.dos_world.specs.declared.Owner.TheVariants.{Of, Shared};
 ghost use Rattle.page_store.specs.Store.{AreHome};
 ghost use Rattle.quantum_run.specs.ThreadRuns.{AreMapped};
 
+use crate::checks::same_at;
 use dos_world::{Access, Entry, Reason, Regs, Size};
 use page_store::Frames;
 use quantum_run::run_until_stop;
 use space_map::Space;
 use std::alloc::{AllocError, Global};
 use std::process::Abort;
-use std::test::Fail;
 
 /// Frames 0 and 1 of thread 1, frame 2 of thread 2, and frame 3, which is shared.
 fn four_frames(alloc: Global) -> Result<Frames, AllocError>
@@ -71,13 +71,13 @@ fn write_words(frames: &mut Frames, words: &[(u32, u32)])
 }
 
 /// The frames with a program in them, and the space.
-fn loaded(alloc: Global, words: &[(u32, u32)]) -> Result<(Frames, Space), AllocError>
-    ensures home { IfOk result (λ made. AreHome made.0) }
-    ensures mapped { IfOk result (λ made. AreMapped made.0 made.1.entries) }
+fn loaded(rt: &impl Abort, alloc: Global, words: &[(u32, u32)]) -> (Frames, Space)
+    ensures home { AreHome result.0 }
+    ensures mapped { AreMapped result.0 result.1.entries }
 {
-    let mut frames = four_frames(alloc)?;
+    let mut frames = four_frames(alloc).expect(rt, "memory");
     write_words(&mut frames, words);
-    Ok((frames, four_pages(alloc)?))
+    (frames, four_pages(alloc).expect(rt, "memory"))
 }
 
 /// The word at an address of one of the pages.
@@ -107,17 +107,15 @@ fn registers(pc: u32, x7: u32) -> Regs {
     regs
 }
 
-/// A run of thread 1 from pc with a budget of 10: why it stops, what is left of the budget, pc, and
-/// x9.
+/// A run of thread 1 from pc with a budget of 10: why it stops, and what is left: of the budget, pc,
+/// and x9.
 struct Run {
     name: &'static str,
     words: &'static [(u32, u32)],
     x7: u32,
     pc: u32,
     stop: Reason,
-    left: u32,
-    end: u32,
-    x9: u32,
+    left: [u32; 3],
 }
 
 const RUNS: [Run; 12] = [
@@ -131,9 +129,7 @@ const RUNS: [Run; 12] = [
         x7: 42,
         pc: 0x10000,
         stop: Reason::Service,
-        left: 8,
-        end: 0x10008,
-        x9: 42,
+        left: [8, 0x10008, 42],
     },
     Run {
         name: "a halfword is stored beside another",
@@ -146,9 +142,7 @@ const RUNS: [Run; 12] = [
         x7: 0xaaaa_5566,
         pc: 0x10000,
         stop: Reason::Service,
-        left: 8,
-        end: 0x10008,
-        x9: 0x5566_3344,
+        left: [8, 0x10008, 0x5566_3344],
     },
     Run {
         name: "an instruction that was stored is run",
@@ -161,9 +155,7 @@ const RUNS: [Run; 12] = [
         x7: 0x0070_0493,
         pc: 0x10000,
         stop: Reason::Fault(5),
-        left: 7,
-        end: 0x1000c,
-        x9: 7,
+        left: [7, 0x1000c, 7],
     },
     Run {
         name: "an instruction that lies on two pages",
@@ -174,9 +166,7 @@ const RUNS: [Run; 12] = [
         x7: 0,
         pc: 0x10ffe,
         stop: Reason::Fault(4),
-        left: 9,
-        end: 0x11002,
-        x9: 42,
+        left: [9, 0x11002, 42],
     },
     Run {
         name: "an instruction whose upper half is on another's page",
@@ -187,9 +177,7 @@ const RUNS: [Run; 12] = [
             address: 0x12000,
             access: Access::Fetch,
         },
-        left: 10,
-        end: 0x11ffe,
-        x9: 9,
+        left: [10, 0x11ffe, 9],
     },
     Run {
         name: "a load from another's page",
@@ -203,9 +191,7 @@ const RUNS: [Run; 12] = [
             address: 0x12000,
             access: Access::Load,
         },
-        left: 9,
-        end: 0x10004,
-        x9: 0,
+        left: [9, 0x10004, 0],
     },
     Run {
         name: "a shared page is loaded from and not stored to",
@@ -219,9 +205,7 @@ const RUNS: [Run; 12] = [
             address: 0x13000,
             access: Access::Store,
         },
-        left: 9,
-        end: 0x10004,
-        x9: 0,
+        left: [9, 0x10004, 0],
     },
     Run {
         name: "its own word is claimed, and a shared one isn't",
@@ -236,9 +220,7 @@ const RUNS: [Run; 12] = [
             address: 0x13000,
             access: Access::Claim,
         },
-        left: 8,
-        end: 0x10008,
-        x9: 3,
+        left: [8, 0x10008, 3],
     },
     Run {
         name: "code that stores into its own page, over a word that was done before",
@@ -250,9 +232,7 @@ const RUNS: [Run; 12] = [
         x7: 0x0000_0073, // ecall
         pc: 0x10000,
         stop: Reason::Service,
-        left: 7,
-        end: 0x10000,
-        x9: 10,
+        left: [7, 0x10000, 10],
     },
     Run {
         name: "code that stores into another page, over a word that was done before",
@@ -265,9 +245,7 @@ const RUNS: [Run; 12] = [
         x7: 0x0000_0073, // ecall
         pc: 0x11000,
         stop: Reason::Service,
-        left: 6,
-        end: 0x11000,
-        x9: 10,
+        left: [6, 0x11000, 10],
     },
     Run {
         name: "a page that isn't mapped",
@@ -275,9 +253,7 @@ const RUNS: [Run; 12] = [
         x7: 0,
         pc: 0x10000,
         stop: Reason::Fault(11),
-        left: 10,
-        end: 0x10000,
-        x9: 9,
+        left: [10, 0x10000, 9],
     },
     Run {
         name: "a page that can't be executed",
@@ -285,58 +261,64 @@ const RUNS: [Run; 12] = [
         x7: 0,
         pc: 0x13000,
         stop: Reason::Fault(11),
-        left: 10,
-        end: 0x13000,
-        x9: 9,
+        left: [10, 0x13000, 9],
     },
 ];
 
-// why a run stops, what is left of its budget, pc, and x9
-fn outcome(alloc: Global, run: &Run) -> Result<(Option<Reason>, [u32; 3]), AllocError> {
-    let (mut frames, space) = loaded(alloc, run.words)?;
+fn check_run(rt: &impl Abort, alloc: Global, run: &Run) {
+    let (mut frames, space) = loaded(rt, alloc, run.words);
     let mut regs = registers(run.pc, run.x7);
     let mut budget = 10;
     let stop = run_until_stop(&mut frames, &space, 1, &mut regs, &mut budget);
-    Ok((stop, [budget, regs.pc(), regs.get(9)]))
-}
-
-fn check_runs(rt: &impl Abort, alloc: Global, runs: &[Run]) -> Result<(), Fail> {
-    for row in runs {
-        let (stop, numbers) = outcome(alloc, row)?;
-        assert_eq!(rt; stop, Some(row.stop), "{}", row.name);
-        assert_eq!(rt; numbers, [row.left, row.end, row.x9], "{}", row.name);
-    }
-    Ok(())
+    let left = [budget, regs.pc(), regs.get(9)];
+    same_at(rt, (stop, left), (Some(run.stop), run.left), run.name);
+    drop(frames);
+    drop(space);
 }
 
 #[test]
-fn runs_stop(rt: HostRuntime) -> Result<(), Fail> {
-    check_runs(&rt, rt.alloc(), &RUNS)
+fn runs_stop(rt: HostRuntime) {
+    for run in &RUNS {
+        check_run(&rt, rt.alloc(), run);
+    }
+}
+
+/// A loop that stores x7 and adds 7 to it.
+const LOOP: [(u32, u32); 3] = [
+    (0x10000, 0x0072_a023), // sw x7, 0(x5)
+    (0x10004, 0x0073_8393), // addi x7, x7, 7
+    (0x10008, 0xff9f_f06f), // jal x0, -8
+];
+
+/// Budgets that are used up; then pc, x7 and the word that was stored last.
+const BUDGETS: [(u32, [u32; 3]); 4] = [
+    (0, [0x10000, 1, 0]),
+    (1, [0x10004, 1, 1]),
+    (3, [0x10000, 8, 1]),
+    (300, [0x10000, 701, 694]),
+];
+
+fn check_budget(rt: &impl Abort, alloc: Global, given: u32, left: [u32; 3]) {
+    let (mut frames, space) = loaded(rt, alloc, &LOOP);
+    let mut regs = registers(0x10000, 1);
+    let mut budget = given;
+    let stop = run_until_stop(&mut frames, &space, 1, &mut regs, &mut budget);
+    let [pc, x7, stored] = left;
+    let seen = (
+        stop,
+        budget,
+        regs.pc(),
+        regs.get(7),
+        word_at(&frames, 0x11000),
+    );
+    same_at(rt, seen, (None, 0, pc, x7, Some(stored)), given);
+    drop(frames);
+    drop(space);
 }
 
 #[test]
-fn a_budget_is_used_up(rt: HostRuntime) -> Result<(), Fail> {
-    let words = [
-        (0x10000, 0x0072_a023), // sw x7, 0(x5)
-        (0x10004, 0x0073_8393), // addi x7, x7, 7
-        (0x10008, 0xff9f_f06f), // jal x0, -8
-    ];
-    for (given, pc, x7, stored) in [
-        (0, 0x10000, 1, 0),
-        (1, 0x10004, 1, 1),
-        (3, 0x10000, 8, 1),
-        (300, 0x10000, 701, 694),
-    ] {
-        let (mut frames, space) = loaded(rt.alloc(), &words)?;
-        let mut regs = registers(0x10000, 1);
-        let mut budget = given;
-        let stop = run_until_stop(&mut frames, &space, 1, &mut regs, &mut budget);
-        assert_eq!(rt; (stop, budget), (None, 0), "{given} instructions");
-        assert_eq!(rt;
-            (regs.pc(), regs.get(7), word_at(&frames, 0x11000)),
-            (pc, x7, Some(stored)),
-            "{given} instructions"
-        );
+fn a_budget_is_used_up(rt: HostRuntime) {
+    for &(given, left) in &BUDGETS {
+        check_budget(&rt, rt.alloc(), given, left);
     }
-    Ok(())
 }

@@ -4,6 +4,7 @@ ghost use Rattle.dos_io.specs.Quiet.{shown};
 ghost use Rattle.dos_io.specs.Shims.{HasNoEnd};
 ghost use Rattle.group_rounds.specs.Kernels.{IsFresh};
 
+use crate::checks::same;
 use crate::guests::{ENDS_WITH_7, WRITES_HI, YIELDS, file};
 use dos_io::{MemorySink, Quiet, Shim, Sink};
 use dos_world::Config;
@@ -14,9 +15,8 @@ use group_rounds::{
 };
 use kernel_calls::RunStop;
 use rv_isa::Instr;
-use std::alloc::{AllocError, Global};
+use std::alloc::Global;
 use std::process::Abort;
-use std::test::Fail;
 use std::thread::Threads;
 use worker_pool::{Serial, Tally, Workers};
 
@@ -26,36 +26,45 @@ const CONFIG: Config = Config {
     frames: 40,
 };
 
-// a guest with this code
-fn guest(alloc: Global, code: &[Instr]) -> Result<Image, Fail> {
-    Ok(read_image(alloc, &file(alloc, code)?)?)
+// a guest with the code of these parts
+fn guest(rt: &impl Abort, alloc: Global, parts: &[&[Instr]]) -> Image {
+    let bytes = file(rt, alloc, parts);
+    let image = read_image(alloc, &bytes).expect(rt, "an image");
+    drop(bytes);
+    image
 }
 
 // these images as a group, which has run no round
-fn opened(alloc: Global, images: &[Image], config: Config) -> Result<Kernel, Fail>
+fn opened(rt: &impl Abort, alloc: Global, images: &[Image]) -> Kernel
     requires some { 1 ≤ length images.now }
     requires few { length images.now ≤ 8 }
-    requires config { IsConfig config }
-    ensures { IfOk result (λ kernel. IsFresh kernel config) }
+    ensures { IsFresh result CONFIG }
 {
-    let state = open_state(alloc, images, &config)?;
-    Ok(Kernel::new(alloc, state, config)?)
+    let state = open_state(alloc, images, &CONFIG).expect(rt, "room");
+    Kernel::new(alloc, state, CONFIG).expect(rt, "memory")
 }
 
-// both guests as one group
-fn group(alloc: Global) -> Result<Kernel, Fail>
-    ensures { IfOk result (λ kernel. IsFresh kernel CONFIG) }
+// a guest that ends with 7, and one that writes, as one group
+fn group(rt: &impl Abort, alloc: Global) -> Kernel
+    ensures { IsFresh result CONFIG }
 {
-    let images = [guest(alloc, &ENDS_WITH_7)?, guest(alloc, &WRITES_HI)?];
-    opened(alloc, &images, CONFIG)
+    let images = [
+        guest(rt, alloc, &[&ENDS_WITH_7]),
+        guest(rt, alloc, &[&WRITES_HI]),
+    ];
+    let kernel = opened(rt, alloc, &images);
+    drop(images);
+    kernel
 }
 
-// the guest that yields
-fn yielding(alloc: Global) -> Result<Kernel, Fail>
-    ensures { IfOk result (λ kernel. IsFresh kernel CONFIG) }
+// a guest that yields, and then writes
+fn yielding(rt: &impl Abort, alloc: Global) -> Kernel
+    ensures { IsFresh result CONFIG }
 {
-    let images = [guest(alloc, &YIELDS)?];
-    opened(alloc, &images, CONFIG)
+    let images = [guest(rt, alloc, &[&YIELDS, &WRITES_HI])];
+    let kernel = opened(rt, alloc, &images);
+    drop(images);
+    kernel
 }
 
 // the status of the process at a place, counted from 0; None too where there is none
@@ -129,14 +138,13 @@ struct Outside {
 
 impl Outside {
     // The sinks have room for 8 bytes each. The puts to output of these numbers fail.
-    fn new(alloc: Global, out_failing: &[u32]) -> Result<Outside, AllocError>
-        ensures { IfOk result (λ outside. HasNoEnd (shown outside.shim).told) }
+    fn new(rt: &impl Abort, alloc: Global, out_failing: &[u32]) -> Outside
+        ensures { HasNoEnd (shown result.shim).told }
     {
-        Ok(Outside {
-            shim: Quiet::new(alloc),
-            out: MemorySink::new(alloc, 8, out_failing)?,
-            err: MemorySink::new(alloc, 8, &[])?,
-        })
+        let shim = Quiet::new(alloc);
+        let out = MemorySink::new(alloc, 8, out_failing).expect(rt, "memory");
+        let err = MemorySink::new(alloc, 8, &[]).expect(rt, "memory");
+        Outside { shim, out, err }
     }
 }
 
@@ -179,7 +187,7 @@ fn serial_behind(
 }
 
 /// What a kernel shows.
-#[derive(Clone, Copy)]
+#[derive(Clone, Copy, Debug, PartialEq)]
 struct Seen {
     failed: bool,
     rounds: u32,
@@ -202,23 +210,21 @@ fn last_of(kernel: Kernel) -> Seen {
     seen
 }
 
-fn check_seen(rt: &impl Abort, seen: &Seen, wanted: &Seen) {
-    assert_eq!(rt; seen.failed, wanted.failed);
-    assert_eq!(rt; seen.rounds, wanted.rounds);
-    assert_eq!(rt; seen.processes, wanted.processes);
-    assert_eq!(rt; seen.live_threads, wanted.live_threads);
-    assert_eq!(rt; seen.statuses, wanted.statuses);
+// What was put to output and to error.
+fn check_put(rt: &impl Abort, outside: &Outside, wanted: (&str, &str)) {
+    let (out, err) = wanted;
+    let seen = (outside.out.bytes(), outside.err.bytes());
+    same(rt, seen, (out.as_bytes(), err.as_bytes()));
 }
 
 #[test]
-fn two_processes_end_in_one_round(rt: HostRuntime) -> Result<(), Fail> {
-    let mut outside = Outside::new(rt.alloc(), &[])?;
-    let mut kernel = group(rt.alloc())?;
+fn two_processes_end_in_one_round(rt: HostRuntime) {
+    let mut outside = Outside::new(&rt, rt.alloc(), &[]);
+    let mut kernel = group(&rt, rt.alloc());
     let end = round::<HostRuntime>(&mut kernel, &mut outside);
-    assert_eq!(rt; end, Ok(RoundEnd::Went));
-    assert_eq!(rt; outside.out.bytes(), b"Hi\n".as_slice());
-    assert_eq!(rt; outside.err.bytes(), b"".as_slice());
-    assert_eq!(rt; kernel.config(), CONFIG);
+    same(&rt, end, Ok(RoundEnd::Went));
+    check_put(&rt, &outside, ("Hi\n", ""));
+    same(&rt, kernel.config(), CONFIG);
     let wanted = Seen {
         failed: false,
         rounds: 1,
@@ -226,55 +232,59 @@ fn two_processes_end_in_one_round(rt: HostRuntime) -> Result<(), Fail> {
         live_threads: 0,
         statuses: [Some(7), Some(0)],
     };
-    check_seen(&rt, &last_of(kernel), &wanted);
-    Ok(())
+    same(&rt, last_of(kernel), wanted);
+    drop(outside);
 }
 
 #[test]
-fn a_serial_phase_goes_on_where_a_thread_yielded(rt: HostRuntime) -> Result<(), Fail> {
-    let mut outside = Outside::new(rt.alloc(), &[])?;
-    let mut kernel = yielding(rt.alloc())?;
+fn a_serial_phase_goes_on_where_a_thread_yielded(rt: HostRuntime) {
+    let mut outside = Outside::new(&rt, rt.alloc(), &[]);
+    let mut kernel = yielding(&rt, rt.alloc());
     let end = round::<HostRuntime>(&mut kernel, &mut outside);
-    assert_eq!(rt; end, Ok(RoundEnd::Went));
-    assert_eq!(rt; outside.out.bytes(), b"".as_slice());
-    assert_eq!(rt; serial_behind(end, &mut kernel, &mut outside), Ok(()));
-    assert_eq!(rt; outside.out.bytes(), b"Hi\n".as_slice());
-    assert_eq!(rt; last_of(kernel).rounds, 1);
-    Ok(())
+    same(&rt, end, Ok(RoundEnd::Went));
+    check_put(&rt, &outside, ("", ""));
+    same(&rt, serial_behind(end, &mut kernel, &mut outside), Ok(()));
+    check_put(&rt, &outside, ("Hi\n", ""));
+    same(&rt, last_of(kernel).rounds, 1);
+    drop(outside);
 }
 
 #[test]
-fn a_sink_that_fails_stops_the_round(rt: HostRuntime) -> Result<(), Fail> {
-    let mut outside = Outside::new(rt.alloc(), &[1])?;
-    let mut kernel = group(rt.alloc())?;
+fn a_sink_that_fails_stops_the_round(rt: HostRuntime) {
+    let mut outside = Outside::new(&rt, rt.alloc(), &[1]);
+    let mut kernel = group(&rt, rt.alloc());
     let end = round::<HostRuntime>(&mut kernel, &mut outside);
     let last = last_of(kernel);
-    assert_eq!(rt; end, Err(RunStop::OutFault));
-    assert!(rt; last.failed);
-    assert_eq!(rt; last.rounds, 0);
-    Ok(())
+    same(&rt, end, Err(RunStop::OutFault));
+    same(&rt, (last.failed, last.rounds), (true, 0));
+    drop(outside);
 }
 
-#[test]
-fn a_parallel_phase_in_three_steps(rt: HostRuntime) -> Result<(), Fail> {
-    let mut outside = Outside::new(rt.alloc(), &[])?;
-    let (mut kernel, ran) = in_steps::<HostRuntime>(group(rt.alloc())?);
-    // two instructions of one process and five of the other, each before its first service
-    assert_eq!(rt; ran, 7);
+// The kernel hasn't failed, and its serial phase goes well.
+fn check_serial(rt: &impl Abort, kernel: &mut Kernel, outside: &mut Outside)
+    requires { HasNoEnd (shown outside.old.shim).told }
+{
     assert!(rt; !kernel.is_failed());
-    assert_eq!(rt; kernel.rounds(), 0);
-    assert_eq!(rt; serial(&mut kernel, &mut outside), Ok(()));
-    assert_eq!(rt; outside.out.bytes(), b"Hi\n".as_slice());
-    assert_eq!(rt; last_of(kernel).statuses, [Some(7), Some(0)]);
-    Ok(())
+    assert_eq!(rt; serial(kernel, outside), Ok(()));
 }
 
 #[test]
-fn a_parallel_phase_stops_at_a_service(rt: HostRuntime) -> Result<(), Fail> {
-    let (kernel, ran) = at_once::<HostRuntime>(yielding(rt.alloc())?);
+fn a_parallel_phase_in_three_steps(rt: HostRuntime) {
+    let mut outside = Outside::new(&rt, rt.alloc(), &[]);
+    let (mut kernel, ran) = in_steps::<HostRuntime>(group(&rt, rt.alloc()));
+    // two instructions of one process and five of the other, each before its first service
+    same(&rt, ran, 7);
+    same(&rt, kernel.rounds(), 0);
+    check_serial(&rt, &mut kernel, &mut outside);
+    check_put(&rt, &outside, ("Hi\n", ""));
+    same(&rt, last_of(kernel).statuses, [Some(7), Some(0)]);
+    drop(outside);
+}
+
+#[test]
+fn a_parallel_phase_stops_at_a_service(rt: HostRuntime) {
+    let (kernel, ran) = at_once::<HostRuntime>(yielding(&rt, rt.alloc()));
     let last = last_of(kernel);
-    assert_eq!(rt; ran, 1);
-    assert!(rt; !last.failed);
-    assert_eq!(rt; last.live_threads, 1);
-    Ok(())
+    same(&rt, ran, 1);
+    same(&rt, (last.failed, last.live_threads), (false, 1));
 }
