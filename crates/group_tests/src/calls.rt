@@ -1,22 +1,26 @@
 //! Calls of the program.
+use crate::checks::{same, same_at};
 use dos_cmd::dos_main;
 use dos_io::{Files, MemoryFiles, MemoryHost, MemorySink};
-use std::alloc::{AllocError, Global};
-use std::test::Fail;
+use std::alloc::Global;
+use std::process::Abort;
 use std::thread::Threads;
 use worker_pool::{OpenGate, Stealing, Tally, Workers};
 
 /// The file of the log, which each run writes.
 pub const LOG: &str = "log";
 
+/// What a call is to leave: its status, its output and its error output.
+pub type Wanted<'a> = (u8, &'a str, &'a str);
+
 /// What a call left.
 #[derive(Drop)]
 pub struct Left {
-    pub status: u8,
-    pub out: MemorySink,
-    pub err: MemorySink,
-    /// By how much the tally grew.
-    pub work: u64,
+    status: u8,
+    out: MemorySink,
+    err: MemorySink,
+    /// By how much the tally grew; 0 where that isn't looked at.
+    work: u64,
 }
 
 /// What comes from outside, and which calls fail, by their numbers from 1.
@@ -41,94 +45,124 @@ pub const NOTHING: Outside<'static> = Outside {
     err_failing: &[],
 };
 
+fn add_word(rt: &impl Abort, alloc: Global, words: &mut Vec<String>, text: &str) {
+    let word = String::from_str(alloc, text).expect(rt, "memory");
+    words.push(word).expect(rt, "memory");
+}
+
 // The words, where `run` also says where its log goes.
-fn words_of(alloc: Global, texts: &[&str]) -> Result<Vec<String>, AllocError> {
+fn words_of(rt: &impl Abort, alloc: Global, texts: &[&str]) -> Vec<String> {
     let mut words = Vec::new(alloc);
     for text in texts {
-        words.push(String::from_str(alloc, text)?)?;
+        add_word(rt, alloc, &mut words, text);
         if *text == "run" {
-            words.push(String::from_str(alloc, "--log")?)?;
-            words.push(String::from_str(alloc, LOG)?)?;
+            add_word(rt, alloc, &mut words, "--log");
+            add_word(rt, alloc, &mut words, LOG);
         }
     }
-    Ok(words)
+    words
 }
 
-/// The status of a call, and its two outputs.
-type Ended = (u8, MemorySink, MemorySink);
+fn host_of(rt: &impl Abort, alloc: Global, outside: &Outside<'_>) -> MemoryHost {
+    let Outside { input, clocks, .. } = *outside;
+    let piece = outside.piece.max(1);
+    MemoryHost::new(alloc, input, piece, clocks, outside.host_failing).expect(rt, "memory")
+}
 
-/// Calls the program with these words and workers, and `--log log` behind the word `run`. Both
-/// sinks have room for 40000 bytes.
+// A sink with room for 40000 bytes.
+fn sink(rt: &impl Abort, alloc: Global, failing: &[u32]) -> MemorySink {
+    MemorySink::new(alloc, 40000, failing).expect(rt, "memory")
+}
+
+/// Calls the program with these words and workers, and `--log log` behind the word `run`.
 pub fn call_by<W: Workers>(
+    rt: &impl Abort,
+    alloc: Global,
+    files: &mut MemoryFiles,
+    texts: &[&str],
+    outside: &Outside<'_>,
     workers: &mut W,
-    alloc: Global,
-    texts: &[&str],
-    files: &mut MemoryFiles,
-    outside: &Outside<'_>,
-) -> Result<Ended, AllocError> {
-    let words = words_of(alloc, texts)?;
-    let piece = if outside.piece == 0 { 1 } else { outside.piece };
-    let mut host = MemoryHost::new(
-        alloc,
-        outside.input,
-        piece,
-        outside.clocks,
-        outside.host_failing,
-    )?;
-    let mut out = MemorySink::new(alloc, 40000, outside.out_failing)?;
-    let mut err = MemorySink::new(alloc, 40000, outside.err_failing)?;
+) -> Left {
+    let words = words_of(rt, alloc, texts);
+    let mut host = host_of(rt, alloc, outside);
+    let mut out = sink(rt, alloc, outside.out_failing);
+    let mut err = sink(rt, alloc, outside.err_failing);
     let status = dos_main(alloc, &words, files, &mut host, &mut out, &mut err, workers);
-    Ok((status, out, err))
-}
-
-/// The same with a pool that steals.
-pub fn call_over<R: Threads + Sync>(
-    rt: &R,
-    alloc: Global,
-    texts: &[&str],
-    files: &mut MemoryFiles,
-    outside: &Outside<'_>,
-) -> Result<Left, AllocError> {
-    let gate = OpenGate::new();
-    let mut tally = Tally::new();
-    let mut workers = Stealing::new(rt, alloc, 1, &gate, &mut tally);
-    let (status, out, err) = call_by(&mut workers, alloc, texts, files, outside)?;
-    workers.finish();
-    let work = tally.count();
-    Ok(Left {
+    drop(words);
+    drop(host);
+    Left {
         status,
         out,
         err,
-        work,
-    })
+        work: 0,
+    }
 }
 
-/// The same with nothing from outside, where the puts to output of these numbers fail.
-pub fn call<R: Threads + Sync>(
+/// The same with a pool that steals, whose tally is looked at.
+pub fn call_over<R: Threads + Sync + Abort>(
     rt: &R,
     alloc: Global,
-    texts: &[&str],
     files: &mut MemoryFiles,
-    failing: &[u32],
-) -> Result<Left, AllocError> {
-    call_failing(rt, alloc, texts, files, failing, &[])
+    texts: &[&str],
+    outside: &Outside<'_>,
+) -> Left {
+    let gate = OpenGate::new();
+    let mut tally = Tally::new();
+    let mut workers = Stealing::new(rt, alloc, 1, &gate, &mut tally);
+    let mut left = call_by(rt, alloc, files, texts, outside, &mut workers);
+    workers.finish();
+    left.work = tally.count();
+    left
 }
 
-/// The same, where the puts to error of the last numbers fail too.
-pub fn call_failing<'x, R: Threads + Sync>(
+/// The same with nothing from outside.
+pub fn call<R: Threads + Sync + Abort>(
     rt: &R,
     alloc: Global,
-    texts: &[&str],
     files: &mut MemoryFiles,
-    out_failing: &'x [u32],
-    err_failing: &'x [u32],
-) -> Result<Left, AllocError> {
-    let outside = Outside {
-        out_failing,
-        err_failing,
-        ..NOTHING
-    };
-    call_over(rt, alloc, texts, files, &outside)
+    texts: &[&str],
+) -> Left {
+    call_over(rt, alloc, files, texts, &NOTHING)
+}
+
+/// A call of these words left what is wanted.
+pub fn check_left(rt: &impl Abort, left: &Left, texts: &[&str], wanted: Wanted<'_>) {
+    let (status, out, err) = wanted;
+    let seen = (left.status, left.out.bytes(), left.err.bytes());
+    same_at(rt, seen, (status, out.as_bytes(), err.as_bytes()), texts);
+}
+
+/// A call put so many bytes to output, and this to error.
+pub fn check_long(rt: &impl Abort, left: &Left, count: usize, err: &str) {
+    let seen = (left.out.bytes().len(), left.err.bytes());
+    same(rt, seen, (count, err.as_bytes()));
+}
+
+/// Calls the program, which leaves what is wanted; by how much the tally grew.
+pub fn leaves_over<R: Threads + Sync + Abort>(
+    rt: &R,
+    alloc: Global,
+    files: &mut MemoryFiles,
+    texts: &[&str],
+    outside: &Outside<'_>,
+    wanted: Wanted<'_>,
+) -> u64 {
+    let left = call_over(rt, alloc, files, texts, outside);
+    check_left(rt, &left, texts, wanted);
+    let work = left.work;
+    drop(left);
+    work
+}
+
+/// The same with nothing from outside.
+pub fn leaves<R: Threads + Sync + Abort>(
+    rt: &R,
+    alloc: Global,
+    files: &mut MemoryFiles,
+    texts: &[&str],
+    wanted: Wanted<'_>,
+) -> u64 {
+    leaves_over(rt, alloc, files, texts, &NOTHING, wanted)
 }
 
 /// The words of a call, the numbers of the puts to output and to error that fail in it, and what it
@@ -152,25 +186,31 @@ pub const SILENT: Case = Case {
     err: "",
 };
 
+fn check_case<R: Threads + Sync + Abort>(
+    rt: &R,
+    alloc: Global,
+    files: &mut MemoryFiles,
+    case: &Case,
+) {
+    let outside = Outside {
+        out_failing: case.out_failing,
+        err_failing: case.err_failing,
+        ..NOTHING
+    };
+    let wanted = (case.status, case.out, case.err);
+    let _ = leaves_over(rt, alloc, files, case.words, &outside, wanted);
+}
+
 /// Calls the program with the words of each case in turn.
-pub fn call_each<R: Threads + Sync>(
+pub fn check_cases<R: Threads + Sync + Abort>(
     rt: &R,
     alloc: Global,
     files: &mut MemoryFiles,
     cases: &[Case],
-) -> Result<(), Fail> {
+) {
     for case in cases {
-        let left = call_failing(
-            rt,
-            alloc,
-            case.words,
-            files,
-            case.out_failing,
-            case.err_failing,
-        )?;
-        work_of(left, case.status, case.out, case.err)?;
+        check_case(rt, alloc, files, case);
     }
-    Ok(())
 }
 
 fn begins_with_option(words: &[&str]) -> bool {
@@ -193,108 +233,80 @@ fn names<'a>(texts: &'a [&'a str]) -> &'a [&'a str] {
 }
 
 // The words that replay the log of a run of these words.
-fn replay_words<'a>(alloc: Global, texts: &'a [&'a str]) -> Result<Vec<&'a str>, AllocError> {
+fn replay_words<'a>(rt: &impl Abort, alloc: Global, texts: &'a [&'a str]) -> Vec<&'a str> {
     let mut words = Vec::new(alloc);
-    words.extend_from_slice(&["replay", "--log", LOG])?;
-    words.extend_from_slice(names(texts))?;
-    Ok(words)
+    words
+        .extend_from_slice(&["replay", "--log", LOG])
+        .expect(rt, "memory");
+    words.extend_from_slice(names(texts)).expect(rt, "memory");
+    words
 }
 
-/// Replays the log of a run of these words, and compares it with what the run left.
-pub fn expect_again<R: Threads + Sync>(
-    rt: &R,
-    alloc: Global,
-    texts: &[&str],
-    files: &mut MemoryFiles,
-    ran: &Left,
-) -> Result<(), Fail> {
-    let words = replay_words(alloc, texts)?;
-    let again = call(rt, alloc, &words, files, &[])?;
-    again.expect_same(ran)
+// A replay left what the run did.
+fn check_same(rt: &impl Abort, again: &Left, ran: &Left) {
+    same(rt, (again.status, again.work), (ran.status, ran.work));
+    same(
+        rt,
+        (again.out.bytes(), again.err.bytes()),
+        (ran.out.bytes(), ran.err.bytes()),
+    );
 }
 
-// What a run of these words left is this, and a replay of its log leaves the same.
-fn expect_twice<R: Threads + Sync>(
+/// A replay of the log of a run of these words leaves what the run left.
+pub fn check_replay<R: Threads + Sync + Abort>(
     rt: &R,
     alloc: Global,
-    texts: &[&str],
     files: &mut MemoryFiles,
-    left: &Left,
-    wanted: (u8, &str, &str),
-) -> Result<(), Fail> {
-    let (status, out, err) = wanted;
-    left.expect(status, out, err)?;
-    expect_again(rt, alloc, texts, files, left)
+    texts: &[&str],
+    ran: Left,
+) {
+    let words = replay_words(rt, alloc, texts);
+    let again = call(rt, alloc, files, &words);
+    check_same(rt, &again, &ran);
+    drop(words);
+    drop(again);
+    drop(ran);
 }
 
-/// Runs with these words, which leave this, and then replays the log.
-pub fn run_twice<R: Threads + Sync>(
+/// Runs with these words, which leaves what is wanted, and then replays the log.
+pub fn run_twice_over<R: Threads + Sync + Abort>(
     rt: &R,
     alloc: Global,
-    texts: &[&str],
     files: &mut MemoryFiles,
-    status: u8,
-    out: &str,
-    err: &str,
-) -> Result<(), Fail> {
-    let wanted = (status, out, err);
-    run_twice_over(rt, alloc, texts, files, &NOTHING, wanted)
-}
-
-/// The same with this from outside.
-pub fn run_twice_over<R: Threads + Sync>(
-    rt: &R,
-    alloc: Global,
     texts: &[&str],
-    files: &mut MemoryFiles,
     outside: &Outside<'_>,
-    wanted: (u8, &str, &str),
-) -> Result<(), Fail> {
-    let left = call_over(rt, alloc, texts, files, outside)?;
-    expect_twice(rt, alloc, texts, files, &left, wanted)
+    wanted: Wanted<'_>,
+) {
+    let left = call_over(rt, alloc, files, texts, outside);
+    check_left(rt, &left, texts, wanted);
+    check_replay(rt, alloc, files, texts, left);
+}
+
+/// The same with nothing from outside.
+pub fn run_twice<R: Threads + Sync + Abort>(
+    rt: &R,
+    alloc: Global,
+    files: &mut MemoryFiles,
+    texts: &[&str],
+    wanted: Wanted<'_>,
+) {
+    run_twice_over(rt, alloc, files, texts, &NOTHING, wanted);
 }
 
 /// The bytes of the log.
-pub fn log_of(files: &mut MemoryFiles) -> Result<Vec<u8>, Fail> {
-    files
-        .get(LOG, 1 << 27)
-        .map_err(|_| Fail::from("there is no log"))
+pub fn log_of(rt: &impl Abort, files: &mut MemoryFiles) -> Vec<u8> {
+    files.get(LOG, 1 << 27).expect(rt, "a log")
+}
+
+/// How many bytes the log has.
+pub fn log_length(rt: &impl Abort, files: &mut MemoryFiles) -> usize {
+    let log = log_of(rt, files);
+    let length = log.len();
+    drop(log);
+    length
 }
 
 /// Whether there is a log.
 pub fn has_log(files: &mut MemoryFiles) -> bool {
     files.get(LOG, 1 << 27).is_ok()
-}
-
-impl Left {
-    /// Whether it is what was wanted.
-    pub fn expect(&self, status: u8, out: &str, err: &str) -> Result<(), Fail> {
-        if self.status != status {
-            return Err(Fail::from("another status"));
-        }
-        if self.out.bytes() != out.as_bytes() {
-            return Err(Fail::from("another output"));
-        }
-        if self.err.bytes() != err.as_bytes() {
-            return Err(Fail::from("another error output"));
-        }
-        Ok(())
-    }
-
-    // Whether a replay left what the run did.
-    fn expect_same(&self, ran: &Left) -> Result<(), Fail> {
-        if self.status != ran.status || self.work != ran.work {
-            return Err(Fail::from("a replay with another status or tally"));
-        }
-        if self.out.bytes() != ran.out.bytes() || self.err.bytes() != ran.err.bytes() {
-            return Err(Fail::from("a replay with other bytes"));
-        }
-        Ok(())
-    }
-}
-
-/// By how much the tally grew in a call that left what was wanted.
-pub fn work_of(left: Left, status: u8, out: &str, err: &str) -> Result<u64, Fail> {
-    left.expect(status, out, err)?;
-    Ok(left.work)
 }

@@ -1,28 +1,13 @@
 //! A guest that looks at the clock, and options in another order.
-use crate::calls::{LOG, NOTHING, Outside, call, log_of, run_twice, run_twice_over, work_of};
-use crate::guests::words_files;
+use crate::calls::{LOG, NOTHING, Outside, Wanted, leaves, log_of, run_twice, run_twice_over};
+use crate::checks::same;
+use crate::guests::{CLOCKS, files_with};
 use dos_io::MemoryFiles;
 use std::alloc::Global;
-use std::test::*;
+use std::process::Abort;
 use std::thread::Threads;
 
-// It looks at the clock three times, and prints the low word of each reading.
-const CLOCKS: [u32; 14] = [
-    0x0030_0493,
-    0x0160_0893,
-    0x0000_0073,
-    0xff01_0593,
-    0x00a5_a023,
-    0x0080_0893,
-    0x0010_0513,
-    0x0040_0613,
-    0x0000_0073,
-    0xfff4_8493,
-    0xfc04_9ee3,
-    0x0020_0893,
-    0x0000_0513,
-    0x0000_0073,
-];
+const COUNTED: [&str; 6] = ["run", "--clock-from", "65", "--clock-step", "3", "a"];
 
 const HOST_CLOCKS: Outside<'static> = Outside {
     clocks: &[72, 105, 33],
@@ -30,15 +15,15 @@ const HOST_CLOCKS: Outside<'static> = Outside {
 };
 
 #[test]
-fn readings_are_the_hosts_or_counted(rt: HostRuntime) -> Result<(), Fail> {
+fn readings_are_the_hosts_or_counted(rt: HostRuntime) {
     let alloc = rt.alloc();
-    let mut files = words_files(alloc, &CLOCKS)?;
+    let mut files = files_with(&rt, alloc, &CLOCKS, b"", 0);
     let err = "process 1 status 0\nrounds 1 done\n";
-    let words = ["run", "--clock-from", "65", "--clock-step", "3", "a"];
-    let counted = "A\0\0\0D\0\0\0G\0\0\0";
-    run_twice(&rt, alloc, &words, &mut files, 0, counted, err)?;
+    let wanted = (0, "A\0\0\0D\0\0\0G\0\0\0", err);
+    run_twice(&rt, alloc, &mut files, &COUNTED, wanted);
     let wanted = (0, "H\0\0\0i\0\0\0!\0\0\0", err);
-    run_twice_over(&rt, alloc, &["run", "a"], &mut files, &HOST_CLOCKS, wanted)
+    run_twice_over(&rt, alloc, &mut files, &["run", "a"], &HOST_CLOCKS, wanted);
+    drop(files);
 }
 
 // It has printed the third reading with its 30th instruction; the signal comes behind the 32nd.
@@ -87,31 +72,37 @@ const OTHERS: [&[&str]; 3] = [
     &["replay", "--log", LOG, "--workers", "2", "a"],
 ];
 
-// The call leaves what each of them does; its tally and the log behind it.
-fn work_and_log<R: Threads + Sync>(
+// What the call leaves with any of them.
+const LEFT: Wanted<'static> = (
+    0,
+    "A\0\0\0D\0\0\0G\0\0\0",
+    "process 1 status 143\nrounds 2 done\n",
+);
+
+// The call leaves that, a tally that grew by this, and this log.
+fn check_again<R: Threads + Sync + Abort>(
     rt: &R,
     alloc: Global,
-    words: &[&str],
     files: &mut MemoryFiles,
-) -> Result<(u64, Vec<u8>), Fail> {
-    let (out, err) = (
-        "A\0\0\0D\0\0\0G\0\0\0",
-        "process 1 status 143\nrounds 2 done\n",
-    );
-    let left = call(rt, alloc, words, files, &[])?;
-    let work = work_of(left, 0, out, err)?;
-    Ok((work, log_of(files)?))
+    words: &[&str],
+    work: u64,
+    log: &[u8],
+) {
+    same(rt, leaves(rt, alloc, files, words, LEFT), work);
+    let again = log_of(rt, files);
+    same(rt, again.as_slice(), log);
+    drop(again);
 }
 
 #[test]
-fn options_have_no_order(rt: HostRuntime) -> Result<(), Fail> {
+fn options_have_no_order(rt: HostRuntime) {
     let alloc = rt.alloc();
-    let mut files = words_files(alloc, &CLOCKS)?;
-    let (work, log) = work_and_log(&rt, alloc, &RUN, &mut files)?;
+    let mut files = files_with(&rt, alloc, &CLOCKS, b"", 0);
+    let work = leaves(&rt, alloc, &mut files, &RUN, LEFT);
+    let log = log_of(&rt, &mut files);
     for words in &OTHERS {
-        let (again, copy) = work_and_log(&rt, alloc, words, &mut files)?;
-        assert_eq!(rt; again, work);
-        assert_eq!(rt; copy.as_slice(), log.as_slice());
+        check_again(&rt, alloc, &mut files, words, work, &log);
     }
-    Ok(())
+    drop(log);
+    drop(files);
 }

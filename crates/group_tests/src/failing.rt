@@ -1,10 +1,7 @@
 //! Each put of a call fails in turn: what was put before stands, and nothing follows.
-use crate::calls::{Case, SILENT, call_each};
+use crate::calls::{Case, SILENT, check_cases};
 use crate::files::usual_files;
-use crate::guests::{PRINTS_TO_BOTH, file_with};
-use dos_io::MemoryFiles;
-use std::alloc::Global;
-use std::test::Fail;
+use crate::guests::{PRINTS_TO_BOTH, add_guest};
 
 // The guest's four puts and the report's two, in the order in which they come.
 const PUTS: [Case; 7] = [
@@ -163,21 +160,23 @@ const OTHERS: [Case; 4] = [
     },
 ];
 
-fn guests(alloc: Global) -> Result<MemoryFiles, Fail> {
-    let mut files = usual_files(alloc)?;
-    let both = file_with(alloc, &PRINTS_TO_BOTH, b"abcdefgh\n", 0)?;
-    files.add("both", &both)?;
-    Ok(files)
-}
-
 const ALL: [&[Case]; 4] = [&PUTS, &LINES, &SUMMARY, &OTHERS];
 
 #[test]
-fn each_put_fails_in_turn(rt: HostRuntime) -> Result<(), Fail> {
+fn each_put_fails_in_turn(rt: HostRuntime) {
     let alloc = rt.alloc();
-    let mut files = guests(alloc)?;
+    let mut files = usual_files(&rt, alloc);
+    add_guest(
+        &rt,
+        alloc,
+        &mut files,
+        "both",
+        &PRINTS_TO_BOTH,
+        b"abcdefgh\n",
+        0,
+    );
     for cases in &ALL {
-        call_each(&rt, alloc, &mut files, cases)?;
+        check_cases(&rt, alloc, &mut files, cases);
     }
-    Ok(())
+    drop(files);
 }

@@ -1,8 +1,8 @@
 //! The group that is made from a number.
-use crate::calls::{call, work_of};
+use crate::calls::leaves;
 use dos_io::MemoryFiles;
 use std::alloc::Global;
-use std::test::Fail;
+use std::process::Abort;
 use std::thread::Threads;
 
 // What number 7 comes to with one thread and with 8.
@@ -22,12 +22,12 @@ const ROWS: [(&str, &str, &str); 6] = [
     ("8", "32", EIGHT),
 ];
 
-fn run_row<R: Threads + Sync>(
+fn check_row<R: Threads + Sync + Abort>(
     rt: &R,
     alloc: Global,
     files: &mut MemoryFiles,
     row: &(&str, &str, &str),
-) -> Result<(), Fail> {
+) {
     let (threads, workers, out) = *row;
     let words = [
         "gen",
@@ -38,17 +38,15 @@ fn run_row<R: Threads + Sync>(
         "--workers",
         workers,
     ];
-    let left = call(rt, alloc, &words, files, &[])?;
-    work_of(left, 0, out, "")?;
-    Ok(())
+    let _ = leaves(rt, alloc, files, &words, (0, out, ""));
 }
 
 #[test]
-fn it_is_the_same_with_any_number_of_workers(rt: HostRuntime) -> Result<(), Fail> {
+fn it_is_the_same_with_any_number_of_workers(rt: HostRuntime) {
     let alloc = rt.alloc();
-    let mut files = MemoryFiles::new(alloc, &[])?;
+    let mut files = MemoryFiles::new(alloc, &[]).expect(&rt, "memory");
     for row in &ROWS {
-        run_row(&rt, alloc, &mut files, row)?;
+        check_row(&rt, alloc, &mut files, row);
     }
-    Ok(())
+    drop(files);
 }

@@ -1,8 +1,7 @@
 //! Groups of several images, and room for them.
-use crate::calls::{Case, SILENT, call, call_each};
+use crate::calls::{Case, SILENT, call, check_cases, check_long};
 use crate::files::usual_files;
 use crate::guests::{LONG_WRITE, files_with};
-use std::test::*;
 
 const GROUPS: [Case; 6] = [
     Case {
@@ -44,22 +43,21 @@ const GROUPS: [Case; 6] = [
 ];
 
 #[test]
-fn images_are_processes_where_there_is_room(rt: HostRuntime) -> Result<(), Fail> {
+fn images_are_processes_where_there_is_room(rt: HostRuntime) {
     let alloc = rt.alloc();
-    let mut files = usual_files(alloc)?;
-    call_each(&rt, alloc, &mut files, &GROUPS)
+    let mut files = usual_files(&rt, alloc);
+    check_cases(&rt, alloc, &mut files, &GROUPS);
+    drop(files);
 }
 
 #[test]
-fn a_write_puts_at_most_4096_bytes(rt: HostRuntime) -> Result<(), Fail> {
+fn a_write_puts_at_most_4096_bytes(rt: HostRuntime) {
     let alloc = rt.alloc();
-    let mut files = files_with(alloc, &LONG_WRITE, b"", 5000)?;
-    let left = call(&rt, alloc, &["run", "a"], &mut files, &[])?;
+    let mut files = files_with(&rt, alloc, &LONG_WRITE, b"", 5000);
+    let left = call(&rt, alloc, &mut files, &["run", "a"]);
     // 4096 modulo 256 is 0, and 5000 modulo 256 is not
-    assert_eq!(rt;
-        left.err.bytes(),
-        b"process 1 status 0\nrounds 1 done\n".as_slice()
-    );
-    assert_eq!(rt; left.out.bytes().len(), 4096);
-    Ok(())
+    let err = "process 1 status 0\nrounds 1 done\n";
+    check_long(&rt, &left, 4096, err);
+    drop(left);
+    drop(files);
 }

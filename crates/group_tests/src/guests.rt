@@ -2,8 +2,8 @@
 use dos_io::MemoryFiles;
 use rv_asm::Builder;
 use rv_isa::{AmoOp, BranchOp, ImmOp, Instr, LoadOp, StoreOp};
-use std::alloc::{AllocError, Global};
-use std::test::Fail;
+use std::alloc::Global;
+use std::process::Abort;
 
 /// Where the code begins.
 pub const CODE: u32 = 0x1_0000;
@@ -17,14 +17,18 @@ pub const BEHIND_NINE: u32 = 0x1_0024;
 /// The offset of the text in its page.
 pub const TEXT_OFFSET: i32 = 0x100;
 
-// Registers by the names that the calling convention gives them: zero, t0, t1, s0, a0 to a2, a7.
+// Registers by the names that the calling convention gives them: zero, sp, t0, t1, s0, s1, a0 to a2, a7.
 pub const ZERO: u8 = 0;
+
+pub const SP: u8 = 2;
 
 pub const TEMP0: u8 = 5;
 
 pub const TEMP1: u8 = 6;
 
 pub const S0: u8 = 8;
+
+pub const S1: u8 = 9;
 
 pub const A0: u8 = 10;
 
@@ -41,7 +45,23 @@ pub const PROCESS_EXIT: i32 = 2;
 
 pub const THREAD_NEW: i32 = 3;
 
+pub const FORK: i32 = 4;
+
+pub const WAIT: i32 = 5;
+
+pub const READ: i32 = 7;
+
 pub const WRITE: i32 = 8;
+
+pub const FUTEX_WAIT: i32 = 11;
+
+pub const MAP: i32 = 13;
+
+pub const SIG_HANDLER: i32 = 16;
+
+pub const SIG_RETURN: i32 = 18;
+
+pub const CLOCK: i32 = 22;
 
 pub const YIELD: i32 = 23;
 
@@ -102,6 +122,41 @@ macro_rules! j {
     };
 }
 
+/// `lw rd, 0(rs1)`.
+macro_rules! lw {
+    ($rd:expr, $rs1:expr) => {
+        Instr::Load {
+            op: LoadOp::Lw,
+            rd: $rd,
+            rs1: $rs1,
+            offset: 0,
+        }
+    };
+}
+
+/// `auipc rd, 0`: the instruction's own address.
+macro_rules! here {
+    ($rd:expr) => {
+        Instr::Upper {
+            auipc: true,
+            rd: $rd,
+            imm: 0,
+        }
+    };
+}
+
+/// A branch by `offset` where this holds of the register and zero.
+macro_rules! branch {
+    ($op:ident, $rs1:expr, $offset:expr) => {
+        Instr::Branch {
+            op: BranchOp::$op,
+            rs1: $rs1,
+            rs2: ZERO,
+            offset: $offset,
+        }
+    };
+}
+
 /// Does nothing.
 pub const NOP: Instr = addi!(ZERO, ZERO, 0);
 
@@ -125,11 +180,7 @@ pub const PRINTS: [Instr; 9] = [
 pub const PRINTS_BEHIND: [Instr; 9] = [
     li!(A7, WRITE),
     li!(A0, 1),
-    Instr::Upper {
-        auipc: true,
-        rd: A1,
-        imm: 0,
-    },
+    here!(A1),
     addi!(A1, A1, 28),
     li!(A2, 3),
     Instr::Ecall,
@@ -250,12 +301,7 @@ pub const MAKES_THREADS: [Instr; 9] = [
     li!(A7, THREAD_NEW),
     addi!(A0, S0, 0),
     Instr::Ecall,
-    Instr::Branch {
-        op: BranchOp::Bge,
-        rs1: A0,
-        rs2: ZERO,
-        offset: -12,
-    },
+    branch!(Bge, A0, -12),
     li!(A7, PROCESS_EXIT),
     Instr::Ecall,
     j!(0),
@@ -291,6 +337,110 @@ pub const STORES_IF_RESERVED: [Instr; 3] = [
 /// Ends with the low byte of what is in a0.
 pub const ENDS: [Instr; 2] = [li!(A7, PROCESS_EXIT), Instr::Ecall];
 
+/// Ends with 0.
+pub const ENDS_WITH_0: [Instr; 3] = [li!(A7, PROCESS_EXIT), li!(A0, 0), Instr::Ecall];
+
+/// Looks at the clock three times, and prints the low word of each reading.
+pub const CLOCKS: [Instr; 14] = [
+    li!(S1, 3),
+    li!(A7, CLOCK),
+    Instr::Ecall,
+    addi!(A1, SP, -16),
+    sw!(A0, 0, A1),
+    li!(A7, WRITE),
+    li!(A0, 1),
+    li!(A2, 4),
+    Instr::Ecall,
+    addi!(S1, S1, -1),
+    branch!(Bne, S1, -36),
+    li!(A7, PROCESS_EXIT),
+    li!(A0, 0),
+    Instr::Ecall,
+];
+
+/// Waits on a word of its own for ever.
+pub const WAITS: [Instr; 6] = [
+    li!(A7, FUTEX_WAIT),
+    here!(A0),
+    lw!(A1, A0),
+    Instr::Ecall,
+    li!(A7, PROCESS_EXIT),
+    Instr::Ecall,
+];
+
+/// Sets a handler for signal 15, waits, and ends with what the wait answers.
+pub const CATCHES: [Instr; 13] = [
+    li!(A7, SIG_HANDLER),
+    li!(A0, 15),
+    here!(A1),
+    addi!(A1, A1, 36),
+    Instr::Ecall,
+    li!(A7, FUTEX_WAIT),
+    here!(A0),
+    lw!(A1, A0),
+    Instr::Ecall,
+    li!(A7, PROCESS_EXIT),
+    Instr::Ecall,
+    // the handler
+    li!(A7, SIG_RETURN),
+    Instr::Ecall,
+];
+
+/// Maps one page, and ends with the answer.
+pub const MAPS: [Instr; 7] = [
+    li!(A7, MAP),
+    lui!(A0, 0x2_0000),
+    li!(A1, 1),
+    li!(A2, 6),
+    Instr::Ecall,
+    li!(A7, PROCESS_EXIT),
+    Instr::Ecall,
+];
+
+/// Forks; the child ends with 5, and its parent with the child's status.
+pub const FORKS: [Instr; 12] = [
+    li!(A7, FORK),
+    Instr::Ecall,
+    branch!(Beq, A0, 28),
+    li!(A7, WAIT),
+    li!(A0, 0),
+    Instr::Ecall,
+    addi!(A0, A1, 0),
+    li!(A7, PROCESS_EXIT),
+    Instr::Ecall,
+    // the child
+    li!(A0, 5),
+    li!(A7, PROCESS_EXIT),
+    Instr::Ecall,
+];
+
+/// Copies its input to output, 64 bytes at a time.
+pub const ECHOES: [Instr; 13] = [
+    li!(A7, READ),
+    li!(A0, 0),
+    addi!(A1, SP, -64),
+    li!(A2, 64),
+    Instr::Ecall,
+    branch!(Beq, A0, 24),
+    addi!(A2, A0, 0),
+    li!(A7, WRITE),
+    li!(A0, 1),
+    Instr::Ecall,
+    j!(-40),
+    li!(A7, PROCESS_EXIT),
+    Instr::Ecall,
+];
+
+/// Reads 4096 bytes again and again.
+pub const READS: [Instr; 6] = [
+    li!(A7, READ),
+    lui!(A1, 0xefff_0000),
+    lui!(A2, 4096),
+    li!(A0, 0),
+    Instr::Ecall,
+    j!(-8),
+];
+
 /// Two instructions that put a number into a register.
 fn puts(rd: u8, value: u32) -> [Instr; 2] {
     let low = (value << 20).cast_signed() >> 20;
@@ -298,85 +448,105 @@ fn puts(rd: u8, value: u32) -> [Instr; 2] {
     [lui!(rd, upper), addi!(rd, rd, low)]
 }
 
+fn add_code(rt: &impl Abort, code: &mut Vec<Instr>, more: &[Instr]) {
+    code.extend_from_slice(more).expect(rt, "memory");
+}
+
 /// Calls a service with these arguments, and ends with the low byte of its answer.
-pub fn calls(alloc: Global, number: u32, arguments: (u32, u32, u32)) -> Result<Vec<Instr>, Fail> {
-    let (a0, a1, a2) = arguments;
+pub fn calls(rt: &impl Abort, alloc: Global, number: u32, arguments: [u32; 3]) -> Vec<Instr> {
+    let [a0, a1, a2] = arguments;
     let mut code = Vec::new(alloc);
-    code.extend_from_slice(&puts(A7, number))?;
-    code.extend_from_slice(&puts(A0, a0))?;
-    code.extend_from_slice(&puts(A1, a1))?;
-    code.extend_from_slice(&puts(A2, a2))?;
-    code.push(Instr::Ecall)?;
-    code.extend_from_slice(&ENDS)?;
-    Ok(code)
+    add_code(rt, &mut code, &puts(A7, number));
+    add_code(rt, &mut code, &puts(A0, a0));
+    add_code(rt, &mut code, &puts(A1, a1));
+    add_code(rt, &mut code, &puts(A2, a2));
+    add_code(rt, &mut code, &[Instr::Ecall]);
+    add_code(rt, &mut code, &ENDS);
+    code
 }
 
-fn put_code(builder: &mut Builder, code: &[Instr]) -> Result<(), Fail> {
+/// Code, then so many instructions that do nothing, then the rest.
+pub fn padded(
+    rt: &impl Abort,
+    alloc: Global,
+    first: &[Instr],
+    nothing: usize,
+    last: &[Instr],
+) -> Vec<Instr> {
+    let mut code = Vec::new(alloc);
+    add_code(rt, &mut code, first);
+    for _ in 0..nothing {
+        add_code(rt, &mut code, &[NOP]);
+    }
+    add_code(rt, &mut code, last);
+    code
+}
+
+fn put_code(rt: &impl Abort, builder: &mut Builder, code: &[Instr]) {
     for instr in code {
-        if !instr.is_valid() {
-            return Err(Fail::from("a field of an instruction is out of its range"));
-        }
-        builder.push(instr)?;
+        assert!(rt;
+            instr.is_valid(),
+            "a field of an instruction is out of its range"
+        );
+        builder.push(instr).expect(rt, "memory");
     }
-    Ok(())
-}
-
-fn put_words(builder: &mut Builder, words: &[u32]) -> Result<(), AllocError> {
-    for word in words {
-        builder.word(*word)?;
-    }
-    Ok(())
 }
 
 /// The file of an image with this code and all rights.
-pub fn file(alloc: Global, code: &[Instr]) -> Result<Vec<u8>, Fail> {
-    file_with(alloc, code, b"", 0)
+pub fn file(rt: &impl Abort, alloc: Global, code: &[Instr]) -> Vec<u8> {
+    file_with(rt, alloc, code, b"", 0)
 }
 
 /// The file of an image with this code, and behind it this text and so many zeros.
-pub fn file_with(alloc: Global, code: &[Instr], text: &[u8], zeros: u32) -> Result<Vec<u8>, Fail> {
-    file_at(alloc, code, TEXT, text, zeros)
+pub fn file_with(
+    rt: &impl Abort,
+    alloc: Global,
+    code: &[Instr],
+    text: &[u8],
+    zeros: u32,
+) -> Vec<u8> {
+    file_at(rt, alloc, code, TEXT, text, zeros)
 }
 
 /// The same with the text at this address.
 pub fn file_at(
+    rt: &impl Abort,
     alloc: Global,
     code: &[Instr],
     address: u32,
     text: &[u8],
     zeros: u32,
-) -> Result<Vec<u8>, Fail> {
-    let mut builder = Builder::new(alloc, CODE, true)?;
-    put_code(&mut builder, code)?;
-    builder.data(address, text, zeros)?;
-    Ok(builder.finish()?)
+) -> Vec<u8> {
+    let mut builder = Builder::new(alloc, CODE, true).expect(rt, "memory");
+    put_code(rt, &mut builder, code);
+    builder.data(address, text, zeros).expect(rt, "memory");
+    builder.finish().expect(rt, "an image")
 }
 
-/// The file of an image of these words, which may be written and executed.
-pub fn words_file(alloc: Global, words: &[u32]) -> Result<Vec<u8>, Fail> {
-    let mut builder = Builder::new(alloc, CODE, true)?;
-    put_words(&mut builder, words)?;
-    Ok(builder.finish()?)
-}
-
-// Nothing but a guest named `a`, with this image.
-fn only(alloc: Global, image: &[u8]) -> Result<MemoryFiles, Fail> {
-    let mut files = MemoryFiles::new(alloc, &[])?;
-    files.add("a", image)?;
-    Ok(files)
+/// Adds a guest of this name: of this code, and behind it this text and so many zeros.
+pub fn add_guest(
+    rt: &impl Abort,
+    alloc: Global,
+    files: &mut MemoryFiles,
+    name: &str,
+    code: &[Instr],
+    text: &[u8],
+    zeros: u32,
+) {
+    let image = file_with(rt, alloc, code, text, zeros);
+    files.add(name, &image).expect(rt, "memory");
+    drop(image);
 }
 
 /// Nothing but a guest named `a`, of this code, and behind it this text and so many zeros.
 pub fn files_with(
+    rt: &impl Abort,
     alloc: Global,
     code: &[Instr],
     text: &[u8],
     zeros: u32,
-) -> Result<MemoryFiles, Fail> {
-    only(alloc, &file_with(alloc, code, text, zeros)?)
-}
-
-/// Nothing but a guest named `a`, of these words.
-pub fn words_files(alloc: Global, words: &[u32]) -> Result<MemoryFiles, Fail> {
-    only(alloc, &words_file(alloc, words)?)
+) -> MemoryFiles {
+    let mut files = MemoryFiles::new(alloc, &[]).expect(rt, "memory");
+    add_guest(rt, alloc, &mut files, "a", code, text, zeros);
+    files
 }

@@ -1,14 +1,14 @@
 //! What a run writes into its log, byte for byte, and what a replay says of other logs.
 use crate::calls::{
-    Case, LOG, Left, NOTHING, Outside, SILENT, call, call_each, call_over, expect_again, log_of,
-    work_of,
+    Case, LOG, NOTHING, Outside, SILENT, call, check_cases, check_left, check_replay, leaves,
+    leaves_over, log_of,
 };
+use crate::checks::same;
 use crate::files::{add_zeros, usual_files};
-use crate::guests::{SEVEN, file, files_with, words_file};
+use crate::guests::{ENDS_WITH_0, SEVEN, add_guest, files_with};
 use dos_io::MemoryFiles;
-use std::alloc::{AllocError, Global};
+use std::alloc::Global;
 use std::process::Abort;
-use std::test::*;
 use std::thread::Threads;
 
 // The log of a run that ends with 7 in its first round. Its digest is that of another program.
@@ -19,32 +19,24 @@ const SEVEN_LOG: [u8; 64] = [
     0x82, 0x4a, 0x6e, 0x5b, 0x01, 0x01, 0x00, 0x00, 0x00, 0x00, 0x00, 0x00, 0x01, 0x00, 0x00, 0x00,
 ];
 
-// An image that ends with 0.
-const ZERO: [u32; 3] = [0x0020_0893, 0x0000_0513, 0x0000_0073];
-
-fn check_log(rt: &impl Abort, files: &mut MemoryFiles) -> Result<(), Fail> {
-    assert_eq!(rt; log_of(files)?.as_slice(), SEVEN_LOG.as_slice());
-    Ok(())
-}
-
-// A run of the guest that ends with 7 left this.
-fn check_run<R: Threads + Sync + Abort>(
-    rt: &R,
-    alloc: Global,
-    files: &mut MemoryFiles,
-    left: &Left,
-) -> Result<(), Fail> {
-    left.expect(0, "", "process 1 status 7\nrounds 1 done\n")?;
-    check_log(rt, files)?;
-    expect_again(rt, alloc, &["run", "a"], files, left)
+// That is the log.
+fn check_log(rt: &impl Abort, files: &mut MemoryFiles) {
+    let log = log_of(rt, files);
+    same(rt, log.as_slice(), SEVEN_LOG.as_slice());
+    drop(log);
 }
 
 #[test]
-fn a_run_writes_its_log(rt: HostRuntime) -> Result<(), Fail> {
+fn a_run_writes_its_log(rt: HostRuntime) {
     let alloc = rt.alloc();
-    let mut files = files_with(alloc, &SEVEN, b"", 0)?;
-    let left = call(&rt, alloc, &["run", "a"], &mut files, &[])?;
-    check_run(&rt, alloc, &mut files, &left)
+    let words = ["run", "a"];
+    let mut files = files_with(&rt, alloc, &SEVEN, b"", 0);
+    let left = call(&rt, alloc, &mut files, &words);
+    let wanted = (0, "", "process 1 status 7\nrounds 1 done\n");
+    check_left(&rt, &left, &words, wanted);
+    check_log(&rt, &mut files);
+    check_replay(&rt, alloc, &mut files, &words, left);
+    drop(files);
 }
 
 // A change of the log of a run: of one byte of it and a zero behind it, of which so many bytes are
@@ -108,26 +100,36 @@ const CHANGES: [Change; 8] = [
 ];
 
 // The log with the change.
-fn add_changed(alloc: Global, files: &mut MemoryFiles, change: &Change) -> Result<(), AllocError> {
-    let mut log = Vec::from_slice(alloc, &SEVEN_LOG)?;
-    log.push(0)?;
+fn add_changed(rt: &impl Abort, files: &mut MemoryFiles, change: &Change) {
+    let mut log = [0; 65];
+    log[..64].copy_from_slice(&SEVEN_LOG);
     if let Some(byte) = log.get_mut(change.place) {
         *byte = change.value;
     }
-    files.add(LOG, log.get(..change.length).unwrap_or(&[]))
+    files
+        .add(LOG, log.get(..change.length).unwrap_or(&[]))
+        .expect(rt, "memory");
+}
+
+fn check_change<R: Threads + Sync + Abort>(
+    rt: &R,
+    alloc: Global,
+    files: &mut MemoryFiles,
+    change: &Change,
+) {
+    add_changed(rt, files, change);
+    let words = ["replay", "--log", LOG, "seven"];
+    let _ = leaves(rt, alloc, files, &words, (4, "", change.line));
 }
 
 #[test]
-fn other_logs_are_refused(rt: HostRuntime) -> Result<(), Fail> {
+fn other_logs_are_refused(rt: HostRuntime) {
     let alloc = rt.alloc();
-    let mut files = usual_files(alloc)?;
+    let mut files = usual_files(&rt, alloc);
     for change in &CHANGES {
-        add_changed(alloc, &mut files, change)?;
-        let words = ["replay", "--log", LOG, "seven"];
-        let left = call(&rt, alloc, &words, &mut files, &[])?;
-        work_of(left, 4, "", change.line)?;
+        check_change(&rt, alloc, &mut files, change);
     }
-    Ok(())
+    drop(files);
 }
 
 const IMAGES: [Case; 4] = [
@@ -158,27 +160,25 @@ const IMAGES: [Case; 4] = [
     },
 ];
 
-fn add_zero(alloc: Global, files: &mut MemoryFiles) -> Result<(), Fail> {
-    files.add("zero", &words_file(alloc, &ZERO)?)?;
-    files.add(LOG, &SEVEN_LOG)?;
-    Ok(())
+#[test]
+fn a_log_is_of_its_images(rt: HostRuntime) {
+    let alloc = rt.alloc();
+    let mut files = usual_files(&rt, alloc);
+    add_guest(&rt, alloc, &mut files, "zero", &ENDS_WITH_0, b"", 0);
+    files.add(LOG, &SEVEN_LOG).expect(&rt, "memory");
+    check_cases(&rt, alloc, &mut files, &IMAGES);
+    drop(files);
 }
 
 #[test]
-fn a_log_is_of_its_images(rt: HostRuntime) -> Result<(), Fail> {
+fn the_longest_log_has_64_mebibytes(rt: HostRuntime) {
     let alloc = rt.alloc();
-    let mut files = usual_files(alloc)?;
-    add_zero(alloc, &mut files)?;
-    call_each(&rt, alloc, &mut files, &IMAGES)
-}
-
-#[test]
-fn the_longest_log_has_64_mebibytes(rt: HostRuntime) -> Result<(), Fail> {
-    let alloc = rt.alloc();
-    let mut files = files_with(alloc, &SEVEN, b"", 0)?;
-    add_zeros(alloc, &mut files, LOG, 67108865)?;
-    let left = call(&rt, alloc, &["replay", "--log", LOG, "a"], &mut files, &[])?;
-    left.expect(4, "", "dos: log too long\n")
+    let mut files = files_with(&rt, alloc, &SEVEN, b"", 0);
+    add_zeros(&rt, alloc, &mut files, LOG, 67108865);
+    let words = ["replay", "--log", LOG, "a"];
+    let wanted = (4, "", "dos: log too long\n");
+    let _ = leaves(&rt, alloc, &mut files, &words, wanted);
+    drop(files);
 }
 
 const REPORT_FAILING: Outside<'static> = Outside {
@@ -188,19 +188,21 @@ const REPORT_FAILING: Outside<'static> = Outside {
 
 // The log stands where a line of the report fails, and not where it can't be written.
 #[test]
-fn the_log_is_written_before_the_report(rt: HostRuntime) -> Result<(), Fail> {
+fn the_log_is_written_before_the_report(rt: HostRuntime) {
     let alloc = rt.alloc();
-    let mut files = files_with(alloc, &SEVEN, b"", 0)?;
-    let left = call_over(&rt, alloc, &["run", "a"], &mut files, &REPORT_FAILING)?;
-    work_of(left, 6, "", "")?;
-    check_log(&rt, &mut files)
+    let words = ["run", "a"];
+    let mut files = files_with(&rt, alloc, &SEVEN, b"", 0);
+    let _ = leaves_over(&rt, alloc, &mut files, &words, &REPORT_FAILING, (6, "", ""));
+    check_log(&rt, &mut files);
+    drop(files);
 }
 
 #[test]
-fn a_log_that_cant_be_written_gives_five(rt: HostRuntime) -> Result<(), Fail> {
+fn a_log_that_cant_be_written_gives_five(rt: HostRuntime) {
     let alloc = rt.alloc();
-    let mut files = MemoryFiles::new(alloc, &[2])?;
-    files.add("a", &file(alloc, &SEVEN)?)?;
-    let left = call(&rt, alloc, &["run", "a"], &mut files, &[])?;
-    left.expect(5, "", "dos: file fault\n")
+    let mut files = MemoryFiles::new(alloc, &[2]).expect(&rt, "memory");
+    add_guest(&rt, alloc, &mut files, "a", &SEVEN, b"", 0);
+    let wanted = (5, "", "dos: file fault\n");
+    let _ = leaves(&rt, alloc, &mut files, &["run", "a"], wanted);
+    drop(files);
 }

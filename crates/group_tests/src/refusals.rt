@@ -1,7 +1,6 @@
 //! Calls that run no guest.
-use crate::calls::{Case, SILENT, call, call_each, work_of};
+use crate::calls::{Case, SILENT, check_cases, leaves};
 use crate::files::{add_zeros, usual_files};
-use std::test::Fail;
 
 const OTHERS: [&[&str]; 34] = [
     &[],
@@ -43,14 +42,14 @@ const OTHERS: [&[&str]; 34] = [
 ];
 
 #[test]
-fn other_words_are_refused(rt: HostRuntime) -> Result<(), Fail> {
+fn other_words_are_refused(rt: HostRuntime) {
     let alloc = rt.alloc();
-    let mut files = usual_files(alloc)?;
-    for texts in &OTHERS {
-        let left = call(&rt, alloc, texts, &mut files, &[])?;
-        work_of(left, 2, "", "dos: words refused\n")?;
+    let mut files = usual_files(&rt, alloc);
+    for words in &OTHERS {
+        let wanted = (2, "", "dos: words refused\n");
+        let _ = leaves(&rt, alloc, &mut files, words, wanted);
     }
-    Ok(())
+    drop(files);
 }
 
 const FILES: [Case; 9] = [
@@ -112,9 +111,10 @@ const FILES: [Case; 9] = [
 ];
 
 #[test]
-fn other_files_are_refused(rt: HostRuntime) -> Result<(), Fail> {
+fn other_files_are_refused(rt: HostRuntime) {
     let alloc = rt.alloc();
-    let mut files = usual_files(alloc)?;
-    add_zeros(alloc, &mut files, "long", 4194305)?;
-    call_each(&rt, alloc, &mut files, &FILES)
+    let mut files = usual_files(&rt, alloc);
+    add_zeros(&rt, alloc, &mut files, "long", 4194305);
+    check_cases(&rt, alloc, &mut files, &FILES);
+    drop(files);
 }

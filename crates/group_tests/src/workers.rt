@@ -1,29 +1,30 @@
 //! The same with any number of workers: bytes, rounds and the tally.
-use crate::calls::{Left, NOTHING, call, call_by, work_of};
+use crate::calls::{NOTHING, call_by, check_left, leaves};
+use crate::checks::{same, same_at};
 use crate::files::usual_files;
 use crate::guests::{
-    BEHIND_NINE, ENDLESS, ENDS, MAKES_THREADS, PRINTS_BEHIND, RACE, file, file_at, file_with,
+    BEHIND_NINE, ENDLESS, ENDS, MAKES_THREADS, PRINTS_BEHIND, RACE, add_guest, file_at, padded,
 };
-use crate::rows::padded;
 use dos_io::MemoryFiles;
-use std::alloc::{AllocError, Global};
-use std::test::*;
+use std::alloc::Global;
+use std::process::Abort;
 use std::thread::Threads;
 use worker_pool::{Boarded, OpenGate, Serial, Spread, Tally, Workers};
 
 const NUMBERS: [&str; 4] = ["1", "2", "4", "32"];
 
 fn words_on<'a>(
+    rt: &impl Abort,
     alloc: Global,
     workers: &'a str,
     rest: &[&'a str],
-) -> Result<Vec<&'a str>, AllocError> {
+) -> Vec<&'a str> {
     let mut words = Vec::new(alloc);
-    words.push("run")?;
-    words.push("--workers")?;
-    words.push(workers)?;
-    words.extend_from_slice(rest)?;
-    Ok(words)
+    words
+        .extend_from_slice(&["run", "--workers", workers])
+        .expect(rt, "memory");
+    words.extend_from_slice(rest).expect(rt, "memory");
+    words
 }
 
 // The words behind the number of workers, what comes, and how much the tally grows where that was
@@ -98,115 +99,125 @@ const ROWS: [Row; 8] = [
     },
 ];
 
-// Each number of workers leaves this, and the same tally.
-fn run_on_each<R: Threads + Sync>(
+// This number of workers leaves this; by how much the tally grew.
+fn work_on<R: Threads + Sync + Abort>(
     rt: &R,
     alloc: Global,
     files: &mut MemoryFiles,
+    workers: &str,
     row: &Row,
-) -> Result<(), Fail> {
+) -> u64 {
+    let words = words_on(rt, alloc, workers, row.rest);
+    let work = leaves(rt, alloc, files, &words, (row.status, row.out, row.err));
+    drop(words);
+    work
+}
+
+// Each number of workers leaves this, and the same tally.
+fn check_row<R: Threads + Sync + Abort>(rt: &R, alloc: Global, files: &mut MemoryFiles, row: &Row) {
     let mut work = row.work;
     for workers in &NUMBERS {
-        let words = words_on(alloc, workers, row.rest)?;
-        let left = call(rt, alloc, &words, files, &[])?;
-        let grown = work_of(left, row.status, row.out, row.err)?;
-        if work.unwrap_or(grown) != grown {
-            return Err(Fail::from("another tally"));
-        }
+        let grown = work_on(rt, alloc, files, workers, row);
+        same_at(rt, grown, work.unwrap_or(grown), row.rest);
         work = Some(grown);
     }
-    Ok(())
 }
 
-fn later(alloc: Global) -> Result<Vec<u8>, Fail> {
-    file(alloc, &padded(alloc, &[], 15, &ENDS)?)
+fn add_behind(rt: &impl Abort, alloc: Global, files: &mut MemoryFiles) {
+    let behind = file_at(rt, alloc, &PRINTS_BEHIND, BEHIND_NINE, b"Hi\n", 0);
+    files.add("behind", &behind).expect(rt, "memory");
+    drop(behind);
 }
 
-fn add_guests(alloc: Global, files: &mut MemoryFiles) -> Result<(), Fail> {
-    let behind = file_at(alloc, &PRINTS_BEHIND, BEHIND_NINE, b"Hi\n", 0)?;
-    files.add("behind", &behind)?;
-    files.add("endless", &file(alloc, &ENDLESS)?)?;
-    files.add("later", &later(alloc)?)?;
-    files.add("race", &file_with(alloc, &RACE, b"0\0\0\0", 0)?)?;
-    files.add("threads", &file(alloc, &MAKES_THREADS)?)?;
-    Ok(())
+fn add_later(rt: &impl Abort, alloc: Global, files: &mut MemoryFiles) {
+    let later = padded(rt, alloc, &[], 15, &ENDS);
+    add_guest(rt, alloc, files, "later", &later, b"", 0);
+    drop(later);
 }
 
-fn guests(alloc: Global) -> Result<MemoryFiles, Fail> {
-    let mut files = usual_files(alloc)?;
-    add_guests(alloc, &mut files)?;
-    Ok(files)
+fn guests(rt: &impl Abort, alloc: Global) -> MemoryFiles {
+    let mut files = usual_files(rt, alloc);
+    add_behind(rt, alloc, &mut files);
+    add_guest(rt, alloc, &mut files, "endless", &ENDLESS, b"", 0);
+    add_later(rt, alloc, &mut files);
+    add_guest(rt, alloc, &mut files, "race", &RACE, b"0\0\0\0", 0);
+    add_guest(rt, alloc, &mut files, "threads", &MAKES_THREADS, b"", 0);
+    files
 }
 
 #[test]
-fn any_number_of_workers_leaves_the_same(rt: HostRuntime) -> Result<(), Fail> {
+fn any_number_of_workers_leaves_the_same(rt: HostRuntime) {
     let alloc = rt.alloc();
-    let mut files = guests(alloc)?;
+    let mut files = guests(&rt, alloc);
     for row in &ROWS {
-        run_on_each(&rt, alloc, &mut files, row)?;
+        check_row(&rt, alloc, &mut files, row);
     }
-    Ok(())
+    drop(files);
 }
 
 // The guest `race` leaves this with any workers.
-fn run_race<W: Workers>(
+fn check_race<W: Workers>(
+    rt: &impl Abort,
+    alloc: Global,
+    files: &mut MemoryFiles,
     workers: &mut W,
-    alloc: Global,
-    files: &mut MemoryFiles,
-) -> Result<(), Fail> {
-    let words = words_on(alloc, "4", &["race"])?;
-    let (status, out, err) = call_by(workers, alloc, &words, files, &NOTHING)?;
-    let left = Left {
-        status,
-        out,
-        err,
-        work: 0,
-    };
-    left.expect(0, "11", "process 1 status 0\nrounds 4 done\n")
+) {
+    let words = words_on(rt, alloc, "4", &["race"]);
+    let left = call_by(rt, alloc, files, &words, &NOTHING, workers);
+    let wanted = (0, "11", "process 1 status 0\nrounds 4 done\n");
+    check_left(rt, &left, &words, wanted);
+    drop(left);
+    drop(words);
 }
 
-// By how much the tally grows on one thread.
-fn race_alone<R: Threads + Sync>(alloc: Global, files: &mut MemoryFiles) -> Result<u64, Fail> {
-    let mut tally = Tally::new();
-    let mut workers: Serial<'_, R> = Serial::new(&mut tally);
-    run_race(&mut workers, alloc, files)?;
-    workers.finish();
-    Ok(tally.count())
-}
+// On one thread, with one hand, and with a board.
 
-// The same with one hand, and with a board.
-fn race_spread<R: Threads + Sync>(
+fn race_alone<R: Threads + Sync + Abort>(
     rt: &R,
     alloc: Global,
     files: &mut MemoryFiles,
-) -> Result<u64, Fail> {
-    let gate = OpenGate::new();
-    let mut tally = Tally::new();
-    let mut workers = Spread::new(rt, 1, &gate, &mut tally);
-    run_race(&mut workers, alloc, files)?;
+    tally: &mut Tally,
+) {
+    let mut workers: Serial<'_, R> = Serial::new(tally);
+    check_race(rt, alloc, files, &mut workers);
     workers.finish();
-    Ok(tally.count())
 }
 
-fn race_boarded<R: Threads + Sync>(
+fn race_spread<R: Threads + Sync + Abort>(
     rt: &R,
     alloc: Global,
     files: &mut MemoryFiles,
-) -> Result<u64, Fail> {
+    tally: &mut Tally,
+) {
     let gate = OpenGate::new();
-    let mut tally = Tally::new();
-    let mut workers = Boarded::new(rt, alloc, 1, &gate, &mut tally);
-    run_race(&mut workers, alloc, files)?;
+    let mut workers = Spread::new(rt, 1, &gate, tally);
+    check_race(rt, alloc, files, &mut workers);
     workers.finish();
-    Ok(tally.count())
+}
+
+fn race_boarded<R: Threads + Sync + Abort>(
+    rt: &R,
+    alloc: Global,
+    files: &mut MemoryFiles,
+    tally: &mut Tally,
+) {
+    let gate = OpenGate::new();
+    let mut workers = Boarded::new(rt, alloc, 1, &gate, tally);
+    check_race(rt, alloc, files, &mut workers);
+    workers.finish();
 }
 
 #[test]
-fn each_pool_leaves_the_same(rt: HostRuntime) -> Result<(), Fail> {
+fn each_pool_leaves_the_same(rt: HostRuntime) {
     let alloc = rt.alloc();
-    let mut files = guests(alloc)?;
-    let alone = race_alone::<HostRuntime>(alloc, &mut files)?;
-    assert_eq!(rt; race_spread(&rt, alloc, &mut files)?, alone);
-    assert_eq!(rt; race_boarded(&rt, alloc, &mut files)?, alone);
-    Ok(())
+    let mut files = guests(&rt, alloc);
+    let mut alone = Tally::new();
+    let mut spread = Tally::new();
+    let mut boarded = Tally::new();
+    race_alone(&rt, alloc, &mut files, &mut alone);
+    race_spread(&rt, alloc, &mut files, &mut spread);
+    race_boarded(&rt, alloc, &mut files, &mut boarded);
+    same(&rt, spread.count(), alone.count());
+    same(&rt, boarded.count(), alone.count());
+    drop(files);
 }
