@@ -3,9 +3,8 @@ use crate::guests::{
     A0, FORK, MAP, OTHER, S0, S1, SHARE, STACK, Step, TEMP0, TEMP1, TEMP2, THREAD_EXIT, THREAD_NEW,
     WAIT, YIELD, ZERO,
 };
-use crate::runs::{Row, USUAL, run_rows};
+use crate::runs::{Row, USUAL, check_rows};
 use rv_isa::BranchOp;
-use std::test::Fail;
 
 /// addi a0, zero, 1
 const ONE: u32 = 0x0010_0513;
@@ -188,6 +187,6 @@ const ROWS: [Row; 5] = [
 ];
 
 #[test]
-fn what_was_stored_runs_next(rt: HostRuntime) -> Result<(), Fail> {
-    run_rows::<HostRuntime>(rt.alloc(), &ROWS)
+fn what_was_stored_runs_next(rt: HostRuntime) {
+    check_rows(&rt, rt.alloc(), &ROWS);
 }

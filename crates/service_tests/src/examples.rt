@@ -1,14 +1,13 @@
 //! The machine's worked examples.
+use crate::checks::same;
 use crate::guests::{
     A0, CLOCK, CLOSE, FUTEX, FUTEX_WAIT, FUTEX_WAKE, GET_TID, OTHER, PIPE, READ, ROUND,
-    SIG_HANDLER, SIG_MASK, STACK, Step, TEMP0, THREAD_EXIT, THREAD_NEW, WRITE, YIELD, file,
+    SIG_HANDLER, SIG_MASK, STACK, Step, TEMP0, THREAD_EXIT, THREAD_NEW, WRITE, YIELD,
 };
-use crate::runs::{IN_2_TO_6, Posts, Row, USUAL, run_rows};
+use crate::runs::{IN_2, IN_2_TO_6, Posts, Row, USUAL, check_rows, image};
 use dos_world::{Config, Ending};
 use dpg_run::open_group;
-use elf_image::read_image;
 use group_open::OpenError;
-use std::test::Fail;
 
 /// Three threads sleep on one word in the order of their numbers. They are woken two and then one
 /// at a time, and each goes on in the next round.
@@ -211,6 +210,10 @@ const PIPES: [Row; 4] = [
     },
 ];
 
+const FIFTEEN: Posts = Posts { signal: 15, ..IN_2 };
+
+const SEVENTEEN: Posts = Posts { signal: 17, ..IN_2 };
+
 const SIGNALS: [Row; 6] = [
     Row {
         guest: &[SLEEPS],
@@ -219,22 +222,14 @@ const SIGNALS: [Row; 6] = [
         ..USUAL
     },
     Row {
-        posts: Posts {
-            rounds: [2, 0, 0, 0, 0],
-            pid: 1,
-            signal: 15,
-        },
+        posts: FIFTEEN,
         guest: &[SLEEPS],
         report: "process 1 status 143\nrounds 1 done\n",
         ..USUAL
     },
     // by default this signal does nothing
     Row {
-        posts: Posts {
-            rounds: [2, 0, 0, 0, 0],
-            pid: 1,
-            signal: 17,
-        },
+        posts: SEVENTEEN,
         guest: &[SLEEPS],
         ending: Ending::Stalled,
         report: "process 1 live\nrounds 1 stalled\n",
@@ -242,22 +237,14 @@ const SIGNALS: [Row; 6] = [
     },
     // there is no such process
     Row {
-        posts: Posts {
-            rounds: [2, 0, 0, 0, 0],
-            pid: 9,
-            signal: 15,
-        },
+        posts: Posts { pid: 9, ..FIFTEEN },
         guest: &[SLEEPS],
         ending: Ending::Stalled,
         report: "process 1 live\nrounds 1 stalled\n",
         ..USUAL
     },
     Row {
-        posts: Posts {
-            rounds: [2, 0, 0, 0, 0],
-            pid: 1,
-            signal: 15,
-        },
+        posts: FIFTEEN,
         guest: &[IS_WOKEN],
         report: "process 1 status 252\nrounds 2 done\n",
         ..USUAL
@@ -305,26 +292,38 @@ const FRAMES: [Row; 5] = [
 ];
 
 #[test]
-fn the_worked_examples_come_out(rt: HostRuntime) -> Result<(), Fail> {
-    run_rows::<HostRuntime>(rt.alloc(), &SLEEPERS)?;
-    run_rows::<HostRuntime>(rt.alloc(), &PIPES)?;
-    run_rows::<HostRuntime>(rt.alloc(), &SIGNALS)?;
-    run_rows::<HostRuntime>(rt.alloc(), &FRAMES)
+fn sleepers_are_woken(rt: HostRuntime) {
+    check_rows(&rt, rt.alloc(), &SLEEPERS);
 }
 
 #[test]
-fn a_group_needs_its_frames(rt: HostRuntime) -> Result<(), Fail> {
-    let alloc = rt.alloc();
+fn pipes_and_input_are_read(rt: HostRuntime) {
+    check_rows(&rt, rt.alloc(), &PIPES);
+}
+
+#[test]
+fn signals_come_from_outside(rt: HostRuntime) {
+    check_rows(&rt, rt.alloc(), &SIGNALS);
+}
+
+#[test]
+fn pages_are_mapped_while_there_are_frames(rt: HostRuntime) {
+    check_rows(&rt, rt.alloc(), &FRAMES);
+}
+
+#[test]
+fn a_group_needs_its_frames(rt: HostRuntime) {
     let config = Config {
         quantum: 1000,
         rounds: 100,
         frames: 16,
     };
-    let images = [read_image(alloc, &file(alloc, &[SEVEN])?)?];
-    let refusal = OpenError::NoRoom {
+    let images = [image(&rt, rt.alloc(), &[SEVEN])];
+    let refusal = open_group(rt.alloc(), &images, config).err();
+    let wanted = OpenError::NoRoom {
         needed: 17,
         frames: 16,
     };
-    assert_eq!(rt; open_group(alloc, &images, config).err(), Some(refusal));
-    Ok(())
+    same(&rt, refusal, Some(wanted));
+    drop(images);
 }

@@ -2,7 +2,7 @@
 use rv_asm::Builder;
 use rv_isa::{BranchOp, ImmOp, Instr, LoadOp, StoreOp};
 use std::alloc::Global;
-use std::test::Fail;
+use std::process::Abort;
 
 /// Where the code begins. Its page may be written too.
 pub const CODE: u32 = 0x1_0000;
@@ -129,145 +129,155 @@ struct Code {
 }
 
 impl Code {
-    fn word(&mut self, word: u32) -> Result<(), Fail> {
-        self.builder.word(word)?;
+    fn word(&mut self, rt: &impl Abort, word: u32) {
+        self.builder.word(word).expect(rt, "memory");
         self.next = self.next.wrapping_add(4);
-        Ok(())
     }
 
-    fn push(&mut self, instr: Instr) -> Result<(), Fail> {
-        if !instr.is_valid() {
-            return Err("a field of an instruction is out of its range".into());
-        }
-        self.builder.push(&instr)?;
+    fn push(&mut self, rt: &impl Abort, instr: Instr) {
+        assert!(rt;
+            instr.is_valid(),
+            "a field of an instruction is out of its range"
+        );
+        self.builder.push(&instr).expect(rt, "memory");
         self.next = self.next.wrapping_add(4);
-        Ok(())
     }
 
-    fn add(&mut self, rd: u8, rs1: u8, imm: i32) -> Result<(), Fail> {
-        self.push(Instr::Imm {
-            op: ImmOp::Addi,
-            rd,
-            rs1,
-            imm,
-        })
+    fn add(&mut self, rt: &impl Abort, rd: u8, rs1: u8, imm: i32) {
+        let op = ImmOp::Addi;
+        self.push(rt, Instr::Imm { op, rd, rs1, imm });
     }
 
-    fn put(&mut self, rd: u8, value: u32) -> Result<(), Fail> {
+    fn put(&mut self, rt: &impl Abort, rd: u8, value: u32) {
         let low = (value << 20).cast_signed() >> 20;
         let imm = value.wrapping_sub(low.cast_unsigned());
-        self.push(Instr::Upper {
-            auipc: false,
-            rd,
-            imm,
-        })?;
-        self.add(rd, rd, low)
+        let auipc = false;
+        self.push(rt, Instr::Upper { auipc, rd, imm });
+        self.add(rt, rd, rd, low);
     }
 
-    fn load(&mut self, rd: u8, rs1: u8) -> Result<(), Fail> {
-        self.push(Instr::Load {
-            op: LoadOp::Lw,
-            rd,
-            rs1,
-            offset: 0,
-        })
+    fn load(&mut self, rt: &impl Abort, rd: u8, rs1: u8) {
+        let (op, offset) = (LoadOp::Lw, 0);
+        self.push(
+            rt,
+            Instr::Load {
+                op,
+                rd,
+                rs1,
+                offset,
+            },
+        );
     }
 
-    fn store(&mut self, rs2: u8, offset: i32, rs1: u8) -> Result<(), Fail> {
-        self.push(Instr::Store {
-            op: StoreOp::Sw,
-            rs1,
-            rs2,
-            offset,
-        })
+    fn store(&mut self, rt: &impl Abort, rs2: u8, offset: i32, rs1: u8) {
+        let op = StoreOp::Sw;
+        self.push(
+            rt,
+            Instr::Store {
+                op,
+                rs1,
+                rs2,
+                offset,
+            },
+        );
     }
 
-    fn call(&mut self, number: u32, arguments: [u32; 3]) -> Result<(), Fail> {
+    fn go_to(&mut self, rt: &impl Abort, address: u32) {
+        let (rd, offset) = (ZERO, self.offset_to(address));
+        self.push(rt, Instr::Jal { rd, offset });
+    }
+
+    fn branch(&mut self, rt: &impl Abort, op: BranchOp, rs1: u8, rs2: u8, address: u32) {
+        let offset = self.offset_to(address);
+        self.push(
+            rt,
+            Instr::Branch {
+                op,
+                rs1,
+                rs2,
+                offset,
+            },
+        );
+    }
+
+    fn call(&mut self, rt: &impl Abort, number: u32, arguments: [u32; 3]) {
         let [a0, a1, a2] = arguments;
-        self.put(A7, number)?;
-        self.put(A0, a0)?;
-        self.put(A1, a1)?;
-        self.put(A2, a2)?;
-        self.push(Instr::Ecall)
+        self.put(rt, A7, number);
+        self.put(rt, A0, a0);
+        self.put(rt, A1, a1);
+        self.put(rt, A2, a2);
+        self.push(rt, Instr::Ecall);
     }
 
     // so many bytes of a0 and a1 go to output, by way of the stack
-    fn tell(&mut self, count: u32) -> Result<(), Fail> {
-        self.store(A0, 0, SP)?;
-        self.store(A1, 4, SP)?;
-        self.put(A7, WRITE)?;
-        self.put(A0, 1)?;
-        self.add(A1, SP, 0)?;
-        self.put(A2, count)?;
-        self.push(Instr::Ecall)
+    fn tell(&mut self, rt: &impl Abort, count: u32) {
+        self.store(rt, A0, 0, SP);
+        self.store(rt, A1, 4, SP);
+        self.put(rt, A7, WRITE);
+        self.put(rt, A0, 1);
+        self.add(rt, A1, SP, 0);
+        self.put(rt, A2, count);
+        self.push(rt, Instr::Ecall);
     }
 
-    fn words(&mut self, words: &[u32]) -> Result<(), Fail> {
+    // a call, whose answer of so many bytes goes to output
+    fn ask(&mut self, rt: &impl Abort, number: u32, arguments: [u32; 3], count: u32) {
+        self.call(rt, number, arguments);
+        self.tell(rt, count);
+    }
+
+    fn words(&mut self, rt: &impl Abort, words: &[u32]) {
         for word in words {
-            self.word(*word)?;
+            self.word(rt, *word);
         }
-        Ok(())
     }
 
-    fn zeros_until(&mut self, address: u32) -> Result<(), Fail> {
-        if address < self.next {
-            return Err("a step stands behind its address".into());
-        }
+    fn zeros_until(&mut self, rt: &impl Abort, address: u32) {
+        assert!(rt; self.next <= address, "a step stands behind its address");
         for _ in 0..(address - self.next) / 4 {
-            self.word(0)?;
+            self.word(rt, 0);
         }
-        Ok(())
     }
 
     fn offset_to(&self, address: u32) -> i32 {
         address.wrapping_sub(self.next).cast_signed()
     }
 
-    fn step(&mut self, step: &Step) -> Result<(), Fail> {
+    fn step(&mut self, rt: &impl Abort, step: &Step) {
         match *step {
-            Step::Words(words) => self.words(words),
-            Step::Put(rd, value) => self.put(rd, value),
-            Step::Add(rd, rs1, imm) => self.add(rd, rs1, imm),
-            Step::Load(rd, rs1) => self.load(rd, rs1),
-            Step::Store(rs2, rs1) => self.store(rs2, 0, rs1),
-            Step::Call(number, a0, a1, a2) => self.call(number, [a0, a1, a2]),
-            Step::Ecall => self.push(Instr::Ecall),
-            Step::Tell => self.tell(4),
-            Step::TellBoth => self.tell(8),
-            Step::Ask(number, a0, a1, a2) => {
-                self.call(number, [a0, a1, a2])?;
-                self.tell(4)
-            }
-            Step::AskBoth(number, a0, a1, a2) => {
-                self.call(number, [a0, a1, a2])?;
-                self.tell(8)
-            }
-            Step::End(status) => self.call(PROCESS_EXIT, [status, 0, 0]),
-            Step::At(address) => self.zeros_until(address),
-            Step::GoTo(address) => self.push(Instr::Jal {
-                rd: ZERO,
-                offset: self.offset_to(address),
-            }),
-            Step::If(op, rs1, rs2, address) => self.push(Instr::Branch {
-                op,
-                rs1,
-                rs2,
-                offset: self.offset_to(address),
-            }),
+            Step::Words(words) => self.words(rt, words),
+            Step::Put(rd, value) => self.put(rt, rd, value),
+            Step::Add(rd, rs1, imm) => self.add(rt, rd, rs1, imm),
+            Step::Load(rd, rs1) => self.load(rt, rd, rs1),
+            Step::Store(rs2, rs1) => self.store(rt, rs2, 0, rs1),
+            Step::Call(number, a0, a1, a2) => self.call(rt, number, [a0, a1, a2]),
+            Step::Ecall => self.push(rt, Instr::Ecall),
+            Step::Tell => self.tell(rt, 4),
+            Step::TellBoth => self.tell(rt, 8),
+            Step::Ask(number, a0, a1, a2) => self.ask(rt, number, [a0, a1, a2], 4),
+            Step::AskBoth(number, a0, a1, a2) => self.ask(rt, number, [a0, a1, a2], 8),
+            Step::End(status) => self.call(rt, PROCESS_EXIT, [status, 0, 0]),
+            Step::At(address) => self.zeros_until(rt, address),
+            Step::GoTo(address) => self.go_to(rt, address),
+            Step::If(op, rs1, rs2, address) => self.branch(rt, op, rs1, rs2, address),
+        }
+    }
+
+    fn steps(&mut self, rt: &impl Abort, steps: &[Step]) {
+        for step in steps {
+            self.step(rt, step);
         }
     }
 }
 
 /// The file of an image with the code of these steps, part after part.
-pub fn file(alloc: Global, parts: &[&[Step]]) -> Result<Vec<u8>, Fail> {
+pub fn file(rt: &impl Abort, alloc: Global, parts: &[&[Step]]) -> Vec<u8> {
     let mut code = Code {
-        builder: Builder::new(alloc, CODE, true)?,
+        builder: Builder::new(alloc, CODE, true).expect(rt, "memory"),
         next: CODE,
     };
     for part in parts {
-        for step in *part {
-            code.step(step)?;
-        }
+        code.steps(rt, part);
     }
-    Ok(code.builder.finish()?)
+    code.builder.finish().expect(rt, "an image")
 }

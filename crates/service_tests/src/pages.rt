@@ -1,8 +1,7 @@
 //! A fork of a space of many pages.
 use crate::guests::{A0, FORK, MAP, Step, TEMP0, TEMP1, TEMP2, WAIT, ZERO};
-use crate::runs::{Row, USUAL, run_rows};
+use crate::runs::{Row, USUAL, check_rows};
 use rv_isa::BranchOp;
-use std::test::Fail;
 
 /// Where the pages begin, 1000 of them, and where they end.
 const FIRST: u32 = 0x10_0000;
@@ -64,6 +63,6 @@ const ROWS: [Row; 1] = [Row {
 }];
 
 #[test]
-fn a_fork_copies_each_byte(rt: HostRuntime) -> Result<(), Fail> {
-    run_rows::<HostRuntime>(rt.alloc(), &ROWS)
+fn a_fork_copies_each_byte(rt: HostRuntime) {
+    check_rows(&rt, rt.alloc(), &ROWS);
 }

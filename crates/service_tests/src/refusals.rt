@@ -4,9 +4,8 @@ use crate::guests::{
     S1, SHARE, SIG_HANDLER, SIG_MASK, SIG_RETURN, STACK, Step, TEMP0, TEMP1, THREAD_EXIT,
     THREAD_NEW, UNMAP, WAIT, WRITE, ZERO,
 };
-use crate::runs::{Row, USUAL, run_rows};
+use crate::runs::{Row, USUAL, check_rows};
 use rv_isa::BranchOp;
-use std::test::Fail;
 
 /// Where no page is mapped.
 const NOWHERE: u32 = 0x3_0000;
@@ -264,6 +263,6 @@ const ROWS: [Row; 4] = [
 ];
 
 #[test]
-fn services_refuse(rt: HostRuntime) -> Result<(), Fail> {
-    run_rows::<HostRuntime>(rt.alloc(), &ROWS)
+fn services_refuse(rt: HostRuntime) {
+    check_rows(&rt, rt.alloc(), &ROWS);
 }

@@ -1,19 +1,20 @@
 //! Runs of guests, each a group of its own.
-ghost use Rattle.std.specs.Prelude.{◌≡◌, false, IfOk};
+ghost use Rattle.std.specs.Prelude.{◌≡◌, false};
 ghost use Rattle.dos_world.specs.Lawful.{IsConfig};
 ghost use Rattle.dos_io.specs.Shims.{HasNoEnd};
 ghost use Rattle.shim_log.specs.Ledger.{recorder_state};
 ghost use Rattle.shim_log.specs.Ranges.{FitsHeader};
 
+use crate::checks::same_at;
 use crate::guests::{Step, file};
 use dos_io::{ClockRule, MemoryHost, MemorySink, Shim, Sink};
 use dos_world::{Config, Ending, Post};
 use dpg_run::{open_group, put_report, run_group};
-use elf_image::read_image;
+use elf_image::{Image, read_image};
 use group_rounds::Kernel;
 use shim_log::{Digests, LogHeader, Recorder};
-use std::alloc::{AllocError, Global};
-use std::test::Fail;
+use std::alloc::Global;
+use std::process::Abort;
 use std::thread::Threads;
 use worker_pool::{Serial, Tally, Workers};
 
@@ -99,11 +100,12 @@ fn header() -> LogHeader
 }
 
 fn recorder<'h>(
+    rt: &impl Abort,
     alloc: Global,
     host: &'h mut MemoryHost,
     posts: &Posts,
-) -> Result<Recorder<'h, MemoryHost>, Fail>
-    ensures { IfOk result (λ shim. HasNoEnd (recorder_state shim.ledger).told) }
+) -> Recorder<'h, MemoryHost>
+    ensures { HasNoEnd (recorder_state result.ledger).told }
 {
     let Posts {
         rounds,
@@ -111,7 +113,7 @@ fn recorder<'h>(
         signal,
     } = *posts;
     if signal < 1 || signal > 31 || pid > 65535 {
-        return Err("no signal or no process has this number".into());
+        panic!(rt; "no signal or no process has this number");
     }
     let post = Post { pid, signal };
     let planned = [
@@ -121,27 +123,39 @@ fn recorder<'h>(
         (rounds[3], post),
         (rounds[4], post),
     ];
-    let shim = Recorder::new(alloc, host, &planned, ClockRule::FromHost, header())?;
-    Ok(shim)
+    Recorder::new(alloc, host, &planned, ClockRule::FromHost, header()).expect(rt, "memory")
+}
+
+fn add_bytes(rt: &impl Abort, bytes: &mut Vec<u8>, more: &[u8]) {
+    bytes.extend_from_slice(more).expect(rt, "memory");
 }
 
 // the words, each little-endian
-fn bytes_of(alloc: Global, words: &[i32]) -> Result<Vec<u8>, AllocError> {
+fn bytes_of(rt: &impl Abort, alloc: Global, words: &[i32]) -> Vec<u8> {
     let mut bytes = Vec::new(alloc);
     for word in words {
-        bytes.extend_from_slice(&word.to_le_bytes())?;
+        add_bytes(rt, &mut bytes, &word.to_le_bytes());
     }
-    Ok(bytes)
+    bytes
+}
+
+/// The image of a guest of these parts.
+pub fn image(rt: &impl Abort, alloc: Global, guest: &[&[Step]]) -> Image {
+    let bytes = file(rt, alloc, guest);
+    let image = read_image(alloc, &bytes).expect(rt, "an image");
+    drop(bytes);
+    image
 }
 
 // the guest's group, which has run no round
-fn opened(alloc: Global, row: &Row) -> Result<Kernel, Fail>
-    ensures running { IfOk result (λ kernel. kernel.failed ≡ false) }
-    ensures fresh { IfOk result (λ kernel. kernel.state.round ≡ 1) }
+fn opened(rt: &impl Abort, alloc: Global, row: &Row) -> Kernel
+    ensures running { result.failed ≡ false }
+    ensures fresh { result.state.round ≡ 1 }
 {
-    let images = [read_image(alloc, &file(alloc, row.guest)?)?];
-    let kernel = open_group(alloc, &images, config_of(row))?;
-    Ok(kernel)
+    let images = [image(rt, alloc, row.guest)];
+    let kernel = open_group(alloc, &images, config_of(row)).expect(rt, "room");
+    drop(images);
+    kernel
 }
 
 fn reported<E: Sink>(kernel: &Kernel, ending: Ending, err: &mut E) -> Option<Ending> {
@@ -169,35 +183,46 @@ fn play<S: Shim, O: Sink, E: Sink, W: Workers>(
     }
 }
 
-fn are_left(
-    alloc: Global,
-    row: &Row,
-    out: &MemorySink,
-    err: &MemorySink,
-) -> Result<bool, AllocError> {
-    let told = bytes_of(alloc, row.told)?;
-    Ok(out.bytes() == told.as_slice() && err.bytes() == row.report.as_bytes())
+// A sink with room for 4096 bytes.
+fn sink(rt: &impl Abort, alloc: Global) -> MemorySink {
+    MemorySink::new(alloc, 4096, &[]).expect(rt, "memory")
 }
 
-fn run_row<R: Threads + Sync>(alloc: Global, row: &Row, tally: &mut Tally) -> Result<bool, Fail> {
-    let mut host = MemoryHost::new(alloc, INPUT, 4, &READINGS, &[])?;
-    let mut shim = recorder(alloc, &mut host, &row.posts)?;
-    let mut out = MemorySink::new(alloc, 4096, &[])?;
-    let mut err = MemorySink::new(alloc, 4096, &[])?;
-    let mut kernel = opened(alloc, row)?;
-    let mut workers: Serial<'_, R> = Serial::new(tally);
-    let ending = play(&mut kernel, &mut shim, &mut out, &mut err, &mut workers);
+fn run_row<R: Threads + Sync + Abort>(
+    rt: &R,
+    alloc: Global,
+    row: &Row,
+    out: &mut MemorySink,
+    err: &mut MemorySink,
+) -> Option<Ending> {
+    let mut host = MemoryHost::new(alloc, INPUT, 4, &READINGS, &[]).expect(rt, "memory");
+    let mut shim = recorder(rt, alloc, &mut host, &row.posts);
+    let mut kernel = opened(rt, alloc, row);
+    let mut tally = Tally::new();
+    let mut workers: Serial<'_, R> = Serial::new(&mut tally);
+    let ending = play(&mut kernel, &mut shim, out, err, &mut workers);
     drop(kernel);
-    Ok(ending == Some(row.ending) && are_left(alloc, row, &out, &err)?)
+    drop(shim);
+    drop(host);
+    ending
+}
+
+fn check_row<R: Threads + Sync + Abort>(rt: &R, alloc: Global, row: &Row) {
+    let mut out = sink(rt, alloc);
+    let mut err = sink(rt, alloc);
+    let ending = run_row(rt, alloc, row, &mut out, &mut err);
+    let told = bytes_of(rt, alloc, row.told);
+    let seen = (ending, out.bytes(), err.bytes());
+    let wanted = (Some(row.ending), told.as_slice(), row.report.as_bytes());
+    same_at(rt, seen, wanted, row.report);
+    drop(told);
+    drop(out);
+    drop(err);
 }
 
 /// Runs the guests of these rows, one after another. The first that leaves something else fails.
-pub fn run_rows<R: Threads + Sync>(alloc: Global, rows: &[Row]) -> Result<(), Fail> {
+pub fn check_rows<R: Threads + Sync + Abort>(rt: &R, alloc: Global, rows: &[Row]) {
     for row in rows {
-        let mut tally = Tally::new();
-        if !run_row::<R>(alloc, row, &mut tally)? {
-            return Err(Fail::from(row.report));
-        }
+        check_row(rt, alloc, row);
     }
-    Ok(())
 }

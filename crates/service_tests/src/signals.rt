@@ -3,10 +3,9 @@ use crate::guests::{
     A0, FORK, FUTEX, FUTEX_WAIT, KILL, OTHER, PIPE, READ, ROUND, SIG_HANDLER, SIG_MASK, SIG_RETURN,
     STACK, Step, WAIT, YIELD, ZERO,
 };
-use crate::runs::{IN_2, IN_2_TO_6, Posts, Row, USUAL, run_rows};
+use crate::runs::{IN_2, IN_2_TO_6, Posts, Row, USUAL, check_rows};
 use dos_world::Ending;
 use rv_isa::BranchOp;
-use std::test::Fail;
 
 // What becomes of signal 10.
 
@@ -72,11 +71,7 @@ const SLEEPS_AGAIN: &[Step] = &[
     Step::Call(FUTEX_WAIT, FUTEX, 0, 0),
 ];
 
-const NINE: Posts = Posts {
-    rounds: [2, 0, 0, 0, 0],
-    pid: 1,
-    signal: 9,
-};
+const NINE: Posts = Posts { signal: 9, ..IN_2 };
 
 const RUNNING: [Row; 6] = [
     Row {
@@ -122,93 +117,59 @@ const RUNNING: [Row; 6] = [
     },
 ];
 
-const WAITING: [Row; 6] = [
-    Row {
-        posts: IN_2,
-        guest: &[WAITS],
-        report: "process 1 status 138\nrounds 1 done\n",
-        ..USUAL
-    },
-    Row {
-        posts: IN_2,
-        guest: &[IGNORES, WAITS],
-        ending: Ending::Stalled,
-        report: "process 1 live\nrounds 1 stalled\n",
-        ..USUAL
-    },
-    Row {
-        posts: IN_2,
-        guest: &[HANDLES, WAITS, RETURNS],
-        told: &[2, -4, 2],
-        report: "process 1 status 0\nrounds 2 done\n",
-        ..USUAL
-    },
-    Row {
-        posts: IN_2,
-        guest: &[MASKS, WAITS, RETURNS],
-        ending: Ending::Stalled,
-        report: "process 1 live\nrounds 1 stalled\n",
-        ..USUAL
-    },
-    Row {
-        posts: NINE,
-        guest: &[MASKS, WAITS],
-        report: "process 1 status 137\nrounds 1 done\n",
-        ..USUAL
-    },
-    Row {
-        posts: IN_2_TO_6,
-        guest: &[HANDLES, WAITS, WAITS_AGAIN],
-        told: &[2, 3, 4, 5],
-        ending: Ending::Stalled,
-        report: "process 1 live\nrounds 5 stalled\n",
-        ..USUAL
-    },
-];
+/// Rows of a thread that blocks in round 1, by steps that tell what it was answered and the round,
+/// and whose last handler blocks again.
+macro_rules! blocked {
+    ($blocks:expr, $again:expr) => {
+        [
+            Row {
+                posts: IN_2,
+                guest: &[$blocks],
+                report: "process 1 status 138\nrounds 1 done\n",
+                ..USUAL
+            },
+            Row {
+                posts: IN_2,
+                guest: &[IGNORES, $blocks],
+                ending: Ending::Stalled,
+                report: "process 1 live\nrounds 1 stalled\n",
+                ..USUAL
+            },
+            Row {
+                posts: IN_2,
+                guest: &[HANDLES, $blocks, RETURNS],
+                told: &[2, -4, 2],
+                report: "process 1 status 0\nrounds 2 done\n",
+                ..USUAL
+            },
+            Row {
+                posts: IN_2,
+                guest: &[MASKS, $blocks, RETURNS],
+                ending: Ending::Stalled,
+                report: "process 1 live\nrounds 1 stalled\n",
+                ..USUAL
+            },
+            Row {
+                posts: NINE,
+                guest: &[MASKS, $blocks],
+                report: "process 1 status 137\nrounds 1 done\n",
+                ..USUAL
+            },
+            Row {
+                posts: IN_2_TO_6,
+                guest: &[HANDLES, $blocks, $again],
+                told: &[2, 3, 4, 5],
+                ending: Ending::Stalled,
+                report: "process 1 live\nrounds 5 stalled\n",
+                ..USUAL
+            },
+        ]
+    };
+}
 
-const SLEEPING: [Row; 6] = [
-    Row {
-        posts: IN_2,
-        guest: &[SLEEPS],
-        report: "process 1 status 138\nrounds 1 done\n",
-        ..USUAL
-    },
-    Row {
-        posts: IN_2,
-        guest: &[IGNORES, SLEEPS],
-        ending: Ending::Stalled,
-        report: "process 1 live\nrounds 1 stalled\n",
-        ..USUAL
-    },
-    Row {
-        posts: IN_2,
-        guest: &[HANDLES, SLEEPS, RETURNS],
-        told: &[2, -4, 2],
-        report: "process 1 status 0\nrounds 2 done\n",
-        ..USUAL
-    },
-    Row {
-        posts: IN_2,
-        guest: &[MASKS, SLEEPS, RETURNS],
-        ending: Ending::Stalled,
-        report: "process 1 live\nrounds 1 stalled\n",
-        ..USUAL
-    },
-    Row {
-        posts: NINE,
-        guest: &[MASKS, SLEEPS],
-        report: "process 1 status 137\nrounds 1 done\n",
-        ..USUAL
-    },
-    Row {
-        posts: IN_2_TO_6,
-        guest: &[HANDLES, SLEEPS, SLEEPS_AGAIN],
-        told: &[2, 3, 4, 5],
-        ending: Ending::Stalled,
-        report: "process 1 live\nrounds 5 stalled\n",
-        ..USUAL
-    },
-];
+const WAITING: [Row; 6] = blocked!(WAITS, WAITS_AGAIN);
+
+const SLEEPING: [Row; 6] = blocked!(SLEEPS, SLEEPS_AGAIN);
 
 /// Its child ends in round 2, and is collected in round 4.
 const COLLECTS_LATE: &[Step] = &[
@@ -273,9 +234,21 @@ const SENT: [Row; 3] = [
 ];
 
 #[test]
-fn signals_come_to_threads_in_each_state(rt: HostRuntime) -> Result<(), Fail> {
-    run_rows::<HostRuntime>(rt.alloc(), &RUNNING)?;
-    run_rows::<HostRuntime>(rt.alloc(), &WAITING)?;
-    run_rows::<HostRuntime>(rt.alloc(), &SLEEPING)?;
-    run_rows::<HostRuntime>(rt.alloc(), &SENT)
+fn signals_come_to_a_thread_that_runs(rt: HostRuntime) {
+    check_rows(&rt, rt.alloc(), &RUNNING);
+}
+
+#[test]
+fn signals_come_to_a_thread_that_waits(rt: HostRuntime) {
+    check_rows(&rt, rt.alloc(), &WAITING);
+}
+
+#[test]
+fn signals_come_to_a_thread_that_sleeps(rt: HostRuntime) {
+    check_rows(&rt, rt.alloc(), &SLEEPING);
+}
+
+#[test]
+fn processes_are_signalled_by_their_own(rt: HostRuntime) {
+    check_rows(&rt, rt.alloc(), &SENT);
 }

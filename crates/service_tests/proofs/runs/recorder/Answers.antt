@@ -3,7 +3,7 @@ use Rattle.dos_io.specs.Posts.{FitsPost}
 use Rattle.service_tests.proofs.runs.recorder.Goals as goal
 
 pub new-requires-clause-planned : goal.new-requires-clause-planned
-new-requires-clause-planned c =
+new-requires-clause-planned g c =
     let one : FitsPost (record { pid = c.args.posts.now.pid; signal = c.args.posts.now.signal }) =
     record {
       pid = omega (arith, c.if-pid-gt65535.false);
