@@ -1,8 +1,10 @@
 // Small programs, assembled by hand, over four pages; what they leave is worked out from the
 // manual.
 ghost use Rattle.std.specs.Prelude.{◌≡◌, ◌∷◌, [], false, true, length, IfOk, IfSome};
+ghost use Rattle.std.specs.List.{position};
 ghost use Rattle.dos_world.specs.declared.Owner.TheVariants.{Of, Shared};
-ghost use Rattle.page_store.specs.Store.{AreHome};
+ghost use Rattle.dos_world.specs.World.{is_free};
+ghost use Rattle.page_store.specs.Store.{AreHome, with_owned};
 ghost use Rattle.quantum_run.specs.ThreadRuns.{AreMapped};
 
 use crate::checks::same_at;
@@ -13,6 +15,16 @@ use space_map::Space;
 use std::alloc::{AllocError, Global};
 use std::process::Abort;
 
+/// The lowest free frame becomes the thread's.
+fn take(frames: &mut Frames, tid: u32)
+    requires { AreHome frames.old }
+    ensures home { AreHome frames.new }
+    ensures owned { IfSome (position is_free frames.old.owners)
+        (λ frame. frames.new ≡ with_owned frames.old frame tid) }
+{
+    let _ = frames.fresh(tid);
+}
+
 /// Frames 0 and 1 of thread 1, frame 2 of thread 2, and frame 3, which is shared.
 fn four_frames(alloc: Global) -> Result<Frames, AllocError>
     ensures home { IfOk result (λ f. AreHome f) }
@@ -20,10 +32,10 @@ fn four_frames(alloc: Global) -> Result<Frames, AllocError>
     ensures owners { IfOk result (λ f. f.owners ≡ Of 1 ∷ Of 1 ∷ Of 2 ∷ Shared ∷ []) }
 {
     let mut frames = Frames::reserve(alloc, 4)?;
-    let _ = frames.fresh(1);
-    let _ = frames.fresh(1);
-    let _ = frames.fresh(2);
-    let _ = frames.fresh(1);
+    take(&mut frames, 1);
+    take(&mut frames, 1);
+    take(&mut frames, 2);
+    take(&mut frames, 1);
     frames.grant(3, 1, Access::Load);
     Ok(frames)
 }
@@ -118,7 +130,8 @@ struct Run {
     left: [u32; 3],
 }
 
-const RUNS: [Run; 12] = [
+/// Words that are stored, loaded and run.
+const STORED: [Run; 6] = [
     Run {
         name: "what is stored is loaded",
         words: &[
@@ -168,6 +181,35 @@ const RUNS: [Run; 12] = [
         stop: Reason::Fault(4),
         left: [9, 0x11002, 42],
     },
+    Run {
+        name: "code that stores into its own page, over a word that was done before",
+        words: &[
+            (0x10000, 0x0014_8493), // addi x9, x9, 1
+            (0x10004, 0x0075_2023), // sw x7, 0(x10)
+            (0x10008, 0xff9f_f06f), // jal x0, -8
+        ],
+        x7: 0x0000_0073, // ecall
+        pc: 0x10000,
+        stop: Reason::Service,
+        left: [7, 0x10000, 10],
+    },
+    Run {
+        name: "code that stores into another page, over a word that was done before",
+        words: &[
+            (0x11000, 0x0014_8493), // addi x9, x9, 1
+            (0x11004, 0x0005_0067), // jalr x0, 0(x10)
+            (0x10000, 0x0072_a023), // sw x7, 0(x5)
+            (0x10004, 0x0002_8067), // jalr x0, 0(x5)
+        ],
+        x7: 0x0000_0073, // ecall
+        pc: 0x11000,
+        stop: Reason::Service,
+        left: [6, 0x11000, 10],
+    },
+];
+
+/// Pages that are another's, that are shared or not mapped, or that can't be executed.
+const REFUSED: [Run; 6] = [
     Run {
         name: "an instruction whose upper half is on another's page",
         words: &[(0x11ffc, 0x0493_0000)],
@@ -223,31 +265,6 @@ const RUNS: [Run; 12] = [
         left: [8, 0x10008, 3],
     },
     Run {
-        name: "code that stores into its own page, over a word that was done before",
-        words: &[
-            (0x10000, 0x0014_8493), // addi x9, x9, 1
-            (0x10004, 0x0075_2023), // sw x7, 0(x10)
-            (0x10008, 0xff9f_f06f), // jal x0, -8
-        ],
-        x7: 0x0000_0073, // ecall
-        pc: 0x10000,
-        stop: Reason::Service,
-        left: [7, 0x10000, 10],
-    },
-    Run {
-        name: "code that stores into another page, over a word that was done before",
-        words: &[
-            (0x11000, 0x0014_8493), // addi x9, x9, 1
-            (0x11004, 0x0005_0067), // jalr x0, 0(x10)
-            (0x10000, 0x0072_a023), // sw x7, 0(x5)
-            (0x10004, 0x0002_8067), // jalr x0, 0(x5)
-        ],
-        x7: 0x0000_0073, // ecall
-        pc: 0x11000,
-        stop: Reason::Service,
-        left: [6, 0x11000, 10],
-    },
-    Run {
         name: "a page that isn't mapped",
         words: &[(0x10000, 0x0005_a483)], // lw x9, 0(x11)
         x7: 0,
@@ -277,8 +294,15 @@ fn check_run(rt: &impl Abort, alloc: Global, run: &Run) {
 }
 
 #[test]
-fn runs_stop(rt: HostRuntime) {
-    for run in &RUNS {
+fn what_is_stored_is_loaded_and_run(rt: HostRuntime) {
+    for run in &STORED {
+        check_run(&rt, rt.alloc(), run);
+    }
+}
+
+#[test]
+fn runs_stop_at_pages(rt: HostRuntime) {
+    for run in &REFUSED {
         check_run(&rt, rt.alloc(), run);
     }
 }
