@@ -121,6 +121,7 @@ fn registers(pc: u32, x7: u32) -> Regs {
 
 /// A run of thread 1 from pc with a budget of 10: why it stops, and what is left: of the budget, pc,
 /// and x9.
+#[derive(Clone, Copy)]
 struct Run {
     name: &'static str,
     words: &'static [(u32, u32)],
@@ -128,6 +129,26 @@ struct Run {
     pc: u32,
     stop: Reason,
     left: [u32; 3],
+}
+
+/// A run from 0x10000 on, with 0 in x7, of words that each row gives.
+const PLAIN: Run = Run {
+    name: "",
+    words: &[],
+    x7: 0,
+    pc: 0x10000,
+    stop: Reason::Service,
+    left: [10, 0x10000, 9],
+};
+
+/// An access that the page at this address refuses.
+macro_rules! page {
+    ($address:expr, $access:ident) => {
+        Reason::Page {
+            address: $address,
+            access: Access::$access,
+        }
+    };
 }
 
 /// Words that are stored, loaded and run.
@@ -140,9 +161,9 @@ const STORED: [Run; 6] = [
             (0x10008, 0x0000_0073), // ecall
         ],
         x7: 42,
-        pc: 0x10000,
         stop: Reason::Service,
         left: [8, 0x10008, 42],
+        ..PLAIN
     },
     Run {
         name: "a halfword is stored beside another",
@@ -153,9 +174,9 @@ const STORED: [Run; 6] = [
             (0x11004, 0x1122_3344),
         ],
         x7: 0xaaaa_5566,
-        pc: 0x10000,
         stop: Reason::Service,
         left: [8, 0x10008, 0x5566_3344],
+        ..PLAIN
     },
     Run {
         name: "an instruction that was stored is run",
@@ -166,9 +187,9 @@ const STORED: [Run; 6] = [
             (0x1000c, 0x0010_0073), // ebreak
         ],
         x7: 0x0070_0493,
-        pc: 0x10000,
         stop: Reason::Fault(5),
         left: [7, 0x1000c, 7],
+        ..PLAIN
     },
     Run {
         name: "an instruction that lies on two pages",
@@ -176,10 +197,10 @@ const STORED: [Run; 6] = [
             (0x10ffc, 0x0493_0000), // addi x9, x0, 42, its lower half
             (0x11000, 0x0000_02a0), // and its upper half; then a halfword that is none
         ],
-        x7: 0,
         pc: 0x10ffe,
         stop: Reason::Fault(4),
         left: [9, 0x11002, 42],
+        ..PLAIN
     },
     Run {
         name: "code that stores into its own page, over a word that was done before",
@@ -189,9 +210,9 @@ const STORED: [Run; 6] = [
             (0x10008, 0xff9f_f06f), // jal x0, -8
         ],
         x7: 0x0000_0073, // ecall
-        pc: 0x10000,
         stop: Reason::Service,
         left: [7, 0x10000, 10],
+        ..PLAIN
     },
     Run {
         name: "code that stores into another page, over a word that was done before",
@@ -213,13 +234,10 @@ const REFUSED: [Run; 6] = [
     Run {
         name: "an instruction whose upper half is on another's page",
         words: &[(0x11ffc, 0x0493_0000)],
-        x7: 0,
         pc: 0x11ffe,
-        stop: Reason::Page {
-            address: 0x12000,
-            access: Access::Fetch,
-        },
+        stop: page!(0x12000, Fetch),
         left: [10, 0x11ffe, 9],
+        ..PLAIN
     },
     Run {
         name: "a load from another's page",
@@ -227,13 +245,9 @@ const REFUSED: [Run; 6] = [
             (0x10000, 0x0002_a483), // lw x9, 0(x5)
             (0x10004, 0x0003_2483), // lw x9, 0(x6)
         ],
-        x7: 0,
-        pc: 0x10000,
-        stop: Reason::Page {
-            address: 0x12000,
-            access: Access::Load,
-        },
+        stop: page!(0x12000, Load),
         left: [9, 0x10004, 0],
+        ..PLAIN
     },
     Run {
         name: "a shared page is loaded from and not stored to",
@@ -242,12 +256,9 @@ const REFUSED: [Run; 6] = [
             (0x10004, 0x0074_2023), // sw x7, 0(x8)
         ],
         x7: 1,
-        pc: 0x10000,
-        stop: Reason::Page {
-            address: 0x13000,
-            access: Access::Store,
-        },
+        stop: page!(0x13000, Store),
         left: [9, 0x10004, 0],
+        ..PLAIN
     },
     Run {
         name: "its own word is claimed, and a shared one isn't",
@@ -257,28 +268,24 @@ const REFUSED: [Run; 6] = [
             (0x10008, 0x0074_24af), // amoadd.w x9, x7, (x8)
         ],
         x7: 3,
-        pc: 0x10000,
-        stop: Reason::Page {
-            address: 0x13000,
-            access: Access::Claim,
-        },
+        stop: page!(0x13000, Claim),
         left: [8, 0x10008, 3],
+        ..PLAIN
     },
     Run {
         name: "a page that isn't mapped",
         words: &[(0x10000, 0x0005_a483)], // lw x9, 0(x11)
-        x7: 0,
-        pc: 0x10000,
         stop: Reason::Fault(11),
         left: [10, 0x10000, 9],
+        ..PLAIN
     },
     Run {
         name: "a page that can't be executed",
         words: &[],
-        x7: 0,
         pc: 0x13000,
         stop: Reason::Fault(11),
         left: [10, 0x13000, 9],
+        ..PLAIN
     },
 ];
 
