@@ -3,7 +3,8 @@ use crate::calls::{
     NOTHING, Outside, Wanted, call_over, check_left, check_replay, has_log, leaves_over, log_length,
 };
 use crate::checks::{same, same_at};
-use crate::guests::{CATCHES, ECHOES, FORKS, MAPS, READS, WAITS, files_with};
+use crate::guests::{CATCHES, ECHOES, FORKS, MAPS, READS, WAITS, add_guest, files_with};
+use dos_io::MemoryFiles;
 use rv_isa::Instr;
 use std::alloc::Global;
 use std::process::Abort;
@@ -64,42 +65,42 @@ const GUESTS: [Guest; 6] = [
     },
 ];
 
-// A run of this code leaves what is wanted, and a log of this length, whose replay leaves the same.
+// A run of the guest leaves what is wanted, and a log of this length, whose replay leaves the same.
 fn check_recorded<R: Threads + Sync + Abort>(
     rt: &R,
     alloc: Global,
-    code: &[Instr],
+    files: &mut MemoryFiles,
     words: &[&str],
     outside: &Outside<'_>,
     wanted: Wanted<'_>,
     length: usize,
 ) {
-    let mut files = files_with(rt, alloc, code, b"", 0);
-    let left = call_over(rt, alloc, &mut files, words, outside);
+    let left = call_over(rt, alloc, files, words, outside);
     check_left(rt, &left, words, wanted);
-    same_at(rt, log_length(rt, &mut files), length, words);
-    check_replay(rt, alloc, &mut files, words, left);
-    drop(files);
+    same_at(rt, log_length(rt, files), length, words);
+    check_replay(rt, alloc, files, words, left);
 }
 
-fn check_guest<R: Threads + Sync + Abort>(rt: &R, alloc: Global, guest: &Guest) {
+fn check_guest<R: Threads + Sync + Abort>(
+    rt: &R,
+    alloc: Global,
+    files: &mut MemoryFiles,
+    guest: &Guest,
+) {
+    let (words, length) = (guest.words, guest.length);
     let wanted = (guest.status, "", guest.err);
-    check_recorded(
-        rt,
-        alloc,
-        guest.code,
-        guest.words,
-        &NOTHING,
-        wanted,
-        guest.length,
-    );
+    add_guest(rt, alloc, files, "a", guest.code, b"", 0);
+    check_recorded(rt, alloc, files, words, &NOTHING, wanted, length);
 }
 
 #[test]
 fn runs_are_recorded_round_by_round(rt: HostRuntime) {
+    let alloc = rt.alloc();
+    let mut files = MemoryFiles::new(alloc, &[]).expect(&rt, "memory");
     for guest in &GUESTS {
-        check_guest(&rt, rt.alloc(), guest);
+        check_guest(&rt, alloc, &mut files, guest);
     }
+    drop(files);
 }
 
 const TEN: Outside<'static> = Outside {
@@ -111,8 +112,10 @@ const TEN: Outside<'static> = Outside {
 #[test]
 fn input_is_recorded(rt: HostRuntime) {
     let wanted = (0, "0123456789", "process 1 status 0\nrounds 1 done\n");
+    let mut files = files_with(&rt, rt.alloc(), &ECHOES, b"", 0);
     let words = ["run", "a"];
-    check_recorded(&rt, rt.alloc(), &ECHOES, &words, &TEN, wanted, 100);
+    check_recorded(&rt, rt.alloc(), &mut files, &words, &TEN, wanted, 100);
+    drop(files);
 }
 
 // A run of this code leaves what is wanted, and no log.
