@@ -3,5 +3,6 @@ mod RoundsRun
 pub mod RunKeeps
 mod Limits
 pub mod LawfulRuns
+pub mod Asked
 pub mod QuietRuns
 pub mod MisfitLaws

@@ -13,16 +13,14 @@ use Rattle.group_open.specs.Opening.{opening}
 use Rattle.dpg_run.specs.Machine.{Finish, Seen, ends, needs, result_of, rounds_from, machine}
 use Rattle.dpg_run.specs.Laws.{LeavesFinish, RunOwes}
 use Rattle.dpg_run.proofs.RunKeeps.{rounds_keep}
+use Rattle.dpg_run.proofs.Asked.{seen_is}
 
 -- what is seen is of the finish that the rounds give
 seen_within : (limit : ℕ) (asked : List Question) (o : Outcome Finish) (s : Seen)
     → ((finish : Finish) (rest : List Answer) → o ≡ gives finish rest → finish.world.rounds ≤ limit)
     → result_of asked o ≡ ends s → s.rounds ≤ limit
 seen_within limit asked (gives finish rest) s within is =
-    subst (λ seen. seen.rounds ≤ limit) (same is) (within finish rest refl)
-  where
-    same : {a b : Seen} → ends a ≡ ends b → a ≡ b
-    same e = cc
+    subst (λ seen. seen.rounds ≤ limit) (seen_is is) (within finish rest refl)
 seen_within limit asked (asks question output error) s within is = absurd (needs≢ends is)
   where
     needs≢ends : needs question output error ≡ ends s → ⊥

@@ -1,6 +1,6 @@
 -- Where a run asks another question than some exchanges have.
 use Rattle.std.proofs.Common.{◌≡◌, ◌≢◌, ◌∙◌, ℕ, suc, ◌+◌, Bool, true, false, ◌&&◌, eqb, List, []}
-use Rattle.std.proofs.Common.{◌∷◌, ◌++◌, map, length, Option, Some, None, refl, sym, ap, subst}
+use Rattle.std.proofs.Common.{◌∷◌, ◌++◌, map, length, Some, None, refl, sym, ap, subst}
 use Rattle.std.proofs.Common.{arith}
 use Rattle.std.proofs.lemmas.Bool.{and_parts, eqb-true, eq-eqb}
 use Rattle.dos_world.specs.Play.{Play, done, ask, questions}
@@ -10,6 +10,7 @@ use Rattle.dos_world.specs.declared.Question.{Question}
 use Rattle.dos_world.specs.declared.Question.TheVariants.{Signals, Input, Clock, End}
 use Rattle.dos_io.specs.declared.exchange.Exchange.{Exchange}
 use Rattle.dos_io.specs.Exchanges.{question_of, answer_of}
+use Rattle.dpg_run.proofs.Asked.{heads}
 use Rattle.dpg_run.specs.Fits.{same_ending, same_question, misfit_from}
 
 ending_with_itself : (e : Ending) → same_ending e e ≡ true
@@ -25,14 +26,9 @@ with_itself (End e r) = rw (ending_with_itself e, eq-eqb r r refl) refl
 
 one_ending : (e f : Ending) → same_ending e f ≡ true → e ≡ f
 one_ending Done Done is = refl
-one_ending Done Limit is = absurd cc
-one_ending Done Stalled is = absurd cc
-one_ending Limit Done is = absurd cc
 one_ending Limit Limit is = refl
-one_ending Limit Stalled is = absurd cc
-one_ending Stalled Done is = absurd cc
-one_ending Stalled Limit is = absurd cc
 one_ending Stalled Stalled is = refl
+one_ending e f is = absurd cc
 
 one_question : (q r : Question) → same_question q r ≡ true → q ≡ r
 one_question (Signals r) (Signals s) is = ap Signals (eqb-true r s is)
@@ -46,18 +42,7 @@ one_question (Clock r t) (Clock s u) is =
 one_question (End e r) (End f s) is =
     let a = and_parts (same_ending e f) (eqb r s) is in
     rw (one_ending e f a.0, eqb-true r s a.1) refl
-one_question (Signals r) (Input s u n) is = absurd cc
-one_question (Signals r) (Clock s u) is = absurd cc
-one_question (Signals r) (End f s) is = absurd cc
-one_question (Input r t m) (Signals s) is = absurd cc
-one_question (Input r t m) (Clock s u) is = absurd cc
-one_question (Input r t m) (End f s) is = absurd cc
-one_question (Clock r t) (Signals s) is = absurd cc
-one_question (Clock r t) (Input s u n) is = absurd cc
-one_question (Clock r t) (End f s) is = absurd cc
-one_question (End e r) (Signals s) is = absurd cc
-one_question (End e r) (Input s u n) is = absurd cc
-one_question (End e r) (Clock s u) is = absurd cc
+one_question q r is = absurd cc
 
 differ : (q r : Question) → q ≢ r → same_question q r ≡ false
 differ q r not = differ_by (same_question q r) (λ is. not (one_question q r is))
@@ -67,13 +52,6 @@ differ q r not = differ_by (same_question q r) (λ is. not (one_question q r is)
     differ_by false _ = refl
 
 -- ---- questions of a play
-
-abbrev some_questions : List Question → Option (List Question)
-some_questions qs = Some qs
-
--- equal lists have equal heads and equal rests
-heads : (q r : Question) (qs rs : List Question) → q ∷ qs ≡ r ∷ rs → (q ≡ r) × (qs ≡ rs)
-heads q r qs rs is = (cc, cc)
 
 -- The run has asked what these exchanges answer, and then another question than the next one's.
 pub misfit_at : {A : Type 0} (n m : ℕ) (es : List Exchange) (e : Exchange) (rest : List Exchange)

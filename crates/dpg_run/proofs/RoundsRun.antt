@@ -29,7 +29,7 @@ use Rattle.group_rounds.specs.Fronts.{AreFrontsOf}
 use Rattle.group_rounds.specs.Plays.{GoesOn}
 use Rattle.group_rounds.specs.StatePlays.{Telling, ToldMore}
 use Rattle.group_rounds.specs.Outside.{is_end}
-use Rattle.group_rounds.specs.Rounds.{CutRound, RanRound, StoppedRound}
+use Rattle.group_rounds.specs.Rounds.{CutRound, RanRound, StoppedRound, end_in, work_in}
 use Rattle.group_rounds.specs.declared.round.RoundEnd.{RoundEnd}
 use Rattle.group_rounds.specs.declared.round.RoundEnd.TheVariants.{Went, Done, Stalled}
 use Rattle.group_rounds.proofs.PlayLaws.{goes-append, goes-then, goes-over, goes-over_more}
@@ -41,7 +41,7 @@ use Rattle.dpg_run.specs.Machine.{Finish, rounds_of, rounds_from, told_end, run_
 use Rattle.dpg_run.specs.Laws.{LeavesFinish, RunOwes}
 use Rattle.dpg_run.proofs.RunKeeps.{rounds_keep}
 use Rattle.dpg_run.specs.GroupRuns.{AreFronts, CutGroup, RanRounds, RanGroup, StoppedGroup}
-use Rattle.dpg_run.specs.GroupRuns.{finish_in, has_failed}
+use Rattle.dpg_run.specs.GroupRuns.{ending_by, finish_in, has_failed}
 
 -- ---- fronts
 
@@ -76,6 +76,38 @@ after_round left work (went next more) = rounds_of left next (work + more)
 after_round left work (finished last) = done (finish_in done_ending last work)
 after_round left work (stalled last) = done (finish_in stalled_ending last work)
 
+-- the next one, behind one that was run
+after_more : (left work : ℕ) (so : RoundEnd) (more : ℕ) (last : World) → so ≡ Went
+    → after_round left work (end_in so more last) ≡ rounds_of left last (work + work_in so more)
+after_more left work Went more last is = refl
+after_more left work Done more last is = absurd cc
+after_more left work Stalled more last is = absurd cc
+
+-- nothing, behind one with which the run ends
+after_last : (left work : ℕ) (so : RoundEnd) (ending : Ending) (more : ℕ) (last : World)
+    → ending_by so ≡ Some ending
+    → after_round left work (end_in so more last) ≡ done (finish_in ending last work)
+after_last left work Went ending more last is = absurd cc
+after_last left work Done ending more last is =
+    let same : done_ending ≡ ending = cc in
+    ap (λ e. done (finish_in e last work)) same
+after_last left work Stalled ending more last is =
+    let same : stalled_ending ≡ ending = cc in
+    ap (λ e. done (finish_in e last work)) same
+
+-- whose phases aren't run
+pub no_work : (so : RoundEnd) (ending : Ending) (work : ℕ) → ending_by so ≡ Some ending
+    → work_in so work ≡ 0
+no_work Went ending work is = absurd cc
+no_work Done ending work is = refl
+no_work Stalled ending work is = refl
+
+-- and with another it goes on
+pub goes_after : (so : RoundEnd) → ending_by so ≡ None → so ≡ Went
+goes_after Went is = refl
+goes_after Done is = absurd cc
+goes_after Stalled is = absurd cc
+
 -- From the start so many rounds were run, with so much work, and so many are left.
 pub record RanSome (config : Config) (rounds : ℕ) (start : State) (before : Telling) (left : ℕ)
     (s : State) (after : Telling) (work : ℕ) : Type 0 where
@@ -108,15 +140,22 @@ module _ (config : Config) (rounds left : ℕ) (start s : State) (before told : 
       (goes-then es (round_of here) (done end) (after_round left work)
       (goes_by es (round_of here) end h k))
 
-  pub round_more : (s' : State) (after : Telling) (more : ℕ)
-      → RanRound config.quantum s told Went s' after more
-      → RanSome config rounds start before left s' after (work + more)
-  round_more s' after more h = record {
-    more = told_then before told after some.more h.more;
-    goes = goes_on h.more.exchanges _
-        (h.gives some.more.output some.more.error)
-        (h.asks some.more.output some.more.error);
-  }
+  -- with a round behind which the next is run
+  pub round_more : (so : RoundEnd) (s' : State) (after : Telling) (more : ℕ) → so ≡ Went
+      → RanRound config.quantum s told so s' after more
+      → RanSome config rounds start before left s' after (work + work_in so more)
+  round_more so s' after more is h =
+      let last : World = sent (some.more.output ++ h.more.output)
+      (some.more.error ++ h.more.error) (world_of config.quantum s') in
+      record {
+        more = told_then before told after some.more h.more;
+        goes = subst (GoesOn (some.more.exchanges ++ h.more.exchanges)
+            (rounds_of rounds (world_of config.quantum start) 0))
+            (after_more left work so more last is)
+            (goes_on h.more.exchanges (end_in so more last)
+            (h.gives some.more.output some.more.error)
+            (h.asks some.more.output some.more.error));
+      }
 
   module _ (first : start.round ≡ 1) (all : rounds ≡ config.rounds) where
     from_start : rounds_of rounds (world_of config.quantum start) 0
@@ -133,33 +172,23 @@ module _ (config : Config) (rounds left : ℕ) (start s : State) (before told : 
     from_begin es last ending h =
         subst (λ play. GoesOn es play (done (finish_in ending last work))) from_start h
 
-    pub round_ends : (s' : State) (after : Telling) (more : ℕ)
-        → RanRound config.quantum s told Done s' after more
-        → RanRounds config start before done_ending s' after work
-    round_ends s' after more h = record {
-      more = told_then before told after some.more h.more;
-      goes = from_begin (some.more.exchanges ++ h.more.exchanges)
-          (sent (some.more.output ++ h.more.output) (some.more.error ++ h.more.error)
-          (world_of config.quantum s')) done_ending
-          (goes_on h.more.exchanges (finished (sent (some.more.output ++ h.more.output)
-          (some.more.error ++ h.more.error) (world_of config.quantum s')))
-          (h.gives some.more.output some.more.error)
-          (h.asks some.more.output some.more.error));
-    }
-
-    pub round_stalls : (s' : State) (after : Telling) (more : ℕ)
-        → RanRound config.quantum s told Stalled s' after more
-        → RanRounds config start before stalled_ending s' after work
-    round_stalls s' after more h = record {
-      more = told_then before told after some.more h.more;
-      goes = from_begin (some.more.exchanges ++ h.more.exchanges)
-          (sent (some.more.output ++ h.more.output) (some.more.error ++ h.more.error)
-          (world_of config.quantum s')) stalled_ending
-          (goes_on h.more.exchanges (stalled (sent (some.more.output ++ h.more.output)
-          (some.more.error ++ h.more.error) (world_of config.quantum s')))
-          (h.gives some.more.output some.more.error)
-          (h.asks some.more.output some.more.error));
-    }
+    -- with a round behind which none is run
+    pub round_ends : (so : RoundEnd) (ending : Ending) (s' : State) (after : Telling) (more : ℕ)
+        → ending_by so ≡ Some ending → RanRound config.quantum s told so s' after more
+        → RanRounds config start before ending s' after work
+    round_ends so ending s' after more is h =
+        let last : World = sent (some.more.output ++ h.more.output)
+        (some.more.error ++ h.more.error) (world_of config.quantum s') in
+        record {
+          more = told_then before told after some.more h.more;
+          goes = from_begin (some.more.exchanges ++ h.more.exchanges) last ending
+              (subst (GoesOn (some.more.exchanges ++ h.more.exchanges)
+              (rounds_of rounds (world_of config.quantum start) 0))
+              (after_last left work so ending more last is)
+              (goes_on h.more.exchanges (end_in so more last)
+              (h.gives some.more.output some.more.error)
+              (h.asks some.more.output some.more.error)));
+        }
 
     -- the shim stops in the round
     pub round_stops : (after : Telling) (asked : Option Question)
@@ -389,13 +418,12 @@ none_left config rounds i start s before told work le some =
     subst (λ n. RanSome config rounds start before n s told work)
     (let e : rounds - i ≡ 0 = omega (arith, le) in e) some
 
--- the same configuration, and what the end is
-pub round_so : (config other : Config) (s s' : State) (before after : Telling) (end so : RoundEnd)
-    (work : ℕ) → other ≡ config → end ≡ so → RanRound other.quantum s before end s' after work
-    → RanRound config.quantum s before so s' after work
-round_so config other s s' before after end so work same is h =
-    subst (λ (c : Config). RanRound c.quantum s before so s' after work) same
-    (subst (λ e. RanRound other.quantum s before e s' after work) is h)
+-- the same configuration
+pub round_so : (config other : Config) (s s' : State) (before after : Telling) (end : RoundEnd)
+    (work : ℕ) → other ≡ config → RanRound other.quantum s before end s' after work
+    → RanRound config.quantum s before end s' after work
+round_so config other s s' before after end work same h =
+    subst (λ (c : Config). RanRound c.quantum s before end s' after work) same h
 
 pub stopped_so : (config other : Config) (s : State) (before after : Telling)
     (asked : Option Question) → other ≡ config → StoppedRound other.quantum s before after asked

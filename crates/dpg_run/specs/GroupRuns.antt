@@ -6,6 +6,8 @@ use Rattle.dos_world.specs.World.{World}
 use Rattle.dos_world.specs.Play.{Play, done, over, questions, asks}
 use Rattle.dos_world.specs.declared.Config.{Config}
 use Rattle.dos_world.specs.declared.Ending.{Ending}
+use Rattle.dos_world.specs.declared.Ending.TheVariants.{Done as done_ending}
+use Rattle.dos_world.specs.declared.Ending.TheVariants.{Stalled as stalled_ending}
 use Rattle.dos_world.specs.declared.Question.{Question}
 use Rattle.dos_io.specs.Exchanges.{question_of, answer_of}
 use Rattle.dos_io.specs.Outside.{IsFront}
@@ -18,6 +20,8 @@ use Rattle.kernel_calls.specs.declared.state.State.{State}
 use Rattle.group_rounds.specs.Plays.{GoesOn}
 use Rattle.group_rounds.specs.StatePlays.{Telling, ToldMore}
 use Rattle.group_rounds.specs.Outside.{is_end}
+use Rattle.group_rounds.specs.declared.round.RoundEnd.{RoundEnd}
+use Rattle.group_rounds.specs.declared.round.RoundEnd.TheVariants.{Went, Done, Stalled}
 use Rattle.dpg_run.specs.Fits.{FitsFrom}
 use Rattle.dpg_run.specs.Machine.{Finish, Ran, machine_from, rounds_from, run_from, ends, needs}
 use Rattle.dpg_run.specs.Machine.{status_in}
@@ -25,6 +29,12 @@ use Rattle.dpg_run.specs.Machine.{status_in}
 -- how a run ended, in which world, after so much work
 abbrev pub finish_in : Ending → World → ℕ → Finish
 finish_in ending w work = record { ending = ending; world = w; work = work }
+
+-- how a run ends with a round that ended so, if it does
+abbrev pub ending_by : RoundEnd → Option Ending
+ending_by Went = None
+ending_by Done = Some done_ending
+ending_by Stalled = Some stalled_ending
 
 -- The rounds of the machine from the old state's world, over the exchanges that are told more, have
 -- ended so, in the new state's world with the bytes that are told more, after so much work.

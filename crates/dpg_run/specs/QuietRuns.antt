@@ -1,22 +1,13 @@
 -- Runs of a group that nothing reaches from outside: no signal comes, no byte of input, and the
 -- clock stands at 0. This project's own rule.
 use Rattle.std.specs.Prelude.{◌≡◌, List, map}
-use Rattle.dos_world.specs.Play.{Play}
 use Rattle.dos_world.specs.declared.Config.{Config}
 use Rattle.dos_io.specs.declared.exchange.Exchange.{Exchange}
 use Rattle.dos_io.specs.Exchanges.{answer_of}
 use Rattle.dos_io.specs.Quiet.{AreQuiet}
 use Rattle.elf_image.specs.Image.{Image}
-use Rattle.group_rounds.specs.Plays.{GoesOn}
 use Rattle.dpg_run.specs.Fits.{Fits}
-use Rattle.dpg_run.specs.Machine.{Finish, Seen, ends, group, machine}
-
--- The run of these images asks the questions of these exchanges, one after another, and each of
--- them has its quiet answer.
-pub record IsQuietFront (images : List Image) (config : Config) (exchanges : List Exchange) :
-    Type 0 where
-  pub quiet : AreQuiet exchanges
-  pub asked : (left : Play Finish) × GoesOn exchanges (group images config) left
+use Rattle.dpg_run.specs.Machine.{Seen, ends, machine}
 
 -- Each question of the whole run has its quiet answer, and this is seen of it.
 pub record RunsQuietly (images : List Image) (config : Config) (seen : Seen) : Type 0 where

@@ -8,7 +8,7 @@ ghost use Rattle.worker_pool.specs.Ran.{GrewBy};
 ghost use Rattle.group_rounds.specs.StatePlays.{telling};
 ghost use Rattle.group_rounds.specs.Outside.{HaveCauses, is_end};
 ghost use Rattle.dpg_run.specs.GroupRuns.{AreEnded, CutGroup, RanGroup, RanRounds, StoppedGroup};
-ghost use Rattle.dpg_run.specs.GroupRuns.{has_failed};
+ghost use Rattle.dpg_run.specs.GroupRuns.{ending_by, has_failed};
 ghost use Rattle.group_rounds.specs.Kernels.{IsBetweenRounds};
 
 use dos_io::{Shim, Sink};
@@ -28,6 +28,17 @@ fn limit_ending(kernel: &Kernel) -> Ending
         Ending::Done
     } else {
         Ending::Limit
+    }
+}
+
+// how a run ends with a round that ended so, if it does
+fn ending_after(end: RoundEnd) -> Option<Ending>
+    ensures { result ≡ ending_by end }
+{
+    match end {
+        RoundEnd::Went => None,
+        RoundEnd::Done => Some(Ending::Done),
+        RoundEnd::Stalled => Some(Ending::Stalled),
     }
 }
 
@@ -71,10 +82,8 @@ fn run_rounds<S: Shim, O: Sink, E: Sink, W: Workers>(
 {
     let rounds = kernel.config().rounds;
     for _round in 0..rounds {
-        match run_round(kernel, shim, out, err, workers)? {
-            RoundEnd::Went => {}
-            RoundEnd::Done => return Ok(Ending::Done),
-            RoundEnd::Stalled => return Ok(Ending::Stalled),
+        if let Some(ending) = ending_after(run_round(kernel, shim, out, err, workers)?) {
+            return Ok(ending);
         }
     }
     Ok(limit_ending(kernel))

@@ -1,5 +1,5 @@
-use Rattle.dpg_run.proofs.QuietRuns.{one_run}
+use Rattle.dpg_run.proofs.QuietRuns.{quiet_once}
 use Rattle.dpg_run.proofs.laws.quiet_runs_are_one.Goals as goal
 
 pub returns : goal.returns
-returns c = one_run
+returns c = quiet_once
