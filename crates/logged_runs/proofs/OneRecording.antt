@@ -2,12 +2,10 @@
 use Rattle.std.proofs.Common.{ℕ, suc, ◌≡◌, refl, sym, ap, ◌∙◌, subst, List, [], ◌∷◌, ◌++◌, map}
 use Rattle.std.proofs.Common.{append_assoc, append-nil, Option, Some}
 use Rattle.std.proofs.lemmas.List.{append_cancel_left, map-append}
-use Rattle.dos_world.specs.Play.{Play, done, ask, questions}
 use Rattle.dos_world.specs.declared.Config.{Config}
 use Rattle.dos_world.specs.declared.Ending.{Ending}
 use Rattle.dos_world.specs.declared.Post.{Post}
-use Rattle.dos_world.specs.declared.Question.{Question}
-use Rattle.dos_io.specs.Exchanges.{answer_of, question_of}
+use Rattle.dos_io.specs.Exchanges.{question_of}
 use Rattle.dos_io.specs.Given.{AreCountedFrom, Given, GivesCounted, GivesHost, GivesInputs}
 use Rattle.dos_io.specs.Given.{GivesPosts, readings}
 use Rattle.dos_io.specs.Hosts.{Told, taken}
@@ -19,7 +17,8 @@ use Rattle.dos_io.proofs.GivenLaws.{given_once, readings_append}
 use Rattle.shim_log.specs.declared.header.LogHeader.{LogHeader}
 use Rattle.shim_log.specs.LogText.{Log, exchanges}
 use Rattle.shim_log.specs.Room.{HadRoom, NoRoom}
-use Rattle.dpg_run.specs.Machine.{Ran, Seen, ends, group, machine}
+use Rattle.dpg_run.specs.Machine.{group}
+use Rattle.dpg_run.proofs.Asked.{Determines, next_asked, one_run}
 use Rattle.dpg_run.proofs.MisfitLaws.{fits_have_none}
 use Rattle.logged_runs.specs.Laws.{FullRunsNeverEnd, RecordedRunsAreOne, RecordingsReplay}
 use Rattle.logged_runs.specs.Replaying.{config_of}
@@ -94,9 +93,6 @@ given_front posts clock k before after es fs g =
 
 -- ---- one list
 
-heads : (q r : Question) (qs rs : List Question) → q ∷ qs ≡ r ∷ rs → (q ≡ r) × (qs ≡ rs)
-heads q r qs rs is = (cc, cc)
-
 lasts_same : (es : List Exchange) (e f : Exchange) → es ++ e ∷ [] ≡ es ++ f ∷ [] → e ≡ f
 lasts_same es e f is =
     let last : e ∷ [] ≡ f ∷ [] = append_cancel_left es (e ∷ []) (f ∷ []) is in cc
@@ -118,33 +114,25 @@ module _ (posts : List (ℕ × Post)) (clock : ClockRule) (host : Told) where
       ∙ ap (λ q. map question_of seen ++ q ∷ []) same
       ∙ sym (map-append question_of seen (f ∷ []))))
 
-  -- behind the same exchanges a play asks one list
-  one_list : {A : Type 0} (seen es fs : List Exchange) (play : Play A) (after other : Option Told)
-      → Given posts clock 0 (Some host) after (seen ++ es)
-      → Given posts clock 0 (Some host) other (seen ++ fs)
-      → questions (map answer_of es) play ≡ map question_of es
-      → questions (map answer_of fs) play ≡ map question_of fs → es ≡ fs
-  one_list seen [] [] play after other g h p q = refl
-  one_list seen [] (f ∷ fs) (done a) after other g h p q = absurd cc
-  one_list seen [] (f ∷ fs) (ask question o e next) after other g h p q = absurd cc
-  one_list seen (e ∷ es) [] (done a) after other g h p q = absurd cc
-  one_list seen (e ∷ es) [] (ask question o n next) after other g h p q = absurd cc
-  one_list seen (e ∷ es) (f ∷ fs) (done a) after other g h p q = absurd cc
-  one_list seen (e ∷ es) (f ∷ fs) (ask question o n next) after other g h p q =
-      let at = heads question (question_of e) (questions (map answer_of es) (next (answer_of e)))
-      (map question_of es) p in
-      let at' = heads question (question_of f) (questions (map answer_of fs) (next (answer_of f)))
-      (map question_of fs) q in
-      let first : e ≡ f =
-      next_same seen e f es fs after other g h (sym at.0 ∙ at'.0) in
-      ap (λ x. x ∷ es) first
-      ∙ ap (λ xs. f ∷ xs)
-      (one_list (seen ++ e ∷ []) es fs (next (answer_of e)) after other
-      (subst (Given posts clock 0 (Some host) after) (sym (append_assoc seen (e ∷ []) es)) g)
-      (subst (Given posts clock 0 (Some host) other)
-      (ap (λ x. seen ++ x ∷ fs) (sym first) ∙ sym (append_assoc seen (e ∷ []) fs)) h) at.1
-      (subst (λ x. questions (map answer_of fs) (next (answer_of x)) ≡ map question_of fs)
-      (sym first) at'.1))
+  -- With the same exchanges in front, both are given.
+  abbrev BothGiven : Option Told → Option Told → List Exchange → List Exchange → Type 0
+  BothGiven after other es fs = (seen : List Exchange)
+      × Given posts clock 0 (Some host) after (seen ++ es)
+      × Given posts clock 0 (Some host) other (seen ++ fs)
+
+  given_determines : (after other : Option Told) → Determines (BothGiven after other)
+  given_determines after other e f es fs given same =
+      let seen = given.0 in
+      let first : e ≡ f = next_same seen e f es fs after other given.1 given.2 same in (
+        first,
+        (
+          seen ++ e ∷ [],
+          subst (Given posts clock 0 (Some host) after) (sym (append_assoc seen (e ∷ []) es))
+              given.1,
+          subst (Given posts clock 0 (Some host) other)
+              (ap (λ x. seen ++ x ∷ fs) (sym first) ∙ sym (append_assoc seen (e ∷ []) fs)) given.2,
+        ),
+      )
 
 -- ---- one log
 
@@ -166,18 +154,13 @@ one_log a b header same =
     ∙ ap (λ (e : Ending). log_of b.header b.entries e a.rounds) ending
     ∙ ap (λ (n : ℕ). log_of b.header b.entries b.ending n) rounds
 
-one_seen : {a b : Seen} → ◌≡◌ {A = Ran} (ends a) (ends b) → a ≡ b
-one_seen is = cc
-
 pub recorded_once : RecordedRunsAreOne
 recorded_once plan host after other_after log other seen other_seen a b =
-    let same : exchanges log ≡ exchanges other =
-    one_list plan.posts plan.clock host [] (exchanges log) (exchanges other)
-    (group plan.images plan.config) after other_after a.given b.given a.ran.fits b.ran.fits in (
-      one_log log other (a.header ∙ sym b.header) same,
-      one_seen (sym a.ran.is
-          ∙ ap (λ es. machine plan.images plan.config (map answer_of es)) same ∙ b.ran.is),
-    )
+    let same = one_run (BothGiven plan.posts plan.clock host after other_after)
+    (given_determines plan.posts plan.clock host after other_after) plan.images plan.config
+    (exchanges log) (exchanges other) seen other_seen ([], a.given, b.given) a.ran.fits b.ran.fits
+    a.ran.is b.ran.is in
+    (one_log log other (a.header ∙ sym b.header) same.0, same.1)
 
 pub recording_replays : RecordingsReplay
 recording_replays plan host after log seen recorded is =
@@ -188,52 +171,6 @@ recording_replays plan host after log seen recorded is =
     (ran, fits_have_none 0 (exchanges log) (group plan.images (config_of log.header)) ran.fits)
 
 -- ---- where a recorder stops, and where it doesn't
-
--- Behind what a play asked of some exchanges, a list that it asks whole has one of its next
--- question.
-record Parted (es fs : List Exchange) (question : Question) : Type 0 where
-  pub next : Exchange
-  pub rest : List Exchange
-  pub whole : es ≡ fs ++ next ∷ rest
-  pub asks : question_of next ≡ question
-
-module _ (posts : List (ℕ × Post)) (clock : ClockRule) (host : Told) where
-  parted : {A : Type 0} (seen es fs : List Exchange) (question : Question) (play : Play A)
-      (after other : Option Told) → Given posts clock 0 (Some host) after (seen ++ es)
-      → Given posts clock 0 (Some host) other (seen ++ fs)
-      → questions (map answer_of es) play ≡ map question_of es
-      → questions (map answer_of fs) play ≡ map question_of fs ++ question ∷ []
-      → Parted es fs question
-  parted seen [] [] question (done a) after other g h p q = absurd cc
-  parted seen (e ∷ es) [] question (done a) after other g h p q = absurd cc
-  parted seen [] [] question (ask first o e next) after other g h p q = absurd cc
-  parted seen (e ∷ es) [] question (ask first o n next) after other g h p q =
-      let at = heads first (question_of e) (questions (map answer_of es) (next (answer_of e)))
-      (map question_of es) p in
-      let at' = heads first question [] [] q in
-      record { next = e; rest = es; whole = refl; asks = sym at.0 ∙ at'.0 }
-  parted seen [] (f ∷ fs) question (done a) after other g h p q = absurd cc
-  parted seen [] (f ∷ fs) question (ask first o e next) after other g h p q = absurd cc
-  parted seen (e ∷ es) (f ∷ fs) question (done a) after other g h p q = absurd cc
-  parted seen (e ∷ es) (f ∷ fs) question (ask first o n next) after other g h p q =
-      let at = heads first (question_of e) (questions (map answer_of es) (next (answer_of e)))
-      (map question_of es) p in
-      let at' = heads first (question_of f) (questions (map answer_of fs) (next (answer_of f)))
-      (map question_of fs ++ question ∷ []) q in
-      let same : e ≡ f =
-      next_same posts clock host seen e f es fs after other g h (sym at.0 ∙ at'.0) in
-      let behind = parted (seen ++ e ∷ []) es fs question (next (answer_of e)) after other
-      (subst (Given posts clock 0 (Some host) after) (sym (append_assoc seen (e ∷ []) es)) g)
-      (subst (Given posts clock 0 (Some host) other)
-      (ap (λ x. seen ++ x ∷ fs) (sym same) ∙ sym (append_assoc seen (e ∷ []) fs)) h) at.1
-      (subst (λ x. questions (map answer_of fs) (next (answer_of x))
-      ≡ map question_of fs ++ question ∷ []) (sym same) at'.1) in
-      record {
-        next = behind.next;
-        rest = behind.rest;
-        whole = ap (λ x. x ∷ es) same ∙ ap (λ xs. f ∷ xs) behind.whole;
-        asks = behind.asks;
-      }
 
 -- each exchange that has a log had room, and the end needs none
 room_at : (header : LogHeader) (posts : List (ℕ × Post)) (seen es fs : List Exchange)
@@ -258,8 +195,9 @@ room_at header posts seen (e ∷ es) (f ∷ fs) next rest ending rounds is had n
 
 pub full_never_ends : FullRunsNeverEnd
 full_never_ends plan host after other_after log seen output error whole full =
-    let parts = parted plan.posts plan.clock host [] (exchanges log) full.before full.question
-    (group plan.images plan.config) after other_after whole.given full.given whole.ran.fits
+    let parts = next_asked (BothGiven plan.posts plan.clock host after other_after)
+    (given_determines plan.posts plan.clock host after other_after) (exchanges log) full.before
+    full.question (group plan.images plan.config) ([], whole.given, full.given) whole.ran.fits
     full.ran.asked in
     room_at plan.header plan.posts [] log.entries full.before parts.next parts.rest log.ending
     log.rounds parts.whole whole.room

@@ -1,5 +1,4 @@
 use Rattle.std.proofs.Common.{◌≡◌, sym, ◌∙◌, Ok, Err}
-use Rattle.std.specs.Prelude.{Result}
 use Rattle.logged_runs.proofs.FromOpening.{is_told}
 use Rattle.logged_runs.proofs.Recordings.{followed, host_rose, no_end_told, recorded}
 use Rattle.logged_runs.proofs.Recordings.{recorded_ahead, stopped, this_stop}
