@@ -1,7 +1,7 @@
 -- Canonical words ask for the same by clap.
 use Rattle.std.proofs.Common.{◌≡◌, ◌∙◌, ◌≤◌, ◌⊎◌, ℕ, inl, inr, Bool, cond, true, false, refl, sym}
 use Rattle.std.proofs.Common.{ap, ap₂, subst, arith, List, [], ◌∷◌, ◌++◌, length, append-nil}
-use Rattle.std.proofs.Common.{Option, Some, None}
+use Rattle.std.proofs.Common.{Option, Some, None, rules}
 use Rattle.std.specs.Prelude.{codes, option_and_then, unwrap_or, slice_get}
 use Rattle.std.specs.List.{list_all, AllByRecursion}
 use Rattle.std.specs.Str.{bytes_eq}
@@ -80,16 +80,10 @@ gen_asks v w (name ∷ names) h = refl
 run_is_built : IsBuilt run (shape_at 0)
 unfolding clap_on_literals
 run_is_built = record {
-  enters = record {
-    no_rules = refl;
-    negates_none = refl;
-    first = refl;
-    turn = refl;
-    finds = refl;
-  };
+  enters = search rules;
   name_is = refl;
   itself = refl;
-  level = record { once = refl; leaf = refl; no_default = refl; no_check = λ rows. refl };
+  level = search rules;
   options = are_options (shape_at 0) run.options refl;
   treats_names = inl (record { by_index = refl; by_id = refl });
   asks = run_asks;
@@ -98,16 +92,10 @@ run_is_built = record {
 replay_is_built : IsBuilt replay (shape_at 1)
 unfolding clap_on_literals
 replay_is_built = record {
-  enters = record {
-    no_rules = refl;
-    negates_none = refl;
-    first = refl;
-    turn = refl;
-    finds = refl;
-  };
+  enters = search rules;
   name_is = refl;
   itself = refl;
-  level = record { once = refl; leaf = refl; no_default = refl; no_check = λ rows. refl };
+  level = search rules;
   options = are_options (shape_at 1) replay.options refl;
   treats_names = inl (record { by_index = refl; by_id = refl });
   asks = replay_asks;
@@ -116,16 +104,10 @@ replay_is_built = record {
 inspect_is_built : IsBuilt inspect (shape_at 2)
 unfolding clap_on_literals
 inspect_is_built = record {
-  enters = record {
-    no_rules = refl;
-    negates_none = refl;
-    first = refl;
-    turn = refl;
-    finds = refl;
-  };
+  enters = search rules;
   name_is = refl;
   itself = refl;
-  level = record { once = refl; leaf = refl; no_default = refl; no_check = λ rows. refl };
+  level = search rules;
   options = are_options (shape_at 2) inspect.options refl;
   treats_names = inl (record { by_index = refl; by_id = refl });
   asks = λ v w names h. inspect_asks v w names;
@@ -134,16 +116,10 @@ inspect_is_built = record {
 gen_is_built : IsBuilt gen (shape_at 3)
 unfolding clap_on_literals
 gen_is_built = record {
-  enters = record {
-    no_rules = refl;
-    negates_none = refl;
-    first = refl;
-    turn = refl;
-    finds = refl;
-  };
+  enters = search rules;
   name_is = refl;
   itself = refl;
-  level = record { once = refl; leaf = refl; no_default = refl; no_check = λ rows. refl };
+  level = search rules;
   options = are_options (shape_at 3) gen.options refl;
   treats_names = inr (refl, λ v name names. refl);
   asks = gen_asks;
