@@ -1,4 +1,5 @@
 pub mod RoundsAsk
+mod Stops
 pub mod FromOpening
 pub mod Recordings
 pub mod Replays

@@ -1,6 +1,6 @@
 -- A run over a recorder that was asked nothing before.
 use Rattle.std.proofs.Common.{ℕ, ◌≡◌, ◌⊎◌, inl, inr, refl, sym, ap, ◌∙◌, subst, List, [], ◌∷◌, ◌++◌}
-use Rattle.std.proofs.Common.{append-nil, Option, Some, None, Err, IsErrOf}
+use Rattle.std.proofs.Common.{append-nil, Option, Some, None}
 use Rattle.std.specs.Prelude.{IfSome, OnSome}
 use Rattle.dos_world.specs.declared.Config.{Config}
 use Rattle.dos_world.specs.declared.Ending.{Ending}
@@ -38,6 +38,7 @@ use Rattle.logged_runs.specs.Runs.{Ended, Put, RanUntil, RanWhole}
 use Rattle.logged_runs.specs.Recording.{Recorded, RecordedAhead, RecordedUntil, plan_of}
 use Rattle.logged_runs.proofs.FromOpening.{ran_ahead, ran_until, ran_whole, put_ahead, put_until}
 use Rattle.logged_runs.proofs.FromOpening.{until_no_end}
+use Rattle.logged_runs.proofs.Stops.{stops_so}
 use Rattle.std.proofs.Common.{◌≤◌, length}
 
 -- ---- the entries of a log, and those of the ledger that it was made of
@@ -92,13 +93,6 @@ may_stop s t question stop header posts clock h =
     MayStop (record (empty_ledger t.posts x t.header 0) { entries = t.entries }) question stop)
     clock (same_stop t question stop h)))
 
-stops_so : (asked : Option Question) (last : Option ShimStop) (question : Question)
-    (stop : ShimStop) (P : Question → ShimStop → Type 0) → asked ≡ Some question → last ≡ Some stop
-    → IfSome asked (λ q. IfSome last (P q)) → P question stop
-stops_so asked last question stop P at so h =
-    subst (λ (o : Option ShimStop). IfSome o (P question)) so
-    (subst (λ (o : Option Question). IfSome o (λ q. IfSome last (P q))) at h)
-
 -- ---- the host, from one moment to another at which it is the same
 
 pub followed : {H : Type 0} (told : H → Option Told) (faults : H → ℕ) (start after : LedgerState)
@@ -114,9 +108,6 @@ pub no_end_told : (start start' : LedgerState) → start ≡ start'
     → HasNoEnd (recorder_state start).told
 no_end_told start start' same begins =
     subst (λ (s : LedgerState). HasNoEnd (recorder_state s).told) (sym (same ∙ begins)) tt
-
-pub this_stop : (stop other : RunStop) → IsErrOf {T = Ending × Log} (Err stop) other → stop ≡ other
-this_stop stop other is = cc
 
 -- ---- the run
 

@@ -1,7 +1,7 @@
 -- A run over a replayer that was asked nothing before.
 use Rattle.std.proofs.Common.{ℕ, ◌≡◌, sym, ap, ◌∙◌, subst, List, [], length, Option, Some, None}
-use Rattle.std.proofs.Common.{Err, IsErrOf, arith}
-use Rattle.std.specs.Prelude.{IfSome, OnSome}
+use Rattle.std.proofs.Common.{arith}
+use Rattle.std.specs.Prelude.{OnSome}
 use Rattle.dos_world.specs.declared.Ending.{Ending}
 use Rattle.dos_world.specs.declared.Misfit.{Misfit}
 use Rattle.dos_world.specs.declared.Question.{Question}
@@ -33,6 +33,7 @@ use Rattle.logged_runs.specs.Opened.{IsOpenedWith}
 use Rattle.logged_runs.specs.Runs.{Ended, Put, RanWhole}
 use Rattle.logged_runs.specs.Replaying.{Replayed, ReplayedAhead, ReplayedUntil, StopsReplay}
 use Rattle.logged_runs.specs.Replaying.{config_of}
+use Rattle.logged_runs.proofs.Stops.{stops_so}
 use Rattle.logged_runs.proofs.FromOpening.{ran_ahead, ran_until, ran_whole, put_ahead, put_until}
 
 abbrev some_misfit : Misfit → ShimStop
@@ -53,18 +54,6 @@ pub same_log : (s p : ReplayState) (log : Log) → s ≡ asked_nothing log → F
     → p.log ≡ log
 same_log s p log is follows = follows.log_same ∙ ap (λ (r : ReplayState). r.log) is
 
-pub this_stop : (stop : RunStop) (found : Misfit)
-    → IsErrOf {T = Ending} (Err stop) (MisfitFound found) → stop ≡ MisfitFound found
-this_stop stop found is = cc
-
--- where the last call stopped, so did it for a misfit
-misfit_of : (p : ReplayState) (asked : Option Question) (last : Option ShimStop)
-    (question : Question) (stop : ShimStop) → asked ≡ Some question → last ≡ Some stop
-    → IfSome asked (λ q. IfSome last (IsMisfitOf p q)) → IsMisfitOf p question stop
-misfit_of p asked last question stop at so h =
-    subst (λ (x : Option ShimStop). IfSome x (IsMisfitOf p question)) so
-    (subst (λ (x : Option Question). IfSome x (λ q. IfSome last (IsMisfitOf p q))) at h)
-
 module _ (k : Held) (before : List Exchange) (p : ReplayState) (o e o1 e1 : Option (List ℕ))
     (fresh : before ≡ []) where
   abbrev told : List Exchange
@@ -78,7 +67,8 @@ module _ (k : Held) (before : List Exchange) (p : ReplayState) (o e o1 e1 : Opti
   misfit_only : (stop : ShimStop) → Stopped → p.last ≡ Some stop → IsReplay p
       → (m : Misfit) × (stop ≡ stops.Misfit m)
   misfit_only stop run last kept =
-      let is = misfit_of p p.asked p.last run.question stop run.asked_is last kept.stop in
+      let is = stops_so p.asked p.last run.question stop (IsMisfitOf p) run.asked_is last kept.stop
+      in
       (record { entry = p.answered; kept = is.kept; asked = run.question }, is.says)
 
   pub only : (stop : RunStop) → OnSome (shim_stop stop) Stopped → (was : ReplayState)
@@ -115,8 +105,8 @@ module _ (k : Held) (before : List Exchange) (p : ReplayState) (o e o1 e1 : Opti
         → (output : List ℕ) × (error : List ℕ)
         × ReplayedUntil images p.log found output error × Put o e o1 e1 output error
     until found run last kept =
-        let is = misfit_of p p.asked p.last run.question (stops.Misfit found) run.asked_is last
-        kept.stop in
+        let is = stops_so p.asked p.last run.question (stops.Misfit found) (IsMisfitOf p)
+        run.asked_is last kept.stop in
         let next : StandsNext p is.kept = stands_next p run.question (stops.Misfit found) is in
         let here : Misfit =
         record { entry = p.answered; kept = is.kept; asked = run.question } in

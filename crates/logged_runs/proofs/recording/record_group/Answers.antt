@@ -1,7 +1,8 @@
-use Rattle.std.proofs.Common.{◌≡◌, sym, ◌∙◌, Ok, Err}
+use Rattle.std.proofs.Common.{sym, ◌∙◌}
+use Rattle.logged_runs.proofs.Stops.{not_stopped, this_stop}
 use Rattle.logged_runs.proofs.FromOpening.{is_told}
 use Rattle.logged_runs.proofs.Recordings.{followed, host_rose, no_end_told, recorded}
-use Rattle.logged_runs.proofs.Recordings.{recorded_ahead, stopped, this_stop}
+use Rattle.logged_runs.proofs.Recordings.{recorded_ahead, stopped}
 use Rattle.logged_runs.proofs.recording.record_group.Goals as goal
 
 pub run_group-requires-clause-running : goal.run_group-requires-clause-running
@@ -18,10 +19,6 @@ pub into_parts-host-requires : goal.into_parts-host-requires
 into_parts-host-requires g c =
     let run = c.in-Ok.ensures in
     record { ended = is_told _ _ _ run.told_end }
-
--- what ended hasn't stopped
-not_stopped : {T E : Type 0} (x : T) (e : E) → Ok x ≡ Err e → ⊥
-not_stopped x e is = cc
 
 pub returns-in-Ok : goal.returns-in-Ok
 returns-in-Ok g c =
@@ -67,7 +64,7 @@ returns-in-Err g c =
           c.run_group.new.shim.ledger _ _ _ _ (g.O.Sink.told c.args.out.now) (g.E.Sink.told
           c.args.err.now) (g.O.Sink.told c.args.out.now)
           (g.E.Sink.told c.args.err.now) c.of-shim.ensures.ledger c.requires.begins follows
-          c.in-Err.stop run.causes.shim (this_stop _ _ is);
+          c.in-Err.stop run.causes.shim (this_stop _ _ _ is);
       sinks = run.causes.sinks;
       host_later = follows.grows;
       out_later = run.causes.out_later;

@@ -1,9 +1,10 @@
-use Rattle.std.proofs.Common.{◌≡◌, sym, subst, Ok, Err}
+use Rattle.std.proofs.Common.{sym, subst}
 use Rattle.dos_io.specs.Shims.{HasNoEnd}
 use Rattle.shim_log.specs.Replay.{replayer_state}
+use Rattle.logged_runs.proofs.Stops.{not_stopped, this_stop}
 use Rattle.logged_runs.proofs.FromOpening.{is_told}
 use Rattle.logged_runs.proofs.Replays.{only, replayed, replayed_ahead, replayed_until, nothing_told}
-use Rattle.logged_runs.proofs.Replays.{same_log, this_stop}
+use Rattle.logged_runs.proofs.Replays.{same_log}
 use Rattle.logged_runs.proofs.replaying.replay_group.Goals as goal
 
 pub run_group-requires-clause-running : goal.run_group-requires-clause-running
@@ -15,10 +16,6 @@ run_group-requires-clause-fresh g c = λ κs alive. c.requires.fresh
 pub run_group-requires-clause-told : goal.run_group-requires-clause-told
 run_group-requires-clause-told g c = λ κs alive.
     subst HasNoEnd (sym (nothing_told _ _ c.new-shim.ensures)) tt
-
--- what ended hasn't stopped
-not_stopped : {T E : Type 0} (x : T) (e : E) → Ok x ≡ Err e → ⊥
-not_stopped x e is = cc
 
 pub returns-in-Ok : goal.returns-in-Ok
 returns-in-Ok g c =
@@ -47,7 +44,7 @@ returns g c =
       ran = tt;
       misfit = λ found is images opened. replayed_until c.args.kernel.now
           (replayer_state c.new-shim.result).told c.run_group.new.shim _ _ _ _ told c.args.log log
-          images opened c.in-Err.stop found c.new-shim.result (this_stop _ _ is) run.asks
+          images opened c.in-Err.stop found c.new-shim.result (this_stop _ _ _ is) run.asks
           run.causes.shim c.look.ensures;
       cut = λ images opened. replayed_ahead c.args.kernel.now
           (replayer_state c.new-shim.result).told c.run_group.new.shim _ _ _ _ told c.args.log log
