@@ -1,12 +1,10 @@
 -- A group of the image that is made from a number needs few frames.
 use Rattle.std.proofs.Common.{◌≡◌, ℕ, ◌+◌, ◌-◌, ◌*◌, ◌/◌, ◌≤◌, Bool, true, false, List, [], ◌∷◌}
-use Rattle.std.proofs.Common.{◌++◌, length, map, refl, length-append, arith}
+use Rattle.std.proofs.Common.{◌++◌, length, length-append, arith}
 use Rattle.std.specs.Prelude.{nat_lt, ◌==◌, if◌then◌else◌}
-use Rattle.rv_isa.specs.Encoding.{encoding}
-use Rattle.rv_asm.specs.File.{code_of}
 use Rattle.group_open.specs.Opening.{needed, pages_touched, rising, with_number}
 use Rattle.group_open.proofs.Runs.{length_run}
-use Rattle.generated_group.specs.Generated.{generated, pages_part, program, program_part}
+use Rattle.generated_group.specs.Generated.{generated, pages_part, program_part}
 
 -- ---- a list in rising order is no longer than the list
 
@@ -39,10 +37,6 @@ length-rising_two ns ms =
     )
 
 -- ---- the pages of the two parts
-
-length-program : (number threads : ℕ)
-    → length (code_of (map encoding (program number threads))) ≡ 200
-length-program number threads = refl
 
 program_pages : (number threads : ℕ) → length (pages_touched (program_part number threads)) ≡ 1
 program_pages number threads = length_run 16 1
