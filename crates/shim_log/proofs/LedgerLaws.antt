@@ -8,24 +8,24 @@ use Rattle.dos_world.specs.declared.Ending.{Ending}
 use Rattle.dos_io.specs.declared.exchange.Exchange.{Exchange}
 use Rattle.dos_io.specs.declared.exchange.ClockRule.{ClockRule}
 use Rattle.dos_io.specs.declared.shim.ShimStop.{ShimStop}
-use Rattle.dos_io.specs.declared.shim.ShimStop.TheVariants.{LogFull, HostFault, Memory, Misfit}
+use Rattle.dos_io.specs.declared.shim.ShimStop.TheVariants.{HostFault}
 use Rattle.dos_io.specs.Exchanges.{question_of}
 use Rattle.dos_io.specs.Hosts.{Told}
 use Rattle.dos_io.specs.Given.{readings, Given}
-use Rattle.dos_io.specs.Shims.{Stopped, HasNoEnd}
+use Rattle.dos_io.specs.Shims.{HasNoEnd}
 use Rattle.dos_io.specs.Outside.{Rose}
 use Rattle.dos_io.proofs.GivenLaws.{given_none}
 use Rattle.shim_log.specs.declared.header.LogHeader.{LogHeader}
 use Rattle.shim_log.specs.LogText.{entry_text, entries_text, logtext}
-use Rattle.shim_log.specs.Ranges.{FitsHeader, FitsLog, InRange, NotEnd, AreEntries, FitsInput}
+use Rattle.shim_log.specs.Ranges.{FitsHeader, InRange, NotEnd, AreEntries, FitsInput}
 use Rattle.shim_log.specs.Ranges.{FitsClock}
 use Rattle.shim_log.proofs.LengthLaws.{header_length, signals_length, input_length, text_length}
 use Rattle.dos_io.specs.declared.exchange.Exchange.TheVariants.{Signals, Input, Clock, End}
 use Rattle.dos_io.specs.Posts.{ArePosts}
 use Rattle.dos_io.specs.Given.{posts_in}
 use Rattle.shim_log.specs.Room.{most_bytes, IsOver, NoRoom, HadRoom}
-use Rattle.shim_log.specs.Ledger.{LedgerState, ArePlanned, end_of, recorder_state, MayStop}
-use Rattle.shim_log.specs.Ledger.{IsNoMisfit, IsLedger, stopped, added, closed, Follows}
+use Rattle.shim_log.specs.Ledger.{LedgerState, ArePlanned, end_of, recorder_state}
+use Rattle.shim_log.specs.Ledger.{IsLedger, stopped, added, Follows}
 use Rattle.shim_log.proofs.EntriesTextLaws.{all_push, text_push}
 use Rattle.shim_log.proofs.LogLaws.{entries_short}
 
@@ -72,53 +72,6 @@ few_entries b is = few_is _ _ _ (entries_short b.entries) is.small
   where
     few_is : (h t k : ℕ) → k ≤ t → h + t + 6 ≤ 67108864 → k < 67108864
     few_is h t k le small = omega arith
-
-no_misfit : (b : LedgerState) (q : Question) (stop : ShimStop) → MayStop b q stop → IsNoMisfit stop
-no_misfit b q LogFull may = tt
-no_misfit b q HostFault may = tt
-no_misfit b q Memory may = tt
-no_misfit b q (Misfit misfit) may = may
-
-may_still : (b c : LedgerState) (q : Question) (stop : ShimStop) → MayStop b q stop
-    → c.header ≡ b.header → c.posts ≡ b.posts → c.entries ≡ b.entries → c.clock ≡ b.clock
-    → MayStop c q stop
-may_still b c q LogFull may h p e k = rw (h, p, e) may
-may_still b c q HostFault may h p e k = rw (h, p, e, k) may
-may_still b c q Memory may h p e k = rw (h, p, e) may
-may_still b c q (Misfit misfit) may h p e k = may
-
-pub ledger_stops : (b : LedgerState) (q : Question) (stop : ShimStop) → IsLedger b
-    → MayStop b q stop → IsLedger (stopped b q stop)
-ledger_stops b q stop is may = record {
-  posts = is.posts;
-  posts_few = is.posts_few;
-  header = is.header;
-  entries = is.entries;
-  had_room = is.had_room;
-  stop = may_still b (stopped b q stop) q stop may refl refl refl refl;
-  never = no_misfit b q stop may;
-  small = is.small;
-}
-
-pub ledger_closes : (b : LedgerState) (ending : Ending) (rounds : ℕ) → IsLedger b
-    → IsLedger (closed b ending rounds)
-ledger_closes b ending rounds is = record {
-  posts = is.posts;
-  posts_few = is.posts_few;
-  header = is.header;
-  entries = is.entries;
-  had_room = is.had_room;
-  stop = tt;
-  never = is.never;
-  small = is.small;
-}
-
--- what a shim shows after a stop
-pub shows_stop : (b c : LedgerState) (q : Question) (stop : ShimStop) → c ≡ stopped b q stop
-    → Stopped (recorder_state b) q stop (recorder_state c)
-shows_stop b c q stop e =
-    subst (λ (x : LedgerState). Stopped (recorder_state b) q stop (recorder_state x)) (sym e)
-    (record { told = refl; stops = refl; last = refl; asked = refl })
 
 abbrev the_stop : ShimStop → Option ShimStop
 the_stop s = Some s
@@ -227,15 +180,6 @@ has_end b is none wrong =
     wrong (subst HasNoEnd
     (sym (ap (λ (x : Option (Ending × ℕ)). b.entries ++ end_of x) none ∙ append-nil b.entries))
     (entries_no_end b.entries is.entries))
-
-pub log_fits : (b : LedgerState) (ending : Ending) (rounds : ℕ) → IsLedger b → rounds < 2 ^ 32
-    → FitsLog (record { header = b.header; entries = b.entries; ending = ending; rounds = rounds })
-log_fits b ending rounds is low = record {
-  header = is.header;
-  entries = is.entries;
-  few = omega (arith, few_entries b is);
-  rounds = low;
-}
 
 -- the log of its entries is no longer than a log may be
 pub small_text : (b : LedgerState) (ending : Ending) (rounds : ℕ) → IsLedger b

@@ -68,11 +68,6 @@ behind_ok : {Y : Type 0} (read : Result (Y × List ℕ) LogError) (rest : List �
 behind_ok (Ok x) rest e = (x.0, ap (λ (left : List ℕ). Ok (x.0, left)) (ok_is x.1 rest e))
 behind_ok (Err d) rest e = absurd cc
 
-pub behind_err : {Y : Type 0} (read : Result (Y × List ℕ) LogError) (e : LogError)
-    → behind read ≡ Err e → read ≡ Err e
-behind_err (Ok x) e is = absurd cc
-behind_err (Err d) e is = let same : d ≡ e = cc in ap (λ (x : LogError). Err x) same
-
 -- The bytes before the rest are the text of these posts.
 pub record PostsIn (count end : ℕ) (bytes rest : List ℕ) : Type 0 where
   pub short : length rest ≤ length bytes

@@ -47,7 +47,7 @@ is_next p h = end_is_last p.log.entries p.log.ending p.log.rounds p.answered h
 
 -- ---- what is read at its place
 
-pub get_left : (es fs : List Exchange) (k : ℕ) → k < length es
+get_left : (es fs : List Exchange) (k : ℕ) → k < length es
     → slice_get (es ++ fs) k ≡ slice_get es k
 get_left [] fs k lt = absurd (omega arith)
 get_left (e ∷ es) fs zero lt = refl
@@ -79,16 +79,16 @@ pub never_refused : (es : List Exchange) (k end : ℕ) (left : List ℕ) (refusa
     → NextIs es k end left → entry_at end left ≡ Err refusal → ⊥
 never_refused es k end left refusal n is = absurd (let e = sym n.read ∙ is in cc)
 
-pub read_is : (es : List Exchange) (k end : ℕ) (left : List ℕ) (e : Exchange) (rest : List ℕ)
+read_is : (es : List Exchange) (k end : ℕ) (left : List ℕ) (e : Exchange) (rest : List ℕ)
     → NextIs es k end left → entry_at end left ≡ Ok (e, rest)
     → (slice_get es k ≡ Some e) × (rest ≡ entries_text (drop (k + 1) es))
     × (left ≡ entry_text e ++ rest)
 read_is es k end left e rest n is =
+    let next : suc k ≡ k + 1 = omega arith in
     let same : (n.entry, entries_text (drop (suc k) es)) ≡ (e, rest) =
     ok_is (n.entry, entries_text (drop (suc k) es)) (e, rest) (sym n.read ∙ is) in
     let one : n.entry ≡ e = ap (λ (x : Exchange × List ℕ). x.0) same in
-    let two : entries_text (drop (suc k) es) ≡ rest = ap (λ (x : Exchange × List ℕ). x.1) same in
-    let next : suc k ≡ k + 1 = omega arith in (
+    let two : entries_text (drop (suc k) es) ≡ rest = ap (λ (x : Exchange × List ℕ). x.1) same in (
       n.got ∙ ap (λ (x : Exchange). Some x) one,
       sym two ∙ ap (λ (i : ℕ). entries_text (drop i es)) next,
       n.parts ∙ ap (λ (x : Exchange). entry_text x ++ entries_text (drop (suc k) es)) one
@@ -96,7 +96,7 @@ read_is es k end left e rest n is =
     )
 
 -- the bytes behind it, in the whole text
-pub rest_is : (text front rest : List ℕ) (place : ℕ) → drop place text ≡ front ++ rest
+rest_is : (text front rest : List ℕ) (place : ℕ) → drop place text ≡ front ++ rest
     → (length rest ≤ length text) × (drop (length text - length rest) text ≡ rest)
 rest_is text front rest place is =
     let whole : text ≡ (take place text ++ front) ++ rest =
@@ -109,6 +109,26 @@ rest_is text front rest place is =
           ∙ drop_at (take place text ++ front) rest (length text - length rest)
           (omega (arith, long)),
     )
+
+-- What is read of the text is the next entry, and behind it are those that follow.
+pub record ReadsNext (p : ReplayState) (text rest : List ℕ) (e : Exchange) : Type 0 where
+  pub entry : slice_get (exchanges p.log) p.answered ≡ Some e
+  pub within : length rest ≤ length text
+  pub place : drop (length text - length rest) text
+      ≡ entries_text (drop (p.answered + 1) p.log.entries)
+
+pub reads_next : (p : ReplayState) (place : ℕ) (text left rest : List ℕ) (e : Exchange)
+    → p.answered < length p.log.entries → NextIs p.log.entries p.answered (length text) left
+    → left ≡ drop place text → entry_at (length text) left ≡ Ok (e, rest)
+    → ReadsNext p text rest e
+reads_next p place text left rest e less next here is =
+    let read = read_is p.log.entries p.answered (length text) left e rest next is in
+    let behind = rest_is text (entry_text e) rest place (sym here ∙ read.2) in
+    record {
+      entry = get_left p.log.entries (End p.log.ending p.log.rounds ∷ []) p.answered less ∙ read.0;
+      within = behind.0;
+      place = behind.1 ∙ read.1;
+    }
 
 -- ---- what it tells after an answer
 

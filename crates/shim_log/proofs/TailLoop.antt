@@ -23,10 +23,6 @@ with_log front read = read >>= λ x. Ok (record x.0 { entries = front ++ x.0.ent
 abbrev in_front : Exchange → Result (Log × List ℕ) LogError → Result (Log × List ℕ) LogError
 in_front e more = more >>= λ read. Ok (record read.0 { entries = e ∷ read.0.entries }, read.1)
 
-nothing_before : (read : Result (Log × List ℕ) LogError) → with_log [] read ≡ read
-nothing_before (Ok x) = refl
-nothing_before (Err d) = refl
-
 joined : (front : List Exchange) (e : Exchange) (read : Result (Log × List ℕ) LogError)
     → with_log front (in_front e read) ≡ with_log (front ++ e ∷ []) read
 joined front e (Ok x) =
@@ -82,17 +78,6 @@ pub record Walked (end : ℕ) (bytes rest : List ℕ) (count : ℕ) : Type 0 whe
   pub so_far : (header : LogHeader)
       → with_log es (tail_at (length bytes - count) header end rest)
       ≡ tail_at (length bytes) header end bytes
-
-pub walk_begins : (end : ℕ) (bytes : List ℕ) → Walked end bytes bytes 0
-walk_begins end bytes = record {
-  es = [];
-  split = refl;
-  fits = tt;
-  count_is = refl;
-  so_far = λ header.
-      let all : length bytes - 0 ≡ length bytes = omega arith in
-      rw all (nothing_before (tail_at (length bytes) header end bytes));
-}
 
 module _ (end : ℕ) (bytes rest : List ℕ) (count : ℕ) (w : Walked end bytes rest count) where
   pub rest_short : length rest ≤ length bytes
