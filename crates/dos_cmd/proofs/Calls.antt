@@ -25,7 +25,7 @@ use Rattle.dos_texts.specs.declared.refusal.Refusal.TheVariants as refusals
 use Rattle.dos_words.specs.Numbers.{Text}
 use Rattle.dos_words.specs.Request.{request}
 use Rattle.dos_words.specs.declared.request.Request.{Request}
-use Rattle.dos_words.specs.declared.request.Request.TheVariants.{Run, Replay, Inspect, Gen}
+use Rattle.dos_words.specs.declared.request.Request.TheVariants.{Run, Replay, Gen}
 use Rattle.dos_cmd.specs.Judging.{Taken, judgement}
 use Rattle.dos_cmd.specs.Outside.{Outside, Faults, OutputFailed, Says}
 use Rattle.dos_cmd.specs.ReplayLeaves.{DidReplay, Misfitted}
@@ -119,10 +119,8 @@ replayed_must words w log names taken n o h = of_log taken.log h
 
 did_must : (words : List Text) (asked : Request) (taken : Taken) (n : ℕ) (o : Outside)
     → Did asked taken n o → MustDo asked taken n o
-did_must words (Run q r f w posts from step log names) taken n o h = λ full. h
 did_must words (Replay w log names) taken n o h = replayed_must words w log names taken n o h
-did_must words (Inspect name) taken n o h = λ full. h
-did_must words (Gen number threads w) taken n o h = λ full. h
+did_must words asked taken n o h = λ full. h
 
 pub finished_must : (words : List Text) (n : ℕ) (o : Outside) (asked : Request) (taken : Taken)
     → Finished words n o → request words ≡ Some asked → judgement o.files asked ≡ Some (Ok taken)
@@ -145,14 +143,6 @@ leaves_status : (asked : Request) (o : Outside) (f : Faults) (why other : Refusa
     → refusal_status why ≡ refusal_status other
 unfolding refusal_status
 leaves_status asked o f refusals.Words other last h told a b d = absurd h
-leaves_status asked o f (refusals.TooLong image) other last h told a b d =
-    ap refusal_status (sym (refused_is o asked (refusals.TooLong image) other last h told))
-leaves_status asked o f (refusals.Image image error) other last h told a b d =
-    ap refusal_status (sym (refused_is o asked (refusals.Image image error) other last h told))
-leaves_status asked o f (refusals.NoRoom needed frames) other last h told a b d =
-    ap refusal_status (sym (refused_is o asked (refusals.NoRoom needed frames) other last h told))
-leaves_status asked o f (refusals.Log log) other last h told a b d =
-    ap refusal_status (sym (refused_is o asked (refusals.Log log) other last h told))
 leaves_status asked o f (refusals.Misfit found) other last h told a b d =
     absurd (taken_not o asked (λ taken. HasMisfit asked taken found last o) other h told)
 leaves_status asked o f refusals.Files other last h told a b d = absurd (a refl)
@@ -161,12 +151,13 @@ leaves_status asked o f refusals.Sink other last h told a b d = absurd (b refl)
 leaves_status asked o f refusals.LogFull other last h told a b d =
     absurd (taken_not o asked (λ taken. Stopped asked taken stops.LogFull last o) other h told)
 leaves_status asked o f refusals.Memory other last h told a b d = absurd (d refl)
+leaves_status asked o f why other last h told a b d =
+    ap refusal_status (sym (refused_is o asked why other last h told))
 
 -- of a misfit, in a replay
 misfit_must : (asked : Request) (taken : Taken) (found : Misfit) (n : ℕ) (o : Outside)
     → n ≡ refusal_status (refusals.Misfit found)
     → HasMisfit asked taken found (line_of (refusals.Misfit found)) o → MustDo asked taken n o
-misfit_must (Run q r f w posts from step log names) taken found n o is h = absurd h
 misfit_must (Replay w log names) taken found n o is h = of_log taken.log h
   where
     of_log : (read : Option Log)
@@ -176,30 +167,19 @@ misfit_must (Replay w log names) taken found n o is h = of_log taken.log h
     of_log None h = absurd h
     of_log (Some l) h =
         subst (λ (m : Option Misfit). MustReplay m l taken n o) (sym h.replayed.is) (is, h)
-misfit_must (Inspect name) taken found n o is h = absurd h
-misfit_must (Gen number threads w) taken found n o is h = absurd h
+misfit_must asked taken found n o is h = absurd h
 
 -- of a log that is full, in a run
 full_must : (asked : Request) (taken : Taken) (last : List ℕ) (n : ℕ) (o : Outside) → n ≡ 10
     → Stopped asked taken stops.LogFull last o → MustDo asked taken n o
 full_must (Run q r f w posts from step log names) taken last n o is h = λ full. absurd (full is)
-full_must (Replay w log names) taken last n o is h = absurd h
-full_must (Inspect name) taken last n o is h = absurd h
-full_must (Gen number threads w) taken last n o is h = absurd h
+full_must asked taken last n o is h = absurd h
 
 leaves_must : (asked : Request) (taken : Taken) (o : Outside) (f : Faults) (why : Refusal) (n : ℕ)
     → n ≡ refusal_status why → Leaves asked o f why (line_of why)
     → judgement o.files asked ≡ Some (Ok taken) → n ≢ 5 → n ≢ 6 → n ≢ 9 → MustDo asked taken n o
 unfolding refusal_status
 leaves_must asked taken o f refusals.Words n is h told a b d = absurd h
-leaves_must asked taken o f (refusals.TooLong image) n is h told a b d =
-    absurd (refused_not o asked (refusals.TooLong image) _ taken h told)
-leaves_must asked taken o f (refusals.Image image error) n is h told a b d =
-    absurd (refused_not o asked (refusals.Image image error) _ taken h told)
-leaves_must asked taken o f (refusals.NoRoom needed frames) n is h told a b d =
-    absurd (refused_not o asked (refusals.NoRoom needed frames) _ taken h told)
-leaves_must asked taken o f (refusals.Log log) n is h told a b d =
-    absurd (refused_not o asked (refusals.Log log) _ taken h told)
 leaves_must asked taken o f (refusals.Misfit found) n is h told a b d =
     let same = taken_is o asked
     (λ t. HasMisfit asked t found (line_of (refusals.Misfit found)) o) taken h told in
@@ -214,6 +194,8 @@ leaves_must asked taken o f refusals.LogFull n is h told a b d =
     subst (λ (t : Taken). MustDo asked t n o) same
     (full_must asked h.taken (line_of refusals.LogFull) n o is h.so)
 leaves_must asked taken o f refusals.Memory n is h told a b d = absurd (d is)
+leaves_must asked taken o f why n is h told a b d =
+    absurd (refused_not o asked why _ taken h told)
 
 memory_status : (n : ℕ) (why : Refusal) → n ≡ refusal_status why → why ≡ refusals.Memory → n ≡ 9
 unfolding refusal_status

@@ -35,6 +35,7 @@ use Rattle.logged_runs.specs.Opened.{IsOpenedWith}
 use Rattle.dos_texts.specs.Exit.{ending_status}
 use Rattle.dos_texts.specs.Printed.{output_line, sha256_line, summary_of}
 use Rattle.dos_texts.specs.Report.{process_lines, rounds_line}
+use Rattle.dos_texts.proofs.Pieces.{both_told, first_fails, second_fails}
 use Rattle.dos_texts.specs.declared.refusal.Refusal.{Refusal}
 use Rattle.dos_texts.specs.declared.refusal.Refusal.TheVariants as refusals
 use Rattle.dos_words.specs.Numbers.{Text}
@@ -119,23 +120,45 @@ quiet_run k k' before after begun bytes ending work count digest tally tally' fo
 
 -- ---- the summary
 
-pub summary_is : (statuses : List (Option ℕ)) (rounds : ℕ) (ending : Ending) (count : ℕ)
-    (digest : List ℕ)
-    → (rounds_line rounds ending ++ process_lines 1 statuses)
-    ++ (output_line count ++ sha256_line digest) ≡ summary_of statuses rounds ending count digest
-summary_is statuses rounds ending count digest =
-    sym (append_assoc (rounds_line rounds ending ++ process_lines 1 statuses) (output_line count)
-    (sha256_line digest))
+-- It is put in two pieces: how the run has ended, and then what it has printed.
+module _ (statuses : List (Option ℕ)) (rounds : ℕ) (ending : Ending) (count : ℕ)
+    (digest : List ℕ) where
+  abbrev ended_lines : List ℕ
+  ended_lines = rounds_line rounds ending ++ process_lines 1 statuses
 
--- what is told, in another spelling
-pub told_by : {T E : Type 0} (r : Result T E) (told now : Option (List ℕ)) (one other : List ℕ)
-    → one ≡ other → OnOk r (now ≡ grown told one) → OnOk r (now ≡ grown told other)
-told_by r told now one other is h = subst (λ (l : List ℕ). OnOk r (now ≡ grown told l)) is h
+  abbrev printed_lines : List ℕ
+  printed_lines = output_line count ++ sha256_line digest
 
-pub front_by : {T E : Type 0} (r : Result T E) (told now : Option (List ℕ)) (one other : List ℕ)
-    → one ≡ other → OnErr r (GrewByFront told now one) → OnErr r (GrewByFront told now other)
-front_by r told now one other is h =
-    subst (λ (l : List ℕ). OnErr r (GrewByFront told now l)) is h
+  abbrev summary : List ℕ
+  summary = summary_of statuses rounds ending count digest
+
+  summary_is : ended_lines ++ printed_lines ≡ summary
+  summary_is = sym (append_assoc ended_lines (output_line count) (sha256_line digest))
+
+  -- the first fails
+  pub summary_unended : (told now : Option (List ℕ)) → GrewByFront told now ended_lines
+      → GrewByFront told now summary
+  summary_unended told now front =
+      subst (λ (l : List ℕ). GrewByFront told now l) summary_is
+      (first_fails told now ended_lines ended_lines printed_lines refl front)
+
+  -- both are told
+  pub summary_told : {T E : Type 0} (r : Result T E) (told ended now : Option (List ℕ))
+      → ended ≡ grown told ended_lines → OnOk r (now ≡ grown ended printed_lines)
+      → OnOk r (now ≡ grown told summary)
+  summary_told r told ended now first second =
+      subst (λ (l : List ℕ). OnOk r (now ≡ grown told l)) summary_is
+      (both_told r told ended now ended_lines ended_lines printed_lines printed_lines refl refl
+      first second)
+
+  -- the second fails
+  pub summary_unprinted : {T E : Type 0} (r : Result T E) (told ended now : Option (List ℕ))
+      → ended ≡ grown told ended_lines → OnErr r (GrewByFront ended now printed_lines)
+      → OnErr r (GrewByFront told now summary)
+  summary_unprinted r told ended now first second =
+      subst (λ (l : List ℕ). OnErr r (GrewByFront told now l)) summary_is
+      (second_fails r told ended now ended_lines ended_lines printed_lines printed_lines refl refl
+      first second)
 
 pub same_rounds : (bytes text line : List ℕ) (rounds count : ℕ) (ending : Ending) → bytes ≡ text
     → text ≡ line → line ≡ rounds_line rounds ending → rounds ≡ count

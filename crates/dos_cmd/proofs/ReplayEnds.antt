@@ -118,11 +118,6 @@ Whole kernel after log ending out err out_after err_then tally tally_after =
     (i : List Image) → IsOpenedWith kernel i (config_of log.header) → (seen : Seen)
     × Replayed i log seen × Ended after ending seen out err out_after err_then tally tally_after
 
--- Files and host stay.
-stays_here : (o : Outside) → ((name : Text) → o.files_after name ≡ o.files name)
-    → o.host_after ≡ o.host → StaysAll o
-stays_here o files host = record { files_stay = files; host_stays = host }
-
 module _ (log : Log) (images : List Image) (kernel after : Held) (ending : Ending)
     (out err out1 err_then err1 : Option (List ℕ)) (tally tally1 : ℕ)
     (opened : IsOpenedWith kernel images (config_of log.header))

@@ -34,9 +34,6 @@ use Rattle.dos_cmd.specs.Stops.{refusal_by, IsUnreported, IsUnwritten, IsWritten
 
 -- ---- counts of faults
 
-pub rose_then : (a b d : ℕ) → Rose a b → b ≤ d → Rose a d
-rose_then a b d h k = omega arith
-
 pub then_rose : (a b d : ℕ) → a ≤ b → Rose b d → Rose a d
 then_rose a b d h k = omega arith
 

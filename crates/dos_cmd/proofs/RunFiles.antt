@@ -4,8 +4,7 @@ use Rattle.std.proofs.Common.{length, map, drop, Option, Some, None, Result, Ok,
 use Rattle.std.proofs.Common.{◌∙◌, subst, refl, append_assoc, arith}
 use Rattle.std.specs.Prelude.{IfSome, nat_lt, option_map, slice_get}
 use Rattle.std.specs.List.{AllByRecursion}
-use Rattle.std.proofs.lemmas.List.{append-nil, length-append}
-use Rattle.std.proofs.Math.ListN.{drop_of_length-le}
+use Rattle.std.proofs.lemmas.List.{length-append}
 use Rattle.std.proofs.lemmas.Bool.{le-ltb}
 use Rattle.std.proofs.lemmas.Bool.Decides.{nat_tests}
 use Rattle.group_rounds.proofs.SignalLaws.{drop_get}
@@ -101,11 +100,6 @@ in_front images (Err why) = Err why
 abbrev pub behind : List Image → Option Images → Option Images
 behind images others = option_map (in_front images) others
 
-behind_none : (others : Option Images) → behind [] others ≡ others
-behind_none None = refl
-behind_none (Some (Ok images)) = refl
-behind_none (Some (Err why)) = refl
-
 behind_with : (images : List Image) (parsed : Image) (others : Option Images)
     → behind images (option_map (with_image parsed) others) ≡ behind (images ++ parsed ∷ []) others
 behind_with images parsed None = refl
@@ -151,10 +145,6 @@ if_told (Some x) Q h = h x refl
 abbrev pub digests_behind : List (List ℕ) → Option (List (List ℕ)) → Option (List (List ℕ))
 digests_behind digests others = option_map (λ o. digests ++ o) others
 
-digests_none : (others : Option (List (List ℕ))) → digests_behind [] others ≡ others
-digests_none None = refl
-digests_none (Some digests) = refl
-
 digests_with : (digests : List (List ℕ)) (digest : List ℕ) (others : Option (List (List ℕ)))
     → digests_behind digests (option_map (λ o. digest ∷ o) others)
     ≡ digests_behind (digests ++ digest ∷ []) others
@@ -192,20 +182,6 @@ pub record Reads (contents : List ℕ → Option (List ℕ)) (names : List (List
       → behind images (images_from (suc i) (map contents (drop i names))) ≡ Some j
   pub digests_left : (ds : List (List ℕ)) → digests_of (map contents names) ≡ Some ds
       → digests_behind digests (digests_of (map contents (drop i names))) ≡ Some ds
-
-pub reads_first : (contents : List ℕ → Option (List ℕ)) (names : List (List ℕ))
-    (images : List Image) (digests : List (List ℕ)) → images ≡ [] → digests ≡ []
-    → Reads contents names 0 images digests
-reads_first contents names images digests no_image no_digest = record {
-  count = ap length no_image;
-  digest_count = ap length no_digest;
-  are_digests = subst AreDigests (sym no_digest) tt;
-  left = λ j e. ap (λ (x : List Image). behind x (images_from 1 (map contents names))) no_image
-      ∙ behind_none (images_from 1 (map contents names)) ∙ e;
-  digests_left = λ ds e.
-      ap (λ (x : List (List ℕ)). digests_behind x (digests_of (map contents names))) no_digest
-      ∙ digests_none (digests_of (map contents names)) ∙ e;
-}
 
 -- The next name is the first of those that are left.
 left_from : (contents : List ℕ → Option (List ℕ)) (names : List (List ℕ)) (i : ℕ) (name : List ℕ)
@@ -286,34 +262,3 @@ none_read contents now names i images digests name why at stays h reads =
     (λ r. IfSome (images_from 1 (map contents names)) (λ j. j ≡ Err r))
     (λ r told. reads_not contents names i images digests name r at
     (found_before contents now name (λ file. verdict (i + 1) file ≡ Err r) stays told) reads) h
-
--- all of them
-pub reads_all : (contents : List ℕ → Option (List ℕ)) (names : List (List ℕ)) (i : ℕ)
-    (images : List Image) (digests : List (List ℕ)) → length names ≤ i
-    → Reads contents names i images digests
-    → IfSome (images_from 1 (map contents names)) (λ j. j ≡ Ok images)
-reads_all contents names i images digests le reads =
-    if_told (images_from 1 (map contents names)) (λ j. j ≡ Ok images) (λ j e.
-    let over : behind images (images_from (suc i) (map contents (drop i names)))
-    ≡ Some (Ok (images ++ [])) =
-    ap (λ (x : List (List ℕ)). behind images (images_from (suc i) (map contents x)))
-    (drop_of_length-le names le) in
-    let all : Option Images = Some (Ok (images ++ [])) in
-    let same : all ≡ Some j = sym over ∙ reads.left j e in
-    let whole : images ++ [] ≡ images = append-nil images in
-    cc)
-
-pub digests_all : (contents : List ℕ → Option (List ℕ)) (names : List (List ℕ)) (i : ℕ)
-    (images : List Image) (digests : List (List ℕ)) → length names ≤ i
-    → Reads contents names i images digests
-    → IfSome (digests_of (map contents names)) (λ ds. digests ≡ ds)
-digests_all contents names i images digests le reads =
-    if_told (digests_of (map contents names)) (λ ds. digests ≡ ds) (λ ds e.
-    let over : digests_behind digests (digests_of (map contents (drop i names)))
-    ≡ Some (digests ++ []) =
-    ap (λ (x : List (List ℕ)). digests_behind digests (digests_of (map contents x)))
-    (drop_of_length-le names le) in
-    let all : Option (List (List ℕ)) = Some (digests ++ []) in
-    let same : all ≡ Some ds = sym over ∙ reads.digests_left ds e in
-    let whole : digests ++ [] ≡ digests = append-nil digests in
-    cc)

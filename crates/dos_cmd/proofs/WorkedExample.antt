@@ -35,7 +35,7 @@ use Rattle.dos_cmd.specs.Judging.{of_images, replay_judgement, verdict, with_ima
 use Rattle.dos_cmd.specs.Outside.{Outside, Counted, FilesStay, Grew, Holds, OthersStay}
 use Rattle.dos_cmd.specs.Results.{MustDo, MustReplay}
 use Rattle.dos_cmd.specs.RunLeaves.{header_of}
-use Rattle.dos_cmd.proofs.BareRuns.{one_run, text_by}
+use Rattle.dos_cmd.proofs.BareRuns.{bare_once, text_by}
 
 -- ---- the words
 
@@ -226,7 +226,7 @@ run_leaves status o must a no_fault no_sink no_memory no_room =
     did.seen) planned.config_is recorded.ran) in
     let gives = subst (λ posts. GivesPosts posts (exchanges did.log)) planned.posts_are
     recorded.given.signals in
-    let same = one_run images config (exchanges did.log) (exchanges log) did.seen seen gives
+    let same = bare_once images config (exchanges did.log) (exchanges log) did.seen seen gives
     (refl, (tt, tt)) as_planned ran in
     let digests : did.was.plan.header.digests ≡ digest ∷ [] =
     subst (λ d. did.was.plan.header.digests ≡ d ∷ []) digest_is
@@ -247,7 +247,7 @@ replay_leaves status o must l a no_fault no_sink no_memory =
     let did = subst (λ m. MustReplay m log replay_taken status o) fits
     (must replay_asked replay_taken replay_asks (replay_takes o.files l a) no_fault no_sink
     no_memory) in
-    let same = one_run images config (exchanges log) (exchanges log) did.seen seen (refl, tt)
+    let same = bare_once images config (exchanges log) (exchanges log) did.seen seen (refl, tt)
     (refl, (tt, tt)) did.replayed ran in (
       left_by o status did.seen same.1 did.status_is did.grew did.counted,
       did.stays.files_stay,

@@ -4,6 +4,9 @@ use Rattle.generated_group.specs.Generated.{generated}
 use Rattle.dos_cmd.specs.Judging.{gen_config}
 use Rattle.dos_cmd.proofs.GenRuns.{gen_cut, gen_did, leaves_memory, never_without_room, one_image}
 use Rattle.dos_cmd.proofs.GenRuns.{opened_with}
+use Rattle.dos_cmd.specs.Printing.{RanQuietly}
+use Rattle.dos_cmd.proofs.generate.generate.Given.{Over}
+use Rattle.dos_cmd.proofs.generate.generate.Goals.{In-Ok-run_quietly}
 use Rattle.dos_cmd.proofs.generate.generate.Goals as goal
 
 pub returns-in_err-kernel-clause-leaves : goal.returns-in_err-kernel-clause-leaves
@@ -18,24 +21,26 @@ pub returns-in-Err-clause-leaves : goal.returns-in-Err-clause-leaves
 returns-in-Err-clause-leaves g c = λ n tells f h e k l m.
     leaves_memory c.args.number c.args.threads n tells f h _ e _ _ _ _ c.in-Err.ensures.refused
 
+-- it has run the image that is generated
+ran : (g : Over) (c : In-Ok-run_quietly g)
+    → RanQuietly (generated c.args.number c.args.threads ∷ []) gen_config c.run_quietly.new.kernel
+    c.in-Ok-run_quietly.ran.ending c.in-Ok-run_quietly.ran.count c.in-Ok-run_quietly.ran.digest
+    (g.W.Workers.tally c.args.workers.now) (g.W.Workers.tally c.run_quietly.new.workers)
+ran g c =
+    c.in-Ok-run_quietly.ensures.ran (generated c.args.number c.args.threads ∷ []) gen_config
+    (opened_with c.args.number c.args.threads c.in_ok-kernel.kernel
+    c.from_ref.result.now (one_image c.args.number c.args.threads c.from_ref.result.now
+    c.in-Ok.image c.from_ref.ensures.value c.in-Ok.ensures) c.in_ok-kernel.ensures.opened)
+
 pub returns-in-Ok-put-clause-did : goal.returns-in-Ok-put-clause-did
 returns-in-Ok-put-clause-did g c =
-    let opened = opened_with c.args.number c.args.threads c.in_ok-kernel.kernel
-    c.from_ref.result.now (one_image c.args.number c.args.threads c.from_ref.result.now
-    c.in-Ok.image c.from_ref.ensures.value c.in-Ok.ensures) c.in_ok-kernel.ensures.opened in
     gen_did c.args.number c.args.threads c.run_quietly.new.kernel c.in-Ok-run_quietly.ran.ending
     c.in-Ok-run_quietly.ran.count c.in-Ok-run_quietly.ran.digest _ _ _ _
-    (c.in-Ok-run_quietly.ensures.ran (generated c.args.number c.args.threads ∷ []) gen_config
-    opened)
-    c.in-Ok-put.ensures.told
+    (ran g (goal.at.returns-in-Ok-put-clause-did g c).In-Ok-run_quietly) c.in-Ok-put.ensures.told
 
 pub returns-in-Err-put-clause-leaves : goal.returns-in-Err-put-clause-leaves
 returns-in-Err-put-clause-leaves g c =
-    let opened = opened_with c.args.number c.args.threads c.in_ok-kernel.kernel
-    c.from_ref.result.now (one_image c.args.number c.args.threads c.from_ref.result.now
-    c.in-Ok.image c.from_ref.ensures.value c.in-Ok.ensures) c.in_ok-kernel.ensures.opened in
     gen_cut c.args.number c.args.threads c.run_quietly.new.kernel c.in-Ok-run_quietly.ran.ending
     c.in-Ok-run_quietly.ran.count c.in-Ok-run_quietly.ran.digest _ _ _ _
-    (c.in-Ok-run_quietly.ensures.ran (generated c.args.number c.args.threads ∷ []) gen_config
-    opened)
+    (ran g (goal.at.returns-in-Err-put-clause-leaves g c).In-Ok-run_quietly)
     _ _ c.in-Err-put.ensures.cause.failed c.in-Err-put.ensures.front
