@@ -21,25 +21,19 @@ posts_then : (all : List (ℕ × Post)) (es fs : List Exchange) → GivesPosts a
     → GivesPosts all (es ++ fs)
 posts_then all [] fs p q = q
 posts_then all (Signals round list ∷ es) fs p q = (p.0, posts_then all es fs p.1 q)
-posts_then all (Input round tid max bytes ∷ es) fs p q = posts_then all es fs p q
-posts_then all (Clock round tid n ∷ es) fs p q = posts_then all es fs p q
-posts_then all (End ending rounds ∷ es) fs p q = posts_then all es fs p q
+posts_then all (e ∷ es) fs p q = posts_then all es fs p q
 
 inputs_then : (a b c : List (List ℕ)) (es fs : List Exchange) → GivesInputs a b es
     → GivesInputs b c fs → GivesInputs a c (es ++ fs)
 inputs_then a b c [] fs p q = subst (λ (x : List (List ℕ)). GivesInputs x c fs) p q
-inputs_then a b c (Signals round list ∷ es) fs p q = inputs_then a b c es fs p q
 inputs_then a b c (Input round tid max bytes ∷ es) fs p q =
     (p.0, inputs_then (taken max a).1 b c es fs p.1 q)
-inputs_then a b c (Clock round tid n ∷ es) fs p q = inputs_then a b c es fs p q
-inputs_then a b c (End ending rounds ∷ es) fs p q = inputs_then a b c es fs p q
+inputs_then a b c (e ∷ es) fs p q = inputs_then a b c es fs p q
 
 pub readings_append : (es fs : List Exchange) → readings (es ++ fs) ≡ readings es ++ readings fs
 readings_append [] fs = refl
-readings_append (Signals round list ∷ es) fs = readings_append es fs
-readings_append (Input round tid max bytes ∷ es) fs = readings_append es fs
 readings_append (Clock round tid n ∷ es) fs = ap (λ (x : List ℕ). n ∷ x) (readings_append es fs)
-readings_append (End ending rounds ∷ es) fs = readings_append es fs
+readings_append (e ∷ es) fs = readings_append es fs
 
 counted_then : (start step k : ℕ) (ns ms : List ℕ) → AreCountedFrom start step k ns
     → AreCountedFrom start step (k + length ns) ms → AreCountedFrom start step k (ns ++ ms)

@@ -3,7 +3,7 @@ use Rattle.std.proofs.Common.{◌≡◌, map, true, false, cond, nat_eq, List, [
 use Rattle.std.proofs.Common.{IfSome, refl, sym, ap, subst, ◌∙◌}
 use Rattle.std.proofs.lemmas.List.{append_cancel_left, map-append}
 use Rattle.dos_io.specs.declared.exchange.Exchange.{Exchange}
-use Rattle.dos_io.specs.declared.exchange.Exchange.TheVariants.{Signals, Input, Clock, End}
+use Rattle.dos_io.specs.declared.exchange.Exchange.TheVariants.{Signals}
 use Rattle.dos_io.specs.Exchanges.{HaveNoPosts}
 use Rattle.dos_io.specs.Shims.{ShimState}
 use Rattle.dos_io.specs.Quiet.{quiet_exchange, IsQuiet, AreQuiet, Quietness, shown, FollowsQuietly}
@@ -17,9 +17,7 @@ use Rattle.dos_io.specs.declared.shim.ShimStop.TheVariants.{Memory}
 pub quiet_no_posts : (es : List Exchange) → AreQuiet es → HaveNoPosts es
 quiet_no_posts [] p = tt
 quiet_no_posts (Signals round list ∷ es) p = (p.0, quiet_no_posts es p.1)
-quiet_no_posts (Input round tid max bytes ∷ es) p = quiet_no_posts es p.1
-quiet_no_posts (Clock round tid n ∷ es) p = quiet_no_posts es p.1
-quiet_no_posts (End ending rounds ∷ es) p = quiet_no_posts es p.1
+quiet_no_posts (e ∷ es) p = quiet_no_posts es p.1
 
 -- What was told more is determined, so whoever says what it is learns that it is quiet.
 pub quiet_more : (old new : ShimState) (es : List Exchange) → FollowsQuietly old new

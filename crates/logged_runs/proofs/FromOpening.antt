@@ -9,7 +9,7 @@ use Rattle.dos_world.specs.declared.Question.{Question}
 use Rattle.dos_io.specs.Exchanges.{question_of, answer_of}
 use Rattle.dos_io.specs.Shims.{HasNoEnd}
 use Rattle.dos_io.specs.declared.exchange.Exchange.{Exchange}
-use Rattle.dos_io.specs.declared.exchange.Exchange.TheVariants.{Signals, Input, Clock, End}
+use Rattle.dos_io.specs.declared.exchange.Exchange.TheVariants.{End}
 use Rattle.elf_image.specs.Image.{Image}
 use Rattle.group_open.specs.Opening.{opening}
 use Rattle.group_rounds.specs.Plays.{GoesOn}
@@ -29,10 +29,8 @@ use Rattle.logged_runs.proofs.RoundsAsk.{no_end_before, rounds_never}
 has_end : (es : List Exchange) (ending : Ending) (rounds : ℕ)
     → HasNoEnd (es ++ End ending rounds ∷ []) → ⊥
 has_end [] ending rounds h = h
-has_end (Signals round list ∷ es) ending rounds h = has_end es ending rounds h
-has_end (Input round tid max bytes ∷ es) ending rounds h = has_end es ending rounds h
-has_end (Clock round tid n ∷ es) ending rounds h = has_end es ending rounds h
 has_end (End other count ∷ es) ending rounds h = h
+has_end (e ∷ es) ending rounds h = has_end es ending rounds h
 
 pub is_told : (ending : Ending) (rounds : ℕ) (told : List Exchange) → AreEnded ending rounds told
     → HasNoEnd told → ⊥

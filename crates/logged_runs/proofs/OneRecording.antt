@@ -12,7 +12,7 @@ use Rattle.dos_io.specs.Hosts.{Told, taken}
 use Rattle.dos_io.specs.declared.exchange.ClockRule.{ClockRule}
 use Rattle.dos_io.specs.declared.exchange.ClockRule.TheVariants.{Counted, FromHost}
 use Rattle.dos_io.specs.declared.exchange.Exchange.{Exchange}
-use Rattle.dos_io.specs.declared.exchange.Exchange.TheVariants.{Clock, End, Input, Signals}
+use Rattle.dos_io.specs.declared.exchange.Exchange.TheVariants.{End, Input, Signals}
 use Rattle.dos_io.proofs.GivenLaws.{given_once, readings_append}
 use Rattle.shim_log.specs.declared.header.LogHeader.{LogHeader}
 use Rattle.shim_log.specs.LogText.{Log, exchanges}
@@ -31,18 +31,14 @@ posts_front : (posts : List (ℕ × Post)) (es fs : List Exchange) → GivesPost
     → GivesPosts posts es
 posts_front posts [] fs h = tt
 posts_front posts (Signals round list ∷ es) fs h = (h.0, posts_front posts es fs h.1)
-posts_front posts (Input round tid max bytes ∷ es) fs h = posts_front posts es fs h
-posts_front posts (Clock round tid n ∷ es) fs h = posts_front posts es fs h
-posts_front posts (End ending rounds ∷ es) fs h = posts_front posts es fs h
+posts_front posts (e ∷ es) fs h = posts_front posts es fs h
 
 inputs_front : (before after : List (List ℕ)) (es fs : List Exchange)
     → GivesInputs before after (es ++ fs) → (left : List (List ℕ)) × GivesInputs before left es
 inputs_front before after [] fs h = (before, refl)
-inputs_front before after (Signals round list ∷ es) fs h = inputs_front before after es fs h
 inputs_front before after (Input round tid max bytes ∷ es) fs h =
     let rest = inputs_front (taken max before).1 after es fs h.1 in (rest.0, (h.0, rest.1))
-inputs_front before after (Clock round tid n ∷ es) fs h = inputs_front before after es fs h
-inputs_front before after (End ending rounds ∷ es) fs h = inputs_front before after es fs h
+inputs_front before after (e ∷ es) fs h = inputs_front before after es fs h
 
 counted_front : (start step k : ℕ) (ns ms : List ℕ) → AreCountedFrom start step k (ns ++ ms)
     → AreCountedFrom start step k ns

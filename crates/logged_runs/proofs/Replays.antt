@@ -17,8 +17,8 @@ use Rattle.group_rounds.specs.Outside.{HasShimCause}
 use Rattle.kernel_calls.specs.StateWorld.{shim_stop}
 use Rattle.kernel_calls.specs.declared.state.RunStop.{RunStop}
 use Rattle.kernel_calls.specs.declared.state.RunStop.TheVariants.{HostFault, LogFull}
-use Rattle.kernel_calls.specs.declared.state.RunStop.TheVariants.{Misfit as MisfitFound, OutFault}
-use Rattle.kernel_calls.specs.declared.state.RunStop.TheVariants.{ErrFault, Memory}
+use Rattle.kernel_calls.specs.declared.state.RunStop.TheVariants.{Misfit as MisfitFound}
+use Rattle.kernel_calls.specs.declared.state.RunStop.TheVariants.{Memory}
 use Rattle.worker_pool.specs.Ran.{GrewBy}
 use Rattle.shim_log.specs.LogText.{Log, exchanges}
 use Rattle.shim_log.specs.Ranges.{FitsLog}
@@ -79,12 +79,10 @@ module _ (k : Held) (before : List Exchange) (p : ReplayState) (o e o1 e1 : Opti
   only LogFull run was cause kept =
       let found = misfit_only stops.LogFull run cause.1 kept in
       let is : stops.LogFull ≡ stops.Misfit found.0 = found.1 in absurd cc
-  only (MisfitFound m) run was cause kept = tt
-  only OutFault run was cause kept = tt
-  only ErrFault run was cause kept = tt
   only Memory run was cause kept =
       let found = misfit_only stops.Memory run cause.1 kept in
       let is : stops.Memory ≡ stops.Misfit found.0 = found.1 in absurd cc
+  only stop run was cause kept = tt
 
   module _ (images : List Image) (opened : IsOpenedWith k images (config_of p.log.header)) where
     -- it came to the end of the log

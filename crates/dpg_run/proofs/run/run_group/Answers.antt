@@ -12,8 +12,7 @@ use Rattle.dos_io.specs.declared.exchange.Exchange.TheVariants.{End}
 use Rattle.dos_io.specs.declared.shim.ShimStop.{ShimStop}
 use Rattle.kernel_calls.specs.StateWorld.{HasSinkCause, shim_stop}
 use Rattle.kernel_calls.specs.declared.state.RunStop.{RunStop}
-use Rattle.kernel_calls.specs.declared.state.RunStop.TheVariants.{HostFault, LogFull, Misfit}
-use Rattle.kernel_calls.specs.declared.state.RunStop.TheVariants.{OutFault, ErrFault, Memory}
+use Rattle.kernel_calls.specs.declared.state.RunStop.TheVariants.{OutFault, ErrFault}
 use Rattle.group_rounds.specs.Outside.{HasNotStopped, HaveCauses}
 use Rattle.group_rounds.proofs.CauseLaws.{not_stopped_then}
 use Rattle.dpg_run.proofs.RoundsRun.{end_told, end_stops, end_cut, failed_before, stands_at_end}
@@ -99,12 +98,9 @@ returns-in-Ok g c =
 -- it has stopped, and no sink has failed
 no_sink : (stop : RunStop) (reason : ShimStop) (out out' err err' : ℕ)
     → shim_stop stop ≡ Some reason → HasSinkCause stop out out' err err'
-no_sink HostFault reason out out' err err' is = tt
-no_sink LogFull reason out out' err err' is = tt
-no_sink (Misfit m) reason out out' err err' is = tt
-no_sink Memory reason out out' err err' is = tt
 no_sink OutFault reason out out' err err' is = absurd cc
 no_sink ErrFault reason out out' err err' is = absurd cc
+no_sink stop reason out out' err err' is = tt
 
 stopped_there : (stop : RunStop) (reason : ShimStop) (ending : Ending) (question : Question)
     (s t u : ShimState) (out out' err err' : ℕ)
