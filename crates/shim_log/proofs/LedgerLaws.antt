@@ -169,10 +169,8 @@ clock_added b round tid n r is fits over =
 
 entries_no_end : (es : List Exchange) → AreEntries es → HasNoEnd es
 entries_no_end [] fits = tt
-entries_no_end (Signals round list ∷ es) fits = entries_no_end es fits.1
-entries_no_end (Input round tid max bytes ∷ es) fits = entries_no_end es fits.1
-entries_no_end (Clock round tid n ∷ es) fits = entries_no_end es fits.1
 entries_no_end (End ending rounds ∷ es) fits = absurd fits.0.1
+entries_no_end (e ∷ es) fits = entries_no_end es fits.1
 
 pub has_end : (b : LedgerState) → IsLedger b → b.ended ≡ None
     → (HasNoEnd (recorder_state b).told → ⊥) → ⊥

@@ -61,15 +61,9 @@ module _ (header : LogHeader) where
       subst (SpellsTail header bytes)
       (ok_is (record { header = header; entries = []; ending = ending; rounds = rounds }, rest)
       u is) (record { takes = s.takes; header_is = refl; entries = tt; rounds = s.fits })
-  after_takes bytes (Signals round list) rest (Ok t) u s later is =
-      more_takes bytes (Signals round list) rest t u s tt (later t refl) is
-  after_takes bytes (Signals round list) rest (Err d) u s later is = absurd cc
-  after_takes bytes (Input round tid max input) rest (Ok t) u s later is =
-      more_takes bytes (Input round tid max input) rest t u s tt (later t refl) is
-  after_takes bytes (Input round tid max input) rest (Err d) u s later is = absurd cc
-  after_takes bytes (Clock round tid n) rest (Ok t) u s later is =
-      more_takes bytes (Clock round tid n) rest t u s tt (later t refl) is
-  after_takes bytes (Clock round tid n) rest (Err d) u s later is = absurd cc
+  after_takes bytes e rest (Ok t) u s later is =
+      more_takes bytes e rest t u s tt (later t refl) is
+  after_takes bytes e rest (Err d) u s later is = absurd cc
 
   tail_takes : (n end : ℕ) (bytes : List ℕ) (u : Log × List ℕ) → IsBytes bytes
       → tail_at n header end bytes ≡ Ok u → SpellsTail header bytes u
@@ -84,9 +78,7 @@ module _ (header : LogHeader) where
   after_again : (e : Exchange) (rest : List ℕ) (t : Log × List ℕ) → NotEnd e
       → after_entry header e rest (Ok t) ≡ Ok (record t.0 { entries = e ∷ t.0.entries }, t.1)
   after_again (End ending rounds) rest t not = absurd not
-  after_again (Signals round list) rest t not = refl
-  after_again (Input round tid max bytes) rest t not = refl
-  after_again (Clock round tid n) rest t not = refl
+  after_again e rest t not = refl
 
   tail_again : (n end : ℕ) (es : List Exchange) (ending : Ending) (rounds : ℕ) (rest : List ℕ)
       → length es < n → AreEntries es → rounds < 2 ^ 32

@@ -108,12 +108,8 @@ posts_in count end bytes rest fits is =
 -- ---- reading them
 
 pub no_posts : (bytes : List ℕ) → length bytes < 5 → posts_in_text bytes ≡ []
-no_posts [] few = refl
-no_posts (a ∷ []) few = refl
-no_posts (a ∷ b ∷ []) few = refl
-no_posts (a ∷ b ∷ c ∷ []) few = refl
-no_posts (a ∷ b ∷ c ∷ d ∷ []) few = refl
 no_posts (a ∷ b ∷ c ∷ d ∷ e ∷ bytes) few = absurd (omega arith)
+no_posts bytes few = refl
 
 pub first_is : (bytes front rest : List ℕ) (pid : ℕ) → 5 ≤ length bytes → front ≡ take 5 bytes
     → rest ≡ drop 5 bytes
@@ -121,9 +117,5 @@ pub first_is : (bytes front rest : List ℕ) (pid : ℕ) → 5 ≤ length bytes 
     ∷ slice_index_or front 2 0 ∷ slice_index_or front 3 0 ∷ [])
     → posts_in_text bytes
     ≡ record { pid = pid; signal = slice_index_or front 4 0 } ∷ posts_in_text rest
-first_is [] front rest pid le is left sum = absurd (omega arith)
-first_is (a ∷ []) front rest pid le is left sum = absurd (omega arith)
-first_is (a ∷ b ∷ []) front rest pid le is left sum = absurd (omega arith)
-first_is (a ∷ b ∷ c ∷ []) front rest pid le is left sum = absurd (omega arith)
-first_is (a ∷ b ∷ c ∷ d ∷ []) front rest pid le is left sum = absurd (omega arith)
 first_is (a ∷ b ∷ c ∷ d ∷ e ∷ bytes) front rest pid le is left sum = rw (sum, is, left) refl
+first_is bytes front rest pid le is left sum = absurd (omega arith)

@@ -13,7 +13,8 @@ use Rattle.dos_io.specs.Outside.{Rose}
 use Rattle.dos_world.specs.declared.Question.{Question}
 use Rattle.dos_io.specs.declared.shim.ShimStop.{ShimStop}
 use Rattle.dos_io.specs.declared.shim.ShimStop.TheVariants.{HostFault}
-use Rattle.dos_io.specs.Given.{posts_in, readings, Given, GivesHost, GivesCounted}
+use Rattle.dos_io.specs.Given.{posts_in, readings, Given, GivesHost, GivesCounted, GivesInputs}
+use Rattle.dos_io.specs.Given.{GivesReadings, AreCountedFrom}
 use Rattle.dos_io.specs.Shims.{answered, HasNoEnd}
 use Rattle.shim_log.specs.declared.header.LogHeader.{LogHeader}
 use Rattle.shim_log.specs.Ledger.{LedgerState, end_of, recorder_state, empty_ledger, added, stopped}
@@ -22,17 +23,13 @@ use Rattle.shim_log.proofs.LedgerLaws.{follows_adds, follows_stop}
 
 pub readings_short : (es : List Exchange) → length (readings es) ≤ length es
 readings_short [] = omega arith
-readings_short (Signals round list ∷ es) = omega (arith, readings_short es)
-readings_short (Input round tid max bytes ∷ es) = omega (arith, readings_short es)
 readings_short (Clock round tid n ∷ es) = omega (arith, readings_short es)
-readings_short (End ending rounds ∷ es) = omega (arith, readings_short es)
+readings_short (e ∷ es) = omega (arith, readings_short es)
 
 has_end : (es : List Exchange) (e : Ending × ℕ) → HasNoEnd (es ++ end_of (Some e)) → ⊥
 has_end [] e h = h
-has_end (Signals round list ∷ es) e h = has_end es e h
-has_end (Input round tid max bytes ∷ es) e h = has_end es e h
-has_end (Clock round tid n ∷ es) e h = has_end es e h
 has_end (End ending rounds ∷ es) e h = h
+has_end (x ∷ es) e h = has_end es e h
 
 none_ended : (es : List Exchange) (ended : Option (Ending × ℕ)) → HasNoEnd (es ++ end_of ended)
     → ended ≡ None
@@ -112,55 +109,65 @@ given_read posts (Counted start step) k a c round tid n none e = absurd cc
 
 -- ---- what was given with one exchange
 
+-- no reading is counted, where there is none
+no_count : (clock : ClockRule) (k : ℕ) (es : List Exchange) → readings es ≡ []
+    → GivesCounted clock k es
+no_count FromHost k es none = tt
+no_count (Counted start step) k es none = subst (AreCountedFrom start step k) (sym none) tt
+
+-- and none is taken from the host
+no_reading : (clock : ClockRule) (ns : List ℕ) (es : List Exchange) → readings es ≡ []
+    → GivesReadings clock ns ns es
+no_reading FromHost ns es none = ap (λ (x : List ℕ). x ++ ns) none
+no_reading (Counted start step) ns es none = refl
+
+-- what is answered without the host leaves it as it was
+same_told : (clock : ClockRule) (a : Option Told) (es : List Exchange) → readings es ≡ []
+    → ((pieces : List (List ℕ)) → GivesInputs pieces pieces es) → GivesHost clock a a es
+same_told clock None es none takes = refl
+same_told clock (Some t) es none takes =
+    (t, refl, takes t.pieces, no_reading clock t.readings es none)
+
 pub given_posts : (posts : List (ℕ × Post)) (clock : ClockRule) (k : ℕ) (a : Option Told)
     (round : ℕ) (list : List Post) → list ≡ posts_in posts round
     → Given posts clock k a a (Signals round list ∷ [])
-given_posts posts clock k a round list e =
-    record { signals = (e, tt); counted = no_count clock; host = same_told clock a }
-  where
-    no_count : (clock : ClockRule) → GivesCounted clock k (Signals round list ∷ [])
-    no_count FromHost = tt
-    no_count (Counted start step) = tt
-
-    same_told : (clock : ClockRule) (a : Option Told)
-        → GivesHost clock a a (Signals round list ∷ [])
-    same_told clock None = refl
-    same_told FromHost (Some t) = (t, refl, refl, refl)
-    same_told (Counted start step) (Some t) = (t, refl, refl, refl)
+given_posts posts clock k a round list e = let es : List Exchange = Signals round list ∷ [] in
+    record {
+      signals = (e, tt);
+      counted = no_count clock k es refl;
+      host = same_told clock a es refl (λ pieces. refl);
+    }
 
 pub given_end : (posts : List (ℕ × Post)) (clock : ClockRule) (k : ℕ) (a : Option Told)
     (ending : Ending) (rounds : ℕ) → Given posts clock k a a (End ending rounds ∷ [])
-given_end posts clock k a ending rounds =
-    record { signals = tt; counted = no_count clock; host = same_told clock a }
-  where
-    no_count : (clock : ClockRule) → GivesCounted clock k (End ending rounds ∷ [])
-    no_count FromHost = tt
-    no_count (Counted start step) = tt
-
-    same_told : (clock : ClockRule) (a : Option Told) → GivesHost clock a a (End ending rounds ∷ [])
-    same_told clock None = refl
-    same_told FromHost (Some t) = (t, refl, refl, refl)
-    same_told (Counted start step) (Some t) = (t, refl, refl, refl)
+given_end posts clock k a ending rounds = let es : List Exchange = End ending rounds ∷ [] in
+    record {
+      signals = tt;
+      counted = no_count clock k es refl;
+      host = same_told clock a es refl (λ pieces. refl);
+    }
 
 pub given_input : (posts : List (ℕ × Post)) (clock : ClockRule) (k : ℕ) (a c : Option Told)
     (round tid max : ℕ) (bytes : List ℕ) → c ≡ after_input max a
     → IfSome a (λ t. bytes ≡ (taken max t.pieces).0)
     → Given posts clock k a c (Input round tid max bytes ∷ [])
 given_input posts clock k a c round tid max bytes e h =
-    record { signals = tt; counted = no_count clock; host = left_told clock a c e h }
+    record {
+      signals = tt;
+      counted = no_count clock k (Input round tid max bytes ∷ []) refl;
+      host = left_told a c e h;
+    }
   where
-    no_count : (clock : ClockRule) → GivesCounted clock k (Input round tid max bytes ∷ [])
-    no_count FromHost = tt
-    no_count (Counted start step) = tt
-
-    left_told : (clock : ClockRule) (a c : Option Told) → c ≡ after_input max a
+    left_told : (a c : Option Told) → c ≡ after_input max a
         → IfSome a (λ t. bytes ≡ (taken max t.pieces).0)
         → GivesHost clock a c (Input round tid max bytes ∷ [])
-    left_told clock None c e h = e
-    left_told FromHost (Some t) c e h =
-        (record t { pieces = (taken max t.pieces).1 }, e, (h, refl), refl)
-    left_told (Counted start step) (Some t) c e h =
-        (record t { pieces = (taken max t.pieces).1 }, e, (h, refl), refl)
+    left_told None c e h = e
+    left_told (Some t) c e h = (
+      record t { pieces = (taken max t.pieces).1 },
+      e,
+      (h, refl),
+      no_reading clock t.readings (Input round tid max bytes ∷ []) refl,
+    )
 
 -- ---- the end
 

@@ -33,13 +33,8 @@ end_is_last : (es : List Exchange) (ending : Ending) (rounds n : ℕ)
     → HasNoEnd (take n (es ++ End ending rounds ∷ [])) → n ≤ length es
 end_is_last es ending rounds zero h = omega arith
 end_is_last [] ending rounds (suc n) h = absurd h
-end_is_last (Signals round list ∷ es) ending rounds (suc n) h =
-    omega (arith, end_is_last es ending rounds n h)
-end_is_last (Input round tid max bytes ∷ es) ending rounds (suc n) h =
-    omega (arith, end_is_last es ending rounds n h)
-end_is_last (Clock round tid k ∷ es) ending rounds (suc n) h =
-    omega (arith, end_is_last es ending rounds n h)
 end_is_last (End e r ∷ es) ending rounds (suc n) h = absurd h
+end_is_last (e ∷ es) ending rounds (suc n) h = omega (arith, end_is_last es ending rounds n h)
 
 pub is_next : (p : ReplayState) → HasNoEnd (replayer_state p).told
     → p.answered ≤ length p.log.entries
@@ -173,13 +168,11 @@ input_is r t m round tid max bytes e =
 -- an entry with no answer of its own
 pub end_is : (e : Exchange) (ending : Ending) (rounds : ℕ)
     → question_of e ≡ end_question ending rounds → e ≡ End ending rounds
-end_is (Signals round list) ending rounds is = absurd cc
-end_is (Input round tid max bytes) ending rounds is = absurd cc
-end_is (Clock round tid n) ending rounds is = absurd cc
 end_is (End e r) ending rounds is =
     let h : e ≡ ending = cc in
     let g : r ≡ rounds = cc in
     rw (h, g) refl
+end_is e ending rounds is = absurd cc
 
 -- ---- the whole log, and where it was left
 
@@ -193,16 +186,9 @@ pub ends_whole : (es : List Exchange) (ending : Ending) (rounds n : ℕ) → Are
 ends_whole es ending rounds zero fits ended = absurd (ended tt)
 ends_whole [] ending rounds (suc n) fits ended =
     ap (λ (xs : List Exchange). End ending rounds ∷ xs) (nothing_left n [] refl)
-ends_whole (Signals round list ∷ es) ending rounds (suc n) fits ended =
-    ap (λ (xs : List Exchange). Signals round list ∷ xs)
-    (ends_whole es ending rounds n fits.1 ended)
-ends_whole (Input round tid max bytes ∷ es) ending rounds (suc n) fits ended =
-    ap (λ (xs : List Exchange). Input round tid max bytes ∷ xs)
-    (ends_whole es ending rounds n fits.1 ended)
-ends_whole (Clock round tid k ∷ es) ending rounds (suc n) fits ended =
-    ap (λ (xs : List Exchange). Clock round tid k ∷ xs)
-    (ends_whole es ending rounds n fits.1 ended)
 ends_whole (End e r ∷ es) ending rounds (suc n) fits ended = absurd fits.0.1
+ends_whole (e ∷ es) ending rounds (suc n) fits ended =
+    ap (λ (xs : List Exchange). e ∷ xs) (ends_whole es ending rounds n fits.1 ended)
 
 abbrev some_question : Question → Option Question
 some_question q = Some q

@@ -40,10 +40,8 @@ one_more header front (Clock round tid n) after more h = joined front (Clock rou
 one_more header front (End ending rounds) after more h = absurd cc
 
 not_end : (e : Exchange) → ending_of e ≡ None → NotEnd e
-not_end (Signals round list) h = tt
-not_end (Input round tid max bytes) h = tt
-not_end (Clock round tid n) h = tt
 not_end (End ending rounds) h = absurd cc
+not_end e h = tt
 
 abbrev some_pair : Ending × ℕ → Option (Ending × ℕ)
 some_pair p = Some p
@@ -60,14 +58,12 @@ last_one : (header : LogHeader) (front : List Exchange) (e : Exchange) (after : 
     → ending_of e ≡ Some (ending, rounds)
     → with_log front (after_entry header e after more)
     ≡ Ok (log_with header front ending rounds, after)
-last_one header front (Signals round list) after more ending rounds h = absurd cc
-last_one header front (Input round tid max bytes) after more ending rounds h = absurd cc
-last_one header front (Clock round tid n) after more ending rounds h = absurd cc
 last_one header front (End x y) after more ending rounds h =
     let p : (x, y) ≡ (ending, rounds) = some_is _ _ h in
     let a : x ≡ ending = ap (λ (q : Ending × ℕ). q.0) p in
     let b : y ≡ rounds = ap (λ (q : Ending × ℕ). q.1) p in
     rw (append-nil front, a, b) refl
+last_one header front e after more ending rounds h = absurd cc
 
 -- So many entries of these bytes are read, the rest is left, and reading goes on there.
 pub record Walked (end : ℕ) (bytes rest : List ℕ) (count : ℕ) : Type 0 where
