@@ -336,17 +336,6 @@ pub leaves_as : (r : Result Ending Refusal) (asked other : Request) (o : Outside
     → IfErr r (λ why. Leaves other (with_tally o tally) f why [])
 leaves_as r asked other o f tally h same kept = rw (same, same_outside o tally kept) h
 
--- with this number, or with this told
-pub ok_at : {A : Type 0} (r : Result Ending Refusal) (P : A → Ending → Type 0) (a : A)
-    → IfOk r (λ ending. (x : A) → P x ending) → IfOk r (P a)
-ok_at (Ok ending) P a h = h a
-ok_at (Err why) P a h = tt
-
-pub err_at : {A : Type 0} (r : Result Ending Refusal) (P : A → Refusal → Type 0) (a : A)
-    → IfErr r (λ why. (x : A) → P x why) → IfErr r (P a)
-err_at (Ok ending) P a h = tt
-err_at (Err why) P a h = h a
-
 -- ---- what is done for words
 
 words_err : (why : Refusal) → why ≡ refusals.Words

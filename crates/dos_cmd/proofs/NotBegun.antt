@@ -33,32 +33,21 @@ says_nothing o out err files host = record {
 pub leaves_reading : (asked : Request) (o : Outside) (f : Faults) (why : Refusal)
     → OfReading why (λ w. IfSome (judgement o.files asked) (λ j. j ≡ Err w))
     → (why ≡ refusals.Files → Rose f.files f.files_after) → Says o [] → Leaves asked o f why []
-leaves_reading asked o f refusals.Words h k s = absurd h
 leaves_reading asked o f (refusals.TooLong image) h k s = record { is = h; says = s }
 leaves_reading asked o f (refusals.Image image error) h k s = record { is = h; says = s }
-leaves_reading asked o f (refusals.NoRoom n frames) h k s = absurd h
 leaves_reading asked o f (refusals.Log why) h k s = record { is = h; says = s }
-leaves_reading asked o f (refusals.Misfit found) h k s = absurd h
 leaves_reading asked o f refusals.Files h k s = (k refl, inl s)
-leaves_reading asked o f refusals.Host h k s = absurd h
-leaves_reading asked o f refusals.Sink h k s = absurd h
-leaves_reading asked o f refusals.LogFull h k s = absurd h
 leaves_reading asked o f refusals.Memory h k s = inl s
+leaves_reading asked o f why h k s = absurd h
 
 -- of images alone
 pub of_files : (why : Refusal) (P Q : Refusal → Type 0) → ((w : Refusal) → P w → Q w)
     → OfFiles why P → OfReading why Q
-of_files refusals.Words P Q step h = absurd h
 of_files (refusals.TooLong image) P Q step h = step (refusals.TooLong image) h
 of_files (refusals.Image image error) P Q step h = step (refusals.Image image error) h
-of_files (refusals.NoRoom n frames) P Q step h = absurd h
-of_files (refusals.Log why) P Q step h = absurd h
-of_files (refusals.Misfit found) P Q step h = absurd h
 of_files refusals.Files P Q step h = tt
-of_files refusals.Host P Q step h = absurd h
-of_files refusals.Sink P Q step h = absurd h
-of_files refusals.LogFull P Q step h = absurd h
 of_files refusals.Memory P Q step h = tt
+of_files why P Q step h = absurd h
 
 -- ---- room
 
@@ -81,15 +70,7 @@ pub not_opened_as : (images : List Image) (config : Config) (why : Refusal)
     (P : Refusal → Type 0) → IsNotOpened images config why
     → (config.frames < needed images → P (refusals.NoRoom (needed images) config.frames))
     → P refusals.Memory → P why
-not_opened_as images config refusals.Words P h room memory = absurd h
-not_opened_as images config (refusals.TooLong image) P h room memory = absurd h
-not_opened_as images config (refusals.Image image error) P h room memory = absurd h
 not_opened_as images config (refusals.NoRoom n frames) P h room memory =
     subst P (no_room_so n frames (needed images) config.frames h.0 h.1) (room h.2)
-not_opened_as images config (refusals.Log found) P h room memory = absurd h
-not_opened_as images config (refusals.Misfit found) P h room memory = absurd h
-not_opened_as images config refusals.Files P h room memory = absurd h
-not_opened_as images config refusals.Host P h room memory = absurd h
-not_opened_as images config refusals.Sink P h room memory = absurd h
-not_opened_as images config refusals.LogFull P h room memory = absurd h
 not_opened_as images config refusals.Memory P h room memory = memory
+not_opened_as images config why P h room memory = absurd h

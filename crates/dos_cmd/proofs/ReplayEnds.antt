@@ -91,8 +91,6 @@ replay_stopped log images o f stop why is fits only until ahead sink stay =
         → LeavesTaken log images o f (refusal_by stop)
     by_stop stops.OutFault only until sink = (fits, inl sink, inl cut)
     by_stop stops.ErrFault only until sink = (fits, inr sink, inl cut)
-    by_stop stops.HostFault only until sink = absurd only
-    by_stop stops.LogFull only until sink = absurd only
     by_stop (stops.Misfit found) only until sink =
         let run = until found refl in (
           fits,
@@ -107,7 +105,7 @@ replay_stopped log images o f stop why is fits only until ahead sink stay =
             stays = stay;
           },
         )
-    by_stop stops.Memory only until sink = absurd only
+    by_stop stop only until sink = absurd only
 
 -- ---- a run that came to its end
 
@@ -188,12 +186,12 @@ pub replay_begun : (log : Log) (images : List Image) (name : Text) (names : List
     → IfOk r (λ ended. (tells : Bool) (f f' : Text → Option (List ℕ)) (h : Option Told)
     → ((n : Text) → f' n ≡ f n) → DidReplay log images (ending_status ended)
     (outside tells f f' h h out out1 err err1 tally tally1))
-    → IfOk r (λ ended. (n : ℕ) (h : Option Told) → Begun (requests.Replay n name names)
+    → (n : ℕ) (h : Option Told) → IfOk r (λ ended. Begun (requests.Replay n name names)
     (outside tells f f' h h out out1 err err1 tally tally1)
     (λ taken. Did (requests.Replay n name names) taken (ending_status ended)
     (outside tells f f' h h out out1 err err1 tally tally1)))
 replay_begun log images name names tells f f' out err out1 err1 tally tally1 (Err why) told fits
-    stay did = tt
+    stay did = λ n h. tt
 replay_begun log images name names tells f f' out err out1 err1 tally tally1 (Ok ended) told fits
     stay did = λ n h. record {
       taken = record { log = Some log; images = images };
@@ -206,23 +204,17 @@ leaves_taken : (log : Log) (images : List Image) (name : Text) (names : List Tex
     → IfSome (replay_judgement (o.files name) (map o.files names))
     (λ j. j ≡ agreed log images None) → LeavesTaken log images o f why
     → Leaves (requests.Replay n name names) o f why []
-leaves_taken log images name names n o f refusals.Words told h = absurd h
-leaves_taken log images name names n o f (refusals.TooLong image) told h = absurd h
-leaves_taken log images name names n o f (refusals.Image image error) told h = absurd h
 leaves_taken log images name names n o f (refusals.NoRoom m frames) told h = record {
   is = subst (λ (w : Refusal). IfSome (replay_judgement (o.files name) (map o.files names))
       (λ j. j ≡ Err w)) (no_room_so m frames (needed images) log.header.frames h.0 h.1)
       (room_refused (replay_judgement (o.files name) (map o.files names)) log images h.2 told);
   says = h.3;
 }
-leaves_taken log images name names n o f (refusals.Log found) told h = absurd h
 leaves_taken log images name names n o f (refusals.Misfit found) told h = record {
   taken = record { log = Some log; images = images };
   is = room_taken (replay_judgement (o.files name) (map o.files names)) log images h.0 told;
   so = h.1;
 }
-leaves_taken log images name names n o f refusals.Files told h = absurd h
-leaves_taken log images name names n o f refusals.Host told h = absurd h
 leaves_taken log images name names n o f refusals.Sink told h = (
   h.1,
   refl,
@@ -232,8 +224,8 @@ leaves_taken log images name names n o f refusals.Sink told h = (
     so = h.2;
   },
 )
-leaves_taken log images name names n o f refusals.LogFull told h = absurd h
 leaves_taken log images name names n o f refusals.Memory told h = inl h
+leaves_taken log images name names n o f why told h = absurd h
 
 pub replay_leaves : (log : Log) (images : List Image) (name : Text) (names : List Text)
     (tells : Bool) (f f' : Text → Option (List ℕ)) (out err out1 err1 : Option (List ℕ))
@@ -243,10 +235,10 @@ pub replay_leaves : (log : Log) (images : List Image) (name : Text) (names : Lis
     → IfErr r (λ why. (tells : Bool) (f f' : Text → Option (List ℕ)) (h : Option Told)
     (k k' m : ℕ) → ((n : Text) → f' n ≡ f n) → LeavesTaken log images
     (outside tells f f' h h out out1 err err1 tally tally1) (faults k k' m m oc oc1 ec ec1) why)
-    → IfErr r (λ why. (n : ℕ) (h : Option Told) (m : ℕ) → Leaves (requests.Replay n name names)
+    → (n : ℕ) (h : Option Told) (m : ℕ) → IfErr r (λ why. Leaves (requests.Replay n name names)
     (outside tells f f' h h out out1 err err1 tally tally1) (faults k k' m m oc oc1 ec ec1) why [])
 replay_leaves log images name names tells f f' out err out1 err1 tally tally1 k k' oc oc1 ec ec1
-    (Ok ended) told stay leaves = tt
+    (Ok ended) told stay leaves = λ n h m. tt
 replay_leaves log images name names tells f f' out err out1 err1 tally tally1 k k' oc oc1 ec ec1
     (Err why) told stay leaves = λ n h m.
     leaves_taken log images name names n (outside tells f f' h h out out1 err err1 tally tally1)

@@ -43,17 +43,10 @@ log_refused (Some file) files why h =
 pub reading_refused : (told : Option (List ℕ)) (files : List (Option (List ℕ))) (why : Refusal)
     → OfLogFile why (λ found. IfSome told (λ file. log_verdict file ≡ Err found))
     → OfReading why (λ w. IfSome (replay_judgement told files) (λ j. j ≡ Err w))
-reading_refused told files refusals.Words h = absurd h
-reading_refused told files (refusals.TooLong image) h = absurd h
-reading_refused told files (refusals.Image image error) h = absurd h
-reading_refused told files (refusals.NoRoom n frames) h = absurd h
 reading_refused told files (refusals.Log why) h = log_refused told files why h
-reading_refused told files (refusals.Misfit found) h = absurd h
 reading_refused told files refusals.Files h = tt
-reading_refused told files refusals.Host h = absurd h
-reading_refused told files refusals.Sink h = absurd h
-reading_refused told files refusals.LogFull h = absurd h
 reading_refused told files refusals.Memory h = tt
+reading_refused told files why h = absurd h
 
 -- ---- the images
 

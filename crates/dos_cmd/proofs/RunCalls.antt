@@ -134,29 +134,14 @@ carried P o tells files same stays h =
 earlier : (a : RunAsked) (images : List Image) (o : Outside) (f : Faults) (before : ℕ)
     (why : Refusal) → before ≤ f.files → LeavesRun a images o f why
     → LeavesRun a images o (record f { files = before }) why
-earlier a images o f before refusals.Words le h = h
-earlier a images o f before (refusals.TooLong image) le h = h
-earlier a images o f before (refusals.Image image error) le h = h
-earlier a images o f before (refusals.NoRoom m frames) le h = h
-earlier a images o f before (refusals.Log why) le h = h
-earlier a images o f before (refusals.Misfit found) le h = h
 earlier a images o f before refusals.Files le h =
     (then_rose before f.files f.files_after le h.0, h.1)
-earlier a images o f before refusals.Host le h = h
-earlier a images o f before refusals.Sink le h = h
-earlier a images o f before refusals.LogFull le h = h
-earlier a images o f before refusals.Memory le h = h
+earlier a images o f before why le h = h
 
 leaves_begun : (a : RunAsked) (n : ℕ) (o : Outside) (f : Faults) (images : List Image)
     (why : Refusal)
     → IfSome (judgement o.files (run_words a n)) (λ j. j ≡ Ok (only_images images))
     → LeavesRun a images o f why → Leaves (run_words a n) o f why []
-leaves_begun a n o f images refusals.Words is h = absurd h
-leaves_begun a n o f images (refusals.TooLong image) is h = absurd h
-leaves_begun a n o f images (refusals.Image image error) is h = absurd h
-leaves_begun a n o f images (refusals.NoRoom m frames) is h = absurd h
-leaves_begun a n o f images (refusals.Log why) is h = absurd h
-leaves_begun a n o f images (refusals.Misfit found) is h = absurd h
 leaves_begun a n o f images refusals.Files is h =
     (h.0, inr (record { taken = only_images images; is = is; so = h.1 }))
 leaves_begun a n o f images refusals.Host is h =
@@ -169,6 +154,7 @@ leaves_begun a n o f images refusals.Memory is (inl h) =
     inr (inl (record { taken = only_images images; is = is; so = h }))
 leaves_begun a n o f images refusals.Memory is (inr h) =
     inr (inr (h.0, record { taken = only_images images; is = is; so = h.1 }))
+leaves_begun a n o f images why is h = absurd h
 
 pub run_did : (a : RunAsked) (images : List Image) (o : Outside) (tells : Bool)
     (files : Text → Option (List ℕ)) (kernel : Held) (ledger : LedgerState)
@@ -178,9 +164,9 @@ pub run_did : (a : RunAsked) (images : List Image) (o : Outside) (tells : Bool)
     → DidRun asked i (ending_status ending) (record o { files_tell = tells; files = files }))
     → IsPrepared a images kernel ledger a.log o
     → ((n : ℕ) → IfSome (judgement o.files (run_words a n)) (λ j. j ≡ Ok (only_images images)))
-    → IfOk r (λ ending. (n : ℕ) → Begun (run_words a n) o
+    → (n : ℕ) → IfOk r (λ ending. Begun (run_words a n) o
     (λ taken. Did (run_words a n) taken (ending_status ending) o))
-run_did a images o tells files kernel ledger (Err why) same stays did p is = tt
+run_did a images o tells files kernel ledger (Err why) same stays did p is = λ n. tt
 run_did a images o tells files kernel ledger (Ok ending) same stays did p is = λ n.
     let here : (asked : RunAsked) (i : List Image) → IsPrepared asked i kernel ledger a.log o
     → DidRun asked i (ending_status ending) o =
@@ -198,8 +184,8 @@ pub run_leaves : (a : RunAsked) (images : List Image) (o : Outside) (tells : Boo
     → LeavesRun asked i (record o { files_tell = tells; files = files }) f why)
     → IsPrepared a images kernel ledger a.log o
     → ((n : ℕ) → IfSome (judgement o.files (run_words a n)) (λ j. j ≡ Ok (only_images images)))
-    → IfErr r (λ why. (n : ℕ) → Leaves (run_words a n) o (record f { files = before }) why [])
-run_leaves a images o tells files f before kernel ledger (Ok ending) same stays le leaves p is = tt
+    → (n : ℕ) → IfErr r (λ why. Leaves (run_words a n) o (record f { files = before }) why [])
+run_leaves a images o tells files f before kernel ledger (Ok ending) same stays le leaves p is = λ n. tt
 run_leaves a images o tells files f before kernel ledger (Err why) same stays le leaves p is = λ n.
     let here : (asked : RunAsked) (i : List Image) → IsPrepared asked i kernel ledger a.log o
     → LeavesRun asked i o f why =

@@ -40,6 +40,15 @@ then_rose a b d h k = omega arith
 pub is_err_of : {T E : Type 0} (x y : E) → x ≡ y → IsErrOf {T = T} {E = E} (Err x) y
 is_err_of x y e = cc
 
+-- the same error, of a result of another type
+pub err_again : {T U E : Type 0} (x y : E) → IsErrOf {T = T} {E = E} (Err x) y
+    → IsErrOf {T = U} {E = E} (Err x) y
+err_again x y is = let same : x ≡ y = cc in is_err_of x y same
+
+-- what was answered is no error
+pub ok_no_err : {T E : Type 0} (x : T) (e : E) → IsErrOf {T = T} {E = E} (Ok x) e → ⊥
+ok_no_err x e is = cc
+
 -- ---- a run that stopped
 
 -- with nothing behind

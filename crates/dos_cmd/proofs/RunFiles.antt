@@ -2,9 +2,10 @@
 use Rattle.std.proofs.Common.{◌≡◌, ◌≢◌, ◌⊎◌, ◌≤◌, ◌<◌, inl, inr, ℕ, suc, ◌+◌, List, [], ◌∷◌, ◌++◌}
 use Rattle.std.proofs.Common.{length, map, drop, Option, Some, None, Result, Ok, Err, true, sym, ap}
 use Rattle.std.proofs.Common.{◌∙◌, subst, refl, append_assoc, arith}
-use Rattle.std.specs.Prelude.{IfSome, nat_lt, option_map, slice_get}
+use Rattle.std.specs.Prelude.{IfSome, IsErrOf, nat_lt, option_map, slice_get}
 use Rattle.std.specs.List.{AllByRecursion}
-use Rattle.std.proofs.lemmas.List.{length-append}
+use Rattle.std.proofs.lemmas.List.{append-nil, length-append}
+use Rattle.std.proofs.Math.ListN.{drop_of_length-le}
 use Rattle.std.proofs.lemmas.Bool.{le-ltb}
 use Rattle.std.proofs.lemmas.Bool.Decides.{nat_tests}
 use Rattle.group_rounds.proofs.SignalLaws.{drop_get}
@@ -58,6 +59,12 @@ pub told_accepted : (number : ℕ) (told : Option (List ℕ)) (bytes : List ℕ)
 told_accepted number told bytes parsed is within e =
     told_verdict number told bytes (Ok parsed) is within e
 
+pub told_digest : (told : Option (List ℕ)) (bytes read digest : List ℕ)
+    → IfSome told (λ t. bytes ≡ t) → read ≡ bytes → digest ≡ sha256 read
+    → IfSome told (λ file. digest ≡ sha256 file)
+told_digest None bytes read digest is same e = tt
+told_digest (Some file) bytes read digest is same e = e ∙ ap sha256 (same ∙ is)
+
 -- a file that isn't read as an image, but for want of memory
 abbrev pub NotRead : ℕ → ImageError → Refusal → Type 0
 NotRead number error r = ((error ≡ errors.Memory) × (r ≡ refusals.Memory))
@@ -74,20 +81,22 @@ told_not_read number told bytes error r (inr k) is within e =
     subst (λ (v : Refusal). OfFiles v (λ why. IfSome told (λ file. verdict number file ≡ Err why)))
     (sym k.1) (told_verdict number told bytes (Err error) is within (e k.0))
 
+-- which is no fault of the files
+pub not_read_no_fault : {T : Type 0} (number : ℕ) (error : ImageError) (r : Refusal)
+    → NotRead number error r → IsErrOf {T = T} (Err r) refusals.Files → ⊥
+not_read_no_fault number error r (inl k) is =
+    let clash : refusals.Memory ≡ refusals.Files = cc in cc
+not_read_no_fault number error r (inr k) is =
+    let clash : refusals.Image number error ≡ refusals.Files = cc in cc
+
 -- one fact of a refusal for another
 pub of_files_map : (why : Refusal) (P Q : Refusal → Type 0) → ((r : Refusal) → P r → Q r)
     → OfFiles why P → OfFiles why Q
-of_files_map refusals.Words P Q f h = h
 of_files_map (refusals.TooLong number) P Q f h = f (refusals.TooLong number) h
 of_files_map (refusals.Image number error) P Q f h = f (refusals.Image number error) h
-of_files_map (refusals.NoRoom n frames) P Q f h = h
-of_files_map (refusals.Log log) P Q f h = h
-of_files_map (refusals.Misfit found) P Q f h = h
 of_files_map refusals.Files P Q f h = tt
-of_files_map refusals.Host P Q f h = h
-of_files_map refusals.Sink P Q f h = h
-of_files_map refusals.LogFull P Q f h = h
 of_files_map refusals.Memory P Q f h = tt
+of_files_map why P Q f h = h
 
 -- ---- all files, one after another
 
@@ -99,6 +108,11 @@ in_front images (Err why) = Err why
 -- so where they are told
 abbrev pub behind : List Image → Option Images → Option Images
 behind images others = option_map (in_front images) others
+
+behind_none : (others : Option Images) → behind [] others ≡ others
+behind_none None = refl
+behind_none (Some (Ok images)) = refl
+behind_none (Some (Err why)) = refl
 
 behind_with : (images : List Image) (parsed : Image) (others : Option Images)
     → behind images (option_map (with_image parsed) others) ≡ behind (images ++ parsed ∷ []) others
@@ -145,6 +159,10 @@ if_told (Some x) Q h = h x refl
 abbrev pub digests_behind : List (List ℕ) → Option (List (List ℕ)) → Option (List (List ℕ))
 digests_behind digests others = option_map (λ o. digests ++ o) others
 
+digests_none : (others : Option (List (List ℕ))) → digests_behind [] others ≡ others
+digests_none None = refl
+digests_none (Some digests) = refl
+
 digests_with : (digests : List (List ℕ)) (digest : List ℕ) (others : Option (List (List ℕ)))
     → digests_behind digests (option_map (λ o. digest ∷ o) others)
     ≡ digests_behind (digests ++ digest ∷ []) others
@@ -182,6 +200,20 @@ pub record Reads (contents : List ℕ → Option (List ℕ)) (names : List (List
       → behind images (images_from (suc i) (map contents (drop i names))) ≡ Some j
   pub digests_left : (ds : List (List ℕ)) → digests_of (map contents names) ≡ Some ds
       → digests_behind digests (digests_of (map contents (drop i names))) ≡ Some ds
+
+pub reads_first : (contents : List ℕ → Option (List ℕ)) (names : List (List ℕ))
+    (images : List Image) (digests : List (List ℕ)) → images ≡ [] → digests ≡ []
+    → Reads contents names 0 images digests
+reads_first contents names images digests no_image no_digest = record {
+  count = ap length no_image;
+  digest_count = ap length no_digest;
+  are_digests = subst AreDigests (sym no_digest) tt;
+  left = λ j e. ap (λ (x : List Image). behind x (images_from 1 (map contents names))) no_image
+      ∙ behind_none (images_from 1 (map contents names)) ∙ e;
+  digests_left = λ ds e.
+      ap (λ (x : List (List ℕ)). digests_behind x (digests_of (map contents names))) no_digest
+      ∙ digests_none (digests_of (map contents names)) ∙ e;
+}
 
 -- The next name is the first of those that are left.
 left_from : (contents : List ℕ → Option (List ℕ)) (names : List (List ℕ)) (i : ℕ) (name : List ℕ)
@@ -262,3 +294,39 @@ none_read contents now names i images digests name why at stays h reads =
     (λ r. IfSome (images_from 1 (map contents names)) (λ j. j ≡ Err r))
     (λ r told. reads_not contents names i images digests name r at
     (found_before contents now name (λ file. verdict (i + 1) file ≡ Err r) stays told) reads) h
+
+-- all of them
+pub reads_all : (contents : List ℕ → Option (List ℕ)) (names : List (List ℕ)) (i : ℕ)
+    (images : List Image) (digests : List (List ℕ)) → length names ≤ i
+    → Reads contents names i images digests
+    → IfSome (images_from 1 (map contents names)) (λ j. j ≡ Ok images)
+reads_all contents names i images digests le reads =
+    if_told (images_from 1 (map contents names)) (λ j. j ≡ Ok images) (λ j e.
+    let over : behind images (images_from (suc i) (map contents (drop i names)))
+    ≡ Some (Ok (images ++ [])) =
+    ap (λ (x : List (List ℕ)). behind images (images_from (suc i) (map contents x)))
+    (drop_of_length-le names le) in
+    let all : Option Images = Some (Ok (images ++ [])) in
+    let same : all ≡ Some j = sym over ∙ reads.left j e in
+    let whole : images ++ [] ≡ images = append-nil images in
+    cc)
+
+pub digests_all : (contents : List ℕ → Option (List ℕ)) (names : List (List ℕ)) (i : ℕ)
+    (images : List Image) (digests : List (List ℕ)) → length names ≤ i
+    → Reads contents names i images digests
+    → IfSome (digests_of (map contents names)) (λ ds. digests ≡ ds)
+digests_all contents names i images digests le reads =
+    if_told (digests_of (map contents names)) (λ ds. digests ≡ ds) (λ ds e.
+    let over : digests_behind digests (digests_of (map contents (drop i names)))
+    ≡ Some (digests ++ []) =
+    ap (λ (x : List (List ℕ)). digests_behind digests (digests_of (map contents x)))
+    (drop_of_length-le names le) in
+    let all : Option (List (List ℕ)) = Some (digests ++ []) in
+    let same : all ≡ Some ds = sym over ∙ reads.digests_left ds e in
+    let whole : digests ++ [] ≡ digests = append-nil digests in
+    cc)
+
+-- so many are all
+pub all_counted : (names : List (List ℕ)) (i end : ℕ) → i ≤ end → end ≤ i → end ≡ length names
+    → i ≡ length names
+all_counted names i end low high is = omega arith

@@ -11,7 +11,7 @@ use Rattle.dos_texts.specs.declared.refusal.Refusal.{Refusal}
 use Rattle.dos_texts.specs.declared.refusal.Refusal.TheVariants as refusals
 use Rattle.dos_words.specs.Numbers.{Text}
 use Rattle.dos_words.specs.declared.request.Request.{Request}
-use Rattle.dos_words.specs.declared.request.Request.TheVariants.{Run, Replay, Inspect, Gen}
+use Rattle.dos_words.specs.declared.request.Request.TheVariants.{Run, Replay}
 use Rattle.dos_cmd.specs.Judging.{Taken}
 use Rattle.dos_cmd.specs.Outside.{Outside, Faults, Grew, Says, OutputFailed}
 use Rattle.dos_cmd.specs.ReplayLeaves.{Misfitted}
@@ -66,9 +66,7 @@ module _ (o : Outside) (e : Option (List ℕ)) (last : List ℕ) (more : e ≡ g
       grew = grew_more h.output h.error h.grew;
       files_stay = h.files_stay;
     }
-    stopped_more (Replay w log names) taken stop h = absurd h
-    stopped_more (Inspect name) taken stop h = absurd h
-    stopped_more (Gen number threads w) taken stop h = absurd h
+    stopped_more asked taken stop h = absurd h
 
     unwritten_more : (asked : Request) (taken : Taken) → Unwritten asked taken [] o
         → Unwritten asked taken last (with_error o e)
@@ -90,13 +88,10 @@ module _ (o : Outside) (e : Option (List ℕ)) (last : List ℕ) (more : e ≡ g
       grew = grew_more h.seen.output h.seen.error h.grew;
       others = h.others;
     }
-    unwritten_more (Replay w log names) taken h = absurd h
-    unwritten_more (Inspect name) taken h = absurd h
-    unwritten_more (Gen number threads w) taken h = absurd h
+    unwritten_more asked taken h = absurd h
 
     misfit_more : (asked : Request) (taken : Taken) (found : Misfit)
         → HasMisfit asked taken found [] o → HasMisfit asked taken found last (with_error o e)
-    misfit_more (Run q r f w posts from step log names) taken found h = absurd h
     misfit_more (Replay w log names) taken found h = of_log taken.log h
       where
         of_log : (read : Option Log) → OfLog read (λ l. Misfitted l taken.images found [] o)
@@ -109,8 +104,7 @@ module _ (o : Outside) (e : Option (List ℕ)) (last : List ℕ) (more : e ≡ g
           grew = grew_more h.output h.error h.grew;
           stays = record { files_stay = h.stays.files_stay; host_stays = h.stays.host_stays };
         }
-    misfit_more (Inspect name) taken found h = absurd h
-    misfit_more (Gen number threads w) taken found h = absurd h
+    misfit_more asked taken found h = absurd h
 
     begun_more : (asked : Request) (P Q : Taken → Type 0) → ((taken : Taken) → P taken → Q taken)
         → Begun asked o P → Begun asked (with_error o e) Q

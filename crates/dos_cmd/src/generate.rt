@@ -113,15 +113,15 @@ pub(crate) fn generate<O: Sink, W: Workers>(
     requires some { 1 ≤ threads }
     requires few { threads ≤ 32 }
     // whatever files, a host and error tell, and however often they failed
-    ensures did { IfOk result (λ ending. (n : ℕ) (tells : Bool) (f : List ℕ → Option (List ℕ))
-        (h : Option Told) (e : Option (List ℕ)) → Begun (requests.Gen number threads n)
+    ensures did { (n : ℕ) (tells : Bool) (f : List ℕ → Option (List ℕ)) (h : Option Told)
+        (e : Option (List ℕ)) → IfOk result (λ ending. Begun (requests.Gen number threads n)
         (outside tells f f h h (O.told out.old) (O.told out.new) e e
         (W.tally workers.old) (W.tally workers.new))
         (λ taken. Did (requests.Gen number threads n) taken (ending_status ending)
         (outside tells f f h h (O.told out.old) (O.told out.new) e e
         (W.tally workers.old) (W.tally workers.new)))) }
-    ensures leaves { IfErr result (λ why. (n : ℕ) (tells : Bool) (f : List ℕ → Option (List ℕ))
-        (h : Option Told) (e : Option (List ℕ)) (k l m : ℕ) → Leaves (requests.Gen number threads n)
+    ensures leaves { (n : ℕ) (tells : Bool) (f : List ℕ → Option (List ℕ)) (h : Option Told)
+        (e : Option (List ℕ)) (k l m : ℕ) → IfErr result (λ why. Leaves (requests.Gen number threads n)
         (outside tells f f h h (O.told out.old) (O.told out.new) e e
         (W.tally workers.old) (W.tally workers.new))
         (faults k k l l (O.faults out.old) (O.faults out.new) m m) why []) }

@@ -20,15 +20,15 @@ pub(crate) fn inspect<F: Files, O: Sink>(
     out: &mut O,
 ) -> Result<Ending, Refusal>
     // whatever a host and error tell, and however often they failed
-    ensures did { IfOk result (λ ending. (h : Option Told) (e : Option (List ℕ)) (t : ℕ)
-        → Begun (requests.Inspect name.now)
+    ensures did { (h : Option Told) (e : Option (List ℕ)) (t : ℕ) → IfOk result (λ ending.
+        Begun (requests.Inspect name.now)
         (outside (F.tells files.old) (F.content files.old) (F.content files.new) h h
         (O.told out.old) (O.told out.new) e e t t)
         (λ taken. Did (requests.Inspect name.now) taken (ending_status ending)
         (outside (F.tells files.old) (F.content files.old) (F.content files.new) h h
         (O.told out.old) (O.told out.new) e e t t))) }
-    ensures leaves { IfErr result (λ why. (h : Option Told) (e : Option (List ℕ)) (t m n : ℕ)
-        → Leaves (requests.Inspect name.now)
+    ensures leaves { (h : Option Told) (e : Option (List ℕ)) (t m n : ℕ) → IfErr result (λ why.
+        Leaves (requests.Inspect name.now)
         (outside (F.tells files.old) (F.content files.old) (F.content files.new) h h
         (O.told out.old) (O.told out.new) e e t t)
         (faults (F.faults files.old) (F.faults files.new) m m

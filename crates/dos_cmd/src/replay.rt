@@ -143,8 +143,8 @@ pub(crate) fn replay<F: Files, O: Sink, E: Sink, W: Workers>(
 ) -> Result<Ending, Refusal>
     requires { length names.now ≤ 8 }
     // whatever a host tells, and however often it failed
-    ensures did { IfOk result (λ ending. (n : ℕ) (h : Option Told)
-        → Begun (requests.Replay n log.now names.now)
+    ensures did { (n : ℕ) (h : Option Told) → IfOk result (λ ending.
+        Begun (requests.Replay n log.now names.now)
         (outside (F.tells files.old) (F.content files.old) (F.content files.new) h h
         (O.told out.old) (O.told out.new) (E.told err.old) (E.told err.new)
         (W.tally workers.old) (W.tally workers.new))
@@ -152,8 +152,8 @@ pub(crate) fn replay<F: Files, O: Sink, E: Sink, W: Workers>(
         (outside (F.tells files.old) (F.content files.old) (F.content files.new) h h
         (O.told out.old) (O.told out.new) (E.told err.old) (E.told err.new)
         (W.tally workers.old) (W.tally workers.new)))) }
-    ensures leaves { IfErr result (λ why. (n : ℕ) (h : Option Told) (m : ℕ)
-        → Leaves (requests.Replay n log.now names.now)
+    ensures leaves { (n : ℕ) (h : Option Told) (m : ℕ) → IfErr result (λ why.
+        Leaves (requests.Replay n log.now names.now)
         (outside (F.tells files.old) (F.content files.old) (F.content files.new) h h
         (O.told out.old) (O.told out.new) (E.told err.old) (E.told err.new)
         (W.tally workers.old) (W.tally workers.new))

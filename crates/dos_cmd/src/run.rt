@@ -306,7 +306,7 @@ pub(crate) fn run<F: Files, H: Host, O: Sink, E: Sink, W: Workers>(
     requires few { length request.now.names.now ≤ 8 }
     requires few_posts { length request.now.posts.now ≤ 32 }
     requires planned { ArePlanned request.now.posts.now }
-    ensures did { IfOk result (λ ending. (n : ℕ) → Begun (run_request request.now n)
+    ensures did { (n : ℕ) → IfOk result (λ ending. Begun (run_request request.now n)
         (outside (F.tells files.old) (F.content files.old) (F.content files.new) (H.told host.old)
         (H.told host.new) (O.told out.old) (O.told out.new) (E.told err.old) (E.told err.new)
         (W.tally workers.old) (W.tally workers.new))
@@ -314,7 +314,7 @@ pub(crate) fn run<F: Files, H: Host, O: Sink, E: Sink, W: Workers>(
         (outside (F.tells files.old) (F.content files.old) (F.content files.new) (H.told host.old)
         (H.told host.new) (O.told out.old) (O.told out.new) (E.told err.old) (E.told err.new)
         (W.tally workers.old) (W.tally workers.new)))) }
-    ensures leaves { IfErr result (λ why. (n : ℕ) → Leaves (run_request request.now n)
+    ensures leaves { (n : ℕ) → IfErr result (λ why. Leaves (run_request request.now n)
         (outside (F.tells files.old) (F.content files.old) (F.content files.new) (H.told host.old)
         (H.told host.new) (O.told out.old) (O.told out.new) (E.told err.old) (E.told err.new)
         (W.tally workers.old) (W.tally workers.new))

@@ -42,7 +42,7 @@ returns-in_err-image g c =
     let p = err_from_is_err_and c.from_residual.result c.from_residual.ensures.1 in
     let load = c.in_err-image.ensures in
     rw (p.1, p.2) (record {
-      did = tt;
+      did = λ h e t. tt;
       leaves = λ h e t m n. leaves_reading (requests.Inspect c.args.name.now)
           (outside (g.F.Files.tells c.args.files.now) (g.F.Files.content c.args.files.now)
           (g.F.Files.content c.load.new.files) h h (g.O.Sink.told c.args.out.now)

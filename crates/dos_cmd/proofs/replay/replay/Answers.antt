@@ -11,7 +11,7 @@ pub returns-in_err-log : goal.returns-in_err-log
 returns-in_err-log g c =
     let p = err_from_is_err_and c.from_residual.result c.from_residual.ensures.1 in
     rw (p.1, p.2) (record {
-      did = tt;
+      did = λ n h. tt;
       leaves = let take = c.in_err-log.ensures in
           (λ n h m. leaves_reading (requests.Replay n c.args.log.now c.args.names.now)
           (outside (g.F.Files.tells c.args.files.now) (g.F.Files.content c.args.files.now)

@@ -9,7 +9,7 @@ pub returns-in_err-kernel : goal.returns-in_err-kernel
 returns-in_err-kernel g c =
     let p = err_from_is_err_and c.from_residual.result c.from_residual.ensures.1 in
     rw (p.1, p.2) (record {
-      did = tt;
+      did = λ n. tt;
       leaves = (λ n. c.in_err-kernel.ensures.leaves n (g.H.Host.told c.args.host.now)
           (g.O.Sink.told c.args.out.now) (g.E.Sink.told c.args.err.now)
           (g.W.Workers.tally c.args.workers.now) (g.H.Host.faults c.args.host.now)

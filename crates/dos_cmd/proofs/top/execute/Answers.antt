@@ -1,6 +1,7 @@
-use Rattle.std.proofs.Common.{le_refl, ◌∙◌, rules}
-use Rattle.dos_cmd.proofs.Calls.{are_planned, did_as, err_at, fits_gen, fits_run, leaves_as}
-use Rattle.dos_cmd.proofs.Calls.{ok_at}
+use Rattle.std.proofs.Common.{le_refl, sym, ap, ◌∙◌}
+use Rattle.dos_words.specs.Numbers.{Text}
+use Rattle.dos_words.specs.declared.request.Request.TheVariants.{Run, Replay, Inspect}
+use Rattle.dos_cmd.proofs.Calls.{are_planned, did_as, fits_gen, fits_run, leaves_as}
 use Rattle.dos_cmd.proofs.top.execute.Goals as goal
 
 -- ---- run
@@ -35,31 +36,34 @@ run-requires-clause-planned g c = λ κs alive.
     are_planned _ fits.posts_fit
 
 pub returns-in-Run : goal.returns-in-Run
-returns-in-Run g c = record {
-  did = did_as _ _ _ _ _ (ok_at c.run.result _ c.in-Run.workers c.run.ensures.did) (search rules)
-      c.hire.ensures.tally;
-  leaves = leaves_as _ _ _ _ _ _ (err_at c.run.result _ c.in-Run.workers c.run.ensures.leaves)
-      (search rules) c.hire.ensures.tally;
-  files_later = c.run.ensures.files_later;
-  host_later = c.run.ensures.host_later;
-  out_later = c.run.ensures.out_later;
-  err_later = c.run.ensures.err_later;
-  fixed = c.run.ensures.fixed ∙ c.hire.ensures.fixed;
-}
+returns-in-Run g c =
+    let asked = c.in-Run in
+    let same = asked.is ∙ ap (λ (log : Text). Run asked.quantum asked.rounds asked.frames
+    asked.workers asked.posts asked.clock_from asked.clock_step log asked.names)
+    (sym c.as_str.ensures) in
+    record {
+      did = did_as _ _ _ _ _ (c.run.ensures.did asked.workers) same c.hire.ensures.tally;
+      leaves = leaves_as _ _ _ _ _ _ (c.run.ensures.leaves asked.workers) same
+          c.hire.ensures.tally;
+      files_later = c.run.ensures.files_later;
+      host_later = c.run.ensures.host_later;
+      out_later = c.run.ensures.out_later;
+      err_later = c.run.ensures.err_later;
+      fixed = c.run.ensures.fixed ∙ c.hire.ensures.fixed;
+    }
 
 -- ---- replay
 
 pub returns-in-Replay : goal.returns-in-Replay
 returns-in-Replay g c =
-    let r = c.replay.result in
+    let asked = c.in-Replay in
+    let same = asked.is ∙ ap (λ (log : Text). Replay asked.workers log asked.names)
+    (sym c.as_str-in-Replay.ensures) in
+    let host = g.H.Host.told c.args.host.now in
     record {
-      did = did_as _ _ _ _ _ (ok_at r _ (g.H.Host.told c.args.host.now)
-          (ok_at r _ c.in-Replay.workers c.replay.ensures.did)) (search rules)
-          c.hire.ensures.tally;
-      leaves = leaves_as _ _ _ _ _ _ (err_at r _ (g.H.Host.faults c.args.host.now)
-          (err_at r _ (g.H.Host.told c.args.host.now)
-          (err_at r _ c.in-Replay.workers c.replay.ensures.leaves))) (search rules)
-          c.hire.ensures.tally;
+      did = did_as _ _ _ _ _ (c.replay.ensures.did asked.workers host) same c.hire.ensures.tally;
+      leaves = leaves_as _ _ _ _ _ _ (c.replay.ensures.leaves asked.workers host
+          (g.H.Host.faults c.args.host.now)) same c.hire.ensures.tally;
       files_later = c.replay.ensures.files_later;
       host_later = le_refl _;
       out_later = c.replay.ensures.out_later;
@@ -71,18 +75,15 @@ returns-in-Replay g c =
 
 pub returns-in-Inspect : goal.returns-in-Inspect
 returns-in-Inspect g c =
-    let r = c.inspect.result in
+    let same = c.in-Inspect.is ∙ ap Inspect (sym c.as_str-in-Inspect.ensures) in
+    let host = g.H.Host.told c.args.host.now in
+    let err = g.E.Sink.told c.args.err.now in
+    let tally = g.W.Workers.tally c.hire.new.workers in
     record {
-      did = did_as _ _ _ _ _ (ok_at r _ (g.W.Workers.tally c.hire.new.workers)
-          (ok_at r _ (g.E.Sink.told c.args.err.now)
-          (ok_at r _ (g.H.Host.told c.args.host.now) c.inspect.ensures.did))) (search rules)
+      did = did_as _ _ _ _ _ (c.inspect.ensures.did host err tally) same c.hire.ensures.tally;
+      leaves = leaves_as _ _ _ _ _ _ (c.inspect.ensures.leaves host err tally
+          (g.H.Host.faults c.args.host.now) (g.E.Sink.faults c.args.err.now)) same
           c.hire.ensures.tally;
-      leaves = leaves_as _ _ _ _ _ _ (err_at r _ (g.E.Sink.faults c.args.err.now)
-          (err_at r _ (g.H.Host.faults c.args.host.now)
-          (err_at r _ (g.W.Workers.tally c.hire.new.workers)
-          (err_at r _ (g.E.Sink.told c.args.err.now)
-          (err_at r _ (g.H.Host.told c.args.host.now) c.inspect.ensures.leaves)))))
-          (search rules) c.hire.ensures.tally;
       files_later = c.inspect.ensures.files_later;
       host_later = le_refl _;
       out_later = c.inspect.ensures.out_later;
@@ -104,22 +105,17 @@ generate-requires-clause-few g c = λ κs alive.
 
 pub returns-in-Gen : goal.returns-in-Gen
 returns-in-Gen g c =
-    let r = c.generate.result in
+    let workers = c.in-Gen.workers in
+    let tells = g.F.Files.tells c.args.files.now in
+    let files = g.F.Files.content c.args.files.now in
+    let host = g.H.Host.told c.args.host.now in
+    let err = g.E.Sink.told c.args.err.now in
     record {
-      did = did_as _ _ _ _ _ (ok_at r _ (g.E.Sink.told c.args.err.now)
-          (ok_at r _ (g.H.Host.told c.args.host.now)
-          (ok_at r _ (g.F.Files.content c.args.files.now)
-          (ok_at r _ (g.F.Files.tells c.args.files.now)
-          (ok_at r _ c.in-Gen.workers c.generate.ensures.did))))) (search rules)
+      did = did_as _ _ _ _ _ (c.generate.ensures.did workers tells files host err) c.in-Gen.is
           c.hire.ensures.tally;
-      leaves = leaves_as _ _ _ _ _ _ (err_at r _ (g.E.Sink.faults c.args.err.now)
-          (err_at r _ (g.H.Host.faults c.args.host.now)
-          (err_at r _ (g.F.Files.faults c.args.files.now)
-          (err_at r _ (g.E.Sink.told c.args.err.now) (err_at r _ (g.H.Host.told c.args.host.now)
-          (err_at r _ (g.F.Files.content c.args.files.now)
-          (err_at r _ (g.F.Files.tells c.args.files.now)
-          (err_at r _ c.in-Gen.workers c.generate.ensures.leaves)))))))) (search rules)
-          c.hire.ensures.tally;
+      leaves = leaves_as _ _ _ _ _ _ (c.generate.ensures.leaves workers tells files host err
+          (g.F.Files.faults c.args.files.now) (g.H.Host.faults c.args.host.now)
+          (g.E.Sink.faults c.args.err.now)) c.in-Gen.is c.hire.ensures.tally;
       files_later = le_refl _;
       host_later = le_refl _;
       out_later = c.generate.ensures.out_later;
