@@ -1,4 +1,5 @@
 -- An entry that is read is the entry that was written, and what was written is read again.
+use Rattle.std.proofs.Common.{ap₂, append_assoc, ◌∙◌}
 use Rattle.std.proofs.Common.{◌≡◌, ℕ, zero, suc, ◌^◌, ◌<◌, ◌≤◌, List, [], ◌∷◌, ◌++◌, length, drop}
 use Rattle.std.proofs.Common.{Ok, refl, sym, ap, subst, arith}
 use Rattle.std.specs.Int.{w16, w32, w64, to_le_bytes}
@@ -246,3 +247,11 @@ entry_again end (Input round tid max bytes) rest fits =
     input_again end round tid max bytes rest fits
 entry_again end (Clock round tid n) rest fits = clock_again end round tid n rest fits
 entry_again end (End ending rounds) rest fits = end_again end ending rounds rest fits
+
+-- ---- a text that is put piece by piece
+
+-- one more piece, behind what was put before
+pub put_more : (old before piece bytes text new : List ℕ) → text ≡ old ++ before → piece ≡ bytes
+    → new ≡ text ++ piece → new ≡ old ++ (before ++ bytes)
+put_more old before piece bytes text new so_far is more =
+    more ∙ ap₂ (λ (x y : List ℕ). x ++ y) so_far is ∙ append_assoc old before bytes
