@@ -89,6 +89,13 @@ not_read_no_fault number error r (inl k) is =
 not_read_no_fault number error r (inr k) is =
     let clash : refusals.Image number error ≡ refusals.Files = cc in cc
 
+pub long_no_fault : {T : Type 0} (number : ℕ)
+    → IsErrOf {T = T} (Err (refusals.TooLong number)) refusals.Files → ⊥
+long_no_fault number is = cc
+
+pub memory_no_fault : {T : Type 0} → IsErrOf {T = T} (Err refusals.Memory) refusals.Files → ⊥
+memory_no_fault is = cc
+
 -- one fact of a refusal for another
 pub of_files_map : (why : Refusal) (P Q : Refusal → Type 0) → ((r : Refusal) → P r → Q r)
     → OfFiles why P → OfFiles why Q

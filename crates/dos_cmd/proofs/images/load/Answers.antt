@@ -1,7 +1,7 @@
 use Rattle.std.proofs.Common.{◌≡◌, Ok, sym, ap, ◌∙◌}
 use Rattle.elf_image.specs.Image.{image}
 use Rattle.dos_cmd.proofs.RunEnds.{is_err_of, ok_no_err}
-use Rattle.dos_cmd.proofs.RunFiles.{not_read_no_fault, told_accepted, told_digest, told_long}
+use Rattle.dos_cmd.proofs.RunFiles.{long_no_fault, memory_no_fault, not_read_no_fault, told_accepted, told_digest, told_long}
 use Rattle.dos_cmd.proofs.RunFiles.{told_not_read}
 use Rattle.dos_cmd.proofs.images.load.Goals as goal
 
@@ -14,7 +14,7 @@ returns-in-Err-TooLong g c =
       fits = tt;
       refused = told_long c.args.image (g.F.Files.content c.args.files.now c.args.name.now)
           (get.too_long (is_err_of _ _ c.in-Err-TooLong.field-0-is));
-      fault = λ is. absurd cc;
+      fault = λ is. absurd (long_no_fault _ is);
       later = get.later;
       stays = get.stays;
       tells = get.tells;
@@ -42,7 +42,7 @@ returns-in-Err-Memory g c =
       digest = tt;
       fits = tt;
       refused = tt;
-      fault = λ is. absurd cc;
+      fault = λ is. absurd (memory_no_fault is);
       later = get.later;
       stays = get.stays;
       tells = get.tells;

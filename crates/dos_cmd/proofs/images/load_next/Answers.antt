@@ -1,12 +1,36 @@
+use Rattle.std.proofs.lemmas.Result.{err_from_is_err_and}
+use Rattle.dos_cmd.proofs.RunEnds.{err_again, ok_no_err}
 use Rattle.dos_cmd.proofs.images.load_next.Goals as goal
 
-pub returns-clause-accepted : goal.returns-clause-accepted
-returns-clause-accepted g c = record {
-  parsed = c.in_ok-parsed.parsed;
-  digest = c.in_ok-parsed.digest;
-  accepted = c.in_ok-parsed.ensures.accepted;
-  digest_is = c.in_ok-parsed.ensures.digest;
-  fits = c.in_ok-parsed.ensures.fits;
-  image_last = c.in_ok-push.ensures.items;
-  digest_last = c.push-2.ensures;
-}
+pub returns-in_err-parsed : goal.returns-in_err-parsed
+returns-in_err-parsed g c =
+    let p = err_from_is_err_and c.from_residual.result c.from_residual.ensures.1 in
+    let load = c.in_err-parsed.ensures in
+    rw (p.1, p.2) (record {
+      accepted = tt;
+      refused = load.refused;
+      fault = λ is. load.fault (err_again _ _ is);
+      later = load.later;
+      stays = load.stays;
+      tells = load.tells;
+    })
+
+pub returns : goal.returns
+returns g c =
+    let load = c.in_ok-parsed.ensures in
+    record {
+      accepted = record {
+        parsed = c.in_ok-parsed.parsed;
+        digest = c.in_ok-parsed.digest;
+        accepted = load.accepted;
+        digest_is = load.digest;
+        fits = load.fits;
+        image_last = c.in_ok-push.ensures.items;
+        digest_last = c.push-2.ensures;
+      };
+      refused = tt;
+      fault = λ is. absurd (ok_no_err _ _ is);
+      later = load.later;
+      stays = load.stays;
+      tells = load.tells;
+    }

@@ -57,8 +57,6 @@ pub returns-in-Ok : goal.returns-in-Ok
 returns-in-Ok g c =
     let opening = c.in_ok-kernel.ensures in
     let run = c.in-Ok.ensures in
-    let opened = opened_by c.args.log c.args.images.now c.in_ok-kernel.kernel c.config_of.result
-    c.config_of.ensures.config opening.opened in
     let is = c.config_of.ensures.config in
     let opened = opened_by c.args.log c.args.images.now c.in_ok-kernel.kernel c.config_of.result is
     opening.opened in
@@ -70,8 +68,7 @@ returns-in-Ok g c =
           (g.W.Workers.tally c.replay_group.new.workers) opened run.ran c.report-ended.result
           c.report-ended.ensures.same c.report-ended.ensures.told;
       room = on_ok c.report-ended.result _
-          (has_room c.args.log c.args.images.now c.config_of.result c.config_of.ensures.config
-          c.in_ok-kernel.ensures.room);
+          (has_room c.args.log c.args.images.now c.config_of.result is opening.room);
       leaves = replay_cut c.args.log c.args.images.now c.in_ok-kernel.kernel
           c.replay_group.new.kernel
           c.in-Ok.ending (g.O.Sink.told c.args.out.now) (g.E.Sink.told c.args.err.now)

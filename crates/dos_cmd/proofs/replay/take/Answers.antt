@@ -1,22 +1,15 @@
-use Rattle.std.proofs.Common.{◌≡◌, ◌∙◌, ◌≤◌, ℕ, ap, le_trans, length, subst, sym, Some, None, Ok}
+use Rattle.std.proofs.Common.{◌≡◌, ◌∙◌, ◌≤◌, ℕ, ap, le_trans, length, subst, sym, Some, None}
 use Rattle.std.proofs.Common.{Err, arith}
 use Rattle.std.specs.Prelude.{IsErrOf}
 use Rattle.std.proofs.lemmas.Result.{err_from_is_err_and}
 use Rattle.log_files.specs.Judging.{disagreement}
 use Rattle.log_files.specs.declared.refusal.LogRefusal.{LogRefusal}
 use Rattle.shim_log.specs.declared.header.LogHeader.{LogHeader}
-use Rattle.dos_texts.specs.declared.refusal.Refusal.{Refusal}
 use Rattle.dos_texts.specs.declared.refusal.Refusal.TheVariants as refusals
 use Rattle.dos_cmd.proofs.NotBegun.{of_files}
-use Rattle.dos_cmd.proofs.RunEnds.{is_err_of, then_rose}
+use Rattle.dos_cmd.proofs.RunEnds.{err_again, ok_no_err, then_rose}
 use Rattle.dos_cmd.proofs.ReplayTaking.{images_refused, reading_refused, same_count, taken_after}
 use Rattle.dos_cmd.proofs.replay.take.Goals as goal
-
-same_why : {T : Type 0} (why other : Refusal) → IsErrOf {T = T} (Err why) other → why ≡ other
-same_why why other is = cc
-
-not_err : {T E : Type 0} (x : T) (e : E) → Ok x ≡ Err e → ⊥
-not_err x e is = cc
 
 -- a log that disagrees isn't a fault of the files
 not_files : {T : Type 0} (why : LogRefusal)
@@ -37,7 +30,7 @@ returns-in_err-log g c =
       some = tt;
       few = tt;
       refused = (reading_refused _ _ _ c.in_err-log.ensures.refused);
-      fault = λ is. c.in_err-log.ensures.fault (is_err_of _ _ (same_why _ _ is));
+      fault = λ is. c.in_err-log.ensures.fault (err_again _ _ is);
       later = c.read.ensures.later;
       stays = c.read.ensures.stays;
     })
@@ -56,7 +49,7 @@ returns-in_err-images g c =
           c.read.ensures.stays c.in_ok-log.ensures.accepted h)
           c.in_err-images.ensures.refused);
       fault = λ is. then_rose _ _ _ c.read.ensures.later
-          (c.in_err-images.ensures.fault (is_err_of _ _ (same_why _ _ is)));
+          (c.in_err-images.ensures.fault (err_again _ _ is));
       later = le_trans c.read.ensures.later c.load_all.ensures.later;
       stays = λ n. c.load_all.ensures.stays n ∙ c.read.ensures.stays n;
     })
@@ -76,7 +69,7 @@ returns-in-Ok g c = record {
       omega (arith, same, logged, fits, load.count, load.digest_count);
   few = few_as _ _ c.in_ok-images.ensures.count c.requires;
   refused = tt;
-  fault = λ is. absurd (not_err _ _ is);
+  fault = λ is. absurd (ok_no_err _ _ is);
   later = le_trans c.read.ensures.later c.load_all.ensures.later;
   stays = λ n. c.load_all.ensures.stays n ∙ c.read.ensures.stays n;
 }

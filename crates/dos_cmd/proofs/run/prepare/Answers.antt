@@ -5,10 +5,20 @@ use Rattle.dos_cmd.proofs.NotBegun.{says_nothing}
 use Rattle.dos_cmd.proofs.RunCalls.{prepared}
 use Rattle.dos_cmd.proofs.run.prepare.Goals as goal
 
-pub returns-in_err-kernel-clause-leaves : goal.returns-in_err-kernel-clause-leaves
-returns-in_err-kernel-clause-leaves g c =
+pub returns-in_err-kernel : goal.returns-in_err-kernel
+returns-in_err-kernel g c =
     let p = err_from_is_err_and c.from_residual.result c.from_residual.ensures.1 in
-    rw (p.1, p.2) c.in_err-kernel.ensures.leaves
+    let opening = c.in_err-kernel.ensures in
+    rw (p.1, p.2) (record {
+      ready = tt;
+      running = tt;
+      fresh = tt;
+      begins = tt;
+      leaves = opening.leaves;
+      later = opening.later;
+      stays = opening.stays;
+      tells = opening.tells;
+    })
 
 pub returns-in-Ok-clause-ready : goal.returns-in-Ok-clause-ready
 returns-in-Ok-clause-ready g c =
@@ -22,6 +32,17 @@ returns-in-Ok-clause-ready g c =
           opening.digests;
     }
 
-pub returns-in-Err-clause-leaves : goal.returns-in-Err-clause-leaves
-returns-in-Err-clause-leaves g c = rw c.in-Err.ensures.memory
-    (λ n h out err t k l m. inl (says_nothing _ refl refl c.open_named.ensures.stays refl))
+pub returns-in-Err : goal.returns-in-Err
+returns-in-Err g c =
+    let opening = c.in_ok-kernel.ensures in
+    record {
+      ready = tt;
+      running = tt;
+      fresh = tt;
+      begins = tt;
+      leaves = rw c.in-Err.ensures.memory
+          (λ n h out err t k l m. inl (says_nothing _ refl refl opening.stays refl));
+      later = opening.later;
+      stays = opening.stays;
+      tells = opening.tells;
+    }
