@@ -30,7 +30,6 @@ fn refusal_of(image: u32, error: ImageError) -> Refusal
 }
 
 /// Reads the file of a name as the image of this number; beside it the file's digest.
-#[tactic(auto, using(crate::proofs::RunFiles::told_long))]
 pub(crate) fn load<F: Files>(
     alloc: Global,
     files: &mut F,

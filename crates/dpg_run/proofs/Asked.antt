@@ -15,14 +15,14 @@ use Rattle.dpg_run.specs.Machine.{Seen, Ran, ends, group, machine}
 pub heads : {A : Type 0} (x y : A) (xs ys : List A) → x ∷ xs ≡ y ∷ ys → (x ≡ y) × (xs ≡ ys)
 heads x y xs ys is = (cc, cc)
 
--- Of lists that are known so, the first exchanges are the same where their question is, and the
--- rests are known so too.
+-- Where this is known of two lists, their first exchanges are the same if they answer the same
+-- question, and it is known of the lists behind them too.
 abbrev pub Determines : (List Exchange → List Exchange → Type 0) → Type 0
 Determines Known = (e f : Exchange) (es fs : List Exchange) → Known (e ∷ es) (f ∷ fs)
     → question_of e ≡ question_of f → (e ≡ f) × Known es fs
 
--- A list that a play asks whole goes on behind another that it asks, by what is left of the play,
--- which asks these questions without an answer.
+-- One list goes on behind another. What is left of the play asks for the rest of it, and these
+-- questions where nothing more is answered.
 record GoesOnBehind (A : Type 0) (es fs : List Exchange) (more : List Question) : Type 0 where
   rest : List Exchange
   left : Play A
