@@ -1,7 +1,7 @@
 -- What the file of a log is taken for.
 use Rattle.std.proofs.Common.{◌≡◌, ◌∙◌, ℕ, ◌≤◌, ◌<◌, List, length, Option, Some, None, Ok, Err}
 use Rattle.std.proofs.Common.{refl, ap, subst}
-use Rattle.std.specs.Prelude.{IfSome}
+use Rattle.std.specs.Prelude.{IfSome, IsErrOf, ⊤}
 use Rattle.std.proofs.lemmas.Bool.{lt-ltb, le-ltb}
 use Rattle.shim_log.specs.declared.refusal.LogError.{LogError}
 use Rattle.shim_log.specs.declared.refusal.ReadError.{ReadError}
@@ -10,7 +10,9 @@ use Rattle.shim_log.specs.Gives.{FailsAs}
 use Rattle.shim_log.specs.LogText.{Log}
 use Rattle.shim_log.specs.Reading.{log_at}
 use Rattle.shim_log.specs.Room.{most_bytes}
+use Rattle.log_files.specs.declared.refusal.LogRefusal.{LogRefusal}
 use Rattle.log_files.specs.declared.refusal.LogRefusal.TheVariants.{TooLong, Refused}
+use Rattle.log_files.specs.declared.refusal.LoadError.TheVariants as load
 use Rattle.log_files.specs.Judging.{log_judged, log_verdict}
 
 verdict_within : (file : List ℕ) → length file ≤ most_bytes
@@ -36,3 +38,17 @@ pub told_long : (told : Option (List ℕ)) → IfSome told (λ t. most_bytes < l
     → IfSome told (λ file. log_verdict file ≡ Err TooLong)
 told_long None long = tt
 told_long (Some file) long = verdict_long file long
+
+-- nothing is said of it
+pub told_free : (told : Option (List ℕ)) → IfSome told (λ file. ⊤)
+told_free None = tt
+told_free (Some file) = tt
+
+-- ---- what is no fault of the files
+
+pub log_no_fault : {T : Type 0} (why : LogRefusal)
+    → IsErrOf {T = T} (Err (load.Log why)) load.Fault → ⊥
+log_no_fault why is = cc
+
+pub memory_no_fault : {T : Type 0} → IsErrOf {T = T} (Err load.Memory) load.Fault → ⊥
+memory_no_fault is = cc

@@ -31,7 +31,6 @@ fn read_file(alloc: Global, bytes: &[u8]) -> Result<Log, LoadError>
 
 /// The log that the file of this name holds. It is refused where the file is longer than 64 MiB or
 /// spells no log; it is a fault only where the count of `files` rose.
-#[tactic(auto, using(crate::proofs::Verdicts::told_long))]
 pub fn load_log<F: Files>(alloc: Global, files: &mut F, name: &str) -> Result<Log, LoadError>
     ensures accepted { IfOk result (λ log. IfSome (F.content files.old name.now)
         (λ file. log_verdict file ≡ Ok log)) }

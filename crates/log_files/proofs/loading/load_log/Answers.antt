@@ -1,3 +1,5 @@
+use Rattle.std.proofs.Common.{ap, Err}
+use Rattle.log_files.proofs.Verdicts.{log_no_fault, memory_no_fault, told_free, told_long}
 use Rattle.log_files.proofs.loading.load_log.Goals as goal
 
 pub returns-in-Ok-clause-later : goal.returns-in-Ok-clause-later
@@ -9,32 +11,45 @@ returns-in-Ok-clause-stays g c = c.get.ensures.stays
 pub returns-in-Ok-clause-tells : goal.returns-in-Ok-clause-tells
 returns-in-Ok-clause-tells g c = c.get.ensures.tells
 
-pub returns-in-Err-TooLong-clause-later : goal.returns-in-Err-TooLong-clause-later
-returns-in-Err-TooLong-clause-later g c = c.get.ensures.later
-
-pub returns-in-Err-TooLong-clause-stays : goal.returns-in-Err-TooLong-clause-stays
-returns-in-Err-TooLong-clause-stays g c = c.get.ensures.stays
-
-pub returns-in-Err-TooLong-clause-tells : goal.returns-in-Err-TooLong-clause-tells
-returns-in-Err-TooLong-clause-tells g c = c.get.ensures.tells
-
-pub returns-in-Err-Fault-clause-later : goal.returns-in-Err-Fault-clause-later
-returns-in-Err-Fault-clause-later g c = c.get.ensures.later
-
-pub returns-in-Err-Fault-clause-stays : goal.returns-in-Err-Fault-clause-stays
-returns-in-Err-Fault-clause-stays g c = c.get.ensures.stays
-
-pub returns-in-Err-Fault-clause-tells : goal.returns-in-Err-Fault-clause-tells
-returns-in-Err-Fault-clause-tells g c = c.get.ensures.tells
-
-pub returns-in-Err-Memory-clause-later : goal.returns-in-Err-Memory-clause-later
-returns-in-Err-Memory-clause-later g c = c.get.ensures.later
-
-pub returns-in-Err-Memory-clause-stays : goal.returns-in-Err-Memory-clause-stays
-returns-in-Err-Memory-clause-stays g c = c.get.ensures.stays
-
-pub returns-in-Err-Memory-clause-tells : goal.returns-in-Err-Memory-clause-tells
-returns-in-Err-Memory-clause-tells g c = c.get.ensures.tells
-
 pub returns-in-Ok-clause-fault : goal.returns-in-Ok-clause-fault
 returns-in-Ok-clause-fault g c = λ is. absurd (c.read_file.ensures.fault is)
+
+pub returns-in-Err-TooLong : goal.returns-in-Err-TooLong
+returns-in-Err-TooLong g c =
+    let get = c.in-Err-TooLong.ensures in
+    record {
+      accepted = tt;
+      found = tt;
+      refused = told_long (g.F.Files.content c.args.files.now c.args.name.now)
+          (get.too_long (ap (λ e. Err e) c.in-Err-TooLong.field-0-is));
+      fault = λ is. absurd (log_no_fault _ is);
+      later = get.later;
+      stays = get.stays;
+      tells = get.tells;
+    }
+
+pub returns-in-Err-Fault : goal.returns-in-Err-Fault
+returns-in-Err-Fault g c =
+    let get = c.in-Err-Fault.ensures in
+    record {
+      accepted = tt;
+      found = tt;
+      refused = told_free (g.F.Files.content c.args.files.now c.args.name.now);
+      fault = λ is. get.fault (ap (λ e. Err e) c.in-Err-Fault.field-0-is);
+      later = get.later;
+      stays = get.stays;
+      tells = get.tells;
+    }
+
+pub returns-in-Err-Memory : goal.returns-in-Err-Memory
+returns-in-Err-Memory g c =
+    let get = c.in-Err-Memory.ensures in
+    record {
+      accepted = tt;
+      found = tt;
+      refused = told_free (g.F.Files.content c.args.files.now c.args.name.now);
+      fault = λ is. absurd (memory_no_fault is);
+      later = get.later;
+      stays = get.stays;
+      tells = get.tells;
+    }
