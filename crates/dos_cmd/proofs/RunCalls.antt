@@ -185,7 +185,8 @@ pub run_leaves : (a : RunAsked) (images : List Image) (o : Outside) (tells : Boo
     → IsPrepared a images kernel ledger a.log o
     → ((n : ℕ) → IfSome (judgement o.files (run_words a n)) (λ j. j ≡ Ok (only_images images)))
     → (n : ℕ) → IfErr r (λ why. Leaves (run_words a n) o (record f { files = before }) why [])
-run_leaves a images o tells files f before kernel ledger (Ok ending) same stays le leaves p is = λ n. tt
+run_leaves a images o tells files f before kernel ledger (Ok ending) same stays le leaves p is =
+    λ n. tt
 run_leaves a images o tells files f before kernel ledger (Err why) same stays le leaves p is = λ n.
     let here : (asked : RunAsked) (i : List Image) → IsPrepared asked i kernel ledger a.log o
     → LeavesRun asked i o f why =

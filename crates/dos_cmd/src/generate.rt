@@ -121,7 +121,8 @@ pub(crate) fn generate<O: Sink, W: Workers>(
         (outside tells f f h h (O.told out.old) (O.told out.new) e e
         (W.tally workers.old) (W.tally workers.new)))) }
     ensures leaves { (n : ℕ) (tells : Bool) (f : List ℕ → Option (List ℕ)) (h : Option Told)
-        (e : Option (List ℕ)) (k l m : ℕ) → IfErr result (λ why. Leaves (requests.Gen number threads n)
+        (e : Option (List ℕ)) (k l m : ℕ) → IfErr result (λ why.
+        Leaves (requests.Gen number threads n)
         (outside tells f f h h (O.told out.old) (O.told out.new) e e
         (W.tally workers.old) (W.tally workers.new))
         (faults k k l l (O.faults out.old) (O.faults out.new) m m) why []) }

@@ -1,5 +1,5 @@
--- The exchanges whose questions a play asks, one after another, where what is known of their answers
--- determines these.
+-- The exchanges whose questions a play asks, one after another, where what is known of their
+-- answers determines these.
 use Rattle.std.proofs.Common.{◌≡◌, refl, sym, ap, ap₂, ◌∙◌, subst, List, [], ◌∷◌, ◌++◌, map}
 use Rattle.std.proofs.Common.{append-nil}
 use Rattle.dos_world.specs.Play.{Play, done, ask, questions}
@@ -98,8 +98,8 @@ module _ {A : Type 0} (Known : List Exchange → List Exchange → Type 0)
       parted rest (done a) is asks next = absurd cc
       parted [] (ask first o e following) is asks next = absurd cc
       parted (x ∷ rest) (ask first o e following) is asks next =
-          let at = heads first (question_of x) (questions (map answer_of rest) (following (answer_of x)))
-          (map question_of rest) asks in
+          let at = heads first (question_of x)
+          (questions (map answer_of rest) (following (answer_of x))) (map question_of rest) asks in
           let at' = heads first question [] [] next in
           record { next = x; rest = rest; whole = is; asks = sym at.0 ∙ at'.0 }
 

@@ -1,8 +1,8 @@
 use Rattle.std.proofs.Common.{◌≡◌, Ok, sym, ap, ◌∙◌}
 use Rattle.elf_image.specs.Image.{image}
 use Rattle.dos_cmd.proofs.RunEnds.{is_err_of, ok_no_err}
-use Rattle.dos_cmd.proofs.RunFiles.{long_no_fault, memory_no_fault, not_read_no_fault, told_accepted, told_digest, told_long}
-use Rattle.dos_cmd.proofs.RunFiles.{told_not_read}
+use Rattle.dos_cmd.proofs.RunFiles.{long_no_fault, memory_no_fault, not_read_no_fault}
+use Rattle.dos_cmd.proofs.RunFiles.{told_accepted, told_digest, told_long, told_not_read}
 use Rattle.dos_cmd.proofs.images.load.Goals as goal
 
 pub returns-in-Err-TooLong : goal.returns-in-Err-TooLong

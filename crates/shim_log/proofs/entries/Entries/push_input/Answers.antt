@@ -7,8 +7,9 @@ use Rattle.shim_log.proofs.entries.Entries.push_input.Goals.{After-put_input}
 use Rattle.shim_log.proofs.entries.Entries.push_input.Goals as goal
 
 -- The text is that of one input more.
-pushed : (c : After-put_input) → Pushes c.self.inside.text.items (Input c.args.round c.args.tid c.args.max c.args.bytes.now)
-    c.put_input.new.out.items (c.self.inside.count + 1)
+pushed : (c : After-put_input) → Pushes c.self.inside.text.items
+    (Input c.args.round c.args.tid c.args.max c.args.bytes.now) c.put_input.new.out.items
+    (c.self.inside.count + 1)
 pushed c =
     let few : c.self.inside.count < 67108864 =
     omega (
@@ -25,8 +26,9 @@ pushed c =
       short = c.requires.short;
       bytes_fit = λ i. omega (arith, c.type_inv.bytes i);
     } in
-    pushes c.self.inside.text.items c.self.inside.count (Input c.args.round c.args.tid c.args.max c.args.bytes.now)
-    c.put_input.new.out.items c.self.invariant few fits tt c.put_input.ensures.items
+    pushes c.self.inside.text.items c.self.inside.count
+    (Input c.args.round c.args.tid c.args.max c.args.bytes.now) c.put_input.new.out.items c.self.invariant
+    few fits tt c.put_input.ensures.items
 
 pub invariant_of-self : goal.invariant_of-self
 invariant_of-self c = (pushed (goal.at.invariant_of-self c).After-put_input).kept
@@ -34,4 +36,5 @@ invariant_of-self c = (pushed (goal.at.invariant_of-self c).After-put_input).kep
 pub returns : goal.returns
 returns c =
     (pushed (goal.at.returns c).After-put_input).shows
-    ∙ ap (λ (h : EntriesState). h.list ++ (Input c.args.round c.args.tid c.args.max c.args.bytes.now) ∷ []) c.self.view_is
+    ∙ ap (λ (h : EntriesState). h.list ++ (Input c.args.round c.args.tid c.args.max c.args.bytes.now) ∷ [])
+    c.self.view_is

@@ -7,8 +7,8 @@ use Rattle.shim_log.proofs.entries.Entries.push_signals.Goals.{After-put_signals
 use Rattle.shim_log.proofs.entries.Entries.push_signals.Goals as goal
 
 -- The text is that of one round of signals more.
-pushed : (c : After-put_signals) → Pushes c.self.inside.text.items (Signals c.args.round c.args.list.now)
-    c.put_signals.new.out.items (c.self.inside.count + 1)
+pushed : (c : After-put_signals) → Pushes c.self.inside.text.items
+    (Signals c.args.round c.args.list.now) c.put_signals.new.out.items (c.self.inside.count + 1)
 pushed c =
     let few : c.self.inside.count < 67108864 =
     omega (
@@ -32,4 +32,5 @@ invariant_of-self c = (pushed (goal.at.invariant_of-self c).After-put_signals).k
 pub returns : goal.returns
 returns c =
     (pushed (goal.at.returns c).After-put_signals).shows
-    ∙ ap (λ (h : EntriesState). h.list ++ (Signals c.args.round c.args.list.now) ∷ []) c.self.view_is
+    ∙ ap (λ (h : EntriesState). h.list ++ (Signals c.args.round c.args.list.now) ∷ [])
+    c.self.view_is

@@ -1,4 +1,5 @@
-use Rattle.std.proofs.Common.{◌≡◌, ◌≤◌, ◌<◌, ◌∙◌, ◌-◌, List, ℕ, Ok, length, drop, sym, ap, subst, arith}
+use Rattle.std.proofs.Common.{◌≡◌, ◌≤◌, ◌<◌, ◌∙◌, ◌-◌, List, ℕ, Ok, length, drop, sym, ap, subst}
+use Rattle.std.proofs.Common.{arith}
 use Rattle.dos_io.specs.declared.exchange.Exchange.{Exchange}
 use Rattle.shim_log.specs.LogText.{entries_text}
 use Rattle.shim_log.specs.Reading.{entry_at}
