@@ -8,7 +8,8 @@ use Rattle.shim_log.proofs.entries.Entries.push_clock.Goals as goal
 
 -- The text is that of one reading more.
 pushed : (c : After-put_clock) → Pushes c.self.inside.text.items
-    (Clock c.args.round c.args.tid c.args.reading) c.put_clock.new.out.items (c.self.inside.count + 1)
+    (Clock c.args.round c.args.tid c.args.reading) c.put_clock.new.out.items
+    (c.self.inside.count + 1)
 pushed c =
     let few : c.self.inside.count < 67108864 =
     omega (
@@ -20,7 +21,8 @@ pushed c =
     let fits : InRange (Clock c.args.round c.args.tid c.args.reading) =
     record { round_fits = omega arith; tid_fits = omega arith; reading = omega arith } in
     pushes c.self.inside.text.items c.self.inside.count
-    (Clock c.args.round c.args.tid c.args.reading) c.put_clock.new.out.items c.self.invariant few fits tt c.put_clock.ensures.items
+    (Clock c.args.round c.args.tid c.args.reading) c.put_clock.new.out.items c.self.invariant
+    few fits tt c.put_clock.ensures.items
 
 pub invariant_of-self : goal.invariant_of-self
 invariant_of-self c = (pushed (goal.at.invariant_of-self c).After-put_clock).kept

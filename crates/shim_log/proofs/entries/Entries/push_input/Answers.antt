@@ -27,8 +27,8 @@ pushed c =
       bytes_fit = λ i. omega (arith, c.type_inv.bytes i);
     } in
     pushes c.self.inside.text.items c.self.inside.count
-    (Input c.args.round c.args.tid c.args.max c.args.bytes.now) c.put_input.new.out.items c.self.invariant
-    few fits tt c.put_input.ensures.items
+    (Input c.args.round c.args.tid c.args.max c.args.bytes.now) c.put_input.new.out.items
+    c.self.invariant few fits tt c.put_input.ensures.items
 
 pub invariant_of-self : goal.invariant_of-self
 invariant_of-self c = (pushed (goal.at.invariant_of-self c).After-put_input).kept
@@ -36,5 +36,6 @@ invariant_of-self c = (pushed (goal.at.invariant_of-self c).After-put_input).kep
 pub returns : goal.returns
 returns c =
     (pushed (goal.at.returns c).After-put_input).shows
-    ∙ ap (λ (h : EntriesState). h.list ++ (Input c.args.round c.args.tid c.args.max c.args.bytes.now) ∷ [])
+    ∙ ap (λ (h : EntriesState).
+    h.list ++ (Input c.args.round c.args.tid c.args.max c.args.bytes.now) ∷ [])
     c.self.view_is
