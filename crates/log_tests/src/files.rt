@@ -37,23 +37,28 @@ fn files_give_what_they_were_given(rt: HostRuntime) {
     drop(files);
 }
 
+// The file "nine" is written with 9000 bytes, and read within a limit.
+fn check_limits(rt: &impl Abort, files: &mut impl Files, content: &[u8]) {
+    sets(rt, files, "nine", content, Ok(()));
+    gives(rt, files, "nine", 9000, content);
+    gives_no(rt, files, "nine", 8999, FileError::TooLong);
+    gives_no(rt, files, "nine", 0, FileError::TooLong);
+}
+
+// It is written anew with nothing.
+fn check_emptied(rt: &impl Abort, files: &mut impl Files) {
+    sets(rt, files, "nine", b"", Ok(()));
+    gives(rt, files, "nine", 0, b"");
+}
+
 #[test]
 fn files_are_read_within_their_limit(rt: HostRuntime) {
     let content = vec![in rt.alloc(); 7u8; 9000].expect(&rt, "memory");
     let mut files = StdFiles::new(&rt, rt.alloc());
     gives_no(&rt, &mut files, "none", 9, FileError::Fault);
-    sets(&rt, &mut files, "nine", &content, Ok(()));
-    gives(&rt, &mut files, "nine", 9000, &content);
-    gives_no(&rt, &mut files, "nine", 8999, FileError::TooLong);
-    gives_no(&rt, &mut files, "nine", 0, FileError::TooLong);
-    sets(
-        &rt,
-        &mut files,
-        "no/such/folder",
-        b"x",
-        Err(FileError::Fault),
-    );
-    sets(&rt, &mut files, "nine", b"", Ok(()));
-    gives(&rt, &mut files, "nine", 0, b"");
+    check_limits(&rt, &mut files, &content);
     drop(content);
+    let nowhere = Err(FileError::Fault);
+    sets(&rt, &mut files, "no/such/folder", b"x", nowhere);
+    check_emptied(&rt, &mut files);
 }
