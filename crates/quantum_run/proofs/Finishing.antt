@@ -5,7 +5,7 @@ use Rattle.std.proofs.Common.{is_some, Option, Some, None, option_map}
 use Rattle.std.specs.Prelude.{slice_index_or}
 use Rattle.dos_world.specs.Numbered.{numbered}
 use Rattle.dos_world.specs.World.{World, Thread, Process, Registers, thread_at, owner_of, page_of}
-use Rattle.dos_world.specs.World.{look, entry_at, space_of}
+use Rattle.dos_world.specs.World.{look, space_of}
 use Rattle.dos_world.specs.declared.Entry.{Entry}
 use Rattle.dos_world.specs.declared.Owner.{Owner}
 use Rattle.dos_world.specs.declared.Owner.TheVariants.{Free, Shared, Of}
@@ -24,23 +24,7 @@ use Rattle.quantum_run.proofs.Overlay.{length-overlay}
 use Rattle.quantum_run.proofs.Own.{steps-own}
 use Rattle.quantum_run.proofs.Packing.{paired-at, paired-is, page-own, page-lent, byte-in-page}
 use Rattle.quantum_run.proofs.Packing.{page-same, same-here, same-length}
-use Rattle.quantum_run.proofs.Threads.{seen-changed}
-
-pub entry-space : (w : World) (t address : ℕ)
-    → entry_at w t address ≡ look (thread_space w t) (address / 4096)
-entry-space w t address = by_thread (thread_at w t)
-  where
-    by_thread : (o : Option Thread)
-        → (elim o as (λ _. Option Entry) [
-          | None ↦ None
-          | Some thread ↦ look (space_of w thread.process) (address / 4096)
-        ])
-        ≡ look (elim o as (λ _. List (ℕ × Entry)) [
-          | None ↦ []
-          | Some thread ↦ space_of w thread.process
-        ]) (address / 4096)
-    by_thread None = refl
-    by_thread (Some thread) = refl
+use Rattle.quantum_run.proofs.Threads.{entry-space, seen-changed}
 
 -- a thread's space where its process and the processes are the same
 space-same : (u w : World) (t : ℕ) → u.processes ≡ w.processes

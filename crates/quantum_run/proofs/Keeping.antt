@@ -48,33 +48,34 @@ at-within (z ∷ xs) (suc i) y h = let r = at-within xs i y h in omega (arith, r
 abbrev Table : Type 0
 Table = List (Option (List ℕ))
 
+at-other : (table : Table) (f : ℕ) (x : Option (List ℕ)) (g : ℕ) → g ≢ f
+    → slice_get (set table f x) g ≡ slice_get table g
+at-other [] f x g other = refl
+at-other (y ∷ table) zero x zero other = absurd (other refl)
+at-other (y ∷ table) zero x (suc g) other = refl
+at-other (y ∷ table) (suc f) x zero other = refl
+at-other (y ∷ table) (suc f) x (suc g) other = at-other table f x g (λ e. other (ap suc e))
+
+at-there : (table : Table) (f : ℕ) (x : Option (List ℕ)) → f < length table
+    → slice_get (set table f x) f ≡ Some x
+at-there [] f x h = absurd (omega arith)
+at-there (y ∷ table) zero x h = refl
+at-there (y ∷ table) (suc f) x h = at-there table f x (omega arith)
+
+-- whether a page is here, and its bytes, by what stands at its place
+abbrev here_of : Option (Option (List ℕ)) → Bool
+here_of o = elim o as (λ _. Bool) [ None ↦ false | Some page ↦ is_some page ]
+
+abbrev bytes_of : Option (Option (List ℕ)) → List ℕ
+bytes_of o = elim o as (λ _. List ℕ) [ None ↦ shown None | Some page ↦ shown page ]
+
 here-other : (table : Table) (f : ℕ) (x : Option (List ℕ)) (g : ℕ) → g ≢ f
     → is_here (set table f x) g ≡ is_here table g
-here-other [] f x g other = refl
-here-other (y ∷ table) zero x zero other = absurd (other refl)
-here-other (y ∷ table) zero x (suc g) other = refl
-here-other (y ∷ table) (suc f) x zero other = refl
-here-other (y ∷ table) (suc f) x (suc g) other = here-other table f x g (λ e. other (ap suc e))
+here-other table f x g other = ap here_of (at-other table f x g other)
 
 here-there : (table : Table) (f : ℕ) (x : Option (List ℕ)) → f < length table
     → is_here (set table f x) f ≡ is_some x
-here-there [] f x h = absurd (omega arith)
-here-there (y ∷ table) zero x h = refl
-here-there (y ∷ table) (suc f) x h = here-there table f x (omega arith)
-
-bytes-other : (table : Table) (f : ℕ) (x : Option (List ℕ)) (g : ℕ) → g ≢ f
-    → bytes_at (set table f x) g ≡ bytes_at table g
-bytes-other [] f x g other = refl
-bytes-other (y ∷ table) zero x zero other = absurd (other refl)
-bytes-other (y ∷ table) zero x (suc g) other = refl
-bytes-other (y ∷ table) (suc f) x zero other = refl
-bytes-other (y ∷ table) (suc f) x (suc g) other = bytes-other table f x g (λ e. other (ap suc e))
-
-bytes-there : (table : Table) (f : ℕ) (x : Option (List ℕ)) → f < length table
-    → bytes_at (set table f x) f ≡ shown x
-bytes-there [] f x h = absurd (omega arith)
-bytes-there (y ∷ table) zero x h = refl
-bytes-there (y ∷ table) (suc f) x h = bytes-there table f x (omega arith)
+here-there table f x h = ap here_of (at-there table f x h)
 
 many-more : (table : Table) (f : ℕ) (page : List ℕ) → f < length table → is_here table f ≡ false
     → how_many (set table f (Some page)) ≡ suc (how_many table)
@@ -111,7 +112,7 @@ pub paired-other : (held : List ℕ) (table : Table) (f : ℕ) (x : Option (List
 paired-other [] table f x other = refl
 paired-other (g ∷ held) table f x other =
     ap (λ bytes. (g, bytes) ∷ paired held (set table f x))
-    (bytes-other table f x g (other 0 g refl))
+    (ap bytes_of (at-other table f x g (other 0 g refl)))
     ∙ ap (λ rest. (g, bytes_at table g) ∷ rest)
     (paired-other held table f x (λ i k h. other (suc i) k h))
 
@@ -216,7 +217,7 @@ module _ (held : List ℕ) (table : Table) (capacity : ℕ) (packed : IsPacked h
   paired-with page h e =
       paired-more held (set table f (Some page)) f
       ∙ ap (λ bytes. paired held (set table f (Some page)) ++ (f, bytes) ∷ [])
-      (bytes-there table f (Some page) h)
+      (ap bytes_of (at-there table f (Some page) h))
       ∙ ap (λ rest. rest ++ (f, whole page) ∷ [])
       (paired-other held table f (Some page) (not-held e))
 
@@ -268,7 +269,7 @@ module _ (held : List ℕ) (table : Table) (capacity f : ℕ)
   paired-without page h =
       paired-more held table f
       ∙ ap (λ bytes. paired held table ++ (f, bytes) ∷ [])
-      (ap (λ o. elim o as (λ _. List ℕ) [ None ↦ shown None | Some x ↦ shown x ]) h)
+      (ap bytes_of h)
       ∙ ap (λ rest. rest ++ (f, whole page) ∷ []) (sym (paired-other held table f None is-other))
 
 abbrev packing : ℕ → ℕ → Registers → ℕ → List (ℕ × List ℕ) → ℕ → Pack

@@ -90,10 +90,6 @@ get-of [] f x h e = absurd (omega arith)
 get-of (y ∷ xs) zero x h e = ap Some (sym e)
 get-of (y ∷ xs) (suc f) x h e = get-of xs f x (omega arith) e
 
-pub Some-page : {a b : List ℕ} → ◌≡◌ {A = Option (Option (List ℕ))} (Some (Some a)) (Some (Some b))
-    → a ≡ b
-Some-page e = cc
-
 pub lent-page : (own lent : List (Option (List ℕ))) (f : ℕ) → length own ≡ length lent
     → is_here (overlay own lent) f ≡ true → slice_get own f ≡ Some None
     → (page : List ℕ) × (slice_get lent f ≡ Some (Some page))

@@ -11,7 +11,8 @@ use Rattle.page_store.specs.Store.{Store, joined}
 use Rattle.rv_exec.specs.Step.{step}
 use Rattle.rv_exec.specs.Runs.{kept}
 use Rattle.rv_exec.proofs.Stepping.{of_kept}
-use Rattle.quantum_run.specs.Alone.{steps, emptied, alone, budget_of}
+use Rattle.quantum_run.specs.Alone.{steps, emptied, budget_of}
+use Rattle.quantum_run.specs.Laws.{RunsAreParts}
 use Rattle.quantum_run.specs.Shows.{thread_space}
 use Rattle.quantum_run.specs.ThreadRuns.{IsRunOf, Stops, after_steps, run_to}
 use Rattle.quantum_run.proofs.After.{same-after, steps-ok, steps-stopped}
@@ -98,19 +99,7 @@ budget-is w t r budget h = let k = of_kept (thread_at w t) r budget h in
     ap (λ (o : Option Thread). elim o as (λ _. ℕ) [ None ↦ 0 | Some thread ↦ thread.budget ]) k.1
     ∙ k.3
 
-pub run-alone : (w : World) (s : Store) (entries : List (ℕ × Entry)) (t : ℕ)
-    (r begun after : Registers) (pages : List (Option (List ℕ))) (budget left : ℕ)
-    (stop : Option Reason)
-    → IsRunOf w s entries t r budget
-    → begun ≡ released r
-    → left ≤ budget
-    → ((u : World) → IsRunOf u s entries t begun budget
-    → after_steps (budget - left) u t ≡ Some (run_to u t pages after left))
-    → MatchOption stop (left ≡ 0)
-    (λ reason. (0 < left)
-    × ((u : World) → IsRunOf u s entries t begun budget
-    → step (run_to u t pages after left) t ≡ Err reason))
-    → alone w t ≡ run_to w t pages after left
+pub run-alone : RunsAreParts
 run-alone w s entries t r begun after pages budget left stop run empty within runs stopped =
     let from : IsRunOf (emptied w t) s entries t begun budget =
     subst (λ (x : Registers). IsRunOf (emptied w t) s entries t x budget) (sym empty)

@@ -1,6 +1,6 @@
 -- What the flat world answers to an access, by the frame that is found for it.
-use Rattle.std.proofs.Common.{ℕ, ◌+◌, ◌*◌, ◌/◌, ◌%◌, ◌^◌, ◌<◌, ◌≡◌, ◌≢◌, refl, sym, ap, ◌∙◌, subst}
-use Rattle.std.proofs.Common.{cond, not, Bool, true, false, eqb, eq-eqb, ne_eqb, List, [], ◌∷◌}
+use Rattle.std.proofs.Common.{ℕ, ◌+◌, ◌*◌, ◌/◌, ◌%◌, ◌^◌, ◌<◌, ◌≡◌, refl, sym, ap, ◌∙◌, subst}
+use Rattle.std.proofs.Common.{cond, not, Bool, true, false, eqb, eq-eqb, List, [], ◌∷◌}
 use Rattle.std.proofs.Common.{take, drop, Option, Some, None, Result, Ok, Err, arith}
 use Rattle.std.specs.Prelude.{slice_index_or}
 use Rattle.std.proofs.lemmas.List.{drop-drop}
@@ -24,13 +24,6 @@ use Rattle.rv_form.specs.Notes.{Note}
 use Rattle.quantum_run.specs.declared.slot.Slot.{Slot}
 use Rattle.quantum_run.specs.Knowing.{AreKnown, KeepsKnown}
 use Rattle.quantum_run.specs.Showing.{Still, Holds, ShowsBy, ShowsKnown}
-
-pub reached-misaligned : (w : World) (t a : ℕ) (size : Size) (access : Access) → a % width size ≢ 0
-    → reached w t a size access ≡ Err (Fault 7)
-reached-misaligned w t a size access h =
-    ap (λ b. place_or_reason a access
-    (cond (not b) (fault 7) (in_frame w t a access (entry_at w t a))))
-    (ne_eqb (a % width size) 0 h)
 
 -- an aligned access reaches its place in the frame that is found for it
 pub reached-frame : (fixed : Still) (pages : List (Option (List ℕ))) (t : ℕ) (w : World)

@@ -9,11 +9,6 @@ use Rattle.rv_exec.specs.Runs.{Runs, Steps}
 use Rattle.quantum_run.specs.ThreadRuns.{after_steps, Reaches, Goes}
 use Rattle.quantum_run.proofs.After.{after-more}
 
-pub reaches-first : (shows : World → Type 0) (w : World) (t : ℕ) (r : Registers) (budget : ℕ)
-    → Runs shows w t r budget → Reaches shows w t r budget budget
-reaches-first shows w t r budget runs = let none : budget - budget ≡ 0 = omega arith in
-    record { now = w; ran = ap (λ n. after_steps n w t) none; runs = runs }
-
 Step≢Stop : (reason : Reason) → Step ≡ Stop reason → ⊥
 Step≢Stop reason q = cc
 

@@ -1,11 +1,14 @@
--- A thread that changes in its world.
-use Rattle.std.proofs.Common.{ℕ, zero, suc, ◌≡◌, refl, sym, ap, ◌∙◌, List, [], ◌∷◌, Option, Some}
+-- A thread that changes in its world, and its space.
+use Rattle.std.proofs.Common.{ℕ, zero, suc, ◌/◌, ◌≡◌, refl, sym, ap, ◌∙◌, List, [], ◌∷◌, Option, Some}
 use Rattle.std.proofs.Common.{None, option_map}
 use Rattle.std.specs.Prelude.{slice_get}
 use Rattle.dos_world.specs.Numbered.{numbered, changed, changed_at}
 use Rattle.dos_world.specs.World.{World, Thread, Registers, flat, thread_at, with_thread}
+use Rattle.dos_world.specs.World.{entry_at, look, space_of}
+use Rattle.dos_world.specs.declared.Entry.{Entry}
 use Rattle.rv_exec.specs.Runs.{kept}
 use Rattle.rv_exec.proofs.Stepping.{of_kept}
+use Rattle.quantum_run.specs.Shows.{thread_space}
 use Rattle.quantum_run.specs.ThreadRuns.{ran}
 
 -- what is seen of the changed thread
@@ -71,3 +74,20 @@ ran-same w t r b h =
     let same : ran r b k.0 ≡ k.0 =
     ap (λ x. ran x b k.0) (sym k.2) ∙ ap (λ x. ran k.0.registers x k.0) (sym k.3) in
     ap (λ ts. record w { threads = ts }) (changed-same (ran r b) w.threads t k.0 k.1 same)
+
+-- what maps an address of a thread is in the space of its process
+pub entry-space : (w : World) (t address : ℕ)
+    → entry_at w t address ≡ look (thread_space w t) (address / 4096)
+entry-space w t address = by_thread (thread_at w t)
+  where
+    by_thread : (o : Option Thread)
+        → (elim o as (λ _. Option Entry) [
+          | None ↦ None
+          | Some thread ↦ look (space_of w thread.process) (address / 4096)
+        ])
+        ≡ look (elim o as (λ _. List (ℕ × Entry)) [
+          | None ↦ []
+          | Some thread ↦ space_of w thread.process
+        ]) (address / 4096)
+    by_thread None = refl
+    by_thread (Some thread) = refl

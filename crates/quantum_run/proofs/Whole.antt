@@ -1,38 +1,22 @@
 -- From the frames to the memory of a run in place, and back.
 use Rattle.std.specs.Prelude.{MatchOption}
 use Rattle.rv_exec.specs.Step.{step}
-use Rattle.std.proofs.Common.{ℕ, ◌<◌, ◌-◌, ◌/◌, ◌≡◌, refl, ap, ◌∙◌, subst, List, [], Option, Some}
+use Rattle.std.proofs.Common.{ℕ, ◌<◌, ◌-◌, ◌/◌, ◌≡◌, refl, ap, ◌∙◌, subst, List, Option, Some}
 use Rattle.std.proofs.Common.{None, Err}
 use Rattle.std.specs.Prelude.{slice_index_or}
-use Rattle.dos_world.specs.World.{World, Thread, Registers, thread_at, with_thread, space_of}
-use Rattle.dos_world.specs.World.{entry_at, look}
+use Rattle.dos_world.specs.World.{World, Registers, with_thread}
+use Rattle.dos_world.specs.World.{look}
 use Rattle.dos_world.specs.Reach.{is_foreign}
 use Rattle.dos_world.specs.declared.Entry.{Entry}
 use Rattle.dos_world.specs.declared.Owner.{Owner}
 use Rattle.dos_world.specs.declared.Owner.TheVariants.{Free}
 use Rattle.dos_world.specs.declared.Reason.{Reason}
 use Rattle.rv_exec.specs.Runs.{Runs}
-use Rattle.quantum_run.specs.Shows.{thread_space}
 use Rattle.quantum_run.specs.Showing.{Still, ShowsBy, still}
 use Rattle.quantum_run.specs.ThreadRuns.{IsRunOf, Goes, Stops, after_steps, ran, run_to, store_of}
 use Rattle.quantum_run.proofs.After.{after-form}
+use Rattle.quantum_run.proofs.Threads.{entry-space}
 use Rattle.quantum_run.proofs.Witness.{witness, witness-holds}
-
-entry-space : (w : World) (t address : ℕ)
-    → entry_at w t address ≡ look (thread_space w t) (address / 4096)
-entry-space w t address = by_thread (thread_at w t)
-  where
-    by_thread : (o : Option Thread)
-        → (elim o as (λ _. Option Entry) [
-          | None ↦ None
-          | Some thread ↦ look (space_of w thread.process) (address / 4096)
-        ])
-        ≡ look (elim o as (λ _. List (ℕ × Entry)) [
-          | None ↦ []
-          | Some thread ↦ space_of w thread.process
-        ]) (address / 4096)
-    by_thread None = refl
-    by_thread (Some thread) = refl
 
 -- a memory shows each world that its pages and its space are a run of
 pub begins : {F : Type 0} (t : ℕ) (owners : List Owner) (entries : List (ℕ × Entry)) (fixed : F)

@@ -1,7 +1,7 @@
 -- Which frame an access reaches, by the owners of the frames and the entries of a space. This
 -- project's own rules.
-use Rattle.std.specs.Prelude.{ℕ, ◌≡◌, ◌≢◌, ◌+◌, ◌*◌, ◌<◌, ◌/◌, ◌%◌, ◌^◌, List, Option, Some, None}
-use Rattle.std.specs.Prelude.{Result, Ok, Err, not, if◌then◌else◌, slice_get, slice_index_or, All}
+use Rattle.std.specs.Prelude.{ℕ, ◌≡◌, ◌+◌, ◌*◌, ◌<◌, ◌/◌, ◌%◌, ◌^◌, List, Some, None}
+use Rattle.std.specs.Prelude.{Result, Ok, Err, not, if◌then◌else◌, slice_index_or, All}
 use Rattle.dos_world.specs.World.{look}
 use Rattle.dos_world.specs.Reach.{has_right, is_foreign}
 use Rattle.dos_world.specs.declared.Access.{Access}
@@ -39,10 +39,6 @@ IsFrameOf t owners entries access page frame = (address : ℕ) → address < 2 ^
 abbrev pub AreFramesOf : ℕ → List Owner → List (ℕ × Entry) → Access → List Slot → Type 0
 AreFramesOf t owners entries access slots =
     All (λ slot. IsFrameOf t owners entries access slot.page slot.frame) slots
-
--- No page is away.
-abbrev pub IsNoneAway : List (Option (List ℕ)) → Type 0
-IsNoneAway pages = (frame : ℕ) → slice_get pages frame ≢ Some None
 
 -- Stores and claims, which reach the same frames.
 abbrev pub IsWriting : Access → Type 0
