@@ -1,6 +1,6 @@
 -- Plays that keep to a protocol: one after another, over a list of answers, and with another
 -- protocol.
-use Rattle.std.proofs.Common.{ℕ, ◌≡◌, refl, sym, ap, ◌∙◌, subst, List, [], ◌∷◌}
+use Rattle.std.proofs.Common.{ℕ, ◌≡◌, refl, subst, List, [], ◌∷◌}
 use Rattle.std.specs.Prelude.{All}
 use Rattle.std.proofs.lemmas.List.Elements.{All-head, All-tail}
 use Rattle.dos_world.specs.Play.{Play, Answer, done, ask, ◌>>=◌, Outcome, gives, asks, over}
@@ -80,13 +80,3 @@ allows_over few many questions answers P (ask question output error next) g = (
   λ answer is. allows_over few many questions answers P (next answer)
       (g.1 answer (answers answer is)),
 )
-
--- What asks nothing gives the same over any answers.
-pub silent_over : {A : Type 0} (P : A → Type 0) (answers : List Answer) (play : Play A) (a : A)
-    (rest : List Answer)
-    → IsSilent P play → over answers play ≡ gives a rest → P a
-silent_over {A} P answers play a rest silent e =
-    subst P (same (sym (ap (over answers) silent.is) ∙ e)) silent.so
-  where
-    same : ◌≡◌ {A = Outcome A} (gives silent.value answers) (gives a rest) → silent.value ≡ a
-    same q = cc

@@ -1,17 +1,16 @@
--- Pages, registers and budgets that are brought back from the packs make the world of the parallel
--- phase.
+-- What the parts of some threads leave as it is, and that worlds which differ in no more and agree
+-- on those threads' registers, budgets and pages are one.
 use Rattle.std.proofs.Common.{ℕ, zero, suc, ◌+◌, ◌*◌, ◌/◌, ◌%◌, ◌≡◌, ◌≢◌, ◌⊎◌, inl, inr, refl, sym}
 use Rattle.std.proofs.Common.{ap, ◌∙◌, subst, Bool, true, false, eqb, eqb-true, List, [], ◌∷◌}
 use Rattle.std.proofs.Common.{length, get_or, drop, Option, Some, None, option_map, Result, Ok, Err}
 use Rattle.std.proofs.Common.{arith}
-use Rattle.std.specs.Prelude.{fold, replicate, slice_get, slice_index_or}
+use Rattle.std.specs.Prelude.{slice_get, slice_index_or}
 use Rattle.std.proofs.lemmas.List.{ext_get_or, get_or-take, get_or-drop}
 use Rattle.dos_world.specs.World.{World, Thread, Process, Sleeper, Registers, flat, thread_at}
-use Rattle.dos_world.specs.World.{is_state, ready_threads, owner_of, page_of, registers_by}
+use Rattle.dos_world.specs.World.{owner_of, page_of, registers_by}
 use Rattle.dos_world.specs.World.{released}
 use Rattle.dos_world.specs.declared.Owner.{Owner}
 use Rattle.dos_world.specs.declared.Owner.TheVariants.{Free, Shared, Of}
-use Rattle.dos_world.specs.declared.ThreadState.TheVariants.{Ready}
 use Rattle.dos_world.specs.declared.Reason.{Reason}
 use Rattle.dos_world.proofs.Numbers.{length-changed}
 use Rattle.rv_exec.specs.Step.{step, paid_by}
@@ -19,16 +18,10 @@ use Rattle.rv_exec.specs.Runs.{kept}
 use Rattle.rv_exec.proofs.Stays.{step-form}
 use Rattle.quantum_run.specs.Alone.{budget_of, emptied, steps, alone}
 use Rattle.quantum_run.specs.Laws.{without_run, DiffersInOwn}
-use Rattle.quantum_run.specs.Shows.{Pack, View, Shows}
 use Rattle.quantum_run.proofs.After.{steps-ok, steps-stopped}
 use Rattle.quantum_run.proofs.Own.{alone-own}
-use Rattle.round_core.specs.Mix.{turns_of, members, HaveBegun}
-use Rattle.round_core.specs.Mixed.{stepped, mixed}
-use Rattle.round_core.specs.Round.{all_alone, parallel}
-use Rattle.round_core.proofs.Commute.{Among, Apart, finish, finish_all, all_alone-finish}
-use Rattle.round_core.proofs.Commute.{places-apart, ready-in, steps-others, budget_in}
-use Rattle.round_core.proofs.Mix.{parts-are-a-mix, fold-emptied-same, begun-held, begun-budget}
-use Rattle.round_core.proofs.Mix.{fold-append, turns-finish}
+use Rattle.round_core.specs.Round.{all_alone}
+use Rattle.round_core.proofs.Commute.{Among}
 
 -- ---- worlds that differ in parts of some threads
 
@@ -129,7 +122,7 @@ all_alone-differ (t ∷ ts) w =
 
 -- ---- two of them that agree on those parts are one
 
-decide-among : (ts : List ℕ) (s : ℕ) → Among ts s ⊎ (Among ts s → ⊥)
+pub decide-among : (ts : List ℕ) (s : ℕ) → Among ts s ⊎ (Among ts s → ⊥)
 decide-among [] s = inr (λ h. absurd h)
 decide-among (t ∷ ts) s = by (decide-among ts s) (eqb t s) refl
   where
@@ -143,7 +136,7 @@ decide-among (t ∷ ts) s = by (decide-among ts s) (eqb t s) refl
         both (inl q) = grind (arith, q, e)
         both (inr q) = out q
 
-decide-owner : (ts : List ℕ) (o : Owner)
+pub decide-owner : (ts : List ℕ) (o : Owner)
     → ((t : ℕ) × Among ts t × (o ≡ Of t)) ⊎ ((t : ℕ) → Among ts t → o ≢ Of t)
 decide-owner ts Free = inr (λ t h q. free t q)
   where
@@ -278,113 +271,3 @@ differ-same ts w u v a b threads pages =
     thread s (inl h) =
         same-thread (thread_at u s) (thread_at v s) (threads s h) (a.threads s ∙ sym (b.threads s))
     thread s (inr out) = a.others s out ∙ sym (b.others s out)
-
--- ---- all of the parts are the parallel phase
-
-members-all : (n : ℕ) (ts : List ℕ) → members (λ i. true) n ts ≡ ts
-members-all n [] = refl
-members-all n (t ∷ ts) = ap (λ xs. t ∷ xs) (members-all (suc n) ts)
-
-turns-all : (q : ℕ) (ts : List ℕ) (u : World) → Apart ts
-    → ((t : ℕ) → Among ts t → (is_state Ready (thread_at u t) ≡ true) × (budget_of u t ≡ q))
-    → fold stepped u (turns_of q ts) ≡ finish_all u ts
-turns-all q [] u apart begun = refl
-turns-all q (t ∷ ts) u apart begun =
-    let mine = begun t (inl refl) in
-    fold-append (replicate q t) (turns_of q ts) u
-    ∙ ap (λ x. fold stepped x (turns_of q ts)) (turns-finish q u t mine.0 mine.1)
-    ∙ turns-all q ts (finish u t) apart.1
-    (λ s h. let same = steps-others (budget_of u t) u t s (apart.0 s h) in
-    let theirs = begun s (inr h) in
-    (ap (is_state Ready) same ∙ theirs.0, ap budget_in same ∙ theirs.1))
-
-pub mixed-parallel : (w : World) → HaveBegun w
-    → mixed w (turns_of w.quantum (members (λ i. true) 0 (ready_threads w))) ≡ parallel w
-mixed-parallel w begun =
-    let ready : List ℕ = ready_threads w in
-    let apart : Apart ready = places-apart 1 (is_state Ready) w.threads in
-    let start : fold emptied w ready ≡ w =
-    fold-emptied-same w ready
-    (λ s h. begun-held w.quantum (thread_at w s) (begun s (ready-in w s h))) in
-    ap (λ u. fold stepped u (turns_of w.quantum (members (λ i. true) 0 ready))) start
-    ∙ ap (λ ms. fold stepped w (turns_of w.quantum ms)) (members-all 0 ready)
-    ∙ turns-all w.quantum ready w apart
-    (λ t h. (
-      ready-in w t h,
-      begun-budget w.quantum (thread_at w t) (ready-in w t h)
-          (begun t (ready-in w t h)),
-    ))
-    ∙ ap (λ u. finish_all u ready) (sym start)
-    ∙ sym (all_alone-finish ready w apart)
-
--- ---- what is taken in
-
-among-at : (ts : List ℕ) (t : ℕ) → Among ts t → (i : ℕ) × (slice_get ts i ≡ Some t)
-among-at [] t h = absurd h
-among-at (x ∷ ts) t (inl e) = (0, ap Some e)
-among-at (x ∷ ts) t (inr h) = let r = among-at ts t h in (suc r.0, r.1)
-
-pack-at : (packs : List Pack) (ts : List ℕ) (i t : ℕ) → length packs ≡ length ts
-    → slice_get ts i ≡ Some t → (p : Pack) × (slice_get packs i ≡ Some p)
-pack-at packs [] i t e h = cc
-pack-at [] (x ∷ ts) i t e h = absurd (grind arith)
-pack-at (p ∷ packs) (x ∷ ts) zero t e h = (p, refl)
-pack-at (p ∷ packs) (x ∷ ts) (suc i) t e h = pack-at packs ts i t (omega arith) h
-
--- u has what a pack holds: its thread's registers and budget, and a page of each of its frames
-pub record Has (u w : World) (t : ℕ) (p : Pack) : Type 0 where
-  pub thread : option_map kept (thread_at u t) ≡ Some (p.registers, p.budget)
-  pub pages : (frame : ℕ) → owner_of w frame ≡ Of t
-      → (i : ℕ) × (slice_get p.pages i ≡ Some (frame, page_of u.bytes frame))
-
-pair-is : (f : ℕ) (a b : List ℕ) → ◌≡◌ {A = Option (ℕ × List ℕ)} (Some (f, a)) (Some (f, b)) → a ≡ b
-pair-is f a b e = ap second e
-  where
-    second : Option (ℕ × List ℕ) → List ℕ
-    second None = []
-    second (Some x) = x.1
-
-pub taken-in : (w u : World) (v : View) (packs : List Pack) → HaveBegun w
-    → length packs ≡ length (ready_threads w)
-    → ((i t : ℕ) (p : Pack) → slice_get (ready_threads w) i ≡ Some t → slice_get packs i ≡ Some p
-    → (p.thread ≡ t) × Shows p v (alone w t))
-    → DifferIn (ready_threads w) w u
-    → ((i t : ℕ) (p : Pack) → slice_get (ready_threads w) i ≡ Some t → slice_get packs i ≡ Some p
-    → Has u w t p)
-    → u ≡ parallel w
-taken-in w u v packs begun count shown differ has =
-    differ-same (ready_threads w) w u (parallel w) differ (all_alone-differ (ready_threads w) w)
-    (λ t h. let i = among-at (ready_threads w) t h in let p =
-    pack-at packs (ready_threads w) i.0 t count i.1 in
-    (has i.0 t p.0 i.1 p.1).thread ∙ sym (thread i.0 t p.0 i.1 p.1))
-    (λ t frame h mine. let i = among-at (ready_threads w) t h in let p =
-    pack-at packs (ready_threads w) i.0 t count i.1 in page i.0 t p.0 frame i.1 p.1 mine)
-  where
-    in-parallel : (i t : ℕ) (p : Pack) → slice_get (ready_threads w) i ≡ Some t
-        → slice_get packs i ≡ Some p → Shows p v (parallel w)
-    in-parallel i t p at here =
-        subst (Shows p v) (mixed-parallel w begun)
-        (parts-are-a-mix w (λ k. true) v packs begun (λ j s q a b. shown j s q a b) i t p at here)
-
-    thread : (i t : ℕ) (p : Pack) → slice_get (ready_threads w) i ≡ Some t
-        → slice_get packs i ≡ Some p
-        → option_map kept (thread_at (parallel w) t) ≡ Some (p.registers, p.budget)
-    thread i t p at here =
-        subst (λ n. option_map kept (thread_at (parallel w) n) ≡ Some (p.registers, p.budget))
-        (shown i t p at here).0 (in-parallel i t p at here).thread
-
-    page : (i t : ℕ) (p : Pack) (frame : ℕ) → slice_get (ready_threads w) i ≡ Some t
-        → slice_get packs i ≡ Some p → owner_of w frame ≡ Of t
-        → page_of u.bytes frame ≡ page_of ((parallel w).bytes) frame
-    page i t p frame at here mine =
-        let sh = in-parallel i t p at here in
-        let mine' : owner_of (parallel w) frame ≡ Of p.thread =
-        ap (λ (os : List Owner). slice_index_or os frame Free)
-        (all_alone-differ (ready_threads w) w).owners
-        ∙ mine
-        ∙ ap Of (sym (shown i t p at here).0) in
-        let theirs = sh.own.all frame mine' in
-        let ours = (has i t p at here).pages frame mine in
-        let same : ours.0 ≡ theirs.0 = sh.own.apart ours.0 theirs.0 frame _ _ ours.1 theirs.1 in
-        pair-is frame (page_of u.bytes frame) (page_of ((parallel w).bytes) frame)
-        (sym ours.1 ∙ ap (slice_get p.pages) same ∙ theirs.1)

@@ -7,7 +7,7 @@ use Rattle.std.proofs.Common.{get_or-set_other, length-set}
 use Rattle.std.proofs.lemmas.Bool.{cases_eq}
 use Rattle.dos_world.specs.World.{World, Thread, Registers, code_unit, get, set, with_pc, entry_at}
 use Rattle.dos_world.specs.World.{owner_of, thread_at}
-use Rattle.dos_world.specs.Reach.{Reached, fault, foreign, at, is_foreign, has_right, width, loaded}
+use Rattle.dos_world.specs.Reach.{is_foreign, has_right, width, loaded}
 use Rattle.dos_world.specs.Reach.{stored, bytes_of, grant, granted}
 use Rattle.dos_world.specs.declared.Entry.{Entry}
 use Rattle.dos_world.specs.declared.Access.{Access}
@@ -75,11 +75,6 @@ pub record Stopped (w : World) (t a : ℕ) (s : Size) (x : Access) : Type 0 wher
   pub aligned : eqb (a % width s) 0 ≡ true
   pub right : has_right x e ≡ true
   pub foreign : is_foreign t x (owner_of w e.frame) ≡ true
-
-reason_of : ℕ → Access → Reached → Result ℕ Reason
-reason_of a x (fault n) = Err (Fault n)
-reason_of a x (foreign f) = Err (Page a x)
-reason_of a x (at p) = Ok p
 
 pub data Access_is (w : World) (t a : ℕ) (s : Size) (x : Access) : Type 0 where
   faults : (n : ℕ) → reached w t a s x ≡ Err (Fault n) → Access_is w t a s x

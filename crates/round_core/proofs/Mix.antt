@@ -1,7 +1,7 @@
 -- Whole parts of some of the ready threads are a mix of instructions, and each pack shows it.
 use Rattle.std.proofs.Common.{ℕ, zero, suc, ◌+◌, ◌-◌, ◌*◌, ◌/◌, ◌<◌, ◌≤◌, ◌≡◌, ◌≢◌, ◌⊎◌, inl, inr}
 use Rattle.std.proofs.Common.{refl, sym, ap, ◌∙◌, subst, Bool, cond, true, false, not, eqb}
-use Rattle.std.proofs.Common.{eqb-true, List, [], ◌∷◌, ◌++◌, length, get_or, take, drop, Option}
+use Rattle.std.proofs.Common.{eqb-true, List, [], ◌∷◌, ◌++◌, length, get_or, Option}
 use Rattle.std.proofs.Common.{Some, None, option_map, Result, Ok, Err, arith}
 use Rattle.std.specs.Prelude.{fold, replicate, slice_get, slice_index_or, option_and_then, ◌&&◌}
 use Rattle.std.specs.Prelude.{◌==◌, IfSome}
@@ -15,6 +15,7 @@ use Rattle.dos_world.specs.declared.Reason.{Reason}
 use Rattle.dos_world.specs.declared.ThreadState.TheVariants.{Ready}
 use Rattle.rv_exec.specs.Step.{step, paid_by}
 use Rattle.rv_exec.specs.Runs.{kept}
+use Rattle.rv_exec.proofs.Dependence.{take_drop_same}
 use Rattle.rv_exec.proofs.Keeps.{step-keeps}
 use Rattle.rv_exec.proofs.Stays.{step-form}
 use Rattle.rv_exec.proofs.Commute.{step-others, step-pays}
@@ -26,26 +27,6 @@ use Rattle.round_core.specs.Mix.{turns_of, members, HaveBegun, PacksShow}
 use Rattle.round_core.proofs.Commute.{Among, Apart, active, budget_in, finish, stepped-idle}
 use Rattle.round_core.proofs.Commute.{stepped-stop, stepped-ok, stepped-others, finish-stepped}
 use Rattle.round_core.proofs.Commute.{paid-budget, ready_of-change, places-apart, ready-in}
-
--- ---- pages that agree
-
-take_drop_same : (p n : ℕ) (xs ys : List ℕ) → length xs ≡ length ys
-    → ((i : ℕ) → p ≤ i → i < p + n → get_or xs i 0 ≡ get_or ys i 0)
-    → take n (drop p xs) ≡ take n (drop p ys)
-take_drop_same zero zero xs ys len same = refl
-take_drop_same zero (suc n) [] [] len same = refl
-take_drop_same zero (suc n) [] (y ∷ ys) len same = absurd (grind arith)
-take_drop_same zero (suc n) (x ∷ xs) [] len same = absurd (grind arith)
-take_drop_same zero (suc n) (x ∷ xs) (y ∷ ys) len same =
-    let rest : take n (drop 0 xs) ≡ take n (drop 0 ys) =
-    take_drop_same zero n xs ys (omega arith)
-    (λ i low high. same (suc i) (omega arith) (omega arith)) in
-    ap (λ z. z ∷ take n xs) (same 0 (omega arith) (omega arith)) ∙ ap (λ zs. y ∷ zs) rest
-take_drop_same (suc p) n [] [] len same = refl
-take_drop_same (suc p) n [] (y ∷ ys) len same = absurd (grind arith)
-take_drop_same (suc p) n (x ∷ xs) [] len same = absurd (grind arith)
-take_drop_same (suc p) n (x ∷ xs) (y ∷ ys) len same =
-    take_drop_same p n xs ys (omega arith) (λ i low high. same (suc i) (omega arith) (omega arith))
 
 -- ---- a pack shows what it showed after a step of another thread
 

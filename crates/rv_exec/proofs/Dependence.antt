@@ -30,7 +30,7 @@ use Rattle.rv_exec.proofs.Keeps.{Own, store, claim, reach-own}
 
 -- ---- numbers in bytes that agree
 
-take_drop_same : (p n : ℕ) (xs ys : List ℕ) → length xs ≡ length ys
+pub take_drop_same : (p n : ℕ) (xs ys : List ℕ) → length xs ≡ length ys
     → ((i : ℕ) → p ≤ i → i < p + n → get_or xs i 0 ≡ get_or ys i 0)
     → take n (drop p xs) ≡ take n (drop p ys)
 take_drop_same zero zero xs ys len same = refl
