@@ -7,13 +7,9 @@ use Rattle.std.proofs.lemmas.Bool.{cases_eq, cases_Bool, false≢true, eqb-true,
 use Rattle.dos_world.specs.Numbered.{map_from, places_from}
 use Rattle.dos_world.specs.World.{Thread, belongs_to}
 use Rattle.dos_world.specs.Kernel.{unless_of}
+pub use Rattle.round_core.proofs.Services.{length-map_from}
 
 -- ---- lists
-
-pub length-map_from : {A B : Type 0} (n : ℕ) (f : ℕ → A → B) (xs : List A)
-    → length (map_from n f xs) ≡ length xs
-length-map_from n f [] = refl
-length-map_from n f (x ∷ xs) = ap suc (length-map_from (suc n) f xs)
 
 pub get_or-map_from : {A B : Type 0} (n : ℕ) (f : ℕ → A → B) (xs : List A) (k : ℕ) (d : A) (e : B)
     → k < length xs → slice_index_or (map_from n f xs) k e ≡ f (n + k) (slice_index_or xs k d)

@@ -24,6 +24,7 @@ pub mod StandsCopies
 pub mod Holders
 pub mod Spaces
 pub mod StandsHeld
+pub mod Fewer
 pub mod StandsDescriptors
 pub mod StandsFutexes
 pub mod StandsWaits

@@ -1,14 +1,13 @@
 -- A thread more keeps a world lawful.
 use Rattle.std.proofs.Common.{ℕ, zero, suc, ◌+◌, ◌<◌, ◌≤◌, ◌≡◌, ◌≢◌, refl, Bool, true, false, cond}
-use Rattle.std.proofs.Common.{List, [], ◌∷◌, ◌++◌, length, Option, Some, None, option_and_then}
+use Rattle.std.proofs.Common.{List, [], ◌∷◌, ◌++◌, length, Option, Some, None}
 use Rattle.std.proofs.Common.{arith, length-append}
-use Rattle.std.specs.Prelude.{IfSome, IsTrue, slice_get, is_some, nat_le}
+use Rattle.std.specs.Prelude.{IfSome, slice_get, is_some, nat_le}
 use Rattle.std.proofs.lemmas.Bool.{or_parts, leb-false}
-use Rattle.std.proofs.lemmas.List.Elements.{All-nil}
 use Rattle.dos_world.specs.Numbered.{numbered, places_from, numbers_of}
-use Rattle.dos_world.specs.World.{World, Process, Thread, Registers, holdings_of, flat, belongs_to}
-use Rattle.dos_world.specs.ThreadCalls.{with_new_thread, are_threads_full, ready_thread}
-use Rattle.dos_world.specs.Lawful.{Lawful, IsThread, IsSaved, AreRegisters, turns_asleep}
+use Rattle.dos_world.specs.World.{World, Thread, flat, belongs_to}
+use Rattle.dos_world.specs.ThreadCalls.{with_new_thread, are_threads_full}
+use Rattle.dos_world.specs.Lawful.{Lawful, IsThread, turns_asleep}
 use Rattle.dos_laws.proofs.Threads.{lawful-with_threads}
 
 -- ---- an element more
@@ -97,15 +96,3 @@ module _ (w : World) (thread : Thread) where
         asleep = seen_more turns_asleep w.threads (Some thread) awake;
         limits = (omega (arith, one_more is_some 1 w.threads (Some thread), live), omega arith);
       }) l
-
--- it is in range, where its process lives and its registers are
-pub ready_in_range : (ps : List Process) (p : ℕ) (r : Registers)
-    → IsTrue (is_some (option_and_then holdings_of (numbered ps p))) → AreRegisters r
-    → IsThread ps (ready_thread p r 0 [])
-ready_in_range ps p r lives are = record {
-  process = lives;
-  registers = are;
-  pending = (omega arith, refl);
-  mask = (omega arith, refl, refl);
-  saved = (omega arith, All-nil IsSaved);
-}

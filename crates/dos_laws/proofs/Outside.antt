@@ -1,6 +1,6 @@
 -- What was sent, the rounds, the quantum and the services that there are: a lawful world with
 -- others in their place is lawful.
-use Rattle.std.proofs.Common.{ℕ, ◌+◌, ◌<◌, ◌≤◌, List, arith}
+use Rattle.std.proofs.Common.{ℕ, ◌+◌, ◌<◌, List, arith}
 use Rattle.dos_world.specs.World.{World}
 use Rattle.dos_world.specs.Lawful.{Lawful, IsWithinRun}
 use Rattle.round_core.specs.Round.{counted}
@@ -45,13 +45,6 @@ module _ (w : World) (quantum rounds : ℕ) (output error : List ℕ) where
 pub lawful-sent : (w : World) (output error : List ℕ) → Lawful w
     → Lawful (record w { output = output; error = error })
 lawful-sent w output error l = lawful-outside w w.quantum w.rounds output error w.built l.run l
-
--- another quantum
-pub lawful-with_quantum : (w : World) (quantum : ℕ) → 16 ≤ quantum → quantum ≤ 65536 → Lawful w
-    → Lawful (record w { quantum = quantum })
-lawful-with_quantum w quantum low high l =
-    lawful-outside w quantum w.rounds w.output w.error w.built
-    (record { turn = (low, high); count = l.run.count }) l
 
 -- a round more
 pub lawful-counted : (w : World) → w.rounds < 1000000 → Lawful w → Lawful (counted w)

@@ -5,15 +5,12 @@ use Rattle.std.specs.Prelude.{IfSome, slice_index, slice_set}
 use Rattle.std.proofs.lemmas.List.Elements.{All-set, All-replicate}
 use Rattle.std.proofs.lemmas.Bool.{cases_lt}
 use Rattle.std.proofs.lemmas.List.{get_or_past}
-use Rattle.dos_world.specs.World.{registers_by}
-use Rattle.dos_world.specs.Registers.{Registers, get, set, with_pc, with_held, blank, released}
+use Rattle.dos_world.specs.Registers.{Registers, get, set, with_pc, with_held, blank}
 use Rattle.dos_world.specs.Registers.{past}
 use Rattle.dos_world.specs.Kernel.{answered}
 use Rattle.dos_world.specs.Calls.{charged}
 use Rattle.dos_world.specs.ThreadCalls.{new_registers}
 use Rattle.dos_world.specs.Lawful.{AreRegisters, IsWord}
-use Rattle.rv_exec.specs.Step.{paid_by}
-use Rattle.round_core.specs.Round.{with_budget}
 use Rattle.dos_laws.proofs.Threads.{ChangesRun}
 
 -- ---- registers
@@ -72,19 +69,6 @@ new_ranges pc sp argument p s a =
 
 -- ---- changes of a thread's run
 
-pub registers_change : (f : Registers → Registers)
-    → ((r : Registers) → AreRegisters r → AreRegisters (f r)) → ChangesRun (registers_by f)
-registers_change f ranges =
-    record { rest = λ thread. refl; ranges = λ thread a. ranges thread.registers a }
-
--- an answer of a service
-pub answered_change : (v : ℕ) → v < 2 ^ 32 → ChangesRun (registers_by (answered v))
-answered_change v h = registers_change (answered v) (λ r a. answered_ranges v r h a)
-
--- the reservation emptied
-pub released_change : ChangesRun (registers_by released)
-released_change = registers_change released (λ r a. with_held_ranges r None tt a)
-
 -- the cost of a service
 pub charged_change : ChangesRun charged
 charged_change = record {
@@ -92,16 +76,3 @@ charged_change = record {
   ranges =
       λ thread a. with_held_ranges thread.registers None tt a;
 }
-
--- the cost of an instruction
-pub paid_change : (r : Registers) → AreRegisters r → ChangesRun (paid_by r)
-paid_change r a = record { rest = λ thread. refl; ranges = λ thread was. a }
-
--- other registers and another budget
-pub run_change : (r : Registers) (budget : ℕ) → AreRegisters r
-    → ChangesRun (λ thread. record thread { registers = r; budget = budget })
-run_change r budget a = record { rest = λ thread. refl; ranges = λ thread was. a }
-
--- another budget
-pub budget_change : (budget : ℕ) → ChangesRun (with_budget budget)
-budget_change budget = record { rest = λ thread. refl; ranges = λ thread a. a }

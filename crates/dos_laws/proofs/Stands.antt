@@ -6,10 +6,11 @@ use Rattle.std.specs.Prelude.{All, IfSome, IsTrue, ◌==◌, count_by, is_some}
 use Rattle.std.proofs.lemmas.Bool.{cases_eq}
 use Rattle.std.proofs.lemmas.List.Sums.{sum_by-cons, sum_by_push}
 use Rattle.dos_world.specs.Numbered.{numbered, changed, numbers_of}
-use Rattle.dos_world.specs.World.{World, Thread, Sleeper, flat, thread_at, live_process, belongs_to}
+use Rattle.dos_world.specs.World.{World, Process, Registers, Thread, Sleeper, flat, thread_at, live_process, belongs_to}
 use Rattle.dos_world.specs.World.{with_thread, in_state}
 pub use Rattle.dos_world.specs.Lawful.{HasStatus}
-use Rattle.dos_world.specs.Lawful.{Lawful, IsThread, IsSleeper, turns_asleep}
+use Rattle.dos_world.specs.Lawful.{Lawful, IsThread, IsSleeper, AreRegisters, turns_asleep}
+use Rattle.dos_world.specs.declared.ThreadState.{ThreadState}
 use Rattle.dos_world.specs.declared.ThreadState.TheVariants.{Ready, Retry}
 use Rattle.dos_world.proofs.Numbers.{changed_other, changed_there, length-changed}
 use Rattle.dos_laws.specs.Standing.{AreAwake, IsAwake, IsNoneOf, LawfulWith}
@@ -94,6 +95,18 @@ lawful-lively w ts ss kept l = record {
 }
 
 -- ---- a change of one thread
+
+-- A thread in range is so with other registers in range, another budget and in another state.
+pub with_run : (ps : List Process) (thread : Thread) (r : Registers) (budget : ℕ)
+    (state : ThreadState) → AreRegisters r → IsThread ps thread
+    → IsThread ps (record thread { registers = r; budget = budget; state = state })
+with_run ps thread r budget state registers is = record {
+  process = is.process;
+  registers = registers;
+  pending = is.pending;
+  mask = is.mask;
+  saved = is.saved;
+}
 
 -- A change leaves a thread's process.
 abbrev pub Belongs : (Thread → Thread) → Type 0
@@ -191,14 +204,7 @@ pub stands-ready : (ts : List ℕ) (w : World) (t : ℕ) → turns_asleep (threa
 stands-ready ts w t before k = record {
   lawful =
       lawful-changed (in_state Ready) (λ thread. refl) w t w.sleepers
-      (λ thread at is. record {
-        process = is.process;
-        registers = is.registers;
-        pending =
-            is.pending;
-        mask = is.mask;
-        saved = is.saved;
-      })
+      (λ thread at is. with_run w.processes thread _ _ _ is.registers is)
       (λ s other. refl) (k.lawful.threads.asleep t ∙ before ∙ sym (ready (thread_at w t)))
       k.lawful.threads.sleepers k.lawful;
   awake =
@@ -224,14 +230,7 @@ pub stands-retry : (ts : List ℕ) (w : World) (t : ℕ) → turns_asleep (threa
 stands-retry ts w t before k = record {
   lawful =
       lawful-changed (in_state Retry) (λ thread. refl) w t w.sleepers
-      (λ thread at is. record {
-        process = is.process;
-        registers = is.registers;
-        pending =
-            is.pending;
-        mask = is.mask;
-        saved = is.saved;
-      })
+      (λ thread at is. with_run w.processes thread _ _ _ is.registers is)
       (λ s other. refl) (k.lawful.threads.asleep t ∙ before ∙ sym (waiting (thread_at w t)))
       k.lawful.threads.sleepers k.lawful;
   awake =

@@ -24,7 +24,7 @@ use Rattle.dos_laws.proofs.Numbers.{changed_there}
 use Rattle.dos_laws.proofs.Mapped.{of_thread, some_is}
 use Rattle.dos_laws.proofs.Frames.{thread_given}
 use Rattle.dos_laws.proofs.RegisterRanges.{get_range, set_ranges, answered_ranges, with_held_ranges}
-use Rattle.dos_laws.proofs.Stands.{Changes, stands-with_thread, stands-retry}
+use Rattle.dos_laws.proofs.Stands.{with_run, Changes, stands-with_thread, stands-retry}
 
 -- ---- a thread's registers
 
@@ -35,15 +35,7 @@ registers_change w t f ranges = record {
   process = λ thread. refl;
   state = λ thread. refl;
   ranges =
-      λ thread at is. record {
-        process = is.process;
-        registers =
-            ranges thread.registers is.registers;
-        pending = is.pending;
-        mask = is.mask;
-        saved =
-            is.saved;
-      };
+      λ thread at is. with_run w.processes thread _ _ _ (ranges thread.registers is.registers) is;
 }
 
 pub stands-registers : (ts : List ℕ) (w : World) (t : ℕ) (f : Registers → Registers)
@@ -57,15 +49,7 @@ charged_change w t = record {
   process = λ thread. refl;
   state = λ thread. refl;
   ranges =
-      λ thread at is. record {
-        process = is.process;
-        registers =
-            with_held_ranges thread.registers None tt is.registers;
-        pending = is.pending;
-        mask =
-            is.mask;
-        saved = is.saved;
-      };
+      λ thread at is. with_run w.processes thread _ _ _ (with_held_ranges thread.registers None tt is.registers) is;
 }
 
 -- ---- a call

@@ -2,33 +2,29 @@
 use Rattle.std.proofs.Common.{ℕ, zero, suc, ◌+◌, ◌^◌, ◌<◌, ◌≤◌, ◌≡◌, ◌≢◌, refl, sym, ap, ◌∙◌, subst}
 use Rattle.std.proofs.Common.{Bool, true, false, cond, not, List, [], ◌∷◌, length, Option, Some}
 use Rattle.std.proofs.Common.{None, arith, length-set}
-use Rattle.std.specs.Prelude.{All, IfSome, ◌==◌, slice_get, slice_set, unwrap_or, count_by, filter}
+use Rattle.std.specs.Prelude.{All, slice_get, slice_set, unwrap_or, count_by, filter}
 use Rattle.std.specs.Prelude.{is_none}
 use Rattle.std.proofs.lemmas.Bool.{false≢true}
 use Rattle.std.proofs.lemmas.List.Sums.{sum_by-cons}
-use Rattle.std.proofs.lemmas.List.Elements.{All-nil, All-cons, All-head, All-tail, All-set}
+use Rattle.std.proofs.lemmas.List.Elements.{All-head, All-tail, All-set}
 use Rattle.dos_world.specs.Numbered.{run_of}
-use Rattle.dos_world.specs.World.{World, Holdings, Thread, all_holdings, live_process}
-use Rattle.dos_world.specs.World.{with_holdings, on_holdings, thread_at, first_of}
-use Rattle.dos_world.specs.Counts.{uses_of, is_open, reads_pipe, writes_pipe, tidied}
+use Rattle.dos_world.specs.World.{World, Holdings, live_process}
+use Rattle.dos_world.specs.World.{with_holdings, first_of}
+use Rattle.dos_world.specs.Counts.{is_open, reads_pipe, writes_pipe, tidied}
 use Rattle.dos_world.specs.Play.{Play}
 use Rattle.dos_world.specs.Calls.{Call, Served, returns_in, refuses}
 use Rattle.dos_world.specs.DescriptorCalls.{pipe, pipe_by, close, dup, dup_by, descriptor}
 use Rattle.dos_world.specs.DescriptorCalls.{descriptor_at, descriptors_of, with_end}
 use Rattle.dos_world.specs.DescriptorCalls.{with_descriptor, free_descriptors, second_of}
 use Rattle.dos_world.specs.DescriptorCalls.{lowest_pipe}
-use Rattle.dos_world.specs.Lawful.{IsThread, AreHoldings, IsAlone, IsEnd}
-use Rattle.dos_world.specs.declared.Entry.{Entry}
+use Rattle.dos_world.specs.Lawful.{AreHoldings, IsAlone, IsEnd}
 use Rattle.dos_world.specs.declared.End.{End}
 use Rattle.dos_world.specs.declared.End.TheVariants.{PipeRead, PipeWrite}
 use Rattle.dos_world.proofs.UsualCalls.{held_all}
-use Rattle.dos_world.proofs.Numbers.{length-changed}
 use Rattle.dos_laws.specs.Standing.{LawfulWith}
-use Rattle.dos_laws.proofs.Holders.{any_counts, counts_any, sum_changed, all_changed}
-use Rattle.dos_laws.proofs.Holders.{live_changed_same, count_changed, parents_changed}
-use Rattle.dos_laws.proofs.Holders.{statuses_changed, has_changed}
-use Rattle.dos_laws.proofs.Spaces.{uses_in}
+use Rattle.dos_laws.proofs.Holders.{has_changed}
 use Rattle.dos_laws.proofs.StandsMasks.{found_in}
+use Rattle.dos_laws.proofs.Fewer.{less_held}
 use Rattle.dos_laws.proofs.StandsTidy.{IsLess, lawful-tidied}
 use Rattle.dos_laws.proofs.StandsHeld.{stands-with_holdings, alone}
 use Rattle.dos_laws.proofs.StandsCalls.{StandsCall, Leaves, law, held, held_is, returns_in_stands}
@@ -237,95 +233,21 @@ module _ (ts : List ℕ) (c : Call) (call : StandsCall ts c) where
   abbrev shut : World
   shut = with_descriptor c c.world c.a0 None
 
-  uses_shut : (frame : ℕ) → uses_of shut frame ≡ uses_of c.world frame
-  uses_shut frame =
-      omega (
-        arith,
-        sum_changed (with_end c.a0 None) (λ x. uses_in frame x.space) c.world.processes c.process h
-            (held ts c call).1,
-      )
-
-  alone_shut : (space : List (ℕ × Entry)) → All (IsAlone c.world) space → All (IsAlone shut) space
-  alone_shut [] all = All-nil (IsAlone shut)
-  alone_shut (e ∷ space) all =
-      All-cons (IsAlone shut) e space
-      (λ private. uses_shut e.1.frame ∙ All-head (IsAlone c.world) e space all private)
-      (alone_shut space (All-tail (IsAlone c.world) e space all))
-
   less_open : IsLess c.world shut
   less_open =
-      let l = law ts c call in
-      let f : Holdings → Holdings = with_end c.a0 None in
       let is = held_is ts c call in
-      let at : live_process c.world c.process ≡ Some h = (held ts c call).1 in
-      record {
-        mapped = λ frame e.
-            counts_any (λ x. x.1.frame == frame) (λ x. x.space) (all_holdings c.world.processes)
-            (omega (
-              arith,
-              uses_shut frame,
-              any_counts (λ (x : ℕ × Entry). x.1.frame == frame) (λ (x : Holdings). x.space)
-                  (all_holdings shut.processes) e,
-            ));
-        holdings =
-            all_changed f (AreHoldings (length c.world.owners))
-            (AreHoldings (length c.world.owners)) (λ x was. was) c.world.processes c.process h at
-            (record {
-              actions = is.actions;
-              descriptors = (
-                length-set h.descriptors c.a0 None
-                    ∙ is.descriptors.0,
-                All-set IsEnd h.descriptors c.a0 None tt is.descriptors.1,
-              );
-              rising =
-                  is.rising;
-              pages = is.pages;
-              apart = is.apart;
-            })
-            l.processes.holdings;
-        private =
-            all_changed f (λ x. All (IsAlone c.world) x.space) (λ x. All (IsAlone shut) x.space)
-            (λ x all. alone_shut x.space all) c.world.processes c.process h at
-            (alone_shut h.space (alone ts c call)) l.processes.private;
-        populated = λ q lives.
-            l.processes.populated q
-            (sym (live_changed_same f c.world.processes c.process q) ∙ lives);
-        parents = parents_changed f c.world.processes c.process l.processes.parents;
-        statuses = statuses_changed f c.world.processes c.process l.processes.statuses;
-        given = (
-          omega (
-            arith,
-            l.processes.given.0,
-            length-changed (on_holdings f) c.world.processes c.process,
-          ),
-          omega (
-            arith,
-            l.processes.given.1,
-            length-changed (on_holdings f) c.world.processes c.process,
-          ),
+      less_held c.world c.process (with_end c.a0 None) h (held ts c call).1 (λ frame. omega arith)
+      (record {
+        actions = is.actions;
+        descriptors = (
+          length-set h.descriptors c.a0 None ∙ is.descriptors.0,
+          All-set IsEnd h.descriptors c.a0 None tt is.descriptors.1,
         );
-        ranges = λ t. ranged (thread_at c.world t) (l.threads.ranges t);
-        asleep = l.threads.asleep;
-        sleepers = l.threads.sleepers;
-        live = l.limits.threads.0;
-        threads = refl;
-        processes = omega (arith, count_changed f c.world.processes c.process, l.limits.processes);
-      }
-    where
-      ranged : (o : Option Thread) → IfSome o (IsThread c.world.processes)
-          → IfSome o (IsThread shut.processes)
-      ranged None is = tt
-      ranged (Some thread) is =
-          record {
-            process =
-                live_changed_same (with_end c.a0 None) c.world.processes c.process thread.process
-                ∙ is.process;
-            registers = is.registers;
-            pending = is.pending;
-            mask = is.mask;
-            saved =
-                is.saved;
-          }
+        rising = is.rising;
+        pages = is.pages;
+        apart = is.apart;
+      })
+      (alone ts c call) (law ts c call)
 
   pub close_stands : Leaves ts c call (close c)
   close_stands = by_end (descriptor c)

@@ -24,7 +24,7 @@ use Rattle.dos_world.specs.declared.ThreadState.{ThreadState}
 use Rattle.dos_world.specs.declared.ThreadState.TheVariants.{Ready, Retry, Asleep}
 use Rattle.dos_laws.specs.Standing.{AreApart, AreAwake, IsAwake, IsNoneOf, LawfulWith}
 use Rattle.dos_laws.proofs.Mapped.{entry_taken}
-use Rattle.dos_laws.proofs.Stands.{awake_but, awake-other, lawful-changed, stands-ready, times}
+use Rattle.dos_laws.proofs.Stands.{with_run, awake_but, awake-other, lawful-changed, stands-ready, times}
 use Rattle.dos_laws.proofs.Stands.{times-push, at_changed}
 use Rattle.dos_laws.proofs.StandsSignals.{stands-all_woken}
 use Rattle.dos_laws.proofs.StandsCopies.{IsMoved, opened_moved, stands-opened, given}
@@ -43,14 +43,7 @@ pub stands-asleep : (ts : List ℕ) (w : World) (t frame offset : ℕ)
     })
 stands-asleep ts w t frame offset before lives place k = record {
   lawful = lawful-changed (in_state Asleep) (λ thread. refl) w t (w.sleepers ++ s ∷ [])
-      (λ thread at is. record {
-        process = is.process;
-        registers = is.registers;
-        pending =
-            is.pending;
-        mask = is.mask;
-        saved = is.saved;
-      })
+      (λ thread at is. with_run w.processes thread _ _ _ is.registers is)
       others here
       (All-append (IsSleeper (length w.owners)) w.sleepers (s ∷ []) k.lawful.threads.sleepers
       (All-cons (IsSleeper (length w.owners)) s [] place (All-nil (IsSleeper (length w.owners)))))

@@ -1,7 +1,7 @@
 -- A lawful world goes on standing in every round: the invariant, for all services and all answers
 -- that fit.
 use Rattle.std.proofs.Common.{ℕ, ◌+◌, ◌/◌, ◌≡◌, refl, List, [], ◌∷◌, Option, Some, None, arith}
-use Rattle.dos_world.specs.World.{World, Thread, thread_at, entry_at, space_of, look, released}
+use Rattle.dos_world.specs.World.{with_thread, World, Thread, thread_at, entry_at, space_of, look, released}
 use Rattle.dos_world.specs.World.{with_budget}
 use Rattle.dos_world.specs.Calls.{Call, Service, call_of, refuses}
 use Rattle.dos_world.specs.declared.Entry.{Entry}
@@ -13,7 +13,7 @@ use Rattle.dos_laws.specs.Standing.{LawfulWith, fit_protocol}
 use Rattle.dos_laws.proofs.Mapped.{entry_taken}
 use Rattle.dos_laws.proofs.Frames.{thread_given}
 use Rattle.dos_laws.proofs.RegisterRanges.{with_held_ranges}
-use Rattle.dos_laws.proofs.Stands.{stands-with_thread}
+use Rattle.dos_laws.proofs.Stands.{with_run, stands-with_thread}
 use Rattle.dos_laws.proofs.StandsSignals.{stands-posted}
 use Rattle.dos_laws.proofs.StandsEnds.{stands-process_ended}
 use Rattle.dos_laws.proofs.StandsCalls.{StandsCall, Leaves, call_stands, stands-passed}
@@ -92,27 +92,21 @@ refused_stands : (ts : List ℕ) (w : World) (t : ℕ) (thread : Thread)
 refused_stands ts w t thread is k =
     refuses_stands ts (call_of w t thread) (call_stands ts w t thread is k) 38 (omega arith)
 
+-- another budget
+pub stands-budget : (ts : List ℕ) (w : World) (t budget : ℕ) → LawfulWith ts w
+    → LawfulWith ts (with_thread w t (with_budget budget))
+stands-budget ts w t budget k = stands-with_thread ts w t (with_budget budget) (record {
+  process = λ thread. refl;
+  state = λ thread. refl;
+  ranges = λ thread at is. with_run w.processes thread _ _ _ is.registers is;
+}) k
+
 pub stands_kept : Keeps fit_protocol LawfulWith
 stands_kept = record {
   steps_kept = λ ts w next t is k. stands-step ts w next t is k;
   emptied_kept = λ ts w t k.
       stands-registers ts w t released (λ r a. with_held_ranges r None tt a) k;
-  budget_kept = λ ts w t k.
-      stands-with_thread ts w t (with_budget w.quantum)
-      (record {
-        process = λ thread. refl;
-        state = λ thread. refl;
-        ranges =
-            λ thread at is. record {
-              process = is.process;
-              registers = is.registers;
-              pending =
-                  is.pending;
-              mask = is.mask;
-              saved = is.saved;
-            };
-      })
-      k;
+  budget_kept = λ ts w t k. stands-budget ts w t w.quantum k;
   begins = stands-begins;
   passes = stands-passed;
   grant_kept = λ ts w t address access e is k.

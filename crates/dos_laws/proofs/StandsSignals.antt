@@ -18,7 +18,7 @@ use Rattle.dos_world.specs.Signals.{cleared}
 use Rattle.dos_world.specs.Lawful.{IsPending, IsMask, IsSleeper, turns_asleep}
 use Rattle.dos_laws.specs.Standing.{LawfulWith}
 use Rattle.dos_laws.proofs.RegisterRanges.{answered_ranges}
-use Rattle.dos_laws.proofs.Stands.{Changes, awake_by, lawful-changed, awake-changed}
+use Rattle.dos_laws.proofs.Stands.{with_run, Changes, awake_by, lawful-changed, awake-changed}
 use Rattle.dos_laws.proofs.Stands.{stands-with_thread, times, times-cons}
 
 -- ---- sets of signals
@@ -210,15 +210,7 @@ pub stands-woken : (ts : List ℕ) (w : World) (t v : ℕ) → v < 2 ^ 32 → La
     → LawfulWith ts (woken w t v)
 stands-woken ts w t v h k = record {
   lawful = lawful-changed (awake v) (λ thread. refl) w t (filter (is_other t) w.sleepers)
-      (λ thread at is. record {
-        process = is.process;
-        registers =
-            answered_ranges v thread.registers h is.registers;
-        pending = is.pending;
-        mask =
-            is.mask;
-        saved = is.saved;
-      })
+      (λ thread at is. with_run w.processes thread _ _ _ (answered_ranges v thread.registers h is.registers) is)
       (λ s other. times-others t s other w.sleepers)
       (times-itself t w.sleepers ∙ sym (ready (thread_at w t)))
       (all-filtered (IsSleeper (length w.owners)) (is_other t) w.sleepers k.lawful.threads.sleepers)

@@ -20,7 +20,7 @@ use Rattle.dos_laws.proofs.Mapped.{of_thread}
 use Rattle.dos_laws.proofs.Numerals.{loaded_word, loaded_below}
 use Rattle.dos_laws.proofs.Frames.{bytes_of_bytes}
 use Rattle.dos_laws.proofs.Effects.{IsInRange, effect_ranges}
-use Rattle.dos_laws.proofs.Stands.{stands-with_thread}
+use Rattle.dos_laws.proofs.Stands.{with_run, stands-with_thread}
 use Rattle.dos_laws.proofs.StandsCopies.{stands-stored}
 use Rattle.rv_isa.proofs.Back.{meaning_valid}
 
@@ -77,14 +77,7 @@ stands-paid ts w t r a k = stands-with_thread ts w t (paid_by r) (record {
   process = λ thread. refl;
   state = λ thread. refl;
   ranges =
-      λ thread at is. record {
-        process = is.process;
-        registers = a;
-        pending = is.pending;
-        mask =
-            is.mask;
-        saved = is.saved;
-      };
+      λ thread at is. with_run w.processes thread _ _ _ a is;
 }) k
 
 with_word_stands : (ts : List ℕ) (w : World) (place : ℕ) (o : Option ℕ) → LawfulWith ts w

@@ -1,15 +1,15 @@
 -- Other threads in a lawful world: what they must keep, and a change of one of them that leaves all
 -- but its registers and its budget.
 use Rattle.std.proofs.Common.{ℕ, ◌≤◌, ◌≡◌, ◌≢◌, refl, sym, ap, ◌∙◌, subst, List, [], length, Option}
-use Rattle.std.proofs.Common.{Some, None, option_map, arith}
-use Rattle.std.specs.Prelude.{All, option_and_then, IfSome, IsTrue, is_some, ◌==◌}
-use Rattle.dos_world.specs.Numbered.{numbered, changed, numbers_of}
+use Rattle.std.proofs.Common.{Some, None, option_map}
+use Rattle.std.specs.Prelude.{All, option_and_then, IfSome, IsTrue, is_some}
+use Rattle.dos_world.specs.Numbered.{numbered, numbers_of}
 use Rattle.dos_world.specs.World.{World, Process, holdings_of, Thread, flat, thread_at}
 use Rattle.dos_world.specs.World.{live_process, belongs_to, with_thread}
 use Rattle.dos_world.specs.Lawful.{Lawful, IsThread, AreRegisters, IsPending, IsMask, IsSaved}
 use Rattle.dos_world.specs.Lawful.{turns_asleep}
 use Rattle.quantum_run.specs.Laws.{without_run}
-use Rattle.dos_laws.proofs.Numbers.{length-changed, numbers_same, each_kept, each_same}
+use Rattle.dos_laws.proofs.Stands.{lawful-changed, lawful-lively}
 
 -- ---- other threads
 
@@ -24,35 +24,15 @@ pub record AreKept (w : World) (ts : List (Option Thread)) : Type 0 where
 
 pub lawful-with_threads : (w : World) (ts : List (Option Thread)) → AreKept w ts → Lawful w
     → Lawful (record w { threads = ts })
-lawful-with_threads w ts kept l = record {
-  frames = record {
-    bytes = l.frames.bytes;
-    free = l.frames.free;
-    owned = λ frame t e.
-        let was = l.frames.owned frame t e in (was.0, omega (arith, was.1, kept.count));
-  };
-  processes = record {
-    holdings = l.processes.holdings;
-    private = l.processes.private;
-    populated = kept.populated;
-    statuses = l.processes.statuses;
-    parents = l.processes.parents;
-    given = (l.processes.given.0, omega (arith, l.processes.given.1, kept.count));
-  };
-  threads = record {
-    ranges = kept.ranges;
-    asleep = λ t. l.threads.asleep t ∙ sym (kept.asleep t);
-    sleepers = l.threads.sleepers;
-  };
-  pipes = record { ranges = l.pipes.ranges; closed = l.pipes.closed };
-  limits = record {
-    threads = kept.limits;
-    processes = l.limits.processes;
-    frames =
-        l.limits.frames;
-  };
-  run = l.run;
-}
+lawful-with_threads w ts kept l =
+    lawful-lively w ts w.sleepers (record {
+      count = kept.count;
+      populated = kept.populated;
+      ranges = kept.ranges;
+      asleep = λ t. l.threads.asleep t ∙ sym (kept.asleep t);
+      sleepers = l.threads.sleepers;
+      limits = kept.limits;
+    }) l
 
 -- ---- a change of one thread
 
@@ -68,14 +48,6 @@ of_rest : (P : Thread → Type 0) (f : Thread → Thread)
 of_rest P f rest thread h = subst P (sym (rest thread)) h
 
 module _ (f : Thread → Thread) (c : ChangesRun f) where
-  belonging : (p : ℕ) (o : Option Thread) → belongs_to p (option_map f o) ≡ belongs_to p o
-  belonging p None = refl
-  belonging p (Some thread) = ap (λ x. x.process == p) (c.rest thread)
-
-  living : (o : Option Thread) → is_some (option_map f o) ≡ is_some o
-  living None = refl
-  living (Some thread) = refl
-
   sleeping : (o : Option Thread) → turns_asleep (option_map f o) ≡ turns_asleep o
   sleeping None = refl
   sleeping (Some thread) = ap (λ x. turns_asleep (Some x)) (c.rest thread)
@@ -93,22 +65,6 @@ module _ (f : Thread → Thread) (c : ChangesRun f) where
 
   pub lawful-with_thread : (w : World) (t : ℕ) → Lawful w → Lawful (with_thread w t f)
   lawful-with_thread w t l =
-      lawful-with_threads w (changed (option_map f) w.threads t) (record {
-        count = omega (arith, length-changed (option_map f) w.threads t);
-        populated = λ p lives e.
-            l.processes.populated p lives
-            (sym (numbers_same (option_map f) (belongs_to p) (belonging p) w.threads t) ∙ e);
-        ranges =
-            each_kept (IsThread w.processes) f (thread_kept w.processes) w.threads t
-            l.threads.ranges;
-        asleep = each_same turns_asleep f sleeping w.threads t;
-        limits = (
-          omega (
-            arith,
-            l.limits.threads.0,
-            ap (λ (ns : List ℕ). length ns)
-                (numbers_same (option_map f) is_some living w.threads t),
-          ),
-          omega (arith, l.limits.threads.1, length-changed (option_map f) w.threads t),
-        );
-      }) l
+      lawful-changed f (λ thread. ap (λ x. x.process) (c.rest thread)) w t w.sleepers
+      (λ thread at is. thread_kept w.processes thread is) (λ s other. refl)
+      (l.threads.asleep t ∙ sym (sleeping (thread_at w t))) l.threads.sleepers l
