@@ -30,7 +30,7 @@ use Rattle.dos_world.specs.declared.Owner.{Owner}
 use Rattle.dos_world.specs.declared.Owner.TheVariants.{Free, Of}
 use Rattle.group_open.proofs.OpensLaws.{map_from_push}
 use Rattle.group_open.specs.Group.{FitsMore, IsOpened, with_first_ends, with_opened}
-use Rattle.group_open.proofs.Runs.{length_map_from}
+use Rattle.dos_laws.proofs.Ends.{length-map_from}
 use Rattle.group_open.proofs.OpeningLaws.{holdings_length, needed_more, owners_length}
 use Rattle.group_open.proofs.OpeningLaws.{places_at_most, processes_length}
 use Rattle.group_open.proofs.HeldLaws.{held_after, held_if, held_none, held_same, held_twice}
@@ -140,7 +140,7 @@ module _ (count : ℕ) (s : Store) (t : Tables) (images : List Image) (image : I
   process_count = ap length o.processes ∙ processes_length 0 images
 
   thread_count : length t.threads ≡ length images
-  thread_count = ap length o.threads ∙ length_map_from 1 opening_thread images
+  thread_count = ap length o.threads ∙ length-map_from 1 opening_thread images
 
   pub not_full : length images < 8 → are_processes_full t.processes t.threads ≡ false
   not_full few =

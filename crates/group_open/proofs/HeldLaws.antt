@@ -1,6 +1,6 @@
 -- What a process has, with entries behind its others.
 use Rattle.std.proofs.Common.{ℕ, zero, suc, ◌+◌, ◌<◌, ◌≤◌, ◌≡◌, refl, sym, ap, ◌∙◌, subst, List, []}
-use Rattle.std.proofs.Common.{◌∷◌, ◌++◌, length, All, IsSome, arith}
+use Rattle.std.proofs.Common.{◌∷◌, ◌++◌, length, All, arith}
 use Rattle.std.specs.Prelude.{Option, Some, None, IfSome, option_and_then, option_map, find}
 use Rattle.std.specs.Prelude.{slice_get, nat_lt, ◌==◌}
 use Rattle.std.proofs.lemmas.Bool.{le-ltb, ne_eqb, cond-false}
@@ -11,7 +11,7 @@ use Rattle.dos_world.specs.declared.Entry.{Entry}
 use Rattle.dos_world.specs.World.{Holdings, Life, Process, holdings_of, live, ended, live_changed}
 use Rattle.dos_world.specs.World.{look, on_holdings}
 use Rattle.dos_world.specs.Kernel.{put, with_entry}
-use Rattle.proc_table.specs.Tables.{Tables, IsProcess, held_by, held_in}
+use Rattle.proc_table.specs.Tables.{Tables, held_by, held_in}
 use Rattle.group_open.specs.Filling.{HasPlace, with_more}
 
 -- ---- one life, one process, one of a list
@@ -145,19 +145,11 @@ entry_is_more t p page entry more h =
     (ap (λ es. record h.held { space = es })
     (put_last page entry h.held.space h.below)))
 
-pub place_lives : (t : Tables) (p page more : ℕ) → HasPlace t p page more → IsProcess t.processes p
-place_lives t p page more h = subst IsSome (sym h.is) refl
-
 pub place_unmapped : (t : Tables) (p page more : ℕ) → HasPlace t p page more
     → IfSome (held_in t.processes p) (λ h. look h.space page ≡ None)
 place_unmapped t p page more h =
     held_if (λ k. look k.space page ≡ None) t p h.held h.is
     (unmapped_above page h.held.space h.below)
-
-pub place_room : (t : Tables) (p page more : ℕ) → HasPlace t p page (more + 1)
-    → IfSome (held_in t.processes p) (λ h. length h.space < t.room)
-place_room t p page more h = let room = h.room in
-    held_if (λ k. length k.space < t.room) t p h.held h.is (omega arith)
 
 -- the place that is left behind these entries
 pub place_after : (t u : Tables) (p page above more left : ℕ) (entries : List (ℕ × Entry))

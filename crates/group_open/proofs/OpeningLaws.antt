@@ -26,7 +26,8 @@ use Rattle.group_open.specs.Opening.{opening, needed, page_count, image_bytes, o
 use Rattle.group_open.specs.Opening.{processes_from, opening_process, opening_thread}
 use Rattle.group_open.specs.Laws.{IsAccepted, OpeningsAreLawful}
 use Rattle.group_open.proofs.Runs.{All-flat_map, length_with_zeros, same_everywhere}
-use Rattle.group_open.proofs.Runs.{length_map_from, any_in_run, none_in_run, one_counted}
+use Rattle.dos_laws.proofs.Ends.{length-map_from}
+use Rattle.group_open.proofs.Runs.{any_in_run, none_in_run, one_counted}
 use Rattle.group_open.proofs.Runs.{none_counted}
 use Rattle.group_open.proofs.OpeningParts.{frame_of, opening_holdings, frames_within, holdings_in}
 use Rattle.group_open.proofs.OpeningParts.{maps_run, counts_run, thread_in, bytes_in, bytes_length}
@@ -364,7 +365,7 @@ module _ (images : List Image) (config : Config) (some : 1 ≤ length images)
           (replicate (config.frames - needed images) Free) Free frame there in
           let range = owners_in 1 (1 + length images) images (omega arith) frame Free there t
           (sym owner ∙ e) in
-          (range.0, omega (arith, range.1, length_map_from 1 opening_thread images))
+          (range.0, omega (arith, range.1, length-map_from 1 opening_thread images))
       go (inr past) =
           let owner : owner_of (opening images config) frame ≡ Free =
           get_or-append_right (owners_from 1 images)
@@ -410,7 +411,7 @@ module _ (images : List Image) (config : Config) (some : 1 ≤ length images)
   asleep_field (suc i) = nobody_asleep 1 i images
 
   threads_all : length (opening images config).threads ≡ length images
-  threads_all = length_map_from 1 opening_thread images
+  threads_all = length-map_from 1 opening_thread images
 
   frames_of_it : FramesAreLawful (opening images config)
   frames_of_it = record { bytes = bytes_field; free = free_field; owned = owned_field }

@@ -34,10 +34,6 @@ use Rattle.group_open.proofs.OpeningParts.{pages_rise}
 
 -- ---- the least number that isn't below another
 
-lower-none : (a : Option ℕ) → lower_of a None ≡ a
-lower-none None = refl
-lower-none (Some a) = refl
-
 lower_assoc : (a b c : Option ℕ) → lower_of (lower_of a b) c ≡ lower_of a (lower_of b c)
 lower_assoc None b c = refl
 lower_assoc (Some a) None c = refl

@@ -135,11 +135,6 @@ one_counted x a (suc n) le lt = sum_by-cons (λ k. cond (k == x) 1 0) a (run_of 
 
 -- ---- what is made of a list and a run
 
-pub length_map_from : {A B : Type 0} (n : ℕ) (f : ℕ → A → B) (xs : List A)
-    → length (map_from n f xs) ≡ length xs
-length_map_from n f [] = refl
-length_map_from n f (x ∷ xs) = ap suc (length_map_from (suc n) f xs)
-
 -- what keeps the places makes a run
 pub places_kept : {A B : Type 0} (place : B → ℕ) (f : ℕ → A → B)
     → ((n : ℕ) (x : A) → place (f n x) ≡ n) → (n : ℕ) (xs : List A)

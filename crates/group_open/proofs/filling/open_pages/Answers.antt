@@ -7,7 +7,7 @@ use Rattle.group_open.specs.Opening.{page_bytes, part_entry, part_pages, stack_e
 use Rattle.group_open.specs.Opening.{image_bytes, page_count, space_from}
 use Rattle.group_open.proofs.HeldLaws.{less_place, place_after}
 use Rattle.group_open.proofs.OpensLaws.{less_room, entries_below, opens_as, opens_more, room_after}
-use Rattle.group_open.proofs.Runs.{length_map_from}
+use Rattle.dos_laws.proofs.Ends.{length-map_from}
 use Rattle.group_open.proofs.filling.open_pages.Goals as goal
 
 pub open_parts-requires-clause-room : goal.open_parts-requires-clause-room
@@ -37,7 +37,7 @@ open_stack-requires-clause-place c =
     (entries_below (part_entry c.args.image.now) 0xEFFF0 (λ n p. refl)
     (length room.owners) pages c.open_parts.ensures.below)
     (omega arith)
-    (omega (arith, length_map_from (length room.owners) (part_entry c.args.image.now) pages))
+    (omega (arith, length-map_from (length room.owners) (part_entry c.args.image.now) pages))
 
 pub returns : goal.returns
 returns c =

@@ -5,7 +5,7 @@ use Rattle.group_open.specs.Opening.{part_entry, part_pages}
 use Rattle.group_open.specs.Filling.{OpensParts}
 use Rattle.group_open.proofs.HeldLaws.{place_after}
 use Rattle.group_open.proofs.OpensLaws.{entries_below, parts_none, parts_more, room_after}
-use Rattle.group_open.proofs.Runs.{length_map_from}
+use Rattle.dos_laws.proofs.Ends.{length-map_from}
 use Rattle.group_open.proofs.PageLaws.{all_below, fewer_below, pages_all, pages_below, pages_more}
 use Rattle.group_open.proofs.PageLaws.{pages_none}
 use Rattle.group_open.proofs.filling.open_parts.Goals as goal
@@ -49,7 +49,7 @@ open_page-requires-clause-place c =
     (omega (
       arith,
       fewer,
-      length_map_from (length room.owners) (part_entry image)
+      length-map_from (length room.owners) (part_entry image)
           (pages_below image c.loop-page.from),
     ))
 

@@ -6,7 +6,8 @@ use Rattle.group_open.specs.Opening.{stack_entry}
 use Rattle.group_open.specs.Filling.{OpensStack}
 use Rattle.group_open.proofs.HeldLaws.{place_after}
 use Rattle.group_open.proofs.OpensLaws.{entries_below, room_after, stack_none, stack_more}
-use Rattle.group_open.proofs.Runs.{length_map_from, length_run, run_push, within_run}
+use Rattle.dos_laws.proofs.Ends.{length-map_from}
+use Rattle.group_open.proofs.Runs.{length_run, run_push, within_run}
 use Rattle.group_open.proofs.filling.open_stack.Goals as goal
 
 pub loop-page-init : goal.loop-page-init
@@ -35,7 +36,7 @@ open_stack_page-requires-clause-place c =
     (omega arith)
     (omega (
       arith,
-      length_map_from (length room.owners) stack_entry pages,
+      length-map_from (length room.owners) stack_entry pages,
       length_run 0xEFFF0 (page - 0xEFFF0),
     ))
 
