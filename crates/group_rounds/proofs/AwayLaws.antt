@@ -13,10 +13,11 @@ use Rattle.group_rounds.specs.Kernels.{Held, IsBetweenRounds}
 use Rattle.group_rounds.specs.Parts.{work_between}
 use Rattle.group_rounds.specs.Phases.{ready_in}
 use Rattle.group_rounds.proofs.PacksShow.{can-run}
-use Rattle.group_rounds.proofs.PacksBack.{starter-at, others, pages-apart, pages-away, threads-live}
+use Rattle.group_rounds.proofs.PacksBack.{others, pages-apart, pages-away, threads-live}
 use Rattle.group_rounds.proofs.PacksBack.{rooms, all-runs, sound-again, count-again}
 use Rattle.group_rounds.proofs.PacksWork.{work-is}
 use Rattle.group_rounds.proofs.RoundLaws.{parallel_is}
+use Rattle.group_rounds.proofs.HandingLaws.{beside}
 
 module _ (before : State) (a : Away) (out : WentOut before a) where
   abbrev new : Store
@@ -24,7 +25,7 @@ module _ (before : State) (a : Away) (out : WentOut before a) where
 
   pub all-can-run : AllCanRun (view_of new a.state.table) a.packs
   all-can-run i p at =
-      let t = starter-at a.starters a.packs i p out.hands.level at in
+      let t = beside a.starters a.packs i p out.hands.level at in
       subst (λ (table : Tables). CanRun p (view_of new table)) (sym out.table)
       (can-run before out.between.sound a.starters out.live new a.packs out.hands i t.0 p t.1 at)
 

@@ -18,6 +18,14 @@ use Rattle.group_rounds.proofs.ThreadRunLaws.{thread_in-by, some_of}
 
 -- ---- lists
 
+-- What stands in one list at a place has something beside it in a list that is as long.
+pub beside : {A B : Type 0} (xs : List A) (ys : List B) (i : ℕ) (y : B) → length ys ≡ length xs
+    → slice_get ys i ≡ Some y → (x : A) × (slice_get xs i ≡ Some x)
+beside xs [] i y e h = cc
+beside [] (y ∷ ys) i z e h = absurd (grind arith)
+beside (x ∷ xs) (y ∷ ys) zero z e h = (x, refl)
+beside (x ∷ xs) (y ∷ ys) (suc i) z e h = beside xs ys i z (omega arith) h
+
 pub in-left : {A : Type 0} (xs ys : List A) (x : A) → In xs x → In (xs ++ ys) x
 in-left [] ys x h = absurd h
 in-left (y ∷ xs) ys x (inl e) = inl e
@@ -192,12 +200,6 @@ module _ (pack₀ pack pack' : Pack) (frames₀ frames : Store) (f : ℕ) (page 
           one-apart.0 b (subst (λ (n : ℕ). In p.done (n, b)) (sym (ap (λ y. y.0) e)) q)
       never g a b (inr h) q = h
 
-pub putting-ends : (pack₀ pack : Pack) (frames₀ frames : Store) → pack.pages ≡ []
-    → Putting pack₀ frames₀ pack frames → PutBack pack₀.pages frames₀ frames
-putting-ends pack₀ pack frames₀ frames none p =
-    subst (λ xs. PutBack xs frames₀ frames)
-    (sym (ap (λ (x : Pack). x.pages) p.is ∙ ap (λ xs. xs ++ p.done) none)) p.put
-
 -- ---- threads
 
 pub set-none : (t : Tables) → AreSet [] t t
@@ -310,11 +312,6 @@ pub record Taking (packs₀ : List Pack) (frames₀ : Store) (table₀ : Tables)
   pub put : PutBack (all_pages done) frames₀ frames
   pub set : AreSet done table₀ table
 
-pub taking-begins : (packs : List Pack) (frames : Store) (table : Tables)
-    → Taking packs frames table packs frames table
-taking-begins packs frames table =
-    record { done = []; is = sym (append-nil packs); put = put-none frames; set = set-none table }
-
 module _ (packs₀ packs rest : List Pack) (frames₀ frames : Store) (table₀ table : Tables) (p : Pack)
     (k : Taking packs₀ frames₀ table₀ packs frames table) (popped : packs ≡ rest ++ p ∷ [])
     (away : (f : ℕ) (page : List ℕ) → In (all_pages packs₀) (f, page) → IsAway frames₀ f)
@@ -355,12 +352,3 @@ module _ (packs₀ packs rest : List Pack) (frames₀ frames : Store) (table₀ 
     set = set-then p k.done table₀ table table' k.set set
         (others-right rest (p ∷ k.done) (subst AreOthers packs-are others)).0;
   }
-
-pub taking-ends : (packs₀ packs : List Pack) (frames₀ frames : Store) (table₀ table : Tables)
-    → packs ≡ [] → Taking packs₀ frames₀ table₀ packs frames table
-    → PutBack (all_pages packs₀) frames₀ frames × AreSet packs₀ table₀ table
-taking-ends packs₀ packs frames₀ frames table₀ table none k =
-    let all : packs₀ ≡ k.done = k.is ∙ ap (λ ps. ps ++ k.done) none in (
-      subst (λ ps. PutBack (all_pages ps) frames₀ frames) (sym all) k.put,
-      subst (λ ps. AreSet ps table₀ table) (sym all) k.set,
-    )

@@ -12,6 +12,7 @@ use Rattle.page_store.proofs.Joined.{home-at}
 use Rattle.quantum_run.specs.Packs.{bytes_at, HoldsNo, with_page}
 use Rattle.quantum_run.specs.Shows.{Pack}
 use Rattle.group_rounds.specs.Handing.{AreBegun, IsFor, GoesOut, Stays, HasBelow, Handing}
+use Rattle.group_rounds.proofs.HandingLaws.{beside}
 
 -- ---- lists
 
@@ -136,13 +137,6 @@ below-takes t old n begun p page mine home h = record {
 
 -- ---- all packs
 
-starter-at : (xs : List ℕ) (ps : List Pack) (i : ℕ) (p : Pack) → length ps ≡ length xs
-    → slice_get ps i ≡ Some p → (t : ℕ) × (slice_get xs i ≡ Some t)
-starter-at xs [] i p e q = cc
-starter-at [] (y ∷ ps) i p e q = absurd (grind arith)
-starter-at (x ∷ xs) (y ∷ ps) zero p e q = (x, refl)
-starter-at (x ∷ xs) (y ∷ ps) (suc i) p e q = starter-at xs ps i p (omega arith) q
-
 module _ (ts : List ℕ) (begun : List Pack) (old : Store) (apart : (i j t : ℕ)
     → slice_get ts i ≡ Some t → slice_get ts j ≡ Some t → i ≡ j) (homes : All IsSome old.pages)
     (fresh : AreBegun old begun) where
@@ -150,7 +144,7 @@ module _ (ts : List ℕ) (begun : List Pack) (old : Store) (apart : (i j t : ℕ
   pub none-yet : (new : Store) (packs : List Pack) (n i : ℕ) (p : Pack)
       → Handing ts begun old new packs n → n < length old.pages → slice_get packs i ≡ Some p
       → (n < p.room) × HoldsNo p n
-  none-yet new packs n i p h low at = by (starter-at ts packs i p h.level at)
+  none-yet new packs n i p h low at = by (beside ts packs i p h.level at)
     where
       by : (t : ℕ) × (slice_get ts i ≡ Some t) → (n < p.room) × HoldsNo p n
       by t =

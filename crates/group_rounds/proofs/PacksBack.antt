@@ -1,14 +1,13 @@
 -- What the packs bring back makes the world of all parts.
 use Rattle.std.proofs.Common.{ℕ, zero, suc, ◌-◌, ◌*◌, ◌/◌, ◌%◌, ◌<◌, ◌≤◌, ◌≡◌, ◌≢◌, ◌⊎◌, inl, inr}
-use Rattle.std.proofs.Common.{refl, sym, ap, ◌∙◌, subst, Bool, true, false, List, [], ◌∷◌, ◌++◌}
-use Rattle.std.proofs.Common.{length, map, get_or, Option, Some, None, IsSome, All, option_map, eqb}
-use Rattle.std.proofs.Common.{eqb-true, arith}
+use Rattle.std.proofs.Common.{refl, sym, ap, ◌∙◌, subst, List, [], ◌∷◌, ◌++◌}
+use Rattle.std.proofs.Common.{length, map, get_or, Option, Some, None, IsSome, All, option_map}
+use Rattle.std.proofs.Common.{arith}
 use Rattle.std.specs.Prelude.{slice_get}
 use Rattle.std.proofs.lemmas.List.{get_or_past}
 use Rattle.std.proofs.lemmas.List.Elements.{All-nil, All-cons}
 use Rattle.dos_world.specs.World.{World}
-use Rattle.dos_world.specs.declared.Owner.{Owner}
-use Rattle.dos_world.specs.declared.Owner.TheVariants.{Free, Shared, Of}
+use Rattle.dos_world.specs.declared.Owner.TheVariants.{Of}
 use Rattle.dos_laws.specs.Standing.{LawfulWith}
 use Rattle.rv_exec.specs.Runs.{kept}
 use Rattle.page_store.specs.Store.{Store, joined, owner_at, IsAway}
@@ -17,7 +16,7 @@ use Rattle.quantum_run.specs.Alone.{alone}
 use Rattle.quantum_run.specs.Shows.{Pack, Shows}
 use Rattle.round_core.specs.Round.{all_alone}
 use Rattle.round_core.proofs.Commute.{Among}
-use Rattle.round_core.proofs.Bringing.{DifferIn}
+use Rattle.round_core.proofs.Bringing.{DifferIn, decide-owner}
 use Rattle.proc_table.specs.Tables.{thread_in, IsThread}
 use Rattle.kernel_calls.specs.StateWorld.{IsSound, sent, world_of}
 use Rattle.kernel_objects.specs.Pipework.{Pipework}
@@ -26,7 +25,7 @@ use Rattle.group_rounds.specs.Handing.{In, all_pages, AreApart, AreOthers, IsFor
 use Rattle.group_rounds.specs.Handing.{AreSet, pack_of, view_of}
 use Rattle.group_rounds.specs.Phases.{AreLive}
 use Rattle.worker_pool.specs.Ran.{AllRan, HasRun}
-use Rattle.group_rounds.proofs.HandingLaws.{in-left, in-right, in-either}
+use Rattle.group_rounds.proofs.HandingLaws.{beside, in-left, in-right, in-either}
 use Rattle.group_rounds.proofs.Sound.{sound_then, alone_keeps}
 use Rattle.kernel_objects.specs.Pipework.{Pipework}
 use Rattle.kernel_calls.proofs.Counted.{all_counted, counted_like}
@@ -142,20 +141,6 @@ joined-same ps qs i level same = by (slice_get ps (i / 4096)) refl
 
 -- ---- after a phase
 
-pack-at : (ps qs : List Pack) (i : ℕ) (q : Pack) → length qs ≡ length ps → slice_get qs i ≡ Some q
-    → (p : Pack) × (slice_get ps i ≡ Some p)
-pack-at ps [] i q e h = cc
-pack-at [] (y ∷ qs) i q e h = absurd (grind arith)
-pack-at (x ∷ ps) (y ∷ qs) zero q e h = (x, refl)
-pack-at (x ∷ ps) (y ∷ qs) (suc i) q e h = pack-at ps qs i q (omega arith) h
-
-pub starter-at : (ts : List ℕ) (qs : List Pack) (i : ℕ) (q : Pack) → length qs ≡ length ts
-    → slice_get qs i ≡ Some q → (t : ℕ) × (slice_get ts i ≡ Some t)
-starter-at ts [] i q e h = cc
-starter-at [] (y ∷ qs) i q e h = absurd (grind arith)
-starter-at (x ∷ ts) (y ∷ qs) zero q e h = (x, refl)
-starter-at (x ∷ ts) (y ∷ qs) (suc i) q e h = starter-at ts qs i q (omega arith) h
-
 all-of : (ps : List (Option (List ℕ)))
     → ((f : ℕ) → f < length ps → (x : List ℕ) × (slice_get ps f ≡ Some (Some x))) → All IsSome ps
 all-of [] h = All-nil IsSome
@@ -165,40 +150,6 @@ all-of (None ∷ ps) h = let r = h 0 (omega arith) in absurd (never r.1)
     never q = cc
 all-of (Some x ∷ ps) h = All-cons IsSome (Some x) ps refl
     (all-of ps (λ f low. h (suc f) (omega arith)))
-
-decide-among : (ts : List ℕ) (s : ℕ) → Among ts s ⊎ (Among ts s → ⊥)
-decide-among [] s = inr (λ h. absurd h)
-decide-among (t ∷ ts) s = by (decide-among ts s) (eqb t s) refl
-  where
-    by : Among ts s ⊎ (Among ts s → ⊥) → (b : Bool) → eqb t s ≡ b
-        → Among (t ∷ ts) s ⊎ (Among (t ∷ ts) s → ⊥)
-    by rest true e = inl (inl (eqb-true t s e))
-    by (inl h) false e = inl (inr h)
-    by (inr out) false e = inr (λ h. both h)
-      where
-        both : Among (t ∷ ts) s → ⊥
-        both (inl q) = grind (arith, q, e)
-        both (inr q) = out q
-
-decide-owner : (ts : List ℕ) (o : Owner) → ((t : ℕ) × Among ts t × (o ≡ Of t))
-    ⊎ ((t : ℕ) → Among ts t → o ≢ Of t)
-decide-owner ts Free = inr (λ t h q. free t q)
-  where
-    free : (t : ℕ) → Free ≡ Of t → ⊥
-    free t q = cc
-decide-owner ts Shared = inr (λ t h q. shared t q)
-  where
-    shared : (t : ℕ) → Shared ≡ Of t → ⊥
-    shared t q = cc
-decide-owner ts (Of s) = by (decide-among ts s)
-  where
-    of-is : (a b : ℕ) → Of a ≡ Of b → a ≡ b
-    of-is a b q = cc
-
-    by : Among ts s ⊎ (Among ts s → ⊥) → ((t : ℕ) × Among ts t × (Of s ≡ Of t))
-        ⊎ ((t : ℕ) → Among ts t → Of s ≢ Of t)
-    by (inl h) = inl (s, h, refl)
-    by (inr out) = inr (λ t h q. out (subst (Among ts) (sym (of-is s t q)) h))
 
 Of-is : (a b : ℕ) → Of a ≡ Of b → a ≡ b
 Of-is a b q = cc
@@ -222,8 +173,8 @@ module _ (s : State) (sound : IsSound s) (ts : List ℕ) (live : AreLive s.table
 
   pub known : (i : ℕ) (q : Pack) → slice_get qs i ≡ Some q → Known i q
   known i q at =
-      let t = starter-at ts qs i q as-many at in
-      let p = pack-at ps qs i q ran.level at in
+      let t = beside ts qs i q as-many at in
+      let p = beside ps qs i q ran.level at in
       let r = ran.each i p.0 p.1 in
       let run = subst (λ (x : Pack). HasRun (view_of new s.table) p.0 x)
       (some-is (sym r.1 ∙ at)) r.2 in
@@ -370,7 +321,7 @@ module _ (s : State) (sound : IsSound s) (ts : List ℕ) (live : AreLive s.table
         → (x : List ℕ) × (slice_get s2.frames.pages f ≡ Some (Some x))
     has-come f low (inl k) =
         let at = among-at ts k.0 k.1 in
-        let q = start-at ts qs at.0 k.0 as-many at.1 in
+        let q = beside qs ts at.0 k.0 (sym as-many) at.1 in
         let n = known at.0 q.0 q.1 in
         let same : n.thread ≡ k.0 = num-is (sym n.starter ∙ at.1) in
         let old = (below s sound ts live new ps h at.0 n.thread n.pack n.starter n.here).all f low
@@ -385,13 +336,6 @@ module _ (s : State) (sound : IsSound s) (ts : List ℕ) (live : AreLive s.table
       where
         num-is : {a b : ℕ} → ◌≡◌ {A = Option ℕ} (Some a) (Some b) → a ≡ b
         num-is z = cc
-
-        start-at : (ts : List ℕ) (qs : List Pack) (i t : ℕ) → length qs ≡ length ts
-            → slice_get ts i ≡ Some t → (q : Pack) × (slice_get qs i ≡ Some q)
-        start-at [] qs i t e z = cc
-        start-at (x ∷ ts) [] i t e z = absurd (grind arith)
-        start-at (x ∷ ts) (q ∷ qs) zero t e z = (q, refl)
-        start-at (x ∷ ts) (q ∷ qs) (suc i) t e z = start-at ts qs i t (omega arith) z
     has-come f low (inr none) = let x = home-at s.frames.pages f sound.counted.home.home low in
         (x.0, frame-same f none ∙ x.1)
 

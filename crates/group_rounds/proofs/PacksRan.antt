@@ -19,6 +19,7 @@ use Rattle.round_core.proofs.Commute.{Among, Apart, places-apart}
 use Rattle.dos_world.specs.declared.ThreadState.TheVariants.{Ready}
 use Rattle.group_rounds.specs.Phases.{ready_in}
 use Rattle.round_core.proofs.Bringing.{DifferIn, all_alone-differ, differ-same}
+use Rattle.group_rounds.proofs.HandingLaws.{beside}
 
 -- ---- a part of another thread
 
@@ -162,13 +163,6 @@ all-shown v (x ∷ ts) (p ∷ ps) (y ∷ qs) w apart lp lq each (suc i) t q at h
 
 -- ---- what has come back
 
-pack-at : (qs : List Pack) (ts : List ℕ) (i t : ℕ) → length qs ≡ length ts → slice_get ts i ≡ Some t
-    → (q : Pack) × (slice_get qs i ≡ Some q)
-pack-at qs [] i t e h = cc
-pack-at [] (x ∷ ts) i t e h = absurd (grind arith)
-pack-at (q ∷ qs) (x ∷ ts) zero t e h = (q, refl)
-pack-at (q ∷ qs) (x ∷ ts) (suc i) t e h = pack-at qs ts i t (omega arith) h
-
 -- u has what a pack holds: its thread's registers and budget, and its pages
 pub record Back (u : World) (t : ℕ) (q : Pack) : Type 0 where
   pub thread : option_map kept (thread_at u t) ≡ Some (q.registers, q.budget)
@@ -183,12 +177,12 @@ pub brought : (v : View) (ts : List ℕ) (ps qs : List Pack) (w u : World) → A
     → Back u t q) → all_alone w ts ≡ u
 brought v ts ps qs w u apart lp lq each differ back =
     sym (differ-same ts w u (all_alone w ts) differ (all_alone-differ ts w)
-    (λ t h. let i = among-at ts t h in let q = pack-at qs ts i.0 t lq i.1 in
+    (λ t h. let i = among-at ts t h in let q = beside qs ts i.0 t (sym lq) i.1 in
     let sh = all-shown v ts ps qs w apart lp lq each i.0 t q.0 i.1 q.1 in
     (back i.0 t q.0 i.1 q.1).thread
     ∙ sym (subst (λ (n : ℕ). option_map kept (thread_at (all_alone w ts) n)
     ≡ Some (q.0.registers, q.0.budget)) (thread-is i.0 t q.0 i.1 q.1) sh.thread))
-    (λ t frame h mine. let i = among-at ts t h in let q = pack-at qs ts i.0 t lq i.1 in
+    (λ t frame h mine. let i = among-at ts t h in let q = beside qs ts i.0 t (sym lq) i.1 in
     let sh = all-shown v ts ps qs w apart lp lq each i.0 t q.0 i.1 q.1 in
     let mine' : owner_of (all_alone w ts) frame ≡ Of q.0.thread =
     ap (λ (os : List Owner). slice_index_or os frame Free) (all_alone-differ ts w).owners
@@ -199,7 +193,7 @@ brought v ts ps qs w u apart lp lq each differ back =
   where
     thread-is : (i t : ℕ) (q : Pack) → slice_get ts i ≡ Some t → slice_get qs i ≡ Some q
         → q.thread ≡ t
-    thread-is i t q at here = let p = pack-at ps ts i t lp at in (each i t p.0 q at p.1 here).thread
+    thread-is i t q at here = let p = beside ps ts i t (sym lp) at in (each i t p.0 q at p.1 here).thread
 
 -- threads that are apart stand at one place each
 pub apart-index : (ts : List ℕ) → Apart ts → (i j t : ℕ) → slice_get ts i ≡ Some t

@@ -14,25 +14,18 @@ out-of c = record {
   packs = c.ran.invariant.0.1;
 }
 
-pub take_in-requires-clause-away : goal.take_in-requires-clause-away
-take_in-requires-clause-away c =
+pub take_in-requires : goal.take_in-requires
+take_in-requires c =
     let v = c.ran.invariant.0 in
-    are-away v.0 (out-of c) v.2 c.ran.inside.out.items v.3
-
-pub take_in-requires-clause-apart : goal.take_in-requires-clause-apart
-take_in-requires-clause-apart c =
-    let v = c.ran.invariant.0 in
-    are-apart v.0 (out-of c) v.2 c.ran.inside.out.items v.3
-
-pub take_in-requires-clause-live : goal.take_in-requires-clause-live
-take_in-requires-clause-live c =
-    let v = c.ran.invariant.0 in
-    are-live v.0 (out-of c) v.2 c.ran.inside.out.items v.3
-
-pub take_in-requires-clause-others : goal.take_in-requires-clause-others
-take_in-requires-clause-others c =
-    let v = c.ran.invariant.0 in
-    are-others v.0 (out-of c) v.2 c.ran.inside.out.items v.3
+    let room = c.ran.invariant.1 in
+    let out = c.ran.inside.out.items in
+    record {
+      away = are-away v.0 (out-of c) v.2 out v.3;
+      apart = are-apart v.0 (out-of c) v.2 out v.3;
+      live = are-live v.0 (out-of c) v.2 out v.3;
+      others = are-others v.0 (out-of c) v.2 out v.3;
+      room = room.fits;
+    }
 
 pub invariant_of-result : goal.invariant_of-result
 invariant_of-result c =

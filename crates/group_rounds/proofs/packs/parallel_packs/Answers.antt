@@ -1,4 +1,4 @@
-use Rattle.std.proofs.Common.{ℕ, List, ◌≡◌, ◌∙◌, ap, sym, subst, length}
+use Rattle.std.proofs.Common.{ℕ, List, ◌≡◌, ◌∙◌, ap, sym, subst, length, arith}
 use Rattle.page_store.specs.Store.{Store, IsAway}
 use Rattle.quantum_run.specs.Shows.{CanRun, Pack}
 use Rattle.proc_table.specs.Tables.{Tables, IsThread}
@@ -6,10 +6,11 @@ use Rattle.kernel_calls.specs.declared.state.State.{State}
 use Rattle.worker_pool.specs.Ran.{AllRan, GrewBy}
 use Rattle.group_rounds.specs.Handing.{AreSet, PutBack, view_of}
 use Rattle.group_rounds.proofs.PacksShow.{can-run}
-use Rattle.group_rounds.proofs.PacksBack.{starter-at, others, pages-apart, pages-away, threads-live}
-use Rattle.group_rounds.proofs.PacksBack.{rooms, all-runs, sound-again}
+use Rattle.group_rounds.proofs.PacksBack.{others, pages-apart, pages-away, threads-live}
+use Rattle.group_rounds.proofs.PacksBack.{rooms, all-runs, sound-again, count-again}
 use Rattle.group_rounds.proofs.PacksWork.{work-is}
 use Rattle.group_rounds.proofs.packs.parallel_packs.Goals as goal
+use Rattle.group_rounds.proofs.HandingLaws.{beside}
 
 -- the packs ran over the table that was there before the pages went out
 over-table : (new : Store) (t u : Tables) (ps qs : List Pack) → t ≡ u → AllRan (view_of new t) ps qs
@@ -47,120 +48,69 @@ run_out-requires-clause-can g c =
     let new = c.hand_out.new.state.frames in
     let ps = c.hand_out.new.packs.items in
     λ κs outlive i p at.
-    let t = starter-at ts ps i p h.level at in
+    let t = beside ts ps i p h.level at in
     subst (λ (table : Tables). CanRun p (view_of new table)) (sym c.hand_out.ensures.table)
     (can-run s c.requires.sound ts c.requires.live new ps h i t.0 p t.1 at)
 
-pub take_in-requires-clause-away : goal.take_in-requires-clause-away
-take_in-requires-clause-away g c =
+pub take_in-requires : goal.take_in-requires
+take_in-requires g c =
     let s : State = c.args.state.now in
     let ts = c.args.starters.now in
     let h = c.hand_out.ensures.hands in
     let new = c.hand_out.new.state.frames in
     let ps = c.hand_out.new.packs.items in
     let qs = c.run_out.new.packs.items in
-    let ran = over-table new _ _ ps qs c.hand_out.ensures.table c.run_out.ensures.runs in
-    λ f page k. subst (λ (x : State). IsAway x.frames f) (sym c.run_out.ensures.state)
-    (pages-away s c.requires.sound ts c.requires.live c.requires.apart new ps qs h ran f page k)
-
-pub take_in-requires-clause-apart : goal.take_in-requires-clause-apart
-take_in-requires-clause-apart g c =
-    let s : State = c.args.state.now in
-    let ts = c.args.starters.now in
-    let h = c.hand_out.ensures.hands in
-    let new = c.hand_out.new.state.frames in
-    let ps = c.hand_out.new.packs.items in
-    let qs = c.run_out.new.packs.items in
-    let ran = over-table new _ _ ps qs c.hand_out.ensures.table c.run_out.ensures.runs in
-    pages-apart s c.requires.sound ts c.requires.live c.requires.apart new ps qs h ran
-
-pub take_in-requires-clause-live : goal.take_in-requires-clause-live
-take_in-requires-clause-live g c =
-    let s : State = c.args.state.now in
-    let ts = c.args.starters.now in
-    let h = c.hand_out.ensures.hands in
-    let new = c.hand_out.new.state.frames in
-    let ps = c.hand_out.new.packs.items in
-    let qs = c.run_out.new.packs.items in
-    let ran = over-table new _ _ ps qs c.hand_out.ensures.table c.run_out.ensures.runs in
-    let stood = ap (λ (x : State). x.table) c.run_out.ensures.state ∙ c.hand_out.ensures.table in
-    λ p k. subst (λ (table : Tables). IsThread table.threads p.thread) (sym stood)
-    (threads-live s c.requires.sound ts c.requires.live c.requires.apart new ps qs h ran p k)
-
-pub take_in-requires-clause-others : goal.take_in-requires-clause-others
-take_in-requires-clause-others g c =
-    let s : State = c.args.state.now in
-    let ts = c.args.starters.now in
-    let h = c.hand_out.ensures.hands in
-    let new = c.hand_out.new.state.frames in
-    let ps = c.hand_out.new.packs.items in
-    let qs = c.run_out.new.packs.items in
-    let ran = over-table new _ _ ps qs c.hand_out.ensures.table c.run_out.ensures.runs in
-    others s c.requires.sound ts c.requires.live c.requires.apart new ps qs h ran
-
-pub returns-clause-runs : goal.returns-clause-runs
-returns-clause-runs g c =
-    let s : State = c.args.state.now in
-    let ts = c.args.starters.now in
-    let h = c.hand_out.ensures.hands in
-    let new = c.hand_out.new.state.frames in
-    let ps = c.hand_out.new.packs.items in
-    let qs = c.run_out.new.packs.items in
-    let ran = over-table new _ _ ps qs c.hand_out.ensures.table c.run_out.ensures.runs in
     let same = c.run_out.ensures.state in
-    let s2 : State = c.take_in.new.state in
-    let set = set-to qs _ _ _ _ same c.hand_out.ensures.table c.take_in.ensures.set in
-    let back = back-to _ _ _ _ same c.take_in.ensures.back in
-    let rest = rest-to _ _ s s2 same c.take_in.ensures.round c.take_in.ensures.pipes
-    c.take_in.ensures.futexes c.hand_out.ensures.round c.hand_out.ensures.pipes
-    c.hand_out.ensures.futexes in
-    all-runs s c.requires.sound ts c.requires.live c.requires.apart new ps qs h ran
-    s2 back set rest.0 rest.1 rest.2
+    let ran = over-table new _ _ ps qs c.hand_out.ensures.table c.run_out.ensures.runs in
+    let sound = c.requires.sound in
+    let live = c.requires.live in
+    let apart = c.requires.apart in
+    record {
+      away = λ f page k. subst (λ (x : State). IsAway x.frames f) (sym same)
+          (pages-away s sound ts live apart new ps qs h ran f page k);
+      apart = pages-apart s sound ts live apart new ps qs h ran;
+      live = λ p k. subst (λ (table : Tables). IsThread table.threads p.thread)
+          (sym (ap (λ (x : State). x.table) same ∙ c.hand_out.ensures.table))
+          (threads-live s sound ts live apart new ps qs h ran p k);
+      others = others s sound ts live apart new ps qs h ran;
+      room = let less = c.hand_out.ensures.less in
+          let kept = c.hand_out.ensures.spare_room in
+          omega (arith, ran.level, h.level, less, kept, c.requires.spare_room);
+    }
 
-pub returns-clause-sound : goal.returns-clause-sound
-returns-clause-sound g c =
+pub returns : goal.returns
+returns g c =
     let s : State = c.args.state.now in
     let ts = c.args.starters.now in
     let h = c.hand_out.ensures.hands in
     let new = c.hand_out.new.state.frames in
     let ps = c.hand_out.new.packs.items in
     let qs = c.run_out.new.packs.items in
-    let ran = over-table new _ _ ps qs c.hand_out.ensures.table c.run_out.ensures.runs in
     let same = c.run_out.ensures.state in
-    let s2 : State = c.take_in.new.state in
-    let set = set-to qs _ _ _ _ same c.hand_out.ensures.table c.take_in.ensures.set in
-    let back = back-to _ _ _ _ same c.take_in.ensures.back in
-    let rest = rest-to _ _ s s2 same c.take_in.ensures.round c.take_in.ensures.pipes
-    c.take_in.ensures.futexes c.hand_out.ensures.round c.hand_out.ensures.pipes
-    c.hand_out.ensures.futexes in
-    sound-again s c.requires.sound ts c.requires.live c.requires.apart new ps qs h ran
-    s2 back set rest.0 rest.1 rest.2
-
-pub returns-clause-spare : goal.returns-clause-spare
-returns-clause-spare g c =
-    let s : State = c.args.state.now in
-    let ts = c.args.starters.now in
-    let h = c.hand_out.ensures.hands in
-    let new = c.hand_out.new.state.frames in
-    let ps = c.hand_out.new.packs.items in
-    let qs = c.run_out.new.packs.items in
     let ran = over-table new _ _ ps qs c.hand_out.ensures.table c.run_out.ensures.runs in
-    c.take_in.ensures.all_spare (length s.frames.pages) c.hand_out.ensures.spare
-    (rooms s c.requires.sound ts c.requires.live c.requires.apart new ps qs h ran)
-
-pub returns-clause-tally : goal.returns-clause-tally
-returns-clause-tally g c =
-    let s : State = c.args.state.now in
-    let ts = c.args.starters.now in
-    let h = c.hand_out.ensures.hands in
-    let new = c.hand_out.new.state.frames in
-    let ps = c.hand_out.new.packs.items in
-    let qs = c.run_out.new.packs.items in
-    let ran = over-table new _ _ ps qs c.hand_out.ensures.table c.run_out.ensures.runs in
-    let same = c.run_out.ensures.state in
+    let sound = c.requires.sound in
+    let live = c.requires.live in
+    let apart = c.requires.apart in
+    let home = c.take_in.ensures in
     let s2 : State = c.take_in.new.state in
-    let set = set-to qs _ _ _ _ same c.hand_out.ensures.table c.take_in.ensures.set in
-    subst (λ work. GrewBy (g.W.Workers.tally c.args.workers.now)
-    (g.W.Workers.tally c.run_out.new.workers) work)
-    (work-is s c.requires.sound ts c.requires.live c.requires.apart new ps qs h ran s2 set)
-    c.run_out.ensures.tally
+    let set = set-to qs _ _ _ _ same c.hand_out.ensures.table home.set in
+    let back = back-to _ _ _ _ same home.back in
+    let rest = rest-to _ _ s s2 same home.round home.pipes home.futexes c.hand_out.ensures.round
+    c.hand_out.ensures.pipes c.hand_out.ensures.futexes in
+    record {
+      runs = all-runs s sound ts live apart new ps qs h ran s2 back set rest.0 rest.1 rest.2;
+      sound = sound-again s sound ts live apart new ps qs h ran s2 back set rest.0 rest.1 rest.2;
+      round = rest.0;
+      count = count-again s sound ts live apart new ps qs h ran s2 back set rest.0 rest.1 rest.2;
+      tally = subst (λ work. GrewBy (g.W.Workers.tally c.args.workers.now)
+          (g.W.Workers.tally c.run_out.new.workers) work)
+          (work-is s sound ts live apart new ps qs h ran s2 set) c.run_out.ensures.tally;
+      fixed = c.run_out.ensures.fixed;
+      none = home.packs;
+      room = omega (arith, c.hand_out.ensures.room, c.run_out.ensures.room, home.packs_room);
+      enough = omega (arith, ran.level, h.level, c.hand_out.ensures.less, home.spare);
+      spare = home.all_spare (length s.frames.pages) c.hand_out.ensures.spare
+          (rooms s sound ts live apart new ps qs h ran);
+      spare_room = omega (arith, c.hand_out.ensures.spare_room, home.spare_room);
+      stand_in = c.run_out.ensures.stand_in;
+    }
