@@ -23,3 +23,4 @@ pub mod AwayLaws
 pub mod ServedLaws
 pub mod EndLaws
 pub mod StopCauses
+pub mod ServesLaws

@@ -8,6 +8,7 @@ use Rattle.dos_world.specs.World.{World}
 use Rattle.dos_world.specs.declared.Question.{Question}
 use Rattle.dos_world.specs.Play.{done, ◌>>=◌}
 use Rattle.dos_laws.specs.Standing.{LawfulWith}
+use Rattle.dos_laws.proofs.StandsKeeps.{stands-budget}
 use Rattle.round_core.specs.Rest.{rest_of, rest_if_live, serial_of}
 use Rattle.round_core.specs.Round.{with_budgets}
 use Rattle.proc_table.specs.Tables.{Tables, IsThread, thread_by, thread_in, with_budget}
@@ -20,7 +21,14 @@ use Rattle.group_rounds.specs.Phases.{AreLive}
 use Rattle.group_rounds.proofs.FrontLaws.{cut_behind, cut_then, cut_from, fronts_serial}
 use Rattle.group_rounds.proofs.StopLaws.{stopped_behind, stopped_from, stopped_then}
 use Rattle.group_rounds.proofs.StatePlayLaws.{goes_still, goes_and, goes_behind, goes_from}
-use Rattle.group_rounds.proofs.Sound.{sound_then, parts_then, budget_keeps, lives_by}
+use Rattle.group_rounds.proofs.Sound.{sound_then, parts_then, lives_by}
+use Rattle.std.specs.Prelude.{Err}
+use Rattle.kernel_calls.specs.StateWorld.{shim_stop}
+use Rattle.kernel_calls.specs.declared.state.RunStop.{RunStop}
+use Rattle.group_rounds.specs.Outside.{HaveStood}
+use Rattle.group_rounds.specs.Serving.{Border, Serves, told_at}
+use Rattle.group_rounds.proofs.CauseLaws.{causes_err, causes_then}
+use Rattle.group_rounds.proofs.StatePlayLaws.{some_weaker}
 
 -- ---- the list of starters, from a place on
 
@@ -50,7 +58,7 @@ module _ (s : State) (table : Tables) (quantum t : ℕ)
       → LawfulWith ts (world_of q (record s { table = table }))
   budget_stands q ts k =
       subst (λ (table : Tables). LawfulWith ts (world_of q (record s { table = table }))) (sym set)
-      (budget_keeps ts (world_of q s) t quantum k)
+      (stands-budget ts (world_of q s) t quantum k)
 
   pub budget_sound : IsSound s → IsSound (record s { table = table })
   budget_sound sound = sound_then s (record s { table = table }) sound
@@ -139,34 +147,38 @@ parts_at s xs i t lt is h =
     subst (λ n. HaveParts (n ∷ drop (i + 1) xs) s) (sym is)
     (subst (λ ts. HaveParts ts s) (drop_at xs i lt) h)
 
--- a starter that lives, or not
+-- where the part of one of them has stopped
+pub serial_stops : {T U : Type 0} (start s s' : State) (b₀ b₁ b₂ : Border) (t : ℕ) (xs : List ℕ)
+    (i : ℕ) (stop : RunStop) → i < length xs → t ≡ get_or xs i 0
+    → ((q : ℕ) → GoesTo q (λ w. serial_of w xs) start (told_at b₀)
+    (λ w. serial_of w (drop i xs)) s (told_at b₁))
+    → s.round ≡ start.round
+    → HaveStood b₀.shim b₁.shim b₀.out_faults b₁.out_faults b₀.err_faults b₁.err_faults
+    → Serves {T = T} (λ w. rest_if_live w t) (Err stop) s s' b₁ b₂
+    → Serves {T = U} (λ w. serial_of w xs) (Err stop) start s' b₀ b₂
+serial_stops start s s' b₀ b₁ b₂ t xs i stop lt is goes round stood h = record {
+  goes = tt;
+  sound = tt;
+  round = h.round ∙ round;
+  count = tt;
+  asks = some_weaker (shim_stop stop) _ _
+      (λ k q. serial_stopped q start s (told_at b₀) (told_at b₁) (told_at b₂) t xs i _ lt is (goes q)
+      (k q)) h.asks;
+  before_end = h.before_end;
+  told = tt;
+  cut = λ q. serial_cut q start s (told_at b₀) (told_at b₁) (told_at b₂) t xs i lt is (goes q)
+      (h.cut q);
+  causes = causes_then (Err stop) _ _ _ _ _ _ _ _ _ stood (causes_err _ _ _ _ _ _ _ h.causes);
+}
 
-pub rest_stopped_live : (q : ℕ) (s : State) (t₀ t₁ : Telling) (t : ℕ) (asked : Option Question)
-    → true ≡ is_some (thread_in s.table.threads t)
-    → StoppedPlay q (λ w. rest_of w t) s t₀ t₁ asked
-    → StoppedPlay q (λ w. rest_if_live w t) s t₀ t₁ asked
-rest_stopped_live q s t₀ t₁ t asked live k =
-    stopped_from q (λ w. rest_if_live w t) (λ w. rest_of w t) s t₀ t₁ asked
-    (λ o e. ap (λ (b : Bool). cond b (rest_of (sent o e (world_of q s)) t)
-    (done (sent o e (world_of q s)))) (sym live)) k
+-- ---- a starter that lives, or not
 
-pub rest_cut_live : (q : ℕ) (s : State) (t₀ t₁ : Telling) (t : ℕ)
-    → true ≡ is_some (thread_in s.table.threads t)
-    → CutPlay q (λ w. w) (λ w. rest_of w t) s t₀ t₁
-    → CutPlay q (λ w. w) (λ w. rest_if_live w t) s t₀ t₁
-rest_cut_live q s t₀ t₁ t live k =
-    cut_from q (λ w. w) (λ w. rest_if_live w t) (λ w. rest_of w t) s t₀ t₁
-    (λ o e. ap (λ (b : Bool). cond b (rest_of (sent o e (world_of q s)) t)
-    (done (sent o e (world_of q s)))) (sym live)) k
-
-pub rest_of_live : (q : ℕ) (s s' : State) (t₀ t₁ : Telling) (t : ℕ)
-    → true ≡ is_some (thread_in s.table.threads t)
-    → GoesTo q (λ w. rest_of w t) s t₀ (λ w. done w) s' t₁
-    → GoesTo q (λ w. rest_if_live w t) s t₀ (λ w. done w) s' t₁
-rest_of_live q s s' t₀ t₁ t live h =
-    goes_from q (λ w. rest_if_live w t) (λ w. rest_of w t) (λ w. done w) s s' t₀ t₁
-    (λ o e. ap (λ (b : Bool). cond b (rest_of (sent o e (world_of q s)) t)
-    (done (sent o e (world_of q s)))) (sym live)) h
+pub rest_is_live : (q : ℕ) (s : State) (t : ℕ) → true ≡ is_some (thread_in s.table.threads t)
+    → (o e : List ℕ)
+    → rest_if_live (sent o e (world_of q s)) t ≡ rest_of (sent o e (world_of q s)) t
+rest_is_live q s t live o e =
+    ap (λ (b : Bool). cond b (rest_of (sent o e (world_of q s)) t)
+    (done (sent o e (world_of q s)))) (sym live)
 
 pub rest_of_gone : (q : ℕ) (s : State) (tells : Telling) (t : ℕ)
     → false ≡ is_some (thread_in s.table.threads t)

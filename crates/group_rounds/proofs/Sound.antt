@@ -2,9 +2,9 @@
 use Rattle.std.proofs.Common.{ℕ, zero, suc, ◌≤◌, ◌≡◌, refl, subst, Bool, cond, true, false, List}
 use Rattle.std.proofs.Common.{[], ◌∷◌, length, Option, Some, None, option_map, Result, Ok, Err}
 use Rattle.std.proofs.Common.{arith}
-use Rattle.std.specs.Prelude.{IsSome, is_some, slice_get}
-use Rattle.dos_world.specs.Numbered.{changed, changed_at, numbers_of}
-use Rattle.dos_world.specs.World.{World, Thread, flat, entry_at, is_state, with_thread}
+use Rattle.std.specs.Prelude.{IsSome, is_some}
+use Rattle.dos_world.specs.Numbered.{changed, numbered, numbers_of}
+use Rattle.dos_world.specs.World.{World, Thread, flat, entry_at, is_state}
 use Rattle.dos_world.specs.declared.ThreadState.TheVariants.{Ready}
 use Rattle.dos_world.specs.Lawful.{Lawful}
 use Rattle.dos_world.specs.declared.Access.{Access}
@@ -12,7 +12,7 @@ use Rattle.dos_world.specs.declared.Entry.{Entry}
 use Rattle.dos_world.specs.declared.Reason.{Reason}
 use Rattle.dos_laws.specs.Standing.{AreAwake, LawfulWith, fit_protocol}
 use Rattle.dos_laws.proofs.LawfulRounds.{at_rest}
-use Rattle.dos_laws.proofs.Stands.{stands-with_thread}
+use Rattle.dos_laws.proofs.Stands.{at_changed}
 use Rattle.dos_laws.proofs.StandsKeeps.{stands_kept}
 use Rattle.rv_exec.specs.Step.{step}
 use Rattle.quantum_run.specs.Alone.{alone}
@@ -21,7 +21,7 @@ use Rattle.round_core.specs.Invariants.{IsInvariant}
 use Rattle.round_core.specs.Rest.{granted_by, page_granted}
 use Rattle.round_core.specs.Round.{all_alone}
 use Rattle.round_core.proofs.Keeps.{kept_throughout}
-use Rattle.proc_table.specs.Tables.{IsThread as Lives, with_budget}
+use Rattle.proc_table.specs.Tables.{IsThread as Lives}
 use Rattle.kernel_calls.specs.StateWorld.{HaveParts, IsCounted, IsReady, IsSound, sent, world_of}
 use Rattle.kernel_calls.specs.declared.state.State.{State}
 
@@ -127,26 +127,6 @@ grant_keeps ts w t address access k = go (entry_at w t address) refl
     go None is = k
     go (Some e) is = stands_kept.grant_kept ts w t address access e is k
 
--- a budget
-pub budget_keeps : (ts : List ℕ) (w : World) (t quantum : ℕ) → LawfulWith ts w
-    → LawfulWith ts (with_thread w t (with_budget quantum))
-budget_keeps ts w t quantum k =
-    stands-with_thread ts w t (with_budget quantum)
-    (record {
-      process = λ thread. refl;
-      state = λ thread. refl;
-      ranges =
-          λ thread at is. record {
-            process = is.process;
-            registers = is.registers;
-            pending =
-                is.pending;
-            mask = is.mask;
-            saved = is.saved;
-          };
-    })
-    k
-
 -- threads that each run by themselves
 pub alone_keeps : (ts us : List ℕ) (w : World) → LawfulWith ts w → LawfulWith ts (all_alone w us)
 alone_keeps ts [] w k = k
@@ -165,15 +145,10 @@ parts_alone s s' us h runs ts =
 -- a thread changed by f lives on, and so do all others
 pub lives_by : (f : Thread → Thread) (threads : List (Option Thread)) (t s : ℕ) → Lives threads s
     → Lives (changed (option_map f) threads t) s
-lives_by f threads zero s h = h
-lives_by f threads (suc i) zero h = h
-lives_by f threads (suc i) (suc k) h = go threads i k h
+lives_by f threads t s h =
+    at_changed (λ o. IsSome o) f threads t s (λ other. h)
+    (λ same. one (flat (numbered threads t)) (subst (Lives threads) same h))
   where
-    go : (threads : List (Option Thread)) (i k : ℕ) → IsSome (flat (slice_get threads k))
-        → IsSome (flat (slice_get (changed_at (option_map f) threads i) k))
-    go [] i k h = h
-    go (None ∷ ts) zero zero h = h
-    go (Some thread ∷ ts) zero zero h = refl
-    go (x ∷ ts) zero (suc k) h = h
-    go (x ∷ ts) (suc i) zero h = h
-    go (x ∷ ts) (suc i) (suc k) h = go ts i k h
+    one : (o : Option Thread) → IsSome o → IsSome (option_map f o)
+    one None h = cc
+    one (Some thread) h = refl

@@ -17,6 +17,7 @@ ghost use Rattle.group_rounds.specs.StatePlays.{GoesTo, telling};
 ghost use Rattle.group_rounds.specs.Outside.{HaveCauses, is_end};
 ghost use Rattle.group_rounds.specs.Parts.{KeepsCount, RanPart, budget_in, goes_on_after};
 ghost use Rattle.group_rounds.specs.Parts.{part_left, part_measure, turns_left};
+ghost use Rattle.group_rounds.specs.Serving.{Serves, border};
 
 use dos_io::{Shim, Sink};
 use dos_world::{Access, Reason};
@@ -218,29 +219,13 @@ pub(crate) fn finish<S: Shim, O: Sink, E: Sink>(
     requires live { IsThread state.old.table.threads tid }
     requires ready { IsReady state.old.table.threads tid }
     requires told { HasNoEnd (S.state shim.old).told }
-    ensures goes { OnOk result ((q : ℕ)
-        → GoesTo q (λ w. rest_of w tid) state.old
-        (telling (S.state shim.old).told (O.told out.old) (E.told err.old))
-        (λ w. done w) state.new
-        (telling (S.state shim.new).told (O.told out.new) (E.told err.new))) }
-    ensures sound { OnOk result (IsSound state.new) }
+    ensures serves { Serves (λ w. rest_of w tid) result state.old state.new
+        (border (S.state shim.old) (O.told out.old) (E.told err.old) (O.faults out.old)
+        (E.faults err.old))
+        (border (S.state shim.new) (O.told out.new) (E.told err.new) (O.faults out.new)
+        (E.faults err.new)) }
     ensures parts { OnOk result ((ts : List ℕ) → HaveParts (tid ∷ ts) state.old
         → HaveParts ts state.new) }
-    ensures round { state.new.round ≡ state.old.round }
-    ensures count { OnOk result (KeepsCount state.old state.new) }
-    ensures asks { IfErr result (λ stop. OnSome (shim_stop stop)
-        ((q : ℕ) → StoppedPlay q (λ w. rest_of w tid) state.old
-        (telling (S.state shim.old).told (O.told out.old) (E.told err.old))
-        (telling (S.state shim.new).told (O.told out.new) (E.told err.new))
-        (S.state shim.new).asked)) }
-    ensures before_end { IfErr result
-        (λ stop. OnSome (shim_stop stop) (is_end (S.state shim.new).asked ≡ false)) }
-    ensures told { OnOk result (HasNoEnd (S.state shim.new).told) }
-    ensures cut { OnErr result ((q : ℕ) → CutPlay q (λ w. w) (λ w. rest_of w tid) state.old
-        (telling (S.state shim.old).told (O.told out.old) (E.told err.old))
-        (telling (S.state shim.new).told (O.told out.new) (E.told err.new))) }
-    ensures causes { HaveCauses result (S.state shim.old) (S.state shim.new) (O.faults out.old)
-        (O.faults out.new) (E.faults err.old) (E.faults err.new) }
     ensures follows { S.follows shim.old shim.new }
 {
     begin(state, tid);

@@ -15,6 +15,7 @@ ghost use Rattle.group_rounds.specs.StatePlays.{GoesTo, telling};
 ghost use Rattle.group_rounds.specs.Outside.{HaveCauses, is_end};
 ghost use Rattle.group_rounds.specs.Parts.{KeepsCount};
 ghost use Rattle.group_rounds.specs.Phases.{AreLive, is_ready, ready_in};
+ghost use Rattle.group_rounds.specs.Serving.{Serves, border};
 
 use crate::part::finish;
 use dos_io::{Shim, Sink};
@@ -108,29 +109,13 @@ fn finish_if_live<S: Shim, O: Sink, E: Sink>(
     requires sound { IsSound state.old }
     requires awake { IsAwake (world_of 0 state.old) tid }
     requires told { HasNoEnd (S.state shim.old).told }
-    ensures goes { OnOk result ((q : ℕ)
-        → GoesTo q (λ w. rest_if_live w tid) state.old
-        (telling (S.state shim.old).told (O.told out.old) (E.told err.old))
-        (λ w. done w) state.new
-        (telling (S.state shim.new).told (O.told out.new) (E.told err.new))) }
-    ensures sound { OnOk result (IsSound state.new) }
+    ensures serves { Serves (λ w. rest_if_live w tid) result state.old state.new
+        (border (S.state shim.old) (O.told out.old) (E.told err.old) (O.faults out.old)
+        (E.faults err.old))
+        (border (S.state shim.new) (O.told out.new) (E.told err.new) (O.faults out.new)
+        (E.faults err.new)) }
     ensures parts { OnOk result ((ts : List ℕ) → HaveParts (tid ∷ ts) state.old
         → HaveParts ts state.new) }
-    ensures round { state.new.round ≡ state.old.round }
-    ensures count { OnOk result (KeepsCount state.old state.new) }
-    ensures asks { IfErr result (λ stop. OnSome (shim_stop stop)
-        ((q : ℕ) → StoppedPlay q (λ w. rest_if_live w tid) state.old
-        (telling (S.state shim.old).told (O.told out.old) (E.told err.old))
-        (telling (S.state shim.new).told (O.told out.new) (E.told err.new))
-        (S.state shim.new).asked)) }
-    ensures before_end { IfErr result
-        (λ stop. OnSome (shim_stop stop) (is_end (S.state shim.new).asked ≡ false)) }
-    ensures told { OnOk result (HasNoEnd (S.state shim.new).told) }
-    ensures cut { OnErr result ((q : ℕ) → CutPlay q (λ w. w) (λ w. rest_if_live w tid) state.old
-        (telling (S.state shim.old).told (O.told out.old) (E.told err.old))
-        (telling (S.state shim.new).told (O.told out.new) (E.told err.new))) }
-    ensures causes { HaveCauses result (S.state shim.old) (S.state shim.new) (O.faults out.old)
-        (O.faults out.new) (E.faults err.old) (E.faults err.new) }
     ensures follows { S.follows shim.old shim.new }
 {
     if !state.table.is_thread(tid) {
@@ -150,28 +135,11 @@ pub(crate) fn run_serial<S: Shim, O: Sink, E: Sink>(
     requires sound { IsSound state.old }
     requires parts { HaveParts starters.now state.old }
     requires told { HasNoEnd (S.state shim.old).told }
-    ensures goes { OnOk result ((q : ℕ)
-        → GoesTo q (λ w. serial_of w starters.now) state.old
-        (telling (S.state shim.old).told (O.told out.old) (E.told err.old))
-        (λ w. done w) state.new
-        (telling (S.state shim.new).told (O.told out.new) (E.told err.new))) }
-    ensures sound { OnOk result (IsSound state.new) }
-    ensures round { state.new.round ≡ state.old.round }
-    ensures count { OnOk result (KeepsCount state.old state.new) }
-    ensures asks { IfErr result (λ stop. OnSome (shim_stop stop)
-        ((q : ℕ) → StoppedPlay q (λ w. serial_of w starters.now) state.old
-        (telling (S.state shim.old).told (O.told out.old) (E.told err.old))
-        (telling (S.state shim.new).told (O.told out.new) (E.told err.new))
-        (S.state shim.new).asked)) }
-    ensures before_end { IfErr result
-        (λ stop. OnSome (shim_stop stop) (is_end (S.state shim.new).asked ≡ false)) }
-    ensures told { OnOk result (HasNoEnd (S.state shim.new).told) }
-    ensures cut { OnErr result ((q : ℕ)
-        → CutPlay q (λ w. w) (λ w. serial_of w starters.now) state.old
-        (telling (S.state shim.old).told (O.told out.old) (E.told err.old))
-        (telling (S.state shim.new).told (O.told out.new) (E.told err.new))) }
-    ensures causes { HaveCauses result (S.state shim.old) (S.state shim.new) (O.faults out.old)
-        (O.faults out.new) (E.faults err.old) (E.faults err.new) }
+    ensures serves { Serves (λ w. serial_of w starters.now) result state.old state.new
+        (border (S.state shim.old) (O.told out.old) (E.told err.old) (O.faults out.old)
+        (E.faults err.old))
+        (border (S.state shim.new) (O.told out.new) (E.told err.new) (O.faults out.new)
+        (E.faults err.new)) }
     ensures follows { S.follows shim.old shim.new }
 {
     for &tid in starters {
@@ -191,30 +159,13 @@ pub(crate) fn run_ready<S: Shim, O: Sink, E: Sink>(
     requires sound { IsSound state.old }
     requires room { 64 ≤ vec_capacity starters.old }
     requires told { HasNoEnd (S.state shim.old).told }
-    ensures goes { OnOk result ((q : ℕ)
-        → GoesTo q (λ w. serial_of w (ready_in state.old.table.threads)) state.old
-        (telling (S.state shim.old).told (O.told out.old) (E.told err.old))
-        (λ w. done w) state.new
-        (telling (S.state shim.new).told (O.told out.new) (E.told err.new))) }
+    ensures serves { Serves (λ w. serial_of w (ready_in state.old.table.threads)) result state.old state.new
+        (border (S.state shim.old) (O.told out.old) (E.told err.old) (O.faults out.old)
+        (E.faults err.old))
+        (border (S.state shim.new) (O.told out.new) (E.told err.new) (O.faults out.new)
+        (E.faults err.new)) }
     ensures starters { starters.new.items ≡ ready_in state.old.table.threads }
     ensures room { 64 ≤ vec_capacity starters.new }
-    ensures sound { OnOk result (IsSound state.new) }
-    ensures round { state.new.round ≡ state.old.round }
-    ensures count { OnOk result (KeepsCount state.old state.new) }
-    ensures asks { IfErr result (λ stop. OnSome (shim_stop stop)
-        ((q : ℕ) → StoppedPlay q (λ w. serial_of w (ready_in state.old.table.threads)) state.old
-        (telling (S.state shim.old).told (O.told out.old) (E.told err.old))
-        (telling (S.state shim.new).told (O.told out.new) (E.told err.new))
-        (S.state shim.new).asked)) }
-    ensures before_end { IfErr result
-        (λ stop. OnSome (shim_stop stop) (is_end (S.state shim.new).asked ≡ false)) }
-    ensures told { OnOk result (HasNoEnd (S.state shim.new).told) }
-    ensures cut { OnErr result ((q : ℕ)
-        → CutPlay q (λ w. w) (λ w. serial_of w (ready_in state.old.table.threads)) state.old
-        (telling (S.state shim.old).told (O.told out.old) (E.told err.old))
-        (telling (S.state shim.new).told (O.told out.new) (E.told err.new))) }
-    ensures causes { HaveCauses result (S.state shim.old) (S.state shim.new) (O.faults out.old)
-        (O.faults out.new) (E.faults err.old) (E.faults err.new) }
     ensures follows { S.follows shim.old shim.new }
 {
     gather(&state.table, starters);

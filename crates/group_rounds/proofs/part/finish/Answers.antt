@@ -3,9 +3,10 @@ use Rattle.std.proofs.lemmas.Result.{err_from_is_err_and}
 use Rattle.kernel_calls.specs.StateWorld.{shim_stop}
 use Rattle.group_rounds.specs.StatePlays.{telling}
 use Rattle.group_rounds.specs.Parts.{RanPart, part_measure}
-use Rattle.group_rounds.proofs.StatePlayLaws.{on_err, some_weaker}
+use Rattle.group_rounds.proofs.StatePlayLaws.{some_weaker}
 use Rattle.group_rounds.proofs.Sound.{parts_passed, parts_on, parts_off, ready_then}
-use Rattle.group_rounds.proofs.CauseLaws.{stood_yet, stood_then, causes_then, causes_ok, causes_err}
+use Rattle.group_rounds.proofs.CauseLaws.{stood_yet, stood_then, causes_then, causes_err}
+use Rattle.group_rounds.proofs.ServesLaws.{serves_done}
 use Rattle.group_rounds.proofs.TurnLaws.{rest_begins, run_measure, goes_further, goes_out}
 use Rattle.group_rounds.proofs.TurnLaws.{goes_over_budget, rest_cut, rest_stopped}
 use Rattle.group_rounds.proofs.part.finish.Goals as goal
@@ -63,25 +64,47 @@ loop-reason-preserved g c = record {
       c.take_turn.ensures.follows;
 }
 
-pub returns-then-not-branch-clause-goes : goal.returns-then-not-branch-clause-goes
-returns-then-not-branch-clause-goes g c = λ q.
-    goes_out q c.args.tid c.args.state.now c.loop-reason.state c.run.new.state c.take_turn.new.state
-    _ _ _ c.run.result c.in_ok-take_turn.field-0 c.if-not-branch.true
-    (c.loop-reason.invariant.goes q) c.run.ensures.ran (c.in_ok-take_turn.ensures.goes q)
+pub returns-then-not-branch-clause-serves : goal.returns-then-not-branch-clause-serves
+returns-then-not-branch-clause-serves g c =
+    let turn = c.in_ok-take_turn.ensures in
+    let now = c.loop-reason.invariant in
+    serves_done _ _ c.args.state.now c.take_turn.new.state _ _
+    (λ q. goes_out q c.args.tid c.args.state.now c.loop-reason.state c.run.new.state
+    c.take_turn.new.state _ _ _ c.run.result c.in_ok-take_turn.field-0 c.if-not-branch.true
+    (now.goes q) c.run.ensures.ran (turn.goes q)) turn.sound
+    (c.take_turn.ensures.round ∙ c.run.ensures.round ∙ now.round)
+    (turn.count ∙ c.run.ensures.count ∙ now.count) turn.told
+    (stood_then c.in_ok-take_turn.field-0 _ _ _ _ _ _ _ _ _ now.stood turn.causes)
 
-pub returns-in_default-clause-goes : goal.returns-in_default-clause-goes
-returns-in_default-clause-goes g c = λ q.
-    goes_over_budget q c.args.tid c.args.state.now c.loop-reason.state c.run.new.state _ _
-    (c.loop-reason.invariant.goes q)
+pub returns-in_default-clause-serves : goal.returns-in_default-clause-serves
+returns-in_default-clause-serves g c =
+    let now = c.loop-reason.invariant in
+    serves_done _ _ c.args.state.now c.run.new.state _ _
+    (λ q. goes_over_budget q c.args.tid c.args.state.now c.loop-reason.state c.run.new.state _ _
+    (now.goes q)
     (subst (RanPart c.loop-reason.state c.args.tid c.run.new.state) c.in_default.is
-    c.run.ensures.ran)
+    c.run.ensures.ran)) c.run.ensures.sound (c.run.ensures.round ∙ now.round)
+    (c.run.ensures.count ∙ now.count) now.told now.stood
 
-pub returns-in_err-take_turn-clause-cut : goal.returns-in_err-take_turn-clause-cut
-returns-in_err-take_turn-clause-cut g c =
-    on_err c.from_residual.result _
-    (λ q. rest_cut q c.args.tid c.args.state.now c.loop-reason.state c.run.new.state _ _ _
-    c.run.result (c.loop-reason.invariant.goes q) c.run.ensures.ran
-    (c.in_err-take_turn.ensures.cut q))
+pub returns-in_err-take_turn-clause-serves : goal.returns-in_err-take_turn-clause-serves
+returns-in_err-take_turn-clause-serves g c =
+    let p = err_from_is_err_and c.from_residual.result c.from_residual.ensures.1 in
+    let turn = c.in_err-take_turn.ensures in
+    let now = c.loop-reason.invariant in
+    rw (p.1, p.2) (record {
+      goes = tt;
+      sound = tt;
+      round = c.take_turn.ensures.round ∙ c.run.ensures.round ∙ now.round;
+      count = tt;
+      asks = some_weaker (shim_stop c.in_err-take_turn.field-0.0) _ _
+          (λ k q. rest_stopped q c.args.tid c.args.state.now c.loop-reason.state c.run.new.state
+          _ _ _ c.run.result _ (now.goes q) c.run.ensures.ran (k q)) turn.asks;
+      before_end = turn.before_end;
+      told = tt;
+      cut = λ q. rest_cut q c.args.tid c.args.state.now c.loop-reason.state c.run.new.state _ _ _
+          c.run.result (now.goes q) c.run.ensures.ran (turn.cut q);
+      causes = causes_err _ _ _ _ _ _ _ (causes_then _ _ _ _ _ _ _ _ _ _ now.stood turn.causes);
+    })
 
 -- ---- who has a part
 
@@ -101,72 +124,14 @@ returns-in_default-clause-parts g c = λ ts parts.
     parts_passed c.run.new.state c.args.tid ts
     (c.run.ensures.parts (c.args.tid ∷ ts) (c.loop-reason.invariant.parts ts parts))
 
-pub returns-in_err-take_turn-clause-asks : goal.returns-in_err-take_turn-clause-asks
-returns-in_err-take_turn-clause-asks g c =
-    let p = err_from_is_err_and c.from_residual.result c.from_residual.ensures.1 in
-    rw (p.1, p.2) (some_weaker (shim_stop c.in_err-take_turn.field-0.0) _ _
-    (λ k q. rest_stopped q c.args.tid c.args.state.now c.loop-reason.state c.run.new.state _ _ _
-    c.run.result _ (c.loop-reason.invariant.goes q) c.run.ensures.ran (k q))
-    c.in_err-take_turn.ensures.asks)
-
--- ---- the rest, at each way out
-
-pub returns-in_default-clause-sound : goal.returns-in_default-clause-sound
-returns-in_default-clause-sound g c = c.run.ensures.sound
-
-pub returns-in_default-clause-round : goal.returns-in_default-clause-round
-returns-in_default-clause-round g c = c.run.ensures.round ∙ c.loop-reason.invariant.round
-
-pub returns-in_default-clause-count : goal.returns-in_default-clause-count
-returns-in_default-clause-count g c = c.run.ensures.count ∙ c.loop-reason.invariant.count
-
-pub returns-in_default-clause-told : goal.returns-in_default-clause-told
-returns-in_default-clause-told g c = c.loop-reason.invariant.told
-
-pub returns-in_default-clause-causes : goal.returns-in_default-clause-causes
-returns-in_default-clause-causes g c =
-    causes_ok _ _ _ _ _ _ _ c.loop-reason.invariant.stood
+-- ---- the shim, at each way out
 
 pub returns-in_default-clause-follows : goal.returns-in_default-clause-follows
 returns-in_default-clause-follows g c = c.loop-reason.invariant.follows
 
-pub returns-then-not-branch-clause-sound : goal.returns-then-not-branch-clause-sound
-returns-then-not-branch-clause-sound g c = c.in_ok-take_turn.ensures.sound
-
-pub returns-then-not-branch-clause-round : goal.returns-then-not-branch-clause-round
-returns-then-not-branch-clause-round g c =
-    c.take_turn.ensures.round ∙ c.run.ensures.round ∙ c.loop-reason.invariant.round
-
-pub returns-then-not-branch-clause-count : goal.returns-then-not-branch-clause-count
-returns-then-not-branch-clause-count g c =
-    c.in_ok-take_turn.ensures.count ∙ c.run.ensures.count ∙ c.loop-reason.invariant.count
-
-pub returns-then-not-branch-clause-told : goal.returns-then-not-branch-clause-told
-returns-then-not-branch-clause-told g c = c.in_ok-take_turn.ensures.told
-
-pub returns-then-not-branch-clause-causes : goal.returns-then-not-branch-clause-causes
-returns-then-not-branch-clause-causes g c =
-    causes_ok _ _ _ _ _ _ _ (stood_then c.in_ok-take_turn.field-0 _ _ _ _ _ _ _ _ _
-    c.loop-reason.invariant.stood c.in_ok-take_turn.ensures.causes)
-
 pub returns-then-not-branch-clause-follows : goal.returns-then-not-branch-clause-follows
 returns-then-not-branch-clause-follows g c =
     g.met.S.Shim.transitive _ _ _ c.loop-reason.invariant.follows c.take_turn.ensures.follows
-
-pub returns-in_err-take_turn-clause-round : goal.returns-in_err-take_turn-clause-round
-returns-in_err-take_turn-clause-round g c =
-    c.take_turn.ensures.round ∙ c.run.ensures.round ∙ c.loop-reason.invariant.round
-
-pub returns-in_err-take_turn-clause-before_end : goal.returns-in_err-take_turn-clause-before_end
-returns-in_err-take_turn-clause-before_end g c =
-    let p = err_from_is_err_and c.from_residual.result c.from_residual.ensures.1 in
-    rw (p.1, p.2) c.in_err-take_turn.ensures.before_end
-
-pub returns-in_err-take_turn-clause-causes : goal.returns-in_err-take_turn-clause-causes
-returns-in_err-take_turn-clause-causes g c =
-    let p = err_from_is_err_and c.from_residual.result c.from_residual.ensures.1 in
-    rw (p.1, p.2) (causes_err _ _ _ _ _ _ _ (causes_then _ _ _ _ _ _ _ _ _ _
-    c.loop-reason.invariant.stood c.in_err-take_turn.ensures.causes))
 
 pub returns-in_err-take_turn-clause-follows : goal.returns-in_err-take_turn-clause-follows
 returns-in_err-take_turn-clause-follows g c =

@@ -1,0 +1,77 @@
+-- What a call of the serial phase leaves, by the plays that it is.
+use Rattle.std.proofs.Common.{ℕ, ◌≡◌, ◌≤◌, ◌-◌, ◌∙◌, sym, subst, false, List}
+use Rattle.std.specs.Prelude.{Result, Ok, Err, OnOk, is_err}
+use Rattle.std.proofs.lemmas.Result.{on_ok_weaker, on_err_weaker}
+use Rattle.dos_world.specs.World.{World}
+use Rattle.dos_world.specs.Play.{Play, done}
+use Rattle.dos_world.specs.declared.Config.{Config}
+use Rattle.dos_io.specs.Shims.{HasNoEnd}
+use Rattle.kernel_calls.specs.StateWorld.{IsSound, sent, shim_stop, world_of}
+use Rattle.kernel_calls.specs.declared.state.RunStop.{RunStop}
+use Rattle.kernel_calls.specs.declared.state.State.{State}
+use Rattle.group_rounds.specs.Outside.{HaveStood}
+use Rattle.group_rounds.specs.Kernels.{IsBetweenRounds}
+use Rattle.group_rounds.specs.Parts.{KeepsCount}
+use Rattle.group_rounds.specs.Serving.{Border, Serves, told_at}
+use Rattle.group_rounds.specs.StatePlays.{GoesTo}
+use Rattle.group_rounds.proofs.CauseLaws.{causes_ok}
+use Rattle.group_rounds.proofs.FrontLaws.{cut_from}
+use Rattle.group_rounds.proofs.StatePlayLaws.{goes_from, if_err_weaker, some_weaker}
+use Rattle.group_rounds.proofs.StopLaws.{stopped_from}
+
+-- it has come to the end
+pub serves_done : {T : Type 0} (value : T) (play : World → Play World) (old new : State)
+    (before after : Border)
+    → ((q : ℕ) → GoesTo q play old (told_at before) (λ w. done w) new (told_at after))
+    → IsSound new → new.round ≡ old.round → KeepsCount old new → HasNoEnd after.shim.told
+    → HaveStood before.shim after.shim before.out_faults after.out_faults before.err_faults
+    after.err_faults
+    → Serves {T = T} play (Ok value) old new before after
+serves_done value play old new before after goes sound round count told stood = record {
+  goes = goes;
+  sound = sound;
+  round = round;
+  count = count;
+  asks = tt;
+  before_end = tt;
+  told = told;
+  cut = tt;
+  causes = causes_ok value before.shim after.shim before.out_faults after.out_faults
+      before.err_faults after.err_faults stood;
+}
+
+-- another play that is the same from this state
+pub serves_from : {T : Type 0} (play same : World → Play World) (result : Result T RunStop)
+    (old new : State) (before after : Border)
+    → ((q : ℕ) (o e : List ℕ)
+    → play (sent o e (world_of q old)) ≡ same (sent o e (world_of q old)))
+    → Serves same result old new before after → Serves play result old new before after
+serves_from play same result old new before after is h = record {
+  goes = on_ok_weaker result
+      (λ goes q. goes_from q play same (λ w. done w) old new _ _ (is q) (goes q)) h.goes;
+  sound = h.sound;
+  round = h.round;
+  count = h.count;
+  asks = if_err_weaker result _ _ (λ stop. some_weaker (shim_stop stop) _ _
+      (λ k q. stopped_from q play same old _ _ _ (is q) (k q))) h.asks;
+  before_end = h.before_end;
+  told = h.told;
+  cut = on_err_weaker result (λ k q. cut_from q (λ w. w) play same old _ _ (is q) (k q)) h.cut;
+  causes = h.causes;
+}
+
+-- what holds of an answer
+of_ok : {T E : Type 0} (result : Result T E) (P : Type 0) → OnOk result P → is_err result ≡ false → P
+of_ok (Ok value) P h ok = h
+of_ok (Err stop) P h ok = cc
+
+-- a state between two rounds may stand there after it, where it hasn't stopped
+pub serves_between : {T : Type 0} (play : World → Play World) (result : Result T RunStop)
+    (old new : State) (config : Config) (before after : Border) → IsBetweenRounds old config
+    → Serves play result old new before after → is_err result ≡ false → IsBetweenRounds new config
+serves_between play result old new config before after between h ok = record {
+  sound = of_ok result _ h.sound ok;
+  range = between.range;
+  rounds = subst (λ (n : ℕ). n - 1 ≤ config.rounds) (sym h.round) between.rounds;
+  frames = of_ok result _ h.count ok ∙ between.frames;
+}
