@@ -202,17 +202,6 @@ module _ (pack₀ pack pack' : Pack) (frames₀ frames : Store) (f : ℕ) (page 
 
 -- ---- threads
 
-pub set-none : (t : Tables) → AreSet [] t t
-set-none t = record {
-  processes = refl;
-  room = refl;
-  count = refl;
-  set = λ p h. absurd h;
-  others =
-      λ s h. refl;
-  same = λ s. refl;
-}
-
 pub set-one : (t : Tables) (p : Pack) → IsThread t.threads p.thread
     → AreSet (p ∷ []) t (thread_by (ran p.registers p.budget) t p.thread)
 set-one t p live = record {
