@@ -1,5 +1,5 @@
--- What a call of the serial phase leaves, by the plays that it is.
-use Rattle.std.proofs.Common.{ℕ, ◌≡◌, ◌≤◌, ◌-◌, ◌∙◌, sym, subst, false, List}
+-- What a call of the serial phase leaves, by the plays that it is; and what one of a round keeps.
+use Rattle.std.proofs.Common.{ℕ, ◌≡◌, ◌≤◌, ◌-◌, ◌∙◌, refl, sym, subst, false, List}
 use Rattle.std.specs.Prelude.{Result, Ok, Err, OnOk, is_err}
 use Rattle.std.proofs.lemmas.Result.{on_ok_weaker, on_err_weaker}
 use Rattle.dos_world.specs.World.{World}
@@ -12,9 +12,9 @@ use Rattle.kernel_calls.specs.declared.state.State.{State}
 use Rattle.group_rounds.specs.Outside.{HaveStood}
 use Rattle.group_rounds.specs.Kernels.{IsBetweenRounds}
 use Rattle.group_rounds.specs.Parts.{KeepsCount}
-use Rattle.group_rounds.specs.Serving.{Border, Serves, told_at}
+use Rattle.group_rounds.specs.Serving.{Border, KeepsRound, Serves, told_at}
 use Rattle.group_rounds.specs.StatePlays.{GoesTo}
-use Rattle.group_rounds.proofs.CauseLaws.{causes_ok}
+use Rattle.group_rounds.proofs.CauseLaws.{causes_ok, causes_then, stood_yet}
 use Rattle.group_rounds.proofs.FrontLaws.{cut_from}
 use Rattle.group_rounds.proofs.StatePlayLaws.{goes_from, if_err_weaker, some_weaker}
 use Rattle.group_rounds.proofs.StopLaws.{stopped_from}
@@ -74,4 +74,33 @@ serves_between play result old new config before after between h ok = record {
   range = between.range;
   rounds = subst (λ (n : ℕ). n - 1 ≤ config.rounds) (sym h.round) between.rounds;
   frames = of_ok result _ h.count ok ∙ between.frames;
+}
+
+-- ---- rounds
+
+-- nothing was done
+pub keeps_still : {T : Type 0} (value : T) (s : State) (b : Border) → IsSound s
+    → HasNoEnd b.shim.told → KeepsRound {T = T} (Ok value) s s b b
+keeps_still value s b sound told = record {
+  sound = sound;
+  count = refl;
+  uncounted = tt;
+  before_end = tt;
+  told = told;
+  causes = causes_ok value _ _ _ _ _ _ (stood_yet b.shim b.out_faults b.err_faults);
+}
+
+-- behind calls that all answered, with the round and as many frames as before
+pub keeps_then : {T : Type 0} (result : Result T RunStop) (old halfway new : State)
+    (before between after : Border) → halfway.round ≡ old.round → KeepsCount old halfway
+    → HaveStood before.shim between.shim before.out_faults between.out_faults before.err_faults
+    between.err_faults
+    → KeepsRound result halfway new between after → KeepsRound result old new before after
+keeps_then result old halfway new before between after round count stood h = record {
+  sound = h.sound;
+  count = on_ok_weaker result (λ k. k ∙ count) h.count;
+  uncounted = on_err_weaker result (λ k. k ∙ round) h.uncounted;
+  before_end = h.before_end;
+  told = h.told;
+  causes = causes_then result _ _ _ _ _ _ _ _ _ stood h.causes;
 }

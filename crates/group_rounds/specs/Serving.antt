@@ -1,4 +1,4 @@
--- What a call of the serial phase leaves. This project's own words.
+-- What a call of the serial phase or of a round leaves. This project's own words.
 use Rattle.std.specs.Prelude.{ℕ, ◌≡◌, List, false, Option, Result, IfErr, OnErr, OnOk, OnSome}
 use Rattle.dos_world.specs.World.{World}
 use Rattle.dos_world.specs.Play.{Play, done}
@@ -50,5 +50,18 @@ pub record Serves {T : Type 0} (play : World → Play World) (result : Result T 
   pub told : OnOk result (HasNoEnd after.shim.told)
   pub cut : OnErr result ((q : ℕ)
       → CutPlay q (λ w. w) play old (told_at before) (told_at after))
+  pub causes : HaveCauses result before.shim after.shim before.out_faults after.out_faults
+      before.err_faults after.err_faults
+
+-- What a call of a round keeps, however it ends: a sound state of as many frames where it answers,
+-- and where it stops a round that isn't counted.
+pub record KeepsRound {T : Type 0} (result : Result T RunStop) (old new : State)
+    (before after : Border) : Type 0 where
+  pub sound : OnOk result (IsSound new)
+  pub count : OnOk result (KeepsCount old new)
+  pub uncounted : OnErr result (new.round ≡ old.round)
+  pub before_end : IfErr result
+      (λ stop. OnSome (shim_stop stop) (is_end after.shim.asked ≡ false))
+  pub told : OnOk result (HasNoEnd after.shim.told)
   pub causes : HaveCauses result before.shim after.shim before.out_faults after.out_faults
       before.err_faults after.err_faults

@@ -2,7 +2,6 @@
 ghost use Rattle.std.specs.Prelude.{◌≡◌, ◌+◌, ◌≤◌, ◌<◌, ◌∷◌, ℕ, List, false, true, IfOk, IfErr};
 ghost use Rattle.std.specs.Prelude.{OnOk, OnErr, OnSome, Err, if◌then◌else◌};
 ghost use Rattle.dos_world.specs.Kernel.{process_ended};
-ghost use Rattle.dos_world.specs.Play.{done};
 ghost use Rattle.dos_world.specs.World.{registers_by, released};
 ghost use Rattle.dos_world.specs.declared.Reason.TheVariants.{Page, Fault};
 ghost use Rattle.dos_io.specs.Shims.{HasNoEnd};

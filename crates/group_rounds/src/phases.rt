@@ -1,18 +1,14 @@
 // The phases of a round, over its starters.
-ghost use Rattle.std.specs.Prelude.{◌≡◌, ◌≤◌, ◌+◌, ◌++◌, ◌∷◌, [], ℕ, List, false, filter, is_some};
-ghost use Rattle.std.specs.Prelude.{length, IfErr, OnOk, OnErr, OnSome};
+ghost use Rattle.std.specs.Prelude.{◌≡◌, ◌≤◌, ◌+◌, ◌++◌, ◌∷◌, [], ℕ, List, filter, is_some};
+ghost use Rattle.std.specs.Prelude.{length, OnOk};
 ghost use Rattle.std.specs.Vec.{vec_capacity};
 ghost use Rattle.dos_world.specs.Numbered.{numbers_of};
-ghost use Rattle.dos_world.specs.Play.{done};
 ghost use Rattle.dos_io.specs.Shims.{HasNoEnd};
 ghost use Rattle.dos_laws.specs.Standing.{IsAwake};
 ghost use Rattle.round_core.specs.Rest.{rest_if_live, serial_of};
 ghost use Rattle.round_core.specs.Round.{with_budgets};
 ghost use Rattle.proc_table.specs.Tables.{IsThread};
-ghost use Rattle.kernel_calls.specs.StateWorld.{HaveParts, IsSound, sent, shim_stop, world_of};
-ghost use Rattle.group_rounds.specs.Fronts.{CutPlay, StoppedPlay};
-ghost use Rattle.group_rounds.specs.StatePlays.{GoesTo, telling};
-ghost use Rattle.group_rounds.specs.Outside.{HaveCauses, is_end};
+ghost use Rattle.kernel_calls.specs.StateWorld.{HaveParts, IsSound, sent, world_of};
 ghost use Rattle.group_rounds.specs.Parts.{KeepsCount};
 ghost use Rattle.group_rounds.specs.Phases.{AreLive, is_ready, ready_in};
 ghost use Rattle.group_rounds.specs.Serving.{Serves, border};

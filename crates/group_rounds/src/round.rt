@@ -1,5 +1,5 @@
 // One round.
-ghost use Rattle.std.specs.Prelude.{◌≡◌, ◌≤◌, ◌+◌, ℕ, List, length, false, IfOk, IfErr};
+ghost use Rattle.std.specs.Prelude.{◌≡◌, ◌≤◌, ◌+◌, ℕ, List, length, IfOk, IfErr};
 ghost use Rattle.std.specs.Prelude.{OnErr, OnOk, OnSome};
 ghost use Rattle.std.specs.Vec.{vec_capacity};
 ghost use Rattle.dos_world.specs.Play.{done};
@@ -13,11 +13,11 @@ ghost use Rattle.round_core.specs.Round.{begun, phases, went};
 ghost use Rattle.kernel_calls.specs.StateWorld.{HaveParts, IsSound, sent, shim_stop, world_of};
 ghost use Rattle.group_rounds.specs.Fronts.{CutPlay, StoppedPlay};
 ghost use Rattle.group_rounds.specs.StatePlays.{GoesTo, telling};
-ghost use Rattle.group_rounds.specs.Outside.{HaveCauses, is_end};
 ghost use Rattle.group_rounds.specs.Parts.{KeepsCount};
 ghost use Rattle.group_rounds.specs.Phases.{ready_in};
 ghost use Rattle.group_rounds.specs.Rounds.{AreStarters, CutRound, HasOpened, RanRound};
 ghost use Rattle.group_rounds.specs.Rounds.{StoppedRound, StopsRun, end_in, next_round};
+ghost use Rattle.group_rounds.specs.Serving.{KeepsRound, border};
 ghost use Rattle.group_rounds.specs.Rounds.{rest_of_round, work_in};
 ghost use Rattle.group_rounds.specs.declared.round.RoundEnd.TheVariants.{Went};
 ghost use Rattle.worker_pool.specs.Ran.{GrewBy};
@@ -129,24 +129,21 @@ fn finish_round<S: Shim, O: Sink, E: Sink>(
         (λ w. done (went w work)) state.new
         (telling (S.state shim.new).told (O.told out.new) (E.told err.new))) }
     ensures end { IfOk result (λ end. end ≡ Went) }
-    ensures sound { OnOk result (IsSound state.new) }
     ensures round { OnOk result (state.new.round ≡ state.old.round + 1) }
-    ensures uncounted { OnErr result (state.new.round ≡ state.old.round) }
-    ensures count { OnOk result (KeepsCount state.old state.new) }
     ensures asks { IfErr result (λ stop. OnSome (shim_stop stop)
         ((q : ℕ) → StoppedPlay q (λ w. serial_of w starters.now) state.old
         (telling (S.state shim.old).told (O.told out.old) (E.told err.old))
         (telling (S.state shim.new).told (O.told out.new) (E.told err.new))
         (S.state shim.new).asked)) }
-    ensures before_end { IfErr result
-        (λ stop. OnSome (shim_stop stop) (is_end (S.state shim.new).asked ≡ false)) }
-    ensures told { OnOk result (HasNoEnd (S.state shim.new).told) }
     ensures cut { OnErr result ((q : ℕ)
         → CutPlay q (λ w. w) (λ w. serial_of w starters.now) state.old
         (telling (S.state shim.old).told (O.told out.old) (E.told err.old))
         (telling (S.state shim.new).told (O.told out.new) (E.told err.new))) }
-    ensures causes { HaveCauses result (S.state shim.old) (S.state shim.new) (O.faults out.old)
-        (O.faults out.new) (E.faults err.old) (E.faults err.new) }
+    ensures keeps { KeepsRound result state.old state.new
+        (border (S.state shim.old) (O.told out.old) (E.told err.old) (O.faults out.old)
+        (E.faults err.old))
+        (border (S.state shim.new) (O.told out.new) (E.told err.new) (O.faults out.new)
+        (E.faults err.new)) }
     ensures follows { S.follows shim.old shim.new }
 {
     match run_serial(state, starters, shim, out, err) {
@@ -183,24 +180,21 @@ fn run_phases<S: Shim, O: Sink, E: Sink, W: Workers>(
         (telling (S.state shim.new).told (O.told out.new) (E.told err.new))
         × GrewBy (W.tally workers.old) (W.tally workers.new) work) }
     ensures end { IfOk result (λ end. end ≡ Went) }
-    ensures sound { OnOk result (IsSound state.new) }
     ensures round { OnOk result (state.new.round ≡ state.old.round + 1) }
     ensures packs { packs.new ≡ packs.old }
-    ensures uncounted { OnErr result (state.new.round ≡ state.old.round) }
-    ensures count { OnOk result (KeepsCount state.old state.new) }
     ensures asks { IfErr result (λ stop. OnSome (shim_stop stop)
         (StoppedPlay quantum (λ w. phases w starters.now) state.old
         (telling (S.state shim.old).told (O.told out.old) (E.told err.old))
         (telling (S.state shim.new).told (O.told out.new) (E.told err.new))
         (S.state shim.new).asked)) }
-    ensures before_end { IfErr result
-        (λ stop. OnSome (shim_stop stop) (is_end (S.state shim.new).asked ≡ false)) }
-    ensures told { OnOk result (HasNoEnd (S.state shim.new).told) }
     ensures cut { OnErr result (CutPlay quantum world_ended (λ w. phases w starters.now) state.old
         (telling (S.state shim.old).told (O.told out.old) (E.told err.old))
         (telling (S.state shim.new).told (O.told out.new) (E.told err.new))) }
-    ensures causes { HaveCauses result (S.state shim.old) (S.state shim.new) (O.faults out.old)
-        (O.faults out.new) (E.faults err.old) (E.faults err.new) }
+    ensures keeps { KeepsRound result state.old state.new
+        (border (S.state shim.old) (O.told out.old) (E.told err.old) (O.faults out.old)
+        (E.faults err.old))
+        (border (S.state shim.new) (O.told out.new) (E.told err.new) (O.faults out.new)
+        (E.faults err.new)) }
     ensures follows { S.follows shim.old shim.new }
     ensures fixed { W.fixed workers.new ≡ W.fixed workers.old }
 {
@@ -238,19 +232,16 @@ fn play_begun<S: Shim, O: Sink, E: Sink, W: Workers>(
         (telling (S.state shim.old).told (O.told out.old) (E.told err.old))
         (telling (S.state shim.new).told (O.told out.new) (E.told err.new))
         (S.state shim.new).asked)) }
-    ensures before_end { IfErr result
-        (λ stop. OnSome (shim_stop stop) (is_end (S.state shim.new).asked ≡ false)) }
     ensures cut { OnErr result (CutPlay quantum world_ended (λ w. begun w) state.old
         (telling (S.state shim.old).told (O.told out.old) (E.told err.old))
         (telling (S.state shim.new).told (O.told out.new) (E.told err.new))) }
-    ensures sound { OnOk result (IsSound state.new) }
     ensures round { IfOk result (λ end. state.new.round ≡ next_round end state.old.round) }
     ensures packs { packs.new ≡ packs.old }
-    ensures uncounted { OnErr result (state.new.round ≡ state.old.round) }
-    ensures count { OnOk result (KeepsCount state.old state.new) }
-    ensures told { OnOk result (HasNoEnd (S.state shim.new).told) }
-    ensures causes { HaveCauses result (S.state shim.old) (S.state shim.new) (O.faults out.old)
-        (O.faults out.new) (E.faults err.old) (E.faults err.new) }
+    ensures keeps { KeepsRound result state.old state.new
+        (border (S.state shim.old) (O.told out.old) (E.told err.old) (O.faults out.old)
+        (E.faults err.old))
+        (border (S.state shim.new) (O.told out.new) (E.told err.new) (O.faults out.new)
+        (E.faults err.new)) }
     ensures follows { S.follows shim.old shim.new }
     ensures fixed { W.fixed workers.new ≡ W.fixed workers.old }
 {
@@ -295,20 +286,17 @@ pub(crate) fn play_round<S: Shim, O: Sink, E: Sink, W: Workers>(
     ensures cut { OnErr result (CutRound quantum state.old
         (telling (S.state shim.old).told (O.told out.old) (E.told err.old))
         (telling (S.state shim.new).told (O.told out.new) (E.told err.new))) }
-    ensures before_end { IfErr result
-        (λ stop. OnSome (shim_stop stop) (is_end (S.state shim.new).asked ≡ false)) }
     ensures starters { OnOk result
         (AreStarters state.old (S.state shim.old).told (S.state shim.new).told
         starters.old.items starters.new.items) }
     ensures room { 64 ≤ vec_capacity starters.new }
-    ensures sound { OnOk result (IsSound state.new) }
     ensures round { IfOk result (λ end. state.new.round ≡ next_round end state.old.round) }
     ensures packs { packs.new ≡ packs.old }
-    ensures uncounted { OnErr result (state.new.round ≡ state.old.round) }
-    ensures count { OnOk result (KeepsCount state.old state.new) }
-    ensures told { OnOk result (HasNoEnd (S.state shim.new).told) }
-    ensures causes { HaveCauses result (S.state shim.old) (S.state shim.new) (O.faults out.old)
-        (O.faults out.new) (E.faults err.old) (E.faults err.new) }
+    ensures keeps { KeepsRound result state.old state.new
+        (border (S.state shim.old) (O.told out.old) (E.told err.old) (O.faults out.old)
+        (E.faults err.old))
+        (border (S.state shim.new) (O.told out.new) (E.told err.new) (O.faults out.new)
+        (E.faults err.new)) }
     ensures follows { S.follows shim.old shim.new }
     ensures fixed { W.fixed workers.new ≡ W.fixed workers.old }
 {

@@ -18,17 +18,19 @@ returns-in-Ok g c =
       goes = serial_ends c.args.starters.now c.args.state.now c.run_serial.new.state
           c.count_round.new.state _ _ served.goes served.sound.counted.round counted;
       end = refl;
-      sound = c.count_round.ensures.sound;
       round = ap (λ (s : State). s.round) counted ∙ ap (λ n. n + 1) served.round;
-      uncounted = tt;
-      count = ap (λ (s : State). length s.frames.owners) counted ∙ served.count;
       asks = tt;
-      before_end = tt;
-      told = served.told;
       cut = tt;
-      causes = causes_ok _ _ _ _ _ _ _ (stood_then _ _ _ _ _ _ _ _ _ _
-          (stood_yet (g.S.Shim.state c.args.shim.now) (g.O.Sink.faults c.args.out.now)
-          (g.E.Sink.faults c.args.err.now)) served.causes);
+      keeps = record {
+        sound = c.count_round.ensures.sound;
+        count = ap (λ (s : State). length s.frames.owners) counted ∙ served.count;
+        uncounted = tt;
+        before_end = tt;
+        told = served.told;
+        causes = causes_ok _ _ _ _ _ _ _ (stood_then _ _ _ _ _ _ _ _ _ _
+            (stood_yet (g.S.Shim.state c.args.shim.now) (g.O.Sink.faults c.args.out.now)
+            (g.E.Sink.faults c.args.err.now)) served.causes);
+      };
       follows = c.run_serial.ensures.follows;
     }
 
@@ -38,14 +40,16 @@ returns-in-Err g c =
     record {
       goes = tt;
       end = tt;
-      sound = tt;
       round = tt;
-      uncounted = served.round;
-      count = tt;
       asks = served.asks;
-      before_end = served.before_end;
-      told = tt;
       cut = served.cut;
-      causes = causes_err _ _ _ _ _ _ _ served.causes;
+      keeps = record {
+        sound = tt;
+        count = tt;
+        uncounted = served.round;
+        before_end = served.before_end;
+        told = tt;
+        causes = causes_err _ _ _ _ _ _ _ served.causes;
+      };
       follows = c.run_serial.ensures.follows;
     }

@@ -8,7 +8,7 @@ use Rattle.group_rounds.specs.declared.round.RoundEnd.TheVariants.{Went}
 use Rattle.group_rounds.proofs.StatePlayLaws.{if_err_weaker, some_weaker}
 use Rattle.group_rounds.proofs.RoundLaws.{begun_cut, begun_done, begun_goes, begun_stalls}
 use Rattle.group_rounds.proofs.RoundLaws.{begun_stopped}
-use Rattle.group_rounds.proofs.CauseLaws.{stood_yet, causes_ok}
+use Rattle.group_rounds.proofs.ServesLaws.{keeps_still}
 use Rattle.group_rounds.proofs.EndLaws.{ok_is}
 use Rattle.group_rounds.proofs.round.play_begun.Goals as goal
 
@@ -24,16 +24,10 @@ returns-then-live_threads-eq0 g c = record {
     grew-nothing (g.W.Workers.tally c.args.workers.now),
   );
   asks = tt;
-  before_end = tt;
   cut = tt;
-  sound = c.requires.sound;
   round = refl;
   packs = refl;
-  uncounted = tt;
-  count = refl;
-  told = c.requires.told;
-  causes = causes_ok _ _ _ _ _ _ _ (stood_yet (g.S.Shim.state c.args.shim.now)
-      (g.O.Sink.faults c.args.out.now) (g.E.Sink.faults c.args.err.now));
+  keeps = keeps_still _ c.args.state.now _ c.requires.sound c.requires.told;
   follows = g.met.S.Shim.reflexive c.args.shim.now;
   fixed = refl;
 }
@@ -52,16 +46,10 @@ returns-then-is_empty g c = record {
     grew-nothing (g.W.Workers.tally c.args.workers.now),
   );
   asks = tt;
-  before_end = tt;
   cut = tt;
-  sound = c.requires.sound;
   round = refl;
   packs = refl;
-  uncounted = tt;
-  count = refl;
-  told = c.requires.told;
-  causes = causes_ok _ _ _ _ _ _ _ (stood_yet (g.S.Shim.state c.args.shim.now)
-      (g.O.Sink.faults c.args.out.now) (g.E.Sink.faults c.args.err.now));
+  keeps = keeps_still _ c.args.state.now _ c.requires.sound c.requires.told;
   follows = g.met.S.Shim.reflexive c.args.shim.now;
   fixed = refl;
 }
@@ -84,21 +72,16 @@ returns g c = record {
       c.args.starters.now c.requires.ready
       (λ none. true≢false (sym (eq-eqb _ 0 none) ∙ sym c.is_empty.ensures ∙ c.if-is_empty.false))
       _ _ _)) c.run_phases.ensures.asks;
-  before_end = c.run_phases.ensures.before_end;
   cut = on_err_weaker c.run_phases.result
       (begun_cut c.args.quantum c.args.state.now
       (λ none. c.if-live_threads-eq0.false (c.live_threads.ensures ∙ none))
       c.args.starters.now c.requires.ready
       (λ none. true≢false (sym (eq-eqb _ 0 none) ∙ sym c.is_empty.ensures ∙ c.if-is_empty.false))
       _ _) c.run_phases.ensures.cut;
-  sound = c.run_phases.ensures.sound;
   round = ok_is _ c.run_phases.result _ Went (λ next. next) c.run_phases.ensures.round
       c.run_phases.ensures.end;
   packs = c.run_phases.ensures.packs;
-  uncounted = c.run_phases.ensures.uncounted;
-  count = c.run_phases.ensures.count;
-  told = c.run_phases.ensures.told;
-  causes = c.run_phases.ensures.causes;
+  keeps = c.run_phases.ensures.keeps;
   follows = c.run_phases.ensures.follows;
   fixed = c.run_phases.ensures.fixed;
 }

@@ -1,5 +1,5 @@
 use Rattle.std.proofs.Common.{ℕ, ◌≡◌, ◌≤◌, refl, sym, ap, ◌∙◌, subst, length, le_refl}
-use Rattle.std.specs.Prelude.{IfOk, OnErr, OnOk, OnSome, Option, Some, None}
+use Rattle.std.specs.Prelude.{IfOk, OnSome, Option, Some, None}
 use Rattle.std.proofs.lemmas.Result.{IfOk-weaker, on_err_weaker}
 use Rattle.dos_io.specs.Shims.{ShimState}
 use Rattle.kernel_calls.specs.StateWorld.{shim_stop}
@@ -14,7 +14,7 @@ use Rattle.group_rounds.proofs.StopCauses.{stops_causes}
 use Rattle.dos_laws.specs.Plays.{world_ended}
 use Rattle.round_core.specs.Round.{round_of}
 use Rattle.group_rounds.specs.Rounds.{next_round}
-use Rattle.group_rounds.proofs.CauseLaws.{stood_yet, causes_then, causes_ok}
+use Rattle.group_rounds.proofs.ServesLaws.{keeps_still, keeps_then}
 use Rattle.group_rounds.proofs.round.play_round.Goals as goal
 
 pub returns-then-live_threads-eq0 : goal.returns-then-live_threads-eq0
@@ -29,18 +29,12 @@ returns-then-live_threads-eq0 g c = record {
   );
   asks = tt;
   cut = tt;
-  before_end = tt;
   starters = nobody_starts c.args.state.now (g.S.Shim.state c.args.shim.now).told
       c.args.starters.now.items;
   room = c.requires.room;
-  sound = c.requires.sound;
   round = refl;
   packs = refl;
-  uncounted = tt;
-  count = refl;
-  told = c.requires.told;
-  causes = causes_ok _ _ _ _ _ _ _ (stood_yet (g.S.Shim.state c.args.shim.now)
-      (g.O.Sink.faults c.args.out.now) (g.E.Sink.faults c.args.err.now));
+  keeps = keeps_still _ c.args.state.now _ c.requires.sound c.requires.told;
   follows = g.met.S.Shim.reflexive c.args.shim.now;
   fixed = refl;
 }
@@ -63,17 +57,19 @@ returns-in-Err g c = record {
       (round_stops c.args.quantum c.args.state.now c.requires.sound
       (λ none. c.if-live_threads-eq0.false (c.live_threads.ensures ∙ none)) _ _ _
       c.in-Err.ensures.stopped.stopped.told refl refl c.in-Err.ensures.stopped.stopped.asked);
-  before_end = on_some _ _ (ap is_end c.in-Err.ensures.stopped.stopped.asked);
   starters = tt;
   room = c.open_round.ensures.room;
-  sound = tt;
   round = tt;
   packs = refl;
-  uncounted = c.open_round.ensures.round;
-  count = tt;
-  told = tt;
-  causes = stops_causes _ _ (g.S.Shim.state c.args.shim.now)
-      (g.S.Shim.state c.open_round.new.shim) _ _ c.in-Err.ensures.stopped;
+  keeps = record {
+    sound = tt;
+    count = tt;
+    uncounted = c.open_round.ensures.round;
+    before_end = on_some _ _ (ap is_end c.in-Err.ensures.stopped.stopped.asked);
+    told = tt;
+    causes = stops_causes _ _ (g.S.Shim.state c.args.shim.now)
+        (g.S.Shim.state c.open_round.new.shim) _ _ c.in-Err.ensures.stopped;
+  };
   follows = c.open_round.ensures.follows;
   fixed = refl;
 }
@@ -140,7 +136,6 @@ returns-in-Ok g c = record {
       c.in-Ok.ensures.opened.begins _ _
       (ap (λ (s : ShimState). s.told) c.in-Ok.ensures.opened.answered_is) refl refl
       _) c.play_begun.ensures.cut;
-  before_end = c.play_begun.ensures.before_end;
   starters = ok_weaker c.play_begun.result _ _
       (λ end k. round_began c.args.quantum c.args.state.now c.requires.sound
       (λ none. c.if-live_threads-eq0.false (c.live_threads.ensures ∙ none))
@@ -150,26 +145,20 @@ returns-in-Ok g c = record {
       c.args.starters.now.items c.open_round.new.starters.items end c.play_begun.new.state _
       k.0 c.in-Ok.ensures.starters k.1) c.play_begun.ensures.goes;
   room = c.open_round.ensures.room;
-  sound = c.play_begun.ensures.sound;
   round = subst (λ (n : ℕ). IfOk c.play_begun.result
       (λ end. c.play_begun.new.state.round ≡ next_round end n))
       c.open_round.ensures.round c.play_begun.ensures.round;
   packs = c.play_begun.ensures.packs;
-  uncounted = subst (λ (n : ℕ). OnErr c.play_begun.result (c.play_begun.new.state.round ≡ n))
-      c.open_round.ensures.round c.play_begun.ensures.uncounted;
-  count = subst (λ (n : ℕ). OnOk c.play_begun.result
-      (length c.play_begun.new.state.frames.owners ≡ n))
-      c.open_round.ensures.count c.play_begun.ensures.count;
-  told = c.play_begun.ensures.told;
-  causes =
-      causes_then c.play_begun.result (g.S.Shim.state c.args.shim.now) _ _ _ _ _ _ _ _ (record {
+  keeps = keeps_then c.play_begun.result c.args.state.now c.open_round.new.state
+      c.play_begun.new.state _ _ _ c.open_round.ensures.round c.open_round.ensures.count
+      (record {
         out_later = le_refl _;
         err_later = le_refl _;
         stands = record {
           stops = ap (λ (s : ShimState). s.stops) c.in-Ok.ensures.opened.answered_is;
           last = ap (λ (s : ShimState). s.last) c.in-Ok.ensures.opened.answered_is;
         };
-      }) c.play_begun.ensures.causes;
+      }) c.play_begun.ensures.keeps;
   follows = g.met.S.Shim.transitive _ _ _ c.open_round.ensures.follows c.play_begun.ensures.follows;
   fixed = c.play_begun.ensures.fixed;
 }

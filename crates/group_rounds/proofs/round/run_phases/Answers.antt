@@ -1,4 +1,4 @@
-use Rattle.std.proofs.Common.{sym, subst}
+use Rattle.std.proofs.Common.{◌∙◌, sym, subst}
 use Rattle.std.proofs.lemmas.Result.{on_err_weaker, on_ok_weaker}
 use Rattle.group_rounds.specs.Parts.{work_between}
 use Rattle.group_rounds.specs.Phases.{AreLive}
@@ -8,6 +8,8 @@ use Rattle.group_rounds.proofs.RoundLaws.{phases_go, phases_cut, phases_stopped}
 use Rattle.group_rounds.proofs.Sound.{parts_alone, parts_begin}
 use Rattle.group_rounds.proofs.PacksRan.{ready-apart}
 use Rattle.group_rounds.proofs.Starters.{ready_live}
+use Rattle.group_rounds.proofs.CauseLaws.{stood_yet}
+use Rattle.group_rounds.proofs.ServesLaws.{keeps_then}
 use Rattle.group_rounds.proofs.round.run_phases.Goals as goal
 
 pub set_budgets-requires-clause-live : goal.set_budgets-requires-clause-live
@@ -55,3 +57,11 @@ returns-clause-asks g c =
 
 pub returns-clause-end : goal.returns-clause-end
 returns-clause-end g c = c.finish_round.ensures.end
+
+pub returns-clause-keeps : goal.returns-clause-keeps
+returns-clause-keeps g c =
+    keeps_then c.finish_round.result c.args.state.now c.run.new.state c.finish_round.new.state _ _ _
+    (c.run.ensures.round ∙ c.set_budgets.ensures.round)
+    (c.run.ensures.count ∙ c.set_budgets.ensures.count)
+    (stood_yet (g.S.Shim.state c.args.shim.now) (g.O.Sink.faults c.args.out.now)
+    (g.E.Sink.faults c.args.err.now)) c.finish_round.ensures.keeps
