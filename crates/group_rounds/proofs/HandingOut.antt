@@ -11,7 +11,7 @@ use Rattle.dos_world.specs.World.{is_free}
 use Rattle.page_store.proofs.Joined.{home-at}
 use Rattle.quantum_run.specs.Packs.{bytes_at, HoldsNo, with_page}
 use Rattle.quantum_run.specs.Shows.{Pack}
-use Rattle.group_rounds.specs.Handing.{AreBegun, IsFor, GoesOut, Stays, HasBelow, Handing}
+use Rattle.group_rounds.specs.Handing.{AreOnce, AreBegun, IsFor, GoesOut, Stays, HasBelow, Handing}
 use Rattle.group_rounds.proofs.HandingLaws.{beside}
 
 -- ---- lists
@@ -137,8 +137,7 @@ below-takes t old n begun p page mine home h = record {
 
 -- ---- all packs
 
-module _ (ts : List ℕ) (begun : List Pack) (old : Store) (apart : (i j t : ℕ)
-    → slice_get ts i ≡ Some t → slice_get ts j ≡ Some t → i ≡ j) (homes : All IsSome old.pages)
+module _ (ts : List ℕ) (begun : List Pack) (old : Store) (apart : AreOnce ts) (homes : All IsSome old.pages)
     (fresh : AreBegun old begun) where
   -- a pack that hasn't come to this frame
   pub none-yet : (new : Store) (packs : List Pack) (n i : ℕ) (p : Pack)

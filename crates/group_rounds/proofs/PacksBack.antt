@@ -21,7 +21,7 @@ use Rattle.proc_table.specs.Tables.{thread_in, IsThread}
 use Rattle.kernel_calls.specs.StateWorld.{IsSound, sent, world_of}
 use Rattle.kernel_objects.specs.Pipework.{Pipework}
 use Rattle.kernel_calls.specs.declared.state.State.{State}
-use Rattle.group_rounds.specs.Handing.{In, all_pages, AreApart, AreOthers, IsFor, Handing, PutBack}
+use Rattle.group_rounds.specs.Handing.{AreOnce, In, all_pages, AreApart, AreOthers, IsFor, Handing, PutBack}
 use Rattle.group_rounds.specs.Handing.{AreSet, pack_of, view_of}
 use Rattle.group_rounds.specs.Phases.{AreLive}
 use Rattle.worker_pool.specs.Ran.{AllRan, HasRun}
@@ -155,7 +155,7 @@ Of-is : (a b : ℕ) → Of a ≡ Of b → a ≡ b
 Of-is a b q = cc
 
 module _ (s : State) (sound : IsSound s) (ts : List ℕ) (live : AreLive s.table.threads ts)
-    (apart : (i j t : ℕ) → slice_get ts i ≡ Some t → slice_get ts j ≡ Some t → i ≡ j)
+    (apart : AreOnce ts)
     (new : Store) (ps qs : List Pack)
     (h : Handing ts (map (pack_of s.table (length s.frames.pages)) ts) s.frames new ps
     (length s.frames.pages)) (ran : AllRan (view_of new s.table) ps qs) where

@@ -17,6 +17,7 @@ use Rattle.quantum_run.proofs.Packing.{page-same}
 use Rattle.round_core.specs.Round.{all_alone}
 use Rattle.round_core.proofs.Commute.{Among, Apart, places-apart}
 use Rattle.dos_world.specs.declared.ThreadState.TheVariants.{Ready}
+use Rattle.group_rounds.specs.Handing.{AreOnce}
 use Rattle.group_rounds.specs.Phases.{ready_in}
 use Rattle.round_core.proofs.Bringing.{DifferIn, all_alone-differ, differ-same}
 use Rattle.group_rounds.proofs.HandingLaws.{beside}
@@ -110,7 +111,7 @@ among-at (x ∷ ts) t (inl e) = (0, ap Some e)
 among-at (x ∷ ts) t (inr h) = let r = among-at ts t h in (suc r.0, r.1)
 
 pub apart-of : (ts : List ℕ)
-    → ((i j t : ℕ) → slice_get ts i ≡ Some t → slice_get ts j ≡ Some t → i ≡ j) → Apart ts
+    → AreOnce ts → Apart ts
 apart-of [] h = tt
 apart-of (t ∷ ts) h = (
   λ s q e. let at = among-at ts s q in let same : suc at.0 ≡ 0 =
@@ -196,8 +197,7 @@ brought v ts ps qs w u apart lp lq each differ back =
     thread-is i t q at here = let p = beside ps ts i t (sym lp) at in (each i t p.0 q at p.1 here).thread
 
 -- threads that are apart stand at one place each
-pub apart-index : (ts : List ℕ) → Apart ts → (i j t : ℕ) → slice_get ts i ≡ Some t
-    → slice_get ts j ≡ Some t → i ≡ j
+pub apart-index : (ts : List ℕ) → Apart ts → AreOnce ts
 apart-index [] h i j t a b = cc
 apart-index (x ∷ ts) h zero zero t a b = refl
 apart-index (x ∷ ts) h zero (suc j) t a b = absurd (h.0 t (among-of ts j t b) (sym (first a)))
@@ -211,6 +211,6 @@ apart-index (x ∷ ts) h (suc i) zero t a b = absurd (h.0 t (among-of ts i t a) 
 apart-index (x ∷ ts) h (suc i) (suc j) t a b = ap suc (apart-index ts h.1 i j t a b)
 
 pub ready-apart : (threads : List (Option Thread)) (ts : List ℕ) → ts ≡ ready_in threads
-    → (i j t : ℕ) → slice_get ts i ≡ Some t → slice_get ts j ≡ Some t → i ≡ j
+    → AreOnce ts
 ready-apart threads ts is =
     apart-index ts (subst Apart (sym is) (places-apart 1 (is_state Ready) threads))

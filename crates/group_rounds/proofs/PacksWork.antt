@@ -11,7 +11,7 @@ use Rattle.quantum_run.specs.Shows.{Pack}
 use Rattle.worker_pool.specs.Ran.{AllRan, budgets}
 use Rattle.kernel_calls.specs.StateWorld.{IsSound, world_of}
 use Rattle.kernel_calls.specs.declared.state.State.{State}
-use Rattle.group_rounds.specs.Handing.{AreSet, Handing, pack_of, view_of}
+use Rattle.group_rounds.specs.Handing.{AreOnce, AreSet, Handing, pack_of, view_of}
 use Rattle.group_rounds.specs.Parts.{budget_in, work_between}
 use Rattle.group_rounds.specs.Phases.{AreLive}
 use Rattle.group_rounds.proofs.PacksShow.{opened-is, shows-it}
@@ -44,7 +44,7 @@ budgets-are s (t ∷ ts) (p ∷ ps) level each =
     ∙ sym (sum_by-cons (budget_in s) t ts)
 
 module _ (s : State) (sound : IsSound s) (ts : List ℕ) (live : AreLive s.table.threads ts)
-    (apart : (i j t : ℕ) → slice_get ts i ≡ Some t → slice_get ts j ≡ Some t → i ≡ j)
+    (apart : AreOnce ts)
     (new : Store) (ps qs : List Pack)
     (h : Handing ts (map (pack_of s.table (length s.frames.pages)) ts) s.frames new ps
     (length s.frames.pages)) (ran : AllRan (view_of new s.table) ps qs) where

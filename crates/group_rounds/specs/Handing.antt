@@ -21,6 +21,10 @@ abbrev pub all_pages : List Pack → List (ℕ × List ℕ)
 all_pages [] = []
 all_pages (p ∷ ps) = p.pages ++ all_pages ps
 
+-- no thread stands twice among these
+abbrev pub AreOnce : List ℕ → Type 0
+AreOnce ts = (i j t : ℕ) → slice_get ts i ≡ Some t → slice_get ts j ≡ Some t → i ≡ j
+
 -- no frame twice
 abbrev pub AreApart : List (ℕ × List ℕ) → Type 0
 AreApart [] = Unit {0}

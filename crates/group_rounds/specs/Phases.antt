@@ -1,10 +1,14 @@
 -- The starters of a round, and who waits no longer. This project's own words.
-use Rattle.std.specs.Prelude.{ℕ, Bool, List, Option, All, filter, not, ◌&&◌}
+use Rattle.std.specs.Prelude.{ℕ, ◌≡◌, Bool, List, Option, All, filter, not, ◌&&◌}
 use Rattle.dos_world.specs.Numbered.{numbers_of}
 use Rattle.dos_world.specs.World.{World, Thread, is_state, thread_at}
 use Rattle.dos_world.specs.Signals.{would_wait}
 use Rattle.dos_world.specs.declared.ThreadState.TheVariants.{Ready, Retry}
 use Rattle.proc_table.specs.Tables.{IsThread, thread_in}
+use Rattle.round_core.specs.Round.{all_alone}
+use Rattle.kernel_calls.specs.StateWorld.{IsSound, sent, world_of}
+use Rattle.kernel_calls.specs.declared.state.State.{State}
+use Rattle.group_rounds.specs.Parts.{KeepsCount}
 
 -- the numbers of the ready threads, in rising order
 abbrev pub ready_in : List (Option Thread) → List ℕ
@@ -25,3 +29,11 @@ is_ripe w t = is_state Retry (thread_at w t) && not (would_wait w t)
 -- the numbers of those threads, in rising order
 abbrev pub ripe_in : World → List ℕ
 ripe_in w = filter (λ t. not (would_wait w t)) (numbers_of (is_state Retry) w.threads)
+
+-- Each of these threads has run its part by itself, and nothing else is another.
+pub record HaveRunAlone (starters : List ℕ) (old new : State) : Type 0 where
+  pub runs : (q : ℕ) (o e : List ℕ)
+      → all_alone (sent o e (world_of q old)) starters ≡ sent o e (world_of q new)
+  pub sound : IsSound new
+  pub round : new.round ≡ old.round
+  pub count : KeepsCount old new

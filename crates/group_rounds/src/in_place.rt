@@ -1,9 +1,9 @@
 // The parallel phase in place: the starters' parts one after another, over the frames themselves.
-ghost use Rattle.std.specs.Prelude.{◌≡◌, ◌≤◌, ℕ, List, Some, length, slice_get};
-ghost use Rattle.kernel_calls.specs.StateWorld.{IsSound, sent, world_of};
-ghost use Rattle.round_core.specs.Round.{all_alone};
-ghost use Rattle.group_rounds.specs.Parts.{KeepsCount, work_between};
-ghost use Rattle.group_rounds.specs.Phases.{AreLive};
+ghost use Rattle.std.specs.Prelude.{◌≡◌, ◌≤◌, length};
+ghost use Rattle.kernel_calls.specs.StateWorld.{IsSound};
+ghost use Rattle.group_rounds.specs.Handing.{AreOnce};
+ghost use Rattle.group_rounds.specs.Parts.{work_between};
+ghost use Rattle.group_rounds.specs.Phases.{AreLive, HaveRunAlone};
 ghost use Rattle.worker_pool.specs.Ran.{GrewBy};
 
 use crate::part::run_alone;
@@ -25,15 +25,9 @@ pub(crate) fn is_callers<W: Workers>(workers: &W, starters: usize) -> bool {
 pub(crate) fn run_each<W: Workers>(state: &mut State, starters: &[u32], workers: &mut W)
     requires sound { IsSound state.old }
     requires live { AreLive state.old.table.threads starters.now }
-    requires apart { (i j t : ℕ) → slice_get starters.now i ≡ Some t
-        → slice_get starters.now j ≡ Some t → i ≡ j }
+    requires apart { AreOnce starters.now }
     requires few { length starters.now ≤ 64 }
-    ensures runs { (q : ℕ) (o e : List ℕ)
-        → all_alone (sent o e (world_of q state.old)) starters.now
-        ≡ sent o e (world_of q state.new) }
-    ensures sound { IsSound state.new }
-    ensures round { state.new.round ≡ state.old.round }
-    ensures count { KeepsCount state.old state.new }
+    ensures parts { HaveRunAlone starters.now state.old state.new }
     ensures tally { GrewBy (W.tally workers.old) (W.tally workers.new)
         (work_between state.old state.new starters.now) }
     ensures fixed { W.fixed workers.new ≡ W.fixed workers.old }

@@ -7,12 +7,11 @@ ghost use Rattle.page_store.specs.Store.{AreHome, IsAway, IsHome, owner_at};
 ghost use Rattle.proc_table.specs.Tables.{IsThread};
 ghost use Rattle.quantum_run.specs.Shows.{Pack as pack_value};
 ghost use Rattle.quantum_run.specs.Packs.{HoldsNo};
-ghost use Rattle.kernel_calls.specs.StateWorld.{IsSound, sent, world_of};
-ghost use Rattle.round_core.specs.Round.{all_alone};
-ghost use Rattle.group_rounds.specs.Parts.{KeepsCount, work_between};
+ghost use Rattle.kernel_calls.specs.StateWorld.{IsSound};
+ghost use Rattle.group_rounds.specs.Parts.{work_between};
 ghost use Rattle.worker_pool.specs.Ran.{AllCanRun, AllRan, GrewBy, budgets};
-ghost use Rattle.group_rounds.specs.Phases.{AreLive};
-ghost use Rattle.group_rounds.specs.Handing.{In, all_pages, AreApart, AreOthers, AreBegun};
+ghost use Rattle.group_rounds.specs.Phases.{AreLive, HaveRunAlone};
+ghost use Rattle.group_rounds.specs.Handing.{AreOnce, In, all_pages, AreApart, AreOthers, AreBegun};
 ghost use Rattle.group_rounds.specs.Handing.{AreSpare, GoesOut, Handing, PutBack, AreSet, Stays};
 ghost use Rattle.group_rounds.specs.Handing.{pack_of, view_of};
 
@@ -87,16 +86,10 @@ impl Packs {
     pub(crate) fn run<W: Workers>(&mut self, state: &mut State, starters: &[u32], workers: &mut W)
         requires sound { IsSound state.old }
         requires live { AreLive state.old.table.threads starters.now }
-        requires apart { (i j t : ℕ) → slice_get starters.now i ≡ Some t
-            → slice_get starters.now j ≡ Some t → i ≡ j }
+        requires apart { AreOnce starters.now }
         requires few { length starters.now ≤ 64 }
         requires level { self.old ≡ length state.old.frames.owners }
-        ensures runs { (q : ℕ) (o e : List ℕ)
-            → all_alone (sent o e (world_of q state.old)) starters.now
-            ≡ sent o e (world_of q state.new) }
-        ensures sound { IsSound state.new }
-        ensures round { state.new.round ≡ state.old.round }
-        ensures count { KeepsCount state.old state.new }
+        ensures parts { HaveRunAlone starters.now state.old state.new }
         ensures packs { self.new ≡ self.old }
         ensures tally { GrewBy (W.tally workers.old) (W.tally workers.new)
             (work_between state.old state.new starters.now) }
@@ -221,8 +214,7 @@ fn next_owned(frames: &Frames, from: u32, high: u32) -> u32
 // the pages of the starters' frames go into their packs
 fn hand_pages(frames: &mut Frames, starters: &[u32], packs: &mut Vec<Pack>)
     requires home { AreHome frames.old }
-    requires apart { (i j t : ℕ) → slice_get starters.now i ≡ Some t
-        → slice_get starters.now j ≡ Some t → i ≡ j }
+    requires apart { AreOnce starters.now }
     requires level { length packs.old.items ≡ length starters.now }
     requires begun { AreBegun frames.old packs.old.items }
     ensures hands { Handing starters.now packs.old.items frames.old frames.new packs.new.items
@@ -248,8 +240,7 @@ pub(crate) fn hand_out(
 )
     requires sound { IsSound state.old }
     requires live { AreLive state.old.table.threads starters.now }
-    requires apart { (i j t : ℕ) → slice_get starters.now i ≡ Some t
-        → slice_get starters.now j ≡ Some t → i ≡ j }
+    requires apart { AreOnce starters.now }
     requires none { packs.old.items ≡ [] }
     requires room { length starters.now ≤ vec_capacity packs.old }
     requires enough { length starters.now ≤ length spare.old.items }
@@ -412,8 +403,7 @@ fn parallel_packs<W: Workers>(
 )
     requires sound { IsSound state.old }
     requires live { AreLive state.old.table.threads starters.now }
-    requires apart { (i j t : ℕ) → slice_get starters.now i ≡ Some t
-        → slice_get starters.now j ≡ Some t → i ≡ j }
+    requires apart { AreOnce starters.now }
     requires few { length starters.now ≤ 64 }
     requires stand_in { IsSome stand_in.old }
     requires none { packs.old.items ≡ [] }
@@ -421,12 +411,7 @@ fn parallel_packs<W: Workers>(
     requires enough { length starters.now ≤ length spare.old.items }
     requires spare { AreSpare (length state.old.frames.pages) spare.old.items }
     requires spare_room { length spare.old.items ≤ vec_capacity spare.old }
-    ensures runs { (q : ℕ) (o e : List ℕ)
-        → all_alone (sent o e (world_of q state.old)) starters.now
-        ≡ sent o e (world_of q state.new) }
-    ensures sound { IsSound state.new }
-    ensures round { state.new.round ≡ state.old.round }
-    ensures count { KeepsCount state.old state.new }
+    ensures parts { HaveRunAlone starters.now state.old state.new }
     ensures tally { GrewBy (W.tally workers.old) (W.tally workers.new)
         (work_between state.old state.new starters.now) }
     ensures fixed { W.fixed workers.new ≡ W.fixed workers.old }

@@ -31,7 +31,14 @@ loop-tid-preserved g c =
       few = omega (arith, few, more, from);
     }
 
-pub returns-clause-runs : goal.returns-clause-runs
-returns-clause-runs g c = λ q o e. c.loop-tid.invariant.runs q o e
-    ∙ ap (all_alone (sent o e (world_of q c.loop-tid.state)))
-    (drop_out c.args.starters.now c.loop-tid.tid-index c.loop-tid-test.false)
+pub returns-clause-parts : goal.returns-clause-parts
+returns-clause-parts g c =
+    let inv = c.loop-tid.invariant in
+    record {
+      runs = λ q o e. inv.runs q o e
+          ∙ ap (all_alone (sent o e (world_of q c.loop-tid.state)))
+          (drop_out c.args.starters.now c.loop-tid.tid-index c.loop-tid-test.false);
+      sound = inv.sound;
+      round = inv.round;
+      count = inv.count;
+    }

@@ -98,10 +98,12 @@ returns g c =
     let rest = rest-to _ _ s s2 same home.round home.pipes home.futexes c.hand_out.ensures.round
     c.hand_out.ensures.pipes c.hand_out.ensures.futexes in
     record {
-      runs = all-runs s sound ts live apart new ps qs h ran s2 back set rest.0 rest.1 rest.2;
-      sound = sound-again s sound ts live apart new ps qs h ran s2 back set rest.0 rest.1 rest.2;
-      round = rest.0;
-      count = count-again s sound ts live apart new ps qs h ran s2 back set rest.0 rest.1 rest.2;
+      parts = record {
+        runs = all-runs s sound ts live apart new ps qs h ran s2 back set rest.0 rest.1 rest.2;
+        sound = sound-again s sound ts live apart new ps qs h ran s2 back set rest.0 rest.1 rest.2;
+        round = rest.0;
+        count = count-again s sound ts live apart new ps qs h ran s2 back set rest.0 rest.1 rest.2;
+      };
       tally = subst (λ work. GrewBy (g.W.Workers.tally c.args.workers.now)
           (g.W.Workers.tally c.run_out.new.workers) work)
           (work-is s sound ts live apart new ps qs h ran s2 set) c.run_out.ensures.tally;

@@ -25,7 +25,7 @@ run-requires-clause-apart g c =
 pub finish_round-requires-clause-parts : goal.finish_round-requires-clause-parts
 finish_round-requires-clause-parts g c =
     parts_alone c.set_budgets.new.state c.run.new.state c.args.starters.now
-    c.set_budgets.ensures.sound c.run.ensures.runs c.args.starters.now
+    c.set_budgets.ensures.sound c.run.ensures.parts.runs c.args.starters.now
     (c.set_budgets.ensures.parts c.args.starters.now
     (subst (λ ts. HaveParts ts c.args.state.now) (sym c.requires.ready)
     (parts_begin c.args.state.now c.requires.sound)))
@@ -34,7 +34,7 @@ pub returns-clause-goes : goal.returns-clause-goes
 returns-clause-goes g c = on_ok_weaker c.finish_round.result (λ ends. (
   work_between c.set_budgets.new.state c.run.new.state c.args.starters.now,
   phases_go c.args.quantum c.args.state.now c.set_budgets.new.state c.run.new.state
-      c.args.starters.now c.requires.ready c.set_budgets.ensures.sets c.run.ensures.runs
+      c.args.starters.now c.requires.ready c.set_budgets.ensures.sets c.run.ensures.parts.runs
       c.finish_round.new.state _ _
       (ends c.args.quantum
       (work_between c.set_budgets.new.state c.run.new.state c.args.starters.now)),
@@ -45,7 +45,7 @@ pub returns-clause-cut : goal.returns-clause-cut
 returns-clause-cut g c =
     on_err_weaker c.finish_round.result
     (λ cut. phases_cut c.args.quantum c.args.state.now c.set_budgets.new.state c.run.new.state
-    c.args.starters.now c.requires.ready c.set_budgets.ensures.sets c.run.ensures.runs _ _
+    c.args.starters.now c.requires.ready c.set_budgets.ensures.sets c.run.ensures.parts.runs _ _
     (cut c.args.quantum)) c.finish_round.ensures.cut
 
 pub returns-clause-asks : goal.returns-clause-asks
@@ -53,7 +53,7 @@ returns-clause-asks g c =
     if_err_weaker c.finish_round.result _ _ (λ stop. some_weaker (shim_stop stop) _ _
     (λ stopped. phases_stopped c.args.quantum c.args.state.now c.set_budgets.new.state
     c.run.new.state c.args.starters.now c.requires.ready c.set_budgets.ensures.sets
-    c.run.ensures.runs _ _ _ (stopped c.args.quantum))) c.finish_round.ensures.asks
+    c.run.ensures.parts.runs _ _ _ (stopped c.args.quantum))) c.finish_round.ensures.asks
 
 pub returns-clause-end : goal.returns-clause-end
 returns-clause-end g c = c.finish_round.ensures.end
@@ -61,7 +61,7 @@ returns-clause-end g c = c.finish_round.ensures.end
 pub returns-clause-keeps : goal.returns-clause-keeps
 returns-clause-keeps g c =
     keeps_then c.finish_round.result c.args.state.now c.run.new.state c.finish_round.new.state _ _ _
-    (c.run.ensures.round ∙ c.set_budgets.ensures.round)
-    (c.run.ensures.count ∙ c.set_budgets.ensures.count)
+    (c.run.ensures.parts.round ∙ c.set_budgets.ensures.round)
+    (c.run.ensures.parts.count ∙ c.set_budgets.ensures.count)
     (stood_yet (g.S.Shim.state c.args.shim.now) (g.O.Sink.faults c.args.out.now)
     (g.E.Sink.faults c.args.err.now)) c.finish_round.ensures.keeps
