@@ -1,6 +1,7 @@
-use Rattle.std.proofs.Common.{refl, sym, ap, ◌∙◌, length, eqb-true, eq-eqb}
+use Rattle.std.proofs.Common.{◌≢◌, is_some, refl, sym, ap, ◌∙◌, length, eqb-true, eq-eqb}
 use Rattle.std.proofs.lemmas.Bool.{true≢false}
 use Rattle.std.proofs.lemmas.Result.{on_err_weaker}
+use Rattle.dos_world.specs.Numbered.{numbers_of}
 use Rattle.kernel_calls.specs.StateWorld.{shim_stop}
 use Rattle.worker_pool.proofs.Growing.{grew-nothing}
 use Rattle.group_rounds.specs.StatePlays.{telling}
@@ -56,32 +57,29 @@ returns-then-is_empty g c = record {
 
 -- the phases
 pub returns : goal.returns
-returns g c = record {
-  goes = ok_is _ c.run_phases.result _ Went (λ k. (
-    k.0,
-    begun_goes c.args.quantum c.args.state.now
-        (λ none. c.if-live_threads-eq0.false (c.live_threads.ensures ∙ none))
-        c.args.starters.now c.requires.ready
-        (λ none. true≢false (sym (eq-eqb _ 0 none) ∙ sym c.is_empty.ensures ∙ c.if-is_empty.false))
-        _ _ c.run_phases.new.state k.0 k.1,
-    k.2,
-  )) c.run_phases.ensures.goes c.run_phases.ensures.end;
-  asks = if_err_weaker c.run_phases.result _ _ (λ stop. some_weaker (shim_stop stop) _ _
-      (begun_stopped c.args.quantum c.args.state.now
-      (λ none. c.if-live_threads-eq0.false (c.live_threads.ensures ∙ none))
-      c.args.starters.now c.requires.ready
-      (λ none. true≢false (sym (eq-eqb _ 0 none) ∙ sym c.is_empty.ensures ∙ c.if-is_empty.false))
-      _ _ _)) c.run_phases.ensures.asks;
-  cut = on_err_weaker c.run_phases.result
-      (begun_cut c.args.quantum c.args.state.now
-      (λ none. c.if-live_threads-eq0.false (c.live_threads.ensures ∙ none))
-      c.args.starters.now c.requires.ready
-      (λ none. true≢false (sym (eq-eqb _ 0 none) ∙ sym c.is_empty.ensures ∙ c.if-is_empty.false))
-      _ _) c.run_phases.ensures.cut;
-  round = ok_is _ c.run_phases.result _ Went (λ next. next) c.run_phases.ensures.round
-      c.run_phases.ensures.end;
-  packs = c.run_phases.ensures.packs;
-  keeps = c.run_phases.ensures.keeps;
-  follows = c.run_phases.ensures.follows;
-  fixed = c.run_phases.ensures.fixed;
-}
+returns g c =
+    let q = c.args.quantum in
+    let s = c.args.state.now in
+    let starters = c.args.starters.now in
+    let live : length (numbers_of is_some s.table.threads) ≢ 0 =
+    λ none. c.if-live_threads-eq0.false (c.live_threads.ensures ∙ none) in
+    let some : length starters ≢ 0 =
+    λ none. true≢false (sym (eq-eqb _ 0 none) ∙ sym c.is_empty.ensures ∙ c.if-is_empty.false) in
+    let ready = c.requires.ready in
+    let result = c.run_phases.result in
+    let e = c.run_phases.ensures in
+    record {
+      goes = ok_is _ result _ Went (λ k. (
+        k.0,
+        begun_goes q s live starters ready some _ _ c.run_phases.new.state k.0 k.1,
+        k.2,
+      )) e.goes e.end;
+      asks = if_err_weaker result _ _ (λ stop. some_weaker (shim_stop stop) _ _
+          (begun_stopped q s live starters ready some _ _ _)) e.asks;
+      cut = on_err_weaker result (begun_cut q s live starters ready some _ _) e.cut;
+      round = ok_is _ result _ Went (λ next. next) e.round e.end;
+      packs = e.packs;
+      keeps = e.keeps;
+      follows = e.follows;
+      fixed = e.fixed;
+    }

@@ -1,6 +1,7 @@
-use Rattle.std.proofs.Common.{ℕ, ◌≡◌, ◌≤◌, refl, sym, ap, ◌∙◌, subst, length, le_refl}
+use Rattle.std.proofs.Common.{ℕ, ◌≡◌, ◌≢◌, is_some, ◌≤◌, refl, sym, ap, ◌∙◌, subst, length, le_refl}
 use Rattle.std.specs.Prelude.{IfOk, OnSome, Option, Some, None}
 use Rattle.std.proofs.lemmas.Result.{IfOk-weaker, on_err_weaker}
+use Rattle.dos_world.specs.Numbered.{numbers_of}
 use Rattle.dos_io.specs.Shims.{ShimState}
 use Rattle.kernel_calls.specs.StateWorld.{shim_stop}
 use Rattle.worker_pool.proofs.Growing.{grew-nothing}
@@ -47,32 +48,37 @@ on_some None P h = tt
 on_some (Some x) P h = h
 
 pub returns-in-Err : goal.returns-in-Err
-returns-in-Err g c = record {
-  runs = tt;
-  asks = on_some _ _
-      (round_stops c.args.quantum c.args.state.now c.requires.sound
-      (λ none. c.if-live_threads-eq0.false (c.live_threads.ensures ∙ none)) _ _ _
-      c.in-Err.ensures.stopped.stopped.told refl refl c.in-Err.ensures.stopped.stopped.asked);
-  cut = cut_stopped c.args.quantum world_ended (λ w. round_of w) c.args.state.now _ _ _
-      (round_stops c.args.quantum c.args.state.now c.requires.sound
-      (λ none. c.if-live_threads-eq0.false (c.live_threads.ensures ∙ none)) _ _ _
-      c.in-Err.ensures.stopped.stopped.told refl refl c.in-Err.ensures.stopped.stopped.asked);
-  starters = tt;
-  room = c.open_round.ensures.room;
-  round = tt;
-  packs = refl;
-  keeps = record {
-    sound = tt;
-    count = tt;
-    uncounted = c.open_round.ensures.round;
-    before_end = on_some _ _ (ap is_end c.in-Err.ensures.stopped.stopped.asked);
-    told = tt;
-    causes = stops_causes _ _ (g.S.Shim.state c.args.shim.now)
-        (g.S.Shim.state c.open_round.new.shim) _ _ c.in-Err.ensures.stopped;
-  };
-  follows = c.open_round.ensures.follows;
-  fixed = refl;
-}
+returns-in-Err g c =
+    let s = c.args.state.now in
+    let live : length (numbers_of is_some s.table.threads) ≢ 0 =
+    λ none. c.if-live_threads-eq0.false (c.live_threads.ensures ∙ none) in
+    let stopped = c.in-Err.ensures.stopped.stopped in
+    let stops = round_stops c.args.quantum s c.requires.sound live
+    (telling (g.S.Shim.state c.args.shim.now).told (g.O.Sink.told c.args.out.now)
+    (g.E.Sink.told c.args.err.now))
+    (telling (g.S.Shim.state c.open_round.new.shim).told (g.O.Sink.told c.args.out.now)
+    (g.E.Sink.told c.args.err.now))
+    (g.S.Shim.state c.open_round.new.shim).asked stopped.told refl refl stopped.asked in
+    record {
+      runs = tt;
+      asks = on_some _ _ stops;
+      cut = cut_stopped c.args.quantum world_ended (λ w. round_of w) s _ _ _ stops;
+      starters = tt;
+      room = c.open_round.ensures.room;
+      round = tt;
+      packs = refl;
+      keeps = record {
+        sound = tt;
+        count = tt;
+        uncounted = c.open_round.ensures.round;
+        before_end = on_some _ _ (ap is_end stopped.asked);
+        told = tt;
+        causes = stops_causes _ _ (g.S.Shim.state c.args.shim.now)
+            (g.S.Shim.state c.open_round.new.shim) _ _ c.in-Err.ensures.stopped;
+      };
+      follows = c.open_round.ensures.follows;
+      fixed = refl;
+    }
 
 -- ---- and goes on after the signal point
 
@@ -109,56 +115,49 @@ pub play_begun-requires-clause-told : goal.play_begun-requires-clause-told
 play_begun-requires-clause-told g c = λ κs outlive. c.in-Ok.ensures.told
 
 pub returns-in-Ok : goal.returns-in-Ok
-returns-in-Ok g c = record {
-  runs = IfOk-weaker c.play_begun.result _ _
-      (λ end k. (
-        k.0,
-        round_ran c.args.quantum c.args.state.now c.requires.sound
-            (λ none. c.if-live_threads-eq0.false (c.live_threads.ensures ∙ none))
-            c.in-Ok.ensures.opened.list c.open_round.new.state
-            c.in-Ok.ensures.opened.begins _ _
-            (ap (λ (s : ShimState). s.told) c.in-Ok.ensures.opened.answered_is) refl refl
-            end c.play_begun.new.state _ k.0 k.1,
-        k.2,
-      )) c.play_begun.ensures.goes;
-  asks = if_err_weaker c.play_begun.result _ _
-      (λ stop. some_weaker (shim_stop stop) _ _
-      (round_stopped c.args.quantum c.args.state.now c.requires.sound
-      (λ none. c.if-live_threads-eq0.false (c.live_threads.ensures ∙ none))
-      c.in-Ok.ensures.opened.list c.open_round.new.state
-      c.in-Ok.ensures.opened.begins _ _
-      (ap (λ (s : ShimState). s.told) c.in-Ok.ensures.opened.answered_is) refl refl
-      _ _)) c.play_begun.ensures.asks;
-  cut = on_err_weaker c.play_begun.result
-      (round_cut c.args.quantum c.args.state.now c.requires.sound
-      (λ none. c.if-live_threads-eq0.false (c.live_threads.ensures ∙ none))
-      c.in-Ok.ensures.opened.list c.open_round.new.state
-      c.in-Ok.ensures.opened.begins _ _
-      (ap (λ (s : ShimState). s.told) c.in-Ok.ensures.opened.answered_is) refl refl
-      _) c.play_begun.ensures.cut;
-  starters = ok_weaker c.play_begun.result _ _
-      (λ end k. round_began c.args.quantum c.args.state.now c.requires.sound
-      (λ none. c.if-live_threads-eq0.false (c.live_threads.ensures ∙ none))
-      c.in-Ok.ensures.opened.list c.open_round.new.state
-      c.in-Ok.ensures.opened.begins _ _
-      (ap (λ (s : ShimState). s.told) c.in-Ok.ensures.opened.answered_is) refl refl
-      c.args.starters.now.items c.open_round.new.starters.items end c.play_begun.new.state _
-      k.0 c.in-Ok.ensures.starters k.1) c.play_begun.ensures.goes;
-  room = c.open_round.ensures.room;
-  round = subst (λ (n : ℕ). IfOk c.play_begun.result
-      (λ end. c.play_begun.new.state.round ≡ next_round end n))
-      c.open_round.ensures.round c.play_begun.ensures.round;
-  packs = c.play_begun.ensures.packs;
-  keeps = keeps_then c.play_begun.result c.args.state.now c.open_round.new.state
-      c.play_begun.new.state _ _ _ c.open_round.ensures.round c.open_round.ensures.count
-      (record {
-        out_later = le_refl _;
-        err_later = le_refl _;
-        stands = record {
-          stops = ap (λ (s : ShimState). s.stops) c.in-Ok.ensures.opened.answered_is;
-          last = ap (λ (s : ShimState). s.last) c.in-Ok.ensures.opened.answered_is;
-        };
-      }) c.play_begun.ensures.keeps;
-  follows = g.met.S.Shim.transitive _ _ _ c.open_round.ensures.follows c.play_begun.ensures.follows;
-  fixed = c.play_begun.ensures.fixed;
-}
+returns-in-Ok g c =
+    let q = c.args.quantum in
+    let s = c.args.state.now in
+    let sound = c.requires.sound in
+    let live : length (numbers_of is_some s.table.threads) ≢ 0 =
+    λ none. c.if-live_threads-eq0.false (c.live_threads.ensures ∙ none) in
+    let opened = c.in-Ok.ensures.opened in
+    let s' = c.open_round.new.state in
+    let told = ap (λ (x : ShimState). x.told) opened.answered_is in
+    let result = c.play_begun.result in
+    let last = c.play_begun.new.state in
+    let e = c.play_begun.ensures in
+    record {
+      runs = IfOk-weaker result _ _
+          (λ end k. (
+            k.0,
+            round_ran q s sound live opened.list s' opened.begins _ _ told refl refl end last _ k.0
+                k.1,
+            k.2,
+          )) e.goes;
+      asks = if_err_weaker result _ _
+          (λ stop. some_weaker (shim_stop stop) _ _
+          (round_stopped q s sound live opened.list s' opened.begins _ _ told refl refl _ _)) e.asks;
+      cut = on_err_weaker result
+          (round_cut q s sound live opened.list s' opened.begins _ _ told refl refl _) e.cut;
+      starters = ok_weaker result _ _
+          (λ end k. round_began q s sound live opened.list s' opened.begins _ _ told refl refl
+          c.args.starters.now.items c.open_round.new.starters.items end last _ k.0
+          c.in-Ok.ensures.starters k.1) e.goes;
+      room = c.open_round.ensures.room;
+      round = subst (λ (n : ℕ). IfOk result (λ end. last.round ≡ next_round end n))
+          c.open_round.ensures.round e.round;
+      packs = e.packs;
+      keeps = keeps_then result s s' last _ _ _ c.open_round.ensures.round
+          c.open_round.ensures.count
+          (record {
+            out_later = le_refl _;
+            err_later = le_refl _;
+            stands = record {
+              stops = ap (λ (x : ShimState). x.stops) opened.answered_is;
+              last = ap (λ (x : ShimState). x.last) opened.answered_is;
+            };
+          }) e.keeps;
+      follows = g.met.S.Shim.transitive _ _ _ c.open_round.ensures.follows e.follows;
+      fixed = e.fixed;
+    }
