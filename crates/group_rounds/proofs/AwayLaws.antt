@@ -1,5 +1,6 @@
 -- What is known of packs that went out, and of those that have run.
 use Rattle.std.proofs.Common.{ℕ, ◌-◌, ◌≤◌, ◌≡◌, refl, sym, ap, ◌∙◌, subst, List, false}
+use Rattle.dos_world.specs.declared.Config.{Config}
 use Rattle.page_store.specs.Store.{Store, IsAway}
 use Rattle.quantum_run.specs.Shows.{Pack, CanRun}
 use Rattle.proc_table.specs.Tables.{Tables, IsThread}
@@ -18,6 +19,15 @@ use Rattle.group_rounds.proofs.PacksBack.{rooms, all-runs, sound-again, count-ag
 use Rattle.group_rounds.proofs.PacksWork.{work-is}
 use Rattle.group_rounds.proofs.RoundLaws.{parallel_is}
 use Rattle.group_rounds.proofs.HandingLaws.{beside}
+
+-- a kernel that is handed out, by its parts
+abbrev pub away : State → Config → (starters : List ℕ) → (packs : List Pack) → Away
+away state config starters packs = record {
+  state = state;
+  config = config;
+  starters = starters;
+  packs = packs;
+}
 
 module _ (before : State) (a : Away) (out : WentOut before a) where
   abbrev new : Store

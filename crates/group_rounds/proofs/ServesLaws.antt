@@ -1,6 +1,6 @@
 -- What a call of the serial phase leaves, by the plays that it is; and what one of a round keeps.
-use Rattle.std.proofs.Common.{ℕ, ◌≡◌, ◌≤◌, ◌-◌, ◌∙◌, refl, sym, subst, false, List}
-use Rattle.std.specs.Prelude.{Result, Ok, Err, OnOk, is_err}
+use Rattle.std.proofs.Common.{ℕ, ◌≡◌, ◌≤◌, ◌-◌, ◌∙◌, refl, sym, subst, false, List, arith}
+use Rattle.std.specs.Prelude.{Result, Ok, Err, IfOk, OnErr, OnOk, is_err}
 use Rattle.std.proofs.lemmas.Result.{on_ok_weaker, on_err_weaker}
 use Rattle.dos_world.specs.World.{World}
 use Rattle.dos_world.specs.Play.{Play, done}
@@ -12,6 +12,9 @@ use Rattle.kernel_calls.specs.declared.state.State.{State}
 use Rattle.group_rounds.specs.Outside.{HaveStood}
 use Rattle.group_rounds.specs.Kernels.{IsBetweenRounds}
 use Rattle.group_rounds.specs.Parts.{KeepsCount}
+use Rattle.group_rounds.specs.Rounds.{next_round}
+use Rattle.group_rounds.specs.declared.round.RoundEnd.{RoundEnd}
+use Rattle.group_rounds.specs.declared.round.RoundEnd.TheVariants.{Went, Done, Stalled}
 use Rattle.group_rounds.specs.Serving.{Border, KeepsRound, Serves, told_at}
 use Rattle.group_rounds.specs.StatePlays.{GoesTo}
 use Rattle.group_rounds.proofs.CauseLaws.{causes_ok, causes_then, stood_yet}
@@ -104,3 +107,32 @@ keeps_then result old halfway new before between after round count stood h = rec
   told = h.told;
   causes = causes_then result _ _ _ _ _ _ _ _ _ stood h.causes;
 }
+
+-- the first round's number is 1, and none is less
+pub round_follows : (result : Result RoundEnd RunStop) (round next : ℕ)
+    → IfOk result (λ end. next ≡ next_round end round) → OnErr result (next ≡ round) → 1 ≤ round
+    → 1 ≤ next
+round_follows (Ok Went) round next is still first = omega (arith, is)
+round_follows (Ok Done) round next is still first = omega (arith, is)
+round_follows (Ok Stalled) round next is still first = omega (arith, is)
+round_follows (Err stop) round next is still first = omega (arith, still)
+
+-- after a round that may be run, the state may stand between two rounds where it hasn't stopped
+pub keeps_between : (result : Result RoundEnd RunStop) (old new : State) (config : Config)
+    (before after : Border) → IsBetweenRounds old config → old.round ≤ config.rounds
+    → KeepsRound result old new before after
+    → IfOk result (λ end. new.round ≡ next_round end old.round) → is_err result ≡ false
+    → IsBetweenRounds new config
+keeps_between result old new config before after between limit h round ok = record {
+  sound = of_ok result _ h.sound ok;
+  range = between.range;
+  rounds = of_ok result _ (counted result new.round round) ok;
+  frames = of_ok result _ h.count ok ∙ between.frames;
+}
+  where
+    counted : (r : Result RoundEnd RunStop) (n : ℕ)
+        → IfOk r (λ end. n ≡ next_round end old.round) → OnOk r (n - 1 ≤ config.rounds)
+    counted (Ok Went) n is = omega (arith, is, limit)
+    counted (Ok Done) n is = omega (arith, is, limit)
+    counted (Ok Stalled) n is = omega (arith, is, limit)
+    counted (Err stop) n is = tt

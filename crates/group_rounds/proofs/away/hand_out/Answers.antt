@@ -6,6 +6,7 @@ use Rattle.group_rounds.specs.Away.{WentOut, IsHandedOut}
 use Rattle.group_rounds.specs.Handing.{AreSpare, Handing, pack_of}
 use Rattle.group_rounds.specs.Kernels.{Held, IsBetweenRounds}
 use Rattle.group_rounds.specs.Phases.{AreLive}
+use Rattle.group_rounds.proofs.AwayLaws.{away}
 use Rattle.group_rounds.proofs.PacksRan.{ready-apart}
 use Rattle.group_rounds.proofs.Sound.{few_live}
 use Rattle.group_rounds.proofs.Starters.{ready_live}
@@ -78,12 +79,7 @@ between-is c =
       frames = c.set_budgets.ensures.count ∙ between.frames;
     }
 
-went-out : (c : goal.After-hand_out) → WentOut c.set_budgets.new.state (record {
-  state = c.hand_out.new.state;
-  config = c.kernel.inside.config;
-  starters = c.gather.new.starters.items;
-  packs = c.hand_out.new.packs.items;
-})
+went-out : (c : goal.After-hand_out) → WentOut c.set_budgets.new.state (away c.hand_out.new.state c.kernel.inside.config c.gather.new.starters.items c.hand_out.new.packs.items)
 went-out c = record {
   between = between-is c;
   begun = subst (λ (n : ℕ). 1 ≤ n) (sym c.set_budgets.ensures.round) c.kernel.invariant.1;
@@ -124,12 +120,7 @@ invariant_of-result c =
 
 pub returns : goal.returns
 returns c =
-    subst (λ (k : Held). IsHandedOut k (record {
-      state = c.hand_out.new.state;
-      config = c.kernel.inside.config;
-      starters = c.gather.new.starters.items;
-      packs = c.hand_out.new.packs.items;
-    })) c.kernel.view_is (record {
+    subst (λ (k : Held). IsHandedOut k (away c.hand_out.new.state c.kernel.inside.config c.gather.new.starters.items c.hand_out.new.packs.items)) c.kernel.view_is (record {
       before = c.set_budgets.new.state;
       begins = λ o e. subst (λ (ts : List ℕ). with_budgets
           (sent o e (world_of c.kernel.inside.config.quantum c.kernel.inside.state)) ts

@@ -3,18 +3,13 @@ use Rattle.worker_pool.specs.Ran.{AllRan, GrewBy, budgets}
 use Rattle.kernel_calls.specs.declared.state.State.{State}
 use Rattle.group_rounds.specs.Away.{Away, HaveRun, WentOut}
 use Rattle.group_rounds.specs.Handing.{view_of}
-use Rattle.group_rounds.proofs.AwayLaws.{all-can-run}
+use Rattle.group_rounds.proofs.AwayLaws.{away, all-can-run}
 use Rattle.group_rounds.proofs.away.run_parts.Goals as goal
 
 pub run_parts-stand_in-requires-clause-can : goal.run_parts-stand_in-requires-clause-can
 run_parts-stand_in-requires-clause-can g c = λ κs outlive.
     let i = c.handed.inside in
-    let a : Away = record {
-      state = i.state;
-      config = i.config;
-      starters = i.starters.items;
-      packs = i.out.items;
-    } in
+    let a : Away = away i.state i.config i.starters.items i.out.items in
     all-can-run c.handed.invariant.0.0 a c.handed.invariant.0.1
 
 -- the state came back as it was
@@ -29,12 +24,7 @@ invariant_of-result g c =
       (
         out.0,
         i.out.items,
-        subst (λ (s : State). WentOut out.0 (record {
-          state = s;
-          config = i.config;
-          starters = i.starters.items;
-          packs = i.out.items;
-        })) (sym e.state) out.1,
+        subst (λ (s : State). WentOut out.0 (away s i.config i.starters.items i.out.items)) (sym e.state) out.1,
         subst (λ (s : State). AllRan (view_of s.frames s.table) i.out.items packs) (sym e.state)
             e.runs,
       ),
@@ -56,19 +46,9 @@ returns g c =
     let new = c.run_parts-stand_in.new.state in
     let packs = c.run_parts-stand_in.new.packs.items in
     record {
-      runs = subst (λ (a : Away). HaveRun a (record {
-        state = new;
-        config = i.config;
-        starters = i.starters.items;
-        packs = packs;
-      })) view (record {
+      runs = subst (λ (a : Away). HaveRun a (away new i.config i.starters.items packs)) view (record {
         runs = e.runs;
-        rest = ap (λ (s : State). record {
-          state = s;
-          config = i.config;
-          starters = i.starters.items;
-          packs = packs;
-        }) e.state;
+        rest = ap (λ (s : State). away s i.config i.starters.items packs) e.state;
       });
       tally = subst (λ (a : Away). GrewBy (g.W.Workers.tally c.args.workers.now)
           (g.W.Workers.tally c.run_parts-stand_in.new.workers) (budgets a.packs - budgets packs))

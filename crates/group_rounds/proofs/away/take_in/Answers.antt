@@ -1,18 +1,13 @@
 use Rattle.std.proofs.Common.{ℕ, ◌≤◌, ◌-◌, refl, sym, ◌∙◌, subst, arith, false}
 use Rattle.worker_pool.specs.Ran.{budgets}
 use Rattle.group_rounds.specs.Away.{Away, HaveRun, IsParallelOf}
-use Rattle.group_rounds.proofs.AwayLaws.{are-away, are-apart, are-live, are-others, have-room}
+use Rattle.group_rounds.proofs.AwayLaws.{away, are-away, are-apart, are-live, are-others, have-room}
 use Rattle.group_rounds.proofs.AwayLaws.{between-again, is-parallel}
 use Rattle.group_rounds.proofs.away.take_in.Goals as goal
 
 -- what went out, by the packs before they ran
 abbrev out-of : (c : goal.After-spare-1) → Away
-out-of c = record {
-  state = c.ran.inside.state;
-  config = c.ran.inside.config;
-  starters = c.ran.inside.starters.items;
-  packs = c.ran.invariant.0.1;
-}
+out-of c = away c.ran.inside.state c.ran.inside.config c.ran.inside.starters.items c.ran.invariant.0.1
 
 pub take_in-requires : goal.take_in-requires
 take_in-requires c =
@@ -31,12 +26,7 @@ pub invariant_of-result : goal.invariant_of-result
 invariant_of-result c =
     let v = c.ran.invariant.0 in
     let room = c.ran.invariant.1 in
-    let a : Away = record {
-      state = c.ran.inside.state;
-      config = c.ran.inside.config;
-      starters = c.ran.inside.starters.items;
-      packs = v.1;
-    } in
+    let a : Away = away c.ran.inside.state c.ran.inside.config c.ran.inside.starters.items v.1 in
     let spare = c.take_in.ensures.spare in (
       record {
         empty = c.take_in.ensures.all_spare c.ran.inside.frames room.empty
@@ -53,12 +43,7 @@ pub invariant_of-result-2 : goal.invariant_of-result-2
 invariant_of-result-2 c =
     let v = c.ran.invariant.0 in
     let room = c.ran.invariant.1 in
-    let a : Away = record {
-      state = c.ran.inside.state;
-      config = c.ran.inside.config;
-      starters = c.ran.inside.starters.items;
-      packs = v.1;
-    } in
+    let a : Away = away c.ran.inside.state c.ran.inside.config c.ran.inside.starters.items v.1 in
     let e = c.take_in.ensures in (
       room.starters_room,
       subst (λ (n : ℕ). 1 ≤ n) (sym (e.round ∙ v.2.round)) v.2.begun,
@@ -70,12 +55,7 @@ invariant_of-result-2 c =
 pub returns : goal.returns
 returns c = λ k a out have.
     let i = c.ran.inside in
-    let ran : Away = record {
-      state = i.state;
-      config = i.config;
-      starters = i.starters.items;
-      packs = i.out.items;
-    } in
+    let ran : Away = away i.state i.config i.starters.items i.out.items in
     let e = c.take_in.ensures in
     subst (λ (x : Away). IsParallelOf k (budgets a.packs - budgets x.packs) (record {
       state = c.take_in.new.state;
