@@ -1,4 +1,4 @@
-use Rattle.std.proofs.Common.{◌≡◌, refl, sym, ◌∙◌, arith}
+use Rattle.std.proofs.Common.{◌≡◌, refl, sym, ◌∙◌, arith, ap, length}
 use Rattle.group_rounds.proofs.ThreadRunLaws.{seen, mapped, space_is, registers_is, own_budget}
 use Rattle.group_rounds.proofs.ThreadRunLaws.{budget_is, IsRunFrom, run_after, sound_after}
 use Rattle.group_rounds.proofs.ThreadRunLaws.{parts_after, live_after}
@@ -51,25 +51,27 @@ left c = record {
   table_is = c.set_run.ensures;
 }
 
-pub returns-clause-ran : goal.returns-clause-ran
-returns-clause-ran c = run_after c.args.state.now c.args.tid c.requires.sound c.requires.live
-    c.space-space.result.now.entries c.regs.result.now c.budget-budget.result _ _ _ _ _
-    (its_space c) (its_registers c) (its_budget c) (left c)
-
-pub returns-clause-sound : goal.returns-clause-sound
-returns-clause-sound c = sound_after c.args.state.now c.args.tid c.requires.sound c.requires.live
-    c.space-space.result.now.entries c.regs.result.now c.budget-budget.result _ _ _ _ _
-    (its_space c) (its_registers c) (its_budget c) (left c)
-
-pub returns-clause-live : goal.returns-clause-live
-returns-clause-live c = live_after c.args.state.now c.args.tid c.requires.sound c.requires.live
-    c.space-space.result.now.entries c.regs.result.now c.budget-budget.result _ _ _ _ _
-    (its_space c) (its_registers c) (its_budget c) (left c)
-
-pub returns-clause-parts : goal.returns-clause-parts
-returns-clause-parts c = parts_after c.args.state.now c.args.tid c.requires.sound c.requires.live
-    c.space-space.result.now.entries c.regs.result.now c.budget-budget.result _ _ _ _ _
-    (its_space c) (its_registers c) (its_budget c) (left c)
+pub returns : goal.returns
+returns c =
+    let s = c.args.state.now in
+    let t = c.args.tid in
+    let sound = c.requires.sound in
+    let live = c.requires.live in
+    let entries = c.space-space.result.now.entries in
+    let regs = c.regs.result.now in
+    let budget = c.budget-budget.result in
+    record {
+      ran = run_after s t sound live entries regs budget _ _ _ _ _ (its_space c) (its_registers c)
+          (its_budget c) (left c);
+      sound = sound_after s t sound live entries regs budget _ _ _ _ _ (its_space c)
+          (its_registers c) (its_budget c) (left c);
+      parts = parts_after s t sound live entries regs budget _ _ _ _ _ (its_space c)
+          (its_registers c) (its_budget c) (left c);
+      round = refl;
+      count = ap length c.run_until_stop-reason.ensures.owners;
+      live = live_after s t sound live entries regs budget _ _ _ _ _ (its_space c)
+          (its_registers c) (its_budget c) (left c);
+    }
 
 -- with no budget nothing runs
 pub returns-then-budget-eq0-clause-ran : goal.returns-then-budget-eq0-clause-ran
