@@ -12,7 +12,7 @@ use Rattle.dos_world.specs.World.{World, Thread, flat, thread_at, all_holdings}
 use Rattle.dos_world.specs.Bytes.{written, stored, bytes_of}
 use Rattle.dos_world.specs.Reach.{grant, granted}
 use Rattle.dos_world.specs.Counts.{is_mapped}
-use Rattle.dos_world.specs.Lawful.{Lawful, AreHoldings, IsSleeper, IsByte}
+use Rattle.dos_world.specs.Lawful.{IsWithinRun, Lawful, AreHoldings, IsSleeper, IsByte}
 use Rattle.dos_world.specs.declared.Access.{Access}
 use Rattle.dos_world.specs.declared.Access.TheVariants.{Fetch, Load, Store, Claim}
 use Rattle.dos_world.specs.declared.Owner.{Owner}
@@ -32,9 +32,19 @@ pub record AreOwned (w : World) (owners : List Owner) (bytes : List ℕ) : Type 
   pub owned : (frame t : ℕ) → slice_index_or owners frame Free ≡ Of t
       → (1 ≤ t) × (t ≤ length w.threads)
 
-pub lawful-with_frames : (w : World) (owners : List Owner) (bytes : List ℕ)
-    → AreOwned w owners bytes → Lawful w → Lawful (record w { owners = owners; bytes = bytes })
-lawful-with_frames w owners bytes are l = record {
+-- and another quantum, count of rounds, bytes that were sent and services
+pub lawful-over : (w : World) (owners : List Owner) (bytes : List ℕ) (quantum rounds : ℕ)
+    (output error built : List ℕ) → AreOwned w owners bytes → IsWithinRun quantum rounds → Lawful w
+    → Lawful (record w {
+      owners = owners;
+      bytes = bytes;
+      quantum = quantum;
+      rounds = rounds;
+      output = output;
+      error = error;
+      built = built;
+    })
+lawful-over w owners bytes quantum rounds output error built are run l = record {
   frames = record {
     bytes = (omega (arith, l.frames.bytes.0, are.count, are.places), are.range);
     free = λ frame lt. are.free frame (omega (arith, are.places));
@@ -65,8 +75,13 @@ lawful-with_frames w owners bytes are l = record {
       omega (arith, l.limits.frames.1, are.places),
     );
   };
-  run = l.run;
+  run = run;
 }
+
+pub lawful-with_frames : (w : World) (owners : List Owner) (bytes : List ℕ)
+    → AreOwned w owners bytes → Lawful w → Lawful (record w { owners = owners; bytes = bytes })
+lawful-with_frames w owners bytes are l =
+    lawful-over w owners bytes w.quantum w.rounds w.output w.error w.built are l.run l
 
 -- ---- a grant
 

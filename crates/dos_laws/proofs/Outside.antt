@@ -1,9 +1,10 @@
 -- What was sent, the rounds, the quantum and the services that there are: a lawful world with
 -- others in their place is lawful.
-use Rattle.std.proofs.Common.{ℕ, ◌+◌, ◌<◌, List, arith}
+use Rattle.std.proofs.Common.{refl, ℕ, ◌+◌, ◌<◌, List, arith}
 use Rattle.dos_world.specs.World.{World}
 use Rattle.dos_world.specs.Lawful.{Lawful, IsWithinRun}
 use Rattle.round_core.specs.Round.{counted}
+use Rattle.dos_laws.proofs.Frames.{lawful-over}
 
 -- ---- all of it at once
 
@@ -13,31 +14,14 @@ module _ (w : World) (quantum rounds : ℕ) (output error : List ℕ) where
 
   pub lawful-outside : (built : List ℕ) → IsWithinRun quantum rounds → Lawful w
       → Lawful (record outside { built = built })
-  lawful-outside built run l = record {
-    frames = record { bytes = l.frames.bytes; free = l.frames.free; owned = l.frames.owned };
-    processes = record {
-      holdings = l.processes.holdings;
-      private = l.processes.private;
-      populated = l.processes.populated;
-      statuses = l.processes.statuses;
-      parents = l.processes.parents;
-      given = l.processes.given;
-    };
-    threads = record {
-      ranges = l.threads.ranges;
-      asleep = l.threads.asleep;
-      sleepers =
-          l.threads.sleepers;
-    };
-    pipes = record { ranges = l.pipes.ranges; closed = l.pipes.closed };
-    limits = record {
-      threads = l.limits.threads;
-      processes = l.limits.processes;
-      frames =
-          l.limits.frames;
-    };
-    run = run;
-  }
+  lawful-outside built run l =
+      lawful-over w w.owners w.bytes quantum rounds output error built (record {
+        places = refl;
+        count = refl;
+        range = l.frames.bytes.1;
+        free = l.frames.free;
+        owned = l.frames.owned;
+      }) run l
 
 -- ---- one thing
 
