@@ -65,6 +65,14 @@ fn spare_packs(alloc: Global, frames: u32) -> Result<Vec<Pack>, AllocError>
     Ok(packs)
 }
 
+// what stands in for the state's frames and table: none of either
+fn reserve_stand_in(alloc: Global) -> Result<Shared, AllocError> {
+    Ok(Shared {
+        frames: Frames::reserve(alloc, 0)?,
+        table: Table::reserve(alloc, 0)?,
+    })
+}
+
 impl Packs {
     /// The packs of a kernel with `frames` frames. All their memory is taken here.
     pub(crate) fn reserve(alloc: Global, frames: u32) -> Result<Packs, AllocError>
@@ -74,10 +82,7 @@ impl Packs {
             frames,
             spare: spare_packs(alloc, frames)?,
             out: Vec::with_capacity(alloc, THREADS)?,
-            stand_in: Some(Shared {
-                frames: Frames::reserve(alloc, 0)?,
-                table: Table::reserve(alloc, 0)?,
-            }),
+            stand_in: Some(reserve_stand_in(alloc)?),
         })
     }
 
