@@ -6,7 +6,8 @@ use Rattle.std.specs.Prelude.{All, IfSome, IsTrue, ◌==◌, count_by, is_some}
 use Rattle.std.proofs.lemmas.Bool.{cases_eq}
 use Rattle.std.proofs.lemmas.List.Sums.{sum_by-cons, sum_by_push}
 use Rattle.dos_world.specs.Numbered.{numbered, changed, numbers_of}
-use Rattle.dos_world.specs.World.{World, Process, Registers, Thread, Sleeper, flat, thread_at, live_process, belongs_to}
+use Rattle.dos_world.specs.World.{World, Process, Registers, Thread, Sleeper, flat, thread_at}
+use Rattle.dos_world.specs.World.{live_process, belongs_to}
 use Rattle.dos_world.specs.World.{with_thread, in_state}
 pub use Rattle.dos_world.specs.Lawful.{HasStatus}
 use Rattle.dos_world.specs.Lawful.{Lawful, IsThread, IsSleeper, AreRegisters, turns_asleep}

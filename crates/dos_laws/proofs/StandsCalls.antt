@@ -49,7 +49,8 @@ charged_change w t = record {
   process = λ thread. refl;
   state = λ thread. refl;
   ranges =
-      λ thread at is. with_run w.processes thread _ _ _ (with_held_ranges thread.registers None tt is.registers) is;
+      λ thread at is. with_run w.processes thread _ _ _
+      (with_held_ranges thread.registers None tt is.registers) is;
 }
 
 -- ---- a call

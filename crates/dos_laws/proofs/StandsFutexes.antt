@@ -24,7 +24,8 @@ use Rattle.dos_world.specs.declared.ThreadState.{ThreadState}
 use Rattle.dos_world.specs.declared.ThreadState.TheVariants.{Ready, Retry, Asleep}
 use Rattle.dos_laws.specs.Standing.{AreApart, AreAwake, IsAwake, IsNoneOf, LawfulWith}
 use Rattle.dos_laws.proofs.Mapped.{entry_taken}
-use Rattle.dos_laws.proofs.Stands.{with_run, awake_but, awake-other, lawful-changed, stands-ready, times}
+use Rattle.dos_laws.proofs.Stands.{with_run, awake_but, awake-other, lawful-changed, stands-ready}
+use Rattle.dos_laws.proofs.Stands.{times}
 use Rattle.dos_laws.proofs.Stands.{times-push, at_changed}
 use Rattle.dos_laws.proofs.StandsSignals.{stands-all_woken}
 use Rattle.dos_laws.proofs.StandsCopies.{IsMoved, opened_moved, stands-opened, given}

@@ -1,7 +1,8 @@
 -- A lawful world goes on standing in every round: the invariant, for all services and all answers
 -- that fit.
 use Rattle.std.proofs.Common.{ℕ, ◌+◌, ◌/◌, ◌≡◌, refl, List, [], ◌∷◌, Option, Some, None, arith}
-use Rattle.dos_world.specs.World.{with_thread, World, Thread, thread_at, entry_at, space_of, look, released}
+use Rattle.dos_world.specs.World.{with_thread, World, Thread, thread_at, entry_at, space_of, look}
+use Rattle.dos_world.specs.World.{released}
 use Rattle.dos_world.specs.World.{with_budget}
 use Rattle.dos_world.specs.Calls.{Call, Service, call_of, refuses}
 use Rattle.dos_world.specs.declared.Entry.{Entry}

@@ -210,7 +210,8 @@ pub stands-woken : (ts : List ℕ) (w : World) (t v : ℕ) → v < 2 ^ 32 → La
     → LawfulWith ts (woken w t v)
 stands-woken ts w t v h k = record {
   lawful = lawful-changed (awake v) (λ thread. refl) w t (filter (is_other t) w.sleepers)
-      (λ thread at is. with_run w.processes thread _ _ _ (answered_ranges v thread.registers h is.registers) is)
+      (λ thread at is. with_run w.processes thread _ _ _
+      (answered_ranges v thread.registers h is.registers) is)
       (λ s other. times-others t s other w.sleepers)
       (times-itself t w.sleepers ∙ sym (ready (thread_at w t)))
       (all-filtered (IsSleeper (length w.owners)) (is_other t) w.sleepers k.lawful.threads.sleepers)

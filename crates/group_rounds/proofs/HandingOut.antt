@@ -137,7 +137,8 @@ below-takes t old n begun p page mine home h = record {
 
 -- ---- all packs
 
-module _ (ts : List ℕ) (begun : List Pack) (old : Store) (apart : AreOnce ts) (homes : All IsSome old.pages)
+module _ (ts : List ℕ) (begun : List Pack) (old : Store) (apart : AreOnce ts)
+    (homes : All IsSome old.pages)
     (fresh : AreBegun old begun) where
   -- a pack that hasn't come to this frame
   pub none-yet : (new : Store) (packs : List Pack) (n i : ℕ) (p : Pack)

@@ -194,7 +194,8 @@ brought v ts ps qs w u apart lp lq each differ back =
   where
     thread-is : (i t : ℕ) (q : Pack) → slice_get ts i ≡ Some t → slice_get qs i ≡ Some q
         → q.thread ≡ t
-    thread-is i t q at here = let p = beside ps ts i t (sym lp) at in (each i t p.0 q at p.1 here).thread
+    thread-is i t q at here = let p = beside ps ts i t (sym lp) at in
+        (each i t p.0 q at p.1 here).thread
 
 -- threads that are apart stand at one place each
 pub apart-index : (ts : List ℕ) → Apart ts → AreOnce ts

@@ -50,7 +50,8 @@ budget_at threads t = option_map (λ thread. thread.budget) (thread_in threads t
 
 -- a change that leaves the budget, and a thread more
 same_budget : (f : Thread → Thread) → ((thread : Thread) → (f thread).budget ≡ thread.budget)
-    → (budget : ℕ) (o : Option Thread) → option_map (λ (thread : Thread). thread.budget) o ≡ Some budget
+    → (budget : ℕ) (o : Option Thread)
+    → option_map (λ (thread : Thread). thread.budget) o ≡ Some budget
     → option_map (λ (thread : Thread). thread.budget) (option_map f o) ≡ Some budget
 same_budget f same budget None h = h
 same_budget f same budget (Some thread) h = ap Some (same thread) ∙ h
@@ -160,7 +161,8 @@ service_pays w t thread is =
         (thread_ended-count c.world c.process t)
         (process_ended-count c.world c.process (c.a0 % 256)) (get thread.registers 17) tt
     by_built false =
-        stands.thread (registers_by (answered (minus enosys))) (λ thread. refl) c.world t (pays, refl)
+        stands.thread (registers_by (answered (minus enosys))) (λ thread. refl) c.world t
+        (pays, refl)
 
 pub service_paid : (w : World) (t : ℕ) (thread : Thread) (answers rest : List Answer)
     (served : Served) → thread_at w t ≡ Some thread

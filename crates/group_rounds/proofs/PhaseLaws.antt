@@ -162,7 +162,8 @@ serial_stops start s s' b₀ b₁ b₂ t xs i stop lt is goes round stood h = re
   round = h.round ∙ round;
   count = tt;
   asks = some_weaker (shim_stop stop) _ _
-      (λ k q. serial_stopped q start s (told_at b₀) (told_at b₁) (told_at b₂) t xs i _ lt is (goes q)
+      (λ k q. serial_stopped q start s (told_at b₀) (told_at b₁) (told_at b₂) t xs i _ lt is
+      (goes q)
       (k q)) h.asks;
   before_end = h.before_end;
   told = tt;

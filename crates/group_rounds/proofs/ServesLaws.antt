@@ -64,7 +64,8 @@ serves_from play same result old new before after is h = record {
 }
 
 -- what holds of an answer
-of_ok : {T E : Type 0} (result : Result T E) (P : Type 0) → OnOk result P → is_err result ≡ false → P
+of_ok : {T E : Type 0} (result : Result T E) (P : Type 0) → OnOk result P
+    → is_err result ≡ false → P
 of_ok (Ok value) P h ok = h
 of_ok (Err stop) P h ok = cc
 

@@ -34,8 +34,8 @@ border shim output error out_faults err_faults = record {
 abbrev pub told_at : Border → Telling
 told_at b = telling b.shim.told b.output b.error
 
--- The call plays this play from the old state's world: to its end, or to a stop, which has come to a
--- question where it is a shim's, and leaves fronts of what the play sends where it is a sink's.
+-- The call plays this play from the old state's world: to its end, or to a stop, which has come to
+-- a question where it is a shim's, and leaves fronts of what the play sends where it is a sink's.
 pub record Serves {T : Type 0} (play : World → Play World) (result : Result T RunStop)
     (old new : State) (before after : Border) : Type 0 where
   pub goes : OnOk result ((q : ℕ)

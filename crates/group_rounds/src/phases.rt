@@ -155,7 +155,8 @@ pub(crate) fn run_ready<S: Shim, O: Sink, E: Sink>(
     requires sound { IsSound state.old }
     requires room { 64 ≤ vec_capacity starters.old }
     requires told { HasNoEnd (S.state shim.old).told }
-    ensures serves { Serves (λ w. serial_of w (ready_in state.old.table.threads)) result state.old state.new
+    ensures serves { Serves (λ w. serial_of w (ready_in state.old.table.threads)) result
+        state.old state.new
         (border (S.state shim.old) (O.told out.old) (E.told err.old) (O.faults out.old)
         (E.faults err.old))
         (border (S.state shim.new) (O.told out.new) (E.told err.new) (O.faults out.new)

@@ -1,5 +1,6 @@
 -- A thread that changes in its world, and its space.
-use Rattle.std.proofs.Common.{ℕ, zero, suc, ◌/◌, ◌≡◌, refl, sym, ap, ◌∙◌, List, [], ◌∷◌, Option, Some}
+use Rattle.std.proofs.Common.{ℕ, zero, suc, ◌/◌, ◌≡◌, refl, sym, ap, ◌∙◌, List, [], ◌∷◌, Option}
+use Rattle.std.proofs.Common.{Some}
 use Rattle.std.proofs.Common.{None, option_map}
 use Rattle.std.specs.Prelude.{slice_get}
 use Rattle.dos_world.specs.Numbered.{numbered, changed, changed_at}

@@ -1,18 +1,21 @@
 -- What every service leaves of what is said of a world, where it stands whenever a thread keeps its
 -- budget, a thread is new, frames have other owners and more bytes are sent.
 use Rattle.std.proofs.Common.{ℕ, zero, ◌+◌, suc, ◌-◌, ◌%◌, ◌≡◌, refl, ap, Bool, true, false}
-use Rattle.std.proofs.Common.{cond, not, List, [], ◌∷◌, ◌++◌, length, length-set, Option, Some, None}
+use Rattle.std.proofs.Common.{cond, not, List, [], ◌∷◌, ◌++◌, length, length-set, Option, Some}
+use Rattle.std.proofs.Common.{None}
 use Rattle.std.proofs.Common.{Result, Ok, Err, min, take, drop}
 use Rattle.std.specs.Prelude.{◌==◌, ◌||◌, ◌&&◌, slice_set, nat_le, nat_lt, is_none}
 use Rattle.dos_world.specs.Numbered.{map_from}
 use Rattle.dos_world.specs.World.{World, Thread, Holdings, Registers, thread_at, action_of}
 use Rattle.dos_world.specs.World.{first_thread, first_of, has_ended, live_process, with_thread}
-use Rattle.dos_world.specs.World.{with_holdings, with_registers, registers_by, page_of, entry_at, in_state}
+use Rattle.dos_world.specs.World.{with_holdings, with_registers, registers_by, page_of, entry_at}
+use Rattle.dos_world.specs.World.{in_state}
 use Rattle.dos_world.specs.Reach.{Reached, fault, foreign, at, reach, grant, granted}
 use Rattle.dos_world.specs.Counts.{owner_if_mapped}
 use Rattle.dos_world.specs.Copying.{all_reach}
 use Rattle.dos_world.specs.Kernel.{answered, awake, minus, posted, pending_with, tidied}
-use Rattle.dos_world.specs.Kernel.{process_ended, thread_ended, woken, opened, copied_in, copied_out}
+use Rattle.dos_world.specs.Kernel.{process_ended, thread_ended, woken, opened, copied_in}
+use Rattle.dos_world.specs.Kernel.{copied_out}
 use Rattle.dos_world.specs.Kernel.{has_reader, has_writer, with_fresh, zero_page, free_frames}
 use Rattle.dos_world.specs.Kernel.{lowest_free_frame}
 use Rattle.dos_world.specs.Play.{Play, input_of}
@@ -52,8 +55,8 @@ use Rattle.dos_world.specs.declared.ThreadState.TheVariants.{Retry, Asleep}
 use Rattle.round_core.specs.Protocol.{Protocol, Allows}
 use Rattle.round_core.proofs.Rows.{OfEach, by_number}
 
--- what is said of a world's threads and owners, of its quantum, its count of rounds and its services,
--- and of the bytes that it has sent to output and to error
+-- what is said of a world's threads and owners, of its quantum, its count of rounds and its
+-- services, and of the bytes that it has sent to output and to error
 abbrev pub Said : Type 1
 Said = (threads : List (Option Thread)) (owners : List Owner) (quantum rounds : ℕ)
     (built output error : List ℕ) → Type 0
@@ -240,7 +243,8 @@ module _ (K : Said) (stands : Stands K) where
 
     wait_left : Left (wait c)
     wait_left =
-        by_children (first_of (children_where any_process c)) (first_of (children_where has_ended c))
+        by_children (first_of (children_where any_process c))
+        (first_of (children_where has_ended c))
       where
         by_children : (a b : Option ℕ) → Left (wait_by a b c)
         by_children None b = refused 10
@@ -427,8 +431,10 @@ module _ (K : Said) (stands : Stands K) where
     kill_left =
         let told : World = cond (c.a1 == 0) c.world (posted c.world c.a0 c.a1) in
         if_left (nat_lt 31 c.a1) (refuses 22 c)
-        (cond (is_none (live_process c.world c.a0)) (refuses 3 c) (returns_in told 0 c)) (refused 22)
-        (if_left (is_none (live_process c.world c.a0)) (refuses 3 c) (returns_in told 0 c) (refused 3)
+        (cond (is_none (live_process c.world c.a0)) (refuses 3 c) (returns_in told 0 c))
+        (refused 22)
+        (if_left (is_none (live_process c.world c.a0)) (refuses 3 c) (returns_in told 0 c)
+        (refused 3)
         (returns_left told 0
         (kept_if (c.a1 == 0) c.world (posted c.world c.a0 c.a1) k
         (posted_kept c.world c.a0 c.a1 k))))

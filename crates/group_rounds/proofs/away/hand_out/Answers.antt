@@ -79,7 +79,9 @@ between-is c =
       frames = c.set_budgets.ensures.count ∙ between.frames;
     }
 
-went-out : (c : goal.After-hand_out) → WentOut c.set_budgets.new.state (away c.hand_out.new.state c.kernel.inside.config c.gather.new.starters.items c.hand_out.new.packs.items)
+went-out : (c : goal.After-hand_out) → WentOut c.set_budgets.new.state
+    (away c.hand_out.new.state c.kernel.inside.config c.gather.new.starters.items
+    c.hand_out.new.packs.items)
 went-out c = record {
   between = between-is c;
   begun = subst (λ (n : ℕ). 1 ≤ n) (sym c.set_budgets.ensures.round) c.kernel.invariant.1;
@@ -120,7 +122,9 @@ invariant_of-result c =
 
 pub returns : goal.returns
 returns c =
-    subst (λ (k : Held). IsHandedOut k (away c.hand_out.new.state c.kernel.inside.config c.gather.new.starters.items c.hand_out.new.packs.items)) c.kernel.view_is (record {
+    subst (λ (k : Held). IsHandedOut k
+    (away c.hand_out.new.state c.kernel.inside.config c.gather.new.starters.items
+    c.hand_out.new.packs.items)) c.kernel.view_is (record {
       before = c.set_budgets.new.state;
       begins = λ o e. subst (λ (ts : List ℕ). with_budgets
           (sent o e (world_of c.kernel.inside.config.quantum c.kernel.inside.state)) ts

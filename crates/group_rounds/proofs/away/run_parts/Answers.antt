@@ -24,7 +24,8 @@ invariant_of-result g c =
       (
         out.0,
         i.out.items,
-        subst (λ (s : State). WentOut out.0 (away s i.config i.starters.items i.out.items)) (sym e.state) out.1,
+        subst (λ (s : State). WentOut out.0 (away s i.config i.starters.items i.out.items))
+            (sym e.state) out.1,
         subst (λ (s : State). AllRan (view_of s.frames s.table) i.out.items packs) (sym e.state)
             e.runs,
       ),
@@ -46,10 +47,11 @@ returns g c =
     let new = c.run_parts-stand_in.new.state in
     let packs = c.run_parts-stand_in.new.packs.items in
     record {
-      runs = subst (λ (a : Away). HaveRun a (away new i.config i.starters.items packs)) view (record {
-        runs = e.runs;
-        rest = ap (λ (s : State). away s i.config i.starters.items packs) e.state;
-      });
+      runs = subst (λ (a : Away). HaveRun a (away new i.config i.starters.items packs)) view
+          (record {
+            runs = e.runs;
+            rest = ap (λ (s : State). away s i.config i.starters.items packs) e.state;
+          });
       tally = subst (λ (a : Away). GrewBy (g.W.Workers.tally c.args.workers.now)
           (g.W.Workers.tally c.run_parts-stand_in.new.workers) (budgets a.packs - budgets packs))
           view e.tally;

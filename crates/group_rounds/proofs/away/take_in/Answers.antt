@@ -7,7 +7,8 @@ use Rattle.group_rounds.proofs.away.take_in.Goals as goal
 
 -- what went out, by the packs before they ran
 abbrev out-of : (c : goal.After-spare-1) → Away
-out-of c = away c.ran.inside.state c.ran.inside.config c.ran.inside.starters.items c.ran.invariant.0.1
+out-of c = away c.ran.inside.state c.ran.inside.config c.ran.inside.starters.items
+    c.ran.invariant.0.1
 
 pub take_in-requires : goal.take_in-requires
 take_in-requires c =

@@ -49,7 +49,8 @@ returns g c =
       cut = subst (λ (k : Held). OnErr result (CutRound k.config.quantum k.state before after)) view
           e.cut;
       before_end = e.keeps.before_end;
-      round = subst (λ (k : Held). IfOk result (λ end. new.round ≡ next_round end k.state.round)) view
+      round = subst (λ (k : Held). IfOk result (λ end. new.round ≡ next_round end k.state.round))
+          view
           e.round;
       starters = subst (λ (k : Held). OnOk result (AreStarters k.state old_told new_told k.starters
           c.play_round-result.new.starters.items)) view e.starters;

@@ -29,7 +29,8 @@ returns g c =
     record {
       goes = on_ok_weaker result (λ goes.
           subst (λ (k : Held). GoesTo k.config.quantum
-          (λ w. serial_of w (ready_in k.state.table.threads)) k.state before (λ w. done w) new after)
+          (λ w. serial_of w (ready_in k.state.table.threads)) k.state before
+          (λ w. done w) new after)
           view (goes quantum)) served.goes;
       cut = on_err_weaker result (λ cut.
           subst (λ (k : Held). CutPlay k.config.quantum (λ w. w)

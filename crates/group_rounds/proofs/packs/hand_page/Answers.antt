@@ -1,4 +1,5 @@
-use Rattle.std.proofs.Common.{ℕ, List, Some, ◌≡◌, ◌≢◌, ◌<◌, ◌∙◌, ap, sym, refl, inl, inr, length, get_or, arith}
+use Rattle.std.proofs.Common.{ℕ, List, Some, ◌≡◌, ◌≢◌, ◌<◌, ◌∙◌, ap, sym, refl, inl, inr, length}
+use Rattle.std.proofs.Common.{get_or, arith}
 use Rattle.std.specs.Prelude.{slice_get, slice_set}
 use Rattle.std.proofs.lemmas.Option.{slice_get-get_or, slice_get_within}
 use Rattle.dos_world.specs.declared.Owner.TheVariants.{Of}

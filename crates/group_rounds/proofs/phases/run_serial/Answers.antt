@@ -54,7 +54,8 @@ returns-in_err-finish_if_live-clause-serves g c =
     let p = err_from_is_err_and c.from_residual.result c.from_residual.ensures.1 in
     let now = c.loop-tid.invariant in
     rw (p.1, p.2) (serial_stops c.args.state.now c.loop-tid.state c.finish_if_live.new.state _ _ _ _
-    c.args.starters.now c.loop-tid.tid-index _ c.loop-tid-test.true refl now.goes now.round now.stood
+    c.args.starters.now c.loop-tid.tid-index _ c.loop-tid-test.true refl now.goes now.round
+    now.stood
     c.in_err-finish_if_live.ensures.serves)
 
 pub finish_if_live-requires-clause-awake : goal.finish_if_live-requires-clause-awake

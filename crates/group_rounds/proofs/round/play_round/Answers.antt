@@ -137,7 +137,8 @@ returns-in-Ok g c =
           )) e.goes;
       asks = if_err_weaker result _ _
           (λ stop. some_weaker (shim_stop stop) _ _
-          (round_stopped q s sound live opened.list s' opened.begins _ _ told refl refl _ _)) e.asks;
+          (round_stopped q s sound live opened.list s' opened.begins _ _ told refl refl _ _))
+          e.asks;
       cut = on_err_weaker result
           (round_cut q s sound live opened.list s' opened.begins _ _ told refl refl _) e.cut;
       starters = ok_weaker result _ _

@@ -1,4 +1,5 @@
-use Rattle.std.proofs.Common.{rules, refl, ◌≡◌, ◌∙◌, ◌<◌, ◌≤◌, ◌+◌, ◌++◌, ◌∷◌, [], sym, ap, subst, length}
+use Rattle.std.proofs.Common.{rules, refl, ◌≡◌, ◌∙◌, ◌<◌, ◌≤◌, ◌+◌, ◌++◌, ◌∷◌, [], sym, ap, subst}
+use Rattle.std.proofs.Common.{length}
 use Rattle.std.proofs.Common.{length-set, ℕ, List, Option, Some, false, slice_set, vec_capacity}
 use Rattle.page_store.specs.Store.{whole}
 use Rattle.quantum_run.specs.Shows.{Pack}
