@@ -26,7 +26,7 @@ use Rattle.std.specs.Prelude.{Err}
 use Rattle.kernel_calls.specs.StateWorld.{shim_stop}
 use Rattle.kernel_calls.specs.declared.state.RunStop.{RunStop}
 use Rattle.group_rounds.specs.Outside.{HaveStood}
-use Rattle.group_rounds.specs.Serving.{Border, Serves, told_at}
+use Rattle.group_rounds.specs.Outcomes.{Border, Serves, told_at}
 use Rattle.group_rounds.proofs.CauseLaws.{causes_err, causes_then}
 use Rattle.group_rounds.proofs.StatePlayLaws.{some_weaker}
 

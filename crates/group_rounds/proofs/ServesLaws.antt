@@ -15,7 +15,7 @@ use Rattle.group_rounds.specs.Parts.{KeepsCount}
 use Rattle.group_rounds.specs.Rounds.{next_round}
 use Rattle.group_rounds.specs.declared.round.RoundEnd.{RoundEnd}
 use Rattle.group_rounds.specs.declared.round.RoundEnd.TheVariants.{Went, Done, Stalled}
-use Rattle.group_rounds.specs.Serving.{Border, KeepsRound, Serves, told_at}
+use Rattle.group_rounds.specs.Outcomes.{Border, KeepsRound, Serves, told_at}
 use Rattle.group_rounds.specs.StatePlays.{GoesTo}
 use Rattle.group_rounds.proofs.CauseLaws.{causes_ok, causes_then, stood_yet}
 use Rattle.group_rounds.proofs.FrontLaws.{cut_from}

@@ -8,4 +8,4 @@ pub mod Parts
 pub mod Phases
 pub mod Rounds
 pub mod Handing
-pub mod Serving
+pub mod Outcomes

@@ -16,7 +16,7 @@ ghost use Rattle.group_rounds.specs.StatePlays.{GoesTo, telling};
 ghost use Rattle.group_rounds.specs.Outside.{HaveCauses, is_end};
 ghost use Rattle.group_rounds.specs.Parts.{KeepsCount, RanPart, budget_in, goes_on_after};
 ghost use Rattle.group_rounds.specs.Parts.{part_left, part_measure, turns_left};
-ghost use Rattle.group_rounds.specs.Serving.{Serves, border};
+ghost use Rattle.group_rounds.specs.Outcomes.{Serves, border};
 
 use dos_io::{Shim, Sink};
 use dos_world::{Access, Reason};

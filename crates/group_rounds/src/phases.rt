@@ -11,7 +11,7 @@ ghost use Rattle.proc_table.specs.Tables.{IsThread};
 ghost use Rattle.kernel_calls.specs.StateWorld.{HaveParts, IsSound, sent, world_of};
 ghost use Rattle.group_rounds.specs.Parts.{KeepsCount};
 ghost use Rattle.group_rounds.specs.Phases.{AreLive, is_ready, ready_in};
-ghost use Rattle.group_rounds.specs.Serving.{Serves, border};
+ghost use Rattle.group_rounds.specs.Outcomes.{Serves, border};
 
 use crate::part::finish;
 use dos_io::{Shim, Sink};

@@ -17,7 +17,7 @@ ghost use Rattle.group_rounds.specs.Parts.{KeepsCount};
 ghost use Rattle.group_rounds.specs.Phases.{ready_in};
 ghost use Rattle.group_rounds.specs.Rounds.{AreStarters, CutRound, HasOpened, RanRound};
 ghost use Rattle.group_rounds.specs.Rounds.{StoppedRound, StopsRun, end_in, next_round};
-ghost use Rattle.group_rounds.specs.Serving.{KeepsRound, border};
+ghost use Rattle.group_rounds.specs.Outcomes.{KeepsRound, border};
 ghost use Rattle.group_rounds.specs.Rounds.{rest_of_round, work_in};
 ghost use Rattle.group_rounds.specs.declared.round.RoundEnd.TheVariants.{Went};
 ghost use Rattle.worker_pool.specs.Ran.{GrewBy};
