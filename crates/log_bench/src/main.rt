@@ -54,15 +54,32 @@ fn work_named(word: &str) -> io::Result<Work> {
     }
 }
 
-fn main(rt: HostRuntime) -> io::Result<()> {
-    let words = words(&rt)?;
+fn run_task(bench: &Bench, task: &str, times: &str) -> io::Result<u64> {
+    Ok(bench.run(work_named(task)?, number(times)?)?)
+}
+
+/// Does what four words say, and prints how much that was.
+fn run_four(rt: &HostRuntime, four: &[String]) -> io::Result<()> {
+    let [asked, count, task, times] = four else {
+        return Err(ErrorKind::InvalidInput.into());
+    };
+    let bench = Bench::new(rt.alloc(), kind_named(asked)?, number(count)?)?;
+    let done = run_task(&bench, task, times);
+    drop(bench);
+    let done = done?;
+    println!(rt; "{asked} {count} {task} {times}: {done}")
+}
+
+fn run_all(rt: &HostRuntime, words: &[String]) -> io::Result<()> {
     for four in words.chunks(4) {
-        let [asked, count, task, times] = four else {
-            return Err(ErrorKind::InvalidInput.into());
-        };
-        let bench = Bench::new(rt.alloc(), kind_named(asked)?, number(count)?)?;
-        let done = bench.run(work_named(task)?, number(times)?)?;
-        println!(rt; "{asked} {count} {task} {times}: {done}")?;
+        run_four(rt, four)?;
     }
     Ok(())
+}
+
+fn main(rt: HostRuntime) -> io::Result<()> {
+    let words = words(&rt)?;
+    let ran = run_all(&rt, &words);
+    drop(words);
+    ran
 }
