@@ -1,6 +1,6 @@
 -- Workers that have one seat of a board among them. This project's own rules.
 use Rattle.std.specs.Prelude.{◌≡◌, ℕ, ◌+◌, ◌≤◌, [], length}
-use Rattle.hand_board.specs.Seating.{Standing}
+use Rattle.hand_board.specs.Seating.{Seating, Standing}
 use Rattle.worker_pool.specs.Parts.{AreReady}
 use Rattle.worker_pool.specs.declared.crew.Team.{Team}
 
@@ -14,3 +14,9 @@ pub record CanWork {T : Type 0} (ready : T → Type 0) (bound : ℕ) (board : St
   pub shared : team.workers ≤ team.seat.share
   pub numbers : bound ≤ length board.opened
   pub few : team.first + team.workers ≤ 32
+
+-- two seats of one, which have its whole share
+pub record AreHalves {T : Type 0} (whole left right : Seating T) : Type 0 where
+  pub boards : (left.board ≡ whole.board) × (right.board ≡ whole.board)
+  pub opened : left.opened ≡ whole.opened
+  pub shares : left.share + right.share ≡ whole.share

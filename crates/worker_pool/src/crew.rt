@@ -7,7 +7,7 @@ ghost use lib.ListN.{get_elem?};
 ghost use Rattle.hand_board.specs.Placed.{IsUnderWay};
 ghost use Rattle.hand_board.specs.Seating.{AllFinished};
 ghost use Rattle.worker_pool.specs.Parts.{AreFifo, AreReady, IsSameSeat};
-ghost use Rattle.worker_pool.specs.Teams.{CanWork};
+ghost use Rattle.worker_pool.specs.Teams.{AreHalves, CanWork};
 
 use crate::deques::{Bound, Owner, Thief, deques, search};
 use crate::gate::Gate;
@@ -120,7 +120,8 @@ fn seek<B: Bound, T: Task, G: Gate>(
 
 // what all workers of a call are lent
 #[derive(Drop)]
-struct Workshop<'a, B: Bound, T: Task, G> {
+struct Workshop<'a, B: Bound, T: Task, R, G> {
+    rt: &'a R,
     board: &'a Board<T>,
     gate: &'a G,
     thieves: &'a [Thief<B>],
@@ -141,8 +142,7 @@ fn halves<B: Bound, T: Task>(board: &Board<T>, team: Team<T>) -> (Team<T>, Team<
     ensures left { CanWork T.ready B.bound board.now result.0 }
     ensures right { CanWork T.ready B.bound board.now result.1 }
     ensures fewer { (result.0.workers < team.workers) × (result.1.workers < team.workers) }
-    ensures opened { result.0.seat.opened ≡ team.seat.opened }
-    ensures share { result.0.seat.share + result.1.seat.share ≡ team.seat.share }
+    ensures seats { AreHalves team.seat result.0.seat result.1.seat }
 {
     let Team {
         seat,
@@ -176,8 +176,8 @@ fn deal_out<B: Bound>(owners: &mut [Owner<B>], workers: u32) -> (&mut [Owner<B>]
 }
 
 // a team of one worker: it goes by the deques, or draws from the board where there are none
-fn work_alone<B: Bound, T: Task, G: Gate>(
-    shop: &Workshop<'_, B, T, G>,
+fn work_alone<B: Bound, T: Task, R, G: Gate>(
+    shop: &Workshop<'_, B, T, R, G>,
     team: Team<T>,
     own: &mut [Owner<B>],
 ) -> BoardSeat<T>
@@ -200,8 +200,7 @@ fn work_alone<B: Bound, T: Task, G: Gate>(
 
 // the workers of a team, each in a thread of its own; the first deques left in `owners` are theirs
 fn work<B: Bound + Send + Sync, T: Task + Send + Sync, R: Threads + Sync, G: Gate + Sync>(
-    rt: &R,
-    shop: &Workshop<'_, B, T, G>,
+    shop: &Workshop<'_, B, T, R, G>,
     team: Team<T>,
     owners: &mut [Owner<B>],
 ) -> BoardSeat<T>
@@ -216,17 +215,17 @@ fn work<B: Bound + Send + Sync, T: Task + Send + Sync, R: Threads + Sync, G: Gat
     let (left, right) = halves::<B, T>(shop.board, team);
     let (mine, theirs) = deal_out(owners, left.workers);
     let (left, right) = join(
-        rt,
+        shop.rt,
         move || -> BoardSeat<T>
             requires { IsSync R.row × IsSync G.row × CanWork T.ready B.bound shop.now.board.now left
                 × AreFifo mine.now }
             ensures { IsSameSeat left.seat result × (result.hand ≡ []) }
-        { work(rt, shop, left, mine) },
+        { work(shop, left, mine) },
         move || -> BoardSeat<T>
             requires { IsSync R.row × IsSync G.row
                 × CanWork T.ready B.bound shop.now.board.now right × AreFifo theirs.now }
             ensures { IsSameSeat right.seat result × (result.hand ≡ []) }
-        { work(rt, shop, right, theirs) },
+        { work(shop, right, theirs) },
     );
     shop.board.join(left, right)
 }
@@ -252,6 +251,7 @@ fn work_all<B: Bound + Send + Sync, T: Task + Send + Sync, R: Threads + Sync, G:
 {
     let (mut owners, thieves) = deques::<B>(alloc, board.count(), lanes);
     let shop = Workshop {
+        rt,
         board,
         gate,
         thieves: thieves.as_slice(),
@@ -261,7 +261,7 @@ fn work_all<B: Bound + Send + Sync, T: Task + Send + Sync, R: Threads + Sync, G:
         first: 0,
         workers,
     };
-    work(rt, &shop, team, owners.as_mut_slice())
+    work(&shop, team, owners.as_mut_slice())
 }
 
 /// Runs each part over a board, by `workers` threads, from 1 to 32, the caller's among them. Where
