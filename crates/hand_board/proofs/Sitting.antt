@@ -10,7 +10,7 @@ use Rattle.hand_board.specs.declared.rule.Knows.{Knows}
 use Rattle.hand_board.specs.Placed.{times, whole, without, blanks, to_front, without_front}
 use Rattle.hand_board.specs.Rule.{with_found, with_claimed, with_resumed, with_nothing_found}
 use Rattle.hand_board.specs.Rule.{joined}
-use Rattle.hand_board.specs.Seating.{Sits, Seating, seating, Has}
+use Rattle.hand_board.specs.Seating.{Sits, Seating, seating, Has, Standing, Stands, standing}
 use Rattle.hand_board.proofs.Counts.{times_else, times_append, times_without}
 
 abbrev second_of : {A : Type 0} → A → List (ℕ × A) → A
@@ -31,7 +31,40 @@ inside a b e = ap (or_else_ a) e
 grows : (i k : ℕ) (l : List ℕ) → Has k l → Has k (i ∷ l)
 grows i k l h = omega arith
 
+-- ---- a seat at its board
+
+-- the seat is one of the board's table
+pub at_table : {T : Type 0} {sees seat : Seating T} {shows board : Standing T} → sees ≡ seat
+    → seat.board ≡ board.id → shows ≡ board → sees.board ≡ shows.id
+at_table sees same shows = ap (λ z. z.board) sees ∙ same ∙ sym (ap (λ z. z.id) shows)
+
+module _ {T : Type 0} {id : TableId} {opened : List T} {count len room : ℕ} {board : Standing T} where
+  -- a number of the board has a word in its table
+  pub has_word : (number : ℕ) → Stands id opened count len room → standing id opened room ≡ board
+      → number < length board.opened → (number < length opened) × (number + 1 < id.words)
+  has_word number stands shows low =
+      let all = stands.all in
+      let words = stands.sized.0 in
+      let below = subst (λ (z : Standing T). number < length z.opened) (sym shows) low in
+      (below, omega arith)
+
 module _ {T : Type 0} where
+  -- a seat has a share
+  pub has_share : {b : TableId} {me : Me (Option T) (Knows T)} {share next : ℕ} {ended : Bool}
+      → Sits b me share next ended → 0 < me.0.share
+  has_share s = let is = s.share_is in let some = s.positive.0 in omega arith
+
+  -- the slot that was taken is full
+  pub drawn_full : (v : Knows T) (l : List (ℕ × Option T)) (m : Me (Option T) (Knows T)) (i : ℕ)
+      (x : T) → m ≡ (v, (i, Some x) ∷ l) → (y : T) × (m.1 ≡ (i, Some y) ∷ rest m.1)
+  drawn_full v l m i x e = (x, ap (λ z. z.1) e ∙ ap (λ z. (i, Some x) ∷ rest z.1) (sym e))
+
+  -- and what is lifted out of it is what lay there
+  pub drawn_lifts : (v : Knows T) (l : List (ℕ × Option T)) (m : Me (Option T) (Knows T)) (i : ℕ)
+      (x y : T) → m ≡ (v, (i, Some x) ∷ l) → m.1 ≡ (i, Some y) ∷ rest m.1 → x ≡ y
+  drawn_lifts v l m i x y e is =
+      sym (inside y x (second _ _ _ _ _ _ (sym is ∙ ap (λ z. z.1) e)))
+
   -- the slot drawn is emptied
   pub emptied : (v : Knows T) (l : List (ℕ × Option T)) (m n : Me (Option T) (Knows T)) (i : ℕ)
       (x : Option T) → m ≡ (v, (i, x) ∷ l) → n ≡ (m.0, (i, None) ∷ rest m.1)

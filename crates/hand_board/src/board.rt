@@ -19,12 +19,21 @@ use std::snapshot::Snapshot;
 /// The share of a seat that is the only one.
 const WHOLE: u64 = 1 << 32;
 
+/// A board's table: what a seat knows, the packs as they opened, and the rule.
+pub(crate) type PackTable<T> = Table<Option<T>, Knows<T>, Snapshot<Vec<T>>, Once<T>, Global>;
+
+/// What all seats share of it: the words and the slots.
+type PackWords<T> = Shared<Option<T>, Knows<T>, Snapshot<Vec<T>>, Once<T>>;
+
+/// A seat at it.
+type PackSeat<T> = Seat<Option<T>, Knows<T>>;
+
 /// Packs that threads take, each once, and give back. Contracts see which board it is, the packs as
 /// it opened, and the room of the vector that they came in.
 #[derive(Drop)]
 pub struct Board<T: Part> {
     // Word 0 isn't used; word i + 1 and slot i are those of number i.
-    pub(crate) table: Table<Option<T>, Knows<T>, Snapshot<Vec<T>>, Once<T>, Global>,
+    pub(crate) table: PackTable<T>,
     count: u32,
     // The vector that the packs came in, now without them: they come home into it.
     room: Vec<T>,
@@ -80,12 +89,7 @@ fn table_in<T: Part>(
     slots: Vec<Option<T>>,
     opened: &Snapshot<Vec<T>>,
     packs: &mut Vec<T>,
-) -> Option<
-    (
-        Table<Option<T>, Knows<T>, Snapshot<Vec<T>>, Once<T>, Global>,
-        Seat<Option<T>, Knows<T>>,
-    ),
->
+) -> Option<(PackTable<T>, PackSeat<T>)>
     requires words { words.now ≡ replicate (length opened.now.value.items + 1) 0 }
     requires slots { slots.items ≡ map Some opened.now.value.items }
     requires packs { (vec_len packs.old ≡ 0)
@@ -111,15 +115,7 @@ fn table_in<T: Part>(
 
 // a new table with the packs in its slots, and its first seat; where memory ends the packs are in
 // their vector again
-fn table_of<T: Part>(
-    alloc: Global,
-    packs: &mut Vec<T>,
-) -> Option<
-    (
-        Table<Option<T>, Knows<T>, Snapshot<Vec<T>>, Once<T>, Global>,
-        Seat<Option<T>, Knows<T>>,
-    ),
->
+fn table_of<T: Part>(alloc: Global, packs: &mut Vec<T>) -> Option<(PackTable<T>, PackSeat<T>)>
     requires { vec_len packs.old < 2 ^ 32 }
     ensures some { IfSome result
         (λ r. (r.0.shared.table_id.words ≡ length packs.old.items + 1)
@@ -142,8 +138,8 @@ fn table_of<T: Part>(
 // the board of a new table, with the room that its packs came in, and its first seat
 #[inline]
 fn board_of<T: Part>(
-    table: Table<Option<T>, Knows<T>, Snapshot<Vec<T>>, Once<T>, Global>,
-    seat: Seat<Option<T>, Knows<T>>,
+    table: PackTable<T>,
+    seat: PackSeat<T>,
     count: u32,
     room: Vec<T>,
 ) -> (Board<T>, BoardSeat<T>)
@@ -178,11 +174,7 @@ fn board_of<T: Part>(
 }
 
 // the pack in the slot that the seat took last leaves it
-fn lift<T: Part>(
-    shared: &Shared<Option<T>, Knows<T>, Snapshot<Vec<T>>, Once<T>>,
-    seat: &mut Seat<Option<T>, Knows<T>>,
-    number: u32,
-) -> Job<T>
+fn lift<T: Part>(shared: &PackWords<T>, seat: &mut PackSeat<T>, number: u32) -> Job<T>
     requires table { seat.old.table_id ≡ shared.now.table_id }
     requires full { (x : T) × (seat.old.me.1 ≡ (number, Some x) ∷ rest seat.old.me.1) }
     ensures table { seat.new.table_id ≡ seat.old.table_id }
@@ -198,12 +190,7 @@ fn lift<T: Part>(
 
 // a pack goes into the slot that the seat took last, which is empty
 #[inline]
-fn put<T: Part>(
-    shared: &Shared<Option<T>, Knows<T>, Snapshot<Vec<T>>, Once<T>>,
-    seat: &mut Seat<Option<T>, Knows<T>>,
-    slot: usize,
-    pack: T,
-)
+fn put<T: Part>(shared: &PackWords<T>, seat: &mut PackSeat<T>, slot: usize, pack: T)
     requires table { seat.old.table_id ≡ shared.now.table_id }
     requires empty { seat.old.me.1 ≡ (slot, None) ∷ rest seat.old.me.1 }
     ensures table { seat.new.table_id ≡ seat.old.table_id }

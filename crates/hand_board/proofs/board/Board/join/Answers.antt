@@ -1,7 +1,7 @@
 use Rattle.std.proofs.Common.{sym, ap, ◌∙◌, arith}
 use Rattle.hand_board.specs.Placed.{blanks}
 use Rattle.hand_board.proofs.Steps.{joins, weighs}
-use Rattle.hand_board.proofs.Sitting.{sits_joined}
+use Rattle.hand_board.proofs.Sitting.{at_table, sits_joined}
 use Rattle.hand_board.proofs.board.Board.join.Goals as goal
 
 pub join_seat-requires : goal.join_seat-requires
@@ -12,8 +12,8 @@ join_seat-requires g c =
     let p = s.positive.0 in
     let r = c.right.invariant in
     let empty = ap (λ z. z.hand) c.right.view_is ∙ c.requires.hands.1 in (
-      ap (λ z. z.board) c.left.view_is ∙ c.requires.left ∙ sym (ap (λ z. z.id) c.self.view_is),
-      ap (λ z. z.board) c.right.view_is ∙ c.requires.right ∙ sym (ap (λ z. z.id) c.self.view_is),
+      at_table c.left.view_is c.requires.left c.self.view_is,
+      at_table c.right.view_is c.requires.right c.self.view_is,
       r.slots ∙ ap blanks empty,
       omega arith,
       joins _ _ c.self.inside.table.shared.key.value.items _ _ _ _
@@ -23,8 +23,7 @@ join_seat-requires g c =
 pub load-requires : goal.load-requires
 load-requires g c =
     let w = c.self.invariant.sized.0 in (
-      c.join_seat.ensures.0 ∙ ap (λ z. z.board) c.left.view_is ∙ c.requires.left
-          ∙ sym (ap (λ z. z.id) c.self.view_is),
+      c.join_seat.ensures.0 ∙ at_table c.left.view_is c.requires.left c.self.view_is,
       omega arith,
       weighs _ _ c.self.inside.table.shared.key.value.items _ _ _,
     )

@@ -3,7 +3,7 @@ use Rattle.atomic_table.specs.Table.{rest}
 use lib.ListN.{get_elem?}
 use Rattle.hand_board.specs.Placed.{to_front, times, without}
 use Rattle.hand_board.proofs.Steps.{comes_at, gives_back}
-use Rattle.hand_board.proofs.Sitting.{sits_given, shows_given, gone, filled}
+use Rattle.hand_board.proofs.Sitting.{at_table, sits_given, shows_given, gone, filled}
 use Rattle.hand_board.proofs.board.Board.lay.Goals as goal
 
 pub load-requires : goal.load-requires
@@ -12,8 +12,7 @@ load-requires g c =
     let p = s.positive.0 in
     let q = s.share_is in
     let w = s.sized.0 in
-    let e = ap (λ z. z.board) c.seat.view_is ∙ c.requires.board
-    ∙ sym (ap (λ z. z.id) c.self.view_is) in
+    let e = at_table c.seat.view_is c.requires.board c.self.view_is in
     let has = subst (λ z. 0 < times c.args.job.number z.hand)
     (sym c.seat.view_is) c.requires.hand in
     let low = s.low c.args.job.number has in let same = ap (λ z. z.words) e in (
@@ -26,16 +25,14 @@ load-requires g c =
 pub put-requires : goal.put-requires
 put-requires g c = let t = c.load.ensures.2 c.args.job.number refl in
     record {
-      table = c.load.ensures.0 ∙ ap (λ z. z.board) c.seat.view_is ∙ c.requires.board
-          ∙ sym (ap (λ z. z.id) c.self.view_is);
+      table = c.load.ensures.0 ∙ at_table c.seat.view_is c.requires.board c.self.view_is;
       empty = ap (λ z. z.1) t ∙ ap (λ l. (c.args.job.number, None) ∷ rest l.1) (sym t);
     }
 
 pub store-requires : goal.store-requires
 store-requires g c = let t = c.load.ensures.2 c.args.job.number refl in
     let s = c.seat.invariant in let p = s.positive.0 in let q = s.share_is in let w = s.sized.0 in
-    let e = ap (λ z. z.board) c.seat.view_is ∙ c.requires.board
-    ∙ sym (ap (λ z. z.id) c.self.view_is) in
+    let e = at_table c.seat.view_is c.requires.board c.self.view_is in
     let has = subst (λ z. 0 < times c.args.job.number z.hand)
     (sym c.seat.view_is) c.requires.hand in
     let low = s.low c.args.job.number has in let same = ap (λ z. z.words) e in (
