@@ -1,5 +1,5 @@
 -- Changes of one thread, and threads that are added.
-use Rattle.std.proofs.Common.{◌≡◌, ◌<◌, ℕ, zero, suc, List, [], ◌∷◌, ◌++◌, Option, Some, None}
+use Rattle.std.proofs.Common.{◌≡◌, ℕ, zero, suc, List, [], ◌∷◌, ◌++◌, Option, Some, None}
 use Rattle.std.proofs.Common.{option_map, IsSome, IfSome, refl, sym, ap, subst, ◌∙◌}
 use Rattle.dos_world.specs.Numbered.{changed, changed_at}
 use Rattle.dos_world.specs.World.{Thread, Registers, registers_by}
@@ -100,17 +100,6 @@ thread_stands xs ys (suc i) live = at xs i live
     at [] i live = cc
     at (x ∷ xs) zero live = live
     at (x ∷ xs) (suc i) live = at xs i live
-
--- a thread that is set to run has its budget
-pub thread_ran : (xs : List (Option Thread)) (t : ℕ) (r : Registers) (budget : ℕ) → 0 < budget
-    → IfSome (thread_in (changed (option_map (ran r budget)) xs t) t) (λ thread. 0 < thread.budget)
-thread_ran xs t r budget some =
-    subst (λ (o : Option Thread). IfSome o (λ thread. 0 < thread.budget))
-    (sym (changed_there (ran r budget) xs t)) (by (thread_in xs t))
-  where
-    by : (o : Option Thread) → IfSome (option_map (ran r budget) o) (λ thread. 0 < thread.budget)
-    by None = tt
-    by (Some thread) = some
 
 -- ---- a change that is taken back
 

@@ -109,6 +109,25 @@ more-no test ends i e h q = by (test e) refl
     by false t = count_by_more_no test ends i None h (ap test q ∙ t)
         ∙ omega (arith, ap (λ b. cond {A = ℕ} b 1 0) t)
 
+-- a pipe that has lost an end, with its bytes where it is open still
+abbrev kept-if : Bool → Pipework → ℕ → Pipework
+kept-if b left p = cond b left (with_bytes left p [])
+
+kept-readers : (b : Bool) (left : Pipework) (p : ℕ)
+    → ◌≡◌ {A = List ℕ} (let x : Pipework = kept-if b left p in x.readers) left.readers
+kept-readers true left p = refl
+kept-readers false left p = refl
+
+kept-writers : (b : Bool) (left : Pipework) (p : ℕ)
+    → ◌≡◌ {A = List ℕ} (let x : Pipework = kept-if b left p in x.writers) left.writers
+kept-writers true left p = refl
+kept-writers false left p = refl
+
+kept-counts : (b : Bool) (left : Pipework) (p : ℕ) → length left.bytes ≡ 64
+    → ◌≡◌ {A = ℕ} (let x : Pipework = kept-if b left p in length x.bytes) 64
+kept-counts true left p count = count
+kept-counts false left p count = length-set left.bytes p [] ∙ count
+
 module _ (ends : List (Option End)) (old s : Pipework) (i : ℕ) (h : i < length ends)
     (named : AreNamed ends old) (dropped : AreDropped (take i ends) old s) where
   -- an end that is still to go is there
@@ -178,9 +197,8 @@ module _ (ends : List (Option End)) (old s : Pipework) (i : ℕ) (h : i < length
       left = with_ends s p false (ends_at s p false - 1)
 
       by : (b : Bool) → is_open_at left p ≡ b
-          → AreDropped (take (i + 1) ends) old
-          (cond (is_open_at left p) left (with_bytes left p []))
-      by b r = subst (λ b. AreDropped (take (i + 1) ends) old (cond b left (with_bytes left p [])))
+          → AreDropped (take (i + 1) ends) old (kept-if (is_open_at left p) left p)
+      by b r = subst (λ b. AreDropped (take (i + 1) ends) old (kept-if b left p))
           (sym r) (record {
             readers = λ pipe.
                 omega (
@@ -190,7 +208,7 @@ module _ (ends : List (Option End)) (old s : Pipework) (i : ℕ) (h : i < length
                       (omega (arith, dropped.reader_counts, there.0)) there.1
                       (dropped.readers pipe),
                   more-no (reads_pipe pipe) ends i (Some (PipeRead p)) h q,
-                  ap (λ xs. get_or xs pipe 0) (readers b),
+                  ap (λ xs. get_or xs pipe 0) (kept-readers b left p),
                 );
             writers = λ pipe.
                 omega (
@@ -198,36 +216,18 @@ module _ (ends : List (Option End)) (old s : Pipework) (i : ℕ) (h : i < length
                   dropped.writers pipe,
                   more-no (writes_pipe pipe) ends i
                       (Some (PipeRead p)) h q,
-                  ap (λ xs. get_or xs pipe 0) (writers b),
+                  ap (λ xs. get_or xs pipe 0) (kept-writers b left p),
                 );
             bytes = bytes-left s left old p (omega (arith, dropped.byte_counts, there.0)) refl
                 (λ pipe other. ap (λ n. not ((n == 0) && (get_or s.writers pipe 0 == 0)))
                 (get_or-set_other s.readers p pipe (get_or s.readers p 0 - 1) 0 other))
                 (open-by (get_or s.readers p 0) (get_or s.writers p 0) there.1) dropped.bytes b r;
             reader_counts =
-                ap length (readers b) ∙ length-set s.readers p (get_or s.readers p 0 - 1)
+                ap length (kept-readers b left p) ∙ length-set s.readers p (get_or s.readers p 0 - 1)
                 ∙ dropped.reader_counts;
-            writer_counts = ap length (writers b) ∙ dropped.writer_counts;
-            byte_counts = counts b;
+            writer_counts = ap length (kept-writers b left p) ∙ dropped.writer_counts;
+            byte_counts = kept-counts b left p dropped.byte_counts;
           })
-        where
-          readers : (b : Bool)
-              → ◌≡◌ {A = List ℕ} (let x : Pipework = cond b left (with_bytes left p []) in
-              x.readers) left.readers
-          readers true = refl
-          readers false = refl
-
-          writers : (b : Bool)
-              → ◌≡◌ {A = List ℕ} (let x : Pipework = cond b left (with_bytes left p []) in
-              x.writers) left.writers
-          writers true = refl
-          writers false = refl
-
-          counts : (b : Bool)
-              → ◌≡◌ {A = ℕ} (let x : Pipework = cond b left (with_bytes left p []) in
-              length x.bytes) 64
-          counts true = dropped.byte_counts
-          counts false = length-set s.bytes p [] ∙ dropped.byte_counts
   dropped-more (Some (PipeWrite p)) new q is =
       subst (AreDropped (take (i + 1) ends) old) (sym is) (by (is_open_at left p) refl)
     where
@@ -238,16 +238,15 @@ module _ (ends : List (Option End)) (old s : Pipework) (i : ℕ) (h : i < length
       left = with_ends s p true (ends_at s p true - 1)
 
       by : (b : Bool) → is_open_at left p ≡ b
-          → AreDropped (take (i + 1) ends) old
-          (cond (is_open_at left p) left (with_bytes left p []))
-      by b r = subst (λ b. AreDropped (take (i + 1) ends) old (cond b left (with_bytes left p [])))
+          → AreDropped (take (i + 1) ends) old (kept-if (is_open_at left p) left p)
+      by b r = subst (λ b. AreDropped (take (i + 1) ends) old (kept-if b left p))
           (sym r) (record {
             readers = λ pipe.
                 omega (
                   arith,
                   dropped.readers pipe,
                   more-no (reads_pipe pipe) ends i (Some (PipeWrite p)) h q,
-                  ap (λ xs. get_or xs pipe 0) (readers b),
+                  ap (λ xs. get_or xs pipe 0) (kept-readers b left p),
                 );
             writers = λ pipe.
                 omega (
@@ -258,7 +257,7 @@ module _ (ends : List (Option End)) (old s : Pipework) (i : ℕ) (h : i < length
                       (dropped.writers pipe),
                   more-no (writes_pipe pipe) ends i
                       (Some (PipeWrite p)) h q,
-                  ap (λ xs. get_or xs pipe 0) (writers b),
+                  ap (λ xs. get_or xs pipe 0) (kept-writers b left p),
                 );
             bytes = bytes-left s left old p (omega (arith, dropped.byte_counts, there.0)) refl
                 (λ pipe other. ap (λ n. not ((get_or s.readers pipe 0 == 0) && (n == 0)))
@@ -266,30 +265,12 @@ module _ (ends : List (Option End)) (old s : Pipework) (i : ℕ) (h : i < length
                 (open-by-second (get_or s.readers p 0) (get_or s.writers p 0) there.1) dropped.bytes
                 b
                 r;
-            reader_counts = ap length (readers b) ∙ dropped.reader_counts;
+            reader_counts = ap length (kept-readers b left p) ∙ dropped.reader_counts;
             writer_counts =
-                ap length (writers b) ∙ length-set s.writers p (get_or s.writers p 0 - 1)
+                ap length (kept-writers b left p) ∙ length-set s.writers p (get_or s.writers p 0 - 1)
                 ∙ dropped.writer_counts;
-            byte_counts = counts b;
+            byte_counts = kept-counts b left p dropped.byte_counts;
           })
-        where
-          readers : (b : Bool)
-              → ◌≡◌ {A = List ℕ} (let x : Pipework = cond b left (with_bytes left p []) in
-              x.readers) left.readers
-          readers true = refl
-          readers false = refl
-
-          writers : (b : Bool)
-              → ◌≡◌ {A = List ℕ} (let x : Pipework = cond b left (with_bytes left p []) in
-              x.writers) left.writers
-          writers true = refl
-          writers false = refl
-
-          counts : (b : Bool)
-              → ◌≡◌ {A = ℕ} (let x : Pipework = cond b left (with_bytes left p []) in
-              length x.bytes) 64
-          counts true = dropped.byte_counts
-          counts false = length-set s.bytes p [] ∙ dropped.byte_counts
   dropped-more (Some Input) new q is =
       subst (AreDropped (take (i + 1) ends) old) (sym is)
       (unnamed (Some Input) q (λ pipe. refl) (λ pipe. refl))

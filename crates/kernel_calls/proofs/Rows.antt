@@ -2,7 +2,7 @@
 use Rattle.std.proofs.Common.{◌≡◌, ℕ, List, [], ◌++◌, Option, None, Some, IfSome, refl, sym, ap}
 use Rattle.std.proofs.Common.{◌∙◌, subst, append-nil}
 use Rattle.std.proofs.lemmas.List.Elements.{All-nil}
-use Rattle.dos_world.specs.World.{registers_by}
+use Rattle.dos_world.specs.World.{World, registers_by}
 use Rattle.dos_world.specs.Kernel.{answered}
 use Rattle.dos_world.specs.Play.{done, over, questions, gives}
 use Rattle.dos_world.specs.Services.{Service as FlatService, returns, went}
@@ -15,13 +15,17 @@ use Rattle.kernel_calls.specs.declared.naming.QuietService.{QuietService}
 use Rattle.kernel_calls.specs.declared.state.RunStop.{RunStop}
 use Rattle.dos_io.specs.Shims.{ShimState}
 use Rattle.dos_io.specs.declared.shim.ShimStop.{ShimStop}
-use Rattle.kernel_calls.specs.StateWorld.{Answers, Asks, AsksFirst, HaveGrown, StopsAsking, sent}
+use Rattle.kernel_calls.specs.StateWorld.{Answers, Asks, AsksFirst, HasCauses, HasFaulted}
+use Rattle.kernel_calls.specs.StateWorld.{HasNotStopped, HaveGrown, StopsAsking, sent}
 use Rattle.kernel_calls.specs.StateWorld.{shim_stop, way_in, world_of}
 use Rattle.kernel_calls.specs.CallResults.{call_in, Consults, ActsQuietly, Sends}
 use Rattle.kernel_calls.specs.declared.state.State.{State}
 use Rattle.kernel_calls.specs.declared.state.Asked.{Asked}
 use Rattle.kernel_calls.specs.declared.state.Served.{Served}
 use Rattle.kernel_calls.specs.declared.state.Served.TheVariants.{Went}
+use Rattle.std.specs.Prelude.{Result, IfErr, IfOk, OnErr, OnOk}
+use Rattle.std.proofs.lemmas.Result.{IfErr-weaker, IfOk-weaker}
+use Rattle.kernel_calls.proofs.Outcomes.{after_err, asking_causes, asking_faults, asking_told}
 use Rattle.kernel_calls.proofs.Sending.{quietly}
 
 -- an answer, of a service that returns one
@@ -120,3 +124,36 @@ none_grown out err = record {
   out_is = grown-nothing out;
   err_is = grown-nothing err;
 }
+
+-- ---- what a row that asks says of a call, whether it goes on or is stopped
+
+module _ (service one : FlatService) (is : service ≡ one) (s new : State) (a : Asked)
+    (before after : ShimState) (out err : Option (List ℕ)) (out_faults err_faults : ℕ)
+    (r : Result Served RunStop) where
+  pub record HasAsked : Type 0 where
+    pub runs : IfOk r (λ way. Answers (λ w. service (call_in w a)) s before.told after.told way new
+        out out err err)
+    pub asks : IfErr r (λ stop. IfSome (shim_stop stop)
+        (λ by. Asks (λ w. service (call_in w a)) s before by after out out err err))
+    pub told : OnErr r (after.told ≡ before.told)
+    pub grows : OnErr r (HaveGrown out out err err)
+    pub faults : IfErr r
+        (λ stop. HasFaulted stop (λ w. service (call_in w a)) s new out out err err)
+    pub causes : HasCauses r before after out_faults out_faults err_faults err_faults
+
+  pub has_asked : IfOk r (λ way. Consults one s a before.told after.told way new)
+      → IfErr r (λ stop. StopsAsking stop (λ w. one (call_in w a)) s before after)
+      → OnOk r (HasNotStopped before after) → HasAsked
+  has_asked consults stops stood =
+      let play = λ (w : World). one (call_in w a) in
+      record {
+        runs = IfOk-weaker r _ _ (λ way. answers_consults service one is s new a way _ _ out err)
+            consults;
+        asks = IfErr-weaker r _ _ (λ stop. stops_asks service one is s a before after stop out err)
+            stops;
+        told = IfErr-weaker r _ _ (asking_told play s before after) stops;
+        grows = after_err r _ (none_grown out err);
+        faults = IfErr-weaker r _ _ (asking_faults play s before after
+            (λ w. service (call_in w a)) new out out err err) stops;
+        causes = asking_causes play s before after out_faults err_faults r stood stops;
+      }

@@ -1,6 +1,6 @@
 -- The branches of a write, and what a service sends.
 use Rattle.std.proofs.Common.{◌≡◌, ◌≢◌, ℕ, Bool, true, false, cond, List, [], ◌++◌, Option, Some}
-use Rattle.std.proofs.Common.{None, IsSome, IfSome, refl, sym, ap, subst, ◌∙◌, eq-eqb, append-nil}
+use Rattle.std.proofs.Common.{None, IsSome, IfSome, refl, sym, ap, ◌∙◌, eq-eqb, append-nil}
 use Rattle.std.proofs.Common.{take}
 use Rattle.std.specs.Prelude.{unwrap_or, slice_get}
 use Rattle.std.proofs.lemmas.Bool.{ne_eqb}
@@ -250,12 +250,6 @@ sends-error service s a new t u v is h = record {
       ∙ ap (λ output. done (went (sent output (e ++ h.bytes) (world_of q new))))
       (sym (append-nil o));
 }
-
--- the same of a service that is the same
-pub sends-same : (one two : Service) (s : State) (a : Asked) (way : Served) (new : State)
-    (t v u w : Option (List ℕ)) → one ≡ two → Sends two s a way new t v u w
-    → Sends one s a way new t v u w
-sends-same one two s a way new t v u w is h = subst (λ x. Sends x s a way new t v u w) (sym is) h
 
 -- ---- where a sink fails
 

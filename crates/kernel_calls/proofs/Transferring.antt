@@ -23,47 +23,51 @@ use Rattle.kernel_calls.proofs.Sending.{answering, moved, zero_moves}
 
 -- ---- which branch
 
-module _ (f : Service) (access : Access) (s : State) (a : Asked) where
-  -- the bytes that are asked for are moved, where all are mapped
-  abbrev pub moves : Service
-  moves c = transfers f (all_reach c.world c.thread c.a1 (count_of c) access) c
-
+module _ (access : Access) (s : State) (a : Asked) where
   abbrev pub are_reached : ℕ → List ℕ → List ℕ → Bool
   are_reached q o e = all_reach (sent o e (world_of q s)) a.thread a.a1 (asked_count a) access
 
-  pub no_bytes : (new : State) → asked_count a ≡ 0 → new ≡ answering s a.thread 0
-      → ActsQuietly moves s a Went new
-  no_bytes new zero is q o e =
-      zero_moves f (are_reached q o e) (call_in (sent o e (world_of q s)) a) zero
-      ∙ ap (λ x. done (went (sent o e (world_of q x)))) (sym is)
+  -- whether so many bytes are mapped, as the table says it
+  abbrev pub Reaches : Bool → ℕ → Type 0
+  Reaches b count = (w : World) (frames : Store) → b
+      ≡ all_reach (in_world w frames s.table) a.thread a.a1 count access
 
-  pub not_mapped : (new : State) → asked_count a ≢ 0
-      → ((q : ℕ) (o e : List ℕ) → are_reached q o e ≡ false)
-      → new ≡ answering s a.thread (minus 14) → ActsQuietly moves s a Went new
-  not_mapped new some none is q o e =
-      moved f (are_reached q o e) false (call_in (sent o e (world_of q s)) a) some (none q o e)
-      ∙ ap (λ x. done (went (sent o e (world_of q x)))) (sym is)
-
-  -- where all are mapped, it does what f does
-  pub does_move : asked_count a ≢ 0 → ((q : ℕ) (o e : List ℕ) → are_reached q o e ≡ true)
-      → (q : ℕ) (o e : List ℕ)
-      → moves (call_in (sent o e (world_of q s)) a) ≡ f (call_in (sent o e (world_of q s)) a)
-  does_move some all q o e =
-      moved f (are_reached q o e) true (call_in (sent o e (world_of q s)) a) some (all q o e)
-
-  pub all_mapped : (way : Served) (new : State) → asked_count a ≢ 0
-      → ((q : ℕ) (o e : List ℕ) → are_reached q o e ≡ true) → ActsQuietly f s a way new
-      → ActsQuietly moves s a way new
-  all_mapped way new some all goes q o e = does_move some all q o e ∙ goes q o e
-
-  -- what the table says of them
-  pub reached_as : (b : Bool) (count : ℕ) → count ≡ asked_count a
-      → ((w : World) (frames : Store) → b
-      ≡ all_reach (in_world w frames s.table) a.thread a.a1 count access)
+  pub reached_as : (b : Bool) (count : ℕ) → count ≡ asked_count a → Reaches b count
       → (q : ℕ) (o e : List ℕ) → are_reached q o e ≡ b
   reached_as b count same is q o e =
       ap (λ n. all_reach (sent o e (world_of q s)) a.thread a.a1 n access) (sym same)
       ∙ sym (is (sent o e (base q s.round s.pipes.bytes s.futexes)) s.frames)
+
+  module _ (f : Service) where
+    -- the bytes that are asked for are moved, where all are mapped
+    abbrev pub moves : Service
+    moves c = transfers f (all_reach c.world c.thread c.a1 (count_of c) access) c
+
+    pub no_bytes : (new : State) → asked_count a ≡ 0 → new ≡ answering s a.thread 0
+        → ActsQuietly moves s a Went new
+    no_bytes new zero is q o e =
+        zero_moves f (are_reached q o e) (call_in (sent o e (world_of q s)) a) zero
+        ∙ ap (λ x. done (went (sent o e (world_of q x)))) (sym is)
+
+    module _ (count : ℕ) (same : count ≡ asked_count a) (some : count ≢ 0) where
+      pub not_mapped : (number : ℕ) (new : State) → Reaches false count → number ≡ 14
+          → new ≡ answering s a.thread (minus number) → ActsQuietly moves s a Went new
+      not_mapped number new none refusal is q o e =
+          moved f (are_reached q o e) false (call_in (sent o e (world_of q s)) a)
+          (λ z. some (same ∙ z)) (reached_as false count same none q o e)
+          ∙ ap (λ x. done (went (sent o e (world_of q x))))
+          (ap (λ n. answering s a.thread (minus n)) (sym refusal) ∙ sym is)
+
+      -- where all are mapped, it does what f does
+      pub does_move : Reaches true count → (q : ℕ) (o e : List ℕ)
+          → moves (call_in (sent o e (world_of q s)) a) ≡ f (call_in (sent o e (world_of q s)) a)
+      does_move all q o e =
+          moved f (are_reached q o e) true (call_in (sent o e (world_of q s)) a)
+          (λ z. some (same ∙ z)) (reached_as true count same all q o e)
+
+      pub all_mapped : (way : Served) (new : State) → Reaches true count
+          → ActsQuietly f s a way new → ActsQuietly moves s a way new
+      all_mapped way new all goes q o e = does_move all q o e ∙ goes q o e
 
 -- where all are reached, so are the first of them
 pub reach_first : (w : World) (t a n k : ℕ) (access : Access) → n ≤ k

@@ -34,9 +34,6 @@ place-at (x ∷ ps) (suc i) d low = place-at ps i d (omega arith)
 runnable-of : (v : View) (ps : List Pack) → AllCanRun v ps → AllRunnable v ps
 runnable-of v ps can i d low = can i (slice_index_or ps i d) (place-at ps i d low)
 
-pub can-of : (v : View) (ps : List Pack) → AllRunnable v ps → AllCanRun v ps
-can-of v ps can i p at = let r = index-at ps i p p at in subst (λ x. CanRun x v) r.1 (can i p r.0)
-
 ran-of : (v : View) (ps qs : List Pack) → length qs ≡ length ps → EachRan v ps qs
     → AllRan v ps qs
 ran-of v ps qs level each = record {

@@ -34,23 +34,23 @@ read_pipe-requires-clause-pipe g c =
     (source_end c.descriptor.result (pipe_source c.in-Some-Pipe.pipe)
     (cc (c.in-Some-Pipe.is, c.in-Some-Pipe.field-0-is, c.source_of.ensures)))
 
-pub returns-in-Some-Input-clause-consults : goal.returns-in-Some-Input-clause-consults
-returns-in-Some-Input-clause-consults g c =
-    IfOk-weaker c.read_input.result _ _ (λ way. consults_as read (read_by (Some Input))
-    c.args.state.now c.args.asked.now
-    (from_source c.args.state.now c.requires.sound c.args.asked.now c.requires.asked
+pub returns-in-Some-Input : goal.returns-in-Some-Input
+returns-in-Some-Input g c =
+    let at = from_source c.args.state.now c.requires.sound c.args.asked.now c.requires.asked
     c.descriptor.result input_source c.descriptor.ensures
-    (cc (c.in-Some-Input.is, c.in-Some-Input.field-0-is, c.source_of.ensures)))
-    _ _ way _) c.read_input.ensures.consults
-
-pub returns-in-Some-Input-clause-asks : goal.returns-in-Some-Input-clause-asks
-returns-in-Some-Input-clause-asks g c =
-    IfErr-weaker c.read_input.result _ _ (λ stop. stops_as read (read_by (Some Input))
-    c.args.state.now c.args.asked.now
-    (from_source c.args.state.now c.requires.sound c.args.asked.now c.requires.asked
-    c.descriptor.result input_source c.descriptor.ensures
-    (cc (c.in-Some-Input.is, c.in-Some-Input.field-0-is, c.source_of.ensures)))
-    stop _ _) c.read_input.ensures.asks
+    (cc (c.in-Some-Input.is, c.in-Some-Input.field-0-is, c.source_of.ensures)) in
+    let has_read = c.read_input.ensures in
+    record {
+      consults = IfOk-weaker c.read_input.result _ _ (λ way. consults_as read
+          (read_by (Some Input)) c.args.state.now c.args.asked.now at _ _ way _) has_read.consults;
+      counted = has_read.counted;
+      stands = has_read.stands;
+      round = has_read.round;
+      asks = IfErr-weaker c.read_input.result _ _ (λ stop. stops_as read (read_by (Some Input))
+          c.args.state.now c.args.asked.now at stop _ _) has_read.asks;
+      stood = has_read.stood;
+      follows = has_read.follows;
+    }
 
 pub returns-in-Some-Pipe-clause-consults : goal.returns-in-Some-Pipe-clause-consults
 returns-in-Some-Pipe-clause-consults g c =

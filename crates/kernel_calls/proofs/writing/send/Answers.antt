@@ -1,11 +1,11 @@
-use Rattle.std.proofs.Common.{◌≡◌, sym, ap, ◌∙◌}
-use Rattle.dos_world.specs.Kernel.{all_reach, copied_in, minus}
+use Rattle.std.proofs.Common.{◌≡◌, true, false, sym, ap, ◌∙◌}
+use Rattle.dos_world.specs.Kernel.{copied_in, minus}
 use Rattle.dos_world.specs.declared.Access.TheVariants.{Load}
 use Rattle.kernel_mem.specs.MemoryWorld.{in_world}
-use Rattle.kernel_calls.specs.StateWorld.{base, sent}
 use Rattle.kernel_calls.specs.CallResults.{asked_count}
 use Rattle.kernel_calls.proofs.Sending.{sent-nothing, sent-refusal, sent-bytes, cut-bytes}
 use Rattle.kernel_calls.proofs.Sending.{answering}
+use Rattle.kernel_calls.proofs.Transferring.{reached_as}
 use Rattle.kernel_calls.proofs.writing.send.Goals as goal
 
 pub returns-then-count-eq0-clause-sends : goal.returns-then-count-eq0-clause-sends
@@ -18,21 +18,9 @@ returns-in-Ok-put-clause-sends g c =
     let same : c.min-count.result ≡ asked_count c.args.asked.now = c.min-count.ensures in
     sent-bytes c.args.state.now c.take_in.new.state c.reply-in-Ok-put.new.state c.args.asked.now _
     _ _ (λ e. c.if-count-eq0.false (same ∙ e))
-    (λ q o e. ap (λ n. all_reach
-    (in_world
-    (sent o e
-    (base q c.args.state.now.round c.args.state.now.pipes.bytes
-    c.args.state.now.futexes)) c.args.state.now.frames
-    c.args.state.now.table) c.args.asked.now.thread c.args.asked.now.a1 n Load)
-    (sym same)
-    ∙ sym (c.in-Ok.ensures.reach
-    (sent o e
-    (base q c.args.state.now.round c.args.state.now.pipes.bytes
-    c.args.state.now.futexes)) c.args.state.now.frames))
-    (λ w. ap (λ n. copied_in
-    (in_world w c.args.state.now.frames c.args.state.now.table)
-    c.args.asked.now.thread c.args.asked.now.a1 n) (sym same)
-    ∙ c.take_in.ensures.copies w)
+    (reached_as Load c.args.state.now c.args.asked.now true _ same c.in-Ok.ensures.reach)
+    (λ w. ap (λ n. copied_in (in_world w c.args.state.now.frames c.args.state.now.table)
+    c.args.asked.now.thread c.args.asked.now.a1 n) (sym same) ∙ c.take_in.ensures.copies w)
     c.take_in.ensures.round c.take_in.ensures.stands c.in-Ok-put.ensures.ok
     (c.reply-in-Ok-put.ensures.answers
     ∙ ap (answering c.take_in.new.state c.args.asked.now.thread) same)
@@ -52,17 +40,7 @@ returns-in-Err-clause-sends g c =
     let same : c.min-count.result ≡ asked_count c.args.asked.now = c.min-count.ensures in
     sent-refusal c.args.state.now c.refuse_call.new.state c.args.asked.now _
     (λ e. c.if-count-eq0.false (same ∙ e))
-    (λ q o e. ap (λ n. all_reach
-    (in_world
-    (sent o e
-    (base q c.args.state.now.round c.args.state.now.pipes.bytes
-    c.args.state.now.futexes)) c.args.state.now.frames
-    c.args.state.now.table) c.args.asked.now.thread c.args.asked.now.a1 n Load)
-    (sym same)
-    ∙ sym (c.in-Err.ensures.reach
-    (sent o e
-    (base q c.args.state.now.round c.args.state.now.pipes.bytes
-    c.args.state.now.futexes)) c.args.state.now.frames))
+    (reached_as Load c.args.state.now c.args.asked.now false _ same c.in-Err.ensures.reach)
     (let is : c.in-Err.number ≡ 14 = cc (c.in-Err.ensures.refusal) in
     c.refuse_call.ensures.answers
     ∙ ap (λ n. answering c.args.state.now c.args.asked.now.thread (minus n)) is)
@@ -72,11 +50,7 @@ returns-in-Err-put-clause-cut g c =
     let same : c.min-count.result ≡ asked_count c.args.asked.now = c.min-count.ensures in
     cut-bytes c.args.state.now c.take_in.new.state c.args.asked.now _ _ _
     (λ e. c.if-count-eq0.false (same ∙ e))
-    (λ q o e. ap (λ n. all_reach (in_world (sent o e (base q c.args.state.now.round
-    c.args.state.now.pipes.bytes c.args.state.now.futexes)) c.args.state.now.frames
-    c.args.state.now.table) c.args.asked.now.thread c.args.asked.now.a1 n Load) (sym same)
-    ∙ sym (c.in-Ok.ensures.reach (sent o e (base q c.args.state.now.round
-    c.args.state.now.pipes.bytes c.args.state.now.futexes)) c.args.state.now.frames))
+    (reached_as Load c.args.state.now c.args.asked.now true _ same c.in-Ok.ensures.reach)
     (λ w. ap (λ n. copied_in (in_world w c.args.state.now.frames c.args.state.now.table)
     c.args.asked.now.thread c.args.asked.now.a1 n) (sym same) ∙ c.take_in.ensures.copies w)
     c.take_in.ensures.round c.take_in.ensures.stands c.in-Err-put.ensures.err

@@ -41,84 +41,53 @@ write_pipe-requires-clause-pipe g c =
 
 -- ---- to a sink
 
-pub returns-in-Some-Output-clause-sends : goal.returns-in-Some-Output-clause-sends
-returns-in-Some-Output-clause-sends g c =
-    ok_is _ c.send.result _ Went
-    (sends-output write c.args.state.now c.args.asked.now c.send.new.state _ _ _
-    (to_target c.args.state.now c.requires.sound c.args.asked.now c.requires.asked
+pub returns-in-Some-Output : goal.returns-in-Some-Output
+returns-in-Some-Output g c =
+    let at = to_target c.args.state.now c.requires.sound c.args.asked.now c.requires.asked
     c.descriptor.result output_target c.descriptor.ensures
-    (cc (c.in-Some-Output.is, c.in-Some-Output.field-0-is, c.target_of.ensures))))
-    c.send.ensures.sends c.send.ensures.way
+    (cc (c.in-Some-Output.is, c.in-Some-Output.field-0-is, c.target_of.ensures)) in
+    let sent = c.send.ensures in
+    record {
+      sends = ok_is _ c.send.result _ Went
+          (sends-output write c.args.state.now c.args.asked.now c.send.new.state _ _ _ at)
+          sent.sends sent.way;
+      counted = sent.counted;
+      stands = sent.stands;
+      round = sent.round;
+      grows = on_err_weaker c.send.result (output_grown _ _ _ _ _ _) sent.cut;
+      faults = err_is _ c.send.result _ OutFault
+          (faults-output write c.args.state.now c.args.asked.now c.send.new.state _ _ _ at)
+          sent.cut sent.stop;
+      causes = record {
+        out_later = sent.cause.later;
+        err_later = le_refl _;
+        sinks = err_is _ c.send.result _ OutFault (λ rose. rose) sent.cause.failed sent.stop;
+      };
+    }
 
-pub returns-in-Some-Output-clause-counted : goal.returns-in-Some-Output-clause-counted
-returns-in-Some-Output-clause-counted g c = c.send.ensures.counted
-
-pub returns-in-Some-Output-clause-stands : goal.returns-in-Some-Output-clause-stands
-returns-in-Some-Output-clause-stands g c = c.send.ensures.stands
-
-pub returns-in-Some-Output-clause-round : goal.returns-in-Some-Output-clause-round
-returns-in-Some-Output-clause-round g c = c.send.ensures.round
-
-pub returns-in-Some-Output-clause-grows : goal.returns-in-Some-Output-clause-grows
-returns-in-Some-Output-clause-grows g c =
-    on_err_weaker c.send.result (output_grown _ _ _ _ _ _) c.send.ensures.cut
-
-pub returns-in-Some-Output-clause-faults : goal.returns-in-Some-Output-clause-faults
-returns-in-Some-Output-clause-faults g c =
-    err_is _ c.send.result _ OutFault
-    (faults-output write c.args.state.now c.args.asked.now c.send.new.state _ _ _
-    (to_target c.args.state.now c.requires.sound c.args.asked.now c.requires.asked
-    c.descriptor.result output_target c.descriptor.ensures
-    (cc (c.in-Some-Output.is, c.in-Some-Output.field-0-is, c.target_of.ensures))))
-    c.send.ensures.cut c.send.ensures.stop
-
-pub returns-in-Some-Output-clause-causes : goal.returns-in-Some-Output-clause-causes
-returns-in-Some-Output-clause-causes g c = record {
-  out_later = c.send.ensures.cause.later;
-  err_later = le_refl _;
-  sinks = err_is _ c.send.result _ OutFault (λ rose. rose) c.send.ensures.cause.failed
-      c.send.ensures.stop;
-}
-
-pub returns-in-Some-Error-clause-sends : goal.returns-in-Some-Error-clause-sends
-returns-in-Some-Error-clause-sends g c =
-    ok_is _ c.send-in-Some-Error.result _ Went
-    (sends-error write c.args.state.now c.args.asked.now c.send-in-Some-Error.new.state _ _ _
-    (to_target c.args.state.now c.requires.sound c.args.asked.now c.requires.asked
+pub returns-in-Some-Error : goal.returns-in-Some-Error
+returns-in-Some-Error g c =
+    let at = to_target c.args.state.now c.requires.sound c.args.asked.now c.requires.asked
     c.descriptor.result error_target c.descriptor.ensures
-    (cc (c.in-Some-Error.is, c.in-Some-Error.field-0-is, c.target_of.ensures))))
-    c.send-in-Some-Error.ensures.sends c.send-in-Some-Error.ensures.way
-
-pub returns-in-Some-Error-clause-counted : goal.returns-in-Some-Error-clause-counted
-returns-in-Some-Error-clause-counted g c = c.send-in-Some-Error.ensures.counted
-
-pub returns-in-Some-Error-clause-stands : goal.returns-in-Some-Error-clause-stands
-returns-in-Some-Error-clause-stands g c = c.send-in-Some-Error.ensures.stands
-
-pub returns-in-Some-Error-clause-round : goal.returns-in-Some-Error-clause-round
-returns-in-Some-Error-clause-round g c = c.send-in-Some-Error.ensures.round
-
-pub returns-in-Some-Error-clause-grows : goal.returns-in-Some-Error-clause-grows
-returns-in-Some-Error-clause-grows g c =
-    on_err_weaker c.send-in-Some-Error.result (error_grown _ _ _ _ _ _)
-    c.send-in-Some-Error.ensures.cut
-
-pub returns-in-Some-Error-clause-faults : goal.returns-in-Some-Error-clause-faults
-returns-in-Some-Error-clause-faults g c =
-    err_is _ c.send-in-Some-Error.result _ ErrFault
-    (faults-error write c.args.state.now c.args.asked.now c.send-in-Some-Error.new.state _ _ _
-    (to_target c.args.state.now c.requires.sound c.args.asked.now c.requires.asked
-    c.descriptor.result error_target c.descriptor.ensures
-    (cc (c.in-Some-Error.is, c.in-Some-Error.field-0-is, c.target_of.ensures))))
-    c.send-in-Some-Error.ensures.cut c.send-in-Some-Error.ensures.stop
-
-pub returns-in-Some-Error-clause-causes : goal.returns-in-Some-Error-clause-causes
-returns-in-Some-Error-clause-causes g c = record {
-  err_later = c.send-in-Some-Error.ensures.cause.later;
-  out_later = le_refl _;
-  sinks = err_is _ c.send-in-Some-Error.result _ ErrFault (λ rose. rose)
-      c.send-in-Some-Error.ensures.cause.failed c.send-in-Some-Error.ensures.stop;
-}
+    (cc (c.in-Some-Error.is, c.in-Some-Error.field-0-is, c.target_of.ensures)) in
+    let sent = c.send-in-Some-Error.ensures in
+    record {
+      sends = ok_is _ c.send-in-Some-Error.result _ Went
+          (sends-error write c.args.state.now c.args.asked.now c.send-in-Some-Error.new.state _ _ _ at)
+          sent.sends sent.way;
+      counted = sent.counted;
+      stands = sent.stands;
+      round = sent.round;
+      grows = on_err_weaker c.send-in-Some-Error.result (error_grown _ _ _ _ _ _) sent.cut;
+      faults = err_is _ c.send-in-Some-Error.result _ ErrFault
+          (faults-error write c.args.state.now c.args.asked.now c.send-in-Some-Error.new.state _ _ _ at)
+          sent.cut sent.stop;
+      causes = record {
+        err_later = sent.cause.later;
+        out_later = le_refl _;
+        sinks = err_is _ c.send-in-Some-Error.result _ ErrFault (λ rose. rose) sent.cause.failed sent.stop;
+      };
+    }
 
 -- ---- to a pipe, or to nothing
 
