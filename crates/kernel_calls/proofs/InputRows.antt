@@ -33,8 +33,7 @@ use Rattle.kernel_calls.specs.declared.state.RunStop.{RunStop}
 use Rattle.kernel_calls.specs.declared.reading.Source.{Source}
 use Rattle.kernel_calls.specs.declared.reading.Source.TheVariants.{Input as input_source}
 use Rattle.kernel_calls.specs.declared.reading.Source.TheVariants.{Pipe as pipe_source}
-use Rattle.kernel_calls.proofs.Keeping.{process_alive}
-use Rattle.kernel_calls.proofs.Sending.{answering, descriptor_is}
+use Rattle.kernel_calls.proofs.Sending.{answering, names_end}
 
 -- ---- a service like another
 
@@ -126,9 +125,8 @@ pub reads_as : (s : State) (sound : IsSound s) (a : Asked) → AreAsked s a → 
     → read (call_in (sent o e (world_of q s)) a)
     ≡ read_by end (call_in (sent o e (world_of q s)) a)
 reads_as s sound a are d end is same q o e =
-    let w : World = sent o e (world_of q s) in
-    ap (λ x. read_by x (call_in w a))
-    (descriptor_is w a d (process_alive s sound a.thread a.process are.live are.process) is ∙ same)
+    ap (λ x. read_by x (call_in (sent o e (world_of q s)) a))
+    (names_end s sound a are d end is same q o e)
 
 -- the end that a source is
 abbrev pub end_of : Source → End

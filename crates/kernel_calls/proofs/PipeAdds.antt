@@ -16,7 +16,7 @@ use Rattle.kernel_objects.specs.Pipework.{Pipework}
 use Rattle.proc_table.specs.Tables.{end_in}
 use Rattle.kernel_calls.specs.Children.{AreAdded, CanComeAgain, CanName, with_named}
 use Rattle.kernel_calls.proofs.EndCounts.{one_more}
-use Rattle.kernel_calls.proofs.PipeEnds.{more-no, open-by, open-by-second}
+use Rattle.kernel_calls.proofs.PipeEnds.{more-no, more-none, open-by, open-by-second}
 
 none_added : (s : Pipework) (ends : List (Option End)) → CanComeAgain ends s
     → AreAdded (take 0 ends) s s
@@ -66,18 +66,10 @@ module _ (ends : List (Option End)) (old s : Pipework) (i : ℕ) (h : i < length
   unnamed : (e : Option End) → get_or ends i None ≡ e → ((pipe : ℕ) → reads_pipe pipe e ≡ false)
       → ((pipe : ℕ) → writes_pipe pipe e ≡ false) → AreAdded (take (i + 1) ends) old s
   unnamed e q reads writes = record {
-    readers = λ pipe. omega (
-      arith,
-      added.readers pipe,
-      more-no (reads_pipe pipe) ends i e h q,
-      ap (λ b. cond {A = ℕ} b 1 0) (reads pipe),
-    );
-    writers = λ pipe. omega (
-      arith,
-      added.writers pipe,
-      more-no (writes_pipe pipe) ends i e h q,
-      ap (λ b. cond {A = ℕ} b 1 0) (writes pipe),
-    );
+    readers = λ pipe.
+        omega (arith, added.readers pipe, more-none (reads_pipe pipe) ends i e h q (reads pipe));
+    writers = λ pipe.
+        omega (arith, added.writers pipe, more-none (writes_pipe pipe) ends i e h q (writes pipe));
     bytes = added.bytes;
     reader_counts = added.reader_counts;
     writer_counts = added.writer_counts;

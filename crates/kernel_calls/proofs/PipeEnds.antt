@@ -78,8 +78,9 @@ one-less xs p pipe c total h some e = elim (cases_eq pipe p) [
 
 -- ---- how far the ends are dropped
 
-none-dropped : (s : Pipework) (ends : List (Option End)) → AreNamed ends s → AreDropped [] s s
-none-dropped s ends named = record {
+pub dropped-none : (s : Pipework) (ends : List (Option End)) → AreNamed ends s
+    → AreDropped (take 0 ends) s s
+dropped-none s ends named = record {
   readers = λ pipe. omega arith;
   writers = λ pipe. omega arith;
   bytes = λ pipe. by pipe (is_open_at s pipe) refl;
@@ -93,10 +94,6 @@ none-dropped s ends named = record {
     by pipe true q = sym (ap (λ b. cond b (bytes_at s pipe) []) q)
     by pipe false q = named.empty pipe q ∙ sym (ap (λ b. cond b (bytes_at s pipe) []) q)
 
-pub dropped-none : (s : Pipework) (ends : List (Option End)) → AreNamed ends s
-    → AreDropped (take 0 ends) s s
-dropped-none s ends named = none-dropped s ends named
-
 pub more-no : (test : Option End → Bool) (ends : List (Option End)) (i : ℕ) (e : Option End)
     → i < length ends → get_or ends i None ≡ e
     → count_by test (take (i + 1) ends) ≡ count_by test (take i ends) + cond (test e) 1 0
@@ -108,6 +105,14 @@ more-no test ends i e h q = by (test e) refl
         ∙ ap (λ b. count_by test (take i ends) + cond b 1 0) (sym t)
     by false t = count_by_more_no test ends i None h (ap test q ∙ t)
         ∙ omega (arith, ap (λ b. cond {A = ℕ} b 1 0) t)
+
+-- an end that isn't counted leaves the count
+pub more-none : (test : Option End → Bool) (ends : List (Option End)) (i : ℕ) (e : Option End)
+    → i < length ends → get_or ends i None ≡ e → test e ≡ false
+    → count_by test (take (i + 1) ends) ≡ count_by test (take i ends)
+more-none test ends i e h q none =
+    more-no test ends i e h q
+    ∙ omega (arith, ap (λ b. cond {A = ℕ} b 1 0) none)
 
 -- a pipe that has lost an end, with its bytes where it is open still
 abbrev kept-if : Bool → Pipework → ℕ → Pipework
@@ -166,18 +171,10 @@ module _ (ends : List (Option End)) (old s : Pipework) (i : ℕ) (h : i < length
   unnamed : (e : Option End) → get_or ends i None ≡ e → ((pipe : ℕ) → reads_pipe pipe e ≡ false)
       → ((pipe : ℕ) → writes_pipe pipe e ≡ false) → AreDropped (take (i + 1) ends) old s
   unnamed e q reads writes = record {
-    readers = λ pipe. omega (
-      arith,
-      dropped.readers pipe,
-      more-no (reads_pipe pipe) ends i e h q,
-      ap (λ b. cond {A = ℕ} b 1 0) (reads pipe),
-    );
-    writers = λ pipe. omega (
-      arith,
-      dropped.writers pipe,
-      more-no (writes_pipe pipe) ends i e h q,
-      ap (λ b. cond {A = ℕ} b 1 0) (writes pipe),
-    );
+    readers = λ pipe.
+        omega (arith, dropped.readers pipe, more-none (reads_pipe pipe) ends i e h q (reads pipe));
+    writers = λ pipe.
+        omega (arith, dropped.writers pipe, more-none (writes_pipe pipe) ends i e h q (writes pipe));
     bytes = dropped.bytes;
     reader_counts = dropped.reader_counts;
     writer_counts = dropped.writer_counts;

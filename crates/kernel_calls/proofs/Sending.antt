@@ -164,16 +164,23 @@ descriptor_is w a d live is = by (live_process w a.process) live is
     by None l e = cc
     by (Some h) l e = sym e
 
--- so the call writes what a write to that end writes
+-- so the call's descriptor is this end
+pub names_end : (s : State) (sound : IsSound s) (a : Asked) → AreAsked s a → (d end : Option End)
+    → IfSome (held_in s.table.processes a.process) (λ h. d ≡ end_in h a.a0) → d ≡ end
+    → (q : ℕ) (o e : List ℕ) → descriptor (call_in (sent o e (world_of q s)) a) ≡ end
+names_end s sound a are d end is same q o e =
+    descriptor_is (sent o e (world_of q s)) a d
+    (process_alive s sound a.thread a.process are.live are.process) is ∙ same
+
+-- and it writes what a write to that end writes
 pub writes_as : (s : State) (sound : IsSound s) (a : Asked) → AreAsked s a → (d end : Option End)
     → IfSome (held_in s.table.processes a.process) (λ h. d ≡ end_in h a.a0) → d ≡ end
     → (q : ℕ) (o e : List ℕ)
     → write (call_in (sent o e (world_of q s)) a)
     ≡ write_by end (call_in (sent o e (world_of q s)) a)
 writes_as s sound a are d end is same q o e =
-    let w : World = sent o e (world_of q s) in
-    ap (λ x. write_by x (call_in w a))
-    (descriptor_is w a d (process_alive s sound a.thread a.process are.live are.process) is ∙ same)
+    ap (λ x. write_by x (call_in (sent o e (world_of q s)) a))
+    (names_end s sound a are d end is same q o e)
 
 -- the end that a target is
 abbrev pub end_of : Target → End

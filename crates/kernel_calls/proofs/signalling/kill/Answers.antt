@@ -1,21 +1,10 @@
-use Rattle.std.proofs.Common.{◌==◌, ◌∙◌, refl, sym, ap, subst}
+use Rattle.std.proofs.Common.{◌==◌, ◌∙◌, sym, ap, subst}
 use Rattle.dos_world.specs.Kernel.{pending_with}
 use Rattle.proc_table.specs.Tables.{Tables, IsThread}
 use Rattle.kernel_calls.proofs.Changed.{lives_still}
 use Rattle.kernel_calls.proofs.Counted.{all_counted, counted-table}
 use Rattle.kernel_calls.proofs.Signalled.{post_counted, post_keeps, post_room}
 use Rattle.kernel_calls.proofs.signalling.kill.Goals as goal
-
-pub returns-then-asked-gt-LAST_SIGNAL-clause-counted :
-    goal.returns-then-asked-gt-LAST_SIGNAL-clause-counted
-returns-then-asked-gt-LAST_SIGNAL-clause-counted c =
-    counted-table c.args.state.now c.refuse_call.new.state _
-    c.requires.sound.counted c.refuse_call.ensures.answers refl refl
-
-pub returns-then-not-is_live-clause-counted : goal.returns-then-not-is_live-clause-counted
-returns-then-not-is_live-clause-counted c =
-    counted-table c.args.state.now c.refuse_call-then-not-is_live.new.state _
-    c.requires.sound.counted c.refuse_call-then-not-is_live.ensures.answers refl refl
 
 pub reply-requires : goal.reply-requires
 reply-requires c = record {

@@ -14,10 +14,6 @@ use Rattle.kernel_calls.proofs.Keeping.{process_alive}
 use Rattle.kernel_calls.proofs.Signalled.{action_is}
 use Rattle.kernel_calls.proofs.signalling.sig_handler.Goals as goal
 
-pub returns-then-is_fixed-clause-counted : goal.returns-then-is_fixed-clause-counted
-returns-then-is_fixed-clause-counted c = counted-table c.args.state.now c.refuse_call.new.state _
-    c.requires.sound.counted c.refuse_call.ensures.answers refl refl
-
 pub returns-clause-goes_on : goal.returns-clause-goes_on
 returns-clause-goes_on c = λ q o e.
     let w : World = sent o e (world_of q c.args.state.now) in
