@@ -3,14 +3,15 @@ use Rattle.std.proofs.Common.{◌≡◌, ℕ, zero, suc, ◌+◌, ◌<◌, ◌�
 use Rattle.std.proofs.Common.{ap, ◌∙◌, subst, arith, Option, Some, set, length-set, get_or-set_same}
 use Rattle.std.proofs.Common.{get_or-set_other, ◌≢◌, ◌⊎◌, inl, inr}
 use Rattle.std.proofs.lemmas.Bool.{cases_eq}
-use Rattle.std.specs.Prelude.{slice_get, slice_index_or}
+use Rattle.std.specs.Prelude.{All, map, slice_get, slice_index_or}
+use Rattle.std.proofs.lemmas.List.{length-map}
 use mathlib.Core.Option.{some, some-injective, some-ne-none}
 use lib.ListN.{get_elem?}
 use Rattle.hand_board.specs.Seating.{AllFinished}
 use Rattle.quantum_run.specs.Packs.{seen}
 use Rattle.quantum_run.specs.Shows.{Pack, View, CanRun}
 use Rattle.worker_pool.specs.declared.lent.Lent.{Lent}
-use Rattle.worker_pool.specs.Lending.{packs_of, See, IsFinished}
+use Rattle.worker_pool.specs.Lending.{packs_of, See, IsFinished, IsReady}
 use Rattle.worker_pool.specs.Ran.{AllCanRun, AllRan, AllRunnable, EachRan, HasRun, budgets}
 
 -- ---- by index and by place
@@ -117,16 +118,6 @@ budgets-fall v (p ∷ ps) (q ∷ qs) ran =
 
 -- ---- over a board
 
-pub ready-of : (v : View) (ls : List Lent) → AllRunnable v (packs_of ls) → See v ls
-    → (k : ℕ) (x : Lent) → get_elem? ls k ≡ some x → CanRun x.pack (seen x.view.now)
-ready-of v [] can see k x at = absurd (some-ne-none x (sym at))
-ready-of v (l ∷ ls) can see zero x at =
-    subst (λ (z : Lent). CanRun z.pack (seen z.view.now)) (some-injective l x at)
-    (subst (λ z. CanRun l.pack z) (sym (see 0 l (omega arith))) (can 0 l.pack (omega arith)))
-ready-of v (l ∷ ls) can see (suc k) x at =
-    ready-of v ls (λ i d low. can (suc i) d (omega arith))
-    (λ i d low. see (suc i) d (omega arith)) k x at
-
 pub as-many : {T : Type 0} (finished : T → T → Type 0) (xs ys : List T) → AllFinished finished xs ys
     → length ys ≡ length xs
 as-many finished [] [] all = refl
@@ -134,15 +125,40 @@ as-many finished [] (y ∷ ys) all = absurd all
 as-many finished (x ∷ xs) [] all = absurd all
 as-many finished (x ∷ xs) (y ∷ ys) all = ap suc (as-many finished xs ys all.1)
 
+-- packs with what they are lent, or share, which is the same for all
+module _ {L : Type 0} (pack : L → Pack) (v : View) (same : L → Type 0) where
+  pub ready-by : (ready : L → Type 0) → ((l : L) → same l → CanRun (pack l) v → ready l)
+      → (ls : List L) → AllRunnable v (map pack ls) → All same ls → (k : ℕ) (x : L)
+      → get_elem? ls k ≡ some x → ready x
+  ready-by ready by [] can is k x at = absurd (some-ne-none x (sym at))
+  ready-by ready by (l ∷ ls) can is zero x at =
+      subst ready (some-injective l x at)
+      (by l (is 0 l (omega arith)) (can 0 (pack l) (omega arith)))
+  ready-by ready by (l ∷ ls) can is (suc k) x at =
+      ready-by ready by ls (λ i d low. can (suc i) d (omega arith))
+      (λ i d low. is (suc i) d (omega arith)) k x at
+
+  pub finished-by : (finished : L → L → Type 0)
+      → ((l m : L) → same l → finished l m → HasRun v (pack l) (pack m)) → (ls ms : List L)
+      → AllFinished finished ls ms → All same ls → EachRan v (map pack ls) (map pack ms)
+  finished-by finished by [] ms all is i d low = absurd (omega arith)
+  finished-by finished by (l ∷ ls) [] all is i d low = absurd all
+  finished-by finished by (l ∷ ls) (m ∷ ms) all is zero d low =
+      by l m (is 0 l (omega arith)) all.0
+  finished-by finished by (l ∷ ls) (m ∷ ms) all is (suc i) d low =
+      finished-by finished by ls ms all.1 (λ j e k. is (suc j) e (omega arith)) i d (omega arith)
+
+pub ready-of : (v : View) (ls : List Lent) → AllRunnable v (packs_of ls) → See v ls
+    → (k : ℕ) (x : Lent) → get_elem? ls k ≡ some x → IsReady x
+ready-of v ls =
+    ready-by (λ (l : Lent). l.pack) v (λ (l : Lent). seen l.view.now ≡ v) IsReady
+    (λ l same can. subst (λ z. CanRun l.pack z) (sym same) can) ls
+
 pub finished-ran : (v : View) (ls ms : List Lent) → AllFinished IsFinished ls ms → See v ls
     → EachRan v (packs_of ls) (packs_of ms)
-finished-ran v [] ms all see i d low = absurd (omega arith)
-finished-ran v (l ∷ ls) [] all see i d low = absurd all
-finished-ran v (l ∷ ls) (m ∷ ms) all see zero d low =
-    subst (λ z. HasRun z l.pack m.pack) (see 0 l (omega arith)) all.0.1
-finished-ran v (l ∷ ls) (m ∷ ms) all see (suc i) d low =
-    finished-ran v ls ms all.1 (λ j e k. see (suc j) e (omega arith)) i d (omega arith)
+finished-ran v ls ms =
+    finished-by (λ (l : Lent). l.pack) v (λ (l : Lent). seen l.view.now ≡ v) IsFinished
+    (λ l m same all. subst (λ z. HasRun z l.pack m.pack) same all.1) ls ms
 
 pub packs-length : (ls : List Lent) → length (packs_of ls) ≡ length ls
-packs-length [] = refl
-packs-length (l ∷ ls) = ap suc (packs-length ls)
+packs-length ls = length-map ls (λ (l : Lent). l.pack)

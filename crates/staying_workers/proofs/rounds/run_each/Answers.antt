@@ -1,16 +1,13 @@
-use Rattle.std.proofs.Common.{List, ap, subst, sym}
+use Rattle.std.proofs.Common.{ap}
 use Rattle.hand_board.specs.Seating.{Seating}
-use Rattle.worker_pool.specs.Parts.{AreReady}
-use Rattle.staying_workers.specs.Lending.{IsReady}
 use Rattle.staying_workers.specs.declared.held.Held.{Held}
+use Rattle.staying_workers.proofs.RanPacks.{still_ready}
 use Rattle.staying_workers.proofs.rounds.run_each.Goals as goal
 
 pub run_board-requires-clause-ready : goal.run_board-requires-clause-ready
 run_board-requires-clause-ready g c =
-    subst (λ (l : List Held). AreReady IsReady l)
-    (sym (ap (λ (s : Seating Held). s.opened) c.in_ok-board.ensures.seat)) c.requires.ready
+    still_ready (ap (λ (s : Seating Held). s.opened) c.in_ok-board.ensures.seat) c.requires.ready
 
 pub sweep-seat-requires-clause-ready : goal.sweep-seat-requires-clause-ready
 sweep-seat-requires-clause-ready g c =
-    subst (λ (l : List Held). AreReady IsReady l)
-    (sym (ap (λ (s : Seating Held). s.opened) c.in_ok-board.ensures.seat)) c.requires.ready
+    still_ready (ap (λ (s : Seating Held). s.opened) c.in_ok-board.ensures.seat) c.requires.ready
