@@ -1,26 +1,24 @@
 -- The lowest child of a process: in the records, and in the processes that they stand for.
 use Rattle.std.proofs.Common.{◌≡◌, ◌≢◌, ℕ, zero, suc, ◌+◌, ◌-◌, ◌<◌, ◌≤◌, Bool, true, false, cond}
 use Rattle.std.proofs.Common.{List, [], ◌∷◌, map, length, get_or, slice_get, Option, Some, None}
-use Rattle.std.proofs.Common.{option_map, refl, sym, ap, ◌∙◌, arith}
-use Rattle.std.specs.Prelude.{not, ◌&&◌, ◌||◌, ◌==◌, filter, is_none, position}
-use Rattle.std.proofs.lemmas.Bool.{and_parts}
+use Rattle.std.proofs.Common.{refl, sym, ap, ◌∙◌, arith}
+use Rattle.std.specs.Prelude.{◌&&◌, ◌||◌, ◌==◌, filter, position}
 use Rattle.std.proofs.lemmas.Option.{slice_get-get_or}
 use Rattle.std.proofs.lemmas.Bool.Decides.{nat_tests}
 use Rattle.std.proofs.lemmas.List.Quantifiers.{position-Some}
-use Rattle.dos_world.specs.Numbered.{numbered, places_from, numbers_of}
-use Rattle.dos_world.specs.World.{Process, first_of, has_ended, is_child, status_of}
+use Rattle.dos_world.specs.Numbered.{places_from, numbers_of}
+use Rattle.dos_world.specs.World.{Process, first_of, has_ended, is_child}
 use Rattle.dos_world.specs.ProcessCalls.{any_process}
 use Rattle.space_map.specs.Mapping.{Mapping}
-use Rattle.proc_table.specs.Children.{children_in, outcome, outcome_by, status_in}
-use Rattle.proc_table.specs.declared.collected.Collected.TheVariants.{Got, Wait, NoChild}
-use Rattle.proc_table.specs.Places.{holdings_in, process_by, shown, has_come, is_child_record}
-use Rattle.proc_table.specs.Places.{is_collected, first_child, place_kept, place_of, status_or_0}
+use Rattle.proc_table.specs.Children.{children_in}
+use Rattle.proc_table.specs.Places.{holdings_in, process_by, shown, is_child_record}
+use Rattle.proc_table.specs.Places.{first_child}
 use Rattle.proc_table.specs.Links.{passes, passes_at}
 use Rattle.proc_table.specs.declared.record.Belongings.{Belongings}
 use Rattle.proc_table.specs.declared.record.Kept.{Kept}
 use Rattle.proc_table.specs.declared.record.Kept.TheVariants.{Live, Ended}
 use Rattle.proc_table.specs.declared.record.Record.{Record}
-use Rattle.proc_table.proofs.Places.{none_passes, numbered_shown}
+use Rattle.proc_table.proofs.Places.{none_passes}
 
 -- whether a number names another, where 0 names all
 abbrev pub names : ℕ → ℕ → Bool
@@ -243,110 +241,3 @@ children_shown asked S D R parent which =
     (places_shown (process_by (holdings_in S D))
     (λ process. is_child parent process && test_of asked process)
     (is_child_record asked parent) (child_shown (holdings_in S D) asked parent) 1 R)
-
--- ---- what a wait comes to
-
-module _ (S : List Mapping) (D : List Belongings) (R : List Record) (ps : List Process)
-    (shows : shown S D R ≡ ps) (parent which : ℕ) where
-  first_is : (asked : Bool)
-      → first_of (children_in (test_of asked) ps parent which) ≡ first_child asked R parent which
-  first_is asked = ap (λ qs. first_of (children_in (test_of asked) qs parent which)) (sym shows)
-      ∙ children_shown asked S D R parent which
-
-  outcome_is : (any come : Option ℕ) → first_child false R parent which ≡ any
-      → first_child true R parent which ≡ come → outcome_by any come ps ≡ outcome ps parent which
-  outcome_is any come a b =
-      ap (λ o. outcome_by o come ps) (sym (first_is false ∙ a))
-      ∙ ap (λ o. outcome_by (first_of (children_in any_process ps parent which)) o ps)
-      (sym (first_is true ∙ b))
-
-  pub outcome_none : (o : Option ℕ) → first_child false R parent which ≡ o → is_none o ≡ true
-      → NoChild ≡ outcome ps parent which
-  outcome_none None e none = outcome_is None (first_child true R parent which) e refl
-  outcome_none (Some a) e none = cc
-
-  pub outcome_wait : (o : Option ℕ) → first_child false R parent which ≡ o → is_none o ≡ false
-      → first_child true R parent which ≡ None → Wait ≡ outcome ps parent which
-  outcome_wait None e some none = cc
-  outcome_wait (Some a) e some none = outcome_is (Some a) None e none
-
-  -- who is found has a record, and has ended
-  module _ (p : ℕ) (found : first_child true R parent which ≡ Some p) where
-    found_passes : Passes (is_child_record true parent) p 1 R
-    found_passes = first_passes (is_child_record true parent) (names which) 1 p R found
-
-    pub found_child : passes_at (is_child_record true parent) R p ≡ true
-    found_child = at p found_passes
-      where
-        there : (i : ℕ) (x : Record) → slice_get R i ≡ Some x
-            → ((y : Record) → slice_get R i ≡ Some y → is_child_record true parent y ≡ true)
-            → passes_at (is_child_record true parent) R (suc i) ≡ true
-        there i x is each = ap (passes (is_child_record true parent)) is ∙ each x is
-
-        at : (p : ℕ) → Passes (is_child_record true parent) p 1 R
-            → passes_at (is_child_record true parent) R p ≡ true
-        at zero h = absurd (omega (arith, h.0))
-        at (suc i) h =
-            let same : suc i - 1 ≡ i = omega arith in
-            let d : Record = record { parent = 0; kept = Live 0 } in
-            there i (get_or R i d) (slice_get-get_or R i d (omega (arith, h.1)))
-            (λ y is. h.2 y (ap (slice_get R) same ∙ is))
-
-    pub found_from : 1 ≤ p
-    found_from = found_passes.0
-
-    pub found_within : p - 1 < length R
-    found_within = found_passes.1
-
-    record_at : (x : Record) → x ≡ get_or R (p - 1) x → slice_get R (p - 1) ≡ Some x
-    record_at x read = slice_get-get_or R (p - 1) x found_within ∙ ap (λ r. Some r) (sym read)
-
-    pub found_ended : (x : Record) → x ≡ get_or R (p - 1) x → place_of x ≡ None
-    found_ended x read = by x.kept
-        (and_parts ((x.parent == parent) && not (is_collected x.kept)) (has_come true x.kept)
-        (found_passes.2 x (record_at x read))).1
-      where
-        by : (k : Kept) → has_come true k ≡ true → place_kept k ≡ None
-        by (Live place) e = cc
-        by (Ended status collected) e = refl
-
-    pub found_status : (x : Record) → x ≡ get_or R (p - 1) x → status_in ps p ≡ status_or_0 x.kept
-    found_status x read =
-        ap (λ qs. status_in qs p) (sym shows) ∙ ap status_by (numbered_shown S D R p)
-        ∙ ap (λ o. status_by (option_map (process_by (holdings_in S D)) o))
-        (given p found_from ∙ record_at x read) ∙ kept x.kept
-      where
-        status_by : Option Process → ℕ
-        status_by o = elim o [ None ↦ 0 | Some process ↦ status_of process ]
-
-        given : (p : ℕ) → 1 ≤ p → numbered R p ≡ slice_get R (p - 1)
-        given zero h = absurd (omega arith)
-        given (suc i) h = ap (slice_get R) (omega arith)
-
-        kept : (k : Kept)
-            → status_by (Some (process_by (holdings_in S D) (record x { kept = k })))
-            ≡ status_or_0 k
-        kept (Live place) = refl
-        kept (Ended status collected) = refl
-
-    pub outcome_got : (o : Option ℕ) → first_child false R parent which ≡ o → is_none o ≡ false
-        → (x : Record) → x ≡ get_or R (p - 1) x
-        → Got p (status_or_0 x.kept) ≡ outcome ps parent which
-    outcome_got None e some x read = cc
-    outcome_got (Some a) e some x read = ap (λ n. Got p n) (sym (found_status x read))
-        ∙ outcome_is (Some a) (Some p) e found
-
-  pub got_found : (p status : ℕ) → Got p status ≡ outcome ps parent which
-      → (first_child true R parent which ≡ Some p) × (status ≡ status_in ps p)
-  got_found p status e = by (first_child false R parent which)
-      (first_child true R parent which) refl
-      (e ∙ sym (outcome_is (first_child false R parent which)
-      (first_child true R parent which) refl refl))
-    where
-      by : (any come : Option ℕ) → first_child true R parent which ≡ come
-          → Got p status ≡ outcome_by any come ps → (first_child true R parent which ≡ Some p)
-          × (status ≡ status_in ps p)
-      by None come is e = cc
-      by (Some a) None is e = cc
-      by (Some a) (Some q) is e = let same : p ≡ q = cc in let value : status ≡ status_in ps q =
-          cc in (is ∙ ap (λ n. Some n) (sym same), value ∙ ap (status_in ps) (sym same))

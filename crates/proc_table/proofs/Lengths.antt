@@ -1,5 +1,6 @@
--- A change by number leaves the length of a list.
-use Rattle.std.proofs.Common.{◌≡◌, ℕ, zero, suc, List, [], ◌∷◌, map, length, refl, ap}
+-- Lengths: a change by number leaves that of a list.
+use Rattle.std.proofs.Common.{◌≡◌, ◌<◌, ℕ, zero, suc, List, [], ◌∷◌, map, length, refl, ap}
+use Rattle.std.proofs.Common.{Global, Vec, vec_len, rules, arith}
 use Rattle.std.proofs.lemmas.List.{length-map}
 use Rattle.dos_world.specs.Numbered.{changed, changed_at}
 
@@ -18,3 +19,10 @@ pub mapped_length : {A : Type 0} (f : A → A) (xs : List A) → length (map f x
 mapped_length f xs = length-map xs f
 
 pub ruleset lengths = (changed_length, mapped_length)
+
+-- a place within a vector's list is an index of the vector
+pub index_of : {A : Type 0} (v : Vec A Global) {place : ℕ} → place < length v.items
+    → place < vec_len v
+index_of v {place} h =
+    let count : vec_len v ≡ length v.items = search rules in
+    omega arith

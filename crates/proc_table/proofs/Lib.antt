@@ -3,7 +3,7 @@ pub mod Shown
 pub mod Lengths
 pub mod Places
 pub mod Standing
-pub mod Spaces
+pub mod Waits
 pub mod Lowest
 pub mod Known
 pub mod Children

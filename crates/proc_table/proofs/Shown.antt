@@ -14,7 +14,7 @@ use Rattle.dos_world.specs.World.{Thread, belongs_to, first_of, none_of}
 use Rattle.dos_world.specs.Kernel.{unless_of}
 use Rattle.dos_world.specs.ThreadCalls.{are_threads_full}
 use Rattle.proc_table.specs.Tables.{thread_in, next_in}
-use Rattle.proc_table.specs.Spread.{live_in, spread, AreRising, AreInOrder, IsSpreadKept, no_entry}
+use Rattle.proc_table.specs.Spread.{live_in, spread, AreRising, IsSpreadKept, no_entry}
 use Rattle.proc_table.specs.Spread.{IsAt, IsGapFor, IsGapAbove}
 use Rattle.proc_table.proofs.Spread.{from_low, rising_set, rising_push, rising_remove}
 use Rattle.proc_table.proofs.Spread.{rising_filter, spread_at, spread_length, spread_changed}
@@ -23,24 +23,21 @@ use Rattle.proc_table.proofs.Spread.{in_set_here, in_set_other, in_removed_here,
 use Rattle.proc_table.proofs.Spread.{in_filtered, first_found, next_found, kept_all}
 
 -- a place among the entries as a function is lent them
-pub at_in : (es live : List (ℕ × Thread)) (t place : ℕ) → es ≡ live → IsAt es t place
+pub at_in : {es live : List (ℕ × Thread)} {t place : ℕ} → es ≡ live → IsAt es t place
     → IsAt live t place
-at_in es live t place e at = subst (λ xs. IsAt xs t place) e at
+at_in {es} {live} {t} {place} e at = subst (λ xs. IsAt xs t place) e at
 
-pub gap_in : (es live : List (ℕ × Thread)) (t place : ℕ) → es ≡ live → IsGapFor es t place
+pub gap_in : {es live : List (ℕ × Thread)} {t place : ℕ} → es ≡ live → IsGapFor es t place
     → IsGapFor live t place
-gap_in es live t place e gap = subst (λ xs. IsGapFor xs t place) e gap
+gap_in {es} {live} {t} {place} e gap = subst (λ xs. IsGapFor xs t place) e gap
 
-pub above_in : (es live : List (ℕ × Thread)) (t place : ℕ) → es ≡ live → IsGapAbove es t place
+pub above_in : {es live : List (ℕ × Thread)} {t place : ℕ} → es ≡ live → IsGapAbove es t place
     → IsGapAbove live t place
-above_in es live t place e gap = subst (λ xs. IsGapAbove xs t place) e gap
+above_in {es} {live} {t} {place} e gap = subst (λ xs. IsGapAbove xs t place) e gap
 
-module _ (live : List (ℕ × Thread)) (given capacity : ℕ) (now : List (Option Thread))
+module _ {live : List (ℕ × Thread)} {given capacity : ℕ} {now : List (Option Thread)}
     (shown : spread live given ≡ now) (kept : IsSpreadKept live given capacity) where
-  pub order : AreInOrder live
-  order = (given + 1, kept.rising)
-
-  pub shown_at : (t : ℕ) → thread_in now t ≡ live_in live t
+  shown_at : (t : ℕ) → thread_in now t ≡ live_in live t
   shown_at t = subst (λ ts. thread_in ts t ≡ live_in live t) shown
       (spread_at live given t kept.rising)
 
@@ -48,27 +45,24 @@ module _ (live : List (ℕ × Thread)) (given capacity : ℕ) (now : List (Optio
   lives t h = subst (λ (o : Option Thread). IsSome o) (shown_at t) h
 
   -- the same of the entries as a function is lent them
-  pub lives_in : (es : List (ℕ × Thread)) (t : ℕ) → es ≡ live → IsSome (thread_in now t)
+  pub lives_in : {es : List (ℕ × Thread)} (t : ℕ) → es ≡ live → IsSome (thread_in now t)
       → IsSome (live_in es t)
-  lives_in es t e h = subst (λ xs. IsSome (live_in xs t)) (sym e) (lives t h)
+  lives_in t e h = subst (λ xs. IsSome (live_in xs t)) (sym e) (lives t h)
 
-  pub order_in : (es : List (ℕ × Thread)) → es ≡ live → AreInOrder es
-  order_in es e = subst AreInOrder (sym e) order
-
-  pub stands : (t place : ℕ) → IsAt live t place
+  pub stands : {t place : ℕ} → IsAt live t place
       → thread_in now t ≡ Some (get_or live place no_entry).1
-  stands t place at = shown_at t ∙ in_at 1 (given + 1) live t place kept.rising at
+  stands {t} {place} at = shown_at t ∙ in_at 1 (given + 1) live t place kept.rising at
 
   -- what stands at the place of a live thread
-  pub reads : (t place : ℕ) (x : ℕ × Thread) → IsAt live t place → x ≡ get_or live place x
+  pub reads : {t place : ℕ} {x : ℕ × Thread} → IsAt live t place → x ≡ get_or live place x
       → thread_in now t ≡ Some x.1
-  reads t place x at read =
-      stands t place at ∙ ap (λ (e : ℕ × Thread). Some e.1)
+  reads {t} {place} {x} at read =
+      stands at ∙ ap (λ (e : ℕ × Thread). Some e.1)
       (sym (get_or_read live place x at.within read no_entry))
 
   -- a search that ends in a gap
-  pub gone : (t place : ℕ) → IsGapFor live t place → thread_in now t ≡ None
-  gone t place gap = shown_at t ∙ in_gap live t place gap
+  pub gone : {t place : ℕ} → IsGapFor live t place → thread_in now t ≡ None
+  gone {t} {place} gap = shown_at t ∙ in_gap live t place gap
 
   pub count_shown : (test : Option Thread → Bool) → test None ≡ false
       → numbers_of test now ≡ map (λ e. e.0) (filter (λ e. test (Some e.1)) live)
@@ -94,9 +88,9 @@ module _ (live : List (ℕ × Thread)) (given capacity : ℕ) (now : List (Optio
   first_shown p = ap first_of (count_shown (belongs_to p) refl)
       ∙ first_found (λ e. e.1.process == p) live
 
-  pub next_shown : (after place : ℕ) → IsGapAbove live after place
+  pub next_shown : {after place : ℕ} → IsGapAbove live after place
       → next_in now after ≡ option_map (λ e. e.0) (slice_get live place)
-  next_shown after place gap =
+  next_shown {after} {place} gap =
       ap (find (nat_lt after)) (count_shown is_some refl ∙ ap (map (λ e. e.0)) (kept_all live))
       ∙ next_found live after place gap
 
@@ -113,35 +107,35 @@ module _ (live : List (ℕ × Thread)) (given capacity : ℕ) (now : List (Optio
 
   -- ---- changes
 
-  starts_above : (t place : ℕ) → IsAt live t place → 1 ≤ t
-  starts_above t place at =
+  starts_above : {t place : ℕ} → IsAt live t place → 1 ≤ t
+  starts_above {t} {place} at =
       omega (arith, at.is, from_low 1 (given + 1) live place kept.rising at.within)
 
-  number_read : (t place : ℕ) (x : ℕ × Thread) → IsAt live t place → x ≡ get_or live place x
+  number_read : {t place : ℕ} {x : ℕ × Thread} → IsAt live t place → x ≡ get_or live place x
       → x.0 ≡ t
-  number_read t place x at read =
+  number_read {t} {place} {x} at read =
       ap (λ (e : ℕ × Thread). e.0) (get_or_read live place x at.within read no_entry) ∙ at.is
 
   -- a thread written at its place
-  pub written : (f : Thread → Thread) (t place : ℕ) (x y : ℕ × Thread) → IsAt live t place
+  pub written : (f : Thread → Thread) {t place : ℕ} {x y : ℕ × Thread} → IsAt live t place
       → x ≡ get_or live place x → y ≡ (x.0, f x.1)
       → spread (set live place y) given ≡ changed (option_map f) now t
-  written f t place x y at read is =
-      let number : y.0 ≡ t = ap (λ (e : ℕ × Thread). e.0) is ∙ number_read t place x at read in
-      let was : live_in live t ≡ Some x.1 = sym (shown_at t) ∙ reads t place x at read in
+  written f {t} {place} {x} {y} at read is =
+      let number : y.0 ≡ t = ap (λ (e : ℕ × Thread). e.0) is ∙ number_read at read in
+      let was : live_in live t ≡ Some x.1 = sym (shown_at t) ∙ reads at read in
       let here : live_in (set live place y) t ≡ option_map f (live_in live t) =
       in_set_here 1 (given + 1) live t place y kept.rising at number
       ∙ ap (λ (e : ℕ × Thread). Some e.1) is ∙ ap (option_map f) (sym was) in
-      spread_changed (option_map f) live (set live place y) given t (starts_above t place at)
+      spread_changed (option_map f) live (set live place y) given t (starts_above at)
       (λ m apart. in_set_other live t place m y at number apart) here
       ∙ ap (λ ts. changed (option_map f) ts t) shown
 
-  pub kept_set : (t place : ℕ) (x y : ℕ × Thread) (same : ℕ) → IsAt live t place
+  pub kept_set : (y : ℕ × Thread) {t place : ℕ} {x : ℕ × Thread} {same : ℕ} → IsAt live t place
       → x ≡ get_or live place x → y.0 ≡ x.0 → same ≡ capacity
       → IsSpreadKept (set live place y) given same
-  kept_set t place x y same at read is c = record {
+  kept_set y {t} {place} {x} {same} at read is c = record {
     rising = rising_set 1 (given + 1) live place y kept.rising at.within
-        (is ∙ number_read t place x at read ∙ sym at.is);
+        (is ∙ number_read at read ∙ sym at.is);
     few = omega (arith, kept.few, length-set live place y);
     numbers = kept.numbers;
     taken = omega (arith, kept.taken);
@@ -150,9 +144,9 @@ module _ (live : List (ℕ × Thread)) (given capacity : ℕ) (now : List (Optio
   pub pushed : (x : Thread) → spread (live ++ (given + 1, x) ∷ []) (given + 1) ≡ now ++ Some x ∷ []
   pushed x = spread_pushed live given x kept.rising ∙ ap (λ ts. ts ++ Some x ∷ []) shown
 
-  pub kept_push : (new : List (ℕ × Thread)) (x : Thread) (grown : ℕ) → are_threads_full now ≡ false
+  pub kept_push : (x : Thread) {new : List (ℕ × Thread)} {grown : ℕ} → are_threads_full now ≡ false
       → new ≡ live ++ (given + 1, x) ∷ [] → capacity ≤ grown → IsSpreadKept new (given + 1) grown
-  kept_push new x grown room is c =
+  kept_push x {new} {grown} room is c =
       let left = room_left room in
       record {
         rising = subst (AreRising 1 (given + 1 + 1)) (sym is)
@@ -167,18 +161,18 @@ module _ (live : List (ℕ × Thread)) (given capacity : ℕ) (now : List (Optio
         taken = omega (arith, kept.taken);
       }
 
-  pub removed : (t place : ℕ) (new : List (ℕ × Thread)) → IsAt live t place
+  pub removed : {t place : ℕ} {new : List (ℕ × Thread)} → IsAt live t place
       → new ≡ remove live place → spread new given ≡ changed none_of now t
-  removed t place new at is =
+  removed {t} {place} {new} at is =
       ap (λ es. spread es given) is
-      ∙ spread_changed none_of live (remove live place) given t (starts_above t place at)
+      ∙ spread_changed none_of live (remove live place) given t (starts_above at)
       (λ m apart. in_removed_other live t place m at apart)
       (in_removed_here 1 (given + 1) live t place kept.rising at)
       ∙ ap (λ ts. changed none_of ts t) shown
 
-  pub kept_remove : (t place : ℕ) (new : List (ℕ × Thread)) (same : ℕ) → IsAt live t place
+  pub kept_remove : {t place : ℕ} {new : List (ℕ × Thread)} {same : ℕ} → IsAt live t place
       → new ≡ remove live place → same ≡ capacity → IsSpreadKept new given same
-  kept_remove t place new same at is c = record {
+  kept_remove {t} {place} {new} {same} at is c = record {
     rising = subst (AreRising 1 (given + 1)) (sym is)
         (rising_remove 1 (given + 1) live place at.within kept.rising);
     few = omega (
@@ -191,18 +185,18 @@ module _ (live : List (ℕ × Thread)) (given capacity : ℕ) (now : List (Optio
     taken = omega (arith, kept.taken);
   }
 
-  pub filtered : (p : ℕ) (new : List (ℕ × Thread)) → new ≡ filter (λ e. not (e.1.process == p)) live
+  pub filtered : (p : ℕ) {new : List (ℕ × Thread)} → new ≡ filter (λ e. not (e.1.process == p)) live
       → spread new given ≡ map (unless_of p) now
-  filtered p new is =
+  filtered p {new} is =
       ap (λ es. spread es given) is
       ∙ spread_mapped (unless_of p) live (filter (λ e. not (e.1.process == p)) live) given
       (λ m. in_filtered p 1 (given + 1) live m kept.rising)
       ∙ ap (map (unless_of p)) shown
 
-  pub kept_filter : (p : ℕ) (new : List (ℕ × Thread)) (same : ℕ)
+  pub kept_filter : (p : ℕ) {new : List (ℕ × Thread)} {same : ℕ}
       → new ≡ filter (λ e. not (e.1.process == p)) live → same ≡ capacity
       → IsSpreadKept new given same
-  kept_filter p new same is c = record {
+  kept_filter p {new} {same} is c = record {
     rising = subst (AreRising 1 (given + 1)) (sym is)
         (rising_filter (λ e. not (e.1.process == p)) 1 (given + 1) live kept.rising);
     few = omega (

@@ -2,7 +2,7 @@
 use Rattle.std.proofs.Common.{◌≡◌, ◌≢◌, ℕ, zero, suc, ◌+◌, ◌-◌, ◌<◌, ◌≤◌, Bool, true, false, cond}
 use Rattle.std.proofs.Common.{List, [], ◌∷◌, ◌++◌, map, length, get_or, set, slice_get, replicate}
 use Rattle.std.proofs.Common.{count_by, inl, inr, Option, Some, None, option_map, option_and_then}
-use Rattle.std.proofs.Common.{IsSome, refl, sym, ap, ◌∙◌, subst, arith, length-set}
+use Rattle.std.proofs.Common.{IsSome, IfSome, refl, sym, ap, ◌∙◌, subst, arith, length-set}
 use Rattle.std.proofs.Common.{get_or-set_other, get_or-set_same}
 use Rattle.std.specs.Prelude.{is_some, is_none, nat_le, position, All, slice_index_or}
 use Rattle.std.proofs.lemmas.List.{get_or_read}
@@ -14,6 +14,7 @@ use Rattle.dos_world.specs.Numbered.{numbered, changed, changed_at}
 use Rattle.dos_world.specs.World.{Holdings, Process, all_holdings, on_holdings}
 use Rattle.dos_world.specs.Kernel.{orphaned, ended_by}
 use Rattle.dos_world.specs.ProcessCalls.{collected_by}
+use Rattle.dos_world.specs.declared.End.{End}
 use Rattle.dos_world.specs.declared.Entry.{Entry}
 use Rattle.space_map.specs.Mapping.{Mapping, empty}
 use Rattle.proc_table.specs.Tables.{held_as, held_in, IsParent, IsProcess, new_process}
@@ -37,7 +38,7 @@ spaced_by f h = record h { space = f h.space }
 abbrev counted : Bool → ℕ
 counted b = cond b 1 0
 
-pub count_set : {A : Type 0} (test : A → Bool) (xs : List A) (i : ℕ) (y d : A) → i < length xs
+count_set : {A : Type 0} (test : A → Bool) (xs : List A) (i : ℕ) (y d : A) → i < length xs
     → count_by test (set xs i y) + counted (test (get_or xs i d))
     ≡ count_by test xs + counted (test y)
 count_set test xs i y d h = sum_by-set (λ x. counted (test x)) xs i y d h
@@ -45,13 +46,19 @@ count_set test xs i y d h = sum_by-set (λ x. counted (test x)) xs i y d h
 abbrev no_record : Record
 no_record = record { parent = 0; kept = Live 0 }
 
-module _ (R : List Record) (holders : List (Option ℕ)) (S : List Mapping) (D : List Belongings)
-    (count room : ℕ) (now : Group) (shows : group S D R room ≡ now)
+-- What is kept is placed, and shows this group.
+pub record Stands (R : List Record) (holders : List (Option ℕ)) (S : List Mapping)
+    (D : List Belongings) (count room : ℕ) (now : Group) : Type 0 where
+  pub shows : group S D R room ≡ now
+  pub placed : ArePlaced R holders S D count room
+
+module _ {R : List Record} {holders : List (Option ℕ)} {S : List Mapping} {D : List Belongings}
+    {count room : ℕ} {now : Group} (shows : group S D R room ≡ now)
     (placed : ArePlaced R holders S D count room) where
-  processes_shown : shown S D R ≡ now.processes
+  pub processes_shown : shown S D R ≡ now.processes
   processes_shown = ap (λ (g : Group). g.processes) shows
 
-  pub room_shown : room ≡ now.room
+  room_shown : room ≡ now.room
   room_shown = ap (λ (g : Group). g.room) shows
 
   pub given_shown : length now.processes ≡ length R
@@ -81,11 +88,12 @@ module _ (R : List Record) (holders : List (Option ℕ)) (S : List Mapping) (D :
       by None h = h
       by (Some r) h = refl
 
-  -- what a record says of a process whose number was given
-  pub record_read : (p : ℕ) (x : Record) → numbered R p ≡ Some x
-      → numbered now.processes p ≡ Some (process_by (holdings_in S D) x)
-  record_read p x is = ap (λ ps. numbered ps p) (sym processes_shown) ∙ numbered_shown S D R p
-      ∙ ap (option_map (process_by (holdings_in S D))) is
+  -- what is true of what a record says, is true of the process
+  pub of_record : (p : ℕ) (P : Process → Type 0) {x : Record} → numbered R p ≡ Some x
+      → P (process_by (holdings_in S D) x) → IfSome (numbered now.processes p) P
+  of_record p P {x} is h = subst (λ (o : Option Process). IfSome o P)
+      (sym (ap (λ ps. numbered ps p) (sym processes_shown) ∙ numbered_shown S D R p
+      ∙ ap (option_map (process_by (holdings_in S D))) is)) h
 
   -- the parent of a new process was given its number, or is 0
   pub parent_within : (p : ℕ) → IsParent now.processes p → p ≤ length R
@@ -106,8 +114,10 @@ module _ (R : List Record) (holders : List (Option ℕ)) (S : List Mapping) (D :
       changed_process (holdings_in S D) (holdings_in S' D') holders place others f (suc i) 1 i R
       (omega arith) here at placed.held e
 
-  module _ (p place : ℕ) (found : place_in R p ≡ Some place) where
-    pub at_place : slice_get holders place ≡ Some (Some p)
+  -- ---- the place of a live process
+
+  module _ (p : ℕ) {place : ℕ} (found : place_in R p ≡ Some place) where
+    at_place : slice_get holders place ≡ Some (Some p)
     at_place = by p found
       where
         by : (p : ℕ) → place_in R p ≡ Some place → slice_get holders place ≡ Some (Some p)
@@ -118,23 +128,51 @@ module _ (R : List Record) (holders : List (Option ℕ)) (S : List Mapping) (D :
     pub within : place < 32
     within = omega (arith, slice_get_within holders place (Some p) at_place, placed.holders_count)
 
+    pub within_spaces : place < length S
+    within_spaces = omega (arith, within, placed.spaces_count)
+
+    pub within_belongings : place < length D
+    within_belongings = omega (arith, within, placed.belongings_count)
+
     pub holds : held_in now.processes p ≡ Some (holdings_in S D place)
     holds = held_now p ∙ ap (option_map (holdings_in S D)) found
 
-    pub space_read : (x : Mapping) → x ≡ get_or S place x → x ≡ get_or S place (empty 0)
-    space_read x read = get_or_read S place x (omega (arith, within, placed.spaces_count)) read
-        (empty 0)
+    space_read : {x : Mapping} → x ≡ get_or S place x → x ≡ get_or S place (empty 0)
+    space_read {x} read = get_or_read S place x within_spaces read (empty 0)
 
-    pub room_read : (x : Mapping) → x ≡ get_or S place x → x.room ≡ now.room
-    room_read x read = ap (λ (s : Mapping). s.room) read
-        ∙ All-get_or (λ (s : Mapping). s.room ≡ room) S place x
-        (omega (arith, within, placed.spaces_count)) placed.rooms ∙ room_shown
+    belongings_read : {x : Belongings} → x ≡ get_or D place x → x ≡ get_or D place no_belongings
+    belongings_read {x} read = get_or_read D place x within_belongings read no_belongings
 
-    pub belongings_read : (x : Belongings) → x ≡ get_or D place x → x ≡ get_or D place no_belongings
-    belongings_read x read =
-        get_or_read D place x (omega (arith, within, placed.belongings_count)) read no_belongings
+    pub room_read : {x : Mapping} → x ≡ get_or S place x → x.room ≡ now.room
+    room_read {x} read = ap (λ (s : Mapping). s.room) read
+        ∙ All-get_or (λ (s : Mapping). s.room ≡ room) S place x within_spaces placed.rooms
+        ∙ room_shown
 
-    -- what stands at the process's place changes by f
+    -- what is true of what stands there, is true of what the process has
+    of_holdings : (P : Holdings → Type 0) → P (holdings_in S D place)
+        → IfSome (held_in now.processes p) P
+    of_holdings P h = subst (λ (o : Option Holdings). IfSome o P) (sym holds) h
+
+    pub of_space : (P : List (ℕ × Entry) → Type 0) {x : Mapping} → x ≡ get_or S place x
+        → P x.entries → IfSome (held_in now.processes p) (λ h. P h.space)
+    of_space P read h = of_holdings (λ h. P h.space)
+        (subst (λ (s : Mapping). P s.entries) (space_read read) h)
+
+    pub of_belongings : (P : List (Option End) → List ℕ → Type 0) {x : Belongings}
+        → x ≡ get_or D place x → P x.descriptors x.actions
+        → IfSome (held_in now.processes p) (λ h. P h.descriptors h.actions)
+    of_belongings P read h = of_holdings (λ h. P h.descriptors h.actions)
+        (subst (λ (b : Belongings). P b.descriptors b.actions) (belongings_read read) h)
+
+    -- what is true of the process's space, is true of the one that stands there
+    pub in_space : (P : List (ℕ × Entry) → ℕ → Type 0) {x : Mapping} → x ≡ get_or S place x
+        → IfSome (held_in now.processes p) (λ h. P h.space now.room) → P x.entries x.room
+    in_space P {x} read h =
+        let held = subst (λ (o : Option Holdings). IfSome o (λ h. P h.space now.room)) holds h in
+        subst (λ n. P x.entries n) (sym (room_read read))
+        (subst (λ (s : Mapping). P s.entries now.room) (sym (space_read read)) held)
+
+    -- what stands there changes by f
     changes : (S' : List Mapping) (D' : List Belongings) (f : Holdings → Holdings)
         → ((q : ℕ) → q ≢ place → holdings_in S' D' q ≡ holdings_in S D q)
         → holdings_in S' D' place ≡ f (holdings_in S D place)
@@ -145,81 +183,75 @@ module _ (R : List Record) (holders : List (Option ℕ)) (S : List Mapping) (D :
         ∙ ap (λ (g : Group). let h : Group =
         record g { processes = changed (on_holdings f) g.processes p } in h) shows
 
-    -- its space is written
-    pub space_written : (f : List (ℕ × Entry) → List (ℕ × Entry)) (x y : Mapping)
-        → x ≡ get_or S place x → y.entries ≡ f x.entries
-        → group (set S place y) D R room
-        ≡ record now { processes = changed (on_holdings (spaced_by f)) now.processes p }
-    space_written f x y read is = changes (set S place y) D (spaced_by f)
-        (λ q apart. ap (λ (s : Mapping). with_space s q)
-        (get_or-set_other S place q y (empty 0) apart))
-        (ap (λ (s : Mapping). with_space s place)
-        (get_or-set_same S place y (empty 0)
-        (omega (arith, within, placed.spaces_count)))
-        ∙ ap (λ es. holdings_by (slice_index_or D place no_belongings) es)
-        (is ∙ ap (λ (s : Mapping). f s.entries) (space_read x read)))
-      where
-        with_space : Mapping → ℕ → Holdings
-        with_space s q = holdings_by (slice_index_or D q no_belongings) s.entries
-
-    pub placed_space : (x y : Mapping) → x ≡ get_or S place x → y.room ≡ x.room
-        → ArePlaced R holders (set S place y) D count room
-    placed_space x y read is = record {
-      held = placed.held;
-      holding = placed.holding;
-      living = placed.living;
-      holders_count = placed.holders_count;
-      spaces_count = length-set S place y ∙ placed.spaces_count;
-      belongings_count = placed.belongings_count;
-      rooms = All-set (λ (s : Mapping). s.room ≡ room) S place y
-          (is ∙ room_read x read ∙ sym room_shown) placed.rooms;
+    -- the process's space is written
+    pub space_written : (f : List (ℕ × Entry) → List (ℕ × Entry)) {x y : Mapping}
+        → x ≡ get_or S place x → y ≡ record x { entries = f x.entries }
+        → Stands R holders (set S place y) D count room
+        (record now { processes = changed (on_holdings (spaced_by f)) now.processes p })
+    space_written f {x} {y} read is = record {
+      shows = changes (set S place y) D (spaced_by f)
+          (λ q apart. ap (with_space q) (get_or-set_other S place q y (empty 0) apart))
+          (ap (with_space place) (get_or-set_same S place y (empty 0) within_spaces)
+          ∙ ap (with_space place) is
+          ∙ ap (λ (s : Mapping).
+          holdings_by (slice_index_or D place no_belongings) (f s.entries)) (space_read read));
+      placed = record {
+        held = placed.held;
+        holding = placed.holding;
+        living = placed.living;
+        holders_count = placed.holders_count;
+        spaces_count = length-set S place y ∙ placed.spaces_count;
+        belongings_count = placed.belongings_count;
+        rooms = All-set (λ (s : Mapping). s.room ≡ room) S place y
+            (ap (λ (s : Mapping). s.room) is ∙ room_read read ∙ sym room_shown) placed.rooms;
+      };
     }
+      where
+        with_space : ℕ → Mapping → Holdings
+        with_space q s = holdings_by (slice_index_or D q no_belongings) s.entries
 
     -- its belongings are written
-    pub belongings_written : (f : Holdings → Holdings) (x y : Belongings) → x ≡ get_or D place x
+    pub belongings_written : (f : Holdings → Holdings) {x y : Belongings} → x ≡ get_or D place x
         → ((space : List (ℕ × Entry)) → holdings_by y space ≡ f (holdings_by x space))
-        → group S (set D place y) R room
-        ≡ record now { processes = changed (on_holdings f) now.processes p }
-    belongings_written f x y read is = changes S (set D place y) f
-        (λ q apart. ap (λ (b : Belongings). holdings_by b (slice_index_or S q (empty 0)).entries)
-        (get_or-set_other D place q y no_belongings apart))
-        (ap (λ (b : Belongings). holdings_by b (slice_index_or S place (empty 0)).entries)
-        (get_or-set_same D place y no_belongings
-        (omega (arith, within, placed.belongings_count)))
-        ∙ is (slice_index_or S place (empty 0)).entries
-        ∙ ap (λ (b : Belongings). f (holdings_by b (slice_index_or S place (empty 0)).entries))
-        (belongings_read x read))
+        → Stands R holders S (set D place y) count room
+        (record now { processes = changed (on_holdings f) now.processes p })
+    belongings_written f {x} {y} read is = record {
+      shows = changes S (set D place y) f
+          (λ q apart. ap (with_belongings q) (get_or-set_other D place q y no_belongings apart))
+          (ap (with_belongings place)
+          (get_or-set_same D place y no_belongings within_belongings)
+          ∙ is (slice_index_or S place (empty 0)).entries
+          ∙ ap (λ b. f (with_belongings place b)) (belongings_read read));
+      placed = record {
+        held = placed.held;
+        holding = placed.holding;
+        living = placed.living;
+        holders_count = placed.holders_count;
+        spaces_count = placed.spaces_count;
+        belongings_count = length-set D place y ∙ placed.belongings_count;
+        rooms = placed.rooms;
+      };
+    }
+      where
+        with_belongings : ℕ → Belongings → Holdings
+        with_belongings q b = holdings_by b (slice_index_or S q (empty 0)).entries
 
-    -- it gets those of another
-    pub belongings_copied : (source : ℕ) (x y : Belongings) → source < 32 → x ≡ get_or D place x
-        → y ≡ get_or D source y
-        → group S (set D place y) R room
-        ≡ record now {
+    -- it gets those that stand at another place
+    pub belongings_copied : {source : ℕ} → source < length D → {x y : Belongings}
+        → x ≡ get_or D place x → y ≡ get_or D source y
+        → Stands R holders S (set D place y) count room (record now {
           processes =
               changed (on_holdings (held_as (holdings_in S D source))) now.processes p;
-        }
-    belongings_copied source x y low read is =
-        belongings_written (held_as (holdings_in S D source)) x y read
+        })
+    belongings_copied {source} low {x} {y} read is =
+        belongings_written (held_as (holdings_in S D source)) read
         (λ space. ap (λ (b : Belongings). holdings_by b space)
-        (get_or_read D source y
-        (omega (arith, low, placed.belongings_count)) is no_belongings))
-
-    pub placed_belongings : (y : Belongings)
-        → ArePlaced R holders S (set D place y) count room
-    placed_belongings y = record {
-      held = placed.held;
-      holding = placed.holding;
-      living = placed.living;
-      holders_count = placed.holders_count;
-      spaces_count = placed.spaces_count;
-      belongings_count = length-set D place y ∙ placed.belongings_count;
-      rooms = placed.rooms;
-    }
+        (get_or_read D source y low is no_belongings))
 
     -- ---- its end
 
     -- its record
-    pub recorded : (p - 1 + 1 ≡ p) × (p - 1 < length R)
+    recorded : (p - 1 + 1 ≡ p) × (p - 1 < length R)
         × (option_and_then place_of (slice_get R (p - 1)) ≡ Some place)
     recorded = by p found
       where
@@ -232,31 +264,6 @@ module _ (R : List Record) (holders : List (Option ℕ)) (S : List Mapping) (D :
           subst (λ n. option_and_then place_of (slice_get R n) ≡ Some place) {x = i}
               (omega arith) e,
         )
-
-    -- its record as it is written when it ends
-    ended_record : ℕ → Record
-    ended_record status = kept_as (Ended status false) (get_or R (p - 1) no_record)
-
-    ended_write : (status : ℕ) → changed (kept_as (Ended status false)) R p
-        ≡ set R (p - 1) (ended_record status)
-    unfolding ended_record
-    ended_write status = sym (changed_is (kept_as (Ended status false)) R p
-        (get_or R (p - 1) no_record) (omega (arith, recorded.0))
-        (omega (arith, recorded.0, recorded.1)) (read_again R (p - 1) no_record recorded.1))
-
-    pub ended_standing : (status : ℕ) (new : List Record)
-        → new ≡ map (orphan_record p) (changed (kept_as (Ended status false)) R p)
-        → group S D new room
-        ≡ record now { processes = map (orphaned p) (changed (ended_by status) now.processes p) }
-    unfolding ended_record
-    ended_standing status new e =
-        ap (λ ps. let g : Group = record { processes = ps; room = room } in g)
-        (ap (shown S D) (e ∙ ap (map (orphan_record p)) (ended_write status))
-        ∙ shown_ended S D p status R (get_or R (p - 1) no_record) (ended_record status)
-        (read_again R (p - 1) no_record recorded.1) refl recorded.0 recorded.1)
-        ∙ ap (λ (g : Group). let h : Group =
-        record g { processes = map (orphaned p) (changed (ended_by status) g.processes p) } in
-        h) shows
 
     freed : count_by is_some (set holders place None) + 1 ≡ count_by is_some holders
     freed =
@@ -285,90 +292,77 @@ module _ (R : List Record) (holders : List (Option ℕ)) (S : List Mapping) (D :
           ap (λ (o : Option ℕ). counted (is_some o)) gone,
         )
 
-    pub placed_ended : (status : ℕ) (new : List Record)
+    pub ended_standing : (status : ℕ) {new : List Record}
         → new ≡ map (orphan_record p) (changed (kept_as (Ended status false)) R p)
-        → ArePlaced new (set holders place None) S D (count - 1) room
-    unfolding ended_record
-    placed_ended status new is =
-        let y : Record = ended_record status in
-        let ended : List Record = set R (p - 1) y in
-        let e : new ≡ map (orphan_record p) ended =
-        is ∙ ap (map (orphan_record p)) (ended_write status) in
+        → Stands new (set holders place None) S D (count - 1) room
+        (record now { processes = map (orphaned p) (changed (ended_by status) now.processes p) })
+    ended_standing status {new} is =
+        let x : Record = get_or R (p - 1) no_record in
+        let y : Record = kept_as (Ended status false) x in
+        let read : x ≡ get_or R (p - 1) x = read_again R (p - 1) no_record recorded.1 in
+        let e : new ≡ map (orphan_record p) (set R (p - 1) y) =
+        is ∙ ap (map (orphan_record p)) (sym (changed_is (kept_as (Ended status false)) R p x
+        (omega (arith, recorded.0)) (omega (arith, recorded.0, recorded.1)) read)) in
         record {
-          held = subst (AreHeld (set holders place None) 1) (sym e)
-              (orphans_held (set holders place None) p 1 ended
-              (ended_held holders place p 1 (p - 1) R y
-              (omega (arith, recorded.0)) at_place refl placed.held));
-          holding = omega (arith, freed, placed.holding);
-          living = omega (
-            arith,
-            one_ended (get_or R (p - 1) no_record) y
-                (read_again R (p - 1) no_record recorded.1) refl,
-            placed.living,
-            ap (count_by is_placed) e,
-            orphans_count p ended,
-          );
-          holders_count = length-set holders place None ∙ placed.holders_count;
-          spaces_count = placed.spaces_count;
-          belongings_count = placed.belongings_count;
-          rooms = placed.rooms;
+          shows = ap (λ ps. let g : Group = record { processes = ps; room = room } in g)
+              (ap (shown S D) e
+              ∙ shown_ended S D p status R x y read refl recorded.0 recorded.1)
+              ∙ ap (λ (g : Group). let h : Group =
+              record g { processes = map (orphaned p) (changed (ended_by status) g.processes p) }
+              in h) shows;
+          placed = record {
+            held = subst (AreHeld (set holders place None) 1) (sym e)
+                (orphans_held (set holders place None) p 1 (set R (p - 1) y)
+                (ended_held holders place p 1 (p - 1) R y
+                (omega (arith, recorded.0)) at_place refl placed.held));
+            holding = omega (arith, freed, placed.holding);
+            living = omega (
+              arith,
+              one_ended x y read refl,
+              placed.living,
+              ap (count_by is_placed) e,
+              orphans_count p (set R (p - 1) y),
+            );
+            holders_count = length-set holders place None ∙ placed.holders_count;
+            spaces_count = placed.spaces_count;
+            belongings_count = placed.belongings_count;
+            rooms = placed.rooms;
+          };
         }
 
   -- ---- a child is collected
 
-  pub shown_now : shown S D R ≡ now.processes
-  shown_now = processes_shown
-
-  module _ (p : ℕ) (from : 1 ≤ p) (within : p - 1 < length R)
-      (gone : (x : Record) → x ≡ get_or R (p - 1) x → place_of x ≡ None) where
-    collected_record : ℕ → Record
-    collected_record status = kept_as (Ended status true) (get_or R (p - 1) no_record)
-
-    collected_write : (status : ℕ) → changed (kept_as (Ended status true)) R p
-        ≡ set R (p - 1) (collected_record status)
-    unfolding collected_record
-    collected_write status = sym (changed_is (kept_as (Ended status true)) R p
-        (get_or R (p - 1) no_record) from (omega (arith, within))
-        (read_again R (p - 1) no_record within))
-
-    pub collected_standing : (status : ℕ)
-        → ((x : Record) → x ≡ get_or R (p - 1) x → status ≡ status_or_0 x.kept)
-        → (new : List Record) → new ≡ changed (kept_as (Ended status true)) R p
-        → group S D new room ≡ record now { processes = changed collected_by now.processes p }
-    unfolding shown collected_record
-    collected_standing status is new e =
-        let x : Record = get_or R (p - 1) no_record in
-        let read : x ≡ get_or R (p - 1) x = read_again R (p - 1) no_record within in
-        ap (λ ps. let g : Group = record { processes = ps; room = room } in g)
-        (ap (map (process_by (holdings_in S D))) (e ∙ collected_write status)
-        ∙ collected_shown (holdings_in S D) (p - 1) R x (collected_record status) read
-        (ap (λ n. let r : Record = record x { kept = Ended n true } in r) (is x read)) within
-        ∙ at p from)
-        ∙ ap (λ (g : Group). let h : Group =
-        record g { processes = changed collected_by g.processes p } in h) shows
-      where
-        at : (p : ℕ) → 1 ≤ p
-            → changed_at collected_by (map (process_by (holdings_in S D)) R) (p - 1)
-            ≡ changed collected_by (map (process_by (holdings_in S D)) R) p
-        at zero h = absurd (omega arith)
-        at (suc i) h = ap (changed_at collected_by (map (process_by (holdings_in S D)) R))
-            (omega arith)
-
-    pub placed_collected : (status : ℕ) (new : List Record)
-        → new ≡ changed (kept_as (Ended status true)) R p
-        → ArePlaced new holders S D count room
-    unfolding collected_record
-    placed_collected status new e =
-        let y : Record = collected_record status in
-        let was : place_of (get_or R (p - 1) y) ≡ None =
-        gone (get_or R (p - 1) y) (read_again R (p - 1) y within) in
-        subst (λ rs. ArePlaced rs holders S D count room) (sym (e ∙ collected_write status))
-        (record {
-          held = marked_held holders 1 (p - 1) R y refl placed.held;
+  pub collected_standing : (p : ℕ) → 1 ≤ p → p - 1 < length R → (status : ℕ)
+      → ((x : Record) → x ≡ get_or R (p - 1) x
+      → (place_of x ≡ None) × (status ≡ status_or_0 x.kept))
+      → {new : List Record} → new ≡ changed (kept_as (Ended status true)) R p
+      → Stands new holders S D count room
+      (record now { processes = changed collected_by now.processes p })
+  unfolding shown
+  collected_standing p from within status gone {new} is =
+      let x : Record = get_or R (p - 1) no_record in
+      let y : Record = kept_as (Ended status true) x in
+      let read : x ≡ get_or R (p - 1) x = read_again R (p - 1) no_record within in
+      let e : new ≡ set R (p - 1) y =
+      is ∙ sym (changed_is (kept_as (Ended status true)) R p x from (omega (arith, within)) read) in
+      let was : place_of (get_or R (p - 1) y) ≡ None =
+      (gone (get_or R (p - 1) y) (read_again R (p - 1) y within)).0 in
+      record {
+        shows = ap (λ ps. let g : Group = record { processes = ps; room = room } in g)
+            (ap (map (process_by (holdings_in S D))) e
+            ∙ collected_shown (holdings_in S D) (p - 1) R x y read
+            (ap (λ n. kept_as (Ended n true) x) (gone x read).1) within
+            ∙ at p from)
+            ∙ ap (λ (g : Group). let h : Group =
+            record g { processes = changed collected_by g.processes p } in h) shows;
+        placed = record {
+          held = subst (AreHeld holders 1) (sym e)
+              (marked_held holders 1 (p - 1) R y refl placed.held);
           holding = placed.holding;
           living = omega (
             arith,
             placed.living,
+            ap (count_by is_placed) e,
             count_set is_placed R (p - 1) y y within,
             ap (λ (o : Option ℕ). counted (is_some o)) was,
           );
@@ -376,7 +370,15 @@ module _ (R : List Record) (holders : List (Option ℕ)) (S : List Mapping) (D :
           spaces_count = placed.spaces_count;
           belongings_count = placed.belongings_count;
           rooms = placed.rooms;
-        })
+        };
+      }
+    where
+      at : (p : ℕ) → 1 ≤ p
+          → changed_at collected_by (map (process_by (holdings_in S D)) R) (p - 1)
+          ≡ changed collected_by (map (process_by (holdings_in S D)) R) p
+      at zero h = absurd (omega arith)
+      at (suc i) h = ap (changed_at collected_by (map (process_by (holdings_in S D)) R))
+          (omega arith)
 
   -- ---- a new process, at a place that no process holds
 
@@ -394,64 +396,64 @@ module _ (R : List Record) (holders : List (Option ℕ)) (S : List Mapping) (D :
       no_more : (n : ℕ) → nat_le 32 n ≡ false → 32 ≤ n → ⊥
       no_more n few h = grind (arith, nat_tests)
 
-  module _ (place : ℕ) (first : position is_none holders ≡ Some place) where
+  module _ {place : ℕ} (first : position is_none holders ≡ Some place) where
     free : slice_get holders place ≡ Some None
     free = free_place holders place first
 
-    pub free_within : place < 32
+    free_within : place < 32
     free_within = omega (arith, slice_get_within holders place None free, placed.holders_count)
 
-    pub added_standing : (parent : ℕ) (y : Mapping) (new : List Record) → y.entries ≡ []
-        → new ≡ R ++ record { parent = parent; kept = Live place } ∷ []
-        → group (set S place y) (set D place first_belongings) new room
-        ≡ record now { processes = now.processes ++ new_process parent ∷ [] }
-    added_standing parent y new is e =
-        ap (λ ps. let g : Group = record { processes = ps; room = room } in g)
-        (ap (shown (set S place y) (set D place first_belongings)) e
-        ∙ shown_added R holders S D place parent y free
-        (omega (arith, free_within, placed.spaces_count))
-        (omega (arith, free_within, placed.belongings_count)) is placed.held)
-        ∙ ap (λ (g : Group). let h : Group =
-        record g { processes = g.processes ++ new_process parent ∷ [] } in h) shows
-
-    pub placed_added : (parent n : ℕ) (x y : Mapping) (new : List Record)
-        → n ≡ length R + 1 → length now.processes < 65535 → x ≡ get_or S place x → y.room ≡ x.room
-        → new ≡ R ++ record { parent = parent; kept = Live place } ∷ []
-        → ArePlaced new (set holders place (Some n)) (set S place y) (set D place first_belongings)
-        (count + 1) room
-    placed_added parent n x y new number room_left read is e =
+    pub added_standing : (parent : ℕ) {n : ℕ} {x y : Mapping} {b : Belongings} {new : List Record}
+        → n ≡ length R → x ≡ get_or S place x → y ≡ record x { entries = [] }
+        → b ≡ first_belongings → new ≡ R ++ record { parent = parent; kept = Live place } ∷ []
+        → Stands new (set holders place (Some (n + 1))) (set S place y) (set D place b) (count + 1)
+        room (record now { processes = now.processes ++ new_process parent ∷ [] })
+    added_standing parent {n} {x} {y} {b} {new} number read is begins e =
         let r : Record = record { parent = parent; kept = Live place } in
-        let H : List (Option ℕ) = set holders place (Some n) in
+        let H : List (Option ℕ) = set holders place (Some (n + 1)) in
+        let in_spaces : place < length S = omega (arith, free_within, placed.spaces_count) in
+        let in_belongings : place < length D =
+        omega (arith, free_within, placed.belongings_count) in
+        let in_holders : place < length holders =
+        omega (arith, free_within, placed.holders_count) in
         let holder : IsHeld H (place_of r) (1 + length R) =
-        get-set_same holders place (Some n) (omega (arith, free_within, placed.holders_count))
+        get-set_same holders place (Some (n + 1)) in_holders
         ∙ ap (λ m. Some (Some m)) (omega (arith, number)) in
         let was : get_or holders place None ≡ None =
         get_or_from_slice_get holders place None None free in
-        let same_room : y.room ≡ room = is ∙ ap (λ (s : Mapping). s.room) read
-        ∙ All-get_or (λ (s : Mapping). s.room ≡ room) S place x
-        (omega (arith, free_within, placed.spaces_count)) placed.rooms in
+        let same_room : y.room ≡ room = ap (λ (s : Mapping). s.room) is
+        ∙ ap (λ (s : Mapping). s.room) read
+        ∙ All-get_or (λ (s : Mapping). s.room ≡ room) S place x in_spaces placed.rooms in
         record {
-          held = subst (AreHeld H 1) (sym e)
-              (held_pushed H 1 R r
-              (all_kept holders place (Some n) 1 R (λ m le s. never m s) placed.held)
-              holder);
-          holding = omega (
-            arith,
-            placed.holding,
-            count_set is_some holders place (Some n) None
-                (omega (arith, free_within, placed.holders_count)),
-            ap (λ (o : Option ℕ). counted (is_some o)) was,
-          );
-          living = omega (
-            arith,
-            placed.living,
-            ap (count_by is_placed) e,
-            sum_by-append (λ (k : Record). counted (is_placed k)) R (r ∷ []),
-          );
-          holders_count = length-set holders place (Some n) ∙ placed.holders_count;
-          spaces_count = length-set S place y ∙ placed.spaces_count;
-          belongings_count = length-set D place first_belongings ∙ placed.belongings_count;
-          rooms = All-set (λ (s : Mapping). s.room ≡ room) S place y same_room placed.rooms;
+          shows = ap (λ ps. let g : Group = record { processes = ps; room = room } in g)
+              (ap (λ c. shown (set S place y) (set D place c) new) begins
+              ∙ ap (shown (set S place y) (set D place first_belongings)) e
+              ∙ shown_added R holders S D place parent y free in_spaces in_belongings
+              (ap (λ (s : Mapping). s.entries) is) placed.held)
+              ∙ ap (λ (g : Group). let h : Group =
+              record g { processes = g.processes ++ new_process parent ∷ [] } in h) shows;
+          placed = record {
+            held = subst (AreHeld H 1) (sym e)
+                (held_pushed H 1 R r
+                (all_kept holders place (Some (n + 1)) 1 R (λ m le s. never m s) placed.held)
+                holder);
+            holding = omega (
+              arith,
+              placed.holding,
+              count_set is_some holders place (Some (n + 1)) None in_holders,
+              ap (λ (o : Option ℕ). counted (is_some o)) was,
+            );
+            living = omega (
+              arith,
+              placed.living,
+              ap (count_by is_placed) e,
+              sum_by-append (λ (k : Record). counted (is_placed k)) R (r ∷ []),
+            );
+            holders_count = length-set holders place (Some (n + 1)) ∙ placed.holders_count;
+            spaces_count = length-set S place y ∙ placed.spaces_count;
+            belongings_count = length-set D place b ∙ placed.belongings_count;
+            rooms = All-set (λ (s : Mapping). s.room ≡ room) S place y same_room placed.rooms;
+          };
         }
       where
         never : (m : ℕ) → slice_get holders place ≡ Some (Some m) → ⊥

@@ -69,10 +69,6 @@ abbrev pub is_collected : Kept → Bool
 is_collected (Live place) = false
 is_collected (Ended status collected) = collected
 
-abbrev pub status_kept : Kept → Option ℕ
-status_kept (Live place) = None
-status_kept (Ended status collected) = Some status
-
 abbrev pub kept_as : Kept → Record → Record
 kept_as kept r = record r { kept = kept }
 

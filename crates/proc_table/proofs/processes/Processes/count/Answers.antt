@@ -2,6 +2,4 @@ use Rattle.proc_table.proofs.Standing.{living_shown}
 use Rattle.proc_table.proofs.processes.Processes.count.Goals as goal
 
 pub returns : goal.returns
-returns c = living_shown c.self.inside.records c.self.inside.holders
-    c.self.inside.spaces.items c.self.inside.belongings.items c.self.inside.live
-    c.self.inside.room c.args.self.now c.self.view_is c.self.invariant
+returns c = living_shown c.self.view_is c.self.invariant

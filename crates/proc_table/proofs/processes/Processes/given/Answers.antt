@@ -4,6 +4,4 @@ use Rattle.proc_table.proofs.processes.Processes.given.Goals as goal
 
 pub returns : goal.returns
 returns c = c.len.ensures
-    ∙ sym (given_shown c.self.inside.records c.self.inside.holders c.self.inside.spaces.items
-    c.self.inside.belongings.items c.self.inside.live c.self.inside.room c.args.self.now
-    c.self.view_is c.self.invariant)
+    ∙ sym (given_shown c.self.view_is c.self.invariant)

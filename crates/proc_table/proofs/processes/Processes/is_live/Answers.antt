@@ -15,6 +15,4 @@ returns c =
     c.place_in.ensures
     ∙ mapped (holdings_in c.self.inside.spaces.items c.self.inside.belongings.items)
     (place_in c.self.inside.records c.args.pid)
-    ∙ sym (ap is_some (held_now c.self.inside.records c.self.inside.holders
-    c.self.inside.spaces.items c.self.inside.belongings.items c.self.inside.live
-    c.self.inside.room c.args.self.now c.self.view_is c.self.invariant c.args.pid))
+    ∙ sym (ap is_some (held_now c.self.view_is c.self.invariant c.args.pid))

@@ -1,42 +1,17 @@
-use Rattle.std.proofs.Common.{rules, vec_len, ◌≡◌, ◌∙◌, length, Option, IfSome, sym, ap, subst}
-use Rattle.std.proofs.Common.{arith}
-use Rattle.std.specs.Prelude.{position, is_none}
-use Rattle.dos_world.specs.World.{Holdings}
-use Rattle.proc_table.specs.declared.record.Belongings.{Belongings}
-use Rattle.proc_table.proofs.Standing.{lives, within, holds, belongings_read}
+use Rattle.std.proofs.Common.{◌≡◌}
+use Rattle.std.specs.Prelude.{is_none, position}
+use Rattle.proc_table.proofs.Lengths.{index_of}
+use Rattle.proc_table.proofs.Standing.{lives, of_belongings, within_belongings}
 use Rattle.proc_table.proofs.processes.Processes.lowest_closed.Goals as goal
 
 pub place_of-requires : goal.place_of-requires
-place_of-requires c = lives c.self.inside.records c.self.inside.holders
-    c.self.inside.spaces.items c.self.inside.belongings.items c.self.inside.live
-    c.self.inside.room c.args.self.now c.self.view_is c.self.invariant c.args.pid c.requires
+place_of-requires c = lives c.self.view_is c.self.invariant c.args.pid c.requires
 
 pub index-requires : goal.index-requires
-index-requires c =
-    let count : vec_len c.self.inside.belongings ≡ length c.self.inside.belongings.items =
-    search rules in
-    omega (
-      arith,
-      c.self.invariant.belongings_count,
-      within c.self.inside.records c.self.inside.holders c.self.inside.spaces.items
-          c.self.inside.belongings.items c.self.inside.live c.self.inside.room
-          c.args.self.now c.self.view_is c.self.invariant c.args.pid c.place_of.result
-          c.place_of.ensures,
-    )
+index-requires c = index_of c.self.inside.belongings
+    (within_belongings c.self.view_is c.self.invariant c.args.pid c.place_of.ensures)
 
 pub returns : goal.returns
-returns c =
-    subst (λ (o : Option Holdings). IfSome o
-    (λ h. c.lowest_none.result ≡ position is_none h.descriptors))
-    (sym (holds c.self.inside.records c.self.inside.holders c.self.inside.spaces.items
-    c.self.inside.belongings.items c.self.inside.live c.self.inside.room
-    c.args.self.now c.self.view_is c.self.invariant c.args.pid c.place_of.result
-    c.place_of.ensures))
-    (c.lowest_none.ensures
-    ∙ ap (λ (b : Belongings). position is_none b.descriptors)
-    (belongings_read c.self.inside.records c.self.inside.holders
-    c.self.inside.spaces.items c.self.inside.belongings.items c.self.inside.live
-    c.self.inside.room c.args.self.now c.self.view_is c.self.invariant c.args.pid
-    c.place_of.result
-    c.place_of.ensures c.index.result.now
-    c.index.ensures))
+returns c = of_belongings c.self.view_is c.self.invariant c.args.pid c.place_of.ensures
+    (λ ends actions. c.lowest_none.result ≡ position is_none ends)
+    c.index.ensures c.lowest_none.ensures

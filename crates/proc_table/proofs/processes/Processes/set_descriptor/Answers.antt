@@ -1,40 +1,25 @@
-use Rattle.std.proofs.Common.{rules, vec_len, ◌≡◌, List, Option, length, ap, arith}
-use Rattle.dos_world.specs.declared.End.{End}
+use Rattle.std.proofs.Common.{ap}
 use Rattle.dos_world.specs.DescriptorCalls.{with_end}
 use Rattle.proc_table.specs.Places.{holdings_by}
-use Rattle.proc_table.proofs.Standing.{lives, within, belongings_written, placed_belongings}
+use Rattle.proc_table.proofs.Lengths.{index_of}
+use Rattle.proc_table.proofs.Standing.{belongings_written, lives, within_belongings}
 use Rattle.proc_table.proofs.processes.Processes.set_descriptor.Goals as goal
 
 pub place_of-place-requires : goal.place_of-place-requires
-place_of-place-requires c =
-    lives c.self.inside.records c.self.inside.holders c.self.inside.spaces.items
-    c.self.inside.belongings.items c.self.inside.live c.self.inside.room c.args.self.now
-    c.self.view_is c.self.invariant c.args.pid c.requires
+place_of-place-requires c = lives c.self.view_is c.self.invariant c.args.pid c.requires
 
 pub index_mut-requires : goal.index_mut-requires
-index_mut-requires c =
-    let count : vec_len c.self.inside.belongings ≡ length c.self.inside.belongings.items =
-    search rules in
-    omega (
-      arith,
-      c.self.invariant.belongings_count,
-      within c.self.inside.records c.self.inside.holders c.self.inside.spaces.items
-          c.self.inside.belongings.items c.self.inside.live c.self.inside.room
-          c.args.self.now c.self.view_is c.self.invariant c.args.pid c.place_of-place.result
-          c.place_of-place.ensures,
-    )
+index_mut-requires c = index_of c.self.inside.belongings
+    (within_belongings c.self.view_is c.self.invariant c.args.pid c.place_of-place.ensures)
 
 pub invariant_of-self : goal.invariant_of-self
-invariant_of-self c = placed_belongings c.self.inside.records c.self.inside.holders
-    c.self.inside.spaces.items c.self.inside.belongings.items c.self.inside.live
-    c.self.inside.room c.args.self.now c.self.view_is c.self.invariant c.args.pid
-    c.place_of-place.result c.place_of-place.ensures _
+invariant_of-self c = (belongings_written c.self.view_is c.self.invariant c.args.pid c.place_of-place.ensures
+    (with_end c.args.number c.args.end) c.index_mut.ensures.value
+    (λ space. ap (λ ends. holdings_by (record c.index_mut.result.now { descriptors = ends }) space)
+    c.set_end.ensures)).placed
 
 pub returns : goal.returns
-returns c = belongings_written c.self.inside.records c.self.inside.holders
-    c.self.inside.spaces.items c.self.inside.belongings.items c.self.inside.live
-    c.self.inside.room c.args.self.now c.self.view_is c.self.invariant c.args.pid
-    c.place_of-place.result c.place_of-place.ensures
-    (with_end c.args.number c.args.end) c.index_mut.result.now _ c.index_mut.ensures.value
-    (λ space. ap (λ (ends : List (Option End)). holdings_by
-    (record c.index_mut.result.now { descriptors = ends }) space) c.set_end.ensures)
+returns c = (belongings_written c.self.view_is c.self.invariant c.args.pid c.place_of-place.ensures
+    (with_end c.args.number c.args.end) c.index_mut.ensures.value
+    (λ space. ap (λ ends. holdings_by (record c.index_mut.result.now { descriptors = ends }) space)
+    c.set_end.ensures)).shows

@@ -1,17 +1,15 @@
-use Rattle.std.proofs.Common.{List, ◌≡◌, ℕ, Option, Some, None, IfSome, sym, ap, subst}
-use Rattle.proc_table.specs.declared.record.Belongings.{Belongings}
+use Rattle.std.proofs.Common.{◌≡◌, ℕ, List, Option, None, Some, sym, ap}
 use Rattle.space_map.specs.Mapping.{Mapping}
 use Rattle.dos_world.specs.World.{Process}
 use Rattle.proc_table.specs.Tables.{last_status}
 use Rattle.proc_table.specs.Places.{holdings_in, life_by}
+use Rattle.proc_table.specs.declared.record.Belongings.{Belongings}
 use Rattle.proc_table.specs.declared.record.Kept.{Kept}
-use Rattle.proc_table.proofs.Standing.{given_record, record_read}
+use Rattle.proc_table.proofs.Standing.{given_record, of_record}
 use Rattle.proc_table.proofs.processes.Processes.status.Goals as goal
 
 pub get-requires : goal.get-requires
-get-requires c = given_record c.self.inside.records c.self.inside.holders c.self.inside.spaces.items
-    c.self.inside.belongings.items c.self.inside.live c.self.inside.room c.args.self.now
-    c.self.view_is c.self.invariant c.args.pid c.requires
+get-requires c = given_record c.self.view_is c.self.invariant c.args.pid c.requires
 
 -- the status of a process with this record
 abbrev kept_status : List Mapping → List Belongings → ℕ → Kept → Option ℕ
@@ -21,22 +19,14 @@ kept_status S D parent k =
 
 pub returns-in-Live : goal.returns-in-Live
 returns-in-Live c =
-    subst (λ (o : Option Process). IfSome o
-    (λ process. ◌≡◌ {A = Option ℕ} None (last_status process)))
-    (sym (record_read c.self.inside.records c.self.inside.holders
-    c.self.inside.spaces.items c.self.inside.belongings.items c.self.inside.live
-    c.self.inside.room c.args.self.now c.self.view_is c.self.invariant c.args.pid
-    c.get.result.now c.get.ensures))
+    of_record c.self.view_is c.self.invariant c.args.pid
+    (λ process. ◌≡◌ {A = Option ℕ} None (last_status process)) c.get.ensures
     (sym (ap (kept_status c.self.inside.spaces.items c.self.inside.belongings.items
     c.get.result.now.parent) c.in-Live.is))
 
 pub returns-in-Ended : goal.returns-in-Ended
 returns-in-Ended c =
-    subst (λ (o : Option Process). IfSome o
-    (λ process. ◌≡◌ {A = Option ℕ} (Some c.in-Ended.status) (last_status process)))
-    (sym (record_read c.self.inside.records c.self.inside.holders
-    c.self.inside.spaces.items c.self.inside.belongings.items c.self.inside.live
-    c.self.inside.room c.args.self.now c.self.view_is c.self.invariant c.args.pid
-    c.get.result.now c.get.ensures))
+    of_record c.self.view_is c.self.invariant c.args.pid
+    (λ process. ◌≡◌ {A = Option ℕ} (Some c.in-Ended.status) (last_status process)) c.get.ensures
     (sym (ap (kept_status c.self.inside.spaces.items c.self.inside.belongings.items
     c.get.result.now.parent) c.in-Ended.is))

@@ -5,5 +5,4 @@ use Rattle.proc_table.proofs.threads.Threads.count.Goals as goal
 pub returns : goal.returns
 returns c =
     let count : c.len.result ≡ length c.self.inside.live.items = search rules in
-    count ∙ sym (living c.self.inside.live.items c.self.inside.given _ c.args.self.now
-    c.self.view_is c.self.invariant)
+    count ∙ sym (living c.self.view_is c.self.invariant)

@@ -18,5 +18,4 @@ returns c =
     ∙ ap (λ (es : List (ℕ × Thread)). count_by (λ (e : ℕ × Thread). e.1.process == c.args.pid) es)
     c.deref.ensures.value
     ∙ sym (length-filter (λ (e : ℕ × Thread). e.1.process == c.args.pid) c.self.inside.live.items)
-    ∙ sym (belonging c.self.inside.live.items c.self.inside.given _ c.args.self.now c.self.view_is
-    c.self.invariant c.args.pid)
+    ∙ sym (belonging c.self.view_is c.self.invariant c.args.pid)

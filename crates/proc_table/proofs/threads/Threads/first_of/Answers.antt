@@ -9,5 +9,4 @@ returns c =
     c.first_in.ensures
     ∙ ap (λ (es : List (ℕ × Thread)). option_map (λ (e : ℕ × Thread). e.0)
     (find (λ (e : ℕ × Thread). e.1.process == c.args.pid) es)) c.deref.ensures.value
-    ∙ sym (first_shown c.self.inside.live.items c.self.inside.given _ c.args.self.now c.self.view_is
-    c.self.invariant c.args.pid)
+    ∙ sym (first_shown c.self.view_is c.self.invariant c.args.pid)

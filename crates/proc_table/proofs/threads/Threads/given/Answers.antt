@@ -3,5 +3,4 @@ use Rattle.proc_table.proofs.Shown.{length_shown}
 use Rattle.proc_table.proofs.threads.Threads.given.Goals as goal
 
 pub returns : goal.returns
-returns c = sym (length_shown c.self.inside.live.items c.self.inside.given _ c.args.self.now
-    c.self.view_is c.self.invariant)
+returns c = sym (length_shown c.self.view_is c.self.invariant)

@@ -14,12 +14,10 @@ pub returns-then-len-ge-MOST_THREADS : goal.returns-then-len-ge-MOST_THREADS
 returns-then-len-ge-MOST_THREADS c =
     let count : c.len.result ≡ length c.self.inside.live.items = search rules in
     by_count (length c.self.inside.live.items) _ (omega (arith, c.if-len-ge-MOST_THREADS.true))
-    ∙ sym (full_shown c.self.inside.live.items c.self.inside.given _ c.args.self.now
-    c.self.view_is c.self.invariant)
+    ∙ sym (full_shown c.self.view_is c.self.invariant)
 
 pub returns : goal.returns
 returns c =
     let count : c.len.result ≡ length c.self.inside.live.items = search rules in
     by_number (length c.self.inside.live.items) _ (omega (arith, c.if-len-ge-MOST_THREADS.false))
-    ∙ sym (full_shown c.self.inside.live.items c.self.inside.given _ c.args.self.now
-    c.self.view_is c.self.invariant)
+    ∙ sym (full_shown c.self.view_is c.self.invariant)

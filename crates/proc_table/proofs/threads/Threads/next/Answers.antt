@@ -8,6 +8,4 @@ returns c =
     c.number_in.ensures
     ∙ ap (λ (es : List (ℕ × Thread)). option_map (λ (e : ℕ × Thread). e.0)
     (slice_get es c.place_above.result)) c.deref.ensures.value
-    ∙ sym (next_shown c.self.inside.live.items c.self.inside.given _ c.args.self.now c.self.view_is
-    c.self.invariant c.args.after c.place_above.result
-    (above_in _ _ _ _ c.deref-2.ensures.value c.place_above.ensures))
+    ∙ sym (next_shown c.self.view_is c.self.invariant (above_in c.deref-2.ensures.value c.place_above.ensures))

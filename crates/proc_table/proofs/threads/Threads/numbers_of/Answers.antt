@@ -16,5 +16,4 @@ returns c =
     c.numbers_in.ensures ∙
     ap (λ (es : List (ℕ × Thread)). map (λ (e : ℕ × Thread). e.0)
     (filter (λ (e : ℕ × Thread). e.1.process == c.args.pid) es)) c.deref.ensures.value
-    ∙ sym (count_shown c.self.inside.live.items c.self.inside.given _ c.args.self.now c.self.view_is
-    c.self.invariant (belongs_to c.args.pid) refl)
+    ∙ sym (count_shown c.self.view_is c.self.invariant (belongs_to c.args.pid) refl)

@@ -5,18 +5,16 @@ use Rattle.dos_world.specs.World.{Thread}
 use Rattle.proc_table.proofs.Shown.{filtered, kept_filter}
 use Rattle.proc_table.proofs.threads.Threads.remove_of.Goals as goal
 
+-- those that are left are those of the other processes
+left : (c : goal.After-retain)
+    → c.retain.new.self.items
+    ≡ filter (λ e. not (e.1.process == c.args.pid)) c.self.inside.live.items
+left c = filter_same _ (λ (e : ℕ × Thread). not (e.1.process == c.args.pid)) _
+    (λ x b q k. search rules) _ _ c.retain.ensures.filtered
+
 pub invariant_of-self : goal.invariant_of-self
-invariant_of-self c = kept_filter c.self.inside.live.items c.self.inside.given _ c.args.self.now
-    c.self.view_is c.self.invariant c.args.pid _ _ (left c) c.retain.ensures.capacity
-  where
-    left : (c : goal.After-retain)
-        → c.retain.new.self.items
-        ≡ filter (λ e. not (e.1.process == c.args.pid)) c.self.inside.live.items
-    left c = filter_same _ (λ (e : ℕ × Thread). not (e.1.process == c.args.pid)) _
-        (λ x b q k. search rules) _ _ c.retain.ensures.filtered
+invariant_of-self c =
+    kept_filter c.self.view_is c.self.invariant c.args.pid (left c) c.retain.ensures.capacity
 
 pub returns : goal.returns
-returns c = filtered c.self.inside.live.items c.self.inside.given _ c.args.self.now c.self.view_is
-    c.self.invariant c.args.pid _
-    (filter_same _ (λ (e : ℕ × Thread). not (e.1.process == c.args.pid)) _
-    (λ x b q k. search rules) _ _ c.retain.ensures.filtered)
+returns c = filtered c.self.view_is c.self.invariant c.args.pid (left c)
