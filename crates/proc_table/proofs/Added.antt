@@ -11,8 +11,8 @@ use Rattle.proc_table.specs.Links.{AreLinked, AreLinkedBy, IsLinkable, is_child_
 use Rattle.proc_table.specs.Links.{links_at, next_in, no_links, passes, previous_in, with_child}
 use Rattle.proc_table.specs.Links.{with_link}
 use Rattle.proc_table.proofs.Grown.{grown}
-use Rattle.proc_table.proofs.Moved.{at_last, before_last, beyond, child_to, family, is_at, links_of}
-use Rattle.proc_table.proofs.Moved.{next_alike, not_at, previous_alike}
+use Rattle.proc_table.proofs.Moved.{at_last, before_last, beyond, child_to, family}
+use Rattle.proc_table.proofs.Ways.{alike, back, is_at, links_of, not_at, on}
 use Rattle.proc_table.proofs.Family.{link_length, link_next, link_previous}
 
 -- an element of a list that gets one more
@@ -107,11 +107,11 @@ module _ (R : List Record) (L : List Links) (few : length R ≤ 65535) (count : 
       ∙ ap (λ t. t && true) (is_at p p refl))
       (λ q apart. ap (passes (is_uncollected q)) (at_last R r c (omega arith))
       ∙ ap (λ t. t && true) (not_at p q (λ e. apart (sym e))))
-      (λ q n qc nc. next_alike L L1 q n
+      (λ q n qc nc. alike on L L1 q n
       (ap (λ (l : Links). l.first) (old_links L p c number low small last_within q qc))
       (ap (λ (l : Links). l.next) (old_links L p c number low small last_within n nc)))
       (ap (λ (l : Links). l.first) (new_links L p c number low small last_within))
-      (λ q n qc nc. previous_alike L L1 q n
+      (λ q n qc nc. alike back L L1 q n
       (ap (λ (l : Links). l.last) (old_links L p c number low small last_within q qc))
       (ap (λ (l : Links). l.previous) (old_links L p c number low small last_within n nc)))
       (ap (λ (l : Links). l.last) (new_links L p c number low small last_within))

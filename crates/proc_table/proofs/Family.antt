@@ -13,42 +13,33 @@ use Rattle.proc_table.specs.declared.record.Links.{Links}
 use Rattle.proc_table.specs.declared.record.Record.{Record}
 use Rattle.proc_table.specs.Places.{is_collected, kept_as, orphan_record, place_in, place_of}
 use Rattle.proc_table.specs.Links.{AreLinked, AreLinkedBy, IsLinkable, IsNext, childless}
-use Rattle.proc_table.specs.Links.{is_child_at, is_uncollected, links_at, next_in, passes}
+use Rattle.proc_table.specs.Links.{is_child_at, is_uncollected, next_in, passes}
 use Rattle.proc_table.specs.Links.{previous_in, with_link, with_next, with_previous}
 use Rattle.proc_table.proofs.Lengths.{changed_length, mapped_length}
 use Rattle.proc_table.proofs.Linked.{IsMoved, childless_linked, linked_same, true_false, unlinked}
-use Rattle.proc_table.proofs.Moved.{at_0, child_to, elsewhere, family, here, links_elsewhere}
-use Rattle.proc_table.proofs.Moved.{links_here, mapped, next_alike, next_leaves, next_length}
-use Rattle.proc_table.proofs.Moved.{next_moved, not_at, previous_alike, previous_leaves}
-use Rattle.proc_table.proofs.Moved.{previous_length, previous_moved}
+use Rattle.proc_table.proofs.Moved.{child_to, elsewhere, family, here, mapped}
+use Rattle.proc_table.proofs.Ways.{alike, back, field_stays, is_at, leading, leading_length}
+use Rattle.proc_table.proofs.Ways.{links_elsewhere, links_here, moved, not_at, on, others_stay}
 
 -- ---- one child after another
 
-onward : (head p a b : ℕ) (f g h : ℕ → ℕ → ℕ) → ((q n : ℕ) → h q n ≡ g q n)
-    → IsMoved head p a b f g → IsMoved head p a b f h
-onward head p a b f g h same moved = record {
-  here = λ some. same p a ∙ moved.here some;
-  heads = λ q other. same q head ∙ moved.heads q other;
-  others = λ q n apart. same q n ∙ moved.others q n apart;
-}
-
-since : (head p a b : ℕ) (f g h : ℕ → ℕ → ℕ) → ((q n : ℕ) → g q n ≡ f q n)
-    → IsMoved head p a b g h → IsMoved head p a b f h
-since head p a b f g h same moved = record {
-  here = λ some. moved.here some;
-  heads = λ q other. moved.heads q other ∙ same q head;
-  others = λ q n apart. moved.others q n apart ∙ same q n;
-}
-
 module _ (L : List Links) (p a b : ℕ) (can : IsLinkable (length L) p a b) where
-  link_cases : (P : List Links → Type 0) → (p ≡ 0 → P L)
-      → (0 < p → P (with_previous (with_next L p a b) p b a)) → P (with_link L p a b)
-  unfolding with_link
+  -- the way on is written first, and then the way back
+  abbrev onward : List Links
+  onward = leading on L p a b
+
+  abbrev both : List Links
+  both = leading back onward p b a
+
+  onward_length : length onward ≡ length L
+  onward_length = leading_length on L p a b
+
+  link_cases : (P : List Links → Type 0) → (p ≡ 0 → P L) → (0 < p → P both)
+      → P (with_link L p a b)
+  unfolding with_link with_next with_previous
   link_cases P none some = elim (cases_eq p 0) [
-    | inl e ↦ subst (λ t. P (cond t L (with_previous (with_next L p a b) p b a)))
-        (sym (at_0 p e)) (none e)
-    | inr apart ↦ subst (λ t. P (cond t L (with_previous (with_next L p a b) p b a)))
-        (sym (not_at p 0 apart)) (some (omega arith))
+    | inl e ↦ subst (λ t. P (cond t L both)) (sym (is_at p 0 e)) (none e)
+    | inr apart ↦ subst (λ t. P (cond t L both)) (sym (not_at p 0 apart)) (some (omega arith))
   ]
 
   pub link_next : IsMoved 0 p a b (next_in L) (next_in (with_link L p a b))
@@ -58,11 +49,18 @@ module _ (L : List Links) (p a b : ℕ) (can : IsLinkable (length L) p a b) wher
         heads = λ q other. refl;
         others = λ q n apart. refl;
       })
-      (λ some. onward 0 p a b (next_in L) (next_in (with_next L p a b))
-      (next_in (with_previous (with_next L p a b) p b a))
-      (previous_leaves (with_next L p a b) p b a some
-      (omega (arith, can.parent_within, next_length L p a b some can.parent_within)))
-      (next_moved L p a b some can.parent_within (can.before_within some)))
+      (λ some.
+      let first = moved on L p a b some can.parent_within
+      (λ apart. (omega arith, can.before_within some)) in
+      let same : (q n : ℕ) → next_in both q n ≡ next_in onward q n =
+      λ q n. alike on onward both q n
+      (others_stay back onward p b a (λ l. l.first) (λ l. refl) (λ l. refl) q)
+      (others_stay back onward p b a (λ l. l.next) (λ l. refl) (λ l. refl) n) in
+      record {
+        here = λ is. same p a ∙ first.here is;
+        heads = λ q other. same q 0 ∙ first.heads q other;
+        others = λ q n apart. same q n ∙ first.others q n apart;
+      })
 
   pub link_previous : IsMoved 65536 p b a (previous_in L) (previous_in (with_link L p a b))
   link_previous = link_cases (λ M. IsMoved 65536 p b a (previous_in L) (previous_in M))
@@ -72,26 +70,30 @@ module _ (L : List Links) (p a b : ℕ) (can : IsLinkable (length L) p a b) wher
         others = λ q n apart. refl;
       })
       (λ some.
-      let same : length (with_next L p a b) ≡ length L =
-      next_length L p a b some can.parent_within in
-      since 65536 p b a (previous_in L) (previous_in (with_next L p a b))
-      (previous_in (with_previous (with_next L p a b) p b a))
-      (next_leaves L p a b some can.parent_within)
-      (previous_moved (with_next L p a b) p b a some (omega (arith, can.parent_within))
-      (can.after_from some) (can.after_low some)
-      (λ low. omega (arith, can.after_within some low))))
+      let second = moved back onward p b a some (omega (arith, onward_length, can.parent_within))
+      (λ apart. (
+        can.after_from some,
+        omega (arith, onward_length, can.after_within some (omega (arith, can.after_low some))),
+      )) in
+      let same : (q n : ℕ) → previous_in onward q n ≡ previous_in L q n =
+      λ q n. alike back L onward q n
+      (others_stay on L p a b (λ l. l.last) (λ l. refl) (λ l. refl) q)
+      (others_stay on L p a b (λ l. l.previous) (λ l. refl) (λ l. refl) n) in
+      record {
+        here = second.here;
+        heads = λ q other. second.heads q other ∙ same q 65536;
+        others = λ q n apart. second.others q n apart ∙ same q n;
+      })
 
   pub link_length : length (with_link L p a b) ≡ length L
   link_length = link_cases (λ M. length M ≡ length L) (λ e. refl)
-      (λ some. previous_length (with_next L p a b) p b a some
-      (omega (arith, can.parent_within, next_length L p a b some can.parent_within))
-      ∙ next_length L p a b some can.parent_within)
+      (λ some. leading_length back onward p b a ∙ onward_length)
 
 -- 0 has no children that are linked
 pub no_link : (L : List Links) (p a b : ℕ) → p ≡ 0 → with_link L p a b ≡ L
 unfolding with_link
 no_link L p a b e =
-    ap (λ t. cond t L (with_previous (with_next L p a b) p b a)) (at_0 p e)
+    ap (λ t. cond t L (with_previous (with_next L p a b) p b a)) (is_at p 0 e)
 
 pub link_is : (L : List Links) (p a b : ℕ) → p ≢ 0
     → with_previous (with_next L p a b) p b a ≡ with_link L p a b
@@ -158,9 +160,9 @@ orphan_other p q (Some r) some apart = by r.parent (is_collected r.kept)
 
 module _ (R : List Record) (L : List Links) (few : length R ≤ 65535) (count : length L ≡ length R)
     (linked : AreLinked R L) where
-  along : (new : List Record) (M : List Links) → length new ≡ length R
+  counted : (new : List Record) (M : List Links) → length new ≡ length R
       → AreLinkedBy (length R) (is_child_at new) (next_in M) (previous_in M) → AreLinked new M
-  along new M e h =
+  counted new M e h =
       subst (λ n. AreLinkedBy n (is_child_at new) (next_in M) (previous_in M)) (sym e) h
 
   -- a process that lives ends
@@ -168,7 +170,7 @@ module _ (R : List Record) (L : List Links) (few : length R ≤ 65535) (count : 
       → AreLinked (changed (kept_as (Ended status false)) R p) L
   ended_linked p status lives =
       let new : List Record = changed (kept_as (Ended status false)) R p in
-      along new L (changed_length (kept_as (Ended status false)) R p)
+      counted new L (changed_length (kept_as (Ended status false)) R p)
       (linked_same (length R) (is_child_at R) (family R few) (next_in L) (previous_in L) linked
       (is_child_at new) (next_in L) (previous_in L)
       (λ q n some. elim (cases_eq n p) [
@@ -185,7 +187,7 @@ module _ (R : List Record) (L : List Links) (few : length R ≤ 65535) (count : 
   orphans_linked p some low =
       let new : List Record = map (orphan_record p) R in
       let M : List Links = changed childless L p in
-      along new M (mapped_length (orphan_record p) R)
+      counted new M (mapped_length (orphan_record p) R)
       (childless_linked (length R) (is_child_at R) (family R few) (next_in L) (previous_in L) linked
       (is_child_at new) (next_in M) (previous_in M) p
       (λ n. ap (passes (is_uncollected p)) (mapped (orphan_record p) R n)
@@ -194,21 +196,12 @@ module _ (R : List Record) (L : List Links) (few : length R ≤ 65535) (count : 
       ∙ orphan_other p q (numbered R n) from apart)
       (ap (λ (l : Links). l.first) (links_here childless L p some (omega arith)))
       (ap (λ (l : Links). l.last) (links_here childless L p some (omega arith)))
-      (λ q n apart at. next_alike L M q n
+      (λ q n apart at. alike on L M q n
       (ap (λ (l : Links). l.first) (links_elsewhere childless L p q apart))
-      (kept_field (λ (l : Links). l.next) (λ l. refl) n))
-      (λ q n apart at. previous_alike L M q n
+      (field_stays (λ l. l.next) childless (λ l. refl) L p n))
+      (λ q n apart at. alike back L M q n
       (ap (λ (l : Links). l.last) (links_elsewhere childless L p q apart))
-      (kept_field (λ (l : Links). l.previous) (λ l. refl) n)))
-    where
-      kept_field : (field : Links → ℕ) → ((l : Links) → field (childless l) ≡ field l) → (n : ℕ)
-          → field (links_at (changed childless L p) n) ≡ field (links_at L n)
-      kept_field field same n = elim (cases_eq n p) [
-        | inl e ↦ ap (λ k. field (links_at (changed childless L p) k)) e
-            ∙ ap field (links_here childless L p some (omega arith)) ∙ same (links_at L p)
-            ∙ ap (λ k. field (links_at L k)) (sym e)
-        | inr apart ↦ ap field (links_elsewhere childless L p n apart)
-      ]
+      (field_stays (λ l. l.previous) childless (λ l. refl) L p n)))
 
   -- ---- a child is collected
 
@@ -244,7 +237,7 @@ module _ (R : List Record) (L : List Links) (few : length R ≤ 65535) (count : 
     collected_linked status =
         let new : List Record = changed (kept_as (Ended status true)) R c in
         let M : List Links = with_link L p (previous_in L p c) (next_in L p c) in
-        along new M (changed_length (kept_as (Ended status true)) R c)
+        counted new M (changed_length (kept_as (Ended status true)) R c)
         (elim (cases_eq p 0) [
           | inl e ↦ linked_same (length R) (is_child_at R) (family R few) (next_in L)
               (previous_in L) linked (is_child_at new) (next_in M) (previous_in M)

@@ -11,7 +11,8 @@ use Rattle.proc_table.specs.declared.record.Links.{Links}
 use Rattle.proc_table.specs.declared.record.Record.{Record}
 use Rattle.proc_table.specs.Places.{has_come, is_child_record, is_collected, kept_as, orphan_record}
 use Rattle.proc_table.specs.Places.{place_in}
-use Rattle.proc_table.specs.Links.{AreKept, AreLinked, IsLinkable, childless, is_child_at}
+use Rattle.proc_table.specs.Links.{AreKept, AreLinked, IsLinkable, IsWalkable, childless}
+use Rattle.proc_table.specs.Links.{is_child_at}
 use Rattle.proc_table.specs.Links.{is_uncollected, next_in, passes, passes_at, previous_in}
 use Rattle.proc_table.specs.Links.{with_child, with_link}
 use Rattle.proc_table.proofs.Lengths.{changed_length}
@@ -27,11 +28,26 @@ child_test asked p None e = cc
 child_test asked p (Some r) e =
     (and_parts ((r.parent == p) && not (is_collected r.kept)) (has_come asked r.kept) e).0
 
-module _ (R now : List Record) (L : List Links) (room links_room : ℕ)
+module _ {R now : List Record} {L : List Links} {room links_room : ℕ}
     (kept : AreKept R L room links_room) (shows : R ≡ now) where
+  -- ---- a walk
+
+  pub walkable : {records : List Record} {links : List Links} → records ≡ R → links ≡ L → (p : ℕ)
+      → 0 < p → p ≤ length now → IsWalkable records links p
+  walkable {records} {links} rs ls p some low =
+      let given : p ≤ length R = omega (arith, low, ap (λ (xs : List Record). length xs) shows) in
+      subst (λ M. IsWalkable records M p) (sym ls)
+      (subst (λ xs. IsWalkable xs L p) (sym rs) (record {
+        linked = kept.linked;
+        count = kept.count;
+        few = kept.few;
+        from = some;
+        within = given;
+      }))
+
   -- ---- a new record
 
-  module _ (p place n : ℕ) (within : p ≤ length now) (left : length now < 65535)
+  module _ (p place : ℕ) {n : ℕ} (within : p ≤ length now) (left : length now < 65535)
       (number : n ≡ length L + 1) where
     low : p ≤ length R
     low = omega (arith, within, ap (λ (rs : List Record). length rs) shows)
@@ -42,10 +58,10 @@ module _ (R now : List Record) (L : List Links) (room links_room : ℕ)
     pub last_low : previous_in L p 65536 ≤ length L
     last_low = last_within R L kept.few kept.count kept.linked p place low small
 
-    pub kept_added : (new : List Record) (M : List Links) (grown links_grown : ℕ)
+    pub kept_added : {new : List Record} {M : List Links} {grown links_grown : ℕ}
         → new ≡ R ++ record { parent = p; kept = Live place } ∷ [] → M ≡ with_child L p n
         → room ≤ grown → links_room ≤ links_grown → AreKept new M grown links_grown
-    kept_added new M grown links_grown is ms more links_more =
+    kept_added {new} {M} {grown} {links_grown} is ms more links_more =
         let r : Record = record { parent = p; kept = Live place } in
         record {
           linked = subst (λ K. AreLinked new K) (sym ms)
@@ -83,11 +99,11 @@ module _ (R now : List Record) (L : List Links) (room links_room : ℕ)
     pub child_given : (0 < c) × (c ≤ length R)
     child_given = (child_from R p c child_is, child_to R p c child_is)
 
-    pub kept_collected : (status : ℕ) (new : List Record) (M : List Links) (same links_same : ℕ)
+    pub kept_collected : (status : ℕ) {new : List Record} {M : List Links} {same links_same : ℕ}
         → new ≡ changed (kept_as (Ended status true)) R c
         → M ≡ with_link L p (previous_in L p c) (next_in L p c) → same ≡ room
         → links_same ≡ links_room → AreKept new M same links_same
-    kept_collected status new M same links_same ns ms s ls = record {
+    kept_collected status {new} {M} {same} {links_same} ns ms s ls = record {
       linked = subst (λ K. AreLinked new K) (sym ms)
           (subst (λ rs. AreLinked rs (with_link L p (previous_in L p c) (next_in L p c))) (sym ns)
           (collected_linked R L kept.few kept.count kept.linked p c child_is status));
@@ -107,7 +123,7 @@ module _ (R now : List Record) (L : List Links) (room links_room : ℕ)
 
   -- ---- the end of a process
 
-  module _ (p status : ℕ) (lives : IsSome (place_in now p)) (ended : List Record)
+  module _ (p status : ℕ) (lives : IsSome (place_in now p)) {ended : List Record}
       (es : ended ≡ changed (kept_as (Ended status false)) R p) where
     live_here : IsSome (place_in R p)
     live_here = subst (λ rs. IsSome (place_in rs p)) (sym shows) lives
@@ -116,42 +132,38 @@ module _ (R now : List Record) (L : List Links) (room links_room : ℕ)
     same_length = ap (λ (rs : List Record). length rs) es
         ∙ changed_length (kept_as (Ended status false)) R p
 
-    pub ended_few : length ended ≤ 65535
-    ended_few = omega (arith, kept.few, same_length)
-
-    pub ended_count : (M : List Links) → M ≡ L → length M ≡ length ended
-    ended_count M e = ap (λ (K : List Links). length K) e ∙ kept.count ∙ sym same_length
-
-    pub ended_given : (0 < p) × (p ≤ length ended)
-    ended_given =
-        let given = given_in R p (live_given R p live_here) in
-        (given.0, omega (arith, given.1, same_length))
-
     pub given_links : (0 < p) × (p ≤ length L)
-    given_links = (ended_given.0, omega (arith, ended_given.1, same_length, kept.count))
+    given_links = let given = given_in R p (live_given R p live_here) in
+        (given.0, omega (arith, given.1, kept.count))
 
-    pub ended_are_linked : (M : List Links) → M ≡ L → AreLinked ended M
-    ended_are_linked M e = subst (λ K. AreLinked ended K) (sym e)
-        (subst (λ rs. AreLinked rs L) (sym es)
-        (ended_linked R L kept.few kept.count kept.linked p status live_here))
+    pub ended_walkable : {links : List Links} → links ≡ L → IsWalkable ended links p
+    ended_walkable e = subst (λ M. IsWalkable ended M p) (sym e) (record {
+      linked = subst (λ rs. AreLinked rs L) (sym es)
+          (ended_linked R L kept.few kept.count kept.linked p status live_here);
+      count = kept.count ∙ sym same_length;
+      few = omega (arith, kept.few, same_length);
+      from = given_links.0;
+      within = omega (arith, given_links.1, kept.count, same_length);
+    })
 
-    pub kept_ended : (new : List Record) (M : List Links) (same links_same : ℕ)
+    pub kept_ended : {new : List Record} {M : List Links} {same links_same : ℕ}
         → new ≡ map (orphan_record p) ended → M ≡ changed childless L p → same ≡ room
         → links_same ≡ links_room → AreKept new M same links_same
-    kept_ended new M same links_same ns ms s ls = record {
-      linked = subst (λ K. AreLinked new K) (sym ms)
-          (subst (λ rs. AreLinked rs (changed childless L p)) (sym ns)
-          (orphans_linked ended L ended_few (ended_count L refl) (ended_are_linked L refl) p
-          ended_given.0 ended_given.1));
-      count = ap (λ (K : List Links). length K) ms ∙ changed_length childless L p
-          ∙ ended_count L refl
-          ∙ sym (ap (λ (rs : List Record). length rs) ns ∙ length-map ended (orphan_record p));
-      few = omega (
-        arith,
-        ended_few,
-        ap (λ (rs : List Record). length rs) ns,
-        length-map ended (orphan_record p),
-      );
-      taken = omega (arith, kept.taken);
-      links_taken = omega (arith, kept.links_taken);
-    }
+    kept_ended {new} {M} {same} {links_same} ns ms s ls =
+        let walk = ended_walkable refl in
+        record {
+          linked = subst (λ K. AreLinked new K) (sym ms)
+              (subst (λ rs. AreLinked rs (changed childless L p)) (sym ns)
+              (orphans_linked ended L walk.few walk.count walk.linked p walk.from walk.within));
+          count = ap (λ (K : List Links). length K) ms ∙ changed_length childless L p
+              ∙ walk.count
+              ∙ sym (ap (λ (rs : List Record). length rs) ns ∙ length-map ended (orphan_record p));
+          few = omega (
+            arith,
+            walk.few,
+            ap (λ (rs : List Record). length rs) ns,
+            length-map ended (orphan_record p),
+          );
+          taken = omega (arith, kept.taken);
+          links_taken = omega (arith, kept.links_taken);
+        }

@@ -10,6 +10,7 @@ pub mod Children
 pub mod Linked
 pub mod Grown
 pub mod Moved
+pub mod Ways
 pub mod Family
 pub mod Added
 pub mod Walked

@@ -10,9 +10,10 @@ use Rattle.dos_world.specs.Numbered.{numbered, map_from}
 use Rattle.proc_table.specs.declared.record.Links.{Links}
 use Rattle.proc_table.specs.declared.record.Record.{Record}
 use Rattle.proc_table.specs.Places.{first_child, has_come, is_child_record, orphan_record}
-use Rattle.proc_table.specs.Links.{AreLinked, IsNext, is_child_at, is_uncollected, passes}
+use Rattle.proc_table.specs.Links.{IsNext, IsWalkable, is_child_at, is_uncollected, passes}
 use Rattle.proc_table.specs.Links.{passes_at}
-use Rattle.proc_table.proofs.Moved.{child_from, child_to, links_of, next_other, read_again}
+use Rattle.proc_table.proofs.Moved.{child_from, child_to, read_again}
+use Rattle.proc_table.proofs.Ways.{from_child, links_of, on}
 use Rattle.proc_table.proofs.Children.{lowest_at, lowest_nowhere}
 
 -- the element that is read by its number
@@ -43,17 +44,16 @@ come : (asked : Bool) (p : ℕ) (o : Option Record) (x : Record) → o ≡ Some 
 come asked p o x e t = ap (passes (is_child_record asked p)) e
     ∙ ap (λ b. b && has_come asked x.kept) (sym (ap (passes (is_uncollected p)) e) ∙ t)
 
-module _ (R : List Record) (L : List Links) (linked : AreLinked R L)
-    (count : length L ≡ length R) (few : length R ≤ 65535) (p : ℕ) (some : 0 < p)
-    (within : p ≤ length R) where
+module _ {R : List Record} {L : List Links} {p : ℕ} (walk : IsWalkable R L p) where
   -- the first child, and the one after a child, as they are read
   pub first_next : (d : Links) → IsNext (is_child_at R p) 0 (get_or L (p - 1) d).first
   first_next d =
       subst (λ j. IsNext (is_child_at R p) 0 j)
       (ap (λ (l : Links). l.first) (ap links_of
-      (number_read L p (get_or L (p - 1) d) some (omega arith)
-      (read_again L (p - 1) d (omega arith)))))
-      (linked.after p 0 some within (inl refl))
+      (number_read L p (get_or L (p - 1) d) walk.from
+      (omega (arith, walk.within, walk.count))
+      (read_again L (p - 1) d (omega (arith, walk.from, walk.within, walk.count))))))
+      (walk.linked.after p 0 walk.from walk.within (inl refl))
 
   pub child_next : (n : ℕ) → is_child_at R p n ≡ true → (d : Links)
       → IsNext (is_child_at R p) n (get_or L (n - 1) d).next
@@ -61,11 +61,11 @@ module _ (R : List Record) (L : List Links) (linked : AreLinked R L)
       let from : 0 < n = child_from R p n t in
       let to : n ≤ length R = child_to R p n t in
       subst (λ j. IsNext (is_child_at R p) n j)
-      (next_other L p n (λ e. omega arith)
+      (from_child on L p n (λ e. omega arith)
       ∙ ap (λ (l : Links). l.next) (ap links_of
-      (number_read L n (get_or L (n - 1) d) from (omega arith)
-      (read_again L (n - 1) d (omega arith)))))
-      (linked.after p n some within (inr t))
+      (number_read L n (get_or L (n - 1) d) from (omega (arith, to, walk.count))
+      (read_again L (n - 1) d (omega (arith, from, to, walk.count))))))
+      (walk.linked.after p n walk.from walk.within (inr t))
 
   pub child_within : (n : ℕ) → is_child_at R p n ≡ true → (0 < n) × (n ≤ length R)
   child_within n t = (child_from R p n t, child_to R p n t)

@@ -111,6 +111,14 @@ abbrev pub AreLinked : List Record → List Links → Type 0
 AreLinked records links =
     AreLinkedBy (length records) (is_child_at records) (next_in links) (previous_in links)
 
+-- The children of a process that was given a number can be walked along.
+pub record IsWalkable (records : List Record) (links : List Links) (parent : ℕ) : Type 0 where
+  pub linked : AreLinked records links
+  pub count : length links ≡ length records
+  pub few : length records ≤ 65535
+  pub from : 0 < parent
+  pub within : parent ≤ length records
+
 -- Each record has its links, and the memory of both was taken.
 pub record AreKept (records : List Record) (links : List Links) (room links_room : ℕ) : Type 0 where
   pub linked : AreLinked records links

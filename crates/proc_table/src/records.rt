@@ -7,7 +7,7 @@ ghost use Rattle.std.specs.Vec.{vec_capacity};
 ghost use Rattle.proc_table.specs.declared.record.Kept.TheVariants.{Live, Ended};
 ghost use Rattle.proc_table.specs.Places.{first_child, has_come, is_child_record, is_collected};
 ghost use Rattle.proc_table.specs.Places.{kept_as, orphan_record, place_in};
-ghost use Rattle.proc_table.specs.Links.{AreLinked, IsLinkable, childless, next_in, no_links};
+ghost use Rattle.proc_table.specs.Links.{IsLinkable, IsWalkable, childless, next_in, no_links};
 ghost use Rattle.proc_table.specs.Links.{passes_at, previous_in, with_child, with_link, with_next};
 ghost use Rattle.proc_table.specs.Links.{with_previous};
 
@@ -204,10 +204,7 @@ fn record_at(records: &[Record], place: usize) -> Option<Record>
 
 // the lowest child along the links
 fn first_linked(records: &[Record], links: &[Links], parent: u32, ended: bool) -> Option<u32>
-    requires linked { AreLinked records.now links.now }
-    requires count { length links.now ≡ length records.now }
-    requires few { length records.now ≤ 65535 }
-    requires given { (0 < parent) × (parent ≤ length records.now) }
+    requires { IsWalkable records.now links.now parent }
     ensures { result ≡ first_child ended records.now parent 0 }
 {
     let mut child = links[(parent - 1) as usize].first;
@@ -268,10 +265,7 @@ fn has_come(kept: Kept, ended: bool) -> bool
 
 // The children of a process have no parent.
 fn orphan_all(records: &mut Vec<Record>, links: &[Links], parent: u32)
-    requires linked { AreLinked records.old.items links.now }
-    requires count { length links.now ≡ length records.old.items }
-    requires few { length records.old.items ≤ 65535 }
-    requires given { (0 < parent) × (parent ≤ length records.old.items) }
+    requires { IsWalkable records.old.items links.now parent }
     ensures items { records.new.items ≡ map (orphan_record parent) records.old.items }
     ensures capacity { vec_capacity records.new ≡ vec_capacity records.old }
 {

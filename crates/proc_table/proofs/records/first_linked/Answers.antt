@@ -14,44 +14,36 @@ abbrev no_record : Record
 no_record = record { parent = 0; kept = Live 0 }
 
 pub loop-child-init : goal.loop-child-init
-loop-child-init c = reached_first c.args.records.now c.args.links.now c.requires.linked
-    c.requires.count c.requires.few c.args.parent c.requires.given.0 c.requires.given.1
-    c.args.ended no_links
+loop-child-init c = reached_first c.requires c.args.ended no_links
 
 pub bounds-records-place : goal.bounds-records-place
 bounds-records-place c =
-    let at = child_within c.args.records.now c.args.links.now c.requires.linked
-    c.requires.count c.requires.few c.args.parent c.requires.given.0 c.requires.given.1
-    c.loop-child.child (c.loop-child.invariant.is c.loop-child-test.true) in
+    let at = child_within c.requires c.loop-child.child
+    (c.loop-child.invariant.is c.loop-child-test.true) in
     omega (arith, at.0, at.1)
 
 pub returns-then-has_come : goal.returns-then-has_come
-returns-then-has_come c = reached_it c.args.records.now c.args.links.now c.requires.linked
-    c.requires.count c.requires.few c.args.parent c.requires.given.0 c.requires.given.1
-    c.args.ended c.loop-child.child c.loop-child-test.true c.loop-child.invariant no_record
+returns-then-has_come c = reached_it c.requires c.args.ended c.loop-child.child
+    c.loop-child-test.true c.loop-child.invariant no_record
     (sym c.has_come.ensures ∙ c.if-has_come.true)
 
 pub bounds-links-place : goal.bounds-links-place
 bounds-links-place c =
-    let at = child_within c.args.records.now c.args.links.now c.requires.linked
-    c.requires.count c.requires.few c.args.parent c.requires.given.0 c.requires.given.1
-    c.loop-child.child (c.loop-child.invariant.is c.loop-child-test.true) in
+    let at = child_within c.requires c.loop-child.child
+    (c.loop-child.invariant.is c.loop-child-test.true) in
     omega (arith, at.0, at.1, c.requires.count)
 
 pub loop-child-smaller : goal.loop-child-smaller
 loop-child-smaller c =
-    let h = child_next c.args.records.now c.args.links.now c.requires.linked
-    c.requires.count c.requires.few c.args.parent c.requires.given.0 c.requires.given.1
-    c.loop-child.child (c.loop-child.invariant.is c.loop-child-test.true) no_links in
+    let h = child_next c.requires c.loop-child.child
+    (c.loop-child.invariant.is c.loop-child-test.true) no_links in
     omega (arith, h.above, h.low, c.loop-child-test.true)
 
 pub loop-child-preserved : goal.loop-child-preserved
-loop-child-preserved c = reached_next c.args.records.now c.args.links.now c.requires.linked
-    c.requires.count c.requires.few c.args.parent c.requires.given.0 c.requires.given.1
-    c.args.ended c.loop-child.child c.loop-child-test.true c.loop-child.invariant no_record
+loop-child-preserved c = reached_next c.requires c.args.ended c.loop-child.child
+    c.loop-child-test.true c.loop-child.invariant no_record
     (sym c.has_come.ensures ∙ c.if-has_come.false) no_links
 
 pub returns : goal.returns
-returns c = reached_none c.args.records.now c.args.links.now c.requires.linked
-    c.requires.count c.requires.few c.args.parent c.requires.given.0 c.requires.given.1
-    c.args.ended c.loop-child.child c.loop-child-test.false c.loop-child.invariant
+returns c = reached_none c.requires c.args.ended c.loop-child.child c.loop-child-test.false
+    c.loop-child.invariant

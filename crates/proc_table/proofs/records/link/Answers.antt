@@ -1,7 +1,7 @@
-use Rattle.std.proofs.Common.{◌≡◌, ◌<◌, List, length, sym, ap, ◌∙◌, arith}
+use Rattle.std.proofs.Common.{◌≡◌, ℕ, ◌<◌, List, length, sym, ap, ◌∙◌, arith}
 use Rattle.proc_table.specs.declared.record.Links.{Links}
-use Rattle.proc_table.specs.Links.{with_previous}
-use Rattle.proc_table.proofs.Moved.{next_length}
+use Rattle.proc_table.specs.Links.{with_next, with_previous}
+use Rattle.proc_table.proofs.Ways.{leading_length, on}
 use Rattle.proc_table.proofs.Family.{link_is, no_link}
 use Rattle.proc_table.proofs.records.link.Goals as goal
 
@@ -9,22 +9,24 @@ pub returns-then-parent-eq0-clause-items : goal.returns-then-parent-eq0-clause-i
 returns-then-parent-eq0-clause-items c = sym (no_link c.args.links.now.items c.args.parent
     c.args.before c.args.after c.if-parent-eq0.true)
 
+-- the way on keeps the length
+same_length : {new : List Links} (L : List Links) (p a b : ℕ) → new ≡ with_next L p a b
+    → length new ≡ length L
+unfolding with_next
+same_length L p a b e = ap (λ (M : List Links). length M) e ∙ leading_length on L p a b
+
 pub set_previous-requires-clause-parent : goal.set_previous-requires-clause-parent
 set_previous-requires-clause-parent c =
-    let some : 0 < c.args.parent = omega (arith, c.if-parent-eq0.false) in
-    let same : length c.set_next.new.links.items ≡ length c.args.links.now.items =
-    ap (λ (L : List Links). length L) c.set_next.ensures.items
-    ∙ next_length c.args.links.now.items c.args.parent c.args.before c.args.after some
-    c.requires.parent_within in (some, omega (arith, c.requires.parent_within))
+    let same = same_length c.args.links.now.items c.args.parent c.args.before c.args.after
+    c.set_next.ensures.items in
+    (omega (arith, c.if-parent-eq0.false), omega (arith, same, c.requires.parent_within))
 
 pub set_previous-requires-clause-within : goal.set_previous-requires-clause-within
 set_previous-requires-clause-within c =
+    let same = same_length c.args.links.now.items c.args.parent c.args.before c.args.after
+    c.set_next.ensures.items in
     let some : 0 < c.args.parent = omega (arith, c.if-parent-eq0.false) in
-    let same : length c.set_next.new.links.items ≡ length c.args.links.now.items =
-    ap (λ (L : List Links). length L) c.set_next.ensures.items
-    ∙ next_length c.args.links.now.items c.args.parent c.args.before c.args.after some
-    c.requires.parent_within in
-    λ low. omega (arith, c.requires.after_within some low)
+    λ low. omega (arith, same, c.requires.after_within some low)
 
 pub returns-clause-items : goal.returns-clause-items
 returns-clause-items c =

@@ -15,8 +15,7 @@ orphan r = record r { parent = 0 }
 
 pub loop-child-init : goal.loop-child-init
 loop-child-init c =
-    let h = first_next c.args.records.now.items c.args.links.now c.requires.linked
-    c.requires.count c.requires.few c.args.parent c.requires.given.0 c.requires.given.1 no_links in
+    let h = first_next c.requires no_links in
     record {
       items = orphaned_first c.args.parent c.args.records.now.items c.requires.few _ h;
       capacity = refl;
@@ -27,9 +26,8 @@ loop-child-init c =
 pub index_mut-requires : goal.index_mut-requires
 index_mut-requires c =
     let count : vec_len c.loop-child.records ≡ length c.loop-child.records.items = search rules in
-    let at = child_within c.args.records.now.items c.args.links.now c.requires.linked
-    c.requires.count c.requires.few c.args.parent c.requires.given.0 c.requires.given.1
-    c.loop-child.child (c.loop-child.invariant.is c.loop-child-test.true) in
+    let at = child_within c.requires c.loop-child.child
+    (c.loop-child.invariant.is c.loop-child-test.true) in
     omega (
       arith,
       at.0,
@@ -40,24 +38,20 @@ index_mut-requires c =
 
 pub bounds-links-place : goal.bounds-links-place
 bounds-links-place c =
-    let at = child_within c.args.records.now.items c.args.links.now c.requires.linked
-    c.requires.count c.requires.few c.args.parent c.requires.given.0 c.requires.given.1
-    c.loop-child.child (c.loop-child.invariant.is c.loop-child-test.true) in
+    let at = child_within c.requires c.loop-child.child
+    (c.loop-child.invariant.is c.loop-child-test.true) in
     omega (arith, at.0, at.1, c.requires.count)
 
 pub loop-child-smaller : goal.loop-child-smaller
 loop-child-smaller c =
-    let h = child_next c.args.records.now.items c.args.links.now c.requires.linked
-    c.requires.count c.requires.few c.args.parent c.requires.given.0 c.requires.given.1
-    c.loop-child.child (c.loop-child.invariant.is c.loop-child-test.true) no_links in
+    let h = child_next c.requires c.loop-child.child
+    (c.loop-child.invariant.is c.loop-child-test.true) no_links in
     omega (arith, h.above, h.low, c.loop-child-test.true)
 
 pub loop-child-preserved : goal.loop-child-preserved
 loop-child-preserved c =
     let t = c.loop-child.invariant.is c.loop-child-test.true in
-    let h = child_next c.args.records.now.items c.args.links.now c.requires.linked
-    c.requires.count c.requires.few c.args.parent c.requires.given.0 c.requires.given.1
-    c.loop-child.child t no_links in
+    let h = child_next c.requires c.loop-child.child t no_links in
     record {
       items = ap (λ (rs : List Record). set rs (c.loop-child.child - 1)
           (orphan c.index_mut.result.now)) c.loop-child.invariant.items

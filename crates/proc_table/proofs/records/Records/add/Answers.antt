@@ -7,17 +7,14 @@ add_links-requires-clause-last c =
     let count : vec_len c.self.inside.records ≡ length c.self.inside.records.items = search rules in
     let number : c.len.result + 1 ≡ length c.self.inside.links.items + 1 =
     ap (λ n. n + 1) (c.len.ensures ∙ count ∙ sym c.self.invariant.count) in
-    last_low c.self.inside.records.items c.args.self.now
-    c.self.inside.links.items _ _ c.self.invariant c.self.view_is
-    c.args.parent c.args.place (c.len.result + 1) c.requires.parent c.requires.numbers number
+    last_low c.self.invariant c.self.view_is c.args.parent c.args.place c.requires.parent
+    c.requires.numbers number
 
 pub invariant_of-self : goal.invariant_of-self
 invariant_of-self c =
     let count : vec_len c.self.inside.records ≡ length c.self.inside.records.items = search rules in
     let number : c.len.result + 1 ≡ length c.self.inside.links.items + 1 =
     ap (λ n. n + 1) (c.len.ensures ∙ count ∙ sym c.self.invariant.count) in
-    kept_added c.self.inside.records.items c.args.self.now
-    c.self.inside.links.items _ _ c.self.invariant c.self.view_is
-    c.args.parent c.args.place (c.len.result + 1) c.requires.parent c.requires.numbers number
-    _ _ _ _ c.in-Ok.ensures.items c.add_links.ensures.items c.in-Ok.ensures.capacity
-    c.add_links.ensures.capacity
+    kept_added c.self.invariant c.self.view_is c.args.parent c.args.place c.requires.parent
+    c.requires.numbers number c.in-Ok.ensures.items c.add_links.ensures.items
+    c.in-Ok.ensures.capacity c.add_links.ensures.capacity
