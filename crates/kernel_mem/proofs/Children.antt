@@ -3,21 +3,24 @@ use Rattle.std.proofs.Common.{◌≡◌, ◌≢◌, ℕ, zero, suc, ◌+◌, ◌
 use Rattle.std.proofs.Common.{◌∷◌, ◌++◌, length, Option, Some, None, Ok, Err, IsSome, IfSome}
 use Rattle.std.proofs.Common.{option_and_then, refl, sym, ap, subst, ◌∙◌, arith}
 use Rattle.std.specs.Prelude.{nat_lt, slice_get}
+use Rattle.std.proofs.lemmas.Bool.Decides.{nat_tests}
+use Rattle.std.proofs.lemmas.List.Sums.{length-filter}
 use Rattle.dos_world.specs.declared.Entry.{Entry}
 use Rattle.dos_world.specs.Numbered.{changed, changed_at}
 use Rattle.dos_world.specs.World.{World, Process, Holdings, Thread, Registers, holdings_of}
-use Rattle.dos_world.specs.World.{on_holdings, released}
+use Rattle.dos_world.specs.World.{is_free, on_holdings, released}
 use Rattle.dos_world.specs.Kernel.{answered, free_frames}
 use Rattle.dos_world.specs.Calls.{Call}
 use Rattle.dos_world.specs.ThreadCalls.{ready_thread, with_new_thread}
 use Rattle.dos_world.specs.ProcessCalls.{are_processes_full, child_process, child_thread}
 use Rattle.dos_world.specs.ProcessCalls.{copied_space, forked, forked_by, private_entries}
 use Rattle.dos_world.specs.ProcessCalls.{with_child}
-use Rattle.page_store.specs.Store.{Store}
+use Rattle.page_store.specs.Store.{Store, free_count}
 use Rattle.proc_table.specs.Tables.{Tables, IsProcess, IsThread, held_as, held_in, thread_in}
 use Rattle.proc_table.specs.Tables.{held_by, new_process, process_added}
-use Rattle.kernel_mem.specs.MemoryWorld.{in_world, space_in}
+use Rattle.kernel_mem.specs.MemoryWorld.{in_world, space_in, IsCaller}
 use Rattle.kernel_mem.specs.Forking.{child_begun, child_without, fork_call, with_space}
+use Rattle.kernel_mem.proofs.Loops.{space-is}
 
 -- ---- the last of a list of processes
 
@@ -186,8 +189,8 @@ has-child old_table table tid pid alive runs added =
           (child_begun (length old_table.processes + 1) thread))) t.1 one;
     }
 
-module _ (old_table : Tables) (tid pid : ℕ) (table : Tables)
-    (has : HasChild old_table tid pid table) (child : ℕ)
+module _ {old_table : Tables} {tid pid : ℕ} {table : Tables}
+    (has : HasChild old_table tid pid table) {child : ℕ}
     (number : child ≡ length old_table.processes + 1) where
   lives : IsProcess old_table.processes pid
   lives = subst (λ (o : Option Holdings). IsSome o) (sym has.holds) refl
@@ -216,7 +219,8 @@ module _ (old_table : Tables) (tid pid : ℕ) (table : Tables)
   child-space = ap (λ (o : Option Holdings). elim o [ None ↦ [] | Some h ↦ h.space ]) begins
 
   -- with its space the flat world has forked
-  pub forked-ok : (w : World) (s0 s : Store) (T : Tables) (child_tid : ℕ) (cs : List (ℕ × Entry))
+  pub forked-ok : (w : World) (s0 s : Store) {T : Tables} {child_tid : ℕ}
+      (cs : List (ℕ × Entry))
       → child_tid ≡ length old_table.threads + 1
       → are_processes_full old_table.processes old_table.threads ≡ false
       → nat_lt (free_frames (in_world w s0 old_table)) (private_entries (space_in old_table pid))
@@ -224,7 +228,7 @@ module _ (old_table : Tables) (tid pid : ℕ) (table : Tables)
       → copied_space (in_world w s0 old_table) child_tid (space_in table pid)
       ≡ (in_world w s old_table, cs) → T ≡ held_by (with_space cs) table child
       → forked (fork_call (in_world w s0 old_table) tid pid) ≡ Ok (in_world w s T)
-  forked-ok w s0 s T child_tid cs tid_is room enough copies is =
+  forked-ok w s0 s {T} {child_tid} cs tid_is room enough copies is =
       ap (λ o. forked_by c o (thread_in old_table.threads tid)) has.holds
       ∙ ap (forked_by c (Some has.held)) has.runs
       ∙ ap (λ b. cond b (Err 11)
@@ -295,3 +299,29 @@ pub to-process : (P : ℕ → Type 0) (o : Option Thread) (p : ℕ)
     → IfSome o (λ thread. p ≡ thread.process) → P p → IfSome o (λ thread. P thread.process)
 to-process P None p own h = tt
 to-process P (Some thread) p own h = subst P own h
+
+-- the caller's process lives, and its space as it is lent is that of the table
+pub caller_lives : {T : Tables} {tid : ℕ} → IsCaller T tid → (pid : ℕ)
+    → IfSome (thread_in T.threads tid) (λ thread. pid ≡ thread.process) → IsProcess T.processes pid
+caller_lives {T} {tid} caller pid own =
+    of-process (λ p. IsProcess T.processes p) (thread_in T.threads tid) pid caller.thread own
+    caller.process
+
+pub caller_space : {T : Tables} {tid : ℕ} → IsCaller T tid → (pid : ℕ)
+    → IfSome (thread_in T.threads tid) (λ thread. pid ≡ thread.process)
+    → (es : List (ℕ × Entry)) → IfSome (held_in T.processes pid) (λ h. es ≡ h.space)
+    → es ≡ space_in T pid
+caller_space {T} caller pid own es is = space-is T pid es (caller_lives caller pid own) is
+
+-- ---- how many frames are free
+
+pub free_is : (w : World) (s : Store) (T : Tables) → free_frames (in_world w s T) ≡ free_count s
+free_is w s T = length-filter is_free s.owners
+
+pub too_few : (w : World) (s : Store) (T : Tables) (n : ℕ) → free_count s < n
+    → nat_lt (free_frames (in_world w s T)) n ≡ true
+too_few w s T n few = grind (arith, nat_tests, free_is w s T)
+
+pub enough : (w : World) (s : Store) (T : Tables) (n : ℕ) → n ≤ free_count s
+    → nat_lt (free_frames (in_world w s T)) n ≡ false
+enough w s T n h = grind (arith, nat_tests, free_is w s T)

@@ -12,8 +12,8 @@ use Rattle.dos_world.specs.Kernel.{opened, place_of, copied_in, copied_out}
 use Rattle.proc_table.specs.Tables.{Tables}
 use Rattle.page_store.specs.Store.{Store as Held, whole, with_home}
 use Rattle.page_store.proofs.Joined.{joined-stretch, joined-written, length-joined}
-use Rattle.kernel_mem.specs.MemoryWorld.{in_world, HasAllHome, with_open}
-use Rattle.kernel_mem.proofs.Reaching.{entry_same, opened_here, place_here, HasFrame, IsOpen}
+use Rattle.kernel_mem.specs.MemoryWorld.{HasFrame, in_world, HasAllHome, with_open}
+use Rattle.kernel_mem.proofs.Reaching.{entry_same, opened_here, place_here, IsOpen}
 use Rattle.kernel_mem.proofs.Reaching.{is_open, opened-pages}
 
 -- ---- what a stretch holds
@@ -99,12 +99,12 @@ read_page w t a n k e here own within place bytes =
     (omega arith)
 
 -- a stretch of a page, read from the page once its frame is granted
-pub stretch_read : (w : World) (s u : Held) (T : Tables) (t a n frame : ℕ) (page part : List ℕ)
-    → HasFrame T s t a Load frame → HasAllHome s → u ≡ with_open s frame t Load
+pub stretch_read : (w : World) {s u : Held} {T : Tables} {t a : ℕ} (n : ℕ) {frame : ℕ}
+    {page part : List ℕ} → HasFrame T s t a Load frame → HasAllHome s → u ≡ with_open s frame t Load
     → 0 < n → a % 4096 + n ≤ 4096 → slice_get u.pages frame ≡ Some (Some page)
     → part ≡ take n (drop (a % 4096) (whole page))
     → copied_in (in_world w s T) t a n ≡ (in_world w u T, part)
-stretch_read w s u T t a n frame page part has homes is some within home bytes =
+stretch_read w {s} {u} {T} {t} {a} n {frame} {page} {part} has homes is some within home bytes =
     let v : Held = with_open s frame t Load in
     let open_now : IsOpen w s v T t a Load has.entry = is_open w s T t a Load frame has in
     let here : slice_get v.pages frame ≡ Some (Some page) =
@@ -186,12 +186,12 @@ written_page w t a k bytes e here right own within place =
     (λ i l. omega arith)
 
 -- a stretch of a page, written to the page once its frame is granted
-pub stretch_written : (w : World) (s u : Held) (T : Tables) (t a frame : ℕ)
-    (old page bytes : List ℕ) → HasFrame T s t a Store frame → u ≡ with_open s frame t Store
+pub stretch_written : (w : World) {s u : Held} {T : Tables} {t a frame : ℕ} {old : List ℕ}
+    (page bytes : List ℕ) → HasFrame T s t a Store frame → u ≡ with_open s frame t Store
     → 0 < length bytes → a % 4096 + length bytes ≤ 4096 → slice_get u.pages frame ≡ Some (Some old)
     → whole page ≡ written (whole old) (a % 4096) bytes
     → copied_out (in_world w s T) t a bytes ≡ in_world w (with_home u frame page) T
-stretch_written w s u T t a frame old page bytes has is some within home wrote =
+stretch_written w {s} {u} {T} {t} {a} {frame} {old} page bytes has is some within home wrote =
     let v : Held = with_open s frame t Store in
     let open_now : IsOpen w s v T t a Store has.entry = is_open w s T t a Store frame has in
     let here : slice_get v.pages frame ≡ Some (Some old) =

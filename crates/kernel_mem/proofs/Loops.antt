@@ -1,6 +1,7 @@
 -- A space copied entry by entry.
 use Rattle.std.proofs.Common.{◌≡◌, ◌≢◌, ℕ, zero, suc, ◌+◌, ◌<◌, false, cond, inl, inr, List, []}
-use Rattle.std.proofs.Common.{◌∷◌, ◌++◌, length, get_or, take, map, Option, Some, None, IsSome}
+use Rattle.std.proofs.Common.{◌∷◌, ◌++◌, length, get_or, slice_get, take, map, Option, Some, None}
+use Rattle.std.proofs.Common.{IsSome}
 use Rattle.std.proofs.Common.{IfSome, option_map, option_and_then, length-append, refl, sym, ap}
 use Rattle.std.proofs.Common.{subst, ◌∙◌, arith}
 use Rattle.std.specs.Prelude.{◌==◌, nat_lt, find}
@@ -8,6 +9,7 @@ use Rattle.std.proofs.lemmas.Bool.{cases_eq}
 use Rattle.std.proofs.lemmas.Bool.Decides.{nat_tests}
 use Rattle.std.proofs.lemmas.List.{length-map, get_or-map, take_more, get_or_append_left}
 use Rattle.std.proofs.lemmas.List.Sums.{sum_by-append, sum_by-cons}
+use Rattle.std.proofs.lemmas.Option.{get_or_from_slice_get}
 use Rattle.dos_world.specs.declared.Entry.{Entry}
 use Rattle.dos_world.specs.Numbered.{changed, changed_at}
 use Rattle.dos_world.proofs.Numbers.{changed_other}
@@ -22,6 +24,7 @@ use Rattle.proc_table.proofs.Standing.{spaced_by}
 use Rattle.kernel_mem.specs.Memory.{entries_of}
 use Rattle.kernel_mem.specs.MemoryWorld.{in_world, space_in, HasAllHome}
 use Rattle.kernel_mem.specs.Forking.{entry_copied, IsUsedMore, taken_by, with_space}
+use Rattle.kernel_mem.proofs.Copies.{private-more}
 
 -- ---- what processes have, changed
 
@@ -248,92 +251,121 @@ rises es k sorted h =
     get_or-map (λ (e : ℕ × Entry). e.0) es (k + 1) (0, no_page) 0 (omega arith) in
     omega (arith, sorted k (omega arith))
 
-module _ (s0 s s1 : Store) (old_table T next_table : Tables) (pid child tid i : ℕ) (e : ℕ × Entry)
-    (copy : Entry)
-    (sorted : IsRising (space_in old_table pid)) (alive : IsProcess old_table.processes child)
-    (so_far : IsCopying s0 old_table pid child tid i s T)
-    (within : i < length (space_in old_table pid))
-    (here : get_or (space_in old_table pid) i (0, no_page) ≡ e) where
-  pub child-lives : IsProcess T.processes child
-  child-lives = still-live (with_space (space_in T child)) T old_table child so_far.table alive
+-- the entry of a process that is copied next
+pub record IsNextEntry (old_table : Tables) (pid i : ℕ) (e : ℕ × Entry) : Type 0 where
+  pub within : i < length (space_in old_table pid)
+  pub found : slice_get (space_in old_table pid) i ≡ Some e
+  pub here : get_or (space_in old_table pid) i (0, no_page) ≡ e
+  pub sorted : IsRising (space_in old_table pid)
 
-  page-here : page_at (space_in old_table pid) i ≡ e.0
-  page-here = ap (λ (x : ℕ × Entry). x.0) here
+module _ {s0 s : Store} {old_table T : Tables} {pid child tid i : ℕ}
+    (so_far : IsCopying s0 old_table pid child tid i s T) where
+  -- it is read from the space as it was and as it is lent while the copy grows
+  pub next_entry : (first now : List (ℕ × Entry)) {e : ℕ × Entry} → pid ≢ child
+      → IsProcess old_table.processes pid
+      → IfSome (held_in old_table.processes pid) (λ h. first ≡ h.space) → IsRising first
+      → i < length first → IfSome (held_in T.processes pid) (λ h. now ≡ h.space)
+      → slice_get now i ≡ Some e → IsNextEntry old_table pid i e
+  next_entry first now {e} apart alive is rising low lent at =
+      let same : first ≡ space_in old_table pid = space-is old_table pid first alive is in
+      let found : slice_get (space_in old_table pid) i ≡ Some e =
+      ap (λ (es : List (ℕ × Entry)). slice_get es i)
+      (sym (lent-space (with_space (space_in T child)) T old_table pid child now so_far.table
+      apart alive lent)) ∙ at in
+      record {
+        within = omega (arith, ap length same);
+        found = found;
+        here = get_or_from_slice_get (space_in old_table pid) i e (0, no_page) found;
+        sorted = subst IsRising same rising;
+      }
 
-  pub pages-below : (k : ℕ) → k < length (space_in T child) → page_at (space_in T child) k < e.0
-  pages-below k h = omega
-      (arith, page-here, so_far.below within k (omega (arith, so_far.length_is)))
+  module _ {e : ℕ × Entry} (next : IsNextEntry old_table pid i e)
+      (alive : IsProcess old_table.processes child) where
+    child-lives : IsProcess T.processes child
+    child-lives = still-live (with_space (space_in T child)) T old_table child so_far.table alive
 
-  module _ (put_is : next_table ≡ held_by (with_entry e.0 copy) T child)
-      (copied : (w : World) (U : Tables)
-      → entry_copied (in_world w s U) tid e.1 ≡ (in_world w s1 U, copy))
-      (more : IsUsedMore s copy.frame s1) (free : free_count s1 + taken_by e.1 ≡ free_count s)
-      (private : private_entries (take (i + 1) (space_in old_table pid))
-      ≡ private_entries (take i (space_in old_table pid)) + taken_by e.1) where
-    space-now : space_in next_table child ≡ space_in T child ++ (e.0, copy) ∷ []
-    space-now = space-changed (put e.0 copy) T next_table child child-lives put_is
-        ∙ put-last (space_in T child) e.0 copy pages-below
+    page-here : page_at (space_in old_table pid) i ≡ e.0
+    page-here = ap (λ (x : ℕ × Entry). x.0) next.here
 
-    pub copying-more : IsCopying s0 old_table pid child tid (i + 1) s1 next_table
-    copying-more = record {
-      table = table-changed (put e.0 copy) T next_table old_table child (space_in T child)
-          so_far.table put_is
-          ∙ ap (λ (es : List (ℕ × Entry)). held_by (with_space es) old_table child)
-          (put-last (space_in T child) e.0 copy pages-below ∙ sym space-now);
-      copies = λ w U.
-          ap (copied_space (in_world w s0 U) tid)
-          (take_more (space_in old_table pid) i (0, no_page) within
-          ∙ ap (λ (x : ℕ × Entry). take i (space_in old_table pid) ++ x ∷ []) here)
-          ∙ copied-step (in_world w s0 U) (in_world w s U) (in_world w s1 U) tid
-          (take i (space_in old_table pid)) (space_in T child) e copy (so_far.copies w U)
-          (copied w U)
-          ∙ ap (λ (es : List (ℕ × Entry)). pair (in_world w s1 U) es) (sym space-now);
-      home = more.home;
-      count = more.count ∙ so_far.count;
-      uses = λ f. more.uses f
-          ∙ omega (
-            arith,
-            so_far.uses f,
-            entries-append (space_in T child) (e.0, copy) f,
-            ap (λ (es : List (ℕ × Entry)). entries_of es f) space-now,
-          );
-      taken = λ f h. more.taken f (so_far.taken f h);
-      length_is = ap length space-now ∙ length-append (space_in T child) ((e.0, copy) ∷ [])
-          ∙ omega (arith, so_far.length_is);
-      below = λ h k l. ap-below h k l;
-      free = omega (arith, so_far.free, free, private);
-    }
-      where
-        pair : World → List (ℕ × Entry) → World × List (ℕ × Entry)
-        pair x ys = (x, ys)
+    pub pages-below : (k : ℕ) → k < length (space_in T child) → page_at (space_in T child) k < e.0
+    pages-below k h = omega
+        (arith, page-here, so_far.below next.within k (omega (arith, so_far.length_is)))
 
-        ap-below : i + 1 < length (space_in old_table pid) → (k : ℕ) → k < i + 1
-            → page_at (space_in next_table child) k < page_at (space_in old_table pid) (i + 1)
-        ap-below h k l =
-            let next : page_at (space_in old_table pid) i < page_at (space_in old_table pid)
-            (i + 1) =
-            rises (space_in old_table pid) i sorted h in
-            let now : page_at (space_in next_table child) k
-            ≡ page_at (space_in T child ++ (e.0, copy) ∷ []) k =
-            ap (λ (es : List (ℕ × Entry)). page_at es k) space-now in
-            elim (cases_eq k i) [
-              | inl same ↦
-                  omega (
-                    arith,
-                    now,
-                    ap (page_at (space_in T child ++ (e.0, copy) ∷ [])) same,
-                    page-last (space_in T child) (e.0, copy) i so_far.length_is,
-                    page-here,
-                  )
-              | inr other ↦
-                  omega (
-                    arith,
-                    now,
-                    page-more (space_in T child) (e.0, copy) k i so_far.length_is
-                        (omega arith),
-                    so_far.below within k (omega arith),
-                  )
-            ]
+    module _ {s1 : Store} {next_table : Tables} (copy : Entry)
+        (put_is : next_table ≡ held_by (with_entry e.0 copy) T child)
+        (copied : (w : World) (U : Tables)
+        → entry_copied (in_world w s U) tid e.1 ≡ (in_world w s1 U, copy))
+        (more : IsUsedMore s copy.frame s1)
+        (free : free_count s1 + taken_by e.1 ≡ free_count s) where
+      space-now : space_in next_table child ≡ space_in T child ++ (e.0, copy) ∷ []
+      space-now = space-changed (put e.0 copy) T next_table child child-lives put_is
+          ∙ put-last (space_in T child) e.0 copy pages-below
+
+      pub copying-more : IsCopying s0 old_table pid child tid (i + 1) s1 next_table
+      copying-more = record {
+        table = table-changed (put e.0 copy) T next_table old_table child (space_in T child)
+            so_far.table put_is
+            ∙ ap (λ (es : List (ℕ × Entry)). held_by (with_space es) old_table child)
+            (put-last (space_in T child) e.0 copy pages-below ∙ sym space-now);
+        copies = λ w U.
+            ap (copied_space (in_world w s0 U) tid)
+            (take_more (space_in old_table pid) i (0, no_page) next.within
+            ∙ ap (λ (x : ℕ × Entry). take i (space_in old_table pid) ++ x ∷ []) next.here)
+            ∙ copied-step (in_world w s0 U) (in_world w s U) (in_world w s1 U) tid
+            (take i (space_in old_table pid)) (space_in T child) e copy (so_far.copies w U)
+            (copied w U)
+            ∙ ap (λ (es : List (ℕ × Entry)). pair (in_world w s1 U) es) (sym space-now);
+        home = more.home;
+        count = more.count ∙ so_far.count;
+        uses = λ f. more.uses f
+            ∙ omega (
+              arith,
+              so_far.uses f,
+              entries-append (space_in T child) (e.0, copy) f,
+              ap (λ (es : List (ℕ × Entry)). entries_of es f) space-now,
+            );
+        taken = λ f h. more.taken f (so_far.taken f h);
+        length_is = ap length space-now ∙ length-append (space_in T child) ((e.0, copy) ∷ [])
+            ∙ omega (arith, so_far.length_is);
+        below = λ h k l. ap-below h k l;
+        free = omega (
+          arith,
+          so_far.free,
+          free,
+          private-more (space_in old_table pid) i e next.within next.here,
+        );
+      }
+        where
+          pair : World → List (ℕ × Entry) → World × List (ℕ × Entry)
+          pair x ys = (x, ys)
+
+          ap-below : i + 1 < length (space_in old_table pid) → (k : ℕ) → k < i + 1
+              → page_at (space_in next_table child) k < page_at (space_in old_table pid) (i + 1)
+          ap-below h k l =
+              let after : page_at (space_in old_table pid) i < page_at (space_in old_table pid)
+              (i + 1) =
+              rises (space_in old_table pid) i next.sorted h in
+              let now : page_at (space_in next_table child) k
+              ≡ page_at (space_in T child ++ (e.0, copy) ∷ []) k =
+              ap (λ (es : List (ℕ × Entry)). page_at es k) space-now in
+              elim (cases_eq k i) [
+                | inl same ↦
+                    omega (
+                      arith,
+                      now,
+                      ap (page_at (space_in T child ++ (e.0, copy) ∷ [])) same,
+                      page-last (space_in T child) (e.0, copy) i so_far.length_is,
+                      page-here,
+                    )
+                | inr other ↦
+                    omega (
+                      arith,
+                      now,
+                      page-more (space_in T child) (e.0, copy) k i so_far.length_is
+                          (omega arith),
+                      so_far.below next.within k (omega arith),
+                    )
+              ]
 
 same-space : (ps : List Process) (p : ℕ) (es : List (ℕ × Entry))
     → IfSome (held_in ps p) (λ h. es ≡ h.space) → changed (on_holdings (with_space es)) ps p ≡ ps

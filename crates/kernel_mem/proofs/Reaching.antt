@@ -1,14 +1,14 @@
 -- What an access of a byte reaches, by the entry of its page, and the frame that is granted for it.
 use Rattle.std.proofs.Common.{◌≡◌, ℕ, zero, suc, ◌+◌, ◌-◌, ◌*◌, ◌/◌, ◌%◌, ◌<◌, ◌≤◌, Bool, true}
 use Rattle.std.proofs.Common.{false, not, cond, List, [], length, get_or-set_same, Option, Some}
-use Rattle.std.proofs.Common.{None, IfSome, refl, sym, ap, ◌∙◌, arith, eq-eqb}
+use Rattle.std.proofs.Common.{None, refl, sym, ap, ◌∙◌, arith, eq-eqb}
 use Rattle.std.specs.Prelude.{◌&&◌, ◌==◌, slice_get}
 use Rattle.dos_world.specs.declared.Owner.TheVariants.{Free}
 use Rattle.dos_world.specs.declared.Entry.{Entry}
 use Rattle.dos_world.specs.declared.Access.{Access}
 use Rattle.dos_world.specs.declared.Access.TheVariants.{Fetch, Load, Store, Claim}
 use Rattle.dos_world.specs.declared.Size.TheVariants.{Byte}
-use Rattle.dos_world.specs.World.{World, is_free, look, entry_at, owner_of, space_of, thread_at}
+use Rattle.dos_world.specs.World.{World, look, entry_at, owner_of, space_of, thread_at}
 use Rattle.dos_world.specs.Reach.{reach, in_frame, has_right, is_foreign, grant, granted, Reached}
 use Rattle.dos_world.specs.Reach.{fault, foreign, at}
 use Rattle.dos_world.specs.Kernel.{all_reach, is_reached, opened, place_of}
@@ -16,8 +16,8 @@ use Rattle.proc_table.specs.Tables.{Tables}
 use Rattle.page_store.specs.Store.{Store as Held, owner_at, with_grant}
 use Rattle.page_store.proofs.Joined.{home-at}
 use Rattle.page_store.proofs.Counts.{owned-within}
-use Rattle.kernel_mem.specs.MemoryWorld.{in_world, NamesUsedFrames, HasAllHome, entry_in}
-use Rattle.kernel_mem.specs.MemoryWorld.{is_allowed, with_open}
+use Rattle.kernel_mem.specs.MemoryWorld.{in_world, HasFrame, NamesUsedFrames, HasAllHome}
+use Rattle.kernel_mem.specs.MemoryWorld.{entry_in, is_allowed, with_open}
 
 -- ---- one byte
 
@@ -211,50 +211,23 @@ stretch_allowed s T t a n access some within all =
 
 -- ---- the frame of an address
 
--- Where an access is allowed, the frame of its page is one of the frames, and isn't Free.
-pub record HasFrame (T : Tables) (s : Held) (t a : ℕ) (access : Access) (frame : ℕ) : Type 0 where
-  pub entry : Entry
-  pub found : entry_in T t a ≡ Some entry
-  pub frame_is : entry.frame ≡ frame
-  pub right : has_right access entry ≡ true
-  pub owned : is_free (owner_at s frame) ≡ false
-  pub within : frame < length s.owners
-
-pub frame_of : (T : Tables) (s : Held) (t a : ℕ) (access : Access) (frame : ℕ)
+pub frame_of : (T : Tables) (s : Held) (t a : ℕ) (access : Access) (e : Entry)
     → NamesUsedFrames T s t → is_allowed access (entry_in T t a) ≡ true
-    → IfSome (entry_in T t a) (λ e. frame ≡ e.frame)
-    → HasFrame T s t a access frame
-frame_of T s t a access frame mapped allowed same = by (entry_in T t a) refl allowed same
-  where
-    by : (o : Option Entry) → entry_in T t a ≡ o → is_allowed access o ≡ true
-        → IfSome o (λ e. frame ≡ e.frame) → HasFrame T s t a access frame
-    by None found allowed same = cc
-    by (Some e) found allowed same =
-        let owned : is_free (owner_at s frame) ≡ false = ap (λ f. is_free (owner_at s f)) same
-        ∙ mapped a e found in
-        record {
-          entry = e;
-          found = found;
-          frame_is = sym same;
-          right = allowed;
-          owned = owned;
-          within = owned-within s.owners frame owned;
-        }
-
--- the same for a stretch of a page that is reached
-pub frame_reached : (T : Tables) (s : Held) (t a n : ℕ) (access : Access) (frame : ℕ)
-    → NamesUsedFrames T s t → 0 < n → a % 4096 + n ≤ 4096
-    → ((w : World) → all_reach (in_world w s T) t a n access ≡ true)
-    → IfSome (entry_in T t a) (λ e. frame ≡ e.frame)
-    → HasFrame T s t a access frame
-frame_reached T s t a n access frame mapped some within all same =
-    frame_of T s t a access frame mapped (stretch_allowed s T t a n access some within all) same
+    → entry_in T t a ≡ Some e → HasFrame T s t a access e.frame
+frame_of T s t a access e mapped allowed found = record {
+  entry = e;
+  found = found;
+  frame_is = refl;
+  right = ap (is_allowed access) (sym found) ∙ allowed;
+  owned = mapped a e found;
+  within = owned-within s.owners e.frame (mapped a e found);
+}
 
 -- an address's page is granted in the world as in the frames
-pub opened_world : (w : World) (s : Held) (T : Tables) (t a : ℕ) (access : Access) (frame : ℕ)
+pub opened_world : (w : World) {s : Held} {T : Tables} {t a : ℕ} {access : Access} {frame : ℕ}
     → HasFrame T s t a access frame
     → opened (in_world w s T) t a access ≡ in_world w (with_open s frame t access) T
-opened_world w s T t a access frame has =
+opened_world w {s} {T} {t} {a} {access} {frame} has =
     opened_here (in_world w s T) t a access has.entry
     (is_foreign t access (owner_at s has.entry.frame)) has.found has.right refl
     ∙ by has.entry.frame (is_foreign t access (owner_at s has.entry.frame))
@@ -303,7 +276,7 @@ is_open w s T t a access frame has =
       found = has.found;
       right = has.right;
       own = own;
-      first = opened_world w s T t a access frame has;
+      first = opened_world w has;
       again = opened_here (in_world w (with_open s frame t access) T) t a access has.entry false
           has.found has.right own;
     }
@@ -317,10 +290,10 @@ opened-pages s frame t access = by (is_foreign t access (owner_at s frame))
     by false = refl
 
 -- the page of a frame that was opened is home
-pub opened-home : (s u : Held) (T : Tables) (t a : ℕ) (access : Access) (frame : ℕ)
+pub opened-home : {s u : Held} {T : Tables} {t a : ℕ} {access : Access} {frame : ℕ}
     → HasFrame T s t a access frame → HasAllHome s → u ≡ with_open s frame t access
     → (page : List ℕ) × (slice_get u.pages frame ≡ Some (Some page))
-opened-home s u T t a access frame has home is =
+opened-home {s} {u} {T} {t} {a} {access} {frame} has home is =
     let page = home-at s.pages frame home.home (omega (arith, home.owners, has.within)) in (
       page.0,
       ap (λ (x : Held). slice_get x.pages frame) is

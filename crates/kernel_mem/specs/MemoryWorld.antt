@@ -1,5 +1,6 @@
 -- Frames and a table set into a world. This project's own rules.
-use Rattle.std.specs.Prelude.{◌≡◌, ◌⊎◌, ◌/◌, ℕ, Bool, List, [], length, false, Option, None, Some}
+use Rattle.std.specs.Prelude.{◌≡◌, ◌⊎◌, ◌/◌, ◌<◌, ℕ, Bool, List, [], length, true, false, Option}
+use Rattle.std.specs.Prelude.{None, Some}
 use Rattle.std.specs.Prelude.{IsSome, IfSome, All, slice_index_or, if◌then◌else◌}
 use Rattle.dos_world.specs.World.{World, is_free, look}
 use Rattle.dos_world.specs.Reach.{has_right, is_foreign}
@@ -57,6 +58,17 @@ pub record IsCaller (table : Tables) (t : ℕ) : Type 0 where
 abbrev pub NamesUsedFrames : Tables → Store → ℕ → Type 0
 NamesUsedFrames table s t = (address : ℕ) (e : Entry) → entry_in table t address ≡ Some e
     → is_free (slice_index_or s.owners e.frame Free) ≡ false
+
+-- Where t's access of an address is allowed, the frame of its page is one of the frames, and isn't
+-- Free.
+pub record HasFrame (table : Tables) (s : Store) (t address : ℕ) (access : Access)
+    (frame : ℕ) : Type 0 where
+  pub entry : Entry
+  pub found : entry_in table t address ≡ Some entry
+  pub frame_is : entry.frame ≡ frame
+  pub right : has_right access entry ≡ true
+  pub owned : is_free (owner_at s frame) ≡ false
+  pub within : frame < length s.owners
 
 -- all pages are home, each with an owner
 pub record HasAllHome (s : Store) : Type 0 where

@@ -1,10 +1,10 @@
 // The bytes that a service reads from its caller's memory or writes to it.
-ghost use Rattle.std.specs.Prelude.{◌≡◌, ◌<◌, ◌≤◌, ◌+◌, ◌%◌, ◌^◌, true, false, ℕ, IfSome, is_ok};
+ghost use Rattle.std.specs.Prelude.{◌≡◌, ◌<◌, ◌≤◌, ◌+◌, ◌%◌, ◌^◌, true, false, ℕ, is_ok};
 ghost use Rattle.std.specs.Prelude.{length, OnErr, Err, if◌then◌else◌};
 ghost use Rattle.dos_world.specs.World.{World};
 ghost use Rattle.dos_world.specs.Kernel.{all_reach, copied_in, copied_out};
 ghost use Rattle.kernel_mem.specs.MemoryWorld.{in_world, entry_in, is_allowed, with_open, IsCaller};
-ghost use Rattle.kernel_mem.specs.MemoryWorld.{HasAllHome, NamesUsedFrames, KeepsUses, KeepsOthers};
+ghost use Rattle.kernel_mem.specs.MemoryWorld.{HasAllHome, HasFrame, NamesUsedFrames, KeepsUses, KeepsOthers};
 ghost use Rattle.page_store.specs.Store.{Store as Held};
 
 use dos_world::errors::EFAULT;
@@ -158,7 +158,7 @@ pub(crate) fn open(
     requires address { address < 2 ^ 33 }
     requires mapped { NamesUsedFrames table.now frames.old tid }
     requires allowed { is_allowed access (entry_in table.now tid address) ≡ true }
-    ensures frame { IfSome (entry_in table.now tid address) (λ e. result ≡ e.frame) }
+    ensures has { HasFrame table.now frames.old tid address access result }
     ensures opens { frames.new ≡ with_open frames.old result tid access }
 {
     match entry_of(table, tid, address) {

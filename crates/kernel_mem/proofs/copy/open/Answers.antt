@@ -1,12 +1,18 @@
-use Rattle.std.proofs.Common.{◌≡◌}
-use Rattle.std.specs.Prelude.{Some}
+use Rattle.std.proofs.Common.{sym}
 use Rattle.page_store.proofs.Counts.{owned-within}
-use Rattle.kernel_mem.specs.MemoryWorld.{entry_in}
+use Rattle.kernel_mem.proofs.Reaching.{frame_of}
 use Rattle.kernel_mem.proofs.copy.open.Goals as goal
 
 pub owner-requires : goal.owner-requires
-owner-requires c =
-    let found : entry_in c.args.table.now c.args.tid c.args.address ≡ Some c.in-Some.entry =
-    cc (c.in-Some.ensures) in
-    owned-within c.args.frames.now.owners c.in-Some.entry.frame
-    (c.requires.mapped c.args.address c.in-Some.entry found)
+owner-requires c = owned-within c.args.frames.now.owners c.in-Some.entry.frame
+    (c.requires.mapped c.args.address c.in-Some.entry (sym c.in-Some.ensures))
+
+pub returns-then-is_foreign-clause-has : goal.returns-then-is_foreign-clause-has
+returns-then-is_foreign-clause-has c = frame_of c.args.table.now c.args.frames.now c.args.tid
+    c.args.address c.args.access c.in-Some.entry c.requires.mapped c.requires.allowed
+    (sym c.in-Some.ensures)
+
+pub returns-else-is_foreign-clause-has : goal.returns-else-is_foreign-clause-has
+returns-else-is_foreign-clause-has c = frame_of c.args.table.now c.args.frames.now c.args.tid
+    c.args.address c.args.access c.in-Some.entry c.requires.mapped c.requires.allowed
+    (sym c.in-Some.ensures)

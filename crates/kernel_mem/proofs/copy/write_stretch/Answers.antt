@@ -1,7 +1,7 @@
 use Rattle.std.proofs.Common.{◌<◌, length, arith}
 use Rattle.std.proofs.lemmas.Bool.Decides.{nat_tests}
 use Rattle.dos_world.specs.declared.Access.TheVariants.{Store}
-use Rattle.kernel_mem.proofs.Reaching.{stretch_allowed, HasFrame, frame_reached, opened-home}
+use Rattle.kernel_mem.proofs.Reaching.{opened-home, stretch_allowed}
 use Rattle.kernel_mem.proofs.Copying.{stretch_written}
 use Rattle.kernel_mem.proofs.Keeping.{written-others}
 use Rattle.kernel_mem.proofs.copy.write_stretch.Goals as goal
@@ -15,38 +15,16 @@ open-frame-requires-clause-allowed c =
 
 pub lend_mut-requires : goal.lend_mut-requires
 lend_mut-requires c =
-    let some : 0 < length c.args.part.now =
-    grind (arith, nat_tests, c.is_empty.ensures, c.if-is_empty.false) in
-    let has : HasFrame c.args.table.now c.args.frames.now c.args.tid c.args.address Store
-    c.open-frame.result =
-    frame_reached c.args.table.now c.args.frames.now c.args.tid c.args.address
-    (length c.args.part.now) Store c.open-frame.result c.requires.mapped some
-    c.requires.within c.requires.checked c.open-frame.ensures.frame in
-    opened-home c.args.frames.now c.open-frame.new.frames c.args.table.now c.args.tid c.args.address
-    Store c.open-frame.result has c.requires.home c.open-frame.ensures.opens
+    opened-home c.open-frame.ensures.has c.requires.home c.open-frame.ensures.opens
 
 pub returns-clause-copies : goal.returns-clause-copies
 returns-clause-copies c = λ w.
     let some : 0 < length c.args.part.now =
     grind (arith, nat_tests, c.is_empty.ensures, c.if-is_empty.false) in
-    let has : HasFrame c.args.table.now c.args.frames.now c.args.tid c.args.address Store
-    c.open-frame.result =
-    frame_reached c.args.table.now c.args.frames.now c.args.tid c.args.address
-    (length c.args.part.now) Store c.open-frame.result c.requires.mapped some
-    c.requires.within c.requires.checked c.open-frame.ensures.frame in
-    stretch_written w c.args.frames.now c.open-frame.new.frames c.args.table.now c.args.tid
-    c.args.address c.open-frame.result c.lend_mut.result.now c.copy_from.new.self
-    c.args.part.now has c.open-frame.ensures.opens some c.requires.within
-    c.lend_mut.ensures.page c.copy_from.ensures
+    stretch_written w c.copy_from.new.self c.args.part.now c.open-frame.ensures.has
+    c.open-frame.ensures.opens some c.requires.within c.lend_mut.ensures.page c.copy_from.ensures
 
 pub returns-clause-stays : goal.returns-clause-stays
-returns-clause-stays c =
-    let some : 0 < length c.args.part.now =
-    grind (arith, nat_tests, c.is_empty.ensures, c.if-is_empty.false) in
-    let has : HasFrame c.args.table.now c.args.frames.now c.args.tid c.args.address Store
-    c.open-frame.result =
-    frame_reached c.args.table.now c.args.frames.now c.args.tid c.args.address
-    (length c.args.part.now) Store c.open-frame.result c.requires.mapped some
-    c.requires.within c.requires.checked c.open-frame.ensures.frame in
-    written-others c.args.frames.now c.open-frame.new.frames c.open-frame.result c.args.tid
-    c.copy_from.new.self c.requires.home has.owned c.open-frame.ensures.opens
+returns-clause-stays c = written-others c.args.frames.now c.open-frame.new.frames
+    c.open-frame.result c.args.tid c.copy_from.new.self c.requires.home
+    c.open-frame.ensures.has.owned c.open-frame.ensures.opens

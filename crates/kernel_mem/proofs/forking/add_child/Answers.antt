@@ -1,6 +1,5 @@
 use Rattle.std.proofs.Common.{◌≡◌, ◌+◌, ℕ, length, refl, ap}
-use Rattle.proc_table.specs.Tables.{IsProcess, thread_in}
-use Rattle.kernel_mem.proofs.Children.{child-added, child-begins, of-process}
+use Rattle.kernel_mem.proofs.Children.{caller_lives, child-added, child-begins}
 use Rattle.kernel_mem.proofs.forking.add_child.Goals as goal
 
 pub returns-clause-begins : goal.returns-clause-begins
@@ -14,6 +13,4 @@ returns-clause-begins c =
     c.signals-signals.ensures.saved
     (child-added c.args.table.now c.add_process.new.self c.copy_held.new.self c.args.pid
     c.in-Ok.child _ c.in-Ok.ensures.begins number
-    (of-process (λ p. IsProcess c.args.table.now.processes p)
-    (thread_in c.args.table.now.threads c.args.tid) c.args.pid c.requires.caller.thread
-    c.requires.process c.requires.caller.process) c.copy_held.ensures)
+    (caller_lives c.requires.caller c.args.pid c.requires.process) c.copy_held.ensures)

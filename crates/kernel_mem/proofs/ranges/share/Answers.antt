@@ -2,19 +2,17 @@ use Rattle.std.proofs.Common.{◌≡◌, ℕ, true, false, Result, Ok, Err, sym,
 use Rattle.std.specs.Prelude.{◌/◌}
 use Rattle.dos_world.specs.World.{World}
 use Rattle.dos_world.specs.MemoryCalls.{shared}
-use Rattle.proc_table.specs.Tables.{IsProcess, thread_in}
+use Rattle.proc_table.specs.Tables.{thread_in}
 use Rattle.page_store.specs.Store.{Store}
 use Rattle.kernel_mem.specs.MemoryWorld.{in_world, space_in}
 use Rattle.kernel_mem.specs.Ranges.{are_range, maps_all, range_call}
-use Rattle.kernel_mem.proofs.Children.{of-process, to-process}
+use Rattle.kernel_mem.proofs.Children.{caller_lives, to-process}
 use Rattle.kernel_mem.proofs.Runs.{where_is}
 use Rattle.kernel_mem.proofs.ranges.share.Goals as goal
 
 pub is_mapped_range-requires : goal.is_mapped_range-requires
 is_mapped_range-requires c =
-    of-process (λ p. IsProcess c.args.table.now.processes p)
-    (thread_in c.args.table.now.threads c.args.tid) c.process_of-pid.result
-    c.requires.caller.thread c.process_of-pid.ensures c.requires.caller.process
+    caller_lives c.requires.caller c.process_of-pid.result c.process_of-pid.ensures
 
 pub returns-then-not-is_mapped_range-clause-shares :
     goal.returns-then-not-is_mapped_range-clause-shares
