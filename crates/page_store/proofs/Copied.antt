@@ -1,17 +1,15 @@
 -- A page copied into another frame.
-use Rattle.std.proofs.Common.{◌≡◌, ◌≢◌, ℕ, zero, suc, Bool, true, false, List, [], ◌∷◌, length}
-use Rattle.std.proofs.Common.{get_or, set, Option, Some, None, refl, sym, ap, ◌∙◌, arith}
+use Rattle.std.proofs.Common.{◌≡◌, ◌≢◌, ℕ, zero, suc, true, false, List, [], ◌∷◌}
+use Rattle.std.proofs.Common.{get_or, set, Option, Some, None, refl, sym, ap, ◌∙◌}
 use Rattle.std.specs.Prelude.{position}
-use Rattle.std.proofs.lemmas.List.{length-map, get_or-set_other}
+use Rattle.std.proofs.lemmas.List.{get_or-set_other}
 use Rattle.std.proofs.lemmas.List.Quantifiers.{position-Some}
 use Rattle.std.proofs.lemmas.Option.{get_or_from_slice_get}
-use Rattle.std.proofs.Math.ListN.{get_or-map}
-use Rattle.std.proofs.lemmas.Bool.Decides.{nat_tests}
 use Rattle.dos_world.specs.World.{is_free}
 use Rattle.dos_world.specs.Reach.{written}
 use Rattle.dos_world.specs.declared.Owner.{Owner}
 use Rattle.dos_world.specs.declared.Owner.TheVariants.{Free}
-use Rattle.page_store.specs.Store.{IsHomeIn, AreTallied, IsPageCopied, is_unused, shown, whole}
+use Rattle.page_store.specs.Store.{IsHomeIn, IsPageCopied, shown, whole}
 use Rattle.page_store.proofs.Pages.{length-whole}
 use Rattle.page_store.proofs.Joined.{written-whole}
 
@@ -36,17 +34,6 @@ copied-page pages from to away here page new source apart home read is wrote = r
       ∙ sym (get_or_from_slice_get pages from (Some home.0) None home.1));
 }
 
--- a Free frame has no use
-pub unused-at : (count : ℕ) (owners : List Owner) (uses : List ℕ) (free : ℕ)
-    (frames : List Bool) (i : ℕ)
-    → AreTallied count owners uses free frames → position is_free owners ≡ Some i
-    → get_or uses i 0 ≡ 0
-unused-at count owners uses free frames i kept found =
-    let at = position-Some is_free owners i Free found in
-    let none : is_unused (get_or uses i 0) ≡ true = sym (get_or-map is_unused uses i 0)
-    ∙ ap (λ bs. get_or bs i true) (sym kept.agree) ∙ get_or-map is_free owners i Free ∙ at.1 in
-    grind (arith, nat_tests)
-
 -- what isn't Free isn't the lowest that is
 pub owned-apart : (owners : List Owner) (from i : ℕ) → is_free (get_or owners from Free) ≡ false
     → position is_free owners ≡ Some i → from ≢ i
@@ -55,9 +42,3 @@ owned-apart owners from i owned found e =
     let free : is_free (get_or owners from Free) ≡ true = ap (λ k. is_free (get_or owners k Free)) e
     ∙ at.1 in
     cc
-
--- a use for each owner
-pub uses-each : (count : ℕ) (owners : List Owner) (uses : List ℕ) (free : ℕ) (frames : List Bool)
-    → AreTallied count owners uses free frames → length uses ≡ length owners
-uses-each count owners uses free frames kept =
-    sym (length-map uses is_unused) ∙ ap length (sym kept.agree) ∙ length-map owners is_free

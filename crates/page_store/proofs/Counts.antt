@@ -116,10 +116,6 @@ position-frames owners frames are =
     ∙ ap (λ n. cond (nat_lt (position_or_len is_free owners) n)
     (Some (position_or_len is_free owners)) None) (length-map owners is_free)
 
-pub length-frames : (owners : List Owner) (frames : List Bool) → frames ≡ map is_free owners
-    → length frames ≡ length owners
-length-frames owners frames are = ap (λ (bs : List Bool). length bs) are ∙ length-map owners is_free
-
 -- the list follows a change of one owner
 frames-set : (owners : List Owner) (frames : List Bool) (i : ℕ) (y : Owner) (b : Bool)
     → frames ≡ map is_free owners → is_free y ≡ b → set frames i b ≡ map is_free (set owners i y)
@@ -149,12 +145,12 @@ agree-uses bs uses i v e h =
     ∙ ap (λ b. set (map is_unused uses) i b) (sym h ∙ sym (get_or-map is_unused uses i 0))
     ∙ set-get_or (map is_unused uses) i true)
 
-pub kept-granted : (count : ℕ) (owners : List Owner) (uses : List ℕ) (free : ℕ)
-    (frames : List Bool) (i : ℕ) (y : Owner)
+pub kept-granted : {count : ℕ} {owners : List Owner} {uses : List ℕ} {free : ℕ}
+    {frames : List Bool} (i : ℕ) (y : Owner)
     → AreTallied count owners uses free frames → is_free (get_or owners i Free) ≡ false
     → is_free y ≡ false
     → AreTallied count (set owners i y) uses free frames
-kept-granted count owners uses free frames i y k e n = record {
+kept-granted {count} {owners} {uses} {free} {frames} i y k e n = record {
   few = k.few;
   each = length-set owners i y ∙ k.each;
   agree = agree-owner owners (map is_unused uses) i y k.agree (e ∙ sym n);
@@ -162,11 +158,11 @@ kept-granted count owners uses free frames i y k e n = record {
   frames_are = k.frames_are ∙ sym (agree-owner owners (map is_free owners) i y refl (e ∙ sym n));
 }
 
-pub kept-uses : (count : ℕ) (owners : List Owner) (uses : List ℕ) (free : ℕ)
-    (frames : List Bool) (i v : ℕ)
+kept-uses : {count : ℕ} {owners : List Owner} {uses : List ℕ} {free : ℕ}
+    {frames : List Bool} (i v : ℕ)
     → AreTallied count owners uses free frames → is_unused (get_or uses i 0) ≡ is_unused v
     → AreTallied count owners (set uses i v) free frames
-kept-uses count owners uses free frames i v k e = record {
+kept-uses {count} {owners} {uses} {free} {frames} i v k e = record {
   few = k.few;
   each = k.each;
   agree = agree-uses (map is_free owners) uses i v k.agree e;
@@ -174,39 +170,54 @@ kept-uses count owners uses free frames i v k e = record {
   frames_are = k.frames_are;
 }
 
-pub kept-fresh : (count : ℕ) (owners : List Owner) (uses : List ℕ) (free : ℕ)
-    (frames : List Bool) (i new_count : ℕ)
-    (y : Owner) (new : List Bool) → AreTallied count owners uses free frames
-    → position is_free owners ≡ Some i → is_free y ≡ false → new_count ≡ count
-    → new ≡ set frames i false
-    → AreTallied new_count (set owners i y) (set uses i 1) (free - 1) new
-kept-fresh count owners uses free frames i new_count y new k e n c m =
-    let found = position-Some is_free owners i Free e in
-    record {
-      few = omega (arith, k.few);
-      each = length-set owners i y ∙ k.each ∙ sym c;
-      agree = bits_agree owners uses i y 1 k.agree n;
-      counted = omega (arith, k.counted, count_by-taken owners i y found.0 found.1 n);
-      frames_are = m ∙ frames-set owners frames i y false k.frames_are n;
-    }
+-- the lowest Free frame, by the list that says of each whether it is Free
+module _ {count : ℕ} {owners : List Owner} {uses : List ℕ} {free : ℕ} {frames : List Bool}
+    (k : AreTallied count owners uses free frames) {i : ℕ}
+    (first : Some i ≡ position itself frames) where
+  pub lowest-found : position is_free owners ≡ Some i
+  lowest-found = sym (position-frames owners frames k.frames_are) ∙ sym first
 
--- the lowest Free frame is the first of the list
-pub kept-found : (count : ℕ) (owners : List Owner) (uses : List ℕ) (free : ℕ) (frames : List Bool)
-    (i : ℕ) → AreTallied count owners uses free frames → Some i ≡ position itself frames
-    → position is_free owners ≡ Some i
-kept-found count owners uses free frames i k found =
-    sym (position-frames owners frames k.frames_are) ∙ sym found
+  pub lowest-within : i < length owners
+  lowest-within = (position-Some is_free owners i Free lowest-found).0
 
-pub kept-some : (owners : List Owner) (free i : ℕ) → free ≡ count_by is_free owners
-    → position is_free owners ≡ Some i → 1 ≤ free
-kept-some owners free i k e = let found = position-Some is_free owners i Free e in
-    omega (arith, k, count_by-taken owners i Shared found.0 found.1 refl)
+  lowest-free : is_free (get_or owners i Free) ≡ true
+  lowest-free = (position-Some is_free owners i Free lowest-found).1
 
-pub kept-freed : (count : ℕ) (owners : List Owner) (uses : List ℕ) (free : ℕ)
-    (frames : List Bool) (i : ℕ) (new : List Bool)
+  pub lowest-used : i < length uses
+  lowest-used = omega (
+    arith,
+    lowest-within,
+    length-map uses is_unused,
+    ap length k.agree,
+    length-map owners is_free,
+  )
+
+  -- it has no use
+  pub lowest-unused : get_or uses i 0 ≡ 0
+  lowest-unused =
+      let none : is_unused (get_or uses i 0) ≡ true = sym (get_or-map is_unused uses i 0)
+      ∙ ap (λ bs. get_or bs i true) (sym k.agree) ∙ get_or-map is_free owners i Free ∙ lowest-free in
+      grind (arith, nat_tests)
+
+  pub lowest-some : 1 ≤ free
+  lowest-some =
+      omega (arith, k.counted, count_by-taken owners i Shared lowest-within lowest-free refl)
+
+  pub lowest-owned : (y : Owner) → is_free y ≡ false → {new : List Bool} → new ≡ set frames i false
+      → AreTallied count (set owners i y) (set uses i 1) (free - 1) new
+  lowest-owned y n {new} m = record {
+    few = k.few;
+    each = length-set owners i y ∙ k.each;
+    agree = bits_agree owners uses i y 1 k.agree n;
+    counted = omega (arith, k.counted, count_by-taken owners i y lowest-within lowest-free n);
+    frames_are = m ∙ frames-set owners frames i y false k.frames_are n;
+  }
+
+pub kept-freed : {count : ℕ} {owners : List Owner} {uses : List ℕ} {free : ℕ}
+    {frames : List Bool} (i : ℕ) {new : List Bool}
     → AreTallied count owners uses free frames → 0 < get_or uses i 0 → new ≡ set frames i true
     → AreTallied count (set owners i Free) (set uses i 0) (free + 1) new
-kept-freed count owners uses free frames i new k h m =
+kept-freed {count} {owners} {uses} {free} {frames} i {new} k h m =
     let owned = used-owned owners uses i k.agree h in
     record {
       few = k.few;
@@ -220,10 +231,10 @@ kept-freed count owners uses free frames i new k h m =
       frames_are = m ∙ frames-set owners frames i Free true k.frames_are refl;
     }
 
-pub kept-room : (count : ℕ) (owners : List Owner) (uses : List ℕ) (free : ℕ)
-    (frames : List Bool) (i : ℕ)
+pub kept-room : {count : ℕ} {owners : List Owner} {uses : List ℕ} {free : ℕ}
+    {frames : List Bool} (i : ℕ)
     → AreTallied count owners uses free frames → 0 < get_or uses i 0 → free + 1 < 2 ^ 32
-kept-room count owners uses free frames i k h =
+kept-room {count} {owners} {uses} {free} {frames} i k h =
     let owned = used-owned owners uses i k.agree h in
     omega (
       arith,
@@ -235,25 +246,25 @@ kept-room count owners uses free frames i k h =
       length-set owners i Free,
     )
 
-pub kept-more : (count : ℕ) (owners : List Owner) (uses : List ℕ) (free : ℕ)
-    (frames : List Bool) (i v : ℕ)
+pub kept-more : {count : ℕ} {owners : List Owner} {uses : List ℕ} {free : ℕ}
+    {frames : List Bool} (i v : ℕ)
     → AreTallied count owners uses free frames → is_free (get_or owners i Free) ≡ false
     → AreTallied count owners (set uses i (v + 1)) free frames
-kept-more count owners uses free frames i v k e =
+kept-more {count} {owners} {uses} {free} {frames} i v k e =
     let some : is_unused (v + 1) ≡ false = grind (arith, nat_tests) in
-    kept-uses count owners uses free frames i (v + 1) k
+    kept-uses i (v + 1) k
     (sym (get_or-map is_unused uses i 0) ∙ ap (λ bs. get_or bs i true) (sym k.agree)
     ∙ get_or-map is_free owners i Free ∙ e ∙ sym some)
 
-pub kept-fewer : (count : ℕ) (owners : List Owner) (uses : List ℕ) (free : ℕ)
-    (frames : List Bool) (i v : ℕ)
+pub kept-fewer : {count : ℕ} {owners : List Owner} {uses : List ℕ} {free : ℕ}
+    {frames : List Bool} (i : ℕ) {v : ℕ}
     → AreTallied count owners uses free frames → 0 < get_or uses i 0 → v ≡ get_or uses i 0
     → (v ≡ 1 → ⊥)
     → AreTallied count owners (set uses i (v - 1)) free frames
-kept-fewer count owners uses free frames i v k h e n =
+kept-fewer {count} {owners} {uses} {free} {frames} i {v} k h e n =
     let old : is_unused (get_or uses i 0) ≡ false = grind (arith, nat_tests) in
     let new : is_unused (v - 1) ≡ false = grind (arith, nat_tests) in
-    kept-uses count owners uses free frames i (v - 1) k (old ∙ sym new)
+    kept-uses i (v - 1) k (old ∙ sym new)
 
 pub kept-unused : (count : ℕ) (owners : List Owner) (uses : List ℕ) (frames : List Bool) (n : ℕ)
     → count ≡ n → owners ≡ replicate n Free → uses ≡ replicate n 0 → frames ≡ replicate n true

@@ -103,6 +103,13 @@ with_away s frame = record s { pages = slice_set s.pages frame None }
 abbrev pub with_grant : Store → ℕ → ℕ → Access → Store
 with_grant s frame t access = record s { owners = slice_set s.owners frame (granted t access) }
 
+-- the frame is t's, with one use; its page stays
+abbrev pub with_owner : Store → ℕ → ℕ → Store
+with_owner s frame t = record s {
+  owners = slice_set s.owners frame (Of t);
+  uses = slice_set s.uses frame 1;
+}
+
 -- the frame is t's, with a zero page and one use
 abbrev pub with_owned : Store → ℕ → ℕ → Store
 with_owned s frame t = record {

@@ -9,7 +9,7 @@ ghost use Rattle.dos_world.specs.Reach.{granted};
 ghost use Rattle.page_store.specs.Store.{AreFreeFrom, AreHome, IsAway, IsCopied, IsHome, IsHomeIn};
 ghost use Rattle.page_store.specs.Store.{IsOwned, IsPageCopied, IsUnused, free_count, owner_at};
 ghost use Rattle.page_store.specs.Store.{unused, uses_at, with_away, with_owned, with_grant};
-ghost use Rattle.page_store.specs.Store.{with_home, with_less, with_more};
+ghost use Rattle.page_store.specs.Store.{with_home, with_less, with_more, with_owner};
 ghost use Rattle.page_store.specs.Lending.{LendsPage, LendsSlot};
 
 use crate::Page;
@@ -200,16 +200,10 @@ impl Frames {
         ensures one { IfSome result (λ frame. self.new ≡ with_owned self.old frame tid) }
         ensures unused { IfSome result (λ frame. IsUnused self.old frame) }
     {
-        match self.free_frames.lowest() {
+        match self.own_lowest(tid) {
             None => None,
             Some(frame) => {
-                let place = frame as usize;
-                page_mut(&mut self.pages[place]).clear();
-                self.owners[place] = Owner::Of(tid);
-                self.uses[place] = 1;
-                self.free -= 1;
-                self.free_frames.clear(frame);
-                self.high = self.high.max(frame + 1);
+                page_mut(&mut self.pages[frame as usize]).clear();
                 Some(frame)
             }
         }
@@ -224,11 +218,26 @@ impl Frames {
         ensures none { result ≡ None → self.new ≡ self.old }
         ensures one { IfSome result (λ frame. IsCopied self.old from frame tid self.new) }
     {
+        match self.own_lowest(tid) {
+            None => None,
+            Some(frame) => {
+                copy_page(&mut self.pages, from as usize, frame as usize);
+                Some(frame)
+            }
+        }
+    }
+
+    // The lowest Free frame, which becomes `tid`'s, with one use. Its page stays as it is.
+    fn own_lowest(&mut self, tid: u32) -> Option<u32>
+        ensures found { result ≡ position is_free self.old.owners }
+        ensures none { result ≡ None → self.new ≡ self.old }
+        ensures owns { IfSome result (λ frame. self.new ≡ with_owner self.old frame tid) }
+        ensures unused { IfSome result (λ frame. IsUnused self.old frame) }
+    {
         match self.free_frames.lowest() {
             None => None,
             Some(frame) => {
                 let place = frame as usize;
-                copy_page(&mut self.pages, from as usize, place);
                 self.owners[place] = Owner::Of(tid);
                 self.uses[place] = 1;
                 self.free -= 1;

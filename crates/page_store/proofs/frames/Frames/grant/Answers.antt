@@ -10,8 +10,7 @@ invariant_of-self c =
     let owned : is_free (get_or c.self.inside.owners.items c.args.frame Free) ≡ false =
     subst (λ (s : Store). is_free (get_or s.owners c.args.frame Free) ≡ false)
     (sym c.self.view_is) c.requires in (
-      kept-granted _ c.self.inside.owners.items c.self.inside.uses.items c.self.inside.free
-          c.self.inside.free_frames c.args.frame c.granted-owner.result c.self.invariant.0 owned
+      kept-granted c.args.frame c.granted-owner.result c.self.invariant.0 owned
           c.granted-owner.ensures.used,
       free-set c.self.inside.owners.items c.self.inside.high c.args.frame c.granted-owner.result
           c.self.invariant.1

@@ -10,16 +10,14 @@ overflow_add-self c =
     subst (λ (s : Store). 0 < get_or s.uses c.args.frame 0) (sym c.self.view_is) c.requires in
     omega (
       arith,
-      kept-room _ c.self.inside.owners.items c.self.inside.uses.items c.self.inside.free
-          c.self.inside.free_frames c.args.frame c.self.invariant.0 used,
+      kept-room c.args.frame c.self.invariant.0 used,
     )
 
 pub invariant_of-self : goal.invariant_of-self
 invariant_of-self c =
     let used : 0 < get_or c.self.inside.uses.items c.args.frame 0 =
     subst (λ (s : Store). 0 < get_or s.uses c.args.frame 0) (sym c.self.view_is) c.requires in (
-      kept-freed _ c.self.inside.owners.items c.self.inside.uses.items c.self.inside.free
-          c.self.inside.free_frames c.args.frame _ c.self.invariant.0 used
+      kept-freed c.args.frame c.self.invariant.0 used
           c.set.ensures,
       free-freed c.self.inside.owners.items c.self.inside.high c.args.frame
           c.self.invariant.1,
@@ -37,9 +35,7 @@ invariant_of-self-else-index-eq1 c =
     let written : c.index_mut-else-index-eq1.result.now
     ≡ get_or c.self.inside.uses.items c.args.frame 0 =
     get_or_read _ c.args.frame _ within c.index_mut-else-index-eq1.ensures.value 0 in (
-      kept-fewer _ c.self.inside.owners.items c.self.inside.uses.items c.self.inside.free
-          c.self.inside.free_frames c.args.frame c.index_mut-else-index-eq1.result.now
-          c.self.invariant.0 used written
+      kept-fewer c.args.frame c.self.invariant.0 used written
           (λ e. c.if-index-eq1.false (tested ∙ sym written ∙ e)),
       c.self.invariant.1,
       c.self.invariant.2,
