@@ -1,27 +1,25 @@
 -- What a search finds in a rising list of pages, and what a change at that place does.
-use Rattle.std.proofs.Common.{◌≡◌, ℕ, zero, suc, ◌+◌, ◌-◌, ◌<◌, ◌≤◌, List, [], ◌∷◌, length, get_or}
+use Rattle.std.proofs.Common.{◌≡◌, ℕ, zero, suc, ◌+◌, ◌<◌, ◌≤◌, List, [], ◌∷◌, length, get_or}
 use Rattle.std.proofs.Common.{set, map, Option, Some, None, Result, Ok, Err, IfOk, IfErr, refl, sym}
-use Rattle.std.proofs.Common.{ap, ap₂, ◌∙◌, subst, arith}
-use Rattle.std.specs.Prelude.{Bool, true, false, ◌==◌, nat_lt, IsSome, filter, AllPairs}
-use Rattle.std.specs.List.{insert, remove}
+use Rattle.std.proofs.Common.{ap, ap₂, ◌∙◌, subst, arith, rules, Global, Vec, vec_len}
+use Rattle.std.specs.Prelude.{Bool, true, false, ◌==◌, IsSome, filter, AllPairs}
+use Rattle.std.specs.List.{remove}
 use Rattle.std.specs.List.Sorted.{IsSearchInRange, IsBinarySearchResult, IsNonDecreasingBy}
 use Rattle.std.specs.Ordering.{nat_cmp, ordering_index}
 use Rattle.std.proofs.lemmas.Cmp.{ranked}
 use Rattle.std.proofs.lemmas.List.{length-map, length-set, get_or-map}
 use Rattle.std.proofs.lemmas.List.Sorted.{IsNonDecreasingBy-from_default}
-use Rattle.std.proofs.lemmas.List.Edits.{length-insert, get_or-insert_below, get_or-insert_at}
-use Rattle.std.proofs.lemmas.List.Edits.{get_or-insert_above, length-remove, get_or-remove_below}
+use Rattle.std.proofs.lemmas.List.Edits.{length-remove, get_or-remove_below}
 use Rattle.std.proofs.lemmas.List.Edits.{get_or-remove_above}
 use Rattle.std.proofs.lemmas.Bool.Decides.{nat_tests}
 use Rattle.std.proofs.lemmas.List.Kept.{AllPairs-filter}
 use Rattle.std.proofs.lemmas.List.Sums.{length-filter, count_by-le-length}
 use Rattle.dos_world.specs.declared.Entry.{Entry}
 use Rattle.dos_world.specs.World.{look}
-use Rattle.dos_world.specs.Kernel.{put}
 use Rattle.space_map.proofs.Mapped.{get_or_any}
 use Rattle.space_map.specs.Mapping.{no_entry, page_at, IsAt, IsGapFor, without, marked, with_shared}
 use Rattle.space_map.specs.Mapping.{replaced, with_replaced, shared_in_run, with_shared_run, IsKept}
-use Rattle.space_map.specs.Mapping.{IsRising, Mapping}
+use Rattle.space_map.specs.Mapping.{IsFirstFrom, IsRising, Mapping}
 
 abbrev pub Rises : List (ℕ × Entry) → Type 0
 Rises es = (i j : ℕ) → i < j → j < length es → page_at es i < page_at es j
@@ -126,59 +124,6 @@ pub nothing : (o : Option Entry) → o ≡ None → IsSome o → ⊥
 nothing o e h = let never : IsSome {T = Entry} None = subst (λ (x : Option Entry). IsSome x) e h in
     cc
 
--- ---- putting
-
-pub insert-put : (es : List (ℕ × Entry)) (page place : ℕ) (entry : Entry) → IsGapFor es page place
-    → insert es place (page, entry) ≡ put page entry es
-insert-put [] page zero entry gap = refl
-insert-put [] page (suc n) entry gap = refl
-insert-put (e ∷ es) page zero entry gap =
-    let above : nat_lt page e.0 ≡ true = above_it (gap.higher 0 (omega arith) (omega arith)) in
-    rw above refl
-  where
-    above_it : page < e.0 → nat_lt page e.0 ≡ true
-    above_it h = grind (arith, nat_tests)
-insert-put (e ∷ es) page (suc n) entry gap =
-    let below : nat_lt page e.0 ≡ false = below_it (gap.lower 0 (omega arith)) in
-    rw below (ap (λ xs. e ∷ xs) (insert-put es page n entry (gap_rest e es page n gap)))
-  where
-    below_it : e.0 < page → nat_lt page e.0 ≡ false
-    below_it h = grind (arith, nat_tests)
-
--- each page is an old one before the gap, the page itself, or an old one moved up by one
-rises-insert : (es : List (ℕ × Entry)) (page place : ℕ) (entry : Entry) → IsGapFor es page place
-    → Rises es → Rises (insert es place (page, entry))
-rises-insert es page place entry gap sorted i j lt within =
-    let new : List (ℕ × Entry) = insert es place (page, entry) in
-    let number : (ℕ × Entry) → ℕ = λ (e : ℕ × Entry). e.0 in
-    let count = length-insert es place (page, entry) gap.within in
-    let before : (k : ℕ) → k < place
-    → page_at new k ≡ page_at es k =
-    λ k h. ap number (get_or-insert_below es place (page, entry) (0, no_entry) k h gap.within)
-    in
-    let here : (k : ℕ) → k ≡ place
-    → page_at new k ≡ page =
-    λ k h. ap (page_at new) h
-    ∙ ap number (get_or-insert_at es place (page, entry) (0, no_entry) gap.within) in
-    let after : (k : ℕ) → place < k → page_at new k ≡ page_at es (k - 1) =
-    λ k h. subst (λ q. page_at new q ≡ page_at es (k - 1)) {x = k - 1 + 1} (omega arith)
-    (ap number (get_or-insert_above es place (page, entry) (0, no_entry) (k - 1)
-    (omega arith) gap.within)) in
-    grind (
-      arith,
-      before i,
-      here i,
-      after i,
-      before j,
-      here j,
-      after j,
-      sorted i j,
-      sorted i (j - 1),
-      sorted (i - 1) (j - 1),
-      gap.lower i,
-      gap.higher (j - 1),
-    )
-
 -- ---- removing
 
 without-none : (es : List (ℕ × Entry)) (page : ℕ) → NoneBefore es page (length es)
@@ -279,19 +224,19 @@ rises-map f same es sorted i j lt within =
 
 -- ---- what a space keeps, and what it shows
 
-pub kept-filter : (keep : ℕ × Entry → Bool) (es new : List (ℕ × Entry)) (room capacity same : ℕ)
+pub kept-filter : (keep : ℕ × Entry → Bool) {es new : List (ℕ × Entry)} {room capacity same : ℕ}
     → IsKept es room capacity → new ≡ filter keep es → same ≡ capacity → IsKept new room same
-kept-filter keep es new room capacity same k e c = record {
+kept-filter keep {es} {new} {room} {capacity} {same} k e c = record {
   rising = subst Rises (sym e) (rises-filter keep es k.rising);
   fits = omega (arith, ap length e, length-filter keep es, count_by-le-length keep es, k.fits);
   taken = omega (arith, k.taken);
   few = k.few;
 }
 
-pub kept-shared : (page count : ℕ) (es new : List (ℕ × Entry)) (room capacity same : ℕ)
+pub kept-shared : (page count : ℕ) {es new : List (ℕ × Entry)} {room capacity same : ℕ}
     → IsKept es room capacity → new ≡ with_shared_run page count es → same ≡ capacity
     → IsKept new room same
-kept-shared page count es new room capacity same k e c = record {
+kept-shared page count {es} {new} {room} {capacity} {same} k e c = record {
   rising = subst Rises (sym e) (rises-map (shared_in_run page count) (λ x. refl) es k.rising);
   fits = omega (arith, ap length e, length-map es (shared_in_run page count), k.fits);
   taken = omega (arith, k.taken);
@@ -299,10 +244,10 @@ kept-shared page count es new room capacity same k e c = record {
 }
 
 -- the page's entry changed in its place
-pub kept-set : (es : List (ℕ × Entry)) (room capacity page place : ℕ) (entry : Entry)
+pub kept-set : (entry : Entry) {es : List (ℕ × Entry)} {room capacity page place : ℕ}
     → IsKept es room capacity → IsAt es page place
     → IsKept (set es place (page, entry)) room capacity
-kept-set es room capacity page place entry k at = record {
+kept-set entry {es} {room} {capacity} {page} {place} k at = record {
   rising = subst Rises (sym (set-replaced es page place entry k.rising at))
       (rises-map (replaced page entry) (λ x. refl) es k.rising);
   fits = omega (arith, length-set es place (page, entry), k.fits);
@@ -311,20 +256,21 @@ kept-set es room capacity page place entry k at = record {
 }
 
 -- where the search found the page, in the entries themselves
-pub at-inside : (m n : Mapping) (page place : ℕ) → m ≡ n → IsAt n.entries page place
+pub at-inside : {m n : Mapping} {page place : ℕ} → m ≡ n → IsAt n.entries page place
     → IsAt m.entries page place
-at-inside m n page place e at = subst (λ (x : Mapping). IsAt x.entries page place) (sym e) at
+at-inside {m} {n} {page} {place} e at = subst (λ (x : Mapping). IsAt x.entries page place) (sym e) at
 
-pub kept-put : (es new : List (ℕ × Entry)) (room capacity grown page place : ℕ) (entry : Entry)
-    → IsKept es room capacity → IsGapFor es page place → length es < room
-    → new ≡ insert es place (page, entry) → capacity ≤ grown
-    → IsKept new room grown
-kept-put es new room capacity grown page place entry k gap h e c = record {
-  rising = subst Rises (sym e) (rises-insert es page place entry gap k.rising);
-  fits = omega (arith, ap length e, length-insert es place (page, entry) gap.within);
-  taken = omega (arith, k.taken);
-  few = k.few;
-}
+pub first-inside : {m n : Mapping} {page first : ℕ} → m ≡ n → IsFirstFrom n.entries page first
+    → IsFirstFrom m.entries page first
+first-inside {m} {n} {page} {first} e from =
+    subst (λ (x : Mapping). IsFirstFrom x.entries page first) (sym e) from
+
+-- an index of a vector's entries
+pub index-of : (v : Vec (ℕ × Entry) Global) {page place : ℕ} → IsAt v.items page place
+    → place < vec_len v
+index-of v {page} {place} at =
+    let count : vec_len v ≡ length v.items = search rules in
+    subst (λ (n : ℕ). place < n) (sym count) at.within
 
 rises-remove : (es : List (ℕ × Entry)) (place : ℕ) → place < length es → Rises es
     → Rises (remove es place)
@@ -348,10 +294,10 @@ rises-remove es place h sorted i j lt within =
       sorted (i + 1) (j + 1),
     )
 
-pub kept-remove : (es new : List (ℕ × Entry)) (room capacity same place : ℕ)
+pub kept-remove : {es new : List (ℕ × Entry)} {room capacity same : ℕ} (place : ℕ)
     → IsKept es room capacity → place < length es → new ≡ remove es place → same ≡ capacity
     → IsKept new room same
-kept-remove es new room capacity same place k h e c = record {
+kept-remove {es} {new} {room} {capacity} {same} place k h e c = record {
   rising = subst Rises (sym e) (rises-remove es place h k.rising);
   fits = omega (arith, ap length e, length-remove es place h, k.fits);
   taken = omega (arith, k.taken);
@@ -362,9 +308,9 @@ with_entries : List (ℕ × Entry) → Mapping → Mapping
 with_entries es m = record m { entries = es }
 
 -- new entries in place of the old ones
-pub shown-changed : (f : List (ℕ × Entry) → List (ℕ × Entry)) (m n : Mapping)
-    (es : List (ℕ × Entry)) → m ≡ n → es ≡ f m.entries
+pub shown-changed : (f : List (ℕ × Entry) → List (ℕ × Entry)) {m n : Mapping}
+    {es : List (ℕ × Entry)} → m ≡ n → es ≡ f m.entries
     → ◌≡◌ {A = Mapping} (record m { entries = es }) (record n { entries = f n.entries })
 unfolding with_entries
-shown-changed f m n es e h =
+shown-changed f {m} {n} {es} e h =
     ap (λ xs. with_entries xs m) h ∙ ap (λ x. with_entries (f x.entries) x) e

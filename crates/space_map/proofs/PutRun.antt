@@ -3,7 +3,7 @@ use Rattle.std.proofs.Common.{◌≡◌, ℕ, zero, suc, ◌+◌, ◌-◌, ◌<�
 use Rattle.std.proofs.Common.{◌∷◌, ◌++◌, length, get_or, map, take, drop, length-append, refl, sym}
 use Rattle.std.proofs.Common.{ap, ap₂, subst, ◌∙◌, arith}
 use Rattle.std.specs.Prelude.{nat_lt}
-use Rattle.std.specs.List.{insert_slice, list_any}
+use Rattle.std.specs.List.{insert, insert_slice, list_any}
 use Rattle.std.proofs.lemmas.Bool.Decides.{nat_tests}
 use Rattle.std.proofs.lemmas.List.{append-nil, append_assoc, drop-append-le, drop_all, drop_at}
 use Rattle.std.proofs.lemmas.List.{get_or-append_right, get_or-drop, get_or-take}
@@ -13,7 +13,8 @@ use Rattle.std.proofs.lemmas.List.Folds.{list_any_at}
 use Rattle.dos_world.specs.declared.Entry.{Entry}
 use Rattle.dos_world.specs.Kernel.{put}
 use Rattle.dos_world.specs.Numbered.{run_of}
-use Rattle.space_map.specs.Mapping.{no_entry, page_at, in_run, put_run, IsFirstFrom, IsKept}
+use Rattle.space_map.specs.Mapping.{no_entry, page_at, in_run, put_run, IsFirstFrom, IsGapFor}
+use Rattle.space_map.specs.Mapping.{IsKept}
 use Rattle.space_map.proofs.Places.{Rises}
 use Rattle.space_map.proofs.Runs.{out-of-run}
 
@@ -176,17 +177,45 @@ rises-run es page count place entry gap sorted i j lt within =
         ∙ get_or-drop place es (k - (place + count)) (0, no_entry))
         ∙ ap (page_at es) same
 
-pub kept-run : (es new : List (ℕ × Entry)) (room capacity grown page count place : ℕ)
-    (entry : Entry) → IsKept es room capacity → IsRunGap es page count place
+pub kept-run : (entry : Entry) {es new : List (ℕ × Entry)} {room capacity grown : ℕ}
+    {page count place : ℕ} → IsKept es room capacity → IsRunGap es page count place
     → length es + count ≤ room
     → new ≡ insert_slice es place (run_entries page count entry) → capacity ≤ grown
     → IsKept new room grown
-kept-run es new room capacity grown page count place entry k gap h e c = record {
+kept-run entry {es} {new} {room} {capacity} {grown} {page} {count} {place} k gap h e c = record {
   rising = subst Rises (sym e) (rises-run es page count place entry gap k.rising);
   fits = omega (arith, ap length e, whole-length es page count place entry gap.within);
   taken = omega (arith, k.taken);
   few = k.few;
 }
+
+-- ---- one page, which is a run of one
+
+insert-run : (es : List (ℕ × Entry)) (place : ℕ) (e : ℕ × Entry) → place ≤ length es
+    → insert es place e ≡ insert_slice es place (e ∷ [])
+insert-run [] zero e h = refl
+insert-run [] (suc n) e h = absurd (omega arith)
+insert-run (x ∷ es) zero e h = refl
+insert-run (x ∷ es) (suc n) e h = ap (λ ys. x ∷ ys) (insert-run es n e (omega arith))
+
+module _ {es : List (ℕ × Entry)} {page place : ℕ} (entry : Entry)
+    (gap : IsGapFor es page place) where
+  one-gap : IsRunGap es page 1 place
+  one-gap = record {
+    within = gap.within;
+    lower = gap.lower;
+    higher = λ i l m. omega (arith, gap.higher i l m);
+  }
+
+  pub insert-put : insert es place (page, entry) ≡ put page entry es
+  insert-put = insert-run es place (page, entry) gap.within
+      ∙ put-run-at es page 1 place entry one-gap
+
+  pub kept-put : {new : List (ℕ × Entry)} {room capacity grown : ℕ} → IsKept es room capacity
+      → length es < room → new ≡ insert es place (page, entry) → capacity ≤ grown
+      → IsKept new room grown
+  kept-put k h e c = kept-run entry k one-gap (omega arith)
+      (e ∙ insert-run es place (page, entry) gap.within) c
 
 -- ---- the run pushed behind all entries, and turned to its place
 

@@ -1,8 +1,8 @@
 use Rattle.std.proofs.Common.{◌<◌, ◌∙◌, sym, subst, length}
 use Rattle.dos_world.specs.Kernel.{put}
 use Rattle.space_map.specs.Mapping.{Mapping, IsGapFor}
-use Rattle.space_map.proofs.Places.{Rises, look-at, insert-put, kept-put, shown-changed}
-use Rattle.space_map.specs.contracts.space.Space.{the_view}
+use Rattle.space_map.proofs.Places.{Rises, look-at, shown-changed}
+use Rattle.space_map.proofs.PutRun.{insert-put, kept-put}
 use Rattle.space_map.proofs.space.Space.put.Goals as goal
 
 pub unreachable-requires : goal.unreachable-requires
@@ -18,15 +18,13 @@ invariant_of-self c =
     (sym c.self.view_is) c.in-Err.ensures.gap in
     let room = subst (λ (m : Mapping). length m.entries < m.room)
     (sym c.self.view_is) c.requires.room in
-    kept-put c.self.inside.entries.items _ c.self.inside.room _ _ c.args.page c.in-Err.place
-    c.args.entry c.self.invariant gap room c.in-Ok-insert.ensures.items
+    kept-put c.args.entry gap c.self.invariant room c.in-Ok-insert.ensures.items
     c.in-Ok-insert.ensures.capacity
 
 pub returns : goal.returns
 returns c =
     let gap = subst (λ (m : Mapping). IsGapFor m.entries c.args.page c.in-Err.place)
     (sym c.self.view_is) c.in-Err.ensures.gap in
-    shown-changed (put c.args.page c.args.entry)
-    (the_view c.self.inside) c.args.self.now _ c.self.view_is
+    shown-changed (put c.args.page c.args.entry) c.self.view_is
     (c.in-Ok-insert.ensures.items
-    ∙ insert-put c.self.inside.entries.items c.args.page c.in-Err.place c.args.entry gap)
+    ∙ insert-put c.args.entry gap)

@@ -5,7 +5,6 @@ use Rattle.dos_world.specs.World.{look}
 use Rattle.space_map.specs.Mapping.{Mapping, IsAt, no_entry, without}
 use Rattle.space_map.proofs.Places.{look-at, look-gap, remove-without, kept-remove, shown-changed}
 use Rattle.space_map.proofs.Places.{nothing}
-use Rattle.space_map.specs.contracts.space.Space.{the_view}
 use Rattle.space_map.proofs.space.Space.remove.Goals as goal
 
 pub unreachable-requires : goal.unreachable-requires
@@ -17,7 +16,7 @@ pub invariant_of-self : goal.invariant_of-self
 invariant_of-self c =
     let at = subst (λ (m : Mapping). IsAt m.entries c.args.page c.in-Ok.place)
     (sym c.self.view_is) c.in-Ok.ensures.found in
-    kept-remove c.self.inside.entries.items _ c.self.inside.room _ _ c.in-Ok.place c.self.invariant
+    kept-remove c.in-Ok.place c.self.invariant
     at.within c.remove.ensures.items c.remove.ensures.capacity
 
 pub returns-clause-entry : goal.returns-clause-entry
@@ -35,7 +34,7 @@ pub returns-clause-others : goal.returns-clause-others
 returns-clause-others c =
     let at = subst (λ (m : Mapping). IsAt m.entries c.args.page c.in-Ok.place)
     (sym c.self.view_is) c.in-Ok.ensures.found in
-    shown-changed (without c.args.page) (the_view c.self.inside) c.args.self.now _ c.self.view_is
+    shown-changed (without c.args.page) c.self.view_is
     (c.remove.ensures.items
     ∙ remove-without c.self.inside.entries.items c.args.page c.in-Ok.place
     c.self.invariant.rising at)

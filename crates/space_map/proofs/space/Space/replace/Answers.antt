@@ -1,20 +1,17 @@
-use Rattle.std.proofs.Common.{◌≡◌, ◌<◌, ℕ, length, vec_len, rules, refl, sym, subst}
+use Rattle.std.proofs.Common.{refl}
 use Rattle.space_map.specs.Mapping.{with_replaced}
 use Rattle.space_map.proofs.Places.{look-gap, set-replaced, shown-changed, nothing, kept-set}
-use Rattle.space_map.proofs.Places.{at-inside}
-use Rattle.space_map.specs.contracts.space.Space.{the_view}
+use Rattle.space_map.proofs.Places.{at-inside, index-of}
 use Rattle.space_map.proofs.space.Space.replace.Goals as goal
 
 pub index_mut-requires : goal.index_mut-requires
 index_mut-requires c =
-    let at = at-inside (the_view c.self.inside) _ _ _ c.self.view_is c.in-Ok.ensures.found in
-    let count : vec_len c.self.inside.entries ≡ length c.self.inside.entries.items = search rules in
-    subst (λ (n : ℕ). c.in-Ok.place < n) (sym count) at.within
+    index-of c.self.inside.entries (at-inside c.self.view_is c.in-Ok.ensures.found)
 
 pub invariant_of-self : goal.invariant_of-self
 invariant_of-self c =
-    let at = at-inside (the_view c.self.inside) _ _ _ c.self.view_is c.in-Ok.ensures.found in
-    kept-set c.self.inside.entries.items _ _ c.args.page c.in-Ok.place c.args.entry c.self.invariant
+    let at = at-inside c.self.view_is c.in-Ok.ensures.found in
+    kept-set c.args.entry c.self.invariant
     at
 
 pub same-self : goal.same-self
@@ -30,8 +27,7 @@ unreachable-unreachable c = c.unreachable.result
 
 pub returns : goal.returns
 returns c =
-    let at = at-inside (the_view c.self.inside) _ _ _ c.self.view_is c.in-Ok.ensures.found in
-    shown-changed (with_replaced c.args.page c.args.entry)
-    (the_view c.self.inside) c.args.self.now _ c.self.view_is
+    let at = at-inside c.self.view_is c.in-Ok.ensures.found in
+    shown-changed (with_replaced c.args.page c.args.entry) c.self.view_is
     (set-replaced c.self.inside.entries.items c.args.page c.in-Ok.place c.args.entry
     c.self.invariant.rising at)

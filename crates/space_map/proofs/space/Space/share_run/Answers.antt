@@ -1,17 +1,15 @@
-use Rattle.std.proofs.Common.{◌≡◌, ◌∙◌, ℕ, List, sym, subst}
+use Rattle.std.proofs.Common.{◌≡◌, ◌∙◌, ℕ, List, subst}
 use Rattle.dos_world.specs.declared.Entry.{Entry}
-use Rattle.space_map.specs.Mapping.{Mapping, IsFirstFrom, IsRun, with_shared_run}
-use Rattle.space_map.proofs.Places.{kept-shared, shown-changed}
+use Rattle.space_map.specs.Mapping.{IsRun, with_shared_run}
+use Rattle.space_map.proofs.Places.{first-inside, kept-shared, shown-changed}
 use Rattle.space_map.proofs.Runs.{run-shared}
-use Rattle.space_map.specs.contracts.space.Space.{the_view}
 use Rattle.space_map.proofs.space.Space.share_run.Goals as goal
 
 marked : (c : goal.After-share_part)
     → c.share_part.new.entries.items
     ≡ with_shared_run c.args.page c.args.count c.self.inside.entries.items
 marked c =
-    let from = subst (λ (m : Mapping). IsFirstFrom m.entries c.args.page c.first_from-first.result)
-    (sym c.self.view_is) c.first_from-first.ensures in
+    let from = first-inside c.self.view_is c.first_from-first.ensures in
     let run = subst (λ (xs : List (ℕ × Entry)). IsRun xs c.args.page c.args.count
     c.first_from-first.result c.end_of_run-end.result) c.deref.ensures.value
     c.end_of_run-end.ensures in
@@ -21,9 +19,7 @@ marked c =
 
 pub invariant_of-self : goal.invariant_of-self
 invariant_of-self c =
-    kept-shared c.args.page c.args.count c.self.inside.entries.items _ c.self.inside.room _ _
-    c.self.invariant (marked c) c.share_part.ensures.capacity
+    kept-shared c.args.page c.args.count c.self.invariant (marked c) c.share_part.ensures.capacity
 
 pub returns : goal.returns
-returns c = shown-changed (with_shared_run c.args.page c.args.count)
-    (the_view c.self.inside) c.args.self.now _ c.self.view_is (marked c)
+returns c = shown-changed (with_shared_run c.args.page c.args.count) c.self.view_is (marked c)
