@@ -1,6 +1,7 @@
 -- What a level says of the one below it, as bits are set and cleared, and at the lowest one.
 use Rattle.std.proofs.Common.{◌≡◌, ℕ, ◌+◌, ◌*◌, ◌/◌, ◌%◌, ◌^◌, ◌<◌, Bool, true, false, cond, inl}
-use Rattle.std.proofs.Common.{inr, List, length, get_or, Some, None, sym, ap, subst, ◌∙◌, arith}
+use Rattle.std.proofs.Common.{inr, List, length, get_or, set, Some, None, refl, sym, ap, subst, ◌∙◌}
+use Rattle.std.proofs.Common.{◌≤◌, arith}
 use Rattle.std.proofs.Common.{w64}
 use Rattle.std.specs.Prelude.{position, nat_lt, ◌==◌}
 use Rattle.std.specs.Int.{bit_at, bit_not, trailing_zeros}
@@ -17,6 +18,7 @@ use Rattle.hierarchical_bitmap.specs.Levels.{bit, bits, is_set, itself, mask, wi
 use Rattle.hierarchical_bitmap.specs.Levels.{AreLevels, AreZeroBelow, IsLowest, IsSummary}
 use Rattle.hierarchical_bitmap.proofs.Bits.{zeros, length-zeros, with_bit-others}
 use Rattle.hierarchical_bitmap.proofs.Bits.{without_bit-others, length-with_bit, length-without_bit}
+use Rattle.hierarchical_bitmap.proofs.Bits.{bits-with_bit, bits-without_bit}
 use Rattle.hierarchical_bitmap.proofs.Bits.{some-bit, with_bit-same, with_bit-other}
 use Rattle.hierarchical_bitmap.proofs.Bits.{without_bit-same, without_bit-other, without_bit-word}
 use Rattle.hierarchical_bitmap.proofs.Bits.{zeros-bit, zeros-word, length-bits, position-is}
@@ -105,154 +107,145 @@ levels-zeros count m n p few are above top = record {
   of_words = summary-zeros p n;
 }
 
-pub levels-are : (count : ℕ) (places words groups ps ws gs : List ℕ) → ps ≡ places → ws ≡ words
+pub levels-are : {count : ℕ} {places words groups ps ws gs : List ℕ} → ps ≡ places → ws ≡ words
     → gs ≡ groups → AreLevels count places words groups → AreLevels count ps ws gs
-levels-are count places words groups ps ws gs p w g l =
+levels-are {count} {places} {words} {groups} {ps} {ws} {gs} p w g l =
     subst (λ (xs : List ℕ). AreLevels count xs ws gs) (sym p)
     (subst (λ (xs : List ℕ). AreLevels count places xs gs) (sym w)
     (subst (λ (xs : List ℕ). AreLevels count places words xs) (sym g) l))
 
--- a place of the list is one of the bitmap
-pub place-within : (count place : ℕ) (words : List ℕ) (now : List Bool) → bits count words ≡ now
-    → place < length now → place < count
-place-within count place words now is within =
-    omega (arith, within, ap (λ (bs : List Bool). length bs) is, length-bits count words)
-
 -- what the test of a word says
-pub word-zero : (words new : List ℕ) (i : ℕ) (zero : Bool) → new ≡ words
+pub word-zero : {words new : List ℕ} (i : ℕ) {zero : Bool} → new ≡ words
     → zero ≡ (get_or new i 0 == 0) → zero ≡ true → get_or words i 0 ≡ 0
-word-zero words new i zero is tested is_zero =
+word-zero {words} {new} i {zero} is tested is_zero =
     let here : (get_or words i 0 == 0) ≡ true =
     ap (λ (xs : List ℕ). get_or xs i 0 == 0) (sym is) ∙ sym tested ∙ is_zero in
     grind (arith, nat_tests, here)
 
-pub word-left : (words new : List ℕ) (i : ℕ) (zero : Bool) → new ≡ words
+pub word-left : {words new : List ℕ} (i : ℕ) {zero : Bool} → new ≡ words
     → zero ≡ (get_or new i 0 == 0) → zero ≡ false → 0 < get_or words i 0
-word-left words new i zero is tested isnt =
+word-left {words} {new} i {zero} is tested isnt =
     let here : (get_or words i 0 == 0) ≡ false =
     ap (λ (xs : List ℕ). get_or xs i 0 == 0) (sym is) ∙ sym tested ∙ isnt in
     grind (arith, nat_tests, here)
 
-module _ (count : ℕ) (places words groups : List ℕ) (l : AreLevels count places words groups)
-    (place : ℕ) (within : place < count) where
-  in_places : place / 64 < length places
-  in_places = omega (arith, l.places_are, within)
-
-  in_words : place / 64 / 64 < length words
-  in_words = omega (arith, l.places_are, l.words_are, within)
-
-  in_groups : place / 64 / 64 / 64 < length groups
-  in_groups = omega (arith, l.places_are, l.words_are, l.groups_are, within)
-
-  pub all-within : (place / 64 < length places) × (place / 64 / 64 < length words)
-      × (place / 64 / 64 / 64 < length groups)
-  all-within = (in_places, in_words, in_groups)
-
-  pub levels-set : AreLevels count (with_bit places place) (with_bit words (place / 64))
-      (with_bit groups (place / 64 / 64))
-  levels-set = record {
+module _ {count : ℕ} {places words groups : List ℕ} (l : AreLevels count places words groups) where
+  -- levels as long as these
+  alike : {ps ws gs : List ℕ} → length ps ≡ length places → length ws ≡ length words
+      → length gs ≡ length groups → ((k : ℕ) → count ≤ k → bit ps k ≡ 0) → IsSummary ws ps
+      → IsSummary gs ws → AreLevels count ps ws gs
+  alike p w g past of_places of_words = record {
     few = l.few;
-    places_are = length-with_bit places place ∙ l.places_are;
-    words_are = omega (
-      arith,
-      length-with_bit places place,
-      l.words_are,
-      length-with_bit words (place / 64),
-    );
-    groups_are = omega (
-      arith,
-      length-with_bit words (place / 64),
-      l.groups_are,
-      length-with_bit groups (place / 64 / 64),
-    );
-    no_more = λ k past. with_bit-other places place k in_places (λ e. omega arith)
-        ∙ l.no_more k past;
-    of_places = summary-with_bit words places place in_places in_words l.of_places;
-    of_words = summary-with_bit groups words (place / 64) in_words in_groups l.of_words;
+    places_are = p ∙ l.places_are;
+    words_are = omega (arith, p, w, l.words_are);
+    groups_are = omega (arith, w, g, l.groups_are);
+    no_more = past;
+    of_places = of_places;
+    of_words = of_words;
   }
 
-  -- the place's word isn't 0 yet
-  pub levels-left : 0 < get_or (without_bit places place) (place / 64) 0
-      → AreLevels count (without_bit places place) words groups
-  levels-left left = record {
-    few = l.few;
-    places_are = length-without_bit places place ∙ l.places_are;
-    words_are = omega (arith, length-without_bit places place, l.words_are);
-    groups_are = l.groups_are;
-    no_more = λ k past. without_bit-other places place k in_places (λ e. omega arith)
-        ∙ l.no_more k past;
-    of_places = summary-left words places place in_places left l.of_places;
-    of_words = l.of_words;
-  }
+  -- a place of the list that is shown
+  module _ {now : List Bool} (shows : bits count places ≡ now) (place : ℕ)
+      (low : place < length now) where
+    within : place < count
+    within = omega (arith, low, ap (λ (bs : List Bool). length bs) shows, length-bits count places)
 
-  -- it is 0, and the word above it isn't
-  pub levels-word_left : get_or (without_bit places place) (place / 64) 0 ≡ 0
-      → 0 < get_or (without_bit words (place / 64)) (place / 64 / 64) 0
-      → AreLevels count (without_bit places place) (without_bit words (place / 64)) groups
-  levels-word_left zero left = record {
-    few = l.few;
-    places_are = length-without_bit places place ∙ l.places_are;
-    words_are = omega (
-      arith,
-      length-without_bit places place,
-      l.words_are,
-      length-without_bit words (place / 64),
-    );
-    groups_are = omega (arith, length-without_bit words (place / 64), l.groups_are);
-    no_more = λ k past. without_bit-other places place k in_places (λ e. omega arith)
-        ∙ l.no_more k past;
-    of_places = summary-without_bit words places place in_words zero l.of_places;
-    of_words = summary-left groups words (place / 64) in_words left l.of_words;
-  }
+    pub in_places : place / 64 < length places
+    in_places = omega (arith, l.places_are, within)
 
-  -- both are 0
-  pub levels-cleared : get_or (without_bit places place) (place / 64) 0 ≡ 0
-      → get_or (without_bit words (place / 64)) (place / 64 / 64) 0 ≡ 0
-      → AreLevels count (without_bit places place) (without_bit words (place / 64))
-      (without_bit groups (place / 64 / 64))
-  levels-cleared zero word_zero = record {
-    few = l.few;
-    places_are = length-without_bit places place ∙ l.places_are;
-    words_are = omega (
-      arith,
-      length-without_bit places place,
-      l.words_are,
-      length-without_bit words (place / 64),
-    );
-    groups_are = omega (
-      arith,
-      length-without_bit words (place / 64),
-      l.groups_are,
-      length-without_bit groups (place / 64 / 64),
-    );
-    no_more = λ k past. without_bit-other places place k in_places (λ e. omega arith)
-        ∙ l.no_more k past;
-    of_places = summary-without_bit words places place in_words zero l.of_places;
-    of_words = summary-without_bit groups words (place / 64) in_groups word_zero l.of_words;
-  }
+    pub in_words : place / 64 / 64 < length words
+    in_words = omega (arith, l.places_are, l.words_are, within)
+
+    pub in_groups : place / 64 / 64 / 64 < length groups
+    in_groups = omega (arith, l.places_are, l.words_are, l.groups_are, within)
+
+    -- ---- it is set
+
+    pub levels-set : AreLevels count (with_bit places place) (with_bit words (place / 64))
+        (with_bit groups (place / 64 / 64))
+    levels-set = alike (length-with_bit places place) (length-with_bit words (place / 64))
+        (length-with_bit groups (place / 64 / 64))
+        (λ k past. with_bit-other places place k in_places (λ e. omega (arith, past, e, within))
+        ∙ l.no_more k past)
+        (summary-with_bit words places place in_places in_words l.of_places)
+        (summary-with_bit groups words (place / 64) in_words in_groups l.of_words)
+
+    pub shown-set : {ps : List ℕ} → ps ≡ with_bit places place → bits count ps ≡ set now place true
+    shown-set e = ap (λ (xs : List ℕ). bits count xs) e ∙ bits-with_bit count places place in_places
+        ∙ ap (λ (bs : List Bool). set bs place true) shows
+
+    -- ---- it is cleared
+
+    none_more : (k : ℕ) → count ≤ k → bit (without_bit places place) k ≡ 0
+    none_more k past =
+        without_bit-other places place k in_places (λ e. omega (arith, past, e, within))
+        ∙ l.no_more k past
+
+    -- the place's word isn't 0 yet
+    pub levels-left : 0 < get_or (without_bit places place) (place / 64) 0
+        → AreLevels count (without_bit places place) words groups
+    levels-left left = alike (length-without_bit places place) refl refl none_more
+        (summary-left words places place in_places left l.of_places) l.of_words
+
+    -- it is 0, and the word above it isn't
+    pub levels-word_left : get_or (without_bit places place) (place / 64) 0 ≡ 0
+        → 0 < get_or (without_bit words (place / 64)) (place / 64 / 64) 0
+        → AreLevels count (without_bit places place) (without_bit words (place / 64)) groups
+    levels-word_left zero left = alike (length-without_bit places place)
+        (length-without_bit words (place / 64)) refl none_more
+        (summary-without_bit words places place in_words zero l.of_places)
+        (summary-left groups words (place / 64) in_words left l.of_words)
+
+    -- both are 0
+    pub levels-cleared : get_or (without_bit places place) (place / 64) 0 ≡ 0
+        → get_or (without_bit words (place / 64)) (place / 64 / 64) 0 ≡ 0
+        → AreLevels count (without_bit places place) (without_bit words (place / 64))
+        (without_bit groups (place / 64 / 64))
+    levels-cleared zero word_zero = alike (length-without_bit places place)
+        (length-without_bit words (place / 64)) (length-without_bit groups (place / 64 / 64))
+        none_more (summary-without_bit words places place in_words zero l.of_places)
+        (summary-without_bit groups words (place / 64) in_groups word_zero l.of_words)
+
+    pub shown-cleared : {ps : List ℕ} → ps ≡ without_bit places place
+        → bits count ps ≡ set now place false
+    shown-cleared e = ap (λ (xs : List ℕ). bits count xs) e
+        ∙ bits-without_bit count places place in_places
+        ∙ ap (λ (bs : List Bool). set bs place false) shows
 
 -- ---- the lowest
 
--- the lowest bit above leads to the first word that isn't 0
-pub lowest-word : (upper lower : List ℕ) (i : ℕ) → IsSummary upper lower → IsLowest upper i
-    → (0 < get_or lower i 0) × AreZeroBelow lower i
-lowest-word upper lower i s low = (
-  elim (cases_eq (get_or lower i 0) 0) [
-    | inl e ↦ absurd (omega (arith, s.none i e, low.set))
-    | inr other ↦ omega arith
-  ],
-  λ k h. elim (cases_eq (get_or lower k 0) 0) [
-    | inl e ↦ e
-    | inr other ↦ absurd (omega (arith, s.some k (omega arith), low.below k h))
-  ],
-)
+-- The lowest bit above leads to the first word that isn't 0, in the lists as the calls were given
+-- them.
+pub next-word : {upper lower seen below : List ℕ} (i : ℕ) → seen ≡ upper → below ≡ lower
+    → IsSummary upper lower → length lower < 2 ^ 32 → IsLowest seen i
+    → record { few : i < 2 ^ 32; some : 0 < get_or below i 0; below : AreZeroBelow below i }
+next-word {upper} {lower} {seen} {below} i u l s few low =
+    let some : 0 < get_or below i 0 = elim (cases_eq (get_or below i 0) 0) [
+      | inl e ↦ absurd (omega (arith, bit-of i, s.none i (same i ∙ e), low.set))
+      | inr other ↦ omega arith
+    ] in
+    record {
+      few = elim (cases_lt i (length below)) [
+        | inl within ↦ omega (arith, within, few, ap (λ (xs : List ℕ). length xs) l)
+        | inr past ↦ absurd (omega (arith, some, get_or_past below i 0 past))
+      ];
+      some = some;
+      below = λ k h. elim (cases_eq (get_or below k 0) 0) [
+        | inl e ↦ e
+        | inr other ↦ absurd (omega (
+          arith,
+          bit-of k,
+          s.some k (omega (arith, same k)),
+          low.below k h,
+        ))
+      ];
+    }
+  where
+    same : (k : ℕ) → get_or lower k 0 ≡ get_or below k 0
+    same k = ap (λ (xs : List ℕ). get_or xs k 0) (sym l)
 
--- the same of the lists that the calls were given
-pub lowest-word_seen : (upper lower seen below : List ℕ) (i : ℕ) → seen ≡ upper → below ≡ lower
-    → IsSummary upper lower → IsLowest seen i → (0 < get_or below i 0) × AreZeroBelow below i
-lowest-word_seen upper lower seen below i u l s low =
-    subst (λ (xs : List ℕ). (0 < get_or xs i 0) × AreZeroBelow xs i) (sym l)
-    (lowest-word upper lower i s (subst (λ (xs : List ℕ). IsLowest xs i) u low))
+    bit-of : (k : ℕ) → bit seen k ≡ bit upper k
+    bit-of k = ap (λ (xs : List ℕ). bit xs k) u
 
 -- the first word that isn't 0 has the lowest bit
 pub lowest-bit : (words : List ℕ) (index place : ℕ) → 0 < get_or words index 0
@@ -274,15 +267,24 @@ lowest-bit words index place some fits below is =
       ];
     }
 
--- the first word that isn't 0
-pub first-some : (words : List ℕ) (index : ℕ) → position is_set words ≡ Some index
-    → (index < length words) × (0 < get_or words index 0) × AreZeroBelow words index
-first-some words index found =
-    let at = position-Some is_set words index 0 found in (
-      at.0,
-      grind (arith, nat_tests, at.1),
-      λ k h. let zero = at.2 k h in grind (arith, nat_tests, zero),
-    )
+-- the first word that isn't 0, in the list as it is given again
+pub first-word : {words seen again : List ℕ} (index : ℕ) → seen ≡ words → again ≡ words
+    → length words < 2 ^ 32 → position is_set seen ≡ Some index
+    → record {
+      few : index < 2 ^ 32;
+      some : 0 < get_or again index 0;
+      below : AreZeroBelow again index;
+    }
+first-word {words} {seen} {again} index e a few found =
+    let at = position-Some is_set seen index 0 found in
+    record {
+      few = omega (arith, at.0, few, ap (λ (xs : List ℕ). length xs) e);
+      some = let some = at.1 in grind (arith, nat_tests, some, same index);
+      below = λ k h. let zero = at.2 k h in grind (arith, nat_tests, zero, same k);
+    }
+  where
+    same : (k : ℕ) → get_or again k 0 ≡ get_or seen k 0
+    same k = ap (λ (xs : List ℕ). get_or xs k 0) (a ∙ sym e)
 
 pub first-none : (words : List ℕ) → position is_set words ≡ None → (k : ℕ) → get_or words k 0 ≡ 0
 first-none words none k = elim (cases_lt (position_or_len is_set words) (length words)) [
@@ -320,10 +322,10 @@ unfolding bits
 bit-at count k words h =
     get_or-map-range_with_len (λ i. bit words i == 1) 0 count k k false h (omega arith)
 
-pub lowest-place : (count place : ℕ) (places words groups : List ℕ)
+pub lowest-place : {count place : ℕ} {places words groups : List ℕ}
     → AreLevels count places words groups → IsLowest places place
     → (place < count) × (position itself (bits count places) ≡ Some place)
-lowest-place count place places words groups l low =
+lowest-place {count} {place} {places} {words} {groups} l low =
     let within : place < count = elim (cases_lt place count) [
       | inl under ↦ under
       | inr past ↦ absurd (omega (arith, l.no_more place past, low.set))
@@ -335,9 +337,9 @@ lowest-place count place places words groups l low =
           ∙ ap (λ b. b == 1) (low.below k h)),
     )
 
-pub lowest-none : (count : ℕ) (places words groups : List ℕ) → AreLevels count places words groups
+pub lowest-none : {count : ℕ} {places words groups : List ℕ} → AreLevels count places words groups
     → ((k : ℕ) → get_or groups k 0 ≡ 0) → position itself (bits count places) ≡ None
-lowest-none count places words groups l none =
+lowest-none {count} {places} {words} {groups} l none =
     let zero = none-below words places l.of_places (none-below groups words l.of_words none) in
     position-is_none (bits count places) (λ k. elim (cases_lt k count) [
       | inl within ↦ bit-at count k places within
@@ -349,26 +351,15 @@ lowest-none count places words groups l none =
 
 -- ---- every number of a word, and every place, is below 2^32
 
-pub lengths-few : (count : ℕ) (places words groups : List ℕ) → AreLevels count places words groups
+pub lengths-few : {count : ℕ} {places words groups : List ℕ} → AreLevels count places words groups
     → (length places < 2 ^ 32) × (length words < 2 ^ 32) × (length groups < 2 ^ 32)
-lengths-few count places words groups l = (
+lengths-few l = (
   omega (arith, l.few, l.places_are),
   omega (arith, l.few, l.places_are, l.words_are),
   omega (arith, l.few, l.places_are, l.words_are, l.groups_are),
 )
 
-pub few-within : (xs seen : List ℕ) (i : ℕ) → seen ≡ xs → length xs < 2 ^ 32 → i < length seen
-    → i < 2 ^ 32
-few-within xs seen i is few within = omega (arith, ap (λ (ys : List ℕ). length ys) is, few, within)
-
-pub few-some : (xs seen : List ℕ) (i : ℕ) → seen ≡ xs → length xs < 2 ^ 32 → 0 < get_or seen i 0
-    → i < 2 ^ 32
-few-some xs seen i is few some = few-within xs seen i is few (elim (cases_lt i (length seen)) [
-  | inl within ↦ within
-  | inr past ↦ absurd (omega (arith, some, get_or_past seen i 0 past))
-])
-
-pub few-lowest : (count place : ℕ) (places words groups : List ℕ)
+pub few-lowest : {count place : ℕ} {places words groups : List ℕ}
     → AreLevels count places words groups → IsLowest places place → place < 2 ^ 32
-few-lowest count place places words groups l low =
-    omega (arith, l.few, (lowest-place count place places words groups l low).0)
+few-lowest l low =
+    omega (arith, l.few, (lowest-place l low).0)

@@ -6,7 +6,7 @@ use Rattle.hierarchical_bitmap.proofs.bitmap.Bitmap.empty.Goals as goal
 
 pub invariant_of-result : goal.invariant_of-result
 invariant_of-result c =
-    levels-are c.args.count _ _ _ _ _ _ c.in_ok-zeros.ensures c.in_ok-zeros-2.ensures
+    levels-are c.in_ok-zeros.ensures c.in_ok-zeros-2.ensures
     c.in_ok-zeros-3.ensures
     (levels-zeros c.args.count _ _ _ (omega (arith, c.ranges.count)) refl refl refl)
 

@@ -1,39 +1,20 @@
-use Rattle.std.proofs.Common.{ℕ, ap, ◌∙◌, List, Bool, set, true}
-use Rattle.hierarchical_bitmap.specs.Levels.{bits}
-use Rattle.hierarchical_bitmap.proofs.Bits.{bits-with_bit}
-use Rattle.hierarchical_bitmap.proofs.Summaries.{all-within, levels-are, levels-set, place-within}
+use Rattle.hierarchical_bitmap.proofs.Summaries.{in_groups, in_places, in_words, levels-are}
+use Rattle.hierarchical_bitmap.proofs.Summaries.{levels-set, shown-set}
 use Rattle.hierarchical_bitmap.proofs.bitmap.Bitmap.set.Goals as goal
 
 pub set_bit-requires : goal.set_bit-requires
-set_bit-requires c =
-    let b = c.self.inside in
-    let within = place-within b.count c.args.place b.places.items _ c.self.view_is c.requires in
-    (all-within _ _ _ _ c.self.invariant c.args.place within).0
+set_bit-requires c = in_places c.self.invariant c.self.view_is c.args.place c.requires
 
 pub set_bit-requires-2 : goal.set_bit-requires-2
-set_bit-requires-2 c =
-    let b = c.self.inside in
-    let within = place-within b.count c.args.place b.places.items _ c.self.view_is c.requires in
-    (all-within _ _ _ _ c.self.invariant c.args.place within).1
+set_bit-requires-2 c = in_words c.self.invariant c.self.view_is c.args.place c.requires
 
 pub set_bit-requires-3 : goal.set_bit-requires-3
-set_bit-requires-3 c =
-    let b = c.self.inside in
-    let within = place-within b.count c.args.place b.places.items _ c.self.view_is c.requires in
-    (all-within _ _ _ _ c.self.invariant c.args.place within).2
+set_bit-requires-3 c = in_groups c.self.invariant c.self.view_is c.args.place c.requires
 
 pub invariant_of-self : goal.invariant_of-self
-invariant_of-self c =
-    let b = c.self.inside in
-    let within = place-within b.count c.args.place b.places.items _ c.self.view_is c.requires in
-    levels-are b.count _ _ _ _ _ _ c.set_bit.ensures c.set_bit-2.ensures c.set_bit-3.ensures
-    (levels-set _ _ _ _ c.self.invariant c.args.place within)
+invariant_of-self c = levels-are c.set_bit.ensures c.set_bit-2.ensures c.set_bit-3.ensures
+    (levels-set c.self.invariant c.self.view_is c.args.place c.requires)
 
 pub returns : goal.returns
 returns c =
-    let b = c.self.inside in
-    let within = place-within b.count c.args.place b.places.items _ c.self.view_is c.requires in
-    ap (λ (xs : List ℕ). bits b.count xs) c.set_bit.ensures
-    ∙ bits-with_bit b.count b.places.items c.args.place
-    (all-within _ _ _ _ c.self.invariant c.args.place within).0
-    ∙ ap (λ (bs : List Bool). set bs c.args.place true) c.self.view_is
+    shown-set c.self.invariant c.self.view_is c.args.place c.requires c.set_bit.ensures
