@@ -81,17 +81,6 @@ more-copied s new from n t home c = record {
 
 -- ---- the world of a copy
 
-pub copied-shared : (w : World) (s : Store) (T : Tables) (t : ℕ) (e : Entry) → e.shared ≡ true
-    → entry_copied (in_world w s T) t e ≡ (in_world w (with_more s e.frame) T, e)
-copied-shared w s T t e shared = ap (λ b. by b) shared
-  where
-    by : Bool → World × Entry
-    by b = (
-      cond b (in_world w s T)
-          (with_fresh (in_world w s T) t (page_of (joined s.pages) e.frame)),
-      cond b e (record e { frame = lowest_free_frame (in_world w s T) }),
-    )
-
 pub copied-private : (w : World) (s new : Store) (T : Tables) (t n : ℕ) (e : Entry)
     → e.shared ≡ false → HasAllHome s → is_free (owner_at s e.frame) ≡ false
     → Some n ≡ position is_free s.owners → IsCopied s e.frame n t new

@@ -200,10 +200,6 @@ kept-none B R W n is e = record {
 
 -- ---- an end less
 
--- a pipe with an end is not changed at others
-pub others-drop : (R : List ℕ) (i n j : ℕ) → j ≢ i → get_or (set R i n) j 0 ≡ get_or R j 0
-others-drop R i n j other = get_or-set_other R i j n 0 other
-
 -- an open pipe has an end
 pub not-closed : (a b : ℕ) → not ((a == 0) && (b == 0)) ≡ true → a ≡ 0 → b ≡ 0 → ⊥
 not-closed a b e p q =
