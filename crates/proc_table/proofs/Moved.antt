@@ -6,7 +6,7 @@ use Rattle.std.proofs.Common.{◌∙◌, arith}
 use Rattle.std.specs.Prelude.{not, ◌==◌}
 use Rattle.std.proofs.lemmas.Bool.{cases_order, and_parts}
 use Rattle.std.proofs.lemmas.Bool.Decides.{nat_tests}
-use Rattle.std.proofs.lemmas.Option.{get_or_from_slice_get}
+use Rattle.std.proofs.lemmas.Option.{get_or_from_slice_get, slice_get-get_or}
 use Rattle.dos_world.specs.Numbered.{numbered, changed, changed_at}
 use Rattle.proc_table.specs.declared.record.Record.{Record}
 use Rattle.proc_table.specs.Places.{is_collected, place_in, place_of}
@@ -34,6 +34,15 @@ read_of xs zero x e = cc
 read_of xs (suc i) x e =
     let same : suc i - 1 ≡ i = omega arith in
     sym (ap (λ k. get_or xs k x) same ∙ get_or_from_slice_get xs i x x e)
+
+-- the element that is read by its number
+pub number_read : {A : Type 0} (xs : List A) (n : ℕ) (x : A) → 0 < n → n ≤ length xs
+    → x ≡ get_or xs (n - 1) x → numbered xs n ≡ Some x
+number_read xs zero x a b read = absurd (omega arith)
+number_read xs (suc i) x a b read =
+    let same : suc i - 1 ≡ i = omega arith in
+    slice_get-get_or xs i x (omega arith)
+    ∙ ap (λ y. Some y) (sym (read ∙ ap (λ k. get_or xs k x) same))
 
 module _ {A : Type 0} where
   pub beyond : (xs : List A) (n : ℕ) → length xs < n → numbered xs n ≡ None
@@ -106,6 +115,12 @@ module _ {A : Type 0} where
   pub given_in : (xs : List A) (n : ℕ) → IsSome (numbered xs n) → (0 < n) × (n ≤ length xs)
   given_in xs n h =
       let at = some_of (numbered xs n) h in (given_from xs n at.1, given_to xs n at.1)
+
+  -- what stands at the place of a number, in the list as it is kept
+  pub kept_given : {xs ys : List A} → xs ≡ ys → (n : ℕ) → IsSome (numbered ys n) → n - 1 < length xs
+  kept_given e n h =
+      let given = given_in _ n h in
+      omega (arith, given.0, given.1, ap (λ (zs : List A). length zs) e)
 
   -- who is within has an element
   pub there : (xs : List A) (n : ℕ) → 0 < n → n ≤ length xs → IsSome (numbered xs n)

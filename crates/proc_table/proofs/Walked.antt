@@ -12,18 +12,9 @@ use Rattle.proc_table.specs.declared.record.Record.{Record}
 use Rattle.proc_table.specs.Places.{first_child, has_come, is_child_record, orphan_record}
 use Rattle.proc_table.specs.Links.{IsNext, IsWalkable, is_child_at, is_uncollected, passes}
 use Rattle.proc_table.specs.Links.{passes_at}
-use Rattle.proc_table.proofs.Moved.{child_from, child_to, read_again}
-use Rattle.proc_table.proofs.Ways.{from_child, links_of, on}
+use Rattle.proc_table.proofs.Moved.{child_from, child_to, number_read, read_again}
+use Rattle.proc_table.proofs.Ways.{from_child, links_read, on}
 use Rattle.proc_table.proofs.Children.{lowest_at, lowest_nowhere}
-
--- the element that is read by its number
-pub number_read : {A : Type 0} (xs : List A) (n : ℕ) (x : A) → 0 < n → n ≤ length xs
-    → x ≡ get_or xs (n - 1) x → numbered xs n ≡ Some x
-number_read xs zero x a b read = absurd (omega arith)
-number_read xs (suc i) x a b read =
-    let same : suc i - 1 ≡ i = omega arith in
-    slice_get-get_or xs i x (omega arith)
-    ∙ ap (λ y. Some y) (sym (read ∙ ap (λ k. get_or xs k x) same))
 
 -- a walk has come to j: a child, or the end, and nobody before it passes
 pub record IsReached (test child : ℕ → Bool) (j : ℕ) : Type 0 where
@@ -49,10 +40,9 @@ module _ {R : List Record} {L : List Links} {p : ℕ} (walk : IsWalkable R L p) 
   pub first_next : (d : Links) → IsNext (is_child_at R p) 0 (get_or L (p - 1) d).first
   first_next d =
       subst (λ j. IsNext (is_child_at R p) 0 j)
-      (ap (λ (l : Links). l.first) (ap links_of
-      (number_read L p (get_or L (p - 1) d) walk.from
+      (ap (λ (l : Links). l.first) (links_read L p (get_or L (p - 1) d) walk.from
       (omega (arith, walk.within, walk.count))
-      (read_again L (p - 1) d (omega (arith, walk.from, walk.within, walk.count))))))
+      (read_again L (p - 1) d (omega (arith, walk.from, walk.within, walk.count)))))
       (walk.linked.after p 0 walk.from walk.within (inl refl))
 
   pub child_next : (n : ℕ) → is_child_at R p n ≡ true → (d : Links)
@@ -62,9 +52,9 @@ module _ {R : List Record} {L : List Links} {p : ℕ} (walk : IsWalkable R L p) 
       let to : n ≤ length R = child_to R p n t in
       subst (λ j. IsNext (is_child_at R p) n j)
       (from_child on L p n (λ e. omega arith)
-      ∙ ap (λ (l : Links). l.next) (ap links_of
-      (number_read L n (get_or L (n - 1) d) from (omega (arith, to, walk.count))
-      (read_again L (n - 1) d (omega (arith, from, to, walk.count))))))
+      ∙ ap (λ (l : Links). l.next) (links_read L n (get_or L (n - 1) d) from
+      (omega (arith, to, walk.count))
+      (read_again L (n - 1) d (omega (arith, from, to, walk.count)))))
       (walk.linked.after p n walk.from walk.within (inr t))
 
   pub child_within : (n : ℕ) → is_child_at R p n ≡ true → (0 < n) × (n ≤ length R)

@@ -1,6 +1,7 @@
 -- The two ways along the links, on to the next child and back to the one before: what is read of a
 -- link that is written, and what stays.
-use Rattle.std.proofs.Common.{◌≡◌, ◌≢◌, ℕ, ◌<◌, ◌≤◌, Bool, true, false, cond, List, length}
+use Rattle.std.proofs.Common.{◌≡◌, ◌≢◌, ℕ, ◌-◌, ◌<◌, ◌≤◌, Bool, true, false, cond, List, length}
+use Rattle.std.proofs.Common.{get_or}
 use Rattle.std.proofs.Common.{Option, Some, None, option_map, IsSome, inl, inr, refl, sym, ap, ◌∙◌}
 use Rattle.std.proofs.Common.{subst, arith}
 use Rattle.std.specs.Prelude.{◌==◌}
@@ -8,10 +9,11 @@ use Rattle.std.proofs.lemmas.Bool.{cases_eq, cases_order}
 use Rattle.std.proofs.lemmas.Bool.Decides.{nat_tests}
 use Rattle.dos_world.specs.Numbered.{numbered, changed}
 use Rattle.proc_table.specs.declared.record.Links.{Links}
-use Rattle.proc_table.specs.Links.{first_to, last_to, links_at, next_to, no_links, previous_to}
+use Rattle.proc_table.specs.Links.{first_to, last_to, links_at, next_in, next_to, no_links}
+use Rattle.proc_table.specs.Links.{previous_in, previous_to}
 use Rattle.proc_table.proofs.Lengths.{changed_length}
 use Rattle.proc_table.proofs.Linked.{IsMoved}
-use Rattle.proc_table.proofs.Moved.{beyond, elsewhere, here, there}
+use Rattle.proc_table.proofs.Moved.{beyond, elsewhere, here, number_read, there}
 
 -- ---- the links of one number
 
@@ -23,6 +25,10 @@ not_at n m apart = grind (arith, nat_tests)
 
 abbrev pub links_of : Option Links → Links
 links_of o = elim o [ None ↦ no_links | Some l ↦ l ]
+
+pub links_read : (L : List Links) (n : ℕ) (x : Links) → 0 < n → n ≤ length L
+    → x ≡ get_or L (n - 1) x → links_at L n ≡ x
+links_read L n x some within read = ap links_of (number_read L n x some within read)
 
 pub links_here : (f : Links → Links) (L : List Links) (n : ℕ) → 0 < n → n ≤ length L
     → links_at (changed f L n) n ≡ f (links_at L n)
@@ -185,3 +191,14 @@ module _ (w : Way) where
               (field_stays w.head (w.link_to b) (w.head_stays b) L a q)
               (ap w.link (links_elsewhere (w.link_to b) L a n apart));
         })
+
+-- what is read of a child's own links
+pub own_read : (L : List Links) (p : ℕ) {c : ℕ} {x : Links}
+    → (0 < c) × (c ≤ length L) × (c < 65536) → x ≡ get_or L (c - 1) x
+    → (x.previous ≡ previous_in L p c) × (x.next ≡ next_in L p c)
+own_read L p {c} {x} given read =
+    let is : links_at L c ≡ x = links_read L c x given.0 given.1 read in (
+      sym (from_child back L p c (λ e. omega (arith, given.2, e))
+          ∙ ap (λ (l : Links). l.previous) is),
+      sym (from_child on L p c (λ e. omega (arith, given.0, e)) ∙ ap (λ (l : Links). l.next) is),
+    )

@@ -1,4 +1,4 @@
-use Rattle.std.proofs.Common.{sym, ◌∙◌, ap, ◌+◌, ◌<◌, arith}
+use Rattle.std.proofs.Common.{sym, ◌∙◌, ap, ◌+◌, arith}
 use Rattle.proc_table.proofs.Standing.{added_standing, given_shown, has_place, parent_within}
 use Rattle.proc_table.proofs.processes.Processes.add.Goals as goal
 
@@ -6,10 +6,12 @@ pub unreachable-requires : goal.unreachable-requires
 unreachable-requires c = has_place c.self.view_is c.self.invariant c.requires.room (sym c.in-None.ensures)
 
 pub overflow_add-number : goal.overflow_add-number
-overflow_add-number c =
-    let room : c.len-number.result < 65535 =
-    omega (arith, c.len-number.ensures, given_shown c.self.view_is c.self.invariant, c.requires.numbers) in
-    grind arith
+overflow_add-number c = omega (
+  arith,
+  c.len-number.ensures,
+  given_shown c.self.view_is c.self.invariant,
+  c.requires.numbers,
+)
 
 pub add-requires-clause-numbers : goal.add-requires-clause-numbers
 add-requires-clause-numbers c =
