@@ -57,7 +57,7 @@ module _ (page count : ℕ) (e : ℕ × Entry) where
   ]
 
 module _ (es : List (ℕ × Entry)) (rising : IsRising es) where
-  next-page : (i : ℕ) → i + 1 < length es → page_at es i < page_at es (i + 1)
+  pub next-page : (i : ℕ) → i + 1 < length es → page_at es i < page_at es (i + 1)
   next-page i h =
       let count : length (map (λ (e : ℕ × Entry). e.0) es) ≡ length es =
       length-map es (λ (e : ℕ × Entry). e.0) in

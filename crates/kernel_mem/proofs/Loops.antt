@@ -1,13 +1,13 @@
 -- A space copied entry by entry.
 use Rattle.std.proofs.Common.{◌≡◌, ◌≢◌, ℕ, zero, suc, ◌+◌, ◌<◌, false, cond, inl, inr, List, []}
-use Rattle.std.proofs.Common.{◌∷◌, ◌++◌, length, get_or, slice_get, take, map, Option, Some, None}
+use Rattle.std.proofs.Common.{◌∷◌, ◌++◌, length, get_or, slice_get, take, Option, Some, None}
 use Rattle.std.proofs.Common.{IsSome}
 use Rattle.std.proofs.Common.{IfSome, option_map, option_and_then, length-append, refl, sym, ap}
 use Rattle.std.proofs.Common.{subst, ◌∙◌, arith}
 use Rattle.std.specs.Prelude.{◌==◌, nat_lt, find}
 use Rattle.std.proofs.lemmas.Bool.{cases_eq}
 use Rattle.std.proofs.lemmas.Bool.Decides.{nat_tests}
-use Rattle.std.proofs.lemmas.List.{length-map, get_or-map, take_more, get_or_append_left}
+use Rattle.std.proofs.lemmas.List.{take_more, get_or_append_left}
 use Rattle.std.proofs.lemmas.List.Sums.{sum_by-append, sum_by-cons}
 use Rattle.std.proofs.lemmas.Option.{get_or_from_slice_get}
 use Rattle.dos_world.specs.declared.Entry.{Entry}
@@ -25,6 +25,7 @@ use Rattle.kernel_mem.specs.Memory.{entries_of}
 use Rattle.kernel_mem.specs.MemoryWorld.{in_world, space_in, HasAllHome}
 use Rattle.kernel_mem.specs.Forking.{entry_copied, IsUsedMore, taken_by, with_space}
 use Rattle.kernel_mem.proofs.Copies.{private-more}
+use Rattle.kernel_mem.proofs.DropRun.{next-page}
 
 -- ---- what processes have, changed
 
@@ -240,17 +241,6 @@ page-last [] e (suc n) l = absurd (omega arith)
 page-last (x ∷ cs) e zero l = absurd (omega arith)
 page-last (x ∷ cs) e (suc n) l = page-last cs e n (omega arith)
 
-rises : (es : List (ℕ × Entry)) (k : ℕ) → IsRising es → k + 1 < length es
-    → page_at es k < page_at es (k + 1)
-rises es k sorted h =
-    let count : length (map (λ (e : ℕ × Entry). e.0) es) ≡ length es =
-    length-map es (λ (e : ℕ × Entry). e.0) in
-    let one : get_or (map (λ (e : ℕ × Entry). e.0) es) k 0 ≡ page_at es k =
-    get_or-map (λ (e : ℕ × Entry). e.0) es k (0, no_page) 0 (omega arith) in
-    let two : get_or (map (λ (e : ℕ × Entry). e.0) es) (k + 1) 0 ≡ page_at es (k + 1) =
-    get_or-map (λ (e : ℕ × Entry). e.0) es (k + 1) (0, no_page) 0 (omega arith) in
-    omega (arith, sorted k (omega arith))
-
 -- the entry of a process that is copied next
 pub record IsNextEntry (old_table : Tables) (pid i : ℕ) (e : ℕ × Entry) : Type 0 where
   pub within : i < length (space_in old_table pid)
@@ -344,7 +334,7 @@ module _ {s0 s : Store} {old_table T : Tables} {pid child tid i : ℕ}
           ap-below h k l =
               let after : page_at (space_in old_table pid) i < page_at (space_in old_table pid)
               (i + 1) =
-              rises (space_in old_table pid) i next.sorted h in
+              next-page (space_in old_table pid) next.sorted i h in
               let now : page_at (space_in next_table child) k
               ≡ page_at (space_in T child ++ (e.0, copy) ∷ []) k =
               ap (λ (es : List (ℕ × Entry)). page_at es k) space-now in

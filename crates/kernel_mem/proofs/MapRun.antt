@@ -84,7 +84,7 @@ pub record IsMapping (s0 : Store) (old_table : Tables) (t p page rights count i 
   pub free : free_count s + i ≡ free_count s0
   pub uses : HasUsesOf (space_in old_table p) s0 (space_in T p) s
 
-pub mapping-none : (s : Store) (T : Tables) (t p page rights count : ℕ) → HasAllHome s
+mapping-none : (s : Store) (T : Tables) (t p page rights count : ℕ) → HasAllHome s
     → IsProcess T.processes p → maps_any (space_in T p) page count ≡ false
     → IsMapping s T t p page rights count 0 s T
 mapping-none s T t p page rights count home live none = record {
@@ -99,17 +99,16 @@ mapping-none s T t p page rights count home live none = record {
   uses = λ f. refl;
 }
 
-pub mapping-more : (s0 s s1 : Store) (old_table T next_table : Tables)
-    (t p page rights count i frame : ℕ)
+mapping-more : {s0 s s1 : Store} {old_table T next_table : Tables}
+    {t p page rights count i frame : ℕ}
     → IsMapping s0 old_table t p page rights count i s T → position is_free s.owners ≡ Some frame
     → s1 ≡ with_owned s frame t
     → next_table ≡ held_by (with_entry (page + i) (private_entry frame rights)) T p
     → ((w : World) → in_world w s1 next_table ≡ page_mapped t p rights (in_world w s T) (page + i))
     → HasAllHome s1 → IsUnused s frame
     → IsMapping s0 old_table t p page rights count (i + 1) s1 next_table
-mapping-more s0 s s1 old_table T next_table t p page rights count i frame so_far found frames table
-    one home unused
-    =
+mapping-more {s0} {s} {s1} {old_table} {T} {next_table} {t} {p} {page} {rights} {count} {i} {frame}
+    so_far found frames table one home unused =
     let entry : Entry = private_entry frame rights in
     let space : space_in next_table p ≡ put (page + i) entry (space_in T p) =
     space-changed (put (page + i) entry) T next_table p so_far.live table in
@@ -158,12 +157,12 @@ pub record IsFilling (s0 : Store) (old_table : Tables) (t p page rights count i 
   pub stands : T ≡ held_by (with_space (put_run (page + i) (count - i) (private_entry 0 rights)
       (space_in filled p))) old_table p
 
-pub filling-none : (s : Store) (old_table T : Tables) (t p page rights count : ℕ) (entry : Entry)
+pub filling-none : {s : Store} {old_table T : Tables} (t p page rights count : ℕ) {entry : Entry}
     → HasAllHome s → IsProcess old_table.processes p
     → maps_any (space_in old_table p) page count ≡ false → entry ≡ private_entry 0 rights
     → T ≡ held_by (run_put page count entry) old_table p
     → IsFilling s old_table t p page rights count 0 s T
-filling-none s old_table T t p page rights count entry home live none blank table =
+filling-none {s} {old_table} {T} t p page rights count {entry} home live none blank table =
     let first : page ≡ page + 0 = omega arith in
     let all : count ≡ count - 0 = omega arith in
     record {
@@ -176,7 +175,7 @@ filling-none s old_table T t p page rights count entry home live none blank tabl
           ∙ ap₂ (λ a n. put_run a n (private_entry 0 rights) (space_in old_table p)) first all);
     }
 
-module _ (s0 s : Store) (old_table T : Tables) (t p page rights count i : ℕ)
+module _ {s0 s : Store} {old_table T : Tables} {t p page rights count i : ℕ}
     (alive : IsProcess old_table.processes p)
     (so_far : IsFilling s0 old_table t p page rights count i s T) where
   pub filling-lives : IsProcess T.processes p
@@ -204,12 +203,12 @@ module _ (s0 s : Store) (old_table T : Tables) (t p page rights count i : ℕ)
       subst (λ n. IsMapping s0 old_table t p page rights count n s T) end
       (subst (λ U. IsMapping s0 old_table t p page rights count i s U) (sym all) so_far.mapping)
 
-  pub filling-more : (s1 : Store) (next_table : Tables) (frame : ℕ) → i < count
+  pub filling-more : {s1 : Store} {next_table : Tables} {frame : ℕ} → i < count
       → position is_free s.owners ≡ Some frame → s1 ≡ with_owned s frame t
       → next_table ≡ held_by (entry_replaced (page + i) (private_entry frame rights)) T p
       → HasAllHome s1 → IsUnused s frame
       → IsFilling s0 old_table t p page rights count (i + 1) s1 next_table
-  filling-more s1 next_table frame h found frames table home unused =
+  filling-more {s1} {next_table} {frame} h found frames table home unused =
       let entry : Entry = private_entry frame rights in
       let space : List (ℕ × Entry) = space_in so_far.filled p in
       let next : Tables = held_by (with_entry (page + i) entry) so_far.filled p in
@@ -227,8 +226,7 @@ module _ (s0 s : Store) (old_table T : Tables) (t p page rights count i : ℕ)
       ∙ page_step w s so_far.filled t p rights (page + i) frame (sym found) within in
       record {
         filled = next;
-        mapping = mapping-more s0 s s1 old_table so_far.filled next t p page rights count i frame
-            so_far.mapping found frames refl one home unused;
+        mapping = mapping-more so_far.mapping found frames refl one home unused;
         stands = table-changed (with_replaced (page + i) entry) T next_table old_table p
             (put_run (page + i) (count - i) (private_entry 0 rights) space) so_far.stands table
             ∙ ap (λ es. held_by (with_space es) old_table p)

@@ -18,19 +18,14 @@ put_run-requires-clause-unmapped c =
     ∙ c.requires.unmapped)
 
 pub loop-index-init : goal.loop-index-init
-loop-index-init c = filling-none c.args.frames.now c.args.table.now c.put_run.new.self
-    c.args.tid c.args.pid c.args.page c.args.rights c.args.count c.private_entry.result
+loop-index-init c = filling-none c.args.tid c.args.pid c.args.page c.args.rights c.args.count
     c.requires.home c.requires.live c.requires.unmapped c.private_entry.ensures c.put_run.ensures
 
 pub fill_page-requires-clause-live : goal.fill_page-requires-clause-live
-fill_page-requires-clause-live c = filling-lives c.args.frames.now c.loop-index.frames
-    c.args.table.now c.loop-index.table c.args.tid c.args.pid c.args.page c.args.rights
-    c.args.count c.loop-index.index c.requires.live c.loop-index.invariant
+fill_page-requires-clause-live c = filling-lives c.requires.live c.loop-index.invariant
 
 pub fill_page-requires-clause-mapped : goal.fill_page-requires-clause-mapped
-fill_page-requires-clause-mapped c = filling-mapped c.args.frames.now c.loop-index.frames
-    c.args.table.now c.loop-index.table c.args.tid c.args.pid c.args.page c.args.rights
-    c.args.count c.loop-index.index c.requires.live c.loop-index.invariant
+fill_page-requires-clause-mapped c = filling-mapped c.requires.live c.loop-index.invariant
     c.loop-index-test.true
 
 pub fill_page-requires-clause-free : goal.fill_page-requires-clause-free
@@ -39,19 +34,14 @@ fill_page-requires-clause-free c =
     (omega (arith, c.loop-index.invariant.mapping.free)) (sym none)
 
 pub loop-index-preserved : goal.loop-index-preserved
-loop-index-preserved c = filling-more c.args.frames.now c.loop-index.frames c.args.table.now
-    c.loop-index.table c.args.tid c.args.pid c.args.page c.args.rights c.args.count
-    c.loop-index.index c.requires.live c.loop-index.invariant c.fill_page.new.frames
-    c.fill_page.new.table c.fill_page.result c.loop-index-test.true c.fill_page.ensures.frame
-    c.fill_page.ensures.frames c.fill_page.ensures.table c.fill_page.ensures.home
-    c.fill_page.ensures.unused
+loop-index-preserved c = filling-more c.requires.live c.loop-index.invariant
+    c.loop-index-test.true c.fill_page.ensures.frame c.fill_page.ensures.frames
+    c.fill_page.ensures.table c.fill_page.ensures.home c.fill_page.ensures.unused
 
 ends : (c : goal.After-loop-index)
     → IsMapping c.args.frames.now c.args.table.now c.args.tid c.args.pid c.args.page c.args.rights
     c.args.count c.args.count c.loop-index.frames c.loop-index.table
-ends c = filling-ends c.args.frames.now c.loop-index.frames c.args.table.now
-    c.loop-index.table c.args.tid c.args.pid c.args.page c.args.rights c.args.count
-    c.loop-index.index c.requires.live c.loop-index.invariant (omega arith)
+ends c = filling-ends c.requires.live c.loop-index.invariant (omega arith)
 
 pub returns-clause-maps : goal.returns-clause-maps
 returns-clause-maps c = (ends c).maps
