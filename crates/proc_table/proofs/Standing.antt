@@ -382,26 +382,34 @@ module _ {R : List Record} {holders : List (Option ℕ)} {S : List Mapping} {D :
 
   -- ---- a new process, at a place that no process holds
 
+  pub few_live : nat_le 32 (length (all_holdings now.processes)) ≡ false → count < 32
+  few_live few = omega (arith, living_shown, below (length (all_holdings now.processes)) few)
+    where
+      below : (n : ℕ) → nat_le 32 n ≡ false → n < 32
+      below n few = grind (arith, nat_tests)
+
   pub has_place : nat_le 32 (length (all_holdings now.processes)) ≡ false
       → position is_none holders ≡ None → ⊥
-  has_place few none = no_more (length (all_holdings now.processes)) few
-      (omega (
-        arith,
-        living_shown,
-        placed.holding,
-        placed.holders_count,
-        none_free holders none,
-      ))
-    where
-      no_more : (n : ℕ) → nat_le 32 n ≡ false → 32 ≤ n → ⊥
-      no_more n few h = grind (arith, nat_tests)
+  has_place few none = omega (
+    arith,
+    few_live few,
+    placed.holding,
+    placed.holders_count,
+    none_free holders none,
+  )
 
   module _ {place : ℕ} (first : position is_none holders ≡ Some place) where
     free : slice_get holders place ≡ Some None
     free = free_place holders place first
 
-    free_within : place < 32
+    pub free_within : place < 32
     free_within = omega (arith, slice_get_within holders place None free, placed.holders_count)
+
+    pub free_in_spaces : place < length S
+    free_in_spaces = omega (arith, free_within, placed.spaces_count)
+
+    pub free_in_belongings : place < length D
+    free_in_belongings = omega (arith, free_within, placed.belongings_count)
 
     pub added_standing : (parent : ℕ) {n : ℕ} {x y : Mapping} {b : Belongings} {new : List Record}
         → n ≡ length R → x ≡ get_or S place x → y ≡ record x { entries = [] }
@@ -411,9 +419,6 @@ module _ {R : List Record} {holders : List (Option ℕ)} {S : List Mapping} {D :
     added_standing parent {n} {x} {y} {b} {new} number read is begins e =
         let r : Record = record { parent = parent; kept = Live place } in
         let H : List (Option ℕ) = set holders place (Some (n + 1)) in
-        let in_spaces : place < length S = omega (arith, free_within, placed.spaces_count) in
-        let in_belongings : place < length D =
-        omega (arith, free_within, placed.belongings_count) in
         let in_holders : place < length holders =
         omega (arith, free_within, placed.holders_count) in
         let holder : IsHeld H (place_of r) (1 + length R) =
@@ -423,12 +428,12 @@ module _ {R : List Record} {holders : List (Option ℕ)} {S : List Mapping} {D :
         get_or_from_slice_get holders place None None free in
         let same_room : y.room ≡ room = ap (λ (s : Mapping). s.room) is
         ∙ ap (λ (s : Mapping). s.room) read
-        ∙ All-get_or (λ (s : Mapping). s.room ≡ room) S place x in_spaces placed.rooms in
+        ∙ All-get_or (λ (s : Mapping). s.room ≡ room) S place x free_in_spaces placed.rooms in
         record {
           shows = ap (λ ps. let g : Group = record { processes = ps; room = room } in g)
               (ap (λ c. shown (set S place y) (set D place c) new) begins
               ∙ ap (shown (set S place y) (set D place first_belongings)) e
-              ∙ shown_added R holders S D place parent y free in_spaces in_belongings
+              ∙ shown_added R holders S D place parent y free free_in_spaces free_in_belongings
               (ap (λ (s : Mapping). s.entries) is) placed.held)
               ∙ ap (λ (g : Group). let h : Group =
               record g { processes = g.processes ++ new_process parent ∷ [] } in h) shows;
