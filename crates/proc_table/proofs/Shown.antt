@@ -49,6 +49,9 @@ module _ {live : List (ℕ × Thread)} {given capacity : ℕ} {now : List (Optio
       → IsSome (live_in es t)
   lives_in t e h = subst (λ xs. IsSome (live_in xs t)) (sym e) (lives t h)
 
+  pub few_in : {es : List (ℕ × Thread)} → es ≡ live → length es ≤ 64
+  few_in e = omega (arith, kept.few, ap (λ (xs : List (ℕ × Thread)). length xs) e)
+
   pub stands : {t place : ℕ} → IsAt live t place
       → thread_in now t ≡ Some (get_or live place no_entry).1
   stands {t} {place} at = shown_at t ∙ in_at 1 (given + 1) live t place kept.rising at

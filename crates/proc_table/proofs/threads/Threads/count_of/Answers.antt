@@ -1,16 +1,12 @@
-use Rattle.std.proofs.Common.{ℕ, List, length, count_by, ap, sym, ◌∙◌, arith}
+use Rattle.std.proofs.Common.{ℕ, List, count_by, ap, sym, ◌∙◌}
 use Rattle.std.specs.Prelude.{◌==◌}
 use Rattle.std.proofs.lemmas.List.Sums.{length-filter}
 use Rattle.dos_world.specs.World.{Thread}
-use Rattle.proc_table.proofs.Shown.{belonging}
+use Rattle.proc_table.proofs.Shown.{belonging, few_in}
 use Rattle.proc_table.proofs.threads.Threads.count_of.Goals as goal
 
 pub count_in-requires : goal.count_in-requires
-count_in-requires c = omega (
-  arith,
-  c.self.invariant.few,
-  ap (λ (es : List (ℕ × Thread)). length es) c.deref.ensures.value,
-)
+count_in-requires c = few_in c.self.view_is c.self.invariant c.deref.ensures.value
 
 pub returns : goal.returns
 returns c =

@@ -1,15 +1,11 @@
-use Rattle.std.proofs.Common.{ℕ, List, length, map, sym, ap, ◌∙◌, refl, arith}
+use Rattle.std.proofs.Common.{ℕ, List, map, sym, ap, ◌∙◌, refl}
 use Rattle.std.specs.Prelude.{◌==◌, filter}
 use Rattle.dos_world.specs.World.{Thread, belongs_to}
-use Rattle.proc_table.proofs.Shown.{count_shown}
+use Rattle.proc_table.proofs.Shown.{count_shown, few_in}
 use Rattle.proc_table.proofs.threads.Threads.numbers_of.Goals as goal
 
 pub numbers_in-requires : goal.numbers_in-requires
-numbers_in-requires c = omega (
-  arith,
-  c.self.invariant.few,
-  ap (λ (es : List (ℕ × Thread)). length es) c.deref.ensures.value,
-)
+numbers_in-requires c = few_in c.self.view_is c.self.invariant c.deref.ensures.value
 
 pub returns : goal.returns
 returns c =
