@@ -1,10 +1,10 @@
 -- A page copied into another frame.
 use Rattle.std.proofs.Common.{◌≡◌, ◌≢◌, ℕ, zero, suc, true, false, List, [], ◌∷◌}
-use Rattle.std.proofs.Common.{get_or, set, Option, Some, None, refl, sym, ap, ◌∙◌}
-use Rattle.std.specs.Prelude.{position}
+use Rattle.std.proofs.Common.{◌<◌, length, get_or, set, Option, Some, None, refl, sym, ap, ◌∙◌}
+use Rattle.std.specs.Prelude.{position, slice_get}
 use Rattle.std.proofs.lemmas.List.{get_or-set_other}
 use Rattle.std.proofs.lemmas.List.Quantifiers.{position-Some}
-use Rattle.std.proofs.lemmas.Option.{get_or_from_slice_get}
+use Rattle.std.proofs.lemmas.Option.{get_or_from_slice_get, slice_get_within}
 use Rattle.dos_world.specs.World.{is_free}
 use Rattle.dos_world.specs.Reach.{written}
 use Rattle.dos_world.specs.declared.Owner.{Owner}
@@ -33,6 +33,18 @@ copied-page pages from to away here page new source apart home read is wrote = r
       ∙ get_or_from_slice_get pages from (Some home.0) here home.1
       ∙ sym (get_or_from_slice_get pages from (Some home.0) None home.1));
 }
+
+-- what is read of a page that is home
+module _ {pages now : List (Option (List ℕ))} (same : pages ≡ now) (frame : ℕ)
+    (home : IsHomeIn now frame) where
+  here-at : slice_get pages frame ≡ Some (Some home.0)
+  here-at = ap (λ ps. slice_get ps frame) same ∙ home.1
+
+  pub home-within : frame < length pages
+  home-within = slice_get_within pages frame (Some home.0) here-at
+
+  pub home-read : {x : Option (List ℕ)} → x ≡ get_or pages frame x → x ≡ Some home.0
+  home-read {x} read = read ∙ get_or_from_slice_get pages frame (Some home.0) x here-at
 
 -- what isn't Free isn't the lowest that is
 pub owned-apart : (owners : List Owner) (from i : ℕ) → is_free (get_or owners from Free) ≡ false
