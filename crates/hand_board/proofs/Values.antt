@@ -17,10 +17,6 @@ pub values_map : {T : Type 0} → (xs : List T) → values (map Some xs) ≡ xs
 values_map [] = refl
 values_map (x ∷ xs) = ap (λ z. x ∷ z) (values_map xs)
 
-pub map_same : {T : Type 0} → (xs ys : List T) (os : List (Option T)) → ys ≡ xs → os ≡ map Some xs
-    → os ≡ map Some ys
-map_same xs ys os e f = f ∙ ap (λ l. map Some l) (sym e)
-
 pub all_zero : (n i : ℕ) → slice_index (replicate n 0) i ≡ 0
 all_zero zero i = refl
 all_zero (suc n) zero = refl

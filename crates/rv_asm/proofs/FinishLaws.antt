@@ -59,14 +59,6 @@ placed_of s h =
       ];
     }
 
--- so there are few words and few bytes
-pub few_words : (s : Source) (count : ℕ) → IsPlaced s count → count ≤ 0x3BFFC000
-few_words s count p = omega (arith, p.above, p.below)
-
-pub few_bytes : (s : Source) (count : ℕ) → IsPlaced s count → data_size s.data_part < 2 ^ 32
-few_bytes s count p = elim p.data_placed [
-  | inl none ↦ omega (arith, ltb-false 0 (data_size s.data_part) none)
-  | inr placed ↦ omega (arith, placed.below)
 ]
 
 -- ---- the words

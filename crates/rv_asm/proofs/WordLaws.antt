@@ -12,10 +12,6 @@ abbrev pub after : List ℕ → Result (List ℕ) AsmError → Result (List ℕ)
 after done (Ok words) = Ok (done ++ words)
 after done (Err e) = Err e
 
-pub after-nil : (rest : Result (List ℕ) AsmError) → after [] rest ≡ rest
-after-nil (Ok words) = refl
-after-nil (Err e) = refl
-
 after-before : (done : List ℕ) (word : ℕ) (rest : Result (List ℕ) AsmError)
     → after (done ++ word ∷ []) rest ≡ after done (before (Ok word) rest)
 after-before done word (Ok words) = ap Ok (append_assoc done (word ∷ []) words)

@@ -75,12 +75,6 @@ at_rest : (e : ℕ × Entry) (es : List (ℕ × Entry)) (page n : ℕ) → IsAt 
     → IsAt es page n
 at_rest e es page n at = record { within = omega (arith, at.within); is = at.is }
 
-gap_rest : (e : ℕ × Entry) (es : List (ℕ × Entry)) (page n : ℕ) → IsGapFor (e ∷ es) page (suc n)
-    → IsGapFor es page n
-gap_rest e es page n gap = record {
-  within = omega (arith, gap.within);
-  lower = λ i lt. gap.lower (suc i) (omega arith);
-  higher = λ i le lt. gap.higher (suc i) (omega arith) (omega arith);
 }
 
 other_test : (e : ℕ × Entry) (page : ℕ) → (e.0 ≡ page → ⊥) → (e.0 == page) ≡ false
