@@ -6,7 +6,6 @@ use Rattle.std.specs.Prelude.{All, slice_get, slice_index_or, option_map, IsSome
 use Rattle.dos_world.specs.Numbered.{numbered}
 use Rattle.dos_world.specs.World.{look}
 use Rattle.dos_world.specs.declared.Entry.{Entry}
-use Rattle.dos_world.specs.declared.Owner.{Owner}
 use Rattle.dos_world.specs.declared.Owner.TheVariants.{Free, Shared, Of}
 use Rattle.page_store.specs.Store.{Store, whole}
 use Rattle.proc_table.specs.Tables.{Tables}

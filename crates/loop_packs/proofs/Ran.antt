@@ -1,8 +1,8 @@
 -- Packs that have jumped on the spot can be filled again.
-use Rattle.std.proofs.Common.{◌≡◌, ℕ, ◌<◌, List, [], ◌∷◌, length, sym, ap, ◌∙◌, subst, arith, map}
-use Rattle.std.specs.Prelude.{All, slice_get, slice_index_or}
+use Rattle.std.proofs.Common.{◌≡◌, ℕ, List, [], ◌∷◌, ap, ◌∙◌, arith}
+use Rattle.std.specs.Prelude.{All, slice_index_or}
 use Rattle.quantum_run.specs.Shows.{Pack, View, frames_of}
-use Rattle.worker_pool.specs.Ran.{AllRan, EachRan, HasRun}
+use Rattle.worker_pool.specs.Ran.{AllRan, HasRun}
 use Rattle.worker_pool.proofs.RanPacks.{each-of}
 use Rattle.loop_packs.specs.Loops.{IsLoop}
 

@@ -1,9 +1,9 @@
 -- The file of a builder whose parts are in range has the builder's image.
-use Rattle.std.proofs.Common.{◌≡◌, ℕ, suc, ◌+◌, ◌*◌, ◌%◌, ◌^◌, ◌<◌, ◌≤◌, ◌⊎◌, inl, inr, Bool, true}
+use Rattle.std.proofs.Common.{◌≡◌, ℕ, suc, ◌+◌, ◌*◌, ◌%◌, ◌≤◌, ◌⊎◌, inl, inr, Bool, true}
 use Rattle.std.proofs.Common.{false, not, List, [], ◌∷◌, ◌++◌, length, Option, Result, Ok, Err}
 use Rattle.std.proofs.Common.{refl, ap, sym, subst, ◌∙◌, append_assoc, arith}
 use Rattle.std.specs.Prelude.{nat_le, ◌==◌, IsOkAnd}
-use Rattle.std.proofs.lemmas.Bool.{ltb-true, ltb-false, leb-true, eqb-false, not-true, and_parts}
+use Rattle.std.proofs.lemmas.Bool.{ltb-true, leb-true, eqb-false, not-true, and_parts}
 use Rattle.std.proofs.lemmas.Bool.{or_cases}
 use Rattle.elf_image.specs.Image.{image}
 use Rattle.rv_asm.specs.declared.error.AsmError.{AsmError}
@@ -58,8 +58,6 @@ placed_of s h =
         | inr placed ↦ inr (data_placed_of s placed)
       ];
     }
-
-]
 
 -- ---- the words
 

@@ -75,8 +75,6 @@ at_rest : (e : ℕ × Entry) (es : List (ℕ × Entry)) (page n : ℕ) → IsAt 
     → IsAt es page n
 at_rest e es page n at = record { within = omega (arith, at.within); is = at.is }
 
-}
-
 other_test : (e : ℕ × Entry) (page : ℕ) → (e.0 ≡ page → ⊥) → (e.0 == page) ≡ false
 other_test e page n = grind (arith, nat_tests)
 

@@ -1,4 +1,3 @@
-use Rattle.dos_io.specs.Shims.{ShimState}
 use Rattle.shim_log.specs.Ledger.{recorder_state}
 use Rattle.dos_world.specs.declared.Ending.TheVariants.{Done}
 use Rattle.log_tests.proofs.NoEnd.{after_end}
