@@ -316,6 +316,18 @@ pub fits_gen : (asked : Request) (number threads w : ℕ) → asked ≡ Gen numb
     → FitsRequest asked → IsInRange 1 32 threads
 fits_gen asked number threads w is fits = (subst FitsRequest is fits).1
 
+-- the same request
+pub did_as : (r : Result Ending Refusal) (asked other : Request) (o : Outside)
+    → IfOk r (λ ending. Begun asked o (λ taken. Did asked taken (ending_status ending) o))
+    → other ≡ asked
+    → IfOk r (λ ending. Begun other o (λ taken. Did other taken (ending_status ending) o))
+did_as r asked other o h same = rw same h
+
+pub leaves_as : (r : Result Ending Refusal) (asked other : Request) (o : Outside) (f : Faults)
+    → IfErr r (λ why. Leaves asked o f why []) → other ≡ asked
+    → IfErr r (λ why. Leaves other o f why [])
+leaves_as r asked other o f h same = rw same h
+
 -- the tally was this before
 abbrev with_tally : Outside → ℕ → Outside
 with_tally o tally = record o { tally = tally }
@@ -323,18 +335,18 @@ with_tally o tally = record o { tally = tally }
 same_outside : (o : Outside) (tally : ℕ) → o.tally ≡ tally → with_tally o tally ≡ o
 same_outside o tally kept = ap (with_tally o) (sym kept)
 
--- the same request, and a tally that hiring has kept
-pub did_as : (r : Result Ending Refusal) (asked other : Request) (o : Outside) (tally : ℕ)
+-- Workers were hired before, which has kept the tally.
+pub did_hired : (r : Result Ending Refusal) (asked : Request) (o : Outside) (tally : ℕ)
     → IfOk r (λ ending. Begun asked o (λ taken. Did asked taken (ending_status ending) o))
-    → other ≡ asked → o.tally ≡ tally
-    → IfOk r (λ ending. Begun other (with_tally o tally)
-    (λ taken. Did other taken (ending_status ending) (with_tally o tally)))
-did_as r asked other o tally h same kept = rw (same, same_outside o tally kept) h
+    → o.tally ≡ tally
+    → IfOk r (λ ending. Begun asked (with_tally o tally)
+    (λ taken. Did asked taken (ending_status ending) (with_tally o tally)))
+did_hired r asked o tally h kept = rw (same_outside o tally kept) h
 
-pub leaves_as : (r : Result Ending Refusal) (asked other : Request) (o : Outside) (f : Faults)
-    (tally : ℕ) → IfErr r (λ why. Leaves asked o f why []) → other ≡ asked → o.tally ≡ tally
-    → IfErr r (λ why. Leaves other (with_tally o tally) f why [])
-leaves_as r asked other o f tally h same kept = rw (same, same_outside o tally kept) h
+pub leaves_hired : (r : Result Ending Refusal) (asked : Request) (o : Outside) (f : Faults)
+    (tally : ℕ) → IfErr r (λ why. Leaves asked o f why []) → o.tally ≡ tally
+    → IfErr r (λ why. Leaves asked (with_tally o tally) f why [])
+leaves_hired r asked o f tally h kept = rw (same_outside o tally kept) h
 
 -- ---- what is done for words
 

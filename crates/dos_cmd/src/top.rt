@@ -36,7 +36,7 @@ fn hire<W: Workers>(request: &Request, workers: &mut W)
     }
 }
 
-/// Does what is asked for.
+/// Does what is asked for, with the workers that are hired.
 fn execute<F: Files, H: Host, O: Sink, E: Sink, W: Workers>(
     alloc: Global,
     request: &Request,
@@ -67,7 +67,6 @@ fn execute<F: Files, H: Host, O: Sink, E: Sink, W: Workers>(
     ensures err_later { E.faults err.old ≤ E.faults err.new }
     ensures fixed { W.fixed workers.new ≡ W.fixed workers.old }
 {
-    hire(request, workers);
     match request {
         Request::Run {
             quantum,
@@ -106,7 +105,7 @@ fn execute<F: Files, H: Host, O: Sink, E: Sink, W: Workers>(
     }
 }
 
-/// Does what the words ask for.
+/// Does what the words ask for, with as many workers as they say.
 fn command<F: Files, H: Host, O: Sink, E: Sink, W: Workers>(
     alloc: Global,
     words: &[String],
@@ -134,6 +133,7 @@ fn command<F: Files, H: Host, O: Sink, E: Sink, W: Workers>(
     ensures fixed { W.fixed workers.new ≡ W.fixed workers.old }
 {
     let request = read_request(alloc, words)?;
+    hire(&request, workers);
     let ended = execute(alloc, &request, files, host, out, err, workers);
     drop(request);
     ended

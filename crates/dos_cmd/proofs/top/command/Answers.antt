@@ -1,6 +1,6 @@
-use Rattle.std.proofs.Common.{le_refl, map, refl, string_bytes}
+use Rattle.std.proofs.Common.{le_refl, map, refl, string_bytes, ◌∙◌}
 use Rattle.std.proofs.lemmas.Result.{err_from_is_err_and}
-use Rattle.dos_cmd.proofs.Calls.{fails_by, finished_by, not_read}
+use Rattle.dos_cmd.proofs.Calls.{did_hired, fails_by, finished_by, leaves_hired, not_read}
 use Rattle.dos_cmd.proofs.NotBegun.{says_nothing}
 use Rattle.dos_cmd.proofs.top.command.Goals as goal
 
@@ -25,12 +25,14 @@ returns g c =
     let ended = c.execute-ended.ensures in
     record {
       finished = finished_by c.execute-ended.result (map string_bytes c.args.words.now)
-          c.in_ok-request.request _ asked ended.did;
+          c.in_ok-request.request _ asked
+          (did_hired _ _ _ _ ended.did c.hire.ensures.tally);
       fails = fails_by c.execute-ended.result (map string_bytes c.args.words.now)
-          c.in_ok-request.request _ _ asked ended.leaves;
+          c.in_ok-request.request _ _ asked
+          (leaves_hired _ _ _ _ _ ended.leaves c.hire.ensures.tally);
       files_later = ended.files_later;
       host_later = ended.host_later;
       out_later = ended.out_later;
       err_later = ended.err_later;
-      fixed = ended.fixed;
+      fixed = ended.fixed ∙ c.hire.ensures.fixed;
     }

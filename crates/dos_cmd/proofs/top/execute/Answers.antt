@@ -1,4 +1,4 @@
-use Rattle.std.proofs.Common.{le_refl, sym, ap, ◌∙◌}
+use Rattle.std.proofs.Common.{le_refl, refl, sym, ap, ◌∙◌}
 use Rattle.dos_words.specs.Numbers.{Text}
 use Rattle.dos_words.specs.declared.request.Request.TheVariants.{Run, Replay, Inspect}
 use Rattle.dos_cmd.proofs.Calls.{are_planned, did_as, fits_gen, fits_run, leaves_as}
@@ -42,14 +42,13 @@ returns-in-Run g c =
     asked.workers asked.posts asked.clock_from asked.clock_step log asked.names)
     (sym c.as_str.ensures) in
     record {
-      did = did_as _ _ _ _ _ (c.run.ensures.did asked.workers) same c.hire.ensures.tally;
-      leaves = leaves_as _ _ _ _ _ _ (c.run.ensures.leaves asked.workers) same
-          c.hire.ensures.tally;
+      did = did_as _ _ _ _ (c.run.ensures.did asked.workers) same;
+      leaves = leaves_as _ _ _ _ _ (c.run.ensures.leaves asked.workers) same;
       files_later = c.run.ensures.files_later;
       host_later = c.run.ensures.host_later;
       out_later = c.run.ensures.out_later;
       err_later = c.run.ensures.err_later;
-      fixed = c.run.ensures.fixed ∙ c.hire.ensures.fixed;
+      fixed = c.run.ensures.fixed;
     }
 
 -- ---- replay
@@ -61,14 +60,14 @@ returns-in-Replay g c =
     (sym c.as_str-in-Replay.ensures) in
     let host = g.H.Host.told c.args.host.now in
     record {
-      did = did_as _ _ _ _ _ (c.replay.ensures.did asked.workers host) same c.hire.ensures.tally;
-      leaves = leaves_as _ _ _ _ _ _ (c.replay.ensures.leaves asked.workers host
-          (g.H.Host.faults c.args.host.now)) same c.hire.ensures.tally;
+      did = did_as _ _ _ _ (c.replay.ensures.did asked.workers host) same;
+      leaves = leaves_as _ _ _ _ _ (c.replay.ensures.leaves asked.workers host
+          (g.H.Host.faults c.args.host.now)) same;
       files_later = c.replay.ensures.files_later;
       host_later = le_refl _;
       out_later = c.replay.ensures.out_later;
       err_later = c.replay.ensures.err_later;
-      fixed = c.replay.ensures.fixed ∙ c.hire.ensures.fixed;
+      fixed = c.replay.ensures.fixed;
     }
 
 -- ---- inspect
@@ -78,17 +77,16 @@ returns-in-Inspect g c =
     let same = c.in-Inspect.is ∙ ap Inspect (sym c.as_str-in-Inspect.ensures) in
     let host = g.H.Host.told c.args.host.now in
     let err = g.E.Sink.told c.args.err.now in
-    let tally = g.W.Workers.tally c.hire.new.workers in
+    let tally = g.W.Workers.tally c.args.workers.now in
     record {
-      did = did_as _ _ _ _ _ (c.inspect.ensures.did host err tally) same c.hire.ensures.tally;
-      leaves = leaves_as _ _ _ _ _ _ (c.inspect.ensures.leaves host err tally
-          (g.H.Host.faults c.args.host.now) (g.E.Sink.faults c.args.err.now)) same
-          c.hire.ensures.tally;
+      did = did_as _ _ _ _ (c.inspect.ensures.did host err tally) same;
+      leaves = leaves_as _ _ _ _ _ (c.inspect.ensures.leaves host err tally
+          (g.H.Host.faults c.args.host.now) (g.E.Sink.faults c.args.err.now)) same;
       files_later = c.inspect.ensures.files_later;
       host_later = le_refl _;
       out_later = c.inspect.ensures.out_later;
       err_later = le_refl _;
-      fixed = c.hire.ensures.fixed;
+      fixed = refl;
     }
 
 -- ---- gen
@@ -111,14 +109,13 @@ returns-in-Gen g c =
     let host = g.H.Host.told c.args.host.now in
     let err = g.E.Sink.told c.args.err.now in
     record {
-      did = did_as _ _ _ _ _ (c.generate.ensures.did workers tells files host err) c.in-Gen.is
-          c.hire.ensures.tally;
-      leaves = leaves_as _ _ _ _ _ _ (c.generate.ensures.leaves workers tells files host err
+      did = did_as _ _ _ _ (c.generate.ensures.did workers tells files host err) c.in-Gen.is;
+      leaves = leaves_as _ _ _ _ _ (c.generate.ensures.leaves workers tells files host err
           (g.F.Files.faults c.args.files.now) (g.H.Host.faults c.args.host.now)
-          (g.E.Sink.faults c.args.err.now)) c.in-Gen.is c.hire.ensures.tally;
+          (g.E.Sink.faults c.args.err.now)) c.in-Gen.is;
       files_later = le_refl _;
       host_later = le_refl _;
       out_later = c.generate.ensures.out_later;
       err_later = le_refl _;
-      fixed = c.generate.ensures.fixed ∙ c.hire.ensures.fixed;
+      fixed = c.generate.ensures.fixed;
     }
