@@ -1,4 +1,5 @@
 pub mod Belows
+pub mod Hired
 pub mod RanPacks
 pub mod SliceRuns
 pub mod Growing

@@ -1,4 +1,4 @@
+pub mod Crews
 pub mod Lending
 pub mod Parts
 pub mod Ran
-pub mod Teams

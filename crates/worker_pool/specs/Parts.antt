@@ -1,5 +1,5 @@
 -- Parts that wait on a board, and what a worker keeps. This project's own rules.
-use Rattle.std.specs.Prelude.{◌≡◌, ℕ, List, All}
+use Rattle.std.specs.Prelude.{◌≡◌, ℕ, List, Option, All, IfSome}
 use mathlib.Core.Option.{some}
 use lib.ListN.{get_elem?}
 use Rattle.crossbeam_deque.specs.Handles.{worker_flavor}
@@ -26,3 +26,7 @@ IsSameSeat old new =
 -- each deque is first in, first out
 abbrev pub AreFifo : {T A V P : Type 0} → List (Worker T A V P) → Type 0
 AreFifo = All (λ w. worker_flavor w ≡ 0)
+
+-- the deque is first in, first out, where there is one
+abbrev pub IsFifo : {T A V P : Type 0} → Option (Worker T A V P) → Type 0
+IsFifo own = IfSome own (λ w. worker_flavor w ≡ 0)

@@ -1,20 +1,20 @@
 // Threads that take parts from a board until none is left.
-ghost use Rattle.std.specs.Prelude.{◌≡◌, ◌<◌, ◌≤◌, ◌+◌, ◌*◌, ◌/◌, ◌-◌, ◌^◌, [], ◌∷◌, ℕ};
+ghost use Rattle.std.specs.Prelude.{◌≡◌, ◌<◌, ◌≤◌, ◌+◌, ◌*◌, ◌/◌, ◌-◌, ◌^◌, [], ◌∷◌, ℕ, All};
 ghost use Rattle.std.specs.Prelude.{true, false, length, IfOk, IfErr, vec_len, vec_capacity};
-ghost use Rattle.std.specs.Thread.{IsSync};
 ghost use mathlib.Core.Option.{some};
 ghost use lib.ListN.{get_elem?};
 ghost use Rattle.hand_board.specs.Placed.{IsUnderWay};
 ghost use Rattle.hand_board.specs.Seating.{AllFinished};
 ghost use Rattle.worker_pool.specs.Parts.{AreFifo, AreReady, IsSameSeat};
-ghost use Rattle.worker_pool.specs.Teams.{AreHalves, CanWork};
+ghost use Rattle.worker_pool.specs.Crews.{CanWork, shares};
 
 use crate::deques::{Bound, Owner, Thief, deques, search};
 use crate::gate::Gate;
 use hand_board::{Board, BoardSeat, Job, Part};
 use std::alloc::Global;
 use std::marker::Brand;
-use std::thread::{Threads, join};
+use std::thread;
+use std::thread::Threads;
 
 /// A part that can be run, whole or in slices.
 pub trait Task: Part + Drop {
@@ -66,6 +66,17 @@ fn run_drawn<T: Task, G: Gate>(board: &Board<T>, seat: &mut BoardSeat<T>, gate: 
     }
 }
 
+// draws, runs and gives back until no part is left
+fn draw_all<T: Task, G: Gate>(board: &Board<T>, seat: &mut BoardSeat<T>, gate: &G)
+    requires board { seat.old.board ≡ board.now.id }
+    requires free { seat.old.hand ≡ [] }
+    requires ready { AreReady T.ready seat.old.opened }
+    ensures same { IsSameSeat seat.old seat.new }
+    ensures over { (seat.new.ended ≡ true) × (seat.new.hand ≡ []) }
+{
+    while run_drawn(board, seat, gate) {}
+}
+
 /// Draws, runs and gives back until no part is left.
 pub fn sweep<T: Task, G: Gate>(board: &Board<T>, mut seat: BoardSeat<T>, gate: &G) -> BoardSeat<T>
     requires board { seat.board ≡ board.now.id }
@@ -74,7 +85,7 @@ pub fn sweep<T: Task, G: Gate>(board: &Board<T>, mut seat: BoardSeat<T>, gate: &
     ensures same { IsSameSeat seat result }
     ensures over { (result.ended ≡ true) × (result.hand ≡ []) }
 {
-    while run_drawn(board, &mut seat, gate) {}
+    draw_all(board, &mut seat, gate);
     seat
 }
 
@@ -92,142 +103,128 @@ fn run_one<T: Task, G: Gate>(board: &Board<T>, seat: &mut BoardSeat<T>, gate: &G
     }
 }
 
-// turns until one finds no number, and at most one more than there are parts
-fn seek<B: Bound, T: Task, G: Gate>(
-    board: &Board<T>,
-    mut seat: BoardSeat<T>,
-    gate: &G,
-    thieves: &[Thief<B>],
-    me: u32,
-    own: &mut [Owner<B>],
-) -> BoardSeat<T>
-    requires board { seat.board ≡ board.now.id }
-    requires free { seat.hand ≡ [] }
-    requires ready { AreReady T.ready seat.opened }
-    requires bound { B.bound ≤ length board.now.opened }
-    requires own { AreFifo own.old }
-    ensures same { IsSameSeat seat result }
-    ensures free { result.hand ≡ [] }
-{
-    for _ in 0..u64::from(board.count()) + 1 {
-        match search(own, thieves, me) {
-            Some(number) => run_one(board, &mut seat, gate, number),
-            None => break,
-        }
-    }
-    seat
-}
-
 // what all workers of a call are lent
 #[derive(Drop)]
-struct Workshop<'a, B: Bound, T: Task, R, G> {
-    rt: &'a R,
+struct Workshop<'a, B: Bound, T: Task, G> {
     board: &'a Board<T>,
     gate: &'a G,
     thieves: &'a [Thief<B>],
 }
 
-// workers `first`, `first + 1` and so on, with one seat for all
+// a worker: its number, its seat at the board, and its own deque, where it has one
 #[derive(Drop)]
-struct Team<T: Task> {
+struct Worker<B: Bound, T: Task> {
+    number: u32,
     seat: BoardSeat<T>,
-    first: u32,
-    workers: u32,
+    own: Option<Owner<B>>,
 }
 
-// two teams of one that has two workers at least: the first half, rounded down, and the others
-fn halves<B: Bound, T: Task>(board: &Board<T>, team: Team<T>) -> (Team<T>, Team<T>)
-    requires can { CanWork T.ready B.bound board.now team }
-    requires two { 2 ≤ team.workers }
-    ensures left { CanWork T.ready B.bound board.now result.0 }
-    ensures right { CanWork T.ready B.bound board.now result.1 }
-    ensures fewer { (result.0.workers < team.workers) × (result.1.workers < team.workers) }
-    ensures seats { AreHalves team.seat result.0.seat result.1.seat }
+// turns until one finds no number, and at most one more than there are parts
+fn seek<B: Bound, T: Task, G: Gate>(shop: &Workshop<'_, B, T, G>, worker: &mut Worker<B, T>)
+    requires { CanWork T.ready B.bound shop.now.board.now worker.old }
+    ensures can { CanWork T.ready B.bound shop.now.board.now worker.new }
+    ensures share { worker.new.seat.share ≡ worker.old.seat.share }
 {
-    let Team {
-        seat,
-        first,
-        workers,
-    } = team;
-    let half = workers / 2;
-    let (left, right) = board.split(seat);
-    (
-        Team {
-            seat: left,
-            first,
-            workers: half,
-        },
-        Team {
-            seat: right,
-            first: first + half,
-            workers: workers - half,
-        },
-    )
+    for _ in 0..u64::from(shop.board.count()) + 1 {
+        match search(&mut worker.own, shop.thieves, worker.number) {
+            Some(number) => run_one(shop.board, &mut worker.seat, shop.gate, number),
+            None => break,
+        }
+    }
 }
 
-// the first deques, which are so many workers' own, and the rest
-fn deal_out<B: Bound>(owners: &mut [Owner<B>], workers: u32) -> (&mut [Owner<B>], &mut [Owner<B>])
-    requires { AreFifo owners.old }
-    ensures first { AreFifo result.0.now }
-    ensures rest { AreFifo result.1.now }
+// goes by the deques, or draws from the board where there are none
+fn work<B: Bound, T: Task, G: Gate>(shop: &Workshop<'_, B, T, G>, worker: &mut Worker<B, T>)
+    requires { CanWork T.ready B.bound shop.now.board.now worker.old }
+    ensures can { CanWork T.ready B.bound shop.now.board.now worker.new }
+    ensures share { worker.new.seat.share ≡ worker.old.seat.share }
 {
-    let cut = owners.len().min(workers as usize);
-    owners.split_at_mut(cut)
-}
-
-// a team of one worker: it goes by the deques, or draws from the board where there are none
-fn work_alone<B: Bound, T: Task, R, G: Gate>(
-    shop: &Workshop<'_, B, T, R, G>,
-    team: Team<T>,
-    own: &mut [Owner<B>],
-) -> BoardSeat<T>
-    requires can { CanWork T.ready B.bound shop.now.board.now team }
-    requires own { AreFifo own.old }
-    ensures same { IsSameSeat team.seat result }
-    ensures free { result.hand ≡ [] }
-{
-    let Team {
-        seat,
-        first: me,
-        workers: _,
-    } = team;
     if shop.thieves.is_empty() {
-        sweep(shop.board, seat, shop.gate)
+        draw_all(shop.board, &mut worker.seat, shop.gate);
     } else {
-        seek(shop.board, seat, shop.gate, shop.thieves, me, own)
+        seek(shop, worker);
     }
 }
 
-// the workers of a team, each in a thread of its own; the first deques left in `owners` are theirs
-fn work<B: Bound + Send + Sync, T: Task + Send + Sync, R: Threads + Sync, G: Gate + Sync>(
-    shop: &Workshop<'_, B, T, R, G>,
-    team: Team<T>,
-    owners: &mut [Owner<B>],
+// the seat that is left, and so many workers with a seat and the next deque each; where memory for
+// them is wanting, nobody
+fn hire<B: Bound, T: Task>(
+    alloc: Global,
+    board: &Board<T>,
+    mut seat: BoardSeat<T>,
+    owners: Vec<Owner<B>>,
+    workers: u32,
+) -> (BoardSeat<T>, Vec<Worker<B, T>>)
+    requires board { seat.board ≡ board.now.id }
+    requires free { seat.hand ≡ [] }
+    requires ready { AreReady T.ready seat.opened }
+    requires share { 2 ^ workers ≤ seat.share }
+    requires bound { B.bound ≤ length board.now.opened }
+    requires owners { AreFifo owners.items }
+    ensures left { (result.0.board ≡ seat.board) × (result.0.opened ≡ seat.opened)
+        × (result.0.hand ≡ []) }
+    ensures can { All (CanWork T.ready B.bound board.now) result.1.items }
+    ensures share { result.0.share + shares result.1.items ≡ seat.share }
+{
+    let Ok(mut crew) = Vec::with_capacity(alloc, workers as usize) else {
+        return (seat, Vec::new(alloc));
+    };
+    let mut owners = owners.into_iter();
+    for number in 0..workers {
+        let (left, other) = board.split(seat);
+        seat = left;
+        crew.push_reserved(Worker {
+            number,
+            seat: other,
+            own: owners.next(),
+        });
+    }
+    (seat, crew)
+}
+
+// each worker of a crew works, in a thread of its own
+fn work_each<B: Bound + Send + Sync, T: Task + Send + Sync, R: Threads + Sync, G: Gate + Sync>(
+    rt: &R,
+    shop: &Workshop<'_, B, T, G>,
+    crew: &mut [Worker<B, T>],
+)
+    requires can { All (CanWork T.ready B.bound shop.now.board.now) crew.old }
+    ensures can { All (CanWork T.ready B.bound shop.now.board.now) crew.new }
+    ensures shares { shares crew.new ≡ shares crew.old }
+{
+    let threads = crew.len().max(1);
+    let run = |_: usize, worker: &mut Worker<B, T>|
+        requires { CanWork T.ready B.bound shop.now.board.now worker.now }
+        ensures { CanWork T.ready B.bound shop.entry.now.board.now worker.exit.now
+            × (worker.exit.now.seat.share ≡ worker.entry.now.seat.share) }
+    { work(shop, worker) };
+    thread::for_each_mut(rt, crew, threads, &run);
+}
+
+// the seat of a worker that goes
+fn seat_of<B: Bound, T: Task>(worker: Worker<B, T>) -> BoardSeat<T>
+    ensures { result ≡ worker.seat }
+{
+    worker.seat
+}
+
+// the one seat of all, when each worker's is joined with the one that was left
+fn dismiss<B: Bound, T: Task>(
+    board: &Board<T>,
+    mut seat: BoardSeat<T>,
+    mut crew: Vec<Worker<B, T>>,
 ) -> BoardSeat<T>
-    requires can { CanWork T.ready B.bound shop.now.board.now team }
-    requires owners { AreFifo owners.old }
-    ensures same { IsSameSeat team.seat result }
+    requires board { seat.board ≡ board.now.id }
+    requires free { seat.hand ≡ [] }
+    requires can { All (CanWork T.ready B.bound board.now) crew.items }
+    ensures same { (result.board ≡ seat.board) × (result.opened ≡ seat.opened) }
+    ensures share { result.share ≡ seat.share + shares crew.items }
     ensures free { result.hand ≡ [] }
 {
-    if team.workers <= 1 {
-        return work_alone(shop, team, owners);
+    while let Some(worker) = crew.pop() {
+        seat = board.join(seat, seat_of(worker));
     }
-    let (left, right) = halves::<B, T>(shop.board, team);
-    let (mine, theirs) = deal_out(owners, left.workers);
-    let (left, right) = join(
-        shop.rt,
-        move || -> BoardSeat<T>
-            requires { IsSync R.row × IsSync G.row × CanWork T.ready B.bound shop.now.board.now left
-                × AreFifo mine.now }
-            ensures { IsSameSeat left.seat result × (result.hand ≡ []) }
-        { work(shop, left, mine) },
-        move || -> BoardSeat<T>
-            requires { IsSync R.row × IsSync G.row
-                × CanWork T.ready B.bound shop.now.board.now right × AreFifo theirs.now }
-            ensures { IsSameSeat right.seat result × (result.hand ≡ []) }
-        { work(shop, right, theirs) },
-    );
-    shop.board.join(left, right)
+    seat
 }
 
 // all workers, with so many deques, into which the numbers are dealt
@@ -244,24 +241,19 @@ fn work_all<B: Bound + Send + Sync, T: Task + Send + Sync, R: Threads + Sync, G:
     requires board { seat.board ≡ board.now.id }
     requires free { seat.hand ≡ [] }
     requires ready { AreReady T.ready seat.opened }
-    requires share { workers ≤ seat.share }
-    requires few { workers ≤ 32 }
+    requires share { 2 ^ workers ≤ seat.share }
     ensures same { IsSameSeat seat result }
     ensures free { result.hand ≡ [] }
 {
-    let (mut owners, thieves) = deques::<B>(alloc, board.count(), lanes);
+    let (owners, thieves) = deques::<B>(alloc, board.count(), lanes);
+    let (left, mut crew) = hire(alloc, board, seat, owners, workers);
     let shop = Workshop {
-        rt,
         board,
         gate,
         thieves: thieves.as_slice(),
     };
-    let team = Team {
-        seat,
-        first: 0,
-        workers,
-    };
-    work(&shop, team, owners.as_mut_slice())
+    work_each(rt, &shop, crew.as_mut_slice());
+    dismiss(board, left, crew)
 }
 
 /// Runs each part over a board, by `workers` threads, from 1 to 32, the caller's among them. Where

@@ -1,7 +1,7 @@
 // Deques of numbers: each worker takes from its own, and steals from the others'.
 ghost use Rattle.std.specs.Prelude.{◌≡◌, ◌<◌, ◌≤◌, ◌+◌, ℕ, IfSome};
 ghost use Rattle.crossbeam_deque.specs.Handles.{worker_flavor};
-ghost use Rattle.worker_pool.specs.Parts.{AreFifo};
+ghost use Rattle.worker_pool.specs.Parts.{AreFifo, IsFifo};
 
 use crossbeam_deque::protocol::{Outcome, Protocol};
 use crossbeam_deque::{Steal, Stealer, Worker};
@@ -133,12 +133,12 @@ pub(crate) fn deques<B: Bound>(
 }
 
 // the next number of the worker's own deque
-fn pop_own<B: Bound>(own: &mut [Owner<B>]) -> Option<u32>
-    requires { AreFifo own.old }
-    ensures own { AreFifo own.new }
+fn pop_own<B: Bound>(own: &mut Option<Owner<B>>) -> Option<u32>
+    requires { IsFifo own.old }
+    ensures own { IsFifo own.new }
     ensures below { IfSome result (λ n. n < B.bound) }
 {
-    match own.first_mut() {
+    match own.as_mut() {
         Some(owner) => owner.pop_as::<Below<B>>(),
         None => None,
     }
@@ -160,16 +160,20 @@ fn steal_one<B: Bound>(thief: &Thief<B>) -> Option<u32>
 }
 
 /// One turn of worker `me`: its own deque first, then the others, in rising order from its own.
-pub(crate) fn search<B: Bound>(own: &mut [Owner<B>], thieves: &[Thief<B>], me: u32) -> Option<u32>
-    requires { AreFifo own.old }
-    ensures own { AreFifo own.new }
+pub(crate) fn search<B: Bound>(
+    own: &mut Option<Owner<B>>,
+    thieves: &[Thief<B>],
+    me: u32,
+) -> Option<u32>
+    requires { IsFifo own.old }
+    ensures own { IsFifo own.new }
     ensures below { IfSome result (λ n. n < B.bound) }
 {
     if let Some(number) = pop_own(own) {
         return Some(number);
     }
     let count = thieves.len();
-    let others = count.saturating_sub(own.len());
+    let others = count.saturating_sub(usize::from(own.is_some()));
     let first = me as usize;
     for step in 0..others {
         if let Some(number) = steal_one(&thieves[(first + 1 + step) % count]) {

@@ -1,9 +1,8 @@
-use Rattle.std.proofs.Common.{◌≡◌, All, []}
-use Rattle.crossbeam_deque.specs.Handles.{worker_flavor}
+use Rattle.std.proofs.Common.{◌≡◌}
+use Rattle.worker_pool.specs.Crews.{CanWork}
 use Rattle.worker_pool.proofs.crew.seek.Given as goal
 
 abbrev pub invariant-loop : goal.invariant-loop
 invariant-loop g l =
-    (l.seat.board ≡ l.fn.seat.board) × (l.seat.opened ≡ l.fn.seat.opened)
-    × (l.seat.share ≡ l.fn.seat.share) × (l.seat.hand ≡ [])
-    × All (λ w. worker_flavor w ≡ 0) l.own
+    CanWork g.T.Part.ready g.B.Bound.bound l.shop.board.now l.worker
+    × (l.worker.seat.share ≡ l.fn.worker.seat.share)
