@@ -115,19 +115,29 @@ fn words(rt: &HostRuntime) -> io::Result<Vec<String>> {
     Ok(words)
 }
 
-fn main(rt: HostRuntime) -> io::Result<()> {
-    let words = words(&rt)?;
+fn drawn_by(alloc: Global, work: &str, count: &str, boards: &str) -> io::Result<u64> {
+    Ok(repeat(alloc, work_named(work)?, number(count)?, number(boards)?)?)
+}
+
+/// Does what three words say, and prints how many parts were drawn.
+fn run_three(rt: &HostRuntime, three: &[String]) -> io::Result<()> {
+    let [work, count, boards] = three else {
+        return Err(ErrorKind::InvalidInput.into());
+    };
+    let drawn = drawn_by(rt.alloc(), work, count, boards)?;
+    println!(rt; "{work} {count} {boards}: {drawn}")
+}
+
+fn run_all(rt: &HostRuntime, words: &[String]) -> io::Result<()> {
     for three in words.chunks(3) {
-        let [work, count, boards] = three else {
-            return Err(ErrorKind::InvalidInput.into());
-        };
-        let drawn = repeat(
-            rt.alloc(),
-            work_named(work)?,
-            number(count)?,
-            number(boards)?,
-        )?;
-        println!(rt; "{work} {count} {boards}: {drawn}")?;
+        run_three(rt, three)?;
     }
     Ok(())
+}
+
+fn main(rt: HostRuntime) -> io::Result<()> {
+    let words = words(&rt)?;
+    let ran = run_all(&rt, &words);
+    drop(words);
+    ran
 }

@@ -82,26 +82,23 @@ fn measure<R: Threads + Wait + Sync>(
 {
     let gate = OpenGate::new();
     let mut tally = Tally::new();
-    match pool {
+    let played = match pool {
         Pool::Serial => {
             let mut workers: Serial<'_, R> = Serial::new(&mut tally);
-            run(alloc, &mut workers, load)?;
+            run(alloc, &mut workers, load)
         }
-        Pool::Spread => run(alloc, &mut Spread::new(rt, hired, &gate, &mut tally), load)?,
-        Pool::Boarded => run(
-            alloc,
-            &mut Boarded::new(rt, alloc, hired, &gate, &mut tally),
-            load,
-        )?,
+        Pool::Spread => run(alloc, &mut Spread::new(rt, hired, &gate, &mut tally), load),
+        Pool::Boarded => {
+            let mut workers = Boarded::new(rt, alloc, hired, &gate, &mut tally);
+            run(alloc, &mut workers, load)
+        }
         Pool::Stealing => {
-            run(
-                alloc,
-                &mut Stealing::new(rt, alloc, hired, &gate, &mut tally),
-                load,
-            )?;
+            let mut workers = Stealing::new(rt, alloc, hired, &gate, &mut tally);
+            run(alloc, &mut workers, load)
         }
-        Pool::Staying => play_staying(rt, alloc, hired, load, &mut tally)?,
-    }
+        Pool::Staying => play_staying(rt, alloc, hired, load, &mut tally),
+    };
+    played?;
     Ok(tally.count())
 }
 
@@ -132,6 +129,38 @@ fn words(rt: &HostRuntime) -> io::Result<Vec<String>> {
     Ok(words)
 }
 
+fn load_of(packs: &str, first: &str, others: &str, calls: &str) -> io::Result<Load> {
+    Ok(Load {
+        packs: number(packs)?,
+        first: number(first)?,
+        others: number(others)?,
+        calls: number(calls)?,
+    })
+}
+
+// how many instructions the pool of this name ran
+fn measure_named<R: Threads + Wait + Sync>(
+    rt: &R,
+    alloc: Global,
+    pool: &str,
+    workers: u32,
+    load: Load,
+) -> io::Result<u64>
+    requires { (0 < workers) × (workers ≤ 32) }
+{
+    Ok(measure(rt, alloc, pool_named(pool)?, workers, load)?)
+}
+
+fn print_ran(rt: &impl Print, pool: &str, workers: u32, load: Load, ran: u64) -> io::Result<()> {
+    let Load {
+        packs,
+        first,
+        others,
+        calls,
+    } = load;
+    println!(rt; "{pool} {workers} {packs} {first} {others} {calls}: {ran}")
+}
+
 /// Runs what six words say, and prints how many instructions that were.
 fn run_six<R: Threads + Wait + Sync + Print>(
     rt: &R,
@@ -141,15 +170,10 @@ fn run_six<R: Threads + Wait + Sync + Print>(
     let [pool, hired, packs, first, others, calls] = six else {
         return Err(ErrorKind::InvalidInput.into());
     };
-    let load = Load {
-        packs: number(packs)?,
-        first: number(first)?,
-        others: number(others)?,
-        calls: number(calls)?,
-    };
+    let load = load_of(packs, first, others, calls)?;
     let workers = number(hired)?.max(1).min(32);
-    let ran = measure(rt, alloc, pool_named(pool)?, workers, load)?;
-    println!(rt; "{pool} {workers} {packs} {first} {others} {calls}: {ran}")
+    let ran = measure_named(rt, alloc, pool, workers, load)?;
+    print_ran(rt, pool, workers, load, ran)
 }
 
 fn run_all<R: Threads + Wait + Sync + Print>(
