@@ -317,7 +317,8 @@ run_unended o f kernel after ledger name ending log err_then rises (Err why) who
 pub written_then : {T E : Type 0} (r : Result T E) (log : Log) (tells : Bool)
     (files after : Text → Option (List ℕ)) (name : Text)
     → IfSome (files name) (λ _. after name ≡ Some (logtext log))
-    → (IsTrue tells → after name ≡ Some (logtext log)) → OnOk r (IsWritten log tells files after name)
+    → (IsTrue tells → after name ≡ Some (logtext log))
+    → OnOk r (IsWritten log tells files after name)
 written_then (Err e) log tells files after name told all = tt
 written_then (Ok x) log tells files after name told all =
     record { where_told = told; where_all_tell = all }

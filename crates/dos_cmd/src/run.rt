@@ -72,7 +72,8 @@ impl RunRequest<'_> {
         }
     }
 
-    /// A ledger of nothing yet, for images of files with these digests. The error is want of memory.
+    /// A ledger of nothing yet, for images of files with these digests. The error is want of
+    /// memory.
     fn ledger(&self, alloc: Global, digests: Digests) -> Result<Ledger, Refusal>
         requires range { IsConfig self.now.config }
         requires some { 1 ≤ length self.now.names.now }

@@ -124,7 +124,9 @@ unfolding digits
 of_another_count = refl
 
 of_another_digest : line (digests_differ 1 (0x0A ∷ 0xFF ∷ replicate 30 0x10) (replicate 32 0x9C))
-    ≡ codes "dos: image 1 has digest 0aff101010101010101010101010101010101010101010101010101010101010, log has 9c9c9c9c9c9c9c9c9c9c9c9c9c9c9c9c9c9c9c9c9c9c9c9c9c9c9c9c9c9c9c9c" ++ ended
+    ≡ codes "dos: image 1 has digest "
+    ++ codes "0aff101010101010101010101010101010101010101010101010101010101010"
+    ++ codes ", log has 9c9c9c9c9c9c9c9c9c9c9c9c9c9c9c9c9c9c9c9c9c9c9c9c9c9c9c9c9c9c9c9c" ++ ended
 unfolding digits
 of_another_digest = refl
 

@@ -33,6 +33,8 @@ unfolding line_of
 front_of_sink r told is =
     subst (λ why. GrewByFront told told (line_of why)) (sym is) (0, grown-nothing told)
 
+pub ruleset sink = (status_of_sink, front_of_sink)
+
 -- ---- the numbers
 
 pub refusal_is_status : (n : ℕ) (r : Refusal) → n ≡ refusal_status r → IsStatus n

@@ -108,7 +108,7 @@ impl Refusal {
 
 /// Puts a refusal's line to `err` by one put, and answers the exit status. Where a sink has failed
 /// already, or this put fails, that is 6; of the line a front was put then, of any length.
-#[tactic(auto, using(crate::proofs::Statuses::status_of_sink, crate::proofs::Statuses::front_of_sink), unfolding(crate::specs::Exit::refusal_status))]
+#[tactic(auto, using(crate::proofs::Statuses::sink), unfolding(crate::specs::Exit::refusal_status))]
 pub fn put_refusal<E: Sink>(refusal: Refusal, err: &mut E) -> u8
     ensures told { result ≢ 6 → (refusal ≢ Refusal.Sink) × (result ≡ refusal_status refusal)
         × (E.told err.new ≡ grown (E.told err.old) (line_of refusal)) }

@@ -85,7 +85,10 @@ const LINES: [Case; 4] = [
     },
     Case {
         words: &["inspect", "linked"],
-        out: "entry 000100b4\nload 00010000 file 192 memory 192 rights r-x\nload 000110c0 file 4 memory 64 rights rw-\n",
+        out: "\
+            entry 000100b4\n\
+            load 00010000 file 192 memory 192 rights r-x\n\
+            load 000110c0 file 4 memory 64 rights rw-\n",
         ..SILENT
     },
 ];
@@ -123,7 +126,11 @@ const SUMMARY: [Case; 5] = [
         words: &["gen", "--threads", "1", "--number", "7"],
         out_failing: &[5],
         err_failing: &[1],
-        out: "rounds 13 done\nprocess 1 status 0\noutput 4100 bytes\nsha256 e59d0f930d0ea4db1caa85500322a5534b2c60e19a71fb491a8eac6055e8aa34\n",
+        out: "\
+            rounds 13 done\n\
+            process 1 status 0\n\
+            output 4100 bytes\n\
+            sha256 e59d0f930d0ea4db1caa85500322a5534b2c60e19a71fb491a8eac6055e8aa34\n",
         ..SILENT
     },
 ];

@@ -53,8 +53,8 @@ fn add_headers(rt: &impl Abort, file: &mut Vec<u8>, headers: &[[u32; 8]]) {
     }
 }
 
-/// Adds a file as a linker makes it. Its code lies behind the headers, in the part that they are in,
-/// and ends with 7.
+/// Adds a file as a linker makes it. Its code lies behind the headers, in the part that they are
+/// in, and ends with 7.
 fn add_linked(rt: &impl Abort, alloc: Global, files: &mut MemoryFiles) {
     let made = file(rt, alloc, &SEVEN);
     let mut bytes = Vec::new(alloc);

@@ -6,11 +6,17 @@ use std::process::Abort;
 use std::thread::Threads;
 
 // What number 7 comes to with one thread and with 8.
-const ONE: &str =
-    "rounds 13 done\nprocess 1 status 0\noutput 4100 bytes\nsha256 e59d0f930d0ea4db1caa85500322a5534b2c60e19a71fb491a8eac6055e8aa34\n";
+const ONE: &str = "\
+    rounds 13 done\n\
+    process 1 status 0\n\
+    output 4100 bytes\n\
+    sha256 e59d0f930d0ea4db1caa85500322a5534b2c60e19a71fb491a8eac6055e8aa34\n";
 
-const EIGHT: &str =
-    "rounds 14 done\nprocess 1 status 0\noutput 32800 bytes\nsha256 960b87a6bce3e57eefc45993a88a37a062414cb1d9e710e960a5f06fab696e99\n";
+const EIGHT: &str = "\
+    rounds 14 done\n\
+    process 1 status 0\n\
+    output 32800 bytes\n\
+    sha256 960b87a6bce3e57eefc45993a88a37a062414cb1d9e710e960a5f06fab696e99\n";
 
 // The numbers of threads and of workers, and what is put to output.
 const ROWS: [(&str, &str, &str); 6] = [

@@ -17,7 +17,8 @@ pub const BEHIND_NINE: u32 = 0x1_0024;
 /// The offset of the text in its page.
 pub const TEXT_OFFSET: i32 = 0x100;
 
-// Registers by the names that the calling convention gives them: zero, sp, t0, t1, s0, s1, a0 to a2, a7.
+// Registers by the names that the calling convention gives them: zero, sp, t0, t1, s0, s1, a0 to
+// a2, a7.
 pub const ZERO: u8 = 0;
 
 pub const SP: u8 = 2;

@@ -136,7 +136,10 @@ const IMAGES: [Case; 4] = [
     Case {
         words: &["replay", "--log", LOG, "zero"],
         status: 4,
-        err: "dos: image 1 has digest 1f781d9d639fb03ae3a3faf3687483964a05de01ec4ff7b5437fff003f59ddfa, log has 3e215eaac57e1259f583ad0a3d6272da6e75fbda72e370327df31109824a6e5b\n",
+        err: "\
+            dos: image 1 has digest \
+            1f781d9d639fb03ae3a3faf3687483964a05de01ec4ff7b5437fff003f59ddfa, \
+            log has 3e215eaac57e1259f583ad0a3d6272da6e75fbda72e370327df31109824a6e5b\n",
         ..SILENT
     },
     Case {

@@ -38,7 +38,8 @@ pub at_table : {T : Type 0} {sees seat : Seating T} {shows board : Standing T} �
     → seat.board ≡ board.id → shows ≡ board → sees.board ≡ shows.id
 at_table sees same shows = ap (λ z. z.board) sees ∙ same ∙ sym (ap (λ z. z.id) shows)
 
-module _ {T : Type 0} {id : TableId} {opened : List T} {count len room : ℕ} {board : Standing T} where
+module _ {T : Type 0} {id : TableId} {opened : List T} {count len room : ℕ}
+    {board : Standing T} where
   -- a number of the board has a word in its table
   pub has_word : (number : ℕ) → Stands id opened count len room → standing id opened room ≡ board
       → number < length board.opened → (number < length opened) × (number + 1 < id.words)

@@ -62,7 +62,8 @@ fn take<T: Part>(closed: &mut Closed<Option<T>, Global>, opened: &Snapshot<Board
     requires word { IsFull closed.old.words × (i + 1 < slots_len closed.old.words) }
     requires rests { Rests T.finished (IsUnderWay T.ready T.ends T.finished)
         opened.now.value.opened (slots_items closed.old.words) (slots_items closed.old.slots) i }
-    ensures finished { (x : T) → get_elem? opened.now.value.opened i ≡ some x → T.finished x result }
+    ensures finished { (x : T) → get_elem? opened.now.value.opened i ≡ some x
+        → T.finished x result }
     ensures closed { (slots_items closed.new.slots ≡ slots_items closed.old.slots)
         × (slots_filled closed.new.slots ≡ slice_set (slots_filled closed.old.slots) i false)
         × (slots_len closed.new.slots ≡ slots_len closed.old.slots)

@@ -174,7 +174,11 @@ module _ (ends : List (Option End)) (old s : Pipework) (i : ℕ) (h : i < length
     readers = λ pipe.
         omega (arith, dropped.readers pipe, more-none (reads_pipe pipe) ends i e h q (reads pipe));
     writers = λ pipe.
-        omega (arith, dropped.writers pipe, more-none (writes_pipe pipe) ends i e h q (writes pipe));
+        omega (
+          arith,
+          dropped.writers pipe,
+          more-none (writes_pipe pipe) ends i e h q (writes pipe),
+        );
     bytes = dropped.bytes;
     reader_counts = dropped.reader_counts;
     writer_counts = dropped.writer_counts;
@@ -220,8 +224,8 @@ module _ (ends : List (Option End)) (old s : Pipework) (i : ℕ) (h : i < length
                 (get_or-set_other s.readers p pipe (get_or s.readers p 0 - 1) 0 other))
                 (open-by (get_or s.readers p 0) (get_or s.writers p 0) there.1) dropped.bytes b r;
             reader_counts =
-                ap length (kept-readers b left p) ∙ length-set s.readers p (get_or s.readers p 0 - 1)
-                ∙ dropped.reader_counts;
+                ap length (kept-readers b left p)
+                ∙ length-set s.readers p (get_or s.readers p 0 - 1) ∙ dropped.reader_counts;
             writer_counts = ap length (kept-writers b left p) ∙ dropped.writer_counts;
             byte_counts = kept-counts b left p dropped.byte_counts;
           })
@@ -264,8 +268,8 @@ module _ (ends : List (Option End)) (old s : Pipework) (i : ℕ) (h : i < length
                 r;
             reader_counts = ap length (kept-readers b left p) ∙ dropped.reader_counts;
             writer_counts =
-                ap length (kept-writers b left p) ∙ length-set s.writers p (get_or s.writers p 0 - 1)
-                ∙ dropped.writer_counts;
+                ap length (kept-writers b left p)
+                ∙ length-set s.writers p (get_or s.writers p 0 - 1) ∙ dropped.writer_counts;
             byte_counts = kept-counts b left p dropped.byte_counts;
           })
   dropped-more (Some Input) new q is =

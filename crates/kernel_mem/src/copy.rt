@@ -4,7 +4,8 @@ ghost use Rattle.std.specs.Prelude.{length, OnErr, Err, if◌then◌else◌};
 ghost use Rattle.dos_world.specs.World.{World};
 ghost use Rattle.dos_world.specs.Kernel.{all_reach, copied_in, copied_out};
 ghost use Rattle.kernel_mem.specs.MemoryWorld.{in_world, entry_in, is_allowed, with_open, IsCaller};
-ghost use Rattle.kernel_mem.specs.MemoryWorld.{HasAllHome, HasFrame, NamesUsedFrames, KeepsUses, KeepsOthers};
+ghost use Rattle.kernel_mem.specs.MemoryWorld.{HasAllHome, HasFrame, NamesUsedFrames};
+ghost use Rattle.kernel_mem.specs.MemoryWorld.{KeepsUses, KeepsOthers};
 ghost use Rattle.page_store.specs.Store.{Store as Held};
 
 use dos_world::errors::EFAULT;

@@ -196,7 +196,8 @@ module _ {count : ℕ} {owners : List Owner} {uses : List ℕ} {free : ℕ} {fra
   pub lowest-unused : get_or uses i 0 ≡ 0
   lowest-unused =
       let none : is_unused (get_or uses i 0) ≡ true = sym (get_or-map is_unused uses i 0)
-      ∙ ap (λ bs. get_or bs i true) (sym k.agree) ∙ get_or-map is_free owners i Free ∙ lowest-free in
+      ∙ ap (λ bs. get_or bs i true) (sym k.agree) ∙ get_or-map is_free owners i Free
+      ∙ lowest-free in
       grind (arith, nat_tests)
 
   pub lowest-some : 1 ≤ free

@@ -1,4 +1,5 @@
--- What a wait for children comes to, by the records of the processes; and a child that is collected.
+-- What a wait for children comes to, by the records of the processes; and a child that is
+-- collected.
 use Rattle.std.proofs.Common.{◌≡◌, ℕ, zero, suc, ◌-◌, ◌<◌, ◌≤◌, Bool, true, false, List}
 use Rattle.std.proofs.Common.{length, get_or, slice_get, Option, Some, None, option_map, IsSome}
 use Rattle.std.proofs.Common.{refl, sym, ap, ◌∙◌, arith}
@@ -28,15 +29,18 @@ module _ {R : List Record} {holders : List (Option ℕ)} {S : List Mapping} {D :
     {count room : ℕ} {now : Group} (shows : group S D R room ≡ now)
     (placed : ArePlaced R holders S D count room) (parent which : ℕ) where
   first_is : (asked : Bool)
-      → first_of (children_in (test_of asked) now.processes parent which) ≡ first_child asked R parent which
-  first_is asked = ap (λ qs. first_of (children_in (test_of asked) qs parent which)) (sym (processes_shown shows placed))
-      ∙ children_shown asked S D R parent which
+      → first_of (children_in (test_of asked) now.processes parent which)
+      ≡ first_child asked R parent which
+  first_is asked = ap (λ qs. first_of (children_in (test_of asked) qs parent which))
+      (sym (processes_shown shows placed)) ∙ children_shown asked S D R parent which
 
   outcome_is : (any come : Option ℕ) → first_child false R parent which ≡ any
-      → first_child true R parent which ≡ come → outcome_by any come now.processes ≡ outcome now.processes parent which
+      → first_child true R parent which ≡ come
+      → outcome_by any come now.processes ≡ outcome now.processes parent which
   outcome_is any come a b =
       ap (λ o. outcome_by o come now.processes) (sym (first_is false ∙ a))
-      ∙ ap (λ o. outcome_by (first_of (children_in any_process now.processes parent which)) o now.processes)
+      ∙ ap (λ o.
+      outcome_by (first_of (children_in any_process now.processes parent which)) o now.processes)
       (sym (first_is true ∙ b))
 
   pub outcome_none : (o : Option ℕ) → first_child false R parent which ≡ o → is_none o ≡ true
@@ -92,9 +96,11 @@ module _ {R : List Record} {holders : List (Option ℕ)} {S : List Mapping} {D :
         by (Live place) e = cc
         by (Ended status collected) e = refl
 
-    found_status : (x : Record) → x ≡ get_or R (p - 1) x → status_in now.processes p ≡ status_or_0 x.kept
+    found_status : (x : Record) → x ≡ get_or R (p - 1) x
+        → status_in now.processes p ≡ status_or_0 x.kept
     found_status x read =
-        ap (λ qs. status_in qs p) (sym (processes_shown shows placed)) ∙ ap status_by (numbered_shown S D R p)
+        ap (λ qs. status_in qs p) (sym (processes_shown shows placed))
+        ∙ ap status_by (numbered_shown S D R p)
         ∙ ap (λ o. status_by (option_map (process_by (holdings_in S D)) o))
         (given p found_from ∙ record_at x read) ∙ kept x.kept
       where
@@ -126,12 +132,14 @@ module _ {R : List Record} {holders : List (Option ℕ)} {S : List Mapping} {D :
       (first_child true R parent which) refl refl))
     where
       by : (any come : Option ℕ) → first_child true R parent which ≡ come
-          → Got p status ≡ outcome_by any come now.processes → (first_child true R parent which ≡ Some p)
-          × (status ≡ status_in now.processes p)
+          → Got p status ≡ outcome_by any come now.processes
+          → (first_child true R parent which ≡ Some p) × (status ≡ status_in now.processes p)
       by None come is e = cc
       by (Some a) None is e = cc
-      by (Some a) (Some q) is e = let same : p ≡ q = cc in let value : status ≡ status_in now.processes q =
-          cc in (is ∙ ap (λ n. Some n) (sym same), value ∙ ap (status_in now.processes) (sym same))
+      by (Some a) (Some q) is e =
+          let same : p ≡ q = cc in
+          let value : status ≡ status_in now.processes q = cc in
+          (is ∙ ap (λ n. Some n) (sym same), value ∙ ap (status_in now.processes) (sym same))
 
   -- the child that a wait has got
   module _ {p status : ℕ} (got : Got p status ≡ outcome now.processes parent which) where

@@ -83,7 +83,7 @@ pub steps-all : (n : ℕ) (w v : World) (t : ℕ) → after_steps n w t ≡ Some
 steps-all n w v t h = let all : n ≡ n + 0 = omega arith in
     ap (λ k. steps k w t) all ∙ steps-after n 0 w v t h
 
--- And they go on from where any of them led, whether one stopped or not., whether one stopped or not
+-- And they go on from where any of them led, whether one stopped or not.
 pub steps-split : (n m : ℕ) (w : World) (t : ℕ) → steps (n + m) w t ≡ steps m (steps n w t) t
 steps-split zero m w t = let none : 0 + m ≡ m = omega arith in ap (λ k. steps k w t) none
 steps-split (suc n) m w t =

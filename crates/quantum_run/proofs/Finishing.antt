@@ -215,7 +215,8 @@ module _ (t pid : ℕ) (r : Registers) (budget : ℕ) (held : List ℕ)
           owners = shows.owners ∙ sym changed.owners;
           thread = thread-after;
           space = shows.space ∙ ap (λ x. Some (Some x)) (sym spaces-same);
-          count = changed.count ∙ shows.count ∙ ap (λ (os : List Owner). 4096 * length os) (sym changed.owners);
+          count = changed.count ∙ shows.count
+              ∙ ap (λ (os : List Owner). 4096 * length os) (sym changed.owners);
           mapped = λ page e has free.
               shows.mapped page e (ap (λ x. look x page) (sym spaces-same) ∙ has)
               (sym (owner-after e.frame) ∙ free);

@@ -34,8 +34,8 @@ reaches-more before after w t r r' budget left some within one reached =
           runs = q.1;
         }
 
-pub goes-stopped : (floor : ℕ) (before after : World → Type 0) (w : World) (t : ℕ) (r r' : Registers)
-    (budget left : ℕ) (reason : Reason)
+pub goes-stopped : (floor : ℕ) (before after : World → Type 0) (w : World) (t : ℕ)
+    (r r' : Registers) (budget left : ℕ) (reason : Reason)
     → ((u : World) → Runs before u t r left → Steps after u t r' left (Stop reason) (step u t))
     → Reaches before w t r budget left → Goes floor after w t r' budget left (Some reason)
 goes-stopped floor before after w t r r' budget left reason one reached =

@@ -69,8 +69,8 @@ module _ {F : Type 0} (floor t : ℕ) (owners : List Owner) (entries : List (ℕ
     r budget → Goes floor (ShowsBy new after left_pages (still t owners entries, fixed) t) w t
     r' budget left stop)
     (w : World) (run : IsRunOf w (store_of owners pages) entries t r budget) where
-  gone : Goes floor (ShowsBy new after left_pages (still t owners entries, fixed) t) w t r' budget left
-      stop
+  gone : Goes floor (ShowsBy new after left_pages (still t owners entries, fixed) t) w t r'
+      budget left stop
   gone = goes w (begins t owners entries fixed pages w r budget run)
 
   -- where it led is the world with the memory's bytes, and the thread as it was left
@@ -88,7 +88,8 @@ module _ {F : Type 0} (floor t : ℕ) (owners : List Owner) (entries : List (ℕ
   stops = subst (λ (u : World). Stops floor u t left stop) now-is gone.stops
 
 -- what the run says of its end, and what the world says
-pub stops-both : (stop : Option Reason) (floor left t : ℕ) (IsOf : World → Type 0) (end : World → World)
+pub stops-both : (stop : Option Reason) (floor left t : ℕ) (IsOf : World → Type 0)
+    (end : World → World)
     → MatchOption stop (left ≡ floor) (λ reason. 0 < left)
     → ((w : World) → IsOf w → Stops floor (end w) t left stop)
     → MatchOption stop (left ≡ floor)

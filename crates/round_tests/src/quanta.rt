@@ -119,8 +119,8 @@ fn registers(pc: u32, x7: u32) -> Regs {
     regs
 }
 
-/// A run of thread 1 from pc with a budget of 10: why it stops, and what is left: of the budget, pc,
-/// and x9.
+/// A run of thread 1 from pc with a budget of 10: why it stops, and what is left: of the budget,
+/// pc, and x9.
 #[derive(Clone, Copy)]
 struct Run {
     name: &'static str,

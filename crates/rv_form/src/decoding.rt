@@ -1,4 +1,6 @@
 // From a word to its form.
+#![tactic(auto, using(crate::proofs::Uppers::meanings), unfolding(crate::specs::Forms::instr_of))]
+
 ghost use Rattle.std.specs.Prelude.{◌≡◌, ◌<◌, ℕ, ℤ, Some, None, false, bit_and};
 ghost use Rattle.rv_isa.specs.Fields as fields;
 ghost use Rattle.rv_isa.specs.Meaning.{meaning};
@@ -10,7 +12,6 @@ use crate::{Form, Op};
 use rv_isa::{AmoOp, Arithmetic, BranchOp, ImmOp, LoadOp, RegOp, ShiftOp, StoreOp, SystemOp};
 
 #[inline]
-#[tactic(auto, unfolding(crate::specs::Forms::instr_of))]
 fn op_of_branch(op: BranchOp) -> Op
     ensures { (rd rs1 rs2 : ℕ) (imm : ℤ) → instr_of result rd rs1 rs2 imm
         ≡ Some (Branch op rs1 rs2 imm) }
@@ -26,7 +27,6 @@ fn op_of_branch(op: BranchOp) -> Op
 }
 
 #[inline]
-#[tactic(auto, unfolding(crate::specs::Forms::instr_of))]
 fn op_of_load(op: LoadOp) -> Op
     ensures { (rd rs1 rs2 : ℕ) (imm : ℤ) → instr_of result rd rs1 rs2 imm
         ≡ Some (Load op rd rs1 imm) }
@@ -41,7 +41,6 @@ fn op_of_load(op: LoadOp) -> Op
 }
 
 #[inline]
-#[tactic(auto, unfolding(crate::specs::Forms::instr_of))]
 fn op_of_store(op: StoreOp) -> Op
     ensures { (rd rs1 rs2 : ℕ) (imm : ℤ) → instr_of result rd rs1 rs2 imm
         ≡ Some (Store op rs1 rs2 imm) }
@@ -54,7 +53,6 @@ fn op_of_store(op: StoreOp) -> Op
 }
 
 #[inline]
-#[tactic(auto, unfolding(crate::specs::Forms::instr_of))]
 fn op_of_imm(op: ImmOp) -> Op
     ensures { (rd rs1 rs2 : ℕ) (imm : ℤ) → instr_of result rd rs1 rs2 imm
         ≡ Some (Imm op rd rs1 imm) }
@@ -70,7 +68,6 @@ fn op_of_imm(op: ImmOp) -> Op
 }
 
 #[inline]
-#[tactic(auto, unfolding(crate::specs::Forms::instr_of))]
 fn op_of_shift(op: ShiftOp) -> Op
     ensures { (rd rs1 rs2 : ℕ) (imm : ℤ) → instr_of result rd rs1 rs2 imm
         ≡ Some (Shift op rd rs1 rs2) }
@@ -83,7 +80,6 @@ fn op_of_shift(op: ShiftOp) -> Op
 }
 
 #[inline]
-#[tactic(auto, unfolding(crate::specs::Forms::instr_of))]
 fn op_of_reg(op: RegOp) -> Op
     ensures { (rd rs1 rs2 : ℕ) (imm : ℤ) → instr_of result rd rs1 rs2 imm
         ≡ Some (Reg op rd rs1 rs2) }
@@ -111,7 +107,6 @@ fn op_of_reg(op: RegOp) -> Op
 }
 
 #[inline]
-#[tactic(auto, unfolding(crate::specs::Forms::instr_of))]
 fn op_of_amo(op: AmoOp) -> Op
     ensures { (rd rs1 rs2 : ℕ) (imm : ℤ) → instr_of result rd rs1 rs2 imm
         ≡ Some (Amo op rd rs1 rs2 false false) }
@@ -133,7 +128,6 @@ fn op_of_amo(op: AmoOp) -> Op
 
 /// No instruction.
 #[inline]
-#[tactic(auto, unfolding(crate::specs::Forms::instr_of))]
 fn none(word: u32) -> Form
     requires { meaning word ≡ None }
     ensures { IsFormOf word result }
@@ -166,7 +160,6 @@ fn with_fields(word: u32, op: Op, imm: i32) -> Form
 }
 
 #[inline]
-#[tactic(auto, using(rv_isa::proofs::ByOpcode::meaning_branch))]
 fn branch(word: u32) -> Form
     requires { bit_and word 127 ≡ 0x63 }
     ensures { IsFormOf word result }
@@ -178,7 +171,6 @@ fn branch(word: u32) -> Form
 }
 
 #[inline]
-#[tactic(auto, using(rv_isa::proofs::ByOpcode::meaning_load))]
 fn load(word: u32) -> Form
     requires { bit_and word 127 ≡ 0x03 }
     ensures { IsFormOf word result }
@@ -190,7 +182,6 @@ fn load(word: u32) -> Form
 }
 
 #[inline]
-#[tactic(auto, using(rv_isa::proofs::ByOpcode::meaning_store))]
 fn store(word: u32) -> Form
     requires { bit_and word 127 ≡ 0x23 }
     ensures { IsFormOf word result }
@@ -202,7 +193,6 @@ fn store(word: u32) -> Form
 }
 
 #[inline]
-#[tactic(auto, using(rv_isa::proofs::ByOpcode::meaning_register))]
 fn register(word: u32) -> Form
     requires { bit_and word 127 ≡ 0x33 }
     ensures { IsFormOf word result }
@@ -214,7 +204,6 @@ fn register(word: u32) -> Form
 }
 
 #[inline]
-#[tactic(auto, using(rv_isa::proofs::ByOpcode::meaning_amo))]
 fn amo(word: u32) -> Form
     requires { bit_and word 127 ≡ 0x2F }
     ensures { IsFormOf word result }
@@ -226,7 +215,6 @@ fn amo(word: u32) -> Form
 }
 
 #[inline]
-#[tactic(auto, using(rv_isa::proofs::ByOpcode::meaning_arithmetic))]
 fn arithmetic(word: u32) -> Form
     requires { bit_and word 127 ≡ 0x13 }
     ensures { IsFormOf word result }
@@ -239,7 +227,6 @@ fn arithmetic(word: u32) -> Form
 }
 
 #[inline]
-#[tactic(auto, using(rv_isa::proofs::ByOpcode::meaning_fence), unfolding(crate::specs::Forms::instr_of))]
 fn fence(word: u32) -> Form
     requires { bit_and word 127 ≡ 0x0F }
     ensures { IsFormOf word result }
@@ -251,7 +238,6 @@ fn fence(word: u32) -> Form
 }
 
 #[inline]
-#[tactic(auto, using(rv_isa::proofs::ByOpcode::meaning_system), unfolding(crate::specs::Forms::instr_of))]
 fn system(word: u32) -> Form
     requires { bit_and word 127 ≡ 0x73 }
     ensures { IsFormOf word result }
@@ -264,7 +250,6 @@ fn system(word: u32) -> Form
 }
 
 #[inline]
-#[tactic(auto, using(rv_isa::proofs::ByOpcode::meaning_jalr), unfolding(crate::specs::Forms::instr_of))]
 fn jalr(word: u32) -> Form
     requires { bit_and word 127 ≡ 0x67 }
     ensures { IsFormOf word result }
@@ -277,7 +262,6 @@ fn jalr(word: u32) -> Form
 }
 
 #[inline]
-#[tactic(auto, using(rv_isa::proofs::ByOpcode::meaning_jal), unfolding(crate::specs::Forms::instr_of))]
 fn jal(word: u32) -> Form
     requires { bit_and word 127 ≡ 0x6F }
     ensures { IsFormOf word result }
@@ -286,7 +270,6 @@ fn jal(word: u32) -> Form
 }
 
 #[inline]
-#[tactic(auto, using(rv_isa::proofs::ByOpcode::meaning_lui, crate::proofs::Uppers::upper_back), unfolding(crate::specs::Forms::instr_of))]
 fn lui(word: u32) -> Form
     requires { bit_and word 127 ≡ 0x37 }
     ensures { IsFormOf word result }
@@ -295,7 +278,6 @@ fn lui(word: u32) -> Form
 }
 
 #[inline]
-#[tactic(auto, using(rv_isa::proofs::ByOpcode::meaning_auipc, crate::proofs::Uppers::upper_back), unfolding(crate::specs::Forms::instr_of))]
 fn auipc(word: u32) -> Form
     requires { bit_and word 127 ≡ 0x17 }
     ensures { IsFormOf word result }
@@ -304,7 +286,6 @@ fn auipc(word: u32) -> Form
 }
 
 #[inline]
-#[tactic(auto, using(rv_isa::proofs::ByOpcode::meaning_none), unfolding(crate::specs::Forms::instr_of))]
 fn other(word: u32) -> Form
     requires { IsNoOpcode (bit_and word 127) }
     ensures { IsFormOf word result }

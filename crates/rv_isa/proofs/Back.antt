@@ -34,6 +34,7 @@ use Rattle.rv_isa.specs.declared.Arithmetic.TheVariants.{Plain, Shifts}
 use Rattle.rv_isa.proofs.Codes.{branch_below, load_below, store_below, imm_below, shift_below}
 use Rattle.rv_isa.proofs.Codes.{reg_below, amo_below, one_below}
 use Rattle.rv_isa.specs.declared.Instr.{Instr}
+use Rattle.rv_isa.proofs.Single.{single}
 use Rattle.rv_isa.proofs.Masks.{opcode_mask, funct3_mask, funct7_mask, funct5_mask}
 use Rattle.rv_isa.proofs.Masks.{funct5_alone_mask, word_mask}
 use Rattle.rv_isa.proofs.Formats.{i_parts, r_parts, s_parts, b_parts, u_parts, j_parts}
@@ -281,3 +282,6 @@ meaning_valid w h = if_some_mono (λ i. GoesBack i w) IsValid (λ i p. p.0) (mea
 pub meaning_encoded : (w : ℕ) → w < 2 ^ 32 → IfSome (meaning w) (λ i. encoding i ≡ w)
 meaning_encoded w h = if_some_mono (λ i. GoesBack i w) (λ i. encoding i ≡ w) (λ i p. p.1)
     (meaning w) (meaning_back w h)
+
+-- what is told of the instruction of a word
+pub ruleset meaning_rules = (single, meaning_valid, meaning_encoded)

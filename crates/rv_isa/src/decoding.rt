@@ -164,7 +164,7 @@ fn by_opcode(word: u32) -> Option<Instr>
 
 /// The instruction that a word stands for; None exactly where the table has no row for it. At most
 /// one row fits a word, what it stands for is valid, and `encode` gives the word back.
-#[tactic(auto, using(crate::proofs::Single::single, crate::proofs::Back::meaning_valid, crate::proofs::Back::meaning_encoded))]
+#[tactic(auto, using(crate::proofs::Back::meaning_rules))]
 pub fn decode(word: u32) -> Option<Instr>
     ensures row { result ≡ table.meaning word }
     ensures single { table.IsSingle word }

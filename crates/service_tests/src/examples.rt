@@ -286,7 +286,18 @@ const FRAMES: [Row; 5] = [
     },
     Row {
         guest: &[FORKS_ON],
-        report: "process 1 status 245\nprocess 2 status 0\nprocess 3 status 0\nprocess 4 status 0\nprocess 5 status 0\nprocess 6 status 0\nprocess 7 status 0\nprocess 8 status 0\nprocess 9 status 0\nprocess 10 status 0\nprocess 11 status 0\nprocess 12 status 0\nprocess 13 status 0\nprocess 14 status 0\nprocess 15 status 0\nprocess 16 status 0\nprocess 17 status 0\nprocess 18 status 0\nprocess 19 status 0\nprocess 20 status 0\nprocess 21 status 0\nprocess 22 status 0\nprocess 23 status 0\nprocess 24 status 0\nprocess 25 status 0\nprocess 26 status 0\nprocess 27 status 0\nprocess 28 status 0\nprocess 29 status 0\nprocess 30 status 0\nprocess 31 status 0\nprocess 32 status 0\nrounds 2 done\n",
+        report: "\
+            process 1 status 245\nprocess 2 status 0\nprocess 3 status 0\n\
+            process 4 status 0\nprocess 5 status 0\nprocess 6 status 0\nprocess 7 status 0\n\
+            process 8 status 0\nprocess 9 status 0\nprocess 10 status 0\n\
+            process 11 status 0\nprocess 12 status 0\nprocess 13 status 0\n\
+            process 14 status 0\nprocess 15 status 0\nprocess 16 status 0\n\
+            process 17 status 0\nprocess 18 status 0\nprocess 19 status 0\n\
+            process 20 status 0\nprocess 21 status 0\nprocess 22 status 0\n\
+            process 23 status 0\nprocess 24 status 0\nprocess 25 status 0\n\
+            process 26 status 0\nprocess 27 status 0\nprocess 28 status 0\n\
+            process 29 status 0\nprocess 30 status 0\nprocess 31 status 0\n\
+            process 32 status 0\nrounds 2 done\n",
         ..USUAL
     },
 ];

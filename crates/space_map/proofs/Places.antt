@@ -250,7 +250,8 @@ kept-set entry {es} {room} {capacity} {page} {place} k at = record {
 -- where the search found the page, in the entries themselves
 pub at-inside : {m n : Mapping} {page place : ℕ} → m ≡ n → IsAt n.entries page place
     → IsAt m.entries page place
-at-inside {m} {n} {page} {place} e at = subst (λ (x : Mapping). IsAt x.entries page place) (sym e) at
+at-inside {m} {n} {page} {place} e at =
+    subst (λ (x : Mapping). IsAt x.entries page place) (sym e) at
 
 pub first-inside : {m n : Mapping} {page first : ℕ} → m ≡ n → IsFirstFrom n.entries page first
     → IsFirstFrom m.entries page first

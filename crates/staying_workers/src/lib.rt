@@ -1,6 +1,6 @@
-//! Workers that stay from call to call, and draw packs from a board that they are sent. They run each
-//! pack in slices, and put it back after each, so that one whose processor is slow keeps none from
-//! the others.
+//! Workers that stay from call to call, and draw packs from a board that they are sent. They run
+//! each pack in slices, and put it back after each, so that one whose processor is slow keeps none
+//! from the others.
 //!
 //! A thread costs as much to start and to join as some thousands of instructions of a guest; one
 //! that stays, and is told of the next packs while it still looks for them, costs some hundred.

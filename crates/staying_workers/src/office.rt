@@ -91,8 +91,8 @@ impl Office {
 }
 
 impl Desk {
-    /// An order that no worker has begun is taken back, and a note says so. What packs are left are in
-    /// the hands of others.
+    /// An order that no worker has begun is taken back, and a note says so. What packs are left are
+    /// in the hands of others.
     pub(crate) fn recall<R: Wait>(&self, rt: &R) {
         if let Some(order) = self.orders.take_back(rt) {
             order.let_be();

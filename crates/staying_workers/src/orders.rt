@@ -58,8 +58,8 @@ impl Order {
         place.leave(at, seat);
     }
 
-    /// Leaves the seat, and runs nothing: others have what is left in hand. Afterwards nothing of the
-    /// board is kept.
+    /// Leaves the seat, and runs nothing: others have what is left in hand. Afterwards nothing of
+    /// the board is kept.
     pub(crate) fn let_be(self) {
         let Order {
             board,

@@ -169,8 +169,8 @@ pub(crate) fn sole<X, R: Wait>(rt: &R, mut shared: Arc<X>) -> X
     unreachable!()
 }
 
-// The orders at so many desks are at their end, and each pack has been begun. One that no worker has begun
-// is taken back, so that nobody waits for a worker that sleeps or has no processor.
+// The orders at so many desks are at their end, and each pack has been begun. One that no worker
+// has begun is taken back, so that nobody waits for a worker that sleeps or has no processor.
 fn end_orders<R: Wait>(rt: &R, desks: &[Desk], orders: usize, looks: u32) {
     for desk in desks.iter().take(orders) {
         desk.recall(rt);

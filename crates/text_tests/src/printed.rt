@@ -59,11 +59,17 @@ fn parts_of_images(rt: HostRuntime) {
     let cases: [(bool, &str); 2] = [
         (
             false,
-            "entry 00010000\nload 00010000 file 12 memory 12 rights r-x\nload 000ab000 file 2 memory 8 rights rw-\n",
+            "\
+                entry 00010000\n\
+                load 00010000 file 12 memory 12 rights r-x\n\
+                load 000ab000 file 2 memory 8 rights rw-\n",
         ),
         (
             true,
-            "entry 00010000\nload 00010000 file 12 memory 12 rights rwx\nload 000ab000 file 2 memory 8 rights rw-\n",
+            "\
+                entry 00010000\n\
+                load 00010000 file 12 memory 12 rights rwx\n\
+                load 000ab000 file 2 memory 8 rights rw-\n",
         ),
     ];
     for (write, lines) in cases {
@@ -100,8 +106,9 @@ fn outputs(rt: HostRuntime) {
     digest[0] = 0x0a;
     let mut out = MemorySink::new(alloc, 4096, &[]).expect(&rt, "memory");
     outputs_put(&rt, 18446744073709551615, &digest, &mut out, Ok(()));
-    let lines =
-        "output 18446744073709551615 bytes\nsha256 0affffffffffffffffffffffffffffffffffffffffffffffffffffffffffffff\n";
+    let lines = "\
+        output 18446744073709551615 bytes\n\
+        sha256 0affffffffffffffffffffffffffffffffffffffffffffffffffffffffffffff\n";
     has(&rt, &out, lines);
     drop(out);
     let mut out = MemorySink::new(alloc, 4096, &[2]).expect(&rt, "memory");

@@ -113,7 +113,10 @@ fn refusals_of_logs(rt: HostRuntime) {
         (
             Refusal::Log(LogRefusal::Digest(1, [0x0a; 32], [0x9c; 32])),
             4,
-            "dos: image 1 has digest 0a0a0a0a0a0a0a0a0a0a0a0a0a0a0a0a0a0a0a0a0a0a0a0a0a0a0a0a0a0a0a0a, log has 9c9c9c9c9c9c9c9c9c9c9c9c9c9c9c9c9c9c9c9c9c9c9c9c9c9c9c9c9c9c9c9c\n",
+            "\
+                dos: image 1 has digest \
+                0a0a0a0a0a0a0a0a0a0a0a0a0a0a0a0a0a0a0a0a0a0a0a0a0a0a0a0a0a0a0a0a, \
+                log has 9c9c9c9c9c9c9c9c9c9c9c9c9c9c9c9c9c9c9c9c9c9c9c9c9c9c9c9c9c9c9c9c\n",
         ),
     ];
     say(&rt, rt.alloc(), &rows);

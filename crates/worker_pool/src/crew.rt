@@ -27,7 +27,8 @@ pub trait Task: Part + Drop {
     fn go_on(&mut self) -> bool
         requires { Self.ready self.old }
         ensures ends { result ≡ true → Self.ends self.old self.new }
-        ensures more { result ≡ false → IsUnderWay Self.ready Self.ends Self.ends self.old self.new };
+        ensures more { result ≡ false
+            → IsUnderWay Self.ready Self.ends Self.ends self.old self.new };
 }
 
 // runs the only part in the seat's hand, as the board opened, and gives it back

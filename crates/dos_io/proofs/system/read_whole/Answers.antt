@@ -1,6 +1,6 @@
 -- Where memory for them ran out, the bytes of the last read are taken too.
-use Rattle.std.proofs.Common.{◌≡◌, ◌<◌, ℕ, List, Option, Some, None, IfSome, [], ◌++◌, take, length, arith}
-use Rattle.std.proofs.Common.{ap, subst, length-append, append-nil, rules}
+use Rattle.std.proofs.Common.{◌≡◌, ◌<◌, ℕ, List, Option, Some, None, IfSome, [], ◌++◌}
+use Rattle.std.proofs.Common.{take, length, arith, ap, subst, length-append, append-nil, rules}
 use Rattle.std.proofs.lemmas.Grind.{common_steps}
 use Rattle.std.specs.Io.KnownBytes.{Consumes}
 use Rattle.std.proofs.KnownBytes.{Consumes-trans, Consumes-kept}

@@ -15,7 +15,8 @@ invariant_of-kernel g c =
     let e = c.play_round-result.ensures in
     let view = c.kernel.view_is in
     let between = c.kernel.invariant.3 (ap (λ (k : Held). k.failed) view ∙ c.requires.running) in
-    let limit = subst (λ (k : Held). k.state.round ≤ k.config.rounds) (sym view) c.requires.limit in (
+    let limit = subst (λ (k : Held). k.state.round ≤ k.config.rounds) (sym view)
+    c.requires.limit in (
       e.room,
       round_follows c.play_round-result.result i.state.round _ e.round e.keeps.uncounted
           c.kernel.invariant.1,

@@ -36,8 +36,8 @@ returns-then-number-eq-WRITE c =
 pub returns-then-number-eq-FUTEX_WAIT : goal.returns-then-number-eq-FUTEX_WAIT
 returns-then-number-eq-FUTEX_WAIT c =
     let is : c.args.number ≡ 11 = grind (arith, nat_tests, c.if-number-eq-FUTEX_WAIT.true) in
-    tells_as _ _ c.args.state.now c.args.asked.now c.awaits_waking.result (ap service_of is ∙ row_11)
-    c.awaits_waking.ensures
+    tells_as _ _ c.args.state.now c.args.asked.now c.awaits_waking.result
+    (ap service_of is ∙ row_11) c.awaits_waking.ensures
 
 pub returns : goal.returns
 returns c = λ q o e.

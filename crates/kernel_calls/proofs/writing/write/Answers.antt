@@ -73,19 +73,20 @@ returns-in-Some-Error g c =
     let sent = c.send-in-Some-Error.ensures in
     record {
       sends = ok_is _ c.send-in-Some-Error.result _ Went
-          (sends-error write c.args.state.now c.args.asked.now c.send-in-Some-Error.new.state _ _ _ at)
-          sent.sends sent.way;
+          (sends-error write c.args.state.now c.args.asked.now c.send-in-Some-Error.new.state
+          _ _ _ at) sent.sends sent.way;
       counted = sent.counted;
       stands = sent.stands;
       round = sent.round;
       grows = on_err_weaker c.send-in-Some-Error.result (error_grown _ _ _ _ _ _) sent.cut;
       faults = err_is _ c.send-in-Some-Error.result _ ErrFault
-          (faults-error write c.args.state.now c.args.asked.now c.send-in-Some-Error.new.state _ _ _ at)
-          sent.cut sent.stop;
+          (faults-error write c.args.state.now c.args.asked.now c.send-in-Some-Error.new.state
+          _ _ _ at) sent.cut sent.stop;
       causes = record {
         err_later = sent.cause.later;
         out_later = le_refl _;
-        sinks = err_is _ c.send-in-Some-Error.result _ ErrFault (λ rose. rose) sent.cause.failed sent.stop;
+        sinks = err_is _ c.send-in-Some-Error.result _ ErrFault (λ rose. rose)
+            sent.cause.failed sent.stop;
       };
     }
 

@@ -83,7 +83,8 @@ returns-clause-forks c =
     (in_world w c.copy_space.new.frames c.copy_space.new.table))
     (thread_in c.args.table.now.threads c.args.tid) c.process_of-pid.result c.process_of-pid.ensures
     (λ w. forked-ok has (ap (λ (p : ℕ × ℕ). p.0) c.add_child-child.ensures.numbers) w
-    c.args.frames.now c.copy_space.new.frames (space_in c.copy_space.new.table c.add_child-child.result.0)
+    c.args.frames.now c.copy_space.new.frames
+    (space_in c.copy_space.new.table c.add_child-child.result.0)
     (ap (λ (p : ℕ × ℕ). p.1) c.add_child-child.ensures.numbers)
     (sym c.is_full.ensures ∙ c.if-is_full.false)
     (enough w c.args.frames.now c.args.table.now

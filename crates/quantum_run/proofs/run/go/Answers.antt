@@ -39,7 +39,8 @@ returns-in-Not-clause-runs g c = λ f t w runs.
     (still after.tid (g.P.Pages.owners after.pages) after.space.now.entries)
     (g.P.Pages.fixed after.pages) (g.P.Pages.pages after.pages) f t) w t r budget left (Some why))
     (sym c.set_pc-in-Not.ensures)
-    (goes-shown floor (shown g after f notes t) _ w t after_regs budget left (Some why) (λ u s. s.shows)
+    (goes-shown floor (shown g after f notes t) _ w t after_regs budget left (Some why)
+    (λ u s. s.shows)
     (goes-stopped floor (both old new) (shown g after f notes t) w t before_regs after_regs budget
     left why (λ u ru. c.in-Not.ensures (f, notes) t u left (note_at notes c.loop-left.place).word
     c.form.ensures (c.if-not-knows.ensures.word f t u ru.shown.0).1

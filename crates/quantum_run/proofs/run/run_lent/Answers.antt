@@ -29,8 +29,8 @@ pub returns-clause-stop : goal.returns-clause-stop
 returns-clause-stop c =
     let pages = c.args.frames.now.pages in
     let n = c.run_written.new in
-    let P = λ (old new : List (Option (List ℕ))). MatchOption c.run_written.result (n.budget ≡ c.args.floor)
-    (λ reason. (0 < n.budget) × ((w : World)
+    let P = λ (old new : List (Option (List ℕ))). MatchOption c.run_written.result
+    (n.budget ≡ c.args.floor) (λ reason. (0 < n.budget) × ((w : World)
     → IsRunOf w (store_of c.args.frames.now.owners (overlay old pages)) c.args.space.now.entries
     c.args.tid c.args.regs.now c.args.budget.now
     → step (run_to w c.args.tid (overlay new pages) n.regs n.budget) c.args.tid ≡ Err reason)) in

@@ -50,7 +50,8 @@ loop-number-preserved g c =
         shares-more crew worker pushed.items,
         was.4,
       ),
-      All-same Can c.push_reserved.new.self.items _ pushed.items (All-push Can crew worker was.5 can),
+      All-same Can c.push_reserved.new.self.items _ pushed.items
+          (All-push Can crew worker was.5 can),
       omega (arith, pushed.len, was.6),
       omega (arith, pushed.capacity, was.7),
       own.1,

@@ -16,7 +16,8 @@ take_all-requires-clause-rest g c =
     let says = ap length ((f.1.0.placed.knowing c.seat.inside.seat.id c.seat.inside.seat.me.0
     f.1.1).told (omega arith)) in
     let closed = c.close_with-closed.result in
-    let same = ap (λ (s : Standing g.row.T.Denot). s.opened) (c.self.view_is ∙ sym c.of-opened.ensures) in
+    let same = ap (λ (s : Standing g.row.T.Denot). s.opened)
+    (c.self.view_is ∙ sym c.of-opened.ensures) in
     subst (λ l. (i : ℕ) → Rests g.T.Part.finished
     (IsUnderWay g.T.Part.ready g.T.Part.ends g.T.Part.finished) l (slots_items closed.words)
     (slots_items closed.slots) i) same

@@ -8,7 +8,8 @@ pub clear_bit-requires : goal.clear_bit-requires
 clear_bit-requires c = in_places c.self.invariant c.self.view_is c.args.place c.requires
 
 pub clear_bit-requires-then-clear_bit : goal.clear_bit-requires-then-clear_bit
-clear_bit-requires-then-clear_bit c = in_words c.self.invariant c.self.view_is c.args.place c.requires
+clear_bit-requires-then-clear_bit c =
+    in_words c.self.invariant c.self.view_is c.args.place c.requires
 
 pub clear_bit-zero-requires : goal.clear_bit-zero-requires
 clear_bit-zero-requires c = in_groups c.self.invariant c.self.view_is c.args.place c.requires

@@ -6,7 +6,8 @@ use Rattle.proc_table.proofs.Standing.{parent_within}
 use Rattle.proc_table.proofs.processes.Processes.add.Goals as goal
 
 pub unreachable-requires : goal.unreachable-requires
-unreachable-requires c = has_place c.self.view_is c.self.invariant c.requires.room (sym c.in-None.ensures)
+unreachable-requires c =
+    has_place c.self.view_is c.self.invariant c.requires.room (sym c.in-None.ensures)
 
 pub bounds-self-inside-place : goal.bounds-self-inside-place
 bounds-self-inside-place c = free_within c.self.view_is c.self.invariant (sym c.in-Some.ensures)
@@ -39,7 +40,8 @@ add-requires-clause-numbers c =
     omega (arith, given_shown c.self.view_is c.self.invariant, c.requires.numbers)
 
 pub add-requires-clause-parent : goal.add-requires-clause-parent
-add-requires-clause-parent c = parent_within c.self.view_is c.self.invariant c.args.parent c.requires.parent
+add-requires-clause-parent c =
+    parent_within c.self.view_is c.self.invariant c.args.parent c.requires.parent
 
 pub invariant_of-self : goal.invariant_of-self
 invariant_of-self c = (added_standing c.self.view_is c.self.invariant (sym c.in-Some.ensures)

@@ -12,11 +12,9 @@ index_mut-requires c = index_of c.self.inside.belongings
     (within_belongings c.self.view_is c.self.invariant c.args.pid c.place_of-place.ensures)
 
 pub invariant_of-self : goal.invariant_of-self
-invariant_of-self c = (belongings_written c.self.view_is c.self.invariant c.args.pid c.place_of-place.ensures
-    without_ends c.index_mut.ensures.value
-    (λ space. refl)).placed
+invariant_of-self c = (belongings_written c.self.view_is c.self.invariant c.args.pid
+    c.place_of-place.ensures without_ends c.index_mut.ensures.value (λ space. refl)).placed
 
 pub returns : goal.returns
-returns c = (belongings_written c.self.view_is c.self.invariant c.args.pid c.place_of-place.ensures
-    without_ends c.index_mut.ensures.value
-    (λ space. refl)).shows
+returns c = (belongings_written c.self.view_is c.self.invariant c.args.pid
+    c.place_of-place.ensures without_ends c.index_mut.ensures.value (λ space. refl)).shows

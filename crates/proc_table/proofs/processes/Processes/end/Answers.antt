@@ -6,7 +6,8 @@ pub place_of-place-requires : goal.place_of-place-requires
 place_of-place-requires c = lives c.self.view_is c.self.invariant c.args.pid c.requires
 
 pub bounds-self-inside-place : goal.bounds-self-inside-place
-bounds-self-inside-place c = within c.self.view_is c.self.invariant c.args.pid c.place_of-place.ensures
+bounds-self-inside-place c =
+    within c.self.view_is c.self.invariant c.args.pid c.place_of-place.ensures
 
 pub offset_bounds-self-inside-place : goal.offset_bounds-self-inside-place
 offset_bounds-self-inside-place c =
@@ -19,9 +20,9 @@ pub end-requires : goal.end-requires
 end-requires c = lives c.self.view_is c.self.invariant c.args.pid c.requires
 
 pub invariant_of-self : goal.invariant_of-self
-invariant_of-self c = (ended_standing c.self.view_is c.self.invariant c.args.pid c.place_of-place.ensures
-    c.args.status c.end.ensures).placed
+invariant_of-self c = (ended_standing c.self.view_is c.self.invariant c.args.pid
+    c.place_of-place.ensures c.args.status c.end.ensures).placed
 
 pub returns : goal.returns
-returns c = (ended_standing c.self.view_is c.self.invariant c.args.pid c.place_of-place.ensures
-    c.args.status c.end.ensures).shows
+returns c = (ended_standing c.self.view_is c.self.invariant c.args.pid
+    c.place_of-place.ensures c.args.status c.end.ensures).shows

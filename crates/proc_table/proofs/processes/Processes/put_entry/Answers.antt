@@ -23,9 +23,11 @@ put-requires-clause-room c = in_space c.self.view_is c.self.invariant c.args.pid
     c.index_mut.ensures.value c.requires.room
 
 pub invariant_of-self : goal.invariant_of-self
-invariant_of-self c = (space_written c.self.view_is c.self.invariant c.args.pid c.place_of-place.ensures
-    (put c.args.page c.args.entry) c.index_mut.ensures.value c.put.ensures).placed
+invariant_of-self c = (space_written c.self.view_is c.self.invariant c.args.pid
+    c.place_of-place.ensures (put c.args.page c.args.entry) c.index_mut.ensures.value
+    c.put.ensures).placed
 
 pub returns : goal.returns
-returns c = (space_written c.self.view_is c.self.invariant c.args.pid c.place_of-place.ensures
-    (put c.args.page c.args.entry) c.index_mut.ensures.value c.put.ensures).shows
+returns c = (space_written c.self.view_is c.self.invariant c.args.pid
+    c.place_of-place.ensures (put c.args.page c.args.entry) c.index_mut.ensures.value
+    c.put.ensures).shows

@@ -14,7 +14,8 @@ index_mut-requires c = index_of c.self.inside.spaces
 
 pub put_run-requires-clause-unmapped : goal.put_run-requires-clause-unmapped
 put_run-requires-clause-unmapped c = in_space c.self.view_is c.self.invariant c.args.pid
-    c.place_of-place.ensures (λ entries room. list_any (in_run c.args.page c.args.count) entries ≡ false)
+    c.place_of-place.ensures
+    (λ entries room. list_any (in_run c.args.page c.args.count) entries ≡ false)
     c.index_mut.ensures.value c.requires.unmapped
 
 pub put_run-requires-clause-room : goal.put_run-requires-clause-room
@@ -23,9 +24,11 @@ put_run-requires-clause-room c = in_space c.self.view_is c.self.invariant c.args
     c.index_mut.ensures.value c.requires.room
 
 pub invariant_of-self : goal.invariant_of-self
-invariant_of-self c = (space_written c.self.view_is c.self.invariant c.args.pid c.place_of-place.ensures
-    (put_run c.args.page c.args.count c.args.entry) c.index_mut.ensures.value c.put_run.ensures).placed
+invariant_of-self c = (space_written c.self.view_is c.self.invariant c.args.pid
+    c.place_of-place.ensures (put_run c.args.page c.args.count c.args.entry)
+    c.index_mut.ensures.value c.put_run.ensures).placed
 
 pub returns : goal.returns
-returns c = (space_written c.self.view_is c.self.invariant c.args.pid c.place_of-place.ensures
-    (put_run c.args.page c.args.count c.args.entry) c.index_mut.ensures.value c.put_run.ensures).shows
+returns c = (space_written c.self.view_is c.self.invariant c.args.pid
+    c.place_of-place.ensures (put_run c.args.page c.args.count c.args.entry)
+    c.index_mut.ensures.value c.put_run.ensures).shows

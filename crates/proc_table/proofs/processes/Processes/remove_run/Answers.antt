@@ -11,9 +11,11 @@ index_mut-requires c = index_of c.self.inside.spaces
     (within_spaces c.self.view_is c.self.invariant c.args.pid c.place_of-place.ensures)
 
 pub invariant_of-self : goal.invariant_of-self
-invariant_of-self c = (space_written c.self.view_is c.self.invariant c.args.pid c.place_of-place.ensures
-    (without_run c.args.page c.args.count) c.index_mut.ensures.value c.remove_run.ensures).placed
+invariant_of-self c = (space_written c.self.view_is c.self.invariant c.args.pid
+    c.place_of-place.ensures (without_run c.args.page c.args.count)
+    c.index_mut.ensures.value c.remove_run.ensures).placed
 
 pub returns : goal.returns
-returns c = (space_written c.self.view_is c.self.invariant c.args.pid c.place_of-place.ensures
-    (without_run c.args.page c.args.count) c.index_mut.ensures.value c.remove_run.ensures).shows
+returns c = (space_written c.self.view_is c.self.invariant c.args.pid
+    c.place_of-place.ensures (without_run c.args.page c.args.count)
+    c.index_mut.ensures.value c.remove_run.ensures).shows

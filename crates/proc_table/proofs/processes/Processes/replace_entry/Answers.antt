@@ -16,9 +16,11 @@ replace-requires c = in_space c.self.view_is c.self.invariant c.args.pid
     c.index_mut.ensures.value c.requires.mapped
 
 pub invariant_of-self : goal.invariant_of-self
-invariant_of-self c = (space_written c.self.view_is c.self.invariant c.args.pid c.place_of-place.ensures
-    (with_replaced c.args.page c.args.entry) c.index_mut.ensures.value c.replace.ensures).placed
+invariant_of-self c = (space_written c.self.view_is c.self.invariant c.args.pid
+    c.place_of-place.ensures (with_replaced c.args.page c.args.entry)
+    c.index_mut.ensures.value c.replace.ensures).placed
 
 pub returns : goal.returns
-returns c = (space_written c.self.view_is c.self.invariant c.args.pid c.place_of-place.ensures
-    (with_replaced c.args.page c.args.entry) c.index_mut.ensures.value c.replace.ensures).shows
+returns c = (space_written c.self.view_is c.self.invariant c.args.pid
+    c.place_of-place.ensures (with_replaced c.args.page c.args.entry)
+    c.index_mut.ensures.value c.replace.ensures).shows

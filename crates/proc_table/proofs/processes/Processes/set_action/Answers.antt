@@ -13,13 +13,15 @@ index_mut-requires c = index_of c.self.inside.belongings
     (within_belongings c.self.view_is c.self.invariant c.args.pid c.place_of-place.ensures)
 
 pub invariant_of-self : goal.invariant_of-self
-invariant_of-self c = (belongings_written c.self.view_is c.self.invariant c.args.pid c.place_of-place.ensures
-    (with_action c.args.signal c.args.action) c.index_mut.ensures.value
-    (λ space. ap (λ actions. holdings_by (record c.index_mut.result.now { actions = actions }) space)
+invariant_of-self c = (belongings_written c.self.view_is c.self.invariant c.args.pid
+    c.place_of-place.ensures (with_action c.args.signal c.args.action) c.index_mut.ensures.value
+    (λ space. ap (λ actions.
+    holdings_by (record c.index_mut.result.now { actions = actions }) space)
     c.set_action_at.ensures)).placed
 
 pub returns : goal.returns
-returns c = (belongings_written c.self.view_is c.self.invariant c.args.pid c.place_of-place.ensures
-    (with_action c.args.signal c.args.action) c.index_mut.ensures.value
-    (λ space. ap (λ actions. holdings_by (record c.index_mut.result.now { actions = actions }) space)
+returns c = (belongings_written c.self.view_is c.self.invariant c.args.pid
+    c.place_of-place.ensures (with_action c.args.signal c.args.action) c.index_mut.ensures.value
+    (λ space. ap (λ actions.
+    holdings_by (record c.index_mut.result.now { actions = actions }) space)
     c.set_action_at.ensures)).shows

@@ -13,13 +13,13 @@ index_mut-requires c = index_of c.self.inside.belongings
     (within_belongings c.self.view_is c.self.invariant c.args.pid c.place_of-place.ensures)
 
 pub invariant_of-self : goal.invariant_of-self
-invariant_of-self c = (belongings_written c.self.view_is c.self.invariant c.args.pid c.place_of-place.ensures
-    (with_end c.args.number c.args.end) c.index_mut.ensures.value
+invariant_of-self c = (belongings_written c.self.view_is c.self.invariant c.args.pid
+    c.place_of-place.ensures (with_end c.args.number c.args.end) c.index_mut.ensures.value
     (λ space. ap (λ ends. holdings_by (record c.index_mut.result.now { descriptors = ends }) space)
     c.set_end.ensures)).placed
 
 pub returns : goal.returns
-returns c = (belongings_written c.self.view_is c.self.invariant c.args.pid c.place_of-place.ensures
-    (with_end c.args.number c.args.end) c.index_mut.ensures.value
+returns c = (belongings_written c.self.view_is c.self.invariant c.args.pid
+    c.place_of-place.ensures (with_end c.args.number c.args.end) c.index_mut.ensures.value
     (λ space. ap (λ ends. holdings_by (record c.index_mut.result.now { descriptors = ends }) space)
     c.set_end.ensures)).shows

@@ -4,5 +4,5 @@ use Rattle.proc_table.proofs.Known.{known_in}
 use Rattle.proc_table.proofs.table.Table.set_run.Goals as goal
 
 pub returns : goal.returns
-returns c = known_in c.self.view_is (ran c.args.regs c.args.budget) c.args.tid c.get_mut-thread.ensures.is
-    (ap (ran c.args.regs c.args.budget) c.thread.view_is)
+returns c = known_in c.self.view_is (ran c.args.regs c.args.budget) c.args.tid
+    c.get_mut-thread.ensures.is (ap (ran c.args.regs c.args.budget) c.thread.view_is)

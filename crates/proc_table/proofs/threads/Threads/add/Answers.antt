@@ -11,8 +11,8 @@ unreachable-requires c =
     omega (arith, left.0, c.in-Err.ensures.full, c.self.invariant.taken)
 
 pub invariant_of-self : goal.invariant_of-self
-invariant_of-self c = kept_push c.self.view_is c.self.invariant c.args.thread c.requires c.in-Ok.ensures.items
-    c.in-Ok.ensures.capacity
+invariant_of-self c = kept_push c.self.view_is c.self.invariant c.args.thread c.requires
+    c.in-Ok.ensures.items c.in-Ok.ensures.capacity
 
 pub returns-clause-number : goal.returns-clause-number
 returns-clause-number c =

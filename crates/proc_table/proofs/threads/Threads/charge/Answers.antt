@@ -18,10 +18,11 @@ overflow_sub-thread c =
 
 pub invariant_of-self : goal.invariant_of-self
 invariant_of-self c =
-    kept_set c.self.view_is c.self.invariant _ (at_in c.deref.ensures.value c.place_of-place.ensures)
-    c.index_mut.ensures.value refl refl
+    kept_set c.self.view_is c.self.invariant _
+    (at_in c.deref.ensures.value c.place_of-place.ensures) c.index_mut.ensures.value refl refl
 
 pub returns : goal.returns
 returns c =
-    written c.self.view_is c.self.invariant charged (at_in c.deref.ensures.value c.place_of-place.ensures)
-    c.index_mut.ensures.value (rw (← c.thread.view_is, c.set_held.ensures) refl)
+    written c.self.view_is c.self.invariant charged
+    (at_in c.deref.ensures.value c.place_of-place.ensures) c.index_mut.ensures.value
+    (rw (← c.thread.view_is, c.set_held.ensures) refl)

@@ -7,4 +7,5 @@ place_of-requires-clause-live c =
 
 pub returns : goal.returns
 returns c =
-    reads c.self.view_is c.self.invariant (at_in c.deref.ensures.value c.place_of.ensures) c.index.ensures
+    reads c.self.view_is c.self.invariant (at_in c.deref.ensures.value c.place_of.ensures)
+    c.index.ensures

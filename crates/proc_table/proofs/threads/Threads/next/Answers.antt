@@ -8,4 +8,5 @@ returns c =
     c.number_in.ensures
     ∙ ap (λ (es : List (ℕ × Thread)). option_map (λ (e : ℕ × Thread). e.0)
     (slice_get es c.place_above.result)) c.deref.ensures.value
-    ∙ sym (next_shown c.self.view_is c.self.invariant (above_in c.deref-2.ensures.value c.place_above.ensures))
+    ∙ sym (next_shown c.self.view_is c.self.invariant
+    (above_in c.deref-2.ensures.value c.place_above.ensures))

@@ -7,8 +7,9 @@ place_of-place-requires-clause-live c =
 
 pub invariant_of-self : goal.invariant_of-self
 invariant_of-self c = kept_remove c.self.view_is c.self.invariant
-    (at_in c.deref.ensures.value c.place_of-place.ensures) c.remove.ensures.items c.remove.ensures.capacity
+    (at_in c.deref.ensures.value c.place_of-place.ensures) c.remove.ensures.items
+    c.remove.ensures.capacity
 
 pub returns : goal.returns
-returns c = removed c.self.view_is c.self.invariant (at_in c.deref.ensures.value c.place_of-place.ensures)
-    c.remove.ensures.items
+returns c = removed c.self.view_is c.self.invariant
+    (at_in c.deref.ensures.value c.place_of-place.ensures) c.remove.ensures.items

@@ -19,7 +19,8 @@ left c =
 
 pub invariant_of-self : goal.invariant_of-self
 invariant_of-self c =
-    kept-filter (λ e. not (in_run c.args.page c.args.count e)) c.self.invariant (left c) c.cut.ensures.capacity
+    kept-filter (λ e. not (in_run c.args.page c.args.count e)) c.self.invariant (left c)
+    c.cut.ensures.capacity
 
 pub returns : goal.returns
 returns c = shown-changed (without_run c.args.page c.args.count) c.self.view_is (left c)
