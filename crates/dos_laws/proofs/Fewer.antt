@@ -16,7 +16,7 @@ use Rattle.dos_laws.proofs.Spaces.{uses_in}
 use Rattle.dos_laws.proofs.StandsTidy.{IsLess}
 
 -- where no frame is used more, a private entry that was the only one of its frame is it still
-alone_fewer : (w v : World) → ((frame : ℕ) → uses_of v frame ≤ uses_of w frame)
+pub alone_fewer : (w v : World) → ((frame : ℕ) → uses_of v frame ≤ uses_of w frame)
     → All (λ x. All (IsAlone w) x.space) (all_holdings v.processes)
     → All (λ x. All (IsAlone v) x.space) (all_holdings v.processes)
 alone_fewer w v fewer all k d lt i e less private =

@@ -1,13 +1,12 @@
 -- The end of a process and of a thread keeps a world standing.
-use Rattle.std.proofs.Common.{ℕ, zero, suc, ◌+◌, ◌<◌, ◌≤◌, ◌≡◌, ◌≢◌, ◌⊎◌, inl, inr, refl, sym, ap}
+use Rattle.std.proofs.Common.{ℕ, zero, suc, ◌+◌, ◌<◌, ◌≡◌, ◌≢◌, ◌⊎◌, inl, inr, refl, sym, ap}
 use Rattle.std.proofs.Common.{◌∙◌, subst, Bool, true, false, cond, not, List, [], ◌∷◌, length}
 use Rattle.std.proofs.Common.{Option, Some, None, option_map, arith, eq-eqb}
-use Rattle.std.specs.Prelude.{All, IfSome, IsTrue, ◌==◌, ◌||◌, is_some, slice_get, slice_index_or}
+use Rattle.std.specs.Prelude.{All, IfSome, IsTrue, ◌==◌, ◌||◌, is_some, slice_get}
 use Rattle.std.specs.Prelude.{count_by, filter}
 use Rattle.std.specs.List.{list_any}
 use Rattle.std.proofs.lemmas.Bool.{cases_eq, true≢false, false≢true, ne_eqb, cond_both, eqb-false}
 use Rattle.std.proofs.lemmas.List.{length-map}
-use Rattle.std.proofs.lemmas.List.Sums.{get_or-le-sum_by}
 use Rattle.std.proofs.lemmas.Option.{slice_get-map}
 use Rattle.dos_world.specs.Numbered.{numbered, changed, changed_at, places_from, numbers_of}
 use Rattle.dos_world.specs.World.{World, Process, Thread, Sleeper, flat, all_holdings, live_process}
@@ -15,9 +14,8 @@ use Rattle.dos_world.specs.World.{thread_at, threads_of, belongs_to, parent_of, 
 use Rattle.dos_world.specs.World.{without_thread, is_child}
 use Rattle.dos_world.specs.Kernel.{unless_of, process_ended, thread_ended, orphaned, ended_by}
 use Rattle.dos_world.specs.Kernel.{is_none_of_these}
-use Rattle.dos_world.specs.Counts.{maps_frame, uses_of, tidied}
+use Rattle.dos_world.specs.Counts.{maps_frame, tidied}
 use Rattle.dos_world.specs.Lawful.{Lawful, IsThread, AreHoldings, IsAlone, IsSleeper, turns_asleep}
-use Rattle.dos_world.specs.declared.Entry.{Entry}
 use Rattle.dos_world.specs.declared.ThreadState.TheVariants.{Ready}
 use Rattle.dos_world.proofs.Numbers.{changed_other}
 use Rattle.dos_laws.specs.Standing.{IsAwake, LawfulWith}
@@ -27,6 +25,7 @@ use Rattle.dos_laws.proofs.Parts.{part_all, part_length, part_any, part_sum}
 use Rattle.dos_laws.proofs.EndedProcesses.{statuses_new, ended_part, ended_length, others_live}
 use Rattle.dos_laws.proofs.EndedProcesses.{ended_dead}
 use Rattle.dos_laws.proofs.Ends.{places_mapped, places_fewer, left_is, left_belongs, left_each}
+use Rattle.dos_laws.proofs.Fewer.{alone_fewer}
 use Rattle.dos_laws.proofs.ThreadGone.{lawful-without_thread, gone_here}
 use Rattle.dos_laws.proofs.Stands.{awake_by, times, times-cons}
 use Rattle.dos_laws.proofs.StandsSignals.{stands-posted, all-filtered}
@@ -200,24 +199,11 @@ module _ (w : World) (lawful : Lawful w) (p status : ℕ) (small : status < 256)
           (other, sym (ap is_some (others_live w.processes p status q other)) ∙ lives)
 
   private_new : All (λ h. All (IsAlone v) h.space) (all_holdings v.processes)
-  private_new k d lt i e less private =
-      let h = slice_index_or (all_holdings v.processes) k d in
-      let entry : ℕ × Entry = slice_index_or h.space i e in
-      let was : uses_of w entry.1.frame ≡ 1 =
-      part_all (λ h. All (IsAlone w) h.space) (all_holdings v.processes) (all_holdings w.processes)
-      (ended_part w.processes p status) lawful.processes.private k d lt i e less private in
-      let fewer : uses_of v entry.1.frame ≤ uses_of w entry.1.frame =
-      part_sum (λ h. count_by (λ x. x.1.frame == entry.1.frame) h.space) (all_holdings v.processes)
-      (all_holdings w.processes) (ended_part w.processes p status) in
-      let here : count_by (λ x. x.1.frame == entry.1.frame) h.space ≤ uses_of v entry.1.frame =
-      get_or-le-sum_by (λ h. count_by (λ x. x.1.frame == entry.1.frame) h.space)
-      (all_holdings v.processes) k d lt in
-      let one : cond (entry.1.frame == entry.1.frame) 1 0 ≤ count_by
-      (λ x. x.1.frame == entry.1.frame) h.space =
-      get_or-le-sum_by (λ x. cond (x.1.frame == entry.1.frame) 1 0) h.space i e less in
-      let itself : ◌≡◌ {A = ℕ} (cond (entry.1.frame == entry.1.frame) 1 0) 1 =
-      ap (λ b. cond {A = ℕ} b 1 0) (eq-eqb entry.1.frame entry.1.frame refl) in
-      omega (arith, was, fewer, here, one, itself)
+  private_new = alone_fewer w v
+      (λ frame. part_sum (λ h. count_by (λ x. x.1.frame == frame) h.space)
+      (all_holdings v.processes) (all_holdings w.processes) (ended_part w.processes p status))
+      (part_all (λ h. All (IsAlone w) h.space) (all_holdings v.processes)
+      (all_holdings w.processes) (ended_part w.processes p status) lawful.processes.private)
 
   asleep_new : (t : ℕ) → times t v.sleepers ≡ turns_asleep (thread_at v t)
   asleep_new t =
