@@ -19,7 +19,7 @@ use crate::run::{open, report};
 use crate::stops::refusal_by;
 use dos_io::{Files, Sink};
 use dos_texts::Refusal;
-use dos_words::Names;
+use dos_words::{Names, Text};
 use dos_world::{Config, Ending};
 use elf_image::Image;
 use log_files::{LoadError, agree, load_log};
@@ -29,7 +29,7 @@ use std::alloc::Global;
 use worker_pool::Workers;
 
 /// Reads the log.
-fn read<F: Files>(alloc: Global, files: &mut F, name: &str) -> Result<Log, Refusal>
+fn read<F: Files>(alloc: Global, files: &mut F, name: &Text) -> Result<Log, Refusal>
     ensures accepted { IfOk result (λ log. IfSome (F.content files.old name.now)
         (λ file. log_verdict file ≡ Ok log)) }
     ensures refused { IfErr result (λ why. OfLogFile why (λ found. IfSome
@@ -38,7 +38,7 @@ fn read<F: Files>(alloc: Global, files: &mut F, name: &str) -> Result<Log, Refus
     ensures later { F.faults files.old ≤ F.faults files.new }
     ensures stays { (n : List ℕ) → F.content files.new n ≡ F.content files.old n }
 {
-    match load_log(alloc, files, name) {
+    match load_log(alloc, files, name.as_str()) {
         Ok(log) => Ok(log),
         Err(LoadError::Log(why)) => Err(Refusal::Log(why)),
         Err(LoadError::Fault) => Err(Refusal::Files),
@@ -64,7 +64,7 @@ fn config_of(log: &Log) -> Config
 fn take<F: Files>(
     alloc: Global,
     files: &mut F,
-    log: &str,
+    log: &Text,
     names: &Names,
 ) -> Result<(Log, Vec<Image>), Refusal>
     requires { length names.now ≤ 8 }
@@ -134,7 +134,7 @@ fn replay_taken<O: Sink, E: Sink, W: Workers>(
 /// Does what `replay` is asked for.
 pub(crate) fn replay<F: Files, O: Sink, E: Sink, W: Workers>(
     alloc: Global,
-    log: &str,
+    log: &Text,
     names: &Names,
     files: &mut F,
     out: &mut O,

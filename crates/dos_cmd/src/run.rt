@@ -23,7 +23,7 @@ use crate::images::load_all;
 use crate::stops::refusal_by;
 use dos_io::{ClockRule, FileError, Files, Host, Sink};
 use dos_texts::Refusal;
-use dos_words::{Names, Posts};
+use dos_words::{Names, Posts, Text};
 use dos_world::{Config, Ending};
 use dpg_run::{open_group, put_report};
 use elf_image::Image;
@@ -42,7 +42,7 @@ pub(crate) struct RunRequest<'a> {
     pub(crate) posts: &'a Posts,
     pub(crate) clock_from: Option<u64>,
     pub(crate) clock_step: u64,
-    pub(crate) log: &'a str,
+    pub(crate) log: &'a Text,
     pub(crate) names: &'a Names,
 }
 
@@ -115,7 +115,7 @@ pub(crate) fn open(alloc: Global, images: &[Image], config: Config) -> Result<Ke
 }
 
 /// Writes the log of a run to its file.
-fn store<F: Files>(alloc: Global, files: &mut F, name: &str, log: &Log) -> Result<(), Refusal>
+fn store<F: Files>(alloc: Global, files: &mut F, name: &Text, log: &Log) -> Result<(), Refusal>
     ensures content { OnOk result (IfSome (F.content files.old name.now)
         (λ _. F.content files.new name.now ≡ Some (logtext log.now))) }
     ensures holds { OnOk result (IsTrue (F.tells files.old)
@@ -128,7 +128,7 @@ fn store<F: Files>(alloc: Global, files: &mut F, name: &str, log: &Log) -> Resul
     ensures tells { F.tells files.new ≡ F.tells files.old }
     ensures later { F.faults files.old ≤ F.faults files.new }
 {
-    match store_log(alloc, files, name, log) {
+    match store_log(alloc, files, name.as_str(), log) {
         Ok(()) => Ok(()),
         Err(FileError::Memory) => Err(Refusal::Memory),
         Err(FileError::Fault) => Err(Refusal::Files),
@@ -163,7 +163,7 @@ fn conclude<F: Files, E: Sink>(
     kernel: &Kernel,
     ending: Ending,
     log: &Log,
-    name: &str,
+    name: &Text,
     files: &mut F,
     err: &mut E,
 ) -> Result<Ending, Refusal>
@@ -190,7 +190,7 @@ fn run_opened<F: Files, H: Host, O: Sink, E: Sink, W: Workers>(
     alloc: Global,
     kernel: &mut Kernel,
     ledger: Ledger,
-    name: &str,
+    name: &Text,
     files: &mut F,
     host: &mut H,
     out: &mut O,

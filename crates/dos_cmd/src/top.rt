@@ -88,13 +88,13 @@ fn execute<F: Files, H: Host, O: Sink, E: Sink, W: Workers>(
                 posts,
                 clock_from: *clock_from,
                 clock_step: *clock_step,
-                log: log.as_str(),
+                log,
                 names,
             };
             run(alloc, &asked, files, host, out, err, workers)
         }
         Request::Replay { log, names, .. } => {
-            replay(alloc, log.as_str(), names, files, out, err, workers)
+            replay(alloc, log, names, files, out, err, workers)
         }
         Request::Inspect { name } => inspect(alloc, name.as_str(), files, out),
         Request::Gen {

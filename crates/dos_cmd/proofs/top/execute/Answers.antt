@@ -1,6 +1,5 @@
 use Rattle.std.proofs.Common.{le_refl, refl, sym, ap, ◌∙◌}
-use Rattle.dos_words.specs.Numbers.{Text}
-use Rattle.dos_words.specs.declared.request.Request.TheVariants.{Run, Replay, Inspect}
+use Rattle.dos_words.specs.declared.request.Request.TheVariants.{Inspect}
 use Rattle.dos_cmd.proofs.Calls.{are_planned, did_as, fits_gen, fits_run, leaves_as}
 use Rattle.dos_cmd.proofs.top.execute.Goals as goal
 
@@ -37,13 +36,10 @@ run-requires-clause-planned g c = λ κs alive.
 
 pub returns-in-Run : goal.returns-in-Run
 returns-in-Run g c =
-    let asked = c.in-Run in
-    let same = asked.is ∙ ap (λ (log : Text). Run asked.quantum asked.rounds asked.frames
-    asked.workers asked.posts asked.clock_from asked.clock_step log asked.names)
-    (sym c.as_str.ensures) in
+    let workers = c.in-Run.workers in
     record {
-      did = did_as _ _ _ _ (c.run.ensures.did asked.workers) same;
-      leaves = leaves_as _ _ _ _ _ (c.run.ensures.leaves asked.workers) same;
+      did = did_as _ _ _ _ (c.run.ensures.did workers) c.in-Run.is;
+      leaves = leaves_as _ _ _ _ _ (c.run.ensures.leaves workers) c.in-Run.is;
       files_later = c.run.ensures.files_later;
       host_later = c.run.ensures.host_later;
       out_later = c.run.ensures.out_later;
@@ -55,14 +51,12 @@ returns-in-Run g c =
 
 pub returns-in-Replay : goal.returns-in-Replay
 returns-in-Replay g c =
-    let asked = c.in-Replay in
-    let same = asked.is ∙ ap (λ (log : Text). Replay asked.workers log asked.names)
-    (sym c.as_str-in-Replay.ensures) in
+    let workers = c.in-Replay.workers in
     let host = g.H.Host.told c.args.host.now in
     record {
-      did = did_as _ _ _ _ (c.replay.ensures.did asked.workers host) same;
-      leaves = leaves_as _ _ _ _ _ (c.replay.ensures.leaves asked.workers host
-          (g.H.Host.faults c.args.host.now)) same;
+      did = did_as _ _ _ _ (c.replay.ensures.did workers host) c.in-Replay.is;
+      leaves = leaves_as _ _ _ _ _ (c.replay.ensures.leaves workers host
+          (g.H.Host.faults c.args.host.now)) c.in-Replay.is;
       files_later = c.replay.ensures.files_later;
       host_later = le_refl _;
       out_later = c.replay.ensures.out_later;
@@ -74,7 +68,7 @@ returns-in-Replay g c =
 
 pub returns-in-Inspect : goal.returns-in-Inspect
 returns-in-Inspect g c =
-    let same = c.in-Inspect.is ∙ ap Inspect (sym c.as_str-in-Inspect.ensures) in
+    let same = c.in-Inspect.is ∙ ap Inspect (sym c.as_str.ensures) in
     let host = g.H.Host.told c.args.host.now in
     let err = g.E.Sink.told c.args.err.now in
     let tally = g.W.Workers.tally c.args.workers.now in
