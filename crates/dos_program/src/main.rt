@@ -10,7 +10,7 @@ use std::process::ExitCode;
 use std::sync::Wait;
 use std::thread::Threads;
 use std::{env, thread};
-use worker_pool::{OpenGate, Tally};
+use worker_pool::{OpenGate, Tally, Workers};
 
 /// The words behind the program's name. Words that are no text are refused.
 fn words(rt: &HostRuntime) -> Result<Vec<String>, Refusal> {
@@ -30,31 +30,30 @@ fn words(rt: &HostRuntime) -> Result<Vec<String>, Refusal> {
     Ok(words)
 }
 
-/// What the words ask for is done, over the workers of this office. `threads` is the same runtime,
-/// which starts them; they wait for one another.
-fn work<R: Threads + Wait + Sync>(
+/// What the words ask for is done, with the real files, streams and clock.
+fn work(rt: &HostRuntime, words: &[String], workers: &mut impl Workers) -> u8 {
+    let alloc = rt.alloc();
+    let mut files = StdFiles::new(rt, alloc);
+    let mut host = StdHost::new(rt.stdin(), rt);
+    let mut out = StdOut::new(rt.stdout());
+    let mut err = StdErr::new(rt.stderr());
+    dos_main(
+        alloc, words, &mut files, &mut host, &mut out, &mut err, workers,
+    )
+}
+
+/// The same, over the workers of this office. `threads` is the same runtime, which starts them;
+/// they wait for one another.
+fn work_beside<R: Threads + Wait + Sync>(
     rt: &HostRuntime,
     threads: &R,
     office: &Office,
     gate: &OpenGate,
     words: &[String],
 ) -> u8 {
-    let alloc = rt.alloc();
-    let mut files = StdFiles::new(rt, alloc);
-    let mut host = StdHost::new(rt.stdin(), rt);
-    let mut out = StdOut::new(rt.stdout());
-    let mut err = StdErr::new(rt.stderr());
     let mut tally = Tally::new();
-    let mut workers = Staying::new(threads, alloc, office, gate, &mut tally);
-    dos_main(
-        alloc,
-        words,
-        &mut files,
-        &mut host,
-        &mut out,
-        &mut err,
-        &mut workers,
-    )
+    let mut workers = Staying::new(threads, rt.alloc(), office, gate, &mut tally);
+    work(rt, words, &mut workers)
 }
 
 /// The same; the workers stay until it is done.
@@ -64,7 +63,7 @@ fn work_staffed<R: Threads + Wait + Sync>(rt: &HostRuntime, threads: &R, words: 
     let (gate, office) = (&gate, &office);
     thread::scope(thread::scope_env(), threads, |scope| -> u8 {
         open(threads, scope, office, gate);
-        let status = work(rt, threads, office, gate, words);
+        let status = work_beside(rt, threads, office, gate, words);
         office.close();
         status
     })

@@ -43,12 +43,8 @@ impl Task for Held {
     }
 }
 
-/// So many owners.
-pub(crate) fn owners(
-    alloc: Global,
-    shared: &Arc<Shared>,
-    count: usize,
-) -> Result<Vec<Arc<Shared>>, AllocError>
+// so many owners
+fn owners(alloc: Global, shared: &Arc<Shared>, count: usize) -> Result<Vec<Arc<Shared>>, AllocError>
     ensures len { IfOk result (λ v. vec_len v ≡ count) }
     ensures same { IfOk result (λ v. All (λ s. s.value ≡ shared.now.value) v.items) }
 {
@@ -57,6 +53,21 @@ pub(crate) fn owners(
         owners.push(Arc::try_clone(shared)?)?;
     }
     Ok(owners)
+}
+
+/// Memory for so many packs that are held, and so many owners.
+pub(crate) fn reserve(
+    alloc: Global,
+    shared: &Arc<Shared>,
+    count: usize,
+) -> Result<(Vec<Held>, Vec<Arc<Shared>>), AllocError>
+    ensures room { IfOk result (λ made. (vec_len made.0 ≡ 0) × (count ≤ vec_capacity made.0)) }
+    ensures len { IfOk result (λ made. vec_len made.1 ≡ count) }
+    ensures same { IfOk result (λ made. All (λ s. s.value ≡ shared.now.value) made.1.items) }
+{
+    let held = Vec::with_capacity(alloc, count)?;
+    let owners = owners(alloc, shared, count)?;
+    Ok((held, owners))
 }
 
 // one of them

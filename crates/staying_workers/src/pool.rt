@@ -4,7 +4,7 @@ ghost use Rattle.std.specs.Borrow.{GName};
 ghost use Rattle.quantum_run.specs.Packs.{seen_in};
 ghost use Rattle.worker_pool.specs.Ran.{AllCanRun, AllRan};
 
-use crate::held::{lend, owners, take_back};
+use crate::held::{lend, reserve, take_back};
 use crate::office::{Desk, Office};
 use crate::rounds::{run_each, sole};
 use quantum_run::{Pack, Shared};
@@ -69,10 +69,7 @@ impl<'a, R: Wait, G: Gate> Clerks<'a, R, G> {
         ensures runs { AllRan (seen_in shared.now.value) packs.old.items packs.new.items }
         ensures room { vec_capacity packs.new ≡ vec_capacity packs.old }
     {
-        let Ok(mut held) = Vec::with_capacity(self.alloc, packs.len()) else {
-            return run_alone(self.gate, packs, shared);
-        };
-        let Ok(owners) = owners(self.alloc, shared, packs.len()) else {
+        let Ok((mut held, owners)) = reserve(self.alloc, shared, packs.len()) else {
             return run_alone(self.gate, packs, shared);
         };
         lend(packs, shared, owners, &mut held);

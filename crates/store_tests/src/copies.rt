@@ -1,7 +1,7 @@
 // Bytes that go out to memory, and a fork: both of a process with two pages, the second shared.
 ghost use Rattle.std.specs.Prelude.{◌≡◌, ◌∷◌, [], length, IfOk};
 ghost use Rattle.kernel_mem.specs.MemoryWorld.{IsCaller, HasAllHome};
-ghost use Rattle.page_store.specs.Store.{AreHome};
+ghost use Rattle.page_store.specs.Store.{AreHome, unused, with_owned};
 ghost use Rattle.store_tests.specs.Memory.{HasTwoPages, two_owners};
 
 use crate::checks::{same, same_at};
@@ -13,14 +13,22 @@ use proc_table::{SignalState, Table};
 use std::alloc::{AllocError, Global};
 use std::process::Abort;
 
+// Four frames, of which the first is thread 1's.
+fn one_frame(alloc: Global) -> Result<Frames, AllocError>
+    ensures { IfOk result (λ f. f ≡ with_owned (unused 4) 0 1) }
+{
+    let mut frames = Frames::reserve(alloc, 4)?;
+    let _ = frames.fresh(1);
+    Ok(frames)
+}
+
 // Four frames, of which two are thread 1's; the first begins with the word 0x64636261.
 fn two_frames(alloc: Global) -> Result<Frames, AllocError>
     ensures home { IfOk result (λ f. HasAllHome f) }
     ensures owners { IfOk result (λ f. f.owners ≡ two_owners) }
     ensures uses { IfOk result (λ f. f.uses ≡ 1 ∷ 1 ∷ 0 ∷ 0 ∷ []) }
 {
-    let mut frames = Frames::reserve(alloc, 4)?;
-    let _ = frames.fresh(1);
+    let mut frames = one_frame(alloc)?;
     let _ = frames.fresh(1);
     write_word(&mut frames);
     Ok(frames)

@@ -35,12 +35,6 @@ run_alone-requires-clause-can g c =
     subst (λ (s : Shared). AllCanRun (seen_in s) c.args.packs.now.items) (sym c.deref.ensures)
     c.requires.can
 
-pub run_alone-requires-in_default-owners-clause-can :
-    goal.run_alone-requires-in_default-owners-clause-can
-run_alone-requires-in_default-owners-clause-can g c =
-    subst (λ (s : Shared). AllCanRun (seen_in s) c.args.packs.now.items)
-    (sym c.deref-in_default-owners.ensures) c.requires.can
-
 pub run_alone-requires-in-Err-clause-can : goal.run_alone-requires-in-Err-clause-can
 run_alone-requires-in-Err-clause-can g c =
     subst (λ (s : Shared). AllCanRun (seen_in s) c.take_back-in-Err.new.packs.items)
