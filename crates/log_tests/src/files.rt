@@ -1,5 +1,6 @@
 //! Files in memory and over std.
 use dos_io::{FileError, Files, MemoryFiles, StdFiles};
+use std::alloc::Global;
 use std::process::Abort;
 
 // The file is given, and has these bytes.
@@ -45,6 +46,13 @@ fn check_limits(rt: &impl Abort, files: &mut impl Files, content: &[u8]) {
     gives_no(rt, files, "nine", 0, FileError::TooLong);
 }
 
+// The same, with bytes that are made for it.
+fn check_content(rt: &impl Abort, alloc: Global, files: &mut impl Files) {
+    let content = vec![in alloc; 7u8; 9000].expect(rt, "memory");
+    check_limits(rt, files, &content);
+    drop(content);
+}
+
 // It is written anew with nothing.
 fn check_emptied(rt: &impl Abort, files: &mut impl Files) {
     sets(rt, files, "nine", b"", Ok(()));
@@ -53,11 +61,9 @@ fn check_emptied(rt: &impl Abort, files: &mut impl Files) {
 
 #[test]
 fn files_are_read_within_their_limit(rt: HostRuntime) {
-    let content = vec![in rt.alloc(); 7u8; 9000].expect(&rt, "memory");
     let mut files = StdFiles::new(&rt, rt.alloc());
     gives_no(&rt, &mut files, "none", 9, FileError::Fault);
-    check_limits(&rt, &mut files, &content);
-    drop(content);
+    check_content(&rt, rt.alloc(), &mut files);
     let nowhere = Err(FileError::Fault);
     sets(&rt, &mut files, "no/such/folder", b"x", nowhere);
     check_emptied(&rt, &mut files);

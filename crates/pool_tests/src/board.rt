@@ -169,10 +169,14 @@ fn check_in_hand(rt: &impl Abort, board: &Board<Number>, wanted: bool)
     );
 }
 
+fn check_value(rt: &impl Abort, value: u32, wanted: u32) {
+    assert_eq!(rt; value, wanted);
+}
+
 fn check_values(rt: &impl Abort, packs: &[Number], wanted: &[u32]) {
     assert_eq!(rt; packs.len(), wanted.len());
     for (pack, want) in packs.iter().zip(wanted) {
-        assert_eq!(rt; pack.value, *want);
+        check_value(rt, pack.value, *want);
     }
 }
 
