@@ -59,12 +59,17 @@ fn check_emptied(rt: &impl Abort, files: &mut impl Files) {
     gives(rt, files, "nine", 0, b"");
 }
 
+// Files of a folder that is empty at first.
+fn check_folder(rt: &impl Abort, alloc: Global, files: &mut impl Files) {
+    gives_no(rt, files, "none", 9, FileError::Fault);
+    check_content(rt, alloc, files);
+    let nowhere = Err(FileError::Fault);
+    sets(rt, files, "no/such/folder", b"x", nowhere);
+    check_emptied(rt, files);
+}
+
 #[test]
 fn files_are_read_within_their_limit(rt: HostRuntime) {
     let mut files = StdFiles::new(&rt, rt.alloc());
-    gives_no(&rt, &mut files, "none", 9, FileError::Fault);
-    check_content(&rt, rt.alloc(), &mut files);
-    let nowhere = Err(FileError::Fault);
-    sets(&rt, &mut files, "no/such/folder", b"x", nowhere);
-    check_emptied(&rt, &mut files);
+    check_folder(&rt, rt.alloc(), &mut files);
 }
