@@ -13,7 +13,7 @@ use Rattle.rv_isa.specs.declared.Instr.{Instr}
 use Rattle.rv_isa.specs.Valid.{IsValid}
 use Rattle.rv_exec.specs.Effect.{Effect, goes, loads, stores, claims, stops, effect}
 use Rattle.rv_exec.specs.Step.{step, step_of, step_by, performed, paid, paid_by, with_word, reached}
-use Rattle.rv_exec.specs.Step.{instruction_at, half_at, whole_word, ◌>>=◌}
+use Rattle.rv_exec.specs.Step.{instruction_at, half_at, lone_half, whole_word, ◌>>=◌}
 use Rattle.rv_exec.proofs.Keeps.{bind_ok}
 use Rattle.dos_laws.specs.Standing.{LawfulWith}
 use Rattle.dos_laws.proofs.Mapped.{of_thread}
@@ -23,6 +23,7 @@ use Rattle.dos_laws.proofs.Effects.{IsInRange, effect_ranges}
 use Rattle.dos_laws.proofs.Stands.{with_run, stands-with_thread}
 use Rattle.dos_laws.proofs.StandsCopies.{stands-stored}
 use Rattle.rv_isa.proofs.Back.{meaning_valid}
+use Rattle.rv_isa.proofs.Short.{expansion_valid}
 
 -- ---- what is found at pc is valid
 
@@ -50,21 +51,23 @@ found_valid w t pc found l h =
     first :
         (low : ℕ) × (half_at w t pc ≡ Ok low)
         × (cond (low % 4 == 3) (half_at w t second >>= λ high. Ok (whole_word low high))
-        (Ok (None, 2)) ≡ Ok found)
+        (Ok (lone_half low)) ≡ Ok found)
     first =
         bind_ok (half_at w t pc)
         (λ low. cond (low % 4 == 3) (half_at w t second >>= λ high. Ok (whole_word low high))
-        (Ok (None, 2))) found h
+        (Ok (lone_half low))) found h
 
     by_low : (low : ℕ) → low < 2 ^ 16 → (b : Bool)
-        → cond b (half_at w t second >>= λ high. Ok (whole_word low high)) (Ok (None, 2)) ≡ Ok found
+        → cond b (half_at w t second >>= λ high. Ok (whole_word low high)) (Ok (lone_half low))
+        ≡ Ok found
         → IfSome found.0 IsValid
     by_low low small true q =
         let r = bind_ok (half_at w t second) (λ high. Ok (whole_word low high)) found q in
         let high : r.0 < 2 ^ 16 = half_below w t second r.0 l r.1 in
         subst (λ f. IfSome f.0 IsValid) (Found_is r.2)
         (meaning_valid (low + 2 ^ 16 * r.0) (omega arith))
-    by_low low small false q = subst (λ f. IfSome f.0 IsValid) (Found_is q) tt
+    by_low low small false q =
+        subst (λ f. IfSome f.0 IsValid) (Found_is q) (expansion_valid low)
 
 -- ---- what is done with it
 

@@ -87,7 +87,7 @@ module _ (ts : List ℕ) (c : Call) (call : StandsCall ts c) where
       let thread : Thread = ready_thread c.process (new_registers c.a0 c.a1 c.a2) (mask_of c) [] in
       let made : Play Served =
       returns_in (with_new_thread c.world thread) (next_thread c.world) c in
-      leaves_if ts c call (not (c.a0 % 4 == 0)) (refuses 22 c)
+      leaves_if ts c call (not (c.a0 % 2 == 0)) (refuses 22 c)
       (cond (are_threads_full c.world.threads) (refuses 11 c) made)
       (λ odd. refuses_stands ts c call 22 (omega arith))
       (λ even. leaves_if ts c call (are_threads_full c.world.threads) (refuses 11 c) made

@@ -80,11 +80,11 @@ the_child's_thread = refl
 abbrev full_house : World
 full_house = world_with (replicate 4096 7) (a_process ∷ []) (replicate 64 (Some a_thread))
 
-no_place_for_an_instruction : reply 1 (served full_house 1 3 0x10002 0 0) ≡ (goes_on, minus 22)
+no_place_for_an_instruction : reply 1 (served full_house 1 3 0x10001 0 0) ≡ (goes_on, minus 22)
 unfolding services
 no_place_for_an_instruction = refl
 
-no_thread_more : reply 1 (served full_house 1 3 0x10004 0 0) ≡ (goes_on, minus 11)
+no_thread_more : reply 1 (served full_house 1 3 0x10002 0 0) ≡ (goes_on, minus 11)
 unfolding services
 no_thread_more = refl
 

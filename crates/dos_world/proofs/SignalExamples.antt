@@ -88,6 +88,14 @@ no_such_action : reply 1 (served small 1 16 15 0xF0000000 0) ≡ (goes_on, minus
 unfolding services
 no_such_action = refl
 
+no_place_for_a_handler : reply 1 (served small 1 16 15 0x10003 0) ≡ (goes_on, minus 22)
+unfolding services
+no_place_for_a_handler = refl
+
+between_two_words : reply 1 (served small 1 16 15 0x10002 0) ≡ (goes_on, 0)
+unfolding services
+between_two_words = refl
+
 the_former_action : reply 1 (served (after (served small 1 16 15 0xEFFFFFFC 0)) 1 16 15 0 0)
     ≡ (goes_on, 0xEFFFFFFC)
 unfolding services

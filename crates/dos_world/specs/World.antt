@@ -67,10 +67,10 @@ pub record World : Type 0 where
   pub error : List ℕ
   pub built : List ℕ
 
--- What the address of an instruction is a multiple of: IALIGN, in bytes. RISC-V unprivileged
--- manual, edition 20191213, section 1.5.
+-- What the address of an instruction is a multiple of: IALIGN, in bytes, with the extension C.
+-- RISC-V unprivileged manual, edition 20191213, section 1.5.
 abbrev pub code_unit : ℕ
-code_unit = 4
+code_unit = 2
 
 -- how many bytes a page and a frame have, and how many a pipe holds at most
 abbrev pub page_size : ℕ

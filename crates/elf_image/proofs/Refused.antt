@@ -116,10 +116,15 @@ unfolding image image_of refusal format_refusal machine_refusal table_refusal se
     overlap_refusal entry_refusal headers headers_from header_at half word
 high_machine = refl
 
-compressed : image (changed 36 1) ≡ Err Flags
+compressed : image (changed 36 1) ≡ Ok the_image
 unfolding image image_of refusal format_refusal machine_refusal table_refusal segment_refusal
     overlap_refusal entry_refusal headers headers_from header_at half word
 compressed = refl
+
+compressed_and_floating : image (changed 36 3) ≡ Err Flags
+unfolding image image_of refusal format_refusal machine_refusal table_refusal segment_refusal
+    overlap_refusal entry_refusal headers headers_from header_at half word
+compressed_and_floating = refl
 
 reduced : image (changed 36 8) ≡ Err Flags
 unfolding image image_of refusal format_refusal machine_refusal table_refusal segment_refusal
@@ -307,10 +312,15 @@ note_alone = refl
 
 -- ---- 14: the entry
 
-odd_entry : image (changed 24 2) ≡ Err Entry
+odd_entry : image (changed 24 1) ≡ Err Entry
 unfolding image image_of refusal format_refusal machine_refusal table_refusal segment_refusal
     overlap_refusal entry_refusal headers headers_from header_at half word
 odd_entry = refl
+
+entry_at_a_halfword : image (changed 24 2) ≡ Ok (record the_image { entry = 0x10002 })
+unfolding image image_of refusal format_refusal machine_refusal table_refusal segment_refusal
+    overlap_refusal entry_refusal headers headers_from header_at half word
+entry_at_a_halfword = refl
 
 last_entry : image (changed 24 8) ≡ Ok (record the_image { entry = 0x10008 })
 unfolding image image_of refusal format_refusal machine_refusal table_refusal segment_refusal

@@ -21,14 +21,14 @@ pub record Image : Type 0 where
 
 -- ---- what the profile leaves open to a later change
 
--- e_flags with one of these bits set is refused. The RISC-V psABI's: compressed instructions, 1;
--- floats in registers, 2 and 4; the reduced registers, 8.
+-- e_flags with one of these bits set is refused. The RISC-V psABI's: floats in registers, 2 and 4;
+-- the reduced registers, 8. The bit of compressed instructions, 1, may be set or not.
 abbrev pub refused_flags : ℕ
-refused_flags = 0xF
+refused_flags = 0xE
 
 -- what the address of an instruction, and so an entry, is a multiple of
 abbrev pub code_unit : ℕ
-code_unit = 4
+code_unit = 2
 
 -- ---- program headers
 

@@ -25,10 +25,10 @@ const ET_EXEC: u16 = 2;
 const EM_RISCV: u16 = 243;
 
 /// The bits of `e_flags` of which none may be set.
-const REFUSED_FLAGS: u32 = 0xF;
+const REFUSED_FLAGS: u32 = 0xE;
 
 /// What the address of an instruction, and so an entry, is a multiple of.
-const CODE_UNIT: u32 = 4;
+const CODE_UNIT: u32 = 2;
 
 /// It is a little-endian ELF32 file of version 1.
 #[tactic(auto, unfolding(crate::specs::Image::format_refusal))]

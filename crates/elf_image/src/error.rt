@@ -35,7 +35,7 @@ pub enum ImageError {
     Overlap(u32, u32),
     /// No segment takes memory.
     NoLoad,
-    /// The entry is not a multiple of 4, or in no segment that may be executed.
+    /// The entry is not a multiple of 2, or in no segment that may be executed.
     Entry,
     /// There was no memory to hold the parts. The file may be sound.
     Memory,

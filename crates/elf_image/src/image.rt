@@ -8,7 +8,7 @@ use std::marker::Model;
 /// An executable: where it begins, and what it has in memory.
 ///
 /// Each image has 1 to 64 parts. Each of them takes memory between 0x00001000 and 0xEFFF0000, no
-/// two share an address, and the entry is a multiple of 4 in a part that may be executed.
+/// two share an address, and the entry is a multiple of 2 in a part that may be executed.
 #[derive(Drop)]
 pub struct Image {
     /// The address of the first instruction.

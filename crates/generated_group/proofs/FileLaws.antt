@@ -6,16 +6,16 @@ use Rattle.std.proofs.lemmas.Bool.Decides.{nat_tests}
 use Rattle.rv_isa.specs.Encoding.{encoding}
 use Rattle.elf_image.specs.Image.{Image, image}
 use Rattle.rv_asm.specs.declared.error.AsmError.{AsmError}
-use Rattle.rv_asm.specs.Words.{assembled, words_from}
-use Rattle.rv_asm.specs.File.{finished, image_of, is_in_range, data_parts}
+use Rattle.rv_asm.specs.Words.{assembled, code_from}
+use Rattle.rv_asm.specs.File.{code_of, finished, image_of, is_in_range, data_parts}
 use Rattle.rv_asm.proofs.FinishLaws.{finished-made}
 use Rattle.generated_group.specs.Generated.{generated, program, program_part}
 use Rattle.generated_group.specs.Stretches.{told}
 
 -- its words are those of the listing
 pub assembled-told : (number threads : ℕ)
-    → assembled (told number threads) ≡ Ok (map encoding (program number threads))
-unfolding told words_from
+    → assembled (told number threads) ≡ Ok (code_of (map encoding (program number threads)))
+unfolding told code_from
 assembled-told number threads = refl
 
 -- the pages: there are some, they end below the stack, and they begin behind the code
@@ -36,7 +36,7 @@ is_in_range-told number threads few =
     rw (some_pages threads, pages_below threads few, code_first threads) refl
 
 image_of-told : (number threads : ℕ)
-    → image_of (told number threads) (map encoding (program number threads))
+    → image_of (told number threads) (code_of (map encoding (program number threads)))
     ≡ generated number threads
 unfolding told generated
 image_of-told number threads =
@@ -49,17 +49,17 @@ image_of-told number threads =
 pub finished-told : (number threads : ℕ) (error : AsmError) → threads ≤ 32
     → finished (told number threads) ≡ Err error → ⊥
 finished-told number threads error few refused =
-    let made = finished-made (told number threads) (map encoding (program number threads))
+    let made = finished-made (told number threads) (code_of (map encoding (program number threads)))
     (is_in_range-told number threads few) (assembled-told number threads) in
     cc
 
 -- which reads as the definition's image
 pub image-told : (number threads : ℕ) (file : List ℕ)
     → IsOkAnd (assembled (told number threads))
-    (λ words. image file ≡ Ok (image_of (told number threads) words))
+    (λ code. image file ≡ Ok (image_of (told number threads) code))
     → image file ≡ Ok (generated number threads)
 image-told number threads file read =
     let at : image file
-    ≡ Ok (image_of (told number threads) (map encoding (program number threads))) =
+    ≡ Ok (image_of (told number threads) (code_of (map encoding (program number threads)))) =
     rw assembled-told at read in
     at ∙ ap (λ (i : Image). Ok i) (image_of-told number threads)

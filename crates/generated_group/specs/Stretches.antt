@@ -32,7 +32,7 @@ abbrev pub with_start : Source → (threads next first : ℕ) → Source
 with_start source threads next first =
     record source { items = source.items ++ start_items threads next first }
 
--- the labels 0 and 1 stand before the words 1 and 10
+-- the labels 0 and 1 stand before the words 1 and 10, of two halfwords each
 abbrev pub started : ℕ → Source
 started threads = record {
   base = 0x10000;
@@ -40,7 +40,7 @@ started threads = record {
   items =
       words_of (slice_range (start_threads threads) 0 2) ++ (Branch Beq 9 5 1 ∷ [])
       ++ words_of (slice_range (start_threads threads) 3 9) ++ (Jump 0 0 ∷ []);
-  labels = Some 1 ∷ Some 10 ∷ [];
+  labels = Some 2 ∷ Some 20 ∷ [];
   data_part = no_data;
 }
 
@@ -52,7 +52,7 @@ work_items = words_of (slice_range work 0 9) ++ (Branch Bne 6 0 3 ∷ [])
 abbrev pub worked : Source → Source
 worked source = record source {
   items = source.items ++ work_items;
-  labels = source.labels ++ Some 24 ∷ Some 37 ∷ [];
+  labels = source.labels ++ Some 48 ∷ Some 74 ∷ [];
 }
 
 -- all of it

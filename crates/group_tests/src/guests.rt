@@ -252,8 +252,8 @@ pub const MISALIGNED_STORE: [Instr; 2] = [lui!(TEMP0, CODE), sw!(ZERO, 2, TEMP0)
 /// Stores a word at 0, where no page is.
 pub const STORE_AT_0: [Instr; 1] = [sw!(ZERO, 0, ZERO)];
 
-/// Jumps to an address that isn't a multiple of 4.
-pub const MISALIGNED_JUMP: [Instr; 1] = [j!(6)];
+/// Jumps to a halfword of zeros, which is no instruction.
+pub const JUMP_TO_A_HALFWORD: [Instr; 1] = [j!(6)];
 
 /// Goes on into the zeros behind it, which are no instruction.
 pub const INTO_ZEROS: [Instr; 1] = [NOP];
@@ -549,5 +549,31 @@ pub fn files_with(
 ) -> MemoryFiles {
     let mut files = MemoryFiles::new(alloc, &[]).expect(rt, "memory");
     add_guest(rt, alloc, &mut files, "a", code, text, zeros);
+    files
+}
+
+/// Files with one image, which is named `a`, of these halfwords and then so many zeros and more
+/// halfwords. It is writable, like the others.
+pub fn files_of_halves(
+    rt: &impl Abort,
+    alloc: Global,
+    first: &[u16],
+    zeros: usize,
+    last: &[u16],
+) -> MemoryFiles {
+    let mut builder = Builder::new(alloc, CODE, true).expect(rt, "memory");
+    for half in first {
+        builder.half(*half).expect(rt, "memory");
+    }
+    for _ in 0..zeros {
+        builder.half(0).expect(rt, "memory");
+    }
+    for half in last {
+        builder.half(*half).expect(rt, "memory");
+    }
+    let image = builder.finish().expect(rt, "an image");
+    let mut files = MemoryFiles::new(alloc, &[]).expect(rt, "memory");
+    files.add("a", &image).expect(rt, "memory");
+    drop(image);
     files
 }

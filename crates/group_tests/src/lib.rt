@@ -9,6 +9,8 @@ mod checks;
 #[cfg(test)]
 mod clocks;
 #[cfg(test)]
+mod compressed;
+#[cfg(test)]
 mod failing;
 #[cfg(test)]
 mod files;

@@ -94,8 +94,8 @@ const FAULTS: [Fault; 6] = [
     ),
     (&guests::STORE_AT_0, "process 1 status 139\nrounds 1 done\n"),
     (
-        &guests::MISALIGNED_JUMP,
-        "process 1 status 135\nrounds 1 done\n",
+        &guests::JUMP_TO_A_HALFWORD,
+        "process 1 status 132\nrounds 1 done\n",
     ),
     (&guests::INTO_ZEROS, "process 1 status 132\nrounds 1 done\n"),
     (&guests::BREAKS, "process 1 status 133\nrounds 1 done\n"),
@@ -155,8 +155,8 @@ const ENDINGS: [Answer; 4] = [
     (2, [0x1234, 0, 0], "process 1 status 52\nrounds 1 done\n"),
     // the last thread ends its process with 0
     (1, [9, 0, 0], "process 1 status 0\nrounds 1 done\n"),
-    // a new thread begins at a multiple of 4, else -22; it may begin where nothing is mapped
-    (3, [0x1_0002, 0, 0], "process 1 status 234\nrounds 1 done\n"),
+    // a new thread begins at a multiple of 2, else -22; it may begin where nothing is mapped
+    (3, [0x1_0001, 0, 0], "process 1 status 234\nrounds 1 done\n"),
     (
         3,
         [0xffff_fffc, 0, 0],

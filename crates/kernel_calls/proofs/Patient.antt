@@ -45,7 +45,7 @@ thread_new_goes c =
     let begun : Play FlatServed =
     returns_in (with_new_thread c.world thread) (next_thread c.world) c in
     let full : Bool = are_threads_full c.world.threads in
-    either (not (c.a0 % 4 == 0)) (refuses 22 c) (cond full (refuses 11 c) begun) refl
+    either (not (c.a0 % 2 == 0)) (refuses 22 c) (cond full (refuses 11 c) begun) refl
     (either full (refuses 11 c) begun refl refl)
 
 pipe_goes : IsPatient pipe

@@ -23,7 +23,7 @@ const LAST_SIGNAL: u32 = 31;
 const IGNORE: u32 = 1;
 
 // how much an instruction's address is a multiple of, and where handlers may not stand
-const CODE_UNIT: u32 = 4;
+const CODE_UNIT: u32 = 2;
 
 const CODE_END: u32 = 0xf000_0000;
 

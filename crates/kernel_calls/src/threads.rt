@@ -16,7 +16,7 @@ use dos_world::errors::{EAGAIN, EINVAL};
 use proc_table::Table;
 
 // How much an instruction's address is a multiple of.
-const CODE_UNIT: u32 = 4;
+const CODE_UNIT: u32 = 2;
 
 /// A new thread at a0, with stack a1 and argument a2: its number. Refusals: 22 where a0 is no place
 /// for an instruction, 11 where no more threads can be made.

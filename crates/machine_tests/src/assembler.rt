@@ -63,6 +63,30 @@ fn the_smallest_file_may_not_be_written(rt: HostRuntime) {
     drop(file);
 }
 
+/// `c.li x17, 2`, `c.li x10, 7`, `ecall`, and a jump to the second.
+fn two_halves(alloc: Global) -> Result<Vec<u8>, AsmError> {
+    let mut builder = Builder::new(alloc, 0x1_0000, false)?;
+    builder.half(0x4889)?;
+    let label = builder.label()?;
+    builder.here(label);
+    builder.half(0x451d)?;
+    builder.push(&Instr::Ecall)?;
+    builder.jump(0, label)?;
+    finished(builder)
+}
+
+#[test]
+fn halfwords_have_a_flag(rt: HostRuntime) {
+    let file = two_halves(rt.alloc()).expect(&rt, "a file");
+    check_bytes(&rt, &file, 96, 36, &[1, 0, 0, 0]);
+    // jal x0, -6
+    let code = [
+        0x89, 0x48, 0x1D, 0x45, 0x73, 0, 0, 0, 0x6F, 0xF0, 0xBF, 0xFF,
+    ];
+    check_bytes(&rt, &file, 96, 84, &code);
+    drop(file);
+}
+
 /// Adds so many words that are 0.
 fn fill(builder: &mut Builder, count: u32) -> Result<(), AllocError>
     ensures { OnOk result (builder.new.labels ≡ builder.old.labels) }
@@ -104,7 +128,7 @@ fn branches_reach_so_far(rt: HostRuntime) {
     drop(file);
     // offset -4100, and -4096
     let too_far = branch_back(rt.alloc(), 1025).err();
-    same(&rt, too_far, Some(AsmError::Reach(1025)));
+    same(&rt, too_far, Some(AsmError::Reach(2050)));
     same(&rt, branch_back(rt.alloc(), 1024).err(), None);
 }
 

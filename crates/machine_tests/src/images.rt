@@ -82,7 +82,7 @@ pub fn set_word(file: &mut [u8], place: usize, value: u32) {
 /// A byte that stands at a place of the smallest file, and the refusal.
 type ByteRow = (usize, u8, Option<ImageError>);
 
-const BY_BYTE: [ByteRow; 31] = [
+const BY_BYTE: [ByteRow; 33] = [
     (0, 0x7E, Some(ImageError::NotElf)),
     (3, 0x47, Some(ImageError::NotElf)),
     (4, 2, Some(ImageError::Class)),
@@ -93,7 +93,8 @@ const BY_BYTE: [ByteRow; 31] = [
     (17, 1, Some(ImageError::Kind)),
     (18, 62, Some(ImageError::Machine)),
     (19, 1, Some(ImageError::Machine)),
-    (36, 1, Some(ImageError::Flags)),
+    (36, 1, None),
+    (36, 3, Some(ImageError::Flags)),
     (36, 2, Some(ImageError::Flags)),
     (36, 4, Some(ImageError::Flags)),
     (36, 8, Some(ImageError::Flags)),
@@ -106,7 +107,8 @@ const BY_BYTE: [ByteRow; 31] = [
     (52, 3, Some(ImageError::Dynamic)),
     (52, 4, Some(ImageError::NoLoad)),
     (24, 12, Some(ImageError::Entry)),
-    (24, 2, Some(ImageError::Entry)),
+    (24, 1, Some(ImageError::Entry)),
+    (24, 2, None),
     (76, 6, Some(ImageError::Entry)),
     (24, 8, None),
     (36, 0x10, None),
@@ -119,7 +121,7 @@ const BY_BYTE: [ByteRow; 31] = [
 /// Numbers that stand at places of the linker's file, and the refusal.
 type WordsRow = (&'static [(usize, u32)], Option<ImageError>);
 
-static BY_WORDS: [WordsRow; 33] = [
+static BY_WORDS: [WordsRow; 34] = [
     (&[], None),
     // no table: neither its place nor its headers' size counts
     (&[(42, 0), (28, 0xFFFF_FFFF)], Some(ImageError::NoLoad)),
@@ -155,11 +157,12 @@ static BY_WORDS: [WordsRow; 33] = [
         &[(148, 1), (156, 0x110FF), (168, 1)],
         Some(ImageError::Overlap(2, 3)),
     ),
-    // the entry at the code's end, in data, and between two words
+    // the entry at the code's end, in data, between two words and between two halfwords
     (&[(24, 0x100BC)], None),
     (&[(24, 0x100C0)], Some(ImageError::Entry)),
     (&[(24, 0x110C0)], Some(ImageError::Entry)),
-    (&[(24, 0x100B6)], Some(ImageError::Entry)),
+    (&[(24, 0x100B6)], None),
+    (&[(24, 0x100B7)], Some(ImageError::Entry)),
     (&[(108, 6)], Some(ImageError::Entry)),
     // the first that holds is told
     (&[(52, 3), (132, 5)], Some(ImageError::Dynamic)),

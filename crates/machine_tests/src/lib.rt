@@ -9,6 +9,8 @@ mod checks;
 #[cfg(test)]
 mod generated;
 #[cfg(test)]
+mod halfwords;
+#[cfg(test)]
 mod images;
 #[cfg(test)]
 mod instructions;

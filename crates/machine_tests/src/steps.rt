@@ -131,16 +131,15 @@ fn branches_and_jumps(rt: HostRuntime) {
 }
 
 /// Words that stop: each with x5 before it, and the reason.
-const STOPS: [(u32, u32, Reason); 17] = [
+const STOPS: [(u32, u32, Reason); 16] = [
     (0x0000_0000, 0, Reason::Fault(4)),
     (0xffff_ffff, 0, Reason::Fault(4)),
     (0x0000_9067, 0, Reason::Fault(4)), // jalr with funct3 1
     (0x0000_0073, 0, Reason::Service), // ecall
     (0x0010_0073, 0, Reason::Fault(5)), // ebreak
-    (0x0060_00ef, 0, Reason::Fault(7)), // jal x1, 6
-    (0x0060_006f, 0, Reason::Fault(7)), // jal x0, 6
-    (0x0062_8363, 0, Reason::Fault(7)), // beq x5, x6, 6
-    (0x0002_82e7, 0x2002, Reason::Fault(7)), // jalr x5, 0(x5)
+    (0x0000_9002, 0, Reason::Fault(5)), // c.ebreak
+    (0x0000_4002, 0, Reason::Fault(4)), // c.lwsp x0, 0
+    (0x0000_8002, 0, Reason::Fault(4)), // c.jr x0
     (0x0062_a123, 0x1000, Reason::Fault(7)), // sw x6, 2(x5)
     (0x0002_a123, 0x1000, Reason::Fault(7)), // sw x0, 2(x5)
     (0x0060_2023, 0, Reason::Fault(11)), // sw x6, 0(x0)

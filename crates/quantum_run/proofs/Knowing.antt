@@ -1,8 +1,8 @@
--- Words that are known stay so, as pages are found and written; and a memo that learns one more.
+-- Codes that are known stay so, as pages are found and written; and a memo that learns one more.
 use Rattle.std.proofs.Common.{ℕ, zero, suc, ◌+◌, ◌*◌, ◌/◌, ◌%◌, ◌^◌, ◌<◌, ◌≤◌, ◌≡◌, ◌≢◌, ◌⊎◌, inl}
 use Rattle.std.proofs.Common.{inr, refl, sym, ap, ◌∙◌, List, [], ◌∷◌, length, take, drop, set, true}
-use Rattle.std.proofs.Common.{false, Option, Ok, arith, subst, eqb}
-use Rattle.std.specs.Prelude.{slice_index_or}
+use Rattle.std.proofs.Common.{false, Option, Some, None, Ok, arith, subst, eqb}
+use Rattle.std.specs.Prelude.{slice_index_or, IfSome}
 use Rattle.std.proofs.lemmas.Bool.{cases_lt}
 use Rattle.std.proofs.lemmas.List.{get_or-set_other, get_or-set_same, get_or_past, set_past}
 use Rattle.std.proofs.lemmas.Bool.Decides.{eqb_tells}
@@ -12,15 +12,18 @@ use Rattle.dos_world.specs.declared.Access.TheVariants.{Fetch}
 use Rattle.dos_world.specs.declared.Size.{Size}
 use Rattle.dos_world.specs.declared.Size.TheVariants.{Byte, Half, Word}
 use Rattle.page_store.specs.Store.{joined, number_at}
+use Rattle.std.proofs.lemmas.List.{drop-drop}
+use Rattle.rv_exec.specs.Step.{half_at}
 use Rattle.rv_exec.specs.Follows.{word_at}
 use Rattle.rv_form.specs.Notes.{Note, AreBelow, note_at, nothing, first_base}
 use Rattle.quantum_run.specs.declared.slot.Slot.{Slot}
 use Rattle.quantum_run.specs.Finding.{AreFramesOf, place_in}
-use Rattle.quantum_run.specs.Knowing.{AreKnown, IsKnown, IsNoCode, KeepsKnown, empty_slot, no_base}
+use Rattle.quantum_run.specs.Knowing.{AreKnown, IsInPage, IsKnown, IsKnownHalf, IsNoCode}
+use Rattle.quantum_run.specs.Knowing.{KeepsKnown, empty_slot, no_base}
 use Rattle.quantum_run.specs.Knowing.{slot_of}
 use Rattle.quantum_run.specs.Showing.{Still, Holds, ShowsKnown}
 use Rattle.quantum_run.proofs.Places.{length-bytes}
-use Rattle.quantum_run.proofs.Reaching.{word-found}
+use Rattle.quantum_run.proofs.Reaching.{half-found, number-four, word-alone, word-both}
 
 -- ---- bytes beside those that are written
 
@@ -54,13 +57,13 @@ within-page address Byte h = omega arith
 within-page address Half h = omega (arith, h)
 within-page address Word h = omega (arith, h)
 
--- the bytes of a word, and those of an access in another frame
-apart-frames : (frame f p a w : ℕ) → frame ≢ f → p + w ≤ 4096 → a + 4 ≤ 4096
-    → (4096 * frame + p + w ≤ 4096 * f + a) ⊎ (4096 * f + a + 4 ≤ 4096 * frame + p)
+-- the bytes of a halfword, and those of an access in another frame
+apart-frames : (frame f p a w : ℕ) → frame ≢ f → p + w ≤ 4096 → a + 2 ≤ 4096
+    → (4096 * frame + p + w ≤ 4096 * f + a) ⊎ (4096 * f + a + 2 ≤ 4096 * frame + p)
 apart-frames frame f p a w other fits small = by_order (cases_lt frame f)
   where
     by_order : (frame < f) ⊎ (f ≤ frame)
-        → (4096 * frame + p + w ≤ 4096 * f + a) ⊎ (4096 * f + a + 4 ≤ 4096 * frame + p)
+        → (4096 * frame + p + w ≤ 4096 * f + a) ⊎ (4096 * f + a + 2 ≤ 4096 * frame + p)
     by_order (inl h) = inl (omega (arith, h, fits))
     by_order (inr h) = inr (omega (arith, h, other, small))
 
@@ -96,28 +99,45 @@ pub keeps-none : (base base' : ℕ) (fetched fetched' : List Slot)
     → base' ≡ no_base → KeepsKnown base fetched pages base' fetched' pages'
 keeps-none base base' fetched fetched' pages pages' none notes are some = absurd (some none)
 
+-- a halfword stays known, whatever its address, and so does a code
+code-stays : (fetched left : List Slot) (pages after : List (Option (List ℕ)))
+    → ((address half : ℕ) → address < 2 ^ 32 → IsKnownHalf fetched pages address half
+    → IsKnownHalf left after address half)
+    → (address code : ℕ) → address < 2 ^ 32 → IsKnown fetched pages address code
+    → IsKnown left after address code
+code-stays fetched left pages after half address code fits (inl known) =
+    inl (known.0, half address code fits known.1)
+code-stays fetched left pages after half address code fits (inr known) = inr (record {
+  low = known.low;
+  high = known.high;
+  full = known.full;
+  first = half address known.low fits known.first;
+  second = half ((address + 2) % 2 ^ 32) known.high (omega arith) known.second;
+  is = known.is;
+})
+
 -- a page more that a fetch finds, in a slot that had none
 pub keeps-found : (base : ℕ) (fetched : List Slot) (pages : List (Option (List ℕ)))
     (place : ℕ) (slot : Slot) → (slice_index_or fetched place empty_slot).page ≡ 0xFFFFFFFF
     → KeepsKnown base fetched pages base (set fetched place slot) pages
 keeps-found base fetched pages place slot empty notes are some at address fits key =
-    by_word (are some at address fits key)
+    code-stays fetched (set fetched place slot) pages pages by_half address (note_at notes at).word
+    fits (are some at address fits key)
   where
-    by_word : IsKnown fetched pages address (note_at notes at).word
-        → IsKnown (set fetched place slot) pages address (note_at notes at).word
-    by_word known =
-        let other : address / 4096 % 64 ≢ place = λ here.
+    by_half : (a half : ℕ) → a < 2 ^ 32 → IsKnownHalf fetched pages a half
+        → IsKnownHalf (set fetched place slot) pages a half
+    by_half a half small known =
+        let other : a / 4096 % 64 ≢ place = λ here.
         let page = ap (λ (i : ℕ). (slice_index_or fetched i empty_slot).page) here in
         let found = known.found in
-        omega (arith, page, found, empty, fits) in
-        let same : slot_of (set fetched place slot) address ≡ slot_of fetched address =
-        get_or-set_other fetched place (address / 4096 % 64) slot empty_slot other in
+        omega (arith, page, found, empty, small) in
+        let same : slot_of (set fetched place slot) a ≡ slot_of fetched a =
+        get_or-set_other fetched place (a / 4096 % 64) slot empty_slot other in
         record {
           aligned = known.aligned;
-          full = known.full;
           found = ap (λ (s : Slot). s.page) same ∙ known.found;
           read = known.read ∙ sym (ap (λ (s : Slot).
-              number_at (joined pages) (place_in s.frame address) Word) same);
+              number_at (joined pages) (place_in s.frame a) Half) same);
         }
 
 -- what is written in a frame that no fetch has found
@@ -126,42 +146,42 @@ pub keeps-written : (base : ℕ) (fetched : List Slot) (pages new : List (Option
     → joined new ≡ written (joined pages) (place_in frame address) (bytes_of (width size) value)
     → IsNoCode fetched frame → KeepsKnown base fetched pages base fetched new
 keeps-written base fetched pages new frame address size value aligned is free notes are some at a
-    fits key = by_word (are some at a fits key)
+    fits key =
+    code-stays fetched fetched pages new by_half a (note_at notes at).word fits
+    (are some at a fits key)
   where
-    by_word : IsKnown fetched pages a (note_at notes at).word
-        → IsKnown fetched new a (note_at notes at).word
-    by_word known =
+    by_length : (f a : ℕ)
+        → (place_in frame address + width size ≤ place_in f a)
+        ⊎ (place_in f a + 2 ≤ place_in frame address)
+        → (place_in frame address + length (bytes_of (width size) value) ≤ place_in f a)
+        ⊎ (place_in f a + 2 ≤ place_in frame address)
+    by_length f a (inl h) = inl (omega (arith, h, length-bytes (width size) value))
+    by_length f a (inr h) = inr h
+
+    stays : (f a : ℕ)
+        → (place_in frame address + length (bytes_of (width size) value) ≤ place_in f a)
+        ⊎ (place_in f a + 2 ≤ place_in frame address)
+        → number_at (joined new) (place_in f a) Half ≡ number_at (joined pages) (place_in f a) Half
+    stays f a out = ap (λ bytes. number_at bytes (place_in f a) Half) is
+        ∙ ap number_of (beside-written (place_in f a) 2 (place_in frame address)
+        (bytes_of (width size) value) (joined pages) out)
+
+    by_half : (a half : ℕ) → a < 2 ^ 32 → IsKnownHalf fetched pages a half
+        → IsKnownHalf fetched new a half
+    by_half a half small known =
         let f : ℕ = (slot_of fetched a).frame in
         let other : f ≢ frame = free (a / 4096 % 64) empty_slot
-        (slot-there fetched a fits known.found) in
+        (slot-there fetched a small known.found) in
         let fits_page = within-page address size aligned in
-        let four = known.aligned in
-        let small : a % 4096 + 4 ≤ 4096 = omega (arith, four) in
+        let two = known.aligned in
+        let in_page : a % 4096 + 2 ≤ 4096 = omega (arith, two) in
         record {
           aligned = known.aligned;
-          full = known.full;
           found = known.found;
-          read = known.read ∙ sym (stays f (by_length f
+          read = known.read ∙ sym (stays f a (by_length f a
               (apart-frames frame f (address % 4096) (a % 4096) (width size)
-              (λ same. other (sym same)) fits_page small)));
+              (λ same. other (sym same)) fits_page in_page)));
         }
-      where
-        by_length : (f : ℕ)
-            → (place_in frame address + width size ≤ place_in f a)
-            ⊎ (place_in f a + 4 ≤ place_in frame address)
-            → (place_in frame address + length (bytes_of (width size) value) ≤ place_in f a)
-            ⊎ (place_in f a + 4 ≤ place_in frame address)
-        by_length f (inl h) = inl (omega (arith, h, length-bytes (width size) value))
-        by_length f (inr h) = inr h
-
-        stays : (f : ℕ)
-            → (place_in frame address + length (bytes_of (width size) value) ≤ place_in f a)
-            ⊎ (place_in f a + 4 ≤ place_in frame address)
-            → number_at (joined new) (place_in f a) Word
-            ≡ number_at (joined pages) (place_in f a) Word
-        stays f out = ap (λ bytes. number_at bytes (place_in f a) Word) is
-            ∙ ap number_of (beside-written (place_in f a) 4 (place_in frame address)
-            (bytes_of (width size) value) (joined pages) out)
 
 -- ---- a memo that learns
 
@@ -233,15 +253,103 @@ known-aside base fetched pages notes place word are =
 
 -- ---- words
 
--- a word that is known is what the flat world has there
-pub word-known : (fixed : Still) (pages : List (Option (List ℕ))) (t : ℕ) (w : World)
-    (fetched : List Slot) (address word : ℕ) → Holds fixed pages t w → address < 2 ^ 32
+-- a halfword that is known is what the flat world has there
+half-known : (fixed : Still) (pages : List (Option (List ℕ))) (t : ℕ) (w : World)
+    (fetched : List Slot) (address half : ℕ) → Holds fixed pages t w → address < 2 ^ 32
     → AreFramesOf fixed.thread fixed.owners fixed.entries Fetch fetched
-    → IsKnown fetched pages address word → word_at w t address ≡ Ok word
-word-known fixed pages t w fetched address word holds fits frames known =
-    word-found fixed pages t w holds address (slot_of fetched address).frame word known.aligned fits
+    → IsKnownHalf fetched pages address half → half_at w t address ≡ Ok half
+half-known fixed pages t w fetched address half holds fits frames known =
+    half-found fixed pages t w holds address (slot_of fetched address).frame known.aligned
     (frames (address / 4096 % 64) empty_slot (slot-there fetched address fits known.found) address
-    fits (sym known.found)) known.read known.full
+    fits (sym known.found))
+    ∙ ap Ok (sym known.read)
+
+-- and so is a code
+pub word-known : (fixed : Still) (pages : List (Option (List ℕ))) (t : ℕ) (w : World)
+    (fetched : List Slot) (address code : ℕ) → Holds fixed pages t w → address < 2 ^ 32
+    → AreFramesOf fixed.thread fixed.owners fixed.entries Fetch fetched
+    → IsKnown fetched pages address code → word_at w t address ≡ Ok code
+word-known fixed pages t w fetched address code holds fits frames (inl known) =
+    word-alone w t address code
+    (half-known fixed pages t w fetched address code holds fits frames known.1) known.0
+word-known fixed pages t w fetched address code holds fits frames (inr known) =
+    word-both w t address known.low known.high
+    (half-known fixed pages t w fetched address known.low holds fits frames known.first)
+    known.full
+    (half-known fixed pages t w fetched ((address + 2) % 2 ^ 32) known.high holds (omega arith)
+    frames known.second)
+    ∙ ap Ok (sym known.is)
+
+-- a halfword in the page that a fetch has found is known
+pub half-in-page : (fetched : List Slot) (pages : List (Option (List ℕ)))
+    (slot : Slot) (address half : ℕ) → slot_of fetched address ≡ slot
+    → slot.page ≡ address / 4096 → address % 2 ≡ 0
+    → half ≡ number_at (joined pages) (place_in slot.frame address) Half
+    → IsKnownHalf fetched pages address half
+half-in-page fetched pages slot address half here page even is = record {
+  aligned = even;
+  found = ap (λ (s : Slot). s.page) here ∙ page;
+  read = is ∙ sym (ap (λ (s : Slot).
+      number_at (joined pages) (place_in s.frame address) Half) here);
+}
+
+-- a code in the page that a fetch has found is known
+pub known-in-page : (fetched : List Slot) (pages : List (Option (List ℕ)))
+    (slot : Slot) (address code : ℕ) → slot_of fetched address ≡ slot
+    → slot.page ≡ address / 4096 → address % 2 ≡ 0 → address < 2 ^ 32
+    → IsInPage pages slot.frame address code → IsKnown fetched pages address code
+known-in-page fetched pages slot address code here page even fits (inl lone) = inl (
+  lone.0,
+  record {
+    aligned = even;
+    found = ap (λ (s : Slot). s.page) here ∙ page;
+    read = lone.1 ∙ sym (ap (λ (s : Slot).
+        number_at (joined pages) (place_in s.frame address) Half) here);
+  },
+)
+known-in-page fetched pages slot address code here page even fits (inr whole) =
+    let bytes : List ℕ = drop (place_in slot.frame address) (joined pages) in
+    let low : ℕ = number_of (take 2 bytes) in
+    let high : ℕ = number_of (take 2 (drop 2 bytes)) in
+    let is : code ≡ low + 2 ^ 16 * high = whole.2 ∙ number-four bytes in
+    let after : ℕ = (address + 2) % 2 ^ 32 in
+    let room = whole.1 in
+    let next : after ≡ address + 2 = omega (arith, even, fits, room) in
+    let same : after / 4096 ≡ address / 4096 = omega (arith, next, room) in
+    let there : slot_of fetched after ≡ slot =
+    ap (λ number. slice_index_or fetched (number % 64) empty_slot) same ∙ here in
+    let place : place_in slot.frame after ≡ place_in slot.frame address + 2 =
+    omega (arith, next, room) in
+    inr (record {
+      low = low;
+      high = high;
+      full = omega (arith, is, whole.0);
+      first = record {
+        aligned = even;
+        found = ap (λ (s : Slot). s.page) here ∙ page;
+        read = sym (ap (λ (s : Slot).
+            number_at (joined pages) (place_in s.frame address) Half) here);
+      };
+      second = record {
+        aligned = omega (arith, next, even);
+        found = ap (λ (s : Slot). s.page) there ∙ page ∙ sym same;
+        read = ap (λ xs. number_of (take 2 xs))
+            (drop-drop 2 (place_in slot.frame address) (joined pages))
+            ∙ ap (λ k. number_of (take 2 (drop k (joined pages)))) (sym place)
+            ∙ sym (ap (λ (s : Slot).
+            number_at (joined pages) (place_in s.frame after) Half) there);
+      };
+      is = is;
+    })
+
+pub some-known : (fetched : List Slot) (pages : List (Option (List ℕ)))
+    (slot : Slot) (address : ℕ) → slot_of fetched address ≡ slot
+    → slot.page ≡ address / 4096 → address % 2 ≡ 0 → address < 2 ^ 32
+    → (o : Option ℕ) → IfSome o (λ code. IsInPage pages slot.frame address code)
+    → IfSome o (λ code. IsKnown fetched pages address code)
+some-known fetched pages slot address here page even fits None h = tt
+some-known fetched pages slot address here page even fits (Some code) h =
+    known-in-page fetched pages slot address code here page even fits h
 
 -- and so is the word that a memo has by a key of the base
 pub word-noted : {F : Type 0} (now : Still) (fixed : F) (pages : List (Option (List ℕ)))

@@ -168,12 +168,12 @@ aligned-within address size h =
 
 -- a number read from a page is the one in the flat bytes
 pub read-joined : (pages : List (Option (List ℕ))) (frame address : ℕ) (size : Size) (page : List ℕ)
-    (n : ℕ) → slice_get pages frame ≡ Some (Some page) → address % width size ≡ 0
+    (n : ℕ) → slice_get pages frame ≡ Some (Some page) → address % 4096 + width size ≤ 4096
     → n ≡ number_at (whole page) (address % 4096) size
     → n ≡ number_at (joined pages) (place_in frame address) size
-read-joined pages frame address size page n home aligned is =
+read-joined pages frame address size page n home within is =
     is ∙ sym (joined-number pages frame (address % 4096) (width size) (place_in frame address)
-    (Some page) home (aligned-within address size aligned) refl)
+    (Some page) home within refl)
 
 pub length-bytes : (k n : ℕ) → length (bytes_of k n) ≡ k
 length-bytes zero n = refl

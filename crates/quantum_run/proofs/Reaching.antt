@@ -1,6 +1,6 @@
 -- What the flat world answers to an access, by the frame that is found for it.
 use Rattle.std.proofs.Common.{ℕ, ◌+◌, ◌*◌, ◌/◌, ◌%◌, ◌^◌, ◌<◌, ◌≡◌, refl, sym, ap, ◌∙◌, subst}
-use Rattle.std.proofs.Common.{cond, not, Bool, true, false, eqb, eq-eqb, List, [], ◌∷◌}
+use Rattle.std.proofs.Common.{cond, not, Bool, true, false, eqb, eq-eqb, ne_eqb, List, [], ◌∷◌, ◌≢◌}
 use Rattle.std.proofs.Common.{take, drop, Option, Some, None, Result, Ok, Err, arith}
 use Rattle.std.specs.Prelude.{slice_index_or}
 use Rattle.std.proofs.lemmas.List.{drop-drop}
@@ -117,36 +117,14 @@ word-both w t a low high first is second =
     ∙ ap (λ b. cond b (second_of w t a low) (Ok low)) (eq-eqb (low % 4) 3 is)
     ∙ ap (λ (x : Result ℕ Reason). x >>= λ up. Ok (low + 2 ^ 16 * up)) second
 
--- a frame found for an address is found for each address of its page
-same-page : (t : ℕ) (owners : List Owner) (entries : List (ℕ × Entry)) (access : Access)
-    (a b frame : ℕ) → b / 4096 ≡ a / 4096 → frame_for t owners entries access a ≡ Ok frame
-    → frame_for t owners entries access b ≡ Ok frame
-same-page t owners entries access a b frame page h =
-    ap (λ number. by_look b (look entries number)) page ∙ by_entry (look entries (a / 4096)) h
-  where
-    by_look : ℕ → Option Entry → Result ℕ Reason
-    by_look address o = elim o as (λ _. Result ℕ Reason) [
-      | None ↦ Err (Fault 11)
-      | Some e ↦ frame_by t owners access address e
-    ]
-
-    by_test : (right foreign_to : Bool) (found : ℕ)
-        → cond (not right) (Err (Fault 11)) (cond foreign_to (Err (Page a access)) (Ok found))
-        ≡ Ok frame
-        → cond (not right) (Err (Fault 11)) (cond foreign_to (Err (Page b access)) (Ok found))
-        ≡ Ok frame
-    by_test false foreign_to found q = cc
-    by_test true true found q = cc
-    by_test true false found q = q
-
-    by_entry : (o : Option Entry) → by_look a o ≡ Ok frame → by_look b o ≡ Ok frame
-    by_entry None q = cc
-    by_entry (Some e) q =
-        by_test (has_right access e)
-        (is_foreign t access (slice_index_or owners e.frame Free)) e.frame q
+pub word-alone : (w : World) (t a low : ℕ) → half_at w t a ≡ Ok low → low % 4 ≢ 3
+    → word_at w t a ≡ Ok low
+word-alone w t a low first other =
+    ap (λ (x : Result ℕ Reason). x >>= by_first w t a) first
+    ∙ ap (λ b. cond b (second_of w t a low) (Ok low)) (ne_eqb (low % 4) 3 other)
 
 -- four bytes are two and two
-number-four : (xs : List ℕ)
+pub number-four : (xs : List ℕ)
     → number_of (take 4 xs) ≡ number_of (take 2 xs) + 2 ^ 16 * number_of (take 2 (drop 2 xs))
 number-four [] = refl
 number-four (a ∷ []) = omega arith
@@ -154,7 +132,7 @@ number-four (a ∷ b ∷ xs) = omega arith
 
 module _ (fixed : Still) (pages : List (Option (List ℕ))) (t : ℕ) (w : World)
     (holds : Holds fixed pages t w) where
-  half-found : (a frame : ℕ) → a % 2 ≡ 0
+  pub half-found : (a frame : ℕ) → a % 2 ≡ 0
       → frame_for fixed.thread fixed.owners fixed.entries Fetch a ≡ Ok frame
       → half_at w t a ≡ Ok (number_at (joined pages) (place_in frame a) Half)
   half-found a frame even found =
@@ -162,27 +140,3 @@ module _ (fixed : Still) (pages : List (Option (List ℕ))) (t : ℕ) (w : World
       (reached-frame fixed pages t w holds a Half Fetch even
       ∙ ap (λ (x : Result ℕ Reason). x >>= λ f. Ok (place_in f a)) found)
       ∙ ap (λ bytes. Ok (number_of (take 2 (drop (place_in frame a) bytes)))) holds.bytes
-
-  -- the word at a multiple of 4 is read at once
-  pub word-found : (a frame n : ℕ) → a % 4 ≡ 0 → a < 2 ^ 32
-      → frame_for fixed.thread fixed.owners fixed.entries Fetch a ≡ Ok frame
-      → n ≡ number_at (joined pages) (place_in frame a) Word → n % 4 ≡ 3 → word_at w t a ≡ Ok n
-  word-found a frame n four fits found is odd =
-      let bytes : List ℕ = drop (place_in frame a) (joined pages) in
-      let low : ℕ = number_of (take 2 bytes) in
-      let high : ℕ = number_of (take 2 (drop 2 bytes)) in
-      let whole : n ≡ low + 2 ^ 16 * high = is ∙ number-four bytes in
-      let next : (a + 2) % 2 ^ 32 ≡ a + 2 = omega (arith, four, fits) in
-      let after : ℕ = (a + 2) % 2 ^ 32 in
-      let page : after / 4096 ≡ a / 4096 = omega (arith, four, next) in
-      let even : a % 2 ≡ 0 = omega (arith, four) in
-      let even_after : after % 2 ≡ 0 = omega (arith, four, next) in
-      let place : place_in frame after ≡ place_in frame a + 2 = omega (arith, four, next) in
-      let second : half_at w t after ≡ Ok high =
-      half-found after frame even_after
-      (same-page fixed.thread fixed.owners fixed.entries Fetch a after frame page found)
-      ∙ ap (λ k. Ok (number_of (take 2 (drop k (joined pages))))) place
-      ∙ ap (λ xs. Ok (number_of (take 2 xs)))
-      (sym (drop-drop 2 (place_in frame a) (joined pages))) in
-      word-both w t a low high (half-found a frame even found) (omega (arith, whole, odd)) second
-      ∙ ap Ok (sym whole)

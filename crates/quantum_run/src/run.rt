@@ -18,7 +18,7 @@ use crate::thread_memory::Running;
 use dos_world::{Reason, Regs};
 use page_store::{Frames, Page};
 use rv_exec::{Next, one_known};
-use rv_form::{Memo, place_after, place_of};
+use rv_form::{Memo, place_after, place_after_short, place_of};
 use space_map::Space;
 use std::mem;
 
@@ -60,6 +60,10 @@ fn go<P: Pages>(
             Next::On => {
                 pc = pc.wrapping_add(4);
                 place = place_after(place);
+            }
+            Next::Short => {
+                place = place_after_short(place, pc);
+                pc = pc.wrapping_add(2);
             }
             Next::To(target) => {
                 pc = target;

@@ -1,5 +1,6 @@
 // The memory of one thread over any pages.
-ghost use Rattle.std.specs.Prelude.{◌≡◌, ◌≢◌, ◌⊎◌, ◌+◌, ◌/◌, ◌%◌, ◌^◌, ◌<◌, ℕ, List, Option, Ok};
+ghost use Rattle.std.specs.Prelude.{◌≡◌, ◌≢◌, ◌⊎◌, ◌+◌, ◌/◌, ◌%◌, ◌^◌, ◌<◌, ◌≤◌, ℕ, List, Option};
+ghost use Rattle.std.specs.Prelude.{Ok};
 ghost use Rattle.std.specs.Prelude.{Err, IfSome, true, slice_set};
 ghost use Rattle.std.specs.Option.{ok_or};
 ghost use Rattle.dos_world.specs.Reach.{bytes_of, width, written};
@@ -8,8 +9,9 @@ ghost use Rattle.page_store.specs.Store.{joined, number_at};
 ghost use Rattle.rv_form.specs.Notes.{note_at};
 ghost use Rattle.quantum_run.specs.Showing.{HasWordOrReason, ShowsKnown, Still, still};
 ghost use Rattle.quantum_run.specs.Finding.{AreFramesOf, IsFrameOf, IsWriting, frame_for, place_in};
-ghost use Rattle.quantum_run.specs.Knowing.{AreApart, AreKnown, IsBase, IsKnown, IsNoCode};
-ghost use Rattle.quantum_run.specs.Knowing.{KeepsKnown, no_base, slot_of};
+ghost use Rattle.quantum_run.specs.Knowing.{AreApart, AreKnown, IsBase, IsInPage, IsKnown};
+ghost use Rattle.quantum_run.specs.Knowing.{IsKnownHalf};
+ghost use Rattle.quantum_run.specs.Knowing.{IsNoCode, KeepsKnown, no_base, slot_of};
 ghost use Rattle.quantum_run.specs.Pages.{AreReached, AreOwn, AreWithin, IsHomeIn};
 
 use crate::pages::Pages;
@@ -51,6 +53,9 @@ pub struct Running<'a, P: Pages> {
     ghost apart: { AreApart fetched stored },
     ghost base_is: { IsBase base },
 }
+
+/// The last offset in a page at which a word lies in it.
+const LAST_WORD: u32 = 4092;
 
 /// Keys of a base are those of addresses, fewer than this.
 const ADDRESSES: u64 = 1 << 32;
@@ -302,11 +307,11 @@ impl<'a, P: Pages> Running<'a, P> {
         self.find_to_write(address, access)
     }
 
-    /// The number at an aligned address whose page is this frame's.
+    /// The number at an address whose page is this frame's, where it lies in that page.
     #[inline(always)]
     fn read(&self, frame: u32, address: u32, size: Size) -> u32
         requires home { IsHomeIn (P.pages self.now.pages) frame }
-        requires aligned { address % width size ≡ 0 }
+        requires within { address % 4096 + width size ≤ 4096 }
         ensures value { result ≡ number_at (joined (P.pages self.now.pages))
             (place_in frame address) size }
         ensures range { result < 256 ^ width size }
@@ -331,8 +336,63 @@ impl<'a, P: Pages> Running<'a, P> {
         self.pages.write(frame, address % 4096, size, value);
     }
 
-    /// The word at an address, where it lies in one page and may be known; None else, or where its
-    /// fetch is refused.
+    /// The code at an even address whose page is this frame's; None where its other halfword lies
+    /// in another page.
+    #[inline(always)]
+    fn code_in(&self, frame: u32, address: u32) -> Option<u32>
+        requires home { IsHomeIn (P.pages self.now.pages) frame }
+        requires even { address % 2 ≡ 0 }
+        ensures { IfSome result (λ code. IsInPage (P.pages self.now.pages) frame address code) }
+    {
+        if address % 4096 <= LAST_WORD {
+            let word = self.read(frame, address, Size::Word);
+            if word % 4 == 3 {
+                return Some(word);
+            }
+        }
+        let half = self.read(frame, address, Size::Half);
+        if half % 4 == 3 { None } else { Some(half) }
+    }
+
+    /// The halfword at an even address, where a fetch has found its page.
+    fn half_found(&self, address: u32) -> Option<u32>
+        requires even { address % 2 ≡ 0 }
+        ensures half { IfSome result
+            (λ half. IsKnownHalf self.now.fetched (P.pages self.now.pages) address half) }
+        ensures range { IfSome result (λ half. half < 2 ^ 16) }
+    {
+        let slot = self.fetched[slot_place(address)];
+        if slot.page != address / 4096 {
+            return None;
+        }
+        Some(self.read(slot.frame, address, Size::Half))
+    }
+
+    /// The word at an even address whose halfwords lie in two pages; None where it is none, or
+    /// where a fetch is refused.
+    fn word_across(&mut self, address: u32) -> Option<u32>
+        requires even { address % 2 ≡ 0 }
+        ensures word { IfSome result
+            (λ word. IsKnown self.new.fetched (P.pages self.new.pages) address word) }
+        ensures known { KeepsKnown self.old.base self.old.fetched (P.pages self.old.pages)
+            self.new.base self.new.fetched (P.pages self.new.pages) }
+        ensures still { still self.new.tid (P.owners self.new.pages) self.new.space.now.entries
+            ≡ still self.old.tid (P.owners self.old.pages) self.old.space.now.entries }
+        ensures fixed { P.fixed self.new.pages ≡ P.fixed self.old.pages }
+        ensures pages { P.pages self.new.pages ≡ P.pages self.old.pages }
+    {
+        let next = address.wrapping_add(2);
+        let _frame = self.frame_to_fetch(next)?;
+        let low = self.half_found(address)?;
+        let high = self.half_found(next)?;
+        if low % 4 == 3 {
+            Some(low + 65536 * high)
+        } else {
+            None
+        }
+    }
+
+    /// The code at an address; None where its fetch is refused.
     fn word_to_know(&mut self, address: u32) -> Option<u32>
         ensures word { IfSome result
             (λ word. IsKnown self.new.fetched (P.pages self.new.pages) address word) }
@@ -343,12 +403,14 @@ impl<'a, P: Pages> Running<'a, P> {
         ensures fixed { P.fixed self.new.pages ≡ P.fixed self.old.pages }
         ensures pages { P.pages self.new.pages ≡ P.pages self.old.pages }
     {
-        if address % 4 != 0 {
+        if address % 2 != 0 {
             return None;
         }
         let frame = self.frame_to_fetch(address)?;
-        let word = self.read(frame, address, Size::Word);
-        if word % 4 == 3 { Some(word) } else { None }
+        match self.code_in(frame, address) {
+            Some(code) => Some(code),
+            None => self.word_across(address),
+        }
     }
 
     /// The memo has this word, which is known, at the place by a key of the base.
@@ -429,7 +491,7 @@ impl<'a, P: Pages> Running<'a, P> {
         }
     }
 
-    /// The word at an address, where a fetch has found its page, it lies in that page alone and may
+    /// The code at an address, where a fetch has found its page, it lies in that page alone and may
     /// be known by a key of the base.
     #[inline(always)]
     fn word_found(&self, address: u32) -> Option<u32>
@@ -438,11 +500,10 @@ impl<'a, P: Pages> Running<'a, P> {
         ensures based { IfSome result (λ word. self.now.base ≢ no_base) }
     {
         let slot = self.fetched[slot_place(address)];
-        if self.base == NO_BASE || slot.page != address / 4096 || address % 4 != 0 {
+        if self.base == NO_BASE || slot.page != address / 4096 || address % 2 != 0 {
             return None;
         }
-        let word = self.read(slot.frame, address, Size::Word);
-        if word % 4 == 3 { Some(word) } else { None }
+        self.code_in(slot.frame, address)
     }
 
     /// Whether the memo has the word at an address at the place from now on; else its fetch is

@@ -23,7 +23,7 @@ use Rattle.rv_isa.specs.declared.AmoOp.TheVariants.{AmoorW, AmominW, AmomaxW, Am
 use Rattle.rv_exec.specs.Effect.{Effect, goes, loads, stores, claims, stops, effect, jumps, atomic}
 use Rattle.rv_exec.specs.Effect.{is_taken, plus}
 use Rattle.rv_exec.specs.Step.{step, step_of, step_by, performed, reached, place_or_reason, half_at}
-use Rattle.rv_exec.specs.Step.{instruction_at, whole_word, paid, with_word, ◌>>=◌}
+use Rattle.rv_exec.specs.Step.{instruction_at, whole_word, lone_half, paid, with_word, ◌>>=◌}
 
 -- where it is a fault, its number is at most 11
 abbrev IsSmall : {A : Type 0} → Result A Reason → Type 0
@@ -157,11 +157,11 @@ fetch-small w t pc =
   where
     by_low : (low : ℕ) (b : Bool)
         → IsSmall (cond b (half_at w t ((pc + 2) % 2 ^ 32) >>= λ high. Ok (whole_word low high))
-        (Ok (None, 2)))
+        (Ok (lone_half low)))
     by_low low true =
         then_small (half_at w t ((pc + 2) % 2 ^ 32)) _ (half-small w t ((pc + 2) % 2 ^ 32))
         (λ high. Ok-small (whole_word low high))
-    by_low low false = Ok-small (None, 2)
+    by_low low false = Ok-small (lone_half low)
 
 -- The faults of a step: 4, 5, 7 and 11.
 pub step-small : (w : World) (t n : ℕ) → step w t ≡ Err (Fault n) → n ≤ 11

@@ -28,7 +28,7 @@ use Rattle.rv_exec.proofs.Keeps.{bind_ok}
 use Rattle.rv_exec.specs.Effect.{Effect, goes, loads, stores, claims, stops, effect, jumps, atomic}
 use Rattle.rv_exec.specs.Effect.{is_taken, plus}
 use Rattle.rv_exec.specs.Step.{step, step_of, step_by, performed, reached, half_at, instruction_at}
-use Rattle.rv_exec.specs.Step.{whole_word, paid, with_word, ◌>>=◌}
+use Rattle.rv_exec.specs.Step.{whole_word, lone_half, paid, with_word, ◌>>=◌}
 use Rattle.round_core.specs.Laws.{MapsWithin, IsNoPage}
 use Rattle.round_core.specs.Rest.{settled, page_granted, granted_by}
 
@@ -279,7 +279,8 @@ word_of low high = Ok (whole_word low high)
 
 by_half : World → ℕ → ℕ → ℕ → Result (Option Instr × ℕ) Reason
 unfolding word_of
-by_half w t pc low = cond (eqb (low % 4) 3) (half_at w t (second pc) >>= word_of low) (Ok (None, 2))
+by_half w t pc low =
+    cond (eqb (low % 4) 3) (half_at w t (second pc) >>= word_of low) (Ok (lone_half low))
 
 instruction_by : (w : World) (t pc low : ℕ) → half_at w t pc ≡ Ok low
     → instruction_at w t pc ≡ by_half w t pc low
@@ -296,8 +297,8 @@ fetch_ok_kept w t frame pc found x h q =
     ∙ rest r.0 (eqb (r.0 % 4) 3) r.2
   where
     rest : (low : ℕ) (b : Bool)
-        → cond b (half_at w t (second pc) >>= word_of low) (Ok (None, 2)) ≡ Ok found
-        → cond b (half_at (grant w t frame x) t (second pc) >>= word_of low) (Ok (None, 2))
+        → cond b (half_at w t (second pc) >>= word_of low) (Ok (lone_half low)) ≡ Ok found
+        → cond b (half_at (grant w t frame x) t (second pc) >>= word_of low) (Ok (lone_half low))
         ≡ Ok found
     rest low true z =
         let r = bind_ok (half_at w t (second pc)) (word_of low) found z in
@@ -356,12 +357,12 @@ second_stop w t pc low a x first q =
             let all : instruction_at g t pc
             ≡ Ok (whole_word low (loaded w (4096 * k.e.frame + second pc % 4096) 2)) =
             instruction_by g t pc low (half_kept w t k.e.frame pc low Fetch h first)
-            ∙ ap (λ b. cond b (half_at g t (second pc) >>= word_of low) (Ok (None, 2))) whole
+            ∙ ap (λ b. cond b (half_at g t (second pc) >>= word_of low) (Ok (lone_half low))) whole
             ∙ ap (λ r. r >>= word_of low) (half_after w t (second pc) k h) in
             Ok-not_page all b y v
 
     by_low : (b : Bool) → eqb (low % 4) 3 ≡ b
-        → cond b (half_at w t (second pc) >>= word_of low) (Ok (None, 2)) ≡ Err (Page a x)
+        → cond b (half_at w t (second pc) >>= word_of low) (Ok (lone_half low)) ≡ Err (Page a x)
         → (e : Entry) × (entry_at w t a ≡ Some e)
         × (e.frame < length w.owners → IsNoPage (instruction_at (grant w t e.frame x) t pc))
     by_low true whole y = by_second whole (access_is w t (second pc) Half Fetch) y

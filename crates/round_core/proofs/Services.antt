@@ -212,7 +212,7 @@ module _ (K : Said) (stands : Stands K) where
         ready_thread c.process (new_registers c.a0 c.a1 c.a2) (mask_of c) [] in
         let made : Play Served =
         returns_in (with_new_thread c.world thread) (next_thread c.world) c in
-        if_left (not (c.a0 % 4 == 0)) (refuses 22 c)
+        if_left (not (c.a0 % 2 == 0)) (refuses 22 c)
         (cond (are_threads_full c.world.threads) (refuses 11 c) made) (refused 22)
         (if_left (are_threads_full c.world.threads) (refuses 11 c) made (refused 11)
         (returns_left (with_new_thread c.world thread) (next_thread c.world)

@@ -48,12 +48,36 @@ a_store_hits_no_page : without_work
 unfolding computing
 a_store_hits_no_page = refl
 
--- jal x0, 6
-a_jump_is_misaligned : without_work
+-- jal x0, 6, to a halfword of zeros
+a_jump_to_a_halfword : without_work
     (machine (program (0x0060006F ∷ 0x00000000 ∷ []) ∷ []) (with_frames 17) (posts [] ∷ []))
-    ≡ ended (Signals 1 ∷ End Done 1 ∷ []) [] (Some 135 ∷ []) Done 1
+    ≡ ended (Signals 1 ∷ End Done 1 ∷ []) [] (Some 132 ∷ []) Done 1
 unfolding computing
-a_jump_is_misaligned = refl
+a_jump_to_a_halfword = refl
+
+-- c.li x17, 2; c.li x10, 7; ecall
+two_in_a_word : without_work
+    (machine (program (0x451D4889 ∷ 0x00000073 ∷ []) ∷ []) (with_frames 17) (posts [] ∷ []))
+    ≡ ended (Signals 1 ∷ End Done 1 ∷ []) [] (Some 7 ∷ []) Done 1
+unfolding computing
+two_in_a_word = refl
+
+-- jal x0 to the last halfword of the page, where the lower half of addi x17, x0, 2 stands; its
+-- upper half, c.li x10, 7 and ecall stand on the next page
+an_instruction_over_two_pages : without_work
+    (machine (program (0x7FF0006F ∷ replicate 1022 0x00000000 ++ 0x08930000 ∷ 0x451D0020
+    ∷ 0x00000073 ∷ []) ∷ []) (with_frames 18) (posts [] ∷ []))
+    ≡ ended (Signals 1 ∷ End Done 1 ∷ []) [] (Some 7 ∷ []) Done 1
+unfolding computing
+an_instruction_over_two_pages = refl
+
+-- the same without the next page
+half_an_instruction : without_work
+    (machine (program (0x7FF0006F ∷ replicate 1022 0x00000000 ++ 0x08930000 ∷ []) ∷ [])
+    (with_frames 17) (posts [] ∷ []))
+    ≡ ended (Signals 1 ∷ End Done 1 ∷ []) [] (Some 139 ∷ []) Done 1
+unfolding computing
+half_an_instruction = refl
 
 -- the all-zero word means no instruction, and 0x00100073 is ebreak
 a_word_means_nothing : without_work

@@ -107,7 +107,7 @@ overlap_by a b e = rw e refl
 
 -- the entry is the first byte of the first part
 pub record IsEntered (entry : ℕ) (h : Header) : Type 0 where
-  pub aligned : entry % 4 ≡ 0
+  pub aligned : entry % 2 ≡ 0
   pub first : h.address ≡ entry
   pub executable : is_executable h ≡ true
   pub sized : 1 ≤ h.memory_size

@@ -102,7 +102,7 @@ data_is file bytes offset address file_size memory_size zeros e size =
 
 -- where the code may be
 pub record IsCode (base size : ℕ) (code : List ℕ) : Type 0 where
-  pub aligned : base % 4 ≡ 0
+  pub aligned : base % 2 ≡ 0
   pub some : 1 ≤ size
   pub len : length code ≡ size
   pub above : 0x1000 ≤ base
@@ -131,28 +131,29 @@ code_entered front base size write code c =
       sized = c.some;
     }
 
-pub image-code : (base size : ℕ) (write : Bool) (code bytes : List ℕ) → IsCode base size code
-    → image (one base (code_flags write) size ++ (code ++ bytes))
+pub image-code : (short : Bool) (base size : ℕ) (write : Bool) (code bytes : List ℕ)
+    → IsCode base size code
+    → image (one short base (code_flags write) size ++ (code ++ bytes))
     ≡ Ok (record { entry = base; parts = code_at base write code ∷ [] })
-image-code base size write code bytes c =
+image-code short base size write code bytes c =
     let flags : ℕ = code_flags write in
-    let file : List ℕ = one base (code_flags write) size ++ (code ++ bytes) in
+    let file : List ℕ = one short base (code_flags write) size ++ (code ++ bytes) in
     let inside : 84 + size ≤ length file =
     omega (
       arith,
-      length-append (one base (code_flags write) size) (code ++ bytes),
+      length-append (one short base (code_flags write) size) (code ++ bytes),
       length-append code bytes,
       c.len,
     ) in
     image-one file base (loads 0 84 base size size (code_flags write))
-    (one-header base (code_flags write) size (code ++ bytes) (omega (arith, c.below)))
-    (one-headers base (code_flags write) size (code ++ bytes) (omega (arith, c.below))
+    (one-header short base (code_flags write) size (code ++ bytes) (omega (arith, c.below)))
+    (one-headers short base (code_flags write) size (code ++ bytes) (omega (arith, c.below))
     (flags_fit write) (omega (arith, c.below)))
     (code_good (length file) 84 base size (code_flags write) code c inside)
     (code_entered 84 base size write code c)
     ∙ ap (λ (p : Part). Ok (record { entry = base; parts = p ∷ [] }))
     (code_is file code bytes write 84 base size
-    (one-rest base (code_flags write) size (code ++ bytes)) c.len)
+    (one-rest short base (code_flags write) size (code ++ bytes)) c.len)
 
 -- ---- code and data
 
@@ -173,27 +174,28 @@ pair-made : (entry : ℕ) (a a' b b' : Part) → a ≡ a' → b ≡ b'
     ≡ record { entry = entry; parts = a' ∷ b' ∷ [] }
 pair-made entry a a' b b' ea eb = rw (ea, eb) refl
 
-pub image-both : (base size : ℕ) (write : Bool) (code : List ℕ)
+pub image-both : (short : Bool) (base size : ℕ) (write : Bool) (code : List ℕ)
     (offset address file_size memory_size zeros : ℕ) (bytes : List ℕ) → IsCode base size code
     → IsData base size offset address file_size memory_size zeros bytes
-    → image (two base (code_flags write) size offset address file_size memory_size
+    → image (two short base (code_flags write) size offset address file_size memory_size
     ++ (code ++ bytes))
     ≡ Ok (record {
       entry = base;
       parts = code_at base write code ∷ data_at address bytes zeros
           ∷ [];
     })
-image-both base size write code offset address file_size memory_size zeros bytes c d =
-    let front : List ℕ = two base (code_flags write) size offset address file_size memory_size in
-    let file : List ℕ = two base (code_flags write) size offset address file_size memory_size
+image-both short base size write code offset address file_size memory_size zeros bytes c d =
+    let front : List ℕ =
+    two short base (code_flags write) size offset address file_size memory_size in
+    let file : List ℕ = two short base (code_flags write) size offset address file_size memory_size
     ++ (code ++ bytes) in
-    let rest = two-rest base (code_flags write) size offset address file_size memory_size
+    let rest = two-rest short base (code_flags write) size offset address file_size memory_size
     (code ++ bytes) in
     let long : length file ≡ 116 + (size + file_size) =
     omega (
       arith,
       length-append
-          (two base (code_flags write) size offset address file_size memory_size)
+          (two short base (code_flags write) size offset address file_size memory_size)
           (code ++ bytes),
       length-append code bytes,
       c.len,
@@ -201,9 +203,11 @@ image-both base size write code offset address file_size memory_size zeros bytes
     ) in
     image-two file base (loads 0 116 base size size (code_flags write))
     (loads 1 offset address file_size memory_size 6)
-    (two-header base (code_flags write) size offset address file_size memory_size (code ++ bytes)
+    (two-header short base (code_flags write) size offset address file_size memory_size
+    (code ++ bytes)
     (omega (arith, c.below)))
-    (two-headers base (code_flags write) size offset address file_size memory_size (code ++ bytes)
+    (two-headers short base (code_flags write) size offset address file_size memory_size
+    (code ++ bytes)
     (omega (arith, c.below)) (flags_fit write) (omega (arith, c.below))
     (omega (arith, c.below, c.above, d.behind_code)) (omega (arith, d.below))
     (omega (arith, d.below, d.whole)) (omega (arith, d.below)))

@@ -2,20 +2,13 @@
 -- and "Program Header").
 use Rattle.std.specs.Prelude.{ℕ, ◌+◌, ◌*◌, Bool, true, false, not, ◌&&◌, ◌||◌, ◌==◌, nat_lt, nat_le}
 use Rattle.std.specs.Prelude.{List, [], ◌∷◌, ◌++◌, length, flat_map, Result, Ok, Err, if◌then◌else◌}
-use Rattle.std.specs.Int.{w16, w32, to_le_bytes}
 use Rattle.elf_image.specs.Image.{Image}
 use Rattle.elf_image.specs.declared.part.Part.{Part}
 use Rattle.rv_asm.specs.declared.error.AsmError.{AsmError}
 use Rattle.rv_asm.specs.declared.error.AsmError.TheVariants as error
-use Rattle.rv_asm.specs.Source.{Source, Data, data_size, has_data}
-use Rattle.rv_asm.specs.Words.{assembled}
-
--- numbers of two and of four bytes, little-endian
-abbrev pub half : ℕ → List ℕ
-half n = to_le_bytes w16 n
-
-abbrev pub word : ℕ → List ℕ
-word n = to_le_bytes w32 n
+use Rattle.rv_asm.specs.Source.{Source, Data, count_of, data_size, has_data, is_half}
+use Rattle.rv_asm.specs.Words.{assembled, half, word}
+use Rattle.std.specs.List.{list_any}
 
 -- words one after another
 abbrev pub code_of : List ℕ → List ℕ
@@ -27,19 +20,22 @@ code_of words = flat_map word words
 abbrev pub e_ident : List ℕ
 e_ident = 0x7F ∷ 0x45 ∷ 0x4C ∷ 0x46 ∷ 1 ∷ 1 ∷ 1 ∷ 0 ∷ 0 ∷ 0 ∷ 0 ∷ 0 ∷ 0 ∷ 0 ∷ 0 ∷ 0 ∷ []
 
-abbrev pub file_header : (e_entry e_phnum : ℕ) → List ℕ
-file_header e_entry e_phnum =
+-- e_flags: 1 where there are compressed instructions (the RISC-V psABI)
+abbrev pub flags_by : Bool → ℕ
+flags_by short = if short then 1 else 0
+
+abbrev pub file_header : (e_flags e_entry e_phnum : ℕ) → List ℕ
+file_header e_flags e_entry e_phnum =
     let e_type = half 2 in  -- ET_EXEC
     let e_machine = half 243 in  -- EM_RISCV
     let e_version = word 1 in
     let e_phoff = word 52 in  -- the program headers follow
     let e_shoff = word 0 in
-    let e_flags = word 0 in
     let e_ehsize = half 52 in
     let e_phentsize = half 32 in
     let no_sections = half 0 ++ half 0 ++ half 0 in  -- e_shentsize, e_shnum, e_shstrndx
-    e_ident ++ e_type ++ e_machine ++ e_version ++ word e_entry ++ e_phoff ++ e_shoff ++ e_flags
-    ++ e_ehsize ++ e_phentsize ++ half e_phnum ++ no_sections
+    e_ident ++ e_type ++ e_machine ++ e_version ++ word e_entry ++ e_phoff ++ e_shoff
+    ++ word e_flags ++ e_ehsize ++ e_phentsize ++ half e_phnum ++ no_sections
 
 -- ---- a program header, of 32 bytes, of a part that is loaded
 
@@ -60,22 +56,28 @@ code_flags write = if write then 7 else 5
 abbrev pub data_flags : ℕ
 data_flags = 6
 
--- of so many words from a place in the file on
+-- of so many halfwords from a place in the file on
 abbrev pub code_header : Source → (p_offset count : ℕ) → List ℕ
 code_header source p_offset count =
-    program_header p_offset source.base (4 * count) (4 * count) (code_flags source.write)
+    program_header p_offset source.base (2 * count) (2 * count) (code_flags source.write)
 
 abbrev pub data_header : Data → (p_offset : ℕ) → List ℕ
 data_header d p_offset = program_header p_offset d.address (length d.bytes) (data_size d) data_flags
 
--- all headers, with a data part or without; then comes the code of so many words, then the data
+-- whether a halfword was given by itself
+abbrev pub is_short : Source → Bool
+is_short source = list_any is_half source.items
+
+-- all headers, with a data part or without; then comes the code of so many halfwords, then the data
 abbrev pub headers_by : Bool → Source → ℕ → List ℕ
-headers_by false source count = file_header source.base 1 ++ code_header source 84 count
-headers_by true source count = file_header source.base 2 ++ code_header source 116 count
-    ++ data_header source.data_part (116 + 4 * count)
+headers_by false source count =
+    file_header (flags_by (is_short source)) source.base 1 ++ code_header source 84 count
+headers_by true source count =
+    file_header (flags_by (is_short source)) source.base 2 ++ code_header source 116 count
+    ++ data_header source.data_part (116 + 2 * count)
 
 unfoldable pub file_of : Source → List ℕ → List ℕ
-file_of source words = headers_by (has_data source) source (length words) ++ code_of words
+file_of source code = headers_by (has_data source) source (count_of source.items) ++ code
     ++ source.data_part.bytes
 
 -- ---- where parts may be: from 0x1000 on, below the stack at 0xEFFF0000, and apart
@@ -88,14 +90,14 @@ do_meet address size other other_size = nat_lt address (other + other_size)
     && nat_lt other (address + size)
 
 abbrev pub is_code_placed : Source → Bool
-is_code_placed source = not (length source.items == 0)
-    && is_placed source.base (4 * length source.items)
+is_code_placed source = not (count_of source.items == 0)
+    && is_placed source.base (2 * count_of source.items)
 
 abbrev pub is_data_placed : Source → Bool
 is_data_placed source =
     let d = source.data_part in
     is_placed d.address (data_size d)
-    && not (do_meet source.base (4 * length source.items) d.address (data_size d))
+    && not (do_meet source.base (2 * count_of source.items) d.address (data_size d))
 
 -- there is code, and what there is can be where it is to be
 abbrev pub is_in_range : Source → Bool
@@ -104,7 +106,7 @@ is_in_range source = is_code_placed source && (not (has_data source) || is_data_
 -- ---- the answer
 
 abbrev pub file_by : Source → Result (List ℕ) AsmError → Result (List ℕ) AsmError
-file_by source (Ok words) = Ok (file_of source words)
+file_by source (Ok code) = Ok (file_of source code)
 file_by source (Err e) = Err e
 
 unfoldable pub finished : Source → Result (List ℕ) AsmError
@@ -113,9 +115,9 @@ finished source = if is_in_range source then file_by source (assembled source) e
 -- ---- what an image of the file has
 
 abbrev pub code_part : Source → List ℕ → Part
-code_part source words = record {
+code_part source code = record {
   address = source.base;
-  bytes = code_of words;
+  bytes = code;
   zeros = 0;
   write =
       source.write;
@@ -134,10 +136,10 @@ data_parts true d = record {
   index = 1;
 } ∷ []
 
--- it is entered at the base, which is the first word
+-- it is entered at the base, which is the first halfword
 abbrev pub image_of : Source → List ℕ → Image
-image_of source words = record {
+image_of source code = record {
   entry = source.base;
   parts =
-      code_part source words ∷ data_parts (has_data source) source.data_part;
+      code_part source code ∷ data_parts (has_data source) source.data_part;
 }

@@ -1,19 +1,21 @@
--- The words of a builder: an item stands at a place, counted from 0, and a jump or a branch goes to
--- the place of its label.
-use Rattle.std.specs.Prelude.{ℕ, suc, ◌*◌, ◌^◌, ◌-ℤ◌, ℤ, pos, negsuc, Bool, nat_lt, List, [], ◌∷◌}
+-- The code of a builder: an item stands at a place, counted in halfwords from 0, and a jump or a
+-- branch goes to the place of its label.
+use Rattle.std.specs.Prelude.{ℕ, ◌+◌, ◌++◌, ◌*◌, ◌^◌, ◌-ℤ◌, ℤ, pos, negsuc, Bool, nat_lt, List, []}
+use Rattle.std.specs.Prelude.{◌∷◌}
 use Rattle.std.specs.Prelude.{Option, Some, None, Result, Ok, Err, if◌then◌else◌}
+use Rattle.std.specs.Int.{w16, w32, to_le_bytes}
 use Rattle.rv_isa.specs.Encoding.{encoding}
 use Rattle.rv_isa.specs.declared.BranchOp.{BranchOp}
 use Rattle.rv_isa.specs.declared.Instr.TheVariants as instr
 use Rattle.rv_asm.specs.declared.error.AsmError.{AsmError}
 use Rattle.rv_asm.specs.declared.error.AsmError.TheVariants as error
 use Rattle.rv_asm.specs.declared.item.Item.{Item}
-use Rattle.rv_asm.specs.declared.item.Item.TheVariants.{Word, Jump, Branch}
-use Rattle.rv_asm.specs.Source.{Source, place_of}
+use Rattle.rv_asm.specs.declared.item.Item.TheVariants.{Half, Word, Jump, Branch}
+use Rattle.rv_asm.specs.Source.{Source, halves_in, place_of}
 
--- from one place to another in bytes: a word has 4
+-- from one place to another in bytes: a halfword has 2
 abbrev pub distance : (place target : ℕ) → ℤ
-distance place target = pos (4 * target) -ℤ pos (4 * place)
+distance place target = pos (2 * target) -ℤ pos (2 * place)
 
 -- from -limit to limit - 1
 abbrev pub fits : ℕ → ℤ → Bool
@@ -42,25 +44,40 @@ abbrev pub towards : (place label : ℕ) → (ℤ → Result ℕ AsmError) → O
 towards place label make None = Err (error.Unset label)
 towards place label make (Some target) = make (distance place target)
 
--- the word of an item at a place
+-- the number of an item at a place
 abbrev pub word_of : List (Option ℕ) → ℕ → Item → Result ℕ AsmError
+word_of labels place (Half value) = Ok value
 word_of labels place (Word value) = Ok value
 word_of labels place (Jump rd label) =
     towards place label (jump_by place rd) (place_of labels label)
 word_of labels place (Branch op rs1 rs2 label) =
     towards place label (branch_by place op rs1 rs2) (place_of labels label)
 
--- a word before others; of two errors the first
-abbrev pub before : Result ℕ AsmError → Result (List ℕ) AsmError → Result (List ℕ) AsmError
-before (Err e) rest = Err e
-before (Ok word) (Err e) = Err e
-before (Ok word) (Ok words) = Ok (word ∷ words)
+-- numbers of two and of four bytes, little-endian
+abbrev pub half : ℕ → List ℕ
+half n = to_le_bytes w16 n
 
--- the words of items from a place on
-unfoldable pub words_from : List (Option ℕ) → ℕ → List Item → Result (List ℕ) AsmError
-words_from labels place [] = Ok []
-words_from labels place (item ∷ items) =
-    before (word_of labels place item) (words_from labels (suc place) items)
+abbrev pub word : ℕ → List ℕ
+word n = to_le_bytes w32 n
+
+-- the bytes of an item by its number
+abbrev pub bytes_by : Item → ℕ → List ℕ
+bytes_by (Half value) n = half n
+bytes_by (Word value) n = word n
+bytes_by (Jump rd label) n = word n
+bytes_by (Branch op rs1 rs2 label) n = word n
+
+-- an item by its number, before others; of two errors the first
+abbrev pub before : Item → Result ℕ AsmError → Result (List ℕ) AsmError → Result (List ℕ) AsmError
+before item (Err e) rest = Err e
+before item (Ok n) (Err e) = Err e
+before item (Ok n) (Ok bytes) = Ok (bytes_by item n ++ bytes)
+
+-- the bytes of items from a place on
+unfoldable pub code_from : List (Option ℕ) → ℕ → List Item → Result (List ℕ) AsmError
+code_from labels place [] = Ok []
+code_from labels place (item ∷ items) =
+    before item (word_of labels place item) (code_from labels (place + halves_in item) items)
 
 abbrev pub assembled : Source → Result (List ℕ) AsmError
-assembled source = words_from source.labels 0 source.items
+assembled source = code_from source.labels 0 source.items

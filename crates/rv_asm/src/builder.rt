@@ -9,12 +9,13 @@ ghost use Rattle.rv_asm.specs.Source.{with_here, with_data};
 mod finish;
 
 use crate::item::{Item, Label};
+use crate::words::halves_in;
 use rv_isa::{BranchOp, Instr, encode};
 use std::alloc::{AllocError, Global};
 use std::marker::Model;
 
-/// How many words fit before a builder takes more memory.
-const FIRST_WORDS: usize = 64;
+/// How many items fit before a builder takes more memory.
+const FIRST_ITEMS: usize = 64;
 
 /// A file in the making. Contracts see what it was told: the base, the right to write, the items,
 /// for each label the place that it stands before, and the data part.
@@ -24,6 +25,8 @@ pub struct Builder {
     base: u32,
     write: bool,
     items: Vec<Item>,
+    // how many halfwords they have
+    count: usize,
     labels: Vec<Option<usize>>,
     address: u32,
     bytes: Vec<u8>,
@@ -45,7 +48,7 @@ impl Model for Builder {
           record { address = b.address; bytes = b.bytes.items; zeros = b.zeros };
     } };
 
-    ghost invariant = { λ b. IsSource b.base b.items.items };
+    ghost invariant = { λ b. IsSource b.base b.items.items b.count };
 }
 
 impl Builder {
@@ -59,7 +62,8 @@ impl Builder {
             alloc,
             base,
             write,
-            items: Vec::with_capacity(alloc, FIRST_WORDS)?,
+            items: Vec::with_capacity(alloc, FIRST_ITEMS)?,
+            count: 0,
             labels: Vec::new(alloc),
             address: 0,
             bytes: Vec::new(alloc),
@@ -87,13 +91,13 @@ impl Builder {
         self.labels[label.number as usize].is_some()
     }
 
-    /// The unset label of this builder stands before the next word.
+    /// The unset label of this builder stands before the next halfword.
     pub fn here(&mut self, label: Label)
         requires made { label.number < length self.old.labels }
         requires unset { IsNone (place_of self.old.labels label.number) }
         ensures { self.new ≡ with_here self.old label.number }
     {
-        self.labels[label.number as usize] = Some(self.items.len());
+        self.labels[label.number as usize] = Some(self.count);
     }
 
     // One item more.
@@ -103,7 +107,16 @@ impl Builder {
         ensures err { OnErr result (self.new ≡ self.old) }
     {
         self.items.push(item)?;
+        self.count += halves_in(&item);
         Ok(())
+    }
+
+    /// The halfword goes last.
+    pub fn half(&mut self, value: u16) -> Result<(), AllocError>
+        ensures ok { OnOk result (self.new ≡ with_item self.old (Item.Half value)) }
+        ensures err { OnErr result (self.new ≡ self.old) }
+    {
+        self.add(Item::Half(value))
     }
 
     /// The word of a valid instruction goes last.

@@ -3,14 +3,15 @@
 use std::alloc::AllocError;
 
 /// Why a builder has no file. The first three are tested in this order, and the last two of them
-/// word by word.
+/// item by item. It names a label by its number, and a word by the place of its first halfword,
+/// counted in halfwords from the base.
 #[derive(Clone, Copy, Debug, PartialEq, Eq)]
 pub enum AsmError {
     /// There is no code, a part is not within 0x1000 to 0xEFFEFFFF, or the two parts meet.
     Range,
     /// A word names the label with this number, which is not set.
     Unset(u32),
-    /// The word at this place, counted from 0, goes too far for its format.
+    /// The word at this place goes too far for its format.
     Reach(u32),
     /// There was no memory for the file.
     Memory,

@@ -1,7 +1,8 @@
 //! The headers of a file, field by field.
 
 ghost use Rattle.std.specs.Prelude.{◌≡◌, ◌++◌, OnOk, flat_map};
-ghost use Rattle.rv_asm.specs.File.{half, word, code_of, file_header, program_header};
+ghost use Rattle.rv_asm.specs.File.{code_of, file_header, program_header};
+ghost use Rattle.rv_asm.specs.Words.{half, word};
 
 use std::alloc::AllocError;
 
@@ -59,12 +60,17 @@ pub fn put_words(file: &mut Vec<u8>, values: &[u32]) -> Result<(), AllocError>
 }
 
 /// Adds the file header, of a file with so many program headers behind it and no sections.
-pub fn put_file_header(file: &mut Vec<u8>, entry: u32, headers: u16) -> Result<(), AllocError>
-    ensures { OnOk result (file.new.items ≡ file.old.items ++ file_header entry headers) }
+pub fn put_file_header(
+    file: &mut Vec<u8>,
+    flags: u32,
+    entry: u32,
+    headers: u16,
+) -> Result<(), AllocError>
+    ensures { OnOk result (file.new.items ≡ file.old.items ++ file_header flags entry headers) }
 {
     file.extend_from_slice(&IDENT)?;
     put_halves(file, &[ET_EXEC, EM_RISCV])?;
-    put_words(file, &[EV_CURRENT, entry, FILE_HEADER, 0, 0])?;
+    put_words(file, &[EV_CURRENT, entry, FILE_HEADER, 0, flags])?;
     put_halves(
         file,
         &[FILE_HEADER as u16, PROGRAM_HEADER as u16, headers, 0, 0, 0],

@@ -1,4 +1,4 @@
-//! What a word is made of.
+//! What code is made of.
 
 use rv_isa::BranchOp;
 
@@ -8,9 +8,11 @@ pub struct Label {
     pub number: u32,
 }
 
-/// What a word is made of. Labels go by their numbers, and registers are below 32.
+/// What code is made of. Labels go by their numbers, and registers are below 32.
 #[derive(Clone, Copy)]
 pub enum Item {
+    /// The halfword itself.
+    Half(u16),
     /// The word itself.
     Word(u32),
     /// A jal to the label.

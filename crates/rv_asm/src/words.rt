@@ -1,41 +1,66 @@
-//! The words of a builder.
+//! The code of a builder.
 
 ghost use Rattle.std.specs.Prelude.{◌≡◌, ◌≢◌, ◌<◌, ◌≤◌, ◌*◌, ◌^◌, ◌↔◌, Ok, Err, All, length, ◌++◌};
 ghost use Rattle.std.specs.Prelude.{◌∷◌, [], OnOk, IfOk, IfErr, IfSome, IfNone, true, false};
 ghost use Rattle.rv_isa.specs.Valid.{IsRegister, IsBranchOffset, IsJumpOffset};
-ghost use Rattle.rv_asm.specs.Source.{HasRegisters, place_of};
+ghost use Rattle.rv_asm.specs.Source.{HasRegisters, count_of, halves_in, is_half, place_of};
 ghost use Rattle.rv_asm.specs.Words.{branch_by, branch_limit, distance, fits, jump_by, jump_limit};
-ghost use Rattle.rv_asm.specs.Words.{word_of, words_from};
+ghost use Rattle.rv_asm.specs.Words.{bytes_by, code_from, word_of};
 
 use crate::error::AsmError;
 use crate::item::Item;
 use rv_isa::{BranchOp, Instr, encode};
 use std::alloc::{AllocError, Global};
 
-/// How many words a branch reaches back, and one more than it reaches ahead.
-const BRANCH_WORDS: usize = 1024;
+/// How many halfwords a branch reaches back, and one more than it reaches ahead.
+const BRANCH_HALVES: usize = 2048;
 
 /// The same of a jump.
-const JUMP_WORDS: usize = 0x4_0000;
+const JUMP_HALVES: usize = 0x8_0000;
 
-// The bytes from one place to another, if that is at most so many words back and fewer ahead.
-fn offset(place: usize, target: usize, words: usize) -> Option<i32>
-    requires { words ≤ 2 ^ 18 }
+/// How many halfwords an item has.
+pub fn halves_in(item: &Item) -> usize
+    ensures value { result ≡ halves_in item.now }
+    ensures range { result ≤ 2 }
+{
+    match item {
+        Item::Half(_) => 1,
+        Item::Word(_) => 2,
+        Item::Jump { .. } => 2,
+        Item::Branch { .. } => 2,
+    }
+}
+
+/// Whether an item is a halfword.
+pub fn is_half(item: &Item) -> bool
+    ensures { result ≡ is_half item.now }
+{
+    match item {
+        Item::Half(_) => true,
+        Item::Word(_) => false,
+        Item::Jump { .. } => false,
+        Item::Branch { .. } => false,
+    }
+}
+
+// The bytes from one place to another, if that is at most so many halfwords back and fewer ahead.
+fn offset(place: usize, target: usize, halves: usize) -> Option<i32>
+    requires { halves ≤ 2 ^ 19 }
     ensures near { IfSome result (λ offset. offset ≡ distance place target) }
-    ensures fits { IfSome result (λ offset. fits (4 * words) (distance place target) ≡ true) }
-    ensures far { IfNone result (fits (4 * words) (distance place target) ≡ false) }
+    ensures fits { IfSome result (λ offset. fits (2 * halves) (distance place target) ≡ true) }
+    ensures far { IfNone result (fits (2 * halves) (distance place target) ≡ false) }
 {
     if target >= place {
         let ahead = target - place;
-        if ahead < words {
-            Some(4 * ahead as i32)
+        if ahead < halves {
+            Some(2 * ahead as i32)
         } else {
             None
         }
     } else {
         let back = place - target;
-        if back <= words {
-            Some(-4 * back as i32)
+        if back <= halves {
+            Some(-2 * back as i32)
         } else {
             None
         }
@@ -46,7 +71,7 @@ fn jump_word(place: u32, rd: u8, target: usize) -> Result<u32, AsmError>
     requires { rd < 32 }
     ensures { result ≡ jump_by place rd (distance place target) }
 {
-    match offset(place as usize, target, JUMP_WORDS) {
+    match offset(place as usize, target, JUMP_HALVES) {
         Some(offset) => Ok(encode(&Instr::Jal { rd, offset })),
         None => Err(AsmError::Reach(place)),
     }
@@ -57,7 +82,7 @@ fn branch_word(place: u32, op: BranchOp, rs1: u8, rs2: u8, target: usize) -> Res
     requires rs2 { rs2 < 32 }
     ensures { result ≡ branch_by place op rs1 rs2 (distance place target) }
 {
-    match offset(place as usize, target, BRANCH_WORDS) {
+    match offset(place as usize, target, BRANCH_HALVES) {
         Some(offset) => Ok(encode(&Instr::Branch {
             op,
             rs1,
@@ -78,12 +103,13 @@ fn place_of(labels: &[Option<usize>], label: u32) -> Option<usize>
     }
 }
 
-// The word of the item at this place.
+// The number of the item at this place.
 fn word_of(labels: &[Option<usize>], place: u32, item: &Item) -> Result<u32, AsmError>
     requires { HasRegisters item.now }
     ensures { result ≡ word_of labels.now place item.now }
 {
     match *item {
+        Item::Half(value) => Ok(u32::from(value)),
         Item::Word(value) => Ok(value),
         Item::Jump { rd, label } => match place_of(labels, label) {
             Some(target) => jump_word(place, rd, target),
@@ -101,29 +127,33 @@ fn word_of(labels: &[Option<usize>], place: u32, item: &Item) -> Result<u32, Asm
     }
 }
 
-// One word more.
-fn add(words: &mut Vec<u32>, word: u32) -> Result<(), AllocError>
-    ensures { OnOk result (words.new.items ≡ words.old.items ++ word ∷ []) }
+// The bytes of one item more, by its number.
+fn add(code: &mut Vec<u8>, item: &Item, number: u32) -> Result<(), AllocError>
+    ensures { OnOk result (code.new.items ≡ code.old.items ++ bytes_by item.now number) }
 {
-    words.push(word)?;
-    Ok(())
+    let [first, second, third, fourth] = number.to_le_bytes();
+    match item {
+        Item::Half(_) => code.extend_from_slice(&[first, second]),
+        Item::Word(_) => code.extend_from_slice(&[first, second, third, fourth]),
+        Item::Jump { .. } => code.extend_from_slice(&[first, second, third, fourth]),
+        Item::Branch { .. } => code.extend_from_slice(&[first, second, third, fourth]),
+    }
 }
 
-/// The words of the items, the first at place 0.
-pub fn words_of(
-    alloc: Global,
-    labels: &[Option<usize>],
-    items: &[Item],
-) -> Result<Vec<u32>, AsmError>
-    requires few { length items.now < 2 ^ 32 }
+/// The bytes of the items, the first at place 0.
+pub fn code_of(alloc: Global, labels: &[Option<usize>], items: &[Item]) -> Result<Vec<u8>, AsmError>
+    requires few { count_of items.now < 2 ^ 32 }
     requires registers { All HasRegisters items.now }
-    ensures ok { IfOk result (λ words. words_from labels.now 0 items.now ≡ Ok words.items) }
+    ensures ok { IfOk result (λ code. code_from labels.now 0 items.now ≡ Ok code.items) }
     ensures refused { IfErr result (λ error. error ≢ AsmError.Memory
-        → words_from labels.now 0 items.now ≡ Err error) }
+        → code_from labels.now 0 items.now ≡ Err error) }
 {
-    let mut words = Vec::with_capacity(alloc, items.len())?;
-    for (place, item) in items.iter().enumerate() {
-        add(&mut words, word_of(labels, place as u32, item)?)?;
+    let mut code = Vec::new(alloc);
+    let mut place = 0;
+    for item in items {
+        let number = word_of(labels, place, item)?;
+        add(&mut code, item, number)?;
+        place += halves_in(item) as u32;
     }
-    Ok(words)
+    Ok(code)
 }

@@ -24,7 +24,8 @@ use Rattle.rv_exec.proofs.Forms.{Wrote, own-frame, Ok-is, written_length}
 use Rattle.rv_isa.specs.declared.Instr.{Instr}
 use Rattle.rv_exec.specs.Effect.{Effect, goes, loads, stores, claims, stops, effect}
 use Rattle.rv_exec.specs.Step.{step, step_of, step_by, performed, reached, place_or_reason, half_at}
-use Rattle.rv_exec.specs.Step.{whole_word, instruction_at, paid, paid_by, with_word, ◌>>=◌}
+use Rattle.rv_exec.specs.Step.{whole_word, lone_half, instruction_at, paid, paid_by, with_word}
+use Rattle.rv_exec.specs.Step.{◌>>=◌}
 use Rattle.rv_exec.proofs.Keeps.{bind_ok, within, at≢fault, at≢foreign, reached-at, length-bytes_of}
 use Rattle.rv_exec.proofs.Keeps.{Own, store, claim, reach-own}
 
@@ -143,7 +144,7 @@ module _ (w : World) (t : ℕ) (b : List ℕ) (threads : List (Option Thread))
     where
       by_low : Result ℕ Reason → ℕ → Result (Option Instr × ℕ) Reason
       by_low second low =
-          cond (eqb (low % 4) 3) (second >>= λ high. Ok (whole_word low high)) (Ok (None, 2))
+          cond (eqb (low % 4) 3) (second >>= λ high. Ok (whole_word low high)) (Ok (lone_half low))
 
   -- an access that stops goes on to stop
   still_stops : {B : Type 0} (a : ℕ) (size : Size) (x : Access) (f g : ℕ → Result B Reason)

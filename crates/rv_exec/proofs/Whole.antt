@@ -1,22 +1,21 @@
--- One instruction by its word: what is fetched, and then done.
-use Rattle.std.proofs.Common.{ℕ, ◌+◌, ◌*◌, ◌%◌, ◌^◌, ◌≡◌, ◌≢◌, refl, sym, ap, ◌∙◌, subst, cond}
+-- One instruction by its code: what is fetched, and then done.
+use Rattle.std.proofs.Common.{ℕ, ◌+◌, ◌*◌, ◌%◌, ◌^◌, ◌≡◌, refl, sym, ap, ◌∙◌, subst, cond}
 use Rattle.std.proofs.Common.{Bool, true, false, eqb, eq-eqb, Option, Some, None, Result, Ok, Err}
 use Rattle.std.proofs.Common.{arith}
-use Rattle.std.specs.Prelude.{bit_and}
-use Rattle.std.proofs.lemmas.Bool.{both_ways}
-use Rattle.std.proofs.lemmas.Nat.{and_mask}
+use Rattle.std.specs.Prelude.{option_map}
+use Rattle.std.proofs.lemmas.Bool.{eqb-true}
 use Rattle.dos_world.specs.World.{World, Registers}
 use Rattle.dos_world.specs.declared.Reason.{Reason}
 use Rattle.dos_world.specs.declared.Reason.TheVariants.{Fault}
 use Rattle.rv_isa.specs.Meaning.{meaning}
-use Rattle.rv_isa.proofs.ByOpcode.{meaning_none}
+use Rattle.rv_isa.specs.Compressed.{expansion, instruction, sized}
 use Rattle.rv_isa.specs.declared.Instr.{Instr}
 use Rattle.rv_exec.specs.declared.Went.TheVariants.{Stop}
 use Rattle.rv_exec.specs.Effect.{effect}
-use Rattle.rv_exec.specs.Step.{◌>>=◌, half_at}
+use Rattle.rv_exec.specs.Step.{◌>>=◌, half_at, lone_half}
 use Rattle.rv_exec.specs.Over.{one_in, effect_in, world_answers}
 use Rattle.rv_exec.specs.Follows.{Follows, word_at}
-use Rattle.rv_exec.specs.Instruction.{effect_of_word, effect_by}
+use Rattle.rv_exec.specs.Instruction.{effect_by, effect_of_code}
 
 pub follows_err : (shows : World → Type 0) (w : World) (old : Registers) (reason : Reason)
     (o : Result (Registers × World) Reason) → o ≡ Err reason → shows w
@@ -25,15 +24,19 @@ follows_err shows w old reason o e s =
     subst (λ (x : Result (Registers × World) Reason). Follows shows w old old (Stop reason) x)
     (sym e) (record { went_is = refl; registers = refl; world = s })
 
--- A halfword whose low two bits aren't 11 is no word's, so it has none of the opcodes.
-lone-means-nothing : (word : ℕ) → word % 4 ≢ 3 → meaning word ≡ None
-lone-means-nothing word alone =
-    meaning_none word (other 0x37 refl) (other 0x17 refl) (other 0x6F refl) (other 0x67 refl)
-    (other 0x63 refl) (other 0x03 refl) (other 0x23 refl) (other 0x13 refl)
-    (other 0x33 refl) (other 0x0F refl) (other 0x73 refl) (other 0x2F refl)
-  where
-    other : (o : ℕ) → o % 4 ≡ 3 → bit_and word 127 ≢ o
-    other o odd is = alone (omega (arith, and_mask word 7, is, odd))
+-- a code is a word where its low halfword says so
+code_whole : (low high : ℕ) → eqb (low % 4) 3 ≡ true
+    → instruction (low + 2 ^ 16 * high) ≡ option_map (sized 4) (meaning (low + 2 ^ 16 * high))
+code_whole low high is =
+    let code = low + 2 ^ 16 * high in
+    let same : code % 4 ≡ 3 = omega (arith, eqb-true (low % 4) 3 is) in
+    ap (λ b. cond b (option_map (sized 4) (meaning code)) (option_map (sized 2) (expansion code)))
+    (eq-eqb (code % 4) 3 same)
+
+code_lone : (low : ℕ) → eqb (low % 4) 3 ≡ false
+    → instruction low ≡ option_map (sized 2) (expansion low)
+code_lone low is =
+    ap (λ b. cond b (option_map (sized 4) (meaning low)) (option_map (sized 2) (expansion low))) is
 
 module _ (w : World) (t : ℕ) (r : Registers) where
   abbrev rest : Option Instr × ℕ → Result (Registers × World) Reason
@@ -49,17 +52,18 @@ module _ (w : World) (t : ℕ) (r : Registers) where
   abbrev found_in : Result ℕ Reason → Result ℕ Reason → Result (Option Instr × ℕ) Reason
   found_in first second =
       first >>= λ low. cond (eqb (low % 4) 3)
-      (second >>= λ high. Ok (meaning (low + 2 ^ 16 * high), 4)) (Ok (None, 2))
+      (second >>= λ high. Ok (meaning (low + 2 ^ 16 * high), 4)) (Ok (lone_half low))
 
   abbrev decoded : ℕ → ℕ → Result (Option Instr × ℕ) Reason
   decoded low high = Ok (meaning (low + 2 ^ 16 * high), 4)
 
-  abbrev nothing : Result (Option Instr × ℕ) Reason
-  nothing = Ok (None, 2)
+  abbrev alone : ℕ → Result (Option Instr × ℕ) Reason
+  alone low = Ok (lone_half low)
 
-  by_effect : (o : Option Instr) → rest (o, 4) ≡ effect_in (world_answers t) w (effect_by o 4 r)
-  by_effect None = refl
-  by_effect (Some instr) = refl
+  by_effect : (o : Option Instr) (size : ℕ)
+      → rest (o, size) ≡ effect_in (world_answers t) w (effect_by (option_map (sized size) o) r)
+  by_effect None size = refl
+  by_effect (Some instr) size = refl
 
   err_by : (first second : Result ℕ Reason) (reason : Reason) → Err reason ≡ words first second
       → found_in first second ≡ Err reason
@@ -68,30 +72,30 @@ module _ (w : World) (t : ℕ) (r : Registers) where
     where
       by_test : (b : Bool) (second : Result ℕ Reason)
           → Err reason ≡ cond b (second >>= λ high. Ok (low + 2 ^ 16 * high)) (Ok low)
-          → cond b (second >>= decoded low) nothing ≡ Err reason
+          → cond b (second >>= decoded low) (alone low) ≡ Err reason
       by_test true (Ok high) q = cc
       by_test true (Err other) q = let e : other ≡ reason = cc in ap (λ x. Err x) e
       by_test false second q = cc
 
-  -- a lone halfword is found as nothing, and means nothing as a word
   ok_by : (first second : Result ℕ Reason) (word : ℕ) → Ok word ≡ words first second
-      → (found_in first second >>= rest) ≡ effect_in (world_answers t) w (effect_of_word word r)
+      → (found_in first second >>= rest) ≡ effect_in (world_answers t) w (effect_of_code word r)
   ok_by (Err other) second word q = cc
   ok_by (Ok low) second word q = by_test (eqb (low % 4) 3) refl second q
     where
       by_test : (b : Bool) → eqb (low % 4) 3 ≡ b → (second : Result ℕ Reason)
           → Ok word ≡ cond b (second >>= λ high. Ok (low + 2 ^ 16 * high)) (Ok low)
-          → (cond b (second >>= decoded low) nothing >>= rest)
-          ≡ effect_in (world_answers t) w (effect_of_word word r)
+          → (cond b (second >>= decoded low) (alone low) >>= rest)
+          ≡ effect_in (world_answers t) w (effect_of_code word r)
       by_test true is (Ok high) q = let e : word ≡ low + 2 ^ 16 * high = cc in
-          ap (λ x. rest (meaning x, 4)) (sym e) ∙ by_effect (meaning word)
+          by_effect (meaning (low + 2 ^ 16 * high)) 4
+          ∙ ap (λ o. effect_in (world_answers t) w (effect_by o r)) (sym (code_whole low high is))
+          ∙ ap (λ x. effect_in (world_answers t) w (effect_of_code x r)) (sym e)
       by_test true is (Err other) q = cc
       by_test false is second q =
           let e : word ≡ low = cc in
-          let none = lone-means-nothing word
-          (λ h. both_ways (eqb (low % 4) 3) is
-          (eq-eqb (low % 4) 3 (ap (λ x. x % 4) (sym e) ∙ h))) in
-          ap (λ x. effect_in (world_answers t) w (effect_by x 4 r)) (sym none)
+          by_effect (expansion low) 2
+          ∙ ap (λ o. effect_in (world_answers t) w (effect_by o r)) (sym (code_lone low is))
+          ∙ ap (λ x. effect_in (world_answers t) w (effect_of_code x r)) (sym e)
 
   pub one_err : (reason : Reason) → Err reason ≡ word_at w t r.pc
       → one_in (world_answers t) r w ≡ Err reason
@@ -99,5 +103,5 @@ module _ (w : World) (t : ℕ) (r : Registers) where
       (err_by (half_at w t r.pc) (half_at w t ((r.pc + 2) % 2 ^ 32)) reason h)
 
   pub one_word : (word : ℕ) → Ok word ≡ word_at w t r.pc
-      → one_in (world_answers t) r w ≡ effect_in (world_answers t) w (effect_of_word word r)
+      → one_in (world_answers t) r w ≡ effect_in (world_answers t) w (effect_of_code word r)
   one_word word h = ok_by (half_at w t r.pc) (half_at w t ((r.pc + 2) % 2 ^ 32)) word h

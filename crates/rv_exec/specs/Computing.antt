@@ -3,8 +3,10 @@
 use Rattle.dos_world.specs.Kernel.{zero_page}
 use Rattle.dos_world.specs.Services.{services}
 use Rattle.rv_isa.specs.Meaning.{meaning, found, rows, base_rows}
+use Rattle.rv_isa.specs.Compressed as compressed
+use Rattle.rv_isa.specs.Compressed.{expansion}
 use Rattle.rv_exec.specs.Effect.{effect}
 
 unfoldable pub computing : Unit {0}
-unfolding meaning found rows base_rows effect services zero_page
+unfolding meaning found rows base_rows expansion compressed.rows effect services zero_page
 computing = tt

@@ -1,9 +1,9 @@
--- One instruction by its word. This project's own way to put the manual's instructions.
+-- One instruction by its code. This project's own way to put the manual's instructions.
 use Rattle.std.specs.Prelude.{ℕ, ◌≡◌, Option, Some, None}
 use Rattle.dos_world.specs.World.{World, Registers}
 use Rattle.dos_world.specs.declared.Reason.TheVariants.{Fault}
 use Rattle.rv_isa.specs.declared.Instr.{Instr}
-use Rattle.rv_isa.specs.Meaning.{meaning}
+use Rattle.rv_isa.specs.Compressed.{instruction}
 use Rattle.rv_form.specs.declared.form.Form.{Form}
 use Rattle.rv_form.specs.Forms.{instr_of_form}
 use Rattle.rv_exec.specs.Effect.{Effect, goes, loads, stores, claims, stops, effect}
@@ -12,18 +12,19 @@ use Rattle.rv_exec.specs.Follows.{Follows}
 use Rattle.rv_exec.specs.declared.Went.{Went}
 use Rattle.rv_exec.specs.declared.Went.TheVariants.{Step, Stop}
 
--- what is done with what a word means: a word without a meaning is an illegal instruction, fault 4
-abbrev pub effect_by : Option Instr → ℕ → Registers → Effect
-effect_by None size r = stops (Fault 4)
-effect_by (Some instr) size r = effect instr size r
+-- what is done with what a code means, an instruction and its size: a code without a meaning is an
+-- illegal instruction, fault 4
+abbrev pub effect_by : Option (Instr × ℕ) → Registers → Effect
+effect_by None r = stops (Fault 4)
+effect_by (Some found) r = effect found.0 found.1 r
 
--- what a word of four bytes does
-abbrev pub effect_of_word : ℕ → Registers → Effect
-effect_of_word word r = effect_by (meaning word) 4 r
+-- what a code does, a word of four bytes or a halfword alone
+abbrev pub effect_of_code : ℕ → Registers → Effect
+effect_of_code code r = effect_by (instruction code) r
 
 -- what a form does
 abbrev pub effect_of_form : Form → Registers → Effect
-effect_of_form form r = effect_by (instr_of_form form) 4 r
+effect_of_form form r = effect_by (instr_of_form form) r
 
 -- The registers old became new with this answer, as an effect says that makes no access to memory.
 abbrev pub Settles : Went → Registers → Registers → Effect → Type 0

@@ -32,3 +32,26 @@ abbrev pub IsMultiplication : Op → Type 0
 IsMultiplication o =
     (o ≡ op.Mul) ⊎ (o ≡ op.Mulh) ⊎ (o ≡ op.Mulhsu) ⊎ (o ≡ op.Mulhu) ⊎ (o ≡ op.Div)
     ⊎ (o ≡ op.Divu) ⊎ (o ≡ op.Rem) ⊎ (o ≡ op.Remu)
+
+-- ---- those of the instructions of two bytes
+
+-- on a register and a constant
+abbrev pub IsShortImmediate : Op → Type 0
+IsShortImmediate o =
+    (o ≡ op.ShortLui) ⊎ (o ≡ op.ShortAddi) ⊎ (o ≡ op.ShortAndi) ⊎ (o ≡ op.ShortSlli)
+    ⊎ (o ≡ op.ShortSrli) ⊎ (o ≡ op.ShortSrai)
+
+-- on two registers
+abbrev pub IsShortRegister : Op → Type 0
+IsShortRegister o =
+    (o ≡ op.ShortAdd) ⊎ (o ≡ op.ShortSub) ⊎ (o ≡ op.ShortXor) ⊎ (o ≡ op.ShortOr)
+    ⊎ (o ≡ op.ShortAnd)
+
+-- jumps and branches
+abbrev pub IsShortJump : Op → Type 0
+IsShortJump o =
+    (o ≡ op.ShortJal) ⊎ (o ≡ op.ShortJalr) ⊎ (o ≡ op.ShortBeq) ⊎ (o ≡ op.ShortBne)
+
+-- loads and stores
+abbrev pub IsShortAccess : Op → Type 0
+IsShortAccess o = (o ≡ op.ShortLw) ⊎ (o ≡ op.ShortSw)

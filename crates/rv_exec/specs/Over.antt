@@ -10,6 +10,7 @@ use Rattle.dos_world.specs.declared.Reason.TheVariants.{Fault}
 use Rattle.rv_isa.specs.declared.Instr.{Instr}
 use Rattle.rv_exec.specs.Effect.{Effect, goes, loads, stores, claims, stops, effect}
 use Rattle.rv_exec.specs.Step.{◌>>=◌, half_at, load_at, store_at, claim_at, whole_word}
+use Rattle.rv_exec.specs.Step.{lone_half}
 
 -- ---- any memory
 
@@ -26,7 +27,7 @@ abbrev pub instruction_in : {M : Type 0} → MemoryAnswers M → M → ℕ
 instruction_in answers m pc = do
   low ← answers.fetch m pc
   if low % 4 == 3 then (answers.fetch m ((pc + 2) % 2 ^ 32)
-      >>= λ high. Ok (whole_word low high)) else Ok (None, 2)
+      >>= λ high. Ok (whole_word low high)) else Ok (lone_half low)
 
 -- a word stored, where there is one
 abbrev pub store_if : {M : Type 0} → MemoryAnswers M → M → ℕ → Option ℕ → Result M Reason

@@ -13,6 +13,7 @@ use Rattle.dos_world.specs.declared.Reason.{Reason}
 use Rattle.dos_world.specs.declared.Reason.TheVariants.{Page, Fault, Service}
 use Rattle.rv_isa.specs.declared.Instr.{Instr}
 use Rattle.rv_isa.specs.Meaning.{meaning}
+use Rattle.rv_isa.specs.Compressed.{expansion}
 use Rattle.rv_exec.specs.Effect.{Effect, goes, loads, stores, claims, stops, effect}
 
 -- ---- one thing and then another, unless the first is a reason to stop
@@ -60,13 +61,18 @@ claim_at w t address = reached w t address Word Claim >>= λ place. Ok (loaded w
 abbrev pub whole_word : ℕ → ℕ → Option Instr × ℕ
 whole_word low high = (meaning (low + 2 ^ 16 * high), 4)
 
+-- an instruction of two bytes by its halfword. Section 1.5.
+abbrev pub lone_half : ℕ → Option Instr × ℕ
+lone_half low = (expansion low, 2)
+
 -- The instruction at pc, where its bytes mean one, and its size in bytes. A halfword whose low two
--- bits aren't 11 means none; else it and the next one are the word, which may lie on two pages.
+-- bits aren't 11 is one of two bytes; else it and the next one are the word, which may lie on two
+-- pages.
 abbrev pub instruction_at : World → ℕ → ℕ → Result (Option Instr × ℕ) Reason
 instruction_at w t pc = do
   low ← half_at w t pc
   if low % 4 == 3 then (half_at w t ((pc + 2) % 2 ^ 32) >>= λ high. Ok (whole_word low high)) else
-      Ok (None, 2)
+      Ok (lone_half low)
 
 -- ---- the step
 

@@ -9,6 +9,9 @@ ghost use Rattle.std.specs.Prelude.{◌≡◌};
 use crate::next::{fault, service};
 use crate::on_memory::{atomic, load, store};
 use crate::on_registers::{auipc, branch, immediate, jal, jalr, lui, register, shift};
+use crate::short_perform::{
+    short_access_by_form, short_immediate_by_form, short_jump_by_form, short_register_by_form,
+};
 use crate::{Memory, Next, Went};
 use dos_world::{Reason, Regs};
 use rv_form::{Form, Op};
@@ -141,8 +144,8 @@ pub fn perform_form<M: Memory>(
         Op::Illegal => fault(why, 4),
         Op::Lui => lui(regs, form),
         Op::Auipc => auipc(regs, form, pc),
-        Op::Jal => jal(regs, form, pc, why),
-        Op::Jalr => jalr(regs, form, pc, why),
+        Op::Jal => jal(regs, form, pc, 4, why),
+        Op::Jalr => jalr(regs, form, pc, 4, why),
         Op::Beq => branch(regs, form, pc, BranchOp::Beq, why),
         Op::Bne => branch(regs, form, pc, BranchOp::Bne, why),
         Op::Blt => branch(regs, form, pc, BranchOp::Blt, why),
@@ -187,6 +190,20 @@ pub fn perform_form<M: Memory>(
         | Op::AmomaxW
         | Op::AmominuW
         | Op::AmomaxuW => amo_by_form(regs, memory, form, why),
+        Op::ShortJal | Op::ShortJalr | Op::ShortBeq | Op::ShortBne => {
+            short_jump_by_form(regs, form, pc, why)
+        }
+        Op::ShortLw | Op::ShortSw => short_access_by_form(regs, memory, form, why),
+        Op::ShortLui
+        | Op::ShortAddi
+        | Op::ShortAndi
+        | Op::ShortSlli
+        | Op::ShortSrli
+        | Op::ShortSrai => short_immediate_by_form(regs, form),
+        Op::ShortAdd | Op::ShortSub | Op::ShortXor | Op::ShortOr | Op::ShortAnd => {
+            short_register_by_form(regs, form)
+        }
+        Op::ShortEbreak => fault(why, 5),
     }
 }
 
@@ -199,6 +216,10 @@ pub fn arrive(regs: &mut Regs, pc: u32, next: Next, why: Reason) -> Went
     match next {
         Next::On => {
             regs.set_pc(pc.wrapping_add(4));
+            Went::Step
+        }
+        Next::Short => {
+            regs.set_pc(pc.wrapping_add(2));
             Went::Step
         }
         Next::To(target) => {

@@ -11,6 +11,7 @@ mod on_memory;
 mod on_registers;
 mod one_page;
 mod perform;
+mod short_perform;
 
 use dos_world::Reason;
 pub use memory::Memory;

@@ -7,7 +7,7 @@ ghost use Rattle.rv_exec.specs.Effect as effects;
 ghost use Rattle.rv_exec.specs.Effect.{effect, combined, onward};
 ghost use Rattle.rv_exec.specs.Over.{effect_in, world_answers};
 ghost use Rattle.rv_exec.specs.Follows.{Follows};
-ghost use Rattle.rv_exec.specs.Arrivals.{PerformsAt};
+ghost use Rattle.rv_exec.specs.Arrivals.{PerformsAt, PerformsBy};
 
 use crate::numbers::{greater, lesser, load_result, load_size, store_size};
 use crate::on_registers::{first, put, second};
@@ -34,8 +34,9 @@ pub fn load<M: Memory>(
     op: LoadOp,
     why: &mut Reason,
 ) -> Next
-    ensures { (pc : ℕ) → PerformsAt (M.shows memory.old) (M.shows memory.new) pc regs.old regs.new
-        result why.new (effect (Load op form.now.rd form.now.rs1 form.now.imm) 4) }
+    ensures { (size pc : ℕ) → PerformsBy (M.shows memory.old) (M.shows memory.new) size pc
+        regs.old regs.new result why.new
+        (effect (Load op form.now.rd form.now.rs1 form.now.imm) size) }
 {
     let address = address_of(regs, form);
     match memory.load(address, load_size(op)) {
@@ -59,9 +60,10 @@ pub fn store<M: Memory>(
     op: StoreOp,
     why: &mut Reason,
 ) -> Next
-    ensures { (pc : ℕ) → PerformsAt (M.shows memory.old) (M.shows memory.new) pc regs.now regs.now
-        result why.new (λ r. effects.stores (effects.plus (get r form.now.rs1) form.now.imm)
-        (effects.store_size op) (get r form.now.rs2) (onward 4 r)) }
+    ensures { (size pc : ℕ) → PerformsBy (M.shows memory.old) (M.shows memory.new) size pc
+        regs.now regs.now result why.new
+        (λ r. effects.stores (effects.plus (get r form.now.rs1) form.now.imm)
+        (effects.store_size op) (get r form.now.rs2) (onward size r)) }
 {
     let address = address_of(regs, form);
     let value = second(regs, form);

@@ -7,7 +7,7 @@ ghost use Rattle.rv_isa.specs.declared.Instr.TheVariants.{Upper, Jal, Jalr, Bran
 ghost use Rattle.rv_isa.specs.declared.Instr.TheVariants.{Reg};
 ghost use Rattle.rv_exec.specs.Effect as effects;
 ghost use Rattle.rv_exec.specs.Effect.{effect};
-ghost use Rattle.rv_exec.specs.Arrivals.{SettlesAt};
+ghost use Rattle.rv_exec.specs.Arrivals.{SettlesBy};
 
 use crate::Next;
 use crate::next::fault;
@@ -44,12 +44,19 @@ pub fn put(regs: &mut Regs, form: &Form, value: u32)
 /// A jump that leaves the address of the next instruction in the register that is written.
 #[inline(always)]
 #[tactic(auto, using(crate::proofs::PcBeside::set_beside))]
-fn jump_and_link(regs: &mut Regs, form: &Form, pc: u32, target: u32, why: &mut Reason) -> Next
-    ensures { SettlesAt pc result why.new regs.old regs.new (λ r. effects.jumps target
-        (set r form.now.rd (effects.next_address 4 r))) }
+fn jump_and_link(
+    regs: &mut Regs,
+    form: &Form,
+    pc: u32,
+    size: u32,
+    target: u32,
+    why: &mut Reason,
+) -> Next
+    ensures { SettlesBy size pc result why.new regs.old regs.new (λ r. effects.jumps target
+        (set r form.now.rd (effects.next_address size r))) }
 {
-    if target % 4 == 0 {
-        put(regs, form, pc.wrapping_add(4));
+    if target % 2 == 0 {
+        put(regs, form, pc.wrapping_add(size));
         Next::To(target)
     } else {
         fault(why, 7)
@@ -60,8 +67,8 @@ fn jump_and_link(regs: &mut Regs, form: &Form, pc: u32, target: u32, why: &mut R
 #[inline(always)]
 #[tactic(auto, unfolding(crate::specs::Effect::effect))]
 pub fn lui(regs: &mut Regs, form: &Form) -> Next
-    ensures { (pc : ℕ) (why : Reason) → SettlesAt pc result why regs.old regs.new
-        (effect (Upper false form.now.rd (effects.unsigned form.now.imm)) 4) }
+    ensures { (size pc : ℕ) (why : Reason) → SettlesBy size pc result why regs.old regs.new
+        (effect (Upper false form.now.rd (effects.unsigned form.now.imm)) size) }
 {
     put(regs, form, form.imm.cast_unsigned());
     Next::On
@@ -71,8 +78,8 @@ pub fn lui(regs: &mut Regs, form: &Form) -> Next
 #[inline(always)]
 #[tactic(auto, unfolding(crate::specs::Effect::effect))]
 pub fn auipc(regs: &mut Regs, form: &Form, pc: u32) -> Next
-    ensures { (why : Reason) → SettlesAt pc result why regs.old regs.new
-        (effect (Upper true form.now.rd (effects.unsigned form.now.imm)) 4) }
+    ensures { (size : ℕ) (why : Reason) → SettlesBy size pc result why regs.old regs.new
+        (effect (Upper true form.now.rd (effects.unsigned form.now.imm)) size) }
 {
     put(regs, form, pc.wrapping_add(form.imm.cast_unsigned()));
     Next::On
@@ -81,34 +88,34 @@ pub fn auipc(regs: &mut Regs, form: &Form, pc: u32) -> Next
 /// A jump by an offset from pc.
 #[inline(always)]
 #[tactic(auto, unfolding(crate::specs::Effect::effect))]
-pub fn jal(regs: &mut Regs, form: &Form, pc: u32, why: &mut Reason) -> Next
-    ensures { SettlesAt pc result why.new regs.old regs.new
-        (effect (Jal form.now.rd form.now.imm) 4) }
+pub fn jal(regs: &mut Regs, form: &Form, pc: u32, size: u32, why: &mut Reason) -> Next
+    ensures { SettlesBy size pc result why.new regs.old regs.new
+        (effect (Jal form.now.rd form.now.imm) size) }
 {
-    jump_and_link(regs, form, pc, pc.wrapping_add_signed(form.imm), why)
+    jump_and_link(regs, form, pc, size, pc.wrapping_add_signed(form.imm), why)
 }
 
 /// A jump to a register and an offset, with bit 0 cleared.
 #[inline(always)]
 #[tactic(auto, unfolding(crate::specs::Effect::effect))]
-pub fn jalr(regs: &mut Regs, form: &Form, pc: u32, why: &mut Reason) -> Next
-    ensures { SettlesAt pc result why.new regs.old regs.new
-        (effect (Jalr form.now.rd form.now.rs1 form.now.imm) 4) }
+pub fn jalr(regs: &mut Regs, form: &Form, pc: u32, size: u32, why: &mut Reason) -> Next
+    ensures { SettlesBy size pc result why.new regs.old regs.new
+        (effect (Jalr form.now.rd form.now.rs1 form.now.imm) size) }
 {
     let target = first(regs, form).wrapping_add_signed(form.imm) / 2 * 2;
-    jump_and_link(regs, form, pc, target, why)
+    jump_and_link(regs, form, pc, size, target, why)
 }
 
 /// A jump by an offset from pc, where a comparison of two registers holds.
 #[inline(always)]
 #[tactic(auto, unfolding(crate::specs::Effect::effect))]
 pub fn branch(regs: &Regs, form: &Form, pc: u32, op: BranchOp, why: &mut Reason) -> Next
-    ensures { SettlesAt pc result why.new regs.now regs.now
-        (effect (Branch op form.now.rs1 form.now.rs2 form.now.imm) 4) }
+    ensures { (size : ℕ) → SettlesBy size pc result why.new regs.now regs.now
+        (effect (Branch op form.now.rs1 form.now.rs2 form.now.imm) size) }
 {
     if is_taken(op, first(regs, form), second(regs, form)) {
         let target = pc.wrapping_add_signed(form.imm);
-        if target % 4 == 0 {
+        if target % 2 == 0 {
             Next::To(target)
         } else {
             fault(why, 7)
@@ -122,8 +129,8 @@ pub fn branch(regs: &Regs, form: &Form, pc: u32, op: BranchOp, why: &mut Reason)
 #[inline(always)]
 #[tactic(auto, unfolding(crate::specs::Effect::effect))]
 pub fn immediate(regs: &mut Regs, form: &Form, op: ImmOp) -> Next
-    ensures { (pc : ℕ) (why : Reason) → SettlesAt pc result why regs.old regs.new
-        (effect (Imm op form.now.rd form.now.rs1 form.now.imm) 4) }
+    ensures { (size pc : ℕ) (why : Reason) → SettlesBy size pc result why regs.old regs.new
+        (effect (Imm op form.now.rd form.now.rs1 form.now.imm) size) }
 {
     let value = immediate_result(op, first(regs, form), form.imm);
     put(regs, form, value);
@@ -134,8 +141,8 @@ pub fn immediate(regs: &mut Regs, form: &Form, op: ImmOp) -> Next
 #[inline(always)]
 #[tactic(auto, unfolding(crate::specs::Effect::effect))]
 pub fn shift(regs: &mut Regs, form: &Form, op: ShiftOp) -> Next
-    ensures { (pc : ℕ) (why : Reason) → SettlesAt pc result why regs.old regs.new
-        (effect (Shift op form.now.rd form.now.rs1 form.now.rs2) 4) }
+    ensures { (size pc : ℕ) (why : Reason) → SettlesBy size pc result why regs.old regs.new
+        (effect (Shift op form.now.rd form.now.rs1 form.now.rs2) size) }
 {
     let value = shift_result(op, first(regs, form), form.rs2);
     put(regs, form, value);
@@ -146,8 +153,8 @@ pub fn shift(regs: &mut Regs, form: &Form, op: ShiftOp) -> Next
 #[inline(always)]
 #[tactic(auto, unfolding(crate::specs::Effect::effect))]
 pub fn register(regs: &mut Regs, form: &Form, op: RegOp) -> Next
-    ensures { (pc : ℕ) (why : Reason) → SettlesAt pc result why regs.old regs.new
-        (effect (Reg op form.now.rd form.now.rs1 form.now.rs2) 4) }
+    ensures { (size pc : ℕ) (why : Reason) → SettlesBy size pc result why regs.old regs.new
+        (effect (Reg op form.now.rd form.now.rs1 form.now.rs2) size) }
 {
     let value = register_result(op, first(regs, form), second(regs, form));
     put(regs, form, value);

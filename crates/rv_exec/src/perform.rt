@@ -13,8 +13,7 @@ use crate::{Memory, Next, Went};
 use dos_world::{Reason, Regs};
 use rv_form::{Form, form_of};
 
-/// The word at pc is fetched and decoded, and its instruction done. A lone halfword, whose low two
-/// bits aren't 11, has none of the opcodes, so it is illegal like any other word without one.
+/// The code at pc is fetched and decoded, a word or a halfword alone, and its instruction done.
 #[inline(always)]
 fn fetch_and_perform<M: Memory>(regs: &mut Regs, memory: &mut M, pc: u32, why: &mut Reason) -> Next
     ensures { (f : M.Fixed) (t : ℕ) (w : World) → M.shows memory.old f t w

@@ -1,7 +1,7 @@
 // An instruction with its fields, as one number of eight bytes: what may be remembered of a word.
 ghost use Rattle.std.specs.Prelude.{◌≡◌, ◌<◌};
 
-/// What an instruction does, over all opcodes.
+/// What an instruction does, over all opcodes, and whether it has two bytes or four.
 #[derive(Clone, Copy)]
 pub enum Op {
     /// No instruction.
@@ -65,6 +65,25 @@ pub enum Op {
     AmomaxW,
     AmominuW,
     AmomaxuW,
+    // the operations that an instruction of two bytes may have
+    ShortLui,
+    ShortJal,
+    ShortJalr,
+    ShortBeq,
+    ShortBne,
+    ShortLw,
+    ShortSw,
+    ShortAddi,
+    ShortAndi,
+    ShortSlli,
+    ShortSrli,
+    ShortSrai,
+    ShortAdd,
+    ShortSub,
+    ShortXor,
+    ShortOr,
+    ShortAnd,
+    ShortEbreak,
 }
 
 /// An instruction with the fields of its word. A field that the operation doesn't use is any

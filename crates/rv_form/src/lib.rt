@@ -11,4 +11,4 @@ mod place;
 pub use decoding::form_of;
 pub use form::{Form, Op};
 pub use memo::{Memo, NO_BASE};
-pub use place::{place_after, place_of};
+pub use place::{place_after, place_after_short, place_of};

@@ -6,4 +6,7 @@ pub mod Formats
 pub mod Codes
 pub mod Back
 pub mod Again
+pub mod ByQuadrant
+pub mod Short
 mod Words
+mod Halves

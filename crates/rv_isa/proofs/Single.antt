@@ -13,7 +13,7 @@ abbrev apart_from : {A : Type 0} → Row A → List (Row A) → Bool
 apart_from r [] = true
 apart_from r (s ∷ ss) = apart r s && apart_from r ss
 
-abbrev all_apart : {A : Type 0} → List (Row A) → Bool
+abbrev pub all_apart : {A : Type 0} → List (Row A) → Bool
 all_apart [] = true
 all_apart (r ∷ rs) = apart_from r rs && all_apart rs
 
@@ -50,7 +50,8 @@ module _ {A : Type 0} (w : ℕ) where
   one_more r rs true f h = rw (f refl) (lit≤ tt)
   one_more r rs false f h = h
 
-  one_fits : (rs : List (Row A)) → all_apart rs ≡ true → length (filter (λ row. fits w row) rs) ≤ 1
+  pub one_fits : (rs : List (Row A)) → all_apart rs ≡ true
+      → length (filter (λ row. fits w row) rs) ≤ 1
   one_fits [] p = lit≤ tt
   one_fits (r ∷ rs) p =
       let q = and_parts (apart_from r rs) (all_apart rs) p in

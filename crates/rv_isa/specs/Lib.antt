@@ -3,3 +3,4 @@ pub mod Meaning
 pub mod Groups
 pub mod Valid
 pub mod Encoding
+pub mod Compressed

@@ -8,12 +8,14 @@
 
 mod decoding;
 mod encoding;
+mod expanding;
 mod fields;
 mod groups;
 mod valid;
 
 pub use decoding::decode;
 pub use encoding::encode;
+pub use expanding::{expand, expand_code};
 pub use fields::{
     acquires, fence_bits, imm_b, imm_i, imm_j, imm_s, imm_u, opcode, rd, releases, rs1, rs2,
 };

@@ -3,18 +3,16 @@
 ghost use Rattle.std.specs.Prelude.{◌≡◌, ◌≢◌, ◌++◌, ◌≤◌, ◌<◌, ◌+◌, ◌^◌, length, OnOk, IfOk, IfErr};
 ghost use Rattle.std.specs.Prelude.{IsTrue, Ok, Err, IsOkAnd, true, false};
 ghost use Rattle.elf_image.specs.Image.{image};
-ghost use Rattle.rv_asm.specs.Source.{data_size, has_data};
+ghost use Rattle.rv_asm.specs.Source.{count_of, data_size, has_data};
 ghost use Rattle.rv_asm.specs.Words.{assembled};
 ghost use Rattle.rv_asm.specs.File.{code_header, data_header, do_meet, file_of, finished};
-ghost use Rattle.rv_asm.specs.File.{headers_by, image_of, is_code_placed, is_data_placed};
-ghost use Rattle.rv_asm.specs.File.{is_in_range, is_placed};
+ghost use Rattle.rv_asm.specs.File.{flags_by, headers_by, image_of, is_code_placed, is_data_placed};
+ghost use Rattle.rv_asm.specs.File.{is_in_range, is_placed, is_short};
 
 use super::Builder;
 use crate::error::AsmError;
-use crate::file::{
-    FILE_HEADER, PROGRAM_HEADER, Segment, put_file_header, put_program_header, put_words,
-};
-use crate::words::words_of;
+use crate::file::{FILE_HEADER, PROGRAM_HEADER, Segment, put_file_header, put_program_header};
+use crate::words::{code_of, is_half};
 use std::alloc::AllocError;
 
 /// The lowest address of a part.
@@ -23,8 +21,8 @@ const LOWEST: u32 = 0x1000;
 /// Where the stack begins, above all parts.
 const STACK: u64 = 0xEFFF_0000;
 
-/// How many words there are below the stack.
-const MOST_WORDS: usize = 0x3BFF_C000;
+/// How many halfwords there are below the stack.
+const MOST_HALVES: usize = 0x77FF_8000;
 
 /// `p_flags` of a part: read, write and execute.
 const READ_EXECUTE: u32 = 5;
@@ -32,6 +30,9 @@ const READ_EXECUTE: u32 = 5;
 const READ_WRITE_EXECUTE: u32 = 7;
 
 const READ_WRITE: u32 = 6;
+
+/// The bit of `e_flags` for compressed instructions.
+const EF_RISCV_RVC: u32 = 1;
 
 // The addresses are from the lowest on and below the stack.
 fn is_placed(address: u32, size: u64) -> bool
@@ -68,21 +69,21 @@ impl Builder {
     fn is_code_placed(&self) -> bool
         ensures { result ≡ is_code_placed self.now }
     {
-        let count = self.items.len();
+        let count = self.count;
         if count == 0 {
             return false;
         }
-        if count > MOST_WORDS {
+        if count > MOST_HALVES {
             return false;
         }
-        is_placed(self.base, 4 * count as u64)
+        is_placed(self.base, 2 * count as u64)
     }
 
     fn is_data_placed(&self) -> bool
-        requires { length self.now.items < 2 ^ 32 }
+        requires { count_of self.now.items < 2 ^ 32 }
         ensures { result ≡ is_data_placed self.now }
     {
-        let code = 4 * self.items.len() as u64;
+        let code = 2 * self.count as u64;
         let size = self.data_size();
         is_placed(self.address, size) && !do_meet(self.base, code, self.address, size)
     }
@@ -94,14 +95,28 @@ impl Builder {
         self.is_code_placed() && (!self.has_data() || self.is_data_placed())
     }
 
-    // The header of the code, whose words begin at this place in the file.
+    // `e_flags`: whether there are compressed instructions.
+    fn flags(&self) -> u32
+        ensures { result ≡ flags_by (is_short self.now) }
+    {
+        if self.is_short() { EF_RISCV_RVC } else { 0 }
+    }
+
+    // Whether a halfword was given by itself.
+    fn is_short(&self) -> bool
+        ensures { result ≡ is_short self.now }
+    {
+        self.items.iter().any(|item| is_half(item))
+    }
+
+    // The header of the code, which begins at this place in the file.
     fn put_code_header(&self, file: &mut Vec<u8>, offset: u32) -> Result<(), AllocError>
-        requires { length self.now.items ≤ 0x3BFF_C000 }
+        requires { count_of self.now.items ≤ 0x77FF_8000 }
         ensures { OnOk result
             (file.new.items ≡ file.old.items
-            ++ code_header self.now offset (length self.now.items)) }
+            ++ code_header self.now offset (count_of self.now.items)) }
     {
-        let size = 4 * self.items.len() as u32;
+        let size = 2 * self.count as u32;
         put_program_header(
             file,
             &Segment {
@@ -139,38 +154,38 @@ impl Builder {
 
     // The headers where there is no data part.
     fn put_one(&self, file: &mut Vec<u8>) -> Result<(), AllocError>
-        requires { length self.now.items ≤ 0x3BFF_C000 }
+        requires { count_of self.now.items ≤ 0x77FF_8000 }
         ensures { OnOk result
             (file.new.items ≡ file.old.items
-            ++ headers_by false self.now (length self.now.items)) }
+            ++ headers_by false self.now (count_of self.now.items)) }
     {
-        put_file_header(file, self.base, 1)?;
+        put_file_header(file, self.flags(), self.base, 1)?;
         self.put_code_header(file, FILE_HEADER + PROGRAM_HEADER)?;
         Ok(())
     }
 
     // The headers where there is one.
     fn put_two(&self, file: &mut Vec<u8>) -> Result<(), AllocError>
-        requires few { length self.now.items ≤ 0x3BFF_C000 }
+        requires few { count_of self.now.items ≤ 0x77FF_8000 }
         requires small { data_size self.now.data_part < 2 ^ 32 }
         ensures { OnOk result
             (file.new.items ≡ file.old.items
-            ++ headers_by true self.now (length self.now.items)) }
+            ++ headers_by true self.now (count_of self.now.items)) }
     {
         let code = FILE_HEADER + 2 * PROGRAM_HEADER;
-        put_file_header(file, self.base, 2)?;
+        put_file_header(file, self.flags(), self.base, 2)?;
         self.put_code_header(file, code)?;
-        self.put_data_header(file, code + 4 * self.items.len() as u32)?;
+        self.put_data_header(file, code + 2 * self.count as u32)?;
         Ok(())
     }
 
     // All headers.
     fn put_headers(&self, file: &mut Vec<u8>) -> Result<(), AllocError>
-        requires few { length self.now.items ≤ 0x3BFF_C000 }
+        requires few { count_of self.now.items ≤ 0x77FF_8000 }
         requires small { data_size self.now.data_part < 2 ^ 32 }
         ensures { OnOk result
             (file.new.items ≡ file.old.items
-            ++ headers_by (has_data self.now) self.now (length self.now.items)) }
+            ++ headers_by (has_data self.now) self.now (count_of self.now.items)) }
     {
         if self.has_data() {
             self.put_two(file)
@@ -179,26 +194,25 @@ impl Builder {
         }
     }
 
-    // The whole file, of the words that the items make.
+    // The whole file, of the code that the items make.
     #[tactic(auto, unfolding(crate::specs::File::file_of))]
-    fn file(&self, words: &[u32]) -> Result<Vec<u8>, AllocError>
-        requires few { length self.now.items ≤ 0x3BFF_C000 }
+    fn file(&self, code: &[u8]) -> Result<Vec<u8>, AllocError>
+        requires few { count_of self.now.items ≤ 0x77FF_8000 }
         requires small { data_size self.now.data_part < 2 ^ 32 }
-        requires count { length words.now ≡ length self.now.items }
-        ensures { IfOk result (λ file. file.items ≡ file_of self.now words.now) }
+        ensures { IfOk result (λ file. file.items ≡ file_of self.now code.now) }
     {
         let mut file = Vec::new(self.alloc);
         self.put_headers(&mut file)?;
-        put_words(&mut file, words)?;
+        file.extend_from_slice(code)?;
         file.extend_from_slice(&self.bytes)?;
         Ok(file)
     }
 
     /// The file. An `Err` other than `Memory` is the first of these that holds: `Range` where there
-    /// is no code, a part is not within 0x1000 to 0xEFFEFFFF, or the parts meet; then word by word
-    /// `Unset` with the number of the label that the word names, where that is not set, and `Reach`
-    /// with the word's place, where its distance does not fit its format. Read as an image, the
-    /// file is entered at the base and has the words, and the data where there is some.
+    /// is no code, a part is not within 0x1000 to 0xEFFEFFFF, or the parts meet; then item by
+    /// item `Unset` with the number of the label that it names, where that is not set, and `Reach`
+    /// with its place, where its distance does not fit its format. Read as an image, the file is
+    /// entered at the base and has the code, and the data where there is some.
     pub fn finish(self) -> Result<Vec<u8>, AsmError>
         ensures file { IfOk result (λ file. finished self ≡ Ok file.items) }
         ensures refused { IfErr result (λ error. error ≢ AsmError.Memory
@@ -206,12 +220,12 @@ impl Builder {
         ensures read { IfOk result
             (λ file.
             IsOkAnd (assembled self)
-            (λ words. image file.items ≡ Ok (image_of self words))) }
+            (λ code. image file.items ≡ Ok (image_of self code))) }
     {
         if !self.is_in_range() {
             return Err(AsmError::Range);
         }
-        let words = words_of(self.alloc, &self.labels, &self.items)?;
-        Ok(self.file(&words)?)
+        let code = code_of(self.alloc, &self.labels, &self.items)?;
+        Ok(self.file(&code)?)
     }
 }

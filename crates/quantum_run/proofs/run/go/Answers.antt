@@ -1,7 +1,7 @@
 use Rattle.std.proofs.Common.{ℕ, ◌+◌, ◌-◌, ◌≡◌, ◌<◌, ◌≤◌, List, None, Some, sym, subst, arith}
 use Rattle.dos_world.specs.World.{World, Registers, with_pc}
 use Rattle.rv_exec.specs.Arrivals.{arrived}
-use Rattle.rv_exec.specs.declared.next.Next.TheVariants.{On, To, Not}
+use Rattle.rv_exec.specs.declared.next.Next.TheVariants.{On, Short, To, Not}
 use Rattle.rv_exec.specs.declared.Went.TheVariants.{Stop}
 use Rattle.rv_exec.proofs.Stepping.{steps}
 use Rattle.rv_exec.proofs.Whole.{follows_err, one_err}
@@ -12,7 +12,7 @@ use Rattle.quantum_run.specs.Showing.{blind_known, ShowsBy, ShowsKnown, Still, s
 use Rattle.quantum_run.proofs.RunSteps.{goes-shown, goes-stopped, reaches-more, reaches-shown}
 use Rattle.quantum_run.proofs.run.go.Given as given
 use Rattle.quantum_run.proofs.run.go.Goals as goal
-use Rattle.quantum_run.proofs.run.go.Goals.{in-On, in-To}
+use Rattle.quantum_run.proofs.run.go.Goals.{in-On, in-Short, in-To}
 
 -- what a memory shows, with these notes of the memo
 abbrev shown : (g : given.Over) → Running g.row.P.Denot g.P.Pages → Still × g.P.Pages.Fixed
@@ -100,6 +100,12 @@ loop-left-preserved g c = (
             (λ u ru. b.in-On.ensures (f, notes) t u left (note_at notes c.loop-left.place).word
             c.form.ensures (c.if-not-knows.ensures.word f t u ru.shown.0).1
             (record { shown = ru.shown.1; thread = ru.thread })) reached)
+        | in-Short b ↦ subst (λ x. R after r x (left - 1)) (sym b.pc-is)
+            (reaches-more (both old new) (shown g after f notes t) w t before_regs
+            (arrived r pc Short) budget left some inv.1
+            (λ u ru. b.in-Short.ensures (f, notes) t u left (note_at notes c.loop-left.place).word
+            c.form.ensures (c.if-not-knows.ensures.word f t u ru.shown.0).1
+            (record { shown = ru.shown.1; thread = ru.thread })) reached)
         | in-To b ↦ subst (λ x. R after r x (left - 1)) (sym b.pc-is)
             (reaches-more (both old new) (shown g after f notes t) w t before_regs
             (arrived r pc (To b.in-To.target)) budget left some inv.1
@@ -110,6 +116,7 @@ loop-left-preserved g c = (
   omega (arith, c.loop-left-test.true, c.loop-left.invariant.1),
   elim c.match-one_known.branch as (λ _. c.match-one_known.place < 1024) [
     | in-On b ↦ omega (arith, b.place-is, b.place_after-place.ensures)
+    | in-Short b ↦ omega (arith, b.place-is, b.place_after_short-place.ensures)
     | in-To b ↦ omega (arith, b.place-is, b.place_of-place-in-To.ensures)
   ],
 )
@@ -152,6 +159,9 @@ form-requires g c = c.loop-left.invariant.2
 
 pub place_after-place-requires : goal.place_after-place-requires
 place_after-place-requires g c = c.loop-left.invariant.2
+
+pub place_after_short-place-requires : goal.place_after_short-place-requires
+place_after_short-place-requires g c = c.loop-left.invariant.2
 
 pub returns-then-not-knows-clause-stop : goal.returns-then-not-knows-clause-stop
 returns-then-not-knows-clause-stop g c = some-more _ _ c.loop-left-test.true

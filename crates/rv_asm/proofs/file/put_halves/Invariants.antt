@@ -1,5 +1,5 @@
 use Rattle.std.proofs.Common.{◌≡◌, ◌++◌, take, flat_map}
-use Rattle.rv_asm.specs.File.{half}
+use Rattle.rv_asm.specs.Words.{half}
 use Rattle.rv_asm.proofs.file.put_halves.Given as goal
 
 -- the values so far are written
