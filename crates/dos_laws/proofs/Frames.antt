@@ -17,7 +17,9 @@ use Rattle.dos_world.specs.declared.Access.{Access}
 use Rattle.dos_world.specs.declared.Access.TheVariants.{Fetch, Load, Store, Claim}
 use Rattle.dos_world.specs.declared.Owner.{Owner}
 use Rattle.dos_world.specs.declared.Owner.TheVariants.{Free, Shared, Of}
+use Rattle.rv_exec.proofs.Keeps.{Own}
 use Rattle.dos_laws.proofs.Mapped.{IsTaken}
+use Rattle.dos_laws.proofs.Zeros.{AreZero, zeros_written}
 
 -- ---- other owners and bytes
 
@@ -29,6 +31,7 @@ pub record AreOwned (w : World) (owners : List Owner) (bytes : List ℕ) : Type 
   pub range : All IsByte bytes
   pub free : (frame : ℕ) → frame < length w.owners
       → (slice_index_or owners frame Free ≡ Free) ↔ IsFalse (is_mapped w frame)
+  pub zeros : AreZero owners bytes
   pub owned : (frame t : ℕ) → slice_index_or owners frame Free ≡ Of t
       → (1 ≤ t) × (t ≤ length w.threads)
 
@@ -48,6 +51,7 @@ lawful-over w owners bytes quantum rounds output error built are run l = record 
   frames = record {
     bytes = (omega (arith, l.frames.bytes.0, are.count, are.places), are.range);
     free = λ frame lt. are.free frame (omega (arith, are.places));
+    zeros = are.zeros;
     owned = are.owned;
   };
   processes = record {
@@ -126,6 +130,8 @@ module _ (w : World) (t frame : ℕ) (access : Access) where
         count = refl;
         range = l.frames.bytes.1;
         free = λ f lt. free_after f lt (eqb_tells f frame);
+        zeros = λ f offset free within.
+            l.frames.zeros f offset (free_before f free (eqb_tells f frame)) within;
         owned = λ f s e. owned_after f s e (eqb_tells f frame);
       }) l
     where
@@ -145,6 +151,15 @@ module _ (w : World) (t frame : ℕ) (access : Access) where
           subst (λ o. (o ≡ Free) ↔ IsFalse (is_mapped w f))
           (sym (get_or-set_other w.owners frame f (granted t access) Free other.1))
           (l.frames.free f lt)
+
+      free_before : (f : ℕ) → slice_index_or owners_after f Free ≡ Free
+          → (((f == frame) ≡ true) × (f ≡ frame)) ⊎ (((f == frame) ≡ false) × (f ≢ frame))
+          → slice_index_or w.owners f Free ≡ Free
+      free_before f e (inl same) =
+          absurd
+          (never_free (sym here ∙ ap (λ n. slice_index_or owners_after n Free) (sym same.1) ∙ e))
+      free_before f e (inr other) =
+          sym (get_or-set_other w.owners frame f (granted t access) Free other.1) ∙ e
 
       owned_after : (f s : ℕ) → slice_index_or owners_after f Free ≡ Of s
           → (((f == frame) ≡ true) × (f ≡ frame)) ⊎ (((f == frame) ≡ false) × (f ≢ frame))
@@ -189,13 +204,15 @@ bytes_of_bytes zero n = All-nil IsByte
 bytes_of_bytes (suc k) n =
     All-cons IsByte (n % 256) (bytes_of k (n / 256)) (omega arith) (bytes_of_bytes k (n / 256))
 
-module _ (w : World) (place : ℕ) (new : List ℕ) where
-  pub lawful-stored : All IsByte new → Lawful w → Lawful (stored w place new)
-  lawful-stored in_new l =
+module _ (w : World) (t place : ℕ) (new : List ℕ) where
+  pub lawful-stored : All IsByte new → Own w t place (length new) → Lawful w
+      → Lawful (stored w place new)
+  lawful-stored in_new own l =
       lawful-with_frames w w.owners (written w.bytes place new) (record {
         places = refl;
         count = length-written w.bytes place new;
         range = written_bytes w.bytes place new l.frames.bytes.1 in_new;
         free = l.frames.free;
+        zeros = zeros_written w t place new own l.frames.zeros;
         owned = l.frames.owned;
       }) l

@@ -30,6 +30,7 @@ pub mod StandsFutexes
 pub mod StandsWaits
 pub mod StandsUnmap
 pub mod StandsFrames
+pub mod Zeros
 pub mod StandsMaps
 pub mod StandsForks
 pub mod StandsChildren

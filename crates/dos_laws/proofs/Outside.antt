@@ -20,6 +20,7 @@ module _ (w : World) (quantum rounds : ℕ) (output error : List ℕ) where
         count = refl;
         range = l.frames.bytes.1;
         free = l.frames.free;
+        zeros = l.frames.zeros;
         owned = l.frames.owned;
       }) run l
 

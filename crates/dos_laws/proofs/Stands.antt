@@ -73,6 +73,7 @@ lawful-lively w ts ss kept l = record {
   frames = record {
     bytes = l.frames.bytes;
     free = l.frames.free;
+    zeros = l.frames.zeros;
     owned = λ frame t e.
         let was = l.frames.owned frame t e in (was.0, omega (arith, was.1, kept.count));
   };

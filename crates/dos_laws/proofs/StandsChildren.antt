@@ -198,6 +198,7 @@ module _ (ts : List ℕ) (c : Call) (call : StandsCall ts c) where
           pages =
               were.pages;
           used = taken_frames;
+          zeros = l.frames.zeros;
         })
 
     held_new : all_holdings v.processes ≡ all_holdings w.processes ++ record h
@@ -458,6 +459,7 @@ module _ (ts : List ℕ) (c : Call) (call : StandsCall ts c) where
           frames = record {
             bytes = (omega (arith, copied.count, l.frames.bytes.0, places), copied.range);
             free = λ g lt. free_new g (omega (arith, lt, places));
+            zeros = copied.zeros;
             owned = λ g s e. let was = owned_new g s e in (was.0, omega (arith, was.1, longer));
           };
           processes = record {

@@ -14,7 +14,7 @@ use Rattle.dos_world.specs.World.{World, all_holdings, entry_at, owner_of}
 use Rattle.dos_world.specs.Bytes.{loaded, stored}
 use Rattle.dos_world.specs.Reach.{Reached, fault, foreign, at, reach, grant, in_frame, has_right}
 use Rattle.dos_world.specs.Reach.{is_foreign, width}
-use Rattle.dos_world.specs.Copying.{opened, place_of, copied_in, copied_out, all_reach}
+use Rattle.dos_world.specs.Copying.{opened, place_of, byte_stored, copied_in, copied_out, all_reach}
 use Rattle.dos_world.specs.Counts.{reads_pipe, writes_pipe, has_reader, has_writer, is_open}
 use Rattle.dos_world.specs.Play.{input_of}
 use Rattle.dos_world.specs.Calls.{Call, Service, returns, returns_in, refuses, retries}
@@ -33,6 +33,7 @@ use Rattle.dos_laws.proofs.Mapped.{IsTaken, held_any, entry_taken}
 use Rattle.dos_laws.proofs.Numerals.{loaded_below}
 use Rattle.dos_laws.proofs.Frames.{lawful-grant, lawful-stored}
 use Rattle.dos_laws.proofs.Outside.{lawful-sent}
+use Rattle.rv_exec.proofs.Keeps.{Own, reach-own, store}
 use Rattle.dos_laws.proofs.StandsCalls.{StandsCall, Leaves, law, held, thread_within}
 use Rattle.dos_laws.proofs.StandsCalls.{returns_stands, returns_in_stands, refuses_stands}
 use Rattle.dos_laws.proofs.StandsCalls.{retries_stands, leaves_if}
@@ -84,10 +85,30 @@ stands-grant ts w t frame access given taken k =
           k.apart;
     }
 
-pub stands-stored : (ts : List ℕ) (w : World) (place : ℕ) (new : List ℕ) → All IsByte new
-    → LawfulWith ts w → LawfulWith ts (stored w place new)
-stands-stored ts w place new bytes k =
-    record { lawful = lawful-stored w place new bytes k.lawful; awake = k.awake; apart = k.apart }
+pub stands-stored : (ts : List ℕ) (w : World) (t place : ℕ) (new : List ℕ) → All IsByte new
+    → Own w t place (length new) → LawfulWith ts w → LawfulWith ts (stored w place new)
+stands-stored ts w t place new bytes own k = record {
+  lawful = lawful-stored w t place new bytes own k.lawful;
+  awake = k.awake;
+  apart = k.apart;
+}
+
+-- a byte that is written where it is reached
+stands-byte_stored : (ts : List ℕ) (w : World) (t address b : ℕ) → IsByte b → LawfulWith ts w
+    → LawfulWith ts (byte_stored w t address b)
+stands-byte_stored ts w t address b is k = by_reached (reach w t address Byte Store) refl
+  where
+    by_reached : (r : Reached) → reach w t address Byte Store ≡ r
+        → LawfulWith ts (elim r as (λ _. World) [
+          | fault number ↦ w
+          | foreign frame ↦ w
+          | at place ↦ stored w place (b ∷ [])
+        ])
+    by_reached (fault number) e = k
+    by_reached (foreign frame) e = k
+    by_reached (at place) e =
+        stands-stored ts w t place (b ∷ []) (All-cons IsByte b [] is (All-nil IsByte))
+        (reach-own w t address Byte Store store place e) k
 
 pub stands-sent : (ts : List ℕ) (w : World) (output error : List ℕ) → LawfulWith ts w
     → LawfulWith ts (record w { output = output; error = error })
@@ -125,14 +146,27 @@ copied_in_moved w t address (suc n) =
     moved_on w u (copied_in u t (suc address) n).0 (opened_moved w t address Load)
     (copied_in_moved u t (suc address) n)
 
+byte_moved : (w : World) (t address b : ℕ) → IsMoved w (byte_stored w t address b)
+byte_moved w t address b = by_reached (reach w t address Byte Store)
+  where
+    by_reached : (r : Reached)
+        → IsMoved w (elim r as (λ _. World) [
+          | fault number ↦ w
+          | foreign frame ↦ w
+          | at place ↦ stored w place (b ∷ [])
+        ])
+    by_reached (fault number) = refl
+    by_reached (foreign frame) = refl
+    by_reached (at place) = refl
+
 pub copied_out_moved : (w : World) (t address : ℕ) (bytes : List ℕ)
     → IsMoved w (copied_out w t address bytes)
 copied_out_moved w t address [] = refl
 copied_out_moved w t address (b ∷ bytes) =
     let u : World = opened w t address Store in
-    let v : World = stored u (place_of u t address Store) (b ∷ []) in
+    let v : World = byte_stored u t address b in
     moved_on w v (copied_out v t (suc address) bytes)
-    (moved_on w u v (opened_moved w t address Store) refl)
+    (moved_on w u v (opened_moved w t address Store) (byte_moved u t address b))
     (copied_out_moved v t (suc address) bytes)
 
 -- the number of a thread was given
@@ -190,11 +224,12 @@ pub stands-copied_out : (ts : List ℕ) (bytes : List ℕ) (w : World) (t addres
 stands-copied_out ts [] w t address given all k = k
 stands-copied_out ts (b ∷ bytes) w t address given all k =
     let u : World = opened w t address Store in
-    let v : World = stored u (place_of u t address Store) (b ∷ []) in
+    let v : World = byte_stored u t address b in
     stands-copied_out ts bytes v t (suc address)
-    (given_moved w u t (opened_moved w t address Store) given) (All-tail IsByte b bytes all)
-    (stands-stored ts u (place_of u t address Store) (b ∷ [])
-    (All-cons IsByte b [] (All-head IsByte b bytes all) (All-nil IsByte))
+    (given_moved w v t (moved_on w u v (opened_moved w t address Store) (byte_moved u t address b))
+    given)
+    (All-tail IsByte b bytes all)
+    (stands-byte_stored ts u t address b (All-head IsByte b bytes all)
     (stands-opened ts w t address Store given k))
 
 -- ---- a pipe
@@ -207,6 +242,7 @@ stands-with_pipe ts w pipe bytes opens is k = record {
     frames = record {
       bytes = k.lawful.frames.bytes;
       free = k.lawful.frames.free;
+      zeros = k.lawful.frames.zeros;
       owned =
           k.lawful.frames.owned;
     };

@@ -18,6 +18,7 @@ use Rattle.dos_world.specs.declared.Owner.TheVariants.{Free, Of}
 use Rattle.dos_laws.proofs.Spaces.{Pairs, OtherFrame, uses_in, uses-cons, used_at}
 use Rattle.dos_laws.proofs.StandsFrames.{lowest_is, one_taken, page_bytes, page_is}
 use Rattle.dos_laws.proofs.StandsCopies.{IsMoved}
+use Rattle.dos_laws.proofs.Zeros.{AreZero, zeros_page}
 
 -- ---- frames that stand once
 
@@ -135,6 +136,7 @@ pub record CanCopy (w : World) (space : List (ℕ × Entry)) : Type 0 where
   pub room : private_entries space ≤ free_frames w
   pub pages : All (IsPage (length w.owners)) space
   pub used : All (λ e. owner_of w e.1.frame ≢ Free) space
+  pub zeros : AreZero w.owners w.bytes
 
 -- what it leaves: of a frame that was taken the owner stays, and the copy has its shared entries; a
 -- frame that was Free is Free still and not in the copy, or it is t's and stands there once
@@ -151,6 +153,7 @@ pub record IsCopied (w : World) (t : ℕ) (space : List (ℕ × Entry))
       → ((owner_of r.0 frame ≡ Free) × (uses_in frame r.1 ≡ 0))
       ⊎ ((owner_of r.0 frame ≡ Of t) × (uses_in frame r.1 ≡ 1))
   pub private : All (λ e. IsFalse e.1.shared → owner_of w e.1.frame ≡ Free) r.1
+  pub zeros : AreZero r.0.owners r.0.bytes
 
 private_entries-cons : (e : ℕ × Entry) (space : List (ℕ × Entry))
     → private_entries (e ∷ space) ≡ cond (not e.1.shared) 1 0 + private_entries space
@@ -188,6 +191,7 @@ module _ (w : World) (t : ℕ) (e : ℕ × Entry) (space : List (ℕ × Entry))
     private =
         All-cons (λ x. IsFalse x.1.shared → owner_of w x.1.frame ≡ Free) (e.0, e.1) r.1
         (λ private. absurd (true≢false (sym is ∙ private))) k.private;
+    zeros = k.zeros;
   }
     where
       both : (frame : ℕ)
@@ -227,6 +231,7 @@ module _ (w : World) (t : ℕ) (e : ℕ × Entry) (space : List (ℕ × Entry))
         room = omega (arith, can.room, private_entries-cons e space, none);
         pages = All-tail (IsPage (length w.owners)) e space can.pages;
         used = All-tail (λ x. owner_of w x.1.frame ≢ Free) e space can.used;
+        zeros = can.zeros;
       }
 
   -- ---- a private entry
@@ -296,6 +301,9 @@ module _ (w : World) (t : ℕ) (e : ℕ × Entry) (space : List (ℕ × Entry))
               subst (λ n. All (IsPage n) space) (sym count)
               (All-tail (IsPage (length w.owners)) e space can.pages);
           used = still_used space (All-tail (λ x. owner_of w x.1.frame ≢ Free) e space can.used);
+          zeros =
+              zeros_page w.owners w.bytes frame t page there.0 page_fits.0
+              (omega (arith, can.bytes, there.0)) can.zeros;
         }
 
     abbrev entry : Entry
@@ -326,6 +334,7 @@ module _ (w : World) (t : ℕ) (e : ℕ × Entry) (space : List (ℕ × Entry))
       private =
           All-cons (λ x. IsFalse x.1.shared → owner_of w x.1.frame ≡ Free) (e.0, entry) r.1
           (λ private. there.1) (was_free r.1 k.private);
+      zeros = k.zeros;
     }
       where
         count : length u.owners ≡ length w.owners
@@ -417,6 +426,7 @@ copied_is w t [] can = record {
   taken = λ frame not_free. (refl, refl);
   fresh = λ frame free. inl (free, refl);
   private = All-nil (λ e. IsFalse e.1.shared → owner_of w e.1.frame ≡ Free);
+  zeros = can.zeros;
 }
 copied_is w t (e ∷ space) can = by_shared (λ x. copied_is x t space) e.1.shared refl
   where

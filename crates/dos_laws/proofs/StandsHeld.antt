@@ -35,6 +35,7 @@ use Rattle.dos_laws.proofs.Holders.{statuses_changed}
 use Rattle.dos_laws.proofs.Spaces.{pairs_from, pairs_to, pairs-mapped, all-mapped, Below}
 use Rattle.dos_laws.proofs.Spaces.{OtherFrame, rising_from, rising_to, uses_in, uses-mapped}
 use Rattle.dos_laws.proofs.Stands.{HasStatus}
+use Rattle.dos_laws.proofs.Zeros.{AreZero}
 use Rattle.dos_laws.proofs.StandsCalls.{StandsCall, Leaves, law, held, held_is, returns_in_stands}
 use Rattle.dos_laws.proofs.StandsCalls.{refuses_stands, leaves_if}
 use Rattle.dos_laws.proofs.StandsMasks.{handler_word}
@@ -50,6 +51,7 @@ pub record IsLaid (w : World) (owners : List Owner) (bytes : List ℕ)
   pub free : (frame : ℕ) → frame < length w.owners
       → (slice_index_or owners frame Free ≡ Free) ↔ IsFalse
       (is_mapped (record w { processes = ps }) frame)
+  pub zeros : AreZero owners bytes
   pub owned : (frame t : ℕ) → slice_index_or owners frame Free ≡ Of t
       → (1 ≤ t) × (t ≤ length w.threads)
   pub holdings : All (AreHoldings (length w.owners)) (all_holdings ps)
@@ -68,6 +70,7 @@ lawful-laid w owners bytes ps are l = record {
   frames = record {
     bytes = (omega (arith, l.frames.bytes.0, are.count, are.places), are.range);
     free = λ frame lt. are.free frame (omega (arith, lt, are.places));
+    zeros = are.zeros;
     owned = are.owned;
   };
   processes = record {
@@ -202,6 +205,7 @@ module _ (w : World) (p : ℕ) (h : Holdings) (f : Holdings → Holdings) (k : I
       free = λ frame lt.
           subst (λ b. (owner_of w frame ≡ Free) ↔ IsFalse b) (sym (mapped_same frame))
           (s.lawful.frames.free frame lt);
+      zeros = s.lawful.frames.zeros;
       owned = s.lawful.frames.owned;
       holdings =
           all_changed f (AreHoldings (length w.owners)) (AreHoldings (length w.owners)) (λ x is. is)

@@ -14,7 +14,7 @@ use Rattle.dos_world.specs.World.{World, Holdings, all_holdings, live_process, l
 use Rattle.dos_world.specs.World.{owner_of}
 use Rattle.dos_world.specs.Counts.{is_mapped, uses_of, is_open, has_reader, has_writer, reads_pipe}
 use Rattle.dos_world.specs.Counts.{writes_pipe, free_frames, lowest_free_frame}
-use Rattle.dos_world.specs.Kernel.{zero_page, with_entry, put}
+use Rattle.dos_world.specs.Kernel.{with_entry, put}
 use Rattle.dos_world.specs.Calls.{Call, replies}
 use Rattle.dos_world.specs.MemoryCalls.{map_pages, page_mapped, mapped_fresh, pages_of, is_range}
 use Rattle.dos_world.specs.MemoryCalls.{maps_page, is_page_mapped, private_entry}
@@ -32,8 +32,8 @@ use Rattle.dos_laws.proofs.Spaces.{OtherFrame, pairs_from, pairs_to, rising_from
 use Rattle.dos_laws.proofs.Spaces.{uses_in, uses-put, unused, all-put, rising-put, apart-put}
 use Rattle.dos_laws.proofs.Spaces.{look-put, unmapped_page}
 use Rattle.dos_laws.proofs.StandsHeld.{lawful-laid}
-use Rattle.dos_laws.proofs.StandsFrames.{lowest_is, one_taken, free_unused, none_of_sum, page_bytes}
-use Rattle.dos_laws.proofs.StandsFrames.{zero_page_is}
+use Rattle.dos_laws.proofs.StandsFrames.{lowest_is, one_taken, free_unused, none_of_sum}
+use Rattle.dos_laws.proofs.Zeros.{zeros_taken}
 use Rattle.dos_laws.proofs.StandsCalls.{StandsCall, Leaves, held, thread_within, returns_in_stands}
 use Rattle.dos_laws.proofs.StandsCalls.{refuses_stands}
 
@@ -234,15 +234,13 @@ module _ (w : World) (t p rights page : ℕ) (h : Holdings) (may : MayMap w t p 
   pub stands-page_mapped : LawfulWith ts v
   stands-page_mapped =
       let l = k.lawful in
-      let bytes =
-      page_bytes w.bytes frame zero_page zero_page_is.0 (omega (arith, l.frames.bytes.0, there.0))
-      l.frames.bytes.1 zero_page_is.1 in
       record {
-        lawful = lawful-laid w v.owners v.bytes v.processes (record {
+        lawful = lawful-laid w v.owners w.bytes v.processes (record {
           places = length-set w.owners frame (Of t);
-          count = bytes.0;
-          range = bytes.1;
+          count = refl;
+          range = l.frames.bytes.1;
           free = free_new;
+          zeros = zeros_taken w.owners w.bytes frame t there.0 l.frames.zeros;
           owned = owned_new;
           holdings =
               all_changed f (AreHoldings (length w.owners)) (AreHoldings (length w.owners))

@@ -1,11 +1,14 @@
 -- An instruction of any thread keeps a world standing.
-use Rattle.std.proofs.Common.{ℕ, ◌≡◌, refl, subst, List, Option, Some, None, Result, Ok, Err, arith}
+use Rattle.std.proofs.Common.{ℕ, ◌≡◌, refl, sym, length, subst, List, Option, Some, None, Result}
+use Rattle.std.proofs.Common.{Ok, Err, arith}
 use Rattle.std.proofs.Common.{◌+◌, ◌*◌, ◌%◌, ◌^◌, ◌<◌, Bool, true, false, cond}
 use Rattle.std.specs.Prelude.{IfSome, ◌==◌}
 use Rattle.dos_world.specs.World.{World, Thread, Registers, thread_at}
 use Rattle.dos_world.specs.Reach.{width, loaded, stored, bytes_of}
 use Rattle.dos_world.specs.Lawful.{IsThread, AreRegisters, Lawful}
+use Rattle.dos_world.specs.declared.Access.{Access}
 use Rattle.dos_world.specs.declared.Access.TheVariants.{Load, Store, Claim, Fetch}
+use Rattle.dos_world.specs.declared.Size.{Size}
 use Rattle.dos_world.specs.declared.Size.TheVariants.{Word, Half}
 use Rattle.dos_world.specs.declared.Reason.{Reason}
 use Rattle.dos_world.specs.declared.Reason.TheVariants.{Fault}
@@ -14,7 +17,8 @@ use Rattle.rv_isa.specs.Valid.{IsValid}
 use Rattle.rv_exec.specs.Effect.{Effect, goes, loads, stores, claims, stops, effect}
 use Rattle.rv_exec.specs.Step.{step, step_of, step_by, performed, paid, paid_by, with_word, reached}
 use Rattle.rv_exec.specs.Step.{instruction_at, half_at, lone_half, whole_word, ◌>>=◌}
-use Rattle.rv_exec.proofs.Keeps.{bind_ok}
+use Rattle.rv_exec.proofs.Keeps.{bind_ok, length-bytes_of, reached-at, reach-own, Own, Writes}
+use Rattle.rv_exec.proofs.Keeps.{store, claim}
 use Rattle.dos_laws.specs.Standing.{LawfulWith}
 use Rattle.dos_laws.proofs.Mapped.{of_thread}
 use Rattle.dos_laws.proofs.Numerals.{loaded_word, loaded_below}
@@ -83,11 +87,20 @@ stands-paid ts w t r a k = stands-with_thread ts w t (paid_by r) (record {
       λ thread at is. with_run w.processes thread _ _ _ a is;
 }) k
 
-with_word_stands : (ts : List ℕ) (w : World) (place : ℕ) (o : Option ℕ) → LawfulWith ts w
+-- the bytes of a number that is written lie in a frame of t
+number_own : (w : World) (t address : ℕ) (size : Size) (access : Access) (place number : ℕ)
+    → Writes access → reached w t address size access ≡ Ok place
+    → Own w t place (length (bytes_of (width size) number))
+number_own w t address size access place number writes e =
+    subst (Own w t place) (sym (length-bytes_of (width size) number))
+    (reach-own w t address size access writes place (reached-at w t address size access place e))
+
+with_word_stands : (ts : List ℕ) (w : World) (t place : ℕ) (o : Option ℕ)
+    → ((word : ℕ) → Own w t place (length (bytes_of 4 word))) → LawfulWith ts w
     → LawfulWith ts (with_word w place o)
-with_word_stands ts w place None k = k
-with_word_stands ts w place (Some word) k =
-    stands-stored ts w place (bytes_of 4 word) (bytes_of_bytes 4 word) k
+with_word_stands ts w t place None own k = k
+with_word_stands ts w t place (Some word) own k =
+    stands-stored ts w t place (bytes_of 4 word) (bytes_of_bytes 4 word) (own word) k
 
 performed_stands : (ts : List ℕ) (w w' : World) (t : ℕ) (e : Effect) → performed w t e ≡ Ok w'
     → IsInRange e → LawfulWith ts w → LawfulWith ts w'
@@ -107,7 +120,8 @@ performed_stands ts w w' t (stores address size value r) h range k =
     let bytes = bytes_of (width size) value in
     subst (LawfulWith ts) (World_is p.2)
     (stands-paid ts (stored w p.0 bytes) t r range
-    (stands-stored ts w p.0 bytes (bytes_of_bytes (width size) value) k))
+    (stands-stored ts w t p.0 bytes (bytes_of_bytes (width size) value)
+    (number_own w t address size Store p.0 value store p.1) k))
 performed_stands ts w w' t (claims address next new) h range k =
     let p =
     bind_ok (reached w t address Word Claim)
@@ -116,7 +130,9 @@ performed_stands ts w w' t (claims address next new) h range k =
     let word : ℕ = loaded w p.0 4 in
     subst (LawfulWith ts) (World_is p.2)
     (stands-paid ts (with_word w p.0 (new word)) t (next word)
-    (range word (loaded_word w p.0 Word k.lawful)) (with_word_stands ts w p.0 (new word) k))
+    (range word (loaded_word w p.0 Word k.lawful))
+    (with_word_stands ts w t p.0 (new word)
+    (λ n. number_own w t address Word Claim p.0 n claim p.1) k))
 performed_stands ts w w' t (stops reason) h range k = absurd (grind arith)
 
 -- A step of any thread.

@@ -1,5 +1,6 @@
 -- Worlds in which less is had than in a lawful one: once they are tidied they are lawful.
-use Rattle.std.proofs.Common.{ℕ, suc, ◌<◌, ◌≤◌, ◌≡◌, ◌≢◌, ◌⊎◌, inl, inr, refl, sym, ap, ◌∙◌, subst}
+use Rattle.std.proofs.Common.{ℕ, suc, ◌+◌, ◌*◌, ◌<◌, ◌≤◌, ◌≡◌, ◌≢◌, ◌⊎◌, inl, inr, refl, sym, ap}
+use Rattle.std.proofs.Common.{◌∙◌, subst}
 use Rattle.std.proofs.Common.{Bool, true, false, cond, List, [], ◌∷◌, length, arith}
 use Rattle.std.specs.Prelude.{All, IfSome, IsTrue, IsFalse, ◌↔◌, is_some, slice_index_or}
 use Rattle.std.proofs.lemmas.Bool.{cases_lt, true≢false}
@@ -15,6 +16,7 @@ use Rattle.dos_world.specs.declared.Owner.{Owner}
 use Rattle.dos_world.specs.declared.Owner.TheVariants.{Free, Of}
 use Rattle.dos_laws.proofs.Ends.{length-map_from, get_or-map_from}
 use Rattle.dos_laws.proofs.Stands.{times, HasStatus}
+use Rattle.dos_laws.proofs.Zeros.{length-tidied, tidied_at, tidied_bytes}
 
 -- what a world with the owners, bytes, pipes and run of a lawful one must have, so that it is
 -- lawful once it is tidied
@@ -68,6 +70,30 @@ module _ (w v : World) (less : IsLess w v) (lawful : Lawful w) where
   )
   free_new frame lt false e = (λ free. refl, λ no. refl)
 
+  zero_mapped : (b : Bool) (o : Owner) (byte : ℕ) → cond b o Free ≡ Free → (o ≡ Free → byte ≡ 0)
+      → cond b byte 0 ≡ 0
+  zero_mapped true o byte free was = was free
+  zero_mapped false o byte free was = refl
+
+  zeros_new : (frame offset : ℕ) → owner_of new frame ≡ Free → offset < 4096
+      → (frame < length w.owners) ⊎ (length w.owners ≤ frame)
+      → slice_index_or new.bytes (4096 * frame + offset) 0 ≡ 0
+  zeros_new frame offset free within (inl lt) =
+      let here : 0 + frame ≡ frame = omega arith in
+      tidied_at (is_mapped mixed) 0 w.owners w.bytes lawful.frames.bytes.0 frame offset lt within
+      ∙ ap (λ k. cond (is_mapped v k) (slice_index_or w.bytes (4096 * frame + offset) 0) 0) here
+      ∙ zero_mapped (is_mapped v frame) (owner_of w frame)
+      (slice_index_or w.bytes (4096 * frame + offset) 0) (sym (owner_new frame lt) ∙ free)
+      (λ was. lawful.frames.zeros frame offset was within)
+  zeros_new frame offset free within (inr past) =
+      get_or_past new.bytes (4096 * frame + offset) 0
+      (omega (
+        arith,
+        length-tidied (is_mapped mixed) 0 w.owners w.bytes lawful.frames.bytes.0,
+        lawful.frames.bytes.0,
+        past,
+      ))
+
   of_mapped : (b : Bool) (o : Owner) (t : ℕ) → cond b o Free ≡ Of t → o ≡ Of t
   of_mapped true o t e = e
   of_mapped false o t e = absurd (grind arith)
@@ -108,11 +134,21 @@ module _ (w v : World) (less : IsLess w v) (lawful : Lawful w) where
   pub lawful-tidied : Lawful new
   lawful-tidied = record {
     frames = record {
-      bytes = (omega (arith, lawful.frames.bytes.0, count_new), lawful.frames.bytes.1);
+      bytes = (
+        omega (
+          arith,
+          lawful.frames.bytes.0,
+          count_new,
+          length-tidied (is_mapped mixed) 0 w.owners w.bytes lawful.frames.bytes.0,
+        ),
+        tidied_bytes (is_mapped mixed) 0 w.owners w.bytes lawful.frames.bytes.1,
+      );
       free = λ frame lt.
           subst (λ o. (o ≡ Free) ↔ IsFalse (is_mapped new frame))
           (sym (owner_new frame (omega (arith, lt, count_new))))
           (free_new frame (omega (arith, lt, count_new)) (is_mapped new frame) refl);
+      zeros = λ frame offset free within.
+          zeros_new frame offset free within (cases_lt frame (length w.owners));
       owned = λ frame t e. owned_new frame t e (cases_lt frame (length w.owners));
     };
     processes = record {

@@ -155,6 +155,7 @@ module _ (w : World) (i : ℕ) (x : Process) (is : slice_get w.processes i ≡ S
           (λ hs. (owner_of w frame ≡ Free) ↔ IsFalse
           (list_any (λ h. list_any (λ e. e.1.frame == frame) h.space) hs)) (sym held_same)
           (k.lawful.frames.free frame lt);
+      zeros = k.lawful.frames.zeros;
       owned = k.lawful.frames.owned;
       holdings =
           subst (All (AreHoldings (length w.owners))) (sym held_same) k.lawful.processes.holdings;

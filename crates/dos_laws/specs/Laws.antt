@@ -1,10 +1,12 @@
 -- Laws of lawful worlds; the functions of the module laws promise them.
 use Rattle.std.specs.Prelude.{ℕ, List, ◌≡◌, ◌<◌, All, Some, Ok, IsTrue, is_some}
-use Rattle.dos_world.specs.World.{World, Thread, thread_at, live_process, entry_at}
+use Rattle.dos_world.specs.World.{World, Thread, thread_at, live_process, entry_at, page_of}
 use Rattle.dos_world.specs.Lawful.{Lawful}
-use Rattle.dos_world.specs.Kernel.{process_ended, thread_ended}
+use Rattle.dos_world.specs.Kernel.{process_ended, thread_ended, free_frames, lowest_free_frame}
+use Rattle.dos_world.specs.Kernel.{zero_page}
 use Rattle.dos_world.specs.Play.{Answer, gives, over}
 use Rattle.dos_world.specs.Calls.{Call, Served}
+use Rattle.dos_world.specs.MemoryCalls.{page_mapped}
 use Rattle.dos_world.specs.ProcessCalls.{forked}
 use Rattle.dos_world.specs.Services.{service}
 use Rattle.dos_world.specs.Signals.{signalled, ripen}
@@ -32,6 +34,11 @@ ThreadsHaveProcesses = (w : World) (t : ℕ) (thread : Thread) → Lawful w
 abbrev pub EntriesAreTaken : Type 0
 EntriesAreTaken = (w : World) (t address : ℕ) (e : Entry) → Lawful w
     → entry_at w t address ≡ Some e → IsTaken w e.frame
+
+-- A page that map gives is zero.
+abbrev pub NewPagesAreZero : Type 0
+NewPagesAreZero = (w : World) (t p rights page : ℕ) → Lawful w → 0 < free_frames w
+    → page_of (page_mapped t p rights w page).bytes (lowest_free_frame w) ≡ zero_page
 
 -- After three grants no instruction stops at a page.
 abbrev pub NoPageIsLeft : Type 0

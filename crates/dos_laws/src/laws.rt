@@ -1,5 +1,7 @@
 // Laws of the definitions, as contracts of functions that do nothing.
-ghost use Rattle.dos_laws.specs.Laws.{EntriesAreTaken, ForksKeep, LawfulnessIsKept, NoPageIsLeft};
+ghost use Rattle.dos_laws.specs.Laws.{EntriesAreTaken, ForksKeep, LawfulnessIsKept};
+ghost use Rattle.dos_laws.specs.Laws.{NewPagesAreZero};
+ghost use Rattle.dos_laws.specs.Laws.{NoPageIsLeft};
 ghost use Rattle.dos_laws.specs.Laws.{ParallelPhasesKeep, ProcessEndsKeep, RipeningKeeps};
 ghost use Rattle.dos_laws.specs.Laws.{RoundsKeep, SerialPhasesKeep, ServicesKeep, SignalPointsKeep};
 ghost use Rattle.dos_laws.specs.Laws.{StepsKeep, ThreadEndsKeep, ThreadsHaveProcesses};
@@ -14,6 +16,11 @@ pub fn threads_have_processes()
 /// In a lawful world the frame of each entry of a live thread is there, and isn't Free.
 pub fn entries_are_taken()
     ensures { EntriesAreTaken }
+{}
+
+/// In a lawful world with a free frame, a page that `map` gives is zero.
+pub fn new_pages_are_zero()
+    ensures { NewPagesAreZero }
 {}
 
 /// In a lawful world no instruction stops at a page after three grants.

@@ -10,7 +10,7 @@ use Rattle.dos_world.specs.World.{get, set}
 use Rattle.dos_world.specs.Kernel.{awake, woken, posted, pending_with, with_fresh, copied_in}
 use Rattle.dos_world.specs.Kernel.{copied_out, opened}
 use Rattle.dos_world.specs.Bytes.{stored}
-use Rattle.dos_world.specs.Copying.{place_of}
+use Rattle.dos_world.specs.Copying.{byte_stored}
 use Rattle.dos_world.specs.Reach.{Reached, fault, foreign, at, reach, grant}
 use Rattle.dos_world.specs.Calls.{Call}
 use Rattle.dos_world.specs.ProcessCalls.{copied_space}
@@ -44,13 +44,27 @@ threads-copied_in w t address zero = refl
 threads-copied_in w t address (suc n) =
     threads-copied_in (opened w t address Load) t (suc address) n ∙ threads-opened w t address Load
 
+threads-byte_stored : (w : World) (t address b : ℕ)
+    → (byte_stored w t address b).threads ≡ w.threads
+threads-byte_stored w t address b = by_reached (reach w t address Byte Store)
+  where
+    by_reached : (r : Reached)
+        → (elim r as (λ _. World) [
+          | fault number ↦ w
+          | foreign frame ↦ w
+          | at place ↦ stored w place (b ∷ [])
+        ]).threads ≡ w.threads
+    by_reached (fault number) = refl
+    by_reached (foreign frame) = refl
+    by_reached (at place) = refl
+
 pub threads-copied_out : (w : World) (t address : ℕ) (bytes : List ℕ)
     → (copied_out w t address bytes).threads ≡ w.threads
 threads-copied_out w t address [] = refl
 threads-copied_out w t address (b ∷ bytes) =
     let before : World = opened w t address Store in
-    threads-copied_out (stored before (place_of before t address Store) (b ∷ [])) t
-    (suc address) bytes ∙ threads-opened w t address Store
+    threads-copied_out (byte_stored before t address b) t (suc address) bytes
+    ∙ threads-byte_stored before t address b ∙ threads-opened w t address Store
 
 pub threads-copied_space : (w : World) (t : ℕ) (space : List (ℕ × Entry))
     → (copied_space w t space).0.threads ≡ w.threads

@@ -1,5 +1,5 @@
 -- A small lawful world, and what makes it unlawful, one thing after another; tested by the checker.
-use Rattle.std.specs.Prelude.{◌*◌, true, false, [], ◌∷◌, replicate, Some, None, ◌≡◌, refl}
+use Rattle.std.specs.Prelude.{◌*◌, true, false, [], ◌∷◌, ◌++◌, replicate, Some, None, ◌≡◌, refl}
 use Rattle.dos_world.specs.World.{World, in_state, with_thread, with_registers}
 use Rattle.dos_world.specs.Lawful.{Lawful}
 use Rattle.dos_world.specs.IsLawful.{is_lawful}
@@ -38,6 +38,14 @@ a_mapped_frame_is_free = refl
 an_unmapped_frame_is_owned : is_lawful
     (record sixteen { owners = Shared ∷ Of 1 ∷ Of 1 ∷ replicate 13 Free }) ≡ false
 an_unmapped_frame_is_owned = refl
+
+a_free_frame_has_a_byte : is_lawful
+    (record sixteen { bytes = replicate 8192 0 ++ 7 ∷ replicate 57343 0 }) ≡ false
+a_free_frame_has_a_byte = refl
+
+mapped_frames_have_bytes : is_lawful
+    (record sixteen { bytes = replicate 8192 7 ++ replicate 57344 0 }) ≡ true
+mapped_frames_have_bytes = refl
 
 no_such_owner : is_lawful (record sixteen { owners = Shared ∷ Of 2 ∷ replicate 14 Free }) ≡ false
 no_such_owner = refl

@@ -1,7 +1,7 @@
 -- What the test passes is lawful.
 use Rattle.std.proofs.Common.{ℕ, zero, suc, ◌+◌, ◌*◌, ◌%◌, ◌^◌, ◌<◌, ◌≤◌, ◌≡◌, ◌≢◌, ◌⊎◌, inl, inr}
 use Rattle.std.proofs.Common.{refl, sym, ap, ◌∙◌, subst, Bool, cond, true, false, not, List, []}
-use Rattle.std.proofs.Common.{◌∷◌, length, map, Option, Some, None, arith}
+use Rattle.std.proofs.Common.{◌∷◌, length, map, take, drop, Option, Some, None, arith}
 use Rattle.std.specs.Prelude.{filter, option_and_then, ◌&&◌, ◌||◌, ◌↔◌, ◌==◌, nat_lt, nat_le, All}
 use Rattle.std.specs.Prelude.{AllPairs, IsTrue, IsFalse, IfSome, is_some, count_by, slice_index_or}
 use Rattle.std.specs.List.{list_all}
@@ -9,7 +9,7 @@ use Rattle.std.specs.List.Sorted.{IsStrictlyIncreasing}
 use Rattle.std.proofs.lemmas.Bool.{and_parts, eqb-true, ltb-true, leb-true, cases_lt, not-true}
 use Rattle.std.proofs.lemmas.Bool.{true≢false}
 use Rattle.std.proofs.lemmas.List.Sums.{AllPass-from_list_all, length-filter}
-use Rattle.std.proofs.lemmas.List.{get_or_past}
+use Rattle.std.proofs.lemmas.List.{get_or_past, get_or-take, get_or-drop, length-take, length-drop}
 use Rattle.std.proofs.lemmas.Option.{slice_get_past}
 use Rattle.dos_world.specs.Numbered.{numbered, run_of}
 use Rattle.dos_world.specs.World.{World, Process, status_of, Holdings, Thread, Sleeper, Registers}
@@ -28,7 +28,7 @@ use Rattle.dos_world.specs.IsLawful.{same_truth, if_then, is_word, is_byte, is_p
 use Rattle.dos_world.specs.IsLawful.{is_end, is_page, are_registers, is_saved, is_thread}
 use Rattle.dos_world.specs.IsLawful.{are_holdings, is_alone, is_sleeper, is_pipe, frees_unmapped}
 use Rattle.dos_world.specs.IsLawful.{is_owner, has_thread, has_lower_parent, sleeps_once, is_asleep}
-use Rattle.dos_world.specs.IsLawful.{is_empty_if_closed, has_bytes, is_lawful}
+use Rattle.dos_world.specs.IsLawful.{is_empty_if_closed, has_bytes, are_zero_if_free, is_lawful}
 use Rattle.dos_world.specs.IsLawful.{is_lawful_but_for_frames, frames_are_lawful}
 use Rattle.dos_world.specs.IsLawful.{processes_are_lawful, threads_are_lawful, pipes_are_lawful}
 use Rattle.dos_world.specs.IsLawful.{is_within_limits, is_within_run}
@@ -95,6 +95,30 @@ same_by true true h = refl
 same_by true false h = absurd (true≢false (sym h))
 same_by false true h = absurd (true≢false (sym h))
 same_by false false h = refl
+
+-- the bytes of a Free frame, where the test passes
+zeros_by : (owners : List Owner) (bytes : List ℕ) → are_zero_if_free owners bytes ≡ true
+    → length bytes ≡ 4096 * length owners → (frame offset : ℕ)
+    → slice_index_or owners frame Free ≡ Free → offset < 4096
+    → slice_index_or bytes (4096 * frame + offset) 0 ≡ 0
+zeros_by [] bytes h count frame offset free within =
+    get_or_past bytes (4096 * frame + offset) 0 (omega (arith, count))
+zeros_by (owner ∷ owners) bytes h count zero offset free within =
+    let p = and_parts (if_then (is_free owner) (list_all (λ byte. byte == 0) (take 4096 bytes)))
+    (are_zero_if_free owners (drop 4096 bytes)) h in
+    let all = then_by (is_free owner) (list_all (λ byte. byte == 0) (take 4096 bytes)) p.0
+    (ap is_free free) in
+    ap (λ n. slice_index_or bytes n 0) (omega arith)
+    ∙ sym (get_or-take 4096 bytes offset 0 within)
+    ∙ eqb-true _ 0 (AllPass-from_list_all (λ byte. byte == 0) (take 4096 bytes) all offset 0
+    (omega (arith, length-take 4096 bytes, count, within)))
+zeros_by (owner ∷ owners) bytes h count (suc frame) offset free within =
+    let p = and_parts (if_then (is_free owner) (list_all (λ byte. byte == 0) (take 4096 bytes)))
+    (are_zero_if_free owners (drop 4096 bytes)) h in
+    ap (λ n. slice_index_or bytes n 0) (omega arith)
+    ∙ sym (get_or-drop 4096 bytes (4096 * frame + offset) 0)
+    ∙ zeros_by owners (drop 4096 bytes) p.1 (omega (arith, length-drop 4096 bytes, count)) frame
+    offset free within
 
 -- ---- ranges
 
@@ -356,19 +380,22 @@ module _ (w : World) where
   frames_by h =
       let f = and_parts (has_bytes w)
       (passes_below (length w.owners) (frees_unmapped w)
-      && list_all (is_owner (length w.threads)) w.owners) h in
+      && (are_zero_if_free w.owners w.bytes
+      && list_all (is_owner (length w.threads)) w.owners)) h in
       let bytes = and_parts (length w.bytes == 4096 * length w.owners)
       (list_all is_byte w.bytes) f.0 in
       let owners = and_parts (passes_below (length w.owners) (frees_unmapped w))
-      (list_all (is_owner (length w.threads)) w.owners) f.1 in
+      (are_zero_if_free w.owners w.bytes && list_all (is_owner (length w.threads)) w.owners) f.1 in
+      let pages = and_parts (are_zero_if_free w.owners w.bytes)
+      (list_all (is_owner (length w.threads)) w.owners) owners.1 in
+      let count : length w.bytes ≡ 4096 * length w.owners =
+      eqb-true (length w.bytes) (4096 * length w.owners) bytes.0 in
       record {
-        bytes = (
-          eqb-true (length w.bytes) (4096 * length w.owners) bytes.0,
-          all_by IsByte is_byte byte_by w.bytes bytes.1,
-        );
+        bytes = (count, all_by IsByte is_byte byte_by w.bytes bytes.1);
         free = λ frame lt. free_by (owner_of w frame) (is_mapped w frame)
             (below (frees_unmapped w) (length w.owners) owners.0 frame lt);
-        owned = owned_by owners.1;
+        zeros = zeros_by w.owners w.bytes pages.0 count;
+        owned = owned_by pages.1;
       }
 
   processes_by : processes_are_lawful w ≡ true → ProcessesAreLawful w

@@ -1,8 +1,10 @@
 -- What services answer in a small world, computed by the checker. What each comes to was worked out
 -- by hand from its rule.
-use Rattle.std.specs.Prelude.{ℕ, true, false, [], ◌∷◌, map, replicate, Some, None, ◌≡◌, refl}
+use Rattle.std.specs.Prelude.{ℕ, Bool, true, false, [], ◌∷◌, map, replicate, Some, None, ◌==◌}
+use Rattle.std.specs.Prelude.{◌≡◌, refl}
+use Rattle.std.specs.List.{list_all}
 use Rattle.dos_world.specs.World.{World, live, ended, thread_at, live_threads, entry_at, owner_of}
-use Rattle.dos_world.specs.World.{get, with_thread, blank, set}
+use Rattle.dos_world.specs.World.{get, with_thread, blank, set, page_of}
 use Rattle.dos_world.specs.Kernel.{minus, zero_page}
 use Rattle.dos_world.specs.Services.{services}
 use Rattle.dos_world.specs.Signals.{would_wait, ripen}
@@ -211,6 +213,17 @@ unmapped_twice : reply 1 (served (after (served small 1 14 0x11000 1 0)) 1 14 0x
 unfolding services
 unmapped_twice = refl
 
+-- whether a frame of a world is zero
+abbrev is_zero : World → ℕ → Bool
+is_zero w frame = list_all (λ byte. byte == 0) (page_of w.bytes frame)
+
+it_had_bytes : is_zero small 1 ≡ false
+it_had_bytes = refl
+
+an_unmapped_frame_is_zero : is_zero (after (served small 1 14 0x11000 1 0)) 1 ≡ true
+unfolding services zero_page
+an_unmapped_frame_is_zero = refl
+
 -- two pages from 0x11000 on, one of which isn't mapped
 partly_mapped : reply 1 (served small 1 14 0x11000 2 0) ≡ (goes_on, minus 22)
 unfolding services
@@ -235,6 +248,10 @@ its_frame_is_the_caller's : (after (served small 1 13 0x12000 1 7)).owners ≡ S
     ∷ []
 unfolding services zero_page
 its_frame_is_the_caller's = refl
+
+its_frame_is_zero : is_zero (after (served small 1 13 0x12000 1 7)) 2 ≡ true
+unfolding services zero_page
+its_frame_is_zero = refl
 
 -- ---- futexes
 

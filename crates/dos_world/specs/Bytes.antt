@@ -1,7 +1,7 @@
 -- Numbers and pages in the flat list of bytes. Memory of this profile is little-endian: RISC-V
 -- unprivileged manual, edition 20191213, sections 1.5 and 2.6.
 use Rattle.std.specs.Prelude.{ℕ, zero, suc, ◌+◌, ◌*◌, ◌/◌, ◌%◌, List, [], ◌∷◌, ◌++◌, take, drop}
-use Rattle.std.specs.Prelude.{slice_set}
+use Rattle.std.specs.Prelude.{replicate, slice_set}
 use Rattle.dos_world.specs.World.{World, page_size}
 
 -- the number that bytes stand for, the lowest first
@@ -26,6 +26,10 @@ written bytes place (b ∷ new) = written (slice_set bytes place b) (suc place) 
 -- the world with these bytes written from a place on
 abbrev pub stored : World → ℕ → List ℕ → World
 stored w place new = record w { bytes = written w.bytes place new }
+
+-- a page of zeros
+unfoldable pub zero_page : List ℕ
+zero_page = replicate page_size 0
 
 -- the bytes with the page of a frame replaced
 abbrev pub with_page : List ℕ → ℕ → List ℕ → List ℕ

@@ -39,10 +39,14 @@ copied_in w t address (suc n) =
     let rest : World × List ℕ = copied_in open_world t (suc address) n in
     (rest.0, loaded open_world (place_of open_world t address Load) 1 ∷ rest.1)
 
+-- the world with a byte written at an address, where a store there goes on
+abbrev pub byte_stored : World → ℕ → ℕ → ℕ → World
+byte_stored w t address b =
+    elim (reach w t address Byte Store)
+    [ fault n ↦ w | foreign frame ↦ w | at place ↦ stored w place (b ∷ []) ]
+
 -- the world with bytes written one by one from an address on, their pages granted
 abbrev pub copied_out : World → ℕ → ℕ → List ℕ → World
 copied_out w t address [] = w
 copied_out w t address (b ∷ bytes) =
-    let open_world : World = opened w t address Store in
-    let place : ℕ = place_of open_world t address Store in
-    copied_out (stored open_world place (b ∷ [])) t (suc address) bytes
+    copied_out (byte_stored (opened w t address Store) t address b) t (suc address) bytes

@@ -1,10 +1,12 @@
 -- What isn't kept but counted from the lists of a world: frames in use, ends of pipes. This
 -- project's own rules.
-use Rattle.std.specs.Prelude.{ℕ, Bool, false, ◌||◌, List, [], length, filter, position, Option}
-use Rattle.std.specs.Prelude.{Some, unwrap_or, ◌==◌, if◌then◌else◌, count_by, sum_by}
+use Rattle.std.specs.Prelude.{ℕ, suc, Bool, false, ◌||◌, List, [], ◌∷◌, ◌++◌, take, drop, length}
+use Rattle.std.specs.Prelude.{filter, position, Option, Some, unwrap_or, ◌==◌, if◌then◌else◌}
+use Rattle.std.specs.Prelude.{count_by, sum_by}
 use Rattle.std.specs.List.{list_any}
 use Rattle.dos_world.specs.Numbered.{map_from}
-use Rattle.dos_world.specs.World.{World, Holdings, all_holdings, is_free}
+use Rattle.dos_world.specs.World.{World, Holdings, all_holdings, is_free, page_size}
+use Rattle.dos_world.specs.Bytes.{zero_page}
 use Rattle.dos_world.specs.declared.Owner.{Owner}
 use Rattle.dos_world.specs.declared.Owner.TheVariants.{Free}
 use Rattle.dos_world.specs.declared.End.{End}
@@ -69,9 +71,17 @@ owner_if_mapped w frame owner = if is_mapped w frame then owner else Free
 abbrev pub bytes_if_open : World → ℕ → List ℕ → List ℕ
 bytes_if_open w pipe bytes = if is_open w pipe then bytes else []
 
--- A frame that nothing maps is Free, and a pipe without ends is empty.
+-- the bytes of the frames from this one on, which have these owners: zeros where one isn't mapped
+abbrev pub bytes_if_mapped : (ℕ → Bool) → ℕ → List Owner → List ℕ → List ℕ
+bytes_if_mapped mapped frame [] bytes = bytes
+bytes_if_mapped mapped frame (owner ∷ owners) bytes =
+    (if mapped frame then take page_size bytes else zero_page)
+    ++ bytes_if_mapped mapped (suc frame) owners (drop page_size bytes)
+
+-- A frame that nothing maps is Free and zero, and a pipe without ends is empty.
 abbrev pub tidied : World → World
 tidied w = record w {
+  bytes = bytes_if_mapped (is_mapped w) 0 w.owners w.bytes;
   owners = map_from 0 (owner_if_mapped w) w.owners;
   pipes = map_from 0 (bytes_if_open w) w.pipes;
 }

@@ -1,7 +1,8 @@
 -- Whether a world is lawful, as a test that can be computed: so an opening and a worked example can
 -- be shown to be. What it passes is lawful.
 use Rattle.std.specs.Prelude.{ℕ, ◌+◌, ◌*◌, ◌%◌, ◌^◌, Bool, true, false, not, ◌&&◌, List, [], ◌∷◌}
-use Rattle.std.specs.Prelude.{length, map, Option, Some, None, option_and_then, is_some, ◌==◌}
+use Rattle.std.specs.Prelude.{length, map, take, drop, Option, Some, None, option_and_then, is_some}
+use Rattle.std.specs.Prelude.{◌==◌}
 use Rattle.std.specs.Prelude.{nat_lt, nat_le, count_by, slice_index_or}
 use Rattle.std.specs.List.{list_all}
 use Rattle.dos_world.specs.Numbered.{numbered, run_of}
@@ -134,6 +135,13 @@ has_bytes w = (length w.bytes == page_size * length w.owners) && list_all is_byt
 abbrev pub frees_unmapped : World → ℕ → Bool
 frees_unmapped w frame = same_truth (is_free (owner_of w frame)) (not (is_mapped w frame))
 
+-- whether each frame is zero where it is Free: those with these owners and bytes
+abbrev pub are_zero_if_free : List Owner → List ℕ → Bool
+are_zero_if_free [] bytes = true
+are_zero_if_free (owner ∷ owners) bytes =
+    if_then (is_free owner) (list_all (λ byte. byte == 0) (take page_size bytes))
+    && are_zero_if_free owners (drop page_size bytes)
+
 -- whether an owner's number was given, where so many were
 abbrev pub is_owner : ℕ → Owner → Bool
 is_owner threads Free = true
@@ -170,7 +178,8 @@ abbrev pub frames_are_lawful : World → Bool
 frames_are_lawful w =
     has_bytes w
     && (passes_below (length w.owners) (frees_unmapped w)
-    && list_all (is_owner (length w.threads)) w.owners)
+    && (are_zero_if_free w.owners w.bytes
+    && list_all (is_owner (length w.threads)) w.owners))
 
 -- processes; numbers count from 1, so they are below their count and one more
 abbrev pub processes_are_lawful : World → Bool

@@ -1,13 +1,14 @@
 -- What several services and the signal point share: frames that are taken, threads that wake,
 -- signals that are posted, the end of a process. This project's own rules.
 use Rattle.std.specs.Prelude.{ℕ, ◌-◌, ◌^◌, Bool, false, not, List, [], ◌∷◌, length, map, filter}
-use Rattle.std.specs.Prelude.{replicate, Option, None, Some, ◌==◌, nat_lt, if◌then◌else◌, slice_set}
+use Rattle.std.specs.Prelude.{Option, None, Some, ◌==◌, nat_lt, if◌then◌else◌, slice_set}
 use Rattle.std.specs.List.{list_any}
 use Rattle.dos_world.specs.Numbered.{changed}
 use Rattle.dos_world.specs.World.{World, Sleeper, Process, Holdings, Thread, Registers, Entry}
 use Rattle.dos_world.specs.World.{ended, is_child, parent_of, threads_of, first_thread, belongs_to}
-use Rattle.dos_world.specs.World.{with_thread, without_thread, set, past, with_bit, page_size}
+use Rattle.dos_world.specs.World.{with_thread, without_thread, set, past, with_bit}
 use Rattle.dos_world.specs.Bytes.{with_page}
+unfoldable pub use Rattle.dos_world.specs.Bytes.{zero_page}
 use Rattle.dos_world.specs.declared.Owner.TheVariants.{Of}
 use Rattle.dos_world.specs.declared.ThreadState.TheVariants.{Ready}
 pub use Rattle.dos_world.specs.Counts.{maps_frame, is_mapped, free_frames, lowest_free_frame}
@@ -18,9 +19,9 @@ pub use Rattle.dos_world.specs.Copying.{copied_out}
 
 -- ---- taking a frame
 
--- a page of zeros
-unfoldable pub zero_page : List ℕ
-zero_page = replicate page_size 0
+-- The lowest free frame becomes t's. Its bytes stay: in a lawful world they are zero.
+abbrev pub with_taken : World → ℕ → World
+with_taken w t = record w { owners = slice_set w.owners (lowest_free_frame w) (Of t) }
 
 -- The lowest free frame becomes t's, with these bytes.
 abbrev pub with_fresh : World → ℕ → List ℕ → World

@@ -1,8 +1,10 @@
 -- Which worlds are lawful: what holds of the opening, and what every instruction, service and
 -- signal keeps. This project's own rules and limits.
-use Rattle.std.specs.Prelude.{ℕ, List, option_and_then, ◌≡◌, ◌≢◌, ◌⊎◌, ◌↔◌, ◌*◌, ◌%◌, ◌^◌, ◌<◌, ◌≤◌}
+use Rattle.std.specs.Prelude.{ℕ, List, option_and_then, ◌≡◌, ◌≢◌, ◌⊎◌, ◌↔◌, ◌+◌, ◌*◌, ◌%◌, ◌^◌, ◌<◌}
+use Rattle.std.specs.Prelude.{◌≤◌}
 use Rattle.std.specs.Prelude.{◌==◌, [], length, map, Option, Some, All, AllPairs, IsTrue, IsFalse}
-use Rattle.std.specs.Prelude.{IfSome, count_by, is_some, slice_index_or, ⊤, if◌then◌else◌}
+use Rattle.std.specs.Prelude.{IfSome, count_by, is_some, slice_index, slice_index_or, ⊤}
+use Rattle.std.specs.Prelude.{if◌then◌else◌}
 use Rattle.std.specs.List.Sorted.{IsStrictlyIncreasing}
 use Rattle.dos_world.specs.Numbered.{numbered}
 use Rattle.dos_world.specs.World.{World, Process, status_of, holdings_of, Holdings, Thread, Sleeper}
@@ -120,6 +122,9 @@ pub record FramesAreLawful (w : World) : Type 0 where
   -- a frame is Free exactly where nothing maps it
   pub free : (frame : ℕ) → frame < length w.owners
       → (owner_of w frame ≡ Free) ↔ IsFalse (is_mapped w frame)
+  -- a Free frame is zero
+  pub zeros : (frame offset : ℕ) → owner_of w frame ≡ Free → offset < page_size
+      → slice_index w.bytes (page_size * frame + offset) ≡ 0
   -- an owner's number was given
   pub owned : (frame t : ℕ) → owner_of w frame ≡ Of t → (1 ≤ t) × (t ≤ length w.threads)
 

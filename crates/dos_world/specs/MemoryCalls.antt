@@ -7,7 +7,7 @@ use Rattle.std.specs.List.{list_any, list_all}
 use Rattle.dos_world.specs.Errors.{einval, enomem}
 use Rattle.dos_world.specs.Numbered.{run_of}
 use Rattle.dos_world.specs.World.{World, Holdings, Entry, look, space_of, with_holdings, page_size}
-use Rattle.dos_world.specs.Kernel.{tidied, free_frames, lowest_free_frame, with_fresh, zero_page}
+use Rattle.dos_world.specs.Kernel.{tidied, free_frames, lowest_free_frame, with_taken}
 use Rattle.dos_world.specs.Kernel.{with_entry}
 use Rattle.dos_world.specs.Calls.{Service, Call, replies}
 
@@ -58,7 +58,7 @@ private_entry frame rights =
 abbrev pub page_mapped : ℕ → ℕ → ℕ → World → ℕ → World
 page_mapped t p rights w page =
     let entry : Entry = private_entry (lowest_free_frame w) rights in
-    with_holdings (with_fresh w t zero_page) p (with_entry page entry)
+    with_holdings (with_taken w t) p (with_entry page entry)
 
 -- the same for each of these pages, in this order
 abbrev pub mapped_fresh : Call → World → List ℕ → World

@@ -6,20 +6,21 @@ use Rattle.std.specs.Prelude.{position, option_map}
 use Rattle.std.proofs.lemmas.Bool.{true≢false, lt-ltb, cases_lt}
 use Rattle.std.proofs.lemmas.List.Quantifiers.{position-Some}
 use Rattle.std.proofs.lemmas.List.{append-nil, append_assoc, length-append, length-replicate}
-use Rattle.std.proofs.lemmas.List.{length-set, set-set, set_at, take_at, drop_at, drop-replicate}
-use Rattle.std.proofs.lemmas.List.{drop-drop, get_or_append_left, replicate_more, length_push}
+use Rattle.std.proofs.lemmas.List.{length-set, set-get_or, set_at, take_at, drop_at, drop-replicate}
+use Rattle.std.proofs.lemmas.List.{drop-drop, get_or_append_left, get_or-append_right}
+use Rattle.std.proofs.lemmas.List.{replicate_more, length_push}
 use Rattle.std.proofs.lemmas.List.Elements.{All-append, All-cons, All-nil, All-set}
-use Rattle.std.proofs.lemmas.Option.{slice_get-get_or}
-use Rattle.std.proofs.lemmas.List.{get_or-set_same}
+use Rattle.std.proofs.lemmas.Option.{get_or_from_slice_get}
 use Rattle.dos_world.specs.World.{is_free}
 use Rattle.dos_world.specs.Kernel.{zero_page}
 use Rattle.dos_world.specs.declared.Owner.{Owner}
 use Rattle.dos_world.specs.declared.Owner.TheVariants.{Free, Of}
-use Rattle.page_store.specs.Store.{Store, whole, joined, with_home, with_owned}
+use Rattle.page_store.specs.Store.{Store, whole, shown, joined, with_home, with_owned}
 use Rattle.page_store.proofs.Counts.{position-drop}
-use Rattle.page_store.proofs.Joined.{joined-set}
-use Rattle.page_store.proofs.Pages.{length-whole, whole-zero_page}
+use Rattle.page_store.proofs.Joined.{joined-set, home-at, zeros-shown}
+use Rattle.page_store.proofs.Pages.{length-whole}
 use Rattle.group_open.specs.Filling.{IsTaken, IsFilled, HasRoom, Takes}
+use Rattle.group_open.proofs.Runs.{same_everywhere}
 
 some_same : (m n : ℕ) → Some m ≡ Some n → m ≡ n
 some_same m n e = cc
@@ -53,23 +54,34 @@ has_lowest s h = subst IsSome (sym (lowest_is s h.bytes h.owners h.filled h.room
 
 -- ---- a frame that was taken
 
--- its page is home, and zero
-pub taken_is_zero : (s : Store) (t frame : ℕ) → HasRoom s 1 → position is_free s.owners ≡ Some frame
-    → slice_get (with_owned s frame t).pages frame ≡ Some (Some zero_page)
-taken_is_zero s t frame h e =
-    let lowest = lowest_is s h.bytes h.owners h.filled h.room in
-    let same : frame ≡ length h.owners = some_same frame (length h.owners) (sym e ∙ lowest) in
-    let within : frame < length s.pages = omega (arith, h.room) in
-    slice_get-get_or (set s.pages frame (Some zero_page)) frame None
-    (omega (arith, length-set s.pages frame (Some zero_page)))
-    ∙ ap (λ p. Some p) (get_or-set_same s.pages frame (Some zero_page) None within)
+-- it is one of those behind the ones that were taken
+next_is : (s : Store) (frame : ℕ) → (h : HasRoom s 1) → position is_free s.owners ≡ Some frame
+    → frame ≡ length h.owners
+next_is s frame h e =
+    some_same frame (length h.owners) (sym e ∙ lowest_is s h.bytes h.owners h.filled h.room)
 
-pub zero_shown : (page : List ℕ) (s : Store) (t frame : ℕ) → HasRoom s 1
-    → position is_free s.owners ≡ Some frame
-    → slice_get (with_owned s frame t).pages frame ≡ Some (Some page) → page ≡ zero_page
-zero_shown page s t frame h e got =
-    let zero = taken_is_zero s t frame h e in
-    cc
+-- its page is home
+pub taken_is_home : (s : Store) (frame : ℕ) → HasRoom s 1 → position is_free s.owners ≡ Some frame
+    → (page : List ℕ) × (slice_get s.pages frame ≡ Some (Some page))
+taken_is_home s frame h e =
+    home-at s.pages frame h.filled.home (omega (arith, next_is s frame h e, h.room))
+
+-- and zero
+pub zero_shown : (page : List ℕ) (s : Store) (frame : ℕ) → HasRoom s 1
+    → position is_free s.owners ≡ Some frame → slice_get s.pages frame ≡ Some (Some page)
+    → whole page ≡ zero_page
+zero_shown page s frame h e got =
+    ap shown (sym (get_or_from_slice_get s.pages frame (Some page) None got))
+    ∙ zeros-shown s.pages frame (omega (arith, next_is s frame h e, h.room))
+    (λ offset low.
+    let behind : 4096 * length h.owners ≤ 4096 * frame + offset =
+    omega (arith, next_is s frame h e) in
+    ap (λ bytes. get_or bytes (4096 * frame + offset) 0) h.filled.bytes_are
+    ∙ get_or-append_right h.bytes
+    (replicate (4096 * (length s.pages - length h.owners)) 0) (4096 * length h.owners)
+    (4096 * frame + offset) 0 h.filled.sized behind
+    ∙ same_everywhere (4096 * (length s.pages - length h.owners))
+    (4096 * frame + offset - 4096 * length h.owners) 0)
 
 -- one value more in front of those that are left
 set_next : {A : Type 0} (xs : List A) (more : ℕ) (d x : A)
@@ -82,8 +94,7 @@ module _ (s : Store) (t frame : ℕ) (page bytes : List ℕ) (owners : List Owne
     (is : frame ≡ length owners) where
   pages_are : (with_home (with_owned s frame t) frame page).pages
       ≡ set s.pages (length owners) (Some page)
-  pages_are = set-set s.pages frame (Some zero_page) (Some page)
-      ∙ ap (λ k. set s.pages k (Some page)) is
+  pages_are = ap (λ k. set s.pages k (Some page)) is
 
   count_is : length (with_home (with_owned s frame t) frame page).pages ≡ length s.pages
   count_is = ap length pages_are ∙ length-set s.pages (length owners) (Some page)
@@ -137,8 +148,7 @@ module _ (s : Store) (t frame : ℕ) (page bytes : List ℕ) (owners : List Owne
   next_filled n e =
       let more = left_is n e in
       record {
-        home = All-set IsSome (set s.pages frame (Some zero_page)) frame (Some page) refl
-            (All-set IsSome s.pages frame (Some zero_page) refl f.home);
+        home = All-set IsSome s.pages frame (Some page) refl f.home;
         within = omega (arith, count_is, length_push owners (Of t), room);
         sized = omega (
           arith,
@@ -194,18 +204,22 @@ fill_next s new t frame shows bytes owners f takes =
 pub takes_count : (s new : Store) (t frame : ℕ) (shows : List ℕ) → Takes s new t frame shows
     → length new.pages ≡ length s.pages
 takes_count s new t frame shows takes = ap (λ (n : Store). length n.pages) takes.becomes
-    ∙ length-set (set s.pages frame (Some zero_page)) frame (Some takes.page)
-    ∙ length-set s.pages frame (Some zero_page)
+    ∙ length-set s.pages frame (Some takes.page)
 
 -- the taken frame, with the zero page that it has
-pub takes_zero : (s new : Store) (t frame : ℕ) → position is_free s.owners ≡ Some frame
-    → new ≡ with_owned s frame t → Takes s new t frame zero_page
-takes_zero s new t frame e becomes = record {
-  lowest = e;
-  page = zero_page;
-  shows = whole-zero_page;
-  becomes = becomes ∙ ap (λ (ps : List (Option (List ℕ))). record (with_owned s frame t) {
-    pages =
-        ps;
-  }) (sym (set-set s.pages frame (Some zero_page) (Some zero_page)));
-}
+pub takes_zero : (s new : Store) (t frame : ℕ) → HasRoom s 1
+    → position is_free s.owners ≡ Some frame → new ≡ with_owned s frame t
+    → Takes s new t frame zero_page
+takes_zero s new t frame h e becomes =
+    let home = taken_is_home s frame h e in
+    record {
+      lowest = e;
+      page = home.0;
+      shows = zero_shown home.0 s frame h e home.1;
+      becomes = becomes ∙ ap (λ (ps : List (Option (List ℕ))). record (with_owned s frame t) {
+        pages =
+            ps;
+      }) (sym (ap (set s.pages frame)
+          (sym (get_or_from_slice_get s.pages frame (Some home.0) None home.1))
+          ∙ set-get_or s.pages frame None));
+    }

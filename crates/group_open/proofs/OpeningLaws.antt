@@ -352,6 +352,26 @@ module _ (images : List Image) (config : Config) (some : 1 ≤ length images)
           mapped_out frame 0 images (omega (arith, past)) in
           (λ e. unmapped, λ e. owner)
 
+  zeros_field : (frame offset : ℕ) → owner_of (opening images config) frame ≡ Free → offset < 4096
+      → slice_index_or (opening images config).bytes (4096 * frame + offset) 0 ≡ 0
+  zeros_field frame offset free low = go (cases_lt frame (needed images))
+    where
+      go : (frame < needed images) ⊎ (needed images ≤ frame)
+          → slice_index_or (opening images config).bytes (4096 * frame + offset) 0 ≡ 0
+      go (inl below) =
+          let there : frame < length (owners_from 1 images) =
+          omega (arith, owners_length 1 images, below) in
+          absurd (owners_taken 1 images frame Free there
+          (sym (get_or_append_left (owners_from 1 images)
+          (replicate (config.frames - needed images) Free) Free frame there) ∙ free))
+      go (inr past) =
+          get_or-append_right (flat_map image_bytes images)
+          (replicate (4096 * (config.frames - needed images)) 0) (4096 * needed images)
+          (4096 * frame + offset) 0 (length_by_sizes image_bytes page_count bytes_length images)
+          (omega (arith, past))
+          ∙ same_everywhere (4096 * (config.frames - needed images))
+          (4096 * frame + offset - 4096 * needed images) 0
+
   owned_field : (frame t : ℕ) → owner_of (opening images config) frame ≡ Of t
       → (1 ≤ t) × (t ≤ length (opening images config).threads)
   owned_field frame t e = go (cases_lt frame (length (owners_from 1 images)))
@@ -414,7 +434,12 @@ module _ (images : List Image) (config : Config) (some : 1 ≤ length images)
   threads_all = length-map_from 1 opening_thread images
 
   frames_of_it : FramesAreLawful (opening images config)
-  frames_of_it = record { bytes = bytes_field; free = free_field; owned = owned_field }
+  frames_of_it = record {
+    bytes = bytes_field;
+    free = free_field;
+    zeros = zeros_field;
+    owned = owned_field;
+  }
 
   processes_of_it : ProcessesAreLawful (opening images config)
   processes_of_it = record {

@@ -28,7 +28,7 @@ use Rattle.group_open.specs.Pages.{lower_of, least_from, laid_over}
 use Rattle.group_open.proofs.Runs.{RisesWithin, within_rise, any_in_run, none_in_run, length_run}
 use Rattle.group_open.proofs.Runs.{at_run}
 use Rattle.page_store.specs.Store.{whole}
-use Rattle.page_store.proofs.Pages.{length-whole, whole-zero_page}
+use Rattle.page_store.proofs.Pages.{length-whole}
 use Rattle.dos_world.specs.Kernel.{zero_page}
 use Rattle.group_open.proofs.OpeningParts.{pages_rise}
 
@@ -500,10 +500,10 @@ byte_more parts i a part apart lt e =
         clear other (inl ends) from to = inl (omega arith)
         clear other (inr begins) from to = inr (omega arith)
 
-pub first_bytes : (target : List ℕ) → target ≡ zero_page → (k : ℕ) → k < 4096
+pub first_bytes : (target : List ℕ) → whole target ≡ zero_page → (k : ℕ) → k < 4096
     → get_or (whole target) k 0 ≡ 0
 unfolding zero_page
-first_bytes target e k lt = ap (λ xs. get_or xs k 0) (ap whole e ∙ whole-zero_page)
+first_bytes target e k lt = ap (λ xs. get_or xs k 0) e
     ∙ get_or-replicate 4096 k 0 0 lt
 
 pub all_bytes : (image : Image) (page i : ℕ) (target : List ℕ) (parts : List Part)

@@ -30,7 +30,7 @@ pub(crate) struct Opened {
     pub(crate) tid: u32,
 }
 
-// the lowest Free frame becomes the thread's, with a zero page
+// the lowest Free frame, whose page is zero, becomes the thread's
 fn take_frame(frames: &mut Frames, tid: u32) -> u32
     requires { HasRoom frames.old 1 }
     ensures lowest { position is_free frames.old.owners ≡ Some result }

@@ -192,7 +192,7 @@ fn fill_part(part: &Part, page: u32, target: &mut Page)
 
 /// Fills a page of zeros with the image's bytes.
 pub fn fill_page(image: &Image, page: u32, target: &mut Page)
-    requires zero { target.old ≡ zero_page }
+    requires zero { whole target.old ≡ zero_page }
     requires page { page < 0xF0000 }
     ensures { whole target.new ≡ page_bytes image.now page }
 {

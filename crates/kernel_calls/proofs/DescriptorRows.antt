@@ -7,8 +7,9 @@ use Rattle.std.proofs.lemmas.List.{ext_get_or}
 use Rattle.dos_world.specs.Numbered.{run_of, changed, map_from}
 use Rattle.dos_world.specs.World.{World, Holdings, live_process, on_holdings, with_holdings}
 use Rattle.dos_world.specs.World.{first_of, owner_of, registers_by}
-use Rattle.dos_world.specs.Kernel.{answered, minus, tidied}
-use Rattle.dos_world.specs.Counts.{uses_of, is_mapped, owner_if_mapped, bytes_if_open}
+use Rattle.dos_world.specs.Kernel.{answered, minus, tidied, zero_page}
+use Rattle.dos_world.specs.Counts.{uses_of, is_mapped, owner_if_mapped, bytes_if_mapped}
+use Rattle.dos_world.specs.Counts.{bytes_if_open}
 use Rattle.dos_world.specs.Play.{Play, done}
 use Rattle.dos_world.specs.Calls.{Call, Served as FlatServed, went, returns_in, refuses}
 use Rattle.dos_world.specs.DescriptorCalls.{close, descriptor, dup, dup_by, free_descriptors}
@@ -19,6 +20,9 @@ use Rattle.dos_world.specs.declared.Owner.{Owner}
 use Rattle.dos_world.specs.declared.Owner.TheVariants.{Free}
 use Rattle.dos_laws.proofs.Ends.{length-map_from, get_or-map_from}
 use Rattle.dos_laws.proofs.Holders.{sum_changed}
+use Rattle.page_store.specs.Store.{joined, page_at}
+use Rattle.page_store.specs.Store.{shown as page_shown}
+use Rattle.page_store.proofs.Joined.{joined-tidied, zeros-shown}
 use Rattle.proc_table.specs.Tables.{Tables, held_in, held_by, end_in}
 use Rattle.kernel_objects.specs.Pipework.{Pipework}
 use Rattle.kernel_calls.specs.Ending.{IsNamed, without_end}
@@ -178,17 +182,50 @@ module _ (s : State) (a : Asked) (h : Holdings)
         by true o free = refl
         by false o free = sym (free refl)
 
-    abbrev shown : World → List Owner → List (List ℕ) → World
-    shown v owners held =
-        record (with_holdings v a.process (with_end a.a0 None)) { owners = owners; pipes = held }
+    -- a frame that nothing maps then isn't mapped now, and is zero
+    blank : (frame : ℕ) → frame < length s.frames.owners → is_mapped left frame ≡ false
+        → page_shown (page_at s.frames frame) ≡ zero_page
+    blank frame within unmapped =
+        zeros-shown s.frames.pages frame (omega (arith, within, counted.home.owners))
+        (λ offset there. lawful.frames.zeros frame offset
+        ((lawful.frames.free frame within).1
+        (mapped-used (world_of 16 s) frame
+        ∙ ap (nat_lt 0) (sym (uses_set (world_of 16 s) a.process h a.a0 None is frame))
+        ∙ sym (mapped-used left frame) ∙ unmapped)) there)
+
+    bytes_kept : bytes_if_mapped (is_mapped left) 0 s.frames.owners (joined s.frames.pages)
+        ≡ joined s.frames.pages
+    bytes_kept =
+        joined-tidied (is_mapped left) 0 s.frames.owners s.frames.pages s.frames.pages refl
+        counted.home.owners (λ frame lt.
+        let here : frame ≡ 0 + frame = omega arith in
+        sym (by (is_mapped left frame) (page_shown (page_at s.frames frame))
+        (blank frame (omega (arith, lt, counted.home.owners))))
+        ∙ ap (λ k. cond (is_mapped left k) (page_shown (page_at s.frames frame)) zero_page) here)
+      where
+        by : (b : Bool) (bytes : List ℕ) → (b ≡ false → bytes ≡ zero_page)
+            → cond b bytes zero_page ≡ bytes
+        by true bytes zero = refl
+        by false bytes zero = sym (zero refl)
+
+    abbrev shown : World → List ℕ → List Owner → List (List ℕ) → World
+    shown v bytes owners held =
+        record (with_holdings v a.process (with_end a.a0 None)) {
+          bytes = bytes;
+          owners = owners;
+          pipes = held;
+        }
 
     tidied_is : (q : ℕ) (o e : List ℕ)
         → tidied (with_holdings (sent o e (world_of q s)) a.process (with_end a.a0 None))
         ≡ sent o e (world_of q (with_set s a.process a.a0 None new_pipes))
     tidied_is q o e =
-        ap (λ owners. shown (sent o e (world_of q s)) owners
+        ap (λ bytes. shown (sent o e (world_of q s)) bytes
+        (map_from 0 (owner_if_mapped left) s.frames.owners)
+        (map_from 0 (bytes_if_open left) s.pipes.bytes)) bytes_kept
+        ∙ ap (λ owners. shown (sent o e (world_of q s)) (joined s.frames.pages) owners
         (map_from 0 (bytes_if_open left) s.pipes.bytes)) owners_stay
-        ∙ ap (λ held. shown (sent o e (world_of q s)) s.frames.owners held)
+        ∙ ap (λ held. shown (sent o e (world_of q s)) (joined s.frames.pages) s.frames.owners held)
         (sym (pipes_tidied (Some end ∷ []) s.pipes new_pipes left
         (one_dropped s lawful counted a.process h is a.a0 end open_is)
         lawful.pipes.ranges.0

@@ -1,5 +1,6 @@
 -- What a sound state gives, and what changes of a state keep it sound.
-use Rattle.std.proofs.Common.{◌≡◌, ℕ, ◌+◌, ◌-◌, ◌≤◌, true, List, length, Option, Some, None, IsSome}
+use Rattle.std.proofs.Common.{◌≡◌, ℕ, ◌+◌, ◌-◌, ◌*◌, ◌≤◌, true, List, length, Option, Some, None}
+use Rattle.std.proofs.Common.{IsSome}
 use Rattle.std.proofs.Common.{IfSome, option_map, refl, sym, ap, ◌∙◌, subst, arith}
 use Rattle.std.specs.Prelude.{All, IsFalse, ◌↔◌, slice_index_or}
 use Rattle.dos_world.specs.World.{World, Thread, Sleeper, Registers, is_free}
@@ -134,6 +135,12 @@ module _ (s new : State) (stood : Stands s new) (round : new.round ≡ s.round) 
           (λ h. was.0 (free_by o p (stood.frames.used frame) h)),
           (λ h. free_by p o (sym (stood.frames.used frame)) (was.1 h)),
         );
+    zeros = λ frame offset h within.
+        ap (λ (ps : List (Option (List ℕ))). slice_index_or (joined ps) (4096 * frame + offset) 0)
+        stood.frames.pages
+        ∙ l.frames.zeros frame offset
+        (free_by (slice_index_or new.frames.owners frame Free)
+        (slice_index_or s.frames.owners frame Free) (stood.frames.used frame) h) within;
     owned = λ frame t h. l.frames.owned frame t (stood.frames.owned frame t h);
   }
 

@@ -15,9 +15,9 @@ use Rattle.dos_world.specs.World.{World, Thread, Life, live as alive, ended, Pro
 use Rattle.dos_world.specs.World.{on_holdings, holdings_of, all_holdings, first_of, belongs_to}
 use Rattle.dos_world.specs.World.{with_thread, parent_of}
 use Rattle.dos_world.specs.Kernel.{process_ended, posted, pending_with, orphaned, ended_by}
-use Rattle.dos_world.specs.Kernel.{is_none_of_these, unless_of, without_entries, tidied}
+use Rattle.dos_world.specs.Kernel.{is_none_of_these, unless_of, without_entries, tidied, zero_page}
 use Rattle.dos_world.specs.Counts.{uses_of, is_mapped, is_open, owner_if_mapped, bytes_if_open}
-use Rattle.dos_world.specs.Counts.{reads_pipe, writes_pipe}
+use Rattle.dos_world.specs.Counts.{reads_pipe, writes_pipe, bytes_if_mapped}
 use Rattle.dos_world.specs.declared.Owner.{Owner}
 use Rattle.dos_world.specs.declared.Owner.TheVariants.{Free}
 use Rattle.dos_laws.specs.Ends.{ended_processes, closed}
@@ -26,7 +26,8 @@ use Rattle.dos_laws.proofs.StandsEnds.{among}
 use Rattle.dos_laws.proofs.EndedProcesses.{orphans_have}
 use Rattle.dos_laws.proofs.Ends.{length-map_from, get_or-map_from}
 use Rattle.dos_laws.proofs.Mapped.{some_is, held_all}
-use Rattle.page_store.specs.Store.{Store, joined, uses_at, owner_at}
+use Rattle.page_store.specs.Store.{Store, joined, shown, uses_at, owner_at, page_at}
+use Rattle.page_store.proofs.Joined.{zeros-shown}
 use Rattle.proc_table.specs.Tables.{Tables, IsProcess, IsThread, thread_in, held_in, held_by}
 use Rattle.proc_table.specs.Tables.{thread_by, with_ended}
 use Rattle.kernel_mem.specs.Memory.{AreUsed, IsDropped, entries_of}
@@ -36,7 +37,9 @@ use Rattle.kernel_calls.specs.Ending.{AreDropped, AreNamed, posted_in}
 use Rattle.kernel_calls.specs.StateWorld.{IsCounted, IsSound, AreCounted, ends_of, world_of, sent}
 use Rattle.kernel_calls.specs.declared.state.State.{State}
 use Rattle.kernel_calls.proofs.Keeping.{lawful_now}
+use Rattle.kernel_mem.proofs.Dropping.{home-dropped}
 use Rattle.kernel_calls.proofs.Uses.{any_summed, sum_ended, uses-ended, mapped-used, owners-dropped}
+use Rattle.kernel_calls.proofs.Uses.{bytes-dropped}
 
 -- ---- processes
 
@@ -122,6 +125,14 @@ unused_free s sound frame lt none =
     mapped-used (world_of 16 s) frame
     ∙ ap (nat_lt 0) (sym (sound.counted.uses 16 frame) ∙ none) in
     ((lawful_now s sound).frames.free frame lt).1 unmapped
+
+-- and it was zero
+pub unused_zero : (s : State) → IsSound s → (frame : ℕ) → frame < length s.frames.owners
+    → uses_at s.frames frame ≡ 0 → shown (page_at s.frames frame) ≡ zero_page
+unused_zero s sound frame lt none =
+    zeros-shown s.frames.pages frame (omega (arith, lt, sound.counted.home.owners))
+    (λ offset within. (lawful_now s sound).frames.zeros frame offset
+    (unused_free s sound frame lt none) within)
 
 -- Where ends are dropped, a pipe that isn't open any more is empty, and the others stay.
 pub pipes_tidied : (ends : List (Option End)) (old new : Pipework) (v : World)
@@ -225,6 +236,11 @@ module _ (s : State) (sound : IsSound s) (p status : ℕ) (live : IsProcess s.ta
     owners_is = owners-dropped left (space_in s.table p) s.frames frames dropped uses-left
         (unused_free s sound)
 
+    bytes_is : bytes_if_mapped (is_mapped left) 0 s.frames.owners (joined s.frames.pages)
+        ≡ joined frames.pages
+    bytes_is = bytes-dropped left (space_in s.table p) s.frames frames dropped counted.home.owners
+        uses-left (unused_zero s sound)
+
     dropped_ends : AreDropped had.0.descriptors s.pipes pipes
     dropped_ends = subst (λ (o : Option Holdings). IfSome o
         (λ h. AreDropped h.descriptors s.pipes pipes)) had.1 gone
@@ -252,8 +268,8 @@ module _ (s : State) (sound : IsSound s) (p status : ℕ) (live : IsProcess s.ta
         pipes_tidied had.0.descriptors s.pipes pipes left dropped_ends
         (lawful_now s sound).pipes.ranges.0 counted_left
 
-    abbrev shown : World → List ℕ → List Owner → List Process → List (List ℕ) → World
-    shown v bytes owners processes held =
+    abbrev with_lists : World → List ℕ → List Owner → List Process → List (List ℕ) → World
+    with_lists v bytes owners processes held =
         record v {
           bytes = bytes;
           owners = owners;
@@ -268,17 +284,17 @@ module _ (s : State) (sound : IsSound s) (p status : ℕ) (live : IsProcess s.ta
     closed_is : (q : ℕ) (o e : List ℕ)
         → tidied (closed (sent o e (world_of q s)) p status) ≡ sent o e (world_of q mid)
     closed_is q o e =
-        ap (λ bytes. shown (sent o e (world_of q s)) bytes
+        ap (λ bytes. with_lists (sent o e (world_of q s)) bytes
         (map_from 0 (owner_if_mapped left) s.frames.owners)
         (ended_processes s.table.processes p status)
-        (map_from 0 (bytes_if_open left) s.pipes.bytes)) (ap joined (sym dropped.pages))
-        ∙ ap (λ owners. shown (sent o e (world_of q s)) (joined frames.pages) owners
+        (map_from 0 (bytes_if_open left) s.pipes.bytes)) bytes_is
+        ∙ ap (λ owners. with_lists (sent o e (world_of q s)) (joined frames.pages) owners
         (ended_processes s.table.processes p status)
         (map_from 0 (bytes_if_open left) s.pipes.bytes)) (sym owners_is)
         ∙ ap (λ processes.
-        shown (sent o e (world_of q s)) (joined frames.pages) frames.owners processes
+        with_lists (sent o e (world_of q s)) (joined frames.pages) frames.owners processes
         (map_from 0 (bytes_if_open left) s.pipes.bytes)) (sym processes_is)
-        ∙ ap (λ held. shown (sent o e (world_of q s))
+        ∙ ap (λ held. with_lists (sent o e (world_of q s))
         (joined frames.pages) frames.owners table.processes held) (sym pipes_is)
 
     -- and then
@@ -351,11 +367,8 @@ module _ (s : State) (sound : IsSound s) (p status : ℕ) (live : IsProcess s.ta
       sound-ended small = record {
         counted = record {
           home = record {
-            home =
-                subst (λ (ps : List (Option (List ℕ))). All IsSome ps)
-                (sym dropped.pages) counted.home.home;
-            owners = dropped.count ∙ counted.home.owners
-                ∙ ap length (sym dropped.pages);
+            home = home-dropped (space_in s.table p) s.frames frames dropped counted.home.home;
+            owners = dropped.count ∙ counted.home.owners ∙ sym dropped.page_count;
           };
           round = counted.round;
           room = omega (arith, dropped.count, counted.room, posted_room);

@@ -8,6 +8,7 @@ use Rattle.dos_world.specs.Numbered.{map_from}
 use Rattle.dos_world.specs.World.{World, Holdings, registers_by, with_holdings, with_registers}
 use Rattle.dos_world.specs.Kernel.{answered, minus, tidied, free_frames, without_entries}
 use Rattle.dos_world.specs.Counts.{uses_of, owner_if_mapped, bytes_if_open, reads_pipe, writes_pipe}
+use Rattle.dos_world.specs.Counts.{is_mapped, bytes_if_mapped}
 use Rattle.dos_world.specs.Play.{Play, done}
 use Rattle.dos_world.specs.Calls.{Call, Served as FlatServed, replies, went}
 use Rattle.dos_world.specs.MemoryCalls.{in_pages, stays_mapped, mapped, where_mapped, is_range}
@@ -23,6 +24,7 @@ use Rattle.proc_table.specs.Tables.{Tables, held_by, held_in, thread_by}
 use Rattle.kernel_mem.specs.Memory.{AreUsed, IsDropped, entries_of}
 use Rattle.kernel_mem.specs.Ranges.{result_in}
 use Rattle.kernel_mem.specs.MemoryWorld.{HasAllHome, space_in}
+use Rattle.kernel_mem.proofs.Dropping.{home-dropped}
 use Rattle.kernel_calls.specs.Memory.{answer_by}
 use Rattle.kernel_calls.specs.StateWorld.{AreCounted, IsCounted, IsSound, sent, world_of}
 use Rattle.kernel_calls.specs.CallResults.{ActsQuietly, call_in}
@@ -33,8 +35,8 @@ use Rattle.kernel_calls.proofs.Callers.{Has, names_ends}
 use Rattle.kernel_calls.proofs.Counted.{counted-thread_by}
 use Rattle.kernel_calls.proofs.Keeping.{lawful_now}
 use Rattle.kernel_calls.proofs.PipeEnds.{dropped-none}
-use Rattle.kernel_calls.proofs.ProcessEnds.{pipes_tidied, unused_free}
-use Rattle.kernel_calls.proofs.Uses.{owners-dropped}
+use Rattle.kernel_calls.proofs.ProcessEnds.{pipes_tidied, unused_free, unused_zero}
+use Rattle.kernel_calls.proofs.Uses.{owners-dropped, bytes-dropped}
 
 -- ---- refusals
 
@@ -213,9 +215,9 @@ module _ (s : State) (a : Asked) (sound : IsSound s) (has : Has s a.process) (fr
   counted-unmapped =
       counted-space s a.process has.holdings has.is (without_pages call) refl counted frames table
       changes (record {
-        home = subst (λ (ps : List (Option (List ℕ))). All IsSome ps) (sym gone.pages)
+        home = home-dropped (filter (in_pages call) space) s.frames frames gone
             sound.counted.home.home;
-        owners = gone.count ∙ sound.counted.home.owners ∙ ap length (sym gone.pages);
+        owners = gone.count ∙ sound.counted.home.owners ∙ sym gone.page_count;
       })
       gone.count (λ frame. omega (
         arith,
@@ -239,6 +241,11 @@ module _ (s : State) (a : Asked) (sound : IsSound s) (has : Has s a.process) (fr
   owners_is = owners-dropped left (filter (in_pages call) space) s.frames frames gone uses-left
       (unused_free s sound)
 
+  bytes_is : bytes_if_mapped (is_mapped left) 0 s.frames.owners (joined s.frames.pages)
+      ≡ joined frames.pages
+  bytes_is = bytes-dropped left (filter (in_pages call) space) s.frames frames gone
+      sound.counted.home.owners uses-left (unused_zero s sound)
+
   -- a pipe is open as before, and one that isn't is empty
   pipes_is : s.pipes.bytes ≡ map_from 0 (bytes_if_open left) s.pipes.bytes
   pipes_is = pipes_tidied [] s.pipes s.pipes left
@@ -252,7 +259,7 @@ module _ (s : State) (a : Asked) (sound : IsSound s) (has : Has s a.process) (fr
   unmapped_is q o e =
       ap (λ bytes. shown bytes (map_from 0 (owner_if_mapped left) s.frames.owners)
       (held_by (without_pages call) s.table a.process)
-      (map_from 0 (bytes_if_open left) s.pipes.bytes)) (ap joined (sym gone.pages))
+      (map_from 0 (bytes_if_open left) s.pipes.bytes)) bytes_is
       ∙ ap (λ owners. shown (joined frames.pages) owners
       (held_by (without_pages call) s.table a.process)
       (map_from 0 (bytes_if_open left) s.pipes.bytes)) (sym owners_is)

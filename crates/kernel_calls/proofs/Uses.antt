@@ -8,15 +8,17 @@ use Rattle.std.proofs.lemmas.List.Sums.{sum_by-cons}
 use Rattle.std.proofs.lemmas.Bool.Decides.{nat_tests}
 use Rattle.dos_world.specs.Numbered.{changed, changed_at, map_from}
 use Rattle.dos_world.specs.World.{World, Process, Holdings, holdings_of, all_holdings}
-use Rattle.dos_world.specs.Kernel.{ended_by}
+use Rattle.dos_world.specs.Kernel.{ended_by, zero_page}
 use Rattle.dos_world.specs.Counts.{uses_of, is_mapped, maps_frame, owner_if_mapped}
+use Rattle.dos_world.specs.Counts.{bytes_if_mapped}
 use Rattle.dos_world.specs.declared.Entry.{Entry}
 use Rattle.dos_world.specs.declared.Owner.{Owner}
 use Rattle.dos_world.specs.declared.Owner.TheVariants.{Free}
 use Rattle.dos_laws.specs.Ends.{ended_processes}
 use Rattle.dos_laws.proofs.EndedProcesses.{before, orphans_have}
 use Rattle.dos_laws.proofs.Ends.{length-map_from, get_or-map_from}
-use Rattle.page_store.specs.Store.{Store, owner_at, uses_at}
+use Rattle.page_store.specs.Store.{Store, cleared, joined, shown, owner_at, page_at, uses_at}
+use Rattle.page_store.proofs.Joined.{joined-tidied, shown-cleared}
 use Rattle.proc_table.specs.Tables.{held_in}
 use Rattle.kernel_mem.specs.Memory.{IsDropped, entries_of}
 
@@ -80,24 +82,24 @@ mapped-used w frame =
 
 -- ---- owners
 
--- Of u uses k are gone and v are left: who owned the frame owns it as long as some are left.
-pub owner-left : (o : Owner) (u k v : ℕ) → u ≡ v + k → (u ≡ 0 → o ≡ Free)
-    → cond (nat_lt 0 k && (u == k)) Free o ≡ cond (nat_lt 0 v) o Free
-owner-left o u k zero e free = none k (omega arith)
+-- Of u uses k are gone and v are left: what stood stands as long as some are left.
+left-used : {A : Type 0} (gone o : A) (u k v : ℕ) → u ≡ v + k → (u ≡ 0 → o ≡ gone)
+    → cond (nat_lt 0 k && (u == k)) gone o ≡ cond (nat_lt 0 v) o gone
+left-used gone o u k zero e free = none k (omega arith)
   where
-    none : (k : ℕ) → u ≡ k → cond (nat_lt 0 k && (u == k)) Free o ≡ Free
+    none : (k : ℕ) → u ≡ k → cond (nat_lt 0 k && (u == k)) gone o ≡ gone
     none zero same = free same
     none (suc n) same =
         let all : (u == suc n) ≡ true = grind (arith, nat_tests) in
         let some : nat_lt 0 (suc n) ≡ true = grind (arith, nat_tests) in
-        ap (λ b. cond (nat_lt 0 (suc n) && b) Free o) all ∙ ap (λ b. cond (b && true) Free o) some
-owner-left o u k (suc v) e free =
+        ap (λ b. cond (nat_lt 0 (suc n) && b) gone o) all ∙ ap (λ b. cond (b && true) gone o) some
+left-used gone o u k (suc v) e free =
     let not_all : (u == k) ≡ false = grind (arith, nat_tests) in
     let some : nat_lt 0 (suc v) ≡ true = grind (arith, nat_tests) in
-    ap (λ b. cond (nat_lt 0 k && b) Free o) not_all ∙ never (nat_lt 0 k)
-    ∙ sym (ap (λ b. cond b o Free) some)
+    ap (λ b. cond (nat_lt 0 k && b) gone o) not_all ∙ never (nat_lt 0 k)
+    ∙ sym (ap (λ b. cond b o gone) some)
   where
-    never : (b : Bool) → cond (b && false) Free o ≡ o
+    never : (b : Bool) → cond (b && false) gone o ≡ o
     never true = refl
     never false = refl
 
@@ -115,8 +117,34 @@ owners-dropped left gone old new dropped uses free =
     let within : frame < length old.owners = omega (arith, dropped.count) in
     let here : 0 + frame ≡ frame = omega arith in
     dropped.owners frame
-    ∙ owner-left (owner_at old frame) (uses_at old frame) (entries_of gone frame)
+    ∙ left-used Free (owner_at old frame) (uses_at old frame) (entries_of gone frame)
     (uses_of left frame) (uses frame) (free frame within)
     ∙ ap (λ b. cond b (owner_at old frame) Free) (sym (mapped-used left frame))
     ∙ sym (get_or-map_from 0 (owner_if_mapped left) old.owners frame Free Free within
     ∙ ap (λ k. owner_if_mapped left k (owner_at old frame)) here))
+
+-- ---- bytes
+
+-- and the bytes that it had, but for those that nothing maps any more
+pub bytes-dropped : (left : World) (gone : List (ℕ × Entry)) (old new : Store)
+    → IsDropped gone old new → length old.owners ≡ length old.pages
+    → ((frame : ℕ) → uses_at old frame ≡ uses_of left frame + entries_of gone frame)
+    → ((frame : ℕ) → frame < length old.owners → uses_at old frame ≡ 0
+    → shown (page_at old frame) ≡ zero_page)
+    → bytes_if_mapped (is_mapped left) 0 old.owners (joined old.pages) ≡ joined new.pages
+bytes-dropped left gone old new dropped count uses blank =
+    joined-tidied (is_mapped left) 0 old.owners old.pages new.pages dropped.page_count count
+    (λ frame lt.
+    let here : frame ≡ 0 + frame = omega arith in
+    ap shown (dropped.pages frame)
+    ∙ shows (nat_lt 0 (entries_of gone frame) && (uses_at old frame == entries_of gone frame))
+    (page_at old frame)
+    ∙ left-used zero_page (shown (page_at old frame)) (uses_at old frame) (entries_of gone frame)
+    (uses_of left frame) (uses frame) (blank frame (omega (arith, lt, count)))
+    ∙ ap (λ b. cond b (shown (page_at old frame)) zero_page) (sym (mapped-used left frame))
+    ∙ ap (λ k. cond (is_mapped left k) (shown (page_at old frame)) zero_page) here)
+  where
+    shows : (b : Bool) (page : Option (List ℕ))
+        → shown (cond b (cleared page) page) ≡ cond b zero_page (shown page)
+    shows true page = shown-cleared page
+    shows false page = refl

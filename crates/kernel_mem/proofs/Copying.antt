@@ -9,11 +9,12 @@ use Rattle.dos_world.specs.declared.Access.TheVariants.{Load, Store}
 use Rattle.dos_world.specs.World.{World, entry_at, owner_of}
 use Rattle.dos_world.specs.Reach.{has_right, is_foreign, loaded, stored, written, number_of}
 use Rattle.dos_world.specs.Kernel.{opened, place_of, copied_in, copied_out}
+use Rattle.dos_world.specs.Copying.{byte_stored}
 use Rattle.proc_table.specs.Tables.{Tables}
 use Rattle.page_store.specs.Store.{Store as Held, whole, with_home}
 use Rattle.page_store.proofs.Joined.{joined-stretch, joined-written, length-joined}
 use Rattle.kernel_mem.specs.MemoryWorld.{HasFrame, in_world, HasAllHome, with_open}
-use Rattle.kernel_mem.proofs.Reaching.{entry_same, opened_here, place_here, IsOpen}
+use Rattle.kernel_mem.proofs.Reaching.{entry_same, opened_here, place_here, stored_here, IsOpen}
 use Rattle.kernel_mem.proofs.Reaching.{is_open, opened-pages}
 
 -- ---- what a stretch holds
@@ -139,7 +140,7 @@ written_split w v t a b xs ys h e = walk w a b xs e ∙ ap (λ (x : World). copi
         → copied_out w t a (xs ++ ys) ≡ copied_out (copied_out w t a xs) t b ys
     walk w a b [] e = let same : a ≡ b = omega arith in ap (λ x. copied_out w t x ys) same
     walk w a b (x ∷ xs) e = let ow : World = opened w t a Store in
-        walk (stored ow (place_of ow t a Store) (x ∷ [])) (suc a) b xs (omega arith)
+        walk (byte_stored ow t a x) (suc a) b xs (omega arith)
 
 -- a page that is opened first is opened no more
 written_opened : (w v : World) (t a : ℕ) (bytes : List ℕ) → 0 < length bytes
@@ -149,7 +150,7 @@ written_opened w v t a [] some e f = absurd (omega arith)
 written_opened w v t a (b ∷ bytes) some e f = ap step e ∙ sym (ap step f)
   where
     step : World → World
-    step ow = copied_out (stored ow (place_of ow t a Store) (b ∷ [])) t (suc a) bytes
+    step ow = copied_out (byte_stored ow t a b) t (suc a) bytes
 
 -- where a frame isn't foreign, the bytes are written where they stand
 written_own : (w : World) (t a k : ℕ) (bytes : List ℕ) (e : Entry) → has_right Store e ≡ true
@@ -164,10 +165,10 @@ written_own w t a k (b ∷ bytes) e right own mapped places =
     let first : 4096 * e.frame + a % 4096 ≡ k =
     subst (λ x. 4096 * e.frame + x % 4096 ≡ k) {x = a + 0} (omega arith)
     (places 0 (omega arith) ∙ omega arith) in
-    ap (λ (ow : World). copied_out (stored ow (place_of ow t a Store) (b ∷ [])) t (suc a) bytes)
+    ap (λ (ow : World). copied_out (byte_stored ow t a b) t (suc a) bytes)
     (opened_here w t a Store e false here right own)
-    ∙ ap (λ p. copied_out (stored w p (b ∷ [])) t (suc a) bytes)
-    (place_here w t a Store e here right own ∙ first)
+    ∙ ap (λ (x : World). copied_out x t (suc a) bytes) (stored_here w t a b e here right own)
+    ∙ ap (λ p. copied_out (stored w p (b ∷ [])) t (suc a) bytes) first
     ∙ written_own (stored w k (b ∷ [])) t (suc a) (suc k) bytes e right own
     (λ i l. subst (λ x. entry_at w t x ≡ Some e) {x = a + suc i} (omega arith)
     (mapped (suc i) (omega arith)))

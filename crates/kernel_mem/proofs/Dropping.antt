@@ -1,9 +1,10 @@
 -- The uses and owners of frames, as a space's entries go one after another.
 use Rattle.std.proofs.Common.{◌≡◌, ◌≢◌, ℕ, zero, suc, ◌+◌, ◌-◌, ◌<◌, ◌≤◌, Bool, true, false, cond}
-use Rattle.std.proofs.Common.{◌⊎◌, inl, inr, List, [], ◌∷◌, ◌++◌, length, get_or, set, take, Some}
+use Rattle.std.proofs.Common.{◌⊎◌, inl, inr, List, [], ◌∷◌, ◌++◌, length, get_or, set, take}
+use Rattle.std.proofs.Common.{Option, Some, None, IsSome, All}
 use Rattle.std.proofs.Common.{length-set, get_or-set_same, get_or-set_other, refl, sym, ap, ◌∙◌}
 use Rattle.std.proofs.Common.{arith}
-use Rattle.std.specs.Prelude.{◌==◌, ◌&&◌, not, nat_lt, filter, slice_get}
+use Rattle.std.specs.Prelude.{◌==◌, ◌&&◌, not, nat_lt, filter, is_some, slice_get}
 use Rattle.std.proofs.lemmas.Bool.{cases_eq, ne_eqb}
 use Rattle.std.proofs.lemmas.Bool.Decides.{nat_tests}
 use Rattle.std.proofs.lemmas.List.{take_more}
@@ -15,9 +16,9 @@ use Rattle.std.proofs.lemmas.List.Sums.{sum_by-cons, sum_by-take-drop}
 use Rattle.dos_world.specs.declared.Owner.{Owner}
 use Rattle.dos_world.specs.declared.Owner.TheVariants.{Free}
 use Rattle.dos_world.specs.declared.Entry.{Entry}
-use Rattle.page_store.specs.Store.{Store, with_less, owner_at, uses_at}
+use Rattle.page_store.specs.Store.{Store, cleared, with_less, owner_at, page_at, uses_at}
 use Rattle.page_store.proofs.Counts.{used-within}
-use Rattle.kernel_mem.specs.Memory.{entries_of, IsDropped, AreUsed}
+use Rattle.kernel_mem.specs.Memory.{entries_of, is_last, page_without, IsDropped, AreUsed}
 
 -- ---- one entry more
 
@@ -134,12 +135,53 @@ less-owner t n f = elim (cases_eq f n) [
     off true d = get_or-set_other t.owners n f Free Free d
     off false d = refl
 
--- Free where the uses are used up, by numbers alone: u uses, k of them gone already, and one more
+zeroed : (pages : List (Option (List ℕ))) (n : ℕ)
+    → get_or (set pages n (cleared (get_or pages n None))) n None ≡ cleared (get_or pages n None)
+zeroed [] n = refl
+zeroed (p ∷ pages) zero = refl
+zeroed (p ∷ pages) (suc n) = zeroed pages n
+
+-- a frame is zero once none of its uses is left, and else keeps its page
+less-page : (t : Store) (n f : ℕ)
+    → page_at (with_less t n) f
+    ≡ cond ((n == f) && (uses_at t f == 1)) (cleared (page_at t f)) (page_at t f)
+less-page t n f = elim (cases_eq f n) [
+  | inl same ↦ ap (λ k. get_or (with_less t n).pages k None) same ∙ at (get_or t.uses n 0 == 1)
+      ∙ ap (λ k. cond (get_or t.uses k 0 == 1) (cleared (page_at t k)) (page_at t k)) (sym same)
+      ∙ ap (λ (b : Bool). cond (b && (uses_at t f == 1)) (cleared (page_at t f)) (page_at t f))
+      (sym (is same))
+  | inr other ↦ off (get_or t.uses n 0 == 1) other
+      ∙ ap (λ (b : Bool). cond (b && (uses_at t f == 1)) (cleared (page_at t f)) (page_at t f))
+      (sym (ne_eqb n f (λ e. other (sym e))))
+]
+  where
+    is : f ≡ n → (n == f) ≡ true
+    is e = grind (arith, nat_tests)
+
+    at : (b : Bool) → get_or (cond b (set t.pages n (cleared (page_at t n))) t.pages) n None
+        ≡ cond b (cleared (page_at t n)) (page_at t n)
+    at true = zeroed t.pages n
+    at false = refl
+
+    off : (b : Bool) → f ≢ n
+        → get_or (cond b (set t.pages n (cleared (page_at t n))) t.pages) f None ≡ page_at t f
+    off true d = get_or-set_other t.pages n f (cleared (page_at t n)) None d
+    off false d = refl
+
+cleared_twice : (p : Option (List ℕ)) → cleared (cleared p) ≡ cleared p
+cleared_twice None = refl
+cleared_twice (Some page) = refl
+
+cleared_again : (b : Bool) (p : Option (List ℕ)) → cleared (cond b (cleared p) p) ≡ cleared p
+cleared_again true p = cleared_twice p
+cleared_again false p = refl
+
+-- Whether the uses are used up, by numbers alone: u uses, k of them gone already, and one more
 -- where b
-both-owners : (o : Owner) (u k : ℕ) (b : Bool) → k + one_if b ≤ u
-    → cond (b && (u - k == 1)) Free (cond (nat_lt 0 k && (u == k)) Free o)
-    ≡ cond (nat_lt 0 (k + one_if b) && (u == k + one_if b)) Free o
-both-owners o u k true h = by (cases_eq u (k + 1))
+both-last : {A : Type 0} (last o : A) (u k : ℕ) (b : Bool) → k + one_if b ≤ u
+    → cond (b && (u - k == 1)) last (cond (nat_lt 0 k && (u == k)) last o)
+    ≡ cond (nat_lt 0 (k + one_if b) && (u == k + one_if b)) last o
+both-last last o u k true h = by (cases_eq u (k + 1))
   where
     yes : (x y : ℕ) → x ≡ y → (x == y) ≡ true
     yes x y e = grind (arith, nat_tests)
@@ -147,34 +189,49 @@ both-owners o u k true h = by (cases_eq u (k + 1))
     more : nat_lt 0 (k + 1) ≡ true
     more = grind (arith, nat_tests)
 
-    never : (x : Bool) → cond (x && false) Free o ≡ o
+    never : (x : Bool) → cond (x && false) last o ≡ o
     never true = refl
     never false = refl
 
     by : (u ≡ k + 1) ⊎ (u ≢ k + 1)
-        → cond (true && (u - k == 1)) Free (cond (nat_lt 0 k && (u == k)) Free o)
-        ≡ cond (nat_lt 0 (k + 1) && (u == k + 1)) Free o
-    by (inl same) = ap (λ (x : Bool). cond x Free (cond (nat_lt 0 k && (u == k)) Free o))
+        → cond (true && (u - k == 1)) last (cond (nat_lt 0 k && (u == k)) last o)
+        ≡ cond (nat_lt 0 (k + 1) && (u == k + 1)) last o
+    by (inl same) = ap (λ (x : Bool). cond x last (cond (nat_lt 0 k && (u == k)) last o))
         (yes (u - k) 1 (omega arith))
-        ∙ sym (ap (λ (x : Bool). cond (x && (u == k + 1)) Free o) more
-        ∙ ap (λ (x : Bool). cond x Free o) (yes u (k + 1) same))
+        ∙ sym (ap (λ (x : Bool). cond (x && (u == k + 1)) last o) more
+        ∙ ap (λ (x : Bool). cond x last o) (yes u (k + 1) same))
     by (inr other) =
         let not_last : (u - k == 1) ≡ false = ne_eqb (u - k) 1 (λ e. other (omega arith)) in
         let not_all : (u == k) ≡ false = ne_eqb u k (λ e. absurd (omega arith)) in
-        ap (λ (x : Bool). cond x Free (cond (nat_lt 0 k && (u == k)) Free o)) not_last
-        ∙ ap (λ (x : Bool). cond (nat_lt 0 k && x) Free o) not_all ∙ never (nat_lt 0 k)
-        ∙ sym (ap (λ (x : Bool). cond (x && (u == k + 1)) Free o) more
-        ∙ ap (λ (x : Bool). cond x Free o) (ne_eqb u (k + 1) other))
-both-owners o u k false h =
+        ap (λ (x : Bool). cond x last (cond (nat_lt 0 k && (u == k)) last o)) not_last
+        ∙ ap (λ (x : Bool). cond (nat_lt 0 k && x) last o) not_all ∙ never (nat_lt 0 k)
+        ∙ sym (ap (λ (x : Bool). cond (x && (u == k + 1)) last o) more
+        ∙ ap (λ (x : Bool). cond x last o) (ne_eqb u (k + 1) other))
+both-last last o u k false h =
     let same : k ≡ k + 0 = omega arith in
-    ap (λ n. cond (nat_lt 0 n && (u == n)) Free o) same
+    ap (λ n. cond (nat_lt 0 n && (u == n)) last o) same
 
 -- one entry more is gone
 dropped-more : (s t new : Store) (gone more : List (ℕ × Entry)) (e : ℕ × Entry)
     → AreUsed more s → IsDropped gone s t → IsOneMore gone e more
     → new ≡ with_less t e.1.frame → e.1.frame < length t.uses → IsDropped more s new
 dropped-more s t new gone more e used dropped one is within = record {
-  pages = ap (λ (x : Store). x.pages) is ∙ dropped.pages;
+  page_count = ap (λ (x : Store). length x.pages) is ∙ page_lengths (uses_at t e.1.frame == 1)
+      ∙ dropped.page_count;
+  pages = λ f.
+      let few : entries_of gone f + one_if (e.1.frame == f) ≤ uses_at s f =
+      omega (arith, used f, one f) in
+      let last : Bool = (e.1.frame == f) && (uses_at s f - entries_of gone f == 1) in
+      ap (λ x. page_at x f) is ∙ less-page t e.1.frame f
+      ∙ ap (λ (u : ℕ). cond ((e.1.frame == f) && (u == 1)) (cleared (page_at t f)) (page_at t f))
+      (dropped.uses f)
+      ∙ ap (λ p. cond last (cleared p) p) (dropped.pages f)
+      ∙ ap (λ p. cond last p (page_without gone s f))
+      (cleared_again (is_last gone s f) (page_at s f))
+      ∙ both-last (cleared (page_at s f)) (page_at s f) (uses_at s f) (entries_of gone f)
+      (e.1.frame == f) few
+      ∙ ap (λ n. cond (nat_lt 0 n && (uses_at s f == n)) (cleared (page_at s f)) (page_at s f))
+      (sym (one f));
   count = ap (λ (x : Store). length x.owners) is ∙ lengths (uses_at t e.1.frame == 1)
       ∙ dropped.count;
   uses = λ f. ap (λ x. uses_at x f) is ∙ less-uses t e.1.frame f within
@@ -187,10 +244,16 @@ dropped-more s t new gone more e used dropped one is within = record {
       ∙ ap (λ (u : ℕ). cond ((e.1.frame == f) && (u == 1)) Free (owner_at t f)) (dropped.uses f)
       ∙ ap (λ o. cond ((e.1.frame == f) && (uses_at s f - entries_of gone f == 1)) Free o)
       (dropped.owners f)
-      ∙ both-owners (owner_at s f) (uses_at s f) (entries_of gone f) (e.1.frame == f) few
+      ∙ both-last Free (owner_at s f) (uses_at s f) (entries_of gone f) (e.1.frame == f) few
       ∙ ap (λ n. cond (nat_lt 0 n && (uses_at s f == n)) Free (owner_at s f)) (sym (one f));
 }
   where
+    page_lengths : (b : Bool)
+        → length (cond b (set t.pages e.1.frame (cleared (page_at t e.1.frame))) t.pages)
+        ≡ length t.pages
+    page_lengths true = length-set t.pages e.1.frame (cleared (page_at t e.1.frame))
+    page_lengths false = refl
+
     lengths : (b : Bool) → length (cond b (set t.owners e.1.frame Free) t.owners) ≡ length t.owners
     lengths true = length-set t.owners e.1.frame Free
     lengths false = refl
@@ -213,10 +276,32 @@ module _ (s t : Store) (es : List (ℕ × Entry)) (i : ℕ) (e : ℕ × Entry) (
       dropped-more s t new (take i es) (take (i + 1) es) e (used-front s es (i + 1) used) dropped
       one is (used-within t.uses e.1.frame next-used)
 
+-- ---- pages
+
+-- all are home as before
+pub home-dropped : (gone : List (ℕ × Entry)) (s new : Store) → IsDropped gone s new
+    → All IsSome s.pages → All IsSome new.pages
+home-dropped gone s new dropped home k d lt =
+    let within : k < length s.pages = omega (arith, dropped.page_count, lt) in
+    ap is_some (same_default new.pages k d None lt ∙ dropped.pages k)
+    ∙ either (is_last gone s k) (page_at s k) ∙ home k None within
+  where
+    same_default : (xs : List (Option (List ℕ))) (i : ℕ) (a b : Option (List ℕ)) → i < length xs
+        → get_or xs i a ≡ get_or xs i b
+    same_default [] i a b h = absurd (omega arith)
+    same_default (x ∷ xs) zero a b h = refl
+    same_default (x ∷ xs) (suc i) a b h = same_default xs i a b (omega arith)
+
+    either : (b : Bool) (p : Option (List ℕ)) → is_some (cond b (cleared p) p) ≡ is_some p
+    either true None = refl
+    either true (Some page) = refl
+    either false p = refl
+
 -- none of them
 pub none-dropped : (s : Store) → IsDropped [] s s
 none-dropped s = record {
-  pages = refl;
+  page_count = refl;
+  pages = λ f. refl;
   count = refl;
   uses = λ f. omega arith;
   owners = λ f. refl;

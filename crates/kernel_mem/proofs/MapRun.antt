@@ -214,16 +214,10 @@ module _ {s0 s : Store} {old_table T : Tables} {t p page rights count i : ℕ}
       let next : Tables = held_by (with_entry (page + i) entry) so_far.filled p in
       let more : count - i ≡ suc (count - (i + 1)) = omega arith in
       let behind : suc (page + i) ≡ page + (i + 1) = omega arith in
-      let within : frame < length s.pages =
-      omega (
-        arith,
-        so_far.mapping.home.owners,
-        (position-Some is_free s.owners frame Free found).0,
-      ) in
       let one : (w : World) → in_world w s1 next
       ≡ page_mapped t p rights (in_world w s so_far.filled) (page + i) =
       λ w. ap (λ x. in_world w x next) frames
-      ∙ page_step w s so_far.filled t p rights (page + i) frame (sym found) within in
+      ∙ page_step w s so_far.filled t p rights (page + i) frame (sym found) in
       record {
         filled = next;
         mapping = mapping-more so_far.mapping found frames refl one home unused;

@@ -1,6 +1,7 @@
 -- What an access of a byte reaches, by the entry of its page, and the frame that is granted for it.
 use Rattle.std.proofs.Common.{◌≡◌, ℕ, zero, suc, ◌+◌, ◌-◌, ◌*◌, ◌/◌, ◌%◌, ◌<◌, ◌≤◌, Bool, true}
-use Rattle.std.proofs.Common.{false, not, cond, List, [], length, get_or-set_same, Option, Some}
+use Rattle.std.proofs.Common.{false, not, cond, List, [], ◌∷◌, length, get_or-set_same, Option}
+use Rattle.std.proofs.Common.{Some}
 use Rattle.std.proofs.Common.{None, refl, sym, ap, ◌∙◌, arith, eq-eqb}
 use Rattle.std.specs.Prelude.{◌&&◌, ◌==◌, slice_get}
 use Rattle.dos_world.specs.declared.Owner.TheVariants.{Free}
@@ -10,8 +11,9 @@ use Rattle.dos_world.specs.declared.Access.TheVariants.{Fetch, Load, Store, Clai
 use Rattle.dos_world.specs.declared.Size.TheVariants.{Byte}
 use Rattle.dos_world.specs.World.{World, look, entry_at, owner_of, space_of, thread_at}
 use Rattle.dos_world.specs.Reach.{reach, in_frame, has_right, is_foreign, grant, granted, Reached}
-use Rattle.dos_world.specs.Reach.{fault, foreign, at}
+use Rattle.dos_world.specs.Reach.{fault, foreign, at, stored}
 use Rattle.dos_world.specs.Kernel.{all_reach, is_reached, opened, place_of}
+use Rattle.dos_world.specs.Copying.{byte_stored}
 use Rattle.proc_table.specs.Tables.{Tables}
 use Rattle.page_store.specs.Store.{Store as Held, owner_at, with_grant}
 use Rattle.page_store.proofs.Joined.{home-at}
@@ -84,6 +86,18 @@ pub place_here : (w : World) (t a : ℕ) (access : Access) (e : Entry) → entry
     → has_right access e ≡ true → is_foreign t access (owner_of w e.frame) ≡ false
     → place_of w t a access ≡ 4096 * e.frame + a % 4096
 place_here w t a access e h right f = ap place_by (reach_here w t a access e false h right f)
+
+pub stored_here : (w : World) (t a b : ℕ) (e : Entry) → entry_at w t a ≡ Some e
+    → has_right Store e ≡ true → is_foreign t Store (owner_of w e.frame) ≡ false
+    → byte_stored w t a b ≡ stored w (4096 * e.frame + a % 4096) (b ∷ [])
+stored_here w t a b e h right f = ap stored_by (reach_here w t a Store e false h right f)
+  where
+    stored_by : Reached → World
+    stored_by r = elim r as (λ _. World) [
+      | fault n ↦ w
+      | foreign frame ↦ w
+      | at place ↦ stored w place (b ∷ [])
+    ]
 
 -- ---- whether a stretch is reached
 

@@ -18,7 +18,7 @@ use proc_table::Table;
 use space_map::Space;
 
 /// Unmaps all pages of a live process: each of its entries is one use less of its frame, and a
-/// frame without uses is Free.
+/// frame without uses is Free and zero.
 pub fn drop_space(frames: &mut Frames, table: &mut Table, pid: u32)
     requires live { IsProcess table.old.processes pid }
     requires used { AreUsed (space_in table.old pid) frames.old }
@@ -39,8 +39,8 @@ fn drop_uses(frames: &mut Frames, space: &Space)
 }
 
 /// Unmaps `pages` pages from `address` on for `tid`'s process: each is one use less of its frame,
-/// and a frame without uses is Free. `Err(22)` exactly where they are no range or one of them isn't
-/// mapped; nothing changes then.
+/// and a frame without uses is Free and zero. `Err(22)` exactly where they are no range or one of
+/// them isn't mapped; nothing changes then.
 pub fn unmap(
     frames: &mut Frames,
     table: &mut Table,

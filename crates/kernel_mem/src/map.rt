@@ -18,10 +18,11 @@ use dos_world::errors::{EINVAL, ENOMEM};
 use page_store::Frames;
 use proc_table::Table;
 
-/// Maps `pages` private pages of zeros from `address` on for `tid`'s process, with these rights (1
-/// is X, 2 is W, 4 is R), in the lowest Free frames, which become `tid`'s. `Err(22)` exactly where
-/// they are no range, the rights are over 7 or one of them is mapped, and else `Err(12)` exactly
-/// where too few frames are Free; nothing changes then.
+/// Maps `pages` private pages from `address` on for `tid`'s process, with these rights (1 is X, 2
+/// is W, 4 is R), in the lowest Free frames, which become `tid`'s; their bytes stay, and were zero
+/// where the world is lawful. `Err(22)` exactly where they are no range, the rights are over 7 or
+/// one of them is mapped, and else `Err(12)` exactly where too few frames are Free; nothing changes
+/// then.
 pub fn map_pages(
     frames: &mut Frames,
     table: &mut Table,
@@ -103,8 +104,8 @@ fn map_run(
     }
 }
 
-// The lowest Free frame, of zeros, becomes `tid`'s and that of a page that the process maps, with
-// these rights. Answers the frame.
+// The lowest Free frame becomes `tid`'s and that of a page that the process maps, with these
+// rights. Answers the frame.
 fn fill_page(
     frames: &mut Frames,
     table: &mut Table,

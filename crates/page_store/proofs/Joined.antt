@@ -2,19 +2,24 @@
 use Rattle.std.proofs.Common.{◌≡◌, ℕ, zero, suc, ◌+◌, ◌-◌, ◌*◌, ◌<◌, ◌≤◌, List, [], ◌∷◌, ◌++◌}
 use Rattle.std.proofs.Common.{length, get_or, set, take, drop, replicate, slice_get, Option, Some}
 use Rattle.std.proofs.Common.{None, IsSome, All, refl, sym, ap, ◌∙◌, arith, length-append}
-use Rattle.std.proofs.Common.{append_assoc}
-use Rattle.std.specs.Prelude.{true, false}
+use Rattle.std.proofs.Common.{append_assoc, cond}
+use Rattle.std.specs.Prelude.{Bool, true, false, slice_index_or}
 use Rattle.std.proofs.lemmas.List.{get_or_append_left, drop_all, append-nil, get_or-append_right}
 use Rattle.std.proofs.lemmas.List.{set-append_left, set-append_right, take-append-le}
 use Rattle.std.proofs.lemmas.List.{drop-append-le, take_all, length-drop, length-set}
-use Rattle.std.proofs.lemmas.List.{replicate-append-replicate}
+use Rattle.std.proofs.lemmas.List.{replicate-append-replicate, ext_get_or}
+use Rattle.std.proofs.lemmas.Option.{slice_get-get_or}
 use Rattle.std.proofs.lemmas.List.Elements.{All-head, All-tail}
 use Rattle.std.proofs.Math.Seq.{drop-append_seam, drop-append-add, take-append-add}
+use Rattle.std.proofs.Math.Seq.{take-append_seam}
 use Rattle.dos_world.specs.Reach.{with_page, written, number_of}
 use Rattle.dos_world.specs.World.{page_of}
+use Rattle.dos_world.specs.Counts.{bytes_if_mapped}
+use Rattle.dos_world.specs.declared.Owner.{Owner}
 use Rattle.dos_world.specs.Kernel.{zero_page}
-use Rattle.page_store.specs.Store.{whole, shown, joined}
-use Rattle.page_store.proofs.Pages.{length-whole, written-splice, whole-zero_page}
+use Rattle.page_store.specs.Store.{whole, shown, joined, cleared}
+use Rattle.page_store.proofs.Pages.{length-whole, length-zero_page, written-splice}
+use Rattle.page_store.proofs.Pages.{whole-zero_page, whole-none}
 
 pub length-shown : (p : Option (List ℕ)) → length (shown p) ≡ 4096
 length-shown None = length-whole []
@@ -86,11 +91,60 @@ joined-set_same (o ∷ ps) zero p q e h =
     ap (λ x. x ++ joined ps) (h ∙ ap shown is)
 joined-set_same (o ∷ ps) (suc f) p q e h = ap (λ xs. shown o ++ xs) (joined-set_same ps f p q e h)
 
--- a fresh page is a page of zeros
-pub joined-fresh : (ps : List (Option (List ℕ))) (f : ℕ) → f < length ps
-    → joined (set ps f (Some zero_page)) ≡ with_page (joined ps) f zero_page
-joined-fresh ps f h = joined-set ps f (Some zero_page) h
-    ∙ ap (λ p. with_page (joined ps) f p) whole-zero_page
+-- a page that was cleared shows zeros
+pub shown-cleared : (page : Option (List ℕ)) → shown (cleared page) ≡ zero_page
+shown-cleared None = whole-none
+shown-cleared (Some page) = whole-zero_page
+
+-- the pages of frames that aren't mapped, cleared
+pub joined-tidied : (mapped : ℕ → Bool) (n : ℕ) (owners : List Owner)
+    (old new : List (Option (List ℕ))) → length new ≡ length old → length owners ≡ length old
+    → ((i : ℕ) → i < length old → shown (slice_index_or new i None)
+    ≡ cond (mapped (n + i)) (shown (slice_index_or old i None)) zero_page)
+    → bytes_if_mapped mapped n owners (joined old) ≡ joined new
+unfolding joined
+joined-tidied mapped n [] [] [] count each pages = refl
+joined-tidied mapped n [] [] (q ∷ new) count each pages = absurd (omega arith)
+joined-tidied mapped n [] (p ∷ old) new count each pages = absurd (omega arith)
+joined-tidied mapped n (owner ∷ owners) [] new count each pages = absurd (omega arith)
+joined-tidied mapped n (owner ∷ owners) (p ∷ old) [] count each pages = absurd (omega arith)
+joined-tidied mapped n (owner ∷ owners) (p ∷ old) (q ∷ new) count each pages =
+    let size : length (shown p) ≡ 4096 = length-shown p in
+    let none : n + 0 ≡ n = omega arith in
+    let first : shown q ≡ cond (mapped n) (shown p) zero_page =
+    pages 0 (omega arith) ∙ ap (λ m. cond (mapped m) (shown p) zero_page) none in
+    ap (λ xs. cond (mapped n) xs zero_page
+    ++ bytes_if_mapped mapped (suc n) owners (drop 4096 (shown p ++ joined old)))
+    (ap (λ k. take k (shown p ++ joined old)) (sym size) ∙ take-append_seam (shown p) (joined old))
+    ∙ ap (λ xs. cond (mapped n) (shown p) zero_page ++ bytes_if_mapped mapped (suc n) owners xs)
+    (ap (λ k. drop k (shown p ++ joined old)) (sym size) ∙ drop-append_seam (shown p) (joined old))
+    ∙ ap (λ xs. xs ++ bytes_if_mapped mapped (suc n) owners (joined old)) (sym first)
+    ∙ ap (λ xs. shown q ++ xs)
+    (joined-tidied mapped (suc n) owners old new (omega arith) (omega arith)
+    (λ i lt. let next : n + suc i ≡ suc n + i = omega arith in
+    pages (suc i) (omega arith)
+    ∙ ap (λ m. cond (mapped m) (shown (slice_index_or old i None)) zero_page) next))
+
+zero_at : (offset : ℕ) → get_or zero_page offset 0 ≡ 0
+unfolding zero_page
+zero_at offset = same 4096 offset
+  where
+    same : (n i : ℕ) → get_or {A = ℕ} (replicate n 0) i 0 ≡ 0
+    same zero i = refl
+    same (suc n) zero = refl
+    same (suc n) (suc i) = same n i
+
+-- a page whose bytes in the one list are 0 shows zeros
+pub zeros-shown : (ps : List (Option (List ℕ))) (f : ℕ) → f < length ps
+    → ((offset : ℕ) → offset < 4096 → get_or (joined ps) (4096 * f + offset) 0 ≡ 0)
+    → shown (get_or ps f None) ≡ zero_page
+zeros-shown ps f there zeros =
+    ext_get_or 0 (shown (get_or ps f None)) zero_page
+    (length-shown (get_or ps f None) ∙ sym length-zero_page)
+    (λ i lt. let within : i < 4096 = omega (arith, lt, length-shown (get_or ps f None)) in
+    sym (joined_at ps f i (4096 * f + i) (get_or ps f None) (slice_get-get_or ps f None there)
+    within refl)
+    ∙ zeros i within ∙ sym (zero_at i))
 
 -- ---- stretches
 

@@ -3,6 +3,7 @@ use Rattle.std.proofs.Common.{◌≡◌, ℕ, suc, ◌+◌, ◌*◌, ◌^◌, �
 use Rattle.std.proofs.Common.{get_or, set, take, drop, replicate, refl, sym, ap, ◌∙◌, arith}
 use Rattle.std.proofs.Common.{length-append, append_assoc, length-set}
 use Rattle.std.proofs.lemmas.List.{length-replicate, length-take, take-append-drop, take_more_set}
+use Rattle.std.proofs.lemmas.List.{take_all}
 use Rattle.std.proofs.lemmas.List.{drop-set-lt, drop-drop, drop_more}
 use borrow.Rule.Slice.PartMut.{put_mid}
 use Rattle.std.proofs.Math.Seq.{take-append_seam}
@@ -25,6 +26,11 @@ length-zero_page = length-replicate {A = ℕ} 4096 0
 
 pub whole-zero_page : whole zero_page ≡ zero_page
 whole-zero_page = whole-same zero_page length-zero_page
+
+-- no page shows zeros
+pub whole-none : whole [] ≡ zero_page
+unfolding whole zero_page
+whole-none = take_all 4096 (replicate 4096 0) (omega (arith, length-replicate {A = ℕ} 4096 0))
 
 pub length-whole : (page : List ℕ) → length (whole page) ≡ 4096
 unfolding whole

@@ -104,16 +104,8 @@ abbrev pub with_grant : Store → ℕ → ℕ → Access → Store
 with_grant s frame t access = record s { owners = slice_set s.owners frame (granted t access) }
 
 -- the frame is t's, with one use; its page stays
-abbrev pub with_owner : Store → ℕ → ℕ → Store
-with_owner s frame t = record s {
-  owners = slice_set s.owners frame (Of t);
-  uses = slice_set s.uses frame 1;
-}
-
--- the frame is t's, with a zero page and one use
 abbrev pub with_owned : Store → ℕ → ℕ → Store
-with_owned s frame t = record {
-  pages = slice_set s.pages frame (Some zero_page);
+with_owned s frame t = record s {
   owners = slice_set s.owners frame (Of t);
   uses = slice_set s.uses frame 1;
 }
@@ -121,9 +113,20 @@ with_owned s frame t = record {
 abbrev pub with_more : Store → ℕ → Store
 with_more s frame = record s { uses = slice_set s.uses frame (uses_at s frame + 1) }
 
--- one use less, and Free at none
+-- zeros in place of a page that is home
+abbrev pub cleared : Option (List ℕ) → Option (List ℕ)
+cleared None = None
+cleared (Some page) = Some zero_page
+
+-- the frame's page, None while it is away
+abbrev pub page_at : Store → ℕ → Option (List ℕ)
+page_at s frame = slice_index_or s.pages frame None
+
+-- one use less, and at none Free and zero
 abbrev pub with_less : Store → ℕ → Store
-with_less s frame = record s {
+with_less s frame = record {
+  pages = if uses_at s frame == 1 then slice_set s.pages frame (cleared (page_at s frame))
+      else s.pages;
   owners = if uses_at s frame == 1 then slice_set s.owners frame Free else s.owners;
   uses = slice_set s.uses frame (uses_at s frame - 1);
 }

@@ -8,8 +8,8 @@ ghost use Rattle.dos_world.specs.Kernel.{zero_page};
 ghost use Rattle.dos_world.specs.Reach.{granted};
 ghost use Rattle.page_store.specs.Store.{AreFreeFrom, AreHome, IsAway, IsCopied, IsHome, IsHomeIn};
 ghost use Rattle.page_store.specs.Store.{IsOwned, IsPageCopied, IsUnused, free_count, owner_at};
-ghost use Rattle.page_store.specs.Store.{unused, uses_at, with_away, with_owned, with_grant};
-ghost use Rattle.page_store.specs.Store.{with_home, with_less, with_more, with_owner};
+ghost use Rattle.page_store.specs.Store.{cleared, unused, uses_at, with_away, with_owned};
+ghost use Rattle.page_store.specs.Store.{with_grant, with_home, with_less, with_more};
 ghost use Rattle.page_store.specs.Lending.{LendsPage, LendsSlot};
 
 use crate::Page;
@@ -191,47 +191,13 @@ impl Frames {
         self.owners[frame as usize] = owner;
     }
 
-    /// The lowest Free frame, which becomes `tid`'s, with a zero page and one use. None exactly
-    /// where no frame is Free; nothing changes then.
+    /// The lowest Free frame, which becomes `tid`'s, with one use. Its page stays as it is, zero
+    /// where the frame was cleared at its last use. None exactly where no frame is Free; nothing
+    /// changes then.
     pub fn fresh(&mut self, tid: u32) -> Option<u32>
-        requires { AreHome self.old }
         ensures found { result ≡ position is_free self.old.owners }
         ensures none { result ≡ None → self.new ≡ self.old }
         ensures one { IfSome result (λ frame. self.new ≡ with_owned self.old frame tid) }
-        ensures unused { IfSome result (λ frame. IsUnused self.old frame) }
-    {
-        match self.own_lowest(tid) {
-            None => None,
-            Some(frame) => {
-                page_mut(&mut self.pages[frame as usize]).clear();
-                Some(frame)
-            }
-        }
-    }
-
-    /// The lowest Free frame, which becomes `tid`'s, with the bytes of the page of `from` and one
-    /// use. None exactly where no frame is Free; nothing changes then.
-    pub fn fresh_copy(&mut self, tid: u32, from: u32) -> Option<u32>
-        requires home { AreHome self.old }
-        requires owned { IsOwned self.old from }
-        ensures found { result ≡ position is_free self.old.owners }
-        ensures none { result ≡ None → self.new ≡ self.old }
-        ensures one { IfSome result (λ frame. IsCopied self.old from frame tid self.new) }
-    {
-        match self.own_lowest(tid) {
-            None => None,
-            Some(frame) => {
-                copy_page(&mut self.pages, from as usize, frame as usize);
-                Some(frame)
-            }
-        }
-    }
-
-    // The lowest Free frame, which becomes `tid`'s, with one use. Its page stays as it is.
-    fn own_lowest(&mut self, tid: u32) -> Option<u32>
-        ensures found { result ≡ position is_free self.old.owners }
-        ensures none { result ≡ None → self.new ≡ self.old }
-        ensures owns { IfSome result (λ frame. self.new ≡ with_owner self.old frame tid) }
         ensures unused { IfSome result (λ frame. IsUnused self.old frame) }
     {
         match self.free_frames.lowest() {
@@ -248,6 +214,24 @@ impl Frames {
         }
     }
 
+    /// The lowest Free frame, which becomes `tid`'s, with the bytes of the page of `from` and one
+    /// use. None exactly where no frame is Free; nothing changes then.
+    pub fn fresh_copy(&mut self, tid: u32, from: u32) -> Option<u32>
+        requires home { AreHome self.old }
+        requires owned { IsOwned self.old from }
+        ensures found { result ≡ position is_free self.old.owners }
+        ensures none { result ≡ None → self.new ≡ self.old }
+        ensures one { IfSome result (λ frame. IsCopied self.old from frame tid self.new) }
+    {
+        match self.fresh(tid) {
+            None => None,
+            Some(frame) => {
+                copy_page(&mut self.pages, from as usize, frame as usize);
+                Some(frame)
+            }
+        }
+    }
+
     /// One use more. Nothing else changes.
     pub fn use_more(&mut self, frame: u32)
         requires owned { IsOwned self.old frame }
@@ -258,7 +242,7 @@ impl Frames {
         self.uses[frame as usize] += 1;
     }
 
-    /// One use less. At no use the frame is Free; its page stays as it is.
+    /// One use less. At no use the frame is Free, and its page, where it is home, becomes zero.
     pub fn use_less(&mut self, frame: u32)
         requires { 0 < uses_at self.old frame }
         ensures { self.new ≡ with_less self.old frame }
@@ -269,9 +253,20 @@ impl Frames {
             self.uses[place] = 0;
             self.free += 1;
             self.free_frames.set(frame);
+            clear_home(&mut self.pages[place]);
         } else {
             self.uses[place] -= 1;
         }
+    }
+}
+
+// a page that is home becomes zero
+fn clear_home(slot: &mut Option<Page>)
+    ensures { slot.new ≡ cleared slot.old }
+{
+    match slot {
+        Some(page) => page.clear(),
+        None => {}
     }
 }
 

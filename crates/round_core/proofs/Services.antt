@@ -10,13 +10,13 @@ use Rattle.dos_world.specs.World.{World, Thread, Holdings, Registers, thread_at,
 use Rattle.dos_world.specs.World.{first_thread, first_of, has_ended, live_process, with_thread}
 use Rattle.dos_world.specs.World.{with_holdings, with_registers, registers_by, page_of, entry_at}
 use Rattle.dos_world.specs.World.{in_state}
-use Rattle.dos_world.specs.Reach.{Reached, fault, foreign, at, reach, grant, granted}
+use Rattle.dos_world.specs.Reach.{Reached, fault, foreign, at, reach, grant, granted, stored}
 use Rattle.dos_world.specs.Counts.{owner_if_mapped}
-use Rattle.dos_world.specs.Copying.{all_reach}
+use Rattle.dos_world.specs.Copying.{all_reach, byte_stored}
 use Rattle.dos_world.specs.Kernel.{answered, awake, minus, posted, pending_with, tidied}
 use Rattle.dos_world.specs.Kernel.{process_ended, thread_ended, woken, opened, copied_in}
 use Rattle.dos_world.specs.Kernel.{copied_out}
-use Rattle.dos_world.specs.Kernel.{has_reader, has_writer, with_fresh, zero_page, free_frames}
+use Rattle.dos_world.specs.Kernel.{has_reader, has_writer, with_fresh, with_taken, free_frames}
 use Rattle.dos_world.specs.Kernel.{lowest_free_frame}
 use Rattle.dos_world.specs.Play.{Play, input_of}
 use Rattle.dos_world.specs.Services.{service_of}
@@ -133,19 +133,34 @@ module _ (K : Said) (stands : Stands K) where
       copied_in_kept count (opened w u address Load) u (suc address)
       (opened_kept w u address Load k)
 
+  byte_kept : (w : World) (u address b : ℕ) → J w → J (byte_stored w u address b)
+  byte_kept w u address b k = by_reach (reach w u address Byte Store)
+    where
+      by_reach : (r : Reached)
+          → J (elim r as (λ _. World) [
+            | fault m ↦ w
+            | foreign frame ↦ w
+            | at place ↦ stored w place (b ∷ [])
+          ])
+      by_reach (fault m) = k
+      by_reach (foreign frame) = k
+      by_reach (at place) = k
+
   copied_out_kept : (bytes : List ℕ) (w : World) (u address : ℕ) → J w
       → J (copied_out w u address bytes)
   copied_out_kept [] w u address k = k
   copied_out_kept (b ∷ bytes) w u address k =
-      copied_out_kept bytes _ u (suc address) (opened_kept w u address Store k)
+      copied_out_kept bytes (byte_stored (opened w u address Store) u address b) u (suc address)
+      (byte_kept (opened w u address Store) u address b (opened_kept w u address Store k))
 
   all_woken_kept : (w : World) (us : List ℕ) → J w → J (all_woken w us)
   all_woken_kept w [] k = k
   all_woken_kept w (u ∷ us) k =
       all_woken_kept (woken w u 0) us (stands.thread (awake 0) (λ thread. refl) w u k)
 
-  fresh_kept : (w : World) (u : ℕ) (page : List ℕ) → J w → J (with_fresh w u page)
-  fresh_kept w u page k =
+  -- whatever its bytes are
+  taken_kept : (w : World) (u : ℕ) → J w → J (with_taken w u)
+  taken_kept w u k =
       stands.owners w (slice_set w.owners (lowest_free_frame w) (Of u))
       (length-set w.owners (lowest_free_frame w) (Of u)) k
 
@@ -153,7 +168,7 @@ module _ (K : Said) (stands : Stands K) where
   mapped_kept c [] w k = k
   mapped_kept c (page ∷ pages) w k =
       mapped_kept c pages (page_mapped c.thread c.process c.a2 w page)
-      (fresh_kept w c.thread zero_page k)
+      (taken_kept w c.thread k)
 
   copied_space_kept : (w : World) (u : ℕ) (space : List (ℕ × Entry)) → J w
       → J (copied_space w u space).0
@@ -161,7 +176,7 @@ module _ (K : Said) (stands : Stands K) where
   copied_space_kept w u (e ∷ space) k =
       copied_space_kept (cond e.1.shared w (with_fresh w u (page_of w.bytes e.1.frame))) u space
       (kept_if e.1.shared w (with_fresh w u (page_of w.bytes e.1.frame)) k
-      (fresh_kept w u (page_of w.bytes e.1.frame) k))
+      (taken_kept w u k))
 
   -- ---- the services
 

@@ -15,6 +15,6 @@ returns c =
     c.args.opened.pid c.args.opened.tid c.args.page c.take_frame-frame.result 1
     _ (λ n. stack_entry n c.args.page) _
     (takes_zero c.args.frames.now c.take_frame-frame.new.frames c.args.opened.tid
-    c.take_frame-frame.result c.take_frame-frame.ensures.lowest
+    c.take_frame-frame.result c.requires.room c.take_frame-frame.ensures.lowest
     c.take_frame-frame.ensures.becomes)
     c.requires.place c.put_entry.ensures refl

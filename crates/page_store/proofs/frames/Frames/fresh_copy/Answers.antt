@@ -10,7 +10,7 @@ use Rattle.page_store.proofs.frames.Frames.fresh_copy.Goals as goal
 
 pub copy_page-requires : goal.copy_page-requires
 copy_page-requires c =
-    let now = c.self.view_is ∙ c.in-Some.ensures.owns in
+    let now = c.self.view_is ∙ c.in-Some.ensures.one in
     let home : All IsSome c.self.inside.pages.items =
     subst (All IsSome) (sym (ap (λ (s : Store). s.pages) now)) c.requires.home in
     let count : length c.args.self.now.owners ≡ length c.self.inside.pages.items =

@@ -1,6 +1,8 @@
-use Rattle.std.proofs.Common.{◌≡◌, ◌<◌, sym, ◌∙◌, subst, get_or, length, arith}
+use Rattle.std.proofs.Common.{◌≡◌, ◌+◌, ◌<◌, ◌≤◌, sym, ◌∙◌, subst, get_or, set, length}
+use Rattle.std.proofs.Common.{length-set, arith}
 use Rattle.std.proofs.lemmas.List.{get_or_read}
-use Rattle.page_store.specs.Store.{Store}
+use Rattle.dos_world.specs.declared.Owner.TheVariants.{Free}
+use Rattle.page_store.specs.Store.{Store, AreTallied}
 use Rattle.page_store.proofs.Counts.{free-freed, kept-fewer, kept-freed, kept-room, used-within}
 use Rattle.page_store.proofs.frames.Frames.use_less.Goals as goal
 
@@ -16,12 +18,17 @@ overflow_add-self c =
 pub invariant_of-self : goal.invariant_of-self
 invariant_of-self c =
     let used : 0 < get_or c.self.inside.uses.items c.args.frame 0 =
-    subst (λ (s : Store). 0 < get_or s.uses c.args.frame 0) (sym c.self.view_is) c.requires in (
-      kept-freed c.args.frame c.self.invariant.0 used
-          c.set.ensures,
+    subst (λ (s : Store). 0 < get_or s.uses c.args.frame 0) (sym c.self.view_is) c.requires in
+    let count : length (set c.self.inside.pages.items c.args.frame c.clear_home.new.slot)
+    ≡ length c.self.inside.pages.items =
+    length-set c.self.inside.pages.items c.args.frame c.clear_home.new.slot in (
+      subst (λ n. AreTallied n (set c.self.inside.owners.items c.args.frame Free)
+          (set c.self.inside.uses.items c.args.frame 0) (c.self.inside.free + 1) c.set.new.self)
+          (sym count)
+          (kept-freed c.args.frame c.self.invariant.0 used c.set.ensures),
       free-freed c.self.inside.owners.items c.self.inside.high c.args.frame
           c.self.invariant.1,
-      c.self.invariant.2,
+      subst (λ n. c.self.inside.high ≤ n) (sym count) c.self.invariant.2,
     )
 
 pub invariant_of-self-else-index-eq1 : goal.invariant_of-self-else-index-eq1

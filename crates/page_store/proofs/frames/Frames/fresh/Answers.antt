@@ -2,7 +2,7 @@ use Rattle.std.proofs.Common.{rules, vec_len, ◌∙◌, ◌≡◌, length, refl
 use Rattle.dos_world.specs.declared.Owner.TheVariants.{Of}
 use Rattle.page_store.proofs.Counts.{free-more, free-set, lowest-owned, lowest-some, lowest-unused}
 use Rattle.page_store.proofs.Counts.{lowest-used, lowest-within, position-frames}
-use Rattle.page_store.proofs.frames.Frames.own_lowest.Goals as goal
+use Rattle.page_store.proofs.frames.Frames.fresh.Goals as goal
 
 pub index_mut-requires-in-Some : goal.index_mut-requires-in-Some
 index_mut-requires-in-Some c =
