@@ -69,9 +69,9 @@ fn host_of(rt: &impl Abort, alloc: Global, outside: &Outside<'_>) -> MemoryHost 
     MemoryHost::new(alloc, input, piece, clocks, outside.host_failing).expect(rt, "memory")
 }
 
-// A sink with room for 40000 bytes.
+// A sink with room for two million bytes.
 fn sink(rt: &impl Abort, alloc: Global, failing: &[u32]) -> MemorySink {
-    MemorySink::new(alloc, 40000, failing).expect(rt, "memory")
+    MemorySink::new(alloc, 2000000, failing).expect(rt, "memory")
 }
 
 /// Calls the program with these words and workers, and `--log log` behind the word `run`.

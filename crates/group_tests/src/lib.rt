@@ -13,6 +13,8 @@ mod compressed;
 #[cfg(test)]
 mod failing;
 #[cfg(test)]
+mod faults;
+#[cfg(test)]
 mod files;
 #[cfg(test)]
 mod generated;
@@ -21,7 +23,13 @@ mod groups;
 #[cfg(test)]
 mod guests;
 #[cfg(test)]
+mod hostile;
+#[cfg(test)]
 mod logs;
+#[cfg(test)]
+mod machine_words;
+#[cfg(test)]
+mod ordered;
 #[cfg(test)]
 mod recorded;
 #[cfg(test)]

@@ -36,11 +36,13 @@
 
 mod board;
 mod chair;
+mod laws;
 mod rule;
 mod seat;
 mod slots;
 
 pub use board::Board;
 pub use chair::Chair;
+pub use laws::{each_pack_is_in_one_place, hands_are_apart};
 pub use rule::Part;
 pub use seat::{BoardSeat, Job};
