@@ -18,6 +18,7 @@ enum call {
   CALL_FUTEX_WAIT = 11,
   CALL_FUTEX_WAKE = 12,
   CALL_MAP = 13,
+  CALL_UNMAP = 14,
   CALL_KILL = 19,
   CALL_GET_PID = 20,
   CALL_GET_TID = 21,

@@ -31,8 +31,16 @@ static void *this_thread(void) {
   return own;
 }
 
+bool lock_is_mine(const struct __lock *lock) {
+  return lock->owner == this_thread();
+}
+
+bool lock_is_taken(const struct __lock *lock) {
+  return lock->drawn != lock->called;
+}
+
 void lock_take_again(struct __lock *lock) {
-  if (lock->owner == this_thread()) {
+  if (lock_is_mine(lock)) {
     lock->depth++;
     return;
   }
@@ -41,7 +49,7 @@ void lock_take_again(struct __lock *lock) {
 }
 
 bool lock_try_again(struct __lock *lock) {
-  if (lock->owner == this_thread()) {
+  if (lock_is_mine(lock)) {
     lock->depth++;
     return true;
   }

@@ -25,4 +25,9 @@ void lock_take_again(struct __lock *lock);
 bool lock_try_again(struct __lock *lock);
 void lock_release_again(struct __lock *lock);
 
+/* Whether the calling thread holds a lock that it took by lock_take_again; whether anybody holds
+   or waits for the lock. */
+bool lock_is_mine(const struct __lock *lock);
+bool lock_is_taken(const struct __lock *lock);
+
 #endif

@@ -22,6 +22,7 @@ _start:
 # and sp is the top of its stack.
     .section .text.thread_entry, "ax", @progbits
     .globl  thread_entry
+    .balign 4
 thread_entry:
     set_gp
     lw      tp, 0(a0)

@@ -1,5 +1,5 @@
-/* The standard streams: output is written when its buffer of one page is full, when it is flushed
-   and at the end; error at the end of each line. */
+/* The standard streams. What they hold is written at the end of each line, when a buffer is full,
+   when it is flushed and at the end; with BUFFER=full the lines of the output aren't looked at. */
 #include <stdarg.h>
 #include <stdio.h>
 #include <stdio-bufio.h>
@@ -28,15 +28,24 @@ static int close_standard(FILE *stream) {
   }
 
 static struct __file_bufio input = STREAM(STDIN_FILENO, input_buffer, __SRD, 0);
-static struct __file_bufio output = STREAM(STDOUT_FILENO, output_buffer, __SWR, 0);
+static struct __file_bufio output = STREAM(STDOUT_FILENO, output_buffer, __SWR, __BLBF);
 static struct __file_bufio error = STREAM(STDERR_FILENO, error_buffer, __SWR, __BLBF);
 
 FILE *const stdin = &input.xfile.cfile.file;
 FILE *const stdout = &output.xfile.cfile.file;
 FILE *const stderr = &error.xfile.cfile.file;
 
-/* Priorities up to 100 are for the C library, which this is: behind all the program's destructors. */
+/* 1 where the program was linked with BUFFER=full, else 0, which the compiler takes for the address
+   of a weak symbol alone. */
+extern char __full_buffer[] __attribute__((weak));
+
+/* Priorities up to 100 are for the C library, which this is: before all the program's constructors,
+   and behind all its destructors. */
 #pragma GCC diagnostic ignored "-Wprio-ctor-dtor"
+__attribute__((constructor(100))) static void choose_buffer(void) {
+  if (__full_buffer != NULL) output.bflags &= (uint8_t)~__BLBF;
+}
+
 __attribute__((destructor(100))) static void flush_streams(void) {
   fflush(stdout);
   fflush(stderr);

@@ -1,19 +1,13 @@
-/* What a C library asks of a system: a start, an end, a heap and the calls of POSIX, of which the
-   kernel's services do what they can. Where one isn't there it answers -38, and here that becomes -1
-   with errno ENOSYS. Files, arguments and an environment there are none. */
+/* What a C library asks of a system, of which the kernel's services do what they can: a start, an
+   end, a heap and descriptors. Where a service isn't there it answers -38, and here that becomes -1
+   with errno ENOSYS. */
 #include <errno.h>
-#include <fcntl.h>
-#include <signal.h>
 #include <stdbool.h>
 #include <stddef.h>
 #include <stdlib.h>
 #include <string.h>
 #include <sys/stat.h>
-#include <sys/time.h>
-#include <sys/times.h>
-#include <sys/wait.h>
 #include <unistd.h>
-#include <utime.h>
 
 #include "calls.h"
 
@@ -27,12 +21,9 @@ void fill_tls(void *block) {
   memset((char *)block + given, 0, (size_t)__tls_size - given);
 }
 
-/* What main is told: the kernel gives no arguments, so the words are chosen when the program is
-   built, each an array of characters and a comma. */
-#ifndef PROGRAM_ARGUMENTS
-#define PROGRAM_ARGUMENTS (char[]){"guest"},
-#endif
-static char *arguments[] = {PROGRAM_ARGUMENTS NULL};
+/* What main is told, with NULL behind it: the kernel gives no arguments, so dos-cc links the words
+   in. The environment is empty. */
+extern char *program_arguments[];
 static char *environment[] = {NULL};
 
 typedef void (*initializer)(void);
@@ -47,7 +38,9 @@ _Noreturn void process_body(void) {
   find_server();
   for (initializer *step = __preinit_array_start; step < __preinit_array_end; step++) (*step)();
   for (initializer *step = __init_array_start; step < __init_array_end; step++) (*step)();
-  exit(main(sizeof arguments / sizeof *arguments - 1, arguments, environment));
+  int count = 0;
+  while (program_arguments[count] != NULL) count++;
+  exit(main(count, program_arguments, environment));
 }
 
 /* Ends the process at once, with all its threads. What streams still hold isn't written, as POSIX
@@ -166,133 +159,4 @@ int fstat(int descriptor, struct stat *told) {
   memset(told, 0, sizeof *told);
   told->st_mode = S_IFCHR | S_IRUSR | S_IWUSR;
   return 0;
-}
-
-/* ---- processes ---- */
-
-pid_t getpid(void) {
-  return call(CALL_GET_PID, 0, 0, 0);
-}
-
-pid_t fork(void) {
-  return or_errno(call(CALL_FORK, 0, 0, 0));
-}
-
-/* `child` is a process's number, or -1 or 0 for any. The kernel's status is one of 0 to 255, with
-   128 and more for a fault or a signal; where it is told as an exit status, WEXITSTATUS gives
-   it. */
-pid_t waitpid(pid_t child, int *status, int options) {
-  if (options != 0 || child < -1) {
-    errno = EINVAL;
-    return -1;
-  }
-  struct answer answer = call_for_two(CALL_WAIT, child > 0 ? (uint32_t)child : 0, 0, 0);
-  if (answer.first >= 0 && status != NULL) *status = (int)(answer.second << 8);
-  return or_errno(answer.first);
-}
-
-pid_t wait(int *status) {
-  return waitpid(-1, status, 0);
-}
-
-/* A signal that the process sends to itself comes before this returns, as POSIX has it: at the next
-   round's start, so the thread yields. That of abort ends the process with 134; so it does where
-   nobody serves the call. */
-int kill(pid_t process, int signal) {
-  int32_t answer = call(CALL_KILL, (uint32_t)process, (uint32_t)signal, 0);
-  if (answer == NO_CALL && signal == SIGABRT && process == getpid()) _exit(128 + SIGABRT);
-  if (answer == 0 && process == getpid()) call(CALL_YIELD, 0, 0, 0);
-  return or_errno(answer);
-}
-
-int sched_yield(void) {
-  return call(CALL_YIELD, 0, 0, 0);
-}
-
-/* ---- the clock ---- */
-
-/* Reads the clock in nanoseconds since 1970; false where the kernel has none. A reading's high word
-   is never all ones, which is what a1 holds before. */
-static int read_clock(uint64_t *nanoseconds) {
-  struct answer answer = call_for_two(CALL_CLOCK, 0, UINT32_MAX, 0);
-  if (answer.second == UINT32_MAX) return or_errno(answer.first) >= 0;
-  *nanoseconds = (uint64_t)answer.second << 32 | (uint32_t)answer.first;
-  return 1;
-}
-
-int gettimeofday(struct timeval *restrict time, void *restrict zone) {
-  uint64_t now = 0;
-  (void)zone;
-  if (!read_clock(&now)) {
-    time->tv_sec = -1;
-    time->tv_usec = 0;
-    return -1;
-  }
-  time->tv_sec = (time_t)(now / 1000000000);
-  time->tv_usec = (suseconds_t)(now % 1000000000 / 1000);
-  return 0;
-}
-
-/* The time since the first call counts as this process's, in parts of CLOCKS_PER_SEC; clock asks
-   for it. */
-clock_t times(struct tms *used) {
-  static uint64_t first;
-  uint64_t now = 0;
-  if (!read_clock(&now)) {
-    used->tms_utime = (clock_t)-1;
-    used->tms_stime = used->tms_cutime = used->tms_cstime = 0;
-    return (clock_t)-1;
-  }
-  if (first == 0) first = now;
-  used->tms_utime = (clock_t)((now - first) / (1000000000 / CLOCKS_PER_SEC));
-  used->tms_stime = used->tms_cutime = used->tms_cstime = 0;
-  return used->tms_utime;
-}
-
-/* ---- files: there are none ---- */
-
-int open(const char *path, int flags, ...) {
-  (void)path, (void)flags;
-  errno = ENOENT;
-  return -1;
-}
-
-int stat(const char *restrict path, struct stat *restrict told) {
-  (void)path, (void)told;
-  errno = ENOENT;
-  return -1;
-}
-
-int lstat(const char *restrict path, struct stat *restrict told) {
-  return stat(path, told);
-}
-
-int unlink(const char *path) {
-  (void)path;
-  errno = ENOENT;
-  return -1;
-}
-
-int rename(const char *from, const char *to) {
-  (void)from, (void)to;
-  errno = ENOENT;
-  return -1;
-}
-
-int utime(const char *path, const struct utimbuf *times) {
-  (void)path, (void)times;
-  errno = ENOENT;
-  return -1;
-}
-
-int fchmod(int descriptor, mode_t mode) {
-  (void)descriptor, (void)mode;
-  errno = ENOSYS;
-  return -1;
-}
-
-int fchown(int descriptor, uid_t owner, gid_t group) {
-  (void)descriptor, (void)owner, (void)group;
-  errno = ENOSYS;
-  return -1;
 }

@@ -1,5 +1,5 @@
-/* Waiting by the services futex_wait and futex_wake: a thread that waits sleeps. Where nobody serves
-   them, which is under Linux, there is one thread, and it waits for nobody. */
+/* Waiting by the services futex_wait and futex_wake: a thread that waits sleeps. Where nobody
+   serves them, which is under Linux, there is one thread, and it waits for nobody. */
 #include "wait.h"
 
 #include "calls.h"
@@ -10,6 +10,10 @@ void wait_while(volatile uint32_t *word, uint32_t value) {
 
 void wake_all(volatile uint32_t *word) {
   call(CALL_FUTEX_WAKE, (uint32_t)word, UINT32_MAX, 0);
+}
+
+void wake_one(volatile uint32_t *word) {
+  call(CALL_FUTEX_WAKE, (uint32_t)word, 1, 0);
 }
 
 _Noreturn void end_thread(volatile uint32_t *word, uint32_t value) {

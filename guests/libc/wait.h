@@ -1,4 +1,4 @@
-/* How a thread waits for another: all waiting of locks and threads goes through these three. */
+/* How a thread waits for another: all waiting of locks and threads goes through these. */
 #ifndef LIBC_WAIT_H
 #define LIBC_WAIT_H
 
@@ -9,6 +9,9 @@ void wait_while(volatile uint32_t *word, uint32_t value);
 
 /* Wakes all that wait for the word, which the caller has just changed. */
 void wake_all(volatile uint32_t *word);
+
+/* Wakes the one that has waited longest. */
+void wake_one(volatile uint32_t *word);
 
 /* Stores `value` in the word, wakes all that wait for it, and ends the calling thread. From the
    store on another thread may take away the stack, so nothing here uses it. */

@@ -21,6 +21,7 @@ _start:
 # The entry of a thread that thread_start made: a0 is its place in the pool, and sp the top of its stack.
     .section .text.thread_entry, "ax", @progbits
     .globl  thread_entry
+    .balign 4
 thread_entry:
     set_gp
     tail    thread_body

@@ -1,6 +1,5 @@
-/* The types behind picolibc's <threads.h>, as guests/libc/threads.c fills them. All zeros is a
-   mutex that is unlocked, a condition that nobody waits for, and a flag of a call
-   that wasn't made. */
+/* The types behind <threads.h>, <pthread.h> and <semaphore.h>. All zeros is a lock that nobody
+   holds, a condition that nobody waits for, and a flag of a call that wasn't made. */
 #ifndef _MACHINE__THREADS_H_
 #define _MACHINE__THREADS_H_
 
@@ -23,11 +22,12 @@ typedef struct {
   int type;
 } mtx_t;
 
-typedef struct {
+/* Who waits draws a number, and numbers are released in their order: guests/libc/condition.h. */
+typedef struct __condition {
   volatile uint32_t arrived, released;
 } cnd_t;
 
-typedef struct {
+typedef struct __once {
   volatile uint32_t state;
 } once_flag;
 

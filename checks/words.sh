@@ -1,0 +1,103 @@
+# Sourced: what the launcher `dos` says of words beyond what the program does. Each call below takes
+# the words, and prints a line, or nothing.
+
+# Of each command, its options with what their values are: LOW-HIGH, a file, or a text.
+declare -A options_of=(
+  [run]='--log=file --quantum=16-65536 --rounds=1-1000000 --frames=16-16384 --workers=1-32
+    --signals=signals --clock-from=number --clock-step=number'
+  [replay]='--log=file --workers=1-32'
+  [inspect]=''
+  [gen]='--number=number --threads=1-32 --workers=1-32'
+)
+
+# What the option $1 of the command $2 takes, or nothing where it has no such option.
+kind_of() {
+  local option
+  for option in ${options_of[$2]}; do
+    [ "${option%%=*}" = "$1" ] && { echo "${option#*=}"; return; }
+  done
+}
+
+# Why the text $1 isn't of the kind $2, or nothing.
+why_not() {
+  local post low=${2%-*} high=${2#*-}
+  case $2 in
+    file) [ -n "$1" ] || echo "a file's name" ;;
+    signals)
+      for post in ${1//,/ } ''; do
+        [[ $post =~ ^$|^[1-9][0-9]*:[0-9]+:([1-9]|[12][0-9]|3[01])$ ]] && continue
+        echo 'R:P:S,.. with a round, a process and a signal of 1 to 31'
+        return
+      done ;;
+    number) [[ $1 =~ ^(0|[1-9][0-9]{0,19})$ ]] || echo 'a decimal number' ;;
+    *)
+      [[ $1 =~ ^[1-9][0-9]{0,8}$ ]] && [ "$1" -ge "$low" ] && [ "$1" -le "$high" ] && return
+      echo "a number from $low to $high" ;;
+  esac
+}
+
+# Which word isn't one, of words that ask for nothing.
+wrong_word() {
+  local command=${1-} word value kind why names=0 given=' ' is_open=1
+  [ $# -gt 0 ] || { echo 'a command is wanted: run, replay, inspect or gen'; return; }
+  [ -n "$command" ] && [ "${options_of[$command]+known}" ] || {
+    echo "$command is no command: these are run, replay, inspect and gen"
+    return
+  }
+  shift
+  while [ $# -gt 0 ]; do
+    word=$1
+    shift
+    case $is_open$word in
+      1--) is_open= ; continue ;;
+      1--*) ;;
+      1-?*) echo "$word is no option: they begin with two dashes"; return ;;
+      *) names=$((names + 1)); continue ;;
+    esac
+    kind=$(kind_of "${word%%=*}" "$command")
+    [ "$kind" ] || { echo "${word%%=*} is no option of $command"; return; }
+    case $word in
+      *=*) value=${word#*=} ;;
+      *) [ $# -gt 0 ] || { echo "$word wants a value behind it"; return; }
+        value=$1; shift ;;
+    esac
+    word=${word%%=*}
+    why=$(why_not "$value" "$kind")
+    [ -z "$why" ] || { echo "$word takes $why, and not $value"; return; }
+    case $given in *" $word "*) echo "$word is given twice"; return ;; esac
+    given+="$word "
+    [ "$names" -eq 0 ] || { echo "$word stands behind a name: options come first"; return; }
+  done
+  case $command in
+    run|replay)
+      [[ $given = *' --log '* ]] || { echo "$command wants --log and the file of the log"; return; } ;;
+    gen)
+      [[ $given = *' --number '* && $given = *' --threads '* ]] ||
+        { echo 'gen wants --number and --threads'; return; } ;;
+  esac
+  case $command$names in
+    gen0|inspect1|run[1-8]|replay[1-8]) ;;
+    gen*) echo 'gen takes no names' ;;
+    inspect*) echo 'inspect takes one name' ;;
+    *0) echo "$command wants the name of a file" ;;
+    *) echo "$command takes at most 8 names" ;;
+  esac
+}
+
+# The file that `run` would write its log to, where there is such a file and it isn't a log: it doesn't
+# begin as one does.
+no_log() {
+  local log=
+  [ "${1-}" = run ] || return
+  shift
+  while [ $# -gt 0 ]; do
+    case $1 in
+      --) break ;;
+      --log) log=${2-} ;;
+      --log=*) log=${1#--log=} ;;
+    esac
+    case $1 in --*=*) shift ;; --*) shift; [ $# -eq 0 ] || shift ;; *) shift ;; esac
+  done
+  [ -n "$log" ] && [ -f "$log" ] && [ -s "$log" ] || return
+  [ "$(head -c 4 -- "$log" 2> /dev/null | tr '\0' ' ')" = DPGL ] || printf '%s\n' "$log"
+}
