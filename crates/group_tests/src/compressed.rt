@@ -1,7 +1,9 @@
 //! Guests of compressed instructions, and of instructions over two pages. The halfwords are those
 //! that GNU's assembler makes of the lines beside them.
-use crate::calls::run_twice;
-use crate::guests::files_of_halves;
+use crate::calls::{Wanted, leaves, run_twice};
+use crate::guests;
+use crate::guests::{files_of_halves, files_with};
+use dos_io::{Files, MemoryFiles};
 use std::alloc::Global;
 use std::process::Abort;
 use std::thread::Threads;
@@ -141,4 +143,32 @@ fn instructions_stand_at_even_addresses(rt: HostRuntime) {
 #[test]
 fn instructions_stand_at_even_addresses_with_32_workers(rt: HostRuntime) {
     check_guests(&rt, rt.alloc(), "32");
+}
+
+// Where the flags of a file stand.
+const FLAGS: usize = 36;
+
+// A guest of words alone, in a file with these flags.
+fn files_with_flags(rt: &impl Abort, alloc: Global, flags: u8) -> MemoryFiles {
+    let mut files = files_with(rt, alloc, &guests::SEVEN, b"", 0);
+    let mut file = files.get("a", 1 << 22).expect(rt, "a file");
+    if file.len() > FLAGS {
+        file[FLAGS] = flags;
+    }
+    files.add("a", &file).expect(rt, "memory");
+    drop(file);
+    files
+}
+
+fn check_flags<R: Threads + Sync + Abort>(rt: &R, alloc: Global, flags: u8, wanted: Wanted<'_>) {
+    let mut files = files_with_flags(rt, alloc, flags);
+    let _ = leaves(rt, alloc, &mut files, &["run", "a"], wanted);
+    drop(files);
+}
+
+// 1 asks for compressed instructions, 2 for floats in registers
+#[test]
+fn a_file_may_ask_for_compressed_instructions(rt: HostRuntime) {
+    check_flags(&rt, rt.alloc(), 1, (0, "", SEVEN));
+    check_flags(&rt, rt.alloc(), 3, (3, "", "dos: image 1 refused 8\n"));
 }

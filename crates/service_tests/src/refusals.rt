@@ -79,7 +79,7 @@ const ACTIONS: &[Step] = &[
     Step::Ask(SIG_HANDLER, 0, 0, 0),
     Step::Ask(SIG_HANDLER, 32, 0, 0),
     Step::Ask(SIG_HANDLER, 9, 0, 0),
-    Step::Ask(SIG_HANDLER, 10, 2, 0),
+    Step::Ask(SIG_HANDLER, 10, 3, 0),
     Step::Ask(SIG_HANDLER, 10, 0xf000_0000, 0),
     Step::Ask(SIG_HANDLER, 10, 0xefff_fffc, 0),
     Step::Ask(SIG_HANDLER, 10, 1, 0),
