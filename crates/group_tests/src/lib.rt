@@ -17,6 +17,8 @@ mod faults;
 #[cfg(test)]
 mod files;
 #[cfg(test)]
+mod gates;
+#[cfg(test)]
 mod generated;
 #[cfg(test)]
 mod groups;

@@ -1,6 +1,9 @@
 //! Packs that jump on the spot until their budget is 0: what the tests and the bench of workers let
-//! them run. Beside them there is one page, which is shared, and one process.
+//! them run. Beside them there is one page, which is shared, and one process. And a gate at which
+//! tests see who ran what.
 #![tactic(auto)]
+
+mod gate;
 
 ghost use Rattle.std.specs.Prelude.{◌≡◌, ◌∷◌, [], All, IfOk, Some, ◌<◌, ◌^◌, length, map, vec_len};
 ghost use Rattle.page_store.specs.Store.{AreHome};
@@ -8,6 +11,7 @@ ghost use Rattle.quantum_run.specs.Packs.{space_in};
 ghost use Rattle.loop_packs.specs.Loops.{HasOneShared, IsLoop, page_of_code};
 
 use dos_world::{Access, Entry, Regs, Size};
+pub use gate::Holding;
 use page_store::Frames;
 use proc_table::{SignalState, Table};
 use quantum_run::{Pack, Shared};

@@ -1,8 +1,8 @@
 // Workers of each kind, over threads. The helpers make workers of a kind and take the tally back.
 ghost use Rattle.std.specs.Prelude.{◌<◌, ◌≤◌};
 
-use crate::gates::{Holding, check_seen};
-use loop_packs::{Load, run};
+use crate::gates::check_seen;
+use loop_packs::{Holding, Load, run};
 use std::alloc::Global;
 use std::process::Abort;
 use std::test::*;

@@ -1,9 +1,9 @@
 // Workers that stay over several calls.
 ghost use Rattle.std.specs.Prelude.{◌<◌, ◌≤◌};
 
-use crate::gates::{Holding, check_seen};
+use crate::gates::check_seen;
 use crate::pools::{BUDGET, check_count, evenly};
-use loop_packs::{Load, run};
+use loop_packs::{Holding, Load, run};
 use staying_workers::{Office, Staying, open};
 use std::alloc::{AllocError, Global};
 use std::sync::Wait;

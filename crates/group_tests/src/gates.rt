@@ -1,0 +1,155 @@
+//! Packs of a round are under way at once, and a worker takes what another was dealt: shown through
+//! the top call, by a gate that holds the first pack of a round until others have begun.
+ghost use Rattle.std.specs.Prelude.{◌<◌, ◌≤◌};
+
+use crate::calls::{NOTHING, call_by, check_left};
+use crate::checks::same;
+use crate::files::usual_files;
+use crate::guests::{ENDLESS, add_guest};
+use dos_io::MemoryFiles;
+use loop_packs::Holding;
+use std::alloc::Global;
+use std::process::Abort;
+use std::thread::Threads;
+use worker_pool::{Boarded, Spread, Stealing, Tally, Workers};
+
+// Two rounds of two endless images, and of four, with two workers each.
+
+const TWO: [&str; 7] = [
+    "run",
+    "--workers",
+    "2",
+    "--rounds",
+    "2",
+    "endless",
+    "endless",
+];
+
+const FOUR: [&str; 9] = [
+    "run",
+    "--workers",
+    "2",
+    "--rounds",
+    "2",
+    "endless",
+    "endless",
+    "endless",
+    "endless",
+];
+
+const TWO_LIVE: &str = "process 1 live\nprocess 2 live\nrounds 2 limit\n";
+
+const FOUR_LIVE: &str =
+    "process 1 live\nprocess 2 live\nprocess 3 live\nprocess 4 live\nrounds 2 limit\n";
+
+fn endless_files(rt: &impl Abort, alloc: Global) -> MemoryFiles {
+    let mut files = usual_files(rt, alloc);
+    add_guest(rt, alloc, &mut files, "endless", &ENDLESS, b"", 0);
+    files
+}
+
+// These words leave what is wanted, by these workers.
+fn check_words<W: Workers>(
+    rt: &impl Abort,
+    alloc: Global,
+    words: &[&str],
+    err: &str,
+    workers: &mut W,
+) {
+    let mut files = endless_files(rt, alloc);
+    let left = call_by(rt, alloc, &mut files, words, &NOTHING, workers);
+    check_left(rt, &left, words, (7, "", err));
+    drop(left);
+    drop(files);
+}
+
+// How many packs passed, which numbers did, and that number 0 was never held in vain.
+fn check_gate(rt: &impl Abort, gate: &Holding, passes: u64, entered: u64) {
+    same(rt, gate.seen(), (passes, entered, 0));
+}
+
+// The pools, each with two images and with four.
+
+fn spread<R: Threads + Sync + Abort>(
+    rt: &R,
+    alloc: Global,
+    gate: &Holding,
+    words: &[&str],
+    err: &str,
+) {
+    let mut tally = Tally::new();
+    let mut workers = Spread::new(rt, 1, gate, &mut tally);
+    check_words(rt, alloc, words, err, &mut workers);
+    workers.finish();
+}
+
+fn boarded<R: Threads + Sync + Abort>(
+    rt: &R,
+    alloc: Global,
+    gate: &Holding,
+    words: &[&str],
+    err: &str,
+) {
+    let mut tally = Tally::new();
+    let mut workers = Boarded::new(rt, alloc, 1, gate, &mut tally);
+    check_words(rt, alloc, words, err, &mut workers);
+    workers.finish();
+}
+
+fn stealing<R: Threads + Sync + Abort>(
+    rt: &R,
+    alloc: Global,
+    gate: &Holding,
+    words: &[&str],
+    err: &str,
+) {
+    let mut tally = Tally::new();
+    let mut workers = Stealing::new(rt, alloc, 1, gate, &mut tally);
+    check_words(rt, alloc, words, err, &mut workers);
+    workers.finish();
+}
+
+// 0 is held until 1 has begun
+#[test]
+fn two_at_once_spread(rt: HostRuntime) {
+    let gate = Holding::until(2);
+    spread(&rt, rt.alloc(), &gate, &TWO, TWO_LIVE);
+    check_gate(&rt, &gate, 4, 3);
+}
+
+#[test]
+fn two_at_once_boarded(rt: HostRuntime) {
+    let gate = Holding::until(2);
+    boarded(&rt, rt.alloc(), &gate, &TWO, TWO_LIVE);
+    check_gate(&rt, &gate, 4, 3);
+}
+
+#[test]
+fn two_at_once_stealing(rt: HostRuntime) {
+    let gate = Holding::until(2);
+    stealing(&rt, rt.alloc(), &gate, &TWO, TWO_LIVE);
+    check_gate(&rt, &gate, 4, 3);
+}
+
+// Each thread has a half: 0 is held until 2 has begun.
+#[test]
+fn two_of_four_at_once_spread(rt: HostRuntime) {
+    let gate = Holding::until(4);
+    spread(&rt, rt.alloc(), &gate, &FOUR, FOUR_LIVE);
+    check_gate(&rt, &gate, 8, 15);
+}
+
+// 0 is held until 1, 2 and 3 have begun: the other worker runs all three, whoever was to have them
+#[test]
+fn one_goes_round_boarded(rt: HostRuntime) {
+    let gate = Holding::until(14);
+    boarded(&rt, rt.alloc(), &gate, &FOUR, FOUR_LIVE);
+    check_gate(&rt, &gate, 8, 15);
+}
+
+#[test]
+fn one_goes_round_stealing(rt: HostRuntime) {
+    let gate = Holding::until(14);
+    stealing(&rt, rt.alloc(), &gate, &FOUR, FOUR_LIVE);
+    check_gate(&rt, &gate, 8, 15);
+}
