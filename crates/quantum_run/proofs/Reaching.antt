@@ -17,7 +17,7 @@ use Rattle.dos_world.specs.declared.Reason.TheVariants.{Page, Fault}
 use Rattle.dos_world.specs.declared.Size.{Size}
 use Rattle.dos_world.specs.declared.Size.TheVariants.{Half, Word}
 use Rattle.page_store.specs.Store.{joined, number_at}
-use Rattle.rv_exec.specs.Step.{◌>>=◌, reached, place_or_reason, half_at}
+use Rattle.flat_machine.specs.Step.{◌>>=◌, reached, place_or_reason, half_at}
 use Rattle.rv_exec.specs.Follows.{word_at}
 use Rattle.quantum_run.specs.Finding.{frame_by, frame_for, place_in}
 use Rattle.rv_form.specs.Notes.{Note}
