@@ -12,7 +12,7 @@ use Rattle.dos_io.specs.declared.exchange.Exchange.{Exchange}
 use Rattle.dos_io.specs.Exchanges.{question_of, answer_of}
 use Rattle.dpg_run.proofs.Asked.{heads}
 use Rattle.dpg_run.specs.Fits.{misfit_from}
-use Rattle.flat_machine.specs.Fits.{same_ending, same_question}
+use Rattle.flat_machine.specs.Fits.{same_ending, same_question, first_misfit}
 
 ending_with_itself : (e : Ending) → same_ending e e ≡ true
 ending_with_itself Done = refl

@@ -37,7 +37,8 @@ use Rattle.group_rounds.proofs.PlayLaws.{goes-questions, goes_by, stops_by}
 use Rattle.dos_io.proofs.OutsideLaws.{front-whole}
 use Rattle.group_rounds.proofs.StatePlayLaws.{told_nothing, told_so, told_then}
 use Rattle.group_rounds.proofs.FrontLaws.{HasSent, fronts_kept, fronts_over, fronts_then, sending}
-use Rattle.flat_machine.specs.Machine.{Finish, rounds_of, rounds_from, told_end, run_from, result_of}
+use Rattle.flat_machine.specs.Machine.{Finish, rounds_of, rounds_from, told_end, run_from}
+use Rattle.flat_machine.specs.Machine.{result_of}
 use Rattle.dpg_run.specs.Laws.{LeavesFinish, RunOwes}
 use Rattle.dpg_run.proofs.RunKeeps.{rounds_keep}
 use Rattle.dpg_run.specs.GroupRuns.{AreFronts, CutGroup, RanRounds, RanGroup, StoppedGroup}

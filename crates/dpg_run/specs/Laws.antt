@@ -50,7 +50,8 @@ RunsEndLawful = (count : ℕ) (w : World) (work : ℕ) (answers rest : List Answ
 -- So the run of 1 to 8 accepted images that fit the frames ends in a lawful world, after no more
 -- rounds than it may have.
 abbrev pub GroupsEndLawful : Type 0
-GroupsEndLawful = (images : List Image) (config : Config) (answers rest : List Answer) (finish : Finish)
+GroupsEndLawful = (images : List Image) (config : Config) (answers rest : List Answer)
+    (finish : Finish)
     → 1 ≤ length images → length images ≤ 8 → All IsAccepted images → IsConfig config
     → needed images ≤ config.frames → All IsFit answers
     → over answers (rounds_from (opening images config) config) ≡ gives finish rest

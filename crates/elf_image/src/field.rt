@@ -3,6 +3,8 @@
 ghost use Rattle.std.specs.Prelude.{◌≡◌, ◌+◌, ◌≤◌, length};
 ghost use Rattle.elf_image.specs.Fields.{half, word};
 
+use byteorder::{ByteOrder, LittleEndian};
+
 /// The size of the file header in bytes.
 pub const FILE_HEADER: usize = 52;
 
@@ -48,7 +50,7 @@ pub fn half(bytes: &[u8], place: usize) -> u16
     requires { place + 2 ≤ length bytes.now }
     ensures { result ≡ half bytes.now place }
 {
-    u16::from_le_bytes([bytes[place], bytes[place + 1]])
+    LittleEndian::read_u16(&bytes[place..])
 }
 
 /// The number of four bytes that begins at `place`.
@@ -56,10 +58,5 @@ pub fn word(bytes: &[u8], place: usize) -> u32
     requires { place + 4 ≤ length bytes.now }
     ensures { result ≡ word bytes.now place }
 {
-    u32::from_le_bytes([
-        bytes[place],
-        bytes[place + 1],
-        bytes[place + 2],
-        bytes[place + 3],
-    ])
+    LittleEndian::read_u32(&bytes[place..])
 }

@@ -7,7 +7,7 @@ use Rattle.rv_isa.specs.Encoding.{encoding}
 use Rattle.elf_image.specs.Image.{Image, image}
 use Rattle.rv_asm.specs.declared.error.AsmError.{AsmError}
 use Rattle.rv_asm.specs.Words.{assembled, code_from}
-use Rattle.rv_asm.specs.File.{code_of, finished, image_of, is_in_range, data_parts}
+use Rattle.rv_asm.specs.File.{code_of, finished, image_of_source, is_in_range, data_parts}
 use Rattle.rv_asm.proofs.FinishLaws.{finished-made}
 use Rattle.generated_group.specs.Generated.{generated, program, program_part}
 use Rattle.generated_group.specs.Stretches.{told}
@@ -36,7 +36,7 @@ is_in_range-told number threads few =
     rw (some_pages threads, pages_below threads few, code_first threads) refl
 
 image_of-told : (number threads : ℕ)
-    → image_of (told number threads) (code_of (map encoding (program number threads)))
+    → image_of_source (told number threads) (code_of (map encoding (program number threads)))
     ≡ generated number threads
 unfolding told generated
 image_of-told number threads =
@@ -56,10 +56,10 @@ finished-told number threads error few refused =
 -- which reads as the definition's image
 pub image-told : (number threads : ℕ) (file : List ℕ)
     → IsOkAnd (assembled (told number threads))
-    (λ code. image file ≡ Ok (image_of (told number threads) code))
+    (λ code. image file ≡ Ok (image_of_source (told number threads) code))
     → image file ≡ Ok (generated number threads)
 image-told number threads file read =
     let at : image file
-    ≡ Ok (image_of (told number threads) (code_of (map encoding (program number threads)))) =
+    ≡ Ok (image_of_source (told number threads) (code_of (map encoding (program number threads)))) =
     rw assembled-told at read in
     at ∙ ap (λ (i : Image). Ok i) (image_of-told number threads)

@@ -5,7 +5,7 @@ use Rattle.std.specs.Prelude.{slice_range, slice_set}
 use Rattle.rv_isa.specs.declared.Instr.{Instr}
 use Rattle.rv_isa.specs.declared.BranchOp.TheVariants.{Bne}
 use Rattle.rv_isa.specs.Encoding.{encoding}
-use Rattle.rv_asm.specs.Source.{Source, count_of, with_item, with_label, with_here}
+use Rattle.rv_asm.specs.Source.{Source, halfwords_of, with_item, with_label, with_here}
 use Rattle.rv_asm.proofs.WordLaws.{count-append}
 use Rattle.rv_asm.specs.declared.item.Item.{Item}
 use Rattle.rv_asm.specs.declared.item.Item.TheVariants.{Word, Branch}
@@ -37,7 +37,8 @@ items_of items = items_to_skip items ++ (count_down ∷ []) ++ (to_body 2 ∷ []
 items_of-append : (items : List Item) → items_of items ≡ items ++ work_items
 items_of-append items = simp append_assoc
 
-place_of_skip : (items : List Item) → count_of items ≡ 48 → count_of (items_to_skip items) ≡ 74
+place_of_skip : (items : List Item) → halfwords_of items ≡ 48
+    → halfwords_of (items_to_skip items) ≡ 74
 place_of_skip items h = simp count-append (omega arith)
 
 -- the labels body and skip, behind two others
@@ -59,16 +60,16 @@ steps body skip s =
     let turned : Source = with_code (with_item (with_code begun turn) (to_skip skip)) shared_turn in
     with_item (with_item (with_here turned skip) count_down) (to_body body)
 
-worked_in : (s : Source) → s.labels ≡ Some 2 ∷ Some 20 ∷ [] → count_of s.items ≡ 48
+worked_in : (s : Source) → s.labels ≡ Some 2 ∷ Some 20 ∷ [] → halfwords_of s.items ≡ 48
     → steps 2 3 s ≡ worked s
 worked_in s labels place =
     with_both s (items_of s.items) (s.items ++ work_items) _ (s.labels ++ Some 48 ∷ Some 74 ∷ [])
     (items_of-append s.items)
-    (labels_set s.labels (count_of s.items) (count_of (items_to_skip s.items)) labels place
+    (labels_set s.labels (halfwords_of s.items) (halfwords_of (items_to_skip s.items)) labels place
     (place_of_skip s.items place))
 
 pub worked_by : (s s1 s2 s3 s4 s5 s6 s7 s8 s9 : Source) (body skip : ℕ)
-    → s.labels ≡ Some 2 ∷ Some 20 ∷ [] → count_of s.items ≡ 48
+    → s.labels ≡ Some 2 ∷ Some 20 ∷ [] → halfwords_of s.items ≡ 48
     → s1 ≡ with_label s → body ≡ length s.labels → s2 ≡ with_label s1 → skip ≡ length s1.labels
     → s3 ≡ with_here s2 body → s4 ≡ with_code s3 turn → s5 ≡ with_item s4 (to_skip skip)
     → s6 ≡ with_code s5 shared_turn → s7 ≡ with_here s6 skip → s8 ≡ with_item s7 count_down

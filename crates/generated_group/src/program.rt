@@ -1,7 +1,7 @@
 //! The program, stretch by stretch.
 
 ghost use Rattle.std.specs.Prelude.{◌≡◌, ◌≤◌, ◌∷◌, [], length, false, Some, OnOk, IfOk};
-ghost use Rattle.rv_asm.specs.Source.{count_of, empty_at};
+ghost use Rattle.rv_asm.specs.Source.{halfwords_of, empty_at};
 ghost use Rattle.generated_group.specs.Generated.{set_up, print};
 ghost use Rattle.generated_group.specs.Stretches.{started, told, with_code, with_start, worked};
 
@@ -218,7 +218,7 @@ fn set_up(builder: &mut Builder, number: u32) -> Result<(), AllocError>
 // The turns: the next number goes to a word of the thread's page, and at times to the shared one.
 fn work(builder: &mut Builder) -> Result<(), AllocError>
     requires labels { builder.old.labels ≡ Some 2 ∷ Some 20 ∷ [] }
-    requires place { count_of builder.old.items ≡ 48 }
+    requires place { halfwords_of builder.old.items ≡ 48 }
     ensures { OnOk result (builder.new ≡ worked builder.old) }
 {
     let body = builder.label()?;

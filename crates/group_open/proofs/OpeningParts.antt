@@ -19,7 +19,8 @@ use Rattle.dos_world.specs.declared.Entry.{Entry}
 use Rattle.dos_world.specs.declared.End.TheVariants.{Input, Output, Error}
 use Rattle.elf_image.specs.declared.part.Part.{Part}
 use Rattle.elf_image.specs.Image.{Image, IsSound, IsPlaced, HoldsEntry, size_of}
-use Rattle.flat_machine.specs.Opening.{pages_touched, part_pages, stack_pages, page_count, part_entry}
+use Rattle.flat_machine.specs.Opening.{pages_touched, part_pages, stack_pages, page_count}
+use Rattle.flat_machine.specs.Opening.{part_entry}
 use Rattle.flat_machine.specs.Opening.{stack_entry, space_from, opening_descriptors}
 use Rattle.flat_machine.specs.Opening.{opening_registers, opening_thread, part_byte, byte_at}
 use Rattle.flat_machine.specs.Opening.{page_bytes, image_bytes}

@@ -20,7 +20,8 @@ use Rattle.kernel_objects.specs.Pipework.{Pipework, ends_at}
 use Rattle.kernel_calls.specs.StateWorld.{IsSound, AreCounted, ends_of, world_of}
 use Rattle.kernel_calls.specs.declared.state.State.{State}
 use Rattle.page_store.specs.Store.{joined, uses_at}
-use Rattle.flat_machine.specs.Opening.{image_bytes, needed, opening, opening_descriptors, owners_from}
+use Rattle.flat_machine.specs.Opening.{image_bytes, needed, opening, opening_descriptors}
+use Rattle.flat_machine.specs.Opening.{owners_from}
 use Rattle.flat_machine.specs.Opening.{page_count, processes_from}
 use Rattle.group_open.specs.Group.{IsStateOf}
 use Rattle.group_open.specs.Laws.{IsAccepted}

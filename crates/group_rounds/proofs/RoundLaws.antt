@@ -20,7 +20,8 @@ use Rattle.dos_io.specs.Shims.{HasNoEnd}
 use Rattle.dos_laws.specs.Plays.{world_ended}
 use Rattle.dos_laws.proofs.Numbers.{numbers_same}
 use Rattle.flat_machine.specs.Rest.{serial_of}
-use Rattle.flat_machine.specs.Round.{RoundEnd as FlatEnd, went, finished, stalled, is_none_of, begun}
+use Rattle.flat_machine.specs.Round.{RoundEnd as FlatEnd, went, finished, stalled, is_none_of}
+use Rattle.flat_machine.specs.Round.{begun}
 use Rattle.flat_machine.specs.Round.{round_of, phases, counted, with_budgets, with_budget, budgets}
 use Rattle.flat_machine.specs.Round.{all_alone, parallel}
 use Rattle.kernel_calls.specs.StateWorld.{IsSound, sent, world_of}

@@ -3,7 +3,7 @@ use Rattle.std.proofs.Common.{◌≡◌, ℕ, List, [], map, Option, Some, None,
 use Rattle.std.proofs.Common.{◌∙◌}
 use Rattle.dos_world.specs.World.{World, Thread, Registers, get, with_thread}
 use Rattle.dos_world.specs.Play.{over, questions, gives}
-use Rattle.dos_world.specs.Services.{Call, charged, went, service, service_for, built_service}
+use Rattle.dos_world.specs.Services.{Call, charged, went, service, service_for, service_of}
 use Rattle.dos_world.specs.Services.{call_of}
 use Rattle.dos_io.specs.Exchanges.{answer_of}
 use Rattle.dos_io.specs.Shims.{ShimState}

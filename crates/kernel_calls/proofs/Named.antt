@@ -1,11 +1,8 @@
 -- The kernel's list of services is the definition's.
-use Rattle.std.proofs.Common.{◌≡◌, ℕ, Bool, true, false, cond, List, [], ◌∷◌, map, Some, None, refl}
-use Rattle.std.proofs.Common.{sym, ap, ◌∙◌}
-use Rattle.std.specs.Prelude.{◌==◌, ◌||◌, find}
-use Rattle.std.specs.List.{list_any}
-use Rattle.dos_world.specs.Errors.{enosys}
+use Rattle.std.proofs.Common.{◌≡◌, ℕ, Bool, true, false, cond, List, [], ◌∷◌, map, Some, refl}
+use Rattle.std.proofs.Common.{ap, ◌∙◌}
+use Rattle.std.specs.Prelude.{◌==◌, find}
 use Rattle.dos_world.specs.Services.{Service as FlatService, services, service_by, service_of}
-use Rattle.dos_world.specs.Services.{refuses}
 use Rattle.kernel_calls.specs.Built.{row_of, number_of, built_services, named}
 use Rattle.kernel_calls.specs.Built.{definition_by}
 use Rattle.kernel_calls.specs.declared.naming.Service.{Service}

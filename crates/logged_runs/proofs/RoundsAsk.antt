@@ -20,7 +20,8 @@ use Rattle.flat_machine.specs.Alone.{budget_of, emptied}
 use Rattle.round_core.specs.Protocol.{Allows}
 use Rattle.flat_machine.specs.Rest.{Turn, on, over_with, service_done, after_step, settled, turn}
 use Rattle.flat_machine.specs.Rest.{turns, rest_of, rest_if_live, serial_of}
-use Rattle.flat_machine.specs.Round.{RoundEnd, finished, stalled, parallel, with_budgets, is_none_of}
+use Rattle.flat_machine.specs.Round.{RoundEnd, finished, stalled, parallel, with_budgets}
+use Rattle.flat_machine.specs.Round.{is_none_of}
 use Rattle.flat_machine.specs.Round.{phases, begun, round_of, counted, budgets}
 use Rattle.flat_machine.specs.Round.{went as went_on}
 use Rattle.round_core.proofs.Allowed.{then_allows, allows_less}

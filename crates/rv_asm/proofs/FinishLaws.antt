@@ -10,11 +10,11 @@ use Rattle.rv_asm.specs.declared.error.AsmError.{AsmError}
 use Rattle.rv_asm.specs.declared.error.AsmError.TheVariants as error
 use Rattle.rv_asm.specs.declared.item.Item.{Item}
 use Rattle.rv_asm.specs.declared.item.Item.TheVariants.{Half, Word, Jump, Branch}
-use Rattle.rv_asm.specs.Source.{Source, count_of, data_size, halves_in, has_data}
+use Rattle.rv_asm.specs.Source.{Source, halfwords_of, data_size, halves_in, has_data}
 use Rattle.rv_asm.specs.Words.{word_of, before, bytes_by, code_from, assembled}
-use Rattle.rv_asm.specs.File.{code_flags, code_part, data_parts, do_meet, file_of}
-use Rattle.rv_asm.specs.File.{finished, headers_by, image_of, is_code_placed, is_data_placed}
-use Rattle.rv_asm.specs.File.{is_in_range, is_placed, is_short}
+use Rattle.rv_asm.specs.File.{code_flags, code_part, data_parts, do_overlap, file_of}
+use Rattle.rv_asm.specs.File.{finished, headers_by, image_of_source, is_code_placed, is_data_placed}
+use Rattle.rv_asm.specs.File.{is_in_range, is_within_parts, is_short}
 use Rattle.rv_asm.proofs.FileFields.{one, two}
 use Rattle.rv_asm.proofs.ImageLaws.{IsCode, image-code, image-both}
 
@@ -24,7 +24,7 @@ use Rattle.rv_asm.proofs.ImageLaws.{IsCode, image-code, image-both}
 pub record DataIsPlaced (s : Source) (count : ℕ) : Type 0 where
   pub above : 0x1000 ≤ s.data_part.address
   pub below : s.data_part.address + data_size s.data_part ≤ 0xEFFF0000
-  pub apart : do_meet s.base (2 * count) s.data_part.address (data_size s.data_part) ≡ false
+  pub apart : do_overlap s.base (2 * count) s.data_part.address (data_size s.data_part) ≡ false
 
 pub record IsPlaced (s : Source) (count : ℕ) : Type 0 where
   pub some : 1 ≤ count
@@ -32,10 +32,10 @@ pub record IsPlaced (s : Source) (count : ℕ) : Type 0 where
   pub below : s.base + 2 * count ≤ 0xEFFF0000
   pub data_placed : (has_data s ≡ false) ⊎ DataIsPlaced s count
 
-data_placed_of : (s : Source) → is_data_placed s ≡ true → DataIsPlaced s (count_of s.items)
+data_placed_of : (s : Source) → is_data_placed s ≡ true → DataIsPlaced s (halfwords_of s.items)
 data_placed_of s h =
     let size : ℕ = data_size s.data_part in
-    let both = and_parts (is_placed s.data_part.address (data_size s.data_part)) _ h in
+    let both = and_parts (is_within_parts s.data_part.address (data_size s.data_part)) _ h in
     let ends = and_parts (nat_le 0x1000 s.data_part.address) _ both.0 in
     record {
       above = leb-true 0x1000 s.data_part.address ends.0;
@@ -43,12 +43,12 @@ data_placed_of s h =
       apart = not-true _ both.1;
     }
 
-pub placed_of : (s : Source) → is_in_range s ≡ true → IsPlaced s (count_of s.items)
+pub placed_of : (s : Source) → is_in_range s ≡ true → IsPlaced s (halfwords_of s.items)
 placed_of s h =
     let both = and_parts (is_code_placed s) _ h in
-    let code = and_parts (not (count_of s.items == 0)) _ both.0 in
+    let code = and_parts (not (halfwords_of s.items == 0)) _ both.0 in
     let ends = and_parts (nat_le 0x1000 s.base) _ code.1 in
-    let some = eqb-false (count_of s.items) 0 (not-true _ code.0) in
+    let some = eqb-false (halfwords_of s.items) 0 (not-true _ code.0) in
     record {
       some = omega (arith, some);
       above = leb-true 0x1000 s.base ends.0;
@@ -82,19 +82,19 @@ length-before item (Ok n) (Ok others) count code known h =
 
 -- each halfword has two bytes
 pub length-code_from : (labels : List (Option ℕ)) (place : ℕ) (items : List Item) (code : List ℕ)
-    → code_from labels place items ≡ Ok code → length code ≡ 2 * count_of items
+    → code_from labels place items ≡ Ok code → length code ≡ 2 * halfwords_of items
 unfolding code_from
 length-code_from labels place [] code h = let none : [] ≡ code = cc in sym (ap length none)
 length-code_from labels place (item ∷ items) code h =
     length-before item (word_of labels place item)
-    (code_from labels (place + halves_in item) items) (count_of items) code
+    (code_from labels (place + halves_in item) items) (halfwords_of items) code
     (length-code_from labels (place + halves_in item) items) h
 
 -- ---- the image
 
-code_placed : (s : Source) (code : List ℕ) → IsPlaced s (count_of s.items)
-    → length code ≡ 2 * count_of s.items → s.base % 4096 ≡ 0
-    → IsCode s.base (2 * count_of s.items) code
+code_placed : (s : Source) (code : List ℕ) → IsPlaced s (halfwords_of s.items)
+    → length code ≡ 2 * halfwords_of s.items → s.base % 4096 ≡ 0
+    → IsCode s.base (2 * halfwords_of s.items) code
 code_placed s code p long aligned =
     record {
       aligned = omega (arith, aligned);
@@ -105,23 +105,23 @@ code_placed s code p long aligned =
     }
 
 image_by : (s : Source) (code : List ℕ) (with_data : Bool) → has_data s ≡ with_data
-    → IsPlaced s (count_of s.items) → length code ≡ 2 * count_of s.items → s.base % 4096 ≡ 0
-    → image (headers_by with_data s (count_of s.items) ++ code ++ s.data_part.bytes)
+    → IsPlaced s (halfwords_of s.items) → length code ≡ 2 * halfwords_of s.items → s.base % 4096 ≡ 0
+    → image (headers_by with_data s (halfwords_of s.items) ++ code ++ s.data_part.bytes)
     ≡ Ok (record { entry = s.base; parts = code_part s code ∷ data_parts with_data s.data_part })
 image_by s code false e p long aligned =
-    ap image (append_assoc (one (is_short s) s.base (code_flags s.write) (2 * count_of s.items))
+    ap image (append_assoc (one (is_short s) s.base (code_flags s.write) (2 * halfwords_of s.items))
     code s.data_part.bytes)
-    ∙ image-code (is_short s) s.base (2 * count_of s.items) s.write code s.data_part.bytes
+    ∙ image-code (is_short s) s.base (2 * halfwords_of s.items) s.write code s.data_part.bytes
     (code_placed s code p long aligned)
 image_by s code true e p long aligned = elim p.data_placed [
   | inl none ↦ absurd (let no : true ≡ false = sym e ∙ none in cc)
   | inr d ↦
       ap image (append_assoc
-      (two (is_short s) s.base (code_flags s.write) (2 * count_of s.items)
-      (116 + 2 * count_of s.items) s.data_part.address (length s.data_part.bytes)
+      (two (is_short s) s.base (code_flags s.write) (2 * halfwords_of s.items)
+      (116 + 2 * halfwords_of s.items) s.data_part.address (length s.data_part.bytes)
       (data_size s.data_part)) code s.data_part.bytes)
-      ∙ image-both (is_short s) s.base (2 * count_of s.items) s.write code
-      (116 + 2 * count_of s.items) s.data_part.address (length s.data_part.bytes)
+      ∙ image-both (is_short s) s.base (2 * halfwords_of s.items) s.write code
+      (116 + 2 * halfwords_of s.items) s.data_part.address (length s.data_part.bytes)
       (data_size s.data_part) s.data_part.zeros s.data_part.bytes
       (code_placed s code p long aligned)
       (record {
@@ -138,7 +138,7 @@ image_by s code true e p long aligned = elim p.data_placed [
 ]
 
 pub image-file_of : (s : Source) (code : List ℕ) → is_in_range s ≡ true → s.base % 4096 ≡ 0
-    → assembled s ≡ Ok code → image (file_of s code) ≡ Ok (image_of s code)
+    → assembled s ≡ Ok code → image (file_of s code) ≡ Ok (image_of_source s code)
 unfolding file_of
 image-file_of s code range aligned made =
     image_by s code (has_data s) refl (placed_of s range)
@@ -183,7 +183,7 @@ file_made s labels items code given file l i range made g f =
 pub file_read : (s : Source) (labels : List (Option ℕ)) (items : List Item)
     (code given file : List ℕ) → labels ≡ s.labels → items ≡ s.items → is_in_range s ≡ true
     → s.base % 4096 ≡ 0 → code_from labels 0 items ≡ Ok code → given ≡ code
-    → file ≡ file_of s given → IsOkAnd (assembled s) (λ c. image file ≡ Ok (image_of s c))
+    → file ≡ file_of s given → IsOkAnd (assembled s) (λ c. image file ≡ Ok (image_of_source s c))
 file_read s labels items code given file l i range aligned made g f =
     let all = same_code s labels items (Ok code) l i made in
     rw (f, g, all) (image-file_of s code range aligned all)

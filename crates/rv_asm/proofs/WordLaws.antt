@@ -7,7 +7,7 @@ use Rattle.std.proofs.lemmas.List.{drop_all}
 use Rattle.rv_asm.specs.declared.error.AsmError.{AsmError}
 use Rattle.rv_asm.specs.declared.item.Item.{Item}
 use Rattle.rv_asm.specs.declared.item.Item.TheVariants.{Half, Word, Jump, Branch}
-use Rattle.rv_asm.specs.Source.{count_of, halves_in}
+use Rattle.rv_asm.specs.Source.{halfwords_of, halves_in}
 use Rattle.rv_asm.specs.Words.{word_of, before, bytes_by, code_from}
 
 -- what was made, before what is left
@@ -46,7 +46,7 @@ code_from-drop labels items index place item default lt e =
 
 pub count-drop : (items : List Item) (index : ℕ) (item default : Item) → index < length items
     → get_or items index default ≡ item
-    → count_of (drop index items) ≡ halves_in item + count_of (drop (index + 1) items)
+    → halfwords_of (drop index items) ≡ halves_in item + halfwords_of (drop (index + 1) items)
 count-drop items index item default lt e =
     rw (next_item items index item default lt e, add-one) refl
 
@@ -83,19 +83,19 @@ all_code labels items all done index place le was =
 
 -- ---- counts
 
-pub count-append : (xs ys : List Item) → count_of (xs ++ ys) ≡ count_of xs + count_of ys
+pub count-append : (xs ys : List Item) → halfwords_of (xs ++ ys) ≡ halfwords_of xs + halfwords_of ys
 count-append [] ys = omega arith
 count-append (x ∷ xs) ys = let rest = count-append xs ys in omega (arith, rest)
 
 pub counts_on : (items : List Item) (index place halves : ℕ) (item default : Item)
     → index < length items → get_or items index default ≡ item → halves ≡ halves_in item
-    → place + count_of (drop index items) ≡ count_of items
-    → place + halves + count_of (drop (index + 1) items) ≡ count_of items
+    → place + halfwords_of (drop index items) ≡ halfwords_of items
+    → place + halves + halfwords_of (drop (index + 1) items) ≡ halfwords_of items
 counts_on items index place halves item default lt e is was =
     omega (arith, is, was, count-drop items index item default lt e)
 
 -- no item has more than two halfwords
-pub count-below : (items : List Item) → count_of items ≤ 2 * length items
+pub count-below : (items : List Item) → halfwords_of items ≤ 2 * length items
 count-below [] = omega arith
 count-below (item ∷ items) =
     let rest = count-below items in let here = halves-below item in omega (arith, rest, here)

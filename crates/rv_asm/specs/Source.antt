@@ -44,9 +44,9 @@ halves_in (Jump rd label) = 2
 halves_in (Branch op rs1 rs2 label) = 2
 
 -- how many items have
-abbrev pub count_of : List Item → ℕ
-count_of [] = 0
-count_of (item ∷ items) = halves_in item + count_of items
+abbrev pub halfwords_of : List Item → ℕ
+halfwords_of [] = 0
+halfwords_of (item ∷ items) = halves_in item + halfwords_of items
 
 -- whether an item is a halfword
 abbrev pub is_half : Item → Bool
@@ -67,7 +67,7 @@ with_label source = record source { labels = source.labels ++ None ∷ [] }
 abbrev pub with_here : Source → ℕ → Source
 with_here source label = record source {
   labels =
-      slice_set source.labels label (Some (count_of source.items));
+      slice_set source.labels label (Some (halfwords_of source.items));
 }
 
 abbrev pub with_data : Source → ℕ → List ℕ → ℕ → Source
@@ -75,8 +75,8 @@ with_data source address bytes zeros =
     record source { data_part = record { address = address; bytes = bytes; zeros = zeros } }
 
 -- the place that a label stands before, if it was made and set
-abbrev pub place_of : List (Option ℕ) → ℕ → Option ℕ
-place_of labels label = option_and_then (λ place. place) (slice_get labels label)
+abbrev pub place_of_label : List (Option ℕ) → ℕ → Option ℕ
+place_of_label labels label = option_and_then (λ place. place) (slice_get labels label)
 
 -- how many addresses the data part takes
 abbrev pub data_size : Data → ℕ
@@ -98,4 +98,4 @@ HasRegisters (Branch op rs1 rs2 label) = IsRegister rs1 × IsRegister rs2
 pub record IsSource (base : ℕ) (items : List Item) (count : ℕ) : Type 0 where
   pub aligned : base % 4096 ≡ 0
   pub registers : All HasRegisters items
-  pub count_is : count ≡ count_of items
+  pub count_is : count ≡ halfwords_of items

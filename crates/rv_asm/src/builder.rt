@@ -3,7 +3,8 @@
 ghost use Rattle.std.specs.Prelude.{◌≡◌, ◌%◌, ◌^◌, ◌<◌, length, IfOk, OnOk, OnErr, is_some, IsNone};
 ghost use Rattle.rv_isa.specs.Valid.{IsValid};
 ghost use Rattle.rv_isa.specs.Encoding.{encoding};
-ghost use Rattle.rv_asm.specs.Source.{empty_at, place_of, with_item, HasRegisters, with_label};
+ghost use Rattle.rv_asm.specs.Source.{empty_at, place_of_label, with_item, HasRegisters};
+ghost use Rattle.rv_asm.specs.Source.{with_label};
 ghost use Rattle.rv_asm.specs.Source.{with_here, with_data};
 
 mod finish;
@@ -86,7 +87,7 @@ impl Builder {
     /// Whether the label of this builder stands somewhere.
     pub fn is_set(&self, label: Label) -> bool
         requires { label.number < length self.now.labels }
-        ensures { result ≡ is_some (place_of self.now.labels label.number) }
+        ensures { result ≡ is_some (place_of_label self.now.labels label.number) }
     {
         self.labels[label.number as usize].is_some()
     }
@@ -94,7 +95,7 @@ impl Builder {
     /// The unset label of this builder stands before the next halfword.
     pub fn here(&mut self, label: Label)
         requires made { label.number < length self.old.labels }
-        requires unset { IsNone (place_of self.old.labels label.number) }
+        requires unset { IsNone (place_of_label self.old.labels label.number) }
         ensures { self.new ≡ with_here self.old label.number }
     {
         self.labels[label.number as usize] = Some(self.count);

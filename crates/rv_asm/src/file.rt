@@ -2,7 +2,7 @@
 
 ghost use Rattle.std.specs.Prelude.{◌≡◌, ◌++◌, OnOk, flat_map};
 ghost use Rattle.rv_asm.specs.File.{code_of, file_header, program_header};
-ghost use Rattle.rv_asm.specs.Words.{half, word};
+ghost use Rattle.rv_asm.specs.Words.{bytes_of_half, bytes_of_word};
 
 use std::alloc::AllocError;
 
@@ -40,8 +40,10 @@ pub struct Segment {
     pub flags: u32,
 }
 
+// Std's bytes of a number, and not byteorder's writers: those answer with an error of I/O where
+// memory is wanting, and here that is told as what it is.
 fn put_halves(file: &mut Vec<u8>, values: &[u16]) -> Result<(), AllocError>
-    ensures { OnOk result (file.new.items ≡ file.old.items ++ flat_map half values.now) }
+    ensures { OnOk result (file.new.items ≡ file.old.items ++ flat_map bytes_of_half values.now) }
 {
     for value in values {
         file.extend_from_slice(&value.to_le_bytes())?;

@@ -3,8 +3,10 @@
 ghost use Rattle.std.specs.Prelude.{◌≡◌, ◌≢◌, ◌<◌, ◌≤◌, ◌*◌, ◌^◌, ◌↔◌, Ok, Err, All, length, ◌++◌};
 ghost use Rattle.std.specs.Prelude.{◌∷◌, [], OnOk, IfOk, IfErr, IfSome, IfNone, true, false};
 ghost use Rattle.rv_isa.specs.Valid.{IsRegister, IsBranchOffset, IsJumpOffset};
-ghost use Rattle.rv_asm.specs.Source.{HasRegisters, count_of, halves_in, is_half, place_of};
-ghost use Rattle.rv_asm.specs.Words.{branch_by, branch_limit, distance, fits, jump_by, jump_limit};
+ghost use Rattle.rv_asm.specs.Source.{HasRegisters, halfwords_of, halves_in, is_half};
+ghost use Rattle.rv_asm.specs.Source.{place_of_label};
+ghost use Rattle.rv_asm.specs.Words.{branch_by, branch_limit, bytes_between, fits_signed, jump_by};
+ghost use Rattle.rv_asm.specs.Words.{jump_limit};
 ghost use Rattle.rv_asm.specs.Words.{bytes_by, code_from, word_of};
 
 use crate::error::AsmError;
@@ -46,9 +48,10 @@ pub fn is_half(item: &Item) -> bool
 // The bytes from one place to another, if that is at most so many halfwords back and fewer ahead.
 fn offset(place: usize, target: usize, halves: usize) -> Option<i32>
     requires { halves ≤ 2 ^ 19 }
-    ensures near { IfSome result (λ offset. offset ≡ distance place target) }
-    ensures fits { IfSome result (λ offset. fits (2 * halves) (distance place target) ≡ true) }
-    ensures far { IfNone result (fits (2 * halves) (distance place target) ≡ false) }
+    ensures near { IfSome result (λ offset. offset ≡ bytes_between place target) }
+    ensures fits { IfSome result
+        (λ offset. fits_signed (2 * halves) (bytes_between place target) ≡ true) }
+    ensures far { IfNone result (fits_signed (2 * halves) (bytes_between place target) ≡ false) }
 {
     if target >= place {
         let ahead = target - place;
@@ -69,7 +72,7 @@ fn offset(place: usize, target: usize, halves: usize) -> Option<i32>
 
 fn jump_word(place: u32, rd: u8, target: usize) -> Result<u32, AsmError>
     requires { rd < 32 }
-    ensures { result ≡ jump_by place rd (distance place target) }
+    ensures { result ≡ jump_by place rd (bytes_between place target) }
 {
     match offset(place as usize, target, JUMP_HALVES) {
         Some(offset) => Ok(encode(&Instr::Jal { rd, offset })),
@@ -80,7 +83,7 @@ fn jump_word(place: u32, rd: u8, target: usize) -> Result<u32, AsmError>
 fn branch_word(place: u32, op: BranchOp, rs1: u8, rs2: u8, target: usize) -> Result<u32, AsmError>
     requires rs1 { rs1 < 32 }
     requires rs2 { rs2 < 32 }
-    ensures { result ≡ branch_by place op rs1 rs2 (distance place target) }
+    ensures { result ≡ branch_by place op rs1 rs2 (bytes_between place target) }
 {
     match offset(place as usize, target, BRANCH_HALVES) {
         Some(offset) => Ok(encode(&Instr::Branch {
@@ -95,7 +98,7 @@ fn branch_word(place: u32, op: BranchOp, rs1: u8, rs2: u8, target: usize) -> Res
 
 // The place that a label stands before.
 fn place_of(labels: &[Option<usize>], label: u32) -> Option<usize>
-    ensures { result ≡ place_of labels.now label }
+    ensures { result ≡ place_of_label labels.now label }
 {
     match labels.get(label as usize) {
         Some(place) => *place,
@@ -127,7 +130,8 @@ fn word_of(labels: &[Option<usize>], place: u32, item: &Item) -> Result<u32, Asm
     }
 }
 
-// The bytes of one item more, by its number.
+// The bytes of one item more, by its number: its low half, or all of it, so that std's four bytes
+// serve both.
 fn add(code: &mut Vec<u8>, item: &Item, number: u32) -> Result<(), AllocError>
     ensures { OnOk result (code.new.items ≡ code.old.items ++ bytes_by item.now number) }
 {
@@ -142,7 +146,7 @@ fn add(code: &mut Vec<u8>, item: &Item, number: u32) -> Result<(), AllocError>
 
 /// The bytes of the items, the first at place 0.
 pub fn code_of(alloc: Global, labels: &[Option<usize>], items: &[Item]) -> Result<Vec<u8>, AsmError>
-    requires few { count_of items.now < 2 ^ 32 }
+    requires few { halfwords_of items.now < 2 ^ 32 }
     requires registers { All HasRegisters items.now }
     ensures ok { IfOk result (λ code. code_from labels.now 0 items.now ≡ Ok code.items) }
     ensures refused { IfErr result (λ error. error ≢ AsmError.Memory

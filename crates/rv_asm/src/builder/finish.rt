@@ -3,11 +3,12 @@
 ghost use Rattle.std.specs.Prelude.{◌≡◌, ◌≢◌, ◌++◌, ◌≤◌, ◌<◌, ◌+◌, ◌^◌, length, OnOk, IfOk, IfErr};
 ghost use Rattle.std.specs.Prelude.{IsTrue, Ok, Err, IsOkAnd, true, false};
 ghost use Rattle.elf_image.specs.Image.{image};
-ghost use Rattle.rv_asm.specs.Source.{count_of, data_size, has_data};
+ghost use Rattle.rv_asm.specs.Source.{halfwords_of, data_size, has_data};
 ghost use Rattle.rv_asm.specs.Words.{assembled};
-ghost use Rattle.rv_asm.specs.File.{code_header, data_header, do_meet, file_of, finished};
-ghost use Rattle.rv_asm.specs.File.{flags_by, headers_by, image_of, is_code_placed, is_data_placed};
-ghost use Rattle.rv_asm.specs.File.{is_in_range, is_placed, is_short};
+ghost use Rattle.rv_asm.specs.File.{code_header, data_header, do_overlap, file_of, finished};
+ghost use Rattle.rv_asm.specs.File.{flags_by, headers_by, image_of_source, is_code_placed};
+ghost use Rattle.rv_asm.specs.File.{is_data_placed};
+ghost use Rattle.rv_asm.specs.File.{is_in_range, is_within_parts, is_short};
 
 use super::Builder;
 use crate::error::AsmError;
@@ -37,7 +38,7 @@ const EF_RISCV_RVC: u32 = 1;
 // The addresses are from the lowest on and below the stack.
 fn is_placed(address: u32, size: u64) -> bool
     requires { size < 2 ^ 63 + 2 ^ 32 }
-    ensures { result ≡ is_placed address size }
+    ensures { result ≡ is_within_parts address size }
 {
     LOWEST <= address && u64::from(address) + size <= STACK
 }
@@ -46,7 +47,7 @@ fn is_placed(address: u32, size: u64) -> bool
 fn do_meet(address: u32, size: u64, other: u32, other_size: u64) -> bool
     requires size { size < 2 ^ 63 + 2 ^ 32 }
     requires other_size { other_size < 2 ^ 63 + 2 ^ 32 }
-    ensures { result ≡ do_meet address size other other_size }
+    ensures { result ≡ do_overlap address size other other_size }
 {
     u64::from(address) < u64::from(other) + other_size
         && u64::from(other) < u64::from(address) + size
@@ -80,7 +81,7 @@ impl Builder {
     }
 
     fn is_data_placed(&self) -> bool
-        requires { count_of self.now.items < 2 ^ 32 }
+        requires { halfwords_of self.now.items < 2 ^ 32 }
         ensures { result ≡ is_data_placed self.now }
     {
         let code = 2 * self.count as u64;
@@ -111,10 +112,10 @@ impl Builder {
 
     // The header of the code, which begins at this place in the file.
     fn put_code_header(&self, file: &mut Vec<u8>, offset: u32) -> Result<(), AllocError>
-        requires { count_of self.now.items ≤ 0x77FF_8000 }
+        requires { halfwords_of self.now.items ≤ 0x77FF_8000 }
         ensures { OnOk result
             (file.new.items ≡ file.old.items
-            ++ code_header self.now offset (count_of self.now.items)) }
+            ++ code_header self.now offset (halfwords_of self.now.items)) }
     {
         let size = 2 * self.count as u32;
         put_program_header(
@@ -154,10 +155,10 @@ impl Builder {
 
     // The headers where there is no data part.
     fn put_one(&self, file: &mut Vec<u8>) -> Result<(), AllocError>
-        requires { count_of self.now.items ≤ 0x77FF_8000 }
+        requires { halfwords_of self.now.items ≤ 0x77FF_8000 }
         ensures { OnOk result
             (file.new.items ≡ file.old.items
-            ++ headers_by false self.now (count_of self.now.items)) }
+            ++ headers_by false self.now (halfwords_of self.now.items)) }
     {
         put_file_header(file, self.flags(), self.base, 1)?;
         self.put_code_header(file, FILE_HEADER + PROGRAM_HEADER)?;
@@ -166,11 +167,11 @@ impl Builder {
 
     // The headers where there is one.
     fn put_two(&self, file: &mut Vec<u8>) -> Result<(), AllocError>
-        requires few { count_of self.now.items ≤ 0x77FF_8000 }
+        requires few { halfwords_of self.now.items ≤ 0x77FF_8000 }
         requires small { data_size self.now.data_part < 2 ^ 32 }
         ensures { OnOk result
             (file.new.items ≡ file.old.items
-            ++ headers_by true self.now (count_of self.now.items)) }
+            ++ headers_by true self.now (halfwords_of self.now.items)) }
     {
         let code = FILE_HEADER + 2 * PROGRAM_HEADER;
         put_file_header(file, self.flags(), self.base, 2)?;
@@ -181,11 +182,11 @@ impl Builder {
 
     // All headers.
     fn put_headers(&self, file: &mut Vec<u8>) -> Result<(), AllocError>
-        requires few { count_of self.now.items ≤ 0x77FF_8000 }
+        requires few { halfwords_of self.now.items ≤ 0x77FF_8000 }
         requires small { data_size self.now.data_part < 2 ^ 32 }
         ensures { OnOk result
             (file.new.items ≡ file.old.items
-            ++ headers_by (has_data self.now) self.now (count_of self.now.items)) }
+            ++ headers_by (has_data self.now) self.now (halfwords_of self.now.items)) }
     {
         if self.has_data() {
             self.put_two(file)
@@ -197,7 +198,7 @@ impl Builder {
     // The whole file, of the code that the items make.
     #[tactic(auto, unfolding(crate::specs::File::file_of))]
     fn file(&self, code: &[u8]) -> Result<Vec<u8>, AllocError>
-        requires few { count_of self.now.items ≤ 0x77FF_8000 }
+        requires few { halfwords_of self.now.items ≤ 0x77FF_8000 }
         requires small { data_size self.now.data_part < 2 ^ 32 }
         ensures { IfOk result (λ file. file.items ≡ file_of self.now code.now) }
     {
@@ -220,7 +221,7 @@ impl Builder {
         ensures read { IfOk result
             (λ file.
             IsOkAnd (assembled self)
-            (λ code. image file.items ≡ Ok (image_of self code))) }
+            (λ code. image file.items ≡ Ok (image_of_source self code))) }
     {
         if !self.is_in_range() {
             return Err(AsmError::Range);

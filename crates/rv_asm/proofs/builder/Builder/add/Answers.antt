@@ -1,5 +1,5 @@
 use Rattle.std.proofs.Common.{◌≡◌, ◌+◌, ◌<◌, ◌^◌, length, ap, sym, ◌∙◌, arith, rules, length-append}
-use Rattle.rv_asm.specs.Source.{count_of}
+use Rattle.rv_asm.specs.Source.{halfwords_of}
 use Rattle.rv_asm.proofs.WordLaws.{count-append, count-below}
 use Rattle.rv_asm.proofs.builder.Builder.add.Goals as goal
 
@@ -13,7 +13,7 @@ overflow_add-self c =
 
 pub invariant_of-self-2 : goal.invariant_of-self-2
 invariant_of-self-2 c =
-    let count = ap count_of c.in_ok-push.ensures.items
+    let count = ap halfwords_of c.in_ok-push.ensures.items
     ∙ count-append c.self.inside.items.items _ in
     record {
       aligned = c.self.invariant.aligned;
