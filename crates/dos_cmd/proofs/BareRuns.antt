@@ -9,7 +9,7 @@ use Rattle.dos_io.specs.Given.{GivesPosts}
 use Rattle.dos_io.specs.declared.exchange.Exchange.{Exchange}
 use Rattle.dos_io.specs.declared.exchange.Exchange.TheVariants.{Signals, Input, Clock, End}
 use Rattle.elf_image.specs.Image.{Image}
-use Rattle.dpg_run.specs.Machine.{Seen}
+use Rattle.flat_machine.specs.Machine.{Seen}
 use Rattle.dpg_run.proofs.Asked.{Determines, one_run}
 use Rattle.shim_log.specs.LogText.{Log, exchanges, header_text, entries_text, entry_text, logtext}
 use Rattle.logged_runs.specs.Runs.{RanWhole}

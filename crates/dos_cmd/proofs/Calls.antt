@@ -13,7 +13,7 @@ use Rattle.dos_io.specs.Outside.{grown, GrewByFront, IsFront, Rose}
 use Rattle.dos_world.specs.declared.Ending.{Ending}
 use Rattle.dos_world.specs.declared.Misfit.{Misfit}
 use Rattle.dpg_run.specs.Fits.{misfit}
-use Rattle.dpg_run.specs.Machine.{group}
+use Rattle.flat_machine.specs.Machine.{group}
 use Rattle.dpg_run.proofs.MisfitLaws.{fits_have_none}
 use Rattle.dos_io.specs.declared.shim.ShimStop.TheVariants as stops
 use Rattle.shim_log.specs.LogText.{Log, exchanges}

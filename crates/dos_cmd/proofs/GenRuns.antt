@@ -17,7 +17,7 @@ use Rattle.dos_io.specs.declared.shim.ShimStop.TheVariants as shims
 use Rattle.dos_io.proofs.OutsideLaws.{grown-nothing}
 use Rattle.dos_io.proofs.QuietAnswers.{last_is_memory, quiet_more}
 use Rattle.elf_image.specs.Image.{Image}
-use Rattle.group_open.specs.Opening.{opening}
+use Rattle.flat_machine.specs.Opening.{opening}
 use Rattle.group_rounds.specs.StatePlays.{telling}
 use Rattle.group_rounds.specs.Kernels.{Held, kernel_world}
 use Rattle.group_rounds.specs.Outside.{HasShimCause}
@@ -27,7 +27,7 @@ use Rattle.kernel_calls.specs.declared.state.State.{State}
 use Rattle.kernel_calls.specs.declared.state.RunStop.TheVariants as stops
 use Rattle.worker_pool.specs.Ran.{GrewBy}
 use Rattle.dpg_run.specs.Fits.{FitsFrom}
-use Rattle.dpg_run.specs.Machine.{Seen, ends, machine_from, status_in}
+use Rattle.flat_machine.specs.Machine.{Seen, ends, machine_from, status_in}
 use Rattle.dpg_run.specs.GroupRuns.{RanGroup}
 use Rattle.generated_group.specs.Generated.{generated}
 use Rattle.generated_group.proofs.RoomLaws.{needed-generated}

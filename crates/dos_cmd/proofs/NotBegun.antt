@@ -8,7 +8,7 @@ use Rattle.dos_io.specs.Outside.{Rose}
 use Rattle.dos_io.proofs.OutsideLaws.{grown-nothing}
 use Rattle.dos_world.specs.declared.Config.{Config}
 use Rattle.elf_image.specs.Image.{Image}
-use Rattle.group_open.specs.Opening.{needed}
+use Rattle.flat_machine.specs.Opening.{needed}
 use Rattle.dos_texts.specs.declared.refusal.Refusal.{Refusal}
 use Rattle.dos_texts.specs.declared.refusal.Refusal.TheVariants as refusals
 use Rattle.dos_words.specs.declared.request.Request.{Request}

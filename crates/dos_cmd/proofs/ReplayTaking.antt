@@ -4,7 +4,7 @@ use Rattle.std.proofs.Common.{List, [], ◌∷◌, length, map, Option, Some, No
 use Rattle.std.specs.Prelude.{IfSome, option_and_then, ◌==◌, if◌then◌else◌}
 use Rattle.std.proofs.lemmas.Bool.Decides.{nat_tests}
 use Rattle.elf_image.specs.Image.{Image}
-use Rattle.group_open.specs.Opening.{needed}
+use Rattle.flat_machine.specs.Opening.{needed}
 use Rattle.log_files.specs.Judging.{log_verdict, disagreement, first_other}
 use Rattle.log_files.specs.declared.refusal.LogRefusal.{LogRefusal}
 use Rattle.log_files.specs.declared.refusal.LogRefusal.TheVariants as log_refusals

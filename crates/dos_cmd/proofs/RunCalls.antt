@@ -8,7 +8,7 @@ use Rattle.dos_world.specs.declared.Config.{Config}
 use Rattle.dos_world.specs.declared.Ending.{Ending}
 use Rattle.dos_world.specs.declared.Post.{Post}
 use Rattle.elf_image.specs.Image.{Image}
-use Rattle.group_open.specs.Opening.{needed}
+use Rattle.flat_machine.specs.Opening.{needed}
 use Rattle.group_rounds.specs.Kernels.{Held}
 use Rattle.shim_log.specs.Ledger.{LedgerState, empty_ledger}
 use Rattle.shim_log.specs.declared.header.LogHeader.{LogHeader}

@@ -16,7 +16,7 @@ use Rattle.kernel_calls.specs.StateWorld.{HasSinkCause, shim_stop}
 use Rattle.kernel_calls.specs.declared.state.RunStop.{RunStop}
 use Rattle.kernel_calls.specs.declared.state.RunStop.TheVariants as stops
 use Rattle.group_rounds.specs.Kernels.{Held, kernel_world}
-use Rattle.dpg_run.specs.Machine.{Seen}
+use Rattle.flat_machine.specs.Machine.{Seen}
 use Rattle.dpg_run.specs.Report.{report, report_in}
 use Rattle.shim_log.specs.Ledger.{LedgerState}
 use Rattle.shim_log.specs.LogText.{Log, logtext}

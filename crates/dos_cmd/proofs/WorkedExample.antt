@@ -10,13 +10,13 @@ use Rattle.dos_world.specs.Bytes.{bytes_of}
 use Rattle.dos_world.specs.declared.Config.{Config}
 use Rattle.dos_world.specs.declared.Ending.TheVariants.{Done}
 use Rattle.dos_world.specs.declared.Question.TheVariants.{Signals, End}
-use Rattle.rv_exec.specs.Computing.{computing}
+use Rattle.flat_machine.specs.Computing.{computing}
 use Rattle.elf_image.specs.Image.{Image, image, image_of, refusal, format_refusal, machine_refusal}
 use Rattle.elf_image.specs.Image.{table_refusal, segment_refusal, overlap_refusal, entry_refusal}
 use Rattle.elf_image.specs.Fields.{headers, headers_from, header_at, half, word}
 use Rattle.dos_io.specs.Given.{GivesPosts}
 use Rattle.dos_io.specs.declared.exchange.Exchange.TheVariants.{Signals as signals}
-use Rattle.dpg_run.specs.Machine.{Seen, group}
+use Rattle.flat_machine.specs.Machine.{Seen, group}
 use Rattle.dpg_run.specs.Report.{report}
 use Rattle.dpg_run.proofs.MisfitLaws.{fits_have_none}
 use Rattle.shim_log.specs.LogText.{Log, exchanges, logtext}

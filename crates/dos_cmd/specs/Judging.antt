@@ -6,7 +6,7 @@ use Rattle.dos_world.specs.declared.Config.{Config}
 use Rattle.elf_image.specs.declared.error.ImageError.{ImageError}
 use Rattle.elf_image.specs.Image.{Image, image}
 use Rattle.generated_group.specs.Generated.{generated}
-use Rattle.group_open.specs.Opening.{needed}
+use Rattle.flat_machine.specs.Opening.{needed}
 use Rattle.log_files.specs.Judging.{disagreement, log_verdict}
 use Rattle.log_files.specs.declared.refusal.LogRefusal.{LogRefusal}
 use Rattle.logged_runs.specs.Replaying.{config_of}

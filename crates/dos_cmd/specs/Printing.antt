@@ -5,7 +5,7 @@ use Rattle.dos_world.specs.declared.Ending.{Ending}
 use Rattle.dos_io.specs.Outside.{GrewByFront}
 use Rattle.elf_image.specs.Image.{Image}
 use Rattle.group_rounds.specs.Kernels.{Held}
-use Rattle.dpg_run.specs.Machine.{Seen, status_in}
+use Rattle.flat_machine.specs.Machine.{Seen, status_in}
 use Rattle.dpg_run.specs.QuietRuns.{RunsQuietly}
 use Rattle.sha2.specs.Sha256.{sha256}
 use Rattle.worker_pool.specs.Ran.{GrewBy}

@@ -2,9 +2,9 @@
 use Rattle.std.specs.Prelude.{◌≡◌, ◌⊎◌, ◌<◌, ◌≤◌, ◌++◌, ⊤, ℕ, List, []}
 use Rattle.dos_world.specs.declared.Misfit.{Misfit}
 use Rattle.elf_image.specs.Image.{Image}
-use Rattle.group_open.specs.Opening.{needed}
+use Rattle.flat_machine.specs.Opening.{needed}
 use Rattle.log_files.specs.declared.refusal.LogRefusal.{LogRefusal}
-use Rattle.dpg_run.specs.Machine.{Seen}
+use Rattle.flat_machine.specs.Machine.{Seen}
 use Rattle.dpg_run.specs.Report.{report}
 use Rattle.shim_log.specs.LogText.{Log}
 use Rattle.logged_runs.specs.Replaying.{Replayed, ReplayedUntil, ReplayedAhead}

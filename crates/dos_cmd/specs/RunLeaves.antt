@@ -6,7 +6,7 @@ use Rattle.dos_io.specs.declared.exchange.ClockRule.{ClockRule}
 use Rattle.dos_io.specs.declared.exchange.ClockRule.TheVariants as clocks
 use Rattle.dos_io.specs.declared.shim.ShimStop.{ShimStop}
 use Rattle.elf_image.specs.Image.{Image}
-use Rattle.dpg_run.specs.Machine.{Seen}
+use Rattle.flat_machine.specs.Machine.{Seen}
 use Rattle.dpg_run.specs.Report.{report}
 use Rattle.shim_log.specs.LogText.{Log, logtext}
 use Rattle.shim_log.specs.declared.header.LogHeader.{LogHeader}

@@ -2,7 +2,7 @@
 use Rattle.std.specs.Prelude.{◌≡◌, ◌<◌, ◌⊎◌, ℕ, Bool, List, [], Option, Some, IfSome, IsTrue, ⊤}
 use Rattle.dos_world.specs.declared.Config.{Config}
 use Rattle.elf_image.specs.Image.{Image}
-use Rattle.group_open.specs.Opening.{needed}
+use Rattle.flat_machine.specs.Opening.{needed}
 use Rattle.dos_io.specs.Outside.{GrewByFront, Rose}
 use Rattle.dos_io.specs.declared.shim.ShimStop.TheVariants as shims
 use Rattle.kernel_calls.specs.declared.state.RunStop.{RunStop}

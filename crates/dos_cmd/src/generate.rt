@@ -5,7 +5,7 @@ ghost use Rattle.dos_world.specs.declared.Config.{Config};
 ghost use Rattle.dos_io.specs.Hosts.{Told};
 ghost use Rattle.dos_io.specs.Outside.{grown, GrewByFront, HasCause};
 ghost use Rattle.elf_image.specs.Image.{Image};
-ghost use Rattle.dpg_run.specs.Machine.{status_in};
+ghost use Rattle.flat_machine.specs.Machine.{status_in};
 ghost use Rattle.logged_runs.specs.Opened.{IsOpenedWith};
 ghost use Rattle.dos_texts.specs.Exit.{ending_status};
 ghost use Rattle.dos_texts.specs.Printed.{summary_of};

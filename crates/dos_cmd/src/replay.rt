@@ -4,7 +4,7 @@ ghost use Rattle.std.specs.Prelude.{IfSome, IsErrOf, OnOk, Ok, Err, None};
 ghost use Rattle.dos_world.specs.Lawful.{IsConfig};
 ghost use Rattle.dos_io.specs.Hosts.{Told};
 ghost use Rattle.dos_io.specs.Outside.{Rose};
-ghost use Rattle.group_open.specs.Opening.{needed};
+ghost use Rattle.flat_machine.specs.Opening.{needed};
 ghost use Rattle.log_files.specs.Judging.{log_verdict};
 ghost use Rattle.logged_runs.specs.Replaying.{config_of};
 ghost use Rattle.dos_texts.specs.Exit.{ending_status};

@@ -8,7 +8,7 @@ ghost use Rattle.group_rounds.specs.Kernels.{kernel_world};
 ghost use Rattle.shim_log.specs.Bytes.{AreDigests};
 ghost use Rattle.shim_log.specs.LogText.{logtext};
 ghost use Rattle.elf_image.specs.Image.{Image as Parsed};
-ghost use Rattle.group_open.specs.Opening.{needed};
+ghost use Rattle.flat_machine.specs.Opening.{needed};
 ghost use Rattle.logged_runs.specs.Opened.{IsOpenedWith};
 ghost use Rattle.shim_log.specs.Ledger.{ArePlanned, empty_ledger};
 ghost use Rattle.dos_texts.specs.Exit.{ending_status};

@@ -17,7 +17,7 @@ use Rattle.dos_world.specs.declared.Access.{Access}
 use Rattle.dos_world.specs.declared.Access.TheVariants.{Fetch, Load, Store, Claim}
 use Rattle.dos_world.specs.declared.Owner.{Owner}
 use Rattle.dos_world.specs.declared.Owner.TheVariants.{Free, Shared, Of}
-use Rattle.rv_exec.proofs.Keeps.{Own}
+use Rattle.flat_machine.proofs.Keeps.{Own}
 use Rattle.dos_laws.proofs.Mapped.{IsTaken}
 use Rattle.dos_laws.proofs.Zeros.{AreZero, zeros_written}
 
@@ -35,9 +35,9 @@ pub record AreOwned (w : World) (owners : List Owner) (bytes : List ℕ) : Type 
   pub owned : (frame t : ℕ) → slice_index_or owners frame Free ≡ Of t
       → (1 ≤ t) × (t ≤ length w.threads)
 
--- and another quantum, count of rounds, bytes that were sent and services
+-- and another quantum, count of rounds and bytes that were sent
 pub lawful-over : (w : World) (owners : List Owner) (bytes : List ℕ) (quantum rounds : ℕ)
-    (output error built : List ℕ) → AreOwned w owners bytes → IsWithinRun quantum rounds → Lawful w
+    (output error : List ℕ) → AreOwned w owners bytes → IsWithinRun quantum rounds → Lawful w
     → Lawful (record w {
       owners = owners;
       bytes = bytes;
@@ -45,9 +45,8 @@ pub lawful-over : (w : World) (owners : List Owner) (bytes : List ℕ) (quantum 
       rounds = rounds;
       output = output;
       error = error;
-      built = built;
     })
-lawful-over w owners bytes quantum rounds output error built are run l = record {
+lawful-over w owners bytes quantum rounds output error are run l = record {
   frames = record {
     bytes = (omega (arith, l.frames.bytes.0, are.count, are.places), are.range);
     free = λ frame lt. are.free frame (omega (arith, are.places));
@@ -85,7 +84,7 @@ lawful-over w owners bytes quantum rounds output error built are run l = record 
 pub lawful-with_frames : (w : World) (owners : List Owner) (bytes : List ℕ)
     → AreOwned w owners bytes → Lawful w → Lawful (record w { owners = owners; bytes = bytes })
 lawful-with_frames w owners bytes are l =
-    lawful-over w owners bytes w.quantum w.rounds w.output w.error w.built are l.run l
+    lawful-over w owners bytes w.quantum w.rounds w.output w.error are l.run l
 
 -- ---- a grant
 

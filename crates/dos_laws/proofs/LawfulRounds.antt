@@ -9,11 +9,11 @@ use Rattle.dos_world.specs.Calls.{Served, went, waits, yields, gone}
 use Rattle.dos_world.specs.Services.{service}
 use Rattle.dos_world.specs.Signals.{signalled, ripen}
 use Rattle.dos_world.specs.declared.Post.{Post}
-use Rattle.rv_exec.specs.Step.{step}
+use Rattle.flat_machine.specs.Step.{step}
 use Rattle.round_core.specs.Invariants.{IsInvariant, LeavesServed, LeavesEnd, IsOf}
-use Rattle.round_core.specs.Rest.{serial_of}
-use Rattle.round_core.specs.Round.{RoundEnd, finished, stalled, parallel, round_of}
-use Rattle.round_core.specs.Round.{went as went_on}
+use Rattle.flat_machine.specs.Rest.{serial_of}
+use Rattle.flat_machine.specs.Round.{RoundEnd, finished, stalled, parallel, round_of}
+use Rattle.flat_machine.specs.Round.{went as went_on}
 use Rattle.round_core.proofs.Allowed.{over_allows}
 use Rattle.round_core.proofs.Keeps.{kept_throughout}
 use Rattle.round_core.proofs.KeepsBoth.{Both, both_kept}
@@ -73,7 +73,7 @@ lawful-serial w last starters answers rest awake apart l fit is =
 -- A round more is counted, so how many there were must be known, too.
 module _ (w : World) where
   abbrev IsHere : List ℕ → World → Type 0
-  IsHere ts u = IsOf w.quantum w.rounds w.built u
+  IsHere ts u = IsOf w.quantum w.rounds u
 
   round_left : w.rounds < 1000000 → (end : RoundEnd) → LeavesEnd (Both LawfulWith IsHere []) end
       → Lawful (world_ended end)
@@ -89,11 +89,10 @@ module _ (w : World) where
   lawful-round end answers rest few l fit is =
       let both =
       both_kept LawfulWith IsHere fit_protocol stands_kept
-      (same_run_kept w.quantum w.rounds w.built fit_protocol
-      (λ number asks is question output error. tt)) in
+      (same_run_kept w.quantum w.rounds fit_protocol (λ question output error. tt)) in
       round_left few end
       (over_allows fit_protocol (LeavesEnd (Both LawfulWith IsHere [])) answers
       (round_of w) end rest
       ((kept_throughout fit_protocol (Both LawfulWith IsHere) both).round_kept w tt
-      (at_rest w l, (refl, refl, refl)))
+      (at_rest w l, (refl, refl)))
       fit is)

@@ -7,15 +7,15 @@ use Rattle.dos_world.specs.World.{World, Process, Thread, Sleeper, live, blank, 
 use Rattle.dos_world.specs.Kernel.{posted}
 use Rattle.dos_world.specs.Play.{input, Outcome, gives, asks, over}
 use Rattle.dos_world.specs.Calls.{Served, went, waits, yields, gone}
-use Rattle.dos_world.specs.Services.{serve, services, all_services}
-use Rattle.rv_exec.specs.Computing.{computing}
+use Rattle.dos_world.specs.Services.{serve, services}
+use Rattle.flat_machine.specs.Computing.{computing}
 use Rattle.dos_world.specs.Lawful.{Lawful}
 use Rattle.dos_world.specs.declared.End.TheVariants.{Input, Output, Error}
 use Rattle.dos_world.specs.declared.Owner.TheVariants.{Free, Shared, Of}
 use Rattle.dos_world.specs.declared.ThreadState.{ThreadState}
 use Rattle.dos_world.specs.declared.ThreadState.TheVariants.{Ready, Asleep}
 use Rattle.dos_world.proofs.LawfulTest.{lawful_by}
-use Rattle.round_core.specs.Rest.{serial_of}
+use Rattle.flat_machine.specs.Rest.{serial_of}
 
 -- ---- a small world: page 0x10 is frame 0, an ecall, and page 0x11 is frame 1, zeros, which is
 -- thread 1's
@@ -58,7 +58,6 @@ world processes threads sleepers = record {
   quantum = 1000;
   output = [];
   error = [];
-  built = all_services;
 }
 
 -- the world after; where the shim is asked, this one

@@ -33,7 +33,7 @@ use Rattle.dos_laws.proofs.Mapped.{IsTaken, held_any, entry_taken}
 use Rattle.dos_laws.proofs.Numerals.{loaded_below}
 use Rattle.dos_laws.proofs.Frames.{lawful-grant, lawful-stored}
 use Rattle.dos_laws.proofs.Outside.{lawful-sent}
-use Rattle.rv_exec.proofs.Keeps.{Own, reach-own, store}
+use Rattle.flat_machine.proofs.Keeps.{Own, reach-own, store}
 use Rattle.dos_laws.proofs.StandsCalls.{StandsCall, Leaves, law, held, thread_within}
 use Rattle.dos_laws.proofs.StandsCalls.{returns_stands, returns_in_stands, refuses_stands}
 use Rattle.dos_laws.proofs.StandsCalls.{retries_stands, leaves_if}

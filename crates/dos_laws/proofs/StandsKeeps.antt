@@ -6,7 +6,7 @@ use Rattle.dos_world.specs.World.{released}
 use Rattle.dos_world.specs.World.{with_budget}
 use Rattle.dos_world.specs.Calls.{Call, Service, call_of, refuses}
 use Rattle.dos_world.specs.declared.Entry.{Entry}
-use Rattle.round_core.specs.Rest.{process_of}
+use Rattle.flat_machine.specs.Rest.{process_of}
 use Rattle.round_core.proofs.Faults.{step-small}
 use Rattle.round_core.specs.Invariants.{Keeps}
 use Rattle.round_core.proofs.Rows.{OfEach, by_number}
@@ -117,11 +117,10 @@ stands_kept = record {
   fault_kept = λ ts w t number is k.
       stands-process_ended ts w (process_of w t) (128 + number)
       (omega (arith, step-small w t number is)) (stands-passed ts w t k);
-  served = λ number ts w t thread is built k.
+  served = λ number ts w t thread is k.
       by_number (λ n one. ServiceStands one) services_stand
       (λ n us c call. refuses_stands us c call 38 (omega arith)) number ts (call_of w t thread)
       (call_stands ts w t thread is k);
-  refused = λ ts w t thread is k. refused_stands ts w t thread is k;
   post_kept = λ w post is k. stands-posted [] w post.pid post.signal is.0 is.1 k;
   turn_kept = λ w t k. stands-signal_turn [] w t k;
   ripen_kept = λ w k. stands-ripen [] w k;

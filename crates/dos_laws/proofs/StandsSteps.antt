@@ -14,11 +14,11 @@ use Rattle.dos_world.specs.declared.Reason.{Reason}
 use Rattle.dos_world.specs.declared.Reason.TheVariants.{Fault}
 use Rattle.rv_isa.specs.declared.Instr.{Instr}
 use Rattle.rv_isa.specs.Valid.{IsValid}
-use Rattle.rv_exec.specs.Effect.{Effect, goes, loads, stores, claims, stops, effect}
-use Rattle.rv_exec.specs.Step.{step, step_of, step_by, performed, paid, paid_by, with_word, reached}
-use Rattle.rv_exec.specs.Step.{instruction_at, half_at, lone_half, whole_word, ◌>>=◌}
-use Rattle.rv_exec.proofs.Keeps.{bind_ok, length-bytes_of, reached-at, reach-own, Own, Writes}
-use Rattle.rv_exec.proofs.Keeps.{store, claim}
+use Rattle.flat_machine.specs.Effect.{Effect, goes, loads, stores, claims, stops, effect}
+use Rattle.flat_machine.specs.Step.{step, step_of, step_by, performed, paid, paid_by, with_word, reached}
+use Rattle.flat_machine.specs.Step.{instruction_at, half_at, lone_half, whole_word, ◌>>=◌}
+use Rattle.flat_machine.proofs.Keeps.{bind_ok, length-bytes_of, reached-at, reach-own, Own, Writes}
+use Rattle.flat_machine.proofs.Keeps.{store, claim}
 use Rattle.dos_laws.specs.Standing.{LawfulWith}
 use Rattle.dos_laws.proofs.Mapped.{of_thread}
 use Rattle.dos_laws.proofs.Numerals.{loaded_word, loaded_below}

@@ -8,7 +8,7 @@ use Rattle.dos_world.specs.World.{World, Process, holdings_of, Thread, flat, thr
 use Rattle.dos_world.specs.World.{live_process, belongs_to, with_thread}
 use Rattle.dos_world.specs.Lawful.{Lawful, IsThread, AreRegisters, IsPending, IsMask, IsSaved}
 use Rattle.dos_world.specs.Lawful.{turns_asleep}
-use Rattle.quantum_run.specs.Laws.{without_run}
+use Rattle.flat_machine.specs.Laws.{without_run}
 use Rattle.dos_laws.proofs.Stands.{lawful-changed, lawful-lively}
 
 -- ---- other threads

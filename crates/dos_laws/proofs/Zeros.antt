@@ -16,7 +16,7 @@ use Rattle.dos_world.specs.Kernel.{zero_page}
 use Rattle.dos_world.specs.Lawful.{Lawful, IsByte}
 use Rattle.dos_world.specs.declared.Owner.{Owner}
 use Rattle.dos_world.specs.declared.Owner.TheVariants.{Free, Of}
-use Rattle.rv_exec.proofs.Keeps.{Own}
+use Rattle.flat_machine.proofs.Keeps.{Own}
 use Rattle.dos_laws.proofs.StandsFrames.{zero_page_is, page_is}
 
 -- each Free frame is zero

@@ -13,11 +13,11 @@ use Rattle.dos_world.specs.Signals.{signalled, ripen}
 use Rattle.dos_world.specs.declared.Entry.{Entry}
 use Rattle.dos_world.specs.declared.Post.{Post}
 use Rattle.dos_world.specs.declared.ThreadState.TheVariants.{Ready}
-use Rattle.rv_exec.specs.Step.{step}
+use Rattle.flat_machine.specs.Step.{step}
 use Rattle.round_core.specs.Invariants.{Keeps}
 use Rattle.round_core.specs.Laws.{IsNoPage}
-use Rattle.round_core.specs.Rest.{settled, serial_of}
-use Rattle.round_core.specs.Round.{RoundEnd, parallel, round_of}
+use Rattle.flat_machine.specs.Rest.{settled, serial_of}
+use Rattle.flat_machine.specs.Round.{RoundEnd, parallel, round_of}
 use Rattle.dos_laws.specs.Plays.{world_served, world_ended}
 use Rattle.dos_laws.specs.Standing.{IsAwake, AreAwake, AreApart, LawfulWith, IsPost, IsFit}
 use Rattle.dos_laws.specs.Standing.{fit_protocol}
@@ -46,8 +46,7 @@ NoPageIsLeft = (w : World) (t : ℕ) → Lawful w → IsNoPage (settled 3 w t).1
 
 -- ---- what leaves every lawful world lawful, whatever pipes, sleepers, signals and children it has
 
--- All that a round does, over all answers that fit: lawfulness is an invariant of the machine,
--- whichever of the 24 services are built.
+-- All that a round does, over all answers that fit: lawfulness is an invariant of the machine.
 abbrev pub LawfulnessIsKept : Type 0
 LawfulnessIsKept = Keeps fit_protocol LawfulWith
 

@@ -1,8 +1,8 @@
 -- The world in what a play comes to. This project's own words.
 use Rattle.dos_world.specs.World.{World}
 use Rattle.dos_world.specs.Calls.{Served, went, waits, yields, gone}
-use Rattle.round_core.specs.Round.{RoundEnd, finished, stalled}
-use Rattle.round_core.specs.Round.{went as went_on}
+use Rattle.flat_machine.specs.Round.{RoundEnd, finished, stalled}
+use Rattle.flat_machine.specs.Round.{went as went_on}
 
 -- the world after a service
 abbrev pub world_served : Served → World

@@ -30,8 +30,8 @@ pub fn no_page_is_left()
 
 // ---- what leaves every lawful world lawful
 
-/// Lawfulness is an invariant of the machine: all that a round does keeps it, whichever of the 24
-/// services are built, over all answers that fit.
+/// Lawfulness is an invariant of the machine: all that a round does keeps it, over all answers
+/// that fit.
 pub fn lawfulness_is_kept()
     ensures { LawfulnessIsKept }
 {}
@@ -62,8 +62,8 @@ pub fn forks_keep()
     ensures { ForksKeep }
 {}
 
-/// What is served for a ready thread leaves every lawful world lawful, whichever services are
-/// built, over all answers that fit.
+/// What is served for a ready thread leaves every lawful world lawful, over all answers that
+/// fit.
 pub fn services_keep()
     ensures { ServicesKeep }
 {}

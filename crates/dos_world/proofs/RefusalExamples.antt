@@ -140,10 +140,6 @@ never_refused : refusal_for small 20 0 0 0 ≡ None
 unfolding services refusals
 never_refused = refl
 
-not_built : refusal_for (record small { built = [] }) 20 0 0 0 ≡ Some 38
-unfolding services refusals
-not_built = refl
-
 no_such_service : refusal_for small 25 0 0 0 ≡ Some 38
 unfolding services refusals
 no_such_service = refl

@@ -2,13 +2,12 @@
 use Rattle.std.proofs.Common.{ℕ, ◌≡◌, inl, inr, refl, sym, ap, ◌∙◌, subst, Bool, cond, true, false}
 use Rattle.std.proofs.Common.{List, Option, Some, None, option_map}
 use Rattle.std.specs.Prelude.{slice_set, ◌==◌, ◌&&◌, find, is_some}
-use Rattle.std.specs.List.{list_any}
 use Rattle.std.proofs.lemmas.Bool.{and_parts, eqb-true}
 use Rattle.dos_world.specs.Numbered.{numbered, changed}
 use Rattle.dos_world.specs.World.{World, Thread, Registers, flat, thread_at, with_thread}
 use Rattle.dos_world.specs.World.{with_registers, registers_by, get}
 use Rattle.dos_world.specs.Kernel.{opened}
-use Rattle.dos_world.specs.Calls.{Call, Service, call_of, charged, refuses}
+use Rattle.dos_world.specs.Calls.{Call, Service, call_of, charged}
 use Rattle.dos_world.specs.Services.{services, service_by, service_for}
 use Rattle.dos_world.specs.Refusals.{refusals, conditions_by, first_that_holds, refusal_for}
 use Rattle.dos_world.specs.Refusals.{granted_before, refused_registers}
@@ -48,7 +47,6 @@ same_but w owners t f = record {
   quantum = refl;
   output = refl;
   error = refl;
-  built = refl;
 }
   where
     same_thread : (o : Option Thread)
@@ -93,7 +91,7 @@ kept w t thread named number = by_row ((number == 11) && (named == 11)) refl
         by_reached (reach paid t (get thread.registers 10) Byte Load) (eqb-true named 11 p.1)
         (eqb-true number 11 p.0)
 
--- ---- a call of a service that is built, or of none
+-- ---- a call of a service, or of none
 
 -- where the table has a number
 refused-row : (row : ℕ × Service) → IsRow row → (c : Call) (thread : Thread)
@@ -116,34 +114,31 @@ unrefused-row row is c thread lives u h number above below e =
     (sym (at.1 ∙ checked-none (conditions_by (find (λ r. r.0 == row.0) refusals)) c
     (refusal_play row.0 c) at.0 h) ∙ e)
 
--- by whether it is built and by the row that is found
-refused-by : (built : Bool) (o : Option (ℕ × Service)) (service : ℕ)
+-- by the row that is found
+refused-by : (o : Option (ℕ × Service)) (service : ℕ)
     → find (λ row. row.0 == service) services ≡ o
     → (c : Call) (thread : Thread) → thread_at c.world c.thread ≡ Some thread → (number : ℕ)
-    → cond (built && is_some o)
+    → cond (is_some o)
     (first_that_holds (conditions_by (find (λ row. row.0 == service) refusals)) c) (Some 38)
     ≡ Some number
-    → cond {A = Service} built (service_by o) (refuses 38) c ≡ refusal_play service c number
-refused-by false o service e c thread lives number h = let same : 38 ≡ number = cc in
+    → service_by o c ≡ refusal_play service c number
+refused-by None service e c thread lives number h = let same : 38 ≡ number = cc in
     ap (refusal_play service c) same
-refused-by true None service e c thread lives number h = let same : 38 ≡ number = cc in
-    ap (refusal_play service c) same
-refused-by true (Some row) service e c thread lives number h =
+refused-by (Some row) service e c thread lives number h =
     let found = found-row services all-rows service row e in
     subst (λ n. first_that_holds (conditions_by (find (λ r. r.0 == n) refusals)) c ≡ Some number
     → row.1 c ≡ refusal_play n c number) found.0
     (refused-row row found.1 c thread lives number) h
 
-unrefused-by : (built : Bool) (o : Option (ℕ × Service)) (service : ℕ)
+unrefused-by : (o : Option (ℕ × Service)) (service : ℕ)
     → find (λ row. row.0 == service) services ≡ o
     → (c : Call) (thread : Thread) → thread_at c.world c.thread ≡ Some thread → IsUsual c
-    → cond (built && is_some o)
+    → cond (is_some o)
     (first_that_holds (conditions_by (find (λ row. row.0 == service) refusals)) c) (Some 38)
     ≡ None
-    → NotRefused service c (cond {A = Service} built (service_by o) (refuses 38) c)
-unrefused-by false o service e c thread lives u h = absurd cc
-unrefused-by true None service e c thread lives u h = absurd cc
-unrefused-by true (Some row) service e c thread lives u h =
+    → NotRefused service c (service_by o c)
+unrefused-by None service e c thread lives u h = absurd cc
+unrefused-by (Some row) service e c thread lives u h =
     let found = found-row services all-rows service row e in
     subst (λ n. first_that_holds (conditions_by (find (λ r. r.0 == n) refusals)) c ≡ None
     → NotRefused n c (row.1 c)) found.0 (unrefused-row row found.1 c thread lives u) h
@@ -162,7 +157,7 @@ refused_calls w t thread is number h =
     let which = sym (ap (refusal_for w t) is) ∙ h in
     let same = kept w t thread named number in (
       ap (service_for w t) is
-          ∙ refused-by (list_any (λ n. n == named) w.built)
+          ∙ refused-by
           (find (λ row. row.0 == named) services) named refl c (charged thread)
           (caller w t thread is) number which,
       same.0,
@@ -174,7 +169,7 @@ only_these w law t thread is h number above below e =
     let named : ℕ = get thread.registers 17 in
     let c : Call = call_of w t thread in
     let which = sym (ap (refusal_for w t) is) ∙ h in
-    unrefused-by (list_any (λ n. n == named) w.built)
+    unrefused-by
     (find (λ row. row.0 == named) services) named refl c (charged thread)
     (caller w t thread is) (usual w t thread law is) which number above below
     (sym (ap (service_for w t) is) ∙ e)

@@ -4,7 +4,7 @@ use Rattle.dos_world.specs.World.{World, Process, Thread, Entry, Registers, live
 use Rattle.dos_world.specs.World.{get, set, with_held, with_registers}
 use Rattle.dos_world.specs.Play.{Outcome, gives, asks}
 use Rattle.dos_world.specs.Calls.{Served, went, waits, yields, gone}
-use Rattle.dos_world.specs.Services.{serve, all_services}
+use Rattle.dos_world.specs.Services.{serve}
 use Rattle.dos_world.specs.declared.Owner.TheVariants.{Free, Shared, Of}
 use Rattle.dos_world.specs.declared.End.TheVariants.{Input, Output, Error}
 use Rattle.dos_world.specs.declared.ThreadState.TheVariants.{Ready}
@@ -54,7 +54,6 @@ world_with page processes threads = record {
   quantum = 1000;
   output = [];
   error = [];
-  built = all_services;
 }
 
 -- with one process and two threads of it

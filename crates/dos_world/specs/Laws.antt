@@ -74,7 +74,6 @@ pub record SameButRegistersAndOwners (old new : World) (t : ℕ) : Type 0 where
   pub quantum : new.quantum ≡ old.quantum
   pub output : new.output ≡ old.output
   pub error : new.error ≡ old.error
-  pub built : new.built ≡ old.built
 
 -- All owners stand; or it is futex_wait's 11, and one frame has become Shared.
 abbrev pub KeepsOwners : ℕ → ℕ → World → World → Type 0

@@ -3,7 +3,6 @@
 use Rattle.std.specs.Prelude.{ℕ, ◌%◌, Bool, true, false, not, ◌&&◌, ◌||◌, List, [], ◌∷◌, find}
 use Rattle.std.specs.Prelude.{Option, Some, None, is_some, is_none, ◌==◌, nat_lt, nat_le}
 use Rattle.std.specs.Prelude.{if◌then◌else◌}
-use Rattle.std.specs.List.{list_any}
 use Rattle.dos_world.specs.Errors.{eagain, ebadf, echild, efault, einval, emfile, enomem, enosys}
 use Rattle.dos_world.specs.Errors.{epipe, esrch}
 use Rattle.dos_world.specs.World.{World, Thread, Registers, code_unit, first_of, entry_at}
@@ -154,21 +153,20 @@ first_that_holds [] c = None
 first_that_holds (row ∷ rows) c =
     let later : Option ℕ = first_that_holds rows c in if row.1 c then Some row.0 else later
 
--- whether there is a service of this number, and it is built
-abbrev pub is_built : List ℕ → ℕ → Bool
-is_built built service =
-    list_any (λ n. n == service) built && is_some (find (λ row. row.0 == service) services)
+-- whether there is a service of this number
+abbrev pub is_service : ℕ → Bool
+is_service number = is_some (find (λ row. row.0 == number) services)
 
 -- the number with which a call of this service is refused, where it is: 38 where there is no such
 -- service
-abbrev pub refusal_by : List ℕ → ℕ → Call → Option ℕ
-refusal_by built service c =
-    if is_built built service then first_that_holds (conditions_of service) c else Some enosys
+abbrev pub refusal_of : ℕ → Call → Option ℕ
+refusal_of service c =
+    if is_service service then first_that_holds (conditions_of service) c else Some enosys
 
 -- the same for a thread that lives
 abbrev pub refusal_for : World → ℕ → Option Thread → Option ℕ
 refusal_for w t None = None
-refusal_for w t (Some thread) = refusal_by w.built (get thread.registers 17) (call_of w t thread)
+refusal_for w t (Some thread) = refusal_of (get thread.registers 17) (call_of w t thread)
 
 -- the number with which t's call would be refused now
 abbrev pub call_refusal : World → ℕ → Option ℕ

@@ -1,9 +1,6 @@
 -- The services by number, and what is served for a thread. This project's own.
 use Rattle.std.specs.Prelude.{ℕ, ◌+◌, ◌/◌, ◌%◌, ◌^◌, List, [], ◌∷◌, find, Option, Some, None, ◌==◌}
-use Rattle.std.specs.Prelude.{if◌then◌else◌}
-use Rattle.std.specs.List.{list_any}
 use Rattle.dos_world.specs.Errors.{enosys}
-use Rattle.dos_world.specs.Numbered.{run_of}
 use Rattle.dos_world.specs.World.{World, Thread, thread_at, get}
 use Rattle.dos_world.specs.Play.{Play, Answer, done, Outcome, over, reading_of}
 use Rattle.dos_world.specs.declared.Question.TheVariants.{Clock}
@@ -67,19 +64,10 @@ service_of number = service_by (find (λ row. row.0 == number) services)
 
 -- ---- serving
 
--- all services there may be
-abbrev pub all_services : List ℕ
-all_services = run_of 1 24
-
--- the service of a number that is built, and else refusal 38
-abbrev pub built_service : List ℕ → ℕ → Service
-built_service built number =
-    if list_any (λ n. n == number) built then service_of number else refuses enosys
-
 -- the service that a7 (x17) names, for a thread that lives
 abbrev pub service_for : World → ℕ → Option Thread → Play Served
 service_for w t None = done (gone w)
-service_for w t (Some thread) = built_service w.built (get thread.registers 17) (call_of w t thread)
+service_for w t (Some thread) = service_of (get thread.registers 17) (call_of w t thread)
 
 -- the service that t's a7 names
 abbrev pub service : World → ℕ → Play Served

@@ -52,8 +52,7 @@ pub record Sleeper : Type 0 where
 
 -- Frame f is the stretch of 4096 bytes from 4096 * f, and has one owner. Processes and threads are
 -- numbered from 1; a thread that is gone is None.
--- Rounds counts those that were run; output and error are the bytes sent so far. Built are the
--- numbers of the services that there are; the rest are refused.
+-- Rounds counts those that were run; output and error are the bytes sent so far.
 pub record World : Type 0 where
   pub bytes : List ℕ
   pub owners : List Owner
@@ -65,7 +64,6 @@ pub record World : Type 0 where
   pub quantum : ℕ
   pub output : List ℕ
   pub error : List ℕ
-  pub built : List ℕ
 
 -- What the address of an instruction is a multiple of: IALIGN, in bytes, with the extension C.
 -- RISC-V unprivileged manual, edition 20191213, section 1.5.

@@ -9,7 +9,7 @@ use Rattle.dos_io.specs.declared.exchange.Exchange.{Exchange}
 use Rattle.dos_io.specs.Exchanges.{question_of, answer_of}
 use Rattle.elf_image.specs.Image.{Image}
 use Rattle.dpg_run.specs.Fits.{Fits}
-use Rattle.dpg_run.specs.Machine.{Seen, Ran, ends, group, machine}
+use Rattle.flat_machine.specs.Machine.{Seen, Ran, ends, group, machine}
 
 -- equal lists have equal heads and equal rests
 pub heads : {A : Type 0} (x y : A) (xs ys : List A) → x ∷ xs ≡ y ∷ ys → (x ≡ y) × (xs ≡ ys)

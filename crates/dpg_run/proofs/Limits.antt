@@ -9,8 +9,8 @@ use Rattle.round_core.specs.Invariants.{IsOf}
 use Rattle.round_core.proofs.Allowed.{over_allows}
 use Rattle.round_core.proofs.SameRun.{same_run_kept}
 use Rattle.elf_image.specs.Image.{Image}
-use Rattle.group_open.specs.Opening.{opening}
-use Rattle.dpg_run.specs.Machine.{Finish, Seen, ends, needs, result_of, rounds_from, machine}
+use Rattle.flat_machine.specs.Opening.{opening}
+use Rattle.flat_machine.specs.Machine.{Finish, Seen, ends, needs, result_of, rounds_from, machine}
 use Rattle.dpg_run.specs.Laws.{LeavesFinish, RunOwes}
 use Rattle.dpg_run.proofs.RunKeeps.{rounds_keep}
 use Rattle.dpg_run.proofs.Asked.{seen_is}
@@ -27,16 +27,15 @@ seen_within limit asked (asks question output error) s within is = absurd (needs
     needs≢ends e = cc
 
 -- the count of rounds, as an invariant
-module _ (q limit : ℕ) (built : List ℕ) where
+module _ (q limit : ℕ) where
   abbrev CountIs : ℕ → List ℕ → World → Type 0
-  CountIs n ts w = IsOf q n built w
+  CountIs n ts w = IsOf q n w
 
   owes : RunOwes any_protocol limit CountIs
   owes = record {
-    round_kept = λ n. same_run_kept q n built any_protocol
-        (λ number asks is question output error. tt);
+    round_kept = λ n. same_run_kept q n any_protocol (λ question output error. tt);
     may_ask = λ n m w k. tt;
-    counted_kept = λ n w lt k. (k.0, ap (λ rounds. rounds + 1) k.1, k.2);
+    counted_kept = λ n w lt k. (k.0, ap (λ rounds. rounds + 1) k.1);
   }
 
 pub machine_within : (images : List Image) (config : Config) (answers : List Answer) (s : Seen)
@@ -52,10 +51,10 @@ machine_within images config answers s is =
         → finish.world.rounds ≤ config.rounds
     within finish rest gave =
         let left = over_allows any_protocol
-        (LeavesFinish config.rounds (CountIs w.quantum config.rounds w.built)) answers
+        (LeavesFinish config.rounds (CountIs w.quantum config.rounds)) answers
         (rounds_from w config) finish rest
-        (rounds_keep any_protocol config.rounds (CountIs w.quantum config.rounds w.built)
-        (owes w.quantum config.rounds w.built) (config.rounds - 0) 0 w 0 (omega arith)
-        (refl, refl, refl)) (λ k d lt. tt) gave in
+        (rounds_keep any_protocol config.rounds (CountIs w.quantum config.rounds)
+        (owes w.quantum config.rounds) (config.rounds - 0) 0 w 0 (omega arith)
+        (refl, refl)) (λ k d lt. tt) gave in
         let rounds : finish.world.rounds ≡ left.0 = left.2.1 in
         omega (arith, rounds, left.1)

@@ -11,7 +11,8 @@ use Rattle.dos_world.specs.declared.Question.TheVariants.{Signals, Input, Clock,
 use Rattle.dos_io.specs.declared.exchange.Exchange.{Exchange}
 use Rattle.dos_io.specs.Exchanges.{question_of, answer_of}
 use Rattle.dpg_run.proofs.Asked.{heads}
-use Rattle.dpg_run.specs.Fits.{same_ending, same_question, misfit_from}
+use Rattle.dpg_run.specs.Fits.{misfit_from}
+use Rattle.flat_machine.specs.Fits.{same_ending, same_question}
 
 ending_with_itself : (e : Ending) → same_ending e e ≡ true
 ending_with_itself Done = refl
@@ -66,7 +67,7 @@ misfit_at n m [] e rest asked (ask question output error next) count is other =
     let f : same_question (question_of e) question ≡ false =
     differ (question_of e) question (λ same. other (same ∙ h.0)) in
     let place : n ≡ m = omega (arith, count) in
-    rw (f, misfit_from)
+    rw (f, first_misfit)
     (ap (λ (q : Question). Some (record { entry = n; kept = question_of e; asked = q })) h.0
     ∙ ap (λ (i : ℕ). Some (record { entry = i; kept = question_of e; asked = asked })) place)
 misfit_at n m (x ∷ es) e rest asked (ask question output error next) count is other =
@@ -75,7 +76,7 @@ misfit_at n m (x ∷ es) e rest asked (ask question output error next) count is 
     let t : same_question (question_of x) question ≡ true =
     subst (λ (q : Question). same_question (question_of x) q ≡ true) (sym h.0)
     (with_itself (question_of x)) in
-    rw (t, misfit_from)
+    rw (t, first_misfit)
     (misfit_at (suc n) m es e rest asked (next (answer_of x)) (omega (arith, count)) h.1 other)
 
 -- Exchanges that a whole run asks for have no misfit.
@@ -90,4 +91,4 @@ fits_have_none n (x ∷ es) (ask question output error next) is =
     let t : same_question (question_of x) question ≡ true =
     subst (λ (q : Question). same_question (question_of x) q ≡ true) (sym h.0)
     (with_itself (question_of x)) in
-    rw (t, misfit_from) (fits_have_none (suc n) es (next (answer_of x)) h.1)
+    rw (t, first_misfit) (fits_have_none (suc n) es (next (answer_of x)) h.1)

@@ -9,7 +9,7 @@ use Rattle.dos_world.specs.World.{Process}
 use Rattle.dos_io.specs.Outside.{grown, GrewByFront}
 use Rattle.dos_io.proofs.OutsideLaws.{grown-twice}
 use Rattle.proc_table.specs.Tables.{last_status}
-use Rattle.dpg_run.specs.Machine.{status_in}
+use Rattle.flat_machine.specs.Machine.{status_in}
 use Rattle.dos_texts.specs.Report.{process_line, process_lines}
 use Rattle.dos_texts.proofs.Pieces.{front_of_whole}
 

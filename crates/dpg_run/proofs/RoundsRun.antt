@@ -20,7 +20,7 @@ use Rattle.dos_io.specs.declared.exchange.Exchange.TheVariants.{End}
 use Rattle.dos_io.specs.Exchanges.{question_of, answer_of}
 use Rattle.dos_laws.specs.Plays.{world_ended}
 use Rattle.round_core.proofs.Allowed.{allows_less}
-use Rattle.round_core.specs.Round.{RoundEnd as FlatEnd, went, finished, stalled, round_of}
+use Rattle.flat_machine.specs.Round.{RoundEnd as FlatEnd, went, finished, stalled, round_of}
 use Rattle.dos_io.specs.declared.shim.ShimStop.{ShimStop}
 use Rattle.kernel_calls.specs.StateWorld.{world_of, sent, shim_stop}
 use Rattle.kernel_calls.specs.declared.state.RunStop.{RunStop}
@@ -37,7 +37,7 @@ use Rattle.group_rounds.proofs.PlayLaws.{goes-questions, goes_by, stops_by}
 use Rattle.dos_io.proofs.OutsideLaws.{front-whole}
 use Rattle.group_rounds.proofs.StatePlayLaws.{told_nothing, told_so, told_then}
 use Rattle.group_rounds.proofs.FrontLaws.{HasSent, fronts_kept, fronts_over, fronts_then, sending}
-use Rattle.dpg_run.specs.Machine.{Finish, rounds_of, rounds_from, told_end, run_from, result_of}
+use Rattle.flat_machine.specs.Machine.{Finish, rounds_of, rounds_from, told_end, run_from, result_of}
 use Rattle.dpg_run.specs.Laws.{LeavesFinish, RunOwes}
 use Rattle.dpg_run.proofs.RunKeeps.{rounds_keep}
 use Rattle.dpg_run.specs.GroupRuns.{AreFronts, CutGroup, RanRounds, RanGroup, StoppedGroup}

@@ -6,11 +6,11 @@ use Rattle.dos_world.specs.Play.{Play, done}
 use Rattle.dos_world.specs.declared.Ending.TheVariants.{Done, Stalled}
 use Rattle.round_core.specs.Protocol.{Protocol, Allows}
 use Rattle.round_core.specs.Invariants.{Holds, LeavesEnd}
-use Rattle.round_core.specs.Round.{RoundEnd, went, finished, stalled, round_of}
+use Rattle.flat_machine.specs.Round.{RoundEnd, went, finished, stalled, round_of}
 use Rattle.round_core.proofs.Allowed.{then_allows}
 use Rattle.round_core.proofs.Keeps.{round_keeps}
 use Rattle.dpg_run.specs.Laws.{LeavesFinish, RunIsKept, RunOwes}
-use Rattle.dpg_run.specs.Machine.{Finish, rounds_of}
+use Rattle.flat_machine.specs.Machine.{Finish, rounds_of}
 
 -- how the run goes on after a round
 abbrev pub goes_on : ℕ → ℕ → RoundEnd → Play Finish

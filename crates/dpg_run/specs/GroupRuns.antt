@@ -23,8 +23,8 @@ use Rattle.group_rounds.specs.Outside.{is_end}
 use Rattle.group_rounds.specs.declared.round.RoundEnd.{RoundEnd}
 use Rattle.group_rounds.specs.declared.round.RoundEnd.TheVariants.{Went, Done, Stalled}
 use Rattle.dpg_run.specs.Fits.{FitsFrom}
-use Rattle.dpg_run.specs.Machine.{Finish, Ran, machine_from, rounds_from, run_from, ends, needs}
-use Rattle.dpg_run.specs.Machine.{status_in}
+use Rattle.flat_machine.specs.Machine.{Finish, Ran, machine_from, rounds_from, run_from, ends, needs}
+use Rattle.flat_machine.specs.Machine.{status_in}
 
 -- how a run ended, in which world, after so much work
 abbrev pub finish_in : Ending → World → ℕ → Finish

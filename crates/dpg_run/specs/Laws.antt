@@ -8,16 +8,16 @@ use Rattle.dos_world.specs.declared.Config.{Config}
 use Rattle.dos_world.specs.declared.Question.TheVariants.{Signals}
 use Rattle.round_core.specs.Protocol.{Protocol, Allows}
 use Rattle.round_core.specs.Invariants.{Holds, Keeps}
-use Rattle.round_core.specs.Round.{counted}
+use Rattle.flat_machine.specs.Round.{counted}
 use Rattle.dos_laws.specs.Standing.{IsFit}
 use Rattle.elf_image.specs.Image.{Image}
 use Rattle.group_open.specs.Laws.{IsAccepted}
-use Rattle.group_open.specs.Opening.{opening_with, needed}
+use Rattle.flat_machine.specs.Opening.{opening, needed}
 use Rattle.dos_world.specs.declared.Question.{Question}
 use Rattle.dos_io.specs.declared.exchange.Exchange.{Exchange}
 use Rattle.dos_io.specs.Exchanges.{question_of, answer_of}
 use Rattle.dpg_run.specs.Fits.{Fits, misfit}
-use Rattle.dpg_run.specs.Machine.{Finish, Seen, ends, machine, rounds_of, rounds_from, group}
+use Rattle.flat_machine.specs.Machine.{Finish, Seen, ends, machine, rounds_of, rounds_from, group}
 
 -- ---- invariants of a run, one for each count of its rounds
 
@@ -48,13 +48,12 @@ RunsEndLawful = (count : ℕ) (w : World) (work : ℕ) (answers rest : List Answ
     → Lawful finish.world × (finish.world.rounds ≤ w.rounds + count)
 
 -- So the run of 1 to 8 accepted images that fit the frames ends in a lawful world, after no more
--- rounds than it may have, whichever services are built.
+-- rounds than it may have.
 abbrev pub GroupsEndLawful : Type 0
-GroupsEndLawful = (built : List ℕ) (images : List Image) (config : Config)
-    (answers rest : List Answer) (finish : Finish)
+GroupsEndLawful = (images : List Image) (config : Config) (answers rest : List Answer) (finish : Finish)
     → 1 ≤ length images → length images ≤ 8 → All IsAccepted images → IsConfig config
     → needed images ≤ config.frames → All IsFit answers
-    → over answers (rounds_from (opening_with built images config) config) ≡ gives finish rest
+    → over answers (rounds_from (opening images config) config) ≡ gives finish rest
     → Lawful finish.world × (finish.world.rounds ≤ config.rounds)
 
 -- ---- rounds

@@ -1,4 +1,3 @@
-pub mod Machine
 pub mod Report
 pub mod Fits
 pub mod GroupRuns

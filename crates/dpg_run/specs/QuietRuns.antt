@@ -7,7 +7,7 @@ use Rattle.dos_io.specs.Exchanges.{answer_of}
 use Rattle.dos_io.specs.Quiet.{AreQuiet}
 use Rattle.elf_image.specs.Image.{Image}
 use Rattle.dpg_run.specs.Fits.{Fits}
-use Rattle.dpg_run.specs.Machine.{Seen, ends, machine}
+use Rattle.flat_machine.specs.Machine.{Seen, ends, machine}
 
 -- Each question of the whole run has its quiet answer, and this is seen of it.
 pub record RunsQuietly (images : List Image) (config : Config) (seen : Seen) : Type 0 where

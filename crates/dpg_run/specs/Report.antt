@@ -3,7 +3,7 @@ use Rattle.std.specs.Prelude.{ℕ, List, map}
 use Rattle.dos_world.specs.declared.Ending.{Ending}
 use Rattle.dos_world.specs.World.{World}
 use Rattle.dos_texts.specs.Report.{report_of}
-use Rattle.dpg_run.specs.Machine.{Seen, status_in}
+use Rattle.flat_machine.specs.Machine.{Seen, status_in}
 
 -- the report of the processes of a world, in which a run has ended so
 abbrev pub report_in : World → Ending → List ℕ

@@ -27,13 +27,13 @@ pub fn run_invariants_are_kept<I: RunInvariant>()
 {}
 
 /// As many rounds as there may be lead from a lawful world to a lawful world, over all answers that
-/// fit, whichever services are built.
+/// fit.
 pub fn runs_end_lawful()
     ensures { RunsEndLawful }
 {}
 
 /// The run of 1 to 8 images of accepted files that fit the frames ends in a lawful world, over all
-/// answers that fit, whichever services are built.
+/// answers that fit.
 pub fn groups_end_lawful()
     ensures { GroupsEndLawful }
 {}

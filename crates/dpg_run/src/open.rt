@@ -2,7 +2,7 @@
 
 ghost use Rattle.std.specs.Prelude.{◌≡◌, ◌≢◌, ◌<◌, ◌≤◌, Err, IfErr, IfOk, false, length};
 ghost use Rattle.dos_world.specs.Lawful.{IsConfig};
-ghost use Rattle.group_open.specs.Opening.{needed, opening};
+ghost use Rattle.flat_machine.specs.Opening.{needed, opening};
 ghost use Rattle.group_rounds.specs.Kernels.{kernel_world};
 ghost use Rattle.kernel_calls.specs.StateWorld.{IsSound};
 

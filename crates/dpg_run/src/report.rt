@@ -3,7 +3,7 @@
 ghost use Rattle.std.specs.Prelude.{◌≡◌, map, OnOk, OnErr};
 ghost use Rattle.dos_io.specs.Outside.{grown, GrewByFront, HasCause};
 ghost use Rattle.group_rounds.specs.Kernels.{kernel_world};
-ghost use Rattle.dpg_run.specs.Machine.{status_in};
+ghost use Rattle.flat_machine.specs.Machine.{status_in};
 ghost use Rattle.dpg_run.specs.Report.{report_in};
 ghost use Rattle.dos_texts.specs.Report.{process_lines, report_of};
 

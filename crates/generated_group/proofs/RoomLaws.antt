@@ -2,7 +2,7 @@
 use Rattle.std.proofs.Common.{◌≡◌, ℕ, ◌+◌, ◌-◌, ◌*◌, ◌/◌, ◌≤◌, Bool, true, false, List, [], ◌∷◌}
 use Rattle.std.proofs.Common.{◌++◌, length, length-append, arith}
 use Rattle.std.specs.Prelude.{nat_lt, ◌==◌, if◌then◌else◌}
-use Rattle.group_open.specs.Opening.{needed, pages_touched, rising, with_number}
+use Rattle.flat_machine.specs.Opening.{needed, pages_touched, rising, with_number}
 use Rattle.group_open.proofs.Runs.{length_run}
 use Rattle.generated_group.specs.Generated.{generated, pages_part, program_part}
 

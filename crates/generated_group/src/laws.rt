@@ -1,7 +1,7 @@
 //! A law of the group that is made from a number. The function does nothing; its contract is the
 //! law.
 ghost use Rattle.std.specs.Prelude.{◌≤◌, ◌∷◌, [], ℕ};
-ghost use Rattle.group_open.specs.Opening.{needed};
+ghost use Rattle.flat_machine.specs.Opening.{needed};
 ghost use Rattle.generated_group.specs.Generated.{generated};
 
 /// The group always has room in 4096 frames.

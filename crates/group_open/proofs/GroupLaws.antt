@@ -20,9 +20,9 @@ use Rattle.dos_world.specs.DescriptorCalls.{with_end}
 use Rattle.dos_world.specs.declared.End.{End}
 use Rattle.proc_table.specs.Tables.{Tables, IsProcess, held_by, held_in, new_process, no_tables}
 use Rattle.proc_table.specs.Tables.{process_added}
-use Rattle.group_open.specs.Opening.{image_bytes, needed, opening_descriptors, opening_process}
-use Rattle.group_open.specs.Opening.{opening_registers, opening_thread, owners_from, page_count}
-use Rattle.group_open.specs.Opening.{processes_from, space_from}
+use Rattle.flat_machine.specs.Opening.{image_bytes, needed, opening_descriptors, opening_process}
+use Rattle.flat_machine.specs.Opening.{opening_registers, opening_thread, owners_from, page_count}
+use Rattle.flat_machine.specs.Opening.{processes_from, space_from}
 use Rattle.group_open.specs.Filling.{HasPlace, HasRoom, IsFilled, IsTaken, OpensImage, with_more}
 use Rattle.std.proofs.lemmas.List.{append-nil, append_assoc, flat_map_more}
 use Rattle.dos_world.specs.declared.Entry.{Entry}

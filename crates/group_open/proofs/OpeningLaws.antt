@@ -22,8 +22,8 @@ use Rattle.dos_world.specs.declared.Config.{Config}
 use Rattle.dos_world.specs.declared.Owner.{Owner}
 use Rattle.dos_world.specs.declared.Owner.TheVariants.{Free, Of}
 use Rattle.elf_image.specs.Image.{Image}
-use Rattle.group_open.specs.Opening.{opening, needed, page_count, image_bytes, owners_from}
-use Rattle.group_open.specs.Opening.{processes_from, opening_process, opening_thread}
+use Rattle.flat_machine.specs.Opening.{opening, needed, page_count, image_bytes, owners_from}
+use Rattle.flat_machine.specs.Opening.{processes_from, opening_process, opening_thread}
 use Rattle.group_open.specs.Laws.{IsAccepted, OpeningsAreLawful}
 use Rattle.group_open.proofs.Runs.{All-flat_map, length_with_zeros, same_everywhere}
 use Rattle.dos_laws.proofs.Ends.{length-map_from}

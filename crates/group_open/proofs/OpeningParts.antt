@@ -19,10 +19,10 @@ use Rattle.dos_world.specs.declared.Entry.{Entry}
 use Rattle.dos_world.specs.declared.End.TheVariants.{Input, Output, Error}
 use Rattle.elf_image.specs.declared.part.Part.{Part}
 use Rattle.elf_image.specs.Image.{Image, IsSound, IsPlaced, HoldsEntry, size_of}
-use Rattle.group_open.specs.Opening.{pages_touched, part_pages, stack_pages, page_count, part_entry}
-use Rattle.group_open.specs.Opening.{stack_entry, space_from, opening_descriptors}
-use Rattle.group_open.specs.Opening.{opening_registers, opening_thread, part_byte, byte_at}
-use Rattle.group_open.specs.Opening.{page_bytes, image_bytes}
+use Rattle.flat_machine.specs.Opening.{pages_touched, part_pages, stack_pages, page_count, part_entry}
+use Rattle.flat_machine.specs.Opening.{stack_entry, space_from, opening_descriptors}
+use Rattle.flat_machine.specs.Opening.{opening_registers, opening_thread, part_byte, byte_at}
+use Rattle.flat_machine.specs.Opening.{page_bytes, image_bytes}
 use Rattle.group_open.specs.Laws.{IsAccepted, HasBytes}
 use Rattle.group_open.proofs.Runs.{All-flat_map, length_with_zeros, any_of_map, count_of_map}
 use Rattle.group_open.proofs.Runs.{length_run, append_runs, at_run, within_run, places_kept}

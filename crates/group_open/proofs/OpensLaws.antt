@@ -8,7 +8,7 @@ use Rattle.std.proofs.lemmas.List.Elements.{All-cons, All-head, All-nil, All-tai
 use Rattle.std.specs.Prelude.{flat_map}
 use Rattle.dos_world.specs.Numbered.{map_from}
 use Rattle.elf_image.specs.Image.{Image}
-use Rattle.group_open.specs.Opening.{page_bytes, part_entry, stack_entry}
+use Rattle.flat_machine.specs.Opening.{page_bytes, part_entry, stack_entry}
 use Rattle.dos_world.specs.declared.Entry.{Entry}
 use Rattle.dos_world.specs.Kernel.{with_entry, zero_page}
 use Rattle.dos_world.specs.declared.Owner.{Owner}

@@ -22,8 +22,8 @@ use Rattle.dos_world.specs.Numbered.{run_of}
 use Rattle.dos_world.specs.Bytes.{written}
 use Rattle.elf_image.specs.declared.part.Part.{Part}
 use Rattle.elf_image.specs.Image.{Image, IsSound, IsApart, size_of}
-use Rattle.group_open.specs.Opening.{pages_touched, with_number, rising, part_pages, touches}
-use Rattle.group_open.specs.Opening.{covers, part_byte, byte_at, page_bytes}
+use Rattle.flat_machine.specs.Opening.{pages_touched, with_number, rising, part_pages, touches}
+use Rattle.flat_machine.specs.Opening.{covers, part_byte, byte_at, page_bytes}
 use Rattle.group_open.specs.Pages.{lower_of, least_from, laid_over}
 use Rattle.group_open.proofs.Runs.{RisesWithin, within_rise, any_in_run, none_in_run, length_run}
 use Rattle.group_open.proofs.Runs.{at_run}

@@ -12,7 +12,7 @@ use Rattle.std.proofs.lemmas.List.{length-append, length-replicate}
 use Rattle.std.proofs.lemmas.List.Elements.{All-nil, All-cons, All-head, All-tail, All-append}
 use Rattle.std.proofs.lemmas.List.Sums.{sum_by-cons}
 use Rattle.dos_world.specs.Numbered.{map_from, run_of}
-use Rattle.group_open.specs.Opening.{with_number, rising}
+use Rattle.flat_machine.specs.Opening.{with_number, rising}
 
 -- ---- lists
 

@@ -11,7 +11,6 @@ use Rattle.dos_world.specs.World.{World, Process, Thread, Holdings, all_holdings
 use Rattle.dos_world.specs.Counts.{reads_pipe, writes_pipe}
 use Rattle.dos_world.specs.declared.End.{End}
 use Rattle.dos_world.specs.Lawful.{IsConfig, Lawful, uses_of}
-use Rattle.kernel_calls.specs.Built.{services_built}
 use Rattle.dos_world.specs.declared.Config.{Config}
 use Rattle.dos_world.specs.declared.End.TheVariants.{Input, Output, Error}
 use Rattle.dos_world.specs.declared.Owner.{Owner}
@@ -21,8 +20,8 @@ use Rattle.kernel_objects.specs.Pipework.{Pipework, ends_at}
 use Rattle.kernel_calls.specs.StateWorld.{IsSound, AreCounted, ends_of, world_of}
 use Rattle.kernel_calls.specs.declared.state.State.{State}
 use Rattle.page_store.specs.Store.{joined, uses_at}
-use Rattle.group_open.specs.Opening.{image_bytes, needed, opening, opening_descriptors, owners_from}
-use Rattle.group_open.specs.Opening.{page_count, processes_from}
+use Rattle.flat_machine.specs.Opening.{image_bytes, needed, opening, opening_descriptors, owners_from}
+use Rattle.flat_machine.specs.Opening.{page_count, processes_from}
 use Rattle.group_open.specs.Group.{IsStateOf}
 use Rattle.group_open.specs.Laws.{IsAccepted}
 use Rattle.group_open.proofs.OpeningLaws.{every_opening, one_use, owners_length, uses_after}
@@ -43,7 +42,6 @@ world_with quantum rounds bytes owners processes threads = record {
   quantum = quantum;
   output = [];
   error = [];
-  built = services_built;
 }
 
 module _ (images : List Image) (config : Config) (s : State)

@@ -9,8 +9,8 @@ use Rattle.dos_world.specs.declared.Owner.TheVariants.{Free, Of}
 use Rattle.page_store.specs.Store.{Store, joined, whole, with_home, with_owned}
 use Rattle.dos_world.specs.Numbered.{map_from}
 use Rattle.elf_image.specs.Image.{Image}
-use Rattle.group_open.specs.Opening.{image_bytes, page_bytes, page_count, part_entry, space_from}
-use Rattle.group_open.specs.Opening.{stack_entry}
+use Rattle.flat_machine.specs.Opening.{image_bytes, page_bytes, page_count, part_entry, space_from}
+use Rattle.flat_machine.specs.Opening.{stack_entry}
 use Rattle.proc_table.specs.Tables.{Tables, held_by, held_in}
 
 -- whether an owner is some

@@ -8,8 +8,8 @@ use Rattle.kernel_objects.specs.Pipework.{none_open}
 use Rattle.kernel_calls.specs.declared.state.State.{State}
 use Rattle.page_store.specs.Store.{Store}
 use Rattle.proc_table.specs.Tables.{Tables, held_by, new_process, process_added}
-use Rattle.group_open.specs.Opening.{image_bytes, needed, opening_descriptors, opening_registers}
-use Rattle.group_open.specs.Opening.{opening_thread, owners_from, page_count, processes_from}
+use Rattle.flat_machine.specs.Opening.{image_bytes, needed, opening_descriptors, opening_registers}
+use Rattle.flat_machine.specs.Opening.{opening_thread, owners_from, page_count, processes_from}
 use Rattle.group_open.specs.Filling.{IsFilled}
 
 -- what a process has, with input, output and error as its first three descriptors and no other

@@ -4,7 +4,7 @@ use Rattle.dos_world.specs.Lawful.{Lawful, IsConfig, IsByte}
 use Rattle.dos_world.specs.declared.Config.{Config}
 use Rattle.elf_image.specs.declared.part.Part.{Part}
 use Rattle.elf_image.specs.Image.{Image, IsSound}
-use Rattle.group_open.specs.Opening.{opening, needed}
+use Rattle.flat_machine.specs.Opening.{opening, needed}
 
 -- what a part has of its file are bytes
 abbrev pub HasBytes : Part → Type 0

@@ -1,4 +1,3 @@
-pub mod Opening
 pub mod Laws
 pub mod Pages
 pub mod Filling

@@ -7,8 +7,8 @@ ghost use Rattle.dos_world.specs.World.{is_free};
 ghost use Rattle.dos_world.specs.Numbered.{map_from};
 ghost use Rattle.page_store.specs.Store.{AreHome, with_home, with_owned, whole};
 ghost use Rattle.proc_table.specs.Tables.{IsProcess, held_in};
-ghost use Rattle.group_open.specs.Opening.{image_bytes, page_bytes, page_count, part_entry};
-ghost use Rattle.group_open.specs.Opening.{part_pages, space_from, stack_entry, stack_pages};
+ghost use Rattle.flat_machine.specs.Opening.{image_bytes, page_bytes, page_count, part_entry};
+ghost use Rattle.flat_machine.specs.Opening.{part_pages, space_from, stack_entry, stack_pages};
 ghost use Rattle.group_open.specs.Filling.{HasPlace, HasRoom, Opens, OpensImage, OpensParts};
 ghost use Rattle.group_open.specs.Filling.{OpensStack, Takes};
 

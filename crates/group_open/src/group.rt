@@ -7,7 +7,7 @@ ghost use Rattle.elf_image.specs.Image.{Image as FlatImage};
 ghost use Rattle.page_store.specs.Store.{unused};
 ghost use Rattle.proc_table.specs.Tables.{IsProcess, held_by, held_in, no_tables};
 ghost use Rattle.group_open.specs.Group.{FitsMore, IsOpened, with_first_ends, with_opened};
-ghost use Rattle.group_open.specs.Opening.{needed, opening_registers};
+ghost use Rattle.flat_machine.specs.Opening.{needed, opening_registers};
 
 use crate::filling::{Opened, open_pages};
 use dos_world::{End, Regs};

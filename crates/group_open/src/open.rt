@@ -5,7 +5,7 @@ ghost use Rattle.dos_world.specs.Lawful.{IsConfig};
 ghost use Rattle.kernel_calls.specs.StateWorld.{IsSound, world_of};
 ghost use Rattle.kernel_objects.specs.Pipework.{none_open};
 ghost use Rattle.group_open.specs.Group.{IsOpened, IsStateOf};
-ghost use Rattle.group_open.specs.Opening.{needed, opening};
+ghost use Rattle.flat_machine.specs.Opening.{needed, opening};
 
 use crate::OpenError;
 use crate::group::open_images;

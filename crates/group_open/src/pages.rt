@@ -6,8 +6,8 @@ ghost use Rattle.dos_world.specs.Kernel.{zero_page};
 ghost use Rattle.dos_world.specs.Lawful.{IsByte};
 ghost use Rattle.elf_image.specs.Image.{IsPlaced, IsSound, size_of};
 ghost use Rattle.page_store.specs.Store.{whole};
-ghost use Rattle.group_open.specs.Opening.{needed, page_bytes, page_count, pages_touched};
-ghost use Rattle.group_open.specs.Opening.{part_entry, part_pages, touches};
+ghost use Rattle.flat_machine.specs.Opening.{needed, page_bytes, page_count, pages_touched};
+ghost use Rattle.flat_machine.specs.Opening.{part_entry, part_pages, touches};
 ghost use Rattle.group_open.specs.Laws.{HasBytes, IsAccepted};
 ghost use Rattle.group_open.specs.Pages.{laid_over, least_from, lower_of};
 

@@ -4,7 +4,7 @@ use Rattle.dos_world.specs.declared.Config.{Config}
 use Rattle.page_store.specs.Store.{Store, IsAway}
 use Rattle.quantum_run.specs.Shows.{Pack, CanRun}
 use Rattle.proc_table.specs.Tables.{Tables, IsThread}
-use Rattle.round_core.specs.Round.{all_alone, parallel, budgets as world_budgets}
+use Rattle.flat_machine.specs.Round.{all_alone, parallel, budgets as world_budgets}
 use Rattle.kernel_calls.specs.StateWorld.{sent, world_of}
 use Rattle.kernel_calls.specs.declared.state.State.{State}
 use Rattle.worker_pool.specs.Ran.{AllRan, AllCanRun, budgets}

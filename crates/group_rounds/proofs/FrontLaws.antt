@@ -13,9 +13,9 @@ use Rattle.dos_io.specs.Outside.{IsFront}
 use Rattle.dos_io.proofs.OutsideLaws.{grown-nothing, grown-front, front-behind, front-more}
 use Rattle.dos_io.proofs.OutsideLaws.{front-nothing}
 use Rattle.dos_laws.specs.Plays.{world_served, world_ended}
-use Rattle.round_core.specs.Rest.{turns, after_service, serial_of}
-use Rattle.round_core.specs.Round.{RoundEnd as FlatEnd, round_of}
-use Rattle.round_core.specs.Round.{went as went_on, finished, stalled}
+use Rattle.flat_machine.specs.Rest.{turns, after_service, serial_of}
+use Rattle.flat_machine.specs.Round.{RoundEnd as FlatEnd, round_of}
+use Rattle.flat_machine.specs.Round.{went as went_on, finished, stalled}
 use Rattle.round_core.specs.Invariants.{Keeps, LeavesEnd}
 use Rattle.round_core.specs.Protocol.{Protocol, Allows}
 use Rattle.round_core.proofs.Allowed.{Comes, allows_less, over_comes}
@@ -51,12 +51,12 @@ module _ (o e : List ℕ) where
 
   pub fronts_kept : Keeps sending HasSent
   fronts_kept =
-      sent_kept (λ q n built output error. IsFront o output × IsFront e error)
+      sent_kept (λ q n output error. IsFront o output × IsFront e error)
       (record {
-        more_output = λ q n built output error bytes h. (front-more o output bytes h.0, h.1);
-        more_error = λ q n built output error bytes h. (h.0, front-more e error bytes h.1);
+        more_output = λ q n output error bytes h. (front-more o output bytes h.0, h.1);
+        more_error = λ q n output error bytes h. (h.0, front-more e error bytes h.1);
       })
-      sending (λ number asks w h is question. h)
+      sending (λ w h question. h)
 
   -- what a play comes to that sends them
   pub fronts_over : {A : Type 0} (world : A → World) (given : List Answer) (play : Play A)

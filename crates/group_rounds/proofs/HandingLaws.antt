@@ -7,9 +7,9 @@ use Rattle.std.specs.Prelude.{slice_get}
 use Rattle.dos_world.specs.Numbered.{changed}
 use Rattle.dos_world.specs.World.{Thread, flat}
 use Rattle.dos_world.proofs.Numbers.{changed_other, length-changed}
-use Rattle.rv_exec.specs.Runs.{kept}
+use Rattle.flat_machine.specs.Laws.{kept}
 use Rattle.page_store.specs.Store.{Store, whole, IsAway, with_home}
-use Rattle.quantum_run.specs.Laws.{without_run}
+use Rattle.flat_machine.specs.Laws.{without_run}
 use Rattle.quantum_run.specs.Packs.{with_page}
 use Rattle.quantum_run.specs.Shows.{Pack}
 use Rattle.proc_table.specs.Tables.{Tables, thread_in, thread_by, ran, IsThread}

@@ -5,9 +5,9 @@ use Rattle.std.proofs.Common.{option_map, arith}
 use Rattle.std.specs.Prelude.{IsSome, slice_get, sum_by}
 use Rattle.std.proofs.lemmas.List.Sums.{sum_by-cons}
 use Rattle.dos_world.specs.World.{Thread, thread_at}
-use Rattle.quantum_run.specs.Alone.{alone}
-use Rattle.quantum_run.specs.Laws.{without_run}
-use Rattle.round_core.specs.Round.{all_alone}
+use Rattle.flat_machine.specs.Alone.{alone}
+use Rattle.flat_machine.specs.Laws.{without_run}
+use Rattle.flat_machine.specs.Round.{all_alone}
 use Rattle.round_core.proofs.Bringing.{all_alone-differ}
 use Rattle.kernel_calls.specs.StateWorld.{sent, world_of}
 use Rattle.kernel_calls.specs.declared.state.State.{State}

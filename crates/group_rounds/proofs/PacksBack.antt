@@ -9,12 +9,12 @@ use Rattle.std.proofs.lemmas.List.Elements.{All-nil, All-cons}
 use Rattle.dos_world.specs.World.{World}
 use Rattle.dos_world.specs.declared.Owner.TheVariants.{Of}
 use Rattle.dos_laws.specs.Standing.{LawfulWith}
-use Rattle.rv_exec.specs.Runs.{kept}
+use Rattle.flat_machine.specs.Laws.{kept}
 use Rattle.page_store.specs.Store.{Store, joined, owner_at, IsAway}
 use Rattle.page_store.proofs.Joined.{home-at, length-joined, page_of-joined, joined_at}
-use Rattle.quantum_run.specs.Alone.{alone}
+use Rattle.flat_machine.specs.Alone.{alone}
 use Rattle.quantum_run.specs.Shows.{Pack, Shows}
-use Rattle.round_core.specs.Round.{all_alone}
+use Rattle.flat_machine.specs.Round.{all_alone}
 use Rattle.round_core.proofs.Commute.{Among}
 use Rattle.round_core.proofs.Bringing.{DifferIn, decide-owner}
 use Rattle.proc_table.specs.Tables.{thread_in, IsThread}
@@ -277,7 +277,6 @@ module _ (s : State) (sound : IsSound s) (ts : List ℕ) (live : AreLive s.table
       quantum = refl;
       output = refl;
       error = refl;
-      built = refl;
     }
 
     pub all-runs : (q : ℕ) (o e : List ℕ)

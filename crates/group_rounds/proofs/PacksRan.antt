@@ -9,12 +9,12 @@ use Rattle.dos_world.specs.World.{owner_of, page_of, look}
 use Rattle.dos_world.specs.declared.Entry.{Entry}
 use Rattle.dos_world.specs.declared.Owner.{Owner}
 use Rattle.dos_world.specs.declared.Owner.TheVariants.{Free, Shared, Of}
-use Rattle.rv_exec.specs.Runs.{kept}
-use Rattle.quantum_run.specs.Alone.{alone}
+use Rattle.flat_machine.specs.Laws.{kept}
+use Rattle.flat_machine.specs.Alone.{alone}
 use Rattle.quantum_run.specs.Shows.{Pack, View, Shows, Finished, thread_space}
-use Rattle.quantum_run.proofs.Own.{alone-own}
+use Rattle.flat_machine.proofs.Own.{alone-own}
 use Rattle.quantum_run.proofs.Packing.{page-same}
-use Rattle.round_core.specs.Round.{all_alone}
+use Rattle.flat_machine.specs.Round.{all_alone}
 use Rattle.round_core.proofs.Commute.{Among, Apart, places-apart}
 use Rattle.dos_world.specs.declared.ThreadState.TheVariants.{Ready}
 use Rattle.group_rounds.specs.Handing.{AreOnce}

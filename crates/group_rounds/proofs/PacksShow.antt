@@ -9,7 +9,7 @@ use Rattle.dos_world.specs.World.{Thread, Process, Holdings, page_of, look, is_f
 use Rattle.dos_world.specs.declared.Entry.{Entry}
 use Rattle.dos_world.specs.declared.Owner.{Owner}
 use Rattle.dos_world.specs.declared.Owner.TheVariants.{Free, Shared, Of}
-use Rattle.rv_exec.specs.Runs.{kept}
+use Rattle.flat_machine.specs.Laws.{kept}
 use Rattle.page_store.specs.Store.{Store, whole, shown, joined, owner_at}
 use Rattle.page_store.proofs.Joined.{home-at, length-joined, page_of-joined}
 use Rattle.page_store.proofs.Counts.{owned-within}

@@ -4,9 +4,9 @@ use Rattle.std.proofs.Common.{length, Option, Some, None, option_map, suc, arith
 use Rattle.std.specs.Prelude.{map, slice_get, sum_by}
 use Rattle.std.proofs.lemmas.List.Sums.{sum_by-cons}
 use Rattle.dos_world.specs.World.{World, Registers, Thread, thread_at}
-use Rattle.rv_exec.specs.Runs.{kept}
+use Rattle.flat_machine.specs.Laws.{kept}
 use Rattle.page_store.specs.Store.{Store}
-use Rattle.quantum_run.specs.Alone.{budget_of}
+use Rattle.flat_machine.specs.Alone.{budget_of}
 use Rattle.quantum_run.specs.Shows.{Pack}
 use Rattle.worker_pool.specs.Ran.{AllRan, budgets}
 use Rattle.kernel_calls.specs.StateWorld.{IsSound, world_of}

@@ -72,7 +72,7 @@ more_at threads new (suc i) budget h = go threads i h
 module _ (t budget frames : ℕ) where
   -- The caller lives with this budget, and there are so many frames.
   abbrev IsPaid : Said
-  IsPaid threads owners quantum rounds built output error =
+  IsPaid threads owners quantum rounds output error =
       (budget_at threads t ≡ Some budget) × (length owners ≡ frames)
 
   -- where a service lets its caller go on, it has paid; and there are so many frames in any case
@@ -138,7 +138,7 @@ pub service_pays : (w : World) (t : ℕ) (thread : Thread) → thread_at w t ≡
     → Allows asking (HasPaid t (thread.budget - 1) (length w.owners)) (service w t)
 service_pays w t thread is =
     subst (λ o. Allows asking (HasPaid t (thread.budget - 1) (length w.owners)) (service_for w t o))
-    (sym is) (by_built (list_any (λ n. n == get thread.registers 17) w.built))
+    (sym is) each
   where
     c : Call
     c = call_of w t thread
@@ -150,19 +150,15 @@ service_pays w t thread is =
     pays = ap (option_map (λ thread. thread.budget))
         (thread_in-by charged w.threads t ∙ ap (option_map charged) is)
 
-    by_built : (b : Bool)
-        → Allows asking (HasPaid t (thread.budget - 1) (length w.owners))
-        ((cond {A = Service} b (service_of (get thread.registers 17)) (refuses enosys)) c)
-    by_built true =
+    each : Allows asking (HasPaid t (thread.budget - 1) (length w.owners))
+        (service_of (get thread.registers 17) c)
+    each =
         service_left (IsPaid t (thread.budget - 1) (length w.owners)) stands asking
         (HasPaid t (thread.budget - 1) (length w.owners))
         (paid_leaves t (thread.budget - 1) (length w.owners)) c (pays, refl) (λ number. ⊤)
         (λ called most. refl) (λ called. refl)
         (thread_ended-count c.world c.process t)
         (process_ended-count c.world c.process (c.a0 % 256)) (get thread.registers 17) tt
-    by_built false =
-        stands.thread (registers_by (answered (minus enosys))) (λ thread. refl) c.world t
-        (pays, refl)
 
 pub service_paid : (w : World) (t : ℕ) (thread : Thread) (answers rest : List Answer)
     (served : Served) → thread_at w t ≡ Some thread

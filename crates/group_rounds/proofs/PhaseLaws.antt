@@ -9,8 +9,8 @@ use Rattle.dos_world.specs.declared.Question.{Question}
 use Rattle.dos_world.specs.Play.{done, ◌>>=◌}
 use Rattle.dos_laws.specs.Standing.{LawfulWith}
 use Rattle.dos_laws.proofs.StandsKeeps.{stands-budget}
-use Rattle.round_core.specs.Rest.{rest_of, rest_if_live, serial_of}
-use Rattle.round_core.specs.Round.{with_budgets}
+use Rattle.flat_machine.specs.Rest.{rest_of, rest_if_live, serial_of}
+use Rattle.flat_machine.specs.Round.{with_budgets}
 use Rattle.proc_table.specs.Tables.{Tables, IsThread, thread_by, thread_in, with_budget}
 use Rattle.kernel_calls.specs.StateWorld.{HaveParts, IsCounted, IsSound, sent, world_of}
 use Rattle.kernel_calls.proofs.Counted.{counted-thread_by}

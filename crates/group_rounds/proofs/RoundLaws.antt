@@ -19,10 +19,10 @@ use Rattle.dos_io.proofs.OutsideLaws.{grown-nothing}
 use Rattle.dos_io.specs.Shims.{HasNoEnd}
 use Rattle.dos_laws.specs.Plays.{world_ended}
 use Rattle.dos_laws.proofs.Numbers.{numbers_same}
-use Rattle.round_core.specs.Rest.{serial_of}
-use Rattle.round_core.specs.Round.{RoundEnd as FlatEnd, went, finished, stalled, is_none_of, begun}
-use Rattle.round_core.specs.Round.{round_of, phases, counted, with_budgets, with_budget, budgets}
-use Rattle.round_core.specs.Round.{all_alone, parallel}
+use Rattle.flat_machine.specs.Rest.{serial_of}
+use Rattle.flat_machine.specs.Round.{RoundEnd as FlatEnd, went, finished, stalled, is_none_of, begun}
+use Rattle.flat_machine.specs.Round.{round_of, phases, counted, with_budgets, with_budget, budgets}
+use Rattle.flat_machine.specs.Round.{all_alone, parallel}
 use Rattle.kernel_calls.specs.StateWorld.{IsSound, sent, world_of}
 use Rattle.kernel_calls.specs.declared.state.State.{State}
 use Rattle.group_rounds.specs.declared.round.RoundEnd.{RoundEnd}

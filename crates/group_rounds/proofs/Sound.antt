@@ -14,12 +14,12 @@ use Rattle.dos_laws.specs.Standing.{AreAwake, LawfulWith, fit_protocol}
 use Rattle.dos_laws.proofs.LawfulRounds.{at_rest}
 use Rattle.dos_laws.proofs.Stands.{at_changed}
 use Rattle.dos_laws.proofs.StandsKeeps.{stands_kept}
-use Rattle.rv_exec.specs.Step.{step}
-use Rattle.quantum_run.specs.Alone.{alone}
-use Rattle.quantum_run.specs.ThreadRuns.{after_steps}
+use Rattle.flat_machine.specs.Step.{step}
+use Rattle.flat_machine.specs.Alone.{alone}
+use Rattle.flat_machine.specs.Laws.{after_steps}
 use Rattle.round_core.specs.Invariants.{IsInvariant}
-use Rattle.round_core.specs.Rest.{granted_by, page_granted}
-use Rattle.round_core.specs.Round.{all_alone}
+use Rattle.flat_machine.specs.Rest.{granted_by, page_granted}
+use Rattle.flat_machine.specs.Round.{all_alone}
 use Rattle.round_core.proofs.Keeps.{kept_throughout}
 use Rattle.proc_table.specs.Tables.{IsThread as Lives}
 use Rattle.kernel_calls.specs.StateWorld.{HaveParts, IsCounted, IsReady, IsSound, sent, world_of}

@@ -12,11 +12,13 @@ use Rattle.dos_world.specs.declared.Entry.{Entry}
 use Rattle.dos_world.specs.declared.Reason.{Reason}
 use Rattle.dos_laws.proofs.Mapped.{IsTaken, space_taken, looked, process_lives, not_free}
 use Rattle.dos_laws.specs.Standing.{LawfulWith}
-use Rattle.rv_exec.specs.Runs.{kept}
-use Rattle.rv_exec.specs.Step.{step}
+use Rattle.flat_machine.specs.Laws.{kept}
+use Rattle.flat_machine.specs.Step.{step}
 use Rattle.quantum_run.specs.Shows.{thread_space}
-use Rattle.quantum_run.specs.ThreadRuns.{after_steps, ran, run_to, AreMapped, IsRunOf}
-use Rattle.round_core.specs.Rest.{page_granted, granted_by}
+use Rattle.quantum_run.specs.ThreadRuns.{run_to, AreMapped, IsRunOf}
+use Rattle.flat_machine.specs.Laws.{after_steps}
+use Rattle.dos_world.specs.World.{ran}
+use Rattle.flat_machine.specs.Rest.{page_granted, granted_by}
 use Rattle.page_store.specs.Store.{Store, AreHome, IsOwned, with_grant}
 use Rattle.proc_table.specs.Tables.{Tables, thread_in, held_in, thread_by, IsThread, IsProcess}
 use Rattle.kernel_calls.specs.StateWorld.{HaveParts, IsSound, world_of, sent}

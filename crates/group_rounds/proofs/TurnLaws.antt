@@ -20,12 +20,12 @@ use Rattle.dos_laws.specs.Standing.{LawfulWith}
 use Rattle.dos_laws.proofs.Mapped.{entry_taken}
 use Rattle.dos_laws.proofs.StandsEnds.{stands-process_ended}
 use Rattle.dos_laws.proofs.StandsKeeps.{stands_kept}
-use Rattle.rv_exec.specs.Step.{step}
-use Rattle.quantum_run.specs.Alone.{emptied, steps, alone}
-use Rattle.quantum_run.specs.ThreadRuns.{after_steps}
+use Rattle.flat_machine.specs.Step.{step}
+use Rattle.flat_machine.specs.Alone.{emptied, steps, alone}
+use Rattle.flat_machine.specs.Laws.{after_steps}
 use Rattle.round_core.specs.Granting.{grants_needed}
 use Rattle.round_core.specs.Laws.{MapsWithin}
-use Rattle.round_core.specs.Rest.{page_granted, process_of, after_service, turns, rest_of}
+use Rattle.flat_machine.specs.Rest.{page_granted, process_of, after_service, turns, rest_of}
 use Rattle.round_core.proofs.Turning.{goes_on, turns-granted, turns-fault, turns-service}
 use Rattle.round_core.proofs.Turning.{turns-after_steps, few_grants, needed-granted}
 use Rattle.proc_table.specs.Tables.{thread_in, IsThread}

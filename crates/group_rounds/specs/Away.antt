@@ -5,7 +5,7 @@ use Rattle.dos_world.specs.World.{World}
 use Rattle.dos_world.specs.declared.Config.{Config}
 use Rattle.quantum_run.specs.Shows.{Pack}
 use Rattle.worker_pool.specs.Ran.{AllRan}
-use Rattle.round_core.specs.Round.{with_budgets, parallel, budgets as world_budgets}
+use Rattle.flat_machine.specs.Round.{with_budgets, parallel, budgets as world_budgets}
 use Rattle.kernel_calls.specs.StateWorld.{sent, world_of}
 use Rattle.kernel_calls.specs.declared.state.State.{State}
 use Rattle.group_rounds.specs.Handing.{Handing, pack_of, view_of, AreSpare}

@@ -2,9 +2,9 @@
 use Rattle.std.specs.Prelude.{ℕ, ◌≡◌, ◌≢◌, ◌⊎◌, ◌<◌, ◌≤◌, List, [], ◌∷◌, ◌++◌, length, Some, None}
 use Rattle.std.specs.Prelude.{option_map, slice_get, slice_set}
 use Rattle.dos_world.specs.declared.Owner.TheVariants.{Of}
-use Rattle.rv_exec.specs.Runs.{kept}
+use Rattle.flat_machine.specs.Laws.{kept}
 use Rattle.page_store.specs.Store.{Store, whole, owner_at, with_away}
-use Rattle.quantum_run.specs.Laws.{without_run}
+use Rattle.flat_machine.specs.Laws.{without_run}
 use Rattle.quantum_run.specs.Packs.{bytes_at, empty_pack, with_page, with_thread_of}
 pub use Rattle.quantum_run.specs.Packs.{view_of}
 use Rattle.quantum_run.specs.Shows.{Pack}

@@ -4,11 +4,11 @@ use Rattle.std.specs.Prelude.{MatchOption, Bool, true, false}
 use Rattle.dos_world.specs.World.{World}
 use Rattle.dos_world.specs.Play.{Play, done}
 use Rattle.dos_world.specs.declared.Reason.{Reason}
-use Rattle.rv_exec.specs.Step.{step}
-use Rattle.quantum_run.specs.Alone.{budget_of}
-use Rattle.quantum_run.specs.ThreadRuns.{after_steps}
+use Rattle.flat_machine.specs.Step.{step}
+use Rattle.flat_machine.specs.Alone.{budget_of}
+use Rattle.flat_machine.specs.Laws.{after_steps}
 use Rattle.round_core.specs.Granting.{grants_needed}
-use Rattle.round_core.specs.Rest.{turns}
+use Rattle.flat_machine.specs.Rest.{turns}
 use Rattle.kernel_calls.specs.StateWorld.{world_of, sent}
 use Rattle.kernel_calls.specs.declared.state.State.{State}
 use Rattle.kernel_calls.specs.declared.state.Served.{Served}

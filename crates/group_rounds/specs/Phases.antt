@@ -5,7 +5,7 @@ use Rattle.dos_world.specs.World.{World, Thread, is_state, thread_at}
 use Rattle.dos_world.specs.Signals.{would_wait}
 use Rattle.dos_world.specs.declared.ThreadState.TheVariants.{Ready, Retry}
 use Rattle.proc_table.specs.Tables.{IsThread, thread_in}
-use Rattle.round_core.specs.Round.{all_alone}
+use Rattle.flat_machine.specs.Round.{all_alone}
 use Rattle.kernel_calls.specs.StateWorld.{IsSound, sent, world_of}
 use Rattle.kernel_calls.specs.declared.state.State.{State}
 use Rattle.group_rounds.specs.Parts.{KeepsCount}

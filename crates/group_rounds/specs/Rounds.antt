@@ -12,8 +12,8 @@ use Rattle.dos_io.specs.declared.shim.ShimStop.{ShimStop}
 use Rattle.dos_io.specs.Exchanges.{question_of, answer_of}
 use Rattle.dos_io.specs.Shims.{ShimState, Stopped, answered}
 use Rattle.dos_laws.specs.Plays.{world_ended}
-use Rattle.round_core.specs.Rest.{serial_of}
-use Rattle.round_core.specs.Round.{RoundEnd as FlatEnd, went, finished, stalled, counted, round_of}
+use Rattle.flat_machine.specs.Rest.{serial_of}
+use Rattle.flat_machine.specs.Round.{RoundEnd as FlatEnd, went, finished, stalled, counted, round_of}
 use Rattle.kernel_calls.specs.StateWorld.{sent, shim_stop, world_of}
 use Rattle.kernel_calls.specs.declared.state.RunStop.{RunStop}
 use Rattle.kernel_calls.specs.declared.state.State.{State}

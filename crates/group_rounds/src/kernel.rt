@@ -5,7 +5,7 @@ ghost use Rattle.std.specs.Vec.{vec_capacity};
 ghost use Rattle.dos_world.specs.Numbered.{numbered};
 ghost use Rattle.dos_world.specs.Play.{done};
 ghost use Rattle.dos_io.specs.Shims.{HasNoEnd};
-ghost use Rattle.round_core.specs.Rest.{serial_of};
+ghost use Rattle.flat_machine.specs.Rest.{serial_of};
 ghost use Rattle.proc_table.specs.Tables.{last_status};
 ghost use Rattle.kernel_calls.specs.StateWorld.{HaveGrown, shim_stop};
 ghost use Rattle.group_rounds.specs.Fronts.{CutPlay, StoppedPlay};

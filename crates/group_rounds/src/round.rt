@@ -8,8 +8,8 @@ ghost use Rattle.dos_world.specs.declared.Question.TheVariants.{Signals as signa
 ghost use Rattle.dos_io.specs.Shims.{HasNoEnd, answered};
 ghost use Rattle.dos_io.specs.declared.exchange.Exchange.TheVariants.{Signals as signals_exchange};
 ghost use Rattle.dos_laws.specs.Plays.{world_ended};
-ghost use Rattle.round_core.specs.Rest.{serial_of};
-ghost use Rattle.round_core.specs.Round.{begun, phases, went};
+ghost use Rattle.flat_machine.specs.Rest.{serial_of};
+ghost use Rattle.flat_machine.specs.Round.{begun, phases, went};
 ghost use Rattle.kernel_calls.specs.StateWorld.{HaveParts, IsSound, sent, shim_stop, world_of};
 ghost use Rattle.group_rounds.specs.Fronts.{CutPlay, StoppedPlay};
 ghost use Rattle.group_rounds.specs.StatePlays.{GoesTo, telling};

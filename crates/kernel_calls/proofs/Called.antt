@@ -12,7 +12,7 @@ use Rattle.dos_io.specs.declared.exchange.Exchange.{Exchange}
 use Rattle.proc_table.specs.Tables.{Tables, IsThread, thread_in}
 use Rattle.kernel_calls.specs.StateWorld.{Answers, Asks, FaultsIn, HasFaulted, sent, to_output}
 use Rattle.kernel_calls.specs.StateWorld.{to_error, world_of}
-use Rattle.kernel_calls.specs.Built.{definition_by, named, services_built}
+use Rattle.kernel_calls.specs.Built.{definition_by, named}
 use Rattle.kernel_calls.specs.CallResults.{call_in, paid}
 use Rattle.kernel_calls.specs.declared.state.State.{State}
 use Rattle.kernel_calls.specs.declared.state.Asked.{Asked}
@@ -21,7 +21,7 @@ use Rattle.kernel_calls.specs.declared.state.RunStop.{RunStop}
 use Rattle.kernel_calls.specs.declared.state.RunStop.TheVariants.{HostFault, LogFull, Misfit}
 use Rattle.kernel_calls.specs.declared.state.RunStop.TheVariants.{OutFault, ErrFault, Memory}
 use Rattle.kernel_calls.specs.declared.naming.Service.{Service}
-use Rattle.kernel_calls.proofs.Named.{built_is}
+use Rattle.kernel_calls.proofs.Named.{named_is}
 
 -- a call with these arguments
 abbrev pub asked : ℕ → ℕ → ℕ → ℕ → ℕ → Asked
@@ -37,7 +37,7 @@ pub called : (s : State) (t p x y z n : ℕ) (r : Registers) → IsThread s.tabl
     ≡ definition_by (named n) (call_in (sent o e (world_of q (paid s t))) (asked t p x y z))
 called s t p x y z n r live registers process first second third number q o e =
     by (thread_in s.table.threads t) live registers process
-    ∙ ap (λ f. f (call_in (sent o e (world_of q (paid s t))) (asked t p x y z))) (built_is n)
+    ∙ ap (λ f. f (call_in (sent o e (world_of q (paid s t))) (asked t p x y z))) (named_is n)
   where
     w : World
     w = sent o e (world_of q s)
@@ -55,21 +55,21 @@ called s t p x y z n r live registers process first second third number q o e =
     by : (found : Option Thread) → IsSome found → IfSome found (λ thread. r ≡ thread.registers)
         → IfSome found (λ thread. p ≡ thread.process)
         → service_for (sent o e (world_of q s)) t found
-        ≡ built_service services_built n (call p x y z)
+        ≡ service_of n (call p x y z)
     by None live registers process = cc
     by (Some thread) live registers process =
         let one : get thread.registers 10 ≡ x = ap (λ k. get k 10) (sym registers) ∙ sym first in
         let two : get thread.registers 11 ≡ y = ap (λ k. get k 11) (sym registers) ∙ sym second in
         let three : get thread.registers 12 ≡ z = ap (λ k. get k 12) (sym registers) ∙ sym third in
-        ap (λ k. built_service services_built k (call_of (sent o e (world_of q s)) t thread))
+        ap (λ k. service_of k (call_of (sent o e (world_of q s)) t thread))
         (ap (λ k. get k 17) (sym registers) ∙ sym number)
-        ∙ ap (λ k. built_service services_built n
+        ∙ ap (λ k. service_of n
         (call k (get thread.registers 10) (get thread.registers 11)
         (get thread.registers 12))) (sym process)
-        ∙ ap (λ k. built_service services_built n
+        ∙ ap (λ k. service_of n
         (call p k (get thread.registers 11) (get thread.registers 12))) one
-        ∙ ap (λ k. built_service services_built n (call p x k (get thread.registers 12))) two
-        ∙ ap (λ k. built_service services_built n (call p x y k)) three
+        ∙ ap (λ k. service_of n (call p x k (get thread.registers 12))) two
+        ∙ ap (λ k. service_of n (call p x y k)) three
 
 -- ---- the service of the thread, once it is paid for
 

@@ -1,6 +1,6 @@
 -- The services that this kernel has. A new one is a row here, and its name in the list below. This
 -- project's own; the definitions are those of dos_world.
-use Rattle.std.specs.Prelude.{ℕ, List, [], ◌∷◌, map, find, Option, Some, None, ◌==◌}
+use Rattle.std.specs.Prelude.{ℕ, List, [], ◌∷◌, find, Option, Some, None, ◌==◌}
 use Rattle.dos_world.specs.Errors.{enosys}
 use Rattle.dos_world.specs.Services.{Service as FlatService, refuses, thread_exit, process_exit}
 use Rattle.dos_world.specs.Services.{thread_new, fork, wait, pipe, read, write, close, dup}
@@ -49,7 +49,7 @@ row_of Read = (7, read)
 row_of Write = (8, write)
 row_of Clock = (22, clock)
 
--- the services that are built
+-- the services, one after another
 abbrev pub built_services : List Service
 built_services =
     Quiet ThreadExit ∷ Quiet ProcessExit ∷ Quiet ThreadNew ∷ Quiet Fork ∷ Quiet Wait ∷
@@ -72,11 +72,7 @@ definition_of service = (row_of service).1
 abbrev pub quiet_definition_of : QuietService → FlatService
 quiet_definition_of service = (quiet_row_of service).1
 
--- the numbers of all that are built, as a world lists them
-abbrev pub services_built : List ℕ
-services_built = map number_of built_services
-
--- the service of this number, where it is built
+-- the service of this number, where there is one
 abbrev pub named : ℕ → Option Service
 named number = find (λ service. number_of service == number) built_services
 

@@ -24,7 +24,6 @@ use Rattle.dos_laws.specs.Standing.{AreAwake, AreApart, IsFit}
 use Rattle.page_store.specs.Store.{uses_at}
 use Rattle.proc_table.specs.Tables.{Tables, thread_in}
 use Rattle.kernel_mem.specs.MemoryWorld.{in_world, HasAllHome, KeepsUses}
-use Rattle.kernel_calls.specs.Built.{services_built}
 use Rattle.kernel_calls.specs.declared.state.State.{State}
 use Rattle.kernel_calls.specs.declared.state.Served.{Served}
 use Rattle.kernel_calls.specs.declared.state.Served.TheVariants.{Went, Waits, Yields, Gone}
@@ -48,7 +47,6 @@ base quantum round pipes sleepers = record {
   quantum = quantum;
   output = [];
   error = [];
-  built = services_built;
 }
 
 -- the world of a state under this quantum, with nothing sent

@@ -2,7 +2,7 @@
 ghost use Rattle.std.specs.Prelude.{◌≡◌};
 ghost use Rattle.kernel_calls.specs.Built.{named};
 
-/// The services that are built; `specs/Built` has their numbers and what they do.
+/// The services; `specs/Built` has their numbers and what they do.
 #[derive(Clone, Copy)]
 pub(crate) enum Service {
     /// One that the kernel's state alone decides.
@@ -66,7 +66,7 @@ const SERVICES: [Service; 24] = [
     Service::Quiet(QuietService::RoundNumber),
 ];
 
-/// The service of this number, where it is built.
+/// The service of this number, where there is one.
 pub(crate) fn service_named(number: u32) -> Option<Service>
     ensures { result ≡ named number }
 {

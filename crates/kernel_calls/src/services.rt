@@ -82,7 +82,7 @@ pub fn serve<S: Shim, O: Sink, E: Sink>(
     }
 }
 
-// The service that the thread's registers name, where it is built, and what they ask it.
+// The service that the thread's registers name, where there is one, and what they ask it.
 fn call_by(state: &State, tid: u32) -> (Option<Service>, Asked)
     requires live { IsThread state.now.table.threads tid }
     requires ready { IsReady state.now.table.threads tid }

@@ -15,7 +15,6 @@ ghost use Rattle.kernel_mem.specs.MemoryWorld.{in_world};
 ghost use Rattle.kernel_objects.specs.Pipework.{bytes_at, ends_at};
 ghost use Rattle.page_store.specs.Store.{Store as Held};
 ghost use Rattle.proc_table.specs.Tables.{IsThread};
-ghost use Rattle.kernel_calls.specs.Built.{services_built};
 ghost use Rattle.kernel_calls.specs.CallResults.{asked_count};
 ghost use Rattle.kernel_calls.specs.StateWorld.{IsSound, sent, world_of};
 ghost use Rattle.kernel_calls.specs.Waits.{IsCalling, TellsWait};

@@ -213,7 +213,6 @@ some_world = record {
   quantum = 0;
   output = [];
   error = [];
-  built = [];
 }
 
 -- the first address of a stretch that is reached has an entry with the right

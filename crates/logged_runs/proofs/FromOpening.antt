@@ -11,14 +11,14 @@ use Rattle.dos_io.specs.Shims.{HasNoEnd}
 use Rattle.dos_io.specs.declared.exchange.Exchange.{Exchange}
 use Rattle.dos_io.specs.declared.exchange.Exchange.TheVariants.{End}
 use Rattle.elf_image.specs.Image.{Image}
-use Rattle.group_open.specs.Opening.{opening}
+use Rattle.flat_machine.specs.Opening.{opening}
 use Rattle.group_rounds.specs.Plays.{GoesOn}
 use Rattle.group_rounds.specs.StatePlays.{telling, ToldMore}
 use Rattle.group_rounds.specs.Kernels.{Held, kernel_world}
 use Rattle.worker_pool.specs.Ran.{GrewBy}
 use Rattle.dpg_run.specs.Fits.{FitsFrom}
-use Rattle.dpg_run.specs.Machine.{Finish, Seen, ends, machine_from, rounds_from, run_from}
-use Rattle.dpg_run.specs.Machine.{status_in}
+use Rattle.flat_machine.specs.Machine.{Finish, Seen, ends, machine_from, rounds_from, run_from}
+use Rattle.flat_machine.specs.Machine.{status_in}
 use Rattle.dpg_run.specs.GroupRuns.{AreEnded, AreFronts, CutGroup, RanGroup, StoppedGroup}
 use Rattle.logged_runs.specs.Opened.{IsOpenedWith}
 use Rattle.logged_runs.specs.Runs.{Ended, Put, RanAhead, RanUntil, RanWhole}

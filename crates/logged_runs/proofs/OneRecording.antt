@@ -17,7 +17,7 @@ use Rattle.dos_io.proofs.GivenLaws.{given_once, readings_append}
 use Rattle.shim_log.specs.declared.header.LogHeader.{LogHeader}
 use Rattle.shim_log.specs.LogText.{Log, exchanges}
 use Rattle.shim_log.specs.Room.{HadRoom, NoRoom}
-use Rattle.dpg_run.specs.Machine.{group}
+use Rattle.flat_machine.specs.Machine.{group}
 use Rattle.dpg_run.proofs.Asked.{Determines, next_asked, one_run}
 use Rattle.dpg_run.proofs.MisfitLaws.{fits_have_none}
 use Rattle.logged_runs.specs.Laws.{FullRunsNeverEnd, RecordedRunsAreOne, RecordingsReplay}

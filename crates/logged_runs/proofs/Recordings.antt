@@ -31,7 +31,7 @@ use Rattle.shim_log.specs.LogText.{Log, exchanges, logtext}
 use Rattle.shim_log.specs.Ranges.{AreEntries, FitsLog}
 use Rattle.shim_log.specs.Room.{HadRoom, most_bytes}
 use Rattle.shim_log.proofs.RecorderLaws.{no_end, recording_given}
-use Rattle.dpg_run.specs.Machine.{Seen}
+use Rattle.flat_machine.specs.Machine.{Seen}
 use Rattle.dpg_run.specs.GroupRuns.{CutGroup, RanGroup, StoppedGroup}
 use Rattle.logged_runs.specs.Opened.{IsOpenedWith}
 use Rattle.logged_runs.specs.Runs.{Ended, Put, RanUntil, RanWhole}

@@ -26,7 +26,7 @@ use Rattle.shim_log.specs.Replay.{FollowsLog, IsMisfitOf, IsReplay, ReplayState,
 use Rattle.shim_log.specs.Replay.{replayer_state}
 use Rattle.shim_log.proofs.ReplayLaws.{ends_whole, stands_next}
 use Rattle.dpg_run.specs.Fits.{misfit}
-use Rattle.dpg_run.specs.Machine.{Seen, group}
+use Rattle.flat_machine.specs.Machine.{Seen, group}
 use Rattle.dpg_run.specs.GroupRuns.{CutGroup, RanGroup, StoppedGroup}
 use Rattle.dpg_run.proofs.MisfitLaws.{misfit_at}
 use Rattle.logged_runs.specs.Opened.{IsOpenedWith}

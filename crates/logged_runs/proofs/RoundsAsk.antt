@@ -16,17 +16,17 @@ use Rattle.dos_io.specs.declared.exchange.Exchange.TheVariants.{Signals as signa
 use Rattle.dos_io.specs.declared.exchange.Exchange.TheVariants.{End}
 use Rattle.dos_io.specs.Exchanges.{answer_of, question_of}
 use Rattle.dos_io.specs.Shims.{HasNoEnd}
-use Rattle.quantum_run.specs.Alone.{budget_of, emptied}
+use Rattle.flat_machine.specs.Alone.{budget_of, emptied}
 use Rattle.round_core.specs.Protocol.{Allows}
-use Rattle.round_core.specs.Rest.{Turn, on, over_with, service_done, after_step, settled, turn}
-use Rattle.round_core.specs.Rest.{turns, rest_of, rest_if_live, serial_of}
-use Rattle.round_core.specs.Round.{RoundEnd, finished, stalled, parallel, with_budgets, is_none_of}
-use Rattle.round_core.specs.Round.{phases, begun, round_of, counted, budgets}
-use Rattle.round_core.specs.Round.{went as went_on}
+use Rattle.flat_machine.specs.Rest.{Turn, on, over_with, service_done, after_step, settled, turn}
+use Rattle.flat_machine.specs.Rest.{turns, rest_of, rest_if_live, serial_of}
+use Rattle.flat_machine.specs.Round.{RoundEnd, finished, stalled, parallel, with_budgets, is_none_of}
+use Rattle.flat_machine.specs.Round.{phases, begun, round_of, counted, budgets}
+use Rattle.flat_machine.specs.Round.{went as went_on}
 use Rattle.round_core.proofs.Allowed.{then_allows, allows_less}
 use Rattle.group_rounds.specs.Outside.{is_end}
 use Rattle.group_rounds.proofs.Pays.{asking, service_pays, HasPaid}
-use Rattle.dpg_run.specs.Machine.{Finish, rounds_of, told_end}
+use Rattle.flat_machine.specs.Machine.{Finish, rounds_of, told_end}
 use Rattle.dpg_run.proofs.RunKeeps.{goes_on}
 use Rattle.std.proofs.Common.{length, ◌-◌}
 

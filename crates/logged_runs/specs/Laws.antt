@@ -4,7 +4,7 @@ use Rattle.dos_io.specs.Hosts.{Told}
 use Rattle.dos_io.specs.declared.shim.ShimStop.TheVariants.{LogFull}
 use Rattle.shim_log.specs.LogText.{Log, exchanges}
 use Rattle.dpg_run.specs.Fits.{misfit}
-use Rattle.dpg_run.specs.Machine.{Seen}
+use Rattle.flat_machine.specs.Machine.{Seen}
 use Rattle.logged_runs.specs.Recording.{Plan, Recorded, RecordedUntil}
 use Rattle.logged_runs.specs.Replaying.{Replayed, config_of}
 

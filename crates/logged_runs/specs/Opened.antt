@@ -2,7 +2,7 @@
 use Rattle.std.specs.Prelude.{◌≡◌, List}
 use Rattle.dos_world.specs.declared.Config.{Config}
 use Rattle.elf_image.specs.Image.{Image}
-use Rattle.group_open.specs.Opening.{opening}
+use Rattle.flat_machine.specs.Opening.{opening}
 use Rattle.group_rounds.specs.Kernels.{Held, kernel_world}
 
 -- It was opened with these images and this configuration.

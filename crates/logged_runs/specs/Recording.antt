@@ -14,7 +14,7 @@ use Rattle.shim_log.specs.Ledger.{LedgerState, MayStop, empty_ledger}
 use Rattle.shim_log.specs.LogText.{Log, exchanges, logtext}
 use Rattle.shim_log.specs.Ranges.{FitsLog}
 use Rattle.shim_log.specs.Room.{HadRoom, most_bytes}
-use Rattle.dpg_run.specs.Machine.{Seen}
+use Rattle.flat_machine.specs.Machine.{Seen}
 use Rattle.logged_runs.specs.Runs.{RanWhole, RanUntil, RanAhead}
 
 -- what a recorded run is given beside its host

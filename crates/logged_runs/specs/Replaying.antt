@@ -6,7 +6,7 @@ use Rattle.elf_image.specs.Image.{Image}
 use Rattle.kernel_calls.specs.declared.state.RunStop.{RunStop}
 use Rattle.kernel_calls.specs.declared.state.RunStop.TheVariants.{HostFault, LogFull, Memory}
 use Rattle.dpg_run.specs.Fits.{misfit}
-use Rattle.dpg_run.specs.Machine.{Seen}
+use Rattle.flat_machine.specs.Machine.{Seen}
 use Rattle.shim_log.specs.declared.header.LogHeader.{LogHeader}
 use Rattle.shim_log.specs.LogText.{Log, exchanges}
 use Rattle.logged_runs.specs.Runs.{RanWhole, RanUntil, RanAhead}

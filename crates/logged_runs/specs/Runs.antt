@@ -11,7 +11,7 @@ use Rattle.elf_image.specs.Image.{Image}
 use Rattle.group_rounds.specs.Plays.{GoesOn}
 use Rattle.group_rounds.specs.Kernels.{Held, kernel_world}
 use Rattle.dpg_run.specs.Fits.{Fits}
-use Rattle.dpg_run.specs.Machine.{Finish, Seen, ends, group, machine}
+use Rattle.flat_machine.specs.Machine.{Finish, Seen, ends, group, machine}
 use Rattle.dpg_run.specs.Report.{report, report_in}
 use Rattle.dpg_run.specs.GroupRuns.{AreFronts}
 use Rattle.worker_pool.specs.Ran.{GrewBy}

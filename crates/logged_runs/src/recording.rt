@@ -3,7 +3,7 @@ ghost use Rattle.std.specs.Prelude.{◌≡◌, ◌≤◌, ℕ, List, false, IfOk
 ghost use Rattle.dos_world.specs.declared.Config.{Config};
 ghost use Rattle.dos_io.specs.Outside.{Rose};
 ghost use Rattle.elf_image.specs.Image.{Image};
-ghost use Rattle.dpg_run.specs.Machine.{Seen};
+ghost use Rattle.flat_machine.specs.Machine.{Seen};
 ghost use Rattle.kernel_calls.specs.StateWorld.{HasSinkCause, shim_stop};
 ghost use Rattle.shim_log.specs.Ledger.{empty_ledger};
 ghost use Rattle.logged_runs.specs.Opened.{IsOpenedWith};

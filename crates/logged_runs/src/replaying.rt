@@ -2,7 +2,7 @@
 ghost use Rattle.std.specs.Prelude.{◌≡◌, ◌≤◌, ℕ, List, false, IfOk, IfErr, IsErrOf, OnErr};
 ghost use Rattle.dos_world.specs.declared.Misfit.{Misfit};
 ghost use Rattle.elf_image.specs.Image.{Image};
-ghost use Rattle.dpg_run.specs.Machine.{Seen};
+ghost use Rattle.flat_machine.specs.Machine.{Seen};
 ghost use Rattle.kernel_calls.specs.StateWorld.{HasSinkCause};
 ghost use Rattle.kernel_calls.specs.declared.state.RunStop.TheVariants as stops;
 ghost use Rattle.logged_runs.specs.Opened.{IsOpenedWith};

@@ -2,11 +2,11 @@
 use Rattle.std.proofs.Common.{ℕ, zero, suc, ◌≡◌, refl, sym, subst, Result, Ok, Err}
 use Rattle.dos_world.specs.World.{World}
 use Rattle.dos_world.specs.declared.Reason.{Reason}
-use Rattle.rv_exec.specs.Step.{step}
-use Rattle.rv_exec.specs.Laws.{AreAlike}
-use Rattle.rv_exec.proofs.Dependence.{stops-alike, steps-alike}
-use Rattle.quantum_run.specs.Alone.{steps}
-use Rattle.quantum_run.proofs.After.{steps-ok, steps-stopped}
+use Rattle.flat_machine.specs.Step.{step}
+use Rattle.flat_machine.specs.Laws.{AreAlike}
+use Rattle.flat_machine.proofs.Dependence.{stops-alike, steps-alike}
+use Rattle.flat_machine.specs.Alone.{steps}
+use Rattle.flat_machine.proofs.After.{steps-ok, steps-stopped}
 
 pub steps-alike-all : (n : ℕ) (t : ℕ) (w u : World) → AreAlike t w u
     → AreAlike t (steps n w t) (steps n u t)

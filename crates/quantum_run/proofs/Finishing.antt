@@ -11,20 +11,22 @@ use Rattle.dos_world.specs.declared.Owner.{Owner}
 use Rattle.dos_world.specs.declared.Owner.TheVariants.{Free, Shared, Of}
 use Rattle.page_store.specs.Store.{whole, joined}
 use Rattle.page_store.proofs.Joined.{length-joined}
-use Rattle.rv_exec.specs.Laws.{AreAlike}
-use Rattle.rv_exec.specs.Runs.{kept}
-use Rattle.quantum_run.specs.Alone.{steps}
-use Rattle.quantum_run.specs.Laws.{without_run, DiffersInOwn}
+use Rattle.flat_machine.specs.Laws.{AreAlike}
+use Rattle.flat_machine.specs.Laws.{kept}
+use Rattle.flat_machine.specs.Alone.{steps}
+use Rattle.flat_machine.specs.Laws.{without_run, DiffersInOwn}
 use Rattle.quantum_run.specs.Pages.{is_here, overlay}
 use Rattle.quantum_run.specs.Packs.{IsPacked, bytes_at, paired}
-use Rattle.quantum_run.specs.ThreadRuns.{IsRunOf, run_to, ran, store_of}
+use Rattle.quantum_run.specs.ThreadRuns.{IsRunOf, run_to, store_of}
+use Rattle.dos_world.specs.World.{ran}
 use Rattle.quantum_run.specs.Shows.{Pack, View, Shows, thread_space}
 use Rattle.quantum_run.proofs.Alike.{steps-alike-all}
 use Rattle.quantum_run.proofs.Overlay.{length-overlay}
-use Rattle.quantum_run.proofs.Own.{steps-own}
+use Rattle.flat_machine.proofs.Own.{steps-own}
 use Rattle.quantum_run.proofs.Packing.{paired-at, paired-is, page-own, page-lent, byte-in-page}
 use Rattle.quantum_run.proofs.Packing.{page-same, same-here, same-length}
-use Rattle.quantum_run.proofs.Threads.{entry-space, seen-changed}
+use Rattle.flat_machine.proofs.Threads.{seen-changed}
+use Rattle.quantum_run.proofs.Spaces.{entry-space}
 
 -- a thread's space where its process and the processes are the same
 space-same : (u w : World) (t : ℕ) → u.processes ≡ w.processes

@@ -13,7 +13,7 @@ use Rattle.dos_world.specs.declared.Size.{Size}
 use Rattle.dos_world.specs.declared.Size.TheVariants.{Byte, Half, Word}
 use Rattle.page_store.specs.Store.{joined, number_at}
 use Rattle.std.proofs.lemmas.List.{drop-drop}
-use Rattle.rv_exec.specs.Step.{half_at}
+use Rattle.flat_machine.specs.Step.{half_at}
 use Rattle.rv_exec.specs.Follows.{word_at}
 use Rattle.rv_form.specs.Notes.{Note, AreBelow, note_at, nothing, first_base}
 use Rattle.quantum_run.specs.declared.slot.Slot.{Slot}

@@ -1,9 +1,7 @@
-pub mod Threads
-pub mod Own
+pub mod Spaces
 pub mod Places
 pub mod Apart
 pub mod Reaching
-pub mod After
 pub mod RunSteps
 pub mod Witness
 pub mod Whole
@@ -17,3 +15,4 @@ pub mod Keeping
 pub mod Knowing
 pub mod Slices
 pub mod Ready
+pub mod Mix

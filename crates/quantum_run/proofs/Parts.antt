@@ -8,15 +8,16 @@ use Rattle.dos_world.specs.World.{released}
 use Rattle.dos_world.specs.declared.Entry.{Entry}
 use Rattle.dos_world.specs.declared.Reason.{Reason}
 use Rattle.page_store.specs.Store.{Store, joined}
-use Rattle.rv_exec.specs.Step.{step}
-use Rattle.rv_exec.specs.Runs.{kept}
-use Rattle.rv_exec.proofs.Stepping.{of_kept}
-use Rattle.quantum_run.specs.Alone.{steps, emptied, budget_of}
+use Rattle.flat_machine.specs.Step.{step}
+use Rattle.flat_machine.specs.Laws.{kept}
+use Rattle.flat_machine.proofs.Threads.{of_kept}
+use Rattle.flat_machine.specs.Alone.{steps, emptied, budget_of}
 use Rattle.quantum_run.specs.Laws.{RunsAreParts}
 use Rattle.quantum_run.specs.Shows.{thread_space}
-use Rattle.quantum_run.specs.ThreadRuns.{IsRunOf, Stops, after_steps, run_to}
-use Rattle.quantum_run.proofs.After.{same-after, steps-ok, steps-stopped}
-use Rattle.quantum_run.proofs.Threads.{seen-changed, ran-twice}
+use Rattle.quantum_run.specs.ThreadRuns.{IsRunOf, Stops, run_to}
+use Rattle.flat_machine.specs.Laws.{after_steps}
+use Rattle.flat_machine.proofs.After.{same-after, steps-ok, steps-stopped}
+use Rattle.flat_machine.proofs.Threads.{seen-changed, ran-twice}
 
 space-by : (w : World) (o : Option Thread)
     → (elim o as (λ _. List (ℕ × Entry)) [ None ↦ [] | Some thread ↦ space_of w thread.process ])

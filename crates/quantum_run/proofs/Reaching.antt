@@ -1,23 +1,21 @@
 -- What the flat world answers to an access, by the frame that is found for it.
-use Rattle.std.proofs.Common.{ℕ, ◌+◌, ◌*◌, ◌/◌, ◌%◌, ◌^◌, ◌<◌, ◌≡◌, refl, sym, ap, ◌∙◌, subst}
+use Rattle.std.proofs.Common.{ℕ, ◌+◌, ◌*◌, ◌/◌, ◌%◌, ◌^◌, ◌≡◌, refl, sym, ap, ◌∙◌, subst}
 use Rattle.std.proofs.Common.{cond, not, Bool, true, false, eqb, eq-eqb, ne_eqb, List, [], ◌∷◌, ◌≢◌}
 use Rattle.std.proofs.Common.{take, drop, Option, Some, None, Result, Ok, Err, arith}
 use Rattle.std.specs.Prelude.{slice_index_or}
-use Rattle.std.proofs.lemmas.List.{drop-drop}
 use Rattle.dos_world.specs.World.{World, look, entry_at}
 use Rattle.dos_world.specs.Reach.{fault, foreign, at, in_frame, has_right, is_foreign, width}
 use Rattle.dos_world.specs.Reach.{number_of, loaded}
 use Rattle.dos_world.specs.declared.Access.{Access}
 use Rattle.dos_world.specs.declared.Access.TheVariants.{Fetch}
 use Rattle.dos_world.specs.declared.Entry.{Entry}
-use Rattle.dos_world.specs.declared.Owner.{Owner}
 use Rattle.dos_world.specs.declared.Owner.TheVariants.{Free}
 use Rattle.dos_world.specs.declared.Reason.{Reason}
 use Rattle.dos_world.specs.declared.Reason.TheVariants.{Page, Fault}
 use Rattle.dos_world.specs.declared.Size.{Size}
-use Rattle.dos_world.specs.declared.Size.TheVariants.{Half, Word}
+use Rattle.dos_world.specs.declared.Size.TheVariants.{Half}
 use Rattle.page_store.specs.Store.{joined, number_at}
-use Rattle.rv_exec.specs.Step.{◌>>=◌, reached, place_or_reason, half_at}
+use Rattle.flat_machine.specs.Step.{◌>>=◌, reached, place_or_reason, half_at}
 use Rattle.rv_exec.specs.Follows.{word_at}
 use Rattle.quantum_run.specs.Finding.{frame_by, frame_for, place_in}
 use Rattle.rv_form.specs.Notes.{Note}

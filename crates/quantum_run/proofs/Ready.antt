@@ -12,14 +12,15 @@ use Rattle.dos_world.specs.declared.Owner.TheVariants.{Free, Shared, Of}
 use Rattle.dos_world.specs.declared.Reason.{Reason}
 use Rattle.page_store.specs.Store.{Store, whole}
 use Rattle.proc_table.specs.Tables.{Tables, held_in}
-use Rattle.rv_exec.specs.Step.{step}
-use Rattle.quantum_run.specs.Alone.{steps}
+use Rattle.flat_machine.specs.Step.{step}
+use Rattle.flat_machine.specs.Alone.{steps}
 use Rattle.quantum_run.specs.Finding.{frame_for, IsWriting}
 use Rattle.quantum_run.specs.Pages.{is_here, overlay}
 use Rattle.quantum_run.specs.Packs.{IsPacked, paired, space_in, view_of}
 use Rattle.quantum_run.specs.Shows.{Pack, View, CanRun, LeadsTo, RanOut, Shows}
-use Rattle.quantum_run.specs.ThreadRuns.{IsRunOf, after_steps, run_to, store_of}
-use Rattle.quantum_run.proofs.After.{steps-all}
+use Rattle.quantum_run.specs.ThreadRuns.{IsRunOf, run_to, store_of}
+use Rattle.flat_machine.specs.Laws.{after_steps}
+use Rattle.flat_machine.proofs.After.{steps-all}
 use Rattle.quantum_run.proofs.Finishing.{finished, Some-some}
 use Rattle.quantum_run.proofs.Packing.{all-reached, all-own, frames-paired}
 use Rattle.quantum_run.proofs.Parts.{steps-run, stops-here, stops-out}

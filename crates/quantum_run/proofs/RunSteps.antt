@@ -4,10 +4,11 @@ use Rattle.std.proofs.Common.{Ok, Err, arith}
 use Rattle.dos_world.specs.World.{World, Registers}
 use Rattle.dos_world.specs.declared.Reason.{Reason}
 use Rattle.rv_exec.specs.declared.Went.TheVariants.{Step, Stop}
-use Rattle.rv_exec.specs.Step.{step}
+use Rattle.flat_machine.specs.Step.{step}
 use Rattle.rv_exec.specs.Runs.{Runs, Steps}
-use Rattle.quantum_run.specs.ThreadRuns.{after_steps, Reaches, Goes}
-use Rattle.quantum_run.proofs.After.{after-more}
+use Rattle.quantum_run.specs.ThreadRuns.{Reaches, Goes}
+use Rattle.flat_machine.specs.Laws.{after_steps}
+use Rattle.flat_machine.proofs.After.{after-more}
 
 Step≢Stop : (reason : Reason) → Step ≡ Stop reason → ⊥
 Step≢Stop reason q = cc

@@ -1,6 +1,6 @@
 -- From the frames to the memory of a run in place, and back.
 use Rattle.std.specs.Prelude.{MatchOption}
-use Rattle.rv_exec.specs.Step.{step}
+use Rattle.flat_machine.specs.Step.{step}
 use Rattle.std.proofs.Common.{ℕ, ◌<◌, ◌-◌, ◌/◌, ◌≡◌, refl, ap, ◌∙◌, subst, List, Option, Some}
 use Rattle.std.proofs.Common.{None, Err}
 use Rattle.std.specs.Prelude.{slice_index_or}
@@ -13,9 +13,11 @@ use Rattle.dos_world.specs.declared.Owner.TheVariants.{Free}
 use Rattle.dos_world.specs.declared.Reason.{Reason}
 use Rattle.rv_exec.specs.Runs.{Runs}
 use Rattle.quantum_run.specs.Showing.{Still, ShowsBy, still}
-use Rattle.quantum_run.specs.ThreadRuns.{IsRunOf, Goes, Stops, after_steps, ran, run_to, store_of}
-use Rattle.quantum_run.proofs.After.{after-form}
-use Rattle.quantum_run.proofs.Threads.{entry-space}
+use Rattle.quantum_run.specs.ThreadRuns.{IsRunOf, Goes, Stops, run_to, store_of}
+use Rattle.flat_machine.specs.Laws.{after_steps}
+use Rattle.dos_world.specs.World.{ran}
+use Rattle.flat_machine.proofs.After.{after-form}
+use Rattle.quantum_run.proofs.Spaces.{entry-space}
 use Rattle.quantum_run.proofs.Witness.{witness, witness-holds}
 
 -- a memory shows each world that its pages and its space are a run of

@@ -42,7 +42,6 @@ witness fixed pages r budget = record {
   quantum = 0;
   output = [];
   error = [];
-  built = [];
 }
 
 same-foreign : (t : ℕ) (access : Access) (owner : Owner)

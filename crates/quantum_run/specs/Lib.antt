@@ -1,10 +1,10 @@
-pub mod Alone
 pub mod Shows
 pub mod ThreadRuns
 pub mod Finding
 pub mod Knowing
 pub mod Pages
 pub mod Showing
+pub mod Mix
 pub mod Laws
 pub mod PagePlaces
 pub mod Packs

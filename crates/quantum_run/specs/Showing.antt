@@ -9,7 +9,7 @@ use Rattle.dos_world.specs.declared.Owner.{Owner}
 use Rattle.dos_world.specs.declared.Owner.TheVariants.{Free}
 use Rattle.dos_world.specs.declared.Reason.{Reason}
 use Rattle.page_store.specs.Store.{joined}
-use Rattle.rv_exec.specs.Blind.{entry_at-with_thread}
+use Rattle.flat_machine.specs.Blind.{entry_at-with_thread}
 use Rattle.rv_exec.specs.Follows.{word_at}
 use Rattle.rv_form.specs.Notes.{Note, note_at}
 use Rattle.quantum_run.specs.declared.slot.Slot.{Slot}

@@ -3,13 +3,13 @@
 use Rattle.std.specs.Prelude.{ℕ, ◌≡◌, ◌≢◌, ◌*◌, ◌<◌, List, [], map, length, Option, Some, None}
 use Rattle.std.specs.Prelude.{option_map, slice_get, slice_index_or}
 use Rattle.dos_world.specs.Numbered.{numbered}
-use Rattle.rv_exec.specs.Runs.{kept}
+use Rattle.flat_machine.specs.Laws.{kept}
 use Rattle.dos_world.specs.World.{World, Registers, thread_at, space_of, owner_of, look, page_of}
 use Rattle.dos_world.specs.World.{released}
 use Rattle.dos_world.specs.declared.Entry.{Entry}
 use Rattle.dos_world.specs.declared.Owner.{Owner}
 use Rattle.dos_world.specs.declared.Owner.TheVariants.{Free, Shared, Of}
-use Rattle.quantum_run.specs.Alone.{budget_of, steps, alone}
+use Rattle.flat_machine.specs.Alone.{budget_of, steps, alone}
 
 -- the owners of the frames, the pages that are at home, and the spaces of the processes, numbered
 -- from 1: None where one has ended

@@ -1,5 +1,5 @@
 -- A thread that runs in place, over the frames and its space. This project's own rules.
-use Rattle.std.specs.Prelude.{ℕ, zero, suc, ◌≡◌, ◌<◌, ◌-◌, List, [], Option, Some, None, Ok, Err}
+use Rattle.std.specs.Prelude.{ℕ, ◌≡◌, ◌<◌, ◌-◌, List, [], Option, Some, None, Err}
 use Rattle.std.specs.Prelude.{option_map, length}
 pub use Rattle.dos_world.specs.World.{ran}
 use Rattle.dos_world.specs.World.{World, Registers, thread_at, with_thread, look}
@@ -7,14 +7,10 @@ use Rattle.dos_world.specs.declared.Entry.{Entry}
 use Rattle.dos_world.specs.declared.Owner.{Owner}
 use Rattle.dos_world.specs.declared.Reason.{Reason}
 use Rattle.page_store.specs.Store.{Store, joined, IsOwned}
-use Rattle.rv_exec.specs.Step.{step}
-use Rattle.rv_exec.specs.Runs.{kept, Runs}
+use Rattle.flat_machine.specs.Step.{step}
+use Rattle.rv_exec.specs.Runs.{Runs}
+use Rattle.flat_machine.specs.Laws.{kept, after_steps}
 use Rattle.quantum_run.specs.Shows.{thread_space}
-
--- the world after so many instructions of t; None where one of them stops
-abbrev pub after_steps : ℕ → World → ℕ → Option World
-after_steps zero w t = Some w
-after_steps (suc n) w t = elim (step w t) [ Ok next ↦ after_steps n next t | Err reason ↦ None ]
 
 -- the world in which t has these registers and this budget, and the bytes are those of these pages
 abbrev pub run_to : World → ℕ → List (Option (List ℕ)) → Registers → ℕ → World

@@ -4,10 +4,11 @@ ghost use Rattle.std.specs.Prelude.{map, is_some};
 ghost use Rattle.dos_world.specs.World.{World};
 ghost use Rattle.page_store.specs.Store.{AreHome};
 ghost use Rattle.rv_exec.specs.Runs.{Runs};
-ghost use Rattle.rv_exec.specs.Step.{step};
+ghost use Rattle.flat_machine.specs.Step.{step};
 ghost use Rattle.quantum_run.specs.Knowing.{no_base};
 ghost use Rattle.quantum_run.specs.Pages.{AreOwn, AreReached, AreWithin, is_here, overlay};
-ghost use Rattle.quantum_run.specs.ThreadRuns.{AreMapped, Goes, IsRunOf, after_steps, run_to};
+ghost use Rattle.quantum_run.specs.ThreadRuns.{AreMapped, Goes, IsRunOf, run_to};
+ghost use Rattle.flat_machine.specs.Laws.{after_steps};
 ghost use Rattle.quantum_run.specs.ThreadRuns.{store_of};
 ghost use Rattle.quantum_run.specs.Showing.{ShowsBy, Still, still};
 

@@ -13,14 +13,14 @@ use Rattle.dos_world.specs.declared.Owner.{Owner}
 use Rattle.dos_world.specs.declared.Owner.TheVariants.{Free, Shared, Of}
 use Rattle.dos_world.specs.declared.Reason.{Reason}
 use Rattle.dos_world.proofs.Numbers.{length-changed}
-use Rattle.rv_exec.specs.Step.{step, paid_by}
-use Rattle.rv_exec.specs.Runs.{kept}
-use Rattle.rv_exec.proofs.Stays.{step-form}
-use Rattle.quantum_run.specs.Alone.{budget_of, emptied, steps, alone}
-use Rattle.quantum_run.specs.Laws.{without_run, DiffersInOwn}
-use Rattle.quantum_run.proofs.After.{steps-ok, steps-stopped}
-use Rattle.quantum_run.proofs.Own.{alone-own}
-use Rattle.round_core.specs.Round.{all_alone}
+use Rattle.flat_machine.specs.Step.{step, paid_by}
+use Rattle.flat_machine.specs.Laws.{kept}
+use Rattle.flat_machine.proofs.Stays.{step-form}
+use Rattle.flat_machine.specs.Alone.{budget_of, emptied, steps, alone}
+use Rattle.flat_machine.specs.Laws.{without_run, DiffersInOwn}
+use Rattle.flat_machine.proofs.After.{steps-ok, steps-stopped}
+use Rattle.flat_machine.proofs.Own.{alone-own}
+use Rattle.flat_machine.specs.Round.{all_alone}
 use Rattle.round_core.proofs.Commute.{Among}
 
 -- ---- worlds that differ in parts of some threads
@@ -41,7 +41,6 @@ pub record DifferIn (ts : List ℕ) (w u : World) : Type 0 where
   pub quantum : u.quantum ≡ w.quantum
   pub output : u.output ≡ w.output
   pub error : u.error ≡ w.error
-  pub built : u.built ≡ w.built
 
 differ_in_nothing : (w : World) → DifferIn [] w w
 differ_in_nothing w = record {
@@ -58,7 +57,6 @@ differ_in_nothing w = record {
   quantum = refl;
   output = refl;
   error = refl;
-  built = refl;
 }
 
 steps-numbers : (n : ℕ) (w : World) (t : ℕ) → length ((steps n w t).threads) ≡ length w.threads
@@ -102,7 +100,6 @@ differ-first t ts w v u d numbers r = record {
   quantum = r.quantum ∙ d.quantum;
   output = r.output ∙ d.output;
   error = r.error ∙ d.error;
-  built = r.built ∙ d.built;
 }
   where
     by_eq : (s : ℕ) (b : Bool) → eqb s t ≡ b
@@ -185,8 +182,8 @@ same-thread (Some x) (Some y) k w =
     ap Some (ap (λ z. restore z (without_run x)) kx ∙ ap (λ z. restore (kept y) z) wx)
 
 mk : List ℕ → List Owner → List Process → List (Option Thread) → List (List ℕ) → List Sleeper → ℕ
-    → ℕ → List ℕ → List ℕ → List ℕ → World
-mk x0 x1 x2 x3 x4 x5 x6 x7 x8 x9 x10 =
+    → ℕ → List ℕ → List ℕ → World
+mk x0 x1 x2 x3 x4 x5 x6 x7 x8 x9 =
     record {
       bytes = x0;
       owners = x1;
@@ -198,47 +195,35 @@ mk x0 x1 x2 x3 x4 x5 x6 x7 x8 x9 x10 =
       quantum = x7;
       output = x8;
       error = x9;
-      built = x10;
     }
 
 world-same : (u v : World) → u.bytes ≡ v.bytes → u.owners ≡ v.owners → u.processes ≡ v.processes
     → u.threads ≡ v.threads → u.pipes ≡ v.pipes → u.sleepers ≡ v.sleepers → u.rounds ≡ v.rounds
-    → u.quantum ≡ v.quantum → u.output ≡ v.output → u.error ≡ v.error → u.built ≡ v.built → u ≡ v
+    → u.quantum ≡ v.quantum → u.output ≡ v.output → u.error ≡ v.error → u ≡ v
 unfolding mk
-world-same u v h0 h1 h2 h3 h4 h5 h6 h7 h8 h9 h10 =
+world-same u v h0 h1 h2 h3 h4 h5 h6 h7 h8 h9 =
     ap
-    (λ x. mk x u.owners u.processes u.threads u.pipes u.sleepers u.rounds u.quantum u.output u.error
-    u.built) h0
+    (λ x. mk x u.owners u.processes u.threads u.pipes u.sleepers u.rounds u.quantum u.output u.error) h0
     ∙ ap
-    (λ x. mk v.bytes x u.processes u.threads u.pipes u.sleepers u.rounds u.quantum u.output u.error
-    u.built) h1
+    (λ x. mk v.bytes x u.processes u.threads u.pipes u.sleepers u.rounds u.quantum u.output u.error) h1
     ∙ ap
-    (λ x. mk v.bytes v.owners x u.threads u.pipes u.sleepers u.rounds u.quantum u.output u.error
-    u.built) h2
+    (λ x. mk v.bytes v.owners x u.threads u.pipes u.sleepers u.rounds u.quantum u.output u.error) h2
     ∙ ap
-    (λ x. mk v.bytes v.owners v.processes x u.pipes u.sleepers u.rounds u.quantum u.output u.error
-    u.built) h3
+    (λ x. mk v.bytes v.owners v.processes x u.pipes u.sleepers u.rounds u.quantum u.output u.error) h3
     ∙ ap
-    (λ x. mk v.bytes v.owners v.processes v.threads x u.sleepers u.rounds u.quantum u.output u.error
-    u.built) h4
+    (λ x. mk v.bytes v.owners v.processes v.threads x u.sleepers u.rounds u.quantum u.output u.error) h4
     ∙ ap
-    (λ x. mk v.bytes v.owners v.processes v.threads v.pipes x u.rounds u.quantum u.output u.error
-    u.built) h5
+    (λ x. mk v.bytes v.owners v.processes v.threads v.pipes x u.rounds u.quantum u.output u.error) h5
     ∙ ap
-    (λ x. mk v.bytes v.owners v.processes v.threads v.pipes v.sleepers x u.quantum u.output u.error
-    u.built) h6
+    (λ x. mk v.bytes v.owners v.processes v.threads v.pipes v.sleepers x u.quantum u.output u.error) h6
     ∙ ap
-    (λ x. mk v.bytes v.owners v.processes v.threads v.pipes v.sleepers v.rounds x u.output u.error
-    u.built) h7
+    (λ x. mk v.bytes v.owners v.processes v.threads v.pipes v.sleepers v.rounds x u.output u.error) h7
     ∙ ap
-    (λ x. mk v.bytes v.owners v.processes v.threads v.pipes v.sleepers v.rounds v.quantum x u.error
-    u.built) h8
-    ∙ ap
-    (λ x. mk v.bytes v.owners v.processes v.threads v.pipes v.sleepers v.rounds v.quantum v.output x
-    u.built) h9
+    (λ x. mk v.bytes v.owners v.processes v.threads v.pipes v.sleepers v.rounds v.quantum x
+    u.error) h8
     ∙ ap
     (λ x. mk v.bytes v.owners v.processes v.threads v.pipes v.sleepers v.rounds v.quantum v.output
-    v.error x) h10
+    x) h9
 
 pub differ-same : (ts : List ℕ) (w u v : World) → DifferIn ts w u → DifferIn ts w v
     → ((t : ℕ) → Among ts t → option_map kept (thread_at u t) ≡ option_map kept (thread_at v t))
@@ -255,7 +240,6 @@ differ-same ts w u v a b threads pages =
     ∙ at-number v.threads i))
     (a.pipes ∙ sym b.pipes) (a.sleepers ∙ sym b.sleepers) (a.rounds ∙ sym b.rounds)
     (a.quantum ∙ sym b.quantum) (a.output ∙ sym b.output) (a.error ∙ sym b.error)
-    (a.built ∙ sym b.built)
   where
     byte : (i : ℕ)
         → ((t : ℕ) × Among ts t × (owner_of w (i / 4096) ≡ Of t))

@@ -11,13 +11,13 @@ use Rattle.dos_world.specs.World.{ready_threads, registers_by, released}
 use Rattle.dos_world.specs.declared.Reason.{Reason}
 use Rattle.dos_world.specs.declared.ThreadState.TheVariants.{Ready}
 use Rattle.dos_world.proofs.Numbers.{changed_other, changed_there}
-use Rattle.rv_exec.specs.Step.{step, paid_by}
-use Rattle.rv_exec.proofs.Stays.{stops-stay, stops-beside}
-use Rattle.rv_exec.proofs.Commute.{steps-commute, step-beside, step-others, step-pays}
-use Rattle.quantum_run.specs.Alone.{budget_of, emptied, steps}
-use Rattle.quantum_run.proofs.After.{steps-ok, steps-stopped}
-use Rattle.round_core.specs.Mixed.{stepped, mixed, IsFull}
-use Rattle.round_core.specs.Round.{all_alone, parallel}
+use Rattle.flat_machine.specs.Step.{step, paid_by}
+use Rattle.flat_machine.proofs.Stays.{stops-stay, stops-beside}
+use Rattle.flat_machine.proofs.Commute.{steps-commute, step-beside, step-others, step-pays}
+use Rattle.flat_machine.specs.Alone.{budget_of, emptied, steps}
+use Rattle.flat_machine.proofs.After.{steps-ok, steps-stopped}
+use Rattle.flat_machine.specs.Mixed.{stepped, mixed, IsFull}
+use Rattle.flat_machine.specs.Round.{all_alone, parallel}
 
 -- ---- which numbers stand in a list
 

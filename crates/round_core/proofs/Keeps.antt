@@ -1,17 +1,17 @@
 -- What every change of a round keeps, the whole round keeps: one walk over the plays, for any
 -- invariant.
-use Rattle.std.proofs.Common.{ℕ, zero, suc, ◌+◌, ◌-◌, ◌≡◌, ◌⊎◌, inl, inr, refl, sym, ◌∙◌, subst}
-use Rattle.std.proofs.Common.{Bool, true, false, cond, List, [], ◌∷◌, Option, Some, None, Result}
+use Rattle.std.proofs.Common.{ℕ, zero, suc, ◌+◌, ◌-◌, ◌≡◌, refl, ◌∙◌, subst}
+use Rattle.std.proofs.Common.{cond, List, [], ◌∷◌, Option, Some, None, Result}
 use Rattle.std.proofs.Common.{Ok, Err}
 use Rattle.std.specs.Prelude.{All, is_some}
-use Rattle.std.proofs.lemmas.Bool.{cond_both, cases_Bool}
+use Rattle.std.proofs.lemmas.Bool.{cond_both}
 use Rattle.std.proofs.lemmas.List.Elements.{All-head, All-tail}
 use Rattle.dos_world.specs.World.{World, Thread, thread_at, entry_at, live_threads, ready_threads}
 use Rattle.dos_world.specs.World.{with_thread, get}
 use Rattle.dos_world.specs.Kernel.{posted}
 use Rattle.dos_world.specs.Play.{Play, done, ask, posts_of}
-use Rattle.dos_world.specs.Calls.{Service, Served, went, waits, yields, gone, call_of, refuses}
-use Rattle.dos_world.specs.Services.{service_of, built_service, service, service_for}
+use Rattle.dos_world.specs.Calls.{Served, went, waits, yields, gone}
+use Rattle.dos_world.specs.Services.{service, service_for}
 use Rattle.dos_world.specs.Signals.{all_posted, signal_turn, signal_turns, signalled, ripen}
 use Rattle.dos_world.specs.declared.Access.{Access}
 use Rattle.dos_world.specs.declared.Entry.{Entry}
@@ -19,18 +19,17 @@ use Rattle.dos_world.specs.declared.Post.{Post}
 use Rattle.dos_world.specs.declared.Question.TheVariants.{Signals}
 use Rattle.dos_world.specs.declared.Reason.{Reason}
 use Rattle.dos_world.specs.declared.Reason.TheVariants.{Page, Fault, Service as service_reason}
-use Rattle.rv_exec.specs.Step.{step}
-use Rattle.quantum_run.specs.Alone.{budget_of, emptied, steps, alone}
-use Rattle.round_core.specs.Rest.{granted_by, page_granted, settled, Turn, on, over_with}
-use Rattle.round_core.specs.Rest.{service_done, after_step, turn, turns, rest_of, rest_if_live}
-use Rattle.round_core.specs.Rest.{serial_of}
-use Rattle.round_core.specs.Round.{RoundEnd, finished, stalled, all_alone, parallel, with_budget}
-use Rattle.round_core.specs.Round.{with_budgets, budgets, counted, phases, is_none_of, begun}
-use Rattle.round_core.specs.Round.{round_of}
-use Rattle.round_core.specs.Round.{went as went_on}
+use Rattle.flat_machine.specs.Step.{step}
+use Rattle.flat_machine.specs.Alone.{budget_of, emptied, steps, alone}
+use Rattle.flat_machine.specs.Rest.{granted_by, page_granted, settled, Turn, on, over_with}
+use Rattle.flat_machine.specs.Rest.{service_done, after_step, turn, turns, rest_of, rest_if_live}
+use Rattle.flat_machine.specs.Rest.{serial_of}
+use Rattle.flat_machine.specs.Round.{RoundEnd, finished, stalled, all_alone, parallel, with_budget}
+use Rattle.flat_machine.specs.Round.{with_budgets, budgets, counted, phases, is_none_of, begun}
+use Rattle.flat_machine.specs.Round.{round_of}
+use Rattle.flat_machine.specs.Round.{went as went_on}
 use Rattle.round_core.specs.Protocol.{Protocol, Allows}
 use Rattle.round_core.specs.Invariants.{Holds, Keeps, IsInvariant, LeavesServed, LeavesEnd}
-use Rattle.round_core.specs.Invariants.{is_built}
 use Rattle.round_core.proofs.Allowed.{then_allows}
 
 module _ (protocol : Protocol) (I : Holds) (k : Keeps protocol I) where
@@ -111,27 +110,10 @@ module _ (protocol : Protocol) (I : Holds) (k : Keeps protocol I) where
       → Allows protocol (LeavesServed I t ts) (service w t)
   service_keeps ts w t h = by_thread (thread_at w t) refl
     where
-      by_built : (thread : Thread) → thread_at w t ≡ Some thread → (number : ℕ)
-          → (is_built w number ≡ true) ⊎ (is_built w number ≡ false)
-          → Allows protocol (LeavesServed I t ts)
-          (built_service w.built number (call_of w t thread))
-      by_built thread is number (inl built) =
-          subst
-          (λ (b : Bool). Allows protocol (LeavesServed I t ts)
-          (cond {A = Service} b (service_of number) (refuses 38) (call_of w t thread)))
-          (sym built) (k.served number ts w t thread is built h)
-      by_built thread is number (inr missing) =
-          subst
-          (λ (b : Bool). Allows protocol (LeavesServed I t ts)
-          (cond {A = Service} b (service_of number) (refuses 38) (call_of w t thread)))
-          (sym missing) (k.refused ts w t thread is h)
-
       by_thread : (o : Option Thread) → thread_at w t ≡ o
           → Allows protocol (LeavesServed I t ts) (service_for w t o)
       by_thread None is = k.passes ts w t h
-      by_thread (Some thread) is =
-          by_built thread is (get thread.registers 17)
-          (cases_Bool (is_built w (get thread.registers 17)))
+      by_thread (Some thread) is = k.served (get thread.registers 17) ts w t thread is h
 
   -- ---- a turn, a part, and the phase
 

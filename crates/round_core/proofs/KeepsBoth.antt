@@ -2,7 +2,7 @@
 use Rattle.std.proofs.Common.{ℕ, List}
 use Rattle.dos_world.specs.World.{World}
 use Rattle.dos_world.specs.Play.{Play}
-use Rattle.dos_world.specs.Calls.{Served, went, waits, yields, gone, call_of, refuses}
+use Rattle.dos_world.specs.Calls.{Served, went, waits, yields, gone, call_of}
 use Rattle.dos_world.specs.Services.{service_of}
 use Rattle.round_core.specs.Protocol.{Protocol, Allows}
 use Rattle.round_core.specs.Invariants.{Holds, Keeps, LeavesServed}
@@ -39,12 +39,9 @@ module _ (I J : Holds) where
         (i.grant_kept ts w t address access e is h.0, j.grant_kept ts w t address access e is h.1);
     fault_kept = λ ts w t number is h.
         (i.fault_kept ts w t number is h.0, j.fault_kept ts w t number is h.1);
-    served = λ number ts w t thread is built h.
+    served = λ number ts w t thread is h.
         both_play protocol t ts (service_of number (call_of w t thread))
-        (i.served number ts w t thread is built h.0) (j.served number ts w t thread is built h.1);
-    refused = λ ts w t thread is h.
-        both_play protocol t ts (refuses 38 (call_of w t thread)) (i.refused ts w t thread is h.0)
-        (j.refused ts w t thread is h.1);
+        (i.served number ts w t thread is h.0) (j.served number ts w t thread is h.1);
     post_kept = λ w post fits h. (i.post_kept w post fits h.0, j.post_kept w post fits h.1);
     turn_kept = λ w t h. (i.turn_kept w t h.0, j.turn_kept w t h.1);
     ripen_kept = λ w h. (i.ripen_kept w h.0, j.ripen_kept w h.1);

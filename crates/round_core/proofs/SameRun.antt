@@ -1,12 +1,9 @@
--- All that a round does but its last step leaves the quantum, the count of rounds and the services
--- of
--- any world, and sends its bytes behind those that were sent; and only read and clock ask.
-use Rattle.std.proofs.Common.{refl, ℕ, ◌+◌, ◌%◌, ◌≡◌, ◌⊎◌, inl, inr, sym, ap, ◌∙◌}
+-- All that a round does but its last step leaves the quantum and the count of rounds of any world,
+-- and sends its bytes behind those that were sent; and only read and clock ask.
+use Rattle.std.proofs.Common.{refl, ℕ, ◌+◌, ◌%◌, ◌≡◌, sym}
 use Rattle.std.proofs.Common.{subst, Bool, true, false, cond, not, List, [], ◌∷◌, ◌++◌, length}
 use Rattle.std.proofs.Common.{Option, Some, None}
-use Rattle.std.specs.Prelude.{◌==◌, ◌||◌, filter, map, nat_le}
-use Rattle.std.specs.List.{list_any}
-use Rattle.std.proofs.lemmas.Bool.{false≢true}
+use Rattle.std.specs.Prelude.{◌==◌, ◌||◌, ◌≢◌, ⊤, filter, map, nat_le}
 use Rattle.dos_world.specs.Numbered.{changed, numbers_of}
 use Rattle.dos_world.specs.World.{World, Thread, thread_at, action_of}
 use Rattle.dos_world.specs.World.{threads_of, parent_of}
@@ -14,32 +11,31 @@ use Rattle.dos_world.specs.World.{with_thread, without_thread}
 use Rattle.dos_world.specs.World.{is_state}
 use Rattle.dos_world.specs.Kernel.{minus, posted, tidied, orphaned, ended_by}
 use Rattle.dos_world.specs.Kernel.{unless_of, is_none_of_these, process_ended, thread_ended, woken}
-use Rattle.dos_world.specs.Calls.{Call, call_of}
+use Rattle.dos_world.specs.Calls.{Call, Served, call_of}
 use Rattle.dos_world.specs.Signals.{chosen, cleared, handling, interrupted, default_action}
 use Rattle.dos_world.specs.Signals.{handler_action, delivered, turn_by, signal_turn, would_wait}
 use Rattle.dos_world.specs.Signals.{made_ready}
 use Rattle.dos_world.specs.declared.Question.{Question}
 use Rattle.dos_world.specs.declared.ThreadState.TheVariants.{Ready, Retry}
-use Rattle.rv_exec.proofs.Stays.{step-form}
-use Rattle.round_core.specs.Rest.{process_of}
-use Rattle.round_core.specs.Protocol.{Protocol, silent_protocol}
-use Rattle.round_core.specs.Invariants.{Keeps, ServiceKeeps, LeavesServed, is_built, IsOf, MayAsk}
-use Rattle.round_core.specs.Invariants.{HasNone}
+use Rattle.flat_machine.proofs.Stays.{step-form}
+use Rattle.flat_machine.specs.Rest.{process_of}
+use Rattle.round_core.specs.Protocol.{Protocol, Allows, silent_protocol}
+use Rattle.round_core.specs.Invariants.{Keeps, ServiceKeeps, LeavesServed, IsOf, MayAsk}
 use Rattle.dos_world.specs.Services.{service_of}
 use Rattle.round_core.proofs.Services.{Said, Stands, posted_kept, service_left}
 
--- What is said of a world's quantum, of its count of rounds, of its services, and of the bytes that
--- it has sent to output and to error; and goes on to hold where more bytes are sent.
-pub record OfSent (K : (quantum rounds : ℕ) (built output error : List ℕ) → Type 0) : Type 0 where
-  pub more_output : (q n : ℕ) (built output error bytes : List ℕ) → K q n built output error
-      → K q n built (output ++ bytes) error
-  pub more_error : (q n : ℕ) (built output error bytes : List ℕ) → K q n built output error
-      → K q n built output (error ++ bytes)
+-- What is said of a world's quantum, of its count of rounds, and of the bytes that it has sent to
+-- output and to error; and goes on to hold where more bytes are sent.
+pub record OfSent (K : (quantum rounds : ℕ) (output error : List ℕ) → Type 0) : Type 0 where
+  pub more_output : (q n : ℕ) (output error bytes : List ℕ) → K q n output error
+      → K q n (output ++ bytes) error
+  pub more_error : (q n : ℕ) (output error bytes : List ℕ) → K q n output error
+      → K q n output (error ++ bytes)
 
-module _ (K : (quantum rounds : ℕ) (built output error : List ℕ) → Type 0)
+module _ (K : (quantum rounds : ℕ) (output error : List ℕ) → Type 0)
     (of_sent : OfSent K) where
   abbrev J : World → Type 0
-  J w = K w.quantum w.rounds w.built w.output w.error
+  J w = K w.quantum w.rounds w.output w.error
 
   -- whoever still has a part
   abbrev pub OfWorld : List ℕ → World → Type 0
@@ -47,15 +43,15 @@ module _ (K : (quantum rounds : ℕ) (built output error : List ℕ) → Type 0)
 
   -- the same of a world's threads and owners, whatever they are
   abbrev OfAny : Said
-  OfAny threads owners quantum rounds built output error = K quantum rounds built output error
+  OfAny threads owners quantum rounds output error = K quantum rounds output error
 
   stands : Stands OfAny
   stands = record {
     thread = λ f same w t k. k;
     new_thread = λ w thread k. k;
     owners = λ w owners count k. k;
-    output = λ w bytes k. of_sent.more_output _ _ _ _ _ bytes k;
-    error = λ w bytes k. of_sent.more_error _ _ _ _ _ bytes k;
+    output = λ w bytes k. of_sent.more_output _ _ _ _ bytes k;
+    error = λ w bytes k. of_sent.more_error _ _ _ _ bytes k;
   }
 
   -- ---- the kernel's changes
@@ -114,26 +110,24 @@ module _ (K : (quantum rounds : ℕ) (built output error : List ℕ) → Type 0)
   made_ready_same w [] k = k
   made_ready_same w (t ∷ ts) k = made_ready_same _ ts k
 
-  -- The services that ask may do so, where they are built.
+  -- The services that ask may do so.
   abbrev pub AskersMay : Protocol → Type 0
   AskersMay protocol =
-      (number : ℕ) → (number ≡ 7) ⊎ (number ≡ 22) → (w : World) → J w → is_built w number ≡ true
-      → (question : Question) → protocol.may question w.output w.error
+      (w : World) → J w → (question : Question) → protocol.may question w.output w.error
 
   module _ (protocol : Protocol) (may_ask : AskersMay protocol) where
     -- ---- the services
 
-    services_same : (number : ℕ) → ServiceKeeps protocol OfWorld number (service_of number)
-    services_same number ts w t thread is built k =
+    services_same : (number : ℕ) → ServiceKeeps protocol OfWorld (service_of number)
+    services_same number ts w t thread is k =
         let c : Call = call_of w t thread in
         service_left OfAny stands protocol (LeavesServed OfWorld t ts)
         (record { going = λ v h. h; waiting = λ v h. h; yielding = λ v h. h }) c k
-        (λ n. is_built w n ≡ true) (λ called most. may_ask 7 (inl refl) w k called _)
-        (λ called. may_ask 22 (inr refl) w k called _)
+        (λ n. ⊤) (λ called most. may_ask w k _) (λ called. may_ask w k _)
         (thread_ended_same c.world c.process t k)
-        (process_ended_same c.world c.process (c.a0 % 256) k) number built
+        (process_ended_same c.world c.process (c.a0 % 256) k) number tt
 
-    -- The invariant, for any services and any answers.
+    -- The invariant, for any answers.
     pub sent_kept : Keeps protocol OfWorld
     sent_kept = record {
       steps_kept = λ ts w next t is k. subst J (sym (step-form w next t is).is) k;
@@ -144,7 +138,6 @@ module _ (K : (quantum rounds : ℕ) (built output error : List ℕ) → Type 0)
       grant_kept = λ ts w t address access e is k. k;
       fault_kept = λ ts w t number is k. process_ended_same w (process_of w t) (128 + number) k;
       served = services_same;
-      refused = λ ts w t thread is k. k;
       post_kept = λ w post fits k. posted_same w post.pid post.signal k;
       turn_kept = turn_same;
       ripen_kept = λ w k.
@@ -152,31 +145,41 @@ module _ (K : (quantum rounds : ℕ) (built output error : List ℕ) → Type 0)
           (filter (λ t. not (would_wait w t)) (numbers_of (is_state Retry) w.threads)) k;
     }
 
--- ---- a run with its quantum, after so many rounds, with its services
+-- ---- a run with its quantum, after so many rounds
 
-abbrev pub IsOfRun : ℕ → ℕ → List ℕ → List ℕ → World → Type 0
-IsOfRun q n built ts w = IsOf q n built w
+abbrev pub IsOfRun : ℕ → ℕ → List ℕ → World → Type 0
+IsOfRun q n ts w = IsOf q n w
 
-pub same_run_kept : (q n : ℕ) (built : List ℕ) (protocol : Protocol) → MayAsk protocol built
-    → Keeps protocol (IsOfRun q n built)
-same_run_kept q n built protocol may_ask =
-    sent_kept (λ r m b output error. (r ≡ q) × (m ≡ n) × (b ≡ built))
+pub same_run_kept : (q n : ℕ) (protocol : Protocol) → MayAsk protocol
+    → Keeps protocol (IsOfRun q n)
+same_run_kept q n protocol may_ask =
+    sent_kept (λ r m output error. (r ≡ q) × (m ≡ n))
     (record {
-      more_output = λ r m b output error bytes k. k;
-      more_error = λ r m b output error bytes k. k;
+      more_output = λ r m output error bytes k. k;
+      more_error = λ r m output error bytes k. k;
     })
-    protocol
-    (λ number asks w k is question.
-    may_ask number asks (subst (λ b. list_any (λ m. m == number) b ≡ true) k.2 is) question
-    w.output w.error)
+    protocol (λ w k question. may_ask question w.output w.error)
 
--- Where neither service that asks is built, nothing is asked.
-pub silent_run_kept : (q n : ℕ) (built : List ℕ) → HasNone 7 built → HasNone 22 built
-    → Keeps silent_protocol (λ ts w. IsOf q n built w)
-silent_run_kept q n built no_read no_clock = same_run_kept q n built silent_protocol may
-  where
-    may : MayAsk silent_protocol built
-    may number (inl is) e question output error =
-        false≢true (sym (ap (λ m. list_any (λ k. k == m) built) is ∙ no_read) ∙ e)
-    may number (inr is) e question output error =
-        false≢true (sym (ap (λ m. list_any (λ k. k == m) built) is ∙ no_clock) ∙ e)
+-- ---- who asks
+
+-- what is always said
+abbrev Nothing : Said
+Nothing threads owners quantum rounds output error = ⊤
+
+nothing_stands : Stands Nothing
+nothing_stands = record {
+  thread = λ f same w t k. k;
+  new_thread = λ w thread k. k;
+  owners = λ w owners count k. k;
+  output = λ w bytes k. k;
+  error = λ w bytes k. k;
+}
+
+-- No service but read and clock asks anything.
+pub only_two_ask : (number : ℕ) → number ≢ 7 → number ≢ 22 → (c : Call)
+    → Allows silent_protocol (λ (served : Served). ⊤) (service_of number c)
+only_two_ask number no_read no_clock c =
+    service_left Nothing nothing_stands silent_protocol (λ (served : Served). ⊤)
+    (record { going = λ v h. h; waiting = λ v h. h; yielding = λ v h. h }) c tt
+    (λ n. (n ≢ 7) × (n ≢ 22)) (λ called most. absurd (called.0 refl))
+    (λ called. absurd (called.1 refl)) tt tt number (no_read, no_clock)

@@ -55,15 +55,15 @@ use Rattle.dos_world.specs.declared.ThreadState.TheVariants.{Retry, Asleep}
 use Rattle.round_core.specs.Protocol.{Protocol, Allows}
 use Rattle.round_core.proofs.Rows.{OfEach, by_number}
 
--- what is said of a world's threads and owners, of its quantum, its count of rounds and its
--- services, and of the bytes that it has sent to output and to error
+-- what is said of a world's threads and owners, of its quantum and its count of rounds, and of the
+-- bytes that it has sent to output and to error
 abbrev pub Said : Type 1
 Said = (threads : List (Option Thread)) (owners : List Owner) (quantum rounds : ℕ)
-    (built output error : List ℕ) → Type 0
+    (output error : List ℕ) → Type 0
 
 -- it is said of this world
 abbrev pub IsSaid : Said → World → Type 0
-IsSaid K w = K w.threads w.owners w.quantum w.rounds w.built w.output w.error
+IsSaid K w = K w.threads w.owners w.quantum w.rounds w.output w.error
 
 -- It stands where a thread changes that keeps its budget, where a thread is new, where as many
 -- frames have other owners, and where more bytes are sent.

@@ -9,11 +9,11 @@ use Rattle.dos_world.proofs.PlayLaws.{then_assoc}
 use Rattle.dos_world.specs.declared.Access.{Access}
 use Rattle.dos_world.specs.declared.Reason.{Reason}
 use Rattle.dos_world.specs.declared.Reason.TheVariants.{Page, Fault, Service}
-use Rattle.rv_exec.specs.Step.{step}
-use Rattle.quantum_run.specs.ThreadRuns.{after_steps}
+use Rattle.flat_machine.specs.Step.{step}
+use Rattle.flat_machine.specs.Laws.{after_steps}
 use Rattle.round_core.specs.Laws.{MapsWithin, IsNoPage}
-use Rattle.round_core.specs.Rest.{settled, page_granted, Turn, on, over_with, after_step}
-use Rattle.round_core.specs.Rest.{after_service, service_done, process_of, turn, turns}
+use Rattle.flat_machine.specs.Rest.{settled, page_granted, Turn, on, over_with, after_step}
+use Rattle.flat_machine.specs.Rest.{after_service, service_done, process_of, turn, turns}
 use Rattle.round_core.specs.Granting.{grants_needed}
 use Rattle.round_core.proofs.Grants.{three-are-enough}
 

@@ -3,8 +3,8 @@
 use Rattle.std.specs.Prelude.{ℕ, zero, suc, Ok, Err}
 use Rattle.dos_world.specs.World.{World}
 use Rattle.dos_world.specs.declared.Reason.TheVariants.{Page, Fault, Service}
-use Rattle.rv_exec.specs.Step.{step}
-use Rattle.round_core.specs.Rest.{page_granted}
+use Rattle.flat_machine.specs.Step.{step}
+use Rattle.flat_machine.specs.Rest.{page_granted}
 
 -- the grants that t's instruction needs, of which at most so many are counted
 abbrev pub grants_needed : ℕ → World → ℕ → ℕ

@@ -3,14 +3,13 @@
 --
 -- An invariant is of a world and of the threads that still have a serial part in this round. That
 -- index is what lets it say that nobody who waits or sleeps has a part.
-use Rattle.std.specs.Prelude.{ℕ, ◌+◌, ◌≡◌, ◌⊎◌, Bool, true, false, List, [], ◌∷◌, All, Some, Ok}
-use Rattle.std.specs.Prelude.{Err, ◌==◌}
-use Rattle.std.specs.List.{list_any}
+use Rattle.std.specs.Prelude.{ℕ, ◌+◌, ◌≡◌, List, [], ◌∷◌, All, Some, Ok}
+use Rattle.std.specs.Prelude.{Err}
 use Rattle.dos_world.specs.World.{World, Thread, thread_at, entry_at, ready_threads, with_thread}
 use Rattle.dos_world.specs.World.{with_budget}
 use Rattle.dos_world.specs.Reach.{grant}
 use Rattle.dos_world.specs.Kernel.{process_ended, posted}
-use Rattle.dos_world.specs.Calls.{Service, Served, went, waits, yields, gone, call_of, refuses}
+use Rattle.dos_world.specs.Calls.{Service, Served, went, waits, yields, gone, call_of}
 use Rattle.dos_world.specs.Services.{service_of, service}
 use Rattle.dos_world.specs.Signals.{signal_turn, signalled, ripen}
 use Rattle.dos_world.specs.declared.Access.{Access}
@@ -19,11 +18,11 @@ use Rattle.dos_world.specs.declared.Post.{Post}
 use Rattle.dos_world.specs.declared.Question.{Question}
 use Rattle.dos_world.specs.declared.Question.TheVariants.{Signals}
 use Rattle.dos_world.specs.declared.Reason.TheVariants.{Fault}
-use Rattle.rv_exec.specs.Step.{step}
-use Rattle.quantum_run.specs.Alone.{alone, emptied}
-use Rattle.round_core.specs.Rest.{process_of, rest_of, serial_of}
-use Rattle.round_core.specs.Round.{RoundEnd, finished, stalled, parallel, counted, begun, round_of}
-use Rattle.round_core.specs.Round.{went as went_on}
+use Rattle.flat_machine.specs.Step.{step}
+use Rattle.flat_machine.specs.Alone.{alone, emptied}
+use Rattle.flat_machine.specs.Rest.{process_of, rest_of, serial_of}
+use Rattle.flat_machine.specs.Round.{RoundEnd, finished, stalled, parallel, counted, begun, round_of}
+use Rattle.flat_machine.specs.Round.{went as went_on}
 use Rattle.round_core.specs.Protocol.{Protocol, Allows}
 
 -- what holds, by those threads and in a world
@@ -39,16 +38,11 @@ LeavesServed I t ts (waits w) = I ts w
 LeavesServed I t ts (yields w) = I ts w
 LeavesServed I t ts (gone w) = I ts w
 
--- whether a service of this number is built
-abbrev pub is_built : World → ℕ → Bool
-is_built w number = list_any (λ n. n == number) w.built
-
--- a service, with its number, where it is built: whoever has its part calls it
-abbrev pub ServiceKeeps : Protocol → Holds → ℕ → Service → Type 0
-ServiceKeeps protocol I number one =
+-- a service: whoever has its part calls it
+abbrev pub ServiceKeeps : Protocol → Holds → Service → Type 0
+ServiceKeeps protocol I one =
     (ts : List ℕ) (w : World) (t : ℕ) (thread : Thread) → thread_at w t ≡ Some thread
-    → is_built w number ≡ true → I (t ∷ ts) w
-    → Allows protocol (LeavesServed I t ts) (one (call_of w t thread))
+    → I (t ∷ ts) w → Allows protocol (LeavesServed I t ts) (one (call_of w t thread))
 
 pub record Keeps (protocol : Protocol) (I : Holds) : Type 0 where
   -- an instruction of any thread, and the reservation that a part begins without
@@ -68,11 +62,8 @@ pub record Keeps (protocol : Protocol) (I : Holds) : Type 0 where
   pub fault_kept : (ts : List ℕ) (w : World) (t number : ℕ)
       → step w t ≡ Err (Fault number) → I (t ∷ ts) w
       → I ts (process_ended w (process_of w t) (128 + number))
-  -- each service, and the refusal of a number that isn't built
-  pub served : (number : ℕ) → ServiceKeeps protocol I number (service_of number)
-  pub refused : (ts : List ℕ) (w : World) (t : ℕ) (thread : Thread)
-      → thread_at w t ≡ Some thread → I (t ∷ ts) w
-      → Allows protocol (LeavesServed I t ts) (refuses 38 (call_of w t thread))
+  -- each service, and the refusal of a number without one
+  pub served : (number : ℕ) → ServiceKeeps protocol I (service_of number)
   -- a post, a thread's turn at the signal point, and who waits no longer
   pub post_kept : (w : World) (post : Post)
       → protocol.posts post → I [] w → I [] (posted w post.pid post.signal)
@@ -108,16 +99,11 @@ pub record IsInvariant (protocol : Protocol) (I : Holds) : Type 0 where
 
 -- ---- a run
 
--- a world of a run with this quantum, after so many rounds, with these services
-abbrev pub IsOf : ℕ → ℕ → List ℕ → World → Type 0
-IsOf quantum rounds built w = (w.quantum ≡ quantum) × (w.rounds ≡ rounds) × (w.built ≡ built)
+-- a world of a run with this quantum, after so many rounds
+abbrev pub IsOf : ℕ → ℕ → World → Type 0
+IsOf quantum rounds w = (w.quantum ≡ quantum) × (w.rounds ≡ rounds)
 
--- no service of this number is built
-abbrev pub HasNone : ℕ → List ℕ → Type 0
-HasNone number built = list_any (λ n. n == number) built ≡ false
-
--- The services that ask, read and clock, may do so, where they are built.
-abbrev pub MayAsk : Protocol → List ℕ → Type 0
-MayAsk protocol built =
-    (number : ℕ) → (number ≡ 7) ⊎ (number ≡ 22) → list_any (λ n. n == number) built ≡ true
-    → (question : Question) (output error : List ℕ) → protocol.may question output error
+-- Each question may be asked.
+abbrev pub MayAsk : Protocol → Type 0
+MayAsk protocol =
+    (question : Question) (output error : List ℕ) → protocol.may question output error

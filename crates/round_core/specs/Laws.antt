@@ -1,18 +1,18 @@
 -- Laws of the serial part; the functions of the module laws promise them.
-use Rattle.std.specs.Prelude.{ℕ, ◌≡◌, ◌<◌, Bool, List, length, Some, Result, Err, slice_get}
+use Rattle.std.specs.Prelude.{ℕ, ◌≡◌, ◌≢◌, ◌<◌, ⊤, List, length, Some, Result, Err}
 use Rattle.dos_world.specs.Lawful.{Lawful}
-use Rattle.dos_world.specs.World.{World, entry_at, ready_threads}
+use Rattle.dos_world.specs.World.{World, entry_at}
 use Rattle.dos_world.specs.declared.Access.{Access}
 use Rattle.dos_world.specs.declared.Entry.{Entry}
 use Rattle.dos_world.specs.declared.Reason.{Reason}
 use Rattle.dos_world.specs.declared.Reason.TheVariants.{Page}
-use Rattle.round_core.specs.Rest.{settled}
-use Rattle.round_core.specs.Round.{parallel}
-use Rattle.round_core.specs.Mixed.{mixed, IsFull}
-use Rattle.round_core.specs.Mix.{turns_of, members, HaveBegun, PacksShow}
-use Rattle.round_core.specs.Protocol.{any_protocol, silent_protocol}
-use Rattle.round_core.specs.Invariants.{Keeps, IsOf, HasNone}
-use Rattle.quantum_run.specs.Shows.{Pack, View, Shows}
+use Rattle.flat_machine.specs.Rest.{settled}
+use Rattle.flat_machine.specs.Round.{parallel}
+use Rattle.flat_machine.specs.Mixed.{mixed, IsFull}
+use Rattle.dos_world.specs.Calls.{Call}
+use Rattle.dos_world.specs.Services.{service_of}
+use Rattle.round_core.specs.Protocol.{Allows, any_protocol, silent_protocol}
+use Rattle.round_core.specs.Invariants.{Keeps, IsOf}
 
 -- every frame that t maps is there, as in every lawful world
 abbrev pub MapsWithin : World → ℕ → Type 0
@@ -33,22 +33,11 @@ ThreeGrantsAreEnough = (w : World) (t : ℕ) → MapsWithin w t → IsNoPage ((s
 abbrev pub QuantaCommute : Type 0
 QuantaCommute = (w : World) (s : List ℕ) → Lawful w → IsFull w s → mixed w s ≡ parallel w
 
--- Where some of the packs are their threads' whole parts and the others unbegun, each shows the
--- world that the instructions of those parts lead to: the quantum of each of those threads, one
--- after another.
-abbrev pub PartsAreAMix : Type 0
-PartsAreAMix = (w : World) (f : ℕ → Bool) (v : View) (packs : List Pack)
-    → Lawful w → HaveBegun w → length packs ≡ length (ready_threads w) → PacksShow w f v packs
-    → (i t : ℕ) (p : Pack) → slice_get (ready_threads w) i ≡ Some t → slice_get packs i ≡ Some p
-    → Shows p v (mixed w (turns_of w.quantum (members f 0 (ready_threads w))))
-
--- The quantum, the count of rounds and the services of a run are kept, whatever the world and the
--- answers.
+-- The quantum and the count of rounds of a run are kept, whatever the world and the answers.
 abbrev pub RunsStaySame : Type 0
-RunsStaySame = (quantum rounds : ℕ) (built : List ℕ)
-    → Keeps any_protocol (λ ts w. IsOf quantum rounds built w)
+RunsStaySame = (quantum rounds : ℕ) → Keeps any_protocol (λ ts w. IsOf quantum rounds w)
 
--- Where read and clock aren't built, nothing is asked.
+-- No service but read, number 7, and clock, number 22, asks anything, whatever number is called.
 abbrev pub OnlyReadAndClockAsk : Type 0
-OnlyReadAndClockAsk = (quantum rounds : ℕ) (built : List ℕ) → HasNone 7 built → HasNone 22 built
-    → Keeps silent_protocol (λ ts w. IsOf quantum rounds built w)
+OnlyReadAndClockAsk = (number : ℕ) → number ≢ 7 → number ≢ 22 → (c : Call)
+    → Allows silent_protocol (λ served. ⊤) (service_of number c)

@@ -6,11 +6,11 @@ use Rattle.dos_world.specs.declared.Question.TheVariants.{Signals as signals_que
 use Rattle.dos_world.specs.declared.Question.TheVariants.{Input as input_question}
 use Rattle.dos_world.specs.declared.Question.TheVariants.{End as end_question}
 use Rattle.dos_world.specs.declared.Ending.TheVariants.{Done}
-use Rattle.rv_exec.specs.Computing.{computing}
+use Rattle.flat_machine.specs.Computing.{computing}
 use Rattle.elf_image.specs.Image.{Image}
-use Rattle.group_open.specs.Opening.{needed}
-use Rattle.dpg_run.specs.Machine.{machine}
-use Rattle.run_examples.proofs.Programs.{program, with_frames, without_work, ended, whole_machine}
+use Rattle.flat_machine.specs.Opening.{needed}
+use Rattle.flat_machine.specs.Machine.{machine}
+use Rattle.run_examples.proofs.Programs.{program, with_frames, without_work, ended}
 
 -- a store at the end of the stack's page reaches no page behind it: sw x0, 16(x2) at 0xF0000000
 behind_the_stack : without_work
@@ -57,7 +57,7 @@ a_jump_into_the_stack = refl
 
 -- input in pieces of four
 copies_pieces : without_work
-    (whole_machine (program
+    (machine (program
     (0x00700893 ∷ 0x00000513 ∷ 0xFC010593 ∷ 0x04000613 ∷ 0x00000073 ∷ 0x00050C63
     ∷ 0x00050613 ∷ 0x00800893 ∷ 0x00100513 ∷ 0x00000073 ∷ 0xFD9FF06F ∷ 0x00200893
     ∷ 0x00000073 ∷ []) ∷ []) (with_frames 17)

@@ -4,12 +4,11 @@ use Rattle.std.specs.Prelude.{[], ◌∷◌, ◌++◌, replicate, Some, None, �
 use Rattle.dos_world.specs.Play.{posts}
 use Rattle.dos_world.specs.declared.Question.TheVariants.{Signals, End}
 use Rattle.dos_world.specs.declared.Ending.TheVariants.{Done, Limit}
-use Rattle.rv_exec.specs.Computing.{computing}
+use Rattle.flat_machine.specs.Computing.{computing}
 use Rattle.elf_image.specs.Image.{Image}
-use Rattle.group_open.specs.Opening.{needed}
-use Rattle.dpg_run.specs.Machine.{machine, ends, needs}
+use Rattle.flat_machine.specs.Opening.{needed}
+use Rattle.flat_machine.specs.Machine.{machine, ends, needs}
 use Rattle.run_examples.proofs.Programs.{program, with_frames, with_quantum, ended, without_work}
-use Rattle.run_examples.proofs.Programs.{whole_machine}
 
 -- process_exit with 7: two instructions in the parallel phase, the ecall in the serial phase
 abbrev pub exits_with_7 : Image
@@ -149,12 +148,12 @@ abbrev maps_a_page : Image
 maps_a_page = program (0x00D00893 ∷ 0x00020537 ∷ 0x00100593 ∷ 0x00600613 ∷ 0x00000073 ∷ 0x00200893
     ∷ 0x00000073 ∷ [])
 
-no_frame_is_free : without_work (whole_machine (maps_a_page ∷ []) (with_frames 17) (posts [] ∷ []))
+no_frame_is_free : without_work (machine (maps_a_page ∷ []) (with_frames 17) (posts [] ∷ []))
     ≡ ended (Signals 1 ∷ End Done 1 ∷ []) [] (Some 244 ∷ []) Done 1
 unfolding computing
 no_frame_is_free = refl
 
-a_frame_is_free : without_work (whole_machine (maps_a_page ∷ []) (with_frames 18) (posts [] ∷ []))
+a_frame_is_free : without_work (machine (maps_a_page ∷ []) (with_frames 18) (posts [] ∷ []))
     ≡ ended (Signals 1 ∷ End Done 1 ∷ []) [] (Some 0 ∷ []) Done 1
 unfolding computing
 a_frame_is_free = refl

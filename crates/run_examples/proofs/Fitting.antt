@@ -6,7 +6,7 @@ use Rattle.dos_world.specs.declared.Question.TheVariants.{Input as input_questio
 use Rattle.dos_world.specs.declared.Question.TheVariants.{End as end_question}
 use Rattle.dos_world.specs.declared.Ending.TheVariants.{Done, Limit}
 use Rattle.dos_io.specs.declared.exchange.Exchange.TheVariants.{Signals, Input, End}
-use Rattle.rv_exec.specs.Computing.{computing}
+use Rattle.flat_machine.specs.Computing.{computing}
 use Rattle.dpg_run.specs.Fits.{Fits, misfit}
 use Rattle.dpg_run.specs.Report.{report}
 use Rattle.run_examples.proofs.Programs.{with_frames}

@@ -7,11 +7,11 @@ use Rattle.dos_world.specs.IsLawful.{is_lawful, is_lawful_but_for_frames}
 use Rattle.dos_world.specs.Play.{Answer, Outcome, gives, asks, over, posts}
 use Rattle.dos_world.specs.declared.Config.{Config}
 use Rattle.dos_world.proofs.LawfulTest.{lawful_by}
-use Rattle.rv_exec.specs.Computing.{computing}
+use Rattle.flat_machine.specs.Computing.{computing}
 use Rattle.elf_image.specs.Image.{Image}
-use Rattle.group_open.specs.Opening.{opening}
-use Rattle.dpg_run.specs.Machine.{Finish, rounds_from}
-use Rattle.run_examples.proofs.Programs.{with_frames, whole_opening}
+use Rattle.flat_machine.specs.Opening.{opening}
+use Rattle.flat_machine.specs.Machine.{Finish, rounds_from}
+use Rattle.run_examples.proofs.Programs.{with_frames}
 use Rattle.run_examples.proofs.Endings.{exits_with_7}
 use Rattle.run_examples.proofs.Sending.{says_hi}
 use Rattle.run_examples.proofs.Threads.{sleeps, forks}
@@ -34,7 +34,7 @@ ends_in test (asks question output error) = false
 -- the same of the run of these images over these answers
 abbrev run_ends_in : (World → Bool) → List Image → Config → List Answer → Bool
 run_ends_in test images config answers =
-    ends_in test (over answers (rounds_from (whole_opening images config) config))
+    ends_in test (over answers (rounds_from (opening images config) config))
 
 -- one thread that sleeps for ever
 with_a_sleeper : IsTrue (run_ends_in is_lawful (sleeps ∷ []) (with_frames 17)

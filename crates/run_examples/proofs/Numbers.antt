@@ -4,9 +4,10 @@ use Rattle.std.specs.Prelude.{[], ◌∷◌, Some, ◌≡◌, refl}
 use Rattle.dos_world.specs.Play.{posts}
 use Rattle.dos_world.specs.declared.Question.TheVariants.{Signals, End}
 use Rattle.dos_world.specs.declared.Ending.TheVariants.{Done}
-use Rattle.rv_exec.specs.Computing.{computing}
+use Rattle.flat_machine.specs.Computing.{computing}
 use Rattle.elf_image.specs.Image.{Image}
-use Rattle.run_examples.proofs.Programs.{program, with_frames, ended, without_work, whole_machine}
+use Rattle.flat_machine.specs.Machine.{machine}
+use Rattle.run_examples.proofs.Programs.{program, with_frames, ended, without_work}
 
 -- The second thread of a process tells its numbers, and sends signal 15 to the next process.
 abbrev tells_its_numbers : Image
@@ -42,7 +43,7 @@ tells_its_numbers = program (
     )
 
 two_tell_their_numbers : without_work
-    (whole_machine (tells_its_numbers ∷ tells_its_numbers ∷ []) (with_frames 34)
+    (machine (tells_its_numbers ∷ tells_its_numbers ∷ []) (with_frames 34)
     (posts [] ∷ posts [] ∷ posts [] ∷ []))
     ≡ ended (Signals 1 ∷ Signals 2 ∷ Signals 3 ∷ End Done 3 ∷ [])
     (1 ∷ 3 ∷ 2 ∷ 0 ∷ 2 ∷ 4 ∷ 2 ∷ 253 ∷ []) (Some 3 ∷ Some 143 ∷ []) Done 3

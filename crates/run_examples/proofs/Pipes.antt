@@ -4,9 +4,10 @@ use Rattle.std.specs.Prelude.{[], ◌∷◌, Some, ◌≡◌, refl}
 use Rattle.dos_world.specs.Play.{posts}
 use Rattle.dos_world.specs.declared.Question.TheVariants.{Signals, End}
 use Rattle.dos_world.specs.declared.Ending.TheVariants.{Done}
-use Rattle.rv_exec.specs.Computing.{computing}
+use Rattle.flat_machine.specs.Computing.{computing}
 use Rattle.elf_image.specs.Image.{Image}
-use Rattle.run_examples.proofs.Programs.{program, with_frames, ended, without_work, whole_machine}
+use Rattle.flat_machine.specs.Machine.{machine}
+use Rattle.run_examples.proofs.Programs.{program, with_frames, ended, without_work}
 
 -- One thread sends its first three answers through a pipe, from there to output by a doubled
 -- descriptor, and then all its answers.
@@ -54,7 +55,7 @@ doubles_and_closes = program (
     )
 
 descriptors_are_doubled_and_closed : without_work
-    (whole_machine (doubles_and_closes ∷ []) (with_frames 17) (posts [] ∷ []))
+    (machine (doubles_and_closes ∷ []) (with_frames 17) (posts [] ∷ []))
     ≡ ended (Signals 1 ∷ End Done 1 ∷ [])
     (3 ∷ 4 ∷ 5 ∷ 3 ∷ 4 ∷ 5 ∷ 6 ∷ 0 ∷ 3 ∷ 3 ∷ 247 ∷ 0 ∷ 224 ∷ 247 ∷ []) (Some 11 ∷ []) Done 1
 unfolding computing
@@ -83,7 +84,7 @@ takes_all = program (
     []
     )
 
-descriptors_run_out : without_work (whole_machine (takes_all ∷ []) (with_frames 17) (posts [] ∷ []))
+descriptors_run_out : without_work (machine (takes_all ∷ []) (with_frames 17) (posts [] ∷ []))
     ≡ ended (Signals 1 ∷ End Done 1 ∷ []) (232 ∷ 15 ∷ 31 ∷ 232 ∷ []) (Some 4 ∷ []) Done 1
 unfolding computing
 descriptors_run_out = refl
@@ -128,7 +129,7 @@ reads_from_a_child = program (
     )
 
 a_reader_waits_for_its_child : without_work
-    (whole_machine (reads_from_a_child ∷ []) (with_frames 18)
+    (machine (reads_from_a_child ∷ []) (with_frames 18)
     (posts [] ∷ posts [] ∷ posts [] ∷ []))
     ≡ ended (Signals 1 ∷ Signals 2 ∷ Signals 3 ∷ End Done 3 ∷ []) (0 ∷ 1 ∷ 0 ∷ 65 ∷ 2 ∷ 5 ∷ [])
     (Some 6 ∷ Some 5 ∷ []) Done 3

@@ -3,13 +3,12 @@ use Rattle.std.specs.Prelude.{ℕ, true, List, [], ◌∷◌, Option, flat_map}
 use Rattle.dos_world.specs.Bytes.{bytes_of}
 use Rattle.dos_world.specs.World.{World}
 use Rattle.dos_world.specs.Play.{Answer}
-use Rattle.dos_world.specs.Services.{all_services}
 use Rattle.dos_world.specs.declared.Config.{Config}
 use Rattle.dos_world.specs.declared.Ending.{Ending}
 use Rattle.dos_world.specs.declared.Question.{Question}
 use Rattle.elf_image.specs.Image.{Image}
-use Rattle.group_open.specs.Opening.{opening_with}
-use Rattle.dpg_run.specs.Machine.{Ran, ends, needs, machine_from}
+use Rattle.flat_machine.specs.Opening.{opening}
+use Rattle.flat_machine.specs.Machine.{Ran, ends, needs, machine}
 
 -- an image of these instruction words at 0x10000, readable, writable and executable, entered at the
 -- first
@@ -54,11 +53,3 @@ ended questions output statuses ending rounds =
 abbrev pub without_work : Ran → Ran
 without_work (ends s) = ends (record s { work = 0 })
 without_work (needs question output error) = needs question output error
-
--- the opening with every service there may be, and the run from it: for services that the kernel
--- hasn't today
-abbrev pub whole_opening : List Image → Config → World
-whole_opening images config = opening_with all_services images config
-
-abbrev pub whole_machine : List Image → Config → List Answer → Ran
-whole_machine images config answers = machine_from (whole_opening images config) config answers

@@ -4,9 +4,10 @@ use Rattle.std.specs.Prelude.{[], ◌∷◌, Some, ◌≡◌, refl}
 use Rattle.dos_world.specs.Play.{posts}
 use Rattle.dos_world.specs.declared.Question.TheVariants.{Signals, End}
 use Rattle.dos_world.specs.declared.Ending.TheVariants.{Done}
-use Rattle.rv_exec.specs.Computing.{computing}
+use Rattle.flat_machine.specs.Computing.{computing}
 use Rattle.elf_image.specs.Image.{Image}
-use Rattle.run_examples.proofs.Programs.{program, with_frames, ended, without_work, whole_machine}
+use Rattle.flat_machine.specs.Machine.{machine}
+use Rattle.run_examples.proofs.Programs.{program, with_frames, ended, without_work}
 
 -- Where several reasons to refuse a call hold, the first of its row counts.
 abbrev is_refused : Image
@@ -62,7 +63,7 @@ is_refused = program (
     []
     )
 
-calls_are_refused : without_work (whole_machine (is_refused ∷ []) (with_frames 17) (posts [] ∷ []))
+calls_are_refused : without_work (machine (is_refused ∷ []) (with_frames 17) (posts [] ∷ []))
     ≡ ended (Signals 1 ∷ End Done 1 ∷ [])
     (234 ∷ 246 ∷ 247 ∷ 242 ∷ 242 ∷ 247 ∷ 245 ∷ 234 ∷ 242 ∷ 234 ∷ 234 ∷ 234 ∷ 234 ∷ 234 ∷ 218
     ∷ []) (Some 15 ∷ []) Done 1

@@ -4,10 +4,10 @@ use Rattle.std.specs.Prelude.{[], ◌∷◌, ◌++◌, Some, ◌≡◌, refl, co
 use Rattle.dos_world.specs.Play.{posts, input, reading}
 use Rattle.dos_world.specs.declared.Question.TheVariants.{Signals, Input, Clock, End}
 use Rattle.dos_world.specs.declared.Ending.TheVariants.{Done}
-use Rattle.rv_exec.specs.Computing.{computing}
+use Rattle.flat_machine.specs.Computing.{computing}
 use Rattle.elf_image.specs.Image.{Image}
-use Rattle.dpg_run.specs.Machine.{machine, ends, needs}
-use Rattle.run_examples.proofs.Programs.{program, with_frames, ended, without_work, whole_machine}
+use Rattle.flat_machine.specs.Machine.{machine, ends, needs}
+use Rattle.run_examples.proofs.Programs.{program, with_frames, ended, without_work}
 
 -- write of three bytes to output, then process_exit with 0
 abbrev pub says_hi : Image
@@ -54,7 +54,7 @@ copies = program (0x00700893 ∷ 0x00000513 ∷ 0xFC010593 ∷ 0x04000613 ∷ 0x
     ∷ [])
 
 input_is_copied : without_work
-    (whole_machine (copies ∷ []) (with_frames 17)
+    (machine (copies ∷ []) (with_frames 17)
     (posts [] ∷ input (codes "0123456789") ∷ input [] ∷ []))
     ≡ ended (Signals 1 ∷ Input 1 1 64 ∷ Input 1 1 64 ∷ End Done 1 ∷ []) (codes "0123456789")
     (Some 0 ∷ []) Done 1
@@ -62,14 +62,14 @@ unfolding computing
 input_is_copied = refl
 
 -- where the second reading has no answer, what was sent until there stands
-the_second_reading_is_asked : whole_machine (copies ∷ []) (with_frames 17)
+the_second_reading_is_asked : machine (copies ∷ []) (with_frames 17)
     (posts [] ∷ input (codes "0123456789") ∷ []) ≡ needs (Input 1 1 64) (codes "0123456789") []
 unfolding computing
 the_second_reading_is_asked = refl
 
 -- clock, and then exit with its low half
 the_clock_is_asked : without_work
-    (whole_machine (program (0x01600893 ∷ 0x00000073 ∷ 0x00200893 ∷ 0x00000073 ∷ []) ∷ [])
+    (machine (program (0x01600893 ∷ 0x00000073 ∷ 0x00200893 ∷ 0x00000073 ∷ []) ∷ [])
     (with_frames 17) (posts [] ∷ reading 0x100000005 ∷ []))
     ≡ ended (Signals 1 ∷ Clock 1 1 ∷ End Done 1 ∷ []) [] (Some 5 ∷ []) Done 1
 unfolding computing

@@ -4,9 +4,10 @@ use Rattle.std.specs.Prelude.{[], ◌∷◌, Some, ◌≡◌, refl}
 use Rattle.dos_world.specs.Play.{posts}
 use Rattle.dos_world.specs.declared.Question.TheVariants.{Signals, End}
 use Rattle.dos_world.specs.declared.Ending.TheVariants.{Done}
-use Rattle.rv_exec.specs.Computing.{computing}
+use Rattle.flat_machine.specs.Computing.{computing}
 use Rattle.elf_image.specs.Image.{Image}
-use Rattle.run_examples.proofs.Programs.{program, with_frames, ended, without_work, whole_machine}
+use Rattle.flat_machine.specs.Machine.{machine}
+use Rattle.run_examples.proofs.Programs.{program, with_frames, ended, without_work}
 
 -- Signal 10 is masked, then handled; 15 ends the process.
 abbrev signals_itself : Image
@@ -64,7 +65,7 @@ signals_itself = program (
     )
 
 a_masked_signal_waits : without_work
-    (whole_machine (signals_itself ∷ []) (with_frames 17)
+    (machine (signals_itself ∷ []) (with_frames 17)
     (posts [] ∷ posts [] ∷ posts [] ∷ posts [] ∷ []))
     ≡ ended (Signals 1 ∷ Signals 2 ∷ Signals 3 ∷ Signals 4 ∷ End Done 3 ∷ [])
     (0 ∷ 0 ∷ 1 ∷ 0 ∷ 0 ∷ 0 ∷ 4 ∷ 0 ∷ 10 ∷ 4 ∷ 0 ∷ 234 ∷ 253 ∷ 0 ∷ 0 ∷ [])

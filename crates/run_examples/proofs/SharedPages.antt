@@ -4,9 +4,10 @@ use Rattle.std.specs.Prelude.{[], ◌∷◌, Some, ◌≡◌, refl}
 use Rattle.dos_world.specs.Play.{posts}
 use Rattle.dos_world.specs.declared.Question.TheVariants.{Signals, End}
 use Rattle.dos_world.specs.declared.Ending.TheVariants.{Done}
-use Rattle.rv_exec.specs.Computing.{computing}
+use Rattle.flat_machine.specs.Computing.{computing}
 use Rattle.elf_image.specs.Image.{Image}
-use Rattle.run_examples.proofs.Programs.{program, with_frames, ended, without_work, whole_machine}
+use Rattle.flat_machine.specs.Machine.{machine}
+use Rattle.run_examples.proofs.Programs.{program, with_frames, ended, without_work}
 
 -- A parent and its child have one page in common, and another each for itself.
 abbrev shares_a_page : Image
@@ -56,7 +57,7 @@ shares_a_page = program (
     )
 
 a_shared_page_is_seen : without_work
-    (whole_machine (shares_a_page ∷ []) (with_frames 21) (posts [] ∷ posts [] ∷ posts [] ∷ []))
+    (machine (shares_a_page ∷ []) (with_frames 21) (posts [] ∷ posts [] ∷ posts [] ∷ []))
     ≡ ended (Signals 1 ∷ Signals 2 ∷ Signals 3 ∷ End Done 3 ∷ [])
     (0 ∷ 244 ∷ 0 ∷ 0 ∷ 234 ∷ 2 ∷ 2 ∷ 9 ∷ 7 ∷ 0 ∷ 0 ∷ 234 ∷ [])
     (Some 139 ∷ Some 9 ∷ []) Done 3

@@ -4,9 +4,10 @@ use Rattle.std.specs.Prelude.{[], ◌∷◌, Some, ◌≡◌, refl}
 use Rattle.dos_world.specs.Play.{posts}
 use Rattle.dos_world.specs.declared.Question.TheVariants.{Signals, End}
 use Rattle.dos_world.specs.declared.Ending.TheVariants.{Done}
-use Rattle.rv_exec.specs.Computing.{computing}
+use Rattle.flat_machine.specs.Computing.{computing}
 use Rattle.elf_image.specs.Image.{Image}
-use Rattle.run_examples.proofs.Programs.{program, with_frames, ended, without_work, whole_machine}
+use Rattle.flat_machine.specs.Machine.{machine}
+use Rattle.run_examples.proofs.Programs.{program, with_frames, ended, without_work}
 
 -- The first thread wakes two others, one in round 3 and one in round 4; each goes on in the round
 -- after.
@@ -62,7 +63,7 @@ wakes_two = program (
     )
 
 two_are_woken : without_work
-    (whole_machine (wakes_two ∷ []) (with_frames 17)
+    (machine (wakes_two ∷ []) (with_frames 17)
     (posts [] ∷ posts [] ∷ posts [] ∷ posts [] ∷ posts [] ∷ []))
     ≡ ended (Signals 1 ∷ Signals 2 ∷ Signals 3 ∷ Signals 4 ∷ Signals 5 ∷ End Done 5 ∷ [])
     (2 ∷ 3 ∷ 0 ∷ 1 ∷ 1 ∷ 0 ∷ 234 ∷ 242 ∷ 0 ∷ 2 ∷ 0 ∷ 3 ∷ []) (Some 0 ∷ []) Done 5

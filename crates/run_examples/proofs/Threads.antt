@@ -4,11 +4,10 @@ use Rattle.std.specs.Prelude.{[], ◌∷◌, ◌++◌, replicate, Some, None, �
 use Rattle.dos_world.specs.Play.{posts}
 use Rattle.dos_world.specs.declared.Question.TheVariants.{Signals, End}
 use Rattle.dos_world.specs.declared.Ending.TheVariants.{Done, Stalled}
-use Rattle.rv_exec.specs.Computing.{computing}
+use Rattle.flat_machine.specs.Computing.{computing}
 use Rattle.elf_image.specs.Image.{Image}
-use Rattle.dpg_run.specs.Machine.{machine}
+use Rattle.flat_machine.specs.Machine.{machine}
 use Rattle.run_examples.proofs.Programs.{program, with_frames, with_quantum, ended, without_work}
-use Rattle.run_examples.proofs.Programs.{whole_machine}
 
 -- Two threads load one word, yield, add 1 and store: one addition is lost, always.
 two_threads_lose_an_addition : without_work
@@ -28,13 +27,13 @@ abbrev pub sleeps : Image
 sleeps = program (0x00B00893 ∷ 0x00000517 ∷ 0x00052583 ∷ 0x00000073 ∷ 0x00200893 ∷ 0x00000073 ∷ [])
 
 nobody_is_ready : without_work
-    (whole_machine (sleeps ∷ []) (with_frames 17) (posts [] ∷ posts [] ∷ []))
+    (machine (sleeps ∷ []) (with_frames 17) (posts [] ∷ posts [] ∷ []))
     ≡ ended (Signals 1 ∷ Signals 2 ∷ End Stalled 1 ∷ []) [] (None ∷ []) Stalled 1
 unfolding computing
 nobody_is_ready = refl
 
 a_signal_ends_a_sleeper : without_work
-    (whole_machine (sleeps ∷ []) (with_frames 17)
+    (machine (sleeps ∷ []) (with_frames 17)
     (posts [] ∷ posts (record { pid = 1; signal = 15 } ∷ []) ∷ []))
     ≡ ended (Signals 1 ∷ Signals 2 ∷ End Done 1 ∷ []) [] (Some 143 ∷ []) Done 1
 unfolding computing
@@ -42,7 +41,7 @@ a_signal_ends_a_sleeper = refl
 
 -- sig_handler of 15, then futex_wait, then exit with its answer; the handler is sig_return
 a_handler_interrupts_a_wait : without_work
-    (whole_machine (program
+    (machine (program
     (0x01000893 ∷ 0x00F00513 ∷ 0x00000597 ∷ 0x02458593 ∷ 0x00000073 ∷ 0x00B00893
     ∷ 0x00000517 ∷ 0x00052583 ∷ 0x00000073 ∷ 0x00200893 ∷ 0x00000073
     ∷ 0x01200893 ∷ 0x00000073 ∷ []) ∷ []) (with_frames 17)
@@ -75,7 +74,7 @@ forks = program (0x00400893 ∷ 0x00000073 ∷ 0x00050E63 ∷ 0x00500893 ∷ 0x0
     ∷ 0x00058513 ∷ 0x00200893 ∷ 0x00000073 ∷ 0x00500513 ∷ 0x00200893 ∷ 0x00000073 ∷ [])
 
 a_parent_collects_its_child : without_work
-    (whole_machine (forks ∷ []) (with_frames 34) (posts [] ∷ posts [] ∷ posts [] ∷ []))
+    (machine (forks ∷ []) (with_frames 34) (posts [] ∷ posts [] ∷ posts [] ∷ []))
     ≡ ended (Signals 1 ∷ Signals 2 ∷ Signals 3 ∷ End Done 3 ∷ []) [] (Some 5 ∷ Some 5 ∷ []) Done 3
 unfolding computing
 a_parent_collects_its_child = refl

@@ -4,7 +4,7 @@ use Rattle.dos_world.specs.World.{Registers}
 use Rattle.rv_isa.specs.declared.AmoOp.{AmoOp}
 use Rattle.rv_isa.specs.declared.AmoOp.TheVariants.{LrW, ScW, AmoswapW, AmoaddW, AmoxorW, AmoandW}
 use Rattle.rv_isa.specs.declared.AmoOp.TheVariants.{AmoorW, AmominW, AmomaxW, AmominuW, AmomaxuW}
-use Rattle.rv_exec.specs.Effect.{atomic, combined, exchange}
+use Rattle.flat_machine.specs.Effect.{atomic, combined, exchange}
 
 pub by_new_word : (op : AmoOp) → op ≢ LrW → op ≢ ScW → (n a b : ℕ) (r : Registers)
     → atomic op n a b r ≡ exchange n a (λ old. combined op old b) r

@@ -5,10 +5,10 @@ use Rattle.dos_world.specs.declared.Reason.{Reason}
 use Rattle.rv_exec.specs.declared.Went.{Went}
 use Rattle.rv_exec.specs.declared.next.Next.{Next}
 use Rattle.rv_exec.specs.Arrivals.{arrived, went}
-use Rattle.rv_exec.specs.Over.{one_in, world_answers}
+use Rattle.flat_machine.specs.Over.{one_in, world_answers}
 use Rattle.rv_exec.specs.Follows.{Follows}
 use Rattle.rv_exec.specs.Runs.{Runs, Steps}
-use Rattle.rv_exec.specs.Step.{step}
+use Rattle.flat_machine.specs.Step.{step}
 
 module _ (before after : World → Type 0) (t : ℕ) (w : World) (r new put : Registers) (pc : ℕ)
     (why : Reason) where

@@ -10,9 +10,9 @@ use Rattle.rv_isa.specs.declared.Instr.TheVariants.{Shift, Reg, Amo, Fence, Ecal
 use Rattle.rv_form.specs.declared.form.Form.{Form}
 use Rattle.rv_form.specs.Forms.{IsFormOf, plain, plain_sized}
 use Rattle.rv_exec.specs.declared.Went.{Went}
-use Rattle.rv_exec.specs.Effect.{effect}
+use Rattle.flat_machine.specs.Effect.{effect}
 use Rattle.rv_exec.specs.Instruction.{effect_by, effect_of_code, effect_of_form}
-use Rattle.rv_exec.specs.Over.{effect_in, world_answers}
+use Rattle.flat_machine.specs.Over.{effect_in, world_answers}
 use Rattle.rv_exec.specs.Follows.{Follows}
 
 -- what has no effect may be left out

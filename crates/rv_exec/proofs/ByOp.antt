@@ -5,7 +5,7 @@ use Rattle.dos_world.specs.declared.Reason.{Reason}
 use Rattle.rv_form.specs.Forms.{instr_of}
 use Rattle.rv_form.specs.declared.form.Op.{Op}
 use Rattle.rv_form.specs.declared.form.Form.{Form}
-use Rattle.rv_exec.specs.Effect.{Effect, goes, loads, stores, claims, stops}
+use Rattle.flat_machine.specs.Effect.{Effect, goes, loads, stores, claims, stops}
 use Rattle.rv_exec.specs.Instruction.{Settles, Performs, effect_by, effect_of_form}
 use Rattle.rv_exec.specs.Arrivals.{SettlesAt, SettlesBy, PerformsAt, PerformsBy}
 use Rattle.rv_exec.specs.Arrivals.{arrived_by, shortened, went}

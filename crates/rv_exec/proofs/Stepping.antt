@@ -12,14 +12,16 @@ use Rattle.dos_world.specs.declared.Reason.{Reason}
 use Rattle.dos_world.specs.declared.Reason.TheVariants.{Fault}
 use Rattle.rv_isa.specs.declared.Instr.{Instr}
 use Rattle.rv_exec.specs.declared.Went.{Went}
-use Rattle.rv_exec.specs.Effect.{Effect, goes, loads, stores, claims, stops, effect}
-use Rattle.rv_exec.specs.Step.{◌>>=◌, reached, step, paid}
-use Rattle.rv_exec.specs.Over.{one_in, effect_in, instruction_in, store_if, world_answers}
+use Rattle.flat_machine.specs.Effect.{Effect, goes, loads, stores, claims, stops, effect}
+use Rattle.flat_machine.specs.Step.{◌>>=◌, reached, step, paid}
+use Rattle.flat_machine.specs.Over.{one_in, effect_in, instruction_in, store_if, world_answers}
 use Rattle.rv_exec.specs.Follows.{Follows}
-use Rattle.rv_exec.specs.Runs.{kept, Runs, Steps}
-use Rattle.rv_exec.proofs.Keeps.{bind_ok}
-use Rattle.rv_exec.proofs.OverWorld.{step-in}
-use Rattle.rv_exec.specs.Laws.{pays}
+use Rattle.rv_exec.specs.Runs.{Runs, Steps}
+use Rattle.flat_machine.specs.Laws.{kept}
+use Rattle.flat_machine.proofs.Keeps.{bind_ok}
+use Rattle.flat_machine.proofs.OverWorld.{step-in}
+use Rattle.flat_machine.proofs.Threads.{of_kept}
+use Rattle.flat_machine.specs.Laws.{pays}
 
 -- ---- an instruction over the flat world leaves its threads
 
@@ -90,12 +92,6 @@ changed_here f ts (suc i) th h = go ts i h
     go (None ∷ ts) zero q = cc
     go (Some x ∷ ts) zero q = let e : x ≡ th = cc in ap (λ v. flat (Some (f (Some v)))) e
     go (x ∷ ts) (suc i) q = go ts i q
-
-pub of_kept : (o : Option Thread) (r : Registers) (b : ℕ) → option_map kept o ≡ Some (r, b)
-    → (th : Thread) × (o ≡ Some th) × (th.registers ≡ r) × (th.budget ≡ b)
-of_kept None r b h = cc
-of_kept (Some th) r b h = let e : kept th ≡ (r, b) = cc in
-    (th, refl, ap (λ x. x.0) e, ap (λ x. x.1) e)
 
 paid_thread : (w w' : World) (t : ℕ) (r r' : Registers) (b : ℕ) → w'.threads ≡ w.threads
     → option_map kept (thread_at w t) ≡ Some (r, b)

@@ -4,7 +4,7 @@ use Rattle.dos_world.specs.World.{World, Registers}
 use Rattle.dos_world.specs.declared.Size.{Size}
 use Rattle.dos_world.specs.declared.Reason.{Reason}
 use Rattle.rv_exec.specs.declared.Went.TheVariants.{Stop}
-use Rattle.rv_exec.specs.Step.{◌>>=◌, store_at}
+use Rattle.flat_machine.specs.Step.{◌>>=◌, store_at}
 use Rattle.rv_exec.specs.Follows.{Follows, answer_of, after_of}
 
 module _ (shows : World → Type 0) (w : World) (r next : Registers) where

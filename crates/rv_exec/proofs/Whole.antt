@@ -11,9 +11,9 @@ use Rattle.rv_isa.specs.Meaning.{meaning}
 use Rattle.rv_isa.specs.Compressed.{expansion, instruction, sized}
 use Rattle.rv_isa.specs.declared.Instr.{Instr}
 use Rattle.rv_exec.specs.declared.Went.TheVariants.{Stop}
-use Rattle.rv_exec.specs.Effect.{effect}
-use Rattle.rv_exec.specs.Step.{◌>>=◌, half_at, lone_half}
-use Rattle.rv_exec.specs.Over.{one_in, effect_in, world_answers}
+use Rattle.flat_machine.specs.Effect.{effect}
+use Rattle.flat_machine.specs.Step.{◌>>=◌, half_at, lone_half}
+use Rattle.flat_machine.specs.Over.{one_in, effect_in, world_answers}
 use Rattle.rv_exec.specs.Follows.{Follows, word_at}
 use Rattle.rv_exec.specs.Instruction.{effect_by, effect_of_code}
 

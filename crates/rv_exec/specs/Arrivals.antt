@@ -7,7 +7,7 @@ use Rattle.rv_exec.specs.declared.Went.{Went}
 use Rattle.rv_exec.specs.declared.Went.TheVariants.{Step, Stop}
 use Rattle.rv_exec.specs.declared.next.Next.{Next}
 use Rattle.rv_exec.specs.declared.next.Next.TheVariants.{On, Short, To, Not}
-use Rattle.rv_exec.specs.Effect.{Effect}
+use Rattle.flat_machine.specs.Effect.{Effect}
 use Rattle.rv_exec.specs.Instruction.{Settles, Performs}
 
 -- The registers with pc where an instruction of this size leads; a short one has two bytes,

@@ -5,7 +5,7 @@ use Rattle.dos_world.specs.World.{World, Registers}
 use Rattle.dos_world.specs.declared.Reason.{Reason}
 use Rattle.rv_exec.specs.declared.Went.{Went}
 use Rattle.rv_exec.specs.declared.Went.TheVariants.{Step, Stop}
-use Rattle.rv_exec.specs.Step.{◌>>=◌, half_at}
+use Rattle.flat_machine.specs.Step.{◌>>=◌, half_at}
 
 -- ---- the answers of the flat world as t's memory
 

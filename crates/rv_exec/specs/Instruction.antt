@@ -6,8 +6,8 @@ use Rattle.rv_isa.specs.declared.Instr.{Instr}
 use Rattle.rv_isa.specs.Compressed.{instruction}
 use Rattle.rv_form.specs.declared.form.Form.{Form}
 use Rattle.rv_form.specs.Forms.{instr_of_form}
-use Rattle.rv_exec.specs.Effect.{Effect, goes, loads, stores, claims, stops, effect}
-use Rattle.rv_exec.specs.Over.{effect_in, world_answers}
+use Rattle.flat_machine.specs.Effect.{Effect, goes, loads, stores, claims, stops, effect}
+use Rattle.flat_machine.specs.Over.{effect_in, world_answers}
 use Rattle.rv_exec.specs.Follows.{Follows}
 use Rattle.rv_exec.specs.declared.Went.{Went}
 use Rattle.rv_exec.specs.declared.Went.TheVariants.{Step, Stop}

@@ -1,13 +1,6 @@
-pub mod Arithmetic
-pub mod Effect
-pub mod Step
-pub mod Over
 pub mod Follows
 pub mod Instruction
 pub mod Kinds
 pub mod Runs
-pub mod Blind
 pub mod OnePage
-pub mod Computing
-pub mod Laws
 pub mod Arrivals

@@ -5,7 +5,7 @@ use Rattle.std.proofs.Common.{◌∙◌}
 use Rattle.dos_world.specs.World.{World, Thread, with_thread, entry_at, owner_of}
 use Rattle.dos_world.specs.declared.Entry.{Entry}
 use Rattle.rv_exec.specs.declared.one_page.OnePage.{OnePage}
-use Rattle.rv_exec.specs.Blind.{entry_at-with_thread}
+use Rattle.flat_machine.specs.Blind.{entry_at-with_thread}
 
 -- the one page's entry
 abbrev pub entry_of : OnePage → Entry

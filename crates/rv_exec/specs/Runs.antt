@@ -1,13 +1,10 @@
 -- A thread that runs on a memory. This project's own words.
 use Rattle.std.specs.Prelude.{ℕ, ◌≡◌, ◌-◌, Some, Result, Ok, Err, option_map}
-use Rattle.dos_world.specs.World.{World, Thread, Registers, thread_at}
+use Rattle.dos_world.specs.World.{World, Registers, thread_at}
 use Rattle.dos_world.specs.declared.Reason.{Reason}
+use Rattle.flat_machine.specs.Laws.{kept}
 use Rattle.rv_exec.specs.declared.Went.{Went}
 use Rattle.rv_exec.specs.declared.Went.TheVariants.{Step, Stop}
-
--- what a thread keeps beside its memory
-abbrev pub kept : Thread → Registers × ℕ
-kept thread = (thread.registers, thread.budget)
 
 -- The memory shows this world, in which t has these registers and this budget.
 pub record Runs (shows : World → Type 0) (w : World) (t : ℕ) (r : Registers)

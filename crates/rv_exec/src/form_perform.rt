@@ -19,7 +19,7 @@ use rv_isa::{AmoOp, BranchOp, ImmOp, LoadOp, RegOp, ShiftOp, StoreOp};
 
 /// A load or store by its form.
 #[inline(always)]
-#[tactic(auto, unfolding(crate::specs::Effect::effect, rv_form::specs::Forms::instr_of))]
+#[tactic(auto, unfolding(flat_machine::specs::Effect::effect, rv_form::specs::Forms::instr_of))]
 fn access_by_form<M: Memory>(regs: &mut Regs, memory: &mut M, form: &Form, why: &mut Reason) -> Next
     requires { IsAccess form.now.op }
     ensures { (pc : ℕ) → PerformsAt (M.shows memory.old) (M.shows memory.new) pc regs.old regs.new
@@ -40,7 +40,7 @@ fn access_by_form<M: Memory>(regs: &mut Regs, memory: &mut M, form: &Form, why: 
 
 /// An AMO by its form.
 #[inline(always)]
-#[tactic(auto, unfolding(crate::specs::Effect::effect, rv_form::specs::Forms::instr_of))]
+#[tactic(auto, unfolding(flat_machine::specs::Effect::effect, rv_form::specs::Forms::instr_of))]
 fn amo_by_form<M: Memory>(regs: &mut Regs, memory: &mut M, form: &Form, why: &mut Reason) -> Next
     requires { IsAmo form.now.op }
     ensures { (pc : ℕ) → PerformsAt (M.shows memory.old) (M.shows memory.new) pc regs.old regs.new
@@ -62,7 +62,7 @@ fn amo_by_form<M: Memory>(regs: &mut Regs, memory: &mut M, form: &Form, why: &mu
 
 /// An operation on a register and a constant by its form.
 #[inline(always)]
-#[tactic(auto, unfolding(crate::specs::Effect::effect, rv_form::specs::Forms::instr_of))]
+#[tactic(auto, unfolding(flat_machine::specs::Effect::effect, rv_form::specs::Forms::instr_of))]
 fn immediate_by_form(regs: &mut Regs, form: &Form) -> Next
     requires { IsImmediate form.now.op }
     ensures { (pc : ℕ) (why : Reason) → SettlesAt pc result why regs.old regs.new
@@ -84,7 +84,7 @@ fn immediate_by_form(regs: &mut Regs, form: &Form) -> Next
 
 /// An operation on two registers by its form.
 #[inline(always)]
-#[tactic(auto, unfolding(crate::specs::Effect::effect, rv_form::specs::Forms::instr_of))]
+#[tactic(auto, unfolding(flat_machine::specs::Effect::effect, rv_form::specs::Forms::instr_of))]
 fn register_by_form(regs: &mut Regs, form: &Form) -> Next
     requires { IsRegister form.now.op }
     ensures { (pc : ℕ) (why : Reason) → SettlesAt pc result why regs.old regs.new
@@ -107,7 +107,7 @@ fn register_by_form(regs: &mut Regs, form: &Form) -> Next
 
 /// A multiplication or division by its form.
 #[inline(always)]
-#[tactic(auto, unfolding(crate::specs::Effect::effect, rv_form::specs::Forms::instr_of))]
+#[tactic(auto, unfolding(flat_machine::specs::Effect::effect, rv_form::specs::Forms::instr_of))]
 fn multiply_by_form(regs: &mut Regs, form: &Form) -> Next
     requires { IsMultiplication form.now.op }
     ensures { (pc : ℕ) (why : Reason) → SettlesAt pc result why regs.old regs.new
@@ -129,7 +129,7 @@ fn multiply_by_form(regs: &mut Regs, form: &Form) -> Next
 /// The instruction of a form, at pc: what it does to the registers but pc and to memory, and where
 /// it leads. Where it leads nowhere, `why` is the reason.
 #[inline(always)]
-#[tactic(auto, unfolding(crate::specs::Effect::effect, rv_form::specs::Forms::instr_of))]
+#[tactic(auto, unfolding(flat_machine::specs::Effect::effect, rv_form::specs::Forms::instr_of))]
 pub fn perform_form<M: Memory>(
     regs: &mut Regs,
     memory: &mut M,

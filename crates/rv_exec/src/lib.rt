@@ -3,7 +3,6 @@
 #![tactic(auto)]
 
 mod form_perform;
-pub mod laws;
 mod memory;
 mod next;
 mod numbers;

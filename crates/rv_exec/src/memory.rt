@@ -1,7 +1,7 @@
 // What an instruction needs of memory.
 ghost use Rattle.std.specs.Prelude.{◌≡◌, ℕ};
 ghost use Rattle.dos_world.specs.World.{World, Thread, with_thread};
-ghost use Rattle.rv_exec.specs.Step.{half_at, load_at, store_at, claim_at};
+ghost use Rattle.flat_machine.specs.Step.{half_at, load_at, store_at, claim_at};
 ghost use Rattle.rv_exec.specs.Follows.{word_at, answer_of, after_of};
 
 use dos_world::{Reason, Size};

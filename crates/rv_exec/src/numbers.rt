@@ -1,7 +1,7 @@
 // The numbers that instructions give. Each is the manual's own formula for its operation.
 ghost use Rattle.std.specs.Prelude.{◌≡◌, ◌<◌, ◌^◌, ◌/◌, ◌*◌, ◌*ℤ◌, pos};
 ghost use Rattle.std.specs.Int.{int_shr};
-ghost use Rattle.rv_exec.specs.Arithmetic as arithmetic;
+ghost use Rattle.flat_machine.specs.Arithmetic as arithmetic;
 
 use dos_world::Size;
 use rv_isa::{BranchOp, ImmOp, LoadOp, RegOp, ShiftOp, StoreOp};

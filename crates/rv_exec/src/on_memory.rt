@@ -3,9 +3,9 @@ ghost use Rattle.std.specs.Prelude.{◌≡◌, ◌≢◌, ◌<◌, ℕ, Some, No
 ghost use Rattle.dos_world.specs.World.{World, get, set, with_pc, with_held};
 ghost use Rattle.rv_isa.specs.declared.Instr.TheVariants.{Load, Store, Amo};
 ghost use Rattle.rv_isa.specs.declared.AmoOp.TheVariants.{LrW, ScW};
-ghost use Rattle.rv_exec.specs.Effect as effects;
-ghost use Rattle.rv_exec.specs.Effect.{effect, combined, onward};
-ghost use Rattle.rv_exec.specs.Over.{effect_in, world_answers};
+ghost use Rattle.flat_machine.specs.Effect as effects;
+ghost use Rattle.flat_machine.specs.Effect.{effect, combined, onward};
+ghost use Rattle.flat_machine.specs.Over.{effect_in, world_answers};
 ghost use Rattle.rv_exec.specs.Follows.{Follows};
 ghost use Rattle.rv_exec.specs.Arrivals.{PerformsAt, PerformsBy};
 
@@ -26,7 +26,7 @@ fn address_of(regs: &Regs, form: &Form) -> u32
 
 /// A load, sign-extended for lb and lh.
 #[inline(always)]
-#[tactic(auto, unfolding(crate::specs::Effect::effect))]
+#[tactic(auto, unfolding(flat_machine::specs::Effect::effect))]
 pub fn load<M: Memory>(
     regs: &mut Regs,
     memory: &mut M,

@@ -5,8 +5,8 @@ ghost use Rattle.dos_world.specs.declared.Reason.{Reason};
 ghost use Rattle.dos_world.specs.World.{Registers, get, set, with_pc};
 ghost use Rattle.rv_isa.specs.declared.Instr.TheVariants.{Upper, Jal, Jalr, Branch, Imm, Shift};
 ghost use Rattle.rv_isa.specs.declared.Instr.TheVariants.{Reg};
-ghost use Rattle.rv_exec.specs.Effect as effects;
-ghost use Rattle.rv_exec.specs.Effect.{effect};
+ghost use Rattle.flat_machine.specs.Effect as effects;
+ghost use Rattle.flat_machine.specs.Effect.{effect};
 ghost use Rattle.rv_exec.specs.Arrivals.{SettlesBy};
 
 use crate::Next;
@@ -65,7 +65,7 @@ fn jump_and_link(
 
 /// The immediate, for the register that is written.
 #[inline(always)]
-#[tactic(auto, unfolding(crate::specs::Effect::effect))]
+#[tactic(auto, unfolding(flat_machine::specs::Effect::effect))]
 pub fn lui(regs: &mut Regs, form: &Form) -> Next
     ensures { (size pc : ℕ) (why : Reason) → SettlesBy size pc result why regs.old regs.new
         (effect (Upper false form.now.rd (effects.unsigned form.now.imm)) size) }
@@ -76,7 +76,7 @@ pub fn lui(regs: &mut Regs, form: &Form) -> Next
 
 /// pc and the immediate, added.
 #[inline(always)]
-#[tactic(auto, unfolding(crate::specs::Effect::effect))]
+#[tactic(auto, unfolding(flat_machine::specs::Effect::effect))]
 pub fn auipc(regs: &mut Regs, form: &Form, pc: u32) -> Next
     ensures { (size : ℕ) (why : Reason) → SettlesBy size pc result why regs.old regs.new
         (effect (Upper true form.now.rd (effects.unsigned form.now.imm)) size) }
@@ -87,7 +87,7 @@ pub fn auipc(regs: &mut Regs, form: &Form, pc: u32) -> Next
 
 /// A jump by an offset from pc.
 #[inline(always)]
-#[tactic(auto, unfolding(crate::specs::Effect::effect))]
+#[tactic(auto, unfolding(flat_machine::specs::Effect::effect))]
 pub fn jal(regs: &mut Regs, form: &Form, pc: u32, size: u32, why: &mut Reason) -> Next
     ensures { SettlesBy size pc result why.new regs.old regs.new
         (effect (Jal form.now.rd form.now.imm) size) }
@@ -97,7 +97,7 @@ pub fn jal(regs: &mut Regs, form: &Form, pc: u32, size: u32, why: &mut Reason) -
 
 /// A jump to a register and an offset, with bit 0 cleared.
 #[inline(always)]
-#[tactic(auto, unfolding(crate::specs::Effect::effect))]
+#[tactic(auto, unfolding(flat_machine::specs::Effect::effect))]
 pub fn jalr(regs: &mut Regs, form: &Form, pc: u32, size: u32, why: &mut Reason) -> Next
     ensures { SettlesBy size pc result why.new regs.old regs.new
         (effect (Jalr form.now.rd form.now.rs1 form.now.imm) size) }
@@ -108,7 +108,7 @@ pub fn jalr(regs: &mut Regs, form: &Form, pc: u32, size: u32, why: &mut Reason) 
 
 /// A jump by an offset from pc, where a comparison of two registers holds.
 #[inline(always)]
-#[tactic(auto, unfolding(crate::specs::Effect::effect))]
+#[tactic(auto, unfolding(flat_machine::specs::Effect::effect))]
 pub fn branch(regs: &Regs, form: &Form, pc: u32, op: BranchOp, why: &mut Reason) -> Next
     ensures { (size : ℕ) → SettlesBy size pc result why.new regs.now regs.now
         (effect (Branch op form.now.rs1 form.now.rs2 form.now.imm) size) }
@@ -127,7 +127,7 @@ pub fn branch(regs: &Regs, form: &Form, pc: u32, op: BranchOp, why: &mut Reason)
 
 /// An operation on a register and a signed immediate.
 #[inline(always)]
-#[tactic(auto, unfolding(crate::specs::Effect::effect))]
+#[tactic(auto, unfolding(flat_machine::specs::Effect::effect))]
 pub fn immediate(regs: &mut Regs, form: &Form, op: ImmOp) -> Next
     ensures { (size pc : ℕ) (why : Reason) → SettlesBy size pc result why regs.old regs.new
         (effect (Imm op form.now.rd form.now.rs1 form.now.imm) size) }
@@ -139,7 +139,7 @@ pub fn immediate(regs: &mut Regs, form: &Form, op: ImmOp) -> Next
 
 /// A shift by a constant.
 #[inline(always)]
-#[tactic(auto, unfolding(crate::specs::Effect::effect))]
+#[tactic(auto, unfolding(flat_machine::specs::Effect::effect))]
 pub fn shift(regs: &mut Regs, form: &Form, op: ShiftOp) -> Next
     ensures { (size pc : ℕ) (why : Reason) → SettlesBy size pc result why regs.old regs.new
         (effect (Shift op form.now.rd form.now.rs1 form.now.rs2) size) }
@@ -151,7 +151,7 @@ pub fn shift(regs: &mut Regs, form: &Form, op: ShiftOp) -> Next
 
 /// An operation on two registers.
 #[inline(always)]
-#[tactic(auto, unfolding(crate::specs::Effect::effect))]
+#[tactic(auto, unfolding(flat_machine::specs::Effect::effect))]
 pub fn register(regs: &mut Regs, form: &Form, op: RegOp) -> Next
     ensures { (size pc : ℕ) (why : Reason) → SettlesBy size pc result why regs.old regs.new
         (effect (Reg op form.now.rd form.now.rs1 form.now.rs2) size) }

@@ -2,7 +2,7 @@
 ghost use Rattle.std.specs.Prelude.{◌≡◌, ◌+◌, ◌^◌, ◌<◌, ◌≤◌, ℕ, take, drop, IfOk};
 ghost use Rattle.dos_world.specs.World.{World};
 ghost use Rattle.dos_world.specs.Reach.{width, number_of, written, bytes_of};
-ghost use Rattle.rv_exec.specs.Step.{reached};
+ghost use Rattle.flat_machine.specs.Step.{reached};
 
 use crate::Memory;
 use dos_world::{Access, Entry, Owner, Reason, Size};

@@ -2,11 +2,11 @@
 ghost use Rattle.std.specs.Prelude.{◌≡◌, ℕ};
 ghost use Rattle.dos_world.specs.World.{World, with_pc};
 ghost use Rattle.rv_form.specs.Forms.{IsFormOf};
-ghost use Rattle.rv_exec.specs.Over.{one_in, world_answers};
+ghost use Rattle.flat_machine.specs.Over.{one_in, world_answers};
 ghost use Rattle.rv_exec.specs.Follows.{Follows, word_at};
 ghost use Rattle.rv_exec.specs.Arrivals.{arrived, went};
 ghost use Rattle.rv_exec.specs.Runs.{Runs, Steps};
-ghost use Rattle.rv_exec.specs.Step.{step};
+ghost use Rattle.flat_machine.specs.Step.{step};
 
 use crate::form_perform::{arrive, perform_form};
 use crate::{Memory, Next, Went};

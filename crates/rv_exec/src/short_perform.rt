@@ -16,7 +16,7 @@ use rv_isa::{BranchOp, ImmOp, LoadOp, RegOp, ShiftOp, StoreOp};
 
 /// A jump or branch by its form.
 #[inline(always)]
-#[tactic(auto, unfolding(crate::specs::Effect::effect, rv_form::specs::Forms::instr_of))]
+#[tactic(auto, unfolding(flat_machine::specs::Effect::effect, rv_form::specs::Forms::instr_of))]
 pub fn short_jump_by_form(regs: &mut Regs, form: &Form, pc: u32, why: &mut Reason) -> Next
     requires { IsShortJump form.now.op }
     ensures { SettlesAt pc result why.new regs.old regs.new (effect_of_form form.now) }
@@ -32,7 +32,7 @@ pub fn short_jump_by_form(regs: &mut Regs, form: &Form, pc: u32, why: &mut Reaso
 
 /// A load or store of a word by its form.
 #[inline(always)]
-#[tactic(auto, unfolding(crate::specs::Effect::effect, rv_form::specs::Forms::instr_of))]
+#[tactic(auto, unfolding(flat_machine::specs::Effect::effect, rv_form::specs::Forms::instr_of))]
 pub fn short_access_by_form<M: Memory>(
     regs: &mut Regs,
     memory: &mut M,
@@ -52,7 +52,7 @@ pub fn short_access_by_form<M: Memory>(
 
 /// An operation on a register and a constant by its form.
 #[inline(always)]
-#[tactic(auto, unfolding(crate::specs::Effect::effect, rv_form::specs::Forms::instr_of))]
+#[tactic(auto, unfolding(flat_machine::specs::Effect::effect, rv_form::specs::Forms::instr_of))]
 pub fn short_immediate_by_form(regs: &mut Regs, form: &Form) -> Next
     requires { IsShortImmediate form.now.op }
     ensures { (pc : ℕ) (why : Reason) → SettlesAt pc result why regs.old regs.new
@@ -71,7 +71,7 @@ pub fn short_immediate_by_form(regs: &mut Regs, form: &Form) -> Next
 
 /// An operation on two registers by its form.
 #[inline(always)]
-#[tactic(auto, unfolding(crate::specs::Effect::effect, rv_form::specs::Forms::instr_of))]
+#[tactic(auto, unfolding(flat_machine::specs::Effect::effect, rv_form::specs::Forms::instr_of))]
 pub fn short_register_by_form(regs: &mut Regs, form: &Form) -> Next
     requires { IsShortRegister form.now.op }
     ensures { (pc : ℕ) (why : Reason) → SettlesAt pc result why regs.old regs.new

@@ -1,5 +1,5 @@
 use Rattle.std.proofs.Common.{◌≡◌, ◌-◌, map}
-use Rattle.dpg_run.specs.Machine.{status_in}
+use Rattle.flat_machine.specs.Machine.{status_in}
 use Rattle.dos_texts.specs.Report.{process_lines, rounds_line}
 use Rattle.dos_texts.proofs.Pieces.{both_told, first_fails, on_err, second_fails}
 use Rattle.dos_cmd.proofs.GenRuns.{same_lines, same_rounds}

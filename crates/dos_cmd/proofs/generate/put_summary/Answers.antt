@@ -1,5 +1,5 @@
 use Rattle.std.proofs.Common.{map, ◌-◌}
-use Rattle.dpg_run.specs.Machine.{status_in}
+use Rattle.flat_machine.specs.Machine.{status_in}
 use Rattle.dos_texts.proofs.Pieces.{on_err}
 use Rattle.dos_cmd.proofs.GenRuns.{summary_told, summary_unended, summary_unprinted}
 use Rattle.dos_cmd.proofs.generate.put_summary.Goals as goal

@@ -1,5 +1,5 @@
 use Rattle.std.proofs.Common.{length, arith}
-use Rattle.dpg_run.specs.Machine.{group}
+use Rattle.flat_machine.specs.Machine.{group}
 use Rattle.dpg_run.proofs.MisfitLaws.{misfit_at, fits_have_none}
 use Rattle.dpg_run.proofs.laws.misfits_are_first.Goals as goal
 

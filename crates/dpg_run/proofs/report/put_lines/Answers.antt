@@ -1,5 +1,5 @@
 use Rattle.std.proofs.Common.{◌≡◌, map, refl}
-use Rattle.dpg_run.specs.Machine.{status_in}
+use Rattle.flat_machine.specs.Machine.{status_in}
 use Rattle.dos_texts.specs.Report.{process_lines, rounds_line}
 use Rattle.dos_texts.proofs.Pieces.{on_err, same_text, first_fails, both_told, second_fails}
 use Rattle.dpg_run.proofs.report.put_lines.Given.{Over}

@@ -1,6 +1,6 @@
 use Rattle.std.proofs.Common.{◌+◌, map, arith}
 use Rattle.std.proofs.lemmas.List.{length-map}
-use Rattle.dpg_run.specs.Machine.{status_in}
+use Rattle.flat_machine.specs.Machine.{status_in}
 use Rattle.dos_texts.specs.Report.{process_line}
 use Rattle.dos_texts.proofs.Pieces.{on_err, same_text}
 use Rattle.dpg_run.proofs.ReportLaws.{front_more, status_at, told_all, told_more}

@@ -1,6 +1,6 @@
 use Rattle.std.proofs.Common.{◌≡◌, ◌≤◌, map, take}
 use Rattle.dos_io.specs.Outside.{grown}
-use Rattle.dpg_run.specs.Machine.{status_in}
+use Rattle.flat_machine.specs.Machine.{status_in}
 use Rattle.dos_texts.specs.Report.{process_lines}
 use Rattle.dpg_run.proofs.report.put_processes.Given as goal
 

@@ -1,4 +1,4 @@
-use Rattle.group_open.specs.Opening.{part_entry}
+use Rattle.flat_machine.specs.Opening.{part_entry}
 use Rattle.group_open.proofs.HeldLaws.{place_unmapped}
 use Rattle.group_open.proofs.OpensLaws.{opens_one}
 use Rattle.group_open.proofs.filling.open_page.Goals as goal

@@ -3,8 +3,8 @@ use Rattle.std.specs.Prelude.{flat_map}
 use Rattle.std.proofs.lemmas.List.{length-replicate, replicate-append-replicate}
 use Rattle.dos_world.specs.Numbered.{map_from}
 use Rattle.dos_world.specs.declared.Owner.TheVariants.{Of}
-use Rattle.group_open.specs.Opening.{page_bytes, part_entry, part_pages, stack_entry, stack_pages}
-use Rattle.group_open.specs.Opening.{image_bytes, page_count, space_from}
+use Rattle.flat_machine.specs.Opening.{page_bytes, part_entry, part_pages, stack_entry, stack_pages}
+use Rattle.flat_machine.specs.Opening.{image_bytes, page_count, space_from}
 use Rattle.group_open.proofs.HeldLaws.{less_place, place_after}
 use Rattle.group_open.proofs.OpensLaws.{less_room, entries_below, opens_as, opens_more, room_after}
 use Rattle.dos_laws.proofs.Ends.{length-map_from}

@@ -1,7 +1,7 @@
 use Rattle.std.proofs.Common.{◌<◌, All, List, ℕ, length, refl, sym, ◌∙◌, arith, subst}
 use Rattle.std.proofs.lemmas.List.{length-replicate, nil_from_length}
 use Rattle.dos_world.specs.declared.Owner.TheVariants.{Of}
-use Rattle.group_open.specs.Opening.{part_entry, part_pages}
+use Rattle.flat_machine.specs.Opening.{part_entry, part_pages}
 use Rattle.group_open.specs.Filling.{OpensParts}
 use Rattle.group_open.proofs.HeldLaws.{place_after}
 use Rattle.group_open.proofs.OpensLaws.{entries_below, parts_none, parts_more, room_after}

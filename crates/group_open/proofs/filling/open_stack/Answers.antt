@@ -2,7 +2,7 @@ use Rattle.std.proofs.Common.{◌≡◌, ◌-◌, ◌<◌, List, ℕ, length, re
 use Rattle.std.proofs.lemmas.List.{length-replicate}
 use Rattle.dos_world.specs.Numbered.{run_of}
 use Rattle.dos_world.specs.declared.Owner.TheVariants.{Of}
-use Rattle.group_open.specs.Opening.{stack_entry}
+use Rattle.flat_machine.specs.Opening.{stack_entry}
 use Rattle.group_open.specs.Filling.{OpensStack}
 use Rattle.group_open.proofs.HeldLaws.{place_after}
 use Rattle.group_open.proofs.OpensLaws.{entries_below, room_after, stack_none, stack_more}

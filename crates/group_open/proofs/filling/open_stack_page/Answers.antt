@@ -1,5 +1,5 @@
 use Rattle.std.proofs.Common.{refl}
-use Rattle.group_open.specs.Opening.{stack_entry}
+use Rattle.flat_machine.specs.Opening.{stack_entry}
 use Rattle.group_open.proofs.FillingLaws.{takes_zero}
 use Rattle.group_open.proofs.HeldLaws.{place_unmapped}
 use Rattle.group_open.proofs.OpensLaws.{opens_one}

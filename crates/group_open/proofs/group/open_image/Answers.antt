@@ -1,6 +1,6 @@
 use Rattle.std.proofs.Common.{ℕ, sym, ap, subst}
 use Rattle.proc_table.specs.Tables.{Tables}
-use Rattle.group_open.specs.Opening.{page_count}
+use Rattle.flat_machine.specs.Opening.{page_count}
 use Rattle.group_open.specs.Filling.{HasPlace}
 use Rattle.group_open.specs.Group.{with_opened}
 use Rattle.group_open.specs.declared.filling.Opened.{Opened}

@@ -1,5 +1,5 @@
 use Rattle.std.proofs.Common.{◌||◌, ◌&&◌, ap, sym, ◌∙◌}
-use Rattle.group_open.specs.Opening.{touches}
+use Rattle.flat_machine.specs.Opening.{touches}
 use Rattle.group_open.proofs.PageLaws.{right_more}
 use Rattle.group_open.proofs.pages.entry_of.Goals as goal
 

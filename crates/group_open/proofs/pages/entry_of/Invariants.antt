@@ -1,7 +1,7 @@
 use Rattle.std.proofs.Common.{◌≡◌, take}
 use Rattle.std.specs.Prelude.{filter}
 use Rattle.std.specs.List.{list_any}
-use Rattle.group_open.specs.Opening.{touches}
+use Rattle.flat_machine.specs.Opening.{touches}
 use Rattle.group_open.proofs.pages.entry_of.Given as goal
 
 -- the rights of the parts so far

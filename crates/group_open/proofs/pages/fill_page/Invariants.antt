@@ -1,7 +1,7 @@
 use Rattle.std.proofs.Common.{◌≡◌, ℕ, ◌+◌, ◌*◌, ◌<◌, take, get_or}
 use Rattle.std.specs.Prelude.{find}
 use Rattle.page_store.specs.Store.{whole}
-use Rattle.group_open.specs.Opening.{covers, part_byte}
+use Rattle.flat_machine.specs.Opening.{covers, part_byte}
 use Rattle.group_open.proofs.pages.fill_page.Given as goal
 
 -- the bytes of the parts so far

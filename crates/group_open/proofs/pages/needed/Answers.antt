@@ -1,7 +1,7 @@
 use Rattle.std.proofs.Common.{ap, arith, subst}
 use Rattle.std.proofs.lemmas.List.Elements.{All-more}
 use Rattle.std.proofs.lemmas.List.Sums.{sum_by_more}
-use Rattle.group_open.specs.Opening.{page_count}
+use Rattle.flat_machine.specs.Opening.{page_count}
 use Rattle.group_open.specs.Laws.{IsAccepted}
 use Rattle.group_open.proofs.pages.needed.Goals as goal
 

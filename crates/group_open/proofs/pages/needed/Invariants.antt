@@ -1,6 +1,6 @@
 use Rattle.std.proofs.Common.{◌≡◌, ◌*◌, ◌≤◌, All, take}
 use Rattle.std.specs.Prelude.{sum_by}
-use Rattle.group_open.specs.Opening.{page_count}
+use Rattle.flat_machine.specs.Opening.{page_count}
 use Rattle.group_open.specs.Laws.{IsAccepted}
 use Rattle.group_open.proofs.pages.needed.Given as goal
 

@@ -1,6 +1,6 @@
 use Rattle.std.proofs.Common.{◌≡◌, take}
 use Rattle.std.specs.Prelude.{flat_map}
-use Rattle.group_open.specs.Opening.{pages_touched}
+use Rattle.flat_machine.specs.Opening.{pages_touched}
 use Rattle.group_open.specs.Pages.{least_from}
 use Rattle.group_open.proofs.pages.next_page.Given as goal
 

@@ -1,6 +1,6 @@
 use Rattle.std.proofs.Common.{ℕ, List, ◌≤◌, ◌-◌, ◌≡◌, refl, sym, ap, ◌∙◌, subst, length, map}
 use Rattle.std.proofs.Common.{le_trans, arith}
-use Rattle.round_core.specs.Round.{with_budgets}
+use Rattle.flat_machine.specs.Round.{with_budgets}
 use Rattle.kernel_calls.specs.StateWorld.{sent, world_of}
 use Rattle.group_rounds.specs.Away.{WentOut, IsHandedOut}
 use Rattle.group_rounds.specs.Handing.{AreSpare, Handing, pack_of}

@@ -1,6 +1,6 @@
 use Rattle.std.proofs.Common.{ap, ◌∙◌, refl, arith}
 use Rattle.std.proofs.lemmas.Option.{slice_get-get_or}
-use Rattle.round_core.specs.Round.{all_alone}
+use Rattle.flat_machine.specs.Round.{all_alone}
 use Rattle.kernel_calls.specs.StateWorld.{sent, world_of}
 use Rattle.group_rounds.proofs.InPlaceLaws.{alone_next, alone_live, alone_paid}
 use Rattle.group_rounds.proofs.PhaseLaws.{drop_out}

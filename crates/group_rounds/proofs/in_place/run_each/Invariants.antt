@@ -1,6 +1,6 @@
 use Rattle.std.proofs.Common.{◌≡◌, ◌≤◌, ◌+◌, ◌*◌, ◌^◌, ℕ, List, drop}
 use Rattle.std.specs.Prelude.{sum_by}
-use Rattle.round_core.specs.Round.{all_alone}
+use Rattle.flat_machine.specs.Round.{all_alone}
 use Rattle.kernel_calls.specs.StateWorld.{IsSound, sent, world_of}
 use Rattle.group_rounds.specs.Phases.{AreLive}
 use Rattle.group_rounds.specs.Parts.{KeepsCount, budget_in}

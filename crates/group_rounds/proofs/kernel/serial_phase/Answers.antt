@@ -1,7 +1,7 @@
 use Rattle.std.proofs.Common.{◌∙◌, ap, sym, subst}
 use Rattle.std.proofs.lemmas.Result.{on_ok_weaker, on_err_weaker}
 use Rattle.dos_world.specs.Play.{done}
-use Rattle.round_core.specs.Rest.{serial_of}
+use Rattle.flat_machine.specs.Rest.{serial_of}
 use Rattle.group_rounds.specs.Fronts.{CutPlay, StoppedPlay}
 use Rattle.kernel_calls.specs.StateWorld.{shim_stop}
 use Rattle.group_rounds.proofs.StatePlayLaws.{if_err_weaker, some_weaker}

@@ -1,5 +1,5 @@
 use Rattle.std.proofs.Common.{◌≡◌, ◌∷◌, ℕ, List}
-use Rattle.round_core.specs.Rest.{rest_of}
+use Rattle.flat_machine.specs.Rest.{rest_of}
 use Rattle.proc_table.specs.Tables.{IsThread}
 use Rattle.kernel_calls.specs.StateWorld.{HaveParts, IsReady, IsSound}
 use Rattle.dos_io.specs.Shims.{HasNoEnd}

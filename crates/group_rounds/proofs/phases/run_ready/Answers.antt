@@ -1,5 +1,5 @@
 use Rattle.std.proofs.Common.{ℕ, List, ◌∙◌, sym, subst}
-use Rattle.round_core.specs.Rest.{serial_of}
+use Rattle.flat_machine.specs.Rest.{serial_of}
 use Rattle.kernel_calls.specs.StateWorld.{HaveParts}
 use Rattle.group_rounds.specs.Outcomes.{Serves, border}
 use Rattle.group_rounds.proofs.Sound.{few_live, parts_begin}

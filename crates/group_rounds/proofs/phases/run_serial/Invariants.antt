@@ -1,5 +1,5 @@
 use Rattle.std.proofs.Common.{◌≡◌, ℕ, drop}
-use Rattle.round_core.specs.Rest.{serial_of}
+use Rattle.flat_machine.specs.Rest.{serial_of}
 use Rattle.kernel_calls.specs.StateWorld.{HaveParts, IsSound}
 use Rattle.dos_io.specs.Shims.{HasNoEnd}
 use Rattle.group_rounds.specs.StatePlays.{GoesTo, telling}

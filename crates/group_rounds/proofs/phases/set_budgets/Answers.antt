@@ -1,5 +1,5 @@
 use Rattle.std.proofs.Common.{ap, ◌∙◌, refl}
-use Rattle.round_core.specs.Round.{with_budgets}
+use Rattle.flat_machine.specs.Round.{with_budgets}
 use Rattle.kernel_calls.specs.StateWorld.{sent, world_of}
 use Rattle.group_rounds.proofs.PhaseLaws.{budget_next, budget_sound, budget_parts, budget_live}
 use Rattle.group_rounds.proofs.PhaseLaws.{drop_out}

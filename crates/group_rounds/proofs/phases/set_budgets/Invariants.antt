@@ -1,5 +1,5 @@
 use Rattle.std.proofs.Common.{◌≡◌, ℕ, List, drop}
-use Rattle.round_core.specs.Round.{with_budgets}
+use Rattle.flat_machine.specs.Round.{with_budgets}
 use Rattle.kernel_calls.specs.StateWorld.{HaveParts, IsSound, sent, world_of}
 use Rattle.group_rounds.specs.Phases.{AreLive}
 use Rattle.group_rounds.specs.Parts.{KeepsCount}

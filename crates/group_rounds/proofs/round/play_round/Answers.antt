@@ -13,7 +13,7 @@ use Rattle.group_rounds.proofs.RoundLaws.{round_ran, round_stopped, round_stops}
 use Rattle.group_rounds.proofs.StopLaws.{cut_stopped}
 use Rattle.group_rounds.proofs.StopCauses.{stops_causes}
 use Rattle.dos_laws.specs.Plays.{world_ended}
-use Rattle.round_core.specs.Round.{round_of}
+use Rattle.flat_machine.specs.Round.{round_of}
 use Rattle.group_rounds.specs.Rounds.{next_round}
 use Rattle.group_rounds.proofs.ServesLaws.{keeps_still, keeps_then}
 use Rattle.group_rounds.proofs.round.play_round.Goals as goal

@@ -1,9 +1,10 @@
 use Rattle.std.proofs.Common.{ℕ, ◌≡◌, ◌<◌, ◌-◌, ◌∙◌, List, Option, Some, Err, MatchOption, ap, map}
 use Rattle.std.proofs.Common.{is_some, length, sym, subst}
 use Rattle.dos_world.specs.World.{World}
-use Rattle.rv_exec.specs.Step.{step}
+use Rattle.flat_machine.specs.Step.{step}
 use Rattle.quantum_run.specs.Pages.{overlay}
-use Rattle.quantum_run.specs.ThreadRuns.{IsRunOf, after_steps, run_to, store_of}
+use Rattle.quantum_run.specs.ThreadRuns.{IsRunOf, run_to, store_of}
+use Rattle.flat_machine.specs.Laws.{after_steps}
 use Rattle.quantum_run.proofs.Filling.{filled-kept, length-kept}
 use Rattle.quantum_run.proofs.run.run_lent.Goals as goal
 

@@ -1,5 +1,5 @@
-use Rattle.round_core.proofs.SameRun.{silent_run_kept}
+use Rattle.round_core.proofs.SameRun.{only_two_ask}
 use Rattle.round_core.proofs.laws.only_read_and_clock_ask.Goals as goal
 
 pub returns : goal.returns
-returns c = silent_run_kept
+returns c = only_two_ask

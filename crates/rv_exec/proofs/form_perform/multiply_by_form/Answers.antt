@@ -1,4 +1,4 @@
-use Rattle.rv_exec.specs.Effect.{effect}
+use Rattle.flat_machine.specs.Effect.{effect}
 use Rattle.rv_form.specs.Forms.{instr_of}
 use Rattle.rv_form.specs.declared.form.Op.TheVariants as op
 use Rattle.rv_exec.proofs.ByOp.{settles}

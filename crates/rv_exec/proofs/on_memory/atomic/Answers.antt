@@ -1,8 +1,8 @@
 use Rattle.std.proofs.Common.{sym, ap, ◌∙◌, subst}
 use Rattle.dos_world.specs.World.{with_pc, get}
-use Rattle.rv_exec.specs.Effect.{Effect, combined, onward, exchange, link, conditional, is_held}
-use Rattle.rv_exec.specs.Effect.{atomic}
-use Rattle.rv_exec.specs.Over.{effect_in, world_answers}
+use Rattle.flat_machine.specs.Effect.{Effect, combined, onward, exchange, link, conditional, is_held}
+use Rattle.flat_machine.specs.Effect.{atomic}
+use Rattle.flat_machine.specs.Over.{effect_in, world_answers}
 use Rattle.rv_exec.specs.Follows.{Follows}
 use Rattle.rv_exec.specs.Arrivals.{arrived, went}
 use Rattle.rv_exec.proofs.Atomics.{by_new_word}

@@ -1,5 +1,5 @@
 use Rattle.dos_world.specs.World.{with_pc}
-use Rattle.rv_exec.specs.Effect.{onward}
+use Rattle.flat_machine.specs.Effect.{onward}
 use Rattle.rv_exec.proofs.Stored.{store_refused}
 use Rattle.rv_exec.proofs.on_memory.store.Goals as goal
 

@@ -1,0 +1,14 @@
+pub mod Arithmetic
+pub mod Effect
+pub mod Step
+pub mod Over
+pub mod Alone
+pub mod Rest
+pub mod Round
+pub mod Mixed
+pub mod Opening
+pub mod Machine
+pub mod Fits
+pub mod Blind
+pub mod Computing
+pub mod Laws
