@@ -416,7 +416,7 @@ impl<'a, P: Pages> Running<'a, P> {
     /// The memo has this word, which is known, at the place by a key of the base.
     #[inline(always)]
     fn keep_known(&self, memo: &mut Memo, place: usize, address: u32, word: u32)
-        requires place { place < 1024 }
+        requires place { place < 8192 }
         requires known { IsKnown self.now.fetched (P.pages self.now.pages) address word }
         requires based { self.now.base ≢ no_base }
         ensures here { (note_at memo.new place).key ≡ self.now.base + address }
@@ -429,7 +429,7 @@ impl<'a, P: Pages> Running<'a, P> {
     /// The memo has this word, which is known, at the place by a key of the base; another base is
     /// taken first where nothing is known.
     fn remember(&mut self, memo: &mut Memo, place: usize, address: u32, word: u32)
-        requires place { place < 1024 }
+        requires place { place < 8192 }
         requires known { IsKnown self.old.fetched (P.pages self.old.pages) address word }
         ensures here { (note_at memo.new place).key ≡ self.new.base + address }
         ensures based { self.new.base ≢ no_base }
@@ -447,7 +447,7 @@ impl<'a, P: Pages> Running<'a, P> {
     /// The memo has the form of this word at the place, by a key of no address: it may be another
     /// word at once.
     fn put_aside(&mut self, memo: &mut Memo, place: usize, word: u32)
-        requires { place < 1024 }
+        requires { place < 8192 }
         ensures here { (note_at memo.new place).word ≡ word }
         ensures known { AreKnown self.old.base self.old.fetched (P.pages self.old.pages) memo.old
             → AreKnown self.new.base self.new.fetched (P.pages self.new.pages) memo.new }
@@ -467,7 +467,7 @@ impl<'a, P: Pages> Running<'a, P> {
     #[cold]
     #[inline(never)]
     fn find_word(&mut self, memo: &mut Memo, place: usize, address: u32, why: &mut Reason) -> bool
-        requires { place < 1024 }
+        requires { place < 8192 }
         ensures word { HasWordOrReason
             (ShowsKnown (still self.old.tid (P.owners self.old.pages) self.old.space.now.entries)
             (P.fixed self.old.pages) (P.pages self.old.pages) self.old.base self.old.fetched)
@@ -511,7 +511,7 @@ impl<'a, P: Pages> Running<'a, P> {
     /// instructions: small quanta are spent on this.
     #[inline(never)]
     fn learn(&mut self, memo: &mut Memo, place: usize, address: u32, why: &mut Reason) -> bool
-        requires { place < 1024 }
+        requires { place < 8192 }
         ensures word { HasWordOrReason
             (ShowsKnown (still self.old.tid (P.owners self.old.pages) self.old.space.now.entries)
             (P.fixed self.old.pages) (P.pages self.old.pages) self.old.base self.old.fetched)
@@ -530,7 +530,7 @@ impl<'a, P: Pages> Running<'a, P> {
     /// fetch is refused, for this reason.
     #[inline(always)]
     pub fn knows(&mut self, memo: &mut Memo, place: usize, address: u32, why: &mut Reason) -> bool
-        requires { place < 1024 }
+        requires { place < 8192 }
         ensures word { HasWordOrReason
             (ShowsKnown (still self.old.tid (P.owners self.old.pages) self.old.space.now.entries)
             (P.fixed self.old.pages) (P.pages self.old.pages) self.old.base self.old.fetched)

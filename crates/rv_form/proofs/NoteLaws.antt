@@ -10,11 +10,11 @@ pub map-replicate : {A B : Type 0} (f : A → B) (n : ℕ) (x : A)
 map-replicate f zero x = refl
 map-replicate f (suc n) x = ap (λ xs. f x ∷ xs) (map-replicate f n x)
 
-pub notes-none : (notes : List Note) → notes ≡ replicate 1024 nothing
+pub notes-none : (notes : List Note) → notes ≡ replicate 8192 nothing
     → AreNotes first_base notes
 notes-none notes is = subst (AreNotes first_base) (sym is) (record {
-  below = All-replicate (λ note. note.key < first_base) 1024 nothing (lit< tt);
-  given = All-replicate (λ note. IsGiven note.key) 1024 nothing (λ h. refl);
+  below = All-replicate (λ note. note.key < first_base) 8192 nothing (lit< tt);
+  given = All-replicate (λ note. IsGiven note.key) 8192 nothing (λ h. refl);
   first = omega arith;
 })
 

@@ -19,12 +19,12 @@ const FIRST_BASE: u64 = 1 << 33;
 /// No base above this is given, so that a key with an address added fits.
 const LAST_BASE: u64 = 1 << 63;
 
-/// Forms of words, each found again by a key at one of 1024 places. A key is a base and an address.
+/// Forms of words, each found again by a key at one of 8192 places. A key is a base and an address.
 /// A base is given for as long as the words at the addresses stand still; with the next base
 /// nothing is known. A word that stands at its place still isn't decoded again then.
 #[derive(Drop)]
 pub struct Memo {
-    lines: [Line; 1024],
+    lines: [Line; 8192],
     // above each key
     top: u64,
 }
@@ -42,14 +42,24 @@ impl Model for Memo {
 }
 
 // nothing at each place
-fn no_lines() -> [Line; 1024]
-    ensures { notes_of result ≡ replicate 1024 nothing }
+fn no_lines() -> [Line; 8192]
+    ensures { notes_of result ≡ replicate 8192 nothing }
 {
     [Line {
         key: 0,
         word: 0,
         form: form_of(0),
-    }; 1024]
+    }; 8192]
+}
+
+// Nothing at each place from now on. A call pays at its begin for what its locals may take, so the
+// lines are made in one of their own.
+#[cold]
+#[inline(never)]
+fn forget(lines: &mut [Line; 8192])
+    ensures { notes_of lines.new ≡ replicate 8192 nothing }
+{
+    *lines = no_lines();
 }
 
 // the line has this word from now on
@@ -92,7 +102,7 @@ impl Memo {
         ensures last { result ≤ 2 ^ 63 }
     {
         if self.top > LAST_BASE {
-            self.lines = no_lines();
+            forget(&mut self.lines);
             self.top = FIRST_BASE;
         }
         self.top
@@ -101,7 +111,7 @@ impl Memo {
     /// Whether this key's note is at the place.
     #[inline(always)]
     pub fn has(&self, place: usize, key: u64) -> bool
-        requires { place < 1024 }
+        requires { place < 8192 }
         ensures exact { IsTrue result ↔ ((note_at self.now place).key ≡ key) }
         ensures given { IsTrue result → (key ≡ 0) ⊎ (first_base ≤ key) }
     {
@@ -111,7 +121,7 @@ impl Memo {
     /// The form of the word that is remembered at the place.
     #[inline(always)]
     pub fn form(&self, place: usize) -> &Form
-        requires { place < 1024 }
+        requires { place < 8192 }
         ensures { IsFormOf (note_at self.now place).word result.now }
     {
         &self.lines[place].form
@@ -121,7 +131,7 @@ impl Memo {
     /// remembered there.
     #[inline(always)]
     pub fn keep(&mut self, place: usize, key: u64, word: u32)
-        requires place { place < 1024 }
+        requires place { place < 8192 }
         requires given { first_base ≤ key }
         requires fits { key + 1 < 2 ^ 64 }
         ensures notes { self.new ≡ slice_set self.old place (record { key = key; word = word }) }

@@ -114,7 +114,7 @@ loop-left-preserved g c = (
             (record { shown = ru.shown.1; thread = ru.thread })) reached)
       ]),
   omega (arith, c.loop-left-test.true, c.loop-left.invariant.1),
-  elim c.match-one_known.branch as (λ _. c.match-one_known.place < 1024) [
+  elim c.match-one_known.branch as (λ _. c.match-one_known.place < 8192) [
     | in-On b ↦ omega (arith, b.place-is, b.place_after-place.ensures)
     | in-Short b ↦ omega (arith, b.place-is, b.place_after_short-place.ensures)
     | in-To b ↦ omega (arith, b.place-is, b.place_of-place-in-To.ensures)

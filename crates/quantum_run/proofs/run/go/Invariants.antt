@@ -16,7 +16,7 @@ invariant-loop-left g l =
     (still l.memory.tid (g.P.Pages.owners l.memory.pages) l.memory.space.now.entries)
     (g.P.Pages.fixed l.memory.pages) (g.P.Pages.pages l.memory.pages) l.memory.base
     l.memory.fetched (f, l.memo) t) w t (with_pc l.regs l.pc) l.fn.budget (l.left + l.fn.floor))
-    × (l.left + l.fn.floor ≤ l.fn.budget) × (l.place < 1024)
+    × (l.left + l.fn.floor ≤ l.fn.budget) × (l.place < 8192)
 
 abbrev pub decreases-loop-left : goal.decreases-loop-left
 decreases-loop-left g l = l.left

@@ -13,7 +13,7 @@ invariant_of-self c = elim c.if-self-gt-LAST_BASE.branch as
     (notes_of c.if-self-gt-LAST_BASE.self-inside.lines)) [
       | then-self-gt-LAST_BASE w ↦
           subst (λ (m : Inside). AreNotes m.top (notes_of m.lines)) (sym w.self-inside-is)
-          (notes-none _ w.no_lines-self-inside.ensures)
+          (notes-none _ w.forget.ensures)
       | else-self-gt-LAST_BASE w ↦
           subst (λ (m : Inside). AreNotes m.top (notes_of m.lines)) (sym w.self-inside-is)
           c.self.invariant
