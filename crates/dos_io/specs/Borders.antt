@@ -1,6 +1,6 @@
 -- What crosses the border of a group, in order: exchanges, and bytes that are put to its output and
 -- its error. This project's own rules.
-use Rattle.std.specs.Prelude.{◌≡◌, ◌≢◌, ℕ, List, [], ◌∷◌, ◌++◌, take, Option}
+use Rattle.std.specs.Prelude.{◌≡◌, ◌≢◌, ◌≤◌, ℕ, List, [], ◌∷◌, ◌++◌, take, Option}
 use Rattle.dos_world.specs.declared.Question.{Question}
 use Rattle.dos_io.specs.Outside.{grown, Rose}
 use Rattle.dos_io.specs.Shims.{ShimState, Stopped}
@@ -42,8 +42,8 @@ pub record BorderState : Type 0 where
   pub shim : ShimState
   pub output : Option (List ℕ)
   pub error : Option (List ℕ)
-  pub output_faults : ℕ
-  pub error_faults : ℕ
+  pub out_faults : ℕ
+  pub err_faults : ℕ
 
 -- what is told of a stream
 abbrev pub told_of : Stream → BorderState → Option (List ℕ)
@@ -52,8 +52,8 @@ told_of Error b = b.error
 
 -- how often a put to it has failed
 abbrev pub faults_of : Stream → BorderState → ℕ
-faults_of Output b = b.output_faults
-faults_of Error b = b.error_faults
+faults_of Output b = b.out_faults
+faults_of Error b = b.err_faults
 
 -- These crossings are told more.
 pub record Tells (before : BorderState) (crossings : List Crossing) (after : BorderState) : Type 0
@@ -91,6 +91,7 @@ pub record BreaksAt (before : BorderState) (stream : Stream) (piece : List ℕ)
     (after : BorderState) : Type 0 where
   pub front : (k : ℕ) × Tells before (put stream (take k piece) ∷ []) after
   pub shim : ShimStands before after
+  pub later : faults_of stream before ≤ faults_of stream after
   pub rose : Rose (faults_of stream before) (faults_of stream after)
   pub others : (other : Stream) → other ≢ stream
       → faults_of other after ≡ faults_of other before

@@ -95,23 +95,12 @@ pub trait Border {
 /// A shim and two sinks as a border.
 #[derive(Drop)]
 pub struct GroupBorder<'b, S, O, E> {
-    shim: &'b mut S,
-    out: &'b mut O,
-    err: &'b mut E,
-}
-
-impl<'b, S, O, E> GroupBorder<'b, S, O, E> {
-    /// The border of these.
-    pub fn of(shim: &'b mut S, out: &'b mut O, err: &'b mut E) -> GroupBorder<'b, S, O, E>
-        ensures shim { result.shim.ghost_name ≡ shim.entry.ghost_name }
-        ensures out { result.out.ghost_name ≡ out.entry.ghost_name }
-        ensures err { result.err.ghost_name ≡ err.entry.ghost_name }
-        ensures shim_now { result.shim.now ≡ shim.entry.now }
-        ensures out_now { result.out.now ≡ out.entry.now }
-        ensures err_now { result.err.now ≡ err.entry.now }
-    {
-        GroupBorder { shim, out, err }
-    }
+    /// Who answers its questions.
+    pub shim: &'b mut S,
+    /// Where its output goes.
+    pub out: &'b mut O,
+    /// Where its error goes.
+    pub err: &'b mut E,
 }
 
 impl<'b, S: Shim, O: Sink, E: Sink> Border for GroupBorder<'b, S, O, E> {
@@ -122,8 +111,8 @@ impl<'b, S: Shim, O: Sink, E: Sink> Border for GroupBorder<'b, S, O, E> {
       shim = S.state b.shim.now;
       output = O.told b.out.now;
       error = E.told b.err.now;
-      output_faults = O.faults b.out.now;
-      error_faults = E.faults b.err.now;
+      out_faults = O.faults b.out.now;
+      err_faults = E.faults b.err.now;
     } };
 
     ghost follows = { λ b c. (c.shim.ghost_name ≡ b.shim.ghost_name)
