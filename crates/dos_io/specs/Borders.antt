@@ -1,8 +1,8 @@
 -- What crosses the border of a group, in order: exchanges, and bytes that are put to its output and
 -- its error. This project's own rules.
-use Rattle.std.specs.Prelude.{◌≡◌, ◌≢◌, ◌≤◌, ℕ, List, [], ◌∷◌, ◌++◌, take, Option}
+use Rattle.std.specs.Prelude.{◌≡◌, ◌≢◌, ◌≤◌, ℕ, List, [], ◌∷◌, ◌++◌, take, Option, Some}
 use Rattle.dos_world.specs.declared.Question.{Question}
-use Rattle.dos_io.specs.Outside.{grown, Rose}
+use Rattle.dos_io.specs.Outside.{counted, grown, Rose}
 use Rattle.dos_io.specs.Shims.{ShimState, Stopped}
 use Rattle.dos_io.specs.declared.border.Stream.{Stream}
 use Rattle.dos_io.specs.declared.border.Stream.TheVariants.{Output, Error}
@@ -86,12 +86,24 @@ pub record StopsAt (before : BorderState) (question : Question) (stop : ShimStop
   pub told : (stream : Stream) → told_of stream after ≡ told_of stream before
   pub faults : (stream : Stream) → faults_of stream after ≡ faults_of stream before
 
--- A put of this piece failed: a front of it was put, and nothing else has crossed.
-pub record BreaksAt (before : BorderState) (stream : Stream) (piece : List ℕ)
-    (after : BorderState) : Type 0 where
-  pub front : (k : ℕ) × Tells before (put stream (take k piece) ∷ []) after
+-- ---- who failed
+
+-- the shim alone, which stopped so
+pub record ShimFails (before : BorderState) (stop : ShimStop) (after : BorderState) : Type 0 where
+  pub stops : after.shim.stops ≡ counted before.shim.stops
+  pub last : after.shim.last ≡ Some stop
+  pub faults : (stream : Stream) → faults_of stream after ≡ faults_of stream before
+
+-- the sink of a stream alone
+pub record SinkFails (before : BorderState) (stream : Stream) (after : BorderState) : Type 0 where
   pub shim : ShimStands before after
   pub later : faults_of stream before ≤ faults_of stream after
   pub rose : Rose (faults_of stream before) (faults_of stream after)
   pub others : (other : Stream) → other ≢ stream
       → faults_of other after ≡ faults_of other before
+
+-- A put of this piece failed: a front of it was put, and nothing else has crossed.
+pub record BreaksAt (before : BorderState) (stream : Stream) (piece : List ℕ)
+    (after : BorderState) : Type 0 where
+  pub front : (k : ℕ) × Tells before (put stream (take k piece) ∷ []) after
+  pub fails : SinkFails before stream after

@@ -70,16 +70,16 @@ module _ {T : Type 0} (before after : BorderState) where
       sinks = tt;
     }
     served_not OutFault h = record {
-      out_later = h.breaks.later;
-      err_later = no_less _ _ (h.breaks.others Error (λ same. cc));
-      shim = record { stops = h.breaks.shim.stops; last = h.breaks.shim.last };
+      out_later = h.breaks.fails.later;
+      err_later = no_less _ _ (h.breaks.fails.others Error (λ same. cc));
+      shim = record { stops = h.breaks.fails.shim.stops; last = h.breaks.fails.shim.last };
       stands = tt;
-      sinks = h.breaks.rose;
+      sinks = h.breaks.fails.rose;
     }
     served_not ErrFault h = record {
-      out_later = no_less _ _ (h.breaks.others Output (λ same. cc));
-      err_later = h.breaks.later;
-      shim = record { stops = h.breaks.shim.stops; last = h.breaks.shim.last };
+      out_later = no_less _ _ (h.breaks.fails.others Output (λ same. cc));
+      err_later = h.breaks.fails.later;
+      shim = record { stops = h.breaks.fails.shim.stops; last = h.breaks.fails.shim.last };
       stands = tt;
-      sinks = h.breaks.rose;
+      sinks = h.breaks.fails.rose;
     }

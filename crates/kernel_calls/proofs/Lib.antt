@@ -21,6 +21,7 @@ pub mod Sending
 pub mod Called
 pub mod Rows
 pub mod ServicePlays
+pub mod Playing
 pub mod PipeEnds
 pub mod Callers
 pub mod Room

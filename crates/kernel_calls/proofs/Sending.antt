@@ -1,5 +1,5 @@
 -- The branches of a write, and what a service sends.
-use Rattle.std.proofs.Common.{◌≡◌, ◌≢◌, ℕ, Bool, true, false, cond, List, [], ◌++◌, Option, Some}
+use Rattle.std.proofs.Common.{◌≡◌, ◌≢◌, ℕ, Bool, true, cond, List, [], ◌++◌, Option, Some}
 use Rattle.std.proofs.Common.{None, IsSome, IfSome, refl, sym, ap, ◌∙◌, eq-eqb}
 use Rattle.std.specs.Prelude.{unwrap_or, slice_get}
 use Rattle.std.proofs.lemmas.Bool.{ne_eqb}

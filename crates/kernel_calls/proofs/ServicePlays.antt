@@ -1,15 +1,15 @@
 -- Laws of the plays of services.
-use Rattle.std.proofs.Common.{◌≡◌, ℕ, List, [], ◌∷◌, ◌++◌, map, Option, Some, refl, sym, ap, ap₂}
+use Rattle.std.proofs.Common.{◌≡◌, ℕ, List, [], ◌∷◌, ◌++◌, map, Some, refl, sym, ap, ap₂}
 use Rattle.std.proofs.Common.{◌∙◌, subst, append-nil}
-use Rattle.std.specs.Prelude.{Result, Ok, Err, IfErr, IfOk}
+use Rattle.std.specs.Prelude.{Result, Ok, Err}
 use Rattle.std.proofs.lemmas.List.Elements.{All-nil, All-cons}
 use Rattle.std.proofs.lemmas.Result.{IfErr-weaker, IfOk-weaker}
 use Rattle.dos_world.specs.World.{World}
-use Rattle.dos_world.specs.Play.{Play, Answer, Outcome, done, ask, over, gives, asks, questions}
-use Rattle.dos_world.specs.Services.{Service, Served as FlatServed, went}
+use Rattle.dos_world.specs.Play.{Play, Answer, done, ask, over, gives, asks}
+use Rattle.dos_world.specs.Services.{Served as FlatServed, went}
 use Rattle.dos_world.specs.declared.Question.{Question}
 use Rattle.dos_io.specs.Borders.{BorderState, BorderStands, BreaksAt, Crosses, Crossing, StopsAt}
-use Rattle.dos_io.specs.Borders.{Tells, bytes_to, exchanged, exchanges_of, going_to, put, told_of}
+use Rattle.dos_io.specs.Borders.{Tells, exchanged, exchanges_of, going_to, put, told_of}
 use Rattle.dos_io.specs.Exchanges.{answer_of, question_of}
 use Rattle.dos_io.specs.Shims.{HasNoEnd}
 use Rattle.dos_io.specs.declared.border.Stream.{Stream}
@@ -20,11 +20,9 @@ use Rattle.dos_io.proofs.OutsideLaws.{grown-nothing}
 use Rattle.dos_laws.specs.Standing.{IsFit}
 use Rattle.proc_table.specs.Tables.{Tables}
 use Rattle.kernel_calls.specs.StateWorld.{sent, shim_stop, way_in, world_of}
-use Rattle.kernel_calls.specs.CallResults.{ActsQuietly, call_in}
-use Rattle.kernel_calls.specs.Plays.{Answers, AsksFirst, FaultsIn, GoesOver, IsBeforeEnd, PlaysOnce}
+use Rattle.kernel_calls.specs.Plays.{Answers, GoesOver, IsBeforeEnd, PlaysOnce}
 use Rattle.kernel_calls.specs.Plays.{StopsBy, Stopper, by_shim, by_sink, sent_then, stopper}
 use Rattle.kernel_calls.specs.Plays.{with_more}
-use Rattle.kernel_calls.specs.declared.state.Asked.{Asked}
 use Rattle.kernel_calls.specs.declared.state.State.{State}
 use Rattle.kernel_calls.specs.declared.state.Served.{Served}
 use Rattle.kernel_calls.specs.declared.state.Served.TheVariants.{Went}
@@ -138,7 +136,7 @@ pub plays_asked : (play : World → Play FlatServed) (x : Exchange) (s new : Sta
     ≡ done (went (sent o e (world_of q new))))
     → IsFit (answer_of x) → HasNoEnd (x ∷ []) → Crosses before (exchanged x) after
     → PlaysOnce play (Ok Went) s before new after
-plays_asked play x s new before after next asks goes fit running crosses = record {
+plays_asked play x s new before after next first goes fit running crosses = record {
   ends = record {
     crossings = exchanged x ∷ [];
     tells = crosses.tells;
@@ -148,13 +146,13 @@ plays_asked play x s new before after next asks goes fit running crosses = recor
     goes = λ q o e.
         subst (λ (p : Play FlatServed). GoesOver o e (exchanged x ∷ []) p
         (done (went (sent_then (exchanged x ∷ []) o e (world_of q new)))))
-        (sym (asks q o e)) (refl, refl, refl, goes q o e ∙ unsent Went q o e new);
+        (sym (first q o e)) (refl, refl, refl, goes q o e ∙ unsent Went q o e new);
   };
   stops = tt;
 }
 
 -- a stop of the shim's is by the shim
-stopped_by : (stop : RunStop) (why : ShimStop) → shim_stop stop ≡ Some why
+pub stopped_by : (stop : RunStop) (why : ShimStop) → shim_stop stop ≡ Some why
     → stopper stop ≡ by_shim why
 stopped_by HostFault why is = let same : _ ≡ why = cc in ap by_shim same
 stopped_by LogFull why is = let same : _ ≡ why = cc in ap by_shim same
@@ -169,12 +167,12 @@ pub plays_stopped : (play : World → Play FlatServed) (question : Question) (s 
     → ((q : ℕ) (o e : List ℕ) → over [] (play (sent o e (world_of q s))) ≡ asks question o e)
     → shim_stop stop ≡ Some why → StopsAt before question why after
     → PlaysOnce play (Err stop) s before new after
-plays_stopped play question s new stop why before after running asks is stopped = record {
+plays_stopped play question s new stop why before after running first is stopped = record {
   ends = tt;
   stops = subst (λ by. StopsBy by play s before new after) (sym (stopped_by stop why is)) (record {
     question = question;
     running = running;
-    asks = asks;
+    asks = first;
     stopped = stopped;
   });
 }

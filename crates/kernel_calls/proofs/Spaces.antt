@@ -1,6 +1,6 @@
 -- What the services of memory come to: one process has another space.
-use Rattle.std.proofs.Common.{◌≡◌, ℕ, ◌+◌, ◌<◌, Bool, true, false, cond, List, [], length, Option}
-use Rattle.std.proofs.Common.{Some, Result, Ok, Err, IfErr, All, IsSome, refl, sym, ap, subst, ◌∙◌}
+use Rattle.std.proofs.Common.{◌≡◌, ℕ, ◌+◌, ◌<◌, Bool, true, false, cond, List, [], length}
+use Rattle.std.proofs.Common.{Some, Result, Ok, Err, IfErr, refl, sym, ap, subst, ◌∙◌}
 use Rattle.std.proofs.Common.{arith}
 use Rattle.std.specs.Prelude.{OnErr, OnOk, ◌==◌, ◌&&◌, not, nat_le, nat_lt, count_by, filter}
 use Rattle.std.proofs.lemmas.List.Filters.{sum_by-filter_both}

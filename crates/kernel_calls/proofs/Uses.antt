@@ -12,7 +12,6 @@ use Rattle.dos_world.specs.Kernel.{ended_by, zero_page}
 use Rattle.dos_world.specs.Counts.{uses_of, is_mapped, maps_frame, owner_if_mapped}
 use Rattle.dos_world.specs.Counts.{bytes_if_mapped}
 use Rattle.dos_world.specs.declared.Entry.{Entry}
-use Rattle.dos_world.specs.declared.Owner.{Owner}
 use Rattle.dos_world.specs.declared.Owner.TheVariants.{Free}
 use Rattle.dos_laws.specs.Ends.{ended_processes}
 use Rattle.dos_laws.proofs.EndedProcesses.{before, orphans_have}

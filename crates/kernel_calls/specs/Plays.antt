@@ -1,14 +1,16 @@
 -- What a call of a service does: which play it plays, over what crosses the border. This project's
 -- own words.
-use Rattle.std.specs.Prelude.{◌≡◌, ℕ, List, [], ◌∷◌, ◌++◌, map, Option, Some, None, Result, All}
-use Rattle.std.specs.Prelude.{IfOk, IfErr, ⊤}
+use Rattle.std.specs.Prelude.{◌≡◌, ℕ, List, [], ◌∷◌, ◌++◌, map, Some, Result, All}
+use Rattle.std.specs.Prelude.{IfOk, IfErr, ⊤, length}
 use Rattle.dos_world.specs.World.{World}
-use Rattle.dos_world.specs.Play.{Play, done, ask, over, gives, asks}
+use Rattle.dos_world.specs.Play.{Answer, Outcome, Play, done, ask, over, gives, asks}
 use Rattle.dos_world.specs.Services.{Served as FlatServed, went}
 use Rattle.dos_world.specs.declared.Question.{Question}
 use Rattle.dos_world.specs.declared.Question.TheVariants.{Signals, Input, Clock, End}
 use Rattle.dos_io.specs.Borders.{BorderState, BorderStands, BreaksAt, Crossing, StopsAt, Tells}
-use Rattle.dos_io.specs.Borders.{bytes_to, exchanged, exchanges_of, going_to, put}
+use Rattle.dos_io.specs.Borders.{ShimFails, SinkFails, bytes_to, exchanged, exchanges_of, going_to}
+use Rattle.dos_io.specs.Borders.{put}
+use Rattle.dos_io.specs.Outside.{IsFront}
 use Rattle.dos_io.specs.Exchanges.{answer_of, question_of}
 use Rattle.dos_io.specs.Shims.{HasNoEnd}
 use Rattle.dos_io.specs.declared.border.Stream.{Stream}
@@ -19,7 +21,7 @@ use Rattle.dos_io.specs.declared.shim.ShimStop.TheVariants.{LogFull as log_full,
 use Rattle.dos_io.specs.declared.shim.ShimStop.TheVariants.{Memory as memory}
 use Rattle.dos_laws.specs.Standing.{IsFit}
 use Rattle.proc_table.specs.Tables.{Tables}
-use Rattle.kernel_calls.specs.StateWorld.{sent, way_in, world_of}
+use Rattle.kernel_calls.specs.StateWorld.{IsSound, sent, way_in, world_of}
 use Rattle.kernel_calls.specs.declared.state.State.{State}
 use Rattle.kernel_calls.specs.declared.state.Served.{Served}
 use Rattle.kernel_calls.specs.declared.state.RunStop.{RunStop}
@@ -66,6 +68,76 @@ IsBeforeEnd (Signals round) = ⊤
 IsBeforeEnd (Input round tid max) = ⊤
 IsBeforeEnd (Clock round tid) = ⊤
 IsBeforeEnd (End ending rounds) = ⊥
+
+-- ---- plays
+
+-- From the world of the old state, with any bytes sent before, a play goes over crossings on to
+-- what is left of it in the world of the new state, with the bytes sent before and those that
+-- crossed. Nothing failed, and the run wasn't told to be over.
+pub record PlaysOn {A : Type 0} (q : ℕ) (play : World → Play A) (old : State)
+    (before : BorderState) (left : World → Play A) (new : State) (after : BorderState) : Type 0
+  where
+    pub crossings : List Crossing
+    pub tells : Tells before crossings after
+    pub stands : BorderStands before after
+    pub running : HasNoEnd (exchanges_of crossings)
+    pub goes : (o e : List ℕ)
+        → GoesOver o e crossings (play (sent o e (world_of q old)))
+        (left (sent_then crossings o e (world_of q new)))
+
+-- The shim stopped at a question to which the play has come.
+pub record StopsAsking {A : Type 0} (q : ℕ) (play : World → Play A) (why : ShimStop) (old : State)
+    (before after : BorderState) : Type 0 where
+  pub crossings : List Crossing
+  pub tells : Tells before crossings after
+  pub fails : ShimFails before why after
+  pub question : Question
+  pub running : IsBeforeEnd question
+  pub asked : after.shim.asked ≡ Some question
+  pub goes : (o e : List ℕ) → (next : Answer → Play A)
+      × GoesOver o e crossings (play (sent o e (world_of q old)))
+      (ask question (o ++ bytes_to Output crossings) (e ++ bytes_to Error crossings) next)
+
+-- These are fronts of what a play has sent to output and to error: in the world where it gives
+-- something, or by then where it needs an answer.
+abbrev pub AreFrontsOf : {A : Type 0} → (A → World) → (output error : List ℕ) → Outcome A → Type 0
+AreFrontsOf world output error (gives a rest) =
+    IsFront output (world a).output × IsFront error (world a).error
+AreFrontsOf world output error (asks question all_output all_error) =
+    IsFront output all_output × IsFront error all_error
+
+-- A sink failed, and cut the play off, which would go on and send what the last bytes that crossed
+-- are a front of.
+pub record IsCutOff {A : Type 0} (q : ℕ) (world : A → World) (play : World → Play A)
+    (stream : Stream) (old : State) (before after : BorderState) : Type 0 where
+  pub crossings : List Crossing
+  pub tells : Tells before crossings after
+  pub fails : SinkFails before stream after
+  pub goes : (o e : List ℕ) → (left : Play A)
+      × GoesOver o e crossings (play (sent o e (world_of q old))) left
+      × AreFrontsOf world (o ++ bytes_to Output crossings) (e ++ bytes_to Error crossings)
+      (over [] left)
+
+abbrev pub StopsIn : {A : Type 0} → ℕ → (A → World) → (World → Play A) → Stopper → State
+    → (before after : BorderState) → Type 0
+StopsIn q world play (by_shim why) old before after = StopsAsking q play why old before after
+StopsIn q world play (by_sink stream) old before after = IsCutOff q world play stream old before after
+
+-- The call plays this play: on to what is left of it, by the answer; or to the question at which
+-- the shim stopped; or a sink cut it off.
+pub record Plays {T A : Type 0} (q : ℕ) (world : A → World) (play : World → Play A)
+    (left : T → World → Play A) (result : Result T RunStop) (old : State) (before : BorderState)
+    (new : State) (after : BorderState) : Type 0 where
+  pub goes : IfOk result (λ x. PlaysOn q play old before (left x) new after)
+  pub stops : IfErr result (λ stop. StopsIn q world play (stopper stop) old before after)
+
+-- What the old state's world becomes is the new one's, as f says, whatever bytes were sent; and it
+-- stays sound, in its round, of as many frames.
+pub record Becomes (f : World → World) (old new : State) : Type 0 where
+  pub becomes : (q : ℕ) (o e : List ℕ) → f (sent o e (world_of q old)) ≡ sent o e (world_of q new)
+  pub sound : IsSound new
+  pub round : new.round ≡ old.round
+  pub count : length new.frames.owners ≡ length old.frames.owners
 
 -- ---- services
 

@@ -1,28 +1,22 @@
 -- The flat world of a state, what a sound state is, and what it means to have served. This
 -- project's own rules.
-use Rattle.std.specs.Prelude.{◌≡◌, ◌≤◌, ◌-◌, ◌++◌, ℕ, Bool, true, false, List, [], ◌∷◌, map, length}
-use Rattle.std.specs.Prelude.{sum_by, count_by, Option, None, Some, Result, Ok, Err, IfErr, IfSome}
-use Rattle.std.specs.Prelude.{All}
+use Rattle.std.specs.Prelude.{◌≡◌, ◌≤◌, ◌-◌, ℕ, Bool, true, false, List, [], ◌∷◌, length}
+use Rattle.std.specs.Prelude.{sum_by, count_by, Option, None, Some, IfSome}
 use Rattle.dos_world.specs.World.{World, Process, Thread, Sleeper, all_holdings}
 use Rattle.dos_world.specs.Counts.{reads_pipe, writes_pipe}
 use Rattle.dos_world.specs.declared.End.{End}
 use Rattle.kernel_objects.specs.Pipework.{Pipework, ends_at}
 use Rattle.dos_world.specs.Lawful.{Lawful, uses_of}
-use Rattle.dos_world.specs.Play.{Play, over, questions, gives, asks}
 use Rattle.dos_world.specs.Services.{Served as FlatServed, went, waits, yields, gone}
-use Rattle.dos_world.specs.declared.Question.{Question}
 use Rattle.dos_world.specs.declared.ThreadState.TheVariants.{Ready}
-use Rattle.dos_io.specs.Exchanges.{answer_of, question_of}
-use Rattle.dos_io.specs.Outside.{grown, GrewByFront, Rose}
-use Rattle.dos_io.specs.Shims.{ShimState, Stopped}
-use Rattle.dos_io.specs.declared.exchange.Exchange.{Exchange}
+use Rattle.dos_io.specs.Outside.{Rose}
 use Rattle.dos_io.specs.declared.shim.ShimStop.{ShimStop}
 use Rattle.dos_io.specs.declared.shim.ShimStop.TheVariants.{HostFault as host_fault}
 use Rattle.dos_io.specs.declared.shim.ShimStop.TheVariants.{LogFull as log_full, Misfit as misfit}
 use Rattle.dos_io.specs.declared.shim.ShimStop.TheVariants.{Memory as memory}
-use Rattle.dos_laws.specs.Standing.{AreAwake, AreApart, IsFit}
+use Rattle.dos_laws.specs.Standing.{AreAwake, AreApart}
 use Rattle.page_store.specs.Store.{uses_at}
-use Rattle.proc_table.specs.Tables.{Tables, thread_in}
+use Rattle.proc_table.specs.Tables.{thread_in}
 use Rattle.kernel_mem.specs.MemoryWorld.{in_world, HasAllHome, KeepsUses}
 use Rattle.kernel_calls.specs.Built.{services_built}
 use Rattle.kernel_calls.specs.declared.state.State.{State}

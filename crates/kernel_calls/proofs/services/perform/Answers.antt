@@ -1,5 +1,4 @@
 use Rattle.std.proofs.Common.{sym, ap, subst, ◌∙◌}
-use Rattle.dos_world.specs.Services.{Service as FlatService}
 use Rattle.kernel_calls.specs.Built.{definition_of}
 use Rattle.kernel_calls.specs.CallResults.{call_in}
 use Rattle.kernel_calls.specs.Plays.{PlaysOnce}
