@@ -7,6 +7,7 @@ pub mod Posts
 pub mod Hosts
 pub mod Exchanges
 pub mod Shims
+pub mod Borders
 pub mod Given
 pub mod Quiet
 pub mod QuietLaws

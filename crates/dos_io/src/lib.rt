@@ -7,6 +7,7 @@
 //! to; the forms over std tell nothing.
 #![tactic(auto)]
 
+mod border;
 mod calls;
 mod exchange;
 mod files;
@@ -21,6 +22,7 @@ mod sink;
 mod std_host;
 mod system;
 
+pub use border::{Border, GroupBorder, Stream};
 pub use exchange::{ClockRule, Exchange, Piece};
 pub use files::{FileError, Files};
 pub use host::{Host, HostFault};

@@ -74,6 +74,7 @@ impl Sink for MemorySink {
         ensures err { OnErr result (GrewByFront (Some self.old.bytes) (Some self.new.bytes)
             piece.now) }
         ensures cause { HasCause self.old.calls.faults self.new.calls.faults result }
+        ensures steady { OnOk result (self.new.calls.faults ≡ self.old.calls.faults) }
     {
         let fits = piece.len() <= self.room - self.bytes.len();
         if !self.calls.count(fits) {

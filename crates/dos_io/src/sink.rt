@@ -22,5 +22,6 @@ pub trait Sink {
     fn put(&mut self, piece: &[u8]) -> Result<(), SinkFault>
         ensures ok { OnOk result (told self.new ≡ grown (told self.old) piece.now) }
         ensures err { OnErr result (GrewByFront (told self.old) (told self.new) piece.now) }
-        ensures cause { HasCause (faults self.old) (faults self.new) result };
+        ensures cause { HasCause (faults self.old) (faults self.new) result }
+        ensures steady { OnOk result (faults self.new ≡ faults self.old) };
 }

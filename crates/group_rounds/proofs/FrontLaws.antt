@@ -1,17 +1,18 @@
 -- The machine sends its bytes behind those that it has sent. So what is a front of them stays one,
 -- over any answers; and where a play was cut off, the sinks hold fronts of what the whole sends.
 use Rattle.std.proofs.Common.{ℕ, ◌≡◌, refl, sym, ap, ◌∙◌, subst, List, [], ◌∷◌, ◌++◌, append-nil}
-use Rattle.std.proofs.Common.{append_assoc, Option, None}
+use Rattle.std.proofs.Common.{append_assoc, drop, take}
 use Rattle.std.specs.Prelude.{map, ⊤}
-use Rattle.std.proofs.lemmas.List.{map-append}
+use Rattle.std.proofs.lemmas.List.{map-append, take-append-drop}
 use Rattle.dos_world.specs.World.{World}
 use Rattle.dos_world.specs.Play.{Play, Answer, done, ask, ◌>>=◌, Outcome, gives, asks, over}
 use Rattle.dos_world.specs.Services.{Served as FlatServed, went, waits, yields, gone, service}
-use Rattle.dos_io.specs.declared.exchange.Exchange.{Exchange}
 use Rattle.dos_io.specs.Exchanges.{answer_of}
 use Rattle.dos_io.specs.Outside.{IsFront}
-use Rattle.dos_io.proofs.OutsideLaws.{grown-nothing, grown-front, front-behind, front-more}
-use Rattle.dos_io.proofs.OutsideLaws.{front-nothing}
+use Rattle.dos_io.specs.Borders.{BorderState, Crossing, bytes_to, put}
+use Rattle.dos_io.specs.declared.border.Stream.{Stream}
+use Rattle.dos_io.specs.declared.border.Stream.TheVariants.{Output, Error}
+use Rattle.dos_io.proofs.OutsideLaws.{front-behind, front-more, front-nothing}
 use Rattle.dos_laws.specs.Plays.{world_served, world_ended}
 use Rattle.flat_machine.specs.Rest.{turns, after_service, serial_of}
 use Rattle.flat_machine.specs.Round.{RoundEnd as FlatEnd, round_of}
@@ -22,17 +23,16 @@ use Rattle.round_core.proofs.Allowed.{Comes, allows_less, over_comes}
 use Rattle.round_core.proofs.Keeps.{turns_keep, serial_keeps, round_keeps}
 use Rattle.round_core.proofs.SameRun.{sent_kept}
 use Rattle.round_core.proofs.Turning.{goes_on}
-use Rattle.kernel_calls.specs.StateWorld.{FaultsIn, HasFaulted, HaveGrown, sent, shim_stop}
-use Rattle.kernel_calls.specs.StateWorld.{to_output, to_error, world_of}
-use Rattle.kernel_calls.specs.declared.state.RunStop.{RunStop}
-use Rattle.kernel_calls.specs.declared.state.RunStop.TheVariants.{HostFault, LogFull, Misfit}
-use Rattle.kernel_calls.specs.declared.state.RunStop.TheVariants.{OutFault, ErrFault, Memory}
+use Rattle.kernel_calls.specs.Plays.{FaultsIn, with_more}
+use Rattle.kernel_calls.specs.StateWorld.{sent, world_of}
 use Rattle.kernel_calls.specs.declared.state.State.{State}
 use Rattle.group_rounds.specs.Fronts.{AreFrontsOf, CutPlay}
 use Rattle.group_rounds.specs.Plays.{GoesOn}
-use Rattle.group_rounds.specs.StatePlays.{Telling, telling, GoesTo}
+use Rattle.group_rounds.specs.Outcomes.{told_at}
+use Rattle.group_rounds.specs.Outside.{HaveGrown}
+use Rattle.group_rounds.specs.StatePlays.{Telling, GoesTo}
 use Rattle.group_rounds.proofs.PlayLaws.{goes-append, goes-over_more, goes-then}
-use Rattle.group_rounds.proofs.StatePlayLaws.{told_then}
+use Rattle.group_rounds.proofs.StatePlayLaws.{told_more, told_then}
 
 -- ---- the machine
 
@@ -197,48 +197,30 @@ cut_grew q world play s t t' k = record {
 
 -- ---- a service in which a sink failed
 
-module _ (q : ℕ) (s s' : State) (t : ℕ) (told told' : List Exchange) (same : told' ≡ told)
-    (out out' err err' : Option (List ℕ)) where
-  -- that of the output
-  output_cut : FaultsIn to_output (λ w. service w t) s s' out out' err err'
-      → CutPlay q world_served (λ w. service w t) s (telling told out err) (telling told' out' err')
-  output_cut h = let grew = grown-front out out' h.bytes h.front in record {
-    more = record {
-      exchanges = [];
-      output = grew.0;
-      error = [];
-      exchanges_are = same ∙ sym (append-nil told);
-      output_is = grew.1;
-      error_is = h.stays ∙ grown-nothing err;
-    };
-    goes = λ o e. (service (sent o e (world_of q s)) t, refl);
-    fronts = λ o e. subst (AreFrontsOf world_served (o ++ grew.0) (e ++ [])) (sym (h.goes q o e))
-        (front-behind o grew.0 h.bytes grew.2, front-nothing e);
-  }
+-- fronts of what is sent, where a front of the last piece was put
+front_cut : (k : ℕ) (bytes : List ℕ) → IsFront (take k bytes ++ []) bytes
+front_cut k bytes = subst (λ front. IsFront front bytes) (sym (append-nil (take k bytes)))
+    (drop k bytes, sym (take-append-drop k bytes))
 
-  -- that of the error output
-  error_cut : FaultsIn to_error (λ w. service w t) s s' err err' out out'
-      → CutPlay q world_served (λ w. service w t) s (telling told out err) (telling told' out' err')
-  error_cut h = let grew = grown-front err err' h.bytes h.front in record {
-    more = record {
-      exchanges = [];
-      output = [];
-      error = grew.0;
-      exchanges_are = same ∙ sym (append-nil told);
-      output_is = h.stays ∙ grown-nothing out;
-      error_is = grew.1;
-    };
-    goes = λ o e. (service (sent o e (world_of q s)) t, refl);
-    fronts = λ o e. subst (AreFrontsOf world_served (o ++ []) (e ++ grew.0)) (sym (h.goes q o e))
-        (front-nothing o, front-behind e grew.0 h.bytes grew.2);
-  }
+fronts_put : (stream : Stream) (k : ℕ) (bytes o e : List ℕ) (w : World)
+    → let cs : List Crossing = put stream (take k bytes) ∷ [] in
+    AreFrontsOf world_served (o ++ bytes_to Output cs) (e ++ bytes_to Error cs)
+    (gives (went (with_more stream bytes (sent o e w))) [])
+fronts_put Output k bytes o e w =
+    (front-behind o (take k bytes ++ []) bytes (front_cut k bytes), front-nothing e)
+fronts_put Error k bytes o e w =
+    (front-nothing o, front-behind e (take k bytes ++ []) bytes (front_cut k bytes))
 
-  pub service_cut : (stop : RunStop) → shim_stop stop ≡ None
-      → HasFaulted stop (λ w. service w t) s s' out out' err err'
-      → CutPlay q world_served (λ w. service w t) s (telling told out err) (telling told' out' err')
-  service_cut OutFault is h = output_cut h
-  service_cut ErrFault is h = error_cut h
-  service_cut HostFault is h = cc
-  service_cut LogFull is h = cc
-  service_cut (Misfit m) is h = cc
-  service_cut Memory is h = cc
+pub service_cut : (q : ℕ) (s s' : State) (t : ℕ) (before after : BorderState) (stream : Stream)
+    → FaultsIn stream (λ w. service w t) s before s' after
+    → CutPlay q world_served (λ w. service w t) s (told_at before) (told_at after)
+service_cut q s s' t before after stream h =
+    let cs : List Crossing = put stream (take h.breaks.front.0 h.bytes) ∷ [] in record {
+      more = told_more cs before after h.breaks.front.1;
+      goes = λ o e. (service (sent o e (world_of q s)) t, refl);
+      fronts = λ o e.
+          subst (AreFrontsOf world_served (o ++ bytes_to Output cs) (e ++ bytes_to Error cs))
+          (sym (h.goes q o e))
+          (fronts_put stream h.breaks.front.0 h.bytes o e
+          (world_of q (record s' { table = h.table })));
+    }

@@ -12,6 +12,7 @@ use Rattle.dos_laws.proofs.StandsKeeps.{stands-budget}
 use Rattle.flat_machine.specs.Rest.{rest_of, rest_if_live, serial_of}
 use Rattle.flat_machine.specs.Round.{with_budgets}
 use Rattle.proc_table.specs.Tables.{Tables, IsThread, thread_by, thread_in, with_budget}
+use Rattle.dos_io.specs.Borders.{BorderState}
 use Rattle.kernel_calls.specs.StateWorld.{HaveParts, IsCounted, IsSound, sent, world_of}
 use Rattle.kernel_calls.proofs.Counted.{counted-thread_by}
 use Rattle.kernel_calls.specs.declared.state.State.{State}
@@ -26,7 +27,7 @@ use Rattle.std.specs.Prelude.{Err}
 use Rattle.kernel_calls.specs.StateWorld.{shim_stop}
 use Rattle.kernel_calls.specs.declared.state.RunStop.{RunStop}
 use Rattle.group_rounds.specs.Outside.{HaveStood}
-use Rattle.group_rounds.specs.Outcomes.{Border, Serves, told_at}
+use Rattle.group_rounds.specs.Outcomes.{Serves, told_at}
 use Rattle.group_rounds.proofs.CauseLaws.{causes_err, causes_then}
 use Rattle.group_rounds.proofs.StatePlayLaws.{some_weaker}
 
@@ -148,7 +149,7 @@ parts_at s xs i t lt is h =
     (subst (λ ts. HaveParts ts s) (drop_at xs i lt) h)
 
 -- where the part of one of them has stopped
-pub serial_stops : {T U : Type 0} (start s s' : State) (b₀ b₁ b₂ : Border) (t : ℕ) (xs : List ℕ)
+pub serial_stops : {T U : Type 0} (start s s' : State) (b₀ b₁ b₂ : BorderState) (t : ℕ) (xs : List ℕ)
     (i : ℕ) (stop : RunStop) → i < length xs → t ≡ get_or xs i 0
     → ((q : ℕ) → GoesTo q (λ w. serial_of w xs) start (told_at b₀)
     (λ w. serial_of w (drop i xs)) s (told_at b₁))

@@ -4,9 +4,12 @@ use Rattle.std.specs.Prelude.{map}
 use Rattle.dos_world.specs.Play.{Play, Answer, done, ask, ◌>>=◌, Outcome, gives, asks, over}
 use Rattle.dos_world.specs.Play.{questions}
 use Rattle.dos_world.specs.declared.Question.{Question}
+use Rattle.dos_io.specs.Borders.{Crossing, exchanged, exchanges_of, going_to, put}
+use Rattle.dos_io.specs.declared.border.Stream.TheVariants.{Output, Error}
 use Rattle.dos_io.specs.declared.exchange.Exchange.{Exchange}
 use Rattle.dos_io.specs.declared.exchange.Exchange.TheVariants.{Signals, Input, Clock, End}
 use Rattle.dos_io.specs.Exchanges.{question_of, answer_of, HaveNoPosts}
+use Rattle.kernel_calls.specs.Plays.{GoesOver}
 use Rattle.group_rounds.specs.Plays.{GoesOn}
 
 -- by one exchange after others
@@ -46,6 +49,16 @@ goes-questions (e ∷ es) (done a) q h = absurd h
 goes-questions (e ∷ es) (ask question output error next) q h =
     ap (λ asked. asked ∷ questions (map answer_of es) (next (answer_of e))) h.0
     ∙ ap (λ rest. question_of e ∷ rest) (goes-questions es (next (answer_of e)) q h.1)
+
+-- what goes over crossings goes on over their exchanges
+pub goes-exchanges : {A : Type 0} (o e : List ℕ) (cs : List Crossing) (p q : Play A)
+    → GoesOver o e cs p q → GoesOn (exchanges_of cs) p q
+goes-exchanges o e [] p q h = h
+goes-exchanges o e (exchanged x ∷ cs) (done a) q h = absurd h
+goes-exchanges o e (exchanged x ∷ cs) (ask question output error next) q h =
+    (h.0, goes-exchanges o e cs (next (answer_of x)) q h.3)
+goes-exchanges o e (put stream bytes ∷ cs) p q h =
+    goes-exchanges (o ++ going_to Output stream bytes) (e ++ going_to Error stream bytes) cs p q h
 
 -- By what it comes to and what it asks: these exchanges are all that it needs.
 pub goes_by : {A : Type 0} (es : List Exchange) (p : Play A) (a : A)

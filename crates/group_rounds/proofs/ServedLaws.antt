@@ -1,57 +1,85 @@
 -- The causes of a service's stop, as those of a turn.
-use Rattle.std.proofs.Common.{◌≡◌, ◌≤◌, ℕ, List, Option, None, Some, IfSome, Ok, Err, sym, subst}
-use Rattle.std.proofs.Common.{le_refl}
+use Rattle.std.proofs.Common.{◌≡◌, ◌≤◌, ℕ, Ok, Err, sym, subst, le_refl}
 use Rattle.dos_world.specs.World.{World}
 use Rattle.dos_world.specs.Play.{Play}
 use Rattle.dos_world.specs.Services.{Served as FlatServed}
+use Rattle.dos_io.specs.Borders.{BorderState, BorderStands}
 use Rattle.dos_io.specs.Outside.{Rose, counted}
-use Rattle.dos_io.specs.Shims.{ShimState}
+use Rattle.dos_io.specs.declared.border.Stream.TheVariants.{Output, Error}
 use Rattle.dos_io.specs.declared.shim.ShimStop.{ShimStop}
-use Rattle.kernel_calls.specs.StateWorld.{Asks, HasCauses, shim_stop}
-use Rattle.kernel_calls.specs.StateWorld.{HasNotStopped as service_has_not_stopped}
+use Rattle.kernel_calls.specs.Plays.{AsksFirst, StopsBy, stopper}
+use Rattle.kernel_calls.specs.StateWorld.{shim_stop}
 use Rattle.kernel_calls.specs.declared.state.RunStop.{RunStop}
-use Rattle.kernel_calls.specs.declared.state.Served.{Served}
+use Rattle.kernel_calls.specs.declared.state.RunStop.TheVariants.{HostFault, LogFull, Misfit}
+use Rattle.kernel_calls.specs.declared.state.RunStop.TheVariants.{OutFault, ErrFault, Memory}
 use Rattle.kernel_calls.specs.declared.state.State.{State}
-use Rattle.group_rounds.specs.Outside.{HasNotStopped, HaveCauses}
+use Rattle.group_rounds.specs.Outside.{HaveCauses}
 
-module _ {T : Type 0} (before after : ShimState) (out out_after err err_after : ℕ) where
-  pub served_well : (value : T) (way : Served)
-      → HasCauses (Ok way) before after out out_after err err_after
-      → HaveCauses {T = T} (Ok value) before after out out_after err err_after
-  served_well value way h = record {
-    out_later = h.out_later;
-    err_later = h.err_later;
+no_less : (n m : ℕ) → m ≡ n → n ≤ m
+no_less n m is = subst (λ k. n ≤ k) (sym is) (le_refl n)
+
+module _ {T : Type 0} (before after : BorderState) where
+  abbrev CausesOf : RunStop → Type 0
+  CausesOf stop = HaveCauses {T = T} (Err stop) before.shim after.shim before.out_faults
+      after.out_faults before.err_faults after.err_faults
+
+  pub served_well : (value : T) → BorderStands before after
+      → HaveCauses {T = T} (Ok value) before.shim after.shim before.out_faults after.out_faults
+      before.err_faults after.err_faults
+  served_well value h = record {
+    out_later = no_less _ _ (h.faults Output);
+    err_later = no_less _ _ (h.faults Error);
     shim = tt;
-    stands = record { stops = h.stands.stops; last = h.stands.last };
+    stands = record { stops = h.shim.stops; last = h.shim.last };
     sinks = tt;
   }
 
-  pub served_not : (play : World → Play FlatServed) (old : State)
-      (told told_after other other_after : Option (List ℕ)) (stop : RunStop)
-      → HasCauses (Err stop) before after out out_after err err_after
-      → IfSome (shim_stop stop)
-      (λ by. Asks play old before by after told told_after other other_after)
-      → HaveCauses {T = T} (Err stop) before after out out_after err err_after
-  served_not play old told told_after other other_after stop h asks = record {
-    out_later = h.out_later;
-    err_later = h.err_later;
-    shim = shim_of (shim_stop stop) h.stands asks;
-    stands = tt;
-    sinks = h.sinks;
-  }
-    where
-      shim_of : (o : Option ShimStop)
-          → (elim o as (λ _. Type 0) [
-            | None ↦ service_has_not_stopped before after
-            | Some x ↦ Unit {0}
-          ])
-          → IfSome o (λ by. Asks play old before by after told told_after other other_after)
-          → (elim o as (λ _. Type 0) [
-            | None ↦ HasNotStopped before after
-            | Some x ↦ Rose before.stops after.stops × (after.last ≡ Some x)
-          ])
-      shim_of None k a = record { stops = k.stops; last = k.last }
-      shim_of (Some x) k a = (
-        subst (λ n. counted before.stops ≤ n) (sym a.first.stopped.stops) (le_refl _),
-        a.first.stopped.last,
-      )
+  module _ (play : World → Play FlatServed) (old new : State) where
+    rose : (why : ShimStop) → AsksFirst play old before why after
+        → Rose before.shim.stops after.shim.stops
+    rose why h = subst (λ n. counted before.shim.stops ≤ n) (sym h.stopped.shim.stops) (le_refl _)
+
+    pub served_not : (stop : RunStop) → StopsBy (stopper stop) play old before new after
+        → CausesOf stop
+    served_not HostFault h = record {
+      out_later = no_less _ _ (h.stopped.faults Output);
+      err_later = no_less _ _ (h.stopped.faults Error);
+      shim = (rose _ h, h.stopped.shim.last);
+      stands = tt;
+      sinks = tt;
+    }
+    served_not LogFull h = record {
+      out_later = no_less _ _ (h.stopped.faults Output);
+      err_later = no_less _ _ (h.stopped.faults Error);
+      shim = (rose _ h, h.stopped.shim.last);
+      stands = tt;
+      sinks = tt;
+    }
+    served_not (Misfit m) h = record {
+      out_later = no_less _ _ (h.stopped.faults Output);
+      err_later = no_less _ _ (h.stopped.faults Error);
+      shim = (rose _ h, h.stopped.shim.last);
+      stands = tt;
+      sinks = tt;
+    }
+    served_not Memory h = record {
+      out_later = no_less _ _ (h.stopped.faults Output);
+      err_later = no_less _ _ (h.stopped.faults Error);
+      shim = (rose _ h, h.stopped.shim.last);
+      stands = tt;
+      sinks = tt;
+    }
+    served_not OutFault h = record {
+      out_later = h.breaks.fails.later;
+      err_later = no_less _ _ (h.breaks.fails.others Error (λ same. cc));
+      shim = record { stops = h.breaks.fails.shim.stops; last = h.breaks.fails.shim.last };
+      stands = tt;
+      sinks = h.breaks.fails.rose;
+    }
+    served_not ErrFault h = record {
+      out_later = no_less _ _ (h.breaks.fails.others Output (λ same. cc));
+      err_later = h.breaks.fails.later;
+      shim = record { stops = h.breaks.fails.shim.stops; last = h.breaks.fails.shim.last };
+      stands = tt;
+      sinks = h.breaks.fails.rose;
+    }

@@ -6,6 +6,7 @@ use Rattle.dos_world.specs.World.{World}
 use Rattle.dos_world.specs.Play.{Play, done}
 use Rattle.dos_world.specs.declared.Config.{Config}
 use Rattle.dos_io.specs.Shims.{HasNoEnd}
+use Rattle.dos_io.specs.Borders.{BorderState}
 use Rattle.kernel_calls.specs.StateWorld.{IsSound, sent, shim_stop, world_of}
 use Rattle.kernel_calls.specs.declared.state.RunStop.{RunStop}
 use Rattle.kernel_calls.specs.declared.state.State.{State}
@@ -15,7 +16,7 @@ use Rattle.group_rounds.specs.Parts.{KeepsCount}
 use Rattle.group_rounds.specs.Rounds.{next_round}
 use Rattle.group_rounds.specs.declared.round.RoundEnd.{RoundEnd}
 use Rattle.group_rounds.specs.declared.round.RoundEnd.TheVariants.{Went, Done, Stalled}
-use Rattle.group_rounds.specs.Outcomes.{Border, KeepsRound, Serves, told_at}
+use Rattle.group_rounds.specs.Outcomes.{KeepsRound, Serves, told_at}
 use Rattle.group_rounds.specs.StatePlays.{GoesTo}
 use Rattle.group_rounds.proofs.CauseLaws.{causes_ok, causes_then, stood_yet}
 use Rattle.group_rounds.proofs.FrontLaws.{cut_from}
@@ -24,7 +25,7 @@ use Rattle.group_rounds.proofs.StopLaws.{stopped_from}
 
 -- it has come to the end
 pub serves_done : {T : Type 0} (value : T) (play : World → Play World) (old new : State)
-    (before after : Border)
+    (before after : BorderState)
     → ((q : ℕ) → GoesTo q play old (told_at before) (λ w. done w) new (told_at after))
     → IsSound new → new.round ≡ old.round → KeepsCount old new → HasNoEnd after.shim.told
     → HaveStood before.shim after.shim before.out_faults after.out_faults before.err_faults
@@ -45,7 +46,7 @@ serves_done value play old new before after goes sound round count told stood = 
 
 -- another play that is the same from this state
 pub serves_from : {T : Type 0} (play same : World → Play World) (result : Result T RunStop)
-    (old new : State) (before after : Border)
+    (old new : State) (before after : BorderState)
     → ((q : ℕ) (o e : List ℕ)
     → play (sent o e (world_of q old)) ≡ same (sent o e (world_of q old)))
     → Serves same result old new before after → Serves play result old new before after
@@ -71,7 +72,7 @@ of_ok (Err stop) P h ok = cc
 
 -- a state between two rounds may stand there after it, where it hasn't stopped
 pub serves_between : {T : Type 0} (play : World → Play World) (result : Result T RunStop)
-    (old new : State) (config : Config) (before after : Border) → IsBetweenRounds old config
+    (old new : State) (config : Config) (before after : BorderState) → IsBetweenRounds old config
     → Serves play result old new before after → is_err result ≡ false → IsBetweenRounds new config
 serves_between play result old new config before after between h ok = record {
   sound = of_ok result _ h.sound ok;
@@ -83,7 +84,7 @@ serves_between play result old new config before after between h ok = record {
 -- ---- rounds
 
 -- nothing was done
-pub keeps_still : {T : Type 0} (value : T) (s : State) (b : Border) → IsSound s
+pub keeps_still : {T : Type 0} (value : T) (s : State) (b : BorderState) → IsSound s
     → HasNoEnd b.shim.told → KeepsRound {T = T} (Ok value) s s b b
 keeps_still value s b sound told = record {
   sound = sound;
@@ -96,7 +97,7 @@ keeps_still value s b sound told = record {
 
 -- behind calls that all answered, with the round and as many frames as before
 pub keeps_then : {T : Type 0} (result : Result T RunStop) (old halfway new : State)
-    (before between after : Border) → halfway.round ≡ old.round → KeepsCount old halfway
+    (before between after : BorderState) → halfway.round ≡ old.round → KeepsCount old halfway
     → HaveStood before.shim between.shim before.out_faults between.out_faults before.err_faults
     between.err_faults
     → KeepsRound result halfway new between after → KeepsRound result old new before after
@@ -120,7 +121,7 @@ round_follows (Err stop) round next is still first = omega (arith, still)
 
 -- after a round that may be run, the state may stand between two rounds where it hasn't stopped
 pub keeps_between : (result : Result RoundEnd RunStop) (old new : State) (config : Config)
-    (before after : Border) → IsBetweenRounds old config → old.round ≤ config.rounds
+    (before after : BorderState) → IsBetweenRounds old config → old.round ≤ config.rounds
     → KeepsRound result old new before after
     → IfOk result (λ end. new.round ≡ next_round end old.round) → is_err result ≡ false
     → IsBetweenRounds new config

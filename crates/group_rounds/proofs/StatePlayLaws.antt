@@ -6,14 +6,17 @@ use Rattle.dos_world.specs.World.{World}
 use Rattle.dos_world.specs.Play.{Play, done, ◌>>=◌}
 use Rattle.dos_io.specs.Outside.{grown}
 use Rattle.dos_io.proofs.OutsideLaws.{grown-nothing, grown-twice}
-use Rattle.dos_io.specs.declared.exchange.Exchange.{Exchange}
-use Rattle.kernel_calls.specs.StateWorld.{world_of, sent, way_in, Answers}
+use Rattle.dos_io.specs.Borders.{BorderState, Crossing, Tells, bytes_to, exchanges_of}
+use Rattle.dos_io.specs.declared.border.Stream.TheVariants.{Output, Error}
+use Rattle.kernel_calls.specs.Plays.{Answers}
+use Rattle.kernel_calls.specs.StateWorld.{world_of, sent, way_in}
 use Rattle.dos_world.specs.Services.{Served as FlatServed}
 use Rattle.kernel_calls.specs.declared.state.State.{State}
 use Rattle.kernel_calls.specs.declared.state.Served.{Served}
 use Rattle.group_rounds.specs.Plays.{GoesOn}
-use Rattle.group_rounds.specs.StatePlays.{Telling, telling, GoesTo, ToldMore}
-use Rattle.group_rounds.proofs.PlayLaws.{goes-append, goes-then, goes_by}
+use Rattle.group_rounds.specs.Outcomes.{told_at}
+use Rattle.group_rounds.specs.StatePlays.{Telling, GoesTo, ToldMore}
+use Rattle.group_rounds.proofs.PlayLaws.{goes-append, goes-exchanges, goes-then}
 
 -- ---- told more
 
@@ -102,25 +105,27 @@ pub goes_from : {A : Type 0} (q : ℕ) (p p' left : World → Play A) (s s' : St
 goes_from q p p' left s s' t t' same h =
     goes_and q p p' left s s s' t t t' (goes_still q p p' s s t same) h
 
+-- what crossed is told more
+pub told_more : (cs : List Crossing) (before after : BorderState) → Tells before cs after
+    → ToldMore (told_at before) (told_at after)
+told_more cs before after h = record {
+  exchanges = exchanges_of cs;
+  output = bytes_to Output cs;
+  error = bytes_to Error cs;
+  exchanges_are = h.exchanges;
+  output_is = h.bytes Output;
+  error_is = h.bytes Error;
+}
+
 -- what a service answers
 pub goes_served : (q : ℕ) (play : World → Play FlatServed) (old new : State)
-    (told told_after : List Exchange) (way : Served)
-    (out out_after err err_after : Option (List ℕ))
-    → Answers play old told told_after way new out out_after err err_after
-    → GoesTo q play old (telling told out err) (λ w. done (way_in way w)) new
-    (telling told_after out_after err_after)
-goes_served q play old new told told_after way out out_after err err_after h = record {
-  more = record {
-    exchanges = h.exchanges;
-    output = h.output;
-    error = h.error;
-    exchanges_are = h.told_is;
-    output_is = h.out_is;
-    error_is = h.err_is;
-  };
-  goes = λ o e. goes_by h.exchanges (play (sent o e (world_of q old)))
-      (way_in way (sent (o ++ h.output) (e ++ h.error) (world_of q new))) (h.gives q o e)
-      (h.asks q o e);
+    (before after : BorderState) (way : Served) → Answers play old before way new after
+    → GoesTo q play old (told_at before) (λ w. done (way_in way w)) new (told_at after)
+goes_served q play old new before after way h = record {
+  more = told_more h.crossings before after h.tells;
+  goes = λ o e. goes-exchanges o e h.crossings (play (sent o e (world_of q old)))
+      (done (way_in way (sent (o ++ bytes_to Output h.crossings) (e ++ bytes_to Error h.crossings)
+      (world_of q new)))) (h.goes q o e);
 }
 
 -- where it holds of all, it holds where there is an error

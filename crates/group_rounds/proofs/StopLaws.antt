@@ -10,14 +10,17 @@ use Rattle.dos_world.specs.declared.Question.{Question}
 use Rattle.dos_io.specs.declared.exchange.Exchange.{Exchange}
 use Rattle.dos_io.specs.declared.shim.ShimStop.{ShimStop}
 use Rattle.dos_io.specs.Exchanges.{answer_of, question_of}
-use Rattle.dos_io.specs.Shims.{ShimState}
+use Rattle.dos_io.specs.Borders.{BorderState}
+use Rattle.dos_io.specs.declared.border.Stream.TheVariants.{Output, Error}
 use Rattle.dos_io.specs.Outside.{IsFront}
 use Rattle.dos_io.proofs.OutsideLaws.{grown-nothing}
-use Rattle.kernel_calls.specs.StateWorld.{Asks, sent, world_of}
+use Rattle.kernel_calls.specs.Plays.{AsksFirst}
+use Rattle.kernel_calls.specs.StateWorld.{sent, world_of}
 use Rattle.kernel_calls.specs.declared.state.State.{State}
 use Rattle.group_rounds.specs.Fronts.{AreFrontsOf, CutPlay, StoppedPlay}
 use Rattle.group_rounds.specs.Plays.{GoesOn}
-use Rattle.group_rounds.specs.StatePlays.{Telling, telling, GoesTo}
+use Rattle.group_rounds.specs.Outcomes.{told_at}
+use Rattle.group_rounds.specs.StatePlays.{Telling, GoesTo}
 use Rattle.group_rounds.proofs.PlayLaws.{goes-over_more, stops_by}
 use Rattle.group_rounds.proofs.StatePlayLaws.{told_then}
 
@@ -151,22 +154,20 @@ cut_stopped q world play s t t' asked k = record {
 
 -- a play of a service, whose first question it is
 pub service_stopped : (q : ℕ) (s : State) (play : World → Play FlatServed)
-    (before after : ShimState) (stop : ShimStop) (out out' err err' : Option (List ℕ))
-    → Asks play s before stop after out out' err err'
-    → StoppedPlay q play s (telling before.told out err) (telling after.told out' err') after.asked
-service_stopped q s play before after stop out out' err err' h = record {
+    (before after : BorderState) (stop : ShimStop) → AsksFirst play s before stop after
+    → StoppedPlay q play s (told_at before) (told_at after) after.shim.asked
+service_stopped q s play before after stop h = record {
   more = record {
     exchanges = [];
     output = [];
     error = [];
-    exchanges_are = h.first.stopped.told ∙ sym (append-nil before.told);
-    output_is = h.out_is ∙ grown-nothing out;
-    error_is = h.err_is ∙ grown-nothing err;
+    exchanges_are = h.stopped.shim.told ∙ sym (append-nil before.shim.told);
+    output_is = h.stopped.told Output ∙ grown-nothing before.output;
+    error_is = h.stopped.told Error ∙ grown-nothing before.error;
   };
-  question = h.first.question;
-  asked_is = h.first.stopped.asked;
-  asks = λ o e. h.first.asks q o e ∙ ap (λ x. asks h.first.question x e) (sym (append-nil o))
-      ∙ ap (λ x. asks h.first.question (o ++ []) x) (sym (append-nil e));
-  asked_so = λ o e. first_asked (play (sent o e (world_of q s))) h.first.question o e
-      (h.first.asks q o e);
+  question = h.question;
+  asked_is = h.stopped.shim.asked;
+  asks = λ o e. h.asks q o e ∙ ap (λ x. asks h.question x e) (sym (append-nil o))
+      ∙ ap (λ x. asks h.question (o ++ []) x) (sym (append-nil e));
+  asked_so = λ o e. first_asked (play (sent o e (world_of q s))) h.question o e (h.asks q o e);
 }

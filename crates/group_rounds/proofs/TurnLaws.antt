@@ -11,9 +11,11 @@ use Rattle.dos_world.specs.Services.{Served as FlatServed, service}
 use Rattle.dos_world.specs.declared.Access.{Access}
 use Rattle.dos_world.specs.declared.Reason.{Reason}
 use Rattle.dos_world.specs.declared.Reason.TheVariants.{Page, Fault, Service}
-use Rattle.dos_io.specs.declared.exchange.Exchange.{Exchange}
+use Rattle.dos_world.specs.declared.Question.TheVariants.{Signals, Input, Clock, End}
+use Rattle.dos_io.specs.Borders.{BorderState, exchanges_of}
 use Rattle.dos_io.specs.Exchanges.{answer_of}
-use Rattle.dos_io.specs.Shims.{HasNoEnd, ShimState}
+use Rattle.dos_io.specs.Shims.{HasNoEnd}
+use Rattle.dos_io.specs.declared.border.Stream.{Stream}
 use Rattle.dos_io.specs.declared.shim.ShimStop.{ShimStop}
 use Rattle.dos_laws.specs.Plays.{world_served}
 use Rattle.dos_laws.specs.Standing.{LawfulWith}
@@ -30,25 +32,31 @@ use Rattle.round_core.proofs.Turning.{goes_on, turns-granted, turns-fault, turns
 use Rattle.round_core.proofs.Turning.{turns-after_steps, few_grants, needed-granted}
 use Rattle.proc_table.specs.Tables.{thread_in, IsThread}
 use Rattle.kernel_calls.specs.StateWorld.{HaveParts, IsSound, world_of, sent, way_in, left_after}
-use Rattle.kernel_calls.specs.StateWorld.{Answers, Asks, HasFaulted, shim_stop}
+use Rattle.kernel_calls.specs.StateWorld.{shim_stop}
+use Rattle.kernel_calls.specs.Plays.{Answers, AsksFirst, FaultsIn, IsBeforeEnd, Stopper, StopsBy}
+use Rattle.kernel_calls.specs.Plays.{by_shim, by_sink, sent_then, stopper}
+use Rattle.kernel_calls.proofs.ServicePlays.{goes-over}
 use Rattle.kernel_calls.specs.declared.state.RunStop.{RunStop}
+use Rattle.kernel_calls.specs.declared.state.RunStop.TheVariants.{HostFault, LogFull, Misfit}
+use Rattle.kernel_calls.specs.declared.state.RunStop.TheVariants.{OutFault, ErrFault, Memory}
 use Rattle.kernel_calls.specs.declared.state.State.{State}
 use Rattle.kernel_calls.specs.declared.state.Served.{Served}
 use Rattle.kernel_calls.specs.declared.state.Served.TheVariants.{Went, Waits, Yields, Gone}
 use Rattle.group_rounds.specs.Fronts.{CutPlay, StoppedPlay}
 use Rattle.group_rounds.specs.Outside.{is_end}
-use Rattle.group_rounds.specs.StatePlays.{Telling, telling, GoesTo}
+use Rattle.group_rounds.specs.Outcomes.{told_at}
+use Rattle.group_rounds.specs.StatePlays.{Telling, GoesTo}
 use Rattle.group_rounds.specs.Parts.{KeepsCount, RanPart, budget_in, goes_on_after, turns_left}
 use Rattle.group_rounds.specs.Parts.{part_left, part_measure}
 use Rattle.group_rounds.proofs.FrontLaws.{cut_behind, cut_then, cut_from, fronts_after_service}
 use Rattle.group_rounds.proofs.FrontLaws.{service_cut}
 use Rattle.group_rounds.proofs.StopLaws.{cut_stopped, service_stopped, stopped_behind, stopped_from}
 use Rattle.group_rounds.proofs.StopLaws.{stopped_then}
-use Rattle.group_rounds.proofs.PlayLaws.{goes_by}
+use Rattle.group_rounds.proofs.PlayLaws.{goes-exchanges}
 use Rattle.group_rounds.proofs.StatePlayLaws.{goes_still, goes_behind, goes_from, goes_and}
 use Rattle.group_rounds.proofs.StatePlayLaws.{goes_served}
 use Rattle.group_rounds.proofs.Pays.{HasPaid, budget_at, no_end-append, no_end_over}
-use Rattle.group_rounds.proofs.Pays.{process_ended-count, question_no_end, service_paid}
+use Rattle.group_rounds.proofs.Pays.{process_ended-count, service_paid}
 use Rattle.group_rounds.proofs.Pays.{service_pays}
 use Rattle.group_rounds.proofs.ThreadRunLaws.{some_of}
 use Rattle.group_rounds.proofs.Sound.{parts_then, sound_one}
@@ -214,128 +222,117 @@ turn_serves s t budget stops q o e =
     ∙ turns-service (sent o e (world_of q s)) t (budget_in s t - 1) (stops q o e)
 
 -- where the run stops in it: the shim has come to a question of it
-pub turn_stopped : (s : State) (t : ℕ) → 0 < budget_in s t
+turn_stopped : (s : State) (t : ℕ) → 0 < budget_in s t
     → ((q : ℕ) (o e : List ℕ) → step (sent o e (world_of q s)) t ≡ Err Service)
-    → (before after : ShimState) (out out' err err' : Option (List ℕ)) (stop : ShimStop)
-    → Asks (λ w. service w t) s before stop after out out' err err'
-    → (q : ℕ) → StoppedPlay q (turns_left t) s (telling before.told out err)
-    (telling after.told out' err') after.asked
-turn_stopped s t budget stops before after out out' err err' stop h q =
+    → (before after : BorderState) (stop : ShimStop)
+    → AsksFirst (λ w. service w t) s before stop after
+    → (q : ℕ) → StoppedPlay q (turns_left t) s (told_at before) (told_at after) after.shim.asked
+turn_stopped s t budget stops before after stop h q =
     stopped_from q (turns_left t)
     (λ w. service w t >>= λ served. goes_on (budget_in s t - 1) t (after_service served))
-    s (telling before.told out err) (telling after.told out' err') after.asked
+    s (told_at before) (told_at after) after.shim.asked
     (turn_serves s t budget stops q)
     (stopped_then q (λ w. service w t)
-    (λ served. goes_on (budget_in s t - 1) t (after_service served)) s (telling before.told out err)
-    (telling after.told out' err') after.asked
-    (service_stopped q s (λ w. service w t) before after stop out out' err err' h))
+    (λ served. goes_on (budget_in s t - 1) t (after_service served)) s (told_at before)
+    (told_at after) after.shim.asked
+    (service_stopped q s (λ w. service w t) before after stop h))
 
 -- or a sink has failed
 sink_cut : (s s' : State) (t : ℕ) → 0 < budget_in s t
     → ((q : ℕ) (o e : List ℕ) → step (sent o e (world_of q s)) t ≡ Err Service)
-    → (told told' : List Exchange) (out out' err err' : Option (List ℕ)) (stop : RunStop)
-    → told' ≡ told → shim_stop stop ≡ None
-    → HasFaulted stop (λ w. service w t) s s' out out' err err'
-    → (q : ℕ) → CutPlay q (λ w. w) (turns_left t) s (telling told out err) (telling told' out' err')
-sink_cut s s' t budget stops told told' out out' err err' stop same is h q =
+    → (before after : BorderState) (stream : Stream)
+    → FaultsIn stream (λ w. service w t) s before s' after
+    → (q : ℕ) → CutPlay q (λ w. w) (turns_left t) s (told_at before) (told_at after)
+sink_cut s s' t budget stops before after stream h q =
     cut_from q (λ w. w) (turns_left t)
     (λ w. service w t >>= λ served. goes_on (budget_in s t - 1) t (after_service served))
-    s (telling told out err) (telling told' out' err')
+    s (told_at before) (told_at after)
     (turn_serves s t budget stops q)
     (cut_then q world_served (λ w. w) (λ w. service w t)
-    (λ served. goes_on (budget_in s t - 1) t (after_service served)) s (telling told out err)
-    (telling told' out' err')
+    (λ served. goes_on (budget_in s t - 1) t (after_service served)) s (told_at before)
+    (told_at after)
     (λ o e. fronts_after_service o e (budget_in s t - 1) t)
-    (service_cut q s s' t told told' same out out' err err' stop is h))
+    (service_cut q s s' t before after stream h))
 
 pub turn_cut : (s s' : State) (t : ℕ) → 0 < budget_in s t
     → ((q : ℕ) (o e : List ℕ) → step (sent o e (world_of q s)) t ≡ Err Service)
-    → (before after : ShimState) (out out' err err' : Option (List ℕ)) (stop : RunStop)
-    → after.told ≡ before.told
-    → IfSome (shim_stop stop)
-    (λ stop. Asks (λ w. service w t) s before stop after out out' err err')
-    → HasFaulted stop (λ w. service w t) s s' out out' err err'
-    → (q : ℕ) → CutPlay q (λ w. w) (turns_left t) s (telling before.told out err)
-    (telling after.told out' err')
-turn_cut s s' t budget stops before after out out' err err' stop same asks faults q =
-    by_stop (shim_stop stop) refl asks
+    → (before after : BorderState) (stop : RunStop)
+    → StopsBy (stopper stop) (λ w. service w t) s before s' after
+    → (q : ℕ) → CutPlay q (λ w. w) (turns_left t) s (told_at before) (told_at after)
+turn_cut s s' t budget stops before after stop h q = by_stopper (stopper stop) h
   where
-    by_stop : (o : Option ShimStop) → shim_stop stop ≡ o
-        → IfSome o (λ stop. Asks (λ w. service w t) s before stop after out out' err err')
-        → CutPlay q (λ w. w) (turns_left t) s (telling before.told out err)
-        (telling after.told out' err')
-    by_stop None is h =
-        sink_cut s s' t budget stops before.told after.told out out' err err' stop same is faults q
-    by_stop (Some x) is h =
-        cut_stopped q (λ w. w) (turns_left t) s (telling before.told out err)
-        (telling after.told out' err') after.asked
-        (turn_stopped s t budget stops before after out out' err err' x h q)
+    by_stopper : (by : Stopper) → StopsBy by (λ w. service w t) s before s' after
+        → CutPlay q (λ w. w) (turns_left t) s (told_at before) (told_at after)
+    by_stopper (by_sink stream) h = sink_cut s s' t budget stops before after stream h q
+    by_stopper (by_shim x) h =
+        cut_stopped q (λ w. w) (turns_left t) s (told_at before) (told_at after) after.shim.asked
+        (turn_stopped s t budget stops before after x h q)
+
+-- what holds where the shim stopped
+by_question : (s s' : State) (t : ℕ) (before after : BorderState) (P : Type 0)
+    → ((why : ShimStop) → AsksFirst (λ w. service w t) s before why after → P)
+    → (stop : RunStop) → StopsBy (stopper stop) (λ w. service w t) s before s' after
+    → OnSome (shim_stop stop) P
+by_question s s' t before after P holds HostFault h = holds _ h
+by_question s s' t before after P holds LogFull h = holds _ h
+by_question s s' t before after P holds (Misfit m) h = holds _ h
+by_question s s' t before after P holds Memory h = holds _ h
+by_question s s' t before after P holds OutFault h = tt
+by_question s s' t before after P holds ErrFault h = tt
 
 -- where the shim stops, so does it in the turn
-pub turn_asks : (s : State) (t : ℕ) → 0 < budget_in s t
+pub turn_asks : (s s' : State) (t : ℕ) → 0 < budget_in s t
     → ((q : ℕ) (o e : List ℕ) → step (sent o e (world_of q s)) t ≡ Err Service)
-    → (before after : ShimState) (out out' err err' : Option (List ℕ)) (stop : RunStop)
-    → IfSome (shim_stop stop)
-    (λ stop. Asks (λ w. service w t) s before stop after out out' err err')
+    → (before after : BorderState) (stop : RunStop)
+    → StopsBy (stopper stop) (λ w. service w t) s before s' after
     → OnSome (shim_stop stop)
-    ((q : ℕ) → StoppedPlay q (turns_left t) s (telling before.told out err)
-    (telling after.told out' err') after.asked)
-turn_asks s t budget stops before after out out' err err' stop h = by_stop (shim_stop stop) h
-  where
-    by_stop : (o : Option ShimStop)
-        → IfSome o (λ stop. Asks (λ w. service w t) s before stop after out out' err err')
-        → OnSome o ((q : ℕ) → StoppedPlay q (turns_left t) s (telling before.told out err)
-        (telling after.told out' err') after.asked)
-    by_stop None h = tt
-    by_stop (Some x) h = turn_stopped s t budget stops before after out out' err err' x h
+    ((q : ℕ) → StoppedPlay q (turns_left t) s (told_at before) (told_at after) after.shim.asked)
+turn_asks s s' t budget stops before after stop h =
+    by_question s s' t before after _
+    (λ why asks. turn_stopped s t budget stops before after why asks) stop h
 
 -- and its question isn't that of the run's end
-pub asks_no_end : (s : State) (t : ℕ) → IsThread s.table.threads t
-    → (before after : ShimState) (out out' err err' : Option (List ℕ)) (stop : RunStop)
-    → IfSome (shim_stop stop)
-    (λ stop. Asks (λ w. service w t) s before stop after out out' err err')
-    → OnSome (shim_stop stop) (is_end after.asked ≡ false)
-asks_no_end s t live before after out out' err err' stop h = by_stop (shim_stop stop) h
+pub asks_no_end : (s s' : State) (t : ℕ) (before after : BorderState) (stop : RunStop)
+    → StopsBy (stopper stop) (λ w. service w t) s before s' after
+    → OnSome (shim_stop stop) (is_end after.shim.asked ≡ false)
+asks_no_end s s' t before after stop h =
+    by_question s s' t before after _
+    (λ why asks. ap is_end asks.stopped.shim.asked ∙ no_end asks.question asks.running) stop h
   where
-    by_stop : (o : Option ShimStop)
-        → IfSome o (λ stop. Asks (λ w. service w t) s before stop after out out' err err')
-        → OnSome o (is_end after.asked ≡ false)
-    by_stop None h = tt
-    by_stop (Some x) h =
-        let found = some_of (thread_in s.table.threads t) live in
-        ap is_end h.first.stopped.asked
-        ∙ question_no_end (HasPaid t (found.0.budget - 1) (length s.frames.owners)) []
-        (service (world_of 0 s) t) h.first.question [] []
-        (service_pays (world_of 0 s) t found.0 found.1) (h.first.asks 0 [] [])
+    no_end : (question : Question) → IsBeforeEnd question → is_end (Some question) ≡ false
+    no_end (Signals round) h = refl
+    no_end (Input round tid max) h = refl
+    no_end (Clock round tid) h = refl
+    no_end (End ending rounds) h = absurd h
 
-module _ (s s' : State) (t : ℕ) (live : IsThread s.table.threads t)
-    (told told' : List Exchange) (way : Served) (out out' err err' : Option (List ℕ))
-    (answers : Answers (λ w. service w t) s told told' way s' out out' err err') where
+module _ (s s' : State) (t : ℕ) (live : IsThread s.table.threads t) (before after : BorderState)
+    (way : Served) (answers : Answers (λ w. service w t) s before way s' after) where
   caller : (thread : Thread) × (thread_in s.table.threads t ≡ Some thread)
   caller = some_of (thread_in s.table.threads t) live
 
-  -- what the service left
-  paid : HasPaid t (caller.0.budget - 1) (length s.frames.owners)
-      (way_in way (sent answers.output answers.error (world_of 0 s')))
-  paid = service_paid (world_of 0 s) t caller.0 (map answer_of answers.exchanges) []
-      (way_in way (sent answers.output answers.error (world_of 0 s'))) caller.1
-      (answers.gives 0 [] [])
+  -- the world that the service left
+  abbrev left : World
+  left = sent_then answers.crossings [] [] (world_of 0 s')
+
+  paid : HasPaid t (caller.0.budget - 1) (length s.frames.owners) (way_in way left)
+  paid = service_paid (world_of 0 s) t caller.0 (map answer_of (exchanges_of answers.crossings)) []
+      (way_in way left) caller.1
+      (goes-over [] [] answers.crossings (service (world_of 0 s) t) (way_in way left)
+      (answers.goes 0 [] []))
 
   budget_before : budget_in s t ≡ caller.0.budget
   budget_before = ap (λ o. elim o as (λ _. ℕ) [ None ↦ 0 | Some thread ↦ thread.budget ]) caller.1
 
   -- the run isn't over
-  pub told_on : HasNoEnd told → HasNoEnd told'
+  pub told_on : HasNoEnd before.shim.told → HasNoEnd after.shim.told
   told_on no_end =
-      subst HasNoEnd (sym answers.told_is)
-      (no_end-append told answers.exchanges no_end
-      (no_end_over (HasPaid t (caller.0.budget - 1) (length s.frames.owners)) answers.exchanges
-      (service (world_of 0 s) t)
-      (done (way_in way (sent answers.output answers.error (world_of 0 s'))))
+      subst HasNoEnd (sym answers.tells.exchanges)
+      (no_end-append before.shim.told (exchanges_of answers.crossings) no_end
+      (no_end_over (HasPaid t (caller.0.budget - 1) (length s.frames.owners))
+      (exchanges_of answers.crossings) (service (world_of 0 s) t) (done (way_in way left))
       (service_pays (world_of 0 s) t caller.0 caller.1)
-      (goes_by answers.exchanges (service (world_of 0 s) t)
-      (way_in way (sent answers.output answers.error (world_of 0 s')))
-      (answers.gives 0 [] []) (answers.asks 0 [] []))))
+      (goes-exchanges [] [] answers.crossings (service (world_of 0 s) t) (done (way_in way left))
+      (answers.goes 0 [] []))))
 
   -- there are as many frames
   pub served_count : KeepsCount s s'
@@ -343,7 +340,7 @@ module _ (s s' : State) (t : ℕ) (live : IsThread s.table.threads t)
     where
       go : (way : Served)
           → HasPaid t (caller.0.budget - 1) (length s.frames.owners)
-          (way_in way (sent answers.output answers.error (world_of 0 s')))
+          (way_in way left)
           → length s'.frames.owners ≡ length s.frames.owners
       go Went h = h.1
       go Waits h = h
@@ -356,7 +353,7 @@ module _ (s s' : State) (t : ℕ) (live : IsThread s.table.threads t)
     where
       go : (way : Served)
           → HasPaid t (caller.0.budget - 1) (length s.frames.owners)
-          (way_in way (sent answers.output answers.error (world_of 0 s')))
+          (way_in way left)
           → goes_on_after way ≡ true → budget_at s'.table.threads t ≡ Some (caller.0.budget - 1)
       go Went h on = h.0
       go Waits h on = cc
@@ -393,19 +390,19 @@ module _ (s s' : State) (t : ℕ) (live : IsThread s.table.threads t)
 
   pub service_goes : 0 < budget_in s t
       → ((q : ℕ) (o e : List ℕ) → step (sent o e (world_of q s)) t ≡ Err Service)
-      → (q : ℕ) → GoesTo q (turns_left t) s (telling told out err)
-      (part_left t (goes_on_after way)) s' (telling told' out' err')
+      → (q : ℕ) → GoesTo q (turns_left t) s (told_at before)
+      (part_left t (goes_on_after way)) s' (told_at after)
   service_goes budget stops q =
       goes_from q (turns_left t) (λ w. service w t >>= on_with) (part_left t (goes_on_after way)) s
-      s' (telling told out err) (telling told' out' err') (turn_serves s t budget stops q)
+      s' (told_at before) (told_at after) (turn_serves s t budget stops q)
       (goes_and q (λ w. service w t >>= on_with) (λ w. done (way_in way w) >>= on_with)
-      (part_left t (goes_on_after way)) s s' s' (telling told out err)
-      (telling told' out' err') (telling told' out' err')
+      (part_left t (goes_on_after way)) s s' s' (told_at before)
+      (told_at after) (told_at after)
       (goes_behind q (λ w. service w t) (λ w. done (way_in way w)) on_with s s'
-      (telling told out err) (telling told' out' err')
-      (goes_served q (λ w. service w t) s s' told told' way out out' err err' answers))
+      (told_at before) (told_at after)
+      (goes_served q (λ w. service w t) s s' before after way answers))
       (goes_still q (λ w. done (way_in way w) >>= on_with) (part_left t (goes_on_after way)) s' s'
-      (telling told' out' err') (last way on_budget)))
+      (told_at after) (last way on_budget)))
     where
       last : (way : Served) → (goes_on_after way ≡ true → budget_in s' t ≡ budget_in s t - 1)
           → (o e : List ℕ)

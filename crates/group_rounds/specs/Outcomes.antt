@@ -2,6 +2,7 @@
 use Rattle.std.specs.Prelude.{ℕ, ◌≡◌, List, false, Option, Result, IfErr, OnErr, OnOk, OnSome}
 use Rattle.dos_world.specs.World.{World}
 use Rattle.dos_world.specs.Play.{Play, done}
+use Rattle.dos_io.specs.Borders.{BorderState}
 use Rattle.dos_io.specs.Shims.{HasNoEnd, ShimState}
 use Rattle.kernel_calls.specs.StateWorld.{IsSound, shim_stop}
 use Rattle.kernel_calls.specs.declared.state.RunStop.{RunStop}
@@ -11,17 +12,9 @@ use Rattle.group_rounds.specs.Outside.{HaveCauses, is_end}
 use Rattle.group_rounds.specs.Parts.{KeepsCount}
 use Rattle.group_rounds.specs.StatePlays.{GoesTo, Telling, telling}
 
--- what a call finds of the outside: the shim's state, what the two sinks tell, and their counts of
--- faults
-pub record Border : Type 0 where
-  pub shim : ShimState
-  pub output : Option (List ℕ)
-  pub error : Option (List ℕ)
-  pub out_faults : ℕ
-  pub err_faults : ℕ
-
+-- what a call finds of the outside
 abbrev pub border : ShimState → (output error : Option (List ℕ)) → (out_faults err_faults : ℕ)
-    → Border
+    → BorderState
 border shim output error out_faults err_faults = record {
   shim = shim;
   output = output;
@@ -31,13 +24,13 @@ border shim output error out_faults err_faults = record {
 }
 
 -- what shim and sinks tell there
-abbrev pub told_at : Border → Telling
+abbrev pub told_at : BorderState → Telling
 told_at b = telling b.shim.told b.output b.error
 
 -- The call plays this play from the old state's world: to its end, or to a stop, which has come to
 -- a question where it is a shim's, and leaves fronts of what the play sends where it is a sink's.
 pub record Serves {T : Type 0} (play : World → Play World) (result : Result T RunStop)
-    (old new : State) (before after : Border) : Type 0 where
+    (old new : State) (before after : BorderState) : Type 0 where
   pub goes : OnOk result ((q : ℕ)
       → GoesTo q play old (told_at before) (λ w. done w) new (told_at after))
   pub sound : OnOk result (IsSound new)
@@ -56,7 +49,7 @@ pub record Serves {T : Type 0} (play : World → Play World) (result : Result T 
 -- What a call of a round keeps, however it ends: a sound state of as many frames where it answers,
 -- and where it stops a round that isn't counted.
 pub record KeepsRound {T : Type 0} (result : Result T RunStop) (old new : State)
-    (before after : Border) : Type 0 where
+    (before after : BorderState) : Type 0 where
   pub sound : OnOk result (IsSound new)
   pub count : OnOk result (KeepsCount old new)
   pub uncounted : OnErr result (new.round ≡ old.round)

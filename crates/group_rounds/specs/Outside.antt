@@ -1,9 +1,9 @@
 -- Why a run stops, and what a run may do to its shim and its sinks. This project's own rules.
-use Rattle.std.specs.Prelude.{ℕ, ◌≡◌, ◌≤◌, Bool, true, false, Option, Some, None, Result, IfErr}
+use Rattle.std.specs.Prelude.{ℕ, ◌≡◌, ◌≤◌, List, Bool, true, false, Option, Some, None, Result, IfErr}
 use Rattle.std.specs.Prelude.{OnOk}
 use Rattle.dos_world.specs.declared.Question.{Question}
 use Rattle.dos_world.specs.declared.Question.TheVariants.{Signals, Input, Clock, End}
-use Rattle.dos_io.specs.Outside.{Rose}
+use Rattle.dos_io.specs.Outside.{Rose, grown}
 use Rattle.dos_io.specs.Shims.{ShimState}
 use Rattle.kernel_calls.specs.StateWorld.{HasSinkCause, shim_stop}
 use Rattle.kernel_calls.specs.declared.state.RunStop.{RunStop}
@@ -45,3 +45,10 @@ pub record HaveCauses {T : Type 0} (result : Result T RunStop) (before after : S
   pub shim : IfErr result (λ stop. HasShimCause stop before after)
   pub stands : OnOk result (HasNotStopped before after)
   pub sinks : IfErr result (λ stop. HasSinkCause stop out out_after err err_after)
+
+-- what the sinks tell is what they told, with more bytes behind it
+pub record HaveGrown (out out_after err err_after : Option (List ℕ)) : Type 0 where
+  pub output : List ℕ
+  pub error : List ℕ
+  pub out_is : out_after ≡ grown out output
+  pub err_is : err_after ≡ grown err error

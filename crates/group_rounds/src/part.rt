@@ -18,7 +18,7 @@ ghost use Rattle.group_rounds.specs.Parts.{KeepsCount, RanPart, budget_in, goes_
 ghost use Rattle.group_rounds.specs.Parts.{part_left, part_measure, turns_left};
 ghost use Rattle.group_rounds.specs.Outcomes.{Serves, border};
 
-use dos_io::{Shim, Sink};
+use dos_io::{GroupBorder, Shim, Sink};
 use dos_world::{Access, Reason};
 use kernel_calls::{RunStop, Served, State, end_process, serve};
 use proc_table::Table;
@@ -195,7 +195,8 @@ fn take_turn<S: Shim, O: Sink, E: Sink>(
             Ok(false)
         }
         Reason::Service => {
-            match serve(state, tid, shim, out, err) {
+            let mut border = GroupBorder { shim, out, err };
+            match serve(state, tid, &mut border) {
                 Ok(way) => Ok(goes_on_after(way)),
                 Err(stop) => Err(stop),
             }

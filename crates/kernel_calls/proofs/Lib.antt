@@ -20,7 +20,8 @@ pub mod Waits
 pub mod Sending
 pub mod Called
 pub mod Rows
-pub mod Outcomes
+pub mod ServicePlays
+pub mod Playing
 pub mod PipeEnds
 pub mod Callers
 pub mod Room

@@ -1,5 +1,6 @@
 pub mod Built
 pub mod StateWorld
+pub mod Plays
 pub mod CallResults
 pub mod Ending
 pub mod Queued

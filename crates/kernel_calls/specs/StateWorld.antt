@@ -1,28 +1,22 @@
 -- The flat world of a state, what a sound state is, and what it means to have served. This
 -- project's own rules.
-use Rattle.std.specs.Prelude.{◌≡◌, ◌≤◌, ◌-◌, ◌++◌, ℕ, Bool, true, false, List, [], ◌∷◌, map, length}
-use Rattle.std.specs.Prelude.{sum_by, count_by, Option, None, Some, Result, Ok, Err, IfErr, IfSome}
-use Rattle.std.specs.Prelude.{All}
+use Rattle.std.specs.Prelude.{◌≡◌, ◌≤◌, ◌-◌, ℕ, Bool, true, false, List, [], ◌∷◌, length}
+use Rattle.std.specs.Prelude.{sum_by, count_by, Option, None, Some, IfSome}
 use Rattle.dos_world.specs.World.{World, Process, Thread, Sleeper, all_holdings}
 use Rattle.dos_world.specs.Counts.{reads_pipe, writes_pipe}
 use Rattle.dos_world.specs.declared.End.{End}
 use Rattle.kernel_objects.specs.Pipework.{Pipework, ends_at}
 use Rattle.dos_world.specs.Lawful.{Lawful, uses_of}
-use Rattle.dos_world.specs.Play.{Play, over, questions, gives, asks}
 use Rattle.dos_world.specs.Services.{Served as FlatServed, went, waits, yields, gone}
-use Rattle.dos_world.specs.declared.Question.{Question}
 use Rattle.dos_world.specs.declared.ThreadState.TheVariants.{Ready}
-use Rattle.dos_io.specs.Exchanges.{answer_of, question_of}
-use Rattle.dos_io.specs.Outside.{grown, GrewByFront, Rose}
-use Rattle.dos_io.specs.Shims.{ShimState, Stopped}
-use Rattle.dos_io.specs.declared.exchange.Exchange.{Exchange}
+use Rattle.dos_io.specs.Outside.{Rose}
 use Rattle.dos_io.specs.declared.shim.ShimStop.{ShimStop}
 use Rattle.dos_io.specs.declared.shim.ShimStop.TheVariants.{HostFault as host_fault}
 use Rattle.dos_io.specs.declared.shim.ShimStop.TheVariants.{LogFull as log_full, Misfit as misfit}
 use Rattle.dos_io.specs.declared.shim.ShimStop.TheVariants.{Memory as memory}
-use Rattle.dos_laws.specs.Standing.{AreAwake, AreApart, IsFit}
+use Rattle.dos_laws.specs.Standing.{AreAwake, AreApart}
 use Rattle.page_store.specs.Store.{uses_at}
-use Rattle.proc_table.specs.Tables.{Tables, thread_in}
+use Rattle.proc_table.specs.Tables.{thread_in}
 use Rattle.kernel_mem.specs.MemoryWorld.{in_world, HasAllHome, KeepsUses}
 use Rattle.kernel_calls.specs.declared.state.State.{State}
 use Rattle.kernel_calls.specs.declared.state.Served.{Served}
@@ -117,25 +111,6 @@ way_in Waits w = waits w
 way_in Yields w = yields w
 way_in Gone w = gone w
 
--- From the world of the old state, with any bytes sent before, a play asks what these exchanges
--- added asked, and over their answers, which fit, it goes on this way:
--- in the world of the new state, with the bytes sent before and those that the sinks now tell more.
-pub record Answers (play : World → Play FlatServed) (old : State) (told told_after : List Exchange)
-    (way : Served) (new : State) (out out_after err err_after : Option (List ℕ)) : Type 0 where
-  pub exchanges : List Exchange
-  pub output : List ℕ
-  pub error : List ℕ
-  pub told_is : told_after ≡ told ++ exchanges
-  pub out_is : out_after ≡ grown out output
-  pub err_is : err_after ≡ grown err error
-  pub fits : All IsFit (map answer_of exchanges)
-  pub gives : (q : ℕ) (o e : List ℕ)
-      → over (map answer_of exchanges) (play (sent o e (world_of q old)))
-      ≡ gives (way_in way (sent (o ++ output) (e ++ error) (world_of q new))) []
-  pub asks : (q : ℕ) (o e : List ℕ)
-      → questions (map answer_of exchanges) (play (sent o e (world_of q old)))
-      ≡ map question_of exchanges
-
 -- ---- not having served
 
 -- the stop of a shim that ends a run, where it was the shim's
@@ -147,27 +122,6 @@ shim_stop Memory = Some memory
 shim_stop OutFault = None
 shim_stop ErrFault = None
 
--- The shim stopped at the play's first question.
-pub record AsksFirst (play : World → Play FlatServed) (old : State) (before : ShimState)
-    (stop : ShimStop) (after : ShimState) : Type 0 where
-  pub question : Question
-  pub asks : (q : ℕ) (o e : List ℕ) → over [] (play (sent o e (world_of q old))) ≡ asks question o e
-  pub stopped : Stopped before question stop after
-
--- A run that ends so was stopped by the shim, at the play's first question.
-abbrev pub StopsAsking : RunStop → (World → Play FlatServed) → State → (before after : ShimState)
-    → Type 0
-StopsAsking stop play old before after =
-    elim (shim_stop stop) [ None ↦ ⊥ | Some s ↦ AsksFirst play old before s after ]
-
--- It did, and no byte was sent by then.
-pub record Asks (play : World → Play FlatServed) (old : State) (before : ShimState)
-    (stop : ShimStop) (after : ShimState)
-    (out out_after err err_after : Option (List ℕ)) : Type 0 where
-  pub first : AsksFirst play old before stop after
-  pub out_is : out_after ≡ out
-  pub err_is : err_after ≡ err
-
 -- All stands but owners: each process and thread is as it was, its registers and budget too, and so
 -- are each frame's page and uses.
 -- Owners differ at most by the grants of what was read.
@@ -177,65 +131,9 @@ pub record Stands (old new : State) : Type 0 where
   pub pipes : new.pipes ≡ old.pipes
   pub futexes : new.futexes ≡ old.futexes
 
--- the world with these bytes more sent to output, or to error
-abbrev pub to_output : List ℕ → World → World
-to_output bytes w = record w { output = w.output ++ bytes }
-
-abbrev pub to_error : List ℕ → World → World
-to_error bytes w = record w { error = w.error ++ bytes }
-
--- A sink failed in a play that goes on and sends these bytes to it: the sink tells a front of them
--- more, and the other sink no more. The world in which the play goes on is the new state's, but for
--- the table, in which the caller has its answer. So the new state's owners are those of that world:
--- the old ones, with the grants of what was read.
-pub record FaultsIn (sends : List ℕ → World → World) (play : World → Play FlatServed)
-    (old new : State)
-    (told told_after other other_after : Option (List ℕ)) : Type 0 where
-  pub bytes : List ℕ
-  pub front : GrewByFront told told_after bytes
-  pub stays : other_after ≡ other
-  pub table : Tables
-  pub goes : (q : ℕ) (o e : List ℕ) →
-      over [] (play (sent o e (world_of q old)))
-      ≡ gives (went (sends bytes (sent o e (world_of q (record new { table = table }))))) []
-
--- What a sink's fault leaves: of the sink of the output, or that of the error output.
-abbrev pub HasFaulted : RunStop → (World → Play FlatServed) → (old new : State)
-    → (out out_after err err_after : Option (List ℕ)) → Type 0
-HasFaulted OutFault play old new out out_after err err_after =
-    FaultsIn to_output play old new out out_after err err_after
-HasFaulted ErrFault play old new out out_after err err_after =
-    FaultsIn to_error play old new err err_after out out_after
-HasFaulted _ play old new out out_after err err_after = Unit {0}
-
--- what the sinks tell is what they told, with more bytes behind it
-pub record HaveGrown (out out_after err err_after : Option (List ℕ)) : Type 0 where
-  pub output : List ℕ
-  pub error : List ℕ
-  pub out_is : out_after ≡ grown out output
-  pub err_is : err_after ≡ grown err error
-
 -- a sink's fault that ends a run comes only where that sink's count rose
 abbrev pub HasSinkCause : RunStop → (out out_after err err_after : ℕ) → Type 0
 HasSinkCause OutFault out out_after err err_after = Rose out out_after
 HasSinkCause ErrFault out out_after err err_after = Rose err err_after
 HasSinkCause _ out out_after err err_after = Unit {0}
 
--- the shim hasn't stopped
-pub record HasNotStopped (before after : ShimState) : Type 0 where
-  pub stops : after.stops ≡ before.stops
-  pub last : after.last ≡ before.last
-
--- where the shim hasn't stopped, its count and its last stop stand
-abbrev pub StandsUnlessShims : Result Served RunStop → ShimState → ShimState → Type 0
-StandsUnlessShims (Ok way) before after = HasNotStopped before after
-StandsUnlessShims (Err stop) before after =
-    elim (shim_stop stop) [ None ↦ HasNotStopped before after | Some s ↦ Unit {0} ]
-
--- No count falls, and a stop comes only where its object's count rose.
-pub record HasCauses (result : Result Served RunStop) (shim shim_after : ShimState)
-    (out out_after err err_after : ℕ) : Type 0 where
-  pub out_later : out ≤ out_after
-  pub err_later : err ≤ err_after
-  pub sinks : IfErr result (λ stop. HasSinkCause stop out out_after err err_after)
-  pub stands : StandsUnlessShims result shim shim_after

@@ -8,19 +8,19 @@ ghost use Rattle.dos_world.specs.declared.Question.TheVariants.{Input as input_q
 ghost use Rattle.dos_world.specs.Kernel.{all_reach};
 ghost use Rattle.dos_world.specs.Lawful.{IsByte};
 ghost use Rattle.dos_world.specs.Services.{read, read_by, read_input};
-ghost use Rattle.dos_io.specs.Shims.{HasNoEnd, Stopped, answered};
+ghost use Rattle.dos_io.specs.Shims.{HasNoEnd};
+ghost use Rattle.dos_io.specs.Borders.{Crosses, StopsAt, exchanged};
 ghost use Rattle.dos_io.specs.declared.exchange.Exchange.TheVariants.{Input as input_exchange};
 ghost use Rattle.kernel_mem.specs.MemoryWorld.{in_world};
 ghost use Rattle.page_store.specs.Store.{Store as Held};
-ghost use Rattle.kernel_calls.specs.StateWorld.{HasNotStopped, IsCounted, IsSound, Stands};
-ghost use Rattle.kernel_calls.specs.StateWorld.{StopsAsking};
-ghost use Rattle.kernel_calls.specs.CallResults.{AreAsked, Consults, asked_count, call_in};
-ghost use Rattle.kernel_calls.specs.CallResults.{source_of};
+ghost use Rattle.kernel_calls.specs.StateWorld.{IsCounted, IsSound, Stands};
+ghost use Rattle.kernel_calls.specs.Plays.{PlaysOnce};
+ghost use Rattle.kernel_calls.specs.CallResults.{AreAsked, asked_count, call_in, source_of};
 
 use crate::answering::{refuse_call, reply};
 use crate::piping::{put_out, read_pipe};
 use crate::state::{Asked, RunStop, Served, State, run_stop};
-use dos_io::{Shim, ShimStop};
+use dos_io::{Border, ShimStop};
 use dos_world::End;
 use dos_world::errors::EBADF;
 use kernel_mem::check;
@@ -34,26 +34,23 @@ pub(crate) enum Source {
 
 /// Bytes of the input or of a pipe: how many. An empty pipe that has a writer makes the call wait.
 /// Refusals: 9 where a0 names neither, 14 where one of the bytes isn't mapped with W.
-pub(crate) fn read<S: Shim>(
+pub(crate) fn read<B: Border>(
     state: &mut State,
     asked: &Asked,
-    shim: &mut S,
+    border: &mut B,
 ) -> Result<Served, RunStop>
     requires sound { IsSound state.old }
     requires asked { AreAsked state.old asked.now }
-    requires told { HasNoEnd (S.state shim.old).told }
-    ensures consults { IfOk result (λ way. Consults read state.old asked.now
-        (S.state shim.old).told (S.state shim.new).told way state.new) }
+    requires told { HasNoEnd (B.state border.old).shim.told }
+    ensures plays { PlaysOnce (λ w. read (call_in w asked.now)) result
+        state.old (B.state border.old) state.new (B.state border.new) }
     ensures counted { OnOk result (IsCounted state.new) }
     ensures stands { OnErr result (Stands state.old state.new) }
     ensures round { state.new.round ≡ state.old.round }
-    ensures asks { IfErr result (λ stop. StopsAsking stop (λ w. read (call_in w asked.now))
-        state.old (S.state shim.old) (S.state shim.new)) }
-    ensures stood { OnOk result (HasNotStopped (S.state shim.old) (S.state shim.new)) }
-    ensures follows { S.follows shim.old shim.new }
+    ensures follows { B.follows border.old border.new }
 {
     match source_of(state.table.descriptor(asked.process, asked.a0)) {
-        Some(Source::Input) => read_input(state, asked, shim),
+        Some(Source::Input) => read_input(state, asked, border),
         Some(Source::Pipe(pipe)) => Ok(read_pipe(state, asked, pipe)),
         None => {
             refuse_call(state, asked.thread, EBADF);
@@ -74,20 +71,16 @@ fn source_of(end: Option<End>) -> Option<Source>
 }
 
 // Bytes of the input.
-fn read_input<S: Shim>(state: &mut State, asked: &Asked, shim: &mut S) -> Result<Served, RunStop>
+fn read_input<B: Border>(state: &mut State, asked: &Asked, border: &mut B) -> Result<Served, RunStop>
     requires sound { IsSound state.old }
     requires asked { AreAsked state.old asked.now }
-    requires told { HasNoEnd (S.state shim.old).told }
-    ensures consults { IfOk result (λ way. Consults (read_by (Some Input)) state.old asked.now
-        (S.state shim.old).told (S.state shim.new).told way state.new) }
+    requires told { HasNoEnd (B.state border.old).shim.told }
+    ensures plays { PlaysOnce (λ w. read_by (Some Input) (call_in w asked.now)) result
+        state.old (B.state border.old) state.new (B.state border.new) }
     ensures counted { OnOk result (IsCounted state.new) }
     ensures stands { OnErr result (Stands state.old state.new) }
     ensures round { state.new.round ≡ state.old.round }
-    ensures asks { IfErr result
-        (λ stop. StopsAsking stop (λ w. read_by (Some Input) (call_in w asked.now))
-        state.old (S.state shim.old) (S.state shim.new)) }
-    ensures stood { OnOk result (HasNotStopped (S.state shim.old) (S.state shim.new)) }
-    ensures follows { S.follows shim.old shim.new }
+    ensures follows { B.follows border.old border.new }
 {
     let count = asked.a2.min(4096);
     if count == 0 {
@@ -95,7 +88,7 @@ fn read_input<S: Shim>(state: &mut State, asked: &Asked, shim: &mut S) -> Result
         return Ok(Served::Went);
     }
     match check(&state.table, asked.thread, asked.a1, count, true) {
-        Ok(()) => ask_input(state, asked, shim, count),
+        Ok(()) => ask_input(state, asked, border, count),
         Err(number) => {
             refuse_call(state, asked.thread, number);
             Ok(Served::Went)
@@ -104,31 +97,28 @@ fn read_input<S: Shim>(state: &mut State, asked: &Asked, shim: &mut S) -> Result
 }
 
 // so many bytes are asked for, and all are mapped
-fn ask_input<S: Shim>(
+fn ask_input<B: Border>(
     state: &mut State,
     asked: &Asked,
-    shim: &mut S,
+    border: &mut B,
     count: u32,
 ) -> Result<Served, RunStop>
     requires sound { IsSound state.old }
     requires asked { AreAsked state.old asked.now }
-    requires told { HasNoEnd (S.state shim.old).told }
+    requires told { HasNoEnd (B.state border.old).shim.told }
     requires count { count ≡ asked_count asked.now }
     requires some { 0 < count }
     requires reach { (w : World) (s : Held)
         → all_reach (in_world w s state.old.table) asked.now.thread asked.now.a1 count Store
         ≡ true }
-    ensures consults { IfOk result (λ way. Consults read_input state.old asked.now
-        (S.state shim.old).told (S.state shim.new).told way state.new) }
+    ensures plays { PlaysOnce (λ w. read_input (call_in w asked.now)) result
+        state.old (B.state border.old) state.new (B.state border.new) }
     ensures counted { OnOk result (IsCounted state.new) }
     ensures stands { OnErr result (Stands state.old state.new) }
     ensures round { state.new.round ≡ state.old.round }
-    ensures asks { IfErr result (λ stop. StopsAsking stop (λ w. read_input (call_in w asked.now))
-        state.old (S.state shim.old) (S.state shim.new)) }
-    ensures stood { OnOk result (HasNotStopped (S.state shim.old) (S.state shim.new)) }
-    ensures follows { S.follows shim.old shim.new }
+    ensures follows { B.follows border.old border.new }
 {
-    match input_into(shim, state.round, asked.thread, &mut state.buffer, count) {
+    match input_into(border, state.round, asked.thread, &mut state.buffer, count) {
         Ok(moved) => {
             put_out(&mut state.frames, &state.table, asked, &state.buffer, moved);
             reply(state, asked.thread, moved);
@@ -139,26 +129,26 @@ fn ask_input<S: Shim>(
 }
 
 // An input of at most so many bytes, to the front of the buffer; how many.
-fn input_into<S: Shim>(
-    shim: &mut S,
+fn input_into<B: Border>(
+    border: &mut B,
     round: u32,
     tid: u32,
     buffer: &mut [u8; 4096],
     count: u32,
 ) -> Result<u32, ShimStop>
-    requires told { HasNoEnd (S.state shim.old).told }
+    requires told { HasNoEnd (B.state border.old).shim.told }
     requires some { 0 < count }
     requires few { count ≤ 4096 }
     ensures within { IfOk result (λ k. k ≤ count) }
     ensures length { IfOk result (λ k. length (take k buffer.new) ≡ k) }
     ensures bytes { IfOk result (λ k. All IsByte (take k buffer.new)) }
-    ensures ok { IfOk result (λ k. S.state shim.new
-        ≡ answered (S.state shim.old) (input_exchange round tid count (take k buffer.new))) }
-    ensures err { IfErr result (λ stop. Stopped (S.state shim.old) (input_question round tid count)
-        stop (S.state shim.new)) }
-    ensures follows { S.follows shim.old shim.new }
+    ensures ok { IfOk result (λ k. Crosses (B.state border.old)
+        (exchanged (input_exchange round tid count (take k buffer.new))) (B.state border.new)) }
+    ensures err { IfErr result (λ stop. StopsAt (B.state border.old)
+        (input_question round tid count) stop (B.state border.new)) }
+    ensures follows { B.follows border.old border.new }
 {
-    match shim.input(round, tid, &mut buffer[..count as usize]) {
+    match border.input(round, tid, &mut buffer[..count as usize]) {
         Ok(moved) => {
             are_bytes(&buffer[..moved]);
             Ok(moved as u32)

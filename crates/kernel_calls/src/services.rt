@@ -1,11 +1,11 @@
 // The services by number.
-ghost use Rattle.std.specs.Prelude.{◌≡◌, ◌<◌, ℕ, List, ◌∷◌, IfSome, IfOk, IfErr, OnErr, OnOk};
+ghost use Rattle.std.specs.Prelude.{◌≡◌, ◌<◌, ℕ, List, ◌∷◌, IfSome, IfOk, OnErr, OnOk};
 ghost use Rattle.dos_world.specs.Services.{service};
 ghost use Rattle.dos_io.specs.Shims.{HasNoEnd};
 ghost use Rattle.proc_table.specs.Tables.{IsThread, ran, thread_by, thread_in};
-ghost use Rattle.kernel_calls.specs.StateWorld.{Answers, Asks, HasCauses, HasFaulted, HaveGrown};
 ghost use Rattle.kernel_calls.specs.StateWorld.{HaveParts, IsCounted, IsReady, IsSound, Stands};
-ghost use Rattle.kernel_calls.specs.StateWorld.{left_after, sent, shim_stop, world_of};
+ghost use Rattle.kernel_calls.specs.StateWorld.{left_after, sent, world_of};
+ghost use Rattle.kernel_calls.specs.Plays.{PlaysOnce};
 ghost use Rattle.kernel_calls.specs.Built.{definition_by, definition_of, quiet_definition_of};
 ghost use Rattle.kernel_calls.specs.CallResults.{AreAsked, ActsQuietly, call_in, paid};
 
@@ -21,7 +21,7 @@ use crate::sleeping::{futex_wait, futex_wake};
 use crate::state::{Asked, RunStop, Served, State};
 use crate::threads::{process_exit, round_number, thread_exit, thread_new};
 use crate::writing::write;
-use dos_io::{Shim, Sink};
+use dos_io::Border;
 use dos_world::Regs;
 use dos_world::errors::ENOSYS;
 
@@ -30,50 +30,33 @@ use dos_world::errors::ENOSYS;
 ///
 /// After an `Err` the run is over, and nothing is served or paid for: each process and thread is as
 /// before the call, this thread's registers and budget too. Of the frames owners alone may differ:
-/// a page whose bytes were read before the sink failed may be shared now. The shim tells no more
-/// then. The sink that failed tells a front of the bytes that the service sends to it, and the
-/// other no more; where the shim stops, neither does.
-pub fn serve<S: Shim, O: Sink, E: Sink>(
+/// a page whose bytes were read before a put failed may be shared now. Then a front of the bytes
+/// that the service sends has crossed the border, and nothing else; where the shim stops, nothing.
+pub fn serve<B: Border>(
     state: &mut State,
     tid: u32,
-    shim: &mut S,
-    out: &mut O,
-    err: &mut E,
+    border: &mut B,
 ) -> Result<Served, RunStop>
     requires sound { IsSound state.old }
     requires live { IsThread state.old.table.threads tid }
     requires ready { IsReady state.old.table.threads tid }
     requires budget { IfSome (thread_in state.old.table.threads tid) (λ thread. 0 < thread.budget) }
-    requires told { HasNoEnd (S.state shim.old).told }
-    ensures runs { IfOk result
-        (λ way. Answers (λ w. service w tid) state.old (S.state shim.old).told
-        (S.state shim.new).told way state.new (O.told out.old) (O.told out.new)
-        (E.told err.old) (E.told err.new)) }
+    requires told { HasNoEnd (B.state border.old).shim.told }
+    ensures plays { PlaysOnce (λ w. service w tid) result
+        state.old (B.state border.old) state.new (B.state border.new) }
     ensures sound { IsSound state.new }
     ensures parts { IfOk result
         (λ way. (ts : List ℕ) → HaveParts (tid ∷ ts) state.old
         → HaveParts (left_after way tid ts) state.new) }
     ensures stands { OnErr result (Stands state.old state.new) }
     ensures round { state.new.round ≡ state.old.round }
-    ensures asks { IfErr result
-        (λ stop. IfSome (shim_stop stop)
-        (λ s. Asks (λ w. service w tid) state.old (S.state shim.old) s
-        (S.state shim.new) (O.told out.old) (O.told out.new) (E.told err.old)
-        (E.told err.new))) }
-    ensures told { OnErr result ((S.state shim.new).told ≡ (S.state shim.old).told) }
-    ensures grows { OnErr result
-        (HaveGrown (O.told out.old) (O.told out.new) (E.told err.old) (E.told err.new)) }
-    ensures faults { IfErr result (λ stop. HasFaulted stop (λ w. service w tid) state.old state.new
-        (O.told out.old) (O.told out.new) (E.told err.old) (E.told err.new)) }
-    ensures causes { HasCauses result (S.state shim.old) (S.state shim.new) (O.faults out.old)
-        (O.faults out.new) (E.faults err.old) (E.faults err.new) }
-    ensures follows { S.follows shim.old shim.new }
+    ensures follows { B.follows border.old border.new }
 {
     let regs = *state.table.regs(tid);
     let budget = state.table.budget(tid);
     let (service, asked) = call_by(state, tid);
     charge(state, tid);
-    match dispatch(state, service, &asked, shim, out, err) {
+    match dispatch(state, service, &asked, border) {
         Ok(way) => Ok(way),
         Err(stop) => {
             restore(state, tid, regs, budget);
@@ -123,41 +106,24 @@ fn restore(state: &mut State, tid: u32, regs: Regs, budget: u32)
 }
 
 // The service, once it is paid for.
-fn dispatch<S: Shim, O: Sink, E: Sink>(
+fn dispatch<B: Border>(
     state: &mut State,
     service: Option<Service>,
     asked: &Asked,
-    shim: &mut S,
-    out: &mut O,
-    err: &mut E,
+    border: &mut B,
 ) -> Result<Served, RunStop>
     requires sound { IsSound state.old }
     requires asked { AreAsked state.old asked.now }
-    requires told { HasNoEnd (S.state shim.old).told }
-    ensures runs { IfOk result
-        (λ way. Answers (λ w. definition_by service (call_in w asked.now)) state.old
-        (S.state shim.old).told (S.state shim.new).told way state.new (O.told out.old)
-        (O.told out.new) (E.told err.old) (E.told err.new)) }
+    requires told { HasNoEnd (B.state border.old).shim.told }
+    ensures plays { PlaysOnce (λ w. definition_by service (call_in w asked.now)) result
+        state.old (B.state border.old) state.new (B.state border.new) }
     ensures counted { OnOk result (IsCounted state.new) }
     ensures stands { OnErr result (Stands state.old state.new) }
     ensures round { state.new.round ≡ state.old.round }
-    ensures asks { IfErr result
-        (λ stop. IfSome (shim_stop stop)
-        (λ s. Asks (λ w. definition_by service (call_in w asked.now)) state.old (S.state shim.old) s
-        (S.state shim.new) (O.told out.old) (O.told out.new) (E.told err.old)
-        (E.told err.new))) }
-    ensures told { OnErr result ((S.state shim.new).told ≡ (S.state shim.old).told) }
-    ensures grows { OnErr result
-        (HaveGrown (O.told out.old) (O.told out.new) (E.told err.old) (E.told err.new)) }
-    ensures faults { IfErr result
-        (λ stop. HasFaulted stop (λ w. definition_by service (call_in w asked.now))
-        state.old state.new (O.told out.old) (O.told out.new) (E.told err.old) (E.told err.new)) }
-    ensures causes { HasCauses result (S.state shim.old) (S.state shim.new) (O.faults out.old)
-        (O.faults out.new) (E.faults err.old) (E.faults err.new) }
-    ensures follows { S.follows shim.old shim.new }
+    ensures follows { B.follows border.old border.new }
 {
     match service {
-        Some(service) => perform(state, service, asked, shim, out, err),
+        Some(service) => perform(state, service, asked, border),
         None => {
             refuse_call(state, asked.thread, ENOSYS);
             Ok(Served::Went)
@@ -165,44 +131,27 @@ fn dispatch<S: Shim, O: Sink, E: Sink>(
     }
 }
 
-fn perform<S: Shim, O: Sink, E: Sink>(
+fn perform<B: Border>(
     state: &mut State,
     service: Service,
     asked: &Asked,
-    shim: &mut S,
-    out: &mut O,
-    err: &mut E,
+    border: &mut B,
 ) -> Result<Served, RunStop>
     requires sound { IsSound state.old }
     requires asked { AreAsked state.old asked.now }
-    requires told { HasNoEnd (S.state shim.old).told }
-    ensures runs { IfOk result
-        (λ way. Answers (λ w. definition_of service (call_in w asked.now)) state.old
-        (S.state shim.old).told (S.state shim.new).told way state.new (O.told out.old)
-        (O.told out.new) (E.told err.old) (E.told err.new)) }
+    requires told { HasNoEnd (B.state border.old).shim.told }
+    ensures plays { PlaysOnce (λ w. definition_of service (call_in w asked.now)) result
+        state.old (B.state border.old) state.new (B.state border.new) }
     ensures counted { OnOk result (IsCounted state.new) }
     ensures stands { OnErr result (Stands state.old state.new) }
     ensures round { state.new.round ≡ state.old.round }
-    ensures asks { IfErr result
-        (λ stop. IfSome (shim_stop stop)
-        (λ s. Asks (λ w. definition_of service (call_in w asked.now)) state.old (S.state shim.old) s
-        (S.state shim.new) (O.told out.old) (O.told out.new) (E.told err.old)
-        (E.told err.new))) }
-    ensures told { OnErr result ((S.state shim.new).told ≡ (S.state shim.old).told) }
-    ensures grows { OnErr result
-        (HaveGrown (O.told out.old) (O.told out.new) (E.told err.old) (E.told err.new)) }
-    ensures faults { IfErr result
-        (λ stop. HasFaulted stop (λ w. definition_of service (call_in w asked.now))
-        state.old state.new (O.told out.old) (O.told out.new) (E.told err.old) (E.told err.new)) }
-    ensures causes { HasCauses result (S.state shim.old) (S.state shim.new) (O.faults out.old)
-        (O.faults out.new) (E.faults err.old) (E.faults err.new) }
-    ensures follows { S.follows shim.old shim.new }
+    ensures follows { B.follows border.old border.new }
 {
     match service {
         Service::Quiet(service) => Ok(perform_quietly(state, service, asked)),
-        Service::Read => read(state, asked, shim),
-        Service::Write => write(state, asked, out, err),
-        Service::Clock => clock(state, asked, shim),
+        Service::Read => read(state, asked, border),
+        Service::Write => write(state, asked, border),
+        Service::Clock => clock(state, asked, border),
     }
 }
 

@@ -1,22 +1,21 @@
 // Writing.
-ghost use Rattle.std.specs.Prelude.{◌≡◌, ◌≤◌, ℕ, List, take, true, IfErr, IfOk, OnErr, OnOk};
+ghost use Rattle.std.specs.Prelude.{◌≡◌, ◌≤◌, take, true, OnErr, OnOk};
 ghost use Rattle.dos_world.specs.World.{World};
 ghost use Rattle.dos_world.specs.declared.Access.TheVariants.{Load};
 ghost use Rattle.dos_world.specs.Kernel.{all_reach, copied_in};
-ghost use Rattle.dos_world.specs.Services.{write};
-ghost use Rattle.dos_io.specs.Outside.{HasCause};
+ghost use Rattle.dos_world.specs.Services.{transfers, write};
 ghost use Rattle.kernel_mem.specs.MemoryWorld.{in_world, NamesUsedFrames, IsCaller, HasAllHome};
 ghost use Rattle.kernel_mem.specs.MemoryWorld.{KeepsUses};
 ghost use Rattle.page_store.specs.Store.{Store as Held};
-ghost use Rattle.kernel_calls.specs.StateWorld.{HasFaulted, HaveGrown, IsCounted, IsSound, Stands};
-ghost use Rattle.kernel_calls.specs.CallResults.{AreAsked, HasSinkCauses, IsCutOff, IsSent, Sends};
-ghost use Rattle.kernel_calls.specs.CallResults.{call_in, target_of};
-ghost use Rattle.kernel_calls.specs.declared.state.Served.TheVariants.{Went};
+ghost use Rattle.kernel_calls.specs.StateWorld.{IsCounted, IsSound, Stands};
+ghost use Rattle.kernel_calls.specs.Plays.{PlaysOnce, by_sink, stopper};
+ghost use Rattle.kernel_calls.specs.CallResults.{AreAsked, are_readable, call_in, target_of};
+ghost use Rattle.kernel_calls.specs.CallResults.{write_to};
 
 use crate::answering::{refuse_call, reply};
 use crate::piping::write_pipe;
 use crate::state::{Asked, RunStop, Served, State};
-use dos_io::{Sink, SinkFault};
+use dos_io::{Border, SinkFault, Stream};
 use dos_world::End;
 use dos_world::errors::EBADF;
 use kernel_mem::{check, copy_in};
@@ -26,36 +25,28 @@ use proc_table::Table;
 /// Where a write goes.
 #[derive(Clone, Copy)]
 pub(crate) enum Target {
-    Output,
-    Error,
+    To(Stream),
     Pipe(u8),
 }
 
 /// Bytes to output, error or a pipe: how many. A full pipe makes the call wait. Refusals: 9 where
 /// a0 names none of them, 14 where one of the bytes isn't mapped, 32 where a pipe has no reader.
-pub(crate) fn write<O: Sink, E: Sink>(
+pub(crate) fn write<B: Border>(
     state: &mut State,
     asked: &Asked,
-    out: &mut O,
-    err: &mut E,
+    border: &mut B,
 ) -> Result<Served, RunStop>
     requires sound { IsSound state.old }
     requires asked { AreAsked state.old asked.now }
-    ensures sends { IfOk result (λ way. Sends write state.old asked.now way state.new
-        (O.told out.old) (O.told out.new) (E.told err.old) (E.told err.new)) }
+    ensures plays { PlaysOnce (λ w. write (call_in w asked.now)) result
+        state.old (B.state border.old) state.new (B.state border.new) }
     ensures counted { OnOk result (IsCounted state.new) }
     ensures stands { OnErr result (Stands state.old state.new) }
     ensures round { state.new.round ≡ state.old.round }
-    ensures grows { OnErr result
-        (HaveGrown (O.told out.old) (O.told out.new) (E.told err.old) (E.told err.new)) }
-    ensures faults { IfErr result (λ stop. HasFaulted stop (λ w. write (call_in w asked.now))
-        state.old state.new (O.told out.old) (O.told out.new) (E.told err.old) (E.told err.new)) }
-    ensures causes { HasSinkCauses result (O.faults out.old) (O.faults out.new) (E.faults err.old)
-        (E.faults err.new) }
+    ensures follows { B.follows border.old border.new }
 {
     match target_of(state.table.descriptor(asked.process, asked.a0)) {
-        Some(Target::Output) => send(state, asked, out, RunStop::OutFault),
-        Some(Target::Error) => send(state, asked, err, RunStop::ErrFault),
+        Some(Target::To(stream)) => send(state, asked, border, stream),
         Some(Target::Pipe(pipe)) => Ok(write_pipe(state, asked, pipe)),
         None => {
             refuse_call(state, asked.thread, EBADF);
@@ -69,32 +60,29 @@ fn target_of(end: Option<End>) -> Option<Target>
     ensures { result ≡ target_of end }
 {
     match end {
-        Some(End::Output) => Some(Target::Output),
-        Some(End::Error) => Some(Target::Error),
+        Some(End::Output) => Some(Target::To(Stream::Output)),
+        Some(End::Error) => Some(Target::To(Stream::Error)),
         Some(End::PipeWrite(pipe)) => Some(Target::Pipe(pipe)),
         Some(End::Input) | Some(End::PipeRead(_)) | None => None,
     }
 }
 
-// The bytes to one sink, by one put. The run stops by this fault if the sink fails.
-fn send<S: Sink>(
+// The bytes to one stream, by one put. The run stops where that fails.
+fn send<B: Border>(
     state: &mut State,
     asked: &Asked,
-    sink: &mut S,
-    fault: RunStop,
+    border: &mut B,
+    stream: Stream,
 ) -> Result<Served, RunStop>
     requires sound { IsSound state.old }
     requires asked { AreAsked state.old asked.now }
-    ensures sends { OnOk result
-        (IsSent state.old asked.now state.new (S.told sink.old) (S.told sink.new)) }
-    ensures way { IfOk result (λ way. way ≡ Went) }
-    ensures stop { IfErr result (λ stop. stop ≡ fault) }
+    ensures plays { PlaysOnce (λ w. transfers (write_to stream) (are_readable w asked.now)
+        (call_in w asked.now)) result
+        state.old (B.state border.old) state.new (B.state border.new) }
     ensures counted { OnOk result (IsCounted state.new) }
     ensures stands { OnErr result (Stands state.old state.new) }
     ensures round { state.new.round ≡ state.old.round }
-    ensures cut { OnErr result
-        (IsCutOff state.old asked.now state.new (S.told sink.old) (S.told sink.new)) }
-    ensures cause { HasCause (S.faults sink.old) (S.faults sink.new) result }
+    ensures follows { B.follows border.old border.new }
 {
     let count = asked.a2.min(4096);
     if count == 0 {
@@ -104,18 +92,28 @@ fn send<S: Sink>(
     match check(&state.table, asked.thread, asked.a1, count, false) {
         Ok(()) => {
             take_in(state, asked, count);
-            match sink.put(&state.buffer[..count as usize]) {
+            match border.put(stream, &state.buffer[..count as usize]) {
                 Ok(()) => {
                     reply(state, asked.thread, count);
                     Ok(Served::Went)
                 }
-                Err(SinkFault) => Err(fault),
+                Err(SinkFault) => Err(sink_stop(stream)),
             }
         }
         Err(number) => {
             refuse_call(state, asked.thread, number);
             Ok(Served::Went)
         }
+    }
+}
+
+// Why the run can't go on, where a put to a stream fails.
+fn sink_stop(stream: Stream) -> RunStop
+    ensures { stopper result ≡ by_sink stream }
+{
+    match stream {
+        Stream::Output => RunStop::OutFault,
+        Stream::Error => RunStop::ErrFault,
     }
 }
 

@@ -106,34 +106,34 @@ returns-in-Ok g c =
     let t = c.args.tid in
     let live = c.requires.live in
     let way = c.in-Ok.way in
-    let runs = c.in-Ok.ensures.runs in
+    let answers = c.in-Ok.ensures.plays.ends in
     let goes_on = c.goes_on_after.ensures in
     record {
       goes = λ q. rw c.goes_on_after.ensures
-          (service_goes s s' t live _ _ way _ _ _ _ runs c.requires.budget
+          (service_goes s s' t live _ _ way answers c.requires.budget
           (λ q o e. c.requires.stops q o e ∙ ap Err c.in-Service.is) q);
-      less = λ on. on_measure s s' t live _ _ way _ _ _ _ runs c.requires.budget
-          (sym goes_on ∙ on);
-      live = λ on. on_lives s s' t live _ _ way _ _ _ _ runs (sym goes_on ∙ on);
+      less = λ on. on_measure s s' t live _ _ way answers c.requires.budget (sym goes_on ∙ on);
+      live = λ on. on_lives s s' t live _ _ way answers (sym goes_on ∙ on);
       sound = c.serve.ensures.sound;
       parts = λ ts parts. rw c.goes_on_after.ensures
           (parts_left way t ts s' (c.in-Ok.ensures.parts ts parts));
       round = c.serve.ensures.round;
-      count = served_count s s' t live _ _ way _ _ _ _ runs;
+      count = served_count s s' t live _ _ way answers;
       asks = tt;
       before_end = tt;
-      told = told_on s s' t live _ _ way _ _ _ _ runs c.requires.told;
+      told = told_on s s' t live _ _ way answers c.requires.told;
       cut = tt;
-      causes = served_well _ _ _ _ _ _ _ way c.in-Ok.ensures.causes;
-      follows = c.serve.ensures.follows;
+      causes = served_well _ _ _ answers.stands;
+      follows = c.serve.ensures.follows.3;
     }
 
 pub returns-in-Err : goal.returns-in-Err
 returns-in-Err g c =
     let s = c.args.state.now in
+    let s' = c.serve.new.state in
     let t = c.args.tid in
     let stop = c.in-Err.stop in
-    let e = c.in-Err.ensures in
+    let stops = c.in-Err.ensures.plays.stops in
     record {
       goes = tt;
       less = tt;
@@ -142,13 +142,12 @@ returns-in-Err g c =
       parts = tt;
       round = c.serve.ensures.round;
       count = tt;
-      asks = turn_asks s t c.requires.budget
-          (λ q o e. c.requires.stops q o e ∙ ap Err c.in-Service.is) _ _ _ _ _ _ stop e.asks;
-      before_end = asks_no_end s t c.requires.live _ _ _ _ _ _ stop e.asks;
+      asks = turn_asks s s' t c.requires.budget
+          (λ q o e. c.requires.stops q o e ∙ ap Err c.in-Service.is) _ _ stop stops;
+      before_end = asks_no_end s s' t _ _ stop stops;
       told = tt;
-      cut = turn_cut s c.serve.new.state t c.requires.budget
-          (λ q o e. c.requires.stops q o e ∙ ap Err c.in-Service.is) _ _ _ _ _ _ stop e.told e.asks
-          e.faults;
-      causes = served_not _ _ _ _ _ _ (λ w. service w t) s _ _ _ _ stop e.causes e.asks;
-      follows = c.serve.ensures.follows;
+      cut = turn_cut s s' t c.requires.budget
+          (λ q o e. c.requires.stops q o e ∙ ap Err c.in-Service.is) _ _ stop stops;
+      causes = served_not _ _ (λ w. service w t) s s' stop stops;
+      follows = c.serve.ensures.follows.3;
     }

@@ -1,5 +1,4 @@
 use Rattle.std.proofs.Common.{◌≡◌, ℕ, List, Option, Some, IfSome, refl, sym, ap, ◌∙◌}
-use Rattle.std.proofs.lemmas.Result.{IfErr-weaker, IfOk-weaker}
 use Rattle.dos_world.specs.Play.{done}
 use Rattle.dos_world.specs.Services.{went, read, read_by}
 use Rattle.dos_world.specs.declared.End.{End}
@@ -9,12 +8,13 @@ use Rattle.kernel_calls.specs.StateWorld.{IsSound, sent, world_of}
 use Rattle.kernel_calls.specs.CallResults.{AreAsked, call_in, source_of}
 use Rattle.kernel_calls.specs.declared.state.State.{State}
 use Rattle.kernel_calls.specs.declared.state.Asked.{Asked}
+use Rattle.kernel_calls.specs.declared.state.Served.TheVariants.{Went}
 use Rattle.kernel_calls.specs.declared.reading.Source.{Source}
 use Rattle.kernel_calls.specs.declared.reading.Source.TheVariants.{Input as input_source}
 use Rattle.kernel_calls.specs.declared.reading.Source.TheVariants.{Pipe as pipe_source}
 use Rattle.kernel_calls.proofs.DescriptorRows.{named_range}
-use Rattle.kernel_calls.proofs.InputRows.{consults_as, end_of, reads_as, reads_none, source_end}
-use Rattle.kernel_calls.proofs.InputRows.{stops_as, unasked}
+use Rattle.kernel_calls.proofs.InputRows.{end_of, reads_as, reads_none, source_end}
+use Rattle.kernel_calls.proofs.ServicePlays.{plays_as, plays_quietly}
 use Rattle.kernel_calls.proofs.reading.read.Goals as goal
 
 -- a read from a source, where the descriptor names it
@@ -34,35 +34,28 @@ read_pipe-requires-clause-pipe g c =
     (source_end c.descriptor.result (pipe_source c.in-Some-Pipe.pipe)
     (cc (c.in-Some-Pipe.is, c.in-Some-Pipe.field-0-is, c.source_of.ensures)))
 
-pub returns-in-Some-Input : goal.returns-in-Some-Input
-returns-in-Some-Input g c =
-    let at = from_source c.args.state.now c.requires.sound c.args.asked.now c.requires.asked
+pub returns-in-Some-Input-clause-plays : goal.returns-in-Some-Input-clause-plays
+returns-in-Some-Input-clause-plays g c =
+    let a = c.args.asked.now in
+    plays_as (λ w. read (call_in w a)) (λ w. read_by (Some Input) (call_in w a)) c.args.state.now c.args.state.now
+    (from_source c.args.state.now c.requires.sound a c.requires.asked
     c.descriptor.result input_source c.descriptor.ensures
-    (cc (c.in-Some-Input.is, c.in-Some-Input.field-0-is, c.source_of.ensures)) in
-    let has_read = c.read_input.ensures in
-    record {
-      consults = IfOk-weaker c.read_input.result _ _ (λ way. consults_as read
-          (read_by (Some Input)) c.args.state.now c.args.asked.now at _ _ way _) has_read.consults;
-      counted = has_read.counted;
-      stands = has_read.stands;
-      round = has_read.round;
-      asks = IfErr-weaker c.read_input.result _ _ (λ stop. stops_as read (read_by (Some Input))
-          c.args.state.now c.args.asked.now at stop _ _) has_read.asks;
-      stood = has_read.stood;
-      follows = has_read.follows;
-    }
+    (cc (c.in-Some-Input.is, c.in-Some-Input.field-0-is, c.source_of.ensures)))
+    _ _ c.read_input.result c.read_input.new.state c.read_input.ensures.plays
 
-pub returns-in-Some-Pipe-clause-consults : goal.returns-in-Some-Pipe-clause-consults
-returns-in-Some-Pipe-clause-consults g c =
-    unasked read c.args.state.now c.args.asked.now c.read_pipe.result c.read_pipe.new.state _
+pub returns-in-Some-Pipe-clause-plays : goal.returns-in-Some-Pipe-clause-plays
+returns-in-Some-Pipe-clause-plays g c =
+    plays_quietly (λ w. read (call_in w c.args.asked.now)) c.args.state.now c.read_pipe.result
+    c.read_pipe.new.state _
     (λ q o e. from_source c.args.state.now c.requires.sound c.args.asked.now c.requires.asked
     c.descriptor.result (pipe_source c.in-Some-Pipe.pipe) c.descriptor.ensures
     (cc (c.in-Some-Pipe.is, c.in-Some-Pipe.field-0-is, c.source_of.ensures)) q o e
     ∙ c.read_pipe.ensures.goes_on q o e)
 
-pub returns-in-None-clause-consults : goal.returns-in-None-clause-consults
-returns-in-None-clause-consults g c =
-    unasked read c.args.state.now c.args.asked.now _ c.refuse_call.new.state _
+pub returns-in-None-clause-plays : goal.returns-in-None-clause-plays
+returns-in-None-clause-plays g c =
+    plays_quietly (λ w. read (call_in w c.args.asked.now)) c.args.state.now Went
+    c.refuse_call.new.state _
     (λ q o e. reads_as c.args.state.now c.requires.sound c.args.asked.now c.requires.asked
     c.descriptor.result c.descriptor.result c.descriptor.ensures refl q o e
     ∙ reads_none c.descriptor.result

@@ -1,12 +1,15 @@
 use Rattle.std.proofs.Common.{sym, ap, ◌∙◌, subst}
 use Rattle.dos_world.specs.Services.{charged, service}
 use Rattle.proc_table.specs.Tables.{Tables, IsThread}
-use Rattle.kernel_calls.specs.StateWorld.{Answers, Stands, shim_stop}
-use Rattle.kernel_calls.specs.CallResults.{AreAsked}
+use Rattle.kernel_calls.specs.Built.{definition_by}
+use Rattle.kernel_calls.specs.StateWorld.{Stands}
+use Rattle.kernel_calls.specs.Plays.{Answers, stopper}
+use Rattle.kernel_calls.specs.CallResults.{AreAsked, call_in}
 use Rattle.kernel_calls.specs.declared.state.State.{State}
 use Rattle.kernel_calls.proofs.Changed.{lives_changed}
 use Rattle.kernel_calls.proofs.Keeping.{sound-stands, stands-restored}
-use Rattle.kernel_calls.proofs.Called.{answers_called, asks_called, faulted_called}
+use Rattle.kernel_calls.proofs.Called.{calls_paid, stops_restored}
+use Rattle.kernel_calls.proofs.ServicePlays.{answers_as}
 use Rattle.kernel_calls.proofs.AfterService.{sound-served, parts-served}
 use Rattle.kernel_calls.proofs.services.serve.Given as given
 use Rattle.kernel_calls.proofs.services.serve.Goals as goal
@@ -24,29 +27,28 @@ restore-requires g c =
     (lives_changed charged c.args.state.now.table.threads c.args.tid c.requires.live)
 
 -- what was served
-runs : (g : given.Over) (c : goal.In-Ok g)
-    → Answers (λ w. service w c.args.tid) c.args.state.now (g.S.Shim.state c.args.shim.now).told
-    (g.S.Shim.state c.dispatch.new.shim).told c.in-Ok.way c.dispatch.new.state
-    (g.O.Sink.told c.args.out.now) (g.O.Sink.told c.dispatch.new.out)
-    (g.E.Sink.told c.args.err.now) (g.E.Sink.told c.dispatch.new.err)
-runs g c =
-    answers_called c.args.state.now c.charge.new.state c.args.tid c.call_by-service.result.0
-    c.call_by-service.result.1 c.charge.ensures.charges c.call_by-service.ensures.calls
-    c.dispatch.new.state _ _
-    c.in-Ok.way _ _ _ _ c.in-Ok.ensures.runs
+answers : (g : given.Over) (c : goal.In-Ok g)
+    → Answers (λ w. service w c.args.tid) c.args.state.now (g.B.Border.state c.args.border.now)
+    c.in-Ok.way c.dispatch.new.state (g.B.Border.state c.dispatch.new.border)
+answers g c =
+    answers_as (λ w. service w c.args.tid)
+    (λ w. definition_by c.call_by-service.result.0 (call_in w c.call_by-service.result.1))
+    c.args.state.now c.charge.new.state
+    (calls_paid c.args.state.now c.charge.new.state c.args.tid c.call_by-service.result.0
+    c.call_by-service.result.1 c.charge.ensures.charges c.call_by-service.ensures.calls)
+    _ _ c.in-Ok.way c.dispatch.new.state c.in-Ok.ensures.plays.ends
 
-pub returns-in-Ok-clause-runs : goal.returns-in-Ok-clause-runs
-returns-in-Ok-clause-runs g c = runs g c
+pub returns-in-Ok-clause-plays : goal.returns-in-Ok-clause-plays
+returns-in-Ok-clause-plays g c = record { ends = answers g c; stops = tt }
 
 pub returns-in-Ok-clause-sound : goal.returns-in-Ok-clause-sound
 returns-in-Ok-clause-sound g c =
-    sound-served _ c.dispatch.new.state c.args.tid c.in-Ok.way _ _ _ _ _ _ (runs g c)
+    sound-served _ c.dispatch.new.state c.args.tid c.in-Ok.way _ _ (answers g c)
     c.requires.sound c.requires.ready c.in-Ok.ensures.counted
 
 pub returns-in-Ok-clause-parts : goal.returns-in-Ok-clause-parts
 returns-in-Ok-clause-parts g c =
-    parts-served _ c.dispatch.new.state c.args.tid c.in-Ok.way _ _ _ _ _ _ (runs g c)
-    c.requires.sound
+    parts-served _ c.dispatch.new.state c.args.tid c.in-Ok.way _ _ (answers g c) c.requires.sound
 
 -- after a stop
 stands : (g : given.Over) (c : goal.After-restore g) → Stands c.args.state.now c.restore.new.state
@@ -66,15 +68,11 @@ returns-in-Err-clause-sound g c =
     ∙ ap (λ (s : State). s.round) c.charge.ensures.charges)
     c.requires.sound
 
-pub returns-in-Err-clause-asks : goal.returns-in-Err-clause-asks
-returns-in-Err-clause-asks g c =
-    asks_called c.args.state.now c.charge.new.state c.args.tid c.call_by-service.result.0
-    c.call_by-service.result.1 c.charge.ensures.charges c.call_by-service.ensures.calls
-    (shim_stop c.in-Err.stop) _ _ _ _ _ _ c.in-Err.ensures.asks
-
-pub returns-in-Err-clause-faults : goal.returns-in-Err-clause-faults
-returns-in-Err-clause-faults g c =
-    faulted_called c.args.state.now c.charge.new.state c.args.tid c.call_by-service.result.0
-    c.call_by-service.result.1 c.charge.ensures.charges c.call_by-service.ensures.calls
-    c.dispatch.new.state c.restore.new.state _ c.restore.ensures
-    c.in-Err.stop _ _ _ _ c.in-Err.ensures.faults
+pub returns-in-Err-clause-plays : goal.returns-in-Err-clause-plays
+returns-in-Err-clause-plays g c = record {
+  ends = tt;
+  stops = stops_restored c.args.state.now c.charge.new.state c.args.tid
+      c.call_by-service.result.0 c.call_by-service.result.1 c.charge.ensures.charges
+      c.call_by-service.ensures.calls c.dispatch.new.state c.restore.new.state _
+      c.restore.ensures _ _ (stopper c.in-Err.stop) c.in-Err.ensures.plays.stops;
+}

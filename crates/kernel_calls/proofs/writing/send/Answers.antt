@@ -1,56 +1,62 @@
-use Rattle.std.proofs.Common.{◌≡◌, true, false, sym, ap, ◌∙◌}
-use Rattle.dos_world.specs.Kernel.{copied_in, minus}
+use Rattle.std.proofs.Common.{◌≡◌, true, refl, sym, ap, ◌∙◌}
+use Rattle.dos_world.specs.Kernel.{copied_in}
+use Rattle.dos_world.specs.Services.{transfers}
 use Rattle.dos_world.specs.declared.Access.TheVariants.{Load}
 use Rattle.kernel_mem.specs.MemoryWorld.{in_world}
-use Rattle.kernel_calls.specs.CallResults.{asked_count}
-use Rattle.kernel_calls.proofs.Sending.{sent-nothing, sent-refusal, sent-bytes, cut-bytes}
-use Rattle.kernel_calls.proofs.Sending.{answering}
-use Rattle.kernel_calls.proofs.Transferring.{reached_as}
+use Rattle.kernel_calls.specs.CallResults.{are_readable, asked_count, call_in, write_to}
+use Rattle.kernel_calls.specs.declared.state.Served.TheVariants.{Went}
+use Rattle.kernel_calls.proofs.Sending.{answering, sent-bytes}
+use Rattle.kernel_calls.proofs.ServicePlays.{plays_broken, plays_put, plays_quietly}
+use Rattle.kernel_calls.proofs.Transferring.{no_bytes, not_mapped, reached_as}
 use Rattle.kernel_calls.proofs.writing.send.Goals as goal
 
-pub returns-then-count-eq0-clause-sends : goal.returns-then-count-eq0-clause-sends
-returns-then-count-eq0-clause-sends g c =
-    sent-nothing c.args.state.now c.reply.new.state c.args.asked.now _
-    (sym c.min-count.ensures ∙ c.if-count-eq0.true) c.reply.ensures.answers
+pub returns-then-count-eq0-clause-plays : goal.returns-then-count-eq0-clause-plays
+returns-then-count-eq0-clause-plays g c =
+    let a = c.args.asked.now in
+    plays_quietly
+    (λ w. transfers (write_to c.args.stream) (are_readable w a) (call_in w a)) c.args.state.now Went
+    c.reply.new.state _
+    (no_bytes Load c.args.state.now a (write_to c.args.stream) c.reply.new.state
+    (sym c.min-count.ensures ∙ c.if-count-eq0.true) c.reply.ensures.answers)
 
-pub returns-in-Ok-put-clause-sends : goal.returns-in-Ok-put-clause-sends
-returns-in-Ok-put-clause-sends g c =
+pub returns-in-Ok-put-clause-plays : goal.returns-in-Ok-put-clause-plays
+returns-in-Ok-put-clause-plays g c =
+    let a = c.args.asked.now in
     let same : c.min-count.result ≡ asked_count c.args.asked.now = c.min-count.ensures in
-    sent-bytes c.args.state.now c.take_in.new.state c.reply-in-Ok-put.new.state c.args.asked.now _
-    _ _ (λ e. c.if-count-eq0.false (same ∙ e))
-    (reached_as Load c.args.state.now c.args.asked.now true _ same c.in-Ok.ensures.reach)
-    (λ w. ap (λ n. copied_in (in_world w c.args.state.now.frames c.args.state.now.table)
-    c.args.asked.now.thread c.args.asked.now.a1 n) (sym same) ∙ c.take_in.ensures.copies w)
-    c.take_in.ensures.round c.take_in.ensures.stands c.in-Ok-put.ensures.ok
-    (c.reply-in-Ok-put.ensures.answers
-    ∙ ap (answering c.take_in.new.state c.args.asked.now.thread) same)
-
-pub returns-in-Ok-put-clause-cause : goal.returns-in-Ok-put-clause-cause
-returns-in-Ok-put-clause-cause g c =
-    record { later = c.in-Ok-put.ensures.cause.later; failed = tt }
-
-pub returns-in-Err-put-clause-cause : goal.returns-in-Err-put-clause-cause
-returns-in-Err-put-clause-cause g c = record {
-  later = c.in-Err-put.ensures.cause.later;
-  failed = c.in-Err-put.ensures.cause.failed;
-}
-
-pub returns-in-Err-clause-sends : goal.returns-in-Err-clause-sends
-returns-in-Err-clause-sends g c =
-    let same : c.min-count.result ≡ asked_count c.args.asked.now = c.min-count.ensures in
-    sent-refusal c.args.state.now c.refuse_call.new.state c.args.asked.now _
+    plays_put
+    (λ w. transfers (write_to c.args.stream) (are_readable w a) (call_in w a)) c.args.stream _
+    c.args.state.now c.reply-in-Ok-put.new.state _ _
+    (sent-bytes c.args.state.now c.take_in.new.state c.reply-in-Ok-put.new.state a c.args.stream _
     (λ e. c.if-count-eq0.false (same ∙ e))
-    (reached_as Load c.args.state.now c.args.asked.now false _ same c.in-Err.ensures.reach)
-    (let is : c.in-Err.number ≡ 14 = cc (c.in-Err.ensures.refusal) in
-    c.refuse_call.ensures.answers
-    ∙ ap (λ n. answering c.args.state.now c.args.asked.now.thread (minus n)) is)
-
-pub returns-in-Err-put-clause-cut : goal.returns-in-Err-put-clause-cut
-returns-in-Err-put-clause-cut g c =
-    let same : c.min-count.result ≡ asked_count c.args.asked.now = c.min-count.ensures in
-    cut-bytes c.args.state.now c.take_in.new.state c.args.asked.now _ _ _
-    (λ e. c.if-count-eq0.false (same ∙ e))
-    (reached_as Load c.args.state.now c.args.asked.now true _ same c.in-Ok.ensures.reach)
+    (reached_as Load c.args.state.now a true _ same c.in-Ok.ensures.reach)
     (λ w. ap (λ n. copied_in (in_world w c.args.state.now.frames c.args.state.now.table)
-    c.args.asked.now.thread c.args.asked.now.a1 n) (sym same) ∙ c.take_in.ensures.copies w)
-    c.take_in.ensures.round c.take_in.ensures.stands c.in-Err-put.ensures.err
+    a.thread a.a1 n) (sym same) ∙ c.take_in.ensures.copies w)
+    c.take_in.ensures.round c.take_in.ensures.stands
+    (c.reply-in-Ok-put.ensures.answers ∙ ap (answering c.take_in.new.state a.thread) same))
+    c.in-Ok-put.ensures.ok
+
+pub returns-in-Err-put-clause-plays : goal.returns-in-Err-put-clause-plays
+returns-in-Err-put-clause-plays g c =
+    let a = c.args.asked.now in
+    let same : c.min-count.result ≡ asked_count c.args.asked.now = c.min-count.ensures in
+    let m = c.take_in.new.state in
+    plays_broken
+    (λ w. transfers (write_to c.args.stream) (are_readable w a) (call_in w a)) c.args.stream _
+    c.args.state.now m (answering m a.thread (asked_count a)).table c.sink_stop.result _ _
+    (sent-bytes c.args.state.now m (answering m a.thread (asked_count a)) a c.args.stream _
+    (λ e. c.if-count-eq0.false (same ∙ e))
+    (reached_as Load c.args.state.now a true _ same c.in-Ok.ensures.reach)
+    (λ w. ap (λ n. copied_in (in_world w c.args.state.now.frames c.args.state.now.table)
+    a.thread a.a1 n) (sym same) ∙ c.take_in.ensures.copies w)
+    c.take_in.ensures.round c.take_in.ensures.stands refl)
+    c.in-Err-put.ensures.err c.sink_stop.ensures
+
+pub returns-in-Err-clause-plays : goal.returns-in-Err-clause-plays
+returns-in-Err-clause-plays g c =
+    let a = c.args.asked.now in
+    plays_quietly
+    (λ w. transfers (write_to c.args.stream) (are_readable w a) (call_in w a)) c.args.state.now Went
+    c.refuse_call.new.state _
+    (not_mapped Load c.args.state.now a (write_to c.args.stream) c.min-count.result
+    c.min-count.ensures c.if-count-eq0.false c.in-Err.number c.refuse_call.new.state
+    c.in-Err.ensures.reach (cc (c.in-Err.ensures.refusal)) c.refuse_call.ensures.answers)

@@ -1,25 +1,20 @@
-use Rattle.std.proofs.Common.{◌≡◌, ℕ, List, Option, Some, IfSome, refl, sym, ap, ◌∙◌, le_refl}
-use Rattle.std.proofs.lemmas.Result.{on_err_weaker}
+use Rattle.std.proofs.Common.{◌≡◌, ℕ, List, Option, Some, IfSome, refl, sym, ap, ◌∙◌}
 use Rattle.dos_world.specs.Play.{done}
-use Rattle.dos_world.specs.Services.{went, write, write_by}
+use Rattle.dos_world.specs.Services.{went, transfers, write, write_by}
 use Rattle.dos_world.specs.declared.End.{End}
 use Rattle.dos_world.specs.declared.End.TheVariants.{PipeWrite}
 use Rattle.proc_table.specs.Tables.{held_in, end_in}
 use Rattle.kernel_calls.specs.StateWorld.{IsSound, sent, world_of}
-use Rattle.kernel_calls.specs.CallResults.{AreAsked, call_in, target_of}
+use Rattle.kernel_calls.specs.CallResults.{AreAsked, are_readable, call_in, target_of, write_to}
 use Rattle.kernel_calls.specs.declared.state.State.{State}
 use Rattle.kernel_calls.specs.declared.state.Asked.{Asked}
-use Rattle.kernel_calls.specs.declared.writing.Target.{Target}
-use Rattle.kernel_calls.specs.declared.writing.Target.TheVariants.{Output as output_target}
-use Rattle.kernel_calls.specs.declared.writing.Target.TheVariants.{Error as error_target}
-use Rattle.kernel_calls.specs.declared.writing.Target.TheVariants.{Pipe as pipe_target}
-use Rattle.kernel_calls.specs.declared.state.RunStop.TheVariants.{OutFault, ErrFault}
 use Rattle.kernel_calls.specs.declared.state.Served.TheVariants.{Went}
+use Rattle.kernel_calls.specs.declared.writing.Target.{Target}
+use Rattle.kernel_calls.specs.declared.writing.Target.TheVariants.{To as to_stream}
+use Rattle.kernel_calls.specs.declared.writing.Target.TheVariants.{Pipe as pipe_target}
 use Rattle.kernel_calls.proofs.DescriptorRows.{named_range}
-use Rattle.kernel_calls.proofs.Outcomes.{ok_is, err_is}
-use Rattle.kernel_calls.proofs.Sending.{end_of, target_end, writes_as, writes_none, quietly}
-use Rattle.kernel_calls.proofs.Sending.{sends-output, sends-error, faults-output, faults-error}
-use Rattle.kernel_calls.proofs.Sending.{output_grown, error_grown}
+use Rattle.kernel_calls.proofs.Sending.{end_of, target_end, writes_as, writes_none, writes_to}
+use Rattle.kernel_calls.proofs.ServicePlays.{plays_as, plays_quietly}
 use Rattle.kernel_calls.proofs.writing.write.Goals as goal
 
 -- a write to a target, where the descriptor names it
@@ -39,70 +34,31 @@ write_pipe-requires-clause-pipe g c =
     (target_end c.descriptor.result (pipe_target c.in-Some-Pipe.pipe)
     (cc (c.in-Some-Pipe.is, c.in-Some-Pipe.field-0-is, c.target_of.ensures)))
 
--- ---- to a sink
+pub returns-in-Some-To-clause-plays : goal.returns-in-Some-To-clause-plays
+returns-in-Some-To-clause-plays g c =
+    let stream = c.in-Some-To.stream in
+    let a = c.args.asked.now in
+    plays_as (λ w. write (call_in w a))
+    (λ w. transfers (write_to stream) (are_readable w a) (call_in w a)) c.args.state.now c.args.state.now
+    (λ q o e. to_target c.args.state.now c.requires.sound a c.requires.asked
+    c.descriptor.result (to_stream stream) c.descriptor.ensures
+    (cc (c.in-Some-To.is, c.in-Some-To.field-0-is, c.target_of.ensures)) q o e
+    ∙ writes_to stream (sent o e (world_of q c.args.state.now)) a)
+    _ _ c.send.result c.send.new.state c.send.ensures.plays
 
-pub returns-in-Some-Output : goal.returns-in-Some-Output
-returns-in-Some-Output g c =
-    let at = to_target c.args.state.now c.requires.sound c.args.asked.now c.requires.asked
-    c.descriptor.result output_target c.descriptor.ensures
-    (cc (c.in-Some-Output.is, c.in-Some-Output.field-0-is, c.target_of.ensures)) in
-    let sent = c.send.ensures in
-    record {
-      sends = ok_is _ c.send.result _ Went
-          (sends-output write c.args.state.now c.args.asked.now c.send.new.state _ _ _ at)
-          sent.sends sent.way;
-      counted = sent.counted;
-      stands = sent.stands;
-      round = sent.round;
-      grows = on_err_weaker c.send.result (output_grown _ _ _ _ _ _) sent.cut;
-      faults = err_is _ c.send.result _ OutFault
-          (faults-output write c.args.state.now c.args.asked.now c.send.new.state _ _ _ at)
-          sent.cut sent.stop;
-      causes = record {
-        out_later = sent.cause.later;
-        err_later = le_refl _;
-        sinks = err_is _ c.send.result _ OutFault (λ rose. rose) sent.cause.failed sent.stop;
-      };
-    }
-
-pub returns-in-Some-Error : goal.returns-in-Some-Error
-returns-in-Some-Error g c =
-    let at = to_target c.args.state.now c.requires.sound c.args.asked.now c.requires.asked
-    c.descriptor.result error_target c.descriptor.ensures
-    (cc (c.in-Some-Error.is, c.in-Some-Error.field-0-is, c.target_of.ensures)) in
-    let sent = c.send-in-Some-Error.ensures in
-    record {
-      sends = ok_is _ c.send-in-Some-Error.result _ Went
-          (sends-error write c.args.state.now c.args.asked.now c.send-in-Some-Error.new.state
-          _ _ _ at) sent.sends sent.way;
-      counted = sent.counted;
-      stands = sent.stands;
-      round = sent.round;
-      grows = on_err_weaker c.send-in-Some-Error.result (error_grown _ _ _ _ _ _) sent.cut;
-      faults = err_is _ c.send-in-Some-Error.result _ ErrFault
-          (faults-error write c.args.state.now c.args.asked.now c.send-in-Some-Error.new.state
-          _ _ _ at) sent.cut sent.stop;
-      causes = record {
-        err_later = sent.cause.later;
-        out_later = le_refl _;
-        sinks = err_is _ c.send-in-Some-Error.result _ ErrFault (λ rose. rose)
-            sent.cause.failed sent.stop;
-      };
-    }
-
--- ---- to a pipe, or to nothing
-
-pub returns-in-Some-Pipe-clause-sends : goal.returns-in-Some-Pipe-clause-sends
-returns-in-Some-Pipe-clause-sends g c =
-    quietly write c.args.state.now c.args.asked.now c.write_pipe.result c.write_pipe.new.state _ _
+pub returns-in-Some-Pipe-clause-plays : goal.returns-in-Some-Pipe-clause-plays
+returns-in-Some-Pipe-clause-plays g c =
+    plays_quietly (λ w. write (call_in w c.args.asked.now)) c.args.state.now c.write_pipe.result
+    c.write_pipe.new.state _
     (λ q o e. to_target c.args.state.now c.requires.sound c.args.asked.now c.requires.asked
     c.descriptor.result (pipe_target c.in-Some-Pipe.pipe) c.descriptor.ensures
     (cc (c.in-Some-Pipe.is, c.in-Some-Pipe.field-0-is, c.target_of.ensures)) q o e
     ∙ c.write_pipe.ensures.goes_on q o e)
 
-pub returns-in-None-clause-sends : goal.returns-in-None-clause-sends
-returns-in-None-clause-sends g c =
-    quietly write c.args.state.now c.args.asked.now _ c.refuse_call.new.state _ _
+pub returns-in-None-clause-plays : goal.returns-in-None-clause-plays
+returns-in-None-clause-plays g c =
+    plays_quietly (λ w. write (call_in w c.args.asked.now)) c.args.state.now Went
+    c.refuse_call.new.state _
     (λ q o e. writes_as c.args.state.now c.requires.sound c.args.asked.now c.requires.asked
     c.descriptor.result c.descriptor.result c.descriptor.ensures refl q o e
     ∙ writes_none c.descriptor.result
