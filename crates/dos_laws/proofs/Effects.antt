@@ -12,7 +12,8 @@ use Rattle.rv_isa.specs.declared.Instr.{Instr}
 use Rattle.rv_isa.specs.declared.Instr.TheVariants.{Upper, Jal, Jalr, Branch, Load, Store, Imm}
 use Rattle.rv_isa.specs.declared.Instr.TheVariants.{Shift, Reg, Amo, Fence, Ecall, Ebreak}
 use Rattle.rv_isa.specs.Valid.{IsValid}
-use Rattle.flat_machine.specs.Effect.{Effect, goes, loads, stores, claims, stops, effect, jumps, onward}
+use Rattle.flat_machine.specs.Effect.{Effect, goes, loads, stores, claims, stops, effect, jumps}
+use Rattle.flat_machine.specs.Effect.{onward}
 use Rattle.flat_machine.specs.Effect.{next_address, atomic, is_taken, plus, test, is_held}
 use Rattle.flat_machine.specs.Effect.{register_result, immediate_result, shift_result, load_result}
 use Rattle.dos_laws.proofs.RegisterRanges.{set_ranges, with_pc_ranges, with_held_ranges, get_range}

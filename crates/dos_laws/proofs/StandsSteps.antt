@@ -15,7 +15,8 @@ use Rattle.dos_world.specs.declared.Reason.TheVariants.{Fault}
 use Rattle.rv_isa.specs.declared.Instr.{Instr}
 use Rattle.rv_isa.specs.Valid.{IsValid}
 use Rattle.flat_machine.specs.Effect.{Effect, goes, loads, stores, claims, stops, effect}
-use Rattle.flat_machine.specs.Step.{step, step_of, step_by, performed, paid, paid_by, with_word, reached}
+use Rattle.flat_machine.specs.Step.{step, step_of, step_by, performed, paid, paid_by, with_word}
+use Rattle.flat_machine.specs.Step.{reached}
 use Rattle.flat_machine.specs.Step.{instruction_at, half_at, lone_half, whole_word, ◌>>=◌}
 use Rattle.flat_machine.proofs.Keeps.{bind_ok, length-bytes_of, reached-at, reach-own, Own, Writes}
 use Rattle.flat_machine.proofs.Keeps.{store, claim}

@@ -22,7 +22,8 @@ use Rattle.rv_isa.specs.declared.ShiftOp.TheVariants.{Slli, Srli, Srai}
 use Rattle.rv_isa.specs.declared.LoadOp.{LoadOp}
 use Rattle.rv_isa.specs.declared.LoadOp.TheVariants.{Lb, Lh, Lw, Lbu, Lhu}
 use Rattle.flat_machine.specs.Arithmetic.{signed, unsigned, plus, test, quotient, remainder}
-use Rattle.flat_machine.specs.Arithmetic.{register_result, immediate_result, shift_result, load_result}
+use Rattle.flat_machine.specs.Arithmetic.{register_result, immediate_result, shift_result}
+use Rattle.flat_machine.specs.Arithmetic.{load_result}
 use Rattle.dos_world.specs.Lawful.{IsWord}
 
 -- ---- signed numbers

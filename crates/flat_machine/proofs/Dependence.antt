@@ -23,10 +23,12 @@ use Rattle.flat_machine.specs.Laws.{AreAlike}
 use Rattle.flat_machine.proofs.Forms.{Wrote, own-frame, Ok-is, written_length}
 use Rattle.rv_isa.specs.declared.Instr.{Instr}
 use Rattle.flat_machine.specs.Effect.{Effect, goes, loads, stores, claims, stops, effect}
-use Rattle.flat_machine.specs.Step.{step, step_of, step_by, performed, reached, place_or_reason, half_at}
+use Rattle.flat_machine.specs.Step.{step, step_of, step_by, performed, reached, place_or_reason}
+use Rattle.flat_machine.specs.Step.{half_at}
 use Rattle.flat_machine.specs.Step.{whole_word, lone_half, instruction_at, paid, paid_by, with_word}
 use Rattle.flat_machine.specs.Step.{◌>>=◌}
-use Rattle.flat_machine.proofs.Keeps.{bind_ok, within, at≢fault, at≢foreign, reached-at, length-bytes_of}
+use Rattle.flat_machine.proofs.Keeps.{bind_ok, within, at≢fault, at≢foreign, reached-at}
+use Rattle.flat_machine.proofs.Keeps.{length-bytes_of}
 use Rattle.flat_machine.proofs.Keeps.{Own, store, claim, reach-own}
 
 -- ---- numbers in bytes that agree

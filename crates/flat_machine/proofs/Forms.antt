@@ -11,7 +11,8 @@ use Rattle.dos_world.specs.declared.Reason.{Reason}
 use Rattle.dos_world.specs.declared.Reason.TheVariants.{Fault}
 use Rattle.rv_isa.specs.declared.Instr.{Instr}
 use Rattle.flat_machine.specs.Effect.{Effect, goes, loads, stores, claims, stops, effect}
-use Rattle.flat_machine.specs.Step.{step, step_of, step_by, performed, reached, instruction_at, paid}
+use Rattle.flat_machine.specs.Step.{step, step_of, step_by, performed, reached, instruction_at}
+use Rattle.flat_machine.specs.Step.{paid}
 use Rattle.flat_machine.specs.Step.{with_word}
 use Rattle.flat_machine.proofs.Keeps.{bind_ok, Own}
 

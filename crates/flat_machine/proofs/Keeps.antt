@@ -19,7 +19,8 @@ use Rattle.std.proofs.lemmas.Bool.{cases_lt}
 use Rattle.rv_isa.specs.declared.Instr.{Instr}
 use Rattle.flat_machine.specs.Effect.{Effect, goes, loads, stores, claims, stops, effect}
 use Rattle.flat_machine.specs.Laws.{Keeps}
-use Rattle.flat_machine.specs.Step.{step, step_by, performed, reached, with_word, instruction_at, ◌>>=◌}
+use Rattle.flat_machine.specs.Step.{step, step_by, performed, reached, with_word, instruction_at}
+use Rattle.flat_machine.specs.Step.{◌>>=◌}
 
 -- ---- writing
 

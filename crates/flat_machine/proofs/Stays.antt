@@ -13,7 +13,8 @@ use Rattle.dos_world.specs.declared.Reason.{Reason}
 use Rattle.dos_world.proofs.Numbers.{changed_other}
 use Rattle.flat_machine.specs.Step.{step, paid_by}
 use Rattle.flat_machine.proofs.Keeps.{step-keeps}
-use Rattle.flat_machine.proofs.Dependence.{Again, step_stops as seen_stops, step_again as seen_again}
+use Rattle.flat_machine.proofs.Dependence.{Again, step_stops as seen_stops}
+use Rattle.flat_machine.proofs.Dependence.{step_again as seen_again}
 pub use Rattle.flat_machine.proofs.Forms.{step-form}
 
 -- ---- what t sees after a step of s

@@ -1,6 +1,7 @@
 -- Whether questions and answers are those of a run, and where they first differ. This project's own
 -- rule.
-use Rattle.std.specs.Prelude.{ℕ, suc, ◌≡◌, Bool, true, false, ◌&&◌, List, [], ◌∷◌, Option, Some, None}
+use Rattle.std.specs.Prelude.{ℕ, suc, ◌≡◌, Bool, true, false, ◌&&◌, List, [], ◌∷◌, Option, Some}
+use Rattle.std.specs.Prelude.{None}
 use Rattle.std.specs.Prelude.{◌==◌}
 use Rattle.dos_world.specs.Play.{Play, Answer, done, ask, questions}
 use Rattle.dos_world.specs.World.{World}

@@ -1,6 +1,7 @@
 -- Laws of one instruction and of a thread's part of a round, and the words that they are said in.
 -- The functions of `laws` in the crate round_core promise them.
-use Rattle.std.specs.Prelude.{ℕ, zero, suc, ◌≡◌, ◌≢◌, ◌⊎◌, ◌+◌, ◌/◌, List, length, Option, Some, None}
+use Rattle.std.specs.Prelude.{ℕ, zero, suc, ◌≡◌, ◌≢◌, ◌⊎◌, ◌+◌, ◌/◌, List, length, Option, Some}
+use Rattle.std.specs.Prelude.{None}
 use Rattle.std.specs.Prelude.{Result, Ok, Err, option_map, slice_index}
 use Rattle.dos_world.specs.World.{World, Thread, Registers, owner_of, thread_at, entry_at, blank}
 use Rattle.dos_world.specs.declared.Entry.{Entry}

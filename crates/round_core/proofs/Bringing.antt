@@ -203,21 +203,28 @@ world-same : (u v : World) → u.bytes ≡ v.bytes → u.owners ≡ v.owners →
 unfolding mk
 world-same u v h0 h1 h2 h3 h4 h5 h6 h7 h8 h9 =
     ap
-    (λ x. mk x u.owners u.processes u.threads u.pipes u.sleepers u.rounds u.quantum u.output u.error) h0
+    (λ x. mk x u.owners u.processes u.threads u.pipes u.sleepers u.rounds u.quantum u.output
+    u.error) h0
     ∙ ap
-    (λ x. mk v.bytes x u.processes u.threads u.pipes u.sleepers u.rounds u.quantum u.output u.error) h1
+    (λ x. mk v.bytes x u.processes u.threads u.pipes u.sleepers u.rounds u.quantum u.output
+    u.error) h1
     ∙ ap
     (λ x. mk v.bytes v.owners x u.threads u.pipes u.sleepers u.rounds u.quantum u.output u.error) h2
     ∙ ap
-    (λ x. mk v.bytes v.owners v.processes x u.pipes u.sleepers u.rounds u.quantum u.output u.error) h3
+    (λ x. mk v.bytes v.owners v.processes x u.pipes u.sleepers u.rounds u.quantum u.output
+    u.error) h3
     ∙ ap
-    (λ x. mk v.bytes v.owners v.processes v.threads x u.sleepers u.rounds u.quantum u.output u.error) h4
+    (λ x. mk v.bytes v.owners v.processes v.threads x u.sleepers u.rounds u.quantum u.output
+    u.error) h4
     ∙ ap
-    (λ x. mk v.bytes v.owners v.processes v.threads v.pipes x u.rounds u.quantum u.output u.error) h5
+    (λ x. mk v.bytes v.owners v.processes v.threads v.pipes x u.rounds u.quantum u.output
+    u.error) h5
     ∙ ap
-    (λ x. mk v.bytes v.owners v.processes v.threads v.pipes v.sleepers x u.quantum u.output u.error) h6
+    (λ x. mk v.bytes v.owners v.processes v.threads v.pipes v.sleepers x u.quantum u.output
+    u.error) h6
     ∙ ap
-    (λ x. mk v.bytes v.owners v.processes v.threads v.pipes v.sleepers v.rounds x u.output u.error) h7
+    (λ x. mk v.bytes v.owners v.processes v.threads v.pipes v.sleepers v.rounds x u.output
+    u.error) h7
     ∙ ap
     (λ x. mk v.bytes v.owners v.processes v.threads v.pipes v.sleepers v.rounds v.quantum x
     u.error) h8

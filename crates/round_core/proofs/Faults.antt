@@ -20,9 +20,11 @@ use Rattle.rv_isa.specs.declared.Instr.TheVariants.{Fence, Ecall, Ebreak}
 use Rattle.rv_isa.specs.declared.AmoOp.{AmoOp}
 use Rattle.rv_isa.specs.declared.AmoOp.TheVariants.{LrW, ScW, AmoswapW, AmoaddW, AmoxorW, AmoandW}
 use Rattle.rv_isa.specs.declared.AmoOp.TheVariants.{AmoorW, AmominW, AmomaxW, AmominuW, AmomaxuW}
-use Rattle.flat_machine.specs.Effect.{Effect, goes, loads, stores, claims, stops, effect, jumps, atomic}
+use Rattle.flat_machine.specs.Effect.{Effect, goes, loads, stores, claims, stops, effect, jumps}
+use Rattle.flat_machine.specs.Effect.{atomic}
 use Rattle.flat_machine.specs.Effect.{is_taken, plus}
-use Rattle.flat_machine.specs.Step.{step, step_of, step_by, performed, reached, place_or_reason, half_at}
+use Rattle.flat_machine.specs.Step.{step, step_of, step_by, performed, reached, place_or_reason}
+use Rattle.flat_machine.specs.Step.{half_at}
 use Rattle.flat_machine.specs.Step.{instruction_at, whole_word, lone_half, paid, with_word, ◌>>=◌}
 
 -- where it is a fault, its number is at most 11

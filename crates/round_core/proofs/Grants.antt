@@ -25,9 +25,11 @@ use Rattle.rv_isa.specs.declared.AmoOp.{AmoOp}
 use Rattle.rv_isa.specs.declared.AmoOp.TheVariants.{LrW, ScW, AmoswapW, AmoaddW, AmoxorW, AmoandW}
 use Rattle.rv_isa.specs.declared.AmoOp.TheVariants.{AmoorW, AmominW, AmomaxW, AmominuW, AmomaxuW}
 use Rattle.flat_machine.proofs.Keeps.{bind_ok}
-use Rattle.flat_machine.specs.Effect.{Effect, goes, loads, stores, claims, stops, effect, jumps, atomic}
+use Rattle.flat_machine.specs.Effect.{Effect, goes, loads, stores, claims, stops, effect, jumps}
+use Rattle.flat_machine.specs.Effect.{atomic}
 use Rattle.flat_machine.specs.Effect.{is_taken, plus}
-use Rattle.flat_machine.specs.Step.{step, step_of, step_by, performed, reached, half_at, instruction_at}
+use Rattle.flat_machine.specs.Step.{step, step_of, step_by, performed, reached, half_at}
+use Rattle.flat_machine.specs.Step.{instruction_at}
 use Rattle.flat_machine.specs.Step.{whole_word, lone_half, paid, with_word, ◌>>=◌}
 use Rattle.round_core.specs.Laws.{MapsWithin, IsNoPage}
 use Rattle.flat_machine.specs.Rest.{settled, page_granted, granted_by}

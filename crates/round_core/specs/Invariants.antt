@@ -21,7 +21,8 @@ use Rattle.dos_world.specs.declared.Reason.TheVariants.{Fault}
 use Rattle.flat_machine.specs.Step.{step}
 use Rattle.flat_machine.specs.Alone.{alone, emptied}
 use Rattle.flat_machine.specs.Rest.{process_of, rest_of, serial_of}
-use Rattle.flat_machine.specs.Round.{RoundEnd, finished, stalled, parallel, counted, begun, round_of}
+use Rattle.flat_machine.specs.Round.{RoundEnd, finished, stalled, parallel, counted, begun}
+use Rattle.flat_machine.specs.Round.{round_of}
 use Rattle.flat_machine.specs.Round.{went as went_on}
 use Rattle.round_core.specs.Protocol.{Protocol, Allows}
 

@@ -1,6 +1,7 @@
 use Rattle.std.proofs.Common.{sym, ap, ◌∙◌, subst}
 use Rattle.dos_world.specs.World.{with_pc, get}
-use Rattle.flat_machine.specs.Effect.{Effect, combined, onward, exchange, link, conditional, is_held}
+use Rattle.flat_machine.specs.Effect.{Effect, combined, onward, exchange, link, conditional}
+use Rattle.flat_machine.specs.Effect.{is_held}
 use Rattle.flat_machine.specs.Effect.{atomic}
 use Rattle.flat_machine.specs.Over.{effect_in, world_answers}
 use Rattle.rv_exec.specs.Follows.{Follows}
