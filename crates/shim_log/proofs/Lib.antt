@@ -2,7 +2,7 @@ pub mod FieldLaws
 pub mod EntryLaws
 pub mod LogLaws
 pub mod LengthLaws
-mod Texts
+pub mod Texts
 mod Refused
 mod Rooms
 mod Lengths
@@ -16,3 +16,5 @@ pub mod PostLaws
 pub mod LedgerLaws
 pub mod RecorderLaws
 mod HeaderParts
+pub mod ItemLaws
+mod ItemExamples

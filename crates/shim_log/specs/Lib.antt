@@ -12,3 +12,7 @@ pub mod Replay
 pub mod ReplayerFollows
 pub mod Passing
 pub mod HeaderParts
+pub mod Items
+pub mod Versions
+pub mod ReadingVersions
+pub mod RoomTwo

@@ -10,7 +10,9 @@ ghost use Rattle.dos_io.specs.Hosts.{Told};
 ghost use Rattle.dos_io.specs.Given.{Given};
 ghost use Rattle.dos_io.specs.Shims.{HasNoEnd};
 ghost use Rattle.shim_log.specs.declared.header.LogHeader.{LogHeader};
+ghost use Rattle.dos_io.specs.declared.exchange.Exchange.{Exchange};
 ghost use Rattle.shim_log.specs.Bytes.{IsBytes, AreDigests};
+ghost use Rattle.shim_log.specs.Items.{Item, AreJoined, exchanges_of, items_of};
 ghost use Rattle.shim_log.specs.LogText.{Log, header_text, entry_text, entries_text, exchanges};
 ghost use Rattle.shim_log.specs.LogText.{logtext};
 ghost use Rattle.shim_log.specs.Ranges.{FitsLog};
@@ -76,4 +78,13 @@ pub fn replays_end_whole()
 pub fn misfits_stand_next()
     ensures { (p : ReplayState) (asked : Question) (stop : ShimStop)
         (misfit : IsMisfitOf p asked stop) → StandsNext p misfit.kept }
+{}
+
+/// Some exchanges and the entries of version 2 that stand for them determine each other; of each
+/// stretch of rounds without a signal there is one entry.
+pub fn entries_are_exchanges()
+    ensures back { (es : List Exchange) → exchanges_of (items_of es) ≡ es }
+    ensures joined { (es : List Exchange) → AreJoined (items_of es) }
+    ensures again { (items : List Item) → AreJoined items
+        → items_of (exchanges_of items) ≡ items }
 {}

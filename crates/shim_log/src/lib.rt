@@ -16,6 +16,7 @@ mod log_writing;
 mod recorder;
 mod refusal;
 mod replayer;
+mod version;
 
 pub use header::{Digests, LogHeader};
 pub use ledger::Ledger;
@@ -25,3 +26,4 @@ pub use log_writing::write_log;
 pub use recorder::Recorder;
 pub use refusal::{LogError, ReadError};
 pub use replayer::Replayer;
+pub use version::LogVersion;
