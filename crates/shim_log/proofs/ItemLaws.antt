@@ -5,9 +5,9 @@ use Rattle.std.proofs.lemmas.Bool.{eqb-true, eq-eqb}
 use Rattle.dos_io.specs.declared.exchange.Exchange.{Exchange}
 use Rattle.dos_io.specs.declared.exchange.Exchange.TheVariants.{Signals, Input, Clock, End}
 use Rattle.shim_log.specs.Items.{Item, quiet, kept, joined, in_front, items_of, quiet_rounds}
-use Rattle.shim_log.specs.Items.{exchanges_of, IsLoud, GoesNotOn, AreJoined, pushed}
+use Rattle.shim_log.specs.Items.{exchanges_of, IsLoud, GoesNotOn, AreJoined}
 
-eqb-false : (m n : ℕ) → m ≢ n → eqb m n ≡ false
+pub eqb-false : (m n : ℕ) → m ≢ n → eqb m n ≡ false
 eqb-false m n not = by_cases (eqb m n) (λ is. not (eqb-true m n is))
   where
     by_cases : (b : Bool) → (b ≡ true → ⊥) → b ≡ false
@@ -157,24 +157,3 @@ joined_again (quiet round (suc count) ∷ items) are =
 -- So the entries of some exchanges determine these, and the other way round.
 pub same_exchanges : (es fs : List Exchange) → items_of es ≡ items_of fs → es ≡ fs
 same_exchanges es fs is = sym (items_expanded es) ∙ ap exchanges_of is ∙ items_expanded fs
-
--- ---- one exchange behind the others
-
-pushed_on : (round count next : ℕ) → next ≡ round + count
-    → pushed (quiet round count ∷ []) (Signals next []) ≡ quiet round (count + 1) ∷ []
-pushed_on round count next is =
-    let t : eqb next (round + count) ≡ true = eq-eqb next (round + count) is in
-    rw (t, pushed) refl
-
-pushed_apart : (round count next : ℕ) → next ≢ round + count
-    → pushed (quiet round count ∷ []) (Signals next [])
-    ≡ quiet round count ∷ quiet next 1 ∷ []
-pushed_apart round count next not =
-    let f : eqb next (round + count) ≡ false = eqb-false next (round + count) not in
-    rw (f, pushed) refl
-
--- behind an entry that isn't quiet
-pushed_kept : (x e : Exchange) (items : List Item)
-    → pushed (kept x ∷ items) e ≡ kept x ∷ pushed items e
-pushed_kept x e [] = refl
-pushed_kept x e (item ∷ items) = refl

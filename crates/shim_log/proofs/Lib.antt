@@ -15,6 +15,7 @@ pub mod ReplayLaws
 pub mod PostLaws
 pub mod LedgerLaws
 pub mod RecorderLaws
-mod HeaderParts
 pub mod ItemLaws
 mod ItemExamples
+pub mod SpellingLaws
+pub mod ItemReading

@@ -1,9 +1,11 @@
--- The entries of version 2: a stretch of rounds without a signal is one entry. This project's own
--- format.
+-- The entries of a log. In version 2 a stretch of rounds without a signal is one entry. This
+-- project's own format.
 use Rattle.std.specs.Prelude.{◌≢◌, ◌≤◌, ◌+◌, ℕ, zero, suc, List, [], ◌∷◌, ◌++◌, ◌==◌}
 use Rattle.std.specs.Prelude.{if◌then◌else◌, ⊤}
 use Rattle.dos_io.specs.declared.exchange.Exchange.{Exchange}
 use Rattle.dos_io.specs.declared.exchange.Exchange.TheVariants.{Signals, Input, Clock, End}
+use Rattle.shim_log.specs.declared.version.LogVersion.{LogVersion}
+use Rattle.shim_log.specs.declared.version.LogVersion.TheVariants.{One, Two}
 
 -- so many rounds without a signal, from this one on; or one exchange
 pub data Item : Type 0 where
@@ -31,6 +33,16 @@ in_front (End ending rounds) items = kept (End ending rounds) ∷ items
 abbrev pub items_of : List Exchange → List Item
 items_of [] = []
 items_of (e ∷ es) = in_front e (items_of es)
+
+-- an entry for each, as in version 1
+abbrev pub each_kept : List Exchange → List Item
+each_kept [] = []
+each_kept (e ∷ es) = kept e ∷ each_kept es
+
+-- the entries of some exchanges
+abbrev pub items_in : LogVersion → List Exchange → List Item
+items_in One es = each_kept es
+items_in Two es = items_of es
 
 -- ---- and back
 
@@ -71,21 +83,3 @@ AreJoined [] = ⊤
 AreJoined (quiet round count ∷ items) =
     (1 ≤ count) × GoesNotOn (round + count) items × AreJoined items
 AreJoined (kept e ∷ items) = IsLoud e × AreJoined items
-
--- ---- one exchange behind the others, as a recorder adds it
-
-abbrev pub pushed : List Item → Exchange → List Item
-pushed [] e = in_front e []
-pushed (quiet round count ∷ []) (Signals next []) =
-    if next == round + count then quiet round (count + 1) ∷ []
-    else quiet round count ∷ quiet next 1 ∷ []
-pushed (quiet round count ∷ []) (Signals next (post ∷ posts)) =
-    quiet round count ∷ kept (Signals next (post ∷ posts)) ∷ []
-pushed (quiet round count ∷ []) (Input next tid max bytes) =
-    quiet round count ∷ kept (Input next tid max bytes) ∷ []
-pushed (quiet round count ∷ []) (Clock next tid n) =
-    quiet round count ∷ kept (Clock next tid n) ∷ []
-pushed (quiet round count ∷ []) (End ending rounds) =
-    quiet round count ∷ kept (End ending rounds) ∷ []
-pushed (kept x ∷ []) e = kept x ∷ in_front e []
-pushed (x ∷ y ∷ items) e = x ∷ pushed (y ∷ items) e
