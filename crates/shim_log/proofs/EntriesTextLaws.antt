@@ -1,15 +1,14 @@
 -- Entries that are kept as their text.
-use Rattle.std.proofs.Common.{◌≡◌, ℕ, zero, suc, ◌+◌, ◌<◌, ◌≤◌, List, [], ◌∷◌, ◌++◌, length, refl}
+use Rattle.std.proofs.Common.{◌≡◌, ℕ, zero, suc, ◌<◌, ◌≤◌, List, [], ◌∷◌, ◌++◌, length, refl}
 use Rattle.std.proofs.Common.{sym, ap, subst, ◌∙◌, arith}
 use Rattle.std.specs.List.{AllByRecursion}
 use Rattle.std.proofs.lemmas.List.{length-append}
 use Rattle.std.proofs.lemmas.List.Concat.{flat_map-cons}
-use Rattle.dos_io.specs.declared.exchange.Exchange.{Exchange}
 use Rattle.dos_io.specs.declared.exchange.Exchange.TheVariants.{Signals, Input, Clock, End}
 use Rattle.shim_log.specs.declared.version.LogVersion.{LogVersion}
 use Rattle.shim_log.specs.declared.progress.Progress.{Progress}
-use Rattle.shim_log.specs.Items.{Item, quiet, kept, items_in, exchanges_of}
-use Rattle.shim_log.specs.LogText.{entry_text, item_text, items_text, entries_text}
+use Rattle.shim_log.specs.Items.{Item, quiet, kept, exchanges_of}
+use Rattle.shim_log.specs.LogText.{item_text, items_text, entries_text}
 use Rattle.shim_log.specs.Ranges.{AreEntries, most_exchanges}
 use Rattle.shim_log.specs.Reading.{item_at, after_item, nothing_read}
 use Rattle.shim_log.specs.Spelling.{AreSpelled}

@@ -360,7 +360,10 @@ log_takes bytes log fits e =
       fits = record {
         header = p.fits;
         entries = spelled_fits a.0.0.0 nothing_read b.0.0.items q.spelled;
-        few = spelled_few a.0.0.0 nothing_read b.0.0.items q.spelled (omega arith);
+        few = omega (
+          arith,
+          spelled_few a.0.0.0 nothing_read b.0.0.items q.spelled (omega arith),
+        );
         rounds = q.rounds;
       };
     })

@@ -1,7 +1,6 @@
 -- Entries that are spelled one behind the other, and the exchanges that they stand for.
-use Rattle.std.proofs.Common.{◌≡◌, ◌≢◌, ℕ, zero, suc, ◌+◌, ◌≤◌, ◌^◌, List, [], ◌∷◌, ◌++◌, length}
+use Rattle.std.proofs.Common.{◌≡◌, ℕ, zero, suc, ◌+◌, ◌≤◌, ◌^◌, List, [], ◌∷◌, ◌++◌, length}
 use Rattle.std.proofs.Common.{Option, Some, None, refl, sym, ap, subst, ◌∙◌, append_assoc, arith}
-use Rattle.std.specs.List.{AllByRecursion}
 use Rattle.std.proofs.lemmas.List.{length-append}
 use Rattle.std.proofs.lemmas.List.Concat.{flat_map-append}
 use Rattle.dos_io.specs.declared.exchange.Exchange.{Exchange}
@@ -14,7 +13,7 @@ use Rattle.shim_log.specs.Items.{expanded, exchanges_of, IsLoud, GoesNotOn, AreJ
 use Rattle.shim_log.specs.LogText.{item_text, items_text}
 use Rattle.shim_log.specs.Ranges.{AreEntries, HasPosts, most_exchanges}
 use Rattle.shim_log.specs.Reading.{after_item, nothing_read}
-use Rattle.shim_log.specs.Spelling.{FitsQuiet, FitsKept, AreSpelled, after_items}
+use Rattle.shim_log.specs.Spelling.{AreSpelled, after_items}
 use Rattle.shim_log.proofs.ItemLaws.{items_expanded, items_joined, joined_again}
 
 -- ---- one list behind another
@@ -216,7 +215,7 @@ each_spelled p (e ∷ es) fits le = (
 
 -- the first of these doesn't go on
 abbrev Starts : Option ℕ → List Item → Type 0
-Starts None items = ⊤
+Starts None items = Unit {0}
 Starts (Some n) items = GoesNotOn n items
 
 starts_apart : (o : Option ℕ) (round count : ℕ) (items : List Item)
@@ -252,8 +251,8 @@ joined_spelled p (quiet round (suc n) ∷ items) are fits le starts = (
 
 pub are_spelled : (v : LogVersion) (es : List Exchange) → AreEntries es
     → length es ≤ most_exchanges → AreSpelled v nothing_read (items_in v es)
-are_spelled One es fits few = each_spelled nothing_read es fits few
+are_spelled One es fits few = each_spelled nothing_read es fits (omega (arith, few))
 are_spelled Two es fits few =
     joined_spelled nothing_read (items_of es) (items_joined es)
     (subst AreEntries (sym (items_expanded es)) fits)
-    (subst (λ (xs : List Exchange). length xs ≤ most_exchanges) (sym (items_expanded es)) few) tt
+    (omega (arith, few, ap (λ (xs : List Exchange). length xs) (items_expanded es))) tt

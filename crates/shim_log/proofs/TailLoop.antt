@@ -1,6 +1,6 @@
 -- Reading the entries of a log one after the other, as a loop does.
 use Rattle.std.proofs.Common.{◌≡◌, ℕ, suc, ◌+◌, ◌-◌, ◌<◌, ◌≤◌, List, [], ◌∷◌, ◌++◌, length, take}
-use Rattle.std.proofs.Common.{Option, Some, None, Result, Ok, Err, refl, sym, ap, subst, ◌∙◌}
+use Rattle.std.proofs.Common.{Result, Ok, Err, refl, sym, ap, subst, ◌∙◌}
 use Rattle.std.proofs.Common.{append_assoc, arith}
 use Rattle.std.proofs.lemmas.List.{append-nil, length-append, take_at}
 use Rattle.std.proofs.lemmas.List.Concat.{flat_map-cons}
@@ -75,6 +75,7 @@ walk_starts v end bytes p is = record {
   count_is = refl;
   progress = is;
   so_far = nothing_before (body_at v (length bytes - 0) p end bytes)
+      ∙ ap (λ (n : ℕ). body_at v n p end bytes) all
       ∙ ap (λ (q : Progress). body_at v (length bytes) q end bytes) is;
 }
   where
@@ -82,13 +83,20 @@ walk_starts v end bytes p is = record {
     nothing_before (Ok x) = refl
     nothing_before (Err d) = refl
 
+    all : length bytes - 0 ≡ length bytes
+    all = omega arith
+
 module _ (v : LogVersion) (end : ℕ) (bytes rest : List ℕ) (p : Progress) (count : ℕ)
     (w : Walked v end bytes rest p count) where
   pub rest_short : length rest ≤ length bytes
   rest_short = omega (arith, ap length w.split, length-append (items_text w.items) rest)
 
   pub walk_held : p.held ≡ length (exchanges_of w.items)
-  walk_held = ap (λ (q : Progress). q.held) w.progress ∙ after_held nothing_read w.items
+  walk_held = omega (
+    arith,
+    ap (λ (q : Progress). q.held) w.progress,
+    after_held nothing_read w.items,
+  )
 
   pub walk_few : p.held ≤ most_exchanges
   walk_few =

@@ -1,4 +1,4 @@
-use Rattle.std.proofs.Common.{◌∙◌, ap, subst, sym}
+use Rattle.std.proofs.Common.{subst}
 use Rattle.shim_log.specs.EntriesText.{EntriesState}
 use Rattle.shim_log.specs.Ranges.{AreEntries}
 use Rattle.shim_log.proofs.EntriesTextLaws.{kept_fits, kept_few}
