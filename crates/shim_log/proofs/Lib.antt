@@ -19,3 +19,4 @@ pub mod ItemLaws
 mod ItemExamples
 pub mod SpellingLaws
 pub mod ItemReading
+pub mod GrowingLaws

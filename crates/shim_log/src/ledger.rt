@@ -151,6 +151,19 @@ impl Ledger {
         67108864 < self.head + self.entries.bytes() + bytes + 6
     }
 
+    // Whether there is no room for an answer to this question, where its longest one makes the text
+    // longer by so many bytes.
+    fn has_no_room(&self, question: Question, bytes: usize) -> bool
+        requires few { bytes ≤ 8192 }
+        requires adds { AddsEntry question }
+        requires grows { GrowsBy self.now.entries (longest self.now.posts question) bytes }
+        ensures { IsTrue result
+            ↔ NoRoom self.now.header self.now.posts self.now.entries question }
+    {
+        let _question = question;
+        self.is_full(bytes)
+    }
+
     /// Stops, so, at this question.
     pub(crate) fn stop(&mut self, question: Question, stop: ShimStop) -> ShimStop
         requires { MayStop self.old question stop }
@@ -195,7 +208,7 @@ impl Ledger {
         ensures not_full { OnOk result
             (NoRoom self.new.header self.new.posts self.new.entries question → ⊥) }
     {
-        if self.is_full(bytes) {
+        if self.has_no_room(question, bytes) {
             return Err(self.stop(question, ShimStop::LogFull));
         }
         if !self.reserve(bytes) {

@@ -1,4 +1,4 @@
-use Rattle.std.proofs.Common.{◌++◌, ◌∷◌, [], List, ℕ}
+use Rattle.std.proofs.Common.{◌∷◌, [], List, ℕ}
 use Rattle.std.specs.Int.{w32, to_le_bytes}
 use Rattle.shim_log.proofs.EntryLaws.{put_more}
 use Rattle.shim_log.proofs.entry_writing.put_quiet.Goals as goal
