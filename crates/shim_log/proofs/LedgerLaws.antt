@@ -219,6 +219,9 @@ signals_added b round list r is low few posts same room =
     (subst (λ (ps : List Post). HasRoom b.header b.entries (Signals round ps)) (sym same)
     (room_itself b.header b.entries (Signals round (posts_in b.posts round)) room))
 
+abbrev zero_byte : ℕ
+zero_byte = 0
+
 pub input_added : (b : LedgerState) (round tid max : ℕ) (bytes : List ℕ) (r : ℕ) → IsLedger b
     → FitsInput round tid max bytes
     → (NoRoom b.header b.posts b.entries (input_question round tid max) → ⊥)
@@ -233,7 +236,7 @@ input_added b round tid max bytes r is fits room =
       arith,
       input_length round tid max bytes,
       input_length round tid max (replicate max 0),
-      length-replicate max 0,
+      length-replicate max zero_byte,
       fits.short,
     )) room)
 
@@ -263,7 +266,7 @@ pub input_grows : (posts : List (ℕ × Post)) (es : List Exchange) (round tid m
 input_grows posts es round tid max =
     subst (GrowsBy es (Input round tid max (replicate max 0)))
     (input_length round tid max (replicate max 0)
-    ∙ ap (λ (n : ℕ). 13 + n) (length-replicate max 0))
+    ∙ ap (λ (n : ℕ). 13 + n) (length-replicate max zero_byte))
     (loud_grows es (Input round tid max (replicate max 0)) tt)
 
 pub clock_grows : (posts : List (ℕ × Post)) (es : List Exchange) (round tid : ℕ)

@@ -112,6 +112,7 @@ impl Replayer {
               None;
         } }
     {
+        let _len = log.len();
         Replayer {
             log,
             place: 0,
@@ -150,15 +151,16 @@ impl Replayer {
         }
         let left = behind(text, self.place);
         match read_item(self.log.version(), Progress::new(), text.len(), left) {
-            Ok((Item::Kept(entry), rest)) => (entry, text.len() - rest.len(), 0),
-            Ok((Item::Quiet { round, count }, rest)) => {
-                let entry = quiet_entry(round + self.within);
-                if self.within + 1 < count {
-                    (entry, self.place, self.within + 1)
-                } else {
+            Ok((item, rest)) => match item {
+                Item::Kept(entry) => (entry, text.len() - rest.len(), 0),
+                Item::Quiet { round, count } => {
+                    let entry = quiet_entry(round + self.within);
+                    if self.within + 1 < count {
+                        return (entry, self.place, self.within + 1);
+                    }
                     (entry, text.len() - rest.len(), 0)
                 }
-            }
+            },
             Err(_) => unreachable!(),
         }
     }

@@ -6,6 +6,6 @@ use Rattle.shim_log.proofs.entries.Entries.text.Goals as goal
 
 pub returns : goal.returns
 returns c =
-    c.as_slice.ensures
+    c.as_slice.ensures.value
     ∙ kept_text _ _ _ c.self.invariant
     ∙ ap (λ (s : EntriesState). entries_text s.version s.list) c.self.view_is

@@ -1,4 +1,4 @@
-use Rattle.std.proofs.Common.{◌<◌, ◌∷◌, [], length, sym, subst, arith}
+use Rattle.std.proofs.Common.{◌≤◌, ◌∷◌, [], length, sym, subst, arith}
 use Rattle.std.proofs.lemmas.List.{length-append}
 use Rattle.dos_world.specs.declared.Question.TheVariants.{Clock}
 use Rattle.dos_io.specs.Given.{readings}
@@ -11,7 +11,7 @@ use Rattle.shim_log.proofs.ledger.Ledger.add_clock.Goals as goal
 
 pub push_clock-requires-clause-few : goal.push_clock-requires-clause-few
 push_clock-requires-clause-few c =
-    room_few _ _ _ (Clock c.args.round c.args.tid) tt
+    room_few _ c.self.inside.posts.items _ (Clock c.args.round c.args.tid) tt
     (subst (λ (b : LedgerState). NoRoom b.header b.posts b.entries
     (Clock c.args.round c.args.tid) → ⊥) (sym c.self.view_is) c.requires.room)
 

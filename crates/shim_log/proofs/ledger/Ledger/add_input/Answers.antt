@@ -1,4 +1,4 @@
-use Rattle.std.proofs.Common.{◌+◌, length, sym, subst, ap, arith, append-nil}
+use Rattle.std.proofs.Common.{length, sym, subst, ap, arith, append-nil}
 use Rattle.dos_world.specs.declared.Question.TheVariants.{Input}
 use Rattle.dos_io.specs.Given.{readings}
 use Rattle.dos_io.proofs.GivenLaws.{readings_append}
@@ -10,7 +10,7 @@ use Rattle.shim_log.proofs.ledger.Ledger.add_input.Goals as goal
 
 pub push_input-requires-clause-few : goal.push_input-requires-clause-few
 push_input-requires-clause-few c =
-    room_few _ _ _ (Input c.args.round c.args.tid c.args.max) tt
+    room_few _ c.self.inside.posts.items _ (Input c.args.round c.args.tid c.args.max) tt
     (subst (λ (b : LedgerState). NoRoom b.header b.posts b.entries
     (Input c.args.round c.args.tid c.args.max) → ⊥) (sym c.self.view_is) c.requires.room)
 

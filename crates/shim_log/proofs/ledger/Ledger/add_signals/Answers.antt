@@ -1,7 +1,6 @@
-use Rattle.std.proofs.Common.{◌≡◌, ◌≤◌, ◌+◌, ◌++◌, ◌∷◌, [], length, sym, subst, ap, arith}
+use Rattle.std.proofs.Common.{◌≡◌, length, sym, subst, ap, arith}
 use Rattle.std.proofs.Common.{append-nil}
 use Rattle.dos_world.specs.declared.Question.TheVariants.{Signals}
-use Rattle.dos_io.specs.declared.exchange.Exchange.TheVariants.{Signals as signals}
 use Rattle.dos_io.specs.Given.{readings, posts_in}
 use Rattle.dos_io.proofs.GivenLaws.{readings_append}
 use Rattle.shim_log.specs.Room.{NoRoom}
