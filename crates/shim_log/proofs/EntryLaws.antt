@@ -148,16 +148,18 @@ signals_take least end bytes x fits e =
     subst (λ (y : Exchange × List ℕ). Spells 1 bytes y × HasPosts least y.0)
     (ok_is (Signals a.n c.0.0, c.0.1) x c.2) (
       record {
-      takes = subst (λ (k : ℕ).
-          Takes (1 ∷ bytes) (1 ∷ (to_le_bytes w32 a.n ++ (one k ++ flat_map post_text c.0.0)))
-          c.0.1)
-          (sym p.count) text;
-      fits = record {
-        round_fits = a.most;
-        count = omega (arith, b.most, p.count);
-        posts = p.fits;
-      };
-    }, omega (arith, b.least, p.count))
+        takes = subst (λ (k : ℕ).
+            Takes (1 ∷ bytes) (1 ∷ (to_le_bytes w32 a.n ++ (one k ++ flat_map post_text c.0.0)))
+            c.0.1)
+            (sym p.count) text;
+        fits = record {
+          round_fits = a.most;
+          count = omega (arith, b.most, p.count);
+          posts = p.fits;
+        };
+      },
+      omega (arith, b.least, p.count),
+    )
 
 pub signals_again : (least end round : ℕ) (list : List Post) (rest : List ℕ)
     → FitsSignals round list → least ≤ length list

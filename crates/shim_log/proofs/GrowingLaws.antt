@@ -96,37 +96,37 @@ loud_grows es e loud =
 -- ---- entries that grow
 
 module _ (text : List ℕ) (stretch : Option (ℕ × ℕ)) (count : ℕ) (k : IsGrowing text stretch count)
-    where
-  abbrev xs : List Item
-  xs = grown_items text stretch
+  where
+    abbrev xs : List Item
+    xs = grown_items text stretch
 
-  abbrev es : List Exchange
-  es = exchanges_of xs
+    abbrev es : List Exchange
+    es = exchanges_of xs
 
-  pub grown_text : entries_text Two es ≡ text ++ items_text (stretch_items stretch)
-  grown_text =
-      spelled_text Two xs k.spelled
-      ∙ items_text_append (items_in_text Two text) (stretch_items stretch)
-      ∙ ap (λ (t : List ℕ). t ++ items_text (stretch_items stretch)) (sym k.text_is)
+    pub grown_text : entries_text Two es ≡ text ++ items_text (stretch_items stretch)
+    grown_text =
+        spelled_text Two xs k.spelled
+        ∙ items_text_append (items_in_text Two text) (stretch_items stretch)
+        ∙ ap (λ (t : List ℕ). t ++ items_text (stretch_items stretch)) (sym k.text_is)
 
-  pub grown_few : count ≤ most_exchanges
-  grown_few =
-      omega (arith, k.count_is, spelled_few Two nothing_read xs k.spelled (omega arith))
+    pub grown_few : count ≤ most_exchanges
+    grown_few =
+        omega (arith, k.count_is, spelled_few Two nothing_read xs k.spelled (omega arith))
 
-  put_is : text ++ items_text (stretch_items stretch) ≡ items_text xs
-  put_is =
-      sym (items_text_append (items_in_text Two text) (stretch_items stretch)
-      ∙ ap (λ (t : List ℕ). t ++ items_text (stretch_items stretch)) (sym k.text_is))
+    put_is : text ++ items_text (stretch_items stretch) ≡ items_text xs
+    put_is =
+        sym (items_text_append (items_in_text Two text) (stretch_items stretch)
+        ∙ ap (λ (t : List ℕ). t ++ items_text (stretch_items stretch)) (sym k.text_is))
 
-  pub closed : (new : List ℕ) → new ≡ text ++ items_text (stretch_items stretch)
-      → IsEntriesText Two new count × (exchanges_of (items_in_text Two new) ≡ es)
-  closed new is = (
-    text_kept Two new xs count (is ∙ put_is) k.spelled k.count_is,
-    ap exchanges_of (text_spells Two new xs (is ∙ put_is) k.spelled),
-  )
+    pub closed : (new : List ℕ) → new ≡ text ++ items_text (stretch_items stretch)
+        → IsEntriesText Two new count × (exchanges_of (items_in_text Two new) ≡ es)
+    closed new is = (
+      text_kept Two new xs count (is ∙ put_is) k.spelled k.count_is,
+      ap exchanges_of (text_spells Two new xs (is ∙ put_is) k.spelled),
+    )
 
-  held_is : (after_items nothing_read xs).held ≡ count
-  held_is = omega (arith, after_held nothing_read xs, k.count_is)
+    held_is : (after_items nothing_read xs).held ≡ count
+    held_is = omega (arith, after_held nothing_read xs, k.count_is)
 
 -- with one exchange more
 pub record Grew (text : List ℕ) (stretch : Option (ℕ × ℕ)) (count : ℕ) (e : Exchange)

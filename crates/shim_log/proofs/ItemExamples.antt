@@ -3,16 +3,15 @@ use Rattle.std.specs.Prelude.{ℕ, List, [], ◌∷◌, ◌++◌, length, Ok, Er
 use Rattle.dos_world.specs.declared.Ending.TheVariants.{Stalled}
 use Rattle.dos_io.specs.declared.exchange.Exchange.TheVariants.{Signals, Clock}
 use Rattle.shim_log.specs.declared.refusal.LogError.TheVariants.{Entry}
-use Rattle.shim_log.specs.declared.version.LogVersion.TheVariants.{One, Two}
+use Rattle.shim_log.specs.declared.version.LogVersion.TheVariants.{Two}
 use Rattle.shim_log.specs.LogText.{Log, logtext}
-use Rattle.shim_log.specs.Items.{quiet, kept, items_of, quiet_rounds}
-use Rattle.shim_log.specs.Versions.{logtext_in}
-use Rattle.shim_log.specs.Reading.{magic_at, header_number_at, many_at, post_at}
-use Rattle.shim_log.specs.Reading.{input_at, clock_at, end_at, ranged_at, ranged_byte_at}
-use Rattle.shim_log.specs.ReadingVersions.{versioned_log_at, versioned_header_at, known_version_at}
-use Rattle.shim_log.specs.ReadingVersions.{items_at, item_at, quiet_at, quiet_round_at}
-use Rattle.shim_log.specs.ReadingVersions.{signals_from_at}
-use Rattle.shim_log.proofs.Texts.{digest, smallest, text}
+use Rattle.shim_log.specs.Items.{quiet, kept, items_of}
+use Rattle.shim_log.specs.Items.{quiet_rounds}
+use Rattle.shim_log.specs.Reading.{log_at, header_at, fields_at, magic_at, version_at}
+use Rattle.shim_log.specs.Reading.{header_number_at, many_at, body_at, item_at, quiet_at}
+use Rattle.shim_log.specs.Reading.{quiet_round_at, signals_at, post_at, input_at, clock_at}
+use Rattle.shim_log.specs.Reading.{end_at, ranged_at, ranged_byte_at}
+use Rattle.shim_log.proofs.Texts.{digest, smallest}
 
 -- ---- the log of a run of the smallest image
 
@@ -28,35 +27,26 @@ abbrev text_two : List ℕ
 text_two = start ++ digest
     ++ (0x04 ∷ 0x01 ∷ 0x00 ∷ 0x00 ∷ 0x00 ∷ 0x01 ∷ 0x00 ∷ 0x00 ∷ 0x00 ∷ []) ++ end_one
 
-spelled : logtext_in Two smallest ≡ text_two
+abbrev small : Log
+small = record smallest { version = Two }
+
+spelled : logtext small ≡ text_two
 spelled = refl
 
 has_67_bytes : length text_two ≡ 67
 has_67_bytes = refl
 
--- version 1 stays as it is
-spelled_as_before : logtext_in One smallest ≡ logtext smallest
-spelled_as_before = refl
-
-read : versioned_log_at text_two ≡ Ok (Two, smallest)
-unfolding versioned_log_at versioned_header_at known_version_at magic_at header_number_at many_at
-    items_at item_at quiet_at quiet_round_at signals_from_at post_at input_at clock_at end_at
-    ranged_at ranged_byte_at quiet_rounds
+read : log_at text_two ≡ Ok small
+unfolding log_at header_at fields_at magic_at version_at header_number_at many_at body_at item_at quiet_at
+    quiet_round_at signals_at post_at input_at clock_at end_at ranged_at ranged_byte_at quiet_rounds
 read = refl
 
-read_as_before : versioned_log_at text ≡ Ok (One, smallest)
-unfolding versioned_log_at versioned_header_at known_version_at magic_at header_number_at many_at
-    items_at item_at quiet_at quiet_round_at signals_from_at post_at input_at clock_at end_at
-    ranged_at ranged_byte_at quiet_rounds
-read_as_before = refl
-
 -- a quiet entry of no rounds is refused at its count
-none : versioned_log_at (start ++ digest
+none : log_at (start ++ digest
     ++ (0x04 ∷ 0x01 ∷ 0x00 ∷ 0x00 ∷ 0x00 ∷ 0x00 ∷ 0x00 ∷ 0x00 ∷ 0x00 ∷ []) ++ end_one)
     ≡ Err (Entry 57)
-unfolding versioned_log_at versioned_header_at known_version_at magic_at header_number_at many_at
-    items_at item_at quiet_at quiet_round_at signals_from_at post_at input_at clock_at end_at
-    ranged_at ranged_byte_at quiet_rounds
+unfolding log_at header_at fields_at magic_at version_at header_number_at many_at body_at item_at quiet_at
+    quiet_round_at signals_at post_at input_at clock_at end_at ranged_at ranged_byte_at quiet_rounds
 none = refl
 
 -- ---- the log of a run that stalls in its second round
@@ -68,39 +58,36 @@ stalls = record smallest {
   rounds = 1;
 }
 
-of_70_bytes : length (logtext_in One stalls) ≡ 70
+of_70_bytes : length (logtext stalls) ≡ 70
 of_70_bytes = refl
 
-of_67_bytes : length (logtext_in Two stalls) ≡ 67
+of_67_bytes : length (logtext (record stalls { version = Two })) ≡ 67
 of_67_bytes = refl
 
 -- its rounds as two entries are refused where the second begins
-apart : versioned_log_at (start ++ digest
+apart : log_at (start ++ digest
     ++ (0x04 ∷ 0x01 ∷ 0x00 ∷ 0x00 ∷ 0x00 ∷ 0x01 ∷ 0x00 ∷ 0x00 ∷ 0x00 ∷ [])
     ++ (0x04 ∷ 0x02 ∷ 0x00 ∷ 0x00 ∷ 0x00 ∷ 0x01 ∷ 0x00 ∷ 0x00 ∷ 0x00 ∷ []) ++ end_one)
     ≡ Err (Entry 62)
-unfolding versioned_log_at versioned_header_at known_version_at magic_at header_number_at many_at
-    items_at item_at quiet_at quiet_round_at signals_from_at post_at input_at clock_at end_at
-    ranged_at ranged_byte_at quiet_rounds
+unfolding log_at header_at fields_at magic_at version_at header_number_at many_at body_at item_at quiet_at
+    quiet_round_at signals_at post_at input_at clock_at end_at ranged_at ranged_byte_at quiet_rounds
 apart = refl
 
 -- no signals as an entry of their own are refused at their count
-signals_of_none : versioned_log_at (start ++ digest
+signals_of_none : log_at (start ++ digest
     ++ (0x01 ∷ 0x01 ∷ 0x00 ∷ 0x00 ∷ 0x00 ∷ 0x00 ∷ []) ++ end_one) ≡ Err (Entry 57)
-unfolding versioned_log_at versioned_header_at known_version_at magic_at header_number_at many_at
-    items_at item_at quiet_at quiet_round_at signals_from_at post_at input_at clock_at end_at
-    ranged_at ranged_byte_at quiet_rounds
+unfolding log_at header_at fields_at magic_at version_at header_number_at many_at body_at item_at quiet_at
+    quiet_round_at signals_at post_at input_at clock_at end_at ranged_at ranged_byte_at quiet_rounds
 signals_of_none = refl
 
 -- an entry of the other version's kind is refused in version 1
-kind_4_in_version_1 : versioned_log_at
+kind_4_in_version_1 : log_at
     (0x44 ∷ 0x50 ∷ 0x47 ∷ 0x4C ∷ 0x01 ∷ 0x00 ∷ 0x01 ∷ 0x00 ∷ 0xE8 ∷ 0x03 ∷ 0x00 ∷ 0x00 ∷ 0xA0
     ∷ 0x86 ∷ 0x01 ∷ 0x00 ∷ 0x00 ∷ 0x10 ∷ 0x00 ∷ 0x00 ∷ digest
     ++ (0x04 ∷ 0x01 ∷ 0x00 ∷ 0x00 ∷ 0x00 ∷ 0x01 ∷ 0x00 ∷ 0x00 ∷ 0x00 ∷ []) ++ end_one)
     ≡ Err (Entry 52)
-unfolding versioned_log_at versioned_header_at known_version_at magic_at header_number_at many_at
-    items_at item_at quiet_at quiet_round_at signals_from_at post_at input_at clock_at end_at
-    ranged_at ranged_byte_at quiet_rounds
+unfolding log_at header_at fields_at magic_at version_at header_number_at many_at body_at item_at quiet_at
+    quiet_round_at signals_at post_at input_at clock_at end_at ranged_at ranged_byte_at quiet_rounds
 kind_4_in_version_1 = refl
 
 -- ---- stretches

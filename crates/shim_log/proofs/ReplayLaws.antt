@@ -265,68 +265,68 @@ module _ (p : ReplayState) (place within : ℕ) (text left rest : List ℕ) (rou
     (lt : p.answered < length p.log.entries) (st : StandsAt p.log p.answered place within)
     (here : IsRead p.log place text left)
     (is : item_at p.log.version nothing_read (length text) left ≡ Ok (quiet round count, rest))
-    where
-  abbrev f : First p.log p.answered place within
-  f = first_is p.log p.answered place within st lt
+  where
+    abbrev f : First p.log p.answered place within
+    f = first_is p.log p.answered place within st lt
 
-  abbrev read : (f.item ≡ quiet round count) × (items_text f.items ≡ rest)
-  read = read_is p.log p.answered place within text left f here (quiet round count) rest is
+    abbrev read : (f.item ≡ quiet round count) × (items_text f.items ≡ rest)
+    read = read_is p.log p.answered place within text left f here (quiet round count) rest is
 
-  pub in_stretch : within < count
-  in_stretch = subst (λ (x : Item). IsWithin within (x ∷ f.items)) read.0 f.within_first
+    pub in_stretch : within < count
+    in_stretch = subst (λ (x : Item). IsWithin within (x ∷ f.items)) read.0 f.within_first
 
-  pub in_range : round + count ≤ 2 ^ 32
-  in_range = quiet_range p.log.version f.progress f.item round count read.0 f.fits
+    pub in_range : round + count ≤ 2 ^ 32
+    in_range = quiet_range p.log.version f.progress f.item round count read.0 f.fits
 
-  found : (slice_get p.log.entries p.answered ≡ Some (Signals (round + within) []))
-      × (drop (p.answered + 1) p.log.entries
-      ≡ drop (within + 1) (quiet_rounds round count ++ exchanges_of f.items))
-  found =
-      get_first p.log.entries (drop (within + 1) (quiet_rounds round count ++ exchanges_of f.items))
-      p.answered (Signals (round + within) [])
-      (f.left ∙ ap (λ (x : Item). drop within (expanded x ++ exchanges_of f.items)) read.0
-      ∙ quiet_first round count within (exchanges_of f.items) in_stretch)
+    found : (slice_get p.log.entries p.answered ≡ Some (Signals (round + within) []))
+        × (drop (p.answered + 1) p.log.entries
+        ≡ drop (within + 1) (quiet_rounds round count ++ exchanges_of f.items))
+    found =
+        get_first p.log.entries (drop (within + 1) (quiet_rounds round count ++ exchanges_of f.items))
+        p.answered (Signals (round + within) [])
+        (f.left ∙ ap (λ (x : Item). drop within (expanded x ++ exchanges_of f.items)) read.0
+        ∙ quiet_first round count within (exchanges_of f.items) in_stretch)
 
-  entry_is : slice_get (exchanges p.log) p.answered ≡ Some (Signals (round + within) [])
-  entry_is =
-      get_left p.log.entries (End p.log.ending p.log.rounds ∷ []) p.answered lt ∙ found.0
+    entry_is : slice_get (exchanges p.log) p.answered ≡ Some (Signals (round + within) [])
+    entry_is =
+        get_left p.log.entries (End p.log.ending p.log.rounds ∷ []) p.answered lt ∙ found.0
 
-  entry_fits : InRange (Signals (round + within) [])
-  entry_fits = record {
-    round_fits = omega (arith, in_stretch, in_range);
-    count = omega arith;
-    posts = tt;
-  }
+    entry_fits : InRange (Signals (round + within) [])
+    entry_fits = record {
+      round_fits = omega (arith, in_stretch, in_range);
+      count = omega arith;
+      posts = tt;
+    }
 
-  pub next_more : within + 1 < count → NextAt p (Signals (round + within) []) place (within + 1)
-  next_more more = record {
-    entry = entry_is;
-    fits = entry_fits;
-    behind = record {
-      progress = f.progress;
-      items = f.item ∷ f.items;
-      text_is = f.text_is ∙ sym (flat_map-cons item_text f.item f.items);
-      spelled = (f.fits, f.spelled);
-      left = found.1
-          ∙ ap (λ (x : Item). drop (within + 1) (expanded x ++ exchanges_of f.items)) (sym read.0);
-      within_first = subst (λ (x : Item). IsWithin (within + 1) (x ∷ f.items)) (sym read.0) more;
-      inside = st.inside;
-    };
-  }
+    pub next_more : within + 1 < count → NextAt p (Signals (round + within) []) place (within + 1)
+    next_more more = record {
+      entry = entry_is;
+      fits = entry_fits;
+      behind = record {
+        progress = f.progress;
+        items = f.item ∷ f.items;
+        text_is = f.text_is ∙ sym (flat_map-cons item_text f.item f.items);
+        spelled = (f.fits, f.spelled);
+        left = found.1
+            ∙ ap (λ (x : Item). drop (within + 1) (expanded x ++ exchanges_of f.items)) (sym read.0);
+        within_first = subst (λ (x : Item). IsWithin (within + 1) (x ∷ f.items)) (sym read.0) more;
+        inside = st.inside;
+      };
+    }
 
-  pub next_last : count ≤ within + 1
-      → NextAt p (Signals (round + within) []) (length text - length rest) 0
-  next_last last =
-      let all : within + 1 ≡ count = omega (arith, in_stretch, last) in
-      record {
-        entry = entry_is;
-        fits = entry_fits;
-        behind = behind_first p.log p.answered place within text left f here (quiet round count)
-            rest is
-            (found.1
-            ∙ ap (λ (k : ℕ). drop k (quiet_rounds round count ++ exchanges_of f.items)) all
-            ∙ quiet_over round count (exchanges_of f.items));
-      }
+    pub next_last : count ≤ within + 1
+        → NextAt p (Signals (round + within) []) (length text - length rest) 0
+    next_last last =
+        let all : within + 1 ≡ count = omega (arith, in_stretch, last) in
+        record {
+          entry = entry_is;
+          fits = entry_fits;
+          behind = behind_first p.log p.answered place within text left f here (quiet round count)
+              rest is
+              (found.1
+              ∙ ap (λ (k : ℕ). drop k (quiet_rounds round count ++ exchanges_of f.items)) all
+              ∙ quiet_over round count (exchanges_of f.items));
+        }
 
 -- ---- before the first and behind the last
 

@@ -119,11 +119,7 @@ fn read_end(end: usize, bytes: &[u8]) -> Result<(Entry<'_>, &[u8]), LogError>
 
 // The first round of a quiet entry.
 #[tactic(auto, unfolding(crate::specs::Reading::quiet_round_at))]
-fn read_quiet_round(
-    progress: Progress,
-    end: usize,
-    bytes: &[u8],
-) -> Result<(u32, &[u8]), LogError>
+fn read_quiet_round(progress: Progress, end: usize, bytes: &[u8]) -> Result<(u32, &[u8]), LogError>
     ensures { Gives (λ x. (x.0, x.1.now)) result
         (quiet_round_at progress.goes_on end bytes.now) }
 {

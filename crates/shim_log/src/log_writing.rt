@@ -43,11 +43,7 @@ fn put_digests(out: &mut Vec<u8>, digests: &Digests) -> Result<(), AllocError>
     Ok(())
 }
 
-fn put_header(
-    out: &mut Vec<u8>,
-    version: LogVersion,
-    header: &LogHeader,
-) -> Result<(), AllocError>
+fn put_header(out: &mut Vec<u8>, version: LogVersion, header: &LogHeader) -> Result<(), AllocError>
     ensures { OnOk result (out.new.items ≡ out.old.items ++ header_text version header.now) }
 {
     let images = header.digests.len();

@@ -1,11 +1,10 @@
 use Rattle.std.proofs.Common.{◌≡◌, ◌≤◌, ◌<◌, ◌∙◌, ◌+◌, ◌-◌, ℕ, List, Ok, Some, length, sym, ap}
-use Rattle.std.proofs.Common.{ap₂, subst, arith}
+use Rattle.std.proofs.Common.{[], ap₂, subst, arith}
 use Rattle.shim_log.specs.declared.version.LogVersion.{LogVersion}
 use Rattle.shim_log.specs.declared.progress.Progress.{Progress}
 use Rattle.dos_io.specs.declared.exchange.Exchange.{Exchange}
 use Rattle.dos_io.specs.declared.exchange.Exchange.TheVariants.{Signals}
 use Rattle.shim_log.specs.Items.{Item, quiet, kept}
-use Rattle.shim_log.specs.LogText.{entries_text}
 use Rattle.shim_log.specs.Reading.{item_at, nothing_read}
 use Rattle.shim_log.specs.Replay.{ReplayState}
 use Rattle.shim_log.specs.Views.{exchange_of, item_of}
