@@ -2,7 +2,7 @@
 use Rattle.std.specs.Prelude.{ℕ, List, [], ◌∷◌, ◌++◌, length, replicate, codes, Ok, ◌≡◌, refl}
 use Rattle.dos_world.specs.declared.Ending.TheVariants.{Done, Limit, Stalled}
 use Rattle.dos_io.specs.declared.exchange.Exchange.TheVariants.{Signals, Input, Clock, End}
-use Rattle.shim_log.specs.declared.version.LogVersion.TheVariants.{One, Two}
+use Rattle.shim_log.specs.declared.version.LogVersion.TheVariants.{One}
 use Rattle.shim_log.specs.LogText.{Log, exchanges, header_text, entry_text, logtext}
 use Rattle.shim_log.specs.Items.{quiet_rounds}
 use Rattle.shim_log.specs.Reading.{log_at, header_at, fields_at, magic_at, version_at}
