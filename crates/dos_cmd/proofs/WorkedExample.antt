@@ -37,7 +37,8 @@ use Rattle.dos_cmd.specs.Judging.{of_images, replay_judgement, verdict, with_ima
 use Rattle.dos_cmd.specs.Outside.{Outside, Counted, FilesStay, Grew, Holds, OthersStay}
 use Rattle.dos_cmd.specs.Results.{MustDo, MustReplay}
 use Rattle.dos_cmd.specs.RunLeaves.{header_of}
-use Rattle.dos_cmd.proofs.BareRuns.{bare_once, text_by}
+use Rattle.logged_runs.proofs.OneRecording.{one_log}
+use Rattle.dos_cmd.proofs.BareRuns.{bare_once}
 
 -- ---- the words
 
@@ -237,7 +238,8 @@ run_leaves status o must a no_fault no_sink no_memory no_room =
     planned.digests_are) in
     let header = recorded.header ∙ planned.header_is ∙ ap (header_of config) digests in (
       left_by o status did.seen same.1 did.status_is did.grew did.counted,
-      subst (Holds o (codes "l")) (text_by did.log log recorded.version header same.0 ∙ text_is) did.written,
+      subst (Holds o (codes "l"))
+          (ap logtext (one_log did.log log recorded.version header same.0) ∙ text_is) did.written,
       did.others,
     )
 
