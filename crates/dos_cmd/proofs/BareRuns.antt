@@ -1,9 +1,8 @@
 -- A run that asks only for signals, of which there are none, has exchanges that its questions
 -- determine.
-use Rattle.std.specs.Prelude.{◌≡◌, ⊤, List, [], ◌∷◌, ◌++◌}
+use Rattle.std.specs.Prelude.{◌≡◌, ⊤, List, []}
 use Rattle.std.specs.List.{AllByRecursion}
-use Rattle.std.proofs.Common.{sym, ap, ap₂, ◌∙◌, append_assoc}
-use Rattle.std.proofs.lemmas.List.Concat.{flat_map-append}
+use Rattle.std.proofs.Common.{sym, ap₂, ◌∙◌}
 use Rattle.dos_world.specs.declared.Config.{Config}
 use Rattle.dos_io.specs.Given.{GivesPosts}
 use Rattle.dos_io.specs.declared.exchange.Exchange.{Exchange}
@@ -11,7 +10,6 @@ use Rattle.dos_io.specs.declared.exchange.Exchange.TheVariants.{Signals, Input, 
 use Rattle.elf_image.specs.Image.{Image}
 use Rattle.flat_machine.specs.Machine.{Seen}
 use Rattle.dpg_run.proofs.Asked.{Determines, one_run}
-use Rattle.shim_log.specs.LogText.{Log, exchanges, header_text, entries_text, entry_text, logtext}
 use Rattle.logged_runs.specs.Runs.{RanWhole}
 
 -- no post, and nothing that the host gives
@@ -44,17 +42,3 @@ pub bare_once : (images : List Image) (config : Config) (es fs : List Exchange) 
 bare_once images config es fs a b gives bare one other =
     one_run GivenAndBare bare_determines images config es fs a b (gives, bare) one.fits other.fits
     one.is other.is
-
--- a log's text by its header and the exchanges
-by_exchanges : (log : Log)
-    → logtext log ≡ header_text log.header ++ entries_text (exchanges log)
-by_exchanges log =
-    let last : List Exchange = End log.ending log.rounds ∷ [] in
-    append_assoc (header_text log.header) (entries_text log.entries) (entries_text last)
-    ∙ ap (λ x. header_text log.header ++ x) (sym (flat_map-append entry_text log.entries last))
-
--- logs of one header and the same exchanges have one text
-pub text_by : (a b : Log) → a.header ≡ b.header → exchanges a ≡ exchanges b
-    → logtext a ≡ logtext b
-text_by a b header same = by_exchanges a
-    ∙ ap₂ (λ h es. header_text h ++ entries_text es) header same ∙ sym (by_exchanges b)

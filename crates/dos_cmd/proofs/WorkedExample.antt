@@ -20,9 +20,11 @@ use Rattle.flat_machine.specs.Machine.{Seen, group}
 use Rattle.dpg_run.specs.Report.{report}
 use Rattle.dpg_run.proofs.MisfitLaws.{fits_have_none}
 use Rattle.shim_log.specs.LogText.{Log, exchanges, logtext}
-use Rattle.shim_log.specs.Reading.{end_at, entry_at, header_at as log_header_at, header_number_at}
-use Rattle.shim_log.specs.Reading.{log_at, magic_at, many_at, ranged_at, ranged_byte_at, signals_at}
-use Rattle.shim_log.specs.Reading.{tail_at, version_at}
+use Rattle.shim_log.specs.declared.version.LogVersion.TheVariants.{Two}
+use Rattle.shim_log.specs.Items.{quiet_rounds}
+use Rattle.shim_log.specs.Reading.{body_at, end_at, fields_at, header_at as log_header_at}
+use Rattle.shim_log.specs.Reading.{header_number_at, item_at, log_at, magic_at, many_at, quiet_at}
+use Rattle.shim_log.specs.Reading.{quiet_round_at, ranged_at, ranged_byte_at, version_at}
 use Rattle.log_files.specs.Judging.{disagreement, log_verdict}
 use Rattle.logged_runs.specs.Runs.{RanWhole}
 use Rattle.dos_texts.specs.Exit.{ending_status}
@@ -35,7 +37,8 @@ use Rattle.dos_cmd.specs.Judging.{of_images, replay_judgement, verdict, with_ima
 use Rattle.dos_cmd.specs.Outside.{Outside, Counted, FilesStay, Grew, Holds, OthersStay}
 use Rattle.dos_cmd.specs.Results.{MustDo, MustReplay}
 use Rattle.dos_cmd.specs.RunLeaves.{header_of}
-use Rattle.dos_cmd.proofs.BareRuns.{bare_once, text_by}
+use Rattle.logged_runs.proofs.OneRecording.{one_log}
+use Rattle.dos_cmd.proofs.BareRuns.{bare_once}
 
 -- ---- the words
 
@@ -133,6 +136,7 @@ digest_is = refl
 -- one question for the signals of the round, which are none, and the end
 abbrev log : Log
 log = record {
+  version = Two;
   header = header_of config (digest ∷ []);
   entries = signals 1 [] ∷ [];
   ending = Done;
@@ -161,19 +165,19 @@ report_is : report seen ≡ reported
 unfolding digits
 report_is = refl
 
--- The log's file: `DPGL`, the version, one image, the three numbers, and the digest; the signals of
--- round 1; and the end, after one round.
+-- The log's file: `DPGL`, the version, one image, the three numbers, and the digest; the
+-- stretch of round 1 alone; and the end, after one round.
 abbrev text : List ℕ
 text =
-    0x44 ∷ 0x50 ∷ 0x47 ∷ 0x4C ∷ 1 ∷ 0 ∷ 1 ∷ 0 ∷ 0xE8 ∷ 3 ∷ 0 ∷ 0 ∷ 2 ∷ 0 ∷ 0 ∷ 0 ∷ 17 ∷ 0 ∷ 0 ∷ 0
-    ∷ digest ++ 1 ∷ 1 ∷ 0 ∷ 0 ∷ 0 ∷ 0 ∷ 0 ∷ 0 ∷ 1 ∷ 0 ∷ 0 ∷ 0 ∷ []
+    0x44 ∷ 0x50 ∷ 0x47 ∷ 0x4C ∷ 2 ∷ 0 ∷ 1 ∷ 0 ∷ 0xE8 ∷ 3 ∷ 0 ∷ 0 ∷ 2 ∷ 0 ∷ 0 ∷ 0 ∷ 17 ∷ 0 ∷ 0 ∷ 0
+    ∷ digest ++ 4 ∷ 1 ∷ 0 ∷ 0 ∷ 0 ∷ 1 ∷ 0 ∷ 0 ∷ 0 ∷ 0 ∷ 0 ∷ 1 ∷ 0 ∷ 0 ∷ 0 ∷ []
 
 text_is : logtext log ≡ text
 text_is = refl
 
 log_is : log_verdict text ≡ Ok log
-unfolding log_verdict log_at log_header_at magic_at version_at header_number_at many_at tail_at
-    entry_at signals_at end_at ranged_at ranged_byte_at
+unfolding log_verdict log_at log_header_at magic_at version_at fields_at header_number_at many_at
+    body_at item_at quiet_at quiet_round_at quiet_rounds end_at ranged_at ranged_byte_at
 log_is = refl
 
 abbrev replay_taken : Taken
@@ -234,7 +238,8 @@ run_leaves status o must a no_fault no_sink no_memory no_room =
     planned.digests_are) in
     let header = recorded.header ∙ planned.header_is ∙ ap (header_of config) digests in (
       left_by o status did.seen same.1 did.status_is did.grew did.counted,
-      subst (Holds o (codes "l")) (text_by did.log log header same.0 ∙ text_is) did.written,
+      subst (Holds o (codes "l"))
+          (ap logtext (one_log did.log log recorded.version header same.0) ∙ text_is) did.written,
       did.others,
     )
 

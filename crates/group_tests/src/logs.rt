@@ -12,7 +12,16 @@ use std::process::Abort;
 use std::thread::Threads;
 
 // The log of a run that ends with 7 in its first round. Its digest is that of another program.
-const SEVEN_LOG: [u8; 64] = [
+const SEVEN_LOG: [u8; 67] = [
+    0x44, 0x50, 0x47, 0x4c, 0x02, 0x00, 0x01, 0x00, 0xe8, 0x03, 0x00, 0x00, 0xa0, 0x86, 0x01, 0x00,
+    0x00, 0x10, 0x00, 0x00, 0x3e, 0x21, 0x5e, 0xaa, 0xc5, 0x7e, 0x12, 0x59, 0xf5, 0x83, 0xad, 0x0a,
+    0x3d, 0x62, 0x72, 0xda, 0x6e, 0x75, 0xfb, 0xda, 0x72, 0xe3, 0x70, 0x32, 0x7d, 0xf3, 0x11, 0x09,
+    0x82, 0x4a, 0x6e, 0x5b, 0x04, 0x01, 0x00, 0x00, 0x00, 0x01, 0x00, 0x00, 0x00, 0x00, 0x00, 0x01,
+    0x00, 0x00, 0x00,
+];
+
+// The same log in version 1.
+const SEVEN_LOG_ONE: [u8; 64] = [
     0x44, 0x50, 0x47, 0x4c, 0x01, 0x00, 0x01, 0x00, 0xe8, 0x03, 0x00, 0x00, 0xa0, 0x86, 0x01, 0x00,
     0x00, 0x10, 0x00, 0x00, 0x3e, 0x21, 0x5e, 0xaa, 0xc5, 0x7e, 0x12, 0x59, 0xf5, 0x83, 0xad, 0x0a,
     0x3d, 0x62, 0x72, 0xda, 0x6e, 0x75, 0xfb, 0xda, 0x72, 0xe3, 0x70, 0x32, 0x7d, 0xf3, 0x11, 0x09,
@@ -48,61 +57,79 @@ struct Change {
     line: &'static str,
 }
 
-const CHANGES: [Change; 8] = [
+const CHANGES: [Change; 11] = [
     Change {
         place: 53,
         value: 2,
-        length: 64,
+        length: 67,
         line: "dos: log entry 0 is signals round 2, asked signals round 1\n",
+    },
+    Change {
+        place: 57,
+        value: 2,
+        length: 67,
+        line: "dos: log entry 1 is signals round 2, asked end done rounds 1\n",
     },
     Change {
         place: 52,
         value: 9,
-        length: 64,
+        length: 67,
         line: "dos: log refused: entry at 52\n",
+    },
+    Change {
+        place: 57,
+        value: 0,
+        length: 67,
+        line: "dos: log refused: entry at 57\n",
     },
     Change {
         place: 0,
         value: 9,
-        length: 64,
+        length: 67,
         line: "dos: log refused: magic\n",
     },
     Change {
         place: 4,
-        value: 2,
-        length: 64,
-        line: "dos: log refused: version 2\n",
+        value: 3,
+        length: 67,
+        line: "dos: log refused: version 3\n",
+    },
+    Change {
+        place: 4,
+        value: 1,
+        length: 67,
+        line: "dos: log refused: entry at 52\n",
     },
     Change {
         place: 6,
         value: 9,
-        length: 64,
+        length: 67,
         line: "dos: log refused: header at 6\n",
     },
     Change {
-        place: 59,
+        place: 62,
         value: 1,
-        length: 64,
+        length: 67,
         line: "dos: log entry 1 is end limit rounds 1, asked end done rounds 1\n",
     },
     Change {
         place: 0,
         value: 0x44,
         length: 58,
-        line: "dos: log refused: short at 58\n",
+        line: "dos: log refused: short at 57\n",
     },
     Change {
-        place: 64,
+        place: 67,
         value: 0,
-        length: 65,
-        line: "dos: log refused: after end at 64\n",
+        length: 68,
+        line: "dos: log refused: after end at 67\n",
     },
 ];
 
 // The log with the change.
 fn add_changed(rt: &impl Abort, files: &mut MemoryFiles, change: &Change) {
-    let mut log = [0; 65];
-    log[..64].copy_from_slice(&SEVEN_LOG);
+    let mut log = [0; 68];
+    log[..67].copy_from_slice(&SEVEN_LOG);
     if let Some(byte) = log.get_mut(change.place) {
         *byte = change.value;
     }
@@ -170,6 +197,34 @@ fn a_log_is_of_its_images(rt: HostRuntime) {
     add_guest(&rt, alloc, &mut files, "zero", &ENDS_WITH_0, b"", 0);
     files.add(LOG, &SEVEN_LOG).expect(&rt, "memory");
     check_cases(&rt, alloc, &mut files, &IMAGES);
+    drop(files);
+}
+
+// Of version 1, a log is read and replayed as before.
+#[test]
+fn a_log_of_version_1_is_replayed(rt: HostRuntime) {
+    let alloc = rt.alloc();
+    let mut files = usual_files(&rt, alloc);
+    files.add(LOG, &SEVEN_LOG_ONE).expect(&rt, "memory");
+    let words = ["replay", "--log", LOG, "seven"];
+    let wanted = (0, "", "process 1 status 7\nrounds 1 done\n");
+    let _ = leaves(&rt, alloc, &mut files, &words, wanted);
+    drop(files);
+}
+
+// Two rounds without a signal, one behind the other, as two entries.
+#[test]
+fn a_stretch_in_two_entries_is_refused(rt: HostRuntime) {
+    let alloc = rt.alloc();
+    let mut files = usual_files(&rt, alloc);
+    let mut log = [0; 76];
+    log[..61].copy_from_slice(&SEVEN_LOG[..61]);
+    log[61..70].copy_from_slice(&[4, 2, 0, 0, 0, 1, 0, 0, 0]);
+    log[70..].copy_from_slice(&[0, 2, 1, 0, 0, 0]);
+    files.add(LOG, &log).expect(&rt, "memory");
+    let words = ["replay", "--log", LOG, "seven"];
+    let wanted = (4, "", "dos: log refused: entry at 62\n");
+    let _ = leaves(&rt, alloc, &mut files, &words, wanted);
     drop(files);
 }
 

@@ -26,42 +26,42 @@ const GUESTS: [Guest; 6] = [
         words: &["run", "a"],
         status: 8,
         err: "process 1 live\nrounds 1 stalled\n",
-        length: 70,
+        length: 67,
     },
     Guest {
         code: &WAITS,
         words: &["run", "--signals", "2:1:15", "a"],
         status: 0,
         err: "process 1 status 143\nrounds 1 done\n",
-        length: 75,
+        length: 78,
     },
     Guest {
         code: &CATCHES,
         words: &["run", "--signals", "2:1:15", "a"],
         status: 0,
         err: "process 1 status 252\nrounds 2 done\n",
-        length: 75,
+        length: 78,
     },
     Guest {
         code: &MAPS,
         words: &["run", "--frames", "17", "a"],
         status: 0,
         err: "process 1 status 244\nrounds 1 done\n",
-        length: 64,
+        length: 67,
     },
     Guest {
         code: &MAPS,
         words: &["run", "--frames", "18", "a"],
         status: 0,
         err: "process 1 status 0\nrounds 1 done\n",
-        length: 64,
+        length: 67,
     },
     Guest {
         code: &FORKS,
         words: &["run", "a"],
         status: 0,
         err: "process 1 status 5\nprocess 2 status 5\nrounds 3 done\n",
-        length: 76,
+        length: 67,
     },
 ];
 
@@ -114,7 +114,7 @@ fn input_is_recorded(rt: HostRuntime) {
     let wanted = (0, "0123456789", "process 1 status 0\nrounds 1 done\n");
     let mut files = files_with(&rt, rt.alloc(), &ECHOES, b"", 0);
     let words = ["run", "a"];
-    check_recorded(&rt, rt.alloc(), &mut files, &words, &TEN, wanted, 100);
+    check_recorded(&rt, rt.alloc(), &mut files, &words, &TEN, wanted, 103);
     drop(files);
 }
 

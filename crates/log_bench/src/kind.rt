@@ -7,8 +7,11 @@ use dos_io::ClockRule;
 /// What is asked, and how it is answered.
 #[derive(Clone, Copy)]
 pub enum Kind {
-    /// Signals of a round that has no posts.
+    /// Signals of a round that has no posts, the same again and again, so that none goes on with the
+    /// one before it.
     Signals,
+    /// Signals of one round behind the other, none of which has posts.
+    Rounds,
     /// An input of 64 bytes.
     Input,
     /// An input of 4096 bytes, the most that there may be.
@@ -24,6 +27,7 @@ impl Kind {
     pub fn question(self) -> Question {
         match self {
             Kind::Signals => Question::Signals,
+            Kind::Rounds => Question::Rounds,
             Kind::Input | Kind::Page => Question::Input,
             Kind::HostClock | Kind::CountedClock => Question::Clock,
         }
@@ -57,7 +61,7 @@ impl Kind {
         match self {
             Kind::Input | Kind::Page => (self.len() * count, 0),
             Kind::HostClock => (0, count),
-            Kind::Signals | Kind::CountedClock => (0, 0),
+            Kind::Signals | Kind::Rounds | Kind::CountedClock => (0, 0),
         }
     }
 }

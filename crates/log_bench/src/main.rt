@@ -35,6 +35,7 @@ fn number(word: &str) -> io::Result<u32> {
 fn kind_named(word: &str) -> io::Result<Kind> {
     match word {
         "signals" => Ok(Kind::Signals),
+        "rounds" => Ok(Kind::Rounds),
         "input" => Ok(Kind::Input),
         "page" => Ok(Kind::Page),
         "clock" => Ok(Kind::HostClock),

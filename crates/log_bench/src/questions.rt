@@ -7,11 +7,13 @@ use dos_io::{Shim, SignalList};
 /// Each byte of an input, and each reading of the clock.
 pub const ANSWER: u8 = 7;
 
-/// What is asked, always for thread 1 in round 1.
+/// What is asked, always for thread 1 in round 1, but for the signals of one round behind the other.
 #[derive(Clone, Copy)]
 pub enum Question {
     /// The signals of the round, of which none comes.
     Signals,
+    /// The signals of the next round, of which none comes.
+    Rounds,
     /// An input of as many bytes as the buffer has.
     Input,
     /// A reading of the clock.
@@ -19,11 +21,11 @@ pub enum Question {
 }
 
 /// The signals of a round are asked, and none comes.
-fn signals<S: Shim>(shim: &mut S, list: &mut SignalList) -> bool
+fn signals<S: Shim>(shim: &mut S, round: u32, list: &mut SignalList) -> bool
     requires { HasNoEnd (S.state shim.old).told }
     ensures { HasNoEnd (S.state shim.new).told }
 {
-    let answered = shim.signals(1, list) == Ok(());
+    let answered = shim.signals(round, list) == Ok(());
     answered & (list.len() == 0)
 }
 
@@ -49,7 +51,13 @@ fn clock<S: Shim>(shim: &mut S) -> bool
 }
 
 /// One question is asked, and the answer is the one that is wanted.
-fn ask<S: Shim>(shim: &mut S, question: Question, list: &mut SignalList, buf: &mut [u8]) -> bool
+fn ask<S: Shim>(
+    shim: &mut S,
+    question: Question,
+    round: u32,
+    list: &mut SignalList,
+    buf: &mut [u8],
+) -> bool
     requires told { HasNoEnd (S.state shim.old).told }
     requires some { 0 < length buf.old }
     requires few { length buf.old ≤ 4096 }
@@ -57,7 +65,8 @@ fn ask<S: Shim>(shim: &mut S, question: Question, list: &mut SignalList, buf: &m
     ensures len { length buf.new ≡ length buf.old }
 {
     match question {
-        Question::Signals => signals(shim, list),
+        Question::Signals => signals(shim, 1, list),
+        Question::Rounds => signals(shim, round, list),
         Question::Input => input(shim, buf),
         Question::Clock => clock(shim),
     }
@@ -72,8 +81,8 @@ pub fn ask_all<S: Shim>(shim: &mut S, question: Question, buf: &mut [u8], count:
 {
     let mut list = SignalList::new();
     let mut answered = 0u32;
-    for _ in 0..count {
-        if ask(shim, question, &mut list, buf) {
+    for round in 0..count {
+        if ask(shim, question, round, &mut list, buf) {
             answered = answered.saturating_add(1);
         }
     }

@@ -15,6 +15,7 @@ use Rattle.dos_io.specs.declared.exchange.Exchange.{Exchange}
 use Rattle.dos_io.specs.declared.exchange.Exchange.TheVariants.{End, Input, Signals}
 use Rattle.dos_io.proofs.GivenLaws.{given_once, readings_append}
 use Rattle.shim_log.specs.declared.header.LogHeader.{LogHeader}
+use Rattle.shim_log.specs.declared.version.LogVersion.{LogVersion}
 use Rattle.shim_log.specs.LogText.{Log, exchanges}
 use Rattle.shim_log.specs.Room.{HadRoom, NoRoom}
 use Rattle.flat_machine.specs.Machine.{group}
@@ -132,12 +133,19 @@ module _ (posts : List (ℕ × Post)) (clock : ClockRule) (host : Told) where
 
 -- ---- one log
 
-abbrev log_of : LogHeader → List Exchange → Ending → ℕ → Log
-log_of header entries ending rounds =
-    record { header = header; entries = entries; ending = ending; rounds = rounds }
+abbrev log_of : LogVersion → LogHeader → List Exchange → Ending → ℕ → Log
+log_of version header entries ending rounds = record {
+  version = version;
+  header = header;
+  entries = entries;
+  ending = ending;
+  rounds = rounds;
+}
 
-one_log : (a b : Log) → a.header ≡ b.header → exchanges a ≡ exchanges b → a ≡ b
-one_log a b header same =
+-- logs of one version and header and the same exchanges are one
+pub one_log : (a b : Log) → a.version ≡ b.version → a.header ≡ b.header → exchanges a ≡ exchanges b
+    → a ≡ b
+one_log a b version header same =
     let entries : a.entries ≡ b.entries =
     fronts_same a.entries b.entries (End a.ending a.rounds) (End b.ending b.rounds) same in
     let last : End a.ending a.rounds ≡ End b.ending b.rounds =
@@ -145,10 +153,11 @@ one_log a b header same =
     (same ∙ ap (λ es. es ++ End b.ending b.rounds ∷ []) (sym entries)) in
     let ending : a.ending ≡ b.ending = cc in
     let rounds : a.rounds ≡ b.rounds = cc in
-    ap (λ (h : LogHeader). log_of h a.entries a.ending a.rounds) header
-    ∙ ap (λ (es : List Exchange). log_of b.header es a.ending a.rounds) entries
-    ∙ ap (λ (e : Ending). log_of b.header b.entries e a.rounds) ending
-    ∙ ap (λ (n : ℕ). log_of b.header b.entries b.ending n) rounds
+    ap (λ (v : LogVersion). log_of v a.header a.entries a.ending a.rounds) version
+    ∙ ap (λ (h : LogHeader). log_of b.version h a.entries a.ending a.rounds) header
+    ∙ ap (λ (es : List Exchange). log_of b.version b.header es a.ending a.rounds) entries
+    ∙ ap (λ (e : Ending). log_of b.version b.header b.entries e a.rounds) ending
+    ∙ ap (λ (n : ℕ). log_of b.version b.header b.entries b.ending n) rounds
 
 pub recorded_once : RecordedRunsAreOne
 recorded_once plan host after other_after log other seen other_seen a b =
@@ -156,7 +165,7 @@ recorded_once plan host after other_after log other seen other_seen a b =
     (given_determines plan.posts plan.clock host after other_after) plan.images plan.config
     (exchanges log) (exchanges other) seen other_seen ([], a.given, b.given) a.ran.fits b.ran.fits
     a.ran.is b.ran.is in
-    (one_log log other (a.header ∙ sym b.header) same.0, same.1)
+    (one_log log other (a.version ∙ sym b.version) (a.header ∙ sym b.header) same.0, same.1)
 
 pub recording_replays : RecordingsReplay
 recording_replays plan host after log seen recorded is =

@@ -25,6 +25,7 @@ use Rattle.kernel_calls.specs.declared.state.RunStop.TheVariants.{HostFault, Log
 use Rattle.kernel_calls.specs.declared.state.RunStop.TheVariants.{OutFault, ErrFault, Memory}
 use Rattle.worker_pool.specs.Ran.{GrewBy}
 use Rattle.shim_log.specs.declared.header.LogHeader.{LogHeader}
+use Rattle.shim_log.specs.declared.version.LogVersion.TheVariants.{Two}
 use Rattle.shim_log.specs.Ledger.{Follows, IsLedger, LedgerState, MayStop, empty_ledger, end_of}
 use Rattle.shim_log.specs.Ledger.{recorder_state}
 use Rattle.shim_log.specs.LogText.{Log, exchanges, logtext}
@@ -135,12 +136,13 @@ module _ (k : Held) (start after : LedgerState) (a b : Option Told) (m n : ℕ)
   of_start : (log : Log) (k' : Held) (ending : Ending) (tally tally' work : ℕ)
       → RanGroup k.config k.state (telling (recorder_state start).told o e) ending k'.state
       (telling told o1 e1) work → GrewBy tally tally' work → IsLedger after
-      → exchanges log ≡ told → log.header ≡ after.header → FitsLog log
+      → exchanges log ≡ told → log.version ≡ Two → log.header ≡ after.header → FitsLog log
       → length (logtext log) ≤ most_bytes → (images : List Image) (config : Config)
       → IsOpenedWith k images config
       → (seen : Seen) × Recorded (plan_of images config start) a b log seen
       × Ended k' ending seen o e o1 e1 tally tally'
-  of_start log k' ending tally tally' work run grew kept is header fits small images config opened =
+  of_start log k' ending tally tally' work run grew kept is version header fits small images config
+      opened =
       let ran = ran_whole k (recorder_state start).told told o e o1 e1 nothing_told images config
       opened k' ending tally tally' work run grew in
       let entries : log.entries ≡ after.entries =
@@ -149,6 +151,7 @@ module _ (k : Held) (start after : LedgerState) (a b : Option Told) (m n : ℕ)
         record {
           ran = subst (λ es. RanWhole images config es ran.0) (sym is) ran.1;
           given = subst (λ es. Given start.posts start.clock 0 a b es) (sym is) all_given;
+          version = version;
           header = header ∙ follows.header_same;
           ranges = fits;
           room = subst (λ es. HadRoom start.header start.posts [] es) (sym entries)
@@ -258,16 +261,18 @@ module _ (k : Held) (ledger start after : LedgerState) (a b : Option Told) (m n 
   pub recorded : (log : Log) (k' : Held) (ending : Ending) (tally tally' work : ℕ)
       → RanGroup k.config k.state (telling (recorder_state start).told o e) ending k'.state
       (telling (recorder_state after).told o1 e1) work → GrewBy tally tally' work
-      → IsLedger after → exchanges log ≡ (recorder_state after).told → log.header ≡ after.header
+      → IsLedger after → exchanges log ≡ (recorder_state after).told → log.version ≡ Two
+      → log.header ≡ after.header
       → FitsLog log → length (logtext log) ≤ most_bytes → (images : List Image)
       (config : Config) → IsOpenedWith k images config
       → (seen : Seen) × Recorded (plan_of images config ledger) a b log seen
       × Ended k' ending seen o e o1 e1 tally tally'
-  recorded log k' ending tally tally' work run grew kept is header fits small images config opened =
+  recorded log k' ending tally tally' work run grew kept is version header fits small images config
+      opened =
       subst (λ (s : LedgerState). (seen : Seen) × Recorded (plan_of images config s) a b log seen
       × Ended k' ending seen o e o1 e1 tally tally') same
       (of_start k start after a b m n o e o1 e1 follows begun log k' ending tally tally' work run
-      grew kept is header fits small images config opened)
+      grew kept is version header fits small images config opened)
 
   pub stopped : (stop : RunStop)
       → OnSome (shim_stop stop) (StoppedGroup k.config k.state

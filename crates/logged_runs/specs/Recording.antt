@@ -10,6 +10,7 @@ use Rattle.dos_io.specs.declared.exchange.Exchange.{Exchange}
 use Rattle.dos_io.specs.declared.shim.ShimStop.{ShimStop}
 use Rattle.elf_image.specs.Image.{Image}
 use Rattle.shim_log.specs.declared.header.LogHeader.{LogHeader}
+use Rattle.shim_log.specs.declared.version.LogVersion.TheVariants.{Two}
 use Rattle.shim_log.specs.Ledger.{LedgerState, MayStop, empty_ledger}
 use Rattle.shim_log.specs.LogText.{Log, exchanges, logtext}
 use Rattle.shim_log.specs.Ranges.{FitsLog}
@@ -40,12 +41,13 @@ abbrev pub ledger_after : Plan → List Exchange → LedgerState
 ledger_after plan es =
     record (empty_ledger plan.posts plan.clock plan.header 0) { entries = es }
 
--- The run came to its end, and this log has all of its exchanges: they were given by the plan and
+-- The run came to its end, and this log of version 2 has all of its exchanges: they were given by the plan and
 -- the host, none skipped and none invented, and each had room.
 pub record Recorded (plan : Plan) (host host_after : Option Told) (log : Log) (seen : Seen) :
     Type 0 where
   pub ran : RanWhole plan.images plan.config (exchanges log) seen
   pub given : Given plan.posts plan.clock 0 host host_after (exchanges log)
+  pub version : log.version ≡ Two
   pub header : log.header ≡ plan.header
   pub ranges : FitsLog log
   pub room : HadRoom plan.header plan.posts [] log.entries

@@ -1,6 +1,6 @@
 -- An entry that is read is the entry that was written, and what was written is read again.
 use Rattle.std.proofs.Common.{ap₂, append_assoc, ◌∙◌}
-use Rattle.std.proofs.Common.{◌≡◌, ℕ, zero, suc, ◌^◌, ◌<◌, ◌≤◌, List, [], ◌∷◌, ◌++◌, length, drop}
+use Rattle.std.proofs.Common.{◌≡◌, ℕ, zero, suc, ◌^◌, ◌<◌, ◌≤◌, List, ◌∷◌, ◌++◌, length, drop}
 use Rattle.std.proofs.Common.{Ok, refl, sym, ap, subst, arith}
 use Rattle.std.specs.Int.{w16, w32, w64, to_le_bytes}
 use Rattle.std.specs.List.{flat_map}
@@ -11,17 +11,17 @@ use Rattle.dos_io.specs.declared.exchange.Exchange.{Exchange}
 use Rattle.dos_io.specs.declared.exchange.Exchange.TheVariants.{Signals, Input, Clock, End}
 use Rattle.dos_io.specs.Posts.{FitsPost}
 use Rattle.shim_log.specs.Bytes.{IsBytes}
-use Rattle.shim_log.specs.Ranges.{FitsSignals, FitsInput, FitsClock, InRange}
+use Rattle.shim_log.specs.Ranges.{FitsSignals, FitsInput, FitsClock, InRange, HasPosts}
 use Rattle.shim_log.specs.LogText.{post_text, ending_code, entry_text}
-use Rattle.shim_log.specs.Reading.{place, bytes_at, many_at, post_at, signals_at, input_at}
-use Rattle.shim_log.specs.Reading.{clock_at, ending_by, end_at, entry_of_kind, entry_at}
+use Rattle.shim_log.specs.Reading.{bytes_at, many_at, post_at, signals_at, input_at, clock_at}
+use Rattle.shim_log.specs.Reading.{ending_by, end_at}
 use Rattle.shim_log.proofs.FieldLaws.{bind_ok, ok_is, Takes, then, number_then, number_again}
 use Rattle.shim_log.proofs.FieldLaws.{wide16, wide32, wide64, ranged_then, ranged_again}
 use Rattle.shim_log.proofs.FieldLaws.{ranged_byte_then, ranged_byte_again, bytes_take, bytes_again}
 use Rattle.shim_log.proofs.FieldLaws.{one, many_take, many_again}
 
 -- its text behind the kind
-abbrev behind_kind : Exchange → List ℕ
+abbrev pub behind_kind : Exchange → List ℕ
 behind_kind entry = drop 1 (entry_text entry)
 
 -- of an entry behind its kind: what was read is its text, and it is in its ranges
@@ -36,7 +36,7 @@ behind kind bytes text rest t = record {
   rest_fits = t.rest_fits;
 }
 
-clock_takes : (end : ℕ) (bytes : List ℕ) (x : Exchange × List ℕ) → IsBytes bytes
+pub clock_takes : (end : ℕ) (bytes : List ℕ) (x : Exchange × List ℕ) → IsBytes bytes
     → clock_at end bytes ≡ Ok x → Spells 3 bytes x
 unfolding clock_at
 clock_takes end bytes x fits e =
@@ -49,7 +49,7 @@ clock_takes end bytes x fits e =
       fits = record { round_fits = a.most; tid_fits = b.most; reading = c.most };
     })
 
-clock_again : (end round tid n : ℕ) (rest : List ℕ) → FitsClock round tid n
+pub clock_again : (end round tid n : ℕ) (rest : List ℕ) → FitsClock round tid n
     → clock_at end (behind_kind (Clock round tid n) ++ rest) ≡ Ok (Clock round tid n, rest)
 unfolding clock_at
 clock_again end round tid n rest fits =
@@ -79,7 +79,7 @@ code_low Done = omega arith
 code_low Limit = omega arith
 code_low Stalled = omega arith
 
-end_takes : (end : ℕ) (bytes : List ℕ) (x : Exchange × List ℕ) → IsBytes bytes
+pub end_takes : (end : ℕ) (bytes : List ℕ) (x : Exchange × List ℕ) → IsBytes bytes
     → end_at end bytes ≡ Ok x → Spells 0 bytes x
 unfolding end_at
 end_takes end bytes x fits e =
@@ -95,7 +95,7 @@ end_takes end bytes x fits e =
       fits = b.most;
     })
 
-end_again : (end : ℕ) (ending : Ending) (rounds : ℕ) (rest : List ℕ) → rounds < 2 ^ 32
+pub end_again : (end : ℕ) (ending : Ending) (rounds : ℕ) (rest : List ℕ) → rounds < 2 ^ 32
     → end_at end (behind_kind (End ending rounds) ++ rest) ≡ Ok (End ending rounds, rest)
 unfolding end_at
 end_again end ending rounds rest lt =
@@ -135,45 +135,50 @@ post_again end post rest fits =
           end post.signal rest fits.low fits.high,
     ) refl
 
-signals_take : (end : ℕ) (bytes : List ℕ) (x : Exchange × List ℕ) → IsBytes bytes
-    → signals_at end bytes ≡ Ok x → Spells 1 bytes x
+pub signals_take : (least end : ℕ) (bytes : List ℕ) (x : Exchange × List ℕ) → IsBytes bytes
+    → signals_at least end bytes ≡ Ok x → Spells 1 bytes x × HasPosts least x.0
 unfolding signals_at
-signals_take end bytes x fits e =
+signals_take least end bytes x fits e =
     let a = number_then w32 _ wide32 end bytes _ x fits e in
-    let b = ranged_byte_then 0 32 end a.rest _ x a.takes.rest_fits a.more in
+    let b = ranged_byte_then least 32 end a.rest _ x a.takes.rest_fits a.more in
     let c = bind_ok (many_at post_at b.n end b.rest) _ x b.more in
     let p = many_take post_at post_text FitsPost post_takes b.n end b.rest c.0 b.takes.rest_fits
     c.1 in
     let text = behind 1 _ _ _ (then _ _ _ _ _ a.takes (then _ _ _ _ _ b.takes p.takes)) in
-    subst (Spells 1 bytes) (ok_is (Signals a.n c.0.0, c.0.1) x c.2)
-    (record {
-      takes = subst (λ (k : ℕ).
-          Takes (1 ∷ bytes) (1 ∷ (to_le_bytes w32 a.n ++ (one k ++ flat_map post_text c.0.0)))
-          c.0.1)
-          (sym p.count) text;
-      fits = record {
-        round_fits = a.most;
-        count = omega (arith, b.most, p.count);
-        posts = p.fits;
-      };
-    })
+    subst (λ (y : Exchange × List ℕ). Spells 1 bytes y × HasPosts least y.0)
+    (ok_is (Signals a.n c.0.0, c.0.1) x c.2) (
+      record {
+        takes = subst (λ (k : ℕ).
+            Takes (1 ∷ bytes) (1 ∷ (to_le_bytes w32 a.n ++ (one k ++ flat_map post_text c.0.0)))
+            c.0.1)
+            (sym p.count) text;
+        fits = record {
+          round_fits = a.most;
+          count = omega (arith, b.most, p.count);
+          posts = p.fits;
+        };
+      },
+      omega (arith, b.least, p.count),
+    )
 
-signals_again : (end round : ℕ) (list : List Post) (rest : List ℕ) → FitsSignals round list
-    → signals_at end (behind_kind (Signals round list) ++ rest) ≡ Ok (Signals round list, rest)
+pub signals_again : (least end round : ℕ) (list : List Post) (rest : List ℕ)
+    → FitsSignals round list → least ≤ length list
+    → signals_at least end (behind_kind (Signals round list) ++ rest)
+    ≡ Ok (Signals round list, rest)
 unfolding signals_at
-signals_again end round list rest fits =
+signals_again least end round list rest fits some =
     rw (
       number_again w32 _ wide32 end round (length list ∷ (flat_map post_text list ++ rest))
           fits.round_fits,
-      ranged_byte_again 0 32 end (length list) (flat_map post_text list ++ rest)
-          (omega arith) fits.count,
+      ranged_byte_again least 32 end (length list) (flat_map post_text list ++ rest)
+          some fits.count,
       many_again post_at post_text FitsPost post_again end list rest
           fits.posts,
     ) refl
 
 -- ---- an input
 
-input_takes : (end : ℕ) (bytes : List ℕ) (x : Exchange × List ℕ) → IsBytes bytes
+pub input_takes : (end : ℕ) (bytes : List ℕ) (x : Exchange × List ℕ) → IsBytes bytes
     → input_at end bytes ≡ Ok x → Spells 2 bytes x
 unfolding input_at
 input_takes end bytes x fits e =
@@ -200,7 +205,7 @@ input_takes end bytes x fits e =
       };
     })
 
-input_again : (end round tid max : ℕ) (bytes rest : List ℕ) → FitsInput round tid max bytes
+pub input_again : (end round tid max : ℕ) (bytes rest : List ℕ) → FitsInput round tid max bytes
     → input_at end (behind_kind (Input round tid max bytes) ++ rest)
     ≡ Ok (Input round tid max bytes, rest)
 unfolding input_at
@@ -216,37 +221,6 @@ input_again end round tid max bytes rest fits =
           (omega (arith, fits.max_fits.1, fits.short)) (omega arith) fits.short,
       bytes_again end bytes rest,
     ) refl
-
--- ---- any entry
-
-pub record SpellsEntry (bytes : List ℕ) (x : Exchange × List ℕ) : Type 0 where
-  pub takes : Takes bytes (entry_text x.0) x.1
-  pub fits : InRange x.0
-
-of_kind : (at kind end : ℕ) (bytes : List ℕ) (x : Exchange × List ℕ) → IsBytes bytes
-    → entry_of_kind at kind end bytes ≡ Ok x → Spells kind bytes x
-of_kind at zero end bytes x fits e = end_takes end bytes x fits e
-of_kind at (suc zero) end bytes x fits e = signals_take end bytes x fits e
-of_kind at (suc (suc zero)) end bytes x fits e = input_takes end bytes x fits e
-of_kind at (suc (suc (suc zero))) end bytes x fits e = clock_takes end bytes x fits e
-of_kind at (suc (suc (suc (suc n)))) end bytes x fits e = absurd cc
-
-pub entry_takes : (end : ℕ) (bytes : List ℕ) (x : Exchange × List ℕ) → IsBytes bytes
-    → entry_at end bytes ≡ Ok x → SpellsEntry bytes x
-unfolding entry_at
-entry_takes end [] x fits e = absurd cc
-entry_takes end (kind ∷ bytes) x fits e =
-    let s = of_kind (place end (kind ∷ bytes)) kind end bytes x (λ i. fits (suc i)) e in
-    record { takes = s.takes; fits = s.fits }
-
-pub entry_again : (end : ℕ) (e : Exchange) (rest : List ℕ) → InRange e
-    → entry_at end (entry_text e ++ rest) ≡ Ok (e, rest)
-unfolding entry_at
-entry_again end (Signals round list) rest fits = signals_again end round list rest fits
-entry_again end (Input round tid max bytes) rest fits =
-    input_again end round tid max bytes rest fits
-entry_again end (Clock round tid n) rest fits = clock_again end round tid n rest fits
-entry_again end (End ending rounds) rest fits = end_again end ending rounds rest fits
 
 -- ---- a text that is put piece by piece
 

@@ -1,7 +1,8 @@
 -- What a ledger keeps in its type stays.
 use Rattle.std.proofs.Common.{◌≡◌, ℕ, ◌+◌, ◌*◌, ◌^◌, ◌≤◌, ◌<◌, List, [], ◌∷◌, ◌++◌, length, Option}
 use Rattle.std.proofs.Common.{Some, None, refl, sym, ap, subst, ◌∙◌, append_assoc, arith, inl, inr}
-use Rattle.std.proofs.lemmas.List.{append-nil, length-append}
+use Rattle.std.proofs.lemmas.List.{append-nil, length-append, length-replicate}
+use Rattle.std.proofs.Common.{◌⊎◌, replicate}
 use Rattle.dos_world.specs.declared.Post.{Post}
 use Rattle.dos_world.specs.declared.Question.{Question}
 use Rattle.dos_world.specs.declared.Ending.{Ending}
@@ -16,18 +17,23 @@ use Rattle.dos_io.specs.Shims.{HasNoEnd}
 use Rattle.dos_io.specs.Outside.{Rose}
 use Rattle.dos_io.proofs.GivenLaws.{given_none}
 use Rattle.shim_log.specs.declared.header.LogHeader.{LogHeader}
-use Rattle.shim_log.specs.LogText.{entry_text, entries_text, logtext}
+use Rattle.shim_log.specs.declared.version.LogVersion.TheVariants.{Two}
+use Rattle.shim_log.specs.LogText.{header_text, entries_text, logtext}
 use Rattle.shim_log.specs.Ranges.{FitsHeader, InRange, NotEnd, AreEntries, FitsInput}
-use Rattle.shim_log.specs.Ranges.{FitsClock}
-use Rattle.shim_log.proofs.LengthLaws.{header_length, signals_length, input_length, text_length}
+use Rattle.shim_log.specs.Ranges.{FitsClock, most_exchanges}
+use Rattle.shim_log.proofs.LengthLaws.{header_length, input_length, text_length}
 use Rattle.dos_io.specs.declared.exchange.Exchange.TheVariants.{Signals, Input, Clock, End}
 use Rattle.dos_io.specs.Posts.{ArePosts}
 use Rattle.dos_io.specs.Given.{posts_in}
-use Rattle.shim_log.specs.Room.{most_bytes, IsOver, NoRoom, HadRoom}
+use Rattle.shim_log.specs.Room.{most_bytes, longest, IsOver, NoRoom, HadRoom, GrowsBy, IsFull}
+use Rattle.dos_world.specs.declared.Question.TheVariants.{Signals as signals_question}
+use Rattle.dos_world.specs.declared.Question.TheVariants.{Input as input_question}
+use Rattle.dos_world.specs.declared.Question.TheVariants.{Clock as clock_question}
+use Rattle.dos_world.specs.declared.Question.TheVariants.{End as end_question}
+use Rattle.shim_log.proofs.GrowingLaws.{loud_grows}
 use Rattle.shim_log.specs.Ledger.{LedgerState, ArePlanned, end_of, recorder_state}
-use Rattle.shim_log.specs.Ledger.{IsLedger, stopped, added, Follows}
-use Rattle.shim_log.proofs.EntriesTextLaws.{all_push, text_push}
-use Rattle.shim_log.proofs.LogLaws.{entries_short}
+use Rattle.shim_log.specs.Ledger.{IsLedger, AddsEntry, stopped, added, Follows}
+use Rattle.shim_log.proofs.EntriesTextLaws.{all_push}
 
 room_push : (h : LogHeader) (posts : List (ℕ × Post)) (seen es : List Exchange) (e : Exchange)
     → HadRoom h posts seen es → (NoRoom h posts (seen ++ es) (question_of e) → ⊥)
@@ -43,10 +49,85 @@ room_push h posts seen (x ∷ es) e had not = (
       (sym (append_assoc seen (x ∷ []) es)) not),
 )
 
-pub ledger_adds : (b : LedgerState) (e : Exchange) (n r : ℕ) → IsLedger b → InRange e → NotEnd e
-    → length (entry_text e) ≤ n → (NoRoom b.header b.posts b.entries (question_of e) → ⊥)
-    → (IsOver b.header b.entries n → ⊥) → IsLedger (record (added b e) { room = r })
-ledger_adds b e n r is fits not short room over = record {
+-- ---- counted in bytes
+
+full_is : (h : LogHeader) (posts : List (ℕ × Post)) (es : List Exchange) (q : Question) (bytes : ℕ)
+    → GrowsBy es (longest posts q) bytes → IsFull h es bytes
+    → IsOver h es (longest posts q) ⊎ (most_exchanges ≤ length es)
+unfolding GrowsBy IsFull IsOver
+full_is h posts es q bytes grows (inl over) = inl (omega (arith, grows, over))
+full_is h posts es q bytes grows (inr held) = inr held
+
+is_full : (h : LogHeader) (posts : List (ℕ × Post)) (es : List Exchange) (q : Question) (bytes : ℕ)
+    → GrowsBy es (longest posts q) bytes
+    → IsOver h es (longest posts q) ⊎ (most_exchanges ≤ length es) → IsFull h es bytes
+unfolding GrowsBy IsFull IsOver
+is_full h posts es q bytes grows (inl over) = inl (omega (arith, grows, over))
+is_full h posts es q bytes grows (inr held) = inr held
+
+pub no_room : (h : LogHeader) (posts : List (ℕ × Post)) (es : List Exchange) (q : Question)
+    (bytes : ℕ) → AddsEntry q → GrowsBy es (longest posts q) bytes → IsFull h es bytes
+    → NoRoom h posts es q
+no_room h posts es (signals_question round) bytes adds grows full =
+    full_is h posts es (signals_question round) bytes grows full
+no_room h posts es (input_question round tid max) bytes adds grows full =
+    full_is h posts es (input_question round tid max) bytes grows full
+no_room h posts es (clock_question round tid) bytes adds grows full =
+    full_is h posts es (clock_question round tid) bytes grows full
+no_room h posts es (end_question ending rounds) bytes adds grows full = absurd adds
+
+pub is_free : (h : LogHeader) (posts : List (ℕ × Post)) (es : List Exchange) (q : Question)
+    (bytes : ℕ) → GrowsBy es (longest posts q) bytes → NoRoom h posts es q → IsFull h es bytes
+is_free h posts es (signals_question round) bytes grows none =
+    is_full h posts es (signals_question round) bytes grows none
+is_free h posts es (input_question round tid max) bytes grows none =
+    is_full h posts es (input_question round tid max) bytes grows none
+is_free h posts es (clock_question round tid) bytes grows none =
+    is_full h posts es (clock_question round tid) bytes grows none
+is_free h posts es (end_question ending rounds) bytes grows none = absurd none
+
+-- where a question has room, so have fewer bytes than its longest answer has
+record HasRoom (h : LogHeader) (es : List Exchange) (e : Exchange) : Type 0 where
+  few : length es < most_exchanges
+  small : length (header_text Two h) + length (entries_text Two (es ++ e ∷ [])) + 6 ≤ most_bytes
+
+has_room : (h : LogHeader) (es : List Exchange) (e l : Exchange) (m n : ℕ) → GrowsBy es e m
+    → GrowsBy es l n → m ≤ n → (IsOver h es l ⊎ (most_exchanges ≤ length es) → ⊥)
+    → HasRoom h es e
+unfolding GrowsBy IsOver
+has_room h es e l m n grows grows' le not = record {
+  few = below (length es) (λ held. not (inr held));
+  small = within (length (header_text Two h)) (length (entries_text Two es)) m n
+      (length (entries_text Two (es ++ e ∷ []))) (length (entries_text Two (es ++ l ∷ [])))
+      grows grows' le (λ over. not (inl over));
+}
+  where
+    below : (n : ℕ) → (most_exchanges ≤ n → ⊥) → n < most_exchanges
+    below n not = omega (arith, not)
+
+    within : (h t m n a b : ℕ) → a ≡ t + m → b ≡ t + n → m ≤ n → (most_bytes < h + b + 6 → ⊥)
+        → h + a + 6 ≤ most_bytes
+    within h t m n a b p q le not = omega (arith, not, p, q, le)
+
+room_itself : (h : LogHeader) (es : List Exchange) (e : Exchange)
+    → (IsOver h es e ⊎ (most_exchanges ≤ length es) → ⊥) → HasRoom h es e
+unfolding IsOver
+room_itself h es e not = record {
+  few = below (length es) (λ held. not (inr held));
+  small = within (length (header_text Two h)) (length (entries_text Two (es ++ e ∷ [])))
+      (λ over. not (inl over));
+}
+  where
+    below : (n : ℕ) → (most_exchanges ≤ n → ⊥) → n < most_exchanges
+    below n not = omega (arith, not)
+
+    within : (h a : ℕ) → (most_bytes < h + a + 6 → ⊥) → h + a + 6 ≤ most_bytes
+    within h a not = omega (arith, not)
+
+ledger_adds : (b : LedgerState) (e : Exchange) (r : ℕ) → IsLedger b → InRange e → NotEnd e
+    → (NoRoom b.header b.posts b.entries (question_of e) → ⊥) → HasRoom b.header b.entries e
+    → IsLedger (record (added b e) { room = r })
+ledger_adds b e r is fits not room has = record {
   posts = is.posts;
   posts_few = is.posts_few;
   header = is.header;
@@ -54,24 +135,9 @@ ledger_adds b e n r is fits not short room over = record {
   had_room = room_push b.header b.posts [] b.entries e is.had_room room;
   stop = tt;
   never = is.never;
-  small =
-      let text : length (entries_text (b.entries ++ e ∷ []))
-      ≡ length (entries_text b.entries) + length (entry_text e) =
-      ap length (sym (text_push b.entries e)) ∙ length-append (entries_text b.entries)
-      (entry_text e) in
-      small_is _ _ _ _ n short text over;
+  few = omega (arith, has.few, length-append b.entries (e ∷ []));
+  small = has.small;
 }
-  where
-    small_is : (h t u x n : ℕ) → x ≤ n → u ≡ t + x → (67108864 < h + t + n + 6 → ⊥)
-        → h + u + 6 ≤ 67108864
-    small_is h t u x n le e not = omega arith
-
--- fewer entries than a log's text has bytes
-pub few_entries : (b : LedgerState) → IsLedger b → length b.entries < 67108864
-few_entries b is = few_is _ _ _ (entries_short b.entries) is.small
-  where
-    few_is : (h t k : ℕ) → k ≤ t → h + t + 6 ≤ 67108864 → k < 67108864
-    few_is h t k le small = omega arith
 
 abbrev the_stop : ShimStop → Option ShimStop
 the_stop s = Some s
@@ -115,7 +181,8 @@ new_ledger posts clock h es r none planned few fits = record {
   had_room = subst (HadRoom h posts []) (sym none) tt;
   stop = tt;
   never = tt;
-  small = rw none (small_is _ _ (header_length h fits.digests) fits.count.1);
+  few = rw none (omega arith);
+  small = rw none (small_is _ _ (header_length Two h fits.digests) fits.count.1);
 }
   where
     small_is : (t k : ℕ) → t ≡ 20 + 32 * k → k ≤ 8 → t + 0 + 6 ≤ 67108864
@@ -144,26 +211,69 @@ follows_adds b e r a c m n none le given =
 
 pub signals_added : (b : LedgerState) (round : ℕ) (list : List Post) (r : ℕ) → IsLedger b
     → round < 2 ^ 32 → length list ≤ 32 → ArePosts list → list ≡ posts_in b.posts round
-    → (IsOver b.header b.entries (6 + 5 * length list) → ⊥)
+    → (NoRoom b.header b.posts b.entries (signals_question round) → ⊥)
     → IsLedger (record (added b (Signals round list)) { room = r })
-signals_added b round list r is low few posts same over =
-    ledger_adds b (Signals round list) (6 + 5 * length list) r is
-    (record { round_fits = low; count = few; posts = posts }) tt
-    (omega (arith, signals_length round list))
-    (subst (λ (ps : List Post). IsOver b.header b.entries (6 + 5 * length ps) → ⊥) same over) over
+signals_added b round list r is low few posts same room =
+    ledger_adds b (Signals round list) r is
+    (record { round_fits = low; count = few; posts = posts }) tt room
+    (subst (λ (ps : List Post). HasRoom b.header b.entries (Signals round ps)) (sym same)
+    (room_itself b.header b.entries (Signals round (posts_in b.posts round)) room))
+
+abbrev zero_byte : ℕ
+zero_byte = 0
 
 pub input_added : (b : LedgerState) (round tid max : ℕ) (bytes : List ℕ) (r : ℕ) → IsLedger b
-    → FitsInput round tid max bytes → (IsOver b.header b.entries (13 + max) → ⊥)
+    → FitsInput round tid max bytes
+    → (NoRoom b.header b.posts b.entries (input_question round tid max) → ⊥)
     → IsLedger (record (added b (Input round tid max bytes)) { room = r })
-input_added b round tid max bytes r is fits over =
-    ledger_adds b (Input round tid max bytes) (13 + max) r is fits tt
-    (omega (arith, input_length round tid max bytes, fits.short)) over over
+input_added b round tid max bytes r is fits room =
+    ledger_adds b (Input round tid max bytes) r is fits tt room
+    (has_room b.header b.entries (Input round tid max bytes)
+    (Input round tid max (replicate max 0)) _ _
+    (loud_grows b.entries (Input round tid max bytes) tt)
+    (loud_grows b.entries (Input round tid max (replicate max 0)) tt)
+    (omega (
+      arith,
+      input_length round tid max bytes,
+      input_length round tid max (replicate max 0),
+      length-replicate max zero_byte,
+      fits.short,
+    )) room)
 
 pub clock_added : (b : LedgerState) (round tid n r : ℕ) → IsLedger b → FitsClock round tid n
-    → (IsOver b.header b.entries 17 → ⊥) → IsLedger
-    (record (added b (Clock round tid n)) { room = r })
-clock_added b round tid n r is fits over =
-    ledger_adds b (Clock round tid n) 17 r is fits tt (omega arith) over over
+    → (NoRoom b.header b.posts b.entries (clock_question round tid) → ⊥)
+    → IsLedger (record (added b (Clock round tid n)) { room = r })
+clock_added b round tid n r is fits room =
+    ledger_adds b (Clock round tid n) r is fits tt room
+    (has_room b.header b.entries (Clock round tid n) (Clock round tid 0) _ _
+    (loud_grows b.entries (Clock round tid n) tt) (loud_grows b.entries (Clock round tid 0) tt)
+    (omega arith) room)
+
+-- where there is room, fewer exchanges are held than may be
+pub room_few : (h : LogHeader) (posts : List (ℕ × Post)) (es : List Exchange) (q : Question)
+    → AddsEntry q → (NoRoom h posts es q → ⊥) → length es < most_exchanges
+room_few h posts es (signals_question round) adds room =
+    omega (arith, λ (held : most_exchanges ≤ length es). room (inr held))
+room_few h posts es (input_question round tid max) adds room =
+    omega (arith, λ (held : most_exchanges ≤ length es). room (inr held))
+room_few h posts es (clock_question round tid) adds room =
+    omega (arith, λ (held : most_exchanges ≤ length es). room (inr held))
+room_few h posts es (end_question ending rounds) adds room = absurd adds
+
+-- by how many bytes the longest answers make the text longer
+pub input_grows : (posts : List (ℕ × Post)) (es : List Exchange) (round tid max : ℕ)
+    → GrowsBy es (longest posts (input_question round tid max)) (13 + max)
+input_grows posts es round tid max =
+    subst (GrowsBy es (Input round tid max (replicate max 0)))
+    (input_length round tid max (replicate max 0)
+    ∙ ap (λ (n : ℕ). 13 + n) (length-replicate max zero_byte))
+    (loud_grows es (Input round tid max (replicate max 0)) tt)
+
+pub clock_grows : (posts : List (ℕ × Post)) (es : List Exchange) (round tid : ℕ)
+    → GrowsBy es (longest posts (clock_question round tid)) 17
+clock_grows posts es round tid =
+    subst (GrowsBy es (Clock round tid 0)) (omega arith)
+    (loud_grows es (Clock round tid 0) tt)
 
 -- ---- the log of a ledger whose end was told
 
@@ -182,6 +292,7 @@ has_end b is none wrong =
 -- the log of its entries is no longer than a log may be
 pub small_text : (b : LedgerState) (ending : Ending) (rounds : ℕ) → IsLedger b
     → length (logtext (record {
+      version = Two;
       header = b.header;
       entries = b.entries;
       ending = ending;
@@ -191,6 +302,7 @@ small_text b ending rounds is =
     omega (
       arith,
       text_length (record {
+        version = Two;
         header = b.header;
         entries = b.entries;
         ending = ending;

@@ -3,6 +3,7 @@
 use Rattle.std.specs.Prelude.{[], ◌∷◌, length, codes, ◌≡◌, refl}
 use Rattle.dos_world.specs.declared.Ending.TheVariants.{Stalled}
 use Rattle.dos_io.specs.declared.exchange.Exchange.TheVariants.{Signals, Input}
+use Rattle.shim_log.specs.declared.version.LogVersion.TheVariants.{Two}
 use Rattle.shim_log.specs.LogText.{logtext}
 use Rattle.shim_log.proofs.Texts.{smallest}
 
@@ -19,3 +20,20 @@ a_copying_run : length
           1 64 [] ∷ [];
     })) ≡ 100
 a_copying_run = refl
+
+-- In version 2 both rounds are one entry, of 9 bytes.
+a_stalled_run_of_two : length
+    (logtext (record smallest {
+      version = Two;
+      entries = Signals 1 [] ∷ Signals 2 [] ∷ [];
+      ending = Stalled;
+    })) ≡ 67
+a_stalled_run_of_two = refl
+
+a_copying_run_of_two : length
+    (logtext (record smallest {
+      version = Two;
+      entries = Signals 1 [] ∷ Input 1 1 64 (codes "0123456789") ∷ Input 1
+          1 64 [] ∷ [];
+    })) ≡ 103
+a_copying_run_of_two = refl

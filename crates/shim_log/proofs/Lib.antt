@@ -2,7 +2,7 @@ pub mod FieldLaws
 pub mod EntryLaws
 pub mod LogLaws
 pub mod LengthLaws
-mod Texts
+pub mod Texts
 mod Refused
 mod Rooms
 mod Lengths
@@ -15,4 +15,8 @@ pub mod ReplayLaws
 pub mod PostLaws
 pub mod LedgerLaws
 pub mod RecorderLaws
-mod HeaderParts
+pub mod ItemLaws
+mod ItemExamples
+pub mod SpellingLaws
+pub mod ItemReading
+pub mod GrowingLaws

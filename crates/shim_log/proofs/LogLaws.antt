@@ -1,4 +1,5 @@
 -- A log that is read is the log that was written, and what was written is read again.
+use Rattle.std.proofs.Common.{Bool, true, false, cond}
 use Rattle.std.proofs.Common.{◌≡◌, ℕ, zero, suc, ◌^◌, ◌<◌, ◌≤◌, eqb, List, [], ◌∷◌, ◌++◌, length}
 use Rattle.std.proofs.Common.{Result, Ok, Err, refl, sym, ap, subst, ◌∙◌, append_assoc, arith}
 use Rattle.std.specs.Int.{w16, w32, to_le_bytes}
@@ -14,94 +15,124 @@ use Rattle.dos_io.specs.declared.exchange.Exchange.TheVariants.{Signals, Input, 
 use Rattle.shim_log.specs.declared.refusal.LogError.{LogError}
 use Rattle.shim_log.specs.declared.refusal.LogError.TheVariants as refusal
 use Rattle.shim_log.specs.declared.header.LogHeader.{LogHeader}
+use Rattle.shim_log.specs.declared.version.LogVersion.{LogVersion}
+use Rattle.shim_log.specs.declared.version.LogVersion.TheVariants.{One, Two}
+use Rattle.shim_log.specs.declared.progress.Progress.{Progress}
 use Rattle.shim_log.specs.Bytes.{IsBytes, FitsDigest}
-use Rattle.shim_log.specs.Ranges.{NotEnd, AreEntries, FitsHeader, FitsLog}
-use Rattle.shim_log.specs.LogText.{Log, magic, header_text, entry_text, entries_text, logtext}
-use Rattle.shim_log.specs.Reading.{place, bytes_at, number_at, many_at, entry_at, after_entry}
-use Rattle.shim_log.specs.Reading.{tail_at, magic_at, version_at, header_number_at, header_at}
-use Rattle.shim_log.specs.Reading.{log_at}
-use Rattle.shim_log.specs.HeaderParts.{fields_at}
+use Rattle.shim_log.specs.Items.{Item, quiet, kept, items_in, exchanges_of}
+use Rattle.shim_log.specs.Ranges.{FitsHeader, FitsLog, most_exchanges}
+use Rattle.shim_log.specs.LogText.{Log, magic, version_number, header_text, entry_text, item_text}
+use Rattle.shim_log.specs.LogText.{items_text, entries_text, logtext}
+use Rattle.shim_log.specs.Reading.{◌>>=◌, place, bytes_at, number_at, many_at, magic_at, version_at}
+use Rattle.shim_log.specs.Reading.{header_number_at, fields_at, header_at, nothing_read, after_item}
+use Rattle.shim_log.specs.Reading.{item_at, Body, behind_item, body_at, log_of, log_at}
+use Rattle.shim_log.specs.Spelling.{FitsItem, MayCome, AreSpelled}
 use Rattle.shim_log.proofs.FieldLaws.{bind_ok, guard_true, done, ok_is, Takes, then, number_takes}
 use Rattle.shim_log.proofs.FieldLaws.{number_again, wide16, wide32, header_then, header_again}
 use Rattle.shim_log.proofs.FieldLaws.{bytes_take, bytes_again, SpellsMany, many_take, many_again}
 use Rattle.shim_log.proofs.FieldLaws.{goes}
-use Rattle.shim_log.proofs.EntryLaws.{SpellsEntry, entry_takes, entry_again}
+use Rattle.shim_log.proofs.ItemReading.{item_takes, item_again, item_held, fits_comes}
+use Rattle.shim_log.proofs.SpellingLaws.{spelled_few, spelled_fits, are_spelled, expanded_in}
+use Rattle.shim_log.proofs.EntriesTextLaws.{one_byte, items_short, spelled_text}
 
 -- ---- entries up to the end
 
-pub record SpellsTail (header : LogHeader) (bytes : List ℕ) (x : Log × List ℕ) : Type 0 where
-  pub takes : Takes bytes (entries_text x.0.entries ++ entry_text (End x.0.ending x.0.rounds)) x.1
-  pub header_is : x.0.header ≡ header
-  pub entries : AreEntries x.0.entries
+pub record SpellsBody (v : LogVersion) (p : Progress) (bytes : List ℕ) (x : Body × List ℕ)
+    : Type 0 where
+  pub takes : Takes bytes (items_text x.0.items ++ entry_text (End x.0.ending x.0.rounds)) x.1
+  pub spelled : AreSpelled v p x.0.items
   pub rounds : x.0.rounds < 2 ^ 32
 
-module _ (header : LogHeader) where
+module _ (v : LogVersion) where
   -- one more entry in front of what comes after it
-  more_takes : (bytes : List ℕ) (e : Exchange) (rest : List ℕ) (t u : Log × List ℕ)
-      → SpellsEntry bytes (e, rest) → NotEnd e → SpellsTail header rest t
-      → done (record t.0 { entries = e ∷ t.0.entries }, t.1) ≡ Ok u → SpellsTail header bytes u
-  more_takes bytes e rest t u s not s' is =
-      let both = then _ _ _ _ _ s.takes s'.takes in
+  more_takes : (p : Progress) (bytes : List ℕ) (item : Item) (rest : List ℕ)
+      (t u : Body × List ℕ) → Takes bytes (item_text item) rest → FitsItem v p item
+      → SpellsBody v (after_item p item) rest t
+      → done (record t.0 { items = item ∷ t.0.items }, t.1) ≡ Ok u → SpellsBody v p bytes u
+  more_takes p bytes item rest t u s fits s' is =
+      let both = then _ _ _ _ _ s s'.takes in
       let last : List ℕ = entry_text (End t.0.ending t.0.rounds) in
-      subst (SpellsTail header bytes) (ok_is (record t.0 { entries = e ∷ t.0.entries }, t.1) u is)
+      subst (SpellsBody v p bytes) (ok_is (record t.0 { items = item ∷ t.0.items }, t.1) u is)
       (record {
         takes = subst (λ (x : List ℕ). Takes bytes x t.1)
-            (sym (ap (λ (x : List ℕ). x ++ last) (flat_map-cons entry_text e t.0.entries)
-            ∙ append_assoc (entry_text e) (entries_text t.0.entries) last)) both;
-        header_is = s'.header_is;
-        entries = ((s.fits, not), s'.entries);
+            (sym (ap (λ (x : List ℕ). x ++ last) (flat_map-cons item_text item t.0.items)
+            ∙ append_assoc (item_text item) (items_text t.0.items) last)) both;
+        spelled = (fits, s'.spelled);
         rounds = s'.rounds;
       })
 
-  after_takes : (bytes : List ℕ) (e : Exchange) (rest : List ℕ)
-      (more : Result (Log × List ℕ) LogError) (u : Log × List ℕ) → SpellsEntry bytes (e, rest)
-      → ((t : Log × List ℕ) → more ≡ Ok t → SpellsTail header rest t)
-      → after_entry header e rest more ≡ Ok u → SpellsTail header bytes u
-  after_takes bytes (End ending rounds) rest more u s later is =
-      subst (SpellsTail header bytes)
-      (ok_is (record { header = header; entries = []; ending = ending; rounds = rounds }, rest)
-      u is) (record { takes = s.takes; header_is = refl; entries = tt; rounds = s.fits })
-  after_takes bytes e rest (Ok t) u s later is =
-      more_takes bytes e rest t u s tt (later t refl) is
-  after_takes bytes e rest (Err d) u s later is = absurd cc
+  then_takes : (p : Progress) (bytes : List ℕ) (item : Item) (rest : List ℕ)
+      (more : Result (Body × List ℕ) LogError) (u : Body × List ℕ)
+      → Takes bytes (item_text item) rest → FitsItem v p item
+      → ((t : Body × List ℕ) → more ≡ Ok t → SpellsBody v (after_item p item) rest t)
+      → (more >>= λ read. Ok (record read.0 { items = item ∷ read.0.items }, read.1)) ≡ Ok u
+      → SpellsBody v p bytes u
+  then_takes p bytes item rest (Ok t) u s fits later is =
+      more_takes p bytes item rest t u s fits (later t refl) is
+  then_takes p bytes item rest (Err d) u s fits later is = absurd cc
 
-  tail_takes : (n end : ℕ) (bytes : List ℕ) (u : Log × List ℕ) → IsBytes bytes
-      → tail_at n header end bytes ≡ Ok u → SpellsTail header bytes u
-  unfolding tail_at
-  tail_takes zero end bytes u fits e = absurd cc
-  tail_takes (suc n) end bytes u fits e =
-      let a = bind_ok (entry_at end bytes) _ u e in
-      let s = entry_takes end bytes a.0 fits a.1 in
-      after_takes bytes a.0.0 a.0.1 (tail_at n header end a.0.1) u s
-      (λ t is. tail_takes n end a.0.1 t s.takes.rest_fits is) a.2
+  after_takes : (p : Progress) (bytes : List ℕ) (item : Item) (rest : List ℕ)
+      (more : Result (Body × List ℕ) LogError) (u : Body × List ℕ)
+      → Takes bytes (item_text item) rest → MayCome v p item
+      → (FitsItem v p item → (t : Body × List ℕ) → more ≡ Ok t
+      → SpellsBody v (after_item p item) rest t)
+      → behind_item item rest more ≡ Ok u → SpellsBody v p bytes u
+  after_takes p bytes (kept (End ending rounds)) rest more u s comes later is =
+      subst (SpellsBody v p bytes)
+      (ok_is (record { items = []; ending = ending; rounds = rounds }, rest) u is)
+      (record { takes = s; spelled = tt; rounds = comes })
+  after_takes p bytes (kept (Signals round list)) rest more u s comes later is =
+      then_takes p bytes (kept (Signals round list)) rest more u s comes (later comes) is
+  after_takes p bytes (kept (Input round tid max input)) rest more u s comes later is =
+      then_takes p bytes (kept (Input round tid max input)) rest more u s comes (later comes) is
+  after_takes p bytes (kept (Clock round tid n)) rest more u s comes later is =
+      then_takes p bytes (kept (Clock round tid n)) rest more u s comes (later comes) is
+  after_takes p bytes (quiet round count) rest more u s comes later is =
+      then_takes p bytes (quiet round count) rest more u s comes (later comes) is
 
-  after_again : (e : Exchange) (rest : List ℕ) (t : Log × List ℕ) → NotEnd e
-      → after_entry header e rest (Ok t) ≡ Ok (record t.0 { entries = e ∷ t.0.entries }, t.1)
-  after_again (End ending rounds) rest t not = absurd not
-  after_again e rest t not = refl
+  body_takes : (n : ℕ) (p : Progress) (end : ℕ) (bytes : List ℕ) (u : Body × List ℕ)
+      → IsBytes bytes → p.held ≤ most_exchanges → body_at v n p end bytes ≡ Ok u
+      → SpellsBody v p bytes u
+  unfolding body_at
+  body_takes zero p end bytes u fits le e = absurd cc
+  body_takes (suc n) p end bytes u fits le e =
+      let a = bind_ok (item_at v p end bytes) _ u e in
+      let s = item_takes v p end bytes a.0 fits le a.1 in
+      after_takes p bytes a.0.0 a.0.1 (body_at v n (after_item p a.0.0) end a.0.1) u s.takes
+      s.comes
+      (λ may t is. body_takes n (after_item p a.0.0) end a.0.1 t s.takes.rest_fits
+      (item_held v p a.0.0 may) is) a.2
 
-  tail_again : (n end : ℕ) (es : List Exchange) (ending : Ending) (rounds : ℕ) (rest : List ℕ)
-      → length es < n → AreEntries es → rounds < 2 ^ 32
-      → tail_at n header end (entries_text es ++ (entry_text (End ending rounds) ++ rest))
-      ≡ Ok (record { header = header; entries = es; ending = ending; rounds = rounds }, rest)
-  unfolding tail_at
-  tail_again zero end es ending rounds rest lt fits low = absurd (omega arith)
-  tail_again (suc n) end [] ending rounds rest lt fits low =
-      rw (entry_again end (End ending rounds) rest low) refl
-  tail_again (suc n) end (e ∷ es) ending rounds rest lt fits low =
+  behind_again : (p : Progress) (item : Item) (rest : List ℕ) (t : Body × List ℕ)
+      → FitsItem v p item
+      → behind_item item rest (Ok t) ≡ Ok (record t.0 { items = item ∷ t.0.items }, t.1)
+  behind_again p (quiet round count) rest t fits = refl
+  behind_again p (kept (Signals round list)) rest t fits = refl
+  behind_again p (kept (Input round tid max bytes)) rest t fits = refl
+  behind_again p (kept (Clock round tid n)) rest t fits = refl
+  behind_again p (kept (End ending rounds)) rest t fits = absurd fits.no_end
+
+  body_again : (n : ℕ) (p : Progress) (end : ℕ) (items : List Item) (ending : Ending)
+      (rounds : ℕ) (rest : List ℕ) → length items < n → AreSpelled v p items → rounds < 2 ^ 32
+      → body_at v n p end (items_text items ++ (entry_text (End ending rounds) ++ rest))
+      ≡ Ok (record { items = items; ending = ending; rounds = rounds }, rest)
+  unfolding body_at
+  body_again zero p end items ending rounds rest lt spelled low = absurd (omega arith)
+  body_again (suc n) p end [] ending rounds rest lt spelled low =
+      rw (item_again v p end (kept (End ending rounds)) rest low) refl
+  body_again (suc n) p end (item ∷ items) ending rounds rest lt spelled low =
       let later : List ℕ = entry_text (End ending rounds) ++ rest in
-      let regrouped : entries_text (e ∷ es) ++ later ≡ entry_text e ++ (entries_text es ++ later) =
-      ap (λ (x : List ℕ). x ++ later) (flat_map-cons entry_text e es)
-      ∙ append_assoc (entry_text e) (entries_text es) later in
-      ap (tail_at (suc n) header end) regrouped
+      let regrouped : items_text (item ∷ items) ++ later
+      ≡ item_text item ++ (items_text items ++ later) =
+      ap (λ (x : List ℕ). x ++ later) (flat_map-cons item_text item items)
+      ∙ append_assoc (item_text item) (items_text items) later in
+      ap (body_at v (suc n) p end) regrouped
       ∙ rw (
-        entry_again end e (entries_text es ++ later) fits.0.0,
-        tail_again n end es ending
-            rounds rest (omega arith) fits.1 low,
+        item_again v p end item (items_text items ++ later) (fits_comes v p item spelled.0),
+        body_again n (after_item p item) end items ending rounds rest (omega arith) spelled.1 low,
       )
-      (after_again e (entries_text es ++ later)
-      (record { header = header; entries = es; ending = ending; rounds = rounds }, rest)
-      fits.0.1)
+      (behind_again p item (items_text items ++ later)
+      (record { items = items; ending = ending; rounds = rounds }, rest) spelled.0)
 
 -- ---- the header
 
@@ -142,50 +173,63 @@ magic_takes end bytes rest fits e =
     subst (λ (r : List ℕ). Takes bytes magic r) g.1
     (subst (λ (m : List ℕ). Takes bytes m a.0.1) ((bytes_eq-Decides a.0.0 magic).0 g.0) p.0)
 
-version_takes : (end : ℕ) (bytes rest : List ℕ) → IsBytes bytes → version_at end bytes ≡ Ok rest
-    → Takes bytes (to_le_bytes w16 1) rest
-unfolding version_at
-version_takes end bytes rest fits e =
-    let a = bind_ok (number_at w16 end bytes) _ rest e in
-    let p = number_takes w16 _ wide16 end bytes a.0.0 a.0.1 fits a.1 in
-    let g = guard_true (eqb a.0.0 1) (refusal.Version a.0.0) a.0.1 rest a.2 in
-    subst (λ (r : List ℕ). Takes bytes (to_le_bytes w16 1) r) g.1
-    (subst (λ (k : ℕ). Takes bytes (to_le_bytes w16 k) a.0.1) (eqb-true _ _ g.0) p.0)
+-- the version of a number that is 1 or 2
+version_known : (b c : Bool) (n : ℕ) (rest : List ℕ) (x : LogVersion × List ℕ) → eqb n 1 ≡ b
+    → eqb n 2 ≡ c
+    → cond b (done (One, rest)) (cond c (done (Two, rest)) (Err (refusal.Version n))) ≡ Ok x
+    → (n ≡ version_number x.0) × (rest ≡ x.1)
+version_known true c n rest x p q e =
+    subst (λ (y : LogVersion × List ℕ). (n ≡ version_number y.0) × (rest ≡ y.1))
+    (ok_is (One, rest) x e) (eqb-true n 1 p, refl)
+version_known false true n rest x p q e =
+    subst (λ (y : LogVersion × List ℕ). (n ≡ version_number y.0) × (rest ≡ y.1))
+    (ok_is (Two, rest) x e) (eqb-true n 2 q, refl)
+version_known false false n rest x p q e = absurd cc
 
-pub record SpellsHeader (bytes : List ℕ) (x : LogHeader × List ℕ) : Type 0 where
-  pub takes : Takes bytes (header_text x.0) x.1
-  pub fits : FitsHeader x.0
+version_takes : (end : ℕ) (bytes : List ℕ) (x : LogVersion × List ℕ) → IsBytes bytes
+    → version_at end bytes ≡ Ok x → Takes bytes (to_le_bytes w16 (version_number x.0)) x.1
+unfolding version_at
+version_takes end bytes x fits e =
+    let a = bind_ok (number_at w16 end bytes) _ x e in
+    let p = number_takes w16 _ wide16 end bytes a.0.0 a.0.1 fits a.1 in
+    let g = version_known (eqb a.0.0 1) (eqb a.0.0 2) a.0.0 a.0.1 x refl refl a.2 in
+    subst (λ (r : List ℕ). Takes bytes (to_le_bytes w16 (version_number x.0)) r) g.1
+    (subst (λ (k : ℕ). Takes bytes (to_le_bytes w16 k) a.0.1) g.0 p.0)
+
+pub record SpellsHeader (bytes : List ℕ) (x : (LogVersion × LogHeader) × List ℕ) : Type 0 where
+  pub takes : Takes bytes (header_text x.0.0 x.0.1) x.1
+  pub fits : FitsHeader x.0.1
 
 -- the fields one behind the other are the header's text
-header_spelled : (bytes rest : List ℕ) (n : ℕ) (h : LogHeader) → length h.digests ≡ n
+header_spelled : (w : LogVersion) (bytes rest : List ℕ) (n : ℕ) (h : LogHeader) → length h.digests ≡ n
     → Takes bytes
-    (magic ++ (to_le_bytes w16 1 ++ (to_le_bytes w16
+    (magic ++ (to_le_bytes w16 (version_number w) ++ (to_le_bytes w16
     n ++ (to_le_bytes w32 h.quantum ++ (to_le_bytes w32
     h.rounds ++ (to_le_bytes w32 h.frames ++ flat_map (λ d. d) h.digests)))))) rest
-    → Takes bytes (header_text h) rest
-header_spelled bytes rest n h count text =
+    → Takes bytes (header_text w h) rest
+header_spelled w bytes rest n h count text =
     let fields : List ℕ → ℕ → List ℕ = λ ds m.
-    magic ++ (to_le_bytes w16 1 ++ (to_le_bytes w16
+    magic ++ (to_le_bytes w16 (version_number w) ++ (to_le_bytes w16
     m ++ (to_le_bytes w32 h.quantum ++ (to_le_bytes w32
     h.rounds ++ (to_le_bytes w32 h.frames ++ ds))))) in
     subst (λ (m : ℕ). Takes bytes (fields (concat h.digests) m) rest) (sym count)
     (subst (λ (t : List ℕ). Takes bytes (fields t n) rest) (sym (concat_is h.digests)) text)
 
 -- Fields that were taken one behind the other are a header. The lists are what is left at each.
-header_made : (bytes s v i q r f rest : List ℕ) (n quantum rounds frames : ℕ)
-    (digests : List (List ℕ)) → Takes bytes magic s → Takes s (to_le_bytes w16 1) v
+header_made : (w : LogVersion) (bytes s v i q r f rest : List ℕ) (n quantum rounds frames : ℕ)
+    (digests : List (List ℕ)) → Takes bytes magic s → Takes s (to_le_bytes w16 (version_number w)) v
     → Takes v (to_le_bytes w16 n) i → Takes i (to_le_bytes w32 quantum) q
     → Takes q (to_le_bytes w32 rounds) r → Takes r (to_le_bytes w32 frames) f
     → SpellsMany (λ d. d) FitsDigest n f (digests, rest) → 1 ≤ n → n < suc 8 → 16 ≤ quantum
     → quantum < suc 65536 → 1 ≤ rounds → rounds < suc 1000000 → 16 ≤ frames → frames < suc 16384
     → SpellsHeader bytes
-    (record { quantum = quantum; rounds = rounds; frames = frames; digests = digests }, rest)
-header_made bytes s v i q r f rest n quantum rounds frames digests a b c d g h k n0 n1 q0 q1 r0 r1
+    ((w, record { quantum = quantum; rounds = rounds; frames = frames; digests = digests }), rest)
+header_made w bytes s v i q r f rest n quantum rounds frames digests a b c d g h k n0 n1 q0 q1 r0 r1
     f0 f1 =
     let made : LogHeader =
     record { quantum = quantum; rounds = rounds; frames = frames; digests = digests } in
     record {
-      takes = header_spelled bytes rest n made k.count
+      takes = header_spelled w bytes rest n made k.count
           (then _ _ _ _ _ a (then _ _ _ _ _ b
           (then _ _ _ _ _ c (then _ _ _ _ _ d
           (then _ _ _ _ _ g (then _ _ _ _ _ h k.takes))))));
@@ -199,9 +243,11 @@ header_made bytes s v i q r f rest n quantum rounds frames digests a b c d g h k
     }
 
 -- the fields behind the first bytes and the version
-fields_take : (end : ℕ) (bytes s v : List ℕ) (x : LogHeader × List ℕ) → Takes bytes magic s
-    → Takes s (to_le_bytes w16 1) v → fields_at end v ≡ Ok x → SpellsHeader bytes x
-fields_take end bytes s v x p q e =
+fields_take : (w : LogVersion) (end : ℕ) (bytes s v : List ℕ) (x : LogHeader × List ℕ)
+    → Takes bytes magic s → Takes s (to_le_bytes w16 (version_number w)) v
+    → fields_at end v ≡ Ok x → SpellsHeader bytes ((w, x.0), x.1)
+unfolding fields_at
+fields_take w end bytes s v x p q e =
     let c = header_then w16 _ wide16 1 8 end v _ x q.rest_fits e in
     let d = header_then w32 _ wide32 16 65536 end c.rest _ x c.takes.rest_fits c.more in
     let f = header_then w32 _ wide32 1 1000000 end d.rest _ x d.takes.rest_fits d.more in
@@ -209,42 +255,45 @@ fields_take end bytes s v x p q e =
     let h = bind_ok (many_at (bytes_at 32) c.n end g.rest) _ x g.more in
     let k = many_take (bytes_at 32) (λ d. d) FitsDigest digest_takes c.n end g.rest h.0
     g.takes.rest_fits h.1 in
-    subst (SpellsHeader bytes)
+    subst (λ (y : LogHeader × List ℕ). SpellsHeader bytes ((w, y.0), y.1))
     (ok_is (record { quantum = d.n; rounds = f.n; frames = g.n; digests = h.0.0 }, h.0.1) x h.2)
-    (header_made bytes s v c.rest d.rest f.rest g.rest h.0.1 c.n d.n f.n g.n h.0.0 p q c.takes
+    (header_made w bytes s v c.rest d.rest f.rest g.rest h.0.1 c.n d.n f.n g.n h.0.0 p q c.takes
     d.takes f.takes g.takes k c.least c.most d.least d.most f.least f.most g.least g.most)
 
-pub header_takes : (end : ℕ) (bytes : List ℕ) (x : LogHeader × List ℕ) → IsBytes bytes
-    → header_at end bytes ≡ Ok x → SpellsHeader bytes x
+pub header_takes : (end : ℕ) (bytes : List ℕ) (x : (LogVersion × LogHeader) × List ℕ)
+    → IsBytes bytes → header_at end bytes ≡ Ok x → SpellsHeader bytes x
 unfolding header_at
 header_takes end bytes x fits e =
     let a = bind_ok (magic_at end bytes) _ x e in
     let p = magic_takes end bytes a.0 fits a.1 in
     let b = bind_ok (version_at end a.0) _ x a.2 in
     let q = version_takes end a.0 b.0 p.rest_fits b.1 in
-    fields_take end bytes a.0 b.0 x p q b.2
+    let c = bind_ok (fields_at end b.0.1) _ x b.2 in
+    subst (SpellsHeader bytes) (ok_is ((b.0.0, c.0.0), c.0.1) x c.2)
+    (fields_take b.0.0 end bytes a.0 b.0.1 c.0 p q c.1)
 
 magic_again : (end : ℕ) (rest : List ℕ) → magic_at end (magic ++ rest) ≡ Ok rest
 unfolding magic_at
 magic_again end rest = rw (bytes_again end magic rest) refl
 
-version_again : (end : ℕ) (rest : List ℕ) → version_at end (to_le_bytes w16 1 ++ rest) ≡ Ok rest
+version_again : (end : ℕ) (v : LogVersion) (rest : List ℕ)
+    → version_at end (to_le_bytes w16 (version_number v) ++ rest) ≡ Ok (v, rest)
 unfolding version_at
-version_again end rest = rw (number_again w16 _ wide16 end 1 rest (omega arith)) refl
+version_again end One rest = rw (number_again w16 _ wide16 end 1 rest (omega arith)) refl
+version_again end Two rest = rw (number_again w16 _ wide16 end 2 rest (omega arith)) refl
 
-pub header_again_all : (end : ℕ) (h : LogHeader) (rest : List ℕ) → FitsHeader h
-    → header_at end (header_text h ++ rest) ≡ Ok (h, rest)
-unfolding header_at
-header_again_all end h rest fits =
+fields_again : (end : ℕ) (h : LogHeader) (rest : List ℕ) → FitsHeader h
+    → fields_at end (to_le_bytes w16 (length h.digests) ++ (to_le_bytes w32
+    h.quantum ++ (to_le_bytes w32 h.rounds ++ (to_le_bytes w32 h.frames ++ (concat h.digests ++
+    rest))))) ≡ Ok (h, rest)
+unfolding fields_at
+fields_again end h rest fits =
     let r4 : List ℕ = concat h.digests ++ rest in
     let r3 : List ℕ = to_le_bytes w32 h.frames ++ r4 in
     let r2 : List ℕ = to_le_bytes w32 h.rounds ++ r3 in
     let r1 : List ℕ = to_le_bytes w32 h.quantum ++ r2 in
     let r0 : List ℕ = to_le_bytes w16 (length h.digests) ++ r1 in
-    goes (magic_at end (magic ++ (to_le_bytes w16 1 ++ r0))) _ (to_le_bytes w16 1 ++ r0)
-    (magic_again end (to_le_bytes w16 1 ++ r0))
-    ∙ goes (version_at end (to_le_bytes w16 1 ++ r0)) _ r0 (version_again end r0)
-    ∙ goes (header_number_at w16 1 8 end r0) _ (length h.digests, r1)
+    goes (header_number_at w16 1 8 end r0) _ (length h.digests, r1)
     (header_again w16 _ wide16 1 8 end (length h.digests) r1 (omega (arith, fits.count.1))
     fits.count.0 fits.count.1)
     ∙ goes (header_number_at w32 16 65536 end r1) _ (h.quantum, r2)
@@ -259,25 +308,37 @@ header_again_all end h rest fits =
     ∙ goes (many_at (bytes_at 32) (length h.digests) end r4) _ (h.digests, rest)
     (digests_again end h.digests rest fits.digests)
 
+pub header_again_all : (end : ℕ) (v : LogVersion) (h : LogHeader) (rest : List ℕ)
+    → FitsHeader h → header_at end (header_text v h ++ rest) ≡ Ok ((v, h), rest)
+unfolding header_at
+header_again_all end v h rest fits =
+    let number : List ℕ = to_le_bytes w16 (version_number v) in
+    let r0 : List ℕ = to_le_bytes w16 (length h.digests) ++ (to_le_bytes w32
+    h.quantum ++ (to_le_bytes w32 h.rounds ++ (to_le_bytes w32 h.frames ++ (concat h.digests ++
+    rest)))) in
+    goes (magic_at end (magic ++ (number ++ r0))) _ (number ++ r0)
+    (magic_again end (number ++ r0))
+    ∙ goes (version_at end (number ++ r0)) _ (v, r0) (version_again end v r0)
+    ∙ goes (fields_at end r0) _ (h, rest) (fields_again end h rest fits)
+
 -- ---- the whole text
 
 pub record SpellsLog (bytes : List ℕ) (log : Log) : Type 0 where
   pub text : bytes ≡ logtext log
-  pub header : FitsHeader log.header
-  pub entries : AreEntries log.entries
-  pub rounds : log.rounds < 2 ^ 32
+  pub fits : FitsLog log
 
 -- the header's text and the entries' behind it are the log's, where nothing is left
-log_spelled : (bytes rest : List ℕ) (header : LogHeader) (log : Log)
-    → bytes ≡ (header_text header ++ (entries_text log.entries ++ entry_text
-    (End log.ending log.rounds))) ++ rest → rest ≡ [] → log.header ≡ header → bytes ≡ logtext log
-log_spelled bytes rest header log both nothing header_is =
-    let tail : List ℕ = entries_text log.entries ++ entry_text (End log.ending log.rounds) in
-    both ∙ ap (λ (r : List ℕ). (header_text header ++ tail) ++ r) nothing
-    ∙ append-nil (header_text header ++ tail)
-    ∙ ap (λ (h : LogHeader). header_text h ++ tail) (sym header_is)
-    ∙ sym (append_assoc (header_text log.header) (entries_text log.entries)
-    (entry_text (End log.ending log.rounds)))
+log_spelled : (bytes rest : List ℕ) (start : LogVersion × LogHeader) (body : Body)
+    → bytes ≡ (header_text start.0 start.1 ++ (items_text body.items ++ entry_text
+    (End body.ending body.rounds))) ++ rest → rest ≡ []
+    → AreSpelled start.0 nothing_read body.items → bytes ≡ logtext (log_of start body)
+log_spelled bytes rest start body both nothing spelled =
+    let last : List ℕ = entry_text (End body.ending body.rounds) in
+    let front : List ℕ = header_text start.0 start.1 in
+    both ∙ ap (λ (r : List ℕ). (front ++ (items_text body.items ++ last)) ++ r) nothing
+    ∙ append-nil (front ++ (items_text body.items ++ last))
+    ∙ ap (λ (t : List ℕ). front ++ (t ++ last)) (sym (spelled_text start.0 body.items spelled))
+    ∙ sym (append_assoc front (entries_text start.0 (exchanges_of body.items)) last)
 
 pub log_takes : (bytes : List ℕ) (log : Log) → IsBytes bytes → log_at bytes ≡ Ok log
     → SpellsLog bytes log
@@ -285,53 +346,52 @@ unfolding log_at
 log_takes bytes log fits e =
     let a = bind_ok (header_at (length bytes) bytes) _ log e in
     let p = header_takes (length bytes) bytes a.0 fits a.1 in
-    let b = bind_ok (tail_at (length a.0.1) a.0.0 (length bytes) a.0.1) _ log a.2 in
-    let q = tail_takes a.0.0 (length a.0.1) (length bytes) a.0.1 b.0 p.takes.rest_fits b.1 in
-    let made : Log = b.0.0 in
+    let b = bind_ok (body_at a.0.0.0 (length a.0.1) nothing_read (length bytes) a.0.1) _ log a.2 in
+    let q = body_takes a.0.0.0 (length a.0.1) nothing_read (length bytes) a.0.1 b.0
+    p.takes.rest_fits (omega arith) b.1 in
+    let made : Log = log_of a.0.0 b.0.0 in
     let g = guard_true (eqb (length b.0.1) 0) (refusal.AfterEnd (place (length bytes) b.0.1)) made
     log b.2 in
     let nothing : b.0.1 ≡ [] = nil_from_length b.0.1 (eqb-true _ _ g.0) in
     let both = (then _ _ _ _ _ p.takes q.takes).parts in
-    let whole : bytes ≡ logtext made = log_spelled bytes b.0.1 a.0.0 made both nothing
-    q.header_is in
     subst (SpellsLog bytes) g.1
     (record {
-      text = whole;
-      header = subst FitsHeader (sym q.header_is) p.fits;
-      entries = q.entries;
-      rounds = q.rounds;
+      text = log_spelled bytes b.0.1 a.0.0 b.0.0 both nothing q.spelled;
+      fits = record {
+        header = p.fits;
+        entries = spelled_fits a.0.0.0 nothing_read b.0.0.items q.spelled;
+        few = omega (
+          arith,
+          spelled_few a.0.0.0 nothing_read b.0.0.items q.spelled (omega arith),
+        );
+        rounds = q.rounds;
+      };
     })
-
--- an entry has a byte at least
-one_byte : (e : Exchange) → 0 < length (entry_text e)
-one_byte (Signals round list) = omega arith
-one_byte (Input round tid max bytes) = omega arith
-one_byte (Clock round tid n) = omega arith
-one_byte (End ending rounds) = omega arith
-
-pub entries_short : (es : List Exchange) → length es ≤ length (entries_text es)
-entries_short [] = omega arith
-entries_short (e ∷ es) =
-    rw (flat_map-cons entry_text e es, length-append (entry_text e) (entries_text es))
-    (omega (arith, one_byte e, entries_short es))
 
 pub log_again : (log : Log) → FitsLog log → log_at (logtext log) ≡ Ok log
 unfolding log_at
 log_again log fits =
+    let v : LogVersion = log.version in
     let last : List ℕ = entry_text (End log.ending log.rounds) in
+    let items : List Item = items_in v log.entries in
     let end : ℕ = length (logtext log) in
-    let regrouped : logtext log ≡ header_text log.header ++ (entries_text log.entries ++ last) =
-    append_assoc (header_text log.header) (entries_text log.entries) last in
-    let head : header_at end (logtext log) ≡ Ok (log.header, entries_text log.entries ++ last) =
-    ap (header_at end) regrouped ∙ header_again_all end log.header
-    (entries_text log.entries ++ last) fits.header in
-    let enough : length log.entries < length (entries_text log.entries ++ last) =
-    rw (length-append (entries_text log.entries) last)
-    (omega (arith, entries_short log.entries, one_byte (End log.ending log.rounds))) in
-    let tail : tail_at (length (entries_text log.entries ++ last)) log.header end
-    (entries_text log.entries ++ last) ≡ Ok (log, []) =
-    ap (λ (x : List ℕ). tail_at (length (entries_text log.entries ++ last)) log.header end
-    (entries_text log.entries ++ x)) (sym (append-nil last))
-    ∙ tail_again log.header (length (entries_text log.entries ++ last)) end log.entries log.ending
-    log.rounds [] enough fits.entries fits.rounds in
-    goes _ _ _ head ∙ goes _ _ _ tail
+    let spelled : AreSpelled v nothing_read items = are_spelled v log.entries fits.entries
+    fits.few in
+    let regrouped : logtext log ≡ header_text v log.header ++ (items_text items ++ last) =
+    append_assoc (header_text v log.header) (items_text items) last in
+    let head : header_at end (logtext log) ≡ Ok ((v, log.header), items_text items ++ last) =
+    ap (header_at end) regrouped ∙ header_again_all end v log.header (items_text items ++ last)
+    fits.header in
+    let enough : length items < length (items_text items ++ last) =
+    rw (length-append (items_text items) last)
+    (omega (arith, items_short items, one_byte (kept (End log.ending log.rounds)))) in
+    let body : Body = record { items = items; ending = log.ending; rounds = log.rounds } in
+    let tail : body_at v (length (items_text items ++ last)) nothing_read end
+    (items_text items ++ last) ≡ Ok (body, []) =
+    ap (λ (x : List ℕ). body_at v (length (items_text items ++ last)) nothing_read end
+    (items_text items ++ x)) (sym (append-nil last))
+    ∙ body_again v (length (items_text items ++ last)) nothing_read end items log.ending
+    log.rounds [] enough spelled fits.rounds in
+    let made : log_of (v, log.header) body ≡ log =
+    ap (λ (es : List Exchange). record log { entries = es }) (expanded_in v log.entries) in
+    goes _ _ _ head ∙ goes _ _ _ tail ∙ ap (λ (x : Log). done x) made

@@ -1,15 +1,9 @@
 -- Reading many, one after the other, as a loop does.
 use Rattle.std.proofs.Common.{◌≡◌, ℕ, suc, ◌-◌, ◌+◌, ◌≤◌, ◌<◌, List, [], ◌∷◌, ◌++◌, Result, Ok, Err}
-use Rattle.std.proofs.Common.{IfOk, refl, sym, ap, ◌∙◌, append_assoc, arith}
+use Rattle.std.proofs.Common.{refl, sym, ap, ◌∙◌, append_assoc, arith}
 use Rattle.std.proofs.lemmas.List.{append-nil}
-use Rattle.dos_io.specs.declared.exchange.Exchange.{Exchange}
 use Rattle.shim_log.specs.declared.refusal.LogError.{LogError}
-use Rattle.shim_log.specs.Bytes.{IsBytes}
-use Rattle.shim_log.specs.Ranges.{InRange}
-use Rattle.shim_log.specs.Gives.{Gives}
-use Rattle.shim_log.specs.Reading.{Reader, ◌>>=◌, many_at, entry_at}
-use Rattle.shim_log.specs.LogText.{entry_text}
-use Rattle.shim_log.proofs.EntryLaws.{entry_takes}
+use Rattle.shim_log.specs.Reading.{Reader, ◌>>=◌, many_at}
 
 module _ {A : Type 0} (one_at : Reader A) where
   -- what was read before, and what is still read
@@ -53,16 +47,3 @@ module _ {A : Type 0} (one_at : Reader A) where
       let one : with_front front (many_at one_at (count - i) end bytes) ≡ Ok (front, bytes) =
       rw k (ap (λ (ns : List A). Ok (ns, bytes)) (append-nil front)) in
       sym so_far ∙ one
-
-pub entry_fits : {X : Type 0} (view : X → Exchange × List ℕ) (r : Result X LogError) (end : ℕ)
-    (bytes : List ℕ) → IsBytes bytes → Gives view r (entry_at end bytes)
-    → IfOk r (λ x. InRange (view x).0)
-entry_fits view (Ok x) end bytes fits given = (entry_takes end bytes (view x) fits given).fits
-entry_fits view (Err e) end bytes fits given = tt
-
-pub entry_parts : {X : Type 0} (view : X → Exchange × List ℕ) (r : Result X LogError) (end : ℕ)
-    (bytes : List ℕ) → IsBytes bytes → Gives view r (entry_at end bytes)
-    → IfOk r (λ x. bytes ≡ entry_text (view x).0 ++ (view x).1)
-entry_parts view (Ok x) end bytes fits given =
-    (entry_takes end bytes (view x) fits given).takes.parts
-entry_parts view (Err e) end bytes fits given = tt

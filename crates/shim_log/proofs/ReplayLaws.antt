@@ -1,5 +1,6 @@
 -- The next entry of a log, where so many were answered.
-use Rattle.std.proofs.Common.{◌≡◌, ◌≤◌, ◌<◌, ◌∙◌, ◌+◌, ◌-◌, ℕ, zero, suc, List, [], ◌∷◌, ◌++◌}
+use Rattle.std.proofs.Common.{◌≡◌, ◌≤◌, ◌<◌, ◌∙◌, ◌+◌, ◌-◌, ◌^◌, ℕ, zero, suc, List, [], ◌∷◌, ◌++◌}
+use Rattle.std.proofs.Common.{subst}
 use Rattle.std.proofs.Common.{length, take, drop, Some, None, Ok, Err, refl, sym, ap, append_assoc}
 use Rattle.std.proofs.Common.{arith, Option, option_map}
 use Rattle.std.specs.List.{slice_get}
@@ -19,13 +20,19 @@ use Rattle.dos_io.specs.declared.shim.ShimStop.{ShimStop}
 use Rattle.dos_io.specs.Exchanges.{question_of}
 use Rattle.dos_io.specs.Shims.{answered, HasNoEnd}
 use Rattle.shim_log.specs.declared.refusal.LogError.{LogError}
-use Rattle.shim_log.specs.LogText.{entry_text, entries_text, exchanges}
-use Rattle.shim_log.specs.Ranges.{AreEntries}
-use Rattle.shim_log.specs.Reading.{entry_at}
+use Rattle.shim_log.specs.declared.version.LogVersion.{LogVersion}
+use Rattle.shim_log.specs.declared.version.LogVersion.TheVariants.{One, Two}
+use Rattle.shim_log.specs.declared.progress.Progress.{Progress}
+use Rattle.shim_log.specs.Items.{Item, quiet, kept, items_in, quiet_rounds, expanded, exchanges_of}
+use Rattle.shim_log.specs.LogText.{Log, item_text, items_text, entries_text, exchanges}
+use Rattle.shim_log.specs.Ranges.{AreEntries, InRange, FitsLog}
+use Rattle.shim_log.specs.Reading.{item_at, after_item, nothing_read}
+use Rattle.shim_log.specs.Spelling.{FitsItem, FitsQuiet, AreSpelled}
 use Rattle.shim_log.specs.Replay.{ReplayState, StandsNext, IsMisfitOf, replayer_state}
-use Rattle.shim_log.specs.Replay.{replay_advanced}
+use Rattle.shim_log.specs.Replay.{replay_advanced, IsWithin, StandsAt}
 use Rattle.shim_log.proofs.FieldLaws.{ok_is}
-use Rattle.shim_log.proofs.EntryLaws.{entry_again}
+use Rattle.shim_log.proofs.ItemReading.{item_again, fits_comes, comes_first}
+use Rattle.shim_log.proofs.SpellingLaws.{are_spelled, expanded_in}
 
 -- ---- where the end wasn't told, an entry is next
 
@@ -48,48 +55,6 @@ get_left [] fs k lt = absurd (omega arith)
 get_left (e ∷ es) fs zero lt = refl
 get_left (e ∷ es) fs (suc k) lt = get_left es fs k (omega arith)
 
-pub record NextIs (es : List Exchange) (k end : ℕ) (left : List ℕ) : Type 0 where
-  pub entry : Exchange
-  pub got : slice_get es k ≡ Some entry
-  pub read : entry_at end left ≡ Ok (entry, entries_text (drop (suc k) es))
-  pub parts : left ≡ entry_text entry ++ entries_text (drop (suc k) es)
-
-pub next_is : (es : List Exchange) (k end : ℕ) (left : List ℕ) → AreEntries es → k < length es
-    → left ≡ entries_text (drop k es) → NextIs es k end left
-next_is [] k end left fits lt is = absurd (omega arith)
-next_is (e ∷ es) zero end left fits lt is =
-    let parts : left ≡ entry_text e ++ entries_text es = is ∙ flat_map-cons entry_text e es in
-    record {
-      entry = e;
-      got = refl;
-      read = ap (entry_at end) parts
-          ∙ entry_again end e (entries_text es) fits.0.0;
-      parts = parts;
-    }
-next_is (e ∷ es) (suc k) end left fits lt is =
-    let n = next_is es k end left fits.1 (omega arith) is in
-    record { entry = n.entry; got = n.got; read = n.read; parts = n.parts }
-
-pub never_refused : (es : List Exchange) (k end : ℕ) (left : List ℕ) (refusal : LogError)
-    → NextIs es k end left → entry_at end left ≡ Err refusal → ⊥
-never_refused es k end left refusal n is = absurd (let e = sym n.read ∙ is in cc)
-
-read_is : (es : List Exchange) (k end : ℕ) (left : List ℕ) (e : Exchange) (rest : List ℕ)
-    → NextIs es k end left → entry_at end left ≡ Ok (e, rest)
-    → (slice_get es k ≡ Some e) × (rest ≡ entries_text (drop (k + 1) es))
-    × (left ≡ entry_text e ++ rest)
-read_is es k end left e rest n is =
-    let next : suc k ≡ k + 1 = omega arith in
-    let same : (n.entry, entries_text (drop (suc k) es)) ≡ (e, rest) =
-    ok_is (n.entry, entries_text (drop (suc k) es)) (e, rest) (sym n.read ∙ is) in
-    let one : n.entry ≡ e = ap (λ (x : Exchange × List ℕ). x.0) same in
-    let two : entries_text (drop (suc k) es) ≡ rest = ap (λ (x : Exchange × List ℕ). x.1) same in (
-      n.got ∙ ap (λ (x : Exchange). Some x) one,
-      sym two ∙ ap (λ (i : ℕ). entries_text (drop i es)) next,
-      n.parts ∙ ap (λ (x : Exchange). entry_text x ++ entries_text (drop (suc k) es)) one
-          ∙ ap (λ (x : List ℕ). entry_text e ++ x) two,
-    )
-
 -- the bytes behind it, in the whole text
 rest_is : (text front rest : List ℕ) (place : ℕ) → drop place text ≡ front ++ rest
     → (length rest ≤ length text) × (drop (length text - length rest) text ≡ rest)
@@ -105,25 +70,302 @@ rest_is text front rest place is =
           (omega (arith, long)),
     )
 
--- What is read of the text is the next entry, and behind it are those that follow.
-pub record ReadsNext (p : ReplayState) (text rest : List ℕ) (e : Exchange) : Type 0 where
-  pub entry : slice_get (exchanges p.log) p.answered ≡ Some e
-  pub within : length rest ≤ length text
-  pub place : drop (length text - length rest) text
-      ≡ entries_text (drop (p.answered + 1) p.log.entries)
+-- ---- the first entry that isn't wholly answered
 
-pub reads_next : (p : ReplayState) (place : ℕ) (text left rest : List ℕ) (e : Exchange)
-    → p.answered < length p.log.entries → NextIs p.log.entries p.answered (length text) left
-    → left ≡ drop place text → entry_at (length text) left ≡ Ok (e, rest)
-    → ReadsNext p text rest e
-reads_next p place text left rest e less next here is =
-    let read = read_is p.log.entries p.answered (length text) left e rest next is in
-    let behind = rest_is text (entry_text e) rest place (sym here ∙ read.2) in
+-- the first of the exchanges that are left
+get_first : (es rest : List Exchange) (n : ℕ) (e : Exchange) → drop n es ≡ e ∷ rest
+    → (slice_get es n ≡ Some e) × (drop (n + 1) es ≡ rest)
+get_first [] rest zero e is = absurd cc
+get_first [] rest (suc n) e is = absurd cc
+get_first (x ∷ es) rest zero e is =
+    let first : x ≡ e = cc in
+    let others : es ≡ rest = cc in
+    (ap (λ (y : Exchange). Some y) first, others)
+get_first (x ∷ es) rest (suc n) e is =
+    let next : suc n + 1 ≡ suc (n + 1) = omega arith in
+    let g = get_first es rest n e is in
+    (g.0, ap (λ (k : ℕ). drop k (x ∷ es)) next ∙ g.1)
+
+none_left : (es : List Exchange) (n : ℕ) → n < length es → drop n es ≡ [] → ⊥
+none_left [] n lt is = omega (arith, lt)
+none_left (e ∷ es) zero lt is = cc
+none_left (e ∷ es) (suc n) lt is = none_left es n (omega (arith, lt)) is
+
+drop_none : (n : ℕ) → drop n (exchanges_of []) ≡ []
+drop_none zero = refl
+drop_none (suc n) = refl
+
+pub record First (log : Log) (answered place within : ℕ) : Type 0 where
+  pub progress : Progress
+  pub item : Item
+  pub items : List Item
+  pub text_is : drop place (entries_text log.version log.entries)
+      ≡ item_text item ++ items_text items
+  pub fits : FitsItem log.version progress item
+  pub spelled : AreSpelled log.version (after_item progress item) items
+  pub left : drop answered log.entries ≡ drop within (expanded item ++ exchanges_of items)
+  pub within_first : IsWithin within (item ∷ items)
+
+pub first_is : (log : Log) (answered place within : ℕ) → StandsAt log answered place within
+    → answered < length log.entries → First log answered place within
+first_is log answered place within st lt = by_items st.items refl
+  where
+    by_items : (items : List Item) → st.items ≡ items → First log answered place within
+    by_items [] is = absurd (none_left log.entries answered lt
+        (st.left ∙ ap (λ (xs : List Item). drop within (exchanges_of xs)) is
+        ∙ drop_none within))
+    by_items (item ∷ items) is =
+        let spelled = subst (AreSpelled log.version st.progress) is st.spelled in
+        record {
+          progress = st.progress;
+          item = item;
+          items = items;
+          text_is = st.text_is ∙ ap items_text is ∙ flat_map-cons item_text item items;
+          fits = spelled.0;
+          spelled = spelled.1;
+          left = st.left ∙ ap (λ (xs : List Item). drop within (exchanges_of xs)) is;
+          within_first = subst (IsWithin within) is st.within_first;
+        }
+
+-- what is read there
+read_again : (log : Log) (answered place within end : ℕ) (f : First log answered place within)
+    → item_at log.version nothing_read end (item_text f.item ++ items_text f.items)
+    ≡ Ok (f.item, items_text f.items)
+read_again log answered place within end f =
+    item_again log.version nothing_read end f.item (items_text f.items)
+    (fits_comes log.version nothing_read f.item
+    (comes_first log.version f.progress nothing_read f.item (omega arith) refl f.fits))
+
+-- an entry of this log's text, read at this place
+pub record IsRead (log : Log) (place : ℕ) (text left : List ℕ) : Type 0 where
+  pub text_is : text ≡ entries_text log.version log.entries
+  pub left_is : left ≡ drop place text
+
+module _ (log : Log) (answered place within : ℕ) (text left : List ℕ)
+    (f : First log answered place within) (here : IsRead log place text left) where
+  left_spells : left ≡ item_text f.item ++ items_text f.items
+  left_spells = here.left_is ∙ ap (drop place) here.text_is ∙ f.text_is
+
+  pub never_refused : (refusal : LogError)
+      → item_at log.version nothing_read (length text) left ≡ Err refusal → ⊥
+  never_refused refusal is = absurd (let e = sym (read_again log answered place within
+      (length text) f) ∙ ap (item_at log.version nothing_read (length text)) (sym left_spells)
+      ∙ is in cc)
+
+  pub read_is : (item : Item) (rest : List ℕ)
+      → item_at log.version nothing_read (length text) left ≡ Ok (item, rest)
+      → (f.item ≡ item) × (items_text f.items ≡ rest)
+  read_is item rest is =
+      let same : (f.item, items_text f.items) ≡ (item, rest) =
+      ok_is (f.item, items_text f.items) (item, rest)
+      (sym (read_again log answered place within (length text) f)
+      ∙ ap (item_at log.version nothing_read (length text)) (sym left_spells) ∙ is) in
+      (ap (λ (x : Item × List ℕ). x.0) same, ap (λ (x : Item × List ℕ). x.1) same)
+
+  pub rest_place : (item : Item) (rest : List ℕ)
+      → item_at log.version nothing_read (length text) left ≡ Ok (item, rest)
+      → (length rest ≤ length text) × (drop (length text - length rest) text ≡ rest)
+  rest_place item rest is =
+      let read = read_is item rest is in
+      rest_is text (item_text f.item) rest place
+      (sym here.left_is ∙ left_spells ∙ ap (λ (t : List ℕ). item_text f.item ++ t) read.1)
+
+within_none : (v : LogVersion) (p : Progress) (items : List Item) → AreSpelled v p items
+    → IsWithin 0 items
+within_none v p [] spelled = refl
+within_none v p (kept e ∷ items) spelled = refl
+within_none One p (quiet round count ∷ items) spelled = absurd spelled.0
+within_none Two p (quiet round count ∷ items) spelled = omega (arith, spelled.0.some)
+
+-- behind the entry
+behind_first : (log : Log) (answered place within : ℕ) (text left : List ℕ)
+    (f : First log answered place within) (here : IsRead log place text left) (item : Item)
+    (rest : List ℕ) → item_at log.version nothing_read (length text) left ≡ Ok (item, rest)
+    → drop (answered + 1) log.entries ≡ exchanges_of f.items
+    → StandsAt log (answered + 1) (length text - length rest) 0
+behind_first log answered place within text left f here item rest is left_over =
+    let there = rest_place log answered place within text left f here item rest is in
+    let read = read_is log answered place within text left f here item rest is in
     record {
-      entry = get_left p.log.entries (End p.log.ending p.log.rounds ∷ []) p.answered less ∙ read.0;
-      within = behind.0;
-      place = behind.1 ∙ read.1;
+      progress = after_item f.progress f.item;
+      items = f.items;
+      text_is = ap (drop (length text - length rest)) (sym here.text_is) ∙ there.1 ∙ sym read.1;
+      spelled = f.spelled;
+      left = left_over;
+      within_first = within_none log.version (after_item f.progress f.item) f.items f.spelled;
+      inside = subst (λ (t : List ℕ). length text - length rest ≤ length t) here.text_is
+          (omega arith);
     }
+
+-- The next exchange, and where the one behind it stands.
+pub record NextAt (p : ReplayState) (e : Exchange) (place within : ℕ) : Type 0 where
+  pub entry : slice_get (exchanges p.log) p.answered ≡ Some e
+  pub fits : InRange e
+  pub behind : StandsAt p.log (p.answered + 1) place within
+
+range_of : (v : LogVersion) (p : Progress) (item : Item) (e : Exchange) → item ≡ kept e
+    → FitsItem v p item → InRange e
+range_of v p item e is fits =
+    let kept_fits : FitsItem v p (kept e) = subst (FitsItem v p) is fits in
+    kept_fits.range
+
+pub next_kept : (p : ReplayState) (place within : ℕ) (text left rest : List ℕ) (e : Exchange)
+    → p.answered < length p.log.entries → StandsAt p.log p.answered place within
+    → IsRead p.log place text left
+    → item_at p.log.version nothing_read (length text) left ≡ Ok (kept e, rest)
+    → NextAt p e (length text - length rest) 0
+next_kept p place within text left rest e lt st here is =
+    let f = first_is p.log p.answered place within st lt in
+    let read = read_is p.log p.answered place within text left f here (kept e) rest is in
+    let none : within ≡ 0 =
+    subst (λ (x : Item). IsWithin within (x ∷ f.items)) read.0 f.within_first in
+    let found : drop p.answered p.log.entries ≡ e ∷ exchanges_of f.items =
+    f.left ∙ ap (λ (k : ℕ). drop k (expanded f.item ++ exchanges_of f.items)) none
+    ∙ ap (λ (x : Item). drop 0 (expanded x ++ exchanges_of f.items)) read.0 in
+    let got = get_first p.log.entries (exchanges_of f.items) p.answered e found in
+    record {
+      entry = get_left p.log.entries (End p.log.ending p.log.rounds ∷ []) p.answered lt ∙ got.0;
+      fits = range_of p.log.version f.progress f.item e read.0 f.fits;
+      behind = behind_first p.log p.answered place within text left f here (kept e) rest is got.1;
+    }
+
+-- ---- in the midst of a stretch
+
+quiet_first : (round count within : ℕ) (es : List Exchange) → within < count
+    → drop within (quiet_rounds round count ++ es)
+    ≡ Signals (round + within) [] ∷ drop (within + 1) (quiet_rounds round count ++ es)
+unfolding quiet_rounds
+quiet_first round zero within es lt = absurd (omega (arith, lt))
+quiet_first round (suc n) zero es lt =
+    let here : round ≡ round + 0 = omega arith in
+    ap (λ (r : ℕ). Signals r [] ∷ (quiet_rounds (suc round) n ++ es)) here
+quiet_first round (suc n) (suc within) es lt =
+    let at : suc round + within ≡ round + suc within = omega arith in
+    let next : suc (within + 1) ≡ suc within + 1 = omega arith in
+    quiet_first (suc round) n within es (omega (arith, lt))
+    ∙ ap (λ (r : ℕ). Signals r [] ∷ drop (within + 1) (quiet_rounds (suc round) n ++ es)) at
+    ∙ ap (λ (k : ℕ). Signals (round + suc within) [] ∷
+    drop k (Signals round [] ∷ (quiet_rounds (suc round) n ++ es))) next
+
+quiet_over : (round count : ℕ) (es : List Exchange) → drop count (quiet_rounds round count ++ es) ≡ es
+unfolding quiet_rounds
+quiet_over round zero es = refl
+quiet_over round (suc n) es = quiet_over (suc round) n es
+
+-- a quiet entry is one of version 2
+quiet_range : (v : LogVersion) (p : Progress) (item : Item) (round count : ℕ)
+    → item ≡ quiet round count → FitsItem v p item → round + count ≤ 2 ^ 32
+quiet_range One p item round count is fits =
+    absurd (subst (FitsItem One p) is fits)
+quiet_range Two p item round count is fits =
+    let quiet_fits : FitsQuiet p round count = subst (FitsItem Two p) is fits in
+    quiet_fits.last
+
+module _ (p : ReplayState) (place within : ℕ) (text left rest : List ℕ) (round count : ℕ)
+    (lt : p.answered < length p.log.entries) (st : StandsAt p.log p.answered place within)
+    (here : IsRead p.log place text left)
+    (is : item_at p.log.version nothing_read (length text) left ≡ Ok (quiet round count, rest))
+  where
+    abbrev f : First p.log p.answered place within
+    f = first_is p.log p.answered place within st lt
+
+    abbrev read : (f.item ≡ quiet round count) × (items_text f.items ≡ rest)
+    read = read_is p.log p.answered place within text left f here (quiet round count) rest is
+
+    pub in_stretch : within < count
+    in_stretch = subst (λ (x : Item). IsWithin within (x ∷ f.items)) read.0 f.within_first
+
+    pub in_range : round + count ≤ 2 ^ 32
+    in_range = quiet_range p.log.version f.progress f.item round count read.0 f.fits
+
+    found : (slice_get p.log.entries p.answered ≡ Some (Signals (round + within) []))
+        × (drop (p.answered + 1) p.log.entries
+        ≡ drop (within + 1) (quiet_rounds round count ++ exchanges_of f.items))
+    found =
+        get_first p.log.entries (drop (within + 1) (quiet_rounds round count ++ exchanges_of f.items))
+        p.answered (Signals (round + within) [])
+        (f.left ∙ ap (λ (x : Item). drop within (expanded x ++ exchanges_of f.items)) read.0
+        ∙ quiet_first round count within (exchanges_of f.items) in_stretch)
+
+    entry_is : slice_get (exchanges p.log) p.answered ≡ Some (Signals (round + within) [])
+    entry_is =
+        get_left p.log.entries (End p.log.ending p.log.rounds ∷ []) p.answered lt ∙ found.0
+
+    entry_fits : InRange (Signals (round + within) [])
+    entry_fits = record {
+      round_fits = omega (arith, in_stretch, in_range);
+      count = omega arith;
+      posts = tt;
+    }
+
+    pub next_more : within + 1 < count → NextAt p (Signals (round + within) []) place (within + 1)
+    next_more more = record {
+      entry = entry_is;
+      fits = entry_fits;
+      behind = record {
+        progress = f.progress;
+        items = f.item ∷ f.items;
+        text_is = f.text_is ∙ sym (flat_map-cons item_text f.item f.items);
+        spelled = (f.fits, f.spelled);
+        left = found.1
+            ∙ ap (λ (x : Item). drop (within + 1) (expanded x ++ exchanges_of f.items)) (sym read.0);
+        within_first = subst (λ (x : Item). IsWithin (within + 1) (x ∷ f.items)) (sym read.0) more;
+        inside = st.inside;
+      };
+    }
+
+    pub next_last : count ≤ within + 1
+        → NextAt p (Signals (round + within) []) (length text - length rest) 0
+    next_last last =
+        let all : within + 1 ≡ count = omega (arith, in_stretch, last) in
+        record {
+          entry = entry_is;
+          fits = entry_fits;
+          behind = behind_first p.log p.answered place within text left f here (quiet round count)
+              rest is
+              (found.1
+              ∙ ap (λ (k : ℕ). drop k (quiet_rounds round count ++ exchanges_of f.items)) all
+              ∙ quiet_over round count (exchanges_of f.items));
+        }
+
+-- ---- before the first and behind the last
+
+pub stands_first : (log : Log) → FitsLog log → StandsAt log 0 0 0
+stands_first log fits =
+    let items : List Item = items_in log.version log.entries in
+    let spelled = are_spelled log.version log.entries fits.entries fits.few in
+    record {
+      progress = nothing_read;
+      items = items;
+      text_is = refl;
+      spelled = spelled;
+      left = sym (expanded_in log.version log.entries);
+      within_first = within_none log.version nothing_read items spelled;
+      inside = omega arith;
+    }
+
+pub stands_last : (log : Log) (answered : ℕ) (text : List ℕ)
+    → text ≡ entries_text log.version log.entries → answered ≡ length log.entries
+    → StandsAt log (answered + 1) (length text) 0
+stands_last log answered text is all = record {
+  progress = nothing_read;
+  items = [];
+  text_is = ap (drop (length text)) (sym is) ∙ drop_all text;
+  spelled = tt;
+  left = past log.entries (answered + 1) (omega (arith, all));
+  within_first = refl;
+  inside = subst (λ (t : List ℕ). length text ≤ length t) is (omega arith);
+}
+  where
+    drop_all : (xs : List ℕ) → drop (length xs) xs ≡ []
+    drop_all [] = refl
+    drop_all (x ∷ xs) = drop_all xs
+
+    past : (es : List Exchange) (n : ℕ) → length es ≤ n → drop n es ≡ []
+    past [] zero le = refl
+    past [] (suc n) le = refl
+    past (e ∷ es) zero le = absurd (omega (arith, le))
+    past (e ∷ es) (suc n) le = past es n (omega (arith, le))
 
 -- ---- what it tells after an answer
 
@@ -196,26 +438,26 @@ some_question q = Some q
 question_is : (q r : Question) → some_question q ≡ some_question r → q ≡ r
 question_is q r e = cc
 
-record Parted (xs : List Exchange) (n : ℕ) (kept : Question) : Type 0 where
+record Parted (xs : List Exchange) (n : ℕ) (wanted : Question) : Type 0 where
   pub next : Exchange
   pub behind : List Exchange
   pub whole : xs ≡ take n xs ++ next ∷ behind
-  pub question : question_of next ≡ kept
+  pub question : question_of next ≡ wanted
   pub count : length (take n xs) ≡ n
 
-part_at : (xs : List Exchange) (n : ℕ) (kept : Question)
-    → option_map question_of (slice_get xs n) ≡ Some kept → Parted xs n kept
-part_at [] n kept is = absurd cc
-part_at (x ∷ xs) zero kept is =
+part_at : (xs : List Exchange) (n : ℕ) (wanted : Question)
+    → option_map question_of (slice_get xs n) ≡ Some wanted → Parted xs n wanted
+part_at [] n wanted is = absurd cc
+part_at (x ∷ xs) zero wanted is =
     record {
       next = x;
       behind = xs;
       whole = refl;
-      question = question_is (question_of x) kept is;
+      question = question_is (question_of x) wanted is;
       count = refl;
     }
-part_at (x ∷ xs) (suc n) kept is =
-    let p = part_at xs n kept is in
+part_at (x ∷ xs) (suc n) wanted is =
+    let p = part_at xs n wanted is in
     record {
       next = p.next;
       behind = p.behind;

@@ -1,161 +1,185 @@
--- Reading entries one after the other, as a loop does.
-use Rattle.std.proofs.Common.{◌≡◌, ℕ, suc, ◌-◌, ◌+◌, ◌≤◌, ◌<◌, List, [], ◌∷◌, ◌++◌, length, take}
-use Rattle.std.proofs.Common.{Option, Some, None, Result, Ok, Err, refl, sym, ap, subst, ◌∙◌}
+-- Reading the entries of a log one after the other, as a loop does.
+use Rattle.std.proofs.Common.{◌≡◌, ℕ, suc, ◌+◌, ◌-◌, ◌<◌, ◌≤◌, List, [], ◌∷◌, ◌++◌, length, take}
+use Rattle.std.proofs.Common.{Result, Ok, Err, refl, sym, ap, subst, ◌∙◌}
 use Rattle.std.proofs.Common.{append_assoc, arith}
 use Rattle.std.proofs.lemmas.List.{append-nil, length-append, take_at}
+use Rattle.std.proofs.lemmas.List.Concat.{flat_map-cons}
 use Rattle.dos_world.specs.declared.Ending.{Ending}
-use Rattle.dos_io.specs.declared.exchange.Exchange.{Exchange}
 use Rattle.dos_io.specs.declared.exchange.Exchange.TheVariants.{Signals, Input, Clock, End}
 use Rattle.shim_log.specs.declared.refusal.LogError.{LogError}
 use Rattle.shim_log.specs.declared.refusal.LogError.TheVariants as refusal
-use Rattle.shim_log.specs.declared.header.LogHeader.{LogHeader}
-use Rattle.shim_log.specs.EntriesText.{entries_of, IsEntriesText}
-use Rattle.shim_log.specs.LogText.{Log, entry_text, entries_text}
-use Rattle.shim_log.specs.Ranges.{InRange, NotEnd, AreEntries}
-use Rattle.shim_log.specs.Reading.{◌>>=◌, place, after_entry, entry_at, tail_at}
-use Rattle.shim_log.specs.Views.{ending_of}
-use Rattle.shim_log.proofs.EntriesTextLaws.{all_push, text_push, entries_again}
+use Rattle.shim_log.specs.declared.version.LogVersion.{LogVersion}
+use Rattle.shim_log.specs.declared.progress.Progress.{Progress}
+use Rattle.shim_log.specs.Items.{Item, quiet, kept, exchanges_of}
+use Rattle.shim_log.specs.LogText.{item_text, items_text}
+use Rattle.shim_log.specs.Ranges.{most_exchanges}
+use Rattle.shim_log.specs.Reading.{◌>>=◌, place, Body, behind_item, item_at, body_at, after_item}
+use Rattle.shim_log.specs.Reading.{nothing_read}
+use Rattle.shim_log.specs.Spelling.{FitsItem, AreSpelled, after_items}
+use Rattle.shim_log.specs.Passing.{PassesItem}
+use Rattle.shim_log.specs.EntriesText.{items_in_text, IsEntriesText}
+use Rattle.shim_log.proofs.SpellingLaws.{after_append, spelled_append, items_text_append}
+use Rattle.shim_log.proofs.SpellingLaws.{after_held, spelled_few}
+use Rattle.shim_log.proofs.EntriesTextLaws.{text_spells, text_kept}
 
 -- what was read before, and what is still read
-abbrev with_log : List Exchange → Result (Log × List ℕ) LogError → Result (Log × List ℕ) LogError
-with_log front read = read >>= λ x. Ok (record x.0 { entries = front ++ x.0.entries }, x.1)
+abbrev with_items : List Item → Result (Body × List ℕ) LogError → Result (Body × List ℕ) LogError
+with_items front read = read >>= λ x. Ok (record x.0 { items = front ++ x.0.items }, x.1)
 
-abbrev in_front : Exchange → Result (Log × List ℕ) LogError → Result (Log × List ℕ) LogError
-in_front e more = more >>= λ read. Ok (record read.0 { entries = e ∷ read.0.entries }, read.1)
+abbrev in_front : Item → Result (Body × List ℕ) LogError → Result (Body × List ℕ) LogError
+in_front item more = more >>= λ read. Ok (record read.0 { items = item ∷ read.0.items }, read.1)
 
-joined : (front : List Exchange) (e : Exchange) (read : Result (Log × List ℕ) LogError)
-    → with_log front (in_front e read) ≡ with_log (front ++ e ∷ []) read
-joined front e (Ok x) =
-    ap (λ (xs : List Exchange). Ok (record x.0 { entries = xs }, x.1))
-    (sym (append_assoc front (e ∷ []) x.0.entries))
-joined front e (Err d) = refl
+joined : (front : List Item) (item : Item) (read : Result (Body × List ℕ) LogError)
+    → with_items front (in_front item read) ≡ with_items (front ++ item ∷ []) read
+joined front item (Ok x) =
+    ap (λ (xs : List Item). Ok (record x.0 { items = xs }, x.1))
+    (sym (append_assoc front (item ∷ []) x.0.items))
+joined front item (Err d) = refl
 
-one_more : (header : LogHeader) (front : List Exchange) (e : Exchange) (after : List ℕ)
-    (more : Result (Log × List ℕ) LogError) → ending_of e ≡ None
-    → with_log front (after_entry header e after more) ≡ with_log (front ++ e ∷ []) more
-one_more header front (Signals round list) after more h = joined front (Signals round list) more
-one_more header front (Input round tid max bytes) after more h =
-    joined front (Input round tid max bytes) more
-one_more header front (Clock round tid n) after more h = joined front (Clock round tid n) more
-one_more header front (End ending rounds) after more h = absurd cc
+one_more : (v : LogVersion) (p : Progress) (front : List Item) (item : Item) (after : List ℕ)
+    (more : Result (Body × List ℕ) LogError) → FitsItem v p item
+    → with_items front (behind_item item after more) ≡ with_items (front ++ item ∷ []) more
+one_more v p front (quiet round count) after more h = joined front (quiet round count) more
+one_more v p front (kept (Signals round list)) after more h =
+    joined front (kept (Signals round list)) more
+one_more v p front (kept (Input round tid max bytes)) after more h =
+    joined front (kept (Input round tid max bytes)) more
+one_more v p front (kept (Clock round tid n)) after more h =
+    joined front (kept (Clock round tid n)) more
+one_more v p front (kept (End ending rounds)) after more h = absurd h.no_end
 
-not_end : (e : Exchange) → ending_of e ≡ None → NotEnd e
-not_end (End ending rounds) h = absurd cc
-not_end e h = tt
-
-abbrev some_pair : Ending × ℕ → Option (Ending × ℕ)
-some_pair p = Some p
-
-some_is : (x y : Ending × ℕ) → some_pair x ≡ some_pair y → x ≡ y
-some_is x y e = cc
-
-abbrev pub log_with : LogHeader → List Exchange → Ending → ℕ → Log
-log_with header es ending rounds =
-    record { header = header; entries = es; ending = ending; rounds = rounds }
-
-last_one : (header : LogHeader) (front : List Exchange) (e : Exchange) (after : List ℕ)
-    (more : Result (Log × List ℕ) LogError) (ending : Ending) (rounds : ℕ)
-    → ending_of e ≡ Some (ending, rounds)
-    → with_log front (after_entry header e after more)
-    ≡ Ok (log_with header front ending rounds, after)
-last_one header front (End x y) after more ending rounds h =
-    let p : (x, y) ≡ (ending, rounds) = some_is _ _ h in
-    let a : x ≡ ending = ap (λ (q : Ending × ℕ). q.0) p in
-    let b : y ≡ rounds = ap (λ (q : Ending × ℕ). q.1) p in
-    rw (append-nil front, a, b) refl
-last_one header front e after more ending rounds h = absurd cc
+last_one : (front : List Item) (ending : Ending) (rounds : ℕ) (after : List ℕ)
+    (more : Result (Body × List ℕ) LogError)
+    → with_items front (behind_item (kept (End ending rounds)) after more)
+    ≡ Ok (record { items = front; ending = ending; rounds = rounds }, after)
+last_one front ending rounds after more = rw (append-nil front) refl
 
 -- So many entries of these bytes are read, the rest is left, and reading goes on there.
-pub record Walked (end : ℕ) (bytes rest : List ℕ) (count : ℕ) : Type 0 where
-  pub es : List Exchange
-  pub split : bytes ≡ entries_text es ++ rest
-  pub fits : AreEntries es
-  pub count_is : count ≡ length es
-  pub so_far : (header : LogHeader)
-      → with_log es (tail_at (length bytes - count) header end rest)
-      ≡ tail_at (length bytes) header end bytes
+pub record Walked (v : LogVersion) (end : ℕ) (bytes rest : List ℕ) (p : Progress) (count : ℕ)
+    : Type 0 where
+  pub items : List Item
+  pub split : bytes ≡ items_text items ++ rest
+  pub spelled : AreSpelled v nothing_read items
+  pub count_is : count ≡ length items
+  pub progress : p ≡ after_items nothing_read items
+  pub so_far : with_items items (body_at v (length bytes - count) p end rest)
+      ≡ body_at v (length bytes) nothing_read end bytes
 
-module _ (end : ℕ) (bytes rest : List ℕ) (count : ℕ) (w : Walked end bytes rest count) where
+-- before the first entry
+pub walk_starts : (v : LogVersion) (end : ℕ) (bytes : List ℕ) (p : Progress) → p ≡ nothing_read
+    → Walked v end bytes bytes p 0
+walk_starts v end bytes p is = record {
+  items = [];
+  split = refl;
+  spelled = tt;
+  count_is = refl;
+  progress = is;
+  so_far = nothing_before (body_at v (length bytes - 0) p end bytes)
+      ∙ ap (λ (n : ℕ). body_at v n p end bytes) all
+      ∙ ap (λ (q : Progress). body_at v (length bytes) q end bytes) is;
+}
+  where
+    nothing_before : (read : Result (Body × List ℕ) LogError) → with_items [] read ≡ read
+    nothing_before (Ok x) = refl
+    nothing_before (Err d) = refl
+
+    all : length bytes - 0 ≡ length bytes
+    all = omega arith
+
+module _ (v : LogVersion) (end : ℕ) (bytes rest : List ℕ) (p : Progress) (count : ℕ)
+    (w : Walked v end bytes rest p count) where
   pub rest_short : length rest ≤ length bytes
-  rest_short = omega (arith, ap length w.split, length-append (entries_text w.es) rest)
+  rest_short = omega (arith, ap length w.split, length-append (items_text w.items) rest)
 
-  one_read : (header : LogHeader) (e : Exchange) (after : List ℕ) → count < length bytes
-      → entry_at end rest ≡ Ok (e, after)
-      → with_log w.es (after_entry header e after
-      (tail_at (length bytes - (count + 1)) header end after))
-      ≡ tail_at (length bytes) header end bytes
-  unfolding tail_at
-  one_read header e after lt read =
+  pub walk_held : p.held ≡ length (exchanges_of w.items)
+  walk_held = omega (
+    arith,
+    ap (λ (q : Progress). q.held) w.progress,
+    after_held nothing_read w.items,
+  )
+
+  pub walk_few : p.held ≤ most_exchanges
+  walk_few =
+      omega (arith, walk_held, spelled_few v nothing_read w.items w.spelled (omega arith))
+
+  one_read : (item : Item) (after : List ℕ) → count < length bytes
+      → item_at v p end rest ≡ Ok (item, after)
+      → with_items w.items (behind_item item after
+      (body_at v (length bytes - (count + 1)) (after_item p item) end after))
+      ≡ body_at v (length bytes) nothing_read end bytes
+  unfolding body_at
+  one_read item after lt read =
       let k : length bytes - count ≡ suc (length bytes - (count + 1)) = omega arith in
-      let one : with_log w.es (tail_at (length bytes - count) header end rest)
-      ≡ with_log w.es
-      (after_entry header e after (tail_at (length bytes - (count + 1)) header end after)) =
+      let one : with_items w.items (body_at v (length bytes - count) p end rest)
+      ≡ with_items w.items
+      (behind_item item after
+      (body_at v (length bytes - (count + 1)) (after_item p item) end after)) =
       rw (k, read) refl in
-      sym one ∙ w.so_far header
+      sym one ∙ w.so_far
 
-  pub walk_goes_on : (e : Exchange) (after : List ℕ) → count < length bytes → InRange e
-      → rest ≡ entry_text e ++ after → entry_at end rest ≡ Ok (e, after) → ending_of e ≡ None
-      → Walked end bytes after (count + 1)
-  walk_goes_on e after lt fits parts read none = record {
-    es = w.es ++ e ∷ [];
-    split = w.split ∙ ap (λ (x : List ℕ). entries_text w.es ++ x) parts
-        ∙ sym (append_assoc (entries_text w.es) (entry_text e) after)
-        ∙ ap (λ (x : List ℕ). x ++ after) (text_push w.es e);
-    fits = all_push _ w.es e w.fits (fits, not_end e none);
-    count_is = omega (arith, w.count_is, length-append w.es (e ∷ []));
-    so_far = λ header.
-        sym (one_more header w.es e after (tail_at (length bytes - (count + 1)) header end after)
-        none)
-        ∙ one_read header e after lt read;
+  pub walk_goes_on : (q : Progress) (after : List ℕ) → count < length bytes
+      → PassesItem v p end rest q after → Walked v end bytes after q (count + 1)
+  walk_goes_on q after lt passes = record {
+    items = w.items ++ passes.item ∷ [];
+    split = w.split ∙ ap (λ (x : List ℕ). items_text w.items ++ x) passes.parts
+        ∙ sym (append_assoc (items_text w.items) (item_text passes.item) after)
+        ∙ ap (λ (x : List ℕ). x ++ after) (sym (items_text_append w.items (passes.item ∷ [])
+        ∙ ap (λ (x : List ℕ). items_text w.items ++ x)
+        (flat_map-cons item_text passes.item [] ∙ append-nil (item_text passes.item))));
+    spelled = spelled_append v nothing_read w.items (passes.item ∷ []) w.spelled
+        (subst (λ (r : Progress). FitsItem v r passes.item) w.progress passes.fits, tt);
+    count_is = omega (arith, w.count_is, length-append w.items (passes.item ∷ []));
+    progress = passes.progress
+        ∙ ap (λ (r : Progress). after_item r passes.item) w.progress
+        ∙ sym (after_append nothing_read w.items (passes.item ∷ []));
+    so_far =
+        ap (λ (r : Progress). with_items (w.items ++ passes.item ∷ [])
+        (body_at v (length bytes - (count + 1)) r end after)) passes.progress
+        ∙ sym (one_more v p w.items passes.item after
+        (body_at v (length bytes - (count + 1)) (after_item p passes.item) end after) passes.fits)
+        ∙ one_read passes.item after lt passes.read;
   }
 
   -- the text in front of the rest
-  walked_text : take (length bytes - length rest) bytes ≡ entries_text w.es
+  walked_text : take (length bytes - length rest) bytes ≡ items_text w.items
   walked_text =
-      let long : length bytes ≡ length (entries_text w.es) + length rest =
-      ap length w.split ∙ length-append (entries_text w.es) rest in
+      let long : length bytes ≡ length (items_text w.items) + length rest =
+      ap length w.split ∙ length-append (items_text w.items) rest in
       ap (take (length bytes - length rest)) w.split
-      ∙ take_at (entries_text w.es) rest (length bytes - length rest) (omega (arith, long))
+      ∙ take_at (items_text w.items) rest (length bytes - length rest) (omega (arith, long))
 
   pub walk_text : (text : List ℕ) → text ≡ take (length bytes - length rest) bytes
-      → count ≤ 67108864 → IsEntriesText text count
-  walk_text text is few =
-      let spelled : text ≡ entries_text w.es = is ∙ walked_text in
-      let shows : entries_of text ≡ w.es = ap entries_of spelled ∙ entries_again w.es w.fits in
-      record {
-        text_is = spelled ∙ ap entries_text (sym shows);
-        fits = subst AreEntries (sym shows) w.fits;
-        count_is = w.count_is ∙ ap length (sym shows);
-        few = few;
-      }
+      → IsEntriesText v text p.held
+  walk_text text is = text_kept v text w.items p.held (is ∙ walked_text) w.spelled walk_held
 
-  pub walk_ends : (header : LogHeader) (e : Exchange) (after text : List ℕ) (ending : Ending)
-      (rounds : ℕ) → count < length bytes → entry_at end rest ≡ Ok (e, after)
-      → ending_of e ≡ Some (ending, rounds) → text ≡ take (length bytes - length rest) bytes
-      → tail_at (length bytes) header end bytes
-      ≡ Ok (log_with header (entries_of text) ending rounds, after)
-  walk_ends header e after text ending rounds lt read last is =
-      let shows : entries_of text ≡ w.es =
-      ap entries_of (is ∙ walked_text) ∙ entries_again w.es w.fits in
-      sym (one_read header e after lt read)
-      ∙ last_one header w.es e after (tail_at (length bytes - (count + 1)) header end after) ending
-      rounds last
-      ∙ ap (λ (es : List Exchange). Ok (log_with header es ending rounds, after)) (sym shows)
+  pub walk_ends : (after text : List ℕ) (ending : Ending) (rounds : ℕ) → count < length bytes
+      → item_at v p end rest ≡ Ok (kept (End ending rounds), after)
+      → text ≡ take (length bytes - length rest) bytes
+      → body_at v (length bytes) nothing_read end bytes
+      ≡ Ok (record { items = items_in_text v text; ending = ending; rounds = rounds }, after)
+  walk_ends after text ending rounds lt read is =
+      let shows : items_in_text v text ≡ w.items =
+      text_spells v text w.items (is ∙ walked_text) w.spelled in
+      sym (one_read (kept (End ending rounds)) after lt read)
+      ∙ last_one w.items ending rounds after (body_at v (length bytes - (count + 1))
+      (after_item p (kept (End ending rounds))) end after)
+      ∙ ap (λ (xs : List Item).
+      Ok (record { items = xs; ending = ending; rounds = rounds }, after)) (sym shows)
 
-  pub walk_refuses : (header : LogHeader) (d : LogError) → count < length bytes
-      → entry_at end rest ≡ Err d → tail_at (length bytes) header end bytes ≡ Err d
-  unfolding tail_at
-  walk_refuses header d lt read =
+  pub walk_refuses : (d : LogError) → count < length bytes → item_at v p end rest ≡ Err d
+      → body_at v (length bytes) nothing_read end bytes ≡ Err d
+  unfolding body_at
+  walk_refuses d lt read =
       let k : length bytes - count ≡ suc (length bytes - (count + 1)) = omega arith in
-      let one : with_log w.es (tail_at (length bytes - count) header end rest) ≡ Err d =
+      let one : with_items w.items (body_at v (length bytes - count) p end rest) ≡ Err d =
       rw (k, read) refl in
-      sym (w.so_far header) ∙ one
+      sym w.so_far ∙ one
 
-  pub walk_runs_out : (header : LogHeader) → length bytes ≤ count
-      → tail_at (length bytes) header end bytes ≡ Err (refusal.Short (place end rest))
-  unfolding tail_at
-  walk_runs_out header le =
+  pub walk_runs_out : length bytes ≤ count
+      → body_at v (length bytes) nothing_read end bytes ≡ Err (refusal.Short (place end rest))
+  unfolding body_at
+  walk_runs_out le =
       let k : length bytes - count ≡ 0 = omega arith in
-      let one : with_log w.es (tail_at (length bytes - count) header end rest)
+      let one : with_items w.items (body_at v (length bytes - count) p end rest)
       ≡ Err (refusal.Short (place end rest)) = rw k refl in
-      sym (w.so_far header) ∙ one
+      sym w.so_far ∙ one

@@ -1,11 +1,14 @@
--- The texts of small logs, byte by byte.
+-- The texts of small logs of version 1, byte by byte.
 use Rattle.std.specs.Prelude.{ℕ, List, [], ◌∷◌, ◌++◌, length, replicate, codes, Ok, ◌≡◌, refl}
 use Rattle.dos_world.specs.declared.Ending.TheVariants.{Done, Limit, Stalled}
 use Rattle.dos_io.specs.declared.exchange.Exchange.TheVariants.{Signals, Input, Clock, End}
+use Rattle.shim_log.specs.declared.version.LogVersion.TheVariants.{One}
 use Rattle.shim_log.specs.LogText.{Log, exchanges, header_text, entry_text, logtext}
-use Rattle.shim_log.specs.Reading.{log_at, header_at, magic_at, version_at, header_number_at}
-use Rattle.shim_log.specs.Reading.{many_at, tail_at, entry_at, signals_at, post_at, input_at}
-use Rattle.shim_log.specs.Reading.{clock_at, end_at, ranged_at, ranged_byte_at}
+use Rattle.shim_log.specs.Items.{quiet_rounds}
+use Rattle.shim_log.specs.Reading.{log_at, header_at, fields_at, magic_at, version_at}
+use Rattle.shim_log.specs.Reading.{header_number_at, many_at, body_at, item_at, quiet_at}
+use Rattle.shim_log.specs.Reading.{quiet_round_at, signals_at, post_at, input_at, clock_at}
+use Rattle.shim_log.specs.Reading.{end_at, ranged_at, ranged_byte_at}
 
 -- ---- the log of a run of the smallest image: one round, no signals, done
 
@@ -19,6 +22,7 @@ digest =
 
 abbrev pub smallest : Log
 smallest = record {
+  version = One;
   header = record { quantum = 1000; rounds = 100000; frames = 4096; digests = digest ∷ [] };
   entries = Signals 1 [] ∷ [];
   ending = Done;
@@ -41,8 +45,8 @@ has_64_bytes : length text ≡ 64
 has_64_bytes = refl
 
 read : log_at text ≡ Ok smallest
-unfolding log_at header_at magic_at version_at header_number_at many_at tail_at entry_at signals_at
-    post_at input_at clock_at end_at ranged_at ranged_byte_at
+unfolding log_at header_at fields_at magic_at version_at header_number_at many_at body_at item_at quiet_at
+    quiet_round_at signals_at post_at input_at clock_at end_at ranged_at ranged_byte_at quiet_rounds
 read = refl
 
 its_exchanges : exchanges smallest ≡ Signals 1 [] ∷ End Done 1 ∷ []
@@ -76,6 +80,7 @@ stalled_spelled = refl
 
 abbrev all_kinds : Log
 all_kinds = record {
+  version = One;
   header = record {
     quantum = 65536;
     rounds = 1000000;
@@ -89,12 +94,12 @@ all_kinds = record {
 }
 
 all_kinds_read : log_at (logtext all_kinds) ≡ Ok all_kinds
-unfolding log_at header_at magic_at version_at header_number_at many_at tail_at entry_at signals_at
-    post_at input_at clock_at end_at ranged_at ranged_byte_at
+unfolding log_at header_at fields_at magic_at version_at header_number_at many_at body_at item_at quiet_at
+    quiet_round_at signals_at post_at input_at clock_at end_at ranged_at ranged_byte_at quiet_rounds
 all_kinds_read = refl
 
 -- eight images
 most_images : length
-    (header_text (record { quantum = 16; rounds = 1; frames = 16; digests = replicate 8 digest }))
+    (header_text One (record { quantum = 16; rounds = 1; frames = 16; digests = replicate 8 digest }))
     ≡ 276
 most_images = refl

@@ -8,7 +8,6 @@ use Rattle.shim_log.specs.declared.refusal.ReadError.{ReadError}
 use Rattle.shim_log.specs.Bytes.{IsBytes}
 use Rattle.shim_log.specs.LogText.{Log, logtext}
 use Rattle.shim_log.specs.Ranges.{FitsLog}
-use Rattle.shim_log.specs.Room.{most_bytes}
 use Rattle.shim_log.specs.Gives.{ReadsAs}
 use Rattle.shim_log.specs.Reading.{place, bytes_at, log_at}
 use Rattle.shim_log.proofs.FieldLaws.{guard_ok, Takes}
@@ -27,8 +26,7 @@ pub rest_short : (bytes text rest : List ℕ) → Takes bytes text rest → leng
 rest_short bytes text rest t = omega (arith, ap length t.parts, length-append text rest)
 
 pub is_found : (bytes : List ℕ) (r : Result Log ReadError) → IsBytes bytes
-    → length bytes ≤ most_bytes → ReadsAs r (log_at bytes)
-    → IfOk r (λ log. (bytes ≡ logtext log) × FitsLog log)
-is_found bytes (Ok log) fits small read =
-    ((log_takes bytes log fits read).text, ranges_of_read bytes log fits small read)
-is_found bytes (Err e) fits small read = tt
+    → ReadsAs r (log_at bytes) → IfOk r (λ log. (bytes ≡ logtext log) × FitsLog log)
+is_found bytes (Ok log) fits read =
+    ((log_takes bytes log fits read).text, ranges_of_read bytes log fits read)
+is_found bytes (Err e) fits read = tt

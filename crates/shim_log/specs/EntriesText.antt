@@ -1,31 +1,72 @@
 -- Entries kept as their text.
-use Rattle.std.specs.Prelude.{◌≡◌, ◌≤◌, ℕ, zero, suc, List, [], ◌∷◌, length, Result, Ok, Err}
+use Rattle.std.specs.Prelude.{◌≡◌, ◌+◌, ℕ, zero, suc, List, [], ◌∷◌, ◌++◌, length, Result, Ok, Err}
+use Rattle.std.specs.Prelude.{Option, Some, None, ⊤, ◌==◌, if◌then◌else◌}
 use Rattle.dos_io.specs.declared.exchange.Exchange.{Exchange}
 use Rattle.shim_log.specs.declared.refusal.LogError.{LogError}
-use Rattle.shim_log.specs.LogText.{entries_text}
-use Rattle.shim_log.specs.Ranges.{AreEntries}
-use Rattle.shim_log.specs.Reading.{entry_at}
+use Rattle.shim_log.specs.declared.version.LogVersion.{LogVersion}
+use Rattle.shim_log.specs.declared.version.LogVersion.TheVariants.{Two}
+use Rattle.shim_log.specs.declared.progress.Progress.{Progress}
+use Rattle.shim_log.specs.Items.{Item, quiet, exchanges_of}
+use Rattle.shim_log.specs.LogText.{items_text}
+use Rattle.shim_log.specs.Reading.{item_at, nothing_read, after_item}
+use Rattle.shim_log.specs.Spelling.{AreSpelled, after_items}
 
-abbrev pub one_of : Result (Exchange × List ℕ) LogError → (List ℕ → List Exchange) → List Exchange
-one_of (Ok e) others = e.0 ∷ others e.1
+abbrev pub one_of : Result (Item × List ℕ) LogError → (Item → List ℕ → List Item) → List Item
+one_of (Ok read) others = read.0 ∷ others read.0 read.1
 one_of (Err refusal) others = []
 
 -- at most n entries, as far as they can be read
-unfoldable pub entries_within : ℕ → List ℕ → List Exchange
-entries_within zero text = []
-entries_within (suc n) text = one_of (entry_at 0 text) (entries_within n)
+unfoldable pub items_within : LogVersion → ℕ → Progress → List ℕ → List Item
+items_within v zero p text = []
+items_within v (suc n) p text =
+    one_of (item_at v p 0 text) (λ item rest. items_within v n (after_item p item) rest)
 
-unfoldable pub entries_of : List ℕ → List Exchange
-entries_of text = entries_within (length text) text
+unfoldable pub items_in_text : LogVersion → List ℕ → List Item
+items_in_text v text = items_within v (length text) nothing_read text
 
--- The text is that of the entries that it has.
-pub record IsEntriesText (text : List ℕ) (count : ℕ) : Type 0 where
-  pub text_is : text ≡ entries_text (entries_of text)
-  pub fits : AreEntries (entries_of text)
-  pub count_is : count ≡ length (entries_of text)
-  pub few : count ≤ 67108864
+-- the exchanges that they stand for
+abbrev pub entries_of : LogVersion → List ℕ → List Exchange
+entries_of v text = exchanges_of (items_in_text v text)
 
--- what entries are seen as: their list, and for how many more bytes there is room
+-- The text is that of the entries that it has, which stand for so many exchanges.
+pub record IsEntriesText (v : LogVersion) (text : List ℕ) (count : ℕ) : Type 0 where
+  pub text_is : text ≡ items_text (items_in_text v text)
+  pub spelled : AreSpelled v nothing_read (items_in_text v text)
+  pub count_is : count ≡ length (entries_of v text)
+
+-- what entries are seen as
 pub record EntriesState : Type 0 where
+  pub version : LogVersion
+  pub list : List Exchange
+
+-- ---- entries of version 2 that grow, the last of them kept out of the text while it is quiet
+
+abbrev pub stretch_items : Option (ℕ × ℕ) → List Item
+stretch_items None = []
+stretch_items (Some s) = quiet s.0 s.1 ∷ []
+
+-- a stretch with one round more, where this round goes on with it
+abbrev pub counted_up : Option (ℕ × ℕ) → ℕ → Option (ℕ × ℕ)
+counted_up None round = None
+counted_up (Some s) round =
+    if s.0 + s.1 == round then Some (s.0, s.1 + 1) else None
+
+-- Where no entry is kept out, none goes on with the last one of the text.
+abbrev pub IsShut : Option (ℕ × ℕ) → List Item → Type 0
+IsShut None items = (after_items nothing_read items).goes_on ≡ None
+IsShut (Some s) items = ⊤
+
+-- all of them
+abbrev pub grown_items : List ℕ → Option (ℕ × ℕ) → List Item
+grown_items text stretch = items_in_text Two text ++ stretch_items stretch
+
+pub record IsGrowing (text : List ℕ) (stretch : Option (ℕ × ℕ)) (count : ℕ) : Type 0 where
+  pub text_is : text ≡ items_text (items_in_text Two text)
+  pub spelled : AreSpelled Two nothing_read (grown_items text stretch)
+  pub shut : IsShut stretch (items_in_text Two text)
+  pub count_is : count ≡ length (exchanges_of (grown_items text stretch))
+
+-- what they are seen as: their list, and for how many more bytes memory is taken
+pub record GrowingState : Type 0 where
   pub list : List Exchange
   pub room : ℕ

@@ -19,8 +19,9 @@ use Rattle.dos_io.specs.Given.{readings, counted_reading, Given}
 use Rattle.dos_io.specs.Outside.{counted, Rose}
 use Rattle.dos_io.specs.Shims.{ShimState}
 use Rattle.shim_log.specs.declared.header.LogHeader.{LogHeader}
+use Rattle.shim_log.specs.declared.version.LogVersion.TheVariants.{Two}
 use Rattle.shim_log.specs.LogText.{header_text, entries_text}
-use Rattle.shim_log.specs.Ranges.{FitsHeader, AreEntries}
+use Rattle.shim_log.specs.Ranges.{FitsHeader, AreEntries, most_exchanges}
 use Rattle.shim_log.specs.Room.{most_bytes, NoRoom, HadRoom}
 
 -- the words' posts and clock, the log's header and entries so far, its end once it is told, the
@@ -89,7 +90,9 @@ pub record IsLedger (b : LedgerState) : Type 0 where
   pub had_room : HadRoom b.header b.posts [] b.entries
   pub stop : IfSome b.asked (λ q. IfSome b.last (MayStop b q))
   pub never : IfSome b.last IsNoMisfit
-  pub small : length (header_text b.header) + length (entries_text b.entries) + 6 ≤ most_bytes
+  pub few : length b.entries ≤ most_exchanges
+  pub small : length (header_text Two b.header) + length (entries_text Two b.entries) + 6
+      ≤ most_bytes
 
 -- before the first question
 abbrev pub empty_ledger : List (ℕ × Post) → ClockRule → LogHeader → (room : ℕ) → LedgerState

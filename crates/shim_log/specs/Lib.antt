@@ -11,4 +11,5 @@ pub mod Views
 pub mod Replay
 pub mod ReplayerFollows
 pub mod Passing
-pub mod HeaderParts
+pub mod Items
+pub mod Spelling

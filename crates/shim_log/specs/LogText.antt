@@ -1,5 +1,5 @@
--- The one text of a log: a header, any number of entries, the end, and nothing more. This project's
--- own format, version 1. All numbers are little-endian.
+-- The one text of a log in each version: a header, any number of entries, the end, and nothing
+-- more. This project's own format. All numbers are little-endian.
 use Rattle.std.specs.Prelude.{ℕ, List, [], ◌∷◌, ◌++◌, length}
 use Rattle.std.specs.List.{concat, flat_map}
 use Rattle.std.specs.Int.{w16, w32, w64, to_le_bytes}
@@ -9,9 +9,13 @@ use Rattle.dos_world.specs.declared.Ending.TheVariants.{Done, Limit, Stalled}
 use Rattle.dos_io.specs.declared.exchange.Exchange.{Exchange}
 use Rattle.dos_io.specs.declared.exchange.Exchange.TheVariants.{Signals, Input, Clock, End}
 use Rattle.shim_log.specs.declared.header.LogHeader.{LogHeader}
+use Rattle.shim_log.specs.declared.version.LogVersion.{LogVersion}
+use Rattle.shim_log.specs.declared.version.LogVersion.TheVariants.{One, Two}
+use Rattle.shim_log.specs.Items.{Item, quiet, kept, items_in}
 
--- The end isn't among the entries.
+-- The version is that of its text. The end isn't among the entries.
 pub record Log : Type 0 where
+  pub version : LogVersion
   pub header : LogHeader
   pub entries : List Exchange
   pub ending : Ending
@@ -27,15 +31,16 @@ exchanges log = log.entries ++ End log.ending log.rounds ∷ []
 abbrev pub magic : List ℕ
 magic = 0x44 ∷ 0x50 ∷ 0x47 ∷ 0x4C ∷ []
 
--- what a later version changes
-abbrev pub log_version : ℕ
-log_version = 1
+-- what stands for the version
+abbrev pub version_number : LogVersion → ℕ
+version_number One = 1
+version_number Two = 2
 
 -- `DPGL`, the version, how many images, the quantum, the limit of rounds, the frames, and a digest
 -- for each image
-abbrev pub header_text : LogHeader → List ℕ
-header_text h =
-    magic ++ to_le_bytes w16 log_version ++ to_le_bytes w16 (length h.digests)
+abbrev pub header_text : LogVersion → LogHeader → List ℕ
+header_text v h =
+    magic ++ to_le_bytes w16 (version_number v) ++ to_le_bytes w16 (length h.digests)
     ++ to_le_bytes w32 h.quantum ++ to_le_bytes w32 h.rounds ++ to_le_bytes w32 h.frames
     ++ concat h.digests
 
@@ -66,11 +71,21 @@ entry_text (Input round tid max bytes) =
 entry_text (Clock round tid n) =
     3 ∷ to_le_bytes w32 round ++ to_le_bytes w32 tid ++ to_le_bytes w64 n
 
+-- A quiet entry, of version 2 alone, has the first of its rounds, and how many they are.
+abbrev pub item_text : Item → List ℕ
+item_text (quiet round count) = 4 ∷ to_le_bytes w32 round ++ to_le_bytes w32 count
+item_text (kept e) = entry_text e
+
 -- one behind the other
-abbrev pub entries_text : List Exchange → List ℕ
-entries_text = flat_map entry_text
+abbrev pub items_text : List Item → List ℕ
+items_text = flat_map item_text
+
+-- the entries of some exchanges
+abbrev pub entries_text : LogVersion → List Exchange → List ℕ
+entries_text v es = items_text (items_in v es)
 
 -- the whole text
 abbrev pub logtext : Log → List ℕ
 logtext log =
-    header_text log.header ++ entries_text log.entries ++ entry_text (End log.ending log.rounds)
+    header_text log.version log.header ++ entries_text log.version log.entries
+    ++ entry_text (End log.ending log.rounds)

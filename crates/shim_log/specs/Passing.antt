@@ -1,17 +1,26 @@
 -- What passing an entry answers, beside what reading it is.
-use Rattle.std.specs.Prelude.{◌≡◌, ℕ, List, ◌++◌, Option, Ok}
+use Rattle.std.specs.Prelude.{◌≡◌, ℕ, List, ◌++◌, Option, Some, None, Ok}
 use Rattle.dos_world.specs.declared.Ending.{Ending}
-use Rattle.dos_io.specs.declared.exchange.Exchange.{Exchange}
-use Rattle.shim_log.specs.LogText.{entry_text}
-use Rattle.shim_log.specs.Ranges.{InRange}
-use Rattle.shim_log.specs.Reading.{entry_at}
-use Rattle.shim_log.specs.Views.{ending_of}
+use Rattle.dos_io.specs.declared.exchange.Exchange.TheVariants.{End}
+use Rattle.shim_log.specs.declared.version.LogVersion.{LogVersion}
+use Rattle.shim_log.specs.declared.progress.Progress.{Progress}
+use Rattle.shim_log.specs.Items.{Item, kept}
+use Rattle.shim_log.specs.LogText.{item_text}
+use Rattle.shim_log.specs.Reading.{item_at, after_item}
+use Rattle.shim_log.specs.Spelling.{FitsItem}
 
--- An entry is read of these bytes, with others behind it; how the run ended, where it is the end.
-pub record PassesEntry (end : ℕ) (bytes : List ℕ) (last : Option (Ending × ℕ)) (after : List ℕ)
-    : Type 0 where
-  pub entry : Exchange
-  pub read : entry_at end bytes ≡ Ok (entry, after)
-  pub fits : InRange entry
-  pub parts : bytes ≡ entry_text entry ++ after
-  pub last_is : ending_of entry ≡ last
+-- An entry but the end is read of these bytes, with others behind it.
+pub record PassesItem (v : LogVersion) (p : Progress) (end : ℕ) (bytes : List ℕ) (q : Progress)
+    (after : List ℕ) : Type 0 where
+  pub item : Item
+  pub read : item_at v p end bytes ≡ Ok (item, after)
+  pub fits : FitsItem v p item
+  pub parts : bytes ≡ item_text item ++ after
+  pub progress : q ≡ after_item p item
+
+-- The end is read of these bytes, or an entry in front of it.
+abbrev pub Passes : LogVersion → Progress → ℕ → List ℕ → Option (Ending × ℕ) → Progress → List ℕ
+    → Type 0
+Passes v p end bytes (Some last) q after =
+    item_at v p end bytes ≡ Ok (kept (End last.0 last.1), after)
+Passes v p end bytes None q after = PassesItem v p end bytes q after

@@ -1,6 +1,6 @@
 -- The ranges of a log's fields. This project's own rule. Of a digest, a process, a round, a thread
 -- and a reading each value may stand.
-use Rattle.std.specs.Prelude.{◌≤◌, ◌<◌, ◌+◌, ◌^◌, ℕ, List, length, ⊤}
+use Rattle.std.specs.Prelude.{◌≤◌, ◌<◌, ◌^◌, ℕ, List, length, ⊤}
 use Rattle.std.specs.List.{AllByRecursion}
 use Rattle.std.specs.Int.{IsInRange}
 use Rattle.dos_world.specs.declared.Post.{Post}
@@ -9,6 +9,8 @@ use Rattle.dos_io.specs.declared.exchange.Exchange.TheVariants.{Signals, Input, 
 use Rattle.dos_io.specs.Posts.{ArePosts}
 use Rattle.shim_log.specs.declared.header.LogHeader.{LogHeader}
 use Rattle.shim_log.specs.Bytes.{IsBytes, AreDigests}
+use Rattle.shim_log.specs.declared.version.LogVersion.{LogVersion}
+use Rattle.shim_log.specs.declared.version.LogVersion.TheVariants.{One, Two}
 use Rattle.shim_log.specs.LogText.{Log}
 
 -- the numbers that the words allow, and one to eight digests
@@ -55,10 +57,24 @@ NotEnd _ = ⊤
 abbrev pub AreEntries : List Exchange → Type 0
 AreEntries = AllByRecursion (λ exchange. InRange exchange × NotEnd exchange)
 
--- All of it. The entries are fewer than 2^32, and the end is counted as one. A text of 64 MiB at
--- most implies that, because each entry takes a byte at least.
+-- a log has at most so many exchanges before its end
+abbrev pub most_exchanges : ℕ
+most_exchanges = 16777216
+
+-- All of it.
 pub record FitsLog (log : Log) : Type 0 where
   pub header : FitsHeader log.header
   pub entries : AreEntries log.entries
-  pub few : length log.entries + 1 < 2 ^ 32
+  pub few : length log.entries ≤ most_exchanges
   pub rounds : log.rounds < 2 ^ 32
+
+-- ---- signals, in each version
+
+-- the fewest posts of an entry of signals
+abbrev pub least_posts : LogVersion → ℕ
+least_posts One = 0
+least_posts Two = 1
+
+abbrev pub HasPosts : ℕ → Exchange → Type 0
+HasPosts least (Signals round list) = least ≤ length list
+HasPosts least _ = ⊤

@@ -7,10 +7,13 @@ use Rattle.dos_io.specs.declared.exchange.Exchange.{Exchange}
 use Rattle.dos_io.specs.declared.exchange.Exchange.TheVariants as exchange
 use Rattle.shim_log.specs.declared.entry.Entry.{Entry}
 use Rattle.shim_log.specs.declared.entry.Entry.TheVariants.{Signals, Input, Clock, End}
-use Rattle.shim_log.specs.declared.header.LogHeader.{LogHeader}
+use Rattle.shim_log.specs.declared.item.Item.{Item as CodeItem}
+use Rattle.shim_log.specs.declared.item.Item.TheVariants.{Quiet, Kept}
 use Rattle.shim_log.specs.declared.log_reading.Tail.{Tail}
-use Rattle.shim_log.specs.LogText.{Log}
-use Rattle.shim_log.specs.EntriesText.{entries_of}
+use Rattle.shim_log.specs.declared.version.LogVersion.{LogVersion}
+use Rattle.shim_log.specs.Items.{Item, quiet, kept}
+use Rattle.shim_log.specs.Reading.{Body}
+use Rattle.shim_log.specs.EntriesText.{items_in_text}
 
 -- The posts of these bytes, one behind the other: a process in four bytes and a signal in one.
 abbrev pub posts_in_text : List ℕ → List Post
@@ -31,12 +34,18 @@ ending_of (exchange.Input round tid max bytes) = None
 ending_of (exchange.Clock round tid n) = None
 ending_of (exchange.End ending rounds) = Some (ending, rounds)
 
--- a log of this header, and of what stands behind it
-abbrev pub log_of : LogHeader → Tail → Log
-log_of header tail =
-    record {
-      header = header;
-      entries = entries_of tail.text.now;
-      ending = tail.ending;
-      rounds = tail.rounds;
-    }
+abbrev pub item_of : CodeItem → Item
+item_of (Quiet round count) = quiet round count
+item_of (Kept entry) = kept (exchange_of entry)
+
+abbrev pub item_ending : Item → Option (Ending × ℕ)
+item_ending (quiet round count) = None
+item_ending (kept e) = ending_of e
+
+-- what stands behind a header, as its text
+abbrev pub body_of : LogVersion → Tail → Body
+body_of v tail = record {
+  items = items_in_text v tail.text.now;
+  ending = tail.ending;
+  rounds = tail.rounds;
+}

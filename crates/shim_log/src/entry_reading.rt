@@ -1,19 +1,24 @@
 // Entries, from left to right.
 
-ghost use Rattle.std.specs.Prelude.{◌≡◌, ◌≤◌, ◌++◌, ℕ, List, length, IfOk, IfErr, Err};
+ghost use Rattle.std.specs.Prelude.{◌≡◌, ◌≤◌, ◌-◌, ◌^◌, min, ℕ, List, IfOk, IfErr, Err, Result};
+ghost use Rattle.dos_io.specs.declared.exchange.Exchange.{Exchange};
+ghost use Rattle.shim_log.specs.declared.refusal.LogError.{LogError as LogErrorValue};
 ghost use Rattle.shim_log.specs.Gives.{Gives, behind};
 ghost use Rattle.shim_log.specs.Reading.{post_at, many_at, signals_at, input_at, clock_at, end_at};
-ghost use Rattle.shim_log.specs.Reading.{ending_by, entry_at};
-ghost use Rattle.shim_log.specs.Views.{posts_in_text, exchange_of};
-ghost use Rattle.shim_log.specs.LogText.{entry_text};
-ghost use Rattle.shim_log.specs.Ranges.{InRange};
-ghost use Rattle.shim_log.specs.Passing.{PassesEntry};
+ghost use Rattle.shim_log.specs.Reading.{ending_by, quiet_round_at, quiet_at, quiet_in, as_item};
+ghost use Rattle.shim_log.specs.Reading.{item_of_kind, item_at};
+ghost use Rattle.shim_log.specs.Views.{posts_in_text, exchange_of, item_of};
+ghost use Rattle.shim_log.specs.Passing.{Passes};
 
 use crate::entry::Entry;
 use crate::field_reading::{
-    place, read_byte, read_byte_within, read_bytes, read_u16_within, read_u32, read_u64,
+    place, read_byte, read_byte_within, read_bytes, read_u16_within, read_u32, read_u32_within,
+    read_u64,
 };
+use crate::item::Item;
+use crate::progress::Progress;
 use crate::refusal::LogError;
+use crate::version::LogVersion;
 use dos_world::{Ending, Post};
 
 #[tactic(auto, unfolding(crate::specs::Reading::post_at))]
@@ -46,11 +51,11 @@ fn read_posts(count: u8, end: usize, bytes: &[u8]) -> Result<(&[u8], &[u8]), Log
 }
 
 #[tactic(auto, unfolding(crate::specs::Reading::signals_at))]
-fn read_signals(end: usize, bytes: &[u8]) -> Result<(Entry<'_>, &[u8]), LogError>
-    ensures { Gives (λ x. (exchange_of x.0, x.1.now)) result (signals_at end bytes.now) }
+fn read_signals(least: u8, end: usize, bytes: &[u8]) -> Result<(Entry<'_>, &[u8]), LogError>
+    ensures { Gives (λ x. (exchange_of x.0, x.1.now)) result (signals_at least end bytes.now) }
 {
     let (round, rest) = read_u32(end, bytes)?;
-    let (count, rest) = read_byte_within(0, 32, end, rest)?;
+    let (count, rest) = read_byte_within(least, 32, end, rest)?;
     let (posts, rest) = read_posts(count, end, rest)?;
     Ok((Entry::Signals { round, posts }, rest))
 }
@@ -112,39 +117,135 @@ fn read_end(end: usize, bytes: &[u8]) -> Result<(Entry<'_>, &[u8]), LogError>
     Ok((Entry::End { ending, rounds }, rest))
 }
 
-#[tactic(auto, unfolding(crate::specs::Reading::entry_at))]
-fn read_any_entry(end: usize, bytes: &[u8]) -> Result<(Entry<'_>, &[u8]), LogError>
-    ensures { Gives (λ x. (exchange_of x.0, x.1.now)) result (entry_at end bytes.now) }
+// The first round of a quiet entry.
+#[tactic(auto, unfolding(crate::specs::Reading::quiet_round_at))]
+fn read_quiet_round(progress: Progress, end: usize, bytes: &[u8]) -> Result<(u32, &[u8]), LogError>
+    ensures { Gives (λ x. (x.0, x.1.now)) result
+        (quiet_round_at progress.goes_on end bytes.now) }
 {
-    let (kind, rest) = read_byte(end, bytes)?;
-    match kind {
-        0 => read_end(end, rest),
-        1 => read_signals(end, rest),
-        2 => read_input(end, rest),
-        3 => read_clock(end, rest),
-        _ => Err(LogError::Entry(place(end, bytes))),
+    let (round, rest) = read_u32(end, bytes)?;
+    if progress.is_next(round) {
+        return Err(LogError::Entry(place(end, bytes)));
+    }
+    Ok((round, rest))
+}
+
+// The most rounds that a quiet entry may stand for.
+fn most_rounds(round: u32, held: u32) -> u32
+    requires { held ≤ 16777216 }
+    ensures { result ≡ min (2 ^ 32 - round) (16777216 - held) }
+{
+    let rounds = 4294967296 - u64::from(round);
+    let free = 16777216 - held;
+    if rounds < u64::from(free) {
+        return rounds as u32;
+    }
+    free
+}
+
+#[tactic(auto, unfolding(crate::specs::Reading::quiet_at))]
+fn read_quiet(progress: Progress, end: usize, bytes: &[u8]) -> Result<(Item<'_>, &[u8]), LogError>
+    requires { progress.held ≤ 16777216 }
+    ensures { Gives (λ x. (item_of x.0, x.1.now)) result (quiet_at progress end bytes.now) }
+{
+    let (round, rest) = read_quiet_round(progress, end, bytes)?;
+    let (count, rest) = read_u32_within(1, most_rounds(round, progress.held), end, rest)?;
+    Ok((Item::Quiet { round, count }, rest))
+}
+
+// The kind of a quiet entry.
+fn read_quiet_in(
+    version: LogVersion,
+    progress: Progress,
+    at: u64,
+    end: usize,
+    bytes: &[u8],
+) -> Result<(Item<'_>, &[u8]), LogError>
+    requires { progress.held ≤ 16777216 }
+    ensures { Gives (λ x. (item_of x.0, x.1.now)) result
+        (quiet_in version progress at end bytes.now) }
+{
+    match version {
+        LogVersion::One => Err(LogError::Entry(at)),
+        LogVersion::Two => read_quiet(progress, end, bytes),
     }
 }
 
-pub(crate) fn read_entry(end: usize, bytes: &[u8]) -> Result<(Entry<'_>, &[u8]), LogError>
-    ensures value { Gives (λ x. (exchange_of x.0, x.1.now)) result (entry_at end bytes.now) }
-    ensures fits { IfOk result (λ x. InRange (exchange_of x.0)) }
-    ensures parts { IfOk result (λ x. bytes.now ≡ entry_text (exchange_of x.0) ++ x.1.now) }
+fn as_item<'a>(
+    read: Result<(Entry<'a>, &'a [u8]), LogError>,
+) -> Result<(Item<'a>, &'a [u8]), LogError>
+    ensures { (answer : Result (Exchange × List ℕ) LogErrorValue)
+        → Gives (λ x. (exchange_of x.0, x.1.now)) read.entry answer
+        → Gives (λ x. (item_of x.0, x.1.now)) result (as_item answer) }
 {
-    read_any_entry(end, bytes)
+    match read {
+        Ok((entry, rest)) => Ok((Item::Kept(entry), rest)),
+        Err(error) => Err(error),
+    }
 }
 
-// How the run ended, where the next entry is the end, and the bytes behind the entry.
-#[inline]
-pub(crate) fn pass_entry(
+// An entry but the end, behind its kind, which stands at a place.
+fn read_kind(
+    kind: u8,
+    version: LogVersion,
+    progress: Progress,
+    at: u64,
     end: usize,
     bytes: &[u8],
-) -> Result<(Option<(Ending, u32)>, &[u8]), LogError>
-    ensures passed { IfOk result (λ x. PassesEntry end bytes.now x.0 x.1.now) }
-    ensures refused { IfErr result (λ e. entry_at end bytes.now ≡ Err e) }
+) -> Result<(Item<'_>, &[u8]), LogError>
+    requires { progress.held ≤ 16777216 }
+    ensures { Gives (λ x. (item_of x.0, x.1.now)) result
+        (item_of_kind version progress at kind end bytes.now) }
 {
-    match read_entry(end, bytes) {
-        Ok((entry, rest)) => Ok((entry.end(), rest)),
+    match kind {
+        1 => as_item(read_signals(version.least_posts(), end, bytes)),
+        2 => as_item(read_input(end, bytes)),
+        3 => as_item(read_clock(end, bytes)),
+        4 => read_quiet_in(version, progress, at, end, bytes),
+        _ => Err(LogError::Entry(at)),
+    }
+}
+
+/// The next entry of a log of this version, behind what was read so far.
+#[tactic(auto, unfolding(crate::specs::Reading::item_at))]
+pub(crate) fn read_item(
+    version: LogVersion,
+    progress: Progress,
+    end: usize,
+    bytes: &[u8],
+) -> Result<(Item<'_>, &[u8]), LogError>
+    requires { progress.held ≤ 16777216 }
+    ensures { Gives (λ x. (item_of x.0, x.1.now)) result
+        (item_at version progress end bytes.now) }
+{
+    let (kind, rest) = read_byte(end, bytes)?;
+    if kind == 0 {
+        return as_item(read_end(end, rest));
+    }
+    if progress.held == 16777216 {
+        return Err(LogError::Entry(place(end, bytes)));
+    }
+    read_kind(kind, version, progress, place(end, bytes), end, rest)
+}
+
+// How the run ended, where the next entry is the end, or how far was read with it; and the bytes
+// behind the entry.
+#[inline]
+pub(crate) fn pass_item(
+    version: LogVersion,
+    progress: Progress,
+    end: usize,
+    bytes: &[u8],
+) -> Result<(Option<(Ending, u32)>, Progress, &[u8]), LogError>
+    requires { progress.held ≤ 16777216 }
+    ensures passed { IfOk result (λ x. Passes version progress end bytes.now x.0 x.1 x.2.now) }
+    ensures refused { IfErr result (λ e. item_at version progress end bytes.now ≡ Err e) }
+{
+    match read_item(version, progress, end, bytes) {
+        Ok((item, rest)) => match item.end() {
+            Some(last) => Ok((Some(last), progress, rest)),
+            None => Ok((None, item.after(progress), rest)),
+        },
         Err(error) => Err(error),
     }
 }

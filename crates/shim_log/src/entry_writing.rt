@@ -8,7 +8,8 @@ ghost use Rattle.std.specs.Int.{w16, w32, w64, to_le_bytes};
 ghost use Rattle.dos_io.specs.declared.exchange.Exchange.TheVariants.{Signals as signals};
 ghost use Rattle.dos_io.specs.declared.exchange.Exchange.TheVariants.{Input as input};
 ghost use Rattle.dos_io.specs.declared.exchange.Exchange.TheVariants.{Clock as clock};
-ghost use Rattle.shim_log.specs.LogText.{post_text, entry_text};
+ghost use Rattle.shim_log.specs.Items.{quiet};
+ghost use Rattle.shim_log.specs.LogText.{post_text, entry_text, item_text};
 
 use dos_io::SignalList;
 use dos_world::Post;
@@ -115,4 +116,16 @@ pub fn put_clock(out: &mut Vec<u8>, round: u32, tid: u32, reading: u64)
     put_bytes(out, &round.to_le_bytes());
     put_bytes(out, &tid.to_le_bytes());
     put_bytes(out, &reading.to_le_bytes());
+}
+
+/// A quiet entry.
+pub fn put_quiet(out: &mut Vec<u8>, round: u32, count: u32)
+    requires { vec_len out.old + 9 ≤ vec_capacity out.old }
+    ensures items { out.new.items ≡ out.old.items ++ item_text (quiet round count) }
+    ensures len { vec_len out.new ≡ vec_len out.old + 9 }
+    ensures room { vec_capacity out.old ≤ vec_capacity out.new }
+{
+    put_byte(out, 4);
+    put_bytes(out, &round.to_le_bytes());
+    put_bytes(out, &count.to_le_bytes());
 }

@@ -85,6 +85,25 @@ pub(crate) fn read_u16_within(
     Err(LogError::Entry(place(end, bytes)))
 }
 
+#[tactic(auto, unfolding(crate::specs::Reading::ranged_at))]
+pub(crate) fn read_u32_within(
+    low: u32,
+    high: u32,
+    end: usize,
+    bytes: &[u8],
+) -> Result<(u32, &[u8]), LogError>
+    ensures range { IfOk result (λ x. (low ≤ x.0) × (x.0 ≤ high)) }
+    ensures value { Gives (λ x. (x.0, x.1.now)) result (ranged_at w32 low high end bytes.now) }
+{
+    let (number, rest) = read_u32(end, bytes)?;
+    if low <= number {
+        if number <= high {
+            return Ok((number, rest));
+        }
+    }
+    Err(LogError::Entry(place(end, bytes)))
+}
+
 #[tactic(auto, unfolding(crate::specs::Reading::ranged_byte_at))]
 pub(crate) fn read_byte_within(
     low: u8,

@@ -10,12 +10,14 @@ ghost use Rattle.dos_io.specs.Hosts.{Told};
 ghost use Rattle.dos_io.specs.Given.{Given};
 ghost use Rattle.dos_io.specs.Shims.{HasNoEnd};
 ghost use Rattle.shim_log.specs.declared.header.LogHeader.{LogHeader};
+ghost use Rattle.dos_io.specs.declared.exchange.Exchange.{Exchange};
 ghost use Rattle.shim_log.specs.Bytes.{IsBytes, AreDigests};
-ghost use Rattle.shim_log.specs.LogText.{Log, header_text, entry_text, entries_text, exchanges};
-ghost use Rattle.shim_log.specs.LogText.{logtext};
+ghost use Rattle.shim_log.specs.declared.version.LogVersion.{LogVersion};
+ghost use Rattle.shim_log.specs.Items.{Item, quiet, AreJoined, exchanges_of, items_of};
+ghost use Rattle.shim_log.specs.LogText.{Log, header_text, entry_text, item_text, entries_text};
+ghost use Rattle.shim_log.specs.LogText.{exchanges, logtext};
 ghost use Rattle.shim_log.specs.Ranges.{FitsLog};
 ghost use Rattle.shim_log.specs.Reading.{log_at};
-ghost use Rattle.shim_log.specs.Room.{most_bytes};
 ghost use Rattle.shim_log.specs.Ledger.{LedgerState, Follows, empty_ledger, recorder_state};
 ghost use Rattle.shim_log.specs.Replay.{ReplayState, StandsNext, IsMisfitOf, replayer_state};
 
@@ -24,13 +26,13 @@ pub fn texts_are_read()
     ensures { (log : Log) → FitsLog log → log_at (logtext log) ≡ Ok log }
 {}
 
-/// Only the text of a log is read as it, so each log has one spelling. What is read of a text of at
-/// most 64 MiB is in its ranges.
+/// Only the text of a log is read as it, so each log has one spelling in each version. What is read
+/// is in its ranges.
 pub fn only_texts_are_read()
     ensures text { (bytes : List ℕ) (log : Log) → IsBytes bytes → log_at bytes ≡ Ok log
         → bytes ≡ logtext log }
-    ensures ranges { (bytes : List ℕ) (log : Log) → IsBytes bytes → length bytes ≤ most_bytes
-        → log_at bytes ≡ Ok log → FitsLog log }
+    ensures ranges { (bytes : List ℕ) (log : Log) → IsBytes bytes → log_at bytes ≡ Ok log
+        → FitsLog log }
 {}
 
 /// Different logs have different texts.
@@ -41,16 +43,18 @@ pub fn texts_differ()
 /// A text has the length of its header, its entries and the end; what a log has room for goes by
 /// these lengths.
 pub fn text_lengths()
-    ensures whole { (log : Log) → length (logtext log) ≡ length (header_text log.header) + length
-        (entries_text log.entries) + 6 }
-    ensures header { (h : LogHeader) → AreDigests h.digests
-        → length (header_text h) ≡ 20 + 32 * length h.digests }
+    ensures whole { (log : Log) → length (logtext log)
+        ≡ length (header_text log.version log.header)
+        + length (entries_text log.version log.entries) + 6 }
+    ensures header { (v : LogVersion) (h : LogHeader) → AreDigests h.digests
+        → length (header_text v h) ≡ 20 + 32 * length h.digests }
     ensures signals { (round : ℕ) (list : List Post) → length (entry_text (Signals round list))
         ≡ 6 + 5 * length list }
     ensures input { (round tid max : ℕ) (bytes : List ℕ)
         → length (entry_text (Input round tid max bytes))
         ≡ 13 + length bytes }
     ensures clock { (round tid n : ℕ) → length (entry_text (Clock round tid n)) ≡ 17 }
+    ensures quiet { (round count : ℕ) → length (item_text (quiet round count)) ≡ 9 }
     ensures end { (ending : Ending) (rounds : ℕ) → length (entry_text (End ending rounds)) ≡ 6 }
 {}
 
@@ -76,4 +80,19 @@ pub fn replays_end_whole()
 pub fn misfits_stand_next()
     ensures { (p : ReplayState) (asked : Question) (stop : ShimStop)
         (misfit : IsMisfitOf p asked stop) → StandsNext p misfit.kept }
+{}
+
+/// Some exchanges and the entries of version 2 that stand for them determine each other; of each
+/// stretch of rounds without a signal there is one entry.
+pub fn entries_are_exchanges()
+    ensures back { (es : List Exchange) → exchanges_of (items_of es) ≡ es }
+    ensures joined { (es : List Exchange) → AreJoined (items_of es) }
+    ensures again { (items : List Item) → AreJoined items
+        → items_of (exchanges_of items) ≡ items }
+{}
+
+/// The texts of one log in two versions are read as logs that differ in the version alone.
+pub fn versions_are_one_log()
+    ensures { (log : Log) (v : LogVersion) → FitsLog log
+        → log_at (logtext (record log { version = v })) ≡ Ok (record log { version = v }) }
 {}

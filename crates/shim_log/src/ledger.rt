@@ -7,14 +7,15 @@ ghost use Rattle.dos_io.specs.declared.exchange.Exchange.TheVariants.{Input as i
 ghost use Rattle.dos_io.specs.declared.exchange.Exchange.TheVariants.{Clock as clock_exchange};
 ghost use Rattle.dos_io.specs.Given.{readings, posts_in};
 ghost use Rattle.dos_io.specs.Shims.{HasNoEnd};
-ghost use Rattle.shim_log.specs.LogText.{exchanges, logtext};
+ghost use Rattle.shim_log.specs.declared.version.LogVersion.TheVariants.{Two};
+ghost use Rattle.shim_log.specs.LogText.{entries_text, exchanges, logtext};
 ghost use Rattle.shim_log.specs.Ranges.{FitsHeader};
-ghost use Rattle.shim_log.specs.Room.{IsOver, NoRoom};
+ghost use Rattle.shim_log.specs.Room.{GrowsBy, IsFull, NoRoom, longest};
 ghost use Rattle.shim_log.specs.Ledger.{LedgerState, IsLedger, recorder_state, ArePlanned};
 ghost use Rattle.shim_log.specs.Ledger.{AddsEntry, MayStop, stopped, added, closed, empty_ledger};
 ghost use Rattle.shim_log.specs.Ledger.{next_reading};
 
-use crate::entries::Entries;
+use crate::growing::GrowingEntries;
 use crate::header::LogHeader;
 use crate::log::Log;
 use dos_io::{ClockRule, ShimStop, SignalList};
@@ -30,7 +31,7 @@ pub struct Ledger {
     clock: ClockRule,
     header: LogHeader,
     head: usize,
-    entries: Entries,
+    entries: GrowingEntries,
     ended: Option<(Ending, u32)>,
     counted: u64,
     stops: u64,
@@ -41,6 +42,7 @@ pub struct Ledger {
 impl Model for Ledger {
     ghost use Rattle.std.specs.Prelude.{◌≡◌, ◌≤◌, ◌<◌, ◌^◌, length, IfSome};
     ghost use Rattle.dos_io.specs.Given.{readings};
+    ghost use Rattle.shim_log.specs.declared.version.LogVersion.TheVariants.{Two};
     ghost use Rattle.shim_log.specs.LogText.{header_text};
     ghost use Rattle.shim_log.specs.Ledger.{LedgerState, IsLedger};
 
@@ -69,7 +71,7 @@ impl Model for Ledger {
       asked = s.asked;
       room = s.entries.room;
     })
-        × (s.head ≡ length (header_text s.header))
+        × (s.head ≡ length (header_text Two s.header))
         × (s.counted ≡ length (readings s.entries.list)) };
 }
 
@@ -119,7 +121,7 @@ impl Ledger {
             clock,
             header,
             head,
-            entries: Entries::new(alloc),
+            entries: GrowingEntries::new(alloc),
             ended: None,
             counted: 0,
             stops: 0,
@@ -135,12 +137,31 @@ impl Ledger {
         posts_of(&self.posts, round, list);
     }
 
-    // With so many bytes more the log would have no room for its end.
-    fn is_over(&self, bytes: usize) -> bool
+    // With so many bytes more the log would have no room for its end; or it has as many exchanges
+    // as it may have.
+    #[tactic(auto, unfolding(crate::specs::Room::IsFull))]
+    fn is_full(&self, bytes: usize) -> bool
         requires { bytes ≤ 8192 }
-        ensures { IsTrue result ↔ IsOver self.now.header self.now.entries bytes }
+        ensures full { IsTrue result → IsFull self.now.header self.now.entries bytes }
+        ensures free { IsFull self.now.header self.now.entries bytes → IsTrue result }
     {
-        67108864 < self.head + self.entries.text().len() + bytes + 6
+        if self.entries.len() == 16777216 {
+            return true;
+        }
+        67108864 < self.head + self.entries.bytes() + bytes + 6
+    }
+
+    // Whether there is no room for an answer to this question, where its longest one makes the text
+    // longer by so many bytes.
+    fn has_no_room(&self, question: Question, bytes: usize) -> bool
+        requires few { bytes ≤ 8192 }
+        requires adds { AddsEntry question }
+        requires grows { GrowsBy self.now.entries (longest self.now.posts question) bytes }
+        ensures { IsTrue result
+            ↔ NoRoom self.now.header self.now.posts self.now.entries question }
+    {
+        let _question = question;
+        self.is_full(bytes)
     }
 
     /// Stops, so, at this question.
@@ -157,32 +178,37 @@ impl Ledger {
 
     // Takes memory for so many bytes more.
     fn reserve(&mut self, bytes: usize) -> bool
+        requires { bytes ≤ 8192 }
         ensures same { self.new ≡ record self.old { room = self.new.room } }
         ensures room { IsTrue result → bytes ≤ self.new.room }
     {
         self.entries.reserve(bytes).is_ok()
     }
 
-    /// Room in the log, and memory, for the so many bytes that may answer this question. Else it
-    /// stops, before anything is asked of the host.
+    /// How many bytes the text grows by with signals of a round.
+    pub(crate) fn signals_bytes(&self, round: u32, list: &SignalList) -> usize
+        ensures value { GrowsBy self.now.entries (signals round list.now) result }
+        ensures few { result ≤ 166 }
+    {
+        self.entries.signals_bytes(round, list)
+    }
+
+    /// Room in the log, and memory, for the so many bytes by which the text grows with the longest
+    /// answer to this question. Else it stops, before anything is asked of the host.
     pub(crate) fn make_room(&mut self, question: Question, bytes: usize) -> Result<(), ShimStop>
         requires few { bytes ≤ 8192 }
         requires adds { AddsEntry question }
-        requires over { IsOver self.old.header self.old.entries bytes
-            → NoRoom self.old.header self.old.posts self.old.entries question }
-        requires free { NoRoom self.old.header self.old.posts self.old.entries question
-            → IsOver self.old.header self.old.entries bytes }
+        requires grows { GrowsBy self.old.entries (longest self.old.posts question) bytes }
         ensures full { IsErrOf result ShimStop.LogFull
             ↔ NoRoom self.old.header self.old.posts self.old.entries question }
         ensures err { IfErr result (λ stop. (stop ≢ ShimStop.HostFault)
             × (self.new ≡ stopped (record self.old { room = self.new.room }) question stop)) }
         ensures same { OnOk result (self.new ≡ record self.old { room = self.new.room }) }
         ensures room { OnOk result (bytes ≤ self.new.room) }
-        ensures not_over { OnOk result (IsOver self.new.header self.new.entries bytes → ⊥) }
         ensures not_full { OnOk result
             (NoRoom self.new.header self.new.posts self.new.entries question → ⊥) }
     {
-        if self.is_over(bytes) {
+        if self.has_no_room(question, bytes) {
             return Err(self.stop(question, ShimStop::LogFull));
         }
         if !self.reserve(bytes) {
@@ -206,8 +232,10 @@ impl Ledger {
     /// Keeps a round's signals, as answered.
     pub(crate) fn add_signals(&mut self, round: u32, list: &SignalList)
         requires posts { list.now ≡ posts_in self.old.posts round }
-        requires room { 6 + 5 * length list.now ≤ self.old.room }
-        requires not_over { IsOver self.old.header self.old.entries (6 + 5 * length list.now) → ⊥ }
+        requires room { NoRoom self.old.header self.old.posts self.old.entries
+            (Question.Signals round) → ⊥ }
+        requires memory { length (entries_text Two (self.old.entries ++ signals round list.now ∷ []))
+            ≤ length (entries_text Two self.old.entries) + self.old.room }
         ensures { self.new ≡ record (added self.old (signals round list.now))
             { room = self.new.room } }
     {
@@ -221,8 +249,9 @@ impl Ledger {
         requires low { 1 ≤ max }
         requires high { max ≤ 4096 }
         requires short { length bytes.now ≤ max }
-        requires room { 13 + max ≤ self.old.room }
-        requires not_over { IsOver self.old.header self.old.entries (13 + max) → ⊥ }
+        requires room { NoRoom self.old.header self.old.posts self.old.entries
+            (Question.Input round tid max) → ⊥ }
+        requires memory { 13 + max ≤ self.old.room }
         ensures { self.new ≡ record (added self.old (input round tid max bytes.now))
             { room = self.new.room } }
     {
@@ -232,8 +261,9 @@ impl Ledger {
 
     /// Keeps a reading, as answered.
     pub(crate) fn add_clock(&mut self, round: u32, tid: u32, reading: u64)
-        requires room { 17 ≤ self.old.room }
-        requires not_over { IsOver self.old.header self.old.entries 17 → ⊥ }
+        requires room { NoRoom self.old.header self.old.posts self.old.entries
+            (Question.Clock round tid) → ⊥ }
+        requires memory { 17 ≤ self.old.room }
         ensures { self.new ≡ record (added self.old (clock_exchange round tid reading))
             { room = self.new.room } }
     {
@@ -260,6 +290,7 @@ impl Ledger {
     /// The log, where its end was told.
     pub(crate) fn into_log(self) -> Log
         requires { HasNoEnd (recorder_state self).told → ⊥ }
+        ensures version { result.version ≡ Two }
         ensures header { result.header ≡ self.header }
         ensures log { exchanges result ≡ (recorder_state self).told }
         ensures small { length (logtext result) ≤ 67108864 }
@@ -273,7 +304,7 @@ impl Ledger {
         match ended {
             Some((ending, rounds)) => Log {
                 header,
-                entries,
+                entries: entries.close(),
                 ending,
                 rounds,
             },

@@ -3,13 +3,14 @@ ghost use Rattle.std.specs.Prelude.{◌≡◌, ◌+◌, ◌≤◌, length};
 
 use crate::entries::Entries;
 use crate::header::LogHeader;
+use crate::version::LogVersion;
 use dos_world::Ending;
 use std::marker::Model;
 
 /// A log: what its run is of, the exchanges, and how it ended. Contracts see the plain log; it is
 /// in its ranges.
 ///
-/// It keeps the exchanges as their text.
+/// It keeps the exchanges as their text in its version.
 #[derive(Drop)]
 pub struct Log {
     pub(crate) header: LogHeader,
@@ -25,6 +26,7 @@ impl Model for Log {
     ghost Value = { LogValue };
 
     ghost view = { λ s. record {
+      version = s.entries.version;
       header = s.header;
       entries = s.entries.list;
       ending = s.ending;
@@ -32,6 +34,7 @@ impl Model for Log {
     } };
 
     ghost invariant = { λ s. FitsLog (record {
+      version = s.entries.version;
       header = s.header;
       entries = s.entries.list;
       ending = s.ending;
@@ -50,7 +53,14 @@ impl Log {
         &self.header
     }
 
-    /// How many exchanges it has, with the end: 1 to 2^32 - 1.
+    /// The version of its text: the one that it was read from, or 2 where a recorder kept it.
+    pub fn version(&self) -> LogVersion
+        ensures { result ≡ self.now.version }
+    {
+        self.entries.version()
+    }
+
+    /// How many exchanges it has, with the end: 1 to 16777217.
     pub fn len(&self) -> u32
         ensures value { result ≡ length (exchanges self.now) }
         ensures fits { FitsLog self.now }
@@ -60,7 +70,7 @@ impl Log {
 
     // The exchanges but the end, as their text.
     pub(crate) fn text(&self) -> &[u8]
-        ensures text { result.now ≡ entries_text self.now.entries }
+        ensures text { result.now ≡ entries_text self.now.version self.now.entries }
         ensures fits { AreEntries self.now.entries }
     {
         self.entries.text()

@@ -2,22 +2,22 @@
 // the want of it.
 ghost use Rattle.std.specs.Prelude.{◌≡◌, ◌≤◌, ◌<◌, ◌-◌, ℕ, List, length, take, IfOk, Ok};
 ghost use Rattle.std.specs.Str.{bytes_eq};
-ghost use Rattle.shim_log.specs.declared.header.LogHeader.{LogHeader};
 ghost use Rattle.shim_log.specs.EntriesText.{IsEntriesText};
 ghost use Rattle.shim_log.specs.Gives.{Gives, ReadsAs};
 ghost use Rattle.shim_log.specs.Reading.{magic_at, version_at, header_at, bytes_at, many_at};
-ghost use Rattle.shim_log.specs.Reading.{tail_at, log_at};
-ghost use Rattle.shim_log.specs.HeaderParts.{start_at, fields_at};
-ghost use Rattle.shim_log.specs.Views.{log_of};
+ghost use Rattle.shim_log.specs.Reading.{fields_at, nothing_read, body_at, log_of, log_at};
+ghost use Rattle.shim_log.specs.Views.{body_of};
 ghost use Rattle.shim_log.specs.LogText.{Log as LogValue, magic, logtext};
 ghost use Rattle.shim_log.specs.Ranges.{FitsHeader, FitsLog};
 
 use crate::entries::Entries;
-use crate::entry_reading::pass_entry;
+use crate::entry_reading::pass_item;
 use crate::field_reading::{place, read_bytes, read_header_u16, read_header_u32, read_u16};
 use crate::header::{Digests, LogHeader};
 use crate::log::Log;
+use crate::progress::Progress;
 use crate::refusal::{LogError, ReadError};
+use crate::version::LogVersion;
 use dos_world::Ending;
 use std::alloc::Global;
 
@@ -55,23 +55,24 @@ fn tail_of(bytes: &[u8], left: usize, count: u32, ending: Ending, rounds: u32) -
 }
 
 // The entries and the end, and the bytes behind it.
-fn read_tail(end: usize, bytes: &[u8]) -> Result<(Tail<'_>, &[u8]), LogError>
-    requires { length bytes.now ≤ 67108864 }
-    ensures value { (header : LogHeader) → Gives (λ x. (log_of header x.0, x.1.now)) result
-        (tail_at (length bytes.now) header end bytes.now) }
-    ensures text { IfOk result (λ x. IsEntriesText x.0.text.now x.0.count) }
+fn read_tail(version: LogVersion, end: usize, bytes: &[u8]) -> Result<(Tail<'_>, &[u8]), LogError>
+    ensures value { Gives (λ x. (body_of version x.0, x.1.now)) result
+        (body_at version (length bytes.now) nothing_read end bytes.now) }
+    ensures text { IfOk result (λ x. IsEntriesText version x.0.text.now x.0.count) }
 {
     let mut rest = bytes;
-    for count in 0..bytes.len() {
-        let (last, after) = pass_entry(end, rest)?;
+    let mut progress = Progress::new();
+    for _ in 0..bytes.len() {
+        let (last, further, after) = pass_item(version, progress, end, rest)?;
         match last {
             Some((ending, rounds)) => {
-                let tail = tail_of(bytes, rest.len(), count as u32, ending, rounds);
+                let tail = tail_of(bytes, rest.len(), progress.held, ending, rounds);
                 return Ok((tail, after));
             }
             None => {}
         }
         rest = after;
+        progress = further;
     }
     Err(LogError::Short(place(end, rest)))
 }
@@ -95,12 +96,15 @@ fn read_magic(end: usize, bytes: &[u8]) -> Result<&[u8], LogError>
 }
 
 #[tactic(auto, unfolding(crate::specs::Reading::version_at))]
-fn read_version(end: usize, bytes: &[u8]) -> Result<&[u8], LogError>
-    ensures { Gives (λ x. x.now) result (version_at end bytes.now) }
+fn read_version(end: usize, bytes: &[u8]) -> Result<(LogVersion, &[u8]), LogError>
+    ensures { Gives (λ x. (x.0, x.1.now)) result (version_at end bytes.now) }
 {
     let (version, rest) = read_u16(end, bytes)?;
     if version == 1 {
-        return Ok(rest);
+        return Ok((LogVersion::One, rest));
+    }
+    if version == 2 {
+        return Ok((LogVersion::Two, rest));
     }
     Err(LogError::Version(version))
 }
@@ -129,15 +133,8 @@ fn read_digests(count: u16, end: usize, bytes: &[u8]) -> Result<(Digests, &[u8])
     Ok((digests, rest))
 }
 
-// The bytes behind the first ones and the version, which are tested.
-fn pass_start(end: usize, bytes: &[u8]) -> Result<&[u8], LogError>
-    ensures { Gives (λ x. x.now) result (start_at end bytes.now) }
-{
-    let rest = read_magic(end, bytes)?;
-    read_version(end, rest)
-}
-
 // The header's fields behind the version.
+#[tactic(auto, unfolding(crate::specs::Reading::fields_at))]
 fn read_fields(end: usize, bytes: &[u8]) -> Result<(LogHeader, &[u8]), LogError>
     ensures { Gives (λ x. (x.0, x.1.now)) result (fields_at end bytes.now) }
 {
@@ -155,36 +152,37 @@ fn read_fields(end: usize, bytes: &[u8]) -> Result<(LogHeader, &[u8]), LogError>
     Ok((header, rest))
 }
 
-fn read_header(end: usize, bytes: &[u8]) -> Result<(LogHeader, &[u8]), LogError>
-    ensures { Gives (λ x. (x.0, x.1.now)) result (header_at end bytes.now) }
+#[tactic(auto, unfolding(crate::specs::Reading::header_at))]
+fn read_header(end: usize, bytes: &[u8]) -> Result<(LogVersion, LogHeader, &[u8]), LogError>
+    ensures { Gives (λ x. ((x.0, x.1), x.2.now)) result (header_at end bytes.now) }
 {
-    let rest = pass_start(end, bytes)?;
-    read_fields(end, rest)
+    let rest = read_magic(end, bytes)?;
+    let (version, rest) = read_version(end, rest)?;
+    let (header, rest) = read_fields(end, rest)?;
+    Ok((version, header, rest))
 }
 
-// The header, and what stands behind it up to the last byte.
+// The version, the header, and what stands behind it up to the last byte.
 #[tactic(auto, unfolding(crate::specs::Reading::log_at))]
-fn read_parts(bytes: &[u8]) -> Result<(LogHeader, Tail<'_>), LogError>
-    requires { length bytes.now ≤ 67108864 }
-    ensures value { Gives (λ x. log_of x.0 x.1) result (log_at bytes.now) }
-    ensures header { IfOk result (λ x. FitsHeader x.0) }
-    ensures text { IfOk result (λ x. IsEntriesText x.1.text.now x.1.count) }
+fn read_parts(bytes: &[u8]) -> Result<(LogVersion, LogHeader, Tail<'_>), LogError>
+    ensures value { Gives (λ x. log_of (x.0, x.1) (body_of x.0 x.2)) result (log_at bytes.now) }
+    ensures header { IfOk result (λ x. FitsHeader x.1) }
+    ensures text { IfOk result (λ x. IsEntriesText x.0 x.2.text.now x.2.count) }
 {
-    let (header, rest) = read_header(bytes.len(), bytes)?;
-    let (tail, rest) = read_tail(bytes.len(), rest)?;
+    let (version, header, rest) = read_header(bytes.len(), bytes)?;
+    let (tail, rest) = read_tail(version, bytes.len(), rest)?;
     if !rest.is_empty() {
         return Err(LogError::AfterEnd(place(bytes.len(), rest)));
     }
-    Ok((header, tail))
+    Ok((version, header, tail))
 }
 
 // All of it; memory is taken where nothing can be refused any more.
 fn read_whole(alloc: Global, bytes: &[u8]) -> Result<Log, ReadError>
-    requires { length bytes.now ≤ 67108864 }
     ensures { ReadsAs result (log_at bytes.now) }
 {
-    let (header, tail) = read_parts(bytes)?;
-    let entries = Entries::from_text(alloc, tail.text, tail.count)?;
+    let (version, header, tail) = read_parts(bytes)?;
+    let entries = Entries::from_text(alloc, version, tail.text, tail.count)?;
     let _count = entries.len();
     Ok(Log {
         header,
@@ -194,8 +192,9 @@ fn read_whole(alloc: Global, bytes: &[u8]) -> Result<Log, ReadError>
     })
 }
 
-/// The log that the bytes spell, all of the bytes: at most 64 MiB. It is refused where they spell
-/// none, with the first thing that is wrong; it is want of memory only where they spell one.
+/// The log that the bytes spell in either version, all of the bytes: at most 64 MiB. It is refused
+/// where they spell none, with the first thing that is wrong; it is want of memory only where they
+/// spell one.
 ///
 /// It takes a time that grows with the length of the text alone.
 pub fn read_log(alloc: Global, bytes: &[u8]) -> Result<Log, ReadError>

@@ -2,12 +2,13 @@
 ghost use Rattle.std.specs.Prelude.{◌≡◌, ◌++◌, length, IfOk, OnOk};
 ghost use Rattle.std.specs.Int.{w16, w32, to_le_bytes};
 ghost use Rattle.std.specs.List.{concat};
-ghost use Rattle.shim_log.specs.LogText.{magic, log_version, header_text, ending_code, entry_text};
+ghost use Rattle.shim_log.specs.LogText.{magic, version_number, header_text, ending_code, entry_text};
 ghost use Rattle.shim_log.specs.LogText.{logtext};
 ghost use Rattle.dos_io.specs.declared.exchange.Exchange.TheVariants.{End as end};
 
 use crate::header::{Digests, LogHeader};
 use crate::log::Log;
+use crate::version::LogVersion;
 use dos_world::Ending;
 use std::alloc::{AllocError, Global};
 
@@ -22,12 +23,12 @@ fn put_numbers(out: &mut Vec<u8>, header: &LogHeader) -> Result<(), AllocError>
     Ok(())
 }
 
-fn put_start(out: &mut Vec<u8>, images: u16) -> Result<(), AllocError>
+fn put_start(out: &mut Vec<u8>, version: LogVersion, images: u16) -> Result<(), AllocError>
     ensures { OnOk result (out.new.items ≡ out.old.items
-        ++ (magic ++ to_le_bytes w16 log_version ++ to_le_bytes w16 images)) }
+        ++ (magic ++ to_le_bytes w16 (version_number version) ++ to_le_bytes w16 images)) }
 {
     out.extend_from_slice(b"DPGL".as_slice())?;
-    out.extend_from_slice(&1u16.to_le_bytes())?;
+    out.extend_from_slice(&version.number().to_le_bytes())?;
     out.extend_from_slice(&images.to_le_bytes())?;
     Ok(())
 }
@@ -42,11 +43,11 @@ fn put_digests(out: &mut Vec<u8>, digests: &Digests) -> Result<(), AllocError>
     Ok(())
 }
 
-fn put_header(out: &mut Vec<u8>, header: &LogHeader) -> Result<(), AllocError>
-    ensures { OnOk result (out.new.items ≡ out.old.items ++ header_text header.now) }
+fn put_header(out: &mut Vec<u8>, version: LogVersion, header: &LogHeader) -> Result<(), AllocError>
+    ensures { OnOk result (out.new.items ≡ out.old.items ++ header_text version header.now) }
 {
     let images = header.digests.len();
-    put_start(out, images as u16)?;
+    put_start(out, version, images as u16)?;
     put_numbers(out, header)?;
     put_digests(out, &header.digests)?;
     Ok(())
@@ -71,12 +72,12 @@ fn put_end(out: &mut Vec<u8>, ending: Ending, rounds: u32) -> Result<(), AllocEr
     Ok(())
 }
 
-/// The one text of the log. The error is want of memory.
+/// The one text of the log in its version. The error is want of memory.
 pub fn write_log(alloc: Global, log: &Log) -> Result<Vec<u8>, AllocError>
     ensures { IfOk result (λ v. v.items ≡ logtext log.now) }
 {
     let mut out = Vec::new(alloc);
-    put_header(&mut out, &log.header)?;
+    put_header(&mut out, log.version(), &log.header)?;
     out.extend_from_slice(log.text())?;
     put_end(&mut out, log.ending(), log.rounds())?;
     Ok(out)

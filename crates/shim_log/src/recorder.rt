@@ -9,22 +9,19 @@ ghost use Rattle.shim_log.specs.Ledger.{empty_ledger, Follows};
 use crate::header::LogHeader;
 use crate::ledger::Ledger;
 use crate::log::Log;
+use crate::version::LogVersion;
 use dos_io::{ClockRule, Host, Shim, ShimStop, SignalList};
 use dos_world::{Ending, Post, Question};
 use std::alloc::{AllocError, Global};
 
-// The bytes of an entry: of signals without its posts, of one post, of an input without its bytes,
-// and of a reading.
-const SIGNALS_BYTES: usize = 6;
-
-const POST_BYTES: usize = 5;
-
+// The bytes of an entry: of an input without its bytes, and of a reading.
 const INPUT_BYTES: usize = 13;
 
 const CLOCK_BYTES: usize = 17;
 
 /// Answers signals by the posts of the words, input by its host, and the clock by the host or by
-/// counting, and keeps each answer as an entry of a log.
+/// counting, and keeps each answer in a log of version 2. A round without a signal that follows
+/// another is counted up in place.
 ///
 /// The log's room is looked at and its memory is taken before the host is asked, so nothing that
 /// the host gave is lost.
@@ -48,7 +45,7 @@ impl<'h, H: Host> Shim for Recorder<'h, H> {
 
     fn signals(&mut self, round: u32, list: &mut SignalList) -> Result<(), ShimStop> {
         self.ledger.posts_of(round, list);
-        let bytes = SIGNALS_BYTES + POST_BYTES * list.len();
+        let bytes = self.ledger.signals_bytes(round, list);
         self.ledger.make_room(Question::Signals { round }, bytes)?;
         self.ledger.add_signals(round, list);
         Ok(())
@@ -157,6 +154,7 @@ impl<'h, H: Host> Recorder<'h, H> {
         requires ended { HasNoEnd (recorder_state self.ledger).told → ⊥ }
         ensures same { result.0.ghost_name ≡ self.entry.host.ghost_name }
         ensures value { result.0.now ≡ self.entry.host.now }
+        ensures version { result.1.version ≡ LogVersion.Two }
         ensures header { result.1.header ≡ self.entry.ledger.header }
         ensures log { exchanges result.1 ≡ (recorder_state self.entry.ledger).told }
         ensures small { length (logtext result.1) ≤ 67108864 }

@@ -1,27 +1,31 @@
 // A shim that answers out of a log.
-ghost use Rattle.std.specs.Prelude.{◌≡◌, ◌≢◌, ◌≤◌, ◌<◌, ◌+◌, length, drop, ◌∷◌, slice_get, Some};
-ghost use Rattle.std.specs.Prelude.{None, OnOk, IfErr, IfOk, IsTrue, ◌↔◌};
+ghost use Rattle.std.specs.Prelude.{◌≡◌, ◌≤◌, ◌+◌, length, drop, [], ◌∷◌, slice_get, Some};
+ghost use Rattle.std.specs.Prelude.{None, IfErr, IfOk};
 ghost use Rattle.dos_io.specs.Exchanges.{question_of};
 ghost use Rattle.dos_io.specs.Posts.{ArePosts};
-ghost use Rattle.shim_log.specs.LogText.{entries_text, exchanges};
+ghost use Rattle.dos_io.specs.declared.exchange.Exchange.TheVariants as Exchange;
+ghost use Rattle.shim_log.specs.LogText.{exchanges};
 ghost use Rattle.shim_log.specs.Ranges.{InRange};
 ghost use Rattle.shim_log.specs.Views.{posts_in_text, exchange_of};
-ghost use Rattle.shim_log.specs.Replay.{ReplayState, IsReplay, IsMisfitOf, replayer_state};
+ghost use Rattle.shim_log.specs.Replay.{IsReplay, IsMisfitOf, StandsAt};
 ghost use Rattle.shim_log.specs.Replay.{replay_stopped, replay_advanced};
 
 use crate::entry::Entry;
-use crate::entry_reading::read_entry;
+use crate::entry_reading::read_item;
+use crate::item::Item;
 use crate::log::Log;
+use crate::progress::Progress;
 use dos_io::{Shim, ShimStop, SignalList};
 use dos_world::{Ending, Misfit, Post, Question};
 use std::marker::Model;
 
 /// Answers each question by the next entry of a log, and stops where that entry is of another
-/// question. It takes no memory.
+/// question. It goes through a stretch of rounds without a signal in place, and takes no memory.
 #[derive(Drop)]
 pub struct Replayer {
     log: Log,
     place: usize,
+    within: u32,
     answered: u32,
     stops: u64,
     last: Option<ShimStop>,
@@ -29,9 +33,7 @@ pub struct Replayer {
 }
 
 impl Model for Replayer {
-    ghost use Rattle.std.specs.Prelude.{◌≡◌, ◌≤◌, length, drop};
-    ghost use Rattle.shim_log.specs.LogText.{entries_text};
-    ghost use Rattle.shim_log.specs.Replay.{ReplayState, IsReplay};
+    ghost use Rattle.shim_log.specs.Replay.{ReplayState, IsReplay, StandsAt};
 
     ghost Value = { ReplayState };
 
@@ -50,9 +52,7 @@ impl Model for Replayer {
       last = s.last;
       asked = s.asked;
     })
-        × (s.place ≤ length (entries_text s.log.entries))
-        × (drop s.place (entries_text s.log.entries)
-        ≡ entries_text (drop s.answered s.log.entries)) };
+        × StandsAt s.log s.answered s.place s.within };
 }
 
 // The bytes from a place on.
@@ -93,6 +93,13 @@ fn fill(list: &mut SignalList, posts: &[u8])
     }
 }
 
+// A round without a signal.
+fn quiet_entry<'a>(round: u32) -> Entry<'a>
+    ensures { exchange_of result ≡ Exchange.Signals round [] }
+{
+    Entry::Signals { round, posts: &[] }
+}
+
 impl Replayer {
     /// A replayer that was asked nothing yet.
     pub fn new(log: Log) -> Replayer
@@ -105,9 +112,11 @@ impl Replayer {
               None;
         } }
     {
+        let _len = log.len();
         Replayer {
             log,
             place: 0,
+            within: 0,
             answered: 0,
             stops: 0,
             last: None,
@@ -123,15 +132,14 @@ impl Replayer {
         let _answered = self.answered;
     }
 
-    // The next entry, and where the one behind it begins.
-    fn next(&self) -> (Entry<'_>, usize)
+    // The next exchange, and where the one behind it stands: the place of its entry in the text, and
+    // how many of that entry's rounds are in front of it.
+    fn next(&self) -> (Entry<'_>, usize, u32)
         requires { self.now.answered ≤ length self.now.log.entries }
         ensures entry { slice_get (exchanges self.now.log) self.now.answered
             ≡ Some (exchange_of result.0) }
         ensures fits { InRange (exchange_of result.0) }
-        ensures within { result.1 ≤ length (entries_text self.now.log.entries) }
-        ensures place { drop result.1 (entries_text self.now.log.entries)
-            ≡ entries_text (drop (self.now.answered + 1) self.now.log.entries) }
+        ensures behind { StandsAt self.now.log (self.now.answered + 1) result.1 result.2 }
     {
         let text = self.log.text();
         if self.answered == self.log.count() {
@@ -139,33 +147,42 @@ impl Replayer {
                 ending: self.log.ending(),
                 rounds: self.log.rounds(),
             };
-            return (end, text.len());
+            return (end, text.len(), 0);
         }
         let left = behind(text, self.place);
-        match read_entry(text.len(), left) {
-            Ok((entry, rest)) => (entry, text.len() - rest.len()),
+        match read_item(self.log.version(), Progress::new(), text.len(), left) {
+            Ok((item, rest)) => match item {
+                Item::Kept(entry) => (entry, text.len() - rest.len(), 0),
+                Item::Quiet { round, count } => {
+                    let entry = quiet_entry(round + self.within);
+                    if self.within + 1 < count {
+                        return (entry, self.place, self.within + 1);
+                    }
+                    (entry, text.len() - rest.len(), 0)
+                }
+            },
             Err(_) => unreachable!(),
         }
     }
 
-    // The next entry, which is of this question, and where the one behind it begins; or the misfit.
-    fn fit(&self, asked: Question) -> Result<(Entry<'_>, usize), Misfit>
+    // The next exchange, which is of this question, and where the one behind it stands; or the
+    // misfit.
+    fn fit(&self, asked: Question) -> Result<(Entry<'_>, usize, u32), Misfit>
         requires { self.now.answered ≤ length self.now.log.entries }
         ensures entry { IfOk result (λ x. slice_get (exchanges self.now.log) self.now.answered
             ≡ Some (exchange_of x.0)) }
         ensures asked { IfOk result (λ x. question_of (exchange_of x.0) ≡ asked) }
         ensures fits { IfOk result (λ x. InRange (exchange_of x.0)) }
-        ensures within { IfOk result (λ x. x.1 ≤ length (entries_text self.now.log.entries)) }
-        ensures place { IfOk result (λ x. drop x.1 (entries_text self.now.log.entries)
-            ≡ entries_text (drop (self.now.answered + 1) self.now.log.entries)) }
+        ensures behind { IfOk result
+            (λ x. StandsAt self.now.log (self.now.answered + 1) x.1 x.2) }
         ensures misfit { IfErr result
             (λ misfit. IsMisfitOf self.now asked (ShimStop.Misfit misfit)) }
         ensures question { IfErr result (λ misfit. misfit.asked ≡ asked) }
     {
-        let (entry, place) = self.next();
+        let (entry, place, within) = self.next();
         let kept = entry.question();
         if kept == asked {
-            return Ok((entry, place));
+            return Ok((entry, place, within));
         }
         Err(Misfit {
             entry: self.answered,
@@ -187,16 +204,15 @@ impl Replayer {
         stop
     }
 
-    // Goes on behind the next entry.
-    fn advance(&mut self, place: usize)
+    // Goes on behind the next exchange.
+    fn advance(&mut self, place: usize, within: u32)
         requires more { self.old.answered ≤ length self.old.log.entries }
-        requires within { place ≤ length (entries_text self.old.log.entries) }
-        requires place { drop place (entries_text self.old.log.entries)
-            ≡ entries_text (drop (self.old.answered + 1) self.old.log.entries) }
+        requires behind { StandsAt self.old.log (self.old.answered + 1) place within }
         ensures { self.new ≡ replay_advanced self.old }
     {
         let _len = self.log.len();
         self.place = place;
+        self.within = within;
         self.answered += 1;
         self.asked = None;
     }
@@ -212,12 +228,12 @@ impl Shim for Replayer {
 
     fn signals(&mut self, round: u32, list: &mut SignalList) -> Result<(), ShimStop> {
         match self.fit(Question::Signals { round }) {
-            Ok((entry, place)) => {
+            Ok((entry, place, within)) => {
                 match entry {
                     Entry::Signals { posts, .. } => fill(list, posts),
                     _ => unreachable!(),
                 }
-                self.advance(place);
+                self.advance(place, within);
                 Ok(())
             }
             Err(misfit) => Err(self.stop(misfit)),
@@ -230,7 +246,7 @@ impl Shim for Replayer {
             tid,
             max: buf.len() as u32,
         }) {
-            Ok((entry, place)) => {
+            Ok((entry, place, within)) => {
                 let count = match entry {
                     Entry::Input { bytes, .. } => {
                         buf[..bytes.len()].copy_from_slice(bytes);
@@ -238,7 +254,7 @@ impl Shim for Replayer {
                     }
                     _ => unreachable!(),
                 };
-                self.advance(place);
+                self.advance(place, within);
                 Ok(count)
             }
             Err(misfit) => Err(self.stop(misfit)),
@@ -247,12 +263,12 @@ impl Shim for Replayer {
 
     fn clock(&mut self, round: u32, tid: u32) -> Result<u64, ShimStop> {
         match self.fit(Question::Clock { round, tid }) {
-            Ok((entry, place)) => {
+            Ok((entry, place, within)) => {
                 let reading = match entry {
                     Entry::Clock { reading, .. } => reading,
                     _ => unreachable!(),
                 };
-                self.advance(place);
+                self.advance(place, within);
                 Ok(reading)
             }
             Err(misfit) => Err(self.stop(misfit)),
@@ -261,8 +277,8 @@ impl Shim for Replayer {
 
     fn end(&mut self, ending: Ending, rounds: u32) -> Result<(), ShimStop> {
         match self.fit(Question::End { ending, rounds }) {
-            Ok((_, place)) => {
-                self.advance(place);
+            Ok((_, place, within)) => {
+                self.advance(place, within);
                 Ok(())
             }
             Err(misfit) => Err(self.stop(misfit)),

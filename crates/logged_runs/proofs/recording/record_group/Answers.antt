@@ -33,7 +33,7 @@ returns-in-Ok g c =
           c.run_group.new.shim.ledger _ _ _ _ _ _ _ _ c.of-shim.ensures.ledger c.requires.begins
           follows c.into_parts-host.result.1
           c.run_group.new.kernel c.in-Ok.ending _ _ run.runs.0 run.runs.1 run.runs.2 c.look.ensures
-          parts.log parts.header c.len-exchanges.ensures.fits parts.small;
+          parts.log parts.version parts.header c.len-exchanges.ensures.fits parts.small;
       stopped = tt;
       cut = tt;
       host_cause = λ is. absurd (not_stopped _ _ is);

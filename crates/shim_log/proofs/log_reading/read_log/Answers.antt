@@ -8,7 +8,6 @@ use Rattle.shim_log.proofs.log_reading.read_log.Goals as goal
 pub returns-clause-found : goal.returns-clause-found
 returns-clause-found c =
     is_found c.args.bytes.now c.read_whole.result (λ i. omega (arith, c.type_inv.bytes i))
-    c.requires
     c.read_whole.ensures
 
 pub returns-clause-only : goal.returns-clause-only

@@ -1,48 +1,54 @@
-use Rattle.std.proofs.Common.{◌∙◌, arith}
+use Rattle.std.proofs.Common.{ℕ, Option, subst}
 use Rattle.std.proofs.lemmas.Result.{err_from_is_err_and}
-use Rattle.shim_log.proofs.TailLoop.{walk_goes_on, walk_text, walk_ends, walk_refuses}
-use Rattle.shim_log.proofs.TailLoop.{walk_runs_out, rest_short}
+use Rattle.dos_world.specs.declared.Ending.{Ending}
+use Rattle.shim_log.specs.Passing.{Passes}
+use Rattle.shim_log.proofs.TailLoop.{walk_few, walk_goes_on, walk_text, walk_ends}
+use Rattle.shim_log.proofs.TailLoop.{walk_refuses, walk_runs_out, rest_short}
 use Rattle.shim_log.proofs.log_reading.read_tail.Goals as goal
+
+pub pass_item-requires : goal.pass_item-requires
+pass_item-requires c = walk_few c.args.version c.args.end c.args.bytes.now c.loop.rest.now
+    c.loop.progress c.loop.counter c.loop.invariant
 
 pub returns-in_err-last-clause-value : goal.returns-in_err-last-clause-value
 returns-in_err-last-clause-value c =
     let p = err_from_is_err_and c.from_residual.result c.from_residual.ensures.1 in
-    λ header. rw (p.1, p.2)
-    (walk_refuses c.args.end c.args.bytes.now c.loop-count.rest.now c.loop-count.count
-    c.loop-count.invariant header c.in_err-last.field-0.0 c.loop-count-test.true
+    rw (p.1, p.2)
+    (walk_refuses c.args.version c.args.end c.args.bytes.now c.loop.rest.now c.loop.progress
+    c.loop.counter c.loop.invariant c.in_err-last.field-0.0 c.loop-test.true
     c.in_err-last.ensures.refused)
 
 pub tail_of-tail-requires : goal.tail_of-tail-requires
-tail_of-tail-requires c = rest_short c.args.end c.args.bytes.now c.loop-count.rest.now
-    c.loop-count.count c.loop-count.invariant
+tail_of-tail-requires c = rest_short c.args.version c.args.end c.args.bytes.now c.loop.rest.now
+    c.loop.progress c.loop.counter c.loop.invariant
 
 pub returns-in-Some-clause-value : goal.returns-in-Some-clause-value
 returns-in-Some-clause-value c =
-    let passed = c.in_ok-last.ensures.passed in
-    λ header.
-    walk_ends c.args.end c.args.bytes.now c.loop-count.rest.now c.loop-count.count
-    c.loop-count.invariant header passed.entry c.in_ok-last.after.now
-    c.tail_of-tail.result.text.now c.tail_of-tail.result.ending c.tail_of-tail.result.rounds
-    c.loop-count-test.true passed.read
-    (rw (c.tail_of-tail.ensures.ending, c.tail_of-tail.ensures.rounds)
-    (passed.last_is ∙ c.in-Some.is))
-    c.tail_of-tail.ensures.text
+    rw (c.tail_of-tail.ensures.ending, c.tail_of-tail.ensures.rounds)
+    (walk_ends c.args.version c.args.end c.args.bytes.now c.loop.rest.now c.loop.progress
+    c.loop.counter c.loop.invariant c.in_ok-last.after.now c.tail_of-tail.result.text.now
+    c.in-Some.ending c.in-Some.rounds c.loop-test.true
+    (subst (λ (o : Option (Ending × ℕ)). Passes c.args.version c.loop.progress c.args.end
+    c.loop.rest.now o c.in_ok-last.further c.in_ok-last.after.now) c.in-Some.is
+    c.in_ok-last.ensures.passed)
+    c.tail_of-tail.ensures.text)
 
 pub returns-in-Some-clause-text : goal.returns-in-Some-clause-text
 returns-in-Some-clause-text c =
     rw c.tail_of-tail.ensures.count
-    (walk_text c.args.end c.args.bytes.now c.loop-count.rest.now c.loop-count.count
-    c.loop-count.invariant c.tail_of-tail.result.text.now c.tail_of-tail.ensures.text (omega arith))
+    (walk_text c.args.version c.args.end c.args.bytes.now c.loop.rest.now c.loop.progress
+    c.loop.counter c.loop.invariant c.tail_of-tail.result.text.now c.tail_of-tail.ensures.text)
 
-pub loop-count-preserved : goal.loop-count-preserved
-loop-count-preserved c =
-    let passed = c.in_ok-last.ensures.passed in
-    walk_goes_on c.args.end c.args.bytes.now c.loop-count.rest.now c.loop-count.count
-    c.loop-count.invariant passed.entry c.in_ok-last.after.now
-    c.loop-count-test.true passed.fits passed.parts passed.read (passed.last_is ∙ c.in-None.is)
+pub loop-preserved : goal.loop-preserved
+loop-preserved c =
+    walk_goes_on c.args.version c.args.end c.args.bytes.now c.loop.rest.now c.loop.progress
+    c.loop.counter c.loop.invariant c.in_ok-last.further c.in_ok-last.after.now c.loop-test.true
+    (subst (λ (o : Option (Ending × ℕ)). Passes c.args.version c.loop.progress c.args.end
+    c.loop.rest.now o c.in_ok-last.further c.in_ok-last.after.now) c.in-None.is
+    c.in_ok-last.ensures.passed)
 
 pub returns-clause-value : goal.returns-clause-value
 returns-clause-value c =
-    λ header. rw c.place.ensures
-    (walk_runs_out c.args.end c.args.bytes.now c.loop-count.rest.now c.loop-count.count
-    c.loop-count.invariant header c.loop-count-test.false)
+    rw c.place.ensures
+    (walk_runs_out c.args.version c.args.end c.args.bytes.now c.loop.rest.now c.loop.progress
+    c.loop.counter c.loop.invariant c.loop-test.false)

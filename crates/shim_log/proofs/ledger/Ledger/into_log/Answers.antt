@@ -10,4 +10,5 @@ unreachable-requires c = has_end _ c.self.invariant.0 c.in-None.is
     c.requires)
 
 pub returns-clause-small : goal.returns-clause-small
-returns-clause-small c = small_text _ _ _ c.self.invariant.0
+returns-clause-small c =
+    rw (c.close.ensures.version, c.close.ensures.list) (small_text _ _ _ c.self.invariant.0)

@@ -1,4 +1,5 @@
 use Rattle.std.proofs.Common.{◌∙◌, ◌+◌, ◌*◌, ℕ, sym, ap, refl}
+use Rattle.shim_log.specs.declared.version.LogVersion.TheVariants.{Two}
 use Rattle.shim_log.proofs.LengthLaws.{header_length}
 use Rattle.shim_log.proofs.LedgerLaws.{new_ledger}
 use Rattle.shim_log.proofs.ledger.Ledger.new.Goals as goal
@@ -8,6 +9,6 @@ invariant_of-result c = (
   new_ledger _ _ _ _ _ c.new.ensures (rw c.in_ok-from_slice.ensures.items c.requires.planned)
       (rw c.in_ok-from_slice.ensures.items c.requires.few) c.requires.header,
   ap (λ (n : ℕ). 20 + 32 * n) c.len.ensures.value
-      ∙ sym (header_length c.args.header c.requires.header.digests),
+      ∙ sym (header_length Two c.args.header c.requires.header.digests),
   rw c.new.ensures refl,
 )

@@ -1,6 +1,7 @@
 use Rattle.std.proofs.Common.{arith, refl}
 use Rattle.shim_log.proofs.RecorderLaws.{stops_follow, adds_ok, adds_follow, given_counted}
 use Rattle.shim_log.proofs.RecorderLaws.{given_read}
+use Rattle.shim_log.proofs.LedgerLaws.{clock_grows}
 use Rattle.shim_log.proofs.recorder.RecorderShim.clock.Goals as goal
 
 pub returns-in-Some-clause-ok : goal.returns-in-Some-clause-ok
@@ -42,3 +43,7 @@ returns-in-Err-clause-follows g c = (
       c.make_room.new.self.room _ _ _ _ _ _ c.in_ok-make_room.ensures.same c.stop.ensures.after
       c.in-Err.ensures.told_err c.clock.ensures.cause.later (λ _. c.in-Err.ensures.cause.failed),
 )
+
+pub make_room-requires-clause-grows : goal.make_room-requires-clause-grows
+make_room-requires-clause-grows g c =
+    clock_grows c.args.self.now.ledger.posts c.args.self.now.ledger.entries c.args.round c.args.tid

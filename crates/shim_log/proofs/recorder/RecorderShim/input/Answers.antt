@@ -1,5 +1,8 @@
-use Rattle.std.proofs.Common.{arith, refl}
+use Rattle.std.proofs.Common.{ℕ, subst, arith, refl}
 use Rattle.shim_log.proofs.RecorderLaws.{adds_ok, adds_follow, given_input, stops_follow}
+use Rattle.dos_world.specs.declared.Question.TheVariants.{Input}
+use Rattle.shim_log.specs.Room.{GrowsBy, longest}
+use Rattle.shim_log.proofs.LedgerLaws.{input_grows}
 use Rattle.shim_log.proofs.recorder.RecorderShim.input.Goals as goal
 
 pub returns-in-Ok-clause-ok : goal.returns-in-Ok-clause-ok
@@ -30,3 +33,11 @@ returns-in_err-make_room-clause-follows g c = (
       c.make_room.new.self.room _ _ _ _ _ _ refl c.in_err-make_room.ensures.err.1 refl (omega arith)
       (λ e. absurd (c.in_err-make_room.ensures.err.0 e)),
 )
+
+pub make_room-requires-clause-grows : goal.make_room-requires-clause-grows
+make_room-requires-clause-grows g c =
+    subst (λ (n : ℕ). GrowsBy c.args.self.now.ledger.entries
+    (longest c.args.self.now.ledger.posts (Input c.args.round c.args.tid c.from.result)) n)
+    (omega (arith, c.from.ensures, c.from-2.ensures))
+    (input_grows c.args.self.now.ledger.posts c.args.self.now.ledger.entries c.args.round
+    c.args.tid c.from.result)

@@ -1,7 +1,11 @@
-use Rattle.std.proofs.Common.{◌∙◌, arith, refl, sym, ap}
+use Rattle.std.proofs.Common.{List, subst, ◌∙◌, arith, refl, sym, ap}
+use Rattle.dos_world.specs.declared.Post.{Post}
+use Rattle.dos_io.specs.declared.exchange.Exchange.TheVariants.{Signals}
 use Rattle.dos_io.specs.Given.{posts_in}
 use Rattle.shim_log.specs.Ledger.{LedgerState}
 use Rattle.shim_log.proofs.RecorderLaws.{stops_follow, adds_ok, adds_follow, given_posts}
+use Rattle.shim_log.specs.Room.{GrowsBy}
+use Rattle.shim_log.proofs.GrowingLaws.{fits_grown}
 use Rattle.shim_log.proofs.recorder.RecorderShim.signals.Goals as goal
 
 pub returns-clause-ok : goal.returns-clause-ok
@@ -26,3 +30,15 @@ returns-in_err-make_room-clause-follows g c = (
       c.make_room.new.self.room _ _ _ _ _ _ refl c.in_err-make_room.ensures.err.1 refl (omega arith)
       (λ e. absurd (c.in_err-make_room.ensures.err.0 e)),
 )
+
+-- with the round's posts, which are its longest answer
+pub make_room-requires-clause-grows : goal.make_room-requires-clause-grows
+make_room-requires-clause-grows g c =
+    subst (λ (posts : List Post). GrowsBy c.args.self.now.ledger.entries
+    (Signals c.args.round posts) c.signals_bytes-bytes.result) c.posts_of.ensures
+    c.signals_bytes-bytes.ensures.value
+
+pub add_signals-requires-clause-memory : goal.add_signals-requires-clause-memory
+add_signals-requires-clause-memory g c =
+    rw c.in_ok-make_room.ensures.same
+    (fits_grown _ _ _ _ c.signals_bytes-bytes.ensures.value c.in_ok-make_room.ensures.room)
