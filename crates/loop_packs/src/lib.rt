@@ -1,9 +1,10 @@
 //! Packs that jump on the spot until their budget is 0: what the tests and the bench of workers let
 //! them run. Beside them there is one page, which is shared, and one process. And a gate at which
-//! tests see who ran what.
+//! tests see who ran what, with the workers that stay at it.
 #![tactic(auto)]
 
 mod gate;
+mod staying;
 
 ghost use Rattle.std.specs.Prelude.{◌≡◌, ◌∷◌, [], All, IfOk, Some, ◌<◌, ◌^◌, length, map, vec_len};
 ghost use Rattle.page_store.specs.Store.{AreHome};
@@ -16,6 +17,7 @@ use page_store::Frames;
 use proc_table::{SignalState, Table};
 use quantum_run::{Pack, Shared};
 use std::alloc::{AllocError, Global};
+pub use staying::{KeptHeld, StayingHeld};
 use worker_pool::Workers;
 
 /// What is run: so many packs, as often as this. The first has one budget each time, all others

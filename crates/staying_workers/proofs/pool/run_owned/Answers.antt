@@ -6,7 +6,7 @@ use Rattle.worker_pool.specs.Ran.{AllCanRun, AllRan}
 use Rattle.worker_pool.proofs.RanPacks.{as-many}
 use Rattle.staying_workers.specs.Lending.{IsFinished, packs_of}
 use Rattle.staying_workers.proofs.RanPacks.{all_ran, ready_of}
-use Rattle.staying_workers.proofs.pool.Clerks.run_owned.Goals as goal
+use Rattle.staying_workers.proofs.pool.run_owned.Goals as goal
 
 pub run_each-requires-clause-ready : goal.run_each-requires-clause-ready
 run_each-requires-clause-ready g c =

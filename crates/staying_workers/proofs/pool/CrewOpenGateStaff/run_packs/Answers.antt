@@ -2,7 +2,7 @@ use Rattle.std.proofs.Common.{subst, sym}
 use Rattle.quantum_run.specs.Packs.{seen_in}
 use Rattle.quantum_run.specs.declared.pack.Shared.{Shared}
 use Rattle.worker_pool.specs.Ran.{AllCanRun}
-use Rattle.staying_workers.proofs.pool.ClerksStaff.run_packs.Goals as goal
+use Rattle.staying_workers.proofs.pool.CrewOpenGateStaff.run_packs.Goals as goal
 
 pub run_owned-requires-clause-can : goal.run_owned-requires-clause-can
 run_owned-requires-clause-can g c =
