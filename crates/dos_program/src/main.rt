@@ -64,14 +64,19 @@ fn work_alone<R: Threads + Sync>(rt: &HostRuntime, _threads: &R, words: &[String
     work(rt, words, &mut workers)
 }
 
+/// The gate that workers pass, where there is memory for it.
+fn new_gate(alloc: Global) -> Option<Arc<OpenGate, Global>> {
+    Arc::new(alloc, OpenGate::new()).ok()
+}
+
 fn run<R: Threads + Sync>(rt: &HostRuntime, threads: &R) -> u8 {
     let words = match words(rt) {
         Ok(words) => words,
         Err(refusal) => return put_refusal(refusal, &mut StdErr::new(rt.stderr())),
     };
-    match Arc::new(rt.alloc(), OpenGate::new()) {
-        Ok(gate) => work_beside(rt, threads, &gate, &words),
-        Err(_) => work_alone(rt, threads, &words),
+    match new_gate(rt.alloc()) {
+        Some(gate) => work_beside(rt, threads, &gate, &words),
+        None => work_alone(rt, threads, &words),
     }
 }
 

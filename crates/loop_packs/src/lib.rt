@@ -16,8 +16,8 @@ pub use gate::Holding;
 use page_store::Frames;
 use proc_table::{SignalState, Table};
 use quantum_run::{Pack, Shared};
-use std::alloc::{AllocError, Global};
 pub use staying::{KeptHeld, StayingHeld};
+use std::alloc::{AllocError, Global};
 use worker_pool::Workers;
 
 /// What is run: so many packs, as often as this. The first has one budget each time, all others

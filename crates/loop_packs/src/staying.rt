@@ -6,10 +6,10 @@ ghost use Rattle.worker_pool.specs.Ran.{AllCanRun, AllRan};
 
 use crate::gate::Holding;
 use quantum_run::{Pack, Shared};
+use staying_workers::{Kept, run_lent};
 use std::alloc::Global;
 use std::sync::Arc;
 use std::thread::Threads;
-use staying_workers::{Kept, run_lent};
 use worker_pool::{Staff, Tally, Way, Workers};
 
 /// The workers of a `StayingHeld`.

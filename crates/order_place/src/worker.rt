@@ -59,7 +59,7 @@ fn serve<T: Order>(place: &Place<T>, mut seat: PlaceSeat<T>) -> PlaceSeat<T>
     ensures idle { result.me ≡ idle }
 {
     let mut looks = 0;
-    for _ in 0..u64::MAX {
+    for _ in 0..u32::MAX {
         if serve_one(place, &mut seat) {
             looks = 0;
         } else if looks >= LOOKS || place.is_told() {

@@ -138,11 +138,7 @@ fn print_ran(rt: &impl Print, pool: &str, workers: u32, load: Load, ran: u64) ->
 }
 
 /// Runs what six words say, and prints how many instructions that were.
-fn run_six<R: Threads + Sync + Print>(
-    rt: &R,
-    alloc: Global,
-    six: &[String],
-) -> io::Result<()> {
+fn run_six<R: Threads + Sync + Print>(rt: &R, alloc: Global, six: &[String]) -> io::Result<()> {
     let [pool, hired, packs, first, others, calls] = six else {
         return Err(ErrorKind::InvalidInput.into());
     };
@@ -152,11 +148,7 @@ fn run_six<R: Threads + Sync + Print>(
     print_ran(rt, pool, workers, load, ran)
 }
 
-fn run_all<R: Threads + Sync + Print>(
-    rt: &R,
-    alloc: Global,
-    words: &[String],
-) -> io::Result<()> {
+fn run_all<R: Threads + Sync + Print>(rt: &R, alloc: Global, words: &[String]) -> io::Result<()> {
     for six in words.chunks(6) {
         run_six(rt, alloc, six)?;
     }

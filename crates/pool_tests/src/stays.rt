@@ -43,7 +43,9 @@ fn stay<R: Threads + Sync + Abort>(
 
 // a gate that threads share
 fn gate(rt: &impl Abort, alloc: Global, wanted: u64) -> Arc<Holding, Global> {
-    Arc::new(alloc, Holding::until(wanted)).map_err(|_| AllocError).expect(rt, "memory")
+    Arc::new(alloc, Holding::until(wanted))
+        .map_err(|_| AllocError)
+        .expect(rt, "memory")
 }
 
 // 0 is held until 1 has entered, at the first call; both are in later

@@ -55,7 +55,8 @@ pub(crate) fn lend(
     ensures packs { packs_of held.new.items ≡ packs.old.items }
     ensures share { Share lender.value held.new.items }
     ensures term { AreOfTerm lender.term held.new.items }
-    ensures lender { result ≡ record lender { out = vec_len held.new } }
+    ensures lender { (result.value ≡ lender.value) × (result.term ≡ lender.term)
+        × (result.out ≡ vec_len held.new) }
     ensures len { vec_len held.new ≡ vec_len packs.old }
     ensures empty { vec_len packs.new ≡ 0 }
     ensures capacity { vec_capacity packs.new ≡ vec_capacity packs.old }

@@ -1,5 +1,5 @@
 // One call's packs, over a board at which workers are lent a seat.
-ghost use Rattle.std.specs.Prelude.{◌≡◌, ◌+◌, ◌-◌, ◌<◌, ◌≤◌, ◌^◌, [], true, All, sum_by, IfOk, IfErr};
+ghost use Rattle.std.specs.Prelude.{◌≡◌, ◌+◌, ◌<◌, ◌≤◌, ◌^◌, [], true, All, sum_by, IfOk, IfErr};
 ghost use Rattle.std.specs.Prelude.{vec_len, vec_capacity};
 ghost use Rattle.hand_board.specs.Placed.{whole};
 ghost use Rattle.hand_board.specs.Seating.{AllFinished};
@@ -151,7 +151,8 @@ fn send_all<G: Gate + Drop>(
     requires ready { AreReady IsReady seat.opened }
     requires room { (vec_len busy.old ≡ 0) × (others ≤ vec_capacity busy.old) }
     requires few { others < 2 ^ 32 }
-    ensures lender { result.0 ≡ record lender { out = vec_len busy.new + 1 } }
+    ensures lender { (result.0.value ≡ lender.value) × (result.0.term ≡ lender.term)
+        × (result.0.out ≡ vec_len busy.new + 1) }
     ensures few { vec_len busy.new < 2 ^ 32 }
     ensures seat { (result.1.board ≡ seat.board) × (result.1.opened ≡ seat.opened)
         × (result.1.hand ≡ []) }
@@ -191,7 +192,8 @@ fn bring_back<R: Threads, G: Gate + Drop>(
 ) -> (Lender<Board<Held>, Global>, BoardSeat<Held>)
     requires at { IsAt lender.term at.now.id opened.now.opened worker }
     requires out { (0 < lender.out) × (lender.out < 2 ^ 63) }
-    ensures lender { result.0 ≡ record lender { out = lender.out - 1 } }
+    ensures lender { (result.0.value ≡ lender.value) × (result.0.term ≡ lender.term)
+        × (result.0.out + 1 ≡ lender.out) }
     ensures seat { (result.1.board ≡ at.now.id) × (result.1.hand ≡ []) }
     ensures share { result.1.share ≡ share_out worker }
 {
@@ -221,7 +223,8 @@ fn gather<R: Threads, G: Gate + Drop>(
     requires seat { (seat.hand ≡ []) × (seat.ended ≡ true) }
     requires busy { All (IsAt lender.term seat.board seat.opened) busy.items }
     requires out { (lender.out ≡ vec_len busy + 1) × (vec_len busy < 2 ^ 32) }
-    ensures lender { result.0 ≡ record lender { out = 1 } }
+    ensures lender { (result.0.value ≡ lender.value) × (result.0.term ≡ lender.term)
+        × (result.0.out ≡ 1) }
     ensures seat { (result.1.board ≡ seat.board) × (result.1.hand ≡ [])
         × (result.1.ended ≡ true) }
     ensures share { result.1.share ≡ seat.share + sum_by share_out busy.items }

@@ -20,23 +20,33 @@ loop-sent-preserved g c =
     let inv = c.loop-sent.invariant in
     let h = c.halved-ours.ensures in
     let w = c.sent.result in
+    let lent = c.lend-rest.ensures in
     let pushed = c.push_reserved.ensures in
     let before = c.loop-sent.busy.items in
-    let at = subst (λ b. IsAt b c.args.seat.opened w) (h.order.0 ∙ inv.0)
-    (subst (λ (o : List Held). IsAt c.halved-ours.result.1.seat.board o w) (h.order.1 ∙ inv.1)
-    c.sent.ensures.at) in
+    let term = c.args.lender.term in
+    let board = c.args.seat.board in
+    let opened = c.args.seat.opened in
+    let loan = ap (λ l. l.term) h.order.2 ∙ lent.2 ∙ inv.8 in
+    let at = subst (λ t. IsAt t board opened w) loan
+    (subst (λ b. IsAt c.halved-ours.result.1.board.term b opened w) (h.order.0 ∙ inv.0)
+    (subst (λ (o : List Held).
+    IsAt c.halved-ours.result.1.board.term c.halved-ours.result.1.seat.board o w)
+    (h.order.1 ∙ inv.1) c.sent.ensures.at)) in
     let sum = ap (sum_by_out g.row.G.Denot) pushed.items
     ∙ sum_by-append share_out before (w ∷ []) in
     let mine = c.sent.ensures.share in
     let cut = h.share in
+    let more = ap (λ l. l.out) lent.0 in
     let all = inv.4 in (
       h.seat.0 ∙ inv.0,
       h.seat.1 ∙ inv.1,
       h.seat.2,
-      subst (λ (l : List (Worker (PackOrder g.row.G.Denot))).
-          All (IsAt c.args.seat.board c.args.seat.opened) l) (sym pushed.items)
-          (All-push (IsAt c.args.seat.board c.args.seat.opened) before w inv.3 at),
+      subst (λ (l : List (Worker (PackOrder g.row.G.Denot))). All (IsAt term board opened) l)
+          (sym pushed.items) (All-push (IsAt term board opened) before w inv.3 at),
       omega (arith, sum, mine, cut, all),
       omega (arith, pushed.len, inv.5),
       omega (arith, pushed.capacity, inv.6),
+      ap (λ l. l.value) lent.0 ∙ inv.7,
+      ap (λ l. l.term) lent.0 ∙ inv.8,
+      omega (arith, more, pushed.len, inv.9),
     )

@@ -1,5 +1,5 @@
 use Rattle.worker_pool.proofs.RanPacks.{runnable-in, ran-in}
-use Rattle.staying_workers.proofs.pool.run_alone.Goals as goal
+use Rattle.staying_workers.proofs.kept.run_alone.Goals as goal
 
 pub run_in_place-requires-clause-can : goal.run_in_place-requires-clause-can
 run_in_place-requires-clause-can g c = runnable-in _ _ _ c.view.ensures c.requires.can
