@@ -4,7 +4,7 @@
 use dos_cmd::dos_main;
 use dos_io::{StdErr, StdFiles, StdHost, StdOut};
 use dos_texts::{Refusal, put_refusal};
-use staying_workers::Staying;
+use staying_workers::{Kept, Staying};
 use std::alloc::Global;
 use std::env;
 use std::io::ErrorKind;
@@ -51,9 +51,11 @@ fn work_beside<R: Threads + Sync>(
     words: &[String],
 ) -> u8 {
     let mut tally = Tally::new();
-    let mut workers = Staying::new(threads, rt.alloc(), gate, &mut tally);
+    let kept = Kept::new(rt.alloc());
+    let mut workers = Staying::new(threads, rt.alloc(), gate, &kept, &mut tally);
     let status = work(rt, words, &mut workers);
-    workers.dismiss();
+    drop(workers);
+    kept.dismiss(threads, rt.alloc());
     status
 }
 

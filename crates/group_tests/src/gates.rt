@@ -8,6 +8,7 @@ use crate::files::usual_files;
 use crate::guests::{ENDLESS, add_guest};
 use dos_io::MemoryFiles;
 use loop_packs::{Holding, StayingHeld};
+use staying_workers::Kept;
 use std::alloc::{AllocError, Global};
 use std::process::Abort;
 use std::sync::Arc;
@@ -118,10 +119,11 @@ fn staying<R: Threads + Sync + Abort>(
     err: &str,
 ) {
     let mut tally = Tally::new();
-    let mut workers = StayingHeld::new(rt, alloc, gate, &mut tally);
+    let kept = Kept::new(alloc);
+    let mut workers = StayingHeld::new(rt, alloc, gate, &kept, &mut tally);
     check_words(rt, alloc, words, err, &mut workers);
-    workers.dismiss();
     workers.finish();
+    kept.dismiss(rt, alloc);
 }
 
 // a gate that threads own by count

@@ -16,7 +16,7 @@ pub use gate::Holding;
 use page_store::Frames;
 use proc_table::{SignalState, Table};
 use quantum_run::{Pack, Shared};
-pub use staying::{KeptHeld, StayingHeld};
+pub use staying::{HiredHeld, StayingHeld};
 use std::alloc::{AllocError, Global};
 use worker_pool::Workers;
 

@@ -6,49 +6,50 @@ ghost use Rattle.worker_pool.specs.Ran.{AllCanRun, AllRan};
 
 use crate::gate::Holding;
 use quantum_run::{Pack, Shared};
-use staying_workers::{Kept, run_lent};
+use staying_workers::{Hired, Kept, run_lent};
 use std::alloc::Global;
 use std::sync::Arc;
 use std::thread::Threads;
 use worker_pool::{Staff, Tally, Way, Workers};
 
-/// The workers of a `StayingHeld`.
+/// The workers that a `StayingHeld` may use.
 #[derive(Drop)]
-pub struct KeptHeld<'a, R> {
-    kept: Kept<'a, R, Holding>,
+pub struct HiredHeld<'a, R> {
+    hired: Hired<'a, R, Holding>,
 }
 
-impl<'a, R: Threads> Staff for KeptHeld<'a, R> {
+impl<'a, R: Threads> Staff for HiredHeld<'a, R> {
     fn is_alone(&self, packs: usize) -> bool {
-        self.kept.is_alone(packs)
+        self.hired.is_alone(packs)
     }
 
     fn run_packs(&self, packs: &mut Vec<Pack>, shared: Shared) -> Shared {
-        run_lent(&self.kept, packs, shared)
+        run_lent(&self.hired, packs, shared)
     }
 }
 
 /// `Staying` of staying_workers at another gate: the same workers, run by the same function.
 #[derive(Drop)]
 pub struct StayingHeld<'a, R> {
-    kept: KeptHeld<'a, R>,
+    held: HiredHeld<'a, R>,
     tally: &'a mut Tally,
 }
 
 impl<'a, R> StayingHeld<'a, R> {
-    /// Workers that hold this tally. Until some are hired the caller alone runs packs.
+    /// The workers that are kept here, which hold this tally. Until some are hired the caller alone runs packs.
     pub fn new(
         rt: &'a R,
         alloc: Global,
         gate: &'a Arc<Holding, Global>,
+        kept: &'a Kept<Holding>,
         tally: &'a mut Tally,
     ) -> StayingHeld<'a, R>
         ensures same { result.tally.ghost_name ≡ tally.entry.ghost_name }
         ensures value { result.tally.now ≡ tally.old }
     {
         StayingHeld {
-            kept: KeptHeld {
-                kept: Kept::new(rt, alloc, gate),
+            held: HiredHeld {
+                hired: Hired::new(rt, alloc, gate, kept),
             },
             tally,
         }
@@ -58,14 +59,7 @@ impl<'a, R> StayingHeld<'a, R> {
     pub fn finish(self)
         ensures { self.exit.1.0.now ≡ self.entry.tally.now }
     {
-        let StayingHeld { kept: _, tally: _ } = self;
-    }
-}
-
-impl<'a, R: Threads> StayingHeld<'a, R> {
-    /// Each worker has ended when this returns.
-    pub fn dismiss(&mut self) {
-        self.kept.kept.dismiss();
+        let StayingHeld { held: _, tally: _ } = self;
     }
 }
 
@@ -74,7 +68,7 @@ impl<'a, R: Threads + Sync> Workers for StayingHeld<'a, R> {
 
     type Door = Holding;
 
-    type Staff = KeptHeld<'a, R>;
+    type Staff = HiredHeld<'a, R>;
 
     ghost tally = { λ s. s.tally.now.count };
 
@@ -82,16 +76,16 @@ impl<'a, R: Threads + Sync> Workers for StayingHeld<'a, R> {
 
     ghost fixed = { λ s. s.tally.ghost_name };
 
-    fn way(&self) -> Way<'_, R, Holding, KeptHeld<'a, R>> {
-        Way::Staffed(&self.kept)
+    fn way(&self) -> Way<'_, R, Holding, HiredHeld<'a, R>> {
+        Way::Staffed(&self.held)
     }
 
     fn add(&mut self, more: u64) {
-        self.kept.kept.note(more);
+        self.held.hired.note(more);
         self.tally.add(more);
     }
 
     fn hire(&mut self, workers: u32) {
-        self.kept.kept.hire(workers);
+        self.held.hired.hire(workers);
     }
 }

@@ -8,7 +8,7 @@
 ghost use Rattle.std.specs.Prelude.{◌≡◌, ◌<◌, ◌≤◌};
 
 use loop_packs::{Load, run};
-use staying_workers::Staying;
+use staying_workers::{Kept, Staying};
 use std::alloc::{AllocError, Global};
 use std::io::ErrorKind;
 use std::sync::Arc;
@@ -38,11 +38,12 @@ fn play_staying<R: Threads + Sync>(
     let Ok(gate) = Arc::new(alloc, OpenGate::new()) else {
         return Err(AllocError);
     };
-    let mut workers = Staying::new(rt, alloc, &gate, tally);
+    let kept = Kept::new(alloc);
+    let mut workers = Staying::new(rt, alloc, &gate, &kept, tally);
     workers.hire(hired);
     let played = run(alloc, &mut workers, load);
-    workers.dismiss();
     workers.finish();
+    kept.dismiss(rt, alloc);
     played
 }
 

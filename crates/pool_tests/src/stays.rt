@@ -8,6 +8,7 @@ use std::alloc::{AllocError, Global};
 use std::process::Abort;
 use std::sync::Arc;
 use std::test::*;
+use staying_workers::Kept;
 use std::thread::Threads;
 use worker_pool::{Tally, Workers};
 
@@ -34,11 +35,12 @@ fn stay<R: Threads + Sync + Abort>(
 )
     requires { (0 < workers) × (workers ≤ 32) }
 {
-    let mut pool = StayingHeld::new(rt, alloc, gate, tally);
+    let kept = Kept::new(alloc);
+    let mut pool = StayingHeld::new(rt, alloc, gate, &kept, tally);
     pool.hire(workers);
     rounds(alloc, &mut pool, load).expect(rt, "memory");
-    pool.dismiss();
     pool.finish();
+    kept.dismiss(rt, alloc);
 }
 
 // a gate that threads share

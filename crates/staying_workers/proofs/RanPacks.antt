@@ -1,6 +1,6 @@
 -- Packs that were run over a board, with loans of what they share.
-use Rattle.std.proofs.Common.{◌≡◌, ℕ, zero, suc, List, [], ◌∷◌, length, ◌<◌, refl, sym, ap, subst}
-use Rattle.std.proofs.Common.{◌∙◌, arith, slice_index_or}
+use Rattle.std.proofs.Common.{◌≡◌, ℕ, zero, suc, List, [], ◌∷◌, length, refl, sym, ap, subst}
+use Rattle.std.proofs.Common.{◌∙◌, arith}
 use Rattle.std.proofs.lemmas.List.{length-map}
 use mathlib.Core.Option.{some}
 use lib.ListN.{get_elem?}
@@ -47,12 +47,10 @@ all_ran s hs ms all same =
 -- the loans of packs that were run are of the term that they were of
 pub still_of_term : (term : ℕ) (hs ms : List Held) → AllFinished IsFinished hs ms
     → AreOfTerm term hs → AreOfTerm term ms
-still_of_term term [] [] all of_term = of_term
-still_of_term term [] (m ∷ ms) all of_term = absurd all
-still_of_term term (h ∷ hs) [] all of_term = absurd all
-still_of_term term (h ∷ hs) (m ∷ ms) all of_term = λ i d low. at i d low
-  where
-    at : (i : ℕ) (d : Held) → i < length (m ∷ ms) → (slice_index_or (m ∷ ms) i d).shared.term ≡ term
-    at zero d low = ap (λ s. s.term) all.0.0 ∙ of_term 0 h (omega arith)
-    at (suc i) d low = still_of_term term hs ms all.1
-        (λ j e less. of_term (suc j) e (omega arith)) i d (omega arith)
+still_of_term term [] [] all of_term i d low = absurd (omega arith)
+still_of_term term [] (m ∷ ms) all of_term i d low = absurd all
+still_of_term term (h ∷ hs) [] all of_term i d low = absurd all
+still_of_term term (h ∷ hs) (m ∷ ms) all of_term zero d low =
+    ap (λ s. s.term) all.0.0 ∙ of_term 0 h (omega arith)
+still_of_term term (h ∷ hs) (m ∷ ms) all of_term (suc i) d low =
+    still_of_term term hs ms all.1 (λ j e less. of_term (suc j) e (omega arith)) i d (omega arith)

@@ -15,43 +15,78 @@ use std::thread;
 use std::thread::Threads;
 use worker_pool::{Gate, Hands, run_in_place};
 
-/// The workers of a pool, and the gate that they pass.
+/// Workers between calls: who has no order, and how many fewer a call gets for a while.
 #[derive(Drop)]
-pub struct Kept<'a, R, G: Gate> {
-    rt: &'a R,
-    alloc: Global,
-    gate: &'a Arc<G, Global>,
-    // the caller, and the workers that are used
-    hands: Hands<'a, R, G>,
+pub struct Kept<G: Gate> {
     idle: Cell<Vec<Idle<G>>>,
     fewer: Cell<Fewer>,
 }
 
-impl<'a, R, G: Gate> Kept<'a, R, G> {
-    /// No worker yet: until some are hired the caller alone runs packs.
-    pub fn new(rt: &'a R, alloc: Global, gate: &'a Arc<G, Global>) -> Kept<'a, R, G> {
-        let door: &'a G = gate;
+impl<G: Gate> Kept<G> {
+    /// No worker yet.
+    pub fn new(alloc: Global) -> Kept<G> {
         Kept {
+            idle: Cell::new(Vec::new(alloc)),
+            fewer: Cell::new(Fewer::new()),
+        }
+    }
+}
+
+impl<G: Gate + Drop> Kept<G> {
+    /// Each worker has ended when this returns; later calls start others.
+    pub fn dismiss<R: Threads>(&self, rt: &R, alloc: Global) {
+        dismiss_all(rt, self.idle.replace(Vec::new(alloc)));
+    }
+
+    // so many should be there after a call
+    fn keep(&self, idle: Vec<Idle<G>>, others: usize) {
+        if idle.len() < others {
+            self.fewer.set(self.fewer.get().late());
+        }
+        self.idle.set(idle);
+    }
+}
+
+/// The workers of a pool that may be used, and the gate that they pass.
+#[derive(Drop)]
+pub struct Hired<'a, R, G: Gate> {
+    rt: &'a R,
+    alloc: Global,
+    gate: &'a Arc<G, Global>,
+    kept: &'a Kept<G>,
+    // the caller, and the workers that are used
+    hands: Hands<'a, R, G>,
+}
+
+impl<'a, R, G: Gate> Hired<'a, R, G> {
+    /// Nobody yet: until some are hired the caller alone runs packs.
+    pub fn new(
+        rt: &'a R,
+        alloc: Global,
+        gate: &'a Arc<G, Global>,
+        kept: &'a Kept<G>,
+    ) -> Hired<'a, R, G> {
+        let door: &'a G = gate;
+        Hired {
             rt,
             alloc,
             gate,
+            kept,
             hands: Hands::staying(rt, 1, door),
-            idle: Cell::new(Vec::new(alloc)),
-            fewer: Cell::new(Fewer::new()),
         }
     }
 
     /// A call ran so many instructions.
     pub fn note(&mut self, work: u64) {
         self.hands.note(work);
-        self.fewer.set(self.fewer.get().passed());
+        self.kept.fewer.set(self.kept.fewer.get().passed());
     }
 
     // the workers that are to run so many packs beside the caller
     fn others(&self, packs: usize) -> u32
         ensures { result < 32 }
     {
-        self.fewer.get().left(self.hands.enough_for(packs) - 1)
+        self.kept.fewer.get().left(self.hands.enough_for(packs) - 1)
     }
 
     /// Whether the caller alone would run so many packs.
@@ -68,7 +103,7 @@ fn other_processors<R: Threads>(rt: &R) -> u32 {
     }
 }
 
-impl<'a, R: Threads, G: Gate + Drop> Kept<'a, R, G> {
+impl<'a, R: Threads, G: Gate> Hired<'a, R, G> {
     /// From now on at most so many threads, the caller's among them, and no more than there are
     /// processors, but two at least where two are asked for.
     pub fn hire(&mut self, workers: u32)
@@ -76,20 +111,6 @@ impl<'a, R: Threads, G: Gate + Drop> Kept<'a, R, G> {
     {
         let most = other_processors(self.rt).max(1);
         self.hands.hire((workers - 1).min(most).min(31) + 1);
-    }
-
-    /// Each worker has ended when this returns.
-    pub fn dismiss(&mut self) {
-        let idle = self.idle.replace(Vec::new(self.alloc));
-        dismiss_all(self.rt, idle);
-    }
-
-    // so many should be there after a call
-    fn keep(&self, idle: Vec<Idle<G>>, others: usize) {
-        if idle.len() < others {
-            self.fewer.set(self.fewer.get().late());
-        }
-        self.idle.set(idle);
     }
 }
 
@@ -155,7 +176,7 @@ fn run_owned<R: Threads, G: Gate + Drop>(
 
 /// Runs each pack, as `run_pack` does; what they share comes back as it was.
 pub fn run_lent<R: Threads, G: Gate + Send + Sync + Drop + 'static>(
-    kept: &Kept<'_, R, G>,
+    hired: &Hired<'_, R, G>,
     packs: &mut Vec<Pack>,
     shared: Shared,
 ) -> Shared
@@ -165,8 +186,8 @@ pub fn run_lent<R: Threads, G: Gate + Send + Sync + Drop + 'static>(
     ensures shared { result ≡ shared }
     ensures room { vec_capacity packs.new ≡ vec_capacity packs.old }
 {
-    let (rt, alloc, gate) = (kept.rt, kept.alloc, kept.gate);
-    let others = kept.others(packs.len()) as usize;
+    let (rt, alloc, gate, kept) = (hired.rt, hired.alloc, hired.gate, hired.kept);
+    let others = hired.others(packs.len()) as usize;
     let door: &G = gate;
     if others == 0 {
         run_alone(door, packs, &shared);

@@ -8,8 +8,9 @@
 //! order comes back within a bounded number of looks, or when the worker's thread has ended and was
 //! joined, so a call of the pool returns whatever its workers do.
 //!
-//! `Kept` is the workers and what they are told; `Staying` is the pool, which is one of
-//! worker_pool's `Workers`. Where memory or threads are wanting the caller runs the packs itself.
+//! `Kept` is the workers between calls, `Hired` those that a pool may use, and `Staying` the pool,
+//! which is one of worker_pool's `Workers`. Where memory or threads are wanting the caller runs the
+//! packs itself.
 #![tactic(auto)]
 
 mod fewer;
@@ -20,6 +21,6 @@ mod pool;
 mod rounds;
 
 pub use held::Held;
-pub use kept::{Kept, run_lent};
+pub use kept::{Hired, Kept, run_lent};
 pub use orders::PackOrder;
 pub use pool::Staying;

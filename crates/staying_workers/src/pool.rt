@@ -4,14 +4,14 @@ ghost use Rattle.std.specs.Borrow.{GName};
 ghost use Rattle.quantum_run.specs.Packs.{seen_in};
 ghost use Rattle.worker_pool.specs.Ran.{AllCanRun, AllRan};
 
-use crate::kept::{Kept, run_lent};
+use crate::kept::{Hired, Kept, run_lent};
 use quantum_run::{Pack, Shared};
 use std::alloc::Global;
 use std::sync::Arc;
 use std::thread::Threads;
-use worker_pool::{Gate, OpenGate, Staff, Tally, Way, Workers};
+use worker_pool::{OpenGate, Staff, Tally, Way, Workers};
 
-impl<'a, R: Threads> Staff for Kept<'a, R, OpenGate> {
+impl<'a, R: Threads> Staff for Hired<'a, R, OpenGate> {
     fn is_alone(&self, packs: usize) -> bool {
         self.is_alone(packs)
     }
@@ -25,24 +25,26 @@ impl<'a, R: Threads> Staff for Kept<'a, R, OpenGate> {
 /// them a board, from which they take packs beside the caller. Each begins at a number of its own,
 /// and goes round.
 #[derive(Drop)]
-pub struct Staying<'a, R, G: Gate> {
-    kept: Kept<'a, R, G>,
+pub struct Staying<'a, R> {
+    hired: Hired<'a, R, OpenGate>,
     tally: &'a mut Tally,
 }
 
-impl<'a, R, G: Gate + Drop> Staying<'a, R, G> {
-    /// Workers that hold this tally. Until some are hired the caller alone runs packs.
+impl<'a, R> Staying<'a, R> {
+    /// The workers that are kept here, which hold this tally. Until some are hired the caller alone
+    /// runs packs.
     pub fn new(
         rt: &'a R,
         alloc: Global,
-        gate: &'a Arc<G, Global>,
+        gate: &'a Arc<OpenGate, Global>,
+        kept: &'a Kept<OpenGate>,
         tally: &'a mut Tally,
-    ) -> Staying<'a, R, G>
+    ) -> Staying<'a, R>
         ensures same { result.tally.ghost_name ≡ tally.entry.ghost_name }
         ensures value { result.tally.now ≡ tally.old }
     {
         Staying {
-            kept: Kept::new(rt, alloc, gate),
+            hired: Hired::new(rt, alloc, gate, kept),
             tally,
         }
     }
@@ -51,26 +53,16 @@ impl<'a, R, G: Gate + Drop> Staying<'a, R, G> {
     pub fn finish(self)
         ensures { self.exit.1.0.now ≡ self.entry.tally.now }
     {
-        let Staying { kept: _, tally: _ } = self;
+        let Staying { hired: _, tally: _ } = self;
     }
 }
 
-impl<'a, R: Threads, G: Gate + Drop> Staying<'a, R, G> {
-    /// Each worker has ended when this returns; later calls start others.
-    pub fn dismiss(&mut self)
-        ensures same { self.new.tally.ghost_name ≡ self.old.tally.ghost_name }
-        ensures value { self.new.tally.now ≡ self.old.tally.now }
-    {
-        self.kept.dismiss();
-    }
-}
-
-impl<'a, R: Threads + Sync> Workers for Staying<'a, R, OpenGate> {
+impl<'a, R: Threads + Sync> Workers for Staying<'a, R> {
     type Rt = R;
 
     type Door = OpenGate;
 
-    type Staff = Kept<'a, R, OpenGate>;
+    type Staff = Hired<'a, R, OpenGate>;
 
     ghost tally = { λ s. s.tally.now.count };
 
@@ -78,16 +70,16 @@ impl<'a, R: Threads + Sync> Workers for Staying<'a, R, OpenGate> {
 
     ghost fixed = { λ s. s.tally.ghost_name };
 
-    fn way(&self) -> Way<'_, R, OpenGate, Kept<'a, R, OpenGate>> {
-        Way::Staffed(&self.kept)
+    fn way(&self) -> Way<'_, R, OpenGate, Hired<'a, R, OpenGate>> {
+        Way::Staffed(&self.hired)
     }
 
     fn add(&mut self, more: u64) {
-        self.kept.note(more);
+        self.hired.note(more);
         self.tally.add(more);
     }
 
     fn hire(&mut self, workers: u32) {
-        self.kept.hire(workers);
+        self.hired.hire(workers);
     }
 }

@@ -100,6 +100,20 @@ fn next_worker<R: Threads, G: Gate + Send + Sync + Drop + 'static>(
     started(rt, alloc)
 }
 
+// whether the last so many of these take orders
+fn are_there<G: Gate + Drop>(idle: &[Idle<G>], others: usize) -> bool {
+    if idle.len() < others {
+        return false;
+    }
+    let (_rest, used) = idle.split_at(idle.len() - others);
+    for next in used {
+        if next.worker.has_left() {
+            return false;
+        }
+    }
+    true
+}
+
 /// The last so many of these take orders, where there is memory and a thread for each.
 pub(crate) fn refreshed<R: Threads, G: Gate + Send + Sync + Drop + 'static>(
     rt: &R,
@@ -107,6 +121,9 @@ pub(crate) fn refreshed<R: Threads, G: Gate + Send + Sync + Drop + 'static>(
     mut idle: Vec<Idle<G>>,
     others: usize,
 ) -> Vec<Idle<G>> {
+    if are_there(&idle, others) {
+        return idle;
+    }
     let mut fresh = Vec::new(alloc);
     for _ in 0..others {
         let Some(next) = next_worker(rt, alloc, &mut idle) else {
