@@ -4,11 +4,11 @@ ghost use Rattle.std.specs.Prelude.{◌<◌, ◌≤◌};
 use crate::gates::check_seen;
 use crate::pools::{BUDGET, check_count, evenly};
 use loop_packs::{Holding, Load, StayingHeld, run};
+use staying_workers::Kept;
 use std::alloc::{AllocError, Global};
 use std::process::Abort;
 use std::sync::Arc;
 use std::test::*;
-use staying_workers::Kept;
 use std::thread::Threads;
 use worker_pool::{Tally, Workers};
 

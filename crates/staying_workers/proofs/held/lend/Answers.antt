@@ -1,9 +1,8 @@
-use Rattle.std.proofs.Common.{◌≡◌, ◌++◌, ◌∷◌, [], ℕ, sym, ap, ◌∙◌, subst, arith, List}
+use Rattle.std.proofs.Common.{◌≡◌, ◌++◌, ◌∷◌, [], sym, ap, ◌∙◌, subst, arith, List}
 use Rattle.std.specs.Prelude.{reverse}
 use Rattle.std.proofs.lemmas.List.{reverse-append, map-append, append_assoc}
 use Rattle.std.proofs.lemmas.List.Elements.{All-push}
 use Rattle.quantum_run.specs.Shows.{Pack}
-use Rattle.quantum_run.specs.declared.pack.Shared.{Shared}
 use Rattle.staying_workers.specs.declared.held.Held.{Held}
 use Rattle.staying_workers.specs.Lending.{AreOfTerm, packs_of, Share}
 use Rattle.staying_workers.proofs.held.lend.Goals as goal

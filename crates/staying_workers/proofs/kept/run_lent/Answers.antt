@@ -1,7 +1,7 @@
-use Rattle.std.proofs.Common.{List, subst, sym, ◌∙◌}
+use Rattle.std.proofs.Common.{subst, sym, ◌∙◌}
 use Rattle.quantum_run.specs.Packs.{seen_in}
 use Rattle.quantum_run.specs.declared.pack.Shared.{Shared}
-use Rattle.worker_pool.specs.Ran.{AllCanRun, AllRan}
+use Rattle.worker_pool.specs.Ran.{AllCanRun}
 use Rattle.staying_workers.proofs.kept.run_lent.Goals as goal
 
 pub run_owned-lender-requires-clause-can : goal.run_owned-lender-requires-clause-can

@@ -1,4 +1,4 @@
-use Rattle.std.proofs.Common.{ap, sym, arith, ◌∙◌}
+use Rattle.std.proofs.Common.{ap, sym, ◌∙◌}
 use Rattle.staying_workers.proofs.AtBoard.{order_at, order_is}
 use Rattle.staying_workers.proofs.rounds.bring_back.Goals as goal
 

@@ -1,4 +1,4 @@
-use Rattle.std.proofs.Common.{◌≡◌, ◌||◌, ℕ, All, List, Some, ap, sum_by, sym, subst, arith, ◌∙◌}
+use Rattle.std.proofs.Common.{◌||◌, ℕ, List, Some, ap, sum_by, sym, subst, arith, ◌∙◌}
 use Rattle.std.proofs.lemmas.List.Elements.{All-pop}
 use Rattle.std.proofs.lemmas.List.Sums.{sum_by-append}
 use Rattle.hand_board.specs.Seating.{Seating}

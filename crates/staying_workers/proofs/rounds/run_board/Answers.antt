@@ -1,6 +1,3 @@
-use Rattle.std.proofs.Common.{All, List, sym, subst, ◌∙◌}
-use Rattle.staying_workers.specs.Busy.{IsAt}
-use Rattle.staying_workers.specs.declared.held.Held.{Held}
 use Rattle.staying_workers.proofs.RanPacks.{still_ready}
 use Rattle.staying_workers.proofs.rounds.run_board.Goals as goal
 

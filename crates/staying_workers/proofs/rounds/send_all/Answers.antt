@@ -1,4 +1,4 @@
-use Rattle.std.proofs.Common.{◌≡◌, ◌+◌, ◌∷◌, [], ℕ, All, List, sum_by, ap, sym, subst, arith, ◌∙◌}
+use Rattle.std.proofs.Common.{◌∷◌, [], ℕ, All, List, sum_by, ap, sym, subst, arith, ◌∙◌}
 use Rattle.std.proofs.lemmas.List.Elements.{All-push}
 use Rattle.std.proofs.lemmas.List.Sums.{sum_by-append}
 use Rattle.order_place.specs.declared.worker.Worker.{Worker}
