@@ -4,13 +4,14 @@
 use dos_cmd::dos_main;
 use dos_io::{StdErr, StdFiles, StdHost, StdOut};
 use dos_texts::{Refusal, put_refusal};
-use staying_workers::{Office, Staying, open};
+use staying_workers::{Kept, Staying};
+use std::alloc::Global;
+use std::env;
 use std::io::ErrorKind;
 use std::process::ExitCode;
-use std::sync::Wait;
+use std::sync::Arc;
 use std::thread::Threads;
-use std::{env, thread};
-use worker_pool::{OpenGate, Tally, Workers};
+use worker_pool::{OpenGate, Serial, Tally, Workers};
 
 /// The words behind the program's name. Words that are no text are refused.
 fn words(rt: &HostRuntime) -> Result<Vec<String>, Refusal> {
@@ -42,37 +43,42 @@ fn work(rt: &HostRuntime, words: &[String], workers: &mut impl Workers) -> u8 {
     )
 }
 
-/// The same, over the workers of this office. `threads` is the same runtime, which starts them;
-/// they wait for one another.
-fn work_beside<R: Threads + Wait + Sync>(
+/// The same by workers that stay until it is done. `threads` is the same runtime, which starts them.
+fn work_beside<R: Threads + Sync>(
     rt: &HostRuntime,
     threads: &R,
-    office: &Office,
-    gate: &OpenGate,
+    gate: &Arc<OpenGate, Global>,
     words: &[String],
 ) -> u8 {
     let mut tally = Tally::new();
-    let mut workers = Staying::new(threads, rt.alloc(), office, gate, &mut tally);
+    let kept = Kept::new(rt.alloc());
+    let mut workers = Staying::new(threads, rt.alloc(), gate, &kept, &mut tally);
+    let status = work(rt, words, &mut workers);
+    drop(workers);
+    kept.dismiss(threads, rt.alloc());
+    status
+}
+
+/// The same where there is no memory for workers: the caller alone.
+fn work_alone<R: Threads + Sync>(rt: &HostRuntime, _threads: &R, words: &[String]) -> u8 {
+    let mut tally = Tally::new();
+    let mut workers: Serial<'_, R> = Serial::new(&mut tally);
     work(rt, words, &mut workers)
 }
 
-/// The same; the workers stay until it is done.
-fn work_staffed<R: Threads + Wait + Sync>(rt: &HostRuntime, threads: &R, words: &[String]) -> u8 {
-    let gate = OpenGate::new();
-    let office = Office::new(rt.alloc());
-    let (gate, office) = (&gate, &office);
-    thread::scope(thread::scope_env(), threads, |scope| -> u8 {
-        open(threads, scope, office, gate);
-        let status = work_beside(rt, threads, office, gate, words);
-        office.close();
-        status
-    })
+/// The gate that workers pass, where there is memory for it.
+fn new_gate(alloc: Global) -> Option<Arc<OpenGate, Global>> {
+    Arc::new(alloc, OpenGate::new()).ok()
 }
 
-fn run(rt: &HostRuntime, threads: &(impl Threads + Wait + Sync)) -> u8 {
-    match words(rt) {
-        Ok(words) => work_staffed(rt, threads, &words),
-        Err(refusal) => put_refusal(refusal, &mut StdErr::new(rt.stderr())),
+fn run<R: Threads + Sync>(rt: &HostRuntime, threads: &R) -> u8 {
+    let words = match words(rt) {
+        Ok(words) => words,
+        Err(refusal) => return put_refusal(refusal, &mut StdErr::new(rt.stderr())),
+    };
+    match new_gate(rt.alloc()) {
+        Some(gate) => work_beside(rt, threads, &gate, &words),
+        None => work_alone(rt, threads, &words),
     }
 }
 

@@ -7,9 +7,11 @@ use crate::checks::same;
 use crate::files::usual_files;
 use crate::guests::{ENDLESS, add_guest};
 use dos_io::MemoryFiles;
-use loop_packs::Holding;
-use std::alloc::Global;
+use loop_packs::{Holding, StayingHeld};
+use staying_workers::Kept;
+use std::alloc::{AllocError, Global};
 use std::process::Abort;
+use std::sync::Arc;
 use std::thread::Threads;
 use worker_pool::{Boarded, Spread, Stealing, Tally, Workers};
 
@@ -109,6 +111,28 @@ fn stealing<R: Threads + Sync + Abort>(
     workers.finish();
 }
 
+fn staying<R: Threads + Sync + Abort>(
+    rt: &R,
+    alloc: Global,
+    gate: &Arc<Holding, Global>,
+    words: &[&str],
+    err: &str,
+) {
+    let mut tally = Tally::new();
+    let kept = Kept::new(alloc);
+    let mut workers = StayingHeld::new(rt, alloc, gate, &kept, &mut tally);
+    check_words(rt, alloc, words, err, &mut workers);
+    workers.finish();
+    kept.dismiss(rt, alloc);
+}
+
+// a gate that threads own by count
+fn shared_gate(rt: &impl Abort, alloc: Global, wanted: u64) -> Arc<Holding, Global> {
+    Arc::new(alloc, Holding::until(wanted))
+        .map_err(|_| AllocError)
+        .expect(rt, "memory")
+}
+
 // 0 is held until 1 has begun
 #[test]
 fn two_at_once_spread(rt: HostRuntime) {
@@ -128,6 +152,13 @@ fn two_at_once_boarded(rt: HostRuntime) {
 fn two_at_once_stealing(rt: HostRuntime) {
     let gate = Holding::until(2);
     stealing(&rt, rt.alloc(), &gate, &TWO, TWO_LIVE);
+    check_gate(&rt, &gate, 4, 3);
+}
+
+#[test]
+fn two_at_once_staying(rt: HostRuntime) {
+    let gate = shared_gate(&rt, rt.alloc(), 2);
+    staying(&rt, rt.alloc(), &gate, &TWO, TWO_LIVE);
     check_gate(&rt, &gate, 4, 3);
 }
 
@@ -151,5 +182,12 @@ fn one_goes_round_boarded(rt: HostRuntime) {
 fn one_goes_round_stealing(rt: HostRuntime) {
     let gate = Holding::until(14);
     stealing(&rt, rt.alloc(), &gate, &FOUR, FOUR_LIVE);
+    check_gate(&rt, &gate, 8, 15);
+}
+
+#[test]
+fn one_goes_round_staying(rt: HostRuntime) {
+    let gate = shared_gate(&rt, rt.alloc(), 14);
+    staying(&rt, rt.alloc(), &gate, &FOUR, FOUR_LIVE);
     check_gate(&rt, &gate, 8, 15);
 }

@@ -8,7 +8,7 @@ use Rattle.atomic_table.specs.Table.{Me, rest}
 use Rattle.atomic_table.specs.Seated.{TableId}
 use Rattle.hand_board.specs.declared.rule.Knows.{Knows}
 use Rattle.hand_board.specs.Placed.{times, whole, without, blanks, to_front, without_front}
-use Rattle.hand_board.specs.Rule.{with_found, with_claimed, with_resumed, with_nothing_found}
+use Rattle.hand_board.specs.Rule.{with_found, with_claimed, with_resumed}
 use Rattle.hand_board.specs.Rule.{joined}
 use Rattle.hand_board.specs.Seating.{Sits, Seating, seating, Has, Standing, Stands, standing}
 use Rattle.hand_board.proofs.Counts.{times_else, times_append, times_without}
@@ -177,20 +177,6 @@ module _ {T : Type 0} (b : TableId) (share next : ℕ) (ended : Bool) where
       → seating b2 n share next ended ≡ record v { hand = without i v.hand }
   shows_given b2 m n v i e same new = ap₂ (λ x y. seating x y share next ended) same new
       ∙ ap (λ (z : Seating T). record z { hand = without i z.hand }) e
-
-module _ {T : Type 0} where
-  -- a seat that has forgotten what it found is as the one that a chair was made for
-  pub as_the_chair : (b b2 : TableId) (m n : Me (Option T) (Knows T)) (v : Knows T)
-      (share share2 next : ℕ) (ended : Bool) → Sits b m share next ended
-      → Sits b2 (v, []) share2 0 false → v.found ≡ [] → v.hand ≡ [] → m.0.hand ≡ []
-      → v.opened ≡ m.0.opened → share2 ≡ share → n ≡ (with_nothing_found m.0, m.1) → n ≡ (v, [])
-  as_the_chair b b2 m n v share share2 next ended s t found hand empty opens same e =
-      let shares : m.0.share ≡ v.share = s.share_is ∙ sym (t.share_is ∙ same) in
-      let hands : m.0.hand ≡ v.hand = empty ∙ sym hand in
-      let slots : m.1 ≡ [] = s.slots ∙ ap blanks empty in
-      let o : m.0.opened ≡ v.opened = sym opens in
-      let f : [] ≡ v.found = sym found in
-      e ∙ λ i. (record { opened = o i; share = shares i; hand = hands i; found = f i }, slots i)
 
 bool_or : (a b : Bool) → (a || b) ≡ true → (a ≡ true) ⊎ (b ≡ true)
 bool_or true b e = inl refl

@@ -16,8 +16,8 @@ use Rattle.hand_board.specs.declared.rule.Knows.{Knows}
 use Rattle.hand_board.specs.Placed.{Placed, times, once, whole, blanks, to_front, without_front}
 use Rattle.hand_board.specs.Placed.{left_half, right_half, spent_view, first_view}
 use Rattle.hand_board.specs.Rule.{Holds, Claimed, ClaimedAt, Given, Weighed, Brought, BroughtAt}
-use Rattle.hand_board.specs.Rule.{with_found, with_claimed, joined, Forgot}
-use Rattle.hand_board.specs.Rule.{with_nothing_found, with_resumed, Resumed, ResumedAt}
+use Rattle.hand_board.specs.Rule.{with_found, with_claimed, joined}
+use Rattle.hand_board.specs.Rule.{with_resumed, Resumed, ResumedAt}
 use Rattle.hand_board.specs.Seating.{Rests}
 use Rattle.hand_board.proofs.Counts.{within, there, times_here, times_else, times_append}
 use Rattle.hand_board.proofs.Placing.{placed_taken, placed_given, placed_same, placed_brought}
@@ -341,33 +341,6 @@ module _ {T : Type 0} (fin way : T → T → Type 0) (opened : List T) where
     tt,
     stands s h 0 id m.0 at,
     (refl, placed_share fin way opened _ s.homes s.views h.placed id m.0 at),
-  )
-
-  -- Forget: no word and no pack moves, and a seat that has found nothing knows nothing wrong.
-  pub forgets_all : (slots id : ℕ) (m : Me (Option T) (Knows T)) → 0 < m.0.share
-      → Allows (Holds fin way opened) slots id m 0 (λ n. n) (Forgot (step slots 0 0 0 none) m)
-  forgets_all slots id m share s h wide at _ = (
-    with_nothing_found m.0,
-    keeps,
-    tt,
-    subst (λ (ws : List ℕ). Holds fin way opened record {
-      words = ws;
-      homes = s.homes;
-      views =
-          set s.views id (with_nothing_found m.0);
-    }) (sym (set_same s.words 0)) record {
-      wide = h.wide;
-      unused = h.unused;
-      small = h.small;
-      placed = placed_same fin way opened _ s.homes s.views h.placed id m.0
-          (with_nothing_found m.0) at share refl refl refl;
-      begun = λ j u there_. ⊎_elim
-          (λ t. subst (λ (z : Knows T). (i : ℕ) → 0 < times i z.found
-          → slice_index s.words (i + 1) ≢ 0) t.1 (λ i p. absurd (omega (arith, p))))
-          (λ t. h.begun j u t.1)
-          (at_set s.views id j (with_nothing_found m.0) u there_);
-    },
-    refl,
   )
 
   -- who has every share, has found all and has nothing in hand knows that all is at home, and each

@@ -82,12 +82,3 @@ module _ {T : Type 0} where
   abbrev pub Weighed : Step (Option T) → Me (Option T) (Knows T) → ℕ → Me (Option T) (Knows T)
       → Type 0
   Weighed st m r n = (n ≡ m) × (m.0.share ≤ whole)
-
-  -- with nothing found
-  abbrev pub with_nothing_found : Knows T → Knows T
-  with_nothing_found v = record v { found = [] }
-
-  -- what was found is forgotten
-  abbrev pub Forgot : Step (Option T) → Me (Option T) (Knows T) → ℕ → Me (Option T) (Knows T)
-      → Type 0
-  Forgot st m r n = n ≡ (with_nothing_found m.0, m.1)

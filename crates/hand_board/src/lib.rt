@@ -28,21 +28,15 @@
 //! | `Board::put_back` | the same, and word 1 to 3 |
 //! | `Board::resume` | a look; word 3 to 1, in one exchange; then the pack leaves its slot |
 //! | `Board::split`, `Board::join` | one load each: shares are divided and added |
-//! | `Chair::leave` | one load: the seat forgets what it has found, and then lies in the chair |
-//!
-//! A thread that stays can't hand its seat back as a result: it leaves it in a `Chair`, where the
-//! caller fetches it.
 #![tactic(auto)]
 
 mod board;
-mod chair;
 mod laws;
 mod rule;
 mod seat;
 mod slots;
 
 pub use board::Board;
-pub use chair::Chair;
 pub use laws::{each_pack_is_in_one_place, hands_are_apart};
 pub use rule::Part;
 pub use seat::{BoardSeat, Job};

@@ -96,15 +96,6 @@ impl<T> Play<Option<T>, Knows<T>> for Weigh {
     ghost then = { Weighed };
 }
 
-/// What was found is forgotten.
-pub(crate) struct Forget;
-
-impl<T> Play<Option<T>, Knows<T>> for Forget {
-    ghost use Rattle.hand_board.specs.Rule.{Forgot};
-
-    ghost then = { Forgot };
-}
-
 /// The share is divided; the hand stays with the first seat.
 pub(crate) struct Halve;
 

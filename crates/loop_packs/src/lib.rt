@@ -1,9 +1,10 @@
 //! Packs that jump on the spot until their budget is 0: what the tests and the bench of workers let
 //! them run. Beside them there is one page, which is shared, and one process. And a gate at which
-//! tests see who ran what.
+//! tests see who ran what, with the workers that stay at it.
 #![tactic(auto)]
 
 mod gate;
+mod staying;
 
 ghost use Rattle.std.specs.Prelude.{◌≡◌, ◌∷◌, [], All, IfOk, Some, ◌<◌, ◌^◌, length, map, vec_len};
 ghost use Rattle.page_store.specs.Store.{AreHome};
@@ -15,6 +16,7 @@ pub use gate::Holding;
 use page_store::Frames;
 use proc_table::{SignalState, Table};
 use quantum_run::{Pack, Shared};
+pub use staying::{HiredHeld, StayingHeld};
 use std::alloc::{AllocError, Global};
 use worker_pool::Workers;
 

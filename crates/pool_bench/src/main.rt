@@ -8,12 +8,12 @@
 ghost use Rattle.std.specs.Prelude.{◌≡◌, ◌<◌, ◌≤◌};
 
 use loop_packs::{Load, run};
-use staying_workers::{Office, Staying, open};
+use staying_workers::{Kept, Staying};
 use std::alloc::{AllocError, Global};
 use std::io::ErrorKind;
-use std::sync::Wait;
+use std::sync::Arc;
 use std::thread::Threads;
-use std::{env, io, thread};
+use std::{env, io};
 use worker_pool::{Boarded, OpenGate, Serial, Spread, Stealing, Tally, Workers};
 
 /// The pools.
@@ -26,52 +26,29 @@ enum Pool {
     Staying,
 }
 
-fn play_hired<R: Threads + Wait + Sync>(
+fn play_staying<R: Threads + Sync>(
     rt: &R,
     alloc: Global,
-    office: &Office,
-    gate: &OpenGate,
     hired: u32,
     load: Load,
     tally: &mut Tally,
 ) -> Result<(), AllocError>
     requires { (0 < hired) × (hired ≤ 32) }
 {
-    let mut workers = Staying::new(rt, alloc, office, gate, tally);
+    let Ok(gate) = Arc::new(alloc, OpenGate::new()) else {
+        return Err(AllocError);
+    };
+    let kept = Kept::new(alloc);
+    let mut workers = Staying::new(rt, alloc, &gate, &kept, tally);
     workers.hire(hired);
     let played = run(alloc, &mut workers, load);
     workers.finish();
+    kept.dismiss(rt, alloc);
     played
 }
 
-fn play_staying<R: Threads + Wait + Sync>(
-    rt: &R,
-    alloc: Global,
-    hired: u32,
-    load: Load,
-    tally: &mut Tally,
-) -> Result<(), AllocError>
-    requires { (0 < hired) × (hired ≤ 32) }
-{
-    let gate = OpenGate::new();
-    let office = Office::new(alloc);
-    let (gate, office) = (&gate, &office);
-    thread::scope(
-        thread::scope_env(),
-        rt,
-        |scope| -> Result<(), AllocError>
-            requires { (0 < hired) × (hired ≤ 32) }
-        {
-            open(rt, scope, office, gate);
-            let played = play_hired(rt, alloc, office, gate, hired, load, tally);
-            office.close();
-            played
-        },
-    )
-}
-
 // how many instructions were run
-fn measure<R: Threads + Wait + Sync>(
+fn measure<R: Threads + Sync>(
     rt: &R,
     alloc: Global,
     pool: Pool,
@@ -139,7 +116,7 @@ fn load_of(packs: &str, first: &str, others: &str, calls: &str) -> io::Result<Lo
 }
 
 // how many instructions the pool of this name ran
-fn measure_named<R: Threads + Wait + Sync>(
+fn measure_named<R: Threads + Sync>(
     rt: &R,
     alloc: Global,
     pool: &str,
@@ -162,11 +139,7 @@ fn print_ran(rt: &impl Print, pool: &str, workers: u32, load: Load, ran: u64) ->
 }
 
 /// Runs what six words say, and prints how many instructions that were.
-fn run_six<R: Threads + Wait + Sync + Print>(
-    rt: &R,
-    alloc: Global,
-    six: &[String],
-) -> io::Result<()> {
+fn run_six<R: Threads + Sync + Print>(rt: &R, alloc: Global, six: &[String]) -> io::Result<()> {
     let [pool, hired, packs, first, others, calls] = six else {
         return Err(ErrorKind::InvalidInput.into());
     };
@@ -176,11 +149,7 @@ fn run_six<R: Threads + Wait + Sync + Print>(
     print_ran(rt, pool, workers, load, ran)
 }
 
-fn run_all<R: Threads + Wait + Sync + Print>(
-    rt: &R,
-    alloc: Global,
-    words: &[String],
-) -> io::Result<()> {
+fn run_all<R: Threads + Sync + Print>(rt: &R, alloc: Global, words: &[String]) -> io::Result<()> {
     for six in words.chunks(6) {
         run_six(rt, alloc, six)?;
     }

@@ -3,12 +3,12 @@ ghost use Rattle.std.specs.Prelude.{◌<◌, ◌≤◌};
 
 use crate::gates::check_seen;
 use crate::pools::{BUDGET, check_count, evenly};
-use loop_packs::{Holding, Load, run};
-use staying_workers::{Office, Staying, open};
+use loop_packs::{Holding, Load, StayingHeld, run};
+use staying_workers::Kept;
 use std::alloc::{AllocError, Global};
-use std::sync::Wait;
+use std::process::Abort;
+use std::sync::Arc;
 use std::test::*;
-use std::thread;
 use std::thread::Threads;
 use worker_pool::{Tally, Workers};
 
@@ -24,58 +24,38 @@ fn rounds<W: Workers>(alloc: Global, workers: &mut W, load: Load) -> Result<(), 
     run(alloc, workers, load)
 }
 
-// by so many workers at this office
-fn work<R: Threads + Wait + Sync>(
+// by so many workers, which have ended when this returns
+fn stay<R: Threads + Sync + Abort>(
     rt: &R,
     alloc: Global,
-    office: &Office,
-    gate: &Holding,
+    gate: &Arc<Holding, Global>,
     tally: &mut Tally,
     workers: u32,
     load: Load,
-) -> Result<(), AllocError>
+)
     requires { (0 < workers) × (workers ≤ 32) }
 {
-    let mut pool = Staying::new(rt, alloc, office, gate, tally);
+    let kept = Kept::new(alloc);
+    let mut pool = StayingHeld::new(rt, alloc, gate, &kept, tally);
     pool.hire(workers);
-    let done = rounds(alloc, &mut pool, load);
+    rounds(alloc, &mut pool, load).expect(rt, "memory");
     pool.finish();
-    done
+    kept.dismiss(rt, alloc);
 }
 
-// and they end before the call returns
-fn stay<R: Threads + Wait + Sync>(
-    rt: &R,
-    alloc: Global,
-    gate: &Holding,
-    tally: &mut Tally,
-    workers: u32,
-    load: Load,
-) -> Result<(), AllocError>
-    requires { (0 < workers) × (workers ≤ 32) }
-{
-    let office = Office::new(alloc);
-    let office = &office;
-    thread::scope(
-        thread::scope_env(),
-        rt,
-        |scope| -> Result<(), AllocError>
-            requires { (0 < workers) × (workers ≤ 32) }
-        {
-            open(rt, scope, office, gate);
-            let done = work(rt, alloc, office, gate, tally, workers, load);
-            office.close();
-            done
-        },
-    )
+// a gate that threads share
+fn gate(rt: &impl Abort, alloc: Global, wanted: u64) -> Arc<Holding, Global> {
+    Arc::new(alloc, Holding::until(wanted))
+        .map_err(|_| AllocError)
+        .expect(rt, "memory")
 }
 
 // 0 is held until 1 has entered, at the first call; both are in later
 #[test]
 fn two_at_once_staying(rt: HostRuntime) {
-    let gate = Holding::until(2);
+    let gate = gate(&rt, rt.alloc(), 2);
     let mut tally = Tally::new();
-    stay(&rt, rt.alloc(), &gate, &mut tally, 2, short(2)).expect(&rt, "memory");
+    stay(&rt, rt.alloc(), &gate, &mut tally, 2, short(2));
     check_seen(&rt, &gate, (6, 3, 0));
     check_count(&rt, &tally, 42);
 }
@@ -83,17 +63,17 @@ fn two_at_once_staying(rt: HostRuntime) {
 // 0 is held until 1, 2 and 3 have entered: the other worker runs all three
 #[test]
 fn one_goes_round_staying(rt: HostRuntime) {
-    let gate = Holding::until(14);
+    let gate = gate(&rt, rt.alloc(), 14);
     let mut tally = Tally::new();
-    stay(&rt, rt.alloc(), &gate, &mut tally, 2, short(4)).expect(&rt, "memory");
+    stay(&rt, rt.alloc(), &gate, &mut tally, 2, short(4));
     check_seen(&rt, &gate, (12, 15, 0));
 }
 
 #[test]
 fn each_number_passes_once_staying(rt: HostRuntime) {
-    let gate = Holding::until(0);
+    let gate = gate(&rt, rt.alloc(), 0);
     let mut tally = Tally::new();
-    stay(&rt, rt.alloc(), &gate, &mut tally, 32, short(64)).expect(&rt, "memory");
+    stay(&rt, rt.alloc(), &gate, &mut tally, 32, short(64));
     check_seen(&rt, &gate, (192, u64::MAX, 0));
     check_count(&rt, &tally, 1344);
 }
@@ -101,9 +81,9 @@ fn each_number_passes_once_staying(rt: HostRuntime) {
 // nobody is hired: the caller runs all
 #[test]
 fn one_alone_staying(rt: HostRuntime) {
-    let gate = Holding::until(0);
+    let gate = gate(&rt, rt.alloc(), 0);
     let mut tally = Tally::new();
-    stay(&rt, rt.alloc(), &gate, &mut tally, 1, short(3)).expect(&rt, "memory");
+    stay(&rt, rt.alloc(), &gate, &mut tally, 1, short(3));
     check_seen(&rt, &gate, (9, 7, 0));
     check_count(&rt, &tally, 63);
 }
@@ -111,10 +91,10 @@ fn one_alone_staying(rt: HostRuntime) {
 // each pack is run in four slices, and passes the gate once
 #[test]
 fn packs_run_in_slices_staying(rt: HostRuntime) {
-    let gate = Holding::until(2);
+    let gate = gate(&rt, rt.alloc(), 2);
     let mut tally = Tally::new();
     let load = evenly(4, 50_000);
-    stay(&rt, rt.alloc(), &gate, &mut tally, 2, load).expect(&rt, "memory");
+    stay(&rt, rt.alloc(), &gate, &mut tally, 2, load);
     check_seen(&rt, &gate, (12, 15, 0));
     check_count(&rt, &tally, 600_000);
 }

@@ -1,2 +1,3 @@
+pub mod AtBoard
 pub mod Readying
 pub mod RanPacks

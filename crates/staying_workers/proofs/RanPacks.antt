@@ -1,6 +1,6 @@
--- Packs that were run over a board, with owners of what they share.
-use Rattle.std.proofs.Common.{◌≡◌, ℕ, List, length, refl, sym, subst}
-use Rattle.std.proofs.Common.{◌∙◌}
+-- Packs that were run over a board, with loans of what they share.
+use Rattle.std.proofs.Common.{◌≡◌, ℕ, zero, suc, List, [], ◌∷◌, length, refl, sym, ap, subst}
+use Rattle.std.proofs.Common.{◌∙◌, arith}
 use Rattle.std.proofs.lemmas.List.{length-map}
 use mathlib.Core.Option.{some}
 use lib.ListN.{get_elem?}
@@ -10,7 +10,7 @@ use Rattle.quantum_run.specs.declared.pack.Shared.{Shared}
 use Rattle.worker_pool.specs.Ran.{AllCanRun, AllRan, EachRan, HasRun}
 use Rattle.worker_pool.proofs.RanPacks.{runnable-in, ran-in, as-many, ready-by, finished-by}
 use Rattle.worker_pool.specs.Parts.{AreReady}
-use Rattle.staying_workers.specs.Lending.{packs_of, Share, IsFinished, IsReady}
+use Rattle.staying_workers.specs.Lending.{AreOfTerm, packs_of, Share, IsFinished, IsReady}
 use Rattle.staying_workers.specs.Ready.{MayRun}
 use Rattle.staying_workers.specs.declared.held.Held.{Held}
 use Rattle.staying_workers.proofs.Readying.{may_of}
@@ -43,3 +43,14 @@ all_ran s hs ms all same =
     ran-in (seen_in s) (seen_in s) (packs_of hs) (packs_of ms) refl
     (packs_length ms ∙ as-many IsFinished hs ms all ∙ sym (packs_length hs))
     (finished_ran s hs ms all same)
+
+-- the loans of packs that were run are of the term that they were of
+pub still_of_term : (term : ℕ) (hs ms : List Held) → AllFinished IsFinished hs ms
+    → AreOfTerm term hs → AreOfTerm term ms
+still_of_term term [] [] all of_term i d low = absurd (omega arith)
+still_of_term term [] (m ∷ ms) all of_term i d low = absurd all
+still_of_term term (h ∷ hs) [] all of_term i d low = absurd all
+still_of_term term (h ∷ hs) (m ∷ ms) all of_term zero d low =
+    ap (λ s. s.term) all.0.0 ∙ of_term 0 h (omega arith)
+still_of_term term (h ∷ hs) (m ∷ ms) all of_term (suc i) d low =
+    still_of_term term hs ms all.1 (λ j e less. of_term (suc j) e (omega arith)) i d (omega arith)

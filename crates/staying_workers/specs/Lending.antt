@@ -1,5 +1,5 @@
--- Packs with an owner of what they share. This project's own rules.
-use Rattle.std.specs.Prelude.{◌≡◌, List, map, All}
+-- Packs with a loan of what they share. This project's own rules.
+use Rattle.std.specs.Prelude.{◌≡◌, ℕ, List, map, All}
 use Rattle.quantum_run.specs.Packs.{seen_in}
 use Rattle.quantum_run.specs.Shows.{Pack}
 use Rattle.quantum_run.specs.declared.pack.Shared.{Shared}
@@ -10,19 +10,23 @@ use Rattle.staying_workers.specs.declared.held.Held.{Held}
 abbrev pub packs_of : List Held → List Pack
 packs_of hs = map (λ (h : Held). h.pack) hs
 
--- all own this
+-- what all see is this
 abbrev pub Share : Shared → List Held → Type 0
 Share s hs = All (λ (h : Held). h.shared.value ≡ s) hs
+
+-- all loans are of this term
+abbrev pub AreOfTerm : ℕ → List Held → Type 0
+AreOfTerm term hs = All (λ (h : Held). h.shared.term ≡ term) hs
 
 abbrev pub IsReady : Held → Type 0
 IsReady h = MayRun h.pack (seen_in h.shared.value)
 
 -- the later pack is the earlier one run out, and what it shares is as it was
 abbrev pub IsRunOut : Held → Held → Type 0
-IsRunOut before after = (after.shared.value ≡ before.shared.value)
+IsRunOut before after = (after.shared ≡ before.shared)
     × HasRunOut (seen_in before.shared.value) before.pack after.pack
 
 -- the later pack is the earlier one's whole part, and what it shares is as it was
 abbrev pub IsFinished : Held → Held → Type 0
-IsFinished before after = (after.shared.value ≡ before.shared.value)
+IsFinished before after = (after.shared ≡ before.shared)
     × HasRun (seen_in before.shared.value) before.pack after.pack

@@ -1,24 +1,26 @@
-//! Workers that stay from call to call, and draw packs from a board that they are sent. They run
+//! Workers that stay from call to call, and draw packs from a board that they are lent. They run
 //! each pack in slices, and put it back after each, so that one whose processor is slow keeps none
 //! from the others.
 //!
 //! A thread costs as much to start and to join as some thousands of instructions of a guest; one
-//! that stays, and is told of the next packs while it still looks for them, costs some hundred.
-//! What such a thread is sent it owns: the packs of a call share their frames and their table by
-//! counted owners, and the caller has both back when it has seen every seat of the board again.
+//! that stays, and is given the next order while it still looks for it, costs some hundred. What an
+//! order lends it comes back with the order: the board, a seat at it, and what the packs share. An
+//! order comes back within a bounded number of looks, or when the worker's thread has ended and was
+//! joined, so a call of the pool returns whatever its workers do.
 //!
-//! An `Office` has a desk for each worker. `open` starts one thread, which starts workers as they
-//! are hired; `Staying` is the pool, which is one of worker_pool's `Workers`. Whoever closes the
-//! office ends them all. Where memory or threads are wanting the caller runs the packs itself.
+//! `Kept` is the workers between calls, `Hired` those that a pool may use, and `Staying` the pool,
+//! which is one of worker_pool's `Workers`. Where memory or threads are wanting the caller runs the
+//! packs itself.
 #![tactic(auto)]
 
+mod fewer;
 mod held;
-mod office;
+mod kept;
 mod orders;
 mod pool;
 mod rounds;
 
 pub use held::Held;
-pub use office::{Desk, Office, open};
-pub use orders::Order;
-pub use pool::{Clerks, Staying};
+pub use kept::{Hired, Kept, run_lent};
+pub use orders::PackOrder;
+pub use pool::Staying;

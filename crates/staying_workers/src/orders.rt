@@ -1,74 +1,51 @@
 // What a worker that stays is told to do.
 ghost use Rattle.std.specs.Prelude.{◌≡◌, []};
-ghost use Rattle.staying_workers.specs.Lending.{IsReady};
 ghost use Rattle.worker_pool.specs.Parts.{AreReady};
+ghost use Rattle.staying_workers.specs.Lending.{IsReady};
 
 use crate::held::Held;
-use hand_board::{Board, BoardSeat, Chair};
+use counted_loans::Loan;
+use hand_board::{Board, BoardSeat};
+use order_place::{Errand, Order};
+use std::alloc::Global;
 use std::sync::Arc;
 use worker_pool::{Gate, share_from};
 
 /// Run packs of this board in slices, from this number on and then those before it, until none lies
-/// at home that isn't finished, and leave the seat in this chair.
+/// at home that isn't finished.
 #[derive(Drop)]
-pub struct Order {
-    board: Arc<Board<Held>>,
-    chair: Arc<Chair<Held>>,
-    seat: BoardSeat<Held>,
-    first: u32,
+pub struct PackOrder<G> {
+    pub board: Loan<Board<Held>>,
+    pub seat: BoardSeat<Held>,
+    pub gate: Arc<G, Global>,
+    pub first: u32,
     ghost seated: { (seat.board ≡ board.value.id) × (seat.hand ≡ [])
         × AreReady IsReady seat.opened },
-    ghost chair_is: { (chair.value.board ≡ seat.board) × (chair.value.opened ≡ seat.opened)
-        × (chair.value.share ≡ seat.share) },
 }
 
-impl Order {
-    /// The order with this seat, to begin at this number.
-    pub(crate) fn new(
-        board: Arc<Board<Held>>,
-        chair: Arc<Chair<Held>>,
-        seat: BoardSeat<Held>,
-        first: u32,
-    ) -> Order
-        requires board { seat.board ≡ board.value.id }
-        requires hand { seat.hand ≡ [] }
-        requires ready { AreReady IsReady seat.opened }
-        requires chair { (chair.value.board ≡ seat.board) × (chair.value.opened ≡ seat.opened)
-            × (chair.value.share ≡ seat.share) }
-    {
-        Order {
+impl<G> Errand for PackOrder<G> {
+    ghost use Rattle.std.specs.Prelude.{◌≡◌};
+    ghost use Rattle.worker_pool.specs.Parts.{IsSameSeat};
+
+    ghost same = { λ x y. IsSameSeat x.seat y.seat × (y.board ≡ x.board) };
+}
+
+impl<G: Gate> Order for PackOrder<G> {
+    fn carry_out(self) -> PackOrder<G> {
+        let PackOrder {
             board,
-            chair,
             seat,
+            gate,
+            first,
+        } = self;
+        let at = board.get();
+        let door: &G = &gate;
+        let seat = share_from(at, seat, door, first);
+        PackOrder {
+            board,
+            seat,
+            gate,
             first,
         }
-    }
-
-    /// Does it. Afterwards nothing of the board is kept.
-    pub(crate) fn carry_out<G: Gate>(self, gate: &G) {
-        let Order {
-            board,
-            chair,
-            seat,
-            first,
-        } = self;
-        let at: &Board<Held> = &board;
-        let place: &Chair<Held> = &chair;
-        let seat = share_from(at, seat, gate, first);
-        place.leave(at, seat);
-    }
-
-    /// Leaves the seat, and runs nothing: others have what is left in hand. Afterwards nothing of
-    /// the board is kept.
-    pub(crate) fn let_be(self) {
-        let Order {
-            board,
-            chair,
-            seat,
-            first: _,
-        } = self;
-        let at: &Board<Held> = &board;
-        let place: &Chair<Held> = &chair;
-        place.leave(at, seat);
     }
 }

@@ -1,237 +1,332 @@
-// One call's packs, over a board that workers at their desks are sent.
+// One call's packs, over a board at which workers are lent a seat.
 ghost use Rattle.std.specs.Prelude.{◌≡◌, ◌+◌, ◌<◌, ◌≤◌, ◌^◌, [], true, All, sum_by, IfOk, IfErr};
-ghost use Rattle.std.specs.Prelude.{false, IfSome, MatchOption, vec_len, vec_capacity};
+ghost use Rattle.std.specs.Prelude.{vec_len, vec_capacity};
 ghost use Rattle.hand_board.specs.Placed.{whole};
 ghost use Rattle.hand_board.specs.Seating.{AllFinished};
+ghost use Rattle.order_place.specs.Rule.{free};
 ghost use Rattle.worker_pool.specs.Parts.{AreReady};
 ghost use Rattle.staying_workers.specs.Lending.{IsFinished, IsReady};
+ghost use Rattle.staying_workers.specs.Busy.{IsAt, share_out};
 
 use crate::held::Held;
-use crate::office::{Desk, MOST};
-use crate::orders::Order;
-use hand_board::{Board, BoardSeat, Chair};
+use crate::orders::PackOrder;
+use counted_loans::{Lender, Loan};
+use hand_board::{Board, BoardSeat};
+use order_place::Worker;
 use std::alloc::Global;
-use std::sync::{Arc, Wait};
-use std::thread;
+use std::sync::Arc;
+use std::thread::Threads;
 use worker_pool::{Gate, share, sweep};
 
-// A chair for this seat, which is kept with the others too; where memory is wanting there is none.
-fn chair_for(
-    alloc: Global,
-    seat: &BoardSeat<Held>,
-    chairs: &mut Vec<Arc<Chair<Held>>>,
-) -> Option<Arc<Chair<Held>>>
-    requires fresh { (seat.now.found ≡ []) × (seat.now.hand ≡ []) }
-    requires chairs { All (λ c. (c.value.board ≡ seat.now.board) × (c.value.hand ≡ []))
-        chairs.old.items }
-    ensures chair { IfSome result
-        (λ c. c.value ≡ record seat.now { next = 0; ended = false }) }
-    ensures chairs { All (λ c. (c.value.board ≡ seat.now.board) × (c.value.hand ≡ []))
-        chairs.new.items }
-    ensures shares { MatchOption result
-        (sum_by (λ c. c.value.share) chairs.new.items
-        ≡ sum_by (λ c. c.value.share) chairs.old.items)
-        (λ _. sum_by (λ c. c.value.share) chairs.new.items
-        ≡ sum_by (λ c. c.value.share) chairs.old.items + seat.now.share) }
-{
-    let Ok(chair) = Arc::new(alloc, Chair::of(seat)) else {
-        return None;
-    };
-    let Ok(theirs) = Arc::try_clone(&chair) else {
-        return None;
-    };
-    if chairs.push(chair).is_err() {
-        return None;
-    }
-    Some(theirs)
+/// No more threads run packs than this, the caller's among them.
+pub(crate) const MOST: usize = 32;
+
+/// A worker with no order.
+#[derive(Drop)]
+pub(crate) struct Idle<G: Gate> {
+    pub(crate) worker: Worker<PackOrder<G>>,
+    ghost free: { worker.seat.me ≡ free },
 }
 
-// A seat is split off for one worker; where memory is wanting it stays.
-fn send<R: Wait>(
-    rt: &R,
-    alloc: Global,
-    board: &Arc<Board<Held>>,
+// A worker with this order.
+fn sent<G: Gate + Drop>(idle: Idle<G>, order: PackOrder<G>) -> Worker<PackOrder<G>>
+    ensures at { IsAt order.board.term order.seat.board order.seat.opened result }
+    ensures share { share_out result ≡ order.seat.share }
+{
+    let Idle { mut worker } = idle;
+    worker.give(order);
+    worker
+}
+
+// how many numbers apart the caller and so many workers begin
+fn apart(packs: u32, workers: usize) -> u32 {
+    packs / (workers.min(MOST) as u32 + 1)
+}
+
+// an order with half of the seat
+fn halved<G: Gate>(
+    at: &Board<Held>,
+    board: Loan<Board<Held>>,
     seat: BoardSeat<Held>,
-    desk: &Desk,
+    gate: Arc<G, Global>,
     first: u32,
-    chairs: &mut Vec<Arc<Chair<Held>>>,
-) -> BoardSeat<Held>
-    requires board { seat.board ≡ board.now.value.id }
-    requires fresh { (seat.hand ≡ []) × (seat.found ≡ []) }
+) -> (BoardSeat<Held>, PackOrder<G>)
+    requires board { seat.board ≡ at.now.id }
+    requires same { board.value ≡ at.now }
+    requires fresh { seat.hand ≡ [] }
     requires ready { AreReady IsReady seat.opened }
     requires share { 2 ≤ seat.share }
-    requires chairs { All (λ c. (c.value.board ≡ seat.board) × (c.value.hand ≡ []))
-        chairs.old.items }
-    ensures seat { (result.board ≡ seat.board) × (result.opened ≡ seat.opened)
-        × (result.hand ≡ []) × (result.found ≡ []) }
-    ensures chairs { All (λ c. (c.value.board ≡ seat.board) × (c.value.hand ≡ []))
-        chairs.new.items }
-    ensures shares { result.share + sum_by (λ c. c.value.share) chairs.new.items
-        ≡ seat.share + sum_by (λ c. c.value.share) chairs.old.items }
+    ensures seat { (result.0.board ≡ seat.board) × (result.0.opened ≡ seat.opened)
+        × (result.0.hand ≡ []) }
+    ensures order { (result.1.seat.board ≡ seat.board) × (result.1.seat.opened ≡ seat.opened)
+        × (result.1.board ≡ board) }
+    ensures share { result.0.share + result.1.seat.share ≡ seat.share }
 {
-    let at: &Board<Held> = board;
-    let Ok(shared) = Arc::try_clone(board) else {
-        return seat;
-    };
     let (ours, other) = at.split(seat);
-    let Some(theirs) = chair_for(alloc, &other, chairs) else {
-        return at.join(ours, other);
+    let order = PackOrder {
+        board,
+        seat: other,
+        gate,
+        first,
     };
-    let order = Order::new(shared, theirs, other, first);
-    desk.orders.put(rt, order);
-    ours
+    (ours, order)
 }
 
-// how many numbers apart the caller and the workers at so many desks begin
-fn apart(packs: u32, desks: usize) -> u32 {
-    packs / (desks.min(MOST) as u32 + 1)
-}
-
-// an order for the worker at each desk, and a chair for each order, in the desks' order
-fn send_all<R: Wait>(
+// one more worker, where there is memory and a thread for it
+fn started<R: Threads, G: Gate + Send + Sync + Drop + 'static>(
     rt: &R,
     alloc: Global,
-    board: &Arc<Board<Held>>,
-    mut seat: BoardSeat<Held>,
-    desks: &[Desk],
-    chairs: &mut Vec<Arc<Chair<Held>>>,
-) -> BoardSeat<Held>
-    requires board { seat.board ≡ board.now.value.id }
-    requires fresh { (seat.hand ≡ []) × (seat.found ≡ []) }
-    requires ready { AreReady IsReady seat.opened }
-    requires chairs { All (λ c. (c.value.board ≡ seat.board) × (c.value.hand ≡ []))
-        chairs.old.items }
-    ensures seat { (result.board ≡ seat.board) × (result.opened ≡ seat.opened)
-        × (result.hand ≡ []) }
-    ensures chairs { All (λ c. (c.value.board ≡ seat.board) × (c.value.hand ≡ []))
-        chairs.new.items }
-    ensures shares { result.share + sum_by (λ c. c.value.share) chairs.new.items
-        ≡ seat.share + sum_by (λ c. c.value.share) chairs.old.items }
-{
-    let step = apart(board.count(), desks.len());
-    let mut first = 0u32;
-    for (place, desk) in desks.iter().enumerate() {
-        // after one for which memory was wanting no more are sent, so notes come from the first
-        if seat.share() < 2 || chairs.len() < place {
+) -> Option<Idle<G>> {
+    match Worker::start(rt, alloc) {
+        Some(worker) => Some(Idle { worker }),
+        None => None,
+    }
+}
+
+// the next worker that takes orders; one that has left is replaced
+fn next_worker<R: Threads, G: Gate + Send + Sync + Drop + 'static>(
+    rt: &R,
+    alloc: Global,
+    idle: &mut Vec<Idle<G>>,
+) -> Option<Idle<G>> {
+    let Some(next) = idle.pop() else {
+        return started(rt, alloc);
+    };
+    if !next.worker.has_left() {
+        return Some(next);
+    }
+    let Idle { worker } = next;
+    worker.dismiss(rt);
+    started(rt, alloc)
+}
+
+// whether the last so many of these take orders
+fn are_there<G: Gate + Drop>(idle: &[Idle<G>], others: usize) -> bool {
+    if idle.len() < others {
+        return false;
+    }
+    let (_rest, used) = idle.split_at(idle.len() - others);
+    for next in used {
+        if next.worker.has_left() {
+            return false;
+        }
+    }
+    true
+}
+
+/// The last so many of these take orders, where there is memory and a thread for each.
+pub(crate) fn refreshed<R: Threads, G: Gate + Send + Sync + Drop + 'static>(
+    rt: &R,
+    alloc: Global,
+    mut idle: Vec<Idle<G>>,
+    others: usize,
+) -> Vec<Idle<G>> {
+    if are_there(&idle, others) {
+        return idle;
+    }
+    let mut fresh = Vec::new(alloc);
+    for _ in 0..others {
+        let Some(next) = next_worker(rt, alloc, &mut idle) else {
+            break;
+        };
+        if fresh.push(next).is_err() {
             break;
         }
-        first = first.saturating_add(step);
-        seat = send(rt, alloc, board, seat, desk, first, chairs);
     }
-    seat
+    put_back(idle, fresh)
 }
 
-// the seat that is left in the chair
-fn fetch<R: Wait>(rt: &R, chair: &Chair<Held>) -> BoardSeat<Held>
-    ensures { result ≡ chair.now }
-{
-    for _ in rt.forever() {
-        if let Some(seat) = chair.fetch() {
-            return seat;
-        }
-        thread::yield_now();
+// those come behind these, the last first
+fn put_back<G: Gate + Drop>(mut idle: Vec<Idle<G>>, mut fresh: Vec<Idle<G>>) -> Vec<Idle<G>> {
+    while let Some(next) = fresh.pop() {
+        let _ = idle.push(next);
     }
-    unreachable!()
+    idle
 }
 
-// All seats come back.
-fn gather<R: Wait>(
-    rt: &R,
-    board: &Board<Held>,
+/// These have ended when this returns.
+pub(crate) fn dismiss_all<R: Threads, G: Gate + Drop>(rt: &R, mut idle: Vec<Idle<G>>) {
+    while let Some(next) = idle.pop() {
+        let Idle { worker } = next;
+        worker.dismiss(rt);
+    }
+}
+
+// an order for each of so many workers
+fn send_all<G: Gate + Drop>(
+    at: &Board<Held>,
+    mut lender: Lender<Board<Held>, Global>,
     mut seat: BoardSeat<Held>,
-    mut chairs: Vec<Arc<Chair<Held>>>,
-) -> BoardSeat<Held>
-    requires board { seat.board ≡ board.now.id }
-    requires seat { (seat.hand ≡ []) × (seat.ended ≡ true) }
-    requires chairs { All (λ c. (c.value.board ≡ seat.board) × (c.value.hand ≡ [])) chairs.items }
-    ensures seat { (result.board ≡ seat.board) × (result.hand ≡ []) × (result.ended ≡ true) }
-    ensures share { result.share ≡ seat.share + sum_by (λ c. c.value.share) chairs.items }
+    gate: &Arc<G, Global>,
+    idle: &mut Vec<Idle<G>>,
+    others: usize,
+    busy: &mut Vec<Worker<PackOrder<G>>>,
+) -> (Lender<Board<Held>, Global>, BoardSeat<Held>)
+    requires lender { (lender.value ≡ at.now) × (lender.out ≡ 1) }
+    requires board { seat.board ≡ at.now.id }
+    requires fresh { seat.hand ≡ [] }
+    requires ready { AreReady IsReady seat.opened }
+    requires room { (vec_len busy.old ≡ 0) × (others ≤ vec_capacity busy.old) }
+    requires few { others < 2 ^ 32 }
+    ensures lender { (result.0.value ≡ lender.value) × (result.0.term ≡ lender.term)
+        × (result.0.out ≡ vec_len busy.new + 1) }
+    ensures few { vec_len busy.new < 2 ^ 32 }
+    ensures seat { (result.1.board ≡ seat.board) × (result.1.opened ≡ seat.opened)
+        × (result.1.hand ≡ []) }
+    ensures busy { All (IsAt lender.term seat.board seat.opened) busy.new.items }
+    ensures shares { result.1.share + sum_by share_out busy.new.items ≡ seat.share }
 {
-    while let Some(chair) = chairs.pop() {
-        let place: &Chair<Held> = &chair;
-        let other = fetch(rt, place);
-        seat = board.join(seat, other);
-    }
-    seat
-}
-
-/// The value, once no other owner is left.
-pub(crate) fn sole<X, R: Wait>(rt: &R, mut shared: Arc<X>) -> X
-    ensures { result ≡ shared.value }
-{
-    for _ in rt.forever() {
-        match Arc::try_unwrap(shared) {
-            Ok(value) => return value,
-            Err(still) => shared = still,
+    let step = apart(at.count(), others);
+    let mut first = 0u32;
+    for _sent in 0..others {
+        let Ok(door) = Arc::try_clone(gate) else {
+            break;
+        };
+        if seat.share() < 2 {
+            break;
         }
-        thread::yield_now();
+        let Some(next) = idle.pop() else {
+            break;
+        };
+        first = first.saturating_add(step);
+        let (rest, board) = lender.lend();
+        lender = rest;
+        let (ours, order) = halved(at, board, seat, door, first);
+        seat = ours;
+        busy.push_reserved(sent(next, order));
     }
-    unreachable!()
+    (lender, seat)
 }
 
-// The orders at so many desks are at their end, and each pack has been begun. One that no worker
-// has begun is taken back, so that nobody waits for a worker that sleeps or has no processor.
-fn end_orders<R: Wait>(rt: &R, desks: &[Desk], orders: usize, looks: u32) {
-    for desk in desks.iter().take(orders) {
-        desk.recall(rt);
+// the seat of a worker's order, and its loan; the worker, where it stays, is idle again
+fn bring_back<R: Threads, G: Gate + Drop>(
+    rt: &R,
+    worker: Worker<PackOrder<G>>,
+    at: &Board<Held>,
+    lender: Lender<Board<Held>, Global>,
+    opened: &BoardSeat<Held>,
+    idle: &mut Vec<Idle<G>>,
+) -> (Lender<Board<Held>, Global>, BoardSeat<Held>)
+    requires at { IsAt lender.term at.now.id opened.now.opened worker }
+    requires out { (0 < lender.out) × (lender.out < 2 ^ 63) }
+    ensures lender { (result.0.value ≡ lender.value) × (result.0.term ≡ lender.term)
+        × (result.0.out + 1 ≡ lender.out) }
+    ensures seat { (result.1.board ≡ at.now.id) × (result.1.hand ≡ []) }
+    ensures share { result.1.share ≡ share_out worker }
+{
+    let (order, back) = worker.bring_back(rt);
+    if let Some(worker) = back {
+        let _ = idle.push(Idle { worker });
     }
-    for desk in desks.iter().take(orders) {
-        let _ = desk.notes.take(rt, looks);
+    let PackOrder {
+        board,
+        seat,
+        gate: _,
+        first: _,
+    } = order;
+    (lender.take_back(board), seat)
+}
+
+// All seats come back, and all loans but the caller's.
+fn gather<R: Threads, G: Gate + Drop>(
+    rt: &R,
+    at: &Board<Held>,
+    mut lender: Lender<Board<Held>, Global>,
+    mut seat: BoardSeat<Held>,
+    mut busy: Vec<Worker<PackOrder<G>>>,
+    idle: &mut Vec<Idle<G>>,
+) -> (Lender<Board<Held>, Global>, BoardSeat<Held>)
+    requires board { seat.board ≡ at.now.id }
+    requires seat { (seat.hand ≡ []) × (seat.ended ≡ true) }
+    requires busy { All (IsAt lender.term seat.board seat.opened) busy.items }
+    requires out { (lender.out ≡ vec_len busy + 1) × (vec_len busy < 2 ^ 32) }
+    ensures lender { (result.0.value ≡ lender.value) × (result.0.term ≡ lender.term)
+        × (result.0.out ≡ 1) }
+    ensures seat { (result.1.board ≡ seat.board) × (result.1.hand ≡ [])
+        × (result.1.ended ≡ true) }
+    ensures share { result.1.share ≡ seat.share + sum_by share_out busy.items }
+{
+    while let Some(worker) = busy.pop() {
+        let (rest, other) = bring_back(rt, worker, at, lender, &seat, idle);
+        lender = rest;
+        seat = at.join(seat, other);
     }
+    (lender, seat)
 }
 
 // by the caller and the workers
-fn run_board<R: Wait, G: Gate>(
+fn run_board<R: Threads, G: Gate + Drop>(
     rt: &R,
-    alloc: Global,
-    board: Arc<Board<Held>>,
+    lender: Lender<Board<Held>, Global>,
     seat: BoardSeat<Held>,
-    gate: &G,
-    desks: &[Desk],
-    looks: u32,
+    gate: &Arc<G, Global>,
+    idle: &mut Vec<Idle<G>>,
+    others: usize,
+    mut busy: Vec<Worker<PackOrder<G>>>,
 ) -> Vec<Held>
-    requires board { seat.board ≡ board.value.id }
-    requires fresh { (seat.hand ≡ []) × (seat.found ≡ []) }
+    requires lender { lender.out ≡ 0 }
+    requires board { seat.board ≡ lender.value.id }
+    requires fresh { seat.hand ≡ [] }
     requires whole { seat.share ≡ whole }
-    requires opened { seat.opened ≡ board.value.opened }
+    requires opened { seat.opened ≡ lender.value.opened }
     requires ready { AreReady IsReady seat.opened }
-    ensures finished { AllFinished IsFinished board.value.opened result.items }
-    ensures capacity { vec_capacity result ≡ board.value.room }
+    requires room { (vec_len busy ≡ 0) × (others ≤ vec_capacity busy) }
+    requires few { others < 2 ^ 32 }
+    ensures finished { AllFinished IsFinished lender.value.opened result.items }
+    ensures capacity { vec_capacity result ≡ lender.value.room }
 {
-    let mut chairs = Vec::new(alloc);
-    let seat = send_all(rt, alloc, &board, seat, desks, &mut chairs);
-    let at: &Board<Held> = &board;
-    let seat = share(at, seat, gate);
-    end_orders(rt, desks, chairs.len(), looks);
-    let seat = gather(rt, at, seat, chairs);
-    let board = sole(rt, board);
+    let (lender, mine) = lender.lend();
+    let at = mine.get();
+    let (lender, seat) = send_all(at, lender, seat, gate, idle, others, &mut busy);
+    let door: &G = gate;
+    let seat = share(at, seat, door);
+    let (lender, seat) = gather(rt, at, lender, seat, busy, idle);
+    let lender = lender.take_back(mine);
+    let board = Box::into_inner(lender.into_box());
     board.close(seat)
 }
 
-/// Runs each part over a board, by the caller and by the workers at these desks. Err is want of
-/// memory for the board, and hands the parts back as they were.
-pub(crate) fn run_each<R: Wait, G: Gate>(
+// by the caller alone
+fn run_swept<G: Gate>(board: Board<Held>, seat: BoardSeat<Held>, gate: &G) -> Vec<Held>
+    requires board { seat.board ≡ board.id }
+    requires fresh { seat.hand ≡ [] }
+    requires whole { seat.share ≡ whole }
+    requires opened { seat.opened ≡ board.opened }
+    requires ready { AreReady IsReady seat.opened }
+    ensures finished { AllFinished IsFinished board.opened result.items }
+    ensures capacity { vec_capacity result ≡ board.room }
+{
+    let seat = sweep(&board, seat, gate);
+    board.close(seat)
+}
+
+/// Runs each part over a board, by the caller and by so many workers. Err is want of memory for the
+/// board, and hands the parts back as they were.
+pub(crate) fn run_each<R: Threads, G: Gate + Drop>(
     rt: &R,
     alloc: Global,
     parts: Vec<Held>,
-    gate: &G,
-    desks: &[Desk],
-    looks: u32,
+    gate: &Arc<G, Global>,
+    idle: &mut Vec<Idle<G>>,
+    others: usize,
 ) -> Result<Vec<Held>, Vec<Held>>
     requires count { vec_len parts < 2 ^ 32 }
     requires ready { AreReady IsReady parts.items }
+    requires few { others < 2 ^ 32 }
     ensures ok { IfOk result (λ v. AllFinished IsFinished parts.items v.items
         × (vec_capacity v ≡ vec_capacity parts)) }
     ensures err { IfErr result
         (λ v. (v.items ≡ parts.items) × (vec_capacity v ≡ vec_capacity parts)) }
 {
+    let Ok(busy) = Vec::with_capacity(alloc, others) else {
+        return Err(parts);
+    };
     let (board, seat) = Board::new(alloc, parts)?;
-    match Arc::new(alloc, board) {
-        Ok(board) => Ok(run_board(rt, alloc, board, seat, gate, desks, looks)),
+    match Box::new(alloc, board) {
+        Ok(board) => Ok(run_board(rt, Lender::new(board), seat, gate, idle, others, busy)),
         Err(failed) => {
-            let board = failed.value;
-            let seat = sweep(&board, seat, gate);
-            Ok(board.close(seat))
+            let door: &G = gate;
+            Ok(run_swept(failed.value, seat, door))
         }
     }
 }

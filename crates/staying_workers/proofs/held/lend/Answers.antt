@@ -3,9 +3,8 @@ use Rattle.std.specs.Prelude.{reverse}
 use Rattle.std.proofs.lemmas.List.{reverse-append, map-append, append_assoc}
 use Rattle.std.proofs.lemmas.List.Elements.{All-push}
 use Rattle.quantum_run.specs.Shows.{Pack}
-use Rattle.quantum_run.specs.declared.pack.Shared.{Shared}
 use Rattle.staying_workers.specs.declared.held.Held.{Held}
-use Rattle.staying_workers.specs.Lending.{packs_of, Share}
+use Rattle.staying_workers.specs.Lending.{AreOfTerm, packs_of, Share}
 use Rattle.staying_workers.proofs.held.lend.Goals as goal
 
 -- the last of those that are left goes behind those that are out
@@ -18,23 +17,27 @@ goes_out out one left =
 
 pub loop-pack-preserved : goal.loop-pack-preserved
 loop-pack-preserved c =
-    let shared : Shared = c.args.shared.now.value in
+    let lender = c.args.lender in
     let out : List Held = c.loop-pack.held.items in
-    let one : Held = record { pack = c.in-Some.pack; shared = c.next_owner-shared.result } in
+    let lent = c.lend-rest.ensures in
+    let one : Held = record { pack = c.in-Some.pack; shared = c.lend-rest.result.1 } in
     let left : List Pack = c.pop.new.self.items in
     let popped = c.in-Some.ensures in
     let pushed = c.push_reserved.ensures in
-    let owner = c.next_owner-shared.ensures in
-    let inv = c.loop-pack.invariant in (
+    let inv = c.loop-pack.invariant in
+    let more = ap (λ l. l.out) lent.0 in (
       ap (λ (hs : List Held). packs_of hs ++ reverse left) pushed.items
           ∙ goes_out out one left
           ∙ ap (λ ps. packs_of out ++ reverse ps) (sym popped.items)
           ∙ inv.0,
-      subst (λ (hs : List Held). Share shared hs) (sym pushed.items)
-          (All-push (λ (h : Held). h.shared.value ≡ shared) out one inv.1 owner.value),
-      owner.same,
-      omega (arith, owner.len, popped.len, inv.3),
-      omega (arith, pushed.len, popped.len, inv.4),
-      omega (arith, pushed.capacity, inv.5),
-      omega (arith, popped.capacity, inv.6),
+      subst (λ (hs : List Held). Share lender.value hs) (sym pushed.items)
+          (All-push (λ (h : Held). h.shared.value ≡ lender.value) out one inv.1 (lent.1 ∙ inv.3)),
+      subst (λ (hs : List Held). AreOfTerm lender.term hs) (sym pushed.items)
+          (All-push (λ (h : Held). h.shared.term ≡ lender.term) out one inv.2 (lent.2 ∙ inv.4)),
+      ap (λ l. l.value) lent.0 ∙ inv.3,
+      ap (λ l. l.term) lent.0 ∙ inv.4,
+      omega (arith, more, pushed.len, inv.5),
+      omega (arith, pushed.len, popped.len, inv.6),
+      omega (arith, pushed.capacity, inv.7),
+      omega (arith, popped.capacity, inv.8),
     )

@@ -8,6 +8,6 @@ pub run_board-requires-clause-ready : goal.run_board-requires-clause-ready
 run_board-requires-clause-ready g c =
     still_ready (ap (λ (s : Seating Held). s.opened) c.in_ok-board.ensures.seat) c.requires.ready
 
-pub sweep-seat-requires-clause-ready : goal.sweep-seat-requires-clause-ready
-sweep-seat-requires-clause-ready g c =
+pub run_swept-requires-clause-ready : goal.run_swept-requires-clause-ready
+run_swept-requires-clause-ready g c =
     still_ready (ap (λ (s : Seating Held). s.opened) c.in_ok-board.ensures.seat) c.requires.ready

@@ -7,6 +7,6 @@ use Rattle.staying_workers.proofs.held.HeldPart.finish.Goals as goal
 pub run_out-requires : goal.run_out-requires
 run_out-requires c = record {
   can = subst (λ (v : View). CanRun c.args.self.now.pack v)
-      (sym (c.view.ensures ∙ ap seen_in c.deref-shared.ensures))
+      (sym (c.view.ensures ∙ ap seen_in c.get-shared.ensures))
       (can_of c.args.self.now.pack (seen_in c.args.self.now.shared.value) c.requires);
 }

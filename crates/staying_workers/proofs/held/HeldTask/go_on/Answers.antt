@@ -9,7 +9,7 @@ use Rattle.staying_workers.proofs.held.HeldTask.go_on.Goals as goal
 pub run_slice-requires : goal.run_slice-requires
 run_slice-requires c = record {
   can = subst (λ (v : View). CanRun c.args.self.now.pack v)
-      (sym (c.view.ensures ∙ ap seen_in c.deref-shared.ensures))
+      (sym (c.view.ensures ∙ ap seen_in c.get-shared.ensures))
       (can_of c.args.self.now.pack (seen_in c.args.self.now.shared.value) c.requires);
 }
 
@@ -18,7 +18,7 @@ returns-clause-more c = λ no.
     let before = c.args.self.now.pack in
     let now = c.run_slice.new.pack in
     let v = seen_in c.args.self.now.shared.value in
-    let same = c.view.ensures ∙ ap seen_in c.deref-shared.ensures in
+    let same = c.view.ensures ∙ ap seen_in c.get-shared.ensures in
     let ran = c.run_slice.ensures in
     let slice : HasRunBy LeadsTo v before now = record {
       finished = subst (λ (u : View). LeadsTo before u now) same (ran.more no).0;
