@@ -94,16 +94,16 @@ pub trait Border {
 
 /// A shim and two sinks as a border.
 #[derive(Drop)]
-pub struct GroupBorder<'b, S, O, E> {
+pub struct GroupBorder<'s, 'o, 'e, S, O, E> {
     /// Who answers its questions.
-    pub shim: &'b mut S,
+    pub shim: &'s mut S,
     /// Where its output goes.
-    pub out: &'b mut O,
+    pub out: &'o mut O,
     /// Where its error goes.
-    pub err: &'b mut E,
+    pub err: &'e mut E,
 }
 
-impl<'b, S: Shim, O: Sink, E: Sink> Border for GroupBorder<'b, S, O, E> {
+impl<'s, 'o, 'e, S: Shim, O: Sink, E: Sink> Border for GroupBorder<'s, 'o, 'e, S, O, E> {
     ghost use Rattle.std.specs.Prelude.{◌≡◌};
     ghost use Rattle.std.proofs.Common.{refl, ◌∙◌};
 

@@ -8,7 +8,6 @@ use Rattle.dos_io.specs.Outside.{Rose, counted}
 use Rattle.dos_io.specs.declared.border.Stream.TheVariants.{Output, Error}
 use Rattle.dos_io.specs.declared.shim.ShimStop.{ShimStop}
 use Rattle.kernel_calls.specs.Plays.{AsksFirst, StopsBy, stopper}
-use Rattle.kernel_calls.specs.StateWorld.{shim_stop}
 use Rattle.kernel_calls.specs.declared.state.RunStop.{RunStop}
 use Rattle.kernel_calls.specs.declared.state.RunStop.TheVariants.{HostFault, LogFull, Misfit}
 use Rattle.kernel_calls.specs.declared.state.RunStop.TheVariants.{OutFault, ErrFault, Memory}
@@ -18,12 +17,13 @@ use Rattle.group_rounds.specs.Outside.{HaveCauses}
 no_less : (n m : ℕ) → m ≡ n → n ≤ m
 no_less n m is = subst (λ k. n ≤ k) (sym is) (le_refl n)
 
-module _ {T : Type 0} (before after : BorderState) where
-  abbrev CausesOf : RunStop → Type 0
-  CausesOf stop = HaveCauses {T = T} (Err stop) before.shim after.shim before.out_faults
-      after.out_faults before.err_faults after.err_faults
+module _ (before after : BorderState) where
+  rose : (play : World → Play FlatServed) (old : State) (why : ShimStop)
+      → AsksFirst play old before why after → Rose before.shim.stops after.shim.stops
+  rose play old why h =
+      subst (λ n. counted before.shim.stops ≤ n) (sym h.stopped.shim.stops) (le_refl _)
 
-  pub served_well : (value : T) → BorderStands before after
+  pub served_well : {T : Type 0} (value : T) → BorderStands before after
       → HaveCauses {T = T} (Ok value) before.shim after.shim before.out_faults after.out_faults
       before.err_faults after.err_faults
   served_well value h = record {
@@ -35,37 +35,35 @@ module _ {T : Type 0} (before after : BorderState) where
   }
 
   module _ (play : World → Play FlatServed) (old new : State) where
-    rose : (why : ShimStop) → AsksFirst play old before why after
-        → Rose before.shim.stops after.shim.stops
-    rose why h = subst (λ n. counted before.shim.stops ≤ n) (sym h.stopped.shim.stops) (le_refl _)
-
-    pub served_not : (stop : RunStop) → StopsBy (stopper stop) play old before new after
-        → CausesOf stop
+    pub served_not : {T : Type 0} (stop : RunStop)
+        → StopsBy (stopper stop) play old before new after
+        → HaveCauses {T = T} (Err stop) before.shim after.shim before.out_faults after.out_faults
+        before.err_faults after.err_faults
     served_not HostFault h = record {
       out_later = no_less _ _ (h.stopped.faults Output);
       err_later = no_less _ _ (h.stopped.faults Error);
-      shim = (rose _ h, h.stopped.shim.last);
+      shim = (rose play old _ h, h.stopped.shim.last);
       stands = tt;
       sinks = tt;
     }
     served_not LogFull h = record {
       out_later = no_less _ _ (h.stopped.faults Output);
       err_later = no_less _ _ (h.stopped.faults Error);
-      shim = (rose _ h, h.stopped.shim.last);
+      shim = (rose play old _ h, h.stopped.shim.last);
       stands = tt;
       sinks = tt;
     }
     served_not (Misfit m) h = record {
       out_later = no_less _ _ (h.stopped.faults Output);
       err_later = no_less _ _ (h.stopped.faults Error);
-      shim = (rose _ h, h.stopped.shim.last);
+      shim = (rose play old _ h, h.stopped.shim.last);
       stands = tt;
       sinks = tt;
     }
     served_not Memory h = record {
       out_later = no_less _ _ (h.stopped.faults Output);
       err_later = no_less _ _ (h.stopped.faults Error);
-      shim = (rose _ h, h.stopped.shim.last);
+      shim = (rose play old _ h, h.stopped.shim.last);
       stands = tt;
       sinks = tt;
     }

@@ -106,7 +106,7 @@ goes_from q p p' left s s' t t' same h =
     goes_and q p p' left s s s' t t t' (goes_still q p p' s s t same) h
 
 -- what crossed is told more
-pub told_more : (cs : List Crossing) (before after : BorderState) → Tells before cs after
+abbrev pub told_more : (cs : List Crossing) (before after : BorderState) → Tells before cs after
     → ToldMore (told_at before) (told_at after)
 told_more cs before after h = record {
   exchanges = exchanges_of cs;

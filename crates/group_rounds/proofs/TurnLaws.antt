@@ -2,7 +2,7 @@
 use Rattle.std.proofs.Common.{ℕ, zero, suc, ◌+◌, ◌-◌, ◌<◌, ◌≤◌, ◌≡◌, refl, sym, ap, ap₂, ◌∙◌, subst}
 use Rattle.std.proofs.Common.{Bool, cond, true, false, List, [], ◌∷◌, length, Option, Some, None}
 use Rattle.std.proofs.Common.{option_map, arith}
-use Rattle.std.specs.Prelude.{map, Result, Ok, Err, IsSome, IfSome, OnSome, MatchOption}
+use Rattle.std.specs.Prelude.{map, Result, Ok, Err, IsSome, OnSome, MatchOption}
 use Rattle.dos_world.specs.World.{World, Thread}
 use Rattle.dos_world.specs.Kernel.{process_ended}
 use Rattle.dos_world.specs.Play.{Play, done, ◌>>=◌}

@@ -1,16 +1,18 @@
 // One thread's part in a round.
 ghost use Rattle.std.specs.Prelude.{◌≡◌, ◌+◌, ◌≤◌, ◌<◌, ◌∷◌, ℕ, List, false, true, IfOk, IfErr};
-ghost use Rattle.std.specs.Prelude.{OnOk, OnErr, OnSome, Err, if◌then◌else◌};
+ghost use Rattle.std.specs.Prelude.{OnOk, OnErr, OnSome, Err, IfSome, if◌then◌else◌};
 ghost use Rattle.dos_world.specs.Kernel.{process_ended};
 ghost use Rattle.dos_world.specs.World.{registers_by, released};
+ghost use Rattle.dos_world.specs.Services.{service};
 ghost use Rattle.dos_world.specs.declared.Reason.TheVariants.{Page, Fault};
 ghost use Rattle.dos_io.specs.Shims.{HasNoEnd};
 ghost use Rattle.flat_machine.specs.Step.{step};
 ghost use Rattle.flat_machine.specs.Alone.{alone, emptied};
 ghost use Rattle.flat_machine.specs.Rest.{page_granted, process_of, rest_of};
-ghost use Rattle.proc_table.specs.Tables.{IsThread, thread_by};
+ghost use Rattle.proc_table.specs.Tables.{IsThread, thread_by, thread_in};
 ghost use Rattle.kernel_calls.specs.StateWorld.{HaveParts, IsReady, IsSound, sent, shim_stop};
-ghost use Rattle.kernel_calls.specs.StateWorld.{world_of};
+ghost use Rattle.kernel_calls.specs.StateWorld.{left_after, world_of};
+ghost use Rattle.kernel_calls.specs.Plays.{PlaysOnce};
 ghost use Rattle.group_rounds.specs.Fronts.{CutPlay, StoppedPlay};
 ghost use Rattle.group_rounds.specs.StatePlays.{GoesTo, telling};
 ghost use Rattle.group_rounds.specs.Outside.{HaveCauses, is_end};
@@ -140,6 +142,34 @@ fn goes_on_after(way: Served) -> bool
     }
 }
 
+// a service of the thread, over a shim and two sinks
+fn serve_over<S: Shim, O: Sink, E: Sink>(
+    state: &mut State,
+    tid: u32,
+    shim: &mut S,
+    out: &mut O,
+    err: &mut E,
+) -> Result<Served, RunStop>
+    requires sound { IsSound state.old }
+    requires live { IsThread state.old.table.threads tid }
+    requires ready { IsReady state.old.table.threads tid }
+    requires budget { IfSome (thread_in state.old.table.threads tid) (λ thread. 0 < thread.budget) }
+    requires told { HasNoEnd (S.state shim.old).told }
+    ensures plays { PlaysOnce (λ w. service w tid) result state.old
+        (border (S.state shim.old) (O.told out.old) (E.told err.old) (O.faults out.old)
+        (E.faults err.old)) state.new
+        (border (S.state shim.new) (O.told out.new) (E.told err.new) (O.faults out.new)
+        (E.faults err.new)) }
+    ensures sound { IsSound state.new }
+    ensures parts { IfOk result (λ way. (ts : List ℕ) → HaveParts (tid ∷ ts) state.old
+        → HaveParts (left_after way tid ts) state.new) }
+    ensures round { state.new.round ≡ state.old.round }
+    ensures follows { S.follows shim.old shim.new }
+{
+    let mut border = GroupBorder { shim, out, err };
+    serve(state, tid, &mut border)
+}
+
 // what follows a stop: the page is granted, or the process ends, or the ecall is served; whether
 // the part goes on
 fn take_turn<S: Shim, O: Sink, E: Sink>(
@@ -195,8 +225,7 @@ fn take_turn<S: Shim, O: Sink, E: Sink>(
             Ok(false)
         }
         Reason::Service => {
-            let mut border = GroupBorder { shim, out, err };
-            match serve(state, tid, &mut border) {
+            match serve_over(state, tid, shim, out, err) {
                 Ok(way) => Ok(goes_on_after(way)),
                 Err(stop) => Err(stop),
             }

@@ -24,7 +24,7 @@ use Rattle.dos_laws.specs.Plays.{world_served}
 use Rattle.kernel_calls.specs.StateWorld.{sent, way_in, world_of}
 use Rattle.kernel_calls.specs.Plays.{AreFrontsOf, GoesOver, Plays, PlaysOn}
 use Rattle.kernel_calls.specs.Plays.{PlaysOnce, StopsBy, Stopper, StopsIn, with_more}
-use Rattle.kernel_calls.specs.Plays.{ by_shim, by_sink, sent_then, stopper}
+use Rattle.kernel_calls.specs.Plays.{by_shim, by_sink, sent_then, stopper}
 use Rattle.kernel_calls.specs.declared.state.State.{State}
 use Rattle.kernel_calls.specs.declared.state.RunStop.{RunStop}
 use Rattle.kernel_calls.specs.declared.state.Served.{Served}
@@ -359,9 +359,11 @@ once_stops q play s s' b b' (by_shim why) h = record {
   running = h.running;
   asked = h.stopped.shim.asked;
   goes = λ o e.
-      let there = first_asked (play (sent o e (world_of q s))) h.question o e (h.asks q o e) in
-      (there.0, there.1 ∙ ap₂ (λ x y. ask h.question x y there.0) (sym (append-nil o))
-          (sym (append-nil e)));
+      let there = first_asked (play (sent o e (world_of q s))) h.question o e (h.asks q o e) in (
+        there.0,
+        there.1 ∙ ap₂ (λ x y. ask h.question x y there.0) (sym (append-nil o))
+            (sym (append-nil e)),
+      );
 }
 once_stops q play s s' b b' (by_sink stream) h = record {
   crossings = put stream (take h.breaks.front.0 h.bytes) ∷ [];

@@ -136,4 +136,3 @@ abbrev pub HasSinkCause : RunStop → (out out_after err err_after : ℕ) → Ty
 HasSinkCause OutFault out out_after err err_after = Rose out out_after
 HasSinkCause ErrFault out out_after err err_after = Rose err err_after
 HasSinkCause _ out out_after err err_after = Unit {0}
-

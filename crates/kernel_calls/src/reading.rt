@@ -71,7 +71,11 @@ fn source_of(end: Option<End>) -> Option<Source>
 }
 
 // Bytes of the input.
-fn read_input<B: Border>(state: &mut State, asked: &Asked, border: &mut B) -> Result<Served, RunStop>
+fn read_input<B: Border>(
+    state: &mut State,
+    asked: &Asked,
+    border: &mut B,
+) -> Result<Served, RunStop>
     requires sound { IsSound state.old }
     requires asked { AreAsked state.old asked.now }
     requires told { HasNoEnd (B.state border.old).shim.told }

@@ -32,11 +32,7 @@ use dos_world::errors::ENOSYS;
 /// before the call, this thread's registers and budget too. Of the frames owners alone may differ:
 /// a page whose bytes were read before a put failed may be shared now. Then a front of the bytes
 /// that the service sends has crossed the border, and nothing else; where the shim stops, nothing.
-pub fn serve<B: Border>(
-    state: &mut State,
-    tid: u32,
-    border: &mut B,
-) -> Result<Served, RunStop>
+pub fn serve<B: Border>(state: &mut State, tid: u32, border: &mut B) -> Result<Served, RunStop>
     requires sound { IsSound state.old }
     requires live { IsThread state.old.table.threads tid }
     requires ready { IsReady state.old.table.threads tid }

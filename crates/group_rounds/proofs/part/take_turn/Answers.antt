@@ -85,8 +85,8 @@ returns-in-Page g c =
 
 -- ---- a service
 
-pub serve-requires : goal.serve-requires
-serve-requires g c = record {
+pub serve_over-requires : goal.serve_over-requires
+serve_over-requires g c = record {
   sound = c.requires.sound;
   live = c.requires.live;
   ready = c.requires.ready;
@@ -102,7 +102,7 @@ serve-requires g c = record {
 pub returns-in-Ok : goal.returns-in-Ok
 returns-in-Ok g c =
     let s = c.args.state.now in
-    let s' = c.serve.new.state in
+    let s' = c.serve_over.new.state in
     let t = c.args.tid in
     let live = c.requires.live in
     let way = c.in-Ok.way in
@@ -114,23 +114,23 @@ returns-in-Ok g c =
           (λ q o e. c.requires.stops q o e ∙ ap Err c.in-Service.is) q);
       less = λ on. on_measure s s' t live _ _ way answers c.requires.budget (sym goes_on ∙ on);
       live = λ on. on_lives s s' t live _ _ way answers (sym goes_on ∙ on);
-      sound = c.serve.ensures.sound;
+      sound = c.serve_over.ensures.sound;
       parts = λ ts parts. rw c.goes_on_after.ensures
           (parts_left way t ts s' (c.in-Ok.ensures.parts ts parts));
-      round = c.serve.ensures.round;
+      round = c.serve_over.ensures.round;
       count = served_count s s' t live _ _ way answers;
       asks = tt;
       before_end = tt;
       told = told_on s s' t live _ _ way answers c.requires.told;
       cut = tt;
       causes = served_well _ _ _ answers.stands;
-      follows = c.serve.ensures.follows.3;
+      follows = c.serve_over.ensures.follows;
     }
 
 pub returns-in-Err : goal.returns-in-Err
 returns-in-Err g c =
     let s = c.args.state.now in
-    let s' = c.serve.new.state in
+    let s' = c.serve_over.new.state in
     let t = c.args.tid in
     let stop = c.in-Err.stop in
     let stops = c.in-Err.ensures.plays.stops in
@@ -140,7 +140,7 @@ returns-in-Err g c =
       live = tt;
       sound = tt;
       parts = tt;
-      round = c.serve.ensures.round;
+      round = c.serve_over.ensures.round;
       count = tt;
       asks = turn_asks s s' t c.requires.budget
           (λ q o e. c.requires.stops q o e ∙ ap Err c.in-Service.is) _ _ stop stops;
@@ -149,5 +149,5 @@ returns-in-Err g c =
       cut = turn_cut s s' t c.requires.budget
           (λ q o e. c.requires.stops q o e ∙ ap Err c.in-Service.is) _ _ stop stops;
       causes = served_not _ _ (λ w. service w t) s s' stop stops;
-      follows = c.serve.ensures.follows.3;
+      follows = c.serve_over.ensures.follows;
     }
