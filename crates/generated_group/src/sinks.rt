@@ -62,7 +62,8 @@ impl Sink for DigestSink {
         ensures ok { OnOk result (Some self.new ≡ grown (Some self.old) piece.now) }
         ensures err { OnErr result (GrewByFront (Some self.old) (Some self.new) piece.now) }
         ensures cause { HasCause 0 0 result }
-        ensures steady { OnOk result (0 ≡ 0) }
+        ensures steady { OnOk result (⟦<DigestSink as Sink>⟧.faults self.new
+            ≡ ⟦<DigestSink as Sink>⟧.faults self.old) }
     {
         self.hasher.update(piece);
         self.count = self.count.saturating_add(piece.len() as u64);
@@ -85,7 +86,8 @@ impl Sink for DropSink {
 
         // As of every sink.
         ensures cause { HasCause 0 0 result }
-        ensures steady { OnOk result (0 ≡ 0) }
+        ensures steady { OnOk result (⟦<DropSink as Sink>⟧.faults self.new
+            ≡ ⟦<DropSink as Sink>⟧.faults self.old) }
     {
         Ok(())
     }
