@@ -60,7 +60,7 @@ abbrev pub begun_by : (World → World) → World → Play RoundEnd
 begun_by phase w =
     if is_none_of (live_threads w) then done (finished w)
     else (if is_none_of (ready_threads w) then done (stalled w) else
-        phases_by phase w (ready_threads w))
+    phases_by phase w (ready_threads w))
 
 -- Where nobody lives nothing is asked. Else the shim is asked for the round's signals; the signal
 -- point is done, and who waits no longer is ready.

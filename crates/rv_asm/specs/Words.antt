@@ -33,7 +33,7 @@ branch_limit = 2 ^ 12
 abbrev pub jump_by : (place rd : ℕ) → ℤ → Result ℕ AsmError
 jump_by place rd offset =
     if fits_signed jump_limit offset then Ok (encoding (instr.Jal rd offset)) else
-        Err (error.Reach place)
+    Err (error.Reach place)
 
 abbrev pub branch_by : (place : ℕ) → BranchOp → (rs1 rs2 : ℕ) → ℤ → Result ℕ AsmError
 branch_by place op rs1 rs2 offset =
