@@ -14,11 +14,13 @@ use base.Fml.{Fml, ftrue}
 use base.Shift.{Keyless}
 use denote.Param.Send.{IsSync, Common}
 use types.Logic.{Logic, sem}
-use types.Kit.{Goal, Step, step, Seq, Item, ‵, given, ◌$◌, move, drop, use1, learn, fsplit, fjoin, fpick, fpack, feq_l, feq_i}
+use types.Kit.{Goal, Step, step, Seq, Item, ‵, given, ◌$◌, move, drop, use1, learn, fsplit, fjoin}
+use types.Kit.{fpick, fpack, feq_l, feq_i}
 use contract.Monad.{fact_use}
 use denote.Laws.{Is}
 use denote.RattleType.{RattleType, Valss}
-use denote.RawPtr.{Ptr, RawPtr, InBlock, in_block, null_ptr, block_ptr, ptr_val, block_of, count_of, at_block}
+use denote.RawPtr.{Ptr, RawPtr, InBlock, in_block, null_ptr, block_ptr, ptr_val, block_of, count_of}
+use denote.RawPtr.{at_block}
 use denote.Steps.{nothing}
 use denote.Struct.Struct.{Struct, within}
 use denote.Struct.Owning.{Owning, shape}
@@ -38,7 +40,8 @@ use Rattle.counted_loans.specs.contracts.Loan as Loan
 abbrev pub loan_word : Ptr → Val
 loan_word p = vstruct (vcons (ptr_val p) vnil)
 
-pub loan_told : (T : RattleType) (p : Ptr) (vs : List Val) → Is (Struct (shape (Loan.the_type T))) (p, tt) vs → vs ≡ loan_word p ∷ []
+pub loan_told : (T : RattleType) (p : Ptr) (vs : List Val) → Is (Struct (shape (Loan.the_type T)))
+    (p, tt) vs → vs ≡ loan_word p ∷ []
 loan_told T p vs is = is.1.0 ∙ ap (λ (ws : List Val). vstruct (of_list (ws ++ [])) ∷ []) is.1.1.0
 
 abbrev pub lent_word : Ptr → Val
@@ -50,11 +53,15 @@ loan_made 𝓛 T p inside = let same = ap (λ (r : Ptr). loan_word r ∷ []) (sy
     makes_shadow 𝓛 ((Struct (shape (Loan.the_type T))).own_val (p, tt) (lent_word p ∷ []))
     (λ vss. (tt, (tt, tt))) ((ptr_val p ∷ [], tt), (same, (refl, tt)))
 
-pub loan_opens : (T : RattleType) {M : Type 1} {𝓤 : Ura M} (𝓛 : Logic 𝓤) → Opens 𝓛 (Struct (shape (Loan.the_type T)))
-loan_opens T {M} {𝓤 = 𝓤} 𝓛 = (Struct-Copied 𝓛 (shape (Loan.the_type T)) (refl, tt) (RawPtr-copy.copied M 𝓤 𝓛, tt)).opens
+pub loan_opens : (T : RattleType) {M : Type 1} {𝓤 : Ura M} (𝓛 : Logic 𝓤) → Opens 𝓛 (Struct (shape
+    (Loan.the_type T)))
+loan_opens T {M} {𝓤 = 𝓤} 𝓛 = (Struct-Copied 𝓛 (shape (Loan.the_type T)) (refl, tt)
+    (RawPtr-copy.copied M 𝓤 𝓛, tt)).opens
 
-pub lent_told : (T : RattleType) (p : Ptr) (vs : List Val) → InBlock p → Is (Struct (shape (Loan.the_type T))) (p, tt) vs → vs ≡ lent_word p ∷ []
-lent_told T p vs inside is = loan_told T p vs is ∙ ap (λ (r : Ptr). loan_word r ∷ []) (at_block p inside)
+pub lent_told : (T : RattleType) (p : Ptr) (vs : List Val) → InBlock p → Is (Struct (shape
+    (Loan.the_type T))) (p, tt) vs → vs ≡ lent_word p ∷ []
+lent_told T p vs inside is = loan_told T p vs is ∙ ap (λ (r : Ptr). loan_word r ∷ []) (at_block p
+    inside)
 
 somewhere : (p : Ptr) → Keyless (in_block p ftrue)
 somewhere null_ptr = tt
@@ -85,18 +92,23 @@ module _ (E : box.Bx) where
   abbrev pub back : Row.Denot → Fml
   back l = comes_back (token E.al l.alloc) R l.at l.value l.term
 
-module _ (E : box.Bx) {M : Type 1} {𝓤 : Ura M} {𝓛 : Logic 𝓤} {K : Type 0} {Γ : List (Item 𝓤)} {G : Goal 𝓤 𝓛.H} where
+module _ (E : box.Bx) {M : Type 1} {𝓤 : Ura M} {𝓛 : Logic 𝓤} {K : Type 0} {Γ : List (Item 𝓤)} {G :
+    Goal 𝓤 𝓛.H} where
   pub lender_out : K → (l : (Row E).Denot) (vs : List Val)
       → (InBlock l.at → (hv : Val) → vs ≡ word E hv l.at ∷ [] → Fits E.al hv
       → Seq K 𝓛 (‵ (kept E l) ∷ ‵ (seen E l) ∷ ‵ (back E l) ∷ ‵ (box.handle E l.alloc hv) ∷ Γ) G)
       → Seq K 𝓛 (‵ ((Row E).own_val l vs) ∷ Γ) G
   lender_out t l vs k =
       let k₀ = 2 ^ 63 - l.out in let part : Fml = part_owns (box.R E) l.at l.value l.term k₀ in
-      fsplit t $ fpick t (λ vss. fsplit t $ feq_l t (λ whole. fsplit t $ feq_l t (λ first. fsplit t $
-      handle_tells E.al t l.alloc vss.1.0 (λ hv second fits. move t (1 ∷ []) $ drop t $ move t (1 ∷ []) $ fsplit t $
-      use1 𝓛 (given (InBlock l.at) (‵ part)) (fact_use 𝓤 _ (part_lies 𝓛 (box.R E) l.at l.value l.term k₀) (guard_i 𝓤 (InBlock l.at) (sem 𝓛 part))) $
+      fsplit t $ fpick t (λ vss. fsplit t $ feq_l t (λ whole. fsplit t $ feq_l t (λ first. fsplit t
+      $
+      handle_tells E.al t l.alloc vss.1.0 (λ hv second fits. move t (1 ∷ []) $ drop t $ move t (1 ∷
+      []) $ fsplit t $
+      use1 𝓛 (given (InBlock l.at) (‵ part)) (fact_use 𝓤 _ (part_lies 𝓛 (box.R E) l.at l.value
+      l.term k₀) (guard_i 𝓤 (InBlock l.at) (sem 𝓛 part))) $
       learn t (λ inside. fsplit t $ k inside hv
-      (whole ∙ (λ i. vstruct (of_list ((first ∙ ap (λ (p : Ptr). ptr_val p ∷ []) (at_block l.at inside)) i ++ (second i ++ []))) ∷ []))
+      (whole ∙ (λ i. vstruct (of_list ((first ∙ ap (λ (p : Ptr). ptr_val p ∷ []) (at_block l.at
+      inside)) i ++ (second i ++ []))) ∷ []))
       fits)))))
 
   pub lender_in : K → {hv : Val} (l : (Row E).Denot) → InBlock l.at
@@ -105,6 +117,8 @@ module _ (E : box.Bx) {M : Type 1} {𝓤 : Ura M} {𝓛 : Logic 𝓤} {K : Type 
   lender_in t {hv} l inside = step (λ s.
       let w = word E hv l.at in let there : Val = vptr (block_of l.at) (count_of l.at) in
       fjoin t $ fjoin t $ nothing t $ move t (2 ∷ 0 ∷ []) $ fjoin t $
-      feq_i t (List Val) (there ∷ []) (ptr_val l.at ∷ []) (ap (λ (p : Ptr). ptr_val p ∷ []) (sym (at_block l.at inside))) $ fjoin t $
+      feq_i t (List Val) (there ∷ []) (ptr_val l.at ∷ []) (ap (λ (p : Ptr). ptr_val p ∷ []) (sym
+      (at_block l.at inside))) $ fjoin t $
       feq_i t (List Val) (w ∷ []) (w ∷ []) refl $ fjoin t $
-      fpack t (Valss (RawPtr ∷ box.P E ∷ [])) (within (shape (owning E)) (l.at, (l.alloc, tt)) (w ∷ [])) (there ∷ [], (hv ∷ [], tt)) $ fjoin t $ s)
+      fpack t (Valss (RawPtr ∷ box.P E ∷ [])) (within (shape (owning E)) (l.at, (l.alloc, tt)) (w ∷
+      [])) (there ∷ [], (hv ∷ [], tt)) $ fjoin t $ s)

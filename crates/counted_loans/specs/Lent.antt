@@ -21,6 +21,6 @@ abbrev pub comes_back : (Ty → Ptr → Fml) → (R : RattleType) → Ptr → R.
 comes_back frees R p x term =
     fsep (flent (term ∷ []) (lies_at R full_share p x)) (frees (raw (lone R.mir)) p)
 
-abbrev pub lender_owns : (Ty → Ptr → Fml) → (R : RattleType) → Ptr → R.Denot → ℕ → ℕ → Fml
-lender_owns frees R p x term out =
+abbrev pub lent_owns : (Ty → Ptr → Fml) → (R : RattleType) → Ptr → R.Denot → ℕ → ℕ → Fml
+lent_owns frees R p x term out =
     fsep (part_owns R p x term (2 ^ 63 - out)) (comes_back frees R p x term)

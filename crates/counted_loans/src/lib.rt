@@ -6,7 +6,7 @@
 #![tactic(auto)]
 
 ghost use Rattle.std.specs.Prelude.{◌≡◌, ℕ, ◌+◌, ◌-◌, ◌^◌, ◌<◌};
-ghost use Rattle.counted_loans.specs.Lent.{lender_owns, loan_owns, loan_shares};
+ghost use Rattle.counted_loans.specs.Lent.{lent_owns, loan_owns, loan_shares};
 
 use std::alloc::Allocator;
 use std::marker::Model;
@@ -35,7 +35,7 @@ pub struct Lender<T, A: Allocator> {
 }
 
 impl<T, A: Allocator> Model for Lender<T, A> {
-    ghost also_owns = { λ l. lender_owns (A.dealloc_token l.alloc) T.row l.at l.value l.term l.out };
+    ghost also_owns = { λ l. lent_owns (A.dealloc_token l.alloc) T.row l.at l.value l.term l.out };
 }
 
 impl<T> Loan<T> {

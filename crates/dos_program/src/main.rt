@@ -43,7 +43,8 @@ fn work(rt: &HostRuntime, words: &[String], workers: &mut impl Workers) -> u8 {
     )
 }
 
-/// The same by workers that stay until it is done. `threads` is the same runtime, which starts them.
+/// The same by workers that stay until it is done. `threads` is the same runtime, which starts
+/// them.
 fn work_beside<R: Threads + Sync>(
     rt: &HostRuntime,
     threads: &R,

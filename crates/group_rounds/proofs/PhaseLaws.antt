@@ -149,7 +149,8 @@ parts_at s xs i t lt is h =
     (subst (λ ts. HaveParts ts s) (drop_at xs i lt) h)
 
 -- where the part of one of them has stopped
-pub serial_stops : {T U : Type 0} (start s s' : State) (b₀ b₁ b₂ : BorderState) (t : ℕ) (xs : List ℕ)
+pub serial_stops : {T U : Type 0} (start s s' : State) (b₀ b₁ b₂ : BorderState) (t : ℕ) (xs : List
+    ℕ)
     (i : ℕ) (stop : RunStop) → i < length xs → t ≡ get_or xs i 0
     → ((q : ℕ) → GoesTo q (λ w. serial_of w xs) start (told_at b₀)
     (λ w. serial_of w (drop i xs)) s (told_at b₁))

@@ -1,5 +1,6 @@
 -- Why a run stops, and what a run may do to its shim and its sinks. This project's own rules.
-use Rattle.std.specs.Prelude.{ℕ, ◌≡◌, ◌≤◌, List, Bool, true, false, Option, Some, None, Result, IfErr}
+use Rattle.std.specs.Prelude.{ℕ, ◌≡◌, ◌≤◌, List, Bool, true, false, Option, Some, None, Result}
+use Rattle.std.specs.Prelude.{IfErr}
 use Rattle.std.specs.Prelude.{OnOk}
 use Rattle.dos_world.specs.declared.Question.{Question}
 use Rattle.dos_world.specs.declared.Question.TheVariants.{Signals, Input, Clock, End}

@@ -92,6 +92,8 @@ module _ (s mid : State) (t : ℕ) (found : Option Service) (a : Asked) (charges
       goes = λ q o e.
           ap (over []) (calls_paid q o e) ∙ h.goes q o e
           ∙ sym (ap (λ (x : State).
-          gives (went (with_more stream h.bytes (sent o e (world_of q (record x { table = h.table })))))
+          gives (went (with_more stream h.bytes (sent o e (world_of q (record x {
+            table = h.table;
+          })))))
           []) restores);
     }

@@ -90,7 +90,8 @@ over-append o e (exchanged x ∷ cs) ds (done a) p' p'' h k = absurd h
 over-append o e (exchanged x ∷ cs) ds (ask question output error next) p' p'' h k =
     (h.0, h.1, h.2, over-append o e cs ds (next (answer_of x)) p' p'' h.3 k)
 over-append o e (put stream bytes ∷ cs) ds p p' p'' h k =
-    over-append (o ++ going_to Output stream bytes) (e ++ going_to Error stream bytes) cs ds p p' p''
+    over-append (o ++ going_to Output stream bytes) (e ++ going_to Error stream bytes) cs ds p p'
+    p''
     h
     (subst (λ x. GoesOver x ((e ++ going_to Error stream bytes) ++ bytes_to Error cs) ds p' p'')
     (sym (append_assoc o (going_to Output stream bytes) (bytes_to Output cs)))

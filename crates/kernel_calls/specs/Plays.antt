@@ -121,7 +121,8 @@ pub record IsCutOff {A : Type 0} (q : ℕ) (world : A → World) (play : World �
 abbrev pub StopsIn : {A : Type 0} → ℕ → (A → World) → (World → Play A) → Stopper → State
     → (before after : BorderState) → Type 0
 StopsIn q world play (by_shim why) old before after = StopsAsking q play why old before after
-StopsIn q world play (by_sink stream) old before after = IsCutOff q world play stream old before after
+StopsIn q world play (by_sink stream) old before after = IsCutOff q world play stream old before
+    after
 
 -- The call plays this play: on to what is left of it, by the answer; or to the question at which
 -- the shim stopped; or a sink cut it off.

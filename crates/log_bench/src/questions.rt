@@ -7,7 +7,8 @@ use dos_io::{Shim, SignalList};
 /// Each byte of an input, and each reading of the clock.
 pub const ANSWER: u8 = 7;
 
-/// What is asked, always for thread 1 in round 1, but for the signals of one round behind the other.
+/// What is asked, always for thread 1 in round 1, but for the signals of one round behind the
+/// other.
 #[derive(Clone, Copy)]
 pub enum Question {
     /// The signals of the round, of which none comes.

@@ -5,7 +5,8 @@ use shim_log::{Log, ReadError, read_log, write_log};
 use std::alloc::Global;
 use std::process::Abort;
 
-/// The log of a run of one image that ended as done in its first round, without an input, in version
+/// The log of a run of one image that ended as done in its first round, without an input, in
+/// version
 /// 2: the image's digest is 32 bytes of 7.
 pub const SMALLEST: [u8; 67] = [
     0x44, 0x50, 0x47, 0x4c, 0x02, 0x00, 0x01, 0x00, 0xe8, 0x03, 0x00, 0x00, 0xa0, 0x86, 0x01, 0x00,
@@ -21,7 +22,8 @@ pub const SMALLEST_ONE: [u8; 64] = [
     7, 7, 7, 7, 7, 7, 7, 7, 0x01, 0x01, 0x00, 0x00, 0x00, 0x00, 0x00, 0x00, 0x01, 0x00, 0x00, 0x00,
 ];
 
-/// A log of version 2: rounds 1 to 3 without a signal, a reading of 7 of thread 1 in round 1, round 4
+/// A log of version 2: rounds 1 to 3 without a signal, a reading of 7 of thread 1 in round 1, round
+/// 4
 /// and round 6 without a signal, signal 15 to process 1 in round 7; done after 7 rounds.
 pub const STRETCHES: [u8; 113] = [
     0x44, 0x50, 0x47, 0x4c, 0x02, 0x00, 0x01, 0x00, 0xe8, 0x03, 0x00, 0x00, 0xa0, 0x86, 0x01, 0x00,
@@ -33,7 +35,8 @@ pub const STRETCHES: [u8; 113] = [
     0x00,
 ];
 
-/// A log of version 1 with an entry of each kind: signals of round 1 with signal 15 to process 1; an input of
+/// A log of version 1 with an entry of each kind: signals of round 1 with signal 15 to process 1;
+/// an input of
 /// thread 1, of at most 3 bytes, which brought two; a reading of 5; done after 2 rounds.
 pub const EACH_KIND: [u8; 101] = [
     0x44, 0x50, 0x47, 0x4c, 0x01, 0x00, 0x01, 0x00, 0xe8, 0x03, 0x00, 0x00, 0xa0, 0x86, 0x01, 0x00,

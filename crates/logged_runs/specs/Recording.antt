@@ -41,7 +41,8 @@ abbrev pub ledger_after : Plan → List Exchange → LedgerState
 ledger_after plan es =
     record (empty_ledger plan.posts plan.clock plan.header 0) { entries = es }
 
--- The run came to its end, and this log of version 2 has all of its exchanges: they were given by the plan and
+-- The run came to its end, and this log of version 2 has all of its exchanges: they were given by
+-- the plan and
 -- the host, none skipped and none invented, and each had room.
 pub record Recorded (plan : Plan) (host host_after : Option Told) (log : Log) (seen : Seen) :
     Type 0 where

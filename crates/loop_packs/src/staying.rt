@@ -36,7 +36,8 @@ pub struct StayingHeld<'a, R> {
 }
 
 impl<'a, R> StayingHeld<'a, R> {
-    /// The workers that are kept here, which hold this tally. Until some are hired the caller alone runs packs.
+    /// The workers that are kept here, which hold this tally. Until some are hired the caller alone
+    /// runs packs.
     pub fn new(
         rt: &'a R,
         alloc: Global,

@@ -201,7 +201,8 @@ pub record SpellsHeader (bytes : List ℕ) (x : (LogVersion × LogHeader) × Lis
   pub fits : FitsHeader x.0.1
 
 -- the fields one behind the other are the header's text
-header_spelled : (w : LogVersion) (bytes rest : List ℕ) (n : ℕ) (h : LogHeader) → length h.digests ≡ n
+header_spelled : (w : LogVersion) (bytes rest : List ℕ) (n : ℕ) (h : LogHeader) → length h.digests ≡
+    n
     → Takes bytes
     (magic ++ (to_le_bytes w16 (version_number w) ++ (to_le_bytes w16
     n ++ (to_le_bytes w32 h.quantum ++ (to_le_bytes w32

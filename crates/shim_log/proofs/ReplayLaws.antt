@@ -247,7 +247,8 @@ quiet_first round (suc n) (suc within) es lt =
     ∙ ap (λ (k : ℕ). Signals (round + suc within) [] ∷
     drop k (Signals round [] ∷ (quiet_rounds (suc round) n ++ es))) next
 
-quiet_over : (round count : ℕ) (es : List Exchange) → drop count (quiet_rounds round count ++ es) ≡ es
+quiet_over : (round count : ℕ) (es : List Exchange) → drop count (quiet_rounds round count ++ es) ≡
+    es
 unfolding quiet_rounds
 quiet_over round zero es = refl
 quiet_over round (suc n) es = quiet_over (suc round) n es
@@ -282,7 +283,8 @@ module _ (p : ReplayState) (place within : ℕ) (text left rest : List ℕ) (rou
         × (drop (p.answered + 1) p.log.entries
         ≡ drop (within + 1) (quiet_rounds round count ++ exchanges_of f.items))
     found =
-        get_first p.log.entries (drop (within + 1) (quiet_rounds round count ++ exchanges_of f.items))
+        get_first p.log.entries (drop (within + 1) (quiet_rounds round count ++ exchanges_of
+        f.items))
         p.answered (Signals (round + within) [])
         (f.left ∙ ap (λ (x : Item). drop within (expanded x ++ exchanges_of f.items)) read.0
         ∙ quiet_first round count within (exchanges_of f.items) in_stretch)
@@ -308,7 +310,8 @@ module _ (p : ReplayState) (place within : ℕ) (text left rest : List ℕ) (rou
         text_is = f.text_is ∙ sym (flat_map-cons item_text f.item f.items);
         spelled = (f.fits, f.spelled);
         left = found.1
-            ∙ ap (λ (x : Item). drop (within + 1) (expanded x ++ exchanges_of f.items)) (sym read.0);
+            ∙ ap (λ (x : Item). drop (within + 1) (expanded x ++ exchanges_of f.items)) (sym
+            read.0);
         within_first = subst (λ (x : Item). IsWithin (within + 1) (x ∷ f.items)) (sym read.0) more;
         inside = st.inside;
       };

@@ -45,7 +45,8 @@ has_64_bytes : length text ≡ 64
 has_64_bytes = refl
 
 read : log_at text ≡ Ok smallest
-unfolding log_at header_at fields_at magic_at version_at header_number_at many_at body_at item_at quiet_at
+unfolding log_at header_at fields_at magic_at version_at header_number_at many_at body_at item_at
+    quiet_at
     quiet_round_at signals_at post_at input_at clock_at end_at ranged_at ranged_byte_at quiet_rounds
 read = refl
 
@@ -94,12 +95,18 @@ all_kinds = record {
 }
 
 all_kinds_read : log_at (logtext all_kinds) ≡ Ok all_kinds
-unfolding log_at header_at fields_at magic_at version_at header_number_at many_at body_at item_at quiet_at
+unfolding log_at header_at fields_at magic_at version_at header_number_at many_at body_at item_at
+    quiet_at
     quiet_round_at signals_at post_at input_at clock_at end_at ranged_at ranged_byte_at quiet_rounds
 all_kinds_read = refl
 
 -- eight images
 most_images : length
-    (header_text One (record { quantum = 16; rounds = 1; frames = 16; digests = replicate 8 digest }))
+    (header_text One (record {
+      quantum = 16;
+      rounds = 1;
+      frames = 16;
+      digests = replicate 8 digest;
+    }))
     ≡ 276
 most_images = refl

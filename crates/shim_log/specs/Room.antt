@@ -52,7 +52,8 @@ unfoldable pub GrowsBy : List Exchange → Exchange → ℕ → Type 0
 GrowsBy es e bytes =
     length (entries_text Two (es ++ e ∷ [])) ≡ length (entries_text Two es) + bytes
 
--- With so many bytes more, and the end's six, the text would be longer than a log may be; or as many
+-- With so many bytes more, and the end's six, the text would be longer than a log may be; or as
+-- many
 -- exchanges are held as may be.
 unfoldable pub IsFull : LogHeader → List Exchange → ℕ → Type 0
 IsFull header es bytes =

@@ -34,7 +34,8 @@ impl Model for GrowingEntries {
     ghost use Rattle.std.specs.Prelude.{List, length, vec_len, vec_capacity, ◌-◌, ◌+◌, ◌≤◌};
     ghost use Rattle.shim_log.specs.Items.{exchanges_of};
     ghost use Rattle.shim_log.specs.LogText.{items_text};
-    ghost use Rattle.shim_log.specs.EntriesText.{GrowingState, IsGrowing, grown_items, stretch_items};
+    ghost use Rattle.shim_log.specs.EntriesText.{GrowingState, IsGrowing, grown_items};
+    ghost use Rattle.shim_log.specs.EntriesText.{stretch_items};
 
     ghost Value = { GrowingState };
 
@@ -60,7 +61,8 @@ fn stretch_bytes(stretch: Option<(u32, u32)>) -> usize
 
 // Puts a stretch that was kept out of a text behind it.
 fn put_stretch(text: &mut Vec<u8>, stretch: Option<(u32, u32)>)
-    requires { vec_len text.old + length (items_text (stretch_items stretch)) ≤ vec_capacity text.old }
+    requires { vec_len text.old + length (items_text (stretch_items stretch)) ≤ vec_capacity
+        text.old }
     ensures items { text.new.items ≡ text.old.items ++ items_text (stretch_items stretch) }
     ensures len { vec_len text.new
         ≡ vec_len text.old + length (items_text (stretch_items stretch)) }

@@ -234,7 +234,8 @@ impl Ledger {
         requires posts { list.now ≡ posts_in self.old.posts round }
         requires room { NoRoom self.old.header self.old.posts self.old.entries
             (Question.Signals round) → ⊥ }
-        requires memory { length (entries_text Two (self.old.entries ++ signals round list.now ∷ []))
+        requires memory { length (entries_text Two (self.old.entries ++ signals round list.now ∷
+            []))
             ≤ length (entries_text Two self.old.entries) + self.old.room }
         ensures { self.new ≡ record (added self.old (signals round list.now))
             { room = self.new.room } }

@@ -2,7 +2,8 @@
 ghost use Rattle.std.specs.Prelude.{◌≡◌, ◌++◌, length, IfOk, OnOk};
 ghost use Rattle.std.specs.Int.{w16, w32, to_le_bytes};
 ghost use Rattle.std.specs.List.{concat};
-ghost use Rattle.shim_log.specs.LogText.{magic, version_number, header_text, ending_code, entry_text};
+ghost use Rattle.shim_log.specs.LogText.{magic, version_number, header_text, ending_code};
+ghost use Rattle.shim_log.specs.LogText.{entry_text};
 ghost use Rattle.shim_log.specs.LogText.{logtext};
 ghost use Rattle.dos_io.specs.declared.exchange.Exchange.TheVariants.{End as end};
 

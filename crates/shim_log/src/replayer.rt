@@ -132,7 +132,8 @@ impl Replayer {
         let _answered = self.answered;
     }
 
-    // The next exchange, and where the one behind it stands: the place of its entry in the text, and
+    // The next exchange, and where the one behind it stands: the place of its entry in the text,
+    // and
     // how many of that entry's rounds are in front of it.
     fn next(&self) -> (Entry<'_>, usize, u32)
         requires { self.now.answered ≤ length self.now.log.entries }

@@ -18,27 +18,28 @@ single f [] b e = absurd (let n = ap length e in omega arith)
 single f (x ∷ []) b e = (x, refl)
 single f (x ∷ y ∷ ys) b e = absurd (let n = ap length e in omega arith)
 
-module _ {G : Type 0} (term : ℕ) (board : TableId) (opened : List Held) (w : Worker (PackOrder G)) where
-  pub order_at : IsAt term board opened w → (x : PackOrder G) × (w.seat.me ≡ lent x)
-  order_at at =
-      let s = single (λ (x : PackOrder G). x.board.term) w.seat.me.0.out term at.1 in
-      (s.0, at.0 ∙ ap (λ (l : List (PackOrder G)). (giver l, [])) s.1)
+module _ {G : Type 0} (term : ℕ) (board : TableId) (opened : List Held) (w : Worker (PackOrder G))
+  where
+    pub order_at : IsAt term board opened w → (x : PackOrder G) × (w.seat.me ≡ lent x)
+    order_at at =
+        let s = single (λ (x : PackOrder G). x.board.term) w.seat.me.0.out term at.1 in
+        (s.0, at.0 ∙ ap (λ (l : List (PackOrder G)). (giver l, [])) s.1)
 
-  pub order_is : IsAt term board opened w → (x : PackOrder G) → w.seat.me ≡ lent x
-      → (x.board.term ≡ term) × (x.seat.board ≡ board) × (x.seat.opened ≡ opened)
-      × (share_out w ≡ x.seat.share)
-  order_is at x e =
-      let out : w.seat.me.0.out ≡ x ∷ [] = ap (λ m. m.0.out) e in
-      let share : share_out w ≡ 0 + x.seat.share =
-      ap (λ (l : List (PackOrder G)). sum_by (λ (z : PackOrder G). z.seat.share) l) out in (
-        ap (λ l. head_or term l)
-            (sym (ap (λ (l : List (PackOrder G)). map (λ (z : PackOrder G). z.board.term) l) out)
-            ∙ at.1),
-        ap (λ l. head_or board l)
-            (sym (ap (λ (l : List (PackOrder G)). map (λ (z : PackOrder G). z.seat.board) l) out)
-            ∙ at.2),
-        ap (λ l. head_or opened l)
-            (sym (ap (λ (l : List (PackOrder G)). map (λ (z : PackOrder G). z.seat.opened) l) out)
-            ∙ at.3),
-        omega (arith, share),
-      )
+    pub order_is : IsAt term board opened w → (x : PackOrder G) → w.seat.me ≡ lent x
+        → (x.board.term ≡ term) × (x.seat.board ≡ board) × (x.seat.opened ≡ opened)
+        × (share_out w ≡ x.seat.share)
+    order_is at x e =
+        let out : w.seat.me.0.out ≡ x ∷ [] = ap (λ m. m.0.out) e in
+        let share : share_out w ≡ 0 + x.seat.share =
+        ap (λ (l : List (PackOrder G)). sum_by (λ (z : PackOrder G). z.seat.share) l) out in (
+          ap (λ l. head_or term l)
+              (sym (ap (λ (l : List (PackOrder G)). map (λ (z : PackOrder G). z.board.term) l) out)
+              ∙ at.1),
+          ap (λ l. head_or board l)
+              (sym (ap (λ (l : List (PackOrder G)). map (λ (z : PackOrder G). z.seat.board) l) out)
+              ∙ at.2),
+          ap (λ l. head_or opened l)
+              (sym (ap (λ (l : List (PackOrder G)). map (λ (z : PackOrder G). z.seat.opened) l) out)
+              ∙ at.3),
+          omega (arith, share),
+        )

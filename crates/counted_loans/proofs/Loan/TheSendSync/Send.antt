@@ -10,5 +10,9 @@ use Rattle.std.proofs.Common.{[], ◌∷◌}
 pub send : (T : RattleType) → IsSync T → IsSend (the_row T)
 send T shared =
     let O : Owning = the_type T in let pointer : IsSend RawPtr = search sendable in
-    owning_send O (pointer, tt) (λ loan. ((λ e k. tt), seen_anywhere T shared loan.at loan.value (loan.term ∷ [])))
+    owning_send O (pointer, tt) (λ loan. (
+      (λ e k. tt),
+      seen_anywhere T shared loan.at loan.value
+          (loan.term ∷ []),
+    ))
     (λ κ loan. (struct_send (shape O) (pointer, tt)).leaving κ (to O loan))

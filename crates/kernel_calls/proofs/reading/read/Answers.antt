@@ -37,7 +37,8 @@ read_pipe-requires-clause-pipe g c =
 pub returns-in-Some-Input-clause-plays : goal.returns-in-Some-Input-clause-plays
 returns-in-Some-Input-clause-plays g c =
     let a = c.args.asked.now in
-    plays_as (λ w. read (call_in w a)) (λ w. read_by (Some Input) (call_in w a)) c.args.state.now c.args.state.now
+    plays_as (λ w. read (call_in w a)) (λ w. read_by (Some Input) (call_in w a)) c.args.state.now
+    c.args.state.now
     (from_source c.args.state.now c.requires.sound a c.requires.asked
     c.descriptor.result input_source c.descriptor.ensures
     (cc (c.in-Some-Input.is, c.in-Some-Input.field-0-is, c.source_of.ensures)))

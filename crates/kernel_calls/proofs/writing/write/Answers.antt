@@ -39,7 +39,8 @@ returns-in-Some-To-clause-plays g c =
     let stream = c.in-Some-To.stream in
     let a = c.args.asked.now in
     plays_as (λ w. write (call_in w a))
-    (λ w. transfers (write_to stream) (are_readable w a) (call_in w a)) c.args.state.now c.args.state.now
+    (λ w. transfers (write_to stream) (are_readable w a) (call_in w a)) c.args.state.now
+    c.args.state.now
     (λ q o e. to_target c.args.state.now c.requires.sound a c.requires.asked
     c.descriptor.result (to_stream stream) c.descriptor.ensures
     (cc (c.in-Some-To.is, c.in-Some-To.field-0-is, c.target_of.ensures)) q o e

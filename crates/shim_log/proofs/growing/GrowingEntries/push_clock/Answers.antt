@@ -9,7 +9,8 @@ use Rattle.shim_log.proofs.growing.GrowingEntries.push_clock.Goals as goal
 
 -- The text is that of one exchange more.
 grew : (c : After-put_clock) → Grew c.self.inside.text.items c.self.inside.stretch
-    c.self.inside.count (Clock c.args.round c.args.tid c.args.reading) c.put_clock.new.out.items None
+    c.self.inside.count (Clock c.args.round c.args.tid c.args.reading) c.put_clock.new.out.items
+    None
 grew c =
     let few : c.self.inside.count < 16777216 =
     omega (
@@ -20,9 +21,11 @@ grew c =
     ) in
     let fits : InRange (Clock c.args.round c.args.tid c.args.reading) =
     record { round_fits = omega arith; tid_fits = omega arith; reading = omega arith } in
-    grows_kept c.self.inside.text.items c.self.inside.stretch c.self.inside.count (Clock c.args.round c.args.tid c.args.reading)
+    grows_kept c.self.inside.text.items c.self.inside.stretch c.self.inside.count (Clock
+    c.args.round c.args.tid c.args.reading)
     c.put_clock.new.out.items c.self.invariant.0 fits tt tt few
-    (c.put_clock.ensures.items ∙ ap (λ (t : List ℕ). t ++ entry_text (Clock c.args.round c.args.tid c.args.reading)) c.put_stretch.ensures.items)
+    (c.put_clock.ensures.items ∙ ap (λ (t : List ℕ). t ++ entry_text (Clock c.args.round c.args.tid
+    c.args.reading)) c.put_stretch.ensures.items)
 
 pub invariant_of-self : goal.invariant_of-self
 invariant_of-self c = (
@@ -42,4 +45,5 @@ invariant_of-self c = (
 pub returns : goal.returns
 returns c =
     (grew (goal.at.returns c).After-put_clock).shows
-    ∙ ap (λ (s : GrowingState). s.list ++ (Clock c.args.round c.args.tid c.args.reading) ∷ []) c.self.view_is
+    ∙ ap (λ (s : GrowingState). s.list ++ (Clock c.args.round c.args.tid c.args.reading) ∷ [])
+    c.self.view_is

@@ -9,7 +9,8 @@ use Rattle.shim_log.proofs.growing.GrowingEntries.push_input.Goals as goal
 
 -- The text is that of one exchange more.
 grew : (c : After-put_input) → Grew c.self.inside.text.items c.self.inside.stretch
-    c.self.inside.count (Input c.args.round c.args.tid c.args.max c.args.bytes.now) c.put_input.new.out.items None
+    c.self.inside.count (Input c.args.round c.args.tid c.args.max c.args.bytes.now)
+    c.put_input.new.out.items None
 grew c =
     let few : c.self.inside.count < 16777216 =
     omega (
@@ -26,9 +27,11 @@ grew c =
       short = c.requires.short;
       bytes_fit = λ i. omega (arith, c.type_inv.bytes i);
     } in
-    grows_kept c.self.inside.text.items c.self.inside.stretch c.self.inside.count (Input c.args.round c.args.tid c.args.max c.args.bytes.now)
+    grows_kept c.self.inside.text.items c.self.inside.stretch c.self.inside.count (Input
+    c.args.round c.args.tid c.args.max c.args.bytes.now)
     c.put_input.new.out.items c.self.invariant.0 fits tt tt few
-    (c.put_input.ensures.items ∙ ap (λ (t : List ℕ). t ++ entry_text (Input c.args.round c.args.tid c.args.max c.args.bytes.now)) c.put_stretch.ensures.items)
+    (c.put_input.ensures.items ∙ ap (λ (t : List ℕ). t ++ entry_text (Input c.args.round c.args.tid
+    c.args.max c.args.bytes.now)) c.put_stretch.ensures.items)
 
 pub invariant_of-self : goal.invariant_of-self
 invariant_of-self c = (
@@ -48,4 +51,5 @@ invariant_of-self c = (
 pub returns : goal.returns
 returns c =
     (grew (goal.at.returns c).After-put_input).shows
-    ∙ ap (λ (s : GrowingState). s.list ++ (Input c.args.round c.args.tid c.args.max c.args.bytes.now) ∷ []) c.self.view_is
+    ∙ ap (λ (s : GrowingState). s.list ++ (Input c.args.round c.args.tid c.args.max
+    c.args.bytes.now) ∷ []) c.self.view_is

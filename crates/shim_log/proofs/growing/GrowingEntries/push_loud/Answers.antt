@@ -24,9 +24,12 @@ grew c =
       count = omega (arith, c.len-len.ensures.few, c.len-len.ensures.value);
       posts = c.len-len.ensures.posts;
     } in
-    grows_kept c.self.inside.text.items c.self.inside.stretch c.self.inside.count (Signals c.args.round c.args.list.now)
-    c.put_signals.new.out.items c.self.invariant.0 fits tt (is_loud c.args.round c.args.list.now c.requires.loud) few
-    (c.put_signals.ensures.items ∙ ap (λ (t : List ℕ). t ++ entry_text (Signals c.args.round c.args.list.now)) c.put_stretch.ensures.items)
+    grows_kept c.self.inside.text.items c.self.inside.stretch c.self.inside.count (Signals
+    c.args.round c.args.list.now)
+    c.put_signals.new.out.items c.self.invariant.0 fits tt (is_loud c.args.round c.args.list.now
+    c.requires.loud) few
+    (c.put_signals.ensures.items ∙ ap (λ (t : List ℕ). t ++ entry_text (Signals c.args.round
+    c.args.list.now)) c.put_stretch.ensures.items)
 
 pub invariant_of-self : goal.invariant_of-self
 invariant_of-self c = (
@@ -46,4 +49,5 @@ invariant_of-self c = (
 pub returns : goal.returns
 returns c =
     (grew (goal.at.returns c).After-put_signals).shows
-    ∙ ap (λ (s : GrowingState). s.list ++ (Signals c.args.round c.args.list.now) ∷ []) c.self.view_is
+    ∙ ap (λ (s : GrowingState). s.list ++ (Signals c.args.round c.args.list.now) ∷ [])
+    c.self.view_is

@@ -28,7 +28,8 @@ returns-in-Some-clause-value c =
     let none : c.args.list.now ≡ [] = nil_from_length c.args.list.now (omega arith) in
     subst (λ (es : List Exchange). GrowsBy es (Signals c.args.round c.args.list.now) 0)
     (ap (λ (s : GrowingState). s.list) c.self.view_is)
-    (subst (λ (posts : List Post). GrowsBy (exchanges_of (grown_items c.self.inside.text.items c.self.inside.stretch)) (Signals c.args.round posts) 0) (sym none)
+    (subst (λ (posts : List Post). GrowsBy (exchanges_of (grown_items c.self.inside.text.items
+    c.self.inside.stretch)) (Signals c.args.round posts) 0) (sym none)
     (on_grows _ _ _ c.args.round _ c.self.invariant.0 (sym c.counted_up.ensures ∙ c.in-Some.is)))
 
 pub returns-in-None-clause-value : goal.returns-in-None-clause-value
@@ -36,5 +37,6 @@ returns-in-None-clause-value c =
     let none : c.args.list.now ≡ [] = nil_from_length c.args.list.now (omega arith) in
     subst (λ (es : List Exchange). GrowsBy es (Signals c.args.round c.args.list.now) 9)
     (ap (λ (s : GrowingState). s.list) c.self.view_is)
-    (subst (λ (posts : List Post). GrowsBy (exchanges_of (grown_items c.self.inside.text.items c.self.inside.stretch)) (Signals c.args.round posts) 9) (sym none)
+    (subst (λ (posts : List Post). GrowsBy (exchanges_of (grown_items c.self.inside.text.items
+    c.self.inside.stretch)) (Signals c.args.round posts) 9) (sym none)
     (quiet_grows _ _ _ c.args.round c.self.invariant.0 (sym c.counted_up.ensures ∙ c.in-None.is)))
