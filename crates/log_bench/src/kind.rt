@@ -8,8 +8,7 @@ use dos_io::ClockRule;
 #[derive(Clone, Copy)]
 pub enum Kind {
     /// Signals of a round that has no posts, the same again and again, so that none goes on with
-    /// the
-    /// one before it.
+    /// the one before it.
     Signals,
     /// Signals of one round behind the other, none of which has posts.
     Rounds,
