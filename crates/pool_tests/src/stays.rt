@@ -1,7 +1,7 @@
 // Workers that stay over several calls.
 ghost use Rattle.std.specs.Prelude.{◌<◌, ◌≤◌};
 
-use crate::gates::check_seen;
+use crate::gates::{check_seen, fail_held};
 use crate::pools::{BUDGET, check_count, evenly};
 use loop_packs::{Holding, Load, StayingHeld, run};
 use staying_workers::Kept;
@@ -87,7 +87,7 @@ fn check_held<R: Threads + Sync + Abort>(
             return;
         }
     }
-    check_count(rt, &Tally::new(), count);
+    fail_held(rt);
 }
 
 // 0 is held until 1 has entered, at the first call; both are in later
