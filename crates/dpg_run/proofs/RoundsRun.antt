@@ -2,7 +2,8 @@
 use Rattle.std.proofs.Common.{ℕ, suc, ◌+◌, ◌-◌, ◌≡◌, refl, sym, ap, ap₂, ◌∙◌, subst, List, [], ◌∷◌}
 use Rattle.std.proofs.Common.{◌++◌, length, append-nil, append_assoc, ◌<◌, ◌≤◌, Option, None, Some}
 use Rattle.std.proofs.Common.{arith}
-use Rattle.std.specs.Prelude.{◌==◌, Bool, true, false, not, map, is_some, if◌then◌else◌, Err}
+use Rattle.std.specs.Prelude.{◌==◌, Bool, true, false, not, map, is_some, if◌then◌else◌, Err, Ok}
+use Rattle.std.specs.Prelude.{Result}
 use Rattle.std.specs.Prelude.{OnSome}
 use Rattle.std.proofs.lemmas.List.{map-append}
 use Rattle.dos_world.specs.Numbered.{numbers_of}
@@ -15,7 +16,6 @@ use Rattle.dos_world.specs.declared.Ending.TheVariants.{Done as done_ending, Lim
 use Rattle.dos_world.specs.declared.Ending.TheVariants.{Stalled as stalled_ending}
 use Rattle.dos_world.specs.declared.Question.{Question}
 use Rattle.dos_world.specs.declared.Question.TheVariants.{End as end_question}
-use Rattle.dos_io.specs.declared.exchange.Exchange.{Exchange}
 use Rattle.dos_io.specs.declared.exchange.Exchange.TheVariants.{End}
 use Rattle.dos_io.specs.Exchanges.{question_of, answer_of}
 use Rattle.dos_laws.specs.Plays.{world_ended}
@@ -25,18 +25,24 @@ use Rattle.dos_io.specs.declared.shim.ShimStop.{ShimStop}
 use Rattle.kernel_calls.specs.StateWorld.{world_of, sent, shim_stop}
 use Rattle.kernel_calls.specs.declared.state.RunStop.{RunStop}
 use Rattle.kernel_calls.specs.declared.state.State.{State}
-use Rattle.group_rounds.specs.Fronts.{AreFrontsOf}
 use Rattle.group_rounds.specs.Plays.{GoesOn}
-use Rattle.group_rounds.specs.StatePlays.{Telling, ToldMore}
+use Rattle.group_rounds.specs.StatePlays.{Telling, told_at}
 use Rattle.group_rounds.specs.Outside.{is_end}
-use Rattle.group_rounds.specs.Rounds.{CutRound, RanRound, StoppedRound, end_in, work_in}
+use Rattle.group_rounds.specs.Rounds.{end_in, work_in}
 use Rattle.group_rounds.specs.declared.round.RoundEnd.{RoundEnd}
 use Rattle.group_rounds.specs.declared.round.RoundEnd.TheVariants.{Went, Done, Stalled}
-use Rattle.group_rounds.proofs.PlayLaws.{goes-append, goes-then, goes-over, goes-over_more}
-use Rattle.group_rounds.proofs.PlayLaws.{goes-questions, goes_by, stops_by}
+use Rattle.group_rounds.proofs.PlayLaws.{goes-append, goes-exchanges, goes-then, goes-over}
+use Rattle.group_rounds.proofs.PlayLaws.{goes-over_more}
+use Rattle.group_rounds.proofs.PlayLaws.{goes-questions}
+use Rattle.group_rounds.proofs.StatePlayLaws.{told_more, told_so}
+use Rattle.kernel_calls.specs.Plays.{AreFrontsOf, GoesOver, Plays, PlaysOn, Stopper, StopsAsking}
+use Rattle.kernel_calls.specs.Plays.{StopsIn, by_shim, by_sink, stopper}
+use Rattle.kernel_calls.proofs.Playing.{SendsBehind, plays_after, plays_and, plays_before}
+use Rattle.kernel_calls.proofs.Playing.{plays_still, stops_after}
+use Rattle.dos_io.specs.Borders.{BorderState, Crossing, Tells, bytes_to, exchanges_of}
+use Rattle.dos_io.specs.declared.border.Stream.TheVariants.{Output, Error}
 use Rattle.dos_io.proofs.OutsideLaws.{front-whole}
-use Rattle.group_rounds.proofs.StatePlayLaws.{told_nothing, told_so, told_then}
-use Rattle.group_rounds.proofs.FrontLaws.{HasSent, fronts_kept, fronts_over, fronts_then, sending}
+use Rattle.group_rounds.proofs.FrontLaws.{HasSent, fronts_kept, fronts_over, sending}
 use Rattle.flat_machine.specs.Machine.{Finish, rounds_of, rounds_from, told_end, run_from}
 use Rattle.flat_machine.specs.Machine.{result_of}
 use Rattle.dpg_run.specs.Laws.{LeavesFinish, RunOwes}
@@ -110,213 +116,187 @@ goes_after Done is = absurd cc
 goes_after Stalled is = absurd cc
 
 -- From the start so many rounds were run, with so much work, and so many are left.
-pub record RanSome (config : Config) (rounds : ℕ) (start : State) (before : Telling) (left : ℕ)
-    (s : State) (after : Telling) (work : ℕ) : Type 0 where
-  pub more : ToldMore before after
-  pub goes : GoesOn more.exchanges (rounds_of rounds (world_of config.quantum start) 0)
-      (rounds_of left (sent more.output more.error (world_of config.quantum s)) work)
+abbrev pub RanSome : (q rounds : ℕ) → State → BorderState → ℕ → State → BorderState → ℕ → Type 0
+RanSome q rounds start before left s after work =
+    PlaysOn q (λ w. rounds_of rounds w 0) start before (λ w. rounds_of left w work) s after
 
-pub ran_none : (config : Config) (rounds left : ℕ) (start : State) (tells : Telling) → rounds ≡ left
-    → RanSome config rounds start tells left start tells 0
-ran_none config rounds left start tells all = record {
-  more = told_nothing tells;
-  goes = ap (λ n. rounds_of n (world_of config.quantum start) 0) all;
-}
+pub ran_none : (q rounds left : ℕ) (start : State) (b : BorderState) → rounds ≡ left
+    → RanSome q rounds start b left start b 0
+ran_none q rounds left start b all =
+    plays_still q (λ w. rounds_of rounds w 0) (λ w. rounds_of left w 0) start start b
+    (λ o e. ap (λ n. rounds_of n (sent o e (world_of q start)) 0) all)
 
-module _ (config : Config) (rounds left : ℕ) (start s : State) (before told : Telling) (work : ℕ)
-    (some : RanSome config rounds start before (suc left) s told work) where
-  -- the world before the round
-  abbrev here : World
-  here = sent some.more.output some.more.error (world_of config.quantum s)
+-- what follows a round sends its bytes behind those that were sent
+after_behind : (left work : ℕ) → SendsBehind world_ended (λ (finish : Finish). finish.world)
+    (after_round left work)
+after_behind left work o e (went next more) out err =
+    fronts_rounds o e left (work + more) next [] (out, err)
+after_behind left work o e (finished last) out err = (out, err)
+after_behind left work o e (stalled last) out err = (out, err)
 
-  -- over a round more
-  goes_on : (es : List Exchange) (end : FlatEnd)
-      → over (map answer_of es) (round_of here) ≡ gives end []
-      → questions (map answer_of es) (round_of here) ≡ map question_of es
-      → GoesOn (some.more.exchanges ++ es) (rounds_of rounds (world_of config.quantum start) 0)
-      (after_round left work end)
-  goes_on es end h k =
-      goes-append some.more.exchanges es (rounds_of rounds (world_of config.quantum start) 0)
-      (rounds_of (suc left) here work) (after_round left work end) some.goes
-      (goes-then es (round_of here) (done end) (after_round left work)
-      (goes_by es (round_of here) end h k))
+module _ (q rounds left : ℕ) (start s : State) (before told : BorderState) (work : ℕ)
+    (some : RanSome q rounds start before (suc left) s told work) where
+  -- a round more
+  pub round_plays : (result : Result RoundEnd RunStop) (s' : State) (after : BorderState) (more : ℕ)
+      → Plays q world_ended (λ w. round_of w) (λ end w. done (end_in end more w)) result s told s'
+      after
+      → Plays q (λ finish. finish.world) (λ w. rounds_of rounds w 0)
+      (λ end w. after_round left work (end_in end more w)) result start before s' after
+  round_plays result s' after more k =
+      plays_after q (λ finish. finish.world) (λ w. rounds_of rounds w 0)
+      (λ w. rounds_of (suc left) w work) (λ end w. after_round left work (end_in end more w)) result
+      start s s' before told after some
+      (plays_before q world_ended (λ finish. finish.world) (λ w. round_of w)
+      (after_round left work) (λ end w. done (end_in end more w)) result s s' told after
+      (after_behind left work) k)
 
-  -- with a round behind which the next is run
-  pub round_more : (so : RoundEnd) (s' : State) (after : Telling) (more : ℕ) → so ≡ Went
-      → RanRound config.quantum s told so s' after more
-      → RanSome config rounds start before left s' after (work + work_in so more)
+  -- behind which the next is run
+  pub round_more : (so : RoundEnd) (s' : State) (after : BorderState) (more : ℕ) → so ≡ Went
+      → PlaysOn q (λ w. round_of w) s told (λ w. done (end_in so more w)) s' after
+      → RanSome q rounds start before left s' after (work + work_in so more)
   round_more so s' after more is h =
-      let last : World = sent (some.more.output ++ h.more.output)
-      (some.more.error ++ h.more.error) (world_of config.quantum s') in
-      record {
-        more = told_then before told after some.more h.more;
-        goes = subst (GoesOn (some.more.exchanges ++ h.more.exchanges)
-            (rounds_of rounds (world_of config.quantum start) 0))
-            (after_more left work so more last is)
-            (goes_on h.more.exchanges (end_in so more last)
-            (h.gives some.more.output some.more.error)
-            (h.asks some.more.output some.more.error));
-      }
+      plays_and q (λ w. rounds_of rounds w 0) (λ w. after_round left work (end_in so more w))
+      (λ w. rounds_of left w (work + work_in so more)) start s' s' before after after
+      (round_plays (Ok so) s' after more (record { goes = h; stops = tt })).goes
+      (plays_still q (λ w. after_round left work (end_in so more w))
+      (λ w. rounds_of left w (work + work_in so more)) s' s' after
+      (λ o e. after_more left work so more (sent o e (world_of q s')) is))
 
-  module _ (first : start.round ≡ 1) (all : rounds ≡ config.rounds) where
-    from_start : rounds_of rounds (world_of config.quantum start) 0
-        ≡ rounds_from (world_of config.quantum start) config
-    from_start = ap (λ n. rounds_of n (world_of config.quantum start) 0)
-        (let e : rounds ≡ config.rounds - (start.round - 1) = omega (arith, first, all) in e)
-
-    -- what a round that isn't run comes to, from the run's begin
-    from_begin : (es : List Exchange) (last : World) (ending : Ending)
-        → GoesOn es (rounds_of rounds (world_of config.quantum start) 0)
-        (done (finish_in ending last work))
-        → GoesOn es (rounds_from (world_of config.quantum start) config)
-        (done (finish_in ending last work))
-    from_begin es last ending h =
-        subst (λ play. GoesOn es play (done (finish_in ending last work))) from_start h
-
-    -- with a round behind which none is run
-    pub round_ends : (so : RoundEnd) (ending : Ending) (s' : State) (after : Telling) (more : ℕ)
-        → ending_by so ≡ Some ending → RanRound config.quantum s told so s' after more
-        → RanRounds config start before ending s' after work
-    round_ends so ending s' after more is h =
-        let last : World = sent (some.more.output ++ h.more.output)
-        (some.more.error ++ h.more.error) (world_of config.quantum s') in
-        record {
-          more = told_then before told after some.more h.more;
-          goes = from_begin (some.more.exchanges ++ h.more.exchanges) last ending
-              (subst (GoesOn (some.more.exchanges ++ h.more.exchanges)
-              (rounds_of rounds (world_of config.quantum start) 0))
-              (after_last left work so ending more last is)
-              (goes_on h.more.exchanges (end_in so more last)
-              (h.gives some.more.output some.more.error)
-              (h.asks some.more.output some.more.error)));
-        }
-
-    -- the shim stops in the round
-    pub round_stops : (after : Telling) (asked : Option Question)
-        → StoppedRound config.quantum s told after asked
-        → StoppedGroup config start before after asked
-    round_stops after asked h = record {
-      more = told_then before told after some.more h.more;
-      question = h.question;
-      asked_is = h.asked_is;
-      asks = let k = stop in goes-over (some.more.exchanges ++ h.more.exchanges)
-          (run_from (world_of config.quantum start) config)
-          (ask h.question (some.more.output ++ h.more.output) (some.more.error ++ h.more.error) k.0)
-          k.1;
-      asked_so = let k = stop in goes-questions
-          (some.more.exchanges ++ h.more.exchanges)
-          (run_from (world_of config.quantum start) config)
-          (ask h.question (some.more.output ++ h.more.output) (some.more.error ++ h.more.error) k.0)
-          k.1;
-    }
-      where
-        stop : (next : Answer → Play Finish)
-            × GoesOn (some.more.exchanges ++ h.more.exchanges)
-            (run_from (world_of config.quantum start) config)
-            (ask h.question (some.more.output ++ h.more.output) (some.more.error ++ h.more.error)
-            next)
-        stop =
-            let at = stops_by h.more.exchanges (round_of here) h.question
-            (some.more.output ++ h.more.output) (some.more.error ++ h.more.error)
-            (h.asks some.more.output some.more.error)
-            (h.asked_so some.more.output some.more.error) in
-            let inner = goes-then h.more.exchanges (round_of here >>= after_round left work)
-            (ask h.question (some.more.output ++ h.more.output)
-            (some.more.error ++ h.more.error) at.0 >>= after_round left work) told_end
-            (goes-then h.more.exchanges (round_of here)
-            (ask h.question (some.more.output ++ h.more.output) (some.more.error ++ h.more.error)
-            at.0) (after_round left work) at.1) in
-            let outer = goes-then some.more.exchanges
-            (rounds_of rounds (world_of config.quantum start) 0)
-            (rounds_of (suc left) here work) told_end some.goes in
-            let next : Answer → Play Finish = λ answer. (at.0 answer >>= after_round left work)
-            >>= told_end in (
-              next,
-              subst (λ play. GoesOn (some.more.exchanges ++ h.more.exchanges) (play >>= told_end)
-                  (ask h.question (some.more.output ++ h.more.output)
-                  (some.more.error ++ h.more.error)
-                  next)) from_start
-                  (goes-append some.more.exchanges h.more.exchanges
-                  (rounds_of rounds (world_of config.quantum start) 0 >>= told_end)
-                  (rounds_of (suc left) here work >>= told_end)
-                  (ask h.question (some.more.output ++ h.more.output)
-                  (some.more.error ++ h.more.error) next) outer inner),
-            )
-
-    -- it is cut off in the round
-    pub round_cut : (after : Telling) → CutRound config.quantum s told after
-        → CutGroup config start before after
-    round_cut after h = record {
-      more = told_then before told after some.more h.more;
-      goes =
-          let at = h.goes some.more.output some.more.error in
-          let inner = goes-then h.more.exchanges (round_of here >>= after_round left work)
-          (at.0 >>= after_round left work) told_end
-          (goes-then h.more.exchanges (round_of here) at.0 (after_round left work) at.1) in
-          let outer = goes-then some.more.exchanges
-          (rounds_of rounds (world_of config.quantum start) 0)
-          (rounds_of (suc left) here work) told_end some.goes in
-          let last : Play Finish = (at.0 >>= after_round left work) >>= told_end in (
-            last,
-            subst (λ play. GoesOn (some.more.exchanges ++ h.more.exchanges) (play >>= told_end)
-                last) from_start
-                (goes-append some.more.exchanges h.more.exchanges
-                (rounds_of rounds (world_of config.quantum start) 0 >>= told_end)
-                (rounds_of (suc left) here work >>= told_end) last outer inner),
-          );
-      fronts =
-          seen_fronts (some.more.output ++ h.more.output) (some.more.error ++ h.more.error) _ _
-          (subst (AreFrontsOf (λ finish. finish.world) (some.more.output ++ h.more.output)
-          (some.more.error ++ h.more.error)) (sym whole_is)
-          (fronts_then (some.more.output ++ h.more.output) (some.more.error ++ h.more.error)
-          world_ended
-          (λ finish. finish.world) (map answer_of h.more.exchanges) (round_of here)
-          (after_round left work)
-          (h.fronts some.more.output some.more.error) after_fronts));
-    }
-      where
-        whole_is : over (map answer_of (some.more.exchanges ++ h.more.exchanges))
-            (rounds_from (world_of config.quantum start) config)
-            ≡ over (map answer_of h.more.exchanges) (round_of here >>= after_round left work)
-        whole_is =
-            ap (λ play. over (map answer_of (some.more.exchanges ++ h.more.exchanges)) play)
-            (sym from_start)
-            ∙ ap (λ answers. over answers (rounds_of rounds (world_of config.quantum start) 0))
-            (map-append answer_of some.more.exchanges h.more.exchanges)
-            ∙ goes-over_more some.more.exchanges (map answer_of h.more.exchanges)
-            (rounds_of rounds (world_of config.quantum start) 0)
-            (rounds_of (suc left) here work) some.goes
-
-        after_fronts : (end : FlatEnd) (more : List Answer)
-            → HasSent (some.more.output ++ h.more.output) (some.more.error ++ h.more.error) []
-            (world_ended end)
-            → AreFrontsOf (λ finish. finish.world) (some.more.output ++ h.more.output)
-            (some.more.error ++ h.more.error)
-            (over more (after_round left work end))
-        after_fronts (went next more_work) more k =
-            fronts_rounds (some.more.output ++ h.more.output) (some.more.error ++ h.more.error) left
-            (work + more_work) next more k
-        after_fronts (finished last) more k = k
-        after_fronts (stalled last) more k = k
+  -- behind which none is run
+  pub round_ends : (so : RoundEnd) (ending : Ending) (s' : State) (after : BorderState) (more : ℕ)
+      → ending_by so ≡ Some ending
+      → PlaysOn q (λ w. round_of w) s told (λ w. done (end_in so more w)) s' after
+      → PlaysOn q (λ w. rounds_of rounds w 0) start before (λ w. done (finish_in ending w work)) s'
+      after
+  round_ends so ending s' after more is h =
+      plays_and q (λ w. rounds_of rounds w 0) (λ w. after_round left work (end_in so more w))
+      (λ w. done (finish_in ending w work)) start s' s' before after after
+      (round_plays (Ok so) s' after more (record { goes = h; stops = tt })).goes
+      (plays_still q (λ w. after_round left work (end_in so more w))
+      (λ w. done (finish_in ending w work)) s' s' after
+      (λ o e. after_last left work so ending more (sent o e (world_of q s')) is))
 
 -- no round is left
-pub rounds_over : (config : Config) (rounds : ℕ) (start s : State) (before told : Telling)
-    (work : ℕ) (ending : Ending) → start.round ≡ 1 → rounds ≡ config.rounds
+pub rounds_over : (q rounds : ℕ) (start s : State) (before told : BorderState) (work : ℕ)
+    (ending : Ending)
     → ending ≡ (if length
     (numbers_of is_some s.table.threads) == 0 then done_ending else limit_ending)
-    → RanSome config rounds start before 0 s told work
-    → RanRounds config start before ending s told work
-rounds_over config rounds start s before told work ending first all is some = record {
-  more = some.more;
-  goes =
-      subst (λ play. GoesOn some.more.exchanges play (done (finish_in ending
-      (sent some.more.output some.more.error (world_of config.quantum s)) work)))
-      (ap (λ n. rounds_of n (world_of config.quantum start) 0)
-      (let e : rounds ≡ config.rounds - (start.round - 1) = omega (arith, first, all) in
-      e))
-      (subst (λ ending. GoesOn some.more.exchanges (rounds_of rounds (world_of config.quantum start)
-      0) (done (finish_in ending (sent some.more.output some.more.error (world_of config.quantum s))
-      work))) (sym is) some.goes);
+    → RanSome q rounds start before 0 s told work
+    → PlaysOn q (λ w. rounds_of rounds w 0) start before (λ w. done (finish_in ending w work)) s
+    told
+rounds_over q rounds start s before told work ending is some =
+    plays_and q (λ w. rounds_of rounds w 0) (λ w. rounds_of 0 w work)
+    (λ w. done (finish_in ending w work)) start s s before told told some
+    (plays_still q (λ w. rounds_of 0 w work) (λ w. done (finish_in ending w work)) s s told
+    (λ o e. ap (λ ending. done (finish_in ending (sent o e (world_of q s)) work)) (sym is)))
+
+-- the rounds of a run that begins
+pub from_start : (config : Config) (start : State) → start.round ≡ 1 → (o e : List ℕ)
+    → rounds_from (sent o e (world_of config.quantum start)) config
+    ≡ rounds_of config.rounds (sent o e (world_of config.quantum start)) 0
+from_start config start first o e =
+    ap (λ n. rounds_of n (sent o e (world_of config.quantum start)) 0)
+    (let n : config.rounds - (start.round - 1) ≡ config.rounds = omega (arith, first) in n)
+
+pub from_begin : (config : Config) (start s : State) (b b' : BorderState)
+    (left : World → Play Finish) → start.round ≡ 1
+    → PlaysOn config.quantum (λ w. rounds_of config.rounds w 0) start b left s b'
+    → PlaysOn config.quantum (λ w. rounds_from w config) start b left s b'
+from_begin config start s b b' left first h =
+    plays_and config.quantum (λ w. rounds_from w config) (λ w. rounds_of config.rounds w 0) left
+    start start s b b b'
+    (plays_still config.quantum (λ w. rounds_from w config) (λ w. rounds_of config.rounds w 0) start
+    start b (from_start config start first)) h
+
+-- a round in which the run stops
+pub round_halts : (config : Config) (left : ℕ) (start s s' : State)
+    (before told after : BorderState) (work more : ℕ) (stop : RunStop) → start.round ≡ 1
+    → RanSome config.quantum config.rounds start before (suc left) s told work
+    → Plays config.quantum world_ended (λ w. round_of w)
+    (λ (end : RoundEnd) w. done (end_in end more w)) (Err stop) s told s' after
+    → Plays config.quantum (λ finish. finish.world) (λ w. rounds_from w config)
+    (λ (ending : Ending) w. done (finish_in ending w 0)) (Err stop) start before s' after
+round_halts config left start s s' before told after work more stop first some k = record {
+  goes = tt;
+  stops = stops_after config.quantum (λ finish. finish.world) (λ w. rounds_from w config)
+      (λ w. rounds_of config.rounds w 0) start start before before after (stopper stop)
+      (plays_still config.quantum (λ w. rounds_from w config) (λ w. rounds_of config.rounds w 0)
+      start start before (from_start config start first))
+      (round_plays config.quantum config.rounds left start s before told work some (Err stop) s'
+      after more k).stops;
+}
+
+-- ---- a run that stops before its end
+
+module _ (config : Config) (start : State) (before after : BorderState) where
+  -- the run's play from there
+  run_goes : (cs : List Crossing) (left : Play Finish)
+      → GoesOver [] [] cs (rounds_from (world_of config.quantum start) config) left
+      → GoesOn (exchanges_of cs) (run_from (world_of config.quantum start) config)
+      (left >>= told_end)
+  run_goes cs left h =
+      goes-then (exchanges_of cs) (rounds_from (world_of config.quantum start) config) left told_end
+      (goes-exchanges [] [] cs (rounds_from (world_of config.quantum start) config) left h)
+
+  pub stopped_group : (why : ShimStop)
+      → StopsAsking config.quantum (λ w. rounds_from w config) why start before after
+      → StoppedGroup config start (told_at before) (told_at after) after.shim.asked
+  stopped_group why h =
+      let there = h.goes [] [] in
+      let goes = run_goes h.crossings
+      (ask h.question (bytes_to Output h.crossings) (bytes_to Error h.crossings) there.0) there.1 in
+      record {
+        more = told_more h.crossings before after h.tells;
+        question = h.question;
+        asked_is = h.asked;
+        asks = goes-over (exchanges_of h.crossings)
+            (run_from (world_of config.quantum start) config)
+            (ask h.question (bytes_to Output h.crossings) (bytes_to Error h.crossings)
+            (λ answer. there.0 answer >>= told_end)) goes;
+        asked_so = goes-questions (exchanges_of h.crossings)
+            (run_from (world_of config.quantum start) config)
+            (ask h.question (bytes_to Output h.crossings) (bytes_to Error h.crossings)
+            (λ answer. there.0 answer >>= told_end)) goes;
+      }
+
+  cut_by : (cs : List Crossing) (left : Play Finish) → Tells before cs after
+      → GoesOver [] [] cs (rounds_from (world_of config.quantum start) config) left
+      → AreFrontsOf (λ finish. finish.world) (bytes_to Output cs) (bytes_to Error cs) (over [] left)
+      → CutGroup config start (told_at before) (told_at after)
+  cut_by cs left tells h fronts = record {
+    more = told_more cs before after tells;
+    goes = (left >>= told_end, run_goes cs left h);
+    fronts =
+        seen_fronts (bytes_to Output cs) (bytes_to Error cs) _ _
+        (subst (AreFrontsOf (λ finish. finish.world) (bytes_to Output cs) (bytes_to Error cs))
+        (sym (goes-over (exchanges_of cs) (rounds_from (world_of config.quantum start) config) left
+        (goes-exchanges [] [] cs (rounds_from (world_of config.quantum start) config) left h)))
+        fronts);
+  }
+
+  pub cut_group : (by : Stopper)
+      → StopsIn config.quantum (λ finish. finish.world) (λ w. rounds_from w config) by start before
+      after
+      → CutGroup config start (told_at before) (told_at after)
+  cut_group (by_shim why) h =
+      let there = h.goes [] [] in
+      cut_by h.crossings
+      (ask h.question (bytes_to Output h.crossings) (bytes_to Error h.crossings) there.0) h.tells
+      there.1 (front-whole (bytes_to Output h.crossings), front-whole (bytes_to Error h.crossings))
+  cut_group (by_sink stream) h =
+      let there = h.goes [] [] in cut_by h.crossings there.0 h.tells there.1 there.2
+
+-- the rounds have come to an ending
+pub ran_rounds : (config : Config) (start s : State) (before told : BorderState) (ending : Ending)
+    (work : ℕ)
+    → PlaysOn config.quantum (λ w. rounds_from w config) start before
+    (λ w. done (finish_in ending w work)) s told
+    → RanRounds config start (told_at before) ending s (told_at told) work
+ran_rounds config start s before told ending work h = record {
+  more = told_more h.crossings before told h.tells;
+  goes = goes-exchanges [] [] h.crossings (rounds_from (world_of config.quantum start) config)
+      (done (finish_in ending (sent (bytes_to Output h.crossings) (bytes_to Error h.crossings)
+      (world_of config.quantum s)) work)) (h.goes [] []);
 }
 
 -- ---- the end
@@ -404,38 +384,20 @@ module _ (config : Config) (start s : State) (before told : Telling) (ending : E
 -- ---- in a loop that counts the rounds
 
 -- before the round of this index one more than those after it are left
-pub some_at : (config : Config) (rounds i : ℕ) (start s : State) (before told : Telling) (work : ℕ)
-    → i < rounds → RanSome config rounds start before (rounds - i) s told work
-    → RanSome config rounds start before (suc (rounds - (i + 1))) s told work
-some_at config rounds i start s before told work lt some =
-    subst (λ n. RanSome config rounds start before n s told work)
+pub some_at : (q rounds i : ℕ) (start s : State) (before told : BorderState) (work : ℕ)
+    → i < rounds → RanSome q rounds start before (rounds - i) s told work
+    → RanSome q rounds start before (suc (rounds - (i + 1))) s told work
+some_at q rounds i start s before told work lt some =
+    subst (λ n. RanSome q rounds start before n s told work)
     (let e : rounds - i ≡ suc (rounds - (i + 1)) = omega (arith, lt) in e) some
 
 -- after the last none is left
-pub none_left : (config : Config) (rounds i : ℕ) (start s : State) (before told : Telling)
-    (work : ℕ) → rounds ≤ i → RanSome config rounds start before (rounds - i) s told work
-    → RanSome config rounds start before 0 s told work
-none_left config rounds i start s before told work le some =
-    subst (λ n. RanSome config rounds start before n s told work)
+pub none_left : (q rounds i : ℕ) (start s : State) (before told : BorderState) (work : ℕ)
+    → rounds ≤ i → RanSome q rounds start before (rounds - i) s told work
+    → RanSome q rounds start before 0 s told work
+none_left q rounds i start s before told work le some =
+    subst (λ n. RanSome q rounds start before n s told work)
     (let e : rounds - i ≡ 0 = omega (arith, le) in e) some
-
--- the same configuration
-pub round_so : (config other : Config) (s s' : State) (before after : Telling) (end : RoundEnd)
-    (work : ℕ) → other ≡ config → RanRound other.quantum s before end s' after work
-    → RanRound config.quantum s before end s' after work
-round_so config other s s' before after end work same h =
-    subst (λ (c : Config). RanRound c.quantum s before end s' after work) same h
-
-pub stopped_so : (config other : Config) (s : State) (before after : Telling)
-    (asked : Option Question) → other ≡ config → StoppedRound other.quantum s before after asked
-    → StoppedRound config.quantum s before after asked
-stopped_so config other s before after asked same h =
-    subst (λ (c : Config). StoppedRound c.quantum s before after asked) same h
-
-pub cut_so : (config other : Config) (s : State) (before after : Telling) → other ≡ config
-    → CutRound other.quantum s before after → CutRound config.quantum s before after
-cut_so config other s before after same h =
-    subst (λ (c : Config). CutRound c.quantum s before after) same h
 
 -- ---- whether the kernel has failed
 
@@ -458,8 +420,3 @@ stands_at_end stop reason asked ending rounds failed is stopped at =
       | None ↦ true
       | Some reason ↦ not (is_end asked)
     ]) stopped ∙ ap (λ a. not (is_end a)) at)
-
--- what follows where there is one
-pub some_weaker : {A P Q : Type 0} (o : Option A) → (P → Q) → OnSome o P → OnSome o Q
-some_weaker None f h = tt
-some_weaker (Some x) f h = f h

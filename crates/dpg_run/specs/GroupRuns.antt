@@ -1,7 +1,7 @@
 -- What it means that the kernel has run a group to its end, or that the run has stopped. This
 -- project's own rules.
 use Rattle.std.specs.Prelude.{ℕ, ◌≡◌, ◌-◌, Bool, true, false, not, List, [], ◌∷◌, ◌++◌, map, Option}
-use Rattle.std.specs.Prelude.{Some, None, Result, Ok, Err}
+use Rattle.std.specs.Prelude.{Some, None, Result, Ok, Err, IfErr, IfOk, OnErr, OnOk, OnSome}
 use Rattle.dos_world.specs.World.{World}
 use Rattle.dos_world.specs.Play.{Play, done, over, questions, asks}
 use Rattle.dos_world.specs.declared.Config.{Config}
@@ -10,16 +10,19 @@ use Rattle.dos_world.specs.declared.Ending.TheVariants.{Done as done_ending}
 use Rattle.dos_world.specs.declared.Ending.TheVariants.{Stalled as stalled_ending}
 use Rattle.dos_world.specs.declared.Question.{Question}
 use Rattle.dos_io.specs.Exchanges.{question_of, answer_of}
+use Rattle.dos_io.specs.Borders.{BorderState}
 use Rattle.dos_io.specs.Outside.{IsFront}
 use Rattle.dos_io.specs.Shims.{HasNoEnd}
 use Rattle.dos_io.specs.declared.exchange.Exchange.{Exchange}
 use Rattle.dos_io.specs.declared.exchange.Exchange.TheVariants.{End as end_exchange}
+use Rattle.worker_pool.specs.Ran.{GrewBy}
+use Rattle.kernel_calls.specs.Plays.{Plays}
 use Rattle.kernel_calls.specs.StateWorld.{sent, shim_stop, world_of}
 use Rattle.kernel_calls.specs.declared.state.RunStop.{RunStop}
 use Rattle.kernel_calls.specs.declared.state.State.{State}
 use Rattle.group_rounds.specs.Plays.{GoesOn}
-use Rattle.group_rounds.specs.StatePlays.{Telling, ToldMore}
-use Rattle.group_rounds.specs.Outside.{is_end}
+use Rattle.group_rounds.specs.StatePlays.{Telling, ToldMore, told_at}
+use Rattle.group_rounds.specs.Outside.{HaveCauses, is_end}
 use Rattle.group_rounds.specs.declared.round.RoundEnd.{RoundEnd}
 use Rattle.group_rounds.specs.declared.round.RoundEnd.TheVariants.{Went, Done, Stalled}
 use Rattle.dpg_run.specs.Fits.{FitsFrom}
@@ -36,6 +39,16 @@ abbrev pub ending_by : RoundEnd → Option Ending
 ending_by Went = None
 ending_by Done = Some done_ending
 ending_by Stalled = Some stalled_ending
+
+-- The call plays the rounds of the machine from the old state's world, to an ending, after so much
+-- work, by which the tally grew.
+pub record PlaysRounds (config : Config) (result : Result Ending RunStop) (old : State)
+    (before : BorderState) (new : State) (after : BorderState) (tally tally_after : ℕ) : Type 0
+  where
+    pub work : ℕ
+    pub plays : Plays config.quantum (λ finish. finish.world) (λ w. rounds_from w config)
+        (λ ending w. done (finish_in ending w work)) result old before new after
+    pub grew : OnOk result (GrewBy tally tally_after work)
 
 -- The rounds of the machine from the old state's world, over the exchanges that are told more, have
 -- ended so, in the new state's world with the bytes that are told more, after so much work.
@@ -104,3 +117,18 @@ abbrev pub has_failed : Result Ending RunStop → Option Question → Bool
 has_failed (Ok ending) asked = false
 has_failed (Err stop) asked =
     elim (shim_stop stop) [ None ↦ true | Some reason ↦ not (is_end asked) ]
+
+-- What a whole run leaves, by how it ended: of the machine, of who failed, and of the kernel.
+pub record RunsGroup (config : Config) (result : Result Ending RunStop) (old : State)
+    (before : BorderState) (new : State) (after : BorderState) (has : Bool)
+    (tally tally_after : ℕ) : Type 0 where
+  pub runs : IfOk result (λ ending. (work : ℕ)
+      × RanGroup config old (told_at before) ending new (told_at after) work
+      × GrewBy tally tally_after work)
+  pub asks : IfErr result (λ stop. OnSome (shim_stop stop)
+      (StoppedGroup config old (told_at before) (told_at after) after.shim.asked))
+  pub cut : OnErr result (CutGroup config old (told_at before) (told_at after))
+  pub told_end : IfOk result (λ ending. AreEnded ending (new.round - 1) after.shim.told)
+  pub failed : has ≡ has_failed result after.shim.asked
+  pub causes : HaveCauses result before.shim after.shim before.out_faults after.out_faults
+      before.err_faults after.err_faults

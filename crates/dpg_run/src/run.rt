@@ -6,12 +6,13 @@ ghost use Rattle.dos_io.specs.Shims.{HasNoEnd};
 ghost use Rattle.kernel_calls.specs.StateWorld.{shim_stop};
 ghost use Rattle.worker_pool.specs.Ran.{GrewBy};
 ghost use Rattle.group_rounds.specs.StatePlays.{telling};
-ghost use Rattle.group_rounds.specs.Outside.{HaveCauses, is_end};
-ghost use Rattle.dpg_run.specs.GroupRuns.{AreEnded, CutGroup, RanGroup, RanRounds, StoppedGroup};
+ghost use Rattle.group_rounds.specs.Outside.{HaveCauses};
+ghost use Rattle.dpg_run.specs.GroupRuns.{AreEnded, CutGroup, PlaysRounds, RanGroup, RunsGroup};
+ghost use Rattle.dpg_run.specs.GroupRuns.{StoppedGroup};
 ghost use Rattle.dpg_run.specs.GroupRuns.{ending_by, has_failed};
 ghost use Rattle.group_rounds.specs.Kernels.{IsBetweenRounds};
 
-use dos_io::{Shim, Sink};
+use dos_io::{Border, GroupBorder, Shim, Sink};
 use dos_world::Ending;
 use group_rounds::{Kernel, RoundEnd, run_round};
 use kernel_calls::{RunStop, run_stop};
@@ -43,50 +44,55 @@ fn ending_after(end: RoundEnd) -> Option<Ending>
 }
 
 // the rounds of a run, as many as its configuration allows
-fn run_rounds<S: Shim, O: Sink, E: Sink, W: Workers>(
+fn run_rounds<B: Border, W: Workers>(
     kernel: &mut Kernel,
-    shim: &mut S,
-    out: &mut O,
-    err: &mut E,
+    border: &mut B,
     workers: &mut W,
 ) -> Result<Ending, RunStop>
     requires running { kernel.old.failed ≡ false }
     requires fresh { kernel.old.state.round ≡ 1 }
-    requires told { HasNoEnd (S.state shim.old).told }
-    ensures runs { IfOk result
-        (λ ending. (work : ℕ) × RanRounds kernel.old.config kernel.old.state
-        (telling (S.state shim.old).told (O.told out.old) (E.told err.old)) ending
-        kernel.new.state
-        (telling (S.state shim.new).told (O.told out.new) (E.told err.new)) work
-        × GrewBy (W.tally workers.old) (W.tally workers.new) work) }
+    requires told { HasNoEnd (B.state border.old).shim.told }
+    ensures plays { PlaysRounds kernel.old.config result
+        kernel.old.state (B.state border.old) kernel.new.state (B.state border.new)
+        (W.tally workers.old) (W.tally workers.new) }
     ensures sound { kernel.new.failed ≡ false → IsBetweenRounds kernel.new.state kernel.new.config }
-    ensures asks { IfErr result
-        (λ stop. OnSome (shim_stop stop)
-        (StoppedGroup kernel.old.config kernel.old.state
-        (telling (S.state shim.old).told (O.told out.old) (E.told err.old))
-        (telling (S.state shim.new).told (O.told out.new) (E.told err.new))
-        (S.state shim.new).asked)) }
-    ensures cut { OnErr result
-        (CutGroup kernel.old.config kernel.old.state
-        (telling (S.state shim.old).told (O.told out.old) (E.told err.old))
-        (telling (S.state shim.new).told (O.told out.new) (E.told err.new))) }
-    ensures before_end { IfErr result
-        (λ stop. OnSome (shim_stop stop) (is_end (S.state shim.new).asked ≡ false)) }
     ensures config { kernel.new.config ≡ kernel.old.config }
     ensures failed { kernel.new.failed ≡ is_err result }
-    ensures told { OnOk result (HasNoEnd (S.state shim.new).told) }
-    ensures causes { HaveCauses result (S.state shim.old) (S.state shim.new) (O.faults out.old)
-        (O.faults out.new) (E.faults err.old) (E.faults err.new) }
-    ensures follows { S.follows shim.old shim.new }
+    ensures follows { B.follows border.old border.new }
     ensures fixed { W.fixed workers.new ≡ W.fixed workers.old }
 {
     let rounds = kernel.config().rounds;
     for _round in 0..rounds {
-        if let Some(ending) = ending_after(run_round(kernel, shim, out, err, workers)?) {
+        if let Some(ending) = ending_after(run_round(kernel, border, workers)?) {
             return Ok(ending);
         }
     }
     Ok(limit_ending(kernel))
+}
+
+// a run of rounds, and the shim is told its end
+fn run_over<B: Border, W: Workers>(
+    kernel: &mut Kernel,
+    border: &mut B,
+    workers: &mut W,
+) -> Result<Ending, RunStop>
+    requires running { kernel.old.failed ≡ false }
+    requires fresh { kernel.old.state.round ≡ 1 }
+    requires told { HasNoEnd (B.state border.old).shim.told }
+    ensures runs { RunsGroup kernel.old.config result
+        kernel.old.state (B.state border.old) kernel.new.state (B.state border.new)
+        kernel.new.failed (W.tally workers.old) (W.tally workers.new) }
+    ensures sound { kernel.new.failed ≡ false → IsBetweenRounds kernel.new.state kernel.new.config }
+    ensures limit { OnOk result (kernel.new.state.round - 1 ≤ kernel.old.config.rounds) }
+    ensures config { kernel.new.config ≡ kernel.old.config }
+    ensures follows { B.follows border.old border.new }
+    ensures fixed { W.fixed workers.new ≡ W.fixed workers.old }
+{
+    let ending = run_rounds(kernel, border, workers)?;
+    match border.end(ending, kernel.rounds()) {
+        Ok(()) => Ok(ending),
+        Err(stop) => Err(run_stop(stop)),
+    }
 }
 
 /// Runs a group that has run no round to its end, and tells the shim the end. The workers' tally
@@ -132,9 +138,6 @@ pub fn run_group<S: Shim, O: Sink, E: Sink, W: Workers>(
     ensures follows { S.follows shim.old shim.new }
     ensures fixed { W.fixed workers.new ≡ W.fixed workers.old }
 {
-    let ending = run_rounds(kernel, shim, out, err, workers)?;
-    match shim.end(ending, kernel.rounds()) {
-        Ok(()) => Ok(ending),
-        Err(stop) => Err(run_stop(stop)),
-    }
+    let mut border = GroupBorder { shim, out, err };
+    run_over(kernel, &mut border, workers)
 }

@@ -1,12 +1,10 @@
 pub mod PlayLaws
 pub mod StatePlayLaws
 pub mod FrontLaws
-pub mod StopLaws
 pub mod Pays
 pub mod Sound
 pub mod ThreadRunLaws
 pub mod TurnLaws
-pub mod CauseLaws
 pub mod Starters
 pub mod PhaseLaws
 pub mod RoundLaws
@@ -20,7 +18,5 @@ pub mod RipenLaws
 pub mod PacksWork
 pub mod InPlaceLaws
 pub mod AwayLaws
-pub mod ServedLaws
-pub mod EndLaws
-pub mod StopCauses
 pub mod ServesLaws
+pub mod PlayCauses

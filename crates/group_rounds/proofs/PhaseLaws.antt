@@ -1,11 +1,10 @@
 -- One starter more in a phase.
 use Rattle.std.proofs.Common.{ℕ, suc, ◌+◌, ◌<◌, ◌≤◌, ◌≡◌, refl, sym, ap, ◌∙◌, subst, Bool, cond}
-use Rattle.std.proofs.Common.{true, false, List, [], ◌∷◌, length, drop, get_or, drop-cons, Option}
+use Rattle.std.proofs.Common.{true, false, List, [], ◌∷◌, length, drop, get_or, drop-cons}
 use Rattle.std.proofs.Common.{arith}
 use Rattle.std.specs.Prelude.{is_some}
 use Rattle.std.proofs.Math.ListN.{drop_of_length-le}
 use Rattle.dos_world.specs.World.{World}
-use Rattle.dos_world.specs.declared.Question.{Question}
 use Rattle.dos_world.specs.Play.{done, ◌>>=◌}
 use Rattle.dos_laws.specs.Standing.{LawfulWith}
 use Rattle.dos_laws.proofs.StandsKeeps.{stands-budget}
@@ -14,22 +13,17 @@ use Rattle.flat_machine.specs.Round.{with_budgets}
 use Rattle.proc_table.specs.Tables.{Tables, IsThread, thread_by, thread_in, with_budget}
 use Rattle.dos_io.specs.Borders.{BorderState}
 use Rattle.kernel_calls.specs.StateWorld.{HaveParts, IsCounted, IsSound, sent, world_of}
+use Rattle.kernel_calls.specs.Plays.{PlaysOn, Stopper, StopsIn, stopper}
 use Rattle.kernel_calls.proofs.Counted.{counted-thread_by}
+use Rattle.kernel_calls.proofs.Playing.{plays_and, plays_behind, plays_still, stops_after}
+use Rattle.kernel_calls.proofs.Playing.{stops_before}
 use Rattle.kernel_calls.specs.declared.state.State.{State}
-use Rattle.group_rounds.specs.Fronts.{CutPlay, StoppedPlay}
-use Rattle.group_rounds.specs.StatePlays.{GoesTo, Telling}
 use Rattle.group_rounds.specs.Phases.{AreLive}
-use Rattle.group_rounds.proofs.FrontLaws.{cut_behind, cut_then, cut_from, fronts_serial}
-use Rattle.group_rounds.proofs.StopLaws.{stopped_behind, stopped_from, stopped_then}
-use Rattle.group_rounds.proofs.StatePlayLaws.{goes_still, goes_and, goes_behind, goes_from}
+use Rattle.group_rounds.proofs.FrontLaws.{fronts_serial}
 use Rattle.group_rounds.proofs.Sound.{sound_then, parts_then, lives_by}
 use Rattle.std.specs.Prelude.{Err}
-use Rattle.kernel_calls.specs.StateWorld.{shim_stop}
 use Rattle.kernel_calls.specs.declared.state.RunStop.{RunStop}
-use Rattle.group_rounds.specs.Outside.{HaveStood}
-use Rattle.group_rounds.specs.Outcomes.{Serves, told_at}
-use Rattle.group_rounds.proofs.CauseLaws.{causes_err, causes_then}
-use Rattle.group_rounds.proofs.StatePlayLaws.{some_weaker}
+use Rattle.group_rounds.specs.Outcomes.{Serves}
 
 -- ---- the list of starters, from a place on
 
@@ -84,62 +78,55 @@ serial_at : (xs : List ℕ) (t i : ℕ) → i < length xs → t ≡ get_or xs i 
 serial_at xs t i lt is w = ap (serial_of w) (drop_at xs i lt)
     ∙ ap (λ t. serial_of w (t ∷ drop (i + 1) xs)) (sym is)
 
-pub serial_next : (q : ℕ) (start s s' : State) (t₀ t₁ t₂ : Telling) (t : ℕ) (xs : List ℕ) (i : ℕ)
-    → i < length xs → t ≡ get_or xs i 0
-    → GoesTo q (λ w. serial_of w xs) start t₀ (λ w. serial_of w (drop i xs)) s t₁
-    → GoesTo q (λ w. rest_if_live w t) s t₁ (λ w. done w) s' t₂
-    → GoesTo q (λ w. serial_of w xs) start t₀ (λ w. serial_of w (drop (i + 1) xs)) s' t₂
-serial_next q start s s' t₀ t₁ t₂ t xs i lt is h k =
-    goes_and q (λ w. serial_of w xs) (λ w. serial_of w (drop i xs))
-    (λ w. serial_of w (drop (i + 1) xs)) start s s' t₀ t₁ t₂ h
-    (goes_from q (λ w. serial_of w (drop i xs))
-    (λ w. rest_if_live w t >>= λ next. serial_of next (drop (i + 1) xs))
-    (λ w. serial_of w (drop (i + 1) xs)) s s' t₁ t₂
-    (λ o e. serial_at xs t i lt is (sent o e (world_of q s)))
-    (goes_behind q (λ w. rest_if_live w t) (λ w. done w)
-    (λ next. serial_of next (drop (i + 1) xs)) s s' t₁ t₂ k))
+-- over the part of the next of them
+module _ (q : ℕ) (start s : State) (b₀ b₁ : BorderState) (t : ℕ) (xs : List ℕ) (i : ℕ)
+    (lt : i < length xs) (is : t ≡ get_or xs i 0)
+    (h : PlaysOn q (λ w. serial_of w xs) start b₀ (λ w. serial_of w (drop i xs)) s b₁) where
+  next_begins : PlaysOn q (λ w. serial_of w xs) start b₀
+      (λ w. rest_if_live w t >>= λ next. serial_of next (drop (i + 1) xs)) s b₁
+  next_begins =
+      plays_and q (λ w. serial_of w xs) (λ w. serial_of w (drop i xs))
+      (λ w. rest_if_live w t >>= λ next. serial_of next (drop (i + 1) xs)) start s s b₀ b₁ b₁ h
+      (plays_still q (λ w. serial_of w (drop i xs))
+      (λ w. rest_if_live w t >>= λ next. serial_of next (drop (i + 1) xs)) s s b₁
+      (λ o e. serial_at xs t i lt is (sent o e (world_of q s))))
 
-pub serial_starts : (q : ℕ) (s : State) (tells : Telling) (xs : List ℕ)
-    → GoesTo q (λ w. serial_of w xs) s tells (λ w. serial_of w (drop 0 xs)) s tells
-serial_starts q s tells xs =
-    goes_still q (λ w. serial_of w xs) (λ w. serial_of w (drop 0 xs)) s s tells (λ o e. refl)
+  pub serial_next : (s' : State) (b₂ : BorderState)
+      → PlaysOn q (λ w. rest_if_live w t) s b₁ (λ w. done w) s' b₂
+      → PlaysOn q (λ w. serial_of w xs) start b₀ (λ w. serial_of w (drop (i + 1) xs)) s' b₂
+  serial_next s' b₂ k =
+      plays_and q (λ w. serial_of w xs)
+      (λ w. rest_if_live w t >>= λ next. serial_of next (drop (i + 1) xs))
+      (λ w. serial_of w (drop (i + 1) xs)) start s s' b₀ b₁ b₂ next_begins
+      (plays_behind q (λ w. rest_if_live w t) (λ w. done w)
+      (λ next. serial_of next (drop (i + 1) xs)) s s' b₁ b₂ k)
 
-pub serial_ends : (q : ℕ) (start s : State) (t₀ t₁ : Telling) (xs : List ℕ) (i : ℕ) → length xs ≤ i
-    → GoesTo q (λ w. serial_of w xs) start t₀ (λ w. serial_of w (drop i xs)) s t₁
-    → GoesTo q (λ w. serial_of w xs) start t₀ (λ w. done w) s t₁
-serial_ends q start s t₀ t₁ xs i le h =
-    goes_and q (λ w. serial_of w xs) (λ w. serial_of w (drop i xs))
-    (λ w. done w) start s s t₀ t₁ t₁ h
-    (goes_still q (λ w. serial_of w (drop i xs)) (λ w. done w) s s t₁
+  -- in which the run stops
+  serial_stopped : (b₂ : BorderState) (by : Stopper)
+      → StopsIn q (λ w. w) (λ w. rest_if_live w t) by s b₁ b₂
+      → StopsIn q (λ w. w) (λ w. serial_of w xs) by start b₀ b₂
+  serial_stopped b₂ by k =
+      stops_after q (λ w. w) (λ w. serial_of w xs)
+      (λ w. rest_if_live w t >>= λ next. serial_of next (drop (i + 1) xs)) start s b₀ b₁ b₂ by
+      next_begins
+      (stops_before q (λ w. w) (λ w. w) (λ w. rest_if_live w t)
+      (λ next. serial_of next (drop (i + 1) xs)) s b₁ b₂
+      (λ o e w out err. fronts_serial o e (drop (i + 1) xs) w [] (out, err)) by k)
+
+pub serial_starts : (q : ℕ) (s : State) (b : BorderState) (xs : List ℕ)
+    → PlaysOn q (λ w. serial_of w xs) s b (λ w. serial_of w (drop 0 xs)) s b
+serial_starts q s b xs =
+    plays_still q (λ w. serial_of w xs) (λ w. serial_of w (drop 0 xs)) s s b (λ o e. refl)
+
+pub serial_ends : (q : ℕ) (start s : State) (b₀ b₁ : BorderState) (xs : List ℕ) (i : ℕ)
+    → length xs ≤ i
+    → PlaysOn q (λ w. serial_of w xs) start b₀ (λ w. serial_of w (drop i xs)) s b₁
+    → PlaysOn q (λ w. serial_of w xs) start b₀ (λ w. done w) s b₁
+serial_ends q start s b₀ b₁ xs i le h =
+    plays_and q (λ w. serial_of w xs) (λ w. serial_of w (drop i xs))
+    (λ w. done w) start s s b₀ b₁ b₁ h
+    (plays_still q (λ w. serial_of w (drop i xs)) (λ w. done w) s s b₁
     (λ o e. ap (serial_of (sent o e (world_of q s))) (drop_out xs i le)))
-
--- where a sink failed in the part of one of them
-pub serial_cut : (q : ℕ) (start s : State) (t₀ t₁ t₂ : Telling) (t : ℕ) (xs : List ℕ) (i : ℕ)
-    → i < length xs → t ≡ get_or xs i 0
-    → GoesTo q (λ w. serial_of w xs) start t₀ (λ w. serial_of w (drop i xs)) s t₁
-    → CutPlay q (λ w. w) (λ w. rest_if_live w t) s t₁ t₂
-    → CutPlay q (λ w. w) (λ w. serial_of w xs) start t₀ t₂
-serial_cut q start s t₀ t₁ t₂ t xs i lt is h k =
-    cut_behind q (λ w. w) (λ w. serial_of w xs) (λ w. serial_of w (drop i xs)) start s t₀ t₁ t₂ h
-    (cut_from q (λ w. w) (λ w. serial_of w (drop i xs))
-    (λ w. rest_if_live w t >>= λ next. serial_of next (drop (i + 1) xs)) s t₁ t₂
-    (λ o e. serial_at xs t i lt is (sent o e (world_of q s)))
-    (cut_then q (λ w. w) (λ w. w) (λ w. rest_if_live w t) (λ next. serial_of next (drop (i + 1) xs))
-    s t₁ t₂ (λ o e. fronts_serial o e (drop (i + 1) xs)) k))
-
--- where the shim stopped in it
-pub serial_stopped : (q : ℕ) (start s : State) (t₀ t₁ t₂ : Telling) (t : ℕ) (xs : List ℕ) (i : ℕ)
-    (asked : Option Question) → i < length xs → t ≡ get_or xs i 0
-    → GoesTo q (λ w. serial_of w xs) start t₀ (λ w. serial_of w (drop i xs)) s t₁
-    → StoppedPlay q (λ w. rest_if_live w t) s t₁ t₂ asked
-    → StoppedPlay q (λ w. serial_of w xs) start t₀ t₂ asked
-serial_stopped q start s t₀ t₁ t₂ t xs i asked lt is h k =
-    stopped_behind q (λ w. serial_of w xs) (λ w. serial_of w (drop i xs)) start s t₀ t₁ t₂ asked h
-    (stopped_from q (λ w. serial_of w (drop i xs))
-    (λ w. rest_if_live w t >>= λ next. serial_of next (drop (i + 1) xs)) s t₁ t₂ asked
-    (λ o e. serial_at xs t i lt is (sent o e (world_of q s)))
-    (stopped_then q (λ w. rest_if_live w t) (λ next. serial_of next (drop (i + 1) xs)) s t₁ t₂
-    asked k))
 
 -- the first of those that have their parts yet
 pub parts_at : (s : State) (xs : List ℕ) (i t : ℕ) → i < length xs → t ≡ get_or xs i 0
@@ -149,29 +136,21 @@ parts_at s xs i t lt is h =
     (subst (λ ts. HaveParts ts s) (drop_at xs i lt) h)
 
 -- where the part of one of them has stopped
-pub serial_stops : {T U : Type 0} (start s s' : State) (b₀ b₁ b₂ : BorderState) (t : ℕ) (xs : List
-    ℕ)
-    (i : ℕ) (stop : RunStop) → i < length xs → t ≡ get_or xs i 0
-    → ((q : ℕ) → GoesTo q (λ w. serial_of w xs) start (told_at b₀)
-    (λ w. serial_of w (drop i xs)) s (told_at b₁))
+pub serial_stops : {T U : Type 0} (start s s' : State) (b₀ b₁ b₂ : BorderState) (t : ℕ)
+    (xs : List ℕ) (i : ℕ) (stop : RunStop) → i < length xs → t ≡ get_or xs i 0
+    → ((q : ℕ) → PlaysOn q (λ w. serial_of w xs) start b₀ (λ w. serial_of w (drop i xs)) s b₁)
     → s.round ≡ start.round
-    → HaveStood b₀.shim b₁.shim b₀.out_faults b₁.out_faults b₀.err_faults b₁.err_faults
-    → Serves {T = T} (λ w. rest_if_live w t) (Err stop) s s' b₁ b₂
-    → Serves {T = U} (λ w. serial_of w xs) (Err stop) start s' b₀ b₂
-serial_stops start s s' b₀ b₁ b₂ t xs i stop lt is goes round stood h = record {
-  goes = tt;
+    → Serves {T = T} (λ w. rest_if_live w t) (Err stop) s b₁ s' b₂
+    → Serves {T = U} (λ w. serial_of w xs) (Err stop) start b₀ s' b₂
+serial_stops start s s' b₀ b₁ b₂ t xs i stop lt is goes round h = record {
+  plays = λ q. record {
+    goes = tt;
+    stops = serial_stopped q start s b₀ b₁ t xs i lt is (goes q) b₂ (stopper stop)
+        (h.plays q).stops;
+  };
   sound = tt;
   round = h.round ∙ round;
   count = tt;
-  asks = some_weaker (shim_stop stop) _ _
-      (λ k q. serial_stopped q start s (told_at b₀) (told_at b₁) (told_at b₂) t xs i _ lt is
-      (goes q)
-      (k q)) h.asks;
-  before_end = h.before_end;
-  told = tt;
-  cut = λ q. serial_cut q start s (told_at b₀) (told_at b₁) (told_at b₂) t xs i lt is (goes q)
-      (h.cut q);
-  causes = causes_then (Err stop) _ _ _ _ _ _ _ _ _ stood (causes_err _ _ _ _ _ _ _ h.causes);
 }
 
 -- ---- a starter that lives, or not
@@ -183,10 +162,10 @@ rest_is_live q s t live o e =
     ap (λ (b : Bool). cond b (rest_of (sent o e (world_of q s)) t)
     (done (sent o e (world_of q s)))) (sym live)
 
-pub rest_of_gone : (q : ℕ) (s : State) (tells : Telling) (t : ℕ)
+pub rest_of_gone : (q : ℕ) (s : State) (b : BorderState) (t : ℕ)
     → false ≡ is_some (thread_in s.table.threads t)
-    → GoesTo q (λ w. rest_if_live w t) s tells (λ w. done w) s tells
-rest_of_gone q s tells t gone =
-    goes_still q (λ w. rest_if_live w t) (λ w. done w) s s tells
+    → PlaysOn q (λ w. rest_if_live w t) s b (λ w. done w) s b
+rest_of_gone q s b t gone =
+    plays_still q (λ w. rest_if_live w t) (λ w. done w) s s b
     (λ o e. ap (λ (b : Bool). cond b (rest_of (sent o e (world_of q s)) t)
     (done (sent o e (world_of q s)))) (sym gone))

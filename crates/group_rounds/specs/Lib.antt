@@ -1,7 +1,6 @@
 pub mod Away
 pub mod Plays
 pub mod StatePlays
-pub mod Fronts
 pub mod Kernels
 pub mod Outside
 pub mod Parts

@@ -1,10 +1,9 @@
 -- Why a run stops, and what a run may do to its shim and its sinks. This project's own rules.
-use Rattle.std.specs.Prelude.{ℕ, ◌≡◌, ◌≤◌, List, Bool, true, false, Option, Some, None, Result}
-use Rattle.std.specs.Prelude.{IfErr}
+use Rattle.std.specs.Prelude.{ℕ, ◌≡◌, ◌≤◌, Bool, true, false, Option, Some, None, Result, IfErr}
 use Rattle.std.specs.Prelude.{OnOk}
 use Rattle.dos_world.specs.declared.Question.{Question}
 use Rattle.dos_world.specs.declared.Question.TheVariants.{Signals, Input, Clock, End}
-use Rattle.dos_io.specs.Outside.{Rose, grown}
+use Rattle.dos_io.specs.Outside.{Rose}
 use Rattle.dos_io.specs.Shims.{ShimState}
 use Rattle.kernel_calls.specs.StateWorld.{HasSinkCause, shim_stop}
 use Rattle.kernel_calls.specs.declared.state.RunStop.{RunStop}
@@ -15,12 +14,6 @@ use Rattle.kernel_calls.specs.declared.state.RunStop.{RunStop}
 pub record HasNotStopped (before after : ShimState) : Type 0 where
   pub stops : after.stops ≡ before.stops
   pub last : after.last ≡ before.last
-
--- no count fell, and the shim hasn't stopped
-pub record HaveStood (before after : ShimState) (out out_after err err_after : ℕ) : Type 0 where
-  pub out_later : out ≤ out_after
-  pub err_later : err ≤ err_after
-  pub stands : HasNotStopped before after
 
 -- The shim stopped so, if the stop is a shim's; else it hasn't stopped.
 abbrev pub HasShimCause : RunStop → ShimState → ShimState → Type 0
@@ -46,10 +39,3 @@ pub record HaveCauses {T : Type 0} (result : Result T RunStop) (before after : S
   pub shim : IfErr result (λ stop. HasShimCause stop before after)
   pub stands : OnOk result (HasNotStopped before after)
   pub sinks : IfErr result (λ stop. HasSinkCause stop out out_after err err_after)
-
--- what the sinks tell is what they told, with more bytes behind it
-pub record HaveGrown (out out_after err err_after : Option (List ℕ)) : Type 0 where
-  pub output : List ℕ
-  pub error : List ℕ
-  pub out_is : out_after ≡ grown out output
-  pub err_is : err_after ≡ grown err error

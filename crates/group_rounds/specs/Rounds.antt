@@ -1,43 +1,44 @@
 -- What it means that a round was run over the kernel's state, or that it has stopped. This
 -- project's own rules.
-use Rattle.std.specs.Prelude.{ℕ, ◌≡◌, ◌+◌, List, [], ◌∷◌, ◌++◌, map, Option, Some}
+use Rattle.std.specs.Prelude.{ℕ, ◌≡◌, ◌+◌, List, [], ◌∷◌, ◌++◌, Some, Result, IfOk, OnErr, OnOk}
 use Rattle.dos_world.specs.World.{World, ready_threads}
 use Rattle.dos_world.specs.Signals.{signalled, ripen}
-use Rattle.dos_world.specs.Play.{Play, done, ◌>>=◌, over, questions, gives, posts_of}
+use Rattle.dos_world.specs.Play.{Play, done, ◌>>=◌, posts_of}
 use Rattle.dos_world.specs.declared.Post.{Post}
 use Rattle.dos_world.specs.declared.Question.{Question}
+use Rattle.dos_io.specs.Borders.{BorderState, Crosses, StopsAt, exchanged}
 use Rattle.dos_io.specs.declared.exchange.Exchange.{Exchange}
 use Rattle.dos_io.specs.declared.exchange.Exchange.TheVariants.{Signals}
 use Rattle.dos_io.specs.declared.shim.ShimStop.{ShimStop}
-use Rattle.dos_io.specs.Exchanges.{question_of, answer_of}
-use Rattle.dos_io.specs.Shims.{ShimState, Stopped, answered}
+use Rattle.dos_io.specs.Exchanges.{answer_of}
 use Rattle.dos_laws.specs.Plays.{world_ended}
 use Rattle.flat_machine.specs.Rest.{serial_of}
 use Rattle.flat_machine.specs.Round.{RoundEnd as FlatEnd, went, finished, stalled, counted}
 use Rattle.flat_machine.specs.Round.{round_of}
-use Rattle.kernel_calls.specs.StateWorld.{sent, shim_stop, world_of}
+use Rattle.worker_pool.specs.Ran.{GrewBy}
+use Rattle.kernel_calls.specs.Plays.{Plays}
+use Rattle.kernel_calls.specs.StateWorld.{IsSound, sent, shim_stop, world_of}
 use Rattle.kernel_calls.specs.declared.state.RunStop.{RunStop}
 use Rattle.kernel_calls.specs.declared.state.State.{State}
-use Rattle.group_rounds.specs.StatePlays.{Telling, ToldMore}
-use Rattle.group_rounds.specs.Fronts.{CutPlay, StoppedPlay}
+use Rattle.group_rounds.specs.Parts.{KeepsCount}
 use Rattle.group_rounds.specs.declared.round.RoundEnd.{RoundEnd}
 use Rattle.group_rounds.specs.declared.round.RoundEnd.TheVariants.{Went, Done, Stalled}
 
 -- ---- the shim and a round's signals
 
 -- the shim stopped at a question, and so stops the run
-pub record StopsRun (stop : RunStop) (before : ShimState) (question : Question)
-    (after : ShimState) : Type 0 where
+pub record StopsRun (stop : RunStop) (before : BorderState) (question : Question)
+    (after : BorderState) : Type 0 where
   pub reason : ShimStop
   pub is : shim_stop stop ≡ Some reason
-  pub stopped : Stopped before question reason after
+  pub stopped : StopsAt before question reason after
 
 -- The shim has answered with a list of signals. The signal point, and then that who waits no longer
 -- is ready, makes the new state's world of the old one's, whatever bytes were sent.
-pub record HasOpened (old : State) (before : ShimState) (new : State) (after : ShimState) :
+pub record HasOpened (old : State) (before : BorderState) (new : State) (after : BorderState) :
     Type 0 where
   pub list : List Post
-  pub answered_is : after ≡ answered before (Signals old.round list)
+  pub crosses : Crosses before (exchanged (Signals old.round list)) after
   pub begins : (q : ℕ) (o e : List ℕ)
       → ripen (signalled (sent o e (world_of q old)) list) ≡ sent o e (world_of q new)
 
@@ -80,26 +81,20 @@ pub record AreStarters (old : State) (told told_after : List Exchange) (kept sta
   pub told_is : told_after ≡ told ++ exchanges
   pub are : (q : ℕ) → starters ≡ starters_after (world_of q old) exchanges kept
 
--- From the world of the old state under this quantum, with any bytes sent before, a round asks what
--- the exchanges that are told more asked, and over their answers it ends so:
--- in the world of the new state, with the bytes sent before and those that are told more, after so
--- many instructions of its parallel phase.
-pub record RanRound (quantum : ℕ) (old : State) (before : Telling) (end : RoundEnd) (new : State)
-    (after : Telling) (work : ℕ) : Type 0 where
-  pub more : ToldMore before after
-  pub gives : (o e : List ℕ)
-      → over (map answer_of more.exchanges) (round_of (sent o e (world_of quantum old)))
-      ≡ gives (end_in end work (sent (o ++ more.output) (e ++ more.error) (world_of quantum new)))
-      []
-  pub asks : (o e : List ℕ)
-      → questions (map answer_of more.exchanges) (round_of (sent o e (world_of quantum old)))
-      ≡ map question_of more.exchanges
+-- The call plays this play of a round to an end, after so many instructions of its parallel phase,
+-- by which the tally grew.
+pub record PlaysRound (quantum : ℕ) (play : World → Play FlatEnd) (result : Result RoundEnd RunStop)
+    (old : State) (before : BorderState) (new : State) (after : BorderState)
+    (tally tally_after : ℕ) : Type 0 where
+  pub work : ℕ
+  pub plays : Plays quantum world_ended play (λ end w. done (end_in end work w)) result old before
+      new after
+  pub grew : IfOk result (λ end. GrewBy tally tally_after (work_in end work))
 
--- The round has come to a question after the exchanges and the bytes that are told more.
-abbrev pub StoppedRound : ℕ → State → Telling → Telling → Option Question → Type 0
-StoppedRound quantum old before after asked =
-    StoppedPlay quantum (λ w. round_of w) old before after asked
-
--- The round was cut off: the bytes that the sinks tell more are fronts of what it sends.
-abbrev pub CutRound : ℕ → State → Telling → Telling → Type 0
-CutRound quantum old before after = CutPlay quantum world_ended (λ w. round_of w) old before after
+-- What it keeps, however it ends: a sound state of as many frames where it answers, with the number
+-- of the next round, and where it stops a round that isn't counted.
+pub record KeepsRound (result : Result RoundEnd RunStop) (old new : State) : Type 0 where
+  pub sound : OnOk result (IsSound new)
+  pub count : OnOk result (KeepsCount old new)
+  pub round : IfOk result (λ end. new.round ≡ next_round end old.round)
+  pub uncounted : OnErr result (new.round ≡ old.round)

@@ -1,13 +1,8 @@
--- How a play goes on while the kernel's state changes, and the shim and the sinks tell more. This
--- project's own words.
+-- What the shim and the sinks tell, and tell more. This project's own words.
 use Rattle.std.specs.Prelude.{ℕ, ◌≡◌, List, ◌++◌, Option}
-use Rattle.dos_world.specs.World.{World}
-use Rattle.dos_world.specs.Play.{Play}
+use Rattle.dos_io.specs.Borders.{BorderState}
 use Rattle.dos_io.specs.Outside.{grown}
 use Rattle.dos_io.specs.declared.exchange.Exchange.{Exchange}
-use Rattle.kernel_calls.specs.StateWorld.{world_of, sent}
-use Rattle.kernel_calls.specs.declared.state.State.{State}
-use Rattle.group_rounds.specs.Plays.{GoesOn}
 
 -- what the shim and the two sinks tell
 pub record Telling : Type 0 where
@@ -27,11 +22,6 @@ pub record ToldMore (before after : Telling) : Type 0 where
   pub output_is : after.output ≡ grown before.output output
   pub error_is : after.error ≡ grown before.error error
 
--- From the world of the old state, with any bytes sent before, a play goes on, over the exchanges
--- that are told more, as another play from the world of the new state, with the bytes sent before
--- and those that are told more.
-pub record GoesTo {A : Type 0} (q : ℕ) (play : World → Play A) (old : State) (before : Telling)
-    (left : World → Play A) (new : State) (after : Telling) : Type 0 where
-  pub more : ToldMore before after
-  pub goes : (o e : List ℕ) → GoesOn more.exchanges (play (sent o e (world_of q old)))
-      (left (sent (o ++ more.output) (e ++ more.error) (world_of q new)))
+-- what is told at a border
+abbrev pub told_at : BorderState → Telling
+told_at b = telling b.shim.told b.output b.error

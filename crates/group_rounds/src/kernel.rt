@@ -1,27 +1,23 @@
 // The kernel: the state, what the run was given, and who starts a round.
-ghost use Rattle.std.specs.Prelude.{ℕ, ◌≡◌, ◌≤◌, ◌-◌, [], false, is_err, length, IfErr, IfOk};
-ghost use Rattle.std.specs.Prelude.{IfSome, IsSome, OnErr, OnOk, OnSome};
+ghost use Rattle.std.specs.Prelude.{ℕ, ◌≡◌, ◌≤◌, ◌-◌, [], false, is_err, length, IfOk};
+ghost use Rattle.std.specs.Prelude.{IfSome, IsSome, OnErr, OnOk};
 ghost use Rattle.std.specs.Vec.{vec_capacity};
 ghost use Rattle.dos_world.specs.Numbered.{numbered};
 ghost use Rattle.dos_world.specs.Play.{done};
 ghost use Rattle.dos_io.specs.Shims.{HasNoEnd};
 ghost use Rattle.flat_machine.specs.Rest.{serial_of};
+ghost use Rattle.flat_machine.specs.Round.{round_of};
 ghost use Rattle.proc_table.specs.Tables.{last_status};
-ghost use Rattle.kernel_calls.specs.StateWorld.{shim_stop};
-ghost use Rattle.group_rounds.specs.Fronts.{CutPlay, StoppedPlay};
-ghost use Rattle.group_rounds.specs.StatePlays.{GoesTo, telling};
+ghost use Rattle.kernel_calls.specs.Plays.{Plays};
 ghost use Rattle.group_rounds.specs.Kernels.{IsBetweenRounds};
-ghost use Rattle.group_rounds.specs.Outside.{HaveCauses, HaveGrown, is_end};
 ghost use Rattle.group_rounds.specs.Phases.{ready_in};
-ghost use Rattle.group_rounds.specs.Rounds.{AreStarters, CutRound, RanRound, StoppedRound};
-ghost use Rattle.group_rounds.specs.Rounds.{next_round, work_in};
-ghost use Rattle.worker_pool.specs.Ran.{GrewBy};
+ghost use Rattle.group_rounds.specs.Rounds.{AreStarters, PlaysRound, next_round};
 
 use crate::RoundEnd;
 use crate::packs::Packs;
 use crate::phases::run_ready;
 use crate::round::play_round;
-use dos_io::{Shim, Sink};
+use dos_io::Border;
 use dos_world::Config;
 use kernel_calls::{RunStop, State};
 use std::alloc::{AllocError, Global};
@@ -144,48 +140,29 @@ impl Kernel {
 }
 
 /// Runs one round: the workers run its parallel phase, and their tally grows by the instructions of
-/// it. After an `Err` the kernel has failed, the round isn't counted, and nothing more
-/// is said of its state; each sink holds a front of what the round sends to it.
-pub fn run_round<S: Shim, O: Sink, E: Sink, W: Workers>(
+/// it. After an `Err` the kernel has failed, the round isn't counted, and nothing more is said of
+/// its state.
+pub fn run_round<B: Border, W: Workers>(
     kernel: &mut Kernel,
-    shim: &mut S,
-    out: &mut O,
-    err: &mut E,
+    border: &mut B,
     workers: &mut W,
 ) -> Result<RoundEnd, RunStop>
     requires running { kernel.old.failed ≡ false }
     requires limit { kernel.old.state.round ≤ kernel.old.config.rounds }
-    requires told { HasNoEnd (S.state shim.old).told }
-    ensures runs { IfOk result
-        (λ end. (work : ℕ) × RanRound kernel.old.config.quantum kernel.old.state
-        (telling (S.state shim.old).told (O.told out.old) (E.told err.old)) end
-        kernel.new.state
-        (telling (S.state shim.new).told (O.told out.new) (E.told err.new)) work
-        × GrewBy (W.tally workers.old) (W.tally workers.new) (work_in end work)) }
-    ensures asks { IfErr result
-        (λ stop. OnSome (shim_stop stop)
-        (StoppedRound kernel.old.config.quantum kernel.old.state
-        (telling (S.state shim.old).told (O.told out.old) (E.told err.old))
-        (telling (S.state shim.new).told (O.told out.new) (E.told err.new))
-        (S.state shim.new).asked)) }
-    ensures cut { OnErr result (CutRound kernel.old.config.quantum kernel.old.state
-        (telling (S.state shim.old).told (O.told out.old) (E.told err.old))
-        (telling (S.state shim.new).told (O.told out.new) (E.told err.new))) }
-    ensures before_end { IfErr result
-        (λ stop. OnSome (shim_stop stop) (is_end (S.state shim.new).asked ≡ false)) }
+    requires told { HasNoEnd (B.state border.old).shim.told }
+    ensures plays { PlaysRound kernel.old.config.quantum (λ w. round_of w) result
+        kernel.old.state (B.state border.old) kernel.new.state (B.state border.new)
+        (W.tally workers.old) (W.tally workers.new) }
     ensures round { IfOk result
         (λ end. kernel.new.state.round ≡ next_round end kernel.old.state.round) }
     ensures starters { OnOk result
-        (AreStarters kernel.old.state (S.state shim.old).told (S.state shim.new).told
+        (AreStarters kernel.old.state (B.state border.old).shim.told (B.state border.new).shim.told
         kernel.old.starters kernel.new.starters) }
     ensures uncounted { OnErr result (kernel.new.state.round ≡ kernel.old.state.round) }
     ensures sound { kernel.new.failed ≡ false → IsBetweenRounds kernel.new.state kernel.new.config }
     ensures config { kernel.new.config ≡ kernel.old.config }
     ensures failed { kernel.new.failed ≡ is_err result }
-    ensures told { OnOk result (HasNoEnd (S.state shim.new).told) }
-    ensures causes { HaveCauses result (S.state shim.old) (S.state shim.new) (O.faults out.old)
-        (O.faults out.new) (E.faults err.old) (E.faults err.new) }
-    ensures follows { S.follows shim.old shim.new }
+    ensures follows { B.follows border.old border.new }
     ensures fixed { W.fixed workers.new ≡ W.fixed workers.old }
 {
     let quantum = kernel.config.quantum;
@@ -194,9 +171,7 @@ pub fn run_round<S: Shim, O: Sink, E: Sink, W: Workers>(
         &mut kernel.starters,
         &mut kernel.packs,
         quantum,
-        shim,
-        out,
-        err,
+        border,
         workers,
     );
     kernel.failed = result.is_err();
@@ -207,48 +182,21 @@ pub fn run_round<S: Shim, O: Sink, E: Sink, W: Workers>(
 /// what is left of its budget.
 ///
 /// `run_round` has it as its last step, over the round's starters. After an `Err` the kernel has
-/// failed, and nothing more is said of its state; each sink holds a front of what the phase sends
-/// to it, and where the shim stopped, the phase has come to a question.
-pub fn serial_phase<S: Shim, O: Sink, E: Sink>(
-    kernel: &mut Kernel,
-    shim: &mut S,
-    out: &mut O,
-    err: &mut E,
-) -> Result<(), RunStop>
+/// failed, and nothing more is said of its state.
+pub fn serial_phase<B: Border>(kernel: &mut Kernel, border: &mut B) -> Result<(), RunStop>
     requires running { kernel.old.failed ≡ false }
-    requires told { HasNoEnd (S.state shim.old).told }
-    ensures goes { OnOk result
-        (GoesTo kernel.old.config.quantum
-        (λ w. serial_of w (ready_in kernel.old.state.table.threads)) kernel.old.state
-        (telling (S.state shim.old).told (O.told out.old) (E.told err.old))
-        (λ w. done w) kernel.new.state
-        (telling (S.state shim.new).told (O.told out.new) (E.told err.new))) }
-    ensures cut { OnErr result (CutPlay kernel.old.config.quantum (λ w. w)
-        (λ w. serial_of w (ready_in kernel.old.state.table.threads)) kernel.old.state
-        (telling (S.state shim.old).told (O.told out.old) (E.told err.old))
-        (telling (S.state shim.new).told (O.told out.new) (E.told err.new))) }
-    ensures grows { OnErr result
-        (HaveGrown (O.told out.old) (O.told out.new) (E.told err.old) (E.told err.new)) }
-    ensures asks { IfErr result (λ stop. OnSome (shim_stop stop)
-        (StoppedPlay kernel.old.config.quantum
-        (λ w. serial_of w (ready_in kernel.old.state.table.threads))
-        kernel.old.state
-        (telling (S.state shim.old).told (O.told out.old) (E.told err.old))
-        (telling (S.state shim.new).told (O.told out.new) (E.told err.new))
-        (S.state shim.new).asked)) }
-    ensures before_end { IfErr result
-        (λ stop. OnSome (shim_stop stop) (is_end (S.state shim.new).asked ≡ false)) }
-    ensures told { OnOk result (HasNoEnd (S.state shim.new).told) }
+    requires told { HasNoEnd (B.state border.old).shim.told }
+    ensures plays { Plays kernel.old.config.quantum (λ w. w)
+        (λ w. serial_of w (ready_in kernel.old.state.table.threads)) (λ _ w. done w) result
+        kernel.old.state (B.state border.old) kernel.new.state (B.state border.new) }
     ensures starters { kernel.new.starters ≡ ready_in kernel.old.state.table.threads }
     ensures round { kernel.new.state.round ≡ kernel.old.state.round }
     ensures sound { kernel.new.failed ≡ false → IsBetweenRounds kernel.new.state kernel.new.config }
     ensures config { kernel.new.config ≡ kernel.old.config }
     ensures failed { kernel.new.failed ≡ is_err result }
-    ensures causes { HaveCauses result (S.state shim.old) (S.state shim.new) (O.faults out.old)
-        (O.faults out.new) (E.faults err.old) (E.faults err.new) }
-    ensures follows { S.follows shim.old shim.new }
+    ensures follows { B.follows border.old border.new }
 {
-    let served = run_ready(&mut kernel.state, &mut kernel.starters, shim, out, err);
+    let served = run_ready(&mut kernel.state, &mut kernel.starters, border);
     kernel.failed = served.is_err();
     served
 }

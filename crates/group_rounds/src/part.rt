@@ -1,26 +1,21 @@
 // One thread's part in a round.
-ghost use Rattle.std.specs.Prelude.{◌≡◌, ◌+◌, ◌≤◌, ◌<◌, ◌∷◌, ℕ, List, false, true, IfOk, IfErr};
-ghost use Rattle.std.specs.Prelude.{OnOk, OnErr, OnSome, Err, IfSome, if◌then◌else◌};
+ghost use Rattle.std.specs.Prelude.{◌≡◌, ◌+◌, ◌≤◌, ◌<◌, ◌∷◌, ℕ, List, true, IfOk};
+ghost use Rattle.std.specs.Prelude.{OnOk, Err, if◌then◌else◌};
 ghost use Rattle.dos_world.specs.Kernel.{process_ended};
 ghost use Rattle.dos_world.specs.World.{registers_by, released};
-ghost use Rattle.dos_world.specs.Services.{service};
 ghost use Rattle.dos_world.specs.declared.Reason.TheVariants.{Page, Fault};
 ghost use Rattle.dos_io.specs.Shims.{HasNoEnd};
 ghost use Rattle.flat_machine.specs.Step.{step};
 ghost use Rattle.flat_machine.specs.Alone.{alone, emptied};
 ghost use Rattle.flat_machine.specs.Rest.{page_granted, process_of, rest_of};
-ghost use Rattle.proc_table.specs.Tables.{IsThread, thread_by, thread_in};
-ghost use Rattle.kernel_calls.specs.StateWorld.{HaveParts, IsReady, IsSound, sent, shim_stop};
-ghost use Rattle.kernel_calls.specs.StateWorld.{left_after, world_of};
-ghost use Rattle.kernel_calls.specs.Plays.{PlaysOnce};
-ghost use Rattle.group_rounds.specs.Fronts.{CutPlay, StoppedPlay};
-ghost use Rattle.group_rounds.specs.StatePlays.{GoesTo, telling};
-ghost use Rattle.group_rounds.specs.Outside.{HaveCauses, is_end};
+ghost use Rattle.proc_table.specs.Tables.{IsThread, thread_by};
+ghost use Rattle.kernel_calls.specs.StateWorld.{HaveParts, IsReady, IsSound, sent, world_of};
+ghost use Rattle.kernel_calls.specs.Plays.{Plays};
 ghost use Rattle.group_rounds.specs.Parts.{KeepsCount, RanPart, budget_in, goes_on_after};
 ghost use Rattle.group_rounds.specs.Parts.{part_left, part_measure, turns_left};
-ghost use Rattle.group_rounds.specs.Outcomes.{Serves, border};
+ghost use Rattle.group_rounds.specs.Outcomes.{Serves};
 
-use dos_io::{GroupBorder, Shim, Sink};
+use dos_io::Border;
 use dos_world::{Access, Reason};
 use kernel_calls::{RunStop, Served, State, end_process, serve};
 use proc_table::Table;
@@ -142,43 +137,13 @@ fn goes_on_after(way: Served) -> bool
     }
 }
 
-// a service of the thread, over a shim and two sinks
-fn serve_over<S: Shim, O: Sink, E: Sink>(
-    state: &mut State,
-    tid: u32,
-    shim: &mut S,
-    out: &mut O,
-    err: &mut E,
-) -> Result<Served, RunStop>
-    requires sound { IsSound state.old }
-    requires live { IsThread state.old.table.threads tid }
-    requires ready { IsReady state.old.table.threads tid }
-    requires budget { IfSome (thread_in state.old.table.threads tid) (λ thread. 0 < thread.budget) }
-    requires told { HasNoEnd (S.state shim.old).told }
-    ensures plays { PlaysOnce (λ w. service w tid) result state.old
-        (border (S.state shim.old) (O.told out.old) (E.told err.old) (O.faults out.old)
-        (E.faults err.old)) state.new
-        (border (S.state shim.new) (O.told out.new) (E.told err.new) (O.faults out.new)
-        (E.faults err.new)) }
-    ensures sound { IsSound state.new }
-    ensures parts { IfOk result (λ way. (ts : List ℕ) → HaveParts (tid ∷ ts) state.old
-        → HaveParts (left_after way tid ts) state.new) }
-    ensures round { state.new.round ≡ state.old.round }
-    ensures follows { S.follows shim.old shim.new }
-{
-    let mut border = GroupBorder { shim, out, err };
-    serve(state, tid, &mut border)
-}
-
 // what follows a stop: the page is granted, or the process ends, or the ecall is served; whether
 // the part goes on
-fn take_turn<S: Shim, O: Sink, E: Sink>(
+fn take_turn<B: Border>(
     state: &mut State,
     tid: u32,
     reason: Reason,
-    shim: &mut S,
-    out: &mut O,
-    err: &mut E,
+    border: &mut B,
 ) -> Result<bool, RunStop>
     requires sound { IsSound state.old }
     requires live { IsThread state.old.table.threads tid }
@@ -186,12 +151,9 @@ fn take_turn<S: Shim, O: Sink, E: Sink>(
     requires budget { 0 < budget_in state.old tid }
     requires stops { (q : ℕ) (o e : List ℕ)
         → step (sent o e (world_of q state.old)) tid ≡ Err reason }
-    requires told { HasNoEnd (S.state shim.old).told }
-    ensures goes { IfOk result (λ on. (q : ℕ)
-        → GoesTo q (turns_left tid) state.old
-        (telling (S.state shim.old).told (O.told out.old) (E.told err.old))
-        (part_left tid on) state.new
-        (telling (S.state shim.new).told (O.told out.new) (E.told err.new))) }
+    requires told { HasNoEnd (B.state border.old).shim.told }
+    ensures plays { (q : ℕ) → Plays q (λ w. w) (turns_left tid) (part_left tid) result
+        state.old (B.state border.old) state.new (B.state border.new) }
     ensures less { IfOk result (λ on. on ≡ true
         → part_measure state.new tid < part_measure state.old tid) }
     ensures live { IfOk result (λ on. on ≡ true → IsThread state.new.table.threads tid) }
@@ -200,20 +162,7 @@ fn take_turn<S: Shim, O: Sink, E: Sink>(
         → HaveParts (if on then tid ∷ ts else ts) state.new) }
     ensures round { state.new.round ≡ state.old.round }
     ensures count { OnOk result (KeepsCount state.old state.new) }
-    ensures asks { IfErr result (λ stop. OnSome (shim_stop stop)
-        ((q : ℕ) → StoppedPlay q (turns_left tid) state.old
-        (telling (S.state shim.old).told (O.told out.old) (E.told err.old))
-        (telling (S.state shim.new).told (O.told out.new) (E.told err.new))
-        (S.state shim.new).asked)) }
-    ensures before_end { IfErr result
-        (λ stop. OnSome (shim_stop stop) (is_end (S.state shim.new).asked ≡ false)) }
-    ensures told { OnOk result (HasNoEnd (S.state shim.new).told) }
-    ensures cut { OnErr result ((q : ℕ) → CutPlay q (λ w. w) (turns_left tid) state.old
-        (telling (S.state shim.old).told (O.told out.old) (E.told err.old))
-        (telling (S.state shim.new).told (O.told out.new) (E.told err.new))) }
-    ensures causes { HaveCauses result (S.state shim.old) (S.state shim.new) (O.faults out.old)
-        (O.faults out.new) (E.faults err.old) (E.faults err.new) }
-    ensures follows { S.follows shim.old shim.new }
+    ensures follows { B.follows border.old border.new }
 {
     match reason {
         Reason::Page { address, access } => {
@@ -225,7 +174,7 @@ fn take_turn<S: Shim, O: Sink, E: Sink>(
             Ok(false)
         }
         Reason::Service => {
-            match serve_over(state, tid, shim, out, err) {
+            match serve(state, tid, border) {
                 Ok(way) => Ok(goes_on_after(way)),
                 Err(stop) => Err(stop),
             }
@@ -235,31 +184,21 @@ fn take_turn<S: Shim, O: Sink, E: Sink>(
 
 /// The thread's serial part: until its budget is 0 or it waits, yields or is gone.
 ///
-/// After an `Err` nothing is said of the state but its round. Where the shim stopped, the part has
-/// come to a question; where a sink failed, both sinks hold fronts of what the part sends.
-pub(crate) fn finish<S: Shim, O: Sink, E: Sink>(
-    state: &mut State,
-    tid: u32,
-    shim: &mut S,
-    out: &mut O,
-    err: &mut E,
-) -> Result<(), RunStop>
+/// After an `Err` nothing is said of the state but its round.
+pub(crate) fn finish<B: Border>(state: &mut State, tid: u32, border: &mut B) -> Result<(), RunStop>
     requires sound { IsSound state.old }
     requires live { IsThread state.old.table.threads tid }
     requires ready { IsReady state.old.table.threads tid }
-    requires told { HasNoEnd (S.state shim.old).told }
-    ensures serves { Serves (λ w. rest_of w tid) result state.old state.new
-        (border (S.state shim.old) (O.told out.old) (E.told err.old) (O.faults out.old)
-        (E.faults err.old))
-        (border (S.state shim.new) (O.told out.new) (E.told err.new) (O.faults out.new)
-        (E.faults err.new)) }
+    requires told { HasNoEnd (B.state border.old).shim.told }
+    ensures serves { Serves (λ w. rest_of w tid) result
+        state.old (B.state border.old) state.new (B.state border.new) }
     ensures parts { OnOk result ((ts : List ℕ) → HaveParts (tid ∷ ts) state.old
         → HaveParts ts state.new) }
-    ensures follows { S.follows shim.old shim.new }
+    ensures follows { B.follows border.old border.new }
 {
     begin(state, tid);
     while let Some(reason) = run(state, tid) {
-        if !take_turn(state, tid, reason, shim, out, err)? {
+        if !take_turn(state, tid, reason, border)? {
             break;
         }
     }

@@ -11,10 +11,10 @@ ghost use Rattle.proc_table.specs.Tables.{IsThread};
 ghost use Rattle.kernel_calls.specs.StateWorld.{HaveParts, IsSound, sent, world_of};
 ghost use Rattle.group_rounds.specs.Parts.{KeepsCount};
 ghost use Rattle.group_rounds.specs.Phases.{AreLive, is_ready, ready_in};
-ghost use Rattle.group_rounds.specs.Outcomes.{Serves, border};
+ghost use Rattle.group_rounds.specs.Outcomes.{Serves};
 
 use crate::part::finish;
-use dos_io::{Shim, Sink};
+use dos_io::Border;
 use dos_world::ThreadState;
 use kernel_calls::{RunStop, State};
 use proc_table::Table;
@@ -95,76 +95,56 @@ pub(crate) fn set_budgets(state: &mut State, starters: &[u32], quantum: u32)
 }
 
 // the rest of a starter, if it still lives
-fn finish_if_live<S: Shim, O: Sink, E: Sink>(
-    state: &mut State,
-    tid: u32,
-    shim: &mut S,
-    out: &mut O,
-    err: &mut E,
-) -> Result<(), RunStop>
+fn finish_if_live<B: Border>(state: &mut State, tid: u32, border: &mut B) -> Result<(), RunStop>
     requires sound { IsSound state.old }
     requires awake { IsAwake (world_of 0 state.old) tid }
-    requires told { HasNoEnd (S.state shim.old).told }
-    ensures serves { Serves (λ w. rest_if_live w tid) result state.old state.new
-        (border (S.state shim.old) (O.told out.old) (E.told err.old) (O.faults out.old)
-        (E.faults err.old))
-        (border (S.state shim.new) (O.told out.new) (E.told err.new) (O.faults out.new)
-        (E.faults err.new)) }
+    requires told { HasNoEnd (B.state border.old).shim.told }
+    ensures serves { Serves (λ w. rest_if_live w tid) result
+        state.old (B.state border.old) state.new (B.state border.new) }
     ensures parts { OnOk result ((ts : List ℕ) → HaveParts (tid ∷ ts) state.old
         → HaveParts ts state.new) }
-    ensures follows { S.follows shim.old shim.new }
+    ensures follows { B.follows border.old border.new }
 {
     if !state.table.is_thread(tid) {
         return Ok(());
     }
-    finish(state, tid, shim, out, err)
+    finish(state, tid, border)
 }
 
 /// The serial phase: the rest of each starter that still lives, one after another.
-pub(crate) fn run_serial<S: Shim, O: Sink, E: Sink>(
+pub(crate) fn run_serial<B: Border>(
     state: &mut State,
     starters: &[u32],
-    shim: &mut S,
-    out: &mut O,
-    err: &mut E,
+    border: &mut B,
 ) -> Result<(), RunStop>
     requires sound { IsSound state.old }
     requires parts { HaveParts starters.now state.old }
-    requires told { HasNoEnd (S.state shim.old).told }
-    ensures serves { Serves (λ w. serial_of w starters.now) result state.old state.new
-        (border (S.state shim.old) (O.told out.old) (E.told err.old) (O.faults out.old)
-        (E.faults err.old))
-        (border (S.state shim.new) (O.told out.new) (E.told err.new) (O.faults out.new)
-        (E.faults err.new)) }
-    ensures follows { S.follows shim.old shim.new }
+    requires told { HasNoEnd (B.state border.old).shim.told }
+    ensures serves { Serves (λ w. serial_of w starters.now) result
+        state.old (B.state border.old) state.new (B.state border.new) }
+    ensures follows { B.follows border.old border.new }
 {
     for &tid in starters {
-        finish_if_live(state, tid, shim, out, err)?;
+        finish_if_live(state, tid, border)?;
     }
     Ok(())
 }
 
 /// The serial phase of the threads that are ready, gathered into `starters`.
-pub(crate) fn run_ready<S: Shim, O: Sink, E: Sink>(
+pub(crate) fn run_ready<B: Border>(
     state: &mut State,
     starters: &mut Vec<u32>,
-    shim: &mut S,
-    out: &mut O,
-    err: &mut E,
+    border: &mut B,
 ) -> Result<(), RunStop>
     requires sound { IsSound state.old }
     requires room { 64 ≤ vec_capacity starters.old }
-    requires told { HasNoEnd (S.state shim.old).told }
+    requires told { HasNoEnd (B.state border.old).shim.told }
     ensures serves { Serves (λ w. serial_of w (ready_in state.old.table.threads)) result
-        state.old state.new
-        (border (S.state shim.old) (O.told out.old) (E.told err.old) (O.faults out.old)
-        (E.faults err.old))
-        (border (S.state shim.new) (O.told out.new) (E.told err.new) (O.faults out.new)
-        (E.faults err.new)) }
+        state.old (B.state border.old) state.new (B.state border.new) }
     ensures starters { starters.new.items ≡ ready_in state.old.table.threads }
     ensures room { 64 ≤ vec_capacity starters.new }
-    ensures follows { S.follows shim.old shim.new }
+    ensures follows { B.follows border.old border.new }
 {
     gather(&state.table, starters);
-    run_serial(state, starters.as_slice(), shim, out, err)
+    run_serial(state, starters.as_slice(), border)
 }

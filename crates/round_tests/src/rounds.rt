@@ -6,7 +6,7 @@ ghost use Rattle.group_rounds.specs.Kernels.{IsFresh};
 
 use crate::checks::same;
 use crate::guests::{ENDS_WITH_7, WRITES_HI, YIELDS, file};
-use dos_io::{MemorySink, Quiet, Shim, Sink};
+use dos_io::{GroupBorder, MemorySink, Quiet, Shim, Sink};
 use dos_world::Config;
 use elf_image::{Image, read_image};
 use group_open::open_state;
@@ -90,7 +90,8 @@ fn round_over<S: Shim, O: Sink, E: Sink, W: Workers>(
     ensures failed { kernel.new.failed ≡ is_err result }
     ensures told { OnOk result (HasNoEnd (S.state shim.new).told) }
 {
-    run_round(kernel, shim, out, err, workers)
+    let mut border = GroupBorder { shim, out, err };
+    run_round(kernel, &mut border, workers)
 }
 
 fn serial_over<S: Shim, O: Sink, E: Sink>(
@@ -102,7 +103,8 @@ fn serial_over<S: Shim, O: Sink, E: Sink>(
     requires running { kernel.old.failed ≡ false }
     requires told { HasNoEnd (S.state shim.old).told }
 {
-    serial_phase(kernel, shim, out, err)
+    let mut border = GroupBorder { shim, out, err };
+    serial_phase(kernel, &mut border)
 }
 
 // The phase in its three steps, and how many instructions it ran.

@@ -1,14 +1,12 @@
 use Rattle.std.proofs.Common.{◌<◌, ◌≤◌, [], ◌∷◌, ◌∙◌, subst, arith}
 use Rattle.std.proofs.lemmas.Result.{err_from_is_err_and}
-use Rattle.kernel_calls.specs.StateWorld.{shim_stop}
-use Rattle.group_rounds.specs.StatePlays.{telling}
-use Rattle.group_rounds.specs.Parts.{RanPart, part_measure}
-use Rattle.group_rounds.proofs.StatePlayLaws.{some_weaker}
+use Rattle.kernel_calls.specs.Plays.{stopper}
+use Rattle.kernel_calls.proofs.Playing.{plays_told}
+use Rattle.group_rounds.specs.Parts.{RanPart, part_left, part_measure, turns_left}
 use Rattle.group_rounds.proofs.Sound.{parts_passed, parts_on, parts_off, ready_then}
-use Rattle.group_rounds.proofs.CauseLaws.{stood_yet, stood_then, causes_then, causes_err}
 use Rattle.group_rounds.proofs.ServesLaws.{serves_done}
 use Rattle.group_rounds.proofs.TurnLaws.{rest_begins, run_measure, goes_further, goes_out}
-use Rattle.group_rounds.proofs.TurnLaws.{goes_over_budget, rest_cut, rest_stopped}
+use Rattle.group_rounds.proofs.TurnLaws.{goes_over_budget, rest_stops}
 use Rattle.group_rounds.proofs.part.finish.Goals as goal
 
 pub loop-reason-init : goal.loop-reason-init
@@ -18,16 +16,12 @@ loop-reason-init g c = record {
   round = c.begin.ensures.round;
   count = c.begin.ensures.count;
   goes = λ q. rest_begins c.args.state.now c.begin.new.state c.args.tid c.begin.ensures.empties
-      c.begin.ensures.budget q
-      (telling (g.S.Shim.state c.args.shim.now).told (g.O.Sink.told c.args.out.now)
-      (g.E.Sink.told c.args.err.now));
+      c.begin.ensures.budget q (g.B.Border.state c.args.border.now);
   ready = ready_then c.args.state.now c.begin.new.state c.args.tid c.requires.ready
       (c.begin.ensures.parts (c.args.tid ∷ []));
   parts = λ ts. c.begin.ensures.parts (c.args.tid ∷ ts);
   told = c.requires.told;
-  stood = stood_yet (g.S.Shim.state c.args.shim.now) (g.O.Sink.faults c.args.out.now)
-      (g.E.Sink.faults c.args.err.now);
-  follows = g.met.S.Shim.reflexive c.args.shim.now;
+  follows = g.met.B.Border.reflexive c.args.border.now;
 }
 
 pub loop-reason-smaller : goal.loop-reason-smaller
@@ -46,10 +40,9 @@ loop-reason-preserved g c = record {
   round = c.take_turn.ensures.round ∙ c.run.ensures.round ∙ c.loop-reason.invariant.round;
   count = c.in_ok-take_turn.ensures.count ∙ c.run.ensures.count ∙ c.loop-reason.invariant.count;
   goes = λ q.
-      goes_further q c.args.tid c.args.state.now c.loop-reason.state c.run.new.state
-      c.take_turn.new.state _ _ _ c.run.result c.in_ok-take_turn.field-0
-      c.if-not-branch.false (c.loop-reason.invariant.goes q) c.run.ensures.ran
-      (c.in_ok-take_turn.ensures.goes q);
+      goes_further q c.args.tid c.args.state.now c.loop-reason.state c.run.new.state _ _
+      c.run.result (c.loop-reason.invariant.goes q) c.run.ensures.ran c.take_turn.new.state _
+      c.in_ok-take_turn.field-0 c.if-not-branch.false (c.in_ok-take_turn.ensures.plays q).goes;
   ready = ready_then c.loop-reason.state c.take_turn.new.state c.args.tid
       c.loop-reason.invariant.ready
       (λ parts. parts_on _ c.args.tid [] c.take_turn.new.state c.if-not-branch.false
@@ -57,10 +50,10 @@ loop-reason-preserved g c = record {
   parts = λ ts parts. parts_on _ c.args.tid ts c.take_turn.new.state c.if-not-branch.false
       (c.in_ok-take_turn.ensures.parts ts
       (c.run.ensures.parts (c.args.tid ∷ ts) (c.loop-reason.invariant.parts ts parts)));
-  told = c.in_ok-take_turn.ensures.told;
-  stood = stood_then c.in_ok-take_turn.field-0 _ _ _ _ _ _ _ _ _ c.loop-reason.invariant.stood
-      c.in_ok-take_turn.ensures.causes;
-  follows = g.met.S.Shim.transitive _ _ _ c.loop-reason.invariant.follows
+  told = plays_told 0 (turns_left c.args.tid) (part_left c.args.tid c.in_ok-take_turn.field-0)
+      c.run.new.state c.take_turn.new.state _ _ (c.in_ok-take_turn.ensures.plays 0).goes
+      c.loop-reason.invariant.told;
+  follows = g.met.B.Border.transitive _ _ _ c.loop-reason.invariant.follows
       c.take_turn.ensures.follows;
 }
 
@@ -69,12 +62,11 @@ returns-then-not-branch-clause-serves g c =
     let turn = c.in_ok-take_turn.ensures in
     let now = c.loop-reason.invariant in
     serves_done _ _ c.args.state.now c.take_turn.new.state _ _
-    (λ q. goes_out q c.args.tid c.args.state.now c.loop-reason.state c.run.new.state
-    c.take_turn.new.state _ _ _ c.run.result c.in_ok-take_turn.field-0 c.if-not-branch.true
-    (now.goes q) c.run.ensures.ran (turn.goes q)) turn.sound
+    (λ q. goes_out q c.args.tid c.args.state.now c.loop-reason.state c.run.new.state _ _
+    c.run.result (now.goes q) c.run.ensures.ran c.take_turn.new.state _
+    c.in_ok-take_turn.field-0 c.if-not-branch.true (turn.plays q).goes) turn.sound
     (c.take_turn.ensures.round ∙ c.run.ensures.round ∙ now.round)
-    (turn.count ∙ c.run.ensures.count ∙ now.count) turn.told
-    (stood_then c.in_ok-take_turn.field-0 _ _ _ _ _ _ _ _ _ now.stood turn.causes)
+    (turn.count ∙ c.run.ensures.count ∙ now.count)
 
 pub returns-in_default-clause-serves : goal.returns-in_default-clause-serves
 returns-in_default-clause-serves g c =
@@ -84,7 +76,7 @@ returns-in_default-clause-serves g c =
     (now.goes q)
     (subst (RanPart c.loop-reason.state c.args.tid c.run.new.state) c.in_default.is
     c.run.ensures.ran)) c.run.ensures.sound (c.run.ensures.round ∙ now.round)
-    (c.run.ensures.count ∙ now.count) now.told now.stood
+    (c.run.ensures.count ∙ now.count)
 
 pub returns-in_err-take_turn-clause-serves : goal.returns-in_err-take_turn-clause-serves
 returns-in_err-take_turn-clause-serves g c =
@@ -92,18 +84,15 @@ returns-in_err-take_turn-clause-serves g c =
     let turn = c.in_err-take_turn.ensures in
     let now = c.loop-reason.invariant in
     rw (p.1, p.2) (record {
-      goes = tt;
+      plays = λ q. record {
+        goes = tt;
+        stops = rest_stops q c.args.tid c.args.state.now c.loop-reason.state c.run.new.state _ _
+            c.run.result (now.goes q) c.run.ensures.ran _ (stopper c.in_err-take_turn.field-0.0)
+            (turn.plays q).stops;
+      };
       sound = tt;
       round = c.take_turn.ensures.round ∙ c.run.ensures.round ∙ now.round;
       count = tt;
-      asks = some_weaker (shim_stop c.in_err-take_turn.field-0.0) _ _
-          (λ k q. rest_stopped q c.args.tid c.args.state.now c.loop-reason.state c.run.new.state
-          _ _ _ c.run.result _ (now.goes q) c.run.ensures.ran (k q)) turn.asks;
-      before_end = turn.before_end;
-      told = tt;
-      cut = λ q. rest_cut q c.args.tid c.args.state.now c.loop-reason.state c.run.new.state _ _ _
-          c.run.result (now.goes q) c.run.ensures.ran (turn.cut q);
-      causes = causes_err _ _ _ _ _ _ _ (causes_then _ _ _ _ _ _ _ _ _ _ now.stood turn.causes);
     })
 
 -- ---- who has a part
@@ -131,8 +120,8 @@ returns-in_default-clause-follows g c = c.loop-reason.invariant.follows
 
 pub returns-then-not-branch-clause-follows : goal.returns-then-not-branch-clause-follows
 returns-then-not-branch-clause-follows g c =
-    g.met.S.Shim.transitive _ _ _ c.loop-reason.invariant.follows c.take_turn.ensures.follows
+    g.met.B.Border.transitive _ _ _ c.loop-reason.invariant.follows c.take_turn.ensures.follows
 
 pub returns-in_err-take_turn-clause-follows : goal.returns-in_err-take_turn-clause-follows
 returns-in_err-take_turn-clause-follows g c =
-    g.met.S.Shim.transitive _ _ _ c.loop-reason.invariant.follows c.take_turn.ensures.follows
+    g.met.B.Border.transitive _ _ _ c.loop-reason.invariant.follows c.take_turn.ensures.follows

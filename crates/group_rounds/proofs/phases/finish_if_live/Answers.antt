@@ -1,6 +1,4 @@
 use Rattle.std.proofs.Common.{◌∙◌, refl, sym}
-use Rattle.group_rounds.specs.StatePlays.{telling}
-use Rattle.group_rounds.proofs.CauseLaws.{stood_yet}
 use Rattle.group_rounds.proofs.PhaseLaws.{rest_is_live, rest_of_gone}
 use Rattle.group_rounds.proofs.ServesLaws.{serves_done, serves_from}
 use Rattle.group_rounds.proofs.Sound.{parts_passed}
@@ -9,12 +7,8 @@ use Rattle.group_rounds.proofs.phases.finish_if_live.Goals as goal
 pub returns-then-not-is_thread-clause-serves : goal.returns-then-not-is_thread-clause-serves
 returns-then-not-is_thread-clause-serves g c =
     serves_done _ _ c.args.state.now c.args.state.now _ _
-    (λ q. rest_of_gone q c.args.state.now
-    (telling (g.S.Shim.state c.args.shim.now).told (g.O.Sink.told c.args.out.now)
-    (g.E.Sink.told c.args.err.now)) c.args.tid
-    (sym c.if-not-is_thread.true ∙ c.is_thread.ensures)) c.requires.sound refl refl c.requires.told
-    (stood_yet (g.S.Shim.state c.args.shim.now) (g.O.Sink.faults c.args.out.now)
-    (g.E.Sink.faults c.args.err.now))
+    (λ q. rest_of_gone q c.args.state.now (g.B.Border.state c.args.border.now) c.args.tid
+    (sym c.if-not-is_thread.true ∙ c.is_thread.ensures)) c.requires.sound refl refl
 
 pub returns-clause-serves : goal.returns-clause-serves
 returns-clause-serves g c =

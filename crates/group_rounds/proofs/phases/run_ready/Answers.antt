@@ -1,7 +1,7 @@
 use Rattle.std.proofs.Common.{ℕ, List, ◌∙◌, sym, subst}
 use Rattle.flat_machine.specs.Rest.{serial_of}
 use Rattle.kernel_calls.specs.StateWorld.{HaveParts}
-use Rattle.group_rounds.specs.Outcomes.{Serves, border}
+use Rattle.group_rounds.specs.Outcomes.{Serves}
 use Rattle.group_rounds.proofs.Sound.{few_live, parts_begin}
 use Rattle.group_rounds.proofs.phases.run_ready.Goals as goal
 
@@ -18,11 +18,6 @@ run_serial-requires-clause-parts g c =
 pub returns-clause-serves : goal.returns-clause-serves
 returns-clause-serves g c =
     subst (λ (starters : List ℕ). Serves (λ w. serial_of w starters) c.run_serial.result
-    c.args.state.now c.run_serial.new.state
-    (border (g.S.Shim.state c.args.shim.now) (g.O.Sink.told c.args.out.now)
-    (g.E.Sink.told c.args.err.now) (g.O.Sink.faults c.args.out.now)
-    (g.E.Sink.faults c.args.err.now))
-    (border (g.S.Shim.state c.run_serial.new.shim) (g.O.Sink.told c.run_serial.new.out)
-    (g.E.Sink.told c.run_serial.new.err) (g.O.Sink.faults c.run_serial.new.out)
-    (g.E.Sink.faults c.run_serial.new.err)))
+    c.args.state.now (g.B.Border.state c.args.border.now) c.run_serial.new.state
+    (g.B.Border.state c.run_serial.new.border))
     (c.as_slice.ensures.value ∙ c.gather.ensures.ready) c.run_serial.ensures.serves

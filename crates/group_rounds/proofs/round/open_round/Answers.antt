@@ -3,6 +3,6 @@ use Rattle.group_rounds.proofs.round.open_round.Goals as goal
 pub returns-in-Ok-clause-opened : goal.returns-in-Ok-clause-opened
 returns-in-Ok-clause-opened g c = record {
   list = c.ask_signals.new.list;
-  answered_is = c.in-Ok.ensures.answered;
+  crosses = c.in-Ok.ensures.answered;
   begins = c.begin_round.ensures.begins;
 }
