@@ -29,7 +29,7 @@ use Rattle.dos_words.specs.declared.request.Request.TheVariants.{Run, Replay, Ge
 use Rattle.dos_cmd.specs.Judging.{Taken, judgement}
 use Rattle.dos_cmd.specs.Outside.{Outside, Faults, OutputFailed, Says}
 use Rattle.dos_cmd.specs.ReplayLeaves.{DidReplay, Misfitted}
-use Rattle.dos_cmd.specs.Results.{Begun, NotTaken, OfLog, Did, HasMisfit, Stopped, Leaves, Finished}
+use Rattle.dos_cmd.specs.Results.{Begun, NotTaken, OfLog, Did, HasMisfit, WasStopped, Leaves, WasDone}
 use Rattle.dos_cmd.specs.Results.{Fails, Refused, CutShort, MustReplay, MustDo}
 use Rattle.dos_cmd.proofs.Saying.{with_error, with_faults, output_failed, fails_more}
 
@@ -88,16 +88,16 @@ refused_is o asked why other last h told =
 
 -- ---- a call that did what it was asked for
 
-pub finished_as : (words : List Text) (n m : ℕ) (o : Outside) → n ≡ m → Finished words m o
-    → Finished words n o
-finished_as words n m o is h = subst (λ (k : ℕ). Finished words k o) (sym is) h
+pub finished_as : (words : List Text) (n m : ℕ) (o : Outside) → n ≡ m → WasDone words m o
+    → WasDone words n o
+finished_as words n m o is h = subst (λ (k : ℕ). WasDone words k o) (sym is) h
 
-pub finished_not_none : (words : List Text) (n : ℕ) (o : Outside) → Finished words n o
+pub finished_not_none : (words : List Text) (n : ℕ) (o : Outside) → WasDone words n o
     → request words ≡ None → ⊥
 finished_not_none words n o h none = not_none words h.asked h.asks none
 
 pub finished_not_refused : (words : List Text) (n : ℕ) (o : Outside) (asked : Request)
-    (why : Refusal) → Finished words n o → request words ≡ Some asked
+    (why : Refusal) → WasDone words n o → request words ≡ Some asked
     → judgement o.files asked ≡ Some (Err why) → ⊥
 finished_not_refused words n o asked why h ask told =
     taken_not o h.asked (λ taken. Did h.asked taken n o) why h.begun
@@ -123,7 +123,7 @@ did_must words (Replay w log names) taken n o h = replayed_must words w log name
 did_must words asked taken n o h = λ full. h
 
 pub finished_must : (words : List Text) (n : ℕ) (o : Outside) (asked : Request) (taken : Taken)
-    → Finished words n o → request words ≡ Some asked → judgement o.files asked ≡ Some (Ok taken)
+    → WasDone words n o → request words ≡ Some asked → judgement o.files asked ≡ Some (Ok taken)
     → MustDo asked taken n o
 finished_must words n o asked taken h ask told =
     let same = asked_once words h.asked asked h.asks ask in
@@ -149,7 +149,7 @@ leaves_status asked o f refusals.Files other last h told a b d = absurd (a refl)
 leaves_status asked o f refusals.Host other last h told a b d = absurd (a refl)
 leaves_status asked o f refusals.Sink other last h told a b d = absurd (b refl)
 leaves_status asked o f refusals.LogFull other last h told a b d =
-    absurd (taken_not o asked (λ taken. Stopped asked taken stops.LogFull last o) other h told)
+    absurd (taken_not o asked (λ taken. WasStopped asked taken stops.LogFull last o) other h told)
 leaves_status asked o f refusals.Memory other last h told a b d = absurd (d refl)
 leaves_status asked o f why other last h told a b d =
     ap refusal_status (sym (refused_is o asked why other last h told))
@@ -171,7 +171,7 @@ misfit_must asked taken found n o is h = absurd h
 
 -- of a log that is full, in a run
 full_must : (asked : Request) (taken : Taken) (last : List ℕ) (n : ℕ) (o : Outside) → n ≡ 10
-    → Stopped asked taken stops.LogFull last o → MustDo asked taken n o
+    → WasStopped asked taken stops.LogFull last o → MustDo asked taken n o
 full_must (Run q r f w posts from step log names) taken last n o is h = λ full. absurd (full is)
 full_must asked taken last n o is h = absurd h
 
@@ -190,7 +190,7 @@ leaves_must asked taken o f refusals.Host n is h told a b d = absurd (a is)
 leaves_must asked taken o f refusals.Sink n is h told a b d = absurd (b is)
 leaves_must asked taken o f refusals.LogFull n is h told a b d =
     let same = taken_is o asked
-    (λ t. Stopped asked t stops.LogFull (line_of refusals.LogFull) o) taken h told in
+    (λ t. WasStopped asked t stops.LogFull (line_of refusals.LogFull) o) taken h told in
     subst (λ (t : Taken). MustDo asked t n o) same
     (full_must asked h.taken (line_of refusals.LogFull) n o is h.so)
 leaves_must asked taken o f refusals.Memory n is h told a b d = absurd (d is)
@@ -365,7 +365,7 @@ not_read words o f why none (inr is) says = inr (inl (is, says))
 pub finished_by : (r : Result Ending Refusal) (words : List Text) (asked : Request) (o : Outside)
     → request words ≡ Some asked
     → IfOk r (λ ending. Begun asked o (λ taken. Did asked taken (ending_status ending) o))
-    → IfOk r (λ ending. Finished words (ending_status ending) o)
+    → IfOk r (λ ending. WasDone words (ending_status ending) o)
 finished_by (Ok ending) words asked o asks h = record { asked = asked; asks = asks; begun = h }
 finished_by (Err why) words asked o asks h = tt
 

@@ -27,7 +27,7 @@ use Rattle.dos_texts.specs.Exit.{ending_status}
 use Rattle.dos_texts.specs.declared.refusal.Refusal.{Refusal}
 use Rattle.dos_texts.specs.declared.refusal.Refusal.TheVariants as refusals
 use Rattle.dos_words.specs.Numbers.{Text}
-use Rattle.dos_cmd.specs.Outside.{Outside, Faults, FilesStay, OthersStay, Holds}
+use Rattle.dos_cmd.specs.Outside.{Outside, Faults, FilesStay, OthersStay, FileHolds}
 use Rattle.dos_cmd.specs.RunLeaves.{RunAsked, IsPlanned, IsPrepared, WasRecorded, DidRun}
 use Rattle.dos_cmd.specs.RunLeaves.{StoppedRun, UnwrittenRun, CutRun}
 use Rattle.dos_cmd.specs.Stops.{refusal_by, IsUnreported, IsUnwritten, IsWritten, LeavesRun}
@@ -207,12 +207,12 @@ run_unwritten o f kernel after ledger name ending log why whole is rose others a
 
 -- what the log's file holds
 holds : (o : Outside) (name : Text) (log : Log)
-    → IsWritten log o.files_tell o.files o.files_after name → Holds o name (logtext log)
+    → IsWritten log o.files_tell o.files o.files_after name → FileHolds o name (logtext log)
 holds o name log w = record { where_told = w.where_told; where_all_tell = w.where_all_tell }
 
 did_so : (o : Outside) (kernel after : Held) (ledger : LedgerState) (name : Text)
     (ending : Ending) (log : Log) (err_then : Option (List ℕ))
-    → Whole kernel after ledger ending log o err_then → Holds o name (logtext log)
+    → Whole kernel after ledger ending log o err_then → FileHolds o name (logtext log)
     → OthersStay o name → o.err_after ≡ grown err_then (report_in (kernel_world after) ending)
     → (asked : RunAsked) (images : List Image) → IsPrepared asked images kernel ledger name o
     → DidRun asked images (ending_status ending) o
@@ -222,7 +222,7 @@ did_so o kernel after ledger name ending log err_then whole written others told 
       log = log;
       seen = run.0;
       was = was_recorded asked images o kernel ledger name log run.0 p run.1;
-      written = subst (λ (n : Text). Holds o n (logtext log)) (sym p.log_is) written;
+      written = subst (λ (n : Text). FileHolds o n (logtext log)) (sym p.log_is) written;
       others = subst (OthersStay o) (sym p.log_is) others;
       status_is = ap ending_status (sym run.2.shows.ending_is);
       counted = run.2.counted;
@@ -251,7 +251,7 @@ run_did o kernel after ledger name ending log err_then (Ok ended) whole written 
 
 cut_so : (o : Outside) (f : Faults) (kernel after : Held) (ledger : LedgerState) (name : Text)
     (ending : Ending) (log : Log) (err_then : Option (List ℕ))
-    → Whole kernel after ledger ending log o err_then → Holds o name (logtext log)
+    → Whole kernel after ledger ending log o err_then → FileHolds o name (logtext log)
     → OthersStay o name → Rose f.err f.err_after
     → GrewByFront err_then o.err_after (report_in (kernel_world after) ending)
     → (asked : RunAsked) (images : List Image) → IsPrepared asked images kernel ledger name o
@@ -264,7 +264,7 @@ cut_so o f kernel after ledger name ending log err_then whole written others ros
         log = log;
         seen = run.0;
         was = was_recorded asked images o kernel ledger name log run.0 p run.1;
-        written = subst (λ (n : Text). Holds o n (logtext log)) (sym p.log_is) written;
+        written = subst (λ (n : Text). FileHolds o n (logtext log)) (sym p.log_is) written;
         others = subst (OthersStay o) (sym p.log_is) others;
         grew = record {
           out_is = run.2.put.out_is;

@@ -15,7 +15,7 @@ use Rattle.dos_words.specs.declared.request.Request.TheVariants.{Run, Replay}
 use Rattle.dos_cmd.specs.Judging.{Taken}
 use Rattle.dos_cmd.specs.Outside.{Outside, Faults, Grew, Says, OutputFailed}
 use Rattle.dos_cmd.specs.ReplayLeaves.{Misfitted}
-use Rattle.dos_cmd.specs.Results.{Begun, NotTaken, Stopped, Unwritten, HasMisfit, OfLog, Cut}
+use Rattle.dos_cmd.specs.Results.{Begun, NotTaken, WasStopped, Unwritten, HasMisfit, OfLog, Cut}
 use Rattle.dos_cmd.specs.Results.{Leaves, Fails}
 
 -- error tells this in the end
@@ -49,7 +49,7 @@ module _ (o : Outside) (e : Option (List ℕ)) (last : List ℕ) (more : e ≡ g
     not_taken_more asked why h = record { is = h.is; says = says_more h.says }
 
     stopped_more : (asked : Request) (taken : Taken) (stop : ShimStop)
-        → Stopped asked taken stop [] o → Stopped asked taken stop last (with_error o e)
+        → WasStopped asked taken stop [] o → WasStopped asked taken stop last (with_error o e)
     stopped_more (Run q r f w posts from step log names) taken stop h = record {
       plan = h.plan;
       planned = record {
@@ -153,8 +153,8 @@ leaves_more asked o f n e refusals.Files last later none more h = (
 )
 leaves_more asked o f n e refusals.Host last later none more h = (
   h.0,
-  begun_more o e last more asked (λ taken. Stopped asked taken stops.HostFault [] o)
-      (λ taken. Stopped asked taken stops.HostFault last (with_error o e))
+  begun_more o e last more asked (λ taken. WasStopped asked taken stops.HostFault [] o)
+      (λ taken. WasStopped asked taken stops.HostFault last (with_error o e))
       (λ taken. stopped_more o e last more asked taken stops.HostFault) h.1,
 )
 leaves_more asked o f n e refusals.Sink last later none more h =
@@ -167,14 +167,14 @@ leaves_more asked o f n e refusals.Sink last later none more h =
           (same_error o e (more ∙ ap (grown o.err_after) nothing))) h.2,
     )
 leaves_more asked o f n e refusals.LogFull last later none more h =
-    begun_more o e last more asked (λ taken. Stopped asked taken stops.LogFull [] o)
-    (λ taken. Stopped asked taken stops.LogFull last (with_error o e))
+    begun_more o e last more asked (λ taken. WasStopped asked taken stops.LogFull [] o)
+    (λ taken. WasStopped asked taken stops.LogFull last (with_error o e))
     (λ taken. stopped_more o e last more asked taken stops.LogFull) h
 leaves_more asked o f n e refusals.Memory last later none more h = elim h [
   | inl says ↦ inl (says_more o e last more says)
   | inr (inl begun) ↦ inr (inl (begun_more o e last more asked
-      (λ taken. Stopped asked taken stops.Memory [] o)
-      (λ taken. Stopped asked taken stops.Memory last (with_error o e))
+      (λ taken. WasStopped asked taken stops.Memory [] o)
+      (λ taken. WasStopped asked taken stops.Memory last (with_error o e))
       (λ taken. stopped_more o e last more asked taken stops.Memory) begun))
   | inr (inr unwritten) ↦ inr (inr (
     unwritten.0,

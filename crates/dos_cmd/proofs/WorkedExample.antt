@@ -22,7 +22,7 @@ use Rattle.dpg_run.proofs.MisfitLaws.{fits_have_none}
 use Rattle.shim_log.specs.LogText.{Log, exchanges, logtext}
 use Rattle.shim_log.specs.declared.version.LogVersion.TheVariants.{Two}
 use Rattle.shim_log.specs.Items.{quiet_rounds}
-use Rattle.shim_log.specs.Reading.{body_at, end_at, fields_at, header_at as log_header_at}
+use Rattle.shim_log.specs.Reading.{body_at, end_at, fields_at, read_header as log_header_at}
 use Rattle.shim_log.specs.Reading.{header_number_at, item_at, log_at, magic_at, many_at, quiet_at}
 use Rattle.shim_log.specs.Reading.{quiet_round_at, ranged_at, ranged_byte_at, version_at}
 use Rattle.log_files.specs.Judging.{disagreement, log_verdict}
@@ -34,7 +34,7 @@ use Rattle.dos_words.specs.declared.request.Request.{Request}
 use Rattle.dos_words.specs.declared.request.Request.TheVariants.{Run, Replay}
 use Rattle.dos_cmd.specs.Judging.{Taken, agreed, by_log, digests_of, images_from, judgement}
 use Rattle.dos_cmd.specs.Judging.{of_images, replay_judgement, verdict, with_images, with_room}
-use Rattle.dos_cmd.specs.Outside.{Outside, Counted, FilesStay, Grew, Holds, OthersStay}
+use Rattle.dos_cmd.specs.Outside.{Outside, Counted, FilesStay, Grew, FileHolds, OthersStay}
 use Rattle.dos_cmd.specs.Results.{MustDo, MustReplay}
 use Rattle.dos_cmd.specs.RunLeaves.{header_of}
 use Rattle.logged_runs.proofs.OneRecording.{one_log}
@@ -219,7 +219,7 @@ left_by o status other same status_is grew counted = record {
 -- full, the status is 0, and the log's file holds the text, and no other file changes.
 pub run_leaves : (status : ℕ) (o : Outside) → MustCome run_words status o
     → o.files (codes "a") ≡ Some file → status ≢ 5 → status ≢ 6 → status ≢ 9 → status ≢ 10
-    → LeftBehind status o × Holds o (codes "l") text × OthersStay o (codes "l")
+    → LeftBehind status o × FileHolds o (codes "l") text × OthersStay o (codes "l")
 run_leaves status o must a no_fault no_sink no_memory no_room =
     let did = must run_asked run_taken run_asks (run_takes o.files a) no_fault no_sink no_memory
     no_room in
@@ -238,7 +238,7 @@ run_leaves status o must a no_fault no_sink no_memory no_room =
     planned.digests_are) in
     let header = recorded.header ∙ planned.header_is ∙ ap (header_of config) digests in (
       left_by o status did.seen same.1 did.status_is did.grew did.counted,
-      subst (Holds o (codes "l"))
+      subst (FileHolds o (codes "l"))
           (ap logtext (one_log did.log log recorded.version header same.0) ∙ text_is) did.written,
       did.others,
     )

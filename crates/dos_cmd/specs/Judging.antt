@@ -143,7 +143,7 @@ OfFiles _ P = ⊥
 
 -- One more file is read as the image of its number, as far as it is told: its image goes last, and
 -- its digest.
-pub record IsNext (number : ℕ) (told : Option (List ℕ)) (images longer : List Image)
+pub record IsNextImage (number : ℕ) (told : Option (List ℕ)) (images longer : List Image)
     (digests more : List (List ℕ)) : Type 0 where
   pub parsed : Image
   pub digest : List ℕ

@@ -89,7 +89,7 @@ abbrev pub OthersStay : Outside → Text → Type 0
 OthersStay o kept = (name : Text) → name ≢ kept → o.files_after name ≡ o.files name
 
 -- The file of this name holds these bytes, as far as files tell.
-pub record Holds (o : Outside) (name : Text) (bytes : List ℕ) : Type 0 where
+pub record FileHolds (o : Outside) (name : Text) (bytes : List ℕ) : Type 0 where
   pub where_told : IfSome (o.files name) (λ before. o.files_after name ≡ Some bytes)
   pub where_all_tell : IsTrue o.files_tell → o.files_after name ≡ Some bytes
 

@@ -12,7 +12,7 @@ use Rattle.shim_log.specs.Ledger.{LedgerState}
 use Rattle.dos_cmd.specs.declared.run.RunRequest.{RunRequest}
 use Rattle.dos_cmd.specs.Judging.{judgement}
 use Rattle.dos_cmd.specs.Outside.{Outside, outside, faults}
-use Rattle.dos_cmd.specs.Results.{Leaves, run_asked}
+use Rattle.dos_cmd.specs.Results.{Leaves, run_request_asked}
 use Rattle.dos_cmd.specs.RunLeaves.{IsPrepared, RunAsked}
 
 -- with so many workers
@@ -22,30 +22,30 @@ run_request r workers =
     r.clock_step r.log.now r.names.now
 
 -- without them
-abbrev pub asked_by : RunRequest → RunAsked
-asked_by r =
-    run_asked r.config.quantum r.config.rounds r.config.frames r.posts.now r.clock_from
+abbrev pub request_asked : RunRequest → RunAsked
+request_asked r =
+    run_request_asked r.config.quantum r.config.rounds r.config.frames r.posts.now r.clock_from
     r.clock_step r.log.now r.names.now
 
 -- The files are taken for these images, as far as they tell.
-abbrev pub AreTaken : RunRequest → (contents : Text → Option (List ℕ)) → List Image → Type 0
-AreTaken r contents images = (n : ℕ) → IfSome (judgement contents (run_request r n))
+abbrev pub AreFilesTaken : RunRequest → (contents : Text → Option (List ℕ)) → List Image → Type 0
+AreFilesTaken r contents images = (n : ℕ) → IfSome (judgement contents (run_request r n))
     (λ j. j ≡ Ok (record { log = None; images = images }))
 
 -- A kernel was opened with the images that the files are taken for.
 pub record AreOpened (r : RunRequest) (contents : Text → Option (List ℕ)) (kernel : Held) :
     Type 0 where
   pub images : List Image
-  pub taken : AreTaken r contents images
-  pub opened : IsOpenedWith kernel images (asked_by r).config
+  pub taken : AreFilesTaken r contents images
+  pub opened : IsOpenedWith kernel images (request_asked r).config
 
 -- All is at hand for the run, whatever a host, the outputs and the workers tell.
-pub record IsReady (r : RunRequest) (contents : Text → Option (List ℕ)) (kernel : Held)
+pub record IsReadyToRun (r : RunRequest) (contents : Text → Option (List ℕ)) (kernel : Held)
     (ledger : LedgerState) : Type 0 where
   pub images : List Image
-  pub taken : AreTaken r contents images
+  pub taken : AreFilesTaken r contents images
   pub prepared : (o : Outside)
-      → IsPrepared (asked_by r) images kernel ledger r.log.now (record o { files = contents })
+      → IsPrepared (request_asked r) images kernel ledger r.log.now (record o { files = contents })
 
 -- The run isn't begun, for this reason, whatever a host, the outputs and the workers tell, and
 -- however often they failed.

@@ -25,9 +25,9 @@ use Rattle.dos_cmd.specs.Printing.{Inspected, Generated, CutInspect, CutSummary}
 -- ---- it was done
 
 -- what a request to run asks for
-abbrev pub run_asked : (quantum rounds frames : ℕ) → List (ℕ × Post) → Option ℕ → ℕ → Text
+abbrev pub run_request_asked : (quantum rounds frames : ℕ) → List (ℕ × Post) → Option ℕ → ℕ → Text
     → List Text → RunAsked
-run_asked quantum rounds frames posts clock_from clock_step log names = record {
+run_request_asked quantum rounds frames posts clock_from clock_step log names = record {
   config = record { quantum = quantum; rounds = rounds; frames = frames };
   posts = posts;
   clock_from = clock_from;
@@ -44,7 +44,7 @@ OfLog (Some log) P = P log
 -- What is asked for was done with what was taken for it, and ended with this status.
 abbrev pub Did : Request → Taken → ℕ → Outside → Type 0
 Did (Run quantum rounds frames workers posts clock_from clock_step log names) taken status o =
-    DidRun (run_asked quantum rounds frames posts clock_from clock_step log names) taken.images
+    DidRun (run_request_asked quantum rounds frames posts clock_from clock_step log names) taken.images
     status o
 Did (Replay workers log names) taken status o =
     OfLog taken.log (λ read. DidReplay read taken.images status o)
@@ -54,16 +54,16 @@ Did (Gen number threads workers) taken status o = Generated taken.images status 
 -- ---- it was begun, and came to no report
 
 -- A recorded run was stopped so.
-abbrev pub Stopped : Request → Taken → ShimStop → (last : List ℕ) → Outside → Type 0
-Stopped (Run quantum rounds frames workers posts clock_from clock_step log names) taken stop last
-    o = StoppedRun (run_asked quantum rounds frames posts clock_from clock_step log names)
+abbrev pub WasStopped : Request → Taken → ShimStop → (last : List ℕ) → Outside → Type 0
+WasStopped (Run quantum rounds frames workers posts clock_from clock_step log names) taken stop last
+    o = StoppedRun (run_request_asked quantum rounds frames posts clock_from clock_step log names)
     taken.images stop last o
-Stopped _ taken stop last o = ⊥
+WasStopped _ taken stop last o = ⊥
 
 -- A recorded run's log couldn't be written.
 abbrev pub Unwritten : Request → Taken → (last : List ℕ) → Outside → Type 0
 Unwritten (Run quantum rounds frames workers posts clock_from clock_step log names) taken last o =
-    UnwrittenRun (run_asked quantum rounds frames posts clock_from clock_step log names)
+    UnwrittenRun (run_request_asked quantum rounds frames posts clock_from clock_step log names)
     taken.images last o
 Unwritten _ taken last o = ⊥
 
@@ -76,8 +76,8 @@ HasMisfit _ taken found last o = ⊥
 -- An output failed while what is asked for was done.
 abbrev pub Cut : Request → Taken → Outside → Type 0
 Cut (Run quantum rounds frames workers posts clock_from clock_step log names) taken o =
-    CutRun (run_asked quantum rounds frames posts clock_from clock_step log names) taken.images o
-    ⊎ CutRunReport (run_asked quantum rounds frames posts clock_from clock_step log names)
+    CutRun (run_request_asked quantum rounds frames posts clock_from clock_step log names) taken.images o
+    ⊎ CutRunReport (run_request_asked quantum rounds frames posts clock_from clock_step log names)
     taken.images o
 Cut (Replay workers log names) taken o =
     OfLog taken.log (λ read. CutReplay read taken.images o ⊎ CutReplayReport read taken.images o)
@@ -113,20 +113,20 @@ Leaves asked o f refusals.Files last =
     Rose f.files f.files_after
     × (Says o last ⊎ Begun asked o (λ taken. Unwritten asked taken last o))
 Leaves asked o f refusals.Host last =
-    Rose f.host f.host_after × Begun asked o (λ taken. Stopped asked taken stops.HostFault last o)
+    Rose f.host f.host_after × Begun asked o (λ taken. WasStopped asked taken stops.HostFault last o)
 Leaves asked o f refusals.Sink last =
     OutputFailed f × (last ≡ []) × Begun asked o (λ taken. Cut asked taken o)
 Leaves asked o f refusals.LogFull last =
-    Begun asked o (λ taken. Stopped asked taken stops.LogFull last o)
+    Begun asked o (λ taken. WasStopped asked taken stops.LogFull last o)
 Leaves asked o f refusals.Memory last =
     Says o last
-    ⊎ Begun asked o (λ taken. Stopped asked taken stops.Memory last o)
+    ⊎ Begun asked o (λ taken. WasStopped asked taken stops.Memory last o)
     ⊎ (FilesStay o × Begun asked o (λ taken. Unwritten asked taken last o))
 
 -- ---- the call, by its words
 
 -- It was done.
-pub record Finished (words : List Text) (status : ℕ) (o : Outside) : Type 0 where
+pub record WasDone (words : List Text) (status : ℕ) (o : Outside) : Type 0 where
   pub asked : Request
   pub asks : request words ≡ Some asked
   pub begun : Begun asked o (λ taken. Did asked taken status o)

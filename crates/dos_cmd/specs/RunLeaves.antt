@@ -18,7 +18,7 @@ use Rattle.logged_runs.specs.Opened.{IsOpenedWith}
 use Rattle.shim_log.specs.Ledger.{LedgerState}
 use Rattle.dos_cmd.specs.Judging.{digests_of}
 use Rattle.dos_cmd.specs.Outside.{Outside, Counted, Grew, GrewUpToLast, FilesStay, OthersStay}
-use Rattle.dos_cmd.specs.Outside.{Holds}
+use Rattle.dos_cmd.specs.Outside.{FileHolds}
 
 -- what `run` is asked for, but for its workers
 pub record RunAsked : Type 0 where
@@ -75,7 +75,7 @@ pub record DidRun (asked : RunAsked) (images : List Image) (status : ℕ) (o : O
   pub log : Log
   pub seen : Seen
   pub was : WasRecorded asked images o log seen
-  pub written : Holds o asked.log (logtext log)
+  pub written : FileHolds o asked.log (logtext log)
   pub others : OthersStay o asked.log
   pub status_is : status ≡ ending_status seen.ending
   pub counted : Counted o seen.work
@@ -119,6 +119,6 @@ pub record CutRunReport (asked : RunAsked) (images : List Image) (o : Outside) :
   pub log : Log
   pub seen : Seen
   pub was : WasRecorded asked images o log seen
-  pub written : Holds o asked.log (logtext log)
+  pub written : FileHolds o asked.log (logtext log)
   pub others : OthersStay o asked.log
   pub grew : GrewUpToLast o seen.output seen.error (report seen)

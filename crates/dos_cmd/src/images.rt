@@ -4,7 +4,7 @@ ghost use Rattle.std.specs.Prelude.{IfSome, IsErrOf, OnOk};
 ghost use Rattle.dos_io.specs.Outside.{Rose};
 ghost use Rattle.sha2.specs.Sha256.{sha256};
 ghost use Rattle.shim_log.specs.Bytes.{AreDigests, FitsDigest};
-ghost use Rattle.dos_cmd.specs.Judging.{verdict, images_from, digests_of, IsNext, OfFiles};
+ghost use Rattle.dos_cmd.specs.Judging.{verdict, images_from, digests_of, IsNextImage, OfFiles};
 
 use dos_io::{FileError, Files};
 use dos_texts::Refusal;
@@ -71,7 +71,7 @@ fn load_next<F: Files>(
     digests: &mut Digests,
 ) -> Result<(), Refusal>
     requires { length digests.old < 8 }
-    ensures accepted { OnOk result (IsNext image (F.content files.old name.now)
+    ensures accepted { OnOk result (IsNextImage image (F.content files.old name.now)
         images.old.items images.new.items digests.old digests.new) }
     ensures refused { IfErr result (λ why. OfFiles why (λ why. IfSome
         (F.content files.old name.now) (λ file. verdict image file ≡ Err why))) }

@@ -16,7 +16,7 @@ ghost use Rattle.dos_cmd.specs.Judging.{digests_of};
 ghost use Rattle.dos_cmd.specs.Outside.{outside, faults};
 ghost use Rattle.dos_cmd.specs.RunLeaves.{DidRun, IsPrepared, RunAsked, clock_rule, header_of};
 ghost use Rattle.dos_cmd.specs.Results.{Begun, Did, Leaves};
-ghost use Rattle.dos_cmd.specs.Requests.{AreOpened, IsNotBegun, IsReady, run_request};
+ghost use Rattle.dos_cmd.specs.Requests.{AreOpened, IsNotBegun, IsReadyToRun, run_request};
 ghost use Rattle.dos_cmd.specs.Stops.{IsNotOpened, IsUnreported, IsUnwritten, IsWritten, LeavesRun};
 
 use crate::images::load_all;
@@ -272,7 +272,7 @@ fn prepare<F: Files>(
     requires few { length request.now.names.now ≤ 8 }
     requires few_posts { length request.now.posts.now ≤ 32 }
     requires planned { ArePlanned request.now.posts.now }
-    ensures ready { IfOk result (λ x. IsReady request.now (F.content files.old) x.0 x.1) }
+    ensures ready { IfOk result (λ x. IsReadyToRun request.now (F.content files.old) x.0 x.1) }
     ensures running { IfOk result (λ x. x.0.failed ≡ false) }
     ensures fresh { IfOk result (λ x. x.0.state.round ≡ 1) }
     ensures begins { IfOk result (λ x. x.1 ≡ empty_ledger x.1.posts x.1.clock x.1.header x.1.room) }

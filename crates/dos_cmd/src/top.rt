@@ -7,7 +7,7 @@ ghost use Rattle.dos_words.specs.Request.{request};
 ghost use Rattle.dos_texts.specs.Exit.{IsStatus, ending_status, refusal_status};
 ghost use Rattle.dos_cmd.specs.Judging.{Taken, judgement};
 ghost use Rattle.dos_cmd.specs.Outside.{outside, faults};
-ghost use Rattle.dos_cmd.specs.Results.{Begun, CutShort, Did, Fails, Finished, Leaves, MustDo};
+ghost use Rattle.dos_cmd.specs.Results.{Begun, CutShort, Did, Fails, WasDone, Leaves, MustDo};
 ghost use Rattle.dos_cmd.specs.Results.{Refused};
 
 use crate::generate::generate;
@@ -115,7 +115,7 @@ fn command<F: Files, H: Host, O: Sink, E: Sink, W: Workers>(
     err: &mut E,
     workers: &mut W,
 ) -> Result<Ending, Refusal>
-    ensures finished { IfOk result (λ ending. Finished (map string_bytes words.now)
+    ensures finished { IfOk result (λ ending. WasDone (map string_bytes words.now)
         (ending_status ending)
         (outside (F.tells files.old) (F.content files.old) (F.content files.new) (H.told host.old)
         (H.told host.new) (O.told out.old) (O.told out.new) (E.told err.old) (E.told err.new)
@@ -188,7 +188,7 @@ pub fn dos_main<F: Files, H: Host, O: Sink, E: Sink, W: Workers>(
 
     // What the words ask for is done, with images, and a log, that the files are.
     ensures finished { (result ≡ 0) ⊎ (result ≡ 7) ⊎ (result ≡ 8)
-        → Finished (map string_bytes words.now) result
+        → WasDone (map string_bytes words.now) result
         (outside (F.tells files.old) (F.content files.old) (F.content files.new) (H.told host.old)
         (H.told host.new) (O.told out.old) (O.told out.new) (E.told err.old) (E.told err.new)
         (W.tally workers.old) (W.tally workers.new)) }

@@ -2,7 +2,7 @@
 -- its error. This project's own rules.
 use Rattle.std.specs.Prelude.{◌≡◌, ◌≢◌, ◌≤◌, ℕ, List, [], ◌∷◌, ◌++◌, take, Option, Some}
 use Rattle.dos_world.specs.declared.Question.{Question}
-use Rattle.dos_io.specs.Outside.{counted, grown, Rose}
+use Rattle.dos_io.specs.Outside.{counted_to_limit, grown, Rose}
 use Rattle.dos_io.specs.Shims.{ShimState, Stopped}
 use Rattle.dos_io.specs.declared.border.Stream.{Stream}
 use Rattle.dos_io.specs.declared.border.Stream.TheVariants.{Output, Error}
@@ -90,7 +90,7 @@ pub record StopsAt (before : BorderState) (question : Question) (stop : ShimStop
 
 -- the shim alone, which stopped so
 pub record ShimFails (before : BorderState) (stop : ShimStop) (after : BorderState) : Type 0 where
-  pub stops : after.shim.stops ≡ counted before.shim.stops
+  pub stops : after.shim.stops ≡ counted_to_limit before.shim.stops
   pub last : after.shim.last ≡ Some stop
   pub faults : (stream : Stream) → faults_of stream after ≡ faults_of stream before
 

@@ -3,7 +3,7 @@
 use Rattle.std.specs.Prelude.{ℕ, ◌-◌, Bool, not, ◌&&◌, ◌==◌, nat_le, if◌then◌else◌, List, ◌++◌}
 use Rattle.std.specs.Prelude.{length}
 use Rattle.std.specs.List.{list_any}
-use Rattle.dos_io.specs.Outside.{counted}
+use Rattle.dos_io.specs.Outside.{counted_to_limit}
 
 -- the numbers of the calls that are to fail, counted from 1; how many were made; how many failed
 pub record CallState : Type 0 where
@@ -17,7 +17,7 @@ no_calls failing = record { failing = failing; made = 0; faults = 0 }
 
 -- the number of the next call is one of those that are to fail
 abbrev pub next_is_to_fail : CallState → Bool
-next_is_to_fail calls = list_any (λ number. number == counted calls.made) calls.failing
+next_is_to_fail calls = list_any (λ number. number == counted_to_limit calls.made) calls.failing
 
 -- the next call succeeds: it isn't to fail, and what it asks for can be done
 abbrev pub succeeds : CallState → Bool → Bool
@@ -28,8 +28,8 @@ abbrev pub after_call : CallState → Bool → CallState
 after_call calls success =
     record {
       failing = calls.failing;
-      made = counted calls.made;
-      faults = if success then calls.faults else counted calls.faults;
+      made = counted_to_limit calls.made;
+      faults = if success then calls.faults else counted_to_limit calls.faults;
     }
 
 -- a sink in memory: its bytes, how many it has room for in all, and its calls

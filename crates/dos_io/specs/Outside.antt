@@ -3,12 +3,12 @@ use Rattle.std.specs.Prelude.{◌≡◌, ℕ, ◌+◌, ◌-◌, ◌^◌, ◌≤�
 use Rattle.std.specs.Prelude.{Result, OnErr}
 
 -- a 64-bit count after one more, which stands still at its type's end
-abbrev pub counted : ℕ → ℕ
-counted n = min (n + 1) (2 ^ 64 - 1)
+abbrev pub counted_to_limit : ℕ → ℕ
+counted_to_limit n = min (n + 1) (2 ^ 64 - 1)
 
 -- a count rose, or stands at its type's end
 abbrev pub Rose : ℕ → ℕ → Type 0
-Rose before now = counted before ≤ now
+Rose before now = counted_to_limit before ≤ now
 
 -- an error comes only where the count rose, which never falls
 pub record HasCause {T E : Type 0} (before now : ℕ) (result : Result T E) : Type 0 where

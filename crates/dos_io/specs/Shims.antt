@@ -4,7 +4,7 @@ use Rattle.dos_world.specs.declared.Question.{Question}
 use Rattle.dos_io.specs.declared.exchange.Exchange.{Exchange}
 use Rattle.dos_io.specs.declared.exchange.Exchange.TheVariants.{Signals, Input, Clock, End}
 use Rattle.dos_io.specs.declared.shim.ShimStop.{ShimStop}
-use Rattle.dos_io.specs.Outside.{counted}
+use Rattle.dos_io.specs.Outside.{counted_to_limit}
 
 -- The exchanges so far, how often it has stopped, its last stop, and the question of its last call
 -- where that call stopped.
@@ -15,15 +15,15 @@ pub record ShimState : Type 0 where
   pub asked : Option Question
 
 -- after an answer
-abbrev pub answered : ShimState → Exchange → ShimState
-answered s exchange = record s { told = s.told ++ exchange ∷ []; asked = None }
+abbrev pub shim_answered : ShimState → Exchange → ShimState
+shim_answered s exchange = record s { told = s.told ++ exchange ∷ []; asked = None }
 
 -- From old to new it stopped, so, at this question. A stop is counted once; the count stands still
 -- at 2^64 - 1.
 pub record Stopped (old : ShimState) (question : Question) (stop : ShimStop) (new : ShimState) :
     Type 0 where
   pub told : new.told ≡ old.told
-  pub stops : new.stops ≡ counted old.stops
+  pub stops : new.stops ≡ counted_to_limit old.stops
   pub last : new.last ≡ Some stop
   pub asked : new.asked ≡ Some question
 

@@ -5,8 +5,8 @@ use Rattle.dos_io.specs.declared.std_host.StdHost.{StdHost}
 use Rattle.dos_io.specs.declared.system.StdStream.{StdStream}
 
 -- what the writer below a standard stream holds, where that is known
-abbrev pub written : {W : Type 0} → (W → Option (List ℕ)) → StdStream W → Option (List ℕ)
-written contents stream = contents stream.writer
+abbrev pub writer_bytes : {W : Type 0} → (W → Option (List ℕ)) → StdStream W → Option (List ℕ)
+writer_bytes contents stream = contents stream.writer
 
 -- there was a file that had these bytes left and no more, where that is known
 abbrev pub Gave : {F : Type 0} → (F → Option (List ℕ)) → List ℕ → Type 0

@@ -1,7 +1,7 @@
 // A shim that nothing reaches.
 ghost use Rattle.std.specs.Prelude.{◌≡◌, ◌++◌, ◌∷◌, [], None, Some, OnOk, IfErr, IfSome};
-ghost use Rattle.dos_io.specs.Outside.{counted};
-ghost use Rattle.dos_io.specs.Quiet.{shown};
+ghost use Rattle.dos_io.specs.Outside.{counted_to_limit};
+ghost use Rattle.dos_io.specs.Quiet.{quiet_shown};
 
 use crate::{Shim, ShimStop, SignalList};
 use dos_world::{Ending, Question};
@@ -58,7 +58,7 @@ impl Quiet {
         }) }
         ensures err { IfErr result (λ stop. (stop ≡ ShimStop.Memory)
             × (self.new ≡ record self.old {
-              stops = counted self.old.stops;
+              stops = counted_to_limit self.old.stops;
               asked = Some question;
             })) }
     {
@@ -73,7 +73,7 @@ impl Quiet {
 }
 
 impl Shim for Quiet {
-    ghost use Rattle.dos_io.specs.Quiet.{shown, FollowsQuietly};
+    ghost use Rattle.dos_io.specs.Quiet.{quiet_shown, FollowsQuietly};
     ghost use Rattle.dos_io.specs.QuietLaws.{follows_itself, follows_on};
 
     ghost state = { shown };

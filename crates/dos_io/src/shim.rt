@@ -30,7 +30,7 @@ pub enum ShimStop {
 /// Each call that answers adds its exchange to what the shim tells. A call that stops adds nothing,
 /// and shows its question and why it stopped. After the end has been told nothing more is asked.
 pub trait Shim {
-    ghost use Rattle.dos_io.specs.Shims.{ShimState, answered, Stopped, HasNoEnd};
+    ghost use Rattle.dos_io.specs.Shims.{ShimState, shim_answered, Stopped, HasNoEnd};
 
     /// The exchanges so far, and the last stop.
     ghost state: { Self → ShimState };
@@ -41,7 +41,7 @@ pub trait Shim {
     /// The signals of a round, into `list`.
     fn signals(&mut self, round: u32, list: &mut SignalList) -> Result<(), ShimStop>
         requires { HasNoEnd (state self.old).told }
-        ensures ok { OnOk result (state self.new ≡ answered (state self.old)
+        ensures ok { OnOk result (state self.new ≡ shim_answered (state self.old)
             (signals_exchange round list.new)) }
         ensures err { IfErr result (λ stop. Stopped (state self.old) (signals_question round) stop
             (state self.new)) }
@@ -55,7 +55,7 @@ pub trait Shim {
         requires few { length buf.old ≤ 4096 }
         ensures short { IfOk result (λ k. k ≤ length buf.old) }
         ensures rest { IfOk result (λ k. drop k buf.new ≡ drop k buf.old) }
-        ensures ok { IfOk result (λ k. state self.new ≡ answered (state self.old)
+        ensures ok { IfOk result (λ k. state self.new ≡ shim_answered (state self.old)
             (input_exchange round tid (length buf.old) (take k buf.new))) }
         ensures err { IfErr result (λ stop. Stopped (state self.old)
             (input_question round tid (length buf.old)) stop (state self.new)) }
@@ -64,7 +64,7 @@ pub trait Shim {
     /// A reading of the clock.
     fn clock(&mut self, round: u32, tid: u32) -> Result<u64, ShimStop>
         requires { HasNoEnd (state self.old).told }
-        ensures ok { IfOk result (λ n. state self.new ≡ answered (state self.old)
+        ensures ok { IfOk result (λ n. state self.new ≡ shim_answered (state self.old)
             (clock_exchange round tid n)) }
         ensures err { IfErr result (λ stop. Stopped (state self.old) (clock_question round tid) stop
             (state self.new)) }
@@ -74,7 +74,7 @@ pub trait Shim {
     fn end(&mut self, ending: Ending, rounds: u32) -> Result<(), ShimStop>
         requires { HasNoEnd (state self.old).told }
         ensures ok { OnOk result (state self.new
-            ≡ answered (state self.old) (end_exchange ending rounds)) }
+            ≡ shim_answered (state self.old) (end_exchange ending rounds)) }
         ensures err { IfErr result (λ stop. Stopped (state self.old) (end_question ending rounds)
             stop
             (state self.new)) }

@@ -1,7 +1,7 @@
 // The host over std: a reader, and the system's clock.
 ghost use Rattle.std.specs.Prelude.{◌≡◌, ◌≤◌, ◌<◌, None, take, drop, length, IfOk, OnOk, OnErr};
 ghost use Rattle.std.specs.Io.KnownBytes.{Consumes, IsAtEnd, Keeps};
-ghost use Rattle.dos_io.specs.Outside.{HasCause, Rose, counted};
+ghost use Rattle.dos_io.specs.Outside.{HasCause, Rose, counted_to_limit};
 ghost use Rattle.dos_io.specs.System.{unread};
 
 use crate::{Host, HostFault};
@@ -37,7 +37,7 @@ impl<'a, R: Clock, I: Read> StdHost<'a, R, I> {
 
     // Counts a fault and answers it.
     fn fault(&mut self) -> HostFault
-        ensures count { self.new.faults ≡ counted self.old.faults }
+        ensures count { self.new.faults ≡ counted_to_limit self.old.faults }
         ensures later { self.old.faults ≤ self.new.faults }
         ensures rose { Rose self.old.faults self.new.faults }
         ensures reader { self.new.reader ≡ self.old.reader }
@@ -105,7 +105,7 @@ impl<'a, R: Clock, I: Read> Host for StdHost<'a, R, I> {
             (unread I.remaining self.new)) }
 
         ensures steady { OnOk result (self.new.faults ≡ self.old.faults) }
-        ensures counted { OnErr result (self.new.faults ≡ counted self.old.faults) }
+        ensures counted { OnErr result (self.new.faults ≡ counted_to_limit self.old.faults) }
 
         // As of every host.
         ensures short { IfOk result (λ k. k ≤ length buf.old) }
@@ -123,7 +123,7 @@ impl<'a, R: Clock, I: Read> Host for StdHost<'a, R, I> {
     fn clock(&mut self) -> Result<u64, HostFault>
         ensures reader { unread I.remaining self.new ≡ unread I.remaining self.old }
         ensures steady { OnOk result (self.new.faults ≡ self.old.faults) }
-        ensures counted { OnErr result (self.new.faults ≡ counted self.old.faults) }
+        ensures counted { OnErr result (self.new.faults ≡ counted_to_limit self.old.faults) }
 
         // As of every host.
         ensures cause { HasCause self.old.faults self.new.faults result }

@@ -3,8 +3,8 @@
 ghost use Rattle.std.specs.Prelude.{◌≡◌, ◌≢◌, None, false, ◌<◌, ◌≤◌, ◌+◌, ℕ, List, length, IfOk};
 ghost use Rattle.std.specs.Prelude.{OnOk, OnErr, IfErr, IfSome, IsErrOf, take};
 ghost use Rattle.std.specs.Io.KnownBytes.{Appends, Consumes, IsAtEnd, Keeps};
-ghost use Rattle.dos_io.specs.Outside.{HasCause, counted};
-ghost use Rattle.dos_io.specs.System.{written, Gave, GaveMore, Took};
+ghost use Rattle.dos_io.specs.Outside.{HasCause, counted_to_limit};
+ghost use Rattle.dos_io.specs.System.{writer_bytes, Gave, GaveMore, Took};
 
 use crate::{FileError, Files, Sink, SinkFault};
 use std::alloc::Global;
@@ -29,7 +29,7 @@ pub type StdErr<W> = StdStream<W>;
 impl<W: Write> StdStream<W> {
     /// A stream over a writer, with no fault so far.
     pub fn new(writer: W) -> StdStream<W>
-        ensures writer { written W.contents result ≡ W.contents writer }
+        ensures writer { writer_bytes W.contents result ≡ W.contents writer }
         ensures faults { ⟦<StdStream<W> as Sink>⟧.faults result ≡ 0 }
     {
         StdStream { writer, faults: 0 }
@@ -46,13 +46,13 @@ impl<W: Write> Sink for StdStream<W> {
     /// Where it is known what the writer holds, that grew by the piece. The count of faults rises
     /// by one at a fault, and at no other call.
     fn put(&mut self, piece: &[u8]) -> Result<(), SinkFault>
-        ensures written { OnOk result (Appends (written W.contents self.old)
-            (written W.contents self.new)
+        ensures written { OnOk result (Appends (writer_bytes W.contents self.old)
+            (writer_bytes W.contents self.new)
             piece.now) }
         ensures steady { OnOk result (⟦<StdStream<W> as Sink>⟧.faults self.new
             ≡ ⟦<StdStream<W> as Sink>⟧.faults self.old) }
         ensures counted { OnErr result (⟦<StdStream<W> as Sink>⟧.faults self.new
-            ≡ counted (⟦<StdStream<W> as Sink>⟧.faults self.old)) }
+            ≡ counted_to_limit (⟦<StdStream<W> as Sink>⟧.faults self.old)) }
 
         // As of every sink.
         ensures cause { HasCause (⟦<StdStream<W> as Sink>⟧.faults self.old)
@@ -91,7 +91,7 @@ impl<'a, R: fs::Files> StdFiles<'a, R> {
     // Counts a fault and answers it.
     fn fault<T>(&mut self) -> Result<T, FileError>
         ensures answer { result ≡ Err FileError.Fault }
-        ensures count { self.new ≡ record self.old { faults = counted self.old.faults } }
+        ensures count { self.new ≡ record self.old { faults = counted_to_limit self.old.faults } }
         ensures later { self.old.faults ≤ self.new.faults }
     {
         self.faults = self.faults.saturating_add(1);
@@ -158,7 +158,7 @@ impl<'a, R: fs::Files> Files for StdFiles<'a, R> {
         ensures longer { IsErrOf result FileError.TooLong → GaveMore R.File.remaining limit }
         ensures counted { IsErrOf result FileError.Fault
             → ⟦<StdFiles<'a, R> as Files>⟧.faults self.new
-            ≡ counted (⟦<StdFiles<'a, R> as Files>⟧.faults self.old) }
+            ≡ counted_to_limit (⟦<StdFiles<'a, R> as Files>⟧.faults self.old) }
         ensures steady { result ≢ Err FileError.Fault → ⟦<StdFiles<'a, R> as Files>⟧.faults self.new
             ≡ ⟦<StdFiles<'a, R> as Files>⟧.faults self.old }
         ensures later { ⟦<StdFiles<'a, R> as Files>⟧.faults self.old
@@ -182,7 +182,7 @@ impl<'a, R: fs::Files> Files for StdFiles<'a, R> {
             ≡ ⟦<StdFiles<'a, R> as Files>⟧.faults self.old) }
         ensures fault { IfErr result (λ e. e ≡ FileError.Fault) }
         ensures counted { OnErr result (⟦<StdFiles<'a, R> as Files>⟧.faults self.new
-            ≡ counted (⟦<StdFiles<'a, R> as Files>⟧.faults self.old)) }
+            ≡ counted_to_limit (⟦<StdFiles<'a, R> as Files>⟧.faults self.old)) }
         ensures later { ⟦<StdFiles<'a, R> as Files>⟧.faults self.old
             ≤ ⟦<StdFiles<'a, R> as Files>⟧.faults
             self.new }

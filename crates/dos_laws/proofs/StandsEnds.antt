@@ -19,7 +19,7 @@ use Rattle.dos_world.specs.Lawful.{Lawful, IsThread, AreHoldings, IsAlone, IsSle
 use Rattle.dos_world.specs.declared.ThreadState.TheVariants.{Ready}
 use Rattle.dos_world.proofs.Numbers.{changed_other}
 use Rattle.dos_laws.specs.Standing.{IsAwake, LawfulWith}
-use Rattle.dos_laws.specs.Ends.{ended_processes, closed}
+use Rattle.dos_laws.specs.Ends.{ended_processes, without_process}
 use Rattle.dos_laws.proofs.Numbers.{mapped_at}
 use Rattle.dos_laws.proofs.Parts.{part_all, part_length, part_any, part_sum}
 use Rattle.dos_laws.proofs.EndedProcesses.{statuses_new, ended_part, ended_length, others_live}
@@ -181,7 +181,7 @@ module _ (p status : ℕ) where
 
 module _ (w : World) (lawful : Lawful w) (p status : ℕ) (small : status < 256) where
   abbrev v : World
-  v = closed w p status
+  v = without_process w p status
 
   threads_new : (t : ℕ) → thread_at v t ≡ unless_of p (thread_at w t)
   threads_new t = mapped_at (unless_of p) refl w.threads t
@@ -294,11 +294,11 @@ module _ (w : World) (lawful : Lawful w) (p status : ℕ) (small : status < 256)
 pub stands-process_ended : (ts : List ℕ) (w : World) (p status : ℕ) → status < 256 → LawfulWith ts w
     → LawfulWith ts (process_ended w p status)
 stands-process_ended ts w p status h k =
-    stands-posted ts (tidied (closed w p status)) (parent_of w p) 17 (omega arith) (omega arith)
+    stands-posted ts (tidied (without_process w p status)) (parent_of w p) 17 (omega arith) (omega arith)
     (record {
       lawful = lawful-closed w k.lawful p status h;
       awake =
-          awake_by w (tidied (closed w p status)) ts (awake-closed w k.lawful p status h) k.awake;
+          awake_by w (tidied (without_process w p status)) ts (awake-closed w k.lawful p status h) k.awake;
       apart = k.apart;
     })
 

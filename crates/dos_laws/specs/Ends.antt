@@ -9,8 +9,8 @@ abbrev pub ended_processes : List Process → ℕ → ℕ → List Process
 ended_processes processes p status = map (orphaned p) (changed (ended_by status) processes p)
 
 -- the world without a process and its threads, whose frames it still owns
-abbrev pub closed : World → ℕ → ℕ → World
-closed w p status = record w {
+abbrev pub without_process : World → ℕ → ℕ → World
+without_process w p status = record w {
   processes = ended_processes w.processes p status;
   threads = map (unless_of p) w.threads;
   sleepers = filter (is_none_of_these (threads_of w p)) w.sleepers;

@@ -51,8 +51,8 @@ abbrev pub LawfulnessIsKept : Type 0
 LawfulnessIsKept = Keeps fit_protocol LawfulWith
 
 -- an instruction
-abbrev pub StepsKeep : Type 0
-StepsKeep = (w next : World) (t : ℕ) → step w t ≡ Ok next → Lawful w → Lawful next
+abbrev pub StepsKeepLawful : Type 0
+StepsKeepLawful = (w next : World) (t : ℕ) → step w t ≡ Ok next → Lawful w → Lawful next
 
 -- the parallel phase
 abbrev pub ParallelPhasesKeep : Type 0

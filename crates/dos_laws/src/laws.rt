@@ -4,7 +4,7 @@ ghost use Rattle.dos_laws.specs.Laws.{NewPagesAreZero};
 ghost use Rattle.dos_laws.specs.Laws.{NoPageIsLeft};
 ghost use Rattle.dos_laws.specs.Laws.{ParallelPhasesKeep, ProcessEndsKeep, RipeningKeeps};
 ghost use Rattle.dos_laws.specs.Laws.{RoundsKeep, SerialPhasesKeep, ServicesKeep, SignalPointsKeep};
-ghost use Rattle.dos_laws.specs.Laws.{StepsKeep, ThreadEndsKeep, ThreadsHaveProcesses};
+ghost use Rattle.dos_laws.specs.Laws.{StepsKeepLawful, ThreadEndsKeep, ThreadsHaveProcesses};
 
 // ---- what holds in a lawful world
 
@@ -38,7 +38,7 @@ pub fn lawfulness_is_kept()
 
 /// An instruction leaves every lawful world lawful.
 pub fn steps_keep()
-    ensures { StepsKeep }
+    ensures { StepsKeepLawful }
 {}
 
 /// The parallel phase leaves every lawful world lawful.

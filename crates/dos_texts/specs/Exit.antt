@@ -25,19 +25,19 @@ pub data Exit : Type 0 where
   by_sink : Exit
 
 -- an exit's status, and what its one line says
-pub record Row : Type 0 where
+pub record ExitRow : Type 0 where
   pub status : ℕ
   pub text : Option (List ℕ)
 
 -- no line
-abbrev pub silent : ℕ → Row
+abbrev pub silent : ℕ → ExitRow
 silent status = record { status = status; text = None }
 
 -- this text between `dos: ` and a line feed
-abbrev pub saying : ℕ → List ℕ → Row
+abbrev pub saying : ℕ → List ℕ → ExitRow
 saying status text = record { status = status; text = Some text }
 
-abbrev pub row : Exit → Row
+abbrev pub row : Exit → ExitRow
 row (by_ending Done) = silent 0
 row (by_message words_refused) = saying 2 (codes "words refused")
 row (by_message (image_too_long i)) = saying 3 (codes "image " ++ decimal i ++ codes " too long")

@@ -17,7 +17,7 @@ use Rattle.dos_words.specs.declared.request.Request.{Request}
 use Rattle.dos_words.specs.Numbers.{Text}
 use Rattle.dos_words.specs.Asked.{Values, run_asked, replay_asked, inspect_asked, gen_asked}
 use Rattle.dos_words.specs.Commands.{Command, run, replay, inspect, gen, command_named}
-use Rattle.dos_words.specs.Canonical.{Pairs, pairs_and_names, are_once, is_allowed, are_allowed}
+use Rattle.dos_words.specs.Canonical.{Pairs, pairs_and_names, are_once, is_option_allowed, are_allowed}
 use Rattle.dos_words.specs.Canonical.{values_in, canonical}
 use Rattle.dos_words.specs.Clap.{words_app, values_among, names_among, asked_by, where_taken}
 use Rattle.dos_words.specs.Clap.{clap_request}
@@ -197,7 +197,7 @@ behind_name : (command : Command) (shape : Shape) (words : List Text) (parts : P
     → length words ≤ usize_max
     → clap_request (command.name ∷ words) ≡ command.asked (values_in parts.0) parts.1
 behind_name command shape words parts b s allowed few =
-    let both = and_parts (are_once parts.0) (list_all (is_allowed command.options) parts.0)
+    let both = and_parts (are_once parts.0) (list_all (is_option_allowed command.options) parts.0)
     allowed in
     let are = options_are shape command.options parts.0 b.options both.1 s.values in
     let short : length parts.1 ≤ usize_max =

@@ -10,7 +10,7 @@ use Rattle.clap.specs.Lexer.{long_of}
 use Rattle.clap.specs.Walk.{Row, Rule, has_row, first_of, all_of, arg_by_long, arg_by_id}
 use Rattle.clap.specs.Simple.{Shape}
 use Rattle.dos_words.specs.Numbers.{Text}
-use Rattle.dos_words.specs.Canonical.{Pairs, dashed, value_in, are_once, is_allowed}
+use Rattle.dos_words.specs.Canonical.{Pairs, dashed, value_in, are_once, is_option_allowed}
 use Rattle.dos_words.proofs.Walks.{option_built, IsOption, IsOptionWord, row_of_pair, id_of}
 use Rattle.dos_words.proofs.Walks.{rows_of, AreOptions, AreFresh}
 use Rattle.dos_words.proofs.Levels.{names_rows}
@@ -84,11 +84,11 @@ word_by shape (id ∷ ids) word options e =
     go false is e later = later e
 
 pub options_are : (shape : Shape) (ids : List Text) (pairs : Pairs)
-    → AllByRecursion (IsOption shape) ids → list_all (is_allowed ids) pairs ≡ true
+    → AllByRecursion (IsOption shape) ids → list_all (is_option_allowed ids) pairs ≡ true
     → HavePlain pairs → AreOptions shape pairs
 options_are shape ids [] options allowed plain = tt
 options_are shape ids (pair ∷ pairs) options allowed plain =
-    let b = and_parts (is_allowed ids pair) (list_all (is_allowed ids) pairs) allowed in
+    let b = and_parts (is_option_allowed ids pair) (list_all (is_option_allowed ids) pairs) allowed in
     (word_by shape ids pair.0 options b.0, plain.0, options_are shape ids pairs options b.1 plain.1)
 
 -- ---- each once

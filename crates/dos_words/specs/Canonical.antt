@@ -48,12 +48,12 @@ are_once [] = true
 are_once (pair ∷ pairs) = not (is_some (value_in pairs pair.0)) && are_once pairs
 
 -- The pair's option is one of these.
-abbrev pub is_allowed : List Text → Text × Text → Bool
-is_allowed options pair = list_any (λ option. bytes_eq pair.0 (dashed option)) options
+abbrev pub is_option_allowed : List Text → Text × Text → Bool
+is_option_allowed options pair = list_any (λ option. bytes_eq pair.0 (dashed option)) options
 
 -- only these options, each at most once
 abbrev pub are_allowed : List Text → Pairs → Bool
-are_allowed options pairs = are_once pairs && list_all (is_allowed options) pairs
+are_allowed options pairs = are_once pairs && list_all (is_option_allowed options) pairs
 
 -- the option's value by its name
 abbrev pub values_in : Pairs → Values

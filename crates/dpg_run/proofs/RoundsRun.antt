@@ -27,7 +27,7 @@ use Rattle.kernel_calls.specs.declared.state.RunStop.{RunStop}
 use Rattle.kernel_calls.specs.declared.state.State.{State}
 use Rattle.group_rounds.specs.Plays.{GoesOn}
 use Rattle.group_rounds.specs.StatePlays.{Telling, told_at}
-use Rattle.group_rounds.specs.Outside.{is_end}
+use Rattle.group_rounds.specs.Outside.{is_end_question}
 use Rattle.group_rounds.specs.Rounds.{end_in, work_in}
 use Rattle.group_rounds.specs.declared.round.RoundEnd.{RoundEnd}
 use Rattle.group_rounds.specs.declared.round.RoundEnd.TheVariants.{Went, Done, Stalled}
@@ -403,11 +403,11 @@ none_left q rounds i start s before told work le some =
 
 -- by a stop before the end
 pub failed_before : (stop : RunStop) (asked : Option Question) (failed : Bool) → failed ≡ true
-    → OnSome (shim_stop stop) (is_end asked ≡ false) → failed ≡ has_failed (Err stop) asked
+    → OnSome (shim_stop stop) (is_end_question asked ≡ false) → failed ≡ has_failed (Err stop) asked
 failed_before stop asked failed is before = is ∙ go (shim_stop stop) before
   where
-    go : (o : Option ShimStop) → OnSome o (is_end asked ≡ false)
-        → true ≡ elim o as (λ _. Bool) [ None ↦ true | Some reason ↦ not (is_end asked) ]
+    go : (o : Option ShimStop) → OnSome o (is_end_question asked ≡ false)
+        → true ≡ elim o as (λ _. Bool) [ None ↦ true | Some reason ↦ not (is_end_question asked) ]
     go None h = refl
     go (Some reason) h = sym (ap not h)
 
@@ -418,5 +418,5 @@ pub stands_at_end : (stop : RunStop) (reason : ShimStop) (asked : Option Questio
 stands_at_end stop reason asked ending rounds failed is stopped at =
     is ∙ sym (ap (λ (o : Option ShimStop). elim o as (λ _. Bool) [
       | None ↦ true
-      | Some reason ↦ not (is_end asked)
-    ]) stopped ∙ ap (λ a. not (is_end a)) at)
+      | Some reason ↦ not (is_end_question asked)
+    ]) stopped ∙ ap (λ a. not (is_end_question a)) at)

@@ -22,7 +22,7 @@ use Rattle.kernel_calls.specs.declared.state.RunStop.{RunStop}
 use Rattle.kernel_calls.specs.declared.state.State.{State}
 use Rattle.group_rounds.specs.Plays.{GoesOn}
 use Rattle.group_rounds.specs.StatePlays.{Telling, ToldMore, told_at}
-use Rattle.group_rounds.specs.Outside.{HaveCauses, is_end}
+use Rattle.group_rounds.specs.Outside.{HaveCauses, is_end_question}
 use Rattle.group_rounds.specs.declared.round.RoundEnd.{RoundEnd}
 use Rattle.group_rounds.specs.declared.round.RoundEnd.TheVariants.{Went, Done, Stalled}
 use Rattle.dpg_run.specs.Fits.{FitsFrom}
@@ -116,7 +116,7 @@ pub record AreEnded (ending : Ending) (rounds : ℕ) (told : List Exchange) : Ty
 abbrev pub has_failed : Result Ending RunStop → Option Question → Bool
 has_failed (Ok ending) asked = false
 has_failed (Err stop) asked =
-    elim (shim_stop stop) [ None ↦ true | Some reason ↦ not (is_end asked) ]
+    elim (shim_stop stop) [ None ↦ true | Some reason ↦ not (is_end_question asked) ]
 
 -- What a whole run leaves, by how it ended: of the machine, of who failed, and of the kernel.
 pub record RunsGroup (config : Config) (result : Result Ending RunStop) (old : State)

@@ -5,7 +5,7 @@ use Rattle.elf_image.specs.declared.error.ImageError.{ImageError}
 use Rattle.elf_image.specs.declared.header.Header.{Header}
 use Rattle.elf_image.specs.declared.part.Part.{Part}
 use Rattle.elf_image.specs.Fields.{e_entry}
-use Rattle.elf_image.specs.Image.{Image, IsLoadable, IsSound, image, image_of, part_headers}
+use Rattle.elf_image.specs.Image.{Image, IsLoadable, IsSoundImage, image, image_of, part_headers}
 use Rattle.elf_image.specs.Image.{part_of, refusal}
 use Rattle.elf_image.proofs.SoundLaws.{loadable, sound}
 
@@ -36,9 +36,9 @@ image-made bytes entry parts hs none e h p =
 
 pub sound_made : (bytes : List ℕ) (entry : ℕ) (parts : List Part) (hs : List Header)
     → refusal bytes ≡ None → entry ≡ e_entry bytes → hs ≡ part_headers bytes
-    → parts ≡ map (part_of bytes) hs → IsSound (record { entry = entry; parts = parts })
+    → parts ≡ map (part_of bytes) hs → IsSoundImage (record { entry = entry; parts = parts })
 sound_made bytes entry parts hs none e h p =
-    subst IsSound (made_is bytes entry parts hs e h p) (sound bytes none)
+    subst IsSoundImage (made_is bytes entry parts hs e h p) (sound bytes none)
 
 pub loadable_of : (bytes : List ℕ) (hs : List Header) → refusal bytes ≡ None
     → hs ≡ part_headers bytes → All (IsLoadable (length bytes)) hs

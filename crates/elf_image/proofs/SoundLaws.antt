@@ -23,7 +23,7 @@ use Rattle.elf_image.specs.Image.{leaves_space, is_segment_bad, do_meet, holds_e
 use Rattle.elf_image.specs.Image.{IsLoadable, ◌when◌, ◌otherwise◌, format_refusal, machine_refusal}
 use Rattle.elf_image.specs.Image.{table_refusal, segment_error, segment_refusal, overlap_error}
 use Rattle.elf_image.specs.Image.{overlap_refusal, entry_refusal, part_headers, refusal, part_of}
-use Rattle.elf_image.specs.Image.{image_of, size_of, IsPlaced, IsApart, HoldsEntry, IsSound}
+use Rattle.elf_image.specs.Image.{image_of, size_of, IsPlaced, IsApart, HoldsEntry, IsSoundImage}
 use Rattle.elf_image.proofs.TableLaws.{length-headers}
 
 -- ---- what no refusal means
@@ -241,7 +241,7 @@ good_entry entry hs h =
           not-false _ good.1;
     }
 
-pub sound : (bytes : List ℕ) → refusal bytes ≡ None → IsSound (image_of bytes)
+pub sound : (bytes : List ℕ) → refusal bytes ≡ None → IsSoundImage (image_of bytes)
 unfolding image_of
 sound bytes h =
     let none = no_refusal bytes h in

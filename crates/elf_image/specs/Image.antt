@@ -213,7 +213,7 @@ pub record HoldsEntry (entry : ℕ) (part : Part) : Type 0 where
   pub below : entry < part.address + size_of part
 
 -- what the refusals 9 and 11 to 14 leave
-pub record IsSound (image : Image) : Type 0 where
+pub record IsSoundImage (image : Image) : Type 0 where
   pub few : length image.parts ≤ 64
   pub placed : All IsPlaced image.parts
   pub apart : AllPairs IsApart image.parts

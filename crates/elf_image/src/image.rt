@@ -18,7 +18,7 @@ pub struct Image {
 }
 
 impl Model for Image {
-    ghost use Rattle.elf_image.specs.Image.{Image, IsSound};
+    ghost use Rattle.elf_image.specs.Image.{Image, IsSoundImage};
 
     ghost Value = { Image };
 
@@ -28,12 +28,12 @@ impl Model for Image {
 }
 
 impl Image {
-    ghost use Rattle.elf_image.specs.Image.{IsSound};
+    ghost use Rattle.elf_image.specs.Image.{IsSoundImage};
 
     /// The address of the first instruction.
     pub fn entry(&self) -> u32
         ensures entry { result ≡ self.now.entry }
-        ensures sound { IsSound self.now }
+        ensures sound { IsSoundImage self.now }
     {
         self.entry
     }
@@ -41,7 +41,7 @@ impl Image {
     /// Its parts, in the order of the file's table.
     pub fn parts(&self) -> &[Part]
         ensures parts { result.now ≡ self.now.parts }
-        ensures sound { IsSound self.now }
+        ensures sound { IsSoundImage self.now }
     {
         self.parts.as_slice()
     }

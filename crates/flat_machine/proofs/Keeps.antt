@@ -18,7 +18,7 @@ use Rattle.dos_world.specs.declared.Reason.TheVariants.{Page, Fault, Service}
 use Rattle.std.proofs.lemmas.Bool.{cases_lt}
 use Rattle.rv_isa.specs.declared.Instr.{Instr}
 use Rattle.flat_machine.specs.Effect.{Effect, goes, loads, stores, claims, stops, effect}
-use Rattle.flat_machine.specs.Laws.{Keeps}
+use Rattle.flat_machine.specs.Laws.{LeavesOthers}
 use Rattle.flat_machine.specs.Step.{step, step_by, performed, reached, with_word, instruction_at}
 use Rattle.flat_machine.specs.Step.{◌>>=◌}
 
@@ -163,7 +163,7 @@ reached-at w t address size access place h = go (reach w t address size access) 
     go (at p) q = ap at cc
 
 with_word-keeps : (w : World) (t place : ℕ) (o : Option ℕ) → Own w t place 4
-    → Keeps t w (with_word w place o)
+    → LeavesOthers t w (with_word w place o)
 with_word-keeps w t place None own = record { owners = refl; bytes = λ i n. refl }
 with_word-keeps w t place (Some word) own =
     record {
@@ -176,17 +176,17 @@ Ok-is : {w w' : World} → ◌≡◌ {A = Result World Reason} (Ok w) (Ok w') �
 Ok-is h = cc
 
 -- Each kind of effect: only a store and a claim write.
-performed-keeps : (w w' : World) (t : ℕ) (e : Effect) → performed w t e ≡ Ok w' → Keeps t w w'
+performed-keeps : (w w' : World) (t : ℕ) (e : Effect) → performed w t e ≡ Ok w' → LeavesOthers t w w'
 performed-keeps w w' t (goes r) h =
-    subst (Keeps t w) (Ok-is h) (record { owners = refl; bytes = λ i n. refl })
+    subst (LeavesOthers t w) (Ok-is h) (record { owners = refl; bytes = λ i n. refl })
 performed-keeps w w' t (loads address size next) h =
     let r = bind_ok (reached w t address size Load) _ w' h in
-    subst (Keeps t w) (Ok-is r.2) (record { owners = refl; bytes = λ i n. refl })
+    subst (LeavesOthers t w) (Ok-is r.2) (record { owners = refl; bytes = λ i n. refl })
 performed-keeps w w' t (stores address size value regs) h =
     let r = bind_ok (reached w t address size Store) _ w' h in
     let own = reach-own w t address size Store store r.0
     (reached-at w t address size Store r.0 r.1) in
-    subst (Keeps t w) (Ok-is r.2)
+    subst (LeavesOthers t w) (Ok-is r.2)
     (record {
       owners = refl;
       bytes =
@@ -198,18 +198,18 @@ performed-keeps w w' t (claims address next new) h =
     let own = reach-own w t address Word Claim claim r.0
     (reached-at w t address Word Claim r.0 r.1) in
     let k = with_word-keeps w t r.0 (new (loaded w r.0 4)) own in
-    subst (Keeps t w) (Ok-is r.2) (record { owners = k.owners; bytes = k.bytes })
+    subst (LeavesOthers t w) (Ok-is r.2) (record { owners = k.owners; bytes = k.bytes })
 performed-keeps w w' t (stops reason) h = absurd (grind arith)
 
 -- An instruction of t leaves the owners, and each byte of a frame that isn't t's.
-pub step-keeps : (w w' : World) (t : ℕ) → step w t ≡ Ok w' → Keeps t w w'
+pub step-keeps : (w w' : World) (t : ℕ) → step w t ≡ Ok w' → LeavesOthers t w w'
 step-keeps w w' t h = by_thread (thread_at w t) h
   where
     by_instr : (r : Registers) (found : Option Instr × ℕ) (o : Option Instr)
         → (elim o as (λ _. Result World Reason) [
           | None ↦ Err (Fault 4)
           | Some instr ↦ performed w t (effect instr found.1 r)
-        ]) ≡ Ok w' → Keeps t w w'
+        ]) ≡ Ok w' → LeavesOthers t w w'
     by_instr r found None q = absurd (grind arith)
     by_instr r found (Some instr) q = performed-keeps w w' t (effect instr found.1 r) q
 
@@ -218,7 +218,7 @@ step-keeps w w' t h = by_thread (thread_at w t) h
           | None ↦ Err Service
           | Some thread ↦ instruction_at w t thread.registers.pc
               >>= step_by w t thread.registers
-        ]) ≡ Ok w' → Keeps t w w'
+        ]) ≡ Ok w' → LeavesOthers t w w'
     by_thread None q = absurd (grind arith)
     by_thread (Some thread) q =
         let r = bind_ok (instruction_at w t thread.registers.pc)

@@ -14,14 +14,14 @@ use Rattle.flat_machine.specs.Alone.{steps, alone}
 -- ---- one instruction
 
 -- t leaves the owners, and each byte of a frame that isn't t's
-pub record Keeps (t : ℕ) (old new : World) : Type 0 where
+pub record LeavesOthers (t : ℕ) (old new : World) : Type 0 where
   pub owners : new.owners ≡ old.owners
   pub bytes : (i : ℕ) → owner_of old (i / 4096) ≢ Of t
       → slice_index new.bytes i ≡ slice_index old.bytes i
 
 -- An instruction changes no owner, and no byte of a frame that isn't its thread's.
 abbrev pub StepsKeep : Type 0
-StepsKeep = (w w' : World) (t : ℕ) → step w t ≡ Ok w' → Keeps t w w'
+StepsKeep = (w w' : World) (t : ℕ) → step w t ≡ Ok w' → LeavesOthers t w w'
 
 -- t pays for these registers in this world
 abbrev pub pays : ℕ → Registers × World → Result World Reason

@@ -19,7 +19,7 @@ use Rattle.page_store.specs.Store.{Store, whole, shown, joined, with_home, with_
 use Rattle.page_store.proofs.Counts.{position-drop}
 use Rattle.page_store.proofs.Joined.{joined-set, home-at, zeros-shown}
 use Rattle.page_store.proofs.Pages.{length-whole}
-use Rattle.group_open.specs.Filling.{IsTaken, IsFilled, HasRoom, Takes}
+use Rattle.group_open.specs.Filling.{IsOwnedBySome, IsFilled, HasFrames, TakesFrame}
 use Rattle.group_open.proofs.Runs.{same_everywhere}
 
 some_same : (m n : ℕ) → Some m ≡ Some n → m ≡ n
@@ -30,7 +30,7 @@ some_same m n e = cc
 position_here : (rest : List Owner) → position is_free (Free ∷ rest) ≡ Some 0
 position_here rest = ap (λ t. cond t (Some 0) None) (lt-ltb 0 (suc (length rest)) (omega arith))
 
-position_behind : (owners : List Owner) (more n : ℕ) → All IsTaken owners → more ≡ suc n
+position_behind : (owners : List Owner) (more n : ℕ) → All IsOwnedBySome owners → more ≡ suc n
     → position is_free (owners ++ replicate more Free) ≡ Some (length owners)
 position_behind owners more n taken e =
     let free : List Owner = replicate more Free in
@@ -49,25 +49,25 @@ lowest_is s bytes owners f room = ap (position is_free) f.owners_are
     ∙ position_behind owners (length s.pages - length owners)
     (length s.pages - length owners - 1) f.taken (omega arith)
 
-pub has_lowest : (s : Store) → HasRoom s 1 → IsSome (position is_free s.owners)
+pub has_lowest : (s : Store) → HasFrames s 1 → IsSome (position is_free s.owners)
 has_lowest s h = subst IsSome (sym (lowest_is s h.bytes h.owners h.filled h.room)) refl
 
 -- ---- a frame that was taken
 
 -- it is one of those behind the ones that were taken
-next_is : (s : Store) (frame : ℕ) → (h : HasRoom s 1) → position is_free s.owners ≡ Some frame
+next_is : (s : Store) (frame : ℕ) → (h : HasFrames s 1) → position is_free s.owners ≡ Some frame
     → frame ≡ length h.owners
 next_is s frame h e =
     some_same frame (length h.owners) (sym e ∙ lowest_is s h.bytes h.owners h.filled h.room)
 
 -- its page is home
-pub taken_is_home : (s : Store) (frame : ℕ) → HasRoom s 1 → position is_free s.owners ≡ Some frame
+pub taken_is_home : (s : Store) (frame : ℕ) → HasFrames s 1 → position is_free s.owners ≡ Some frame
     → (page : List ℕ) × (slice_get s.pages frame ≡ Some (Some page))
 taken_is_home s frame h e =
     home-at s.pages frame h.filled.home (omega (arith, next_is s frame h e, h.room))
 
 -- and zero
-pub zero_shown : (page : List ℕ) (s : Store) (frame : ℕ) → HasRoom s 1
+pub zero_shown : (page : List ℕ) (s : Store) (frame : ℕ) → HasFrames s 1
     → position is_free s.owners ≡ Some frame → slice_get s.pages frame ≡ Some (Some page)
     → whole page ≡ zero_page
 zero_shown page s frame h e got =
@@ -157,8 +157,8 @@ module _ (s : Store) (t frame : ℕ) (page bytes : List ℕ) (owners : List Owne
           f.sized,
           length_push owners (Of t),
         );
-        taken = All-append IsTaken owners (Of t ∷ []) f.taken
-            (All-cons IsTaken (Of t) [] refl (All-nil IsTaken));
+        taken = All-append IsOwnedBySome owners (Of t ∷ []) f.taken
+            (All-cons IsOwnedBySome (Of t) [] refl (All-nil IsOwnedBySome));
         bytes_are = next_bytes n more ∙ ap (λ k. (bytes ++ whole page) ++ replicate (4096 * k) 0) e;
         owners_are = next_owners n more ∙ ap (λ k. (owners ++ Of t ∷ []) ++ replicate k Free) e;
         uses_are = next_uses n more
@@ -191,7 +191,7 @@ frame_is s frame bytes owners f e =
     (sym e ∙ lowest_is s bytes owners f (room_from_lowest s frame bytes owners f e))
 
 pub fill_next : (s new : Store) (t frame : ℕ) (shows bytes : List ℕ) (owners : List Owner)
-    → IsFilled s bytes owners → Takes s new t frame shows
+    → IsFilled s bytes owners → TakesFrame s new t frame shows
     → IsFilled new (bytes ++ shows) (owners ++ Of t ∷ [])
 fill_next s new t frame shows bytes owners f takes =
     let filled = next_filled s t frame takes.page bytes owners f
@@ -201,15 +201,15 @@ fill_next s new t frame shows bytes owners f takes =
     (subst (λ (b : List ℕ). IsFilled (with_home (with_owned s frame t) frame takes.page)
     (bytes ++ b) (owners ++ Of t ∷ [])) takes.shows filled)
 
-pub takes_count : (s new : Store) (t frame : ℕ) (shows : List ℕ) → Takes s new t frame shows
+pub takes_count : (s new : Store) (t frame : ℕ) (shows : List ℕ) → TakesFrame s new t frame shows
     → length new.pages ≡ length s.pages
 takes_count s new t frame shows takes = ap (λ (n : Store). length n.pages) takes.becomes
     ∙ length-set s.pages frame (Some takes.page)
 
 -- the taken frame, with the zero page that it has
-pub takes_zero : (s new : Store) (t frame : ℕ) → HasRoom s 1
+pub takes_zero : (s new : Store) (t frame : ℕ) → HasFrames s 1
     → position is_free s.owners ≡ Some frame → new ≡ with_owned s frame t
-    → Takes s new t frame zero_page
+    → TakesFrame s new t frame zero_page
 takes_zero s new t frame h e becomes =
     let home = taken_is_home s frame h e in
     record {

@@ -14,7 +14,7 @@ use Rattle.dos_world.specs.Numbered.{changed, changed_at, numbered, numbers_of}
 use Rattle.dos_world.specs.ProcessCalls.{are_processes_full}
 use Rattle.dos_world.specs.ThreadCalls.{ready_thread}
 use Rattle.elf_image.specs.Image.{Image}
-use Rattle.page_store.specs.Store.{Store, unused}
+use Rattle.page_store.specs.Store.{Store, unused_frames}
 use Rattle.dos_world.specs.World.{Holdings, all_holdings, holdings_of, live, on_holdings}
 use Rattle.dos_world.specs.DescriptorCalls.{with_end}
 use Rattle.dos_world.specs.declared.End.{End}
@@ -23,13 +23,13 @@ use Rattle.proc_table.specs.Tables.{process_added}
 use Rattle.flat_machine.specs.Opening.{image_bytes, needed, opening_descriptors, opening_process}
 use Rattle.flat_machine.specs.Opening.{opening_registers, opening_thread, owners_from, page_count}
 use Rattle.flat_machine.specs.Opening.{processes_from, space_from}
-use Rattle.group_open.specs.Filling.{HasPlace, HasRoom, IsFilled, IsTaken, OpensImage, with_more}
+use Rattle.group_open.specs.Filling.{HasPlace, HasFrames, IsFilled, IsOwnedBySome, OpensImage, with_entries_more}
 use Rattle.std.proofs.lemmas.List.{append-nil, append_assoc, flat_map_more}
 use Rattle.dos_world.specs.declared.Entry.{Entry}
 use Rattle.dos_world.specs.declared.Owner.{Owner}
 use Rattle.dos_world.specs.declared.Owner.TheVariants.{Free, Of}
 use Rattle.group_open.proofs.OpensLaws.{map_from_push}
-use Rattle.group_open.specs.Group.{FitsMore, IsOpened, with_first_ends, with_opened}
+use Rattle.group_open.specs.Group.{FitsMore, IsOpened, with_first_ends, with_process_opened}
 use Rattle.dos_laws.proofs.Ends.{length-map_from}
 use Rattle.group_open.proofs.OpeningLaws.{holdings_length, needed_more, owners_length}
 use Rattle.group_open.proofs.OpeningLaws.{places_at_most, processes_length}
@@ -152,7 +152,7 @@ module _ (count : ℕ) (s : Store) (t : Tables) (images : List Image) (image : I
       (lt-leb 64 _ (omega (arith, places_at_most 1 is_some t.threads, thread_count)))
       (lt-leb 65535 _ (omega (arith, thread_count))))
 
-  pub more_room : needed images + page_count image ≤ count → HasRoom s (page_count image)
+  pub more_room : needed images + page_count image ≤ count → HasFrames s (page_count image)
   more_room fits = record {
     bytes = flat_map image_bytes images;
     owners = owners_from 1 images;
@@ -161,7 +161,7 @@ module _ (count : ℕ) (s : Store) (t : Tables) (images : List Image) (image : I
   }
 
   pub opened_place : needed images + page_count image ≤ count
-      → HasPlace (with_opened t image) (length t.processes + 1) 0 (page_count image)
+      → HasPlace (with_process_opened t image) (length t.processes + 1) 0 (page_count image)
   opened_place fits = record {
     held = with_first_ends
         (record { actions = replicate 31 0; descriptors = replicate 32 None; space = [] });
@@ -175,7 +175,7 @@ module _ (count : ℕ) (s : Store) (t : Tables) (images : List Image) (image : I
   }
 
   next_processes : (entries : List (ℕ × Entry))
-      → (held_by (with_more entries) (with_opened t image) (length t.processes + 1)).processes
+      → (held_by (with_entries_more entries) (with_process_opened t image) (length t.processes + 1)).processes
       ≡ t.processes ++ record {
         parent = 0;
         life =
@@ -187,22 +187,22 @@ module _ (count : ℕ) (s : Store) (t : Tables) (images : List Image) (image : I
             });
       } ∷ []
   next_processes entries =
-      ap (λ ps. changed (on_holdings (with_more entries)) ps (length t.processes + 1))
+      ap (λ ps. changed (on_holdings (with_entries_more entries)) ps (length t.processes + 1))
       (changed_last (on_holdings with_first_ends) t.processes (new_process 0))
-      ∙ changed_last (on_holdings (with_more entries)) t.processes
+      ∙ changed_last (on_holdings (with_entries_more entries)) t.processes
       (on_holdings with_first_ends (new_process 0))
 
-  pub next_opened : (new : Store) (after u : Tables) (pid tid : ℕ) → after ≡ with_opened t image
+  pub next_opened : (new : Store) (after u : Tables) (pid tid : ℕ) → after ≡ with_process_opened t image
       → pid ≡ length t.processes + 1 → tid ≡ length t.threads + 1
       → OpensImage s new after u pid tid image → IsOpened count new u (images ++ image ∷ [])
   next_opened new after u pid tid after_is pid_is tid_is opens =
       let owners = owners_from 1 images in
       let first : length owners ≡ 0 + needed images = omega (arith, owners_length 1 images) in
       let maps = opens.maps (flat_map image_bytes images) owners o.filled in
-      let is : u ≡ held_by (with_more (space_from image (length owners))) (with_opened t image)
+      let is : u ≡ held_by (with_entries_more (space_from image (length owners))) (with_process_opened t image)
       (length t.processes + 1) =
-      maps ∙ ap (λ v. held_by (with_more (space_from image (length owners))) v pid) after_is
-      ∙ ap (held_by (with_more (space_from image (length owners))) (with_opened t image)) pid_is
+      maps ∙ ap (λ v. held_by (with_entries_more (space_from image (length owners))) v pid) after_is
+      ∙ ap (held_by (with_entries_more (space_from image (length owners))) (with_process_opened t image)) pid_is
       in
       let thread : tid ≡ 1 + length images = omega (arith, thread_count) in
       record {
@@ -228,20 +228,20 @@ module _ (count : ℕ) (s : Store) (t : Tables) (images : List Image) (image : I
 
 -- ---- from none on
 
-pub nothing_opened : (count : ℕ) (s : Store) (t : Tables) → s ≡ unused count → t ≡ no_tables count
+pub nothing_opened : (count : ℕ) (s : Store) (t : Tables) → s ≡ unused_frames count → t ≡ no_tables count
     → IsOpened count s t []
 nothing_opened count s t none no_process =
     let size : length (replicate count (Some zero_page)) ≡ count =
     length-replicate count (Some zero_page) in
     subst (λ (x : Store). IsOpened count x t []) (sym none)
-    (subst (λ (x : Tables). IsOpened count (unused count) x []) (sym no_process) (record {
+    (subst (λ (x : Tables). IsOpened count (unused_frames count) x []) (sym no_process) (record {
       count_is = size;
       room = refl;
       filled = record {
         home = All-replicate IsSome count (Some zero_page) refl;
         within = omega arith;
         sized = refl;
-        taken = All-nil IsTaken;
+        taken = All-nil IsOwnedBySome;
         bytes_are = joined-unused count ∙ ap (λ n. replicate (4096 * n) 0) (sym size ∙ omega arith);
         owners_are = ap (λ n. replicate n Free) (sym size ∙ omega arith);
         uses_are = ap (λ n. replicate n 0) (sym size ∙ omega arith);

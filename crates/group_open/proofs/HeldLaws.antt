@@ -12,7 +12,7 @@ use Rattle.dos_world.specs.World.{Holdings, Life, Process, holdings_of, live, en
 use Rattle.dos_world.specs.World.{look, on_holdings}
 use Rattle.dos_world.specs.Kernel.{put, with_entry}
 use Rattle.proc_table.specs.Tables.{Tables, held_by, held_in}
-use Rattle.group_open.specs.Filling.{HasPlace, with_more}
+use Rattle.group_open.specs.Filling.{HasPlace, with_entries_more}
 
 -- ---- one life, one process, one of a list
 
@@ -98,20 +98,20 @@ held_all P (Some h) all = all h
 
 -- ---- entries behind others
 
-more_none : (h : Holdings) → with_more [] h ≡ h
+more_none : (h : Holdings) → with_entries_more [] h ≡ h
 more_none h = ap (λ es. record h { space = es }) (append-nil h.space)
 
-pub opens_nothing : (t : Tables) (p : ℕ) → t ≡ held_by (with_more []) t p
-opens_nothing t p = sym (held_same (with_more []) (λ h. h) t p
-    (held_all (λ h. with_more [] h ≡ h) (held_in t.processes p) more_none) ∙ held_none t p)
+pub opens_nothing : (t : Tables) (p : ℕ) → t ≡ held_by (with_entries_more []) t p
+opens_nothing t p = sym (held_same (with_entries_more []) (λ h. h) t p
+    (held_all (λ h. with_entries_more [] h ≡ h) (held_in t.processes p) more_none) ∙ held_none t p)
 
 pub more_twice : (first second : List (ℕ × Entry)) (t : Tables) (p : ℕ)
-    → held_by (with_more second) (held_by (with_more first) t p) p
-    ≡ held_by (with_more (first ++ second)) t p
+    → held_by (with_entries_more second) (held_by (with_entries_more first) t p) p
+    ≡ held_by (with_entries_more (first ++ second)) t p
 more_twice first second t p =
-    held_twice (with_more second) (with_more first) t p
-    ∙ held_same (λ h. with_more second (with_more first h)) (with_more (first ++ second)) t p
-    (held_all (λ h. with_more second (with_more first h) ≡ with_more (first ++ second) h)
+    held_twice (with_entries_more second) (with_entries_more first) t p
+    ∙ held_same (λ h. with_entries_more second (with_entries_more first h)) (with_entries_more (first ++ second)) t p
+    (held_all (λ h. with_entries_more second (with_entries_more first h) ≡ with_entries_more (first ++ second) h)
     (held_in t.processes p)
     (λ h. ap (λ es. record h { space = es }) (append_assoc h.space first second)))
 
@@ -138,10 +138,10 @@ unmapped_above page (e ∷ space) below =
 -- ---- a place for pages
 
 pub entry_is_more : (t : Tables) (p page : ℕ) (entry : Entry) (more : ℕ) → HasPlace t p page more
-    → held_by (with_entry page entry) t p ≡ held_by (with_more ((page, entry) ∷ [])) t p
+    → held_by (with_entry page entry) t p ≡ held_by (with_entries_more ((page, entry) ∷ [])) t p
 entry_is_more t p page entry more h =
-    held_same (with_entry page entry) (with_more ((page, entry) ∷ [])) t p
-    (held_if (λ k. with_entry page entry k ≡ with_more ((page, entry) ∷ []) k) t p h.held h.is
+    held_same (with_entry page entry) (with_entries_more ((page, entry) ∷ [])) t p
+    (held_if (λ k. with_entry page entry k ≡ with_entries_more ((page, entry) ∷ []) k) t p h.held h.is
     (ap (λ es. record h.held { space = es })
     (put_last page entry h.held.space h.below)))
 
@@ -153,13 +153,13 @@ place_unmapped t p page more h =
 
 -- the place that is left behind these entries
 pub place_after : (t u : Tables) (p page above more left : ℕ) (entries : List (ℕ × Entry))
-    → HasPlace t p page more → u ≡ held_by (with_more entries) t p → All (λ e. e.0 < above) entries
+    → HasPlace t p page more → u ≡ held_by (with_entries_more entries) t p → All (λ e. e.0 < above) entries
     → page ≤ above → length entries + left ≤ more → HasPlace u p above left
 place_after t u p page above more left entries h e below le fits =
     let room = h.room in
     subst (λ (v : Tables). HasPlace v p above left) (sym e) (record {
-      held = with_more entries h.held;
-      is = held_after (with_more entries) t p h.held h.is;
+      held = with_entries_more entries h.held;
+      is = held_after (with_entries_more entries) t p h.held h.is;
       below = All-append (λ e. e.0 < above) h.held.space entries
           (All-weaker (λ e. e.0 < page) (λ e. e.0 < above)
           (λ e lt. omega arith) h.held.space h.below) below;

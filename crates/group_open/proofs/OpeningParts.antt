@@ -18,7 +18,7 @@ use Rattle.dos_world.specs.Lawful.{IsEnd}
 use Rattle.dos_world.specs.declared.Entry.{Entry}
 use Rattle.dos_world.specs.declared.End.TheVariants.{Input, Output, Error}
 use Rattle.elf_image.specs.declared.part.Part.{Part}
-use Rattle.elf_image.specs.Image.{Image, IsSound, IsPlaced, HoldsEntry, size_of}
+use Rattle.elf_image.specs.Image.{Image, IsSoundImage, IsPlaced, HoldsEntry, size_of}
 use Rattle.flat_machine.specs.Opening.{pages_touched, part_pages, stack_pages, page_count}
 use Rattle.flat_machine.specs.Opening.{part_entry}
 use Rattle.flat_machine.specs.Opening.{stack_entry, space_from, opening_descriptors}
@@ -51,7 +51,7 @@ touched_in part h =
     ((part.address + size_of part - 1) / 4096 + 1 - part.address / 4096)
     (λ k le lt. (omega arith, omega arith))
 
-pub pages_rise : (image : Image) → IsSound image → RisesWithin 1 0xEFFF0 (part_pages image)
+pub pages_rise : (image : Image) → IsSoundImage image → RisesWithin 1 0xEFFF0 (part_pages image)
 pages_rise image h =
     rising_rises 1 0xEFFF0 (flat_map pages_touched image.parts) (omega arith)
     (All-flat_map IsPartPage pages_touched image.parts
@@ -169,7 +169,7 @@ counts_run x image f = count_of_map (λ k. k == x) frame_of (space_from image f)
 
 -- ---- its thread
 
-entry_in : (image : Image) → IsSound image → IsWord image.entry
+entry_in : (image : Image) → IsSoundImage image → IsWord image.entry
 entry_in image h =
     let placed : IsPlaced h.held.1 =
     subst IsPlaced h.held.3 (h.placed h.held.0 h.held.1 h.held.2) in
@@ -181,7 +181,7 @@ words_in image = All-weaker (λ n. nat_lt n (2 ^ 32) ≡ true) IsWord (λ n e. l
     (opening_registers image).numbers
     (AllPass-from_list_all (λ n. nat_lt n (2 ^ 32)) (opening_registers image).numbers refl)
 
-registers_in : (image : Image) → IsSound image → AreRegisters (opening_registers image)
+registers_in : (image : Image) → IsSoundImage image → AreRegisters (opening_registers image)
 registers_in image h = record {
   pc = entry_in image h;
   count = refl;

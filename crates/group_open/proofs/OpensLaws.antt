@@ -15,8 +15,8 @@ use Rattle.dos_world.specs.declared.Owner.{Owner}
 use Rattle.dos_world.specs.declared.Owner.TheVariants.{Of}
 use Rattle.page_store.specs.Store.{Store}
 use Rattle.proc_table.specs.Tables.{Tables, held_by}
-use Rattle.group_open.specs.Filling.{HasPlace, HasRoom, IsFilled, Opens, OpensParts, OpensStack}
-use Rattle.group_open.specs.Filling.{Takes, with_more}
+use Rattle.group_open.specs.Filling.{HasPlace, HasFrames, IsFilled, Opens, OpensParts, OpensStack}
+use Rattle.group_open.specs.Filling.{TakesFrame, with_entries_more}
 use Rattle.group_open.proofs.FillingLaws.{fill_next, frame_is, takes_count}
 use Rattle.group_open.proofs.HeldLaws.{entry_is_more, more_twice, opens_nothing}
 
@@ -32,21 +32,21 @@ opens_none s t p entries bytes owners no_entry no_byte no_owner = record {
       (subst (λ (bs : List ℕ). IsFilled s bs (o ++ [])) (sym (append-nil b))
       (subst (λ (os : List Owner). IsFilled s b os) (sym (append-nil o)) f)));
   maps = λ b o f. opens_nothing t p
-      ∙ ap (λ es. held_by (with_more es) t p) (sym (no_entry (length o)));
+      ∙ ap (λ es. held_by (with_entries_more es) t p) (sym (no_entry (length o)));
 }
 
 -- one page: the entry of the frame that was taken
 pub opens_one : (s new : Store) (t u : Tables) (p tid page frame more : ℕ) (entry : Entry)
     (entries : ℕ → ℕ × Entry) (shows : List ℕ)
-    → Takes s new tid frame shows → HasPlace t p page more → u ≡ held_by (with_entry page entry) t p
+    → TakesFrame s new tid frame shows → HasPlace t p page more → u ≡ held_by (with_entry page entry) t p
     → entries frame ≡ (page, entry) → Opens s new t u p (λ n. entries n ∷ []) shows (Of tid ∷ [])
 opens_one s new t u p tid page frame more entry entries shows takes place put is = record {
   count = takes_count s new tid frame shows takes;
   fills = λ b o f. fill_next s new tid frame shows b o f takes;
   maps = λ b o f.
       put ∙ entry_is_more t p page entry more place
-      ∙ ap (λ e. held_by (with_more (e ∷ [])) t p) (sym is)
-      ∙ ap (λ n. held_by (with_more (entries n ∷ [])) t p) (frame_is s frame b o f takes.lowest);
+      ∙ ap (λ e. held_by (with_entries_more (e ∷ [])) t p) (sym is)
+      ∙ ap (λ n. held_by (with_entries_more (entries n ∷ [])) t p) (frame_is s frame b o f takes.lowest);
 }
 
 -- what was opened first and what was opened then, as one
@@ -65,9 +65,9 @@ opens_more s m new t u v p first second bytes later owners others a b = record {
       (b.fills (bs ++ bytes) (os ++ owners) (a.fills bs os f)));
   maps = λ bs os f.
       b.maps (bs ++ bytes) (os ++ owners) (a.fills bs os f)
-      ∙ ap (λ w. held_by (with_more (second (length (os ++ owners)))) w p) (a.maps bs os f)
+      ∙ ap (λ w. held_by (with_entries_more (second (length (os ++ owners)))) w p) (a.maps bs os f)
       ∙ more_twice (first (length os)) (second (length (os ++ owners))) t p
-      ∙ ap (λ n. held_by (with_more (first (length os) ++ second n)) t p) (length-append os owners);
+      ∙ ap (λ n. held_by (with_entries_more (first (length os) ++ second n)) t p) (length-append os owners);
 }
 
 -- the same under other names
@@ -83,13 +83,13 @@ opens_as s new t u p entries entries' bytes bytes' owners owners' same_entries s
           (subst (λ (xs : List Owner). IsFilled new (bs ++ bytes) (os ++ xs)) same_owners
           (o.fills bs os f));
       maps = λ bs os f. o.maps bs os f
-          ∙ ap (λ es. held_by (with_more es) t p) (same_entries (length os));
+          ∙ ap (λ es. held_by (with_entries_more es) t p) (same_entries (length os));
     }
 
 -- the room that is left
 pub room_after : (s new : Store) (t u : Tables) (p n left : ℕ) (entries : ℕ → List (ℕ × Entry))
-    (bytes : List ℕ) (owners : List Owner) → HasRoom s n
-    → Opens s new t u p entries bytes owners → length owners + left ≤ n → HasRoom new left
+    (bytes : List ℕ) (owners : List Owner) → HasFrames s n
+    → Opens s new t u p entries bytes owners → length owners + left ≤ n → HasFrames new left
 room_after s new t u p n left entries bytes owners h o fits =
     let room = h.room in
     record {
@@ -99,7 +99,7 @@ room_after s new t u p n left entries bytes owners h o fits =
       room = omega (arith, length-append h.owners owners, o.count);
     }
 
-pub less_room : (s : Store) (n less : ℕ) → HasRoom s n → less ≤ n → HasRoom s less
+pub less_room : (s : Store) (n less : ℕ) → HasFrames s n → less ≤ n → HasFrames s less
 less_room s n less h fits = let room = h.room in
     record { bytes = h.bytes; owners = h.owners; filled = h.filled; room = omega arith }
 

@@ -21,7 +21,7 @@ use Rattle.std.proofs.lemmas.List.Folds.{list_any_more, find-append}
 use Rattle.dos_world.specs.Numbered.{run_of}
 use Rattle.dos_world.specs.Bytes.{written}
 use Rattle.elf_image.specs.declared.part.Part.{Part}
-use Rattle.elf_image.specs.Image.{Image, IsSound, IsApart, size_of}
+use Rattle.elf_image.specs.Image.{Image, IsSoundImage, IsApart, size_of}
 use Rattle.flat_machine.specs.Opening.{pages_touched, with_number, rising, part_pages, touches}
 use Rattle.flat_machine.specs.Opening.{covers, part_byte, byte_at, page_bytes}
 use Rattle.group_open.specs.Pages.{lower_of, least_from, laid_over}
@@ -243,24 +243,24 @@ next_is image from o parts i same all e =
     e ∙ ap (λ ps. least_from from (flat_map pages_touched ps)) (take_all i parts all ∙ same)
     ∙ sym (least-rising from (flat_map pages_touched image.parts))
 
-pub next_within : (image : Image) (from : ℕ) (o : Option ℕ) → IsSound image
+pub next_within : (image : Image) (from : ℕ) (o : Option ℕ) → IsSoundImage image
     → o ≡ find (nat_le from) (part_pages image)
     → IfSome o (λ page. (from ≤ page) × (page < 0xEFFF0))
 next_within image from None h e = tt
 next_within image from (Some p) h e =
     found_within from 1 0xEFFF0 p (part_pages image) (pages_rise image h) (sym e)
 
-pub pages_more : (image : Image) (from p : ℕ) → IsSound image
+pub pages_more : (image : Image) (from p : ℕ) → IsSoundImage image
     → find (nat_le from) (part_pages image) ≡ Some p
     → pages_below image (p + 1) ≡ pages_below image from ++ p ∷ []
 pages_more image from p h e = below_more from 1 0xEFFF0 p (part_pages image) (pages_rise image h) e
 
-pub pages_all : (image : Image) (from : ℕ) → IsSound image
+pub pages_all : (image : Image) (from : ℕ) → IsSoundImage image
     → find (nat_le from) (part_pages image) ≡ None → pages_below image from ≡ part_pages image
 pages_all image from h e = below_all from 1 0xEFFF0 (part_pages image) (pages_rise image h) e
 
 -- a page that comes next is one more
-pub fewer_below : (image : Image) (from p : ℕ) → IsSound image
+pub fewer_below : (image : Image) (from p : ℕ) → IsSoundImage image
     → find (nat_le from) (part_pages image) ≡ Some p
     → length (pages_below image from) + 1 ≤ length (part_pages image)
 fewer_below image from p h e =

@@ -14,37 +14,37 @@ use Rattle.flat_machine.specs.Opening.{stack_entry}
 use Rattle.proc_table.specs.Tables.{Tables, held_by, held_in}
 
 -- whether an owner is some
-abbrev pub IsTaken : Owner → Type 0
-IsTaken owner = is_free owner ≡ false
+abbrev pub IsOwnedBySome : Owner → Type 0
+IsOwnedBySome owner = is_free owner ≡ false
 
 -- The first frames have these owners, one use each, and these bytes. The others are Free and zero.
 pub record IsFilled (s : Store) (bytes : List ℕ) (owners : List Owner) : Type 0 where
   pub home : All IsSome s.pages
   pub within : length owners ≤ length s.pages
   pub sized : length bytes ≡ 4096 * length owners
-  pub taken : All IsTaken owners
+  pub taken : All IsOwnedBySome owners
   pub bytes_are : joined s.pages ≡ bytes ++ replicate (4096 * (length s.pages - length owners)) 0
   pub owners_are : s.owners ≡ owners ++ replicate (length s.pages - length owners) Free
   pub uses_are : s.uses ≡ replicate (length owners) 1
       ++ replicate (length s.pages - length owners) 0
 
 -- so many frames more may be taken
-pub record HasRoom (s : Store) (more : ℕ) : Type 0 where
+pub record HasFrames (s : Store) (more : ℕ) : Type 0 where
   pub bytes : List ℕ
   pub owners : List Owner
   pub filled : IsFilled s bytes owners
   pub room : length owners + more ≤ length s.pages
 
 -- the lowest Free frame became t's, and its page shows these bytes
-pub record Takes (old new : Store) (t frame : ℕ) (bytes : List ℕ) : Type 0 where
+pub record TakesFrame (old new : Store) (t frame : ℕ) (bytes : List ℕ) : Type 0 where
   pub lowest : position is_free old.owners ≡ Some frame
   pub page : List ℕ
   pub shows : whole page ≡ bytes
   pub becomes : new ≡ with_home (with_owned old frame t) frame page
 
 -- what a process has, with these entries behind its others
-abbrev pub with_more : List (ℕ × Entry) → Holdings → Holdings
-with_more entries h = record h { space = h.space ++ entries }
+abbrev pub with_entries_more : List (ℕ × Entry) → Holdings → Holdings
+with_entries_more entries h = record h { space = h.space ++ entries }
 
 -- Frames were taken, with these bytes and owners; the process has the entries of the pages that
 -- they are, the first of them in the frame of the given number.
@@ -56,7 +56,7 @@ pub record Opens (old new : Store) (before after : Tables) (pid : ℕ) (entries 
       → IsFilled new (bytes_before ++ bytes) (owners_before ++ owners)
   pub maps : (bytes_before : List ℕ) (owners_before : List Owner)
       → IsFilled old bytes_before owners_before
-      → after ≡ held_by (with_more (entries (length owners_before))) before pid
+      → after ≡ held_by (with_entries_more (entries (length owners_before))) before pid
 
 -- the process lives, all its pages are below this one, and its space has room for so many more
 pub record HasPlace (t : Tables) (pid page more : ℕ) : Type 0 where

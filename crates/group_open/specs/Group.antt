@@ -17,8 +17,8 @@ abbrev pub with_first_ends : Holdings → Holdings
 with_first_ends h = record h { descriptors = opening_descriptors }
 
 -- with a process more that has no page yet, and its first thread
-abbrev pub with_opened : Tables → Image → Tables
-with_opened t image =
+abbrev pub with_process_opened : Tables → Image → Tables
+with_process_opened t image =
     held_by with_first_ends
     (process_added t (new_process 0)
     (ready_thread (length t.processes + 1) (opening_registers image) 0 []))

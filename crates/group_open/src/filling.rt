@@ -9,8 +9,8 @@ ghost use Rattle.page_store.specs.Store.{AreHome, with_home, with_owned, whole};
 ghost use Rattle.proc_table.specs.Tables.{IsProcess, held_in};
 ghost use Rattle.flat_machine.specs.Opening.{image_bytes, page_bytes, page_count, part_entry};
 ghost use Rattle.flat_machine.specs.Opening.{part_pages, space_from, stack_entry, stack_pages};
-ghost use Rattle.group_open.specs.Filling.{HasPlace, HasRoom, Opens, OpensImage, OpensParts};
-ghost use Rattle.group_open.specs.Filling.{OpensStack, Takes};
+ghost use Rattle.group_open.specs.Filling.{HasPlace, HasFrames, Opens, OpensImage, OpensParts};
+ghost use Rattle.group_open.specs.Filling.{OpensStack, TakesFrame};
 
 use crate::pages::{STACK_PAGES, entry_of, fill_page, next_page};
 use dos_world::{Entry, Owner};
@@ -32,7 +32,7 @@ pub(crate) struct Opened {
 
 // the lowest Free frame, whose page is zero, becomes the thread's
 fn take_frame(frames: &mut Frames, tid: u32) -> u32
-    requires { HasRoom frames.old 1 }
+    requires { HasFrames frames.old 1 }
     ensures lowest { position is_free frames.old.owners ≡ Some result }
     ensures becomes { frames.new ≡ with_owned frames.old result tid }
 {
@@ -44,9 +44,9 @@ fn take_frame(frames: &mut Frames, tid: u32) -> u32
 
 // the lowest Free frame becomes the thread's, with the bytes of a page of the image
 fn take_filled(frames: &mut Frames, tid: u32, image: &Image, page: u32) -> u32
-    requires room { HasRoom frames.old 1 }
+    requires room { HasFrames frames.old 1 }
     requires page { page < 0xF0000 }
-    ensures { Takes frames.old frames.new tid result (page_bytes image.now page) }
+    ensures { TakesFrame frames.old frames.new tid result (page_bytes image.now page) }
 {
     let frame = take_frame(frames, tid);
     fill_page(image, page, frames.lend_mut(frame));
@@ -55,7 +55,7 @@ fn take_filled(frames: &mut Frames, tid: u32, image: &Image, page: u32) -> u32
 
 // the next frame, with the image's bytes of a page, is mapped as that page
 fn open_page(frames: &mut Frames, table: &mut Table, opened: Opened, image: &Image, page: u32)
-    requires room { HasRoom frames.old 1 }
+    requires room { HasFrames frames.old 1 }
     requires place { HasPlace table.old opened.pid page 1 }
     requires page { page < 0xF0000 }
     ensures { Opens frames.old frames.new table.old table.new opened.pid
@@ -68,7 +68,7 @@ fn open_page(frames: &mut Frames, table: &mut Table, opened: Opened, image: &Ima
 
 // the next frame, of zeros, is mapped as a page of the stack
 fn open_stack_page(frames: &mut Frames, table: &mut Table, opened: Opened, page: u32)
-    requires room { HasRoom frames.old 1 }
+    requires room { HasFrames frames.old 1 }
     requires place { HasPlace table.old opened.pid page 1 }
     ensures { Opens frames.old frames.new table.old table.new opened.pid
         (λ n. stack_entry n page ∷ []) zero_page (Owner.Of opened.tid ∷ []) }
@@ -85,7 +85,7 @@ fn open_stack_page(frames: &mut Frames, table: &mut Table, opened: Opened, page:
 
 // each page that a part of the image touches, in rising order
 fn open_parts(frames: &mut Frames, table: &mut Table, opened: Opened, image: &Image)
-    requires room { HasRoom frames.old (length (part_pages image.now)) }
+    requires room { HasFrames frames.old (length (part_pages image.now)) }
     requires place { HasPlace table.old opened.pid 0 (length (part_pages image.now)) }
     ensures opens { OpensParts frames.old frames.new table.old table.new opened.pid opened.tid
         image.now (part_pages image.now) }
@@ -100,7 +100,7 @@ fn open_parts(frames: &mut Frames, table: &mut Table, opened: Opened, image: &Im
 
 // the pages of the stack
 fn open_stack(frames: &mut Frames, table: &mut Table, opened: Opened)
-    requires room { HasRoom frames.old 16 }
+    requires room { HasFrames frames.old 16 }
     requires place { HasPlace table.old opened.pid 0xEFFF0 16 }
     ensures { OpensStack frames.old frames.new table.old table.new opened.pid opened.tid
         stack_pages }
@@ -112,7 +112,7 @@ fn open_stack(frames: &mut Frames, table: &mut Table, opened: Opened)
 
 /// All pages of the image, the stack's last, each in the next frame, which becomes the thread's.
 pub(crate) fn open_pages(frames: &mut Frames, table: &mut Table, opened: Opened, image: &Image)
-    requires room { HasRoom frames.old (page_count image.now) }
+    requires room { HasFrames frames.old (page_count image.now) }
     requires place { HasPlace table.old opened.pid 0 (page_count image.now) }
     ensures { OpensImage frames.old frames.new table.old table.new opened.pid opened.tid image.now }
 {

@@ -4,9 +4,9 @@ ghost use Rattle.std.specs.Prelude.{◌≡◌, ◌+◌, ◌<◌, ◌≤◌, ◌�
 ghost use Rattle.std.specs.Prelude.{length, replicate, false};
 ghost use Rattle.dos_world.specs.ProcessCalls.{are_processes_full};
 ghost use Rattle.elf_image.specs.Image.{Image as FlatImage};
-ghost use Rattle.page_store.specs.Store.{unused};
+ghost use Rattle.page_store.specs.Store.{unused_frames};
 ghost use Rattle.proc_table.specs.Tables.{IsProcess, held_by, held_in, no_tables};
-ghost use Rattle.group_open.specs.Group.{FitsMore, IsOpened, with_first_ends, with_opened};
+ghost use Rattle.group_open.specs.Group.{FitsMore, IsOpened, with_first_ends, with_process_opened};
 ghost use Rattle.flat_machine.specs.Opening.{needed, opening_registers};
 
 use crate::filling::{Opened, open_pages};
@@ -46,7 +46,7 @@ fn open_process(table: &mut Table, image: &Image) -> Opened
     requires { are_processes_full table.old.processes table.old.threads ≡ false }
     ensures numbers { result
         ≡ record { pid = length table.old.processes + 1; tid = length table.old.threads + 1 } }
-    ensures opens { table.new ≡ with_opened table.old image.now }
+    ensures opens { table.new ≡ with_process_opened table.old image.now }
 {
     match table.add_process(0, first_regs(image), SignalState::new(0)) {
         Ok((pid, tid)) => {
@@ -69,7 +69,7 @@ fn open_image(frames: &mut Frames, table: &mut Table, image: &Image)
 
 /// All images, one after another.
 pub(crate) fn open_images(frames: &mut Frames, table: &mut Table, images: &[Image])
-    requires frames { frames.old ≡ unused table.old.room }
+    requires frames { frames.old ≡ unused_frames table.old.room }
     requires table { table.old ≡ no_tables table.old.room }
     requires few { length images.now ≤ 8 }
     requires fits { needed images.now ≤ table.old.room }

@@ -4,7 +4,7 @@ ghost use Rattle.std.specs.Prelude.{◌≡◌, ◌≢◌, ◌+◌, ◌-◌, ◌*
 ghost use Rattle.std.specs.Prelude.{IfSome, find, length, nat_le, slice_index};
 ghost use Rattle.dos_world.specs.Kernel.{zero_page};
 ghost use Rattle.dos_world.specs.Lawful.{IsByte};
-ghost use Rattle.elf_image.specs.Image.{IsPlaced, IsSound, size_of};
+ghost use Rattle.elf_image.specs.Image.{IsPlaced, IsSoundImage, size_of};
 ghost use Rattle.page_store.specs.Store.{whole};
 ghost use Rattle.flat_machine.specs.Opening.{needed, page_bytes, page_count, pages_touched};
 ghost use Rattle.flat_machine.specs.Opening.{part_entry, part_pages, touches};
@@ -94,7 +94,7 @@ fn lower_of(first: Option<u32>, second: Option<u32>) -> Option<u32>
 pub fn next_page(image: &Image, from: u32) -> Option<u32>
     ensures page { result ≡ find (nat_le from) (part_pages image.now) }
     ensures within { IfSome result (λ page. (from ≤ page) × (page < 0xEFFF0)) }
-    ensures sound { IsSound image.now }
+    ensures sound { IsSoundImage image.now }
 {
     let mut next = None;
     for part in image.parts() {

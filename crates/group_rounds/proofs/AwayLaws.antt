@@ -3,13 +3,13 @@ use Rattle.std.proofs.Common.{ℕ, ◌-◌, ◌≤◌, ◌≡◌, refl, sym, ap,
 use Rattle.dos_world.specs.declared.Config.{Config}
 use Rattle.page_store.specs.Store.{Store, IsAway}
 use Rattle.quantum_run.specs.Shows.{Pack, CanRun}
-use Rattle.proc_table.specs.Tables.{Tables, IsThread}
+use Rattle.proc_table.specs.Tables.{Tables, IsLiveThread}
 use Rattle.flat_machine.specs.Round.{all_alone, parallel, budgets as world_budgets}
 use Rattle.kernel_calls.specs.StateWorld.{sent, world_of}
 use Rattle.kernel_calls.specs.declared.state.State.{State}
-use Rattle.worker_pool.specs.Ran.{AllRan, AllCanRun, budgets}
+use Rattle.worker_pool.specs.Ran.{AllRan, AllCanRun, budgets_left}
 use Rattle.group_rounds.specs.Away.{Away, WentOut, IsHandedOut, HaveRun, IsParallelOf}
-use Rattle.group_rounds.specs.Handing.{In, all_pages, AreApart, AreOthers, AreSet, PutBack, view_of}
+use Rattle.group_rounds.specs.Handing.{In, all_pages, HaveNoFrameTwice, AreOthers, AreSet, PutBack, view_of}
 use Rattle.group_rounds.specs.Kernels.{Held, IsBetweenRounds}
 use Rattle.group_rounds.specs.Parts.{work_between}
 use Rattle.group_rounds.specs.Phases.{ready_in}
@@ -47,12 +47,12 @@ module _ (before : State) (a : Away) (out : WentOut before a) where
     are-away = pages-away before out.between.sound a.starters out.live out.apart new a.packs qs
         out.hands ran-before
 
-    pub are-apart : AreApart (all_pages qs)
+    pub are-apart : HaveNoFrameTwice (all_pages qs)
     are-apart = pages-apart before out.between.sound a.starters out.live out.apart new a.packs qs
         out.hands ran-before
 
-    pub are-live : (q : Pack) → In qs q → IsThread a.state.table.threads q.thread
-    are-live q k = subst (λ (table : Tables). IsThread table.threads q.thread) (sym out.table)
+    pub are-live : (q : Pack) → In qs q → IsLiveThread a.state.table.threads q.thread
+    are-live q k = subst (λ (table : Tables). IsLiveThread table.threads q.thread) (sym out.table)
         (threads-live before out.between.sound a.starters out.live out.apart new a.packs qs
         out.hands ran-before q k)
 
@@ -77,7 +77,7 @@ module _ (before : State) (a : Away) (out : WentOut before a) where
           out.hands ran-before s2 put set-before (round ∙ out.round) (pipes ∙ out.pipes)
           (futexes ∙ out.futexes)
 
-      pub work-all : budgets a.packs - budgets qs ≡ work_between before s2 a.starters
+      pub work-all : budgets_left a.packs - budgets_left qs ≡ work_between before s2 a.starters
       work-all = work-is before out.between.sound a.starters out.live out.apart new a.packs qs
           out.hands ran-before s2 set-before
 
@@ -99,7 +99,7 @@ pub is-parallel : (k : Held) (a ran : Away) → IsHandedOut k a → HaveRun a ra
     → PutBack (all_pages ran.packs) ran.state.frames s2.frames
     → AreSet ran.packs ran.state.table s2.table → s2.round ≡ ran.state.round
     → s2.pipes ≡ ran.state.pipes → s2.futexes ≡ ran.state.futexes
-    → IsParallelOf k (budgets a.packs - budgets ran.packs)
+    → IsParallelOf k (budgets_left a.packs - budgets_left ran.packs)
     (record { state = s2; config = ran.config; starters = ran.starters; failed = false })
 is-parallel k a ran out have s2 put set round pipes futexes =
     let same : ran.state ≡ a.state = ap (λ (x : Away). x.state) have.rest in

@@ -10,10 +10,10 @@ use Rattle.dos_world.proofs.Numbers.{changed_other, length-changed}
 use Rattle.flat_machine.specs.Laws.{kept}
 use Rattle.page_store.specs.Store.{Store, whole, IsAway, with_home}
 use Rattle.flat_machine.specs.Laws.{without_run}
-use Rattle.quantum_run.specs.Packs.{with_page}
+use Rattle.quantum_run.specs.Packs.{with_own_page}
 use Rattle.quantum_run.specs.Shows.{Pack}
-use Rattle.proc_table.specs.Tables.{Tables, thread_in, thread_by, ran, IsThread}
-use Rattle.group_rounds.specs.Handing.{In, all_pages, AreApart, AreOthers, PutBack, AreSet}
+use Rattle.proc_table.specs.Tables.{Tables, thread_in, thread_by, ran, IsLiveThread}
+use Rattle.group_rounds.specs.Handing.{In, all_pages, HaveNoFrameTwice, AreOthers, PutBack, AreSet}
 use Rattle.group_rounds.proofs.ThreadRunLaws.{thread_in-by, some_of}
 
 -- ---- lists
@@ -44,16 +44,16 @@ in-either (y ∷ xs) ys x (inr h) = go (in-either xs ys x h)
     go (inl q) = inl (inr q)
     go (inr q) = inr q
 
-pub apart-right : (xs ys : List (ℕ × List ℕ)) → AreApart (xs ++ ys) → AreApart ys
+pub apart-right : (xs ys : List (ℕ × List ℕ)) → HaveNoFrameTwice (xs ++ ys) → HaveNoFrameTwice ys
 apart-right [] ys h = h
 apart-right (x ∷ xs) ys h = apart-right xs ys h.1
 
-pub apart-left : (xs ys : List (ℕ × List ℕ)) → AreApart (xs ++ ys) → AreApart xs
+pub apart-left : (xs ys : List (ℕ × List ℕ)) → HaveNoFrameTwice (xs ++ ys) → HaveNoFrameTwice xs
 apart-left [] ys h = tt
 apart-left (x ∷ xs) ys h = (λ page q. h.0 page (in-left xs ys (x.0, page) q), apart-left xs ys h.1)
 
 -- no frame on both sides
-pub apart-both : (xs ys : List (ℕ × List ℕ)) → AreApart (xs ++ ys) → (f : ℕ) (a b : List ℕ)
+pub apart-both : (xs ys : List (ℕ × List ℕ)) → HaveNoFrameTwice (xs ++ ys) → (f : ℕ) (a b : List ℕ)
     → In xs (f, a) → In ys (f, b) → ⊥
 apart-both [] ys h f a b p q = p
 apart-both (x ∷ xs) ys h f a b (inl e) q = let same : x.0 ≡ f = ap (λ y. y.0) e in
@@ -168,15 +168,15 @@ putting-begins pack frames =
     }
 
 module _ (pack₀ pack pack' : Pack) (frames₀ frames : Store) (f : ℕ) (page : List ℕ)
-    (p : Putting pack₀ frames₀ pack frames) (took : pack ≡ with_page pack' f page)
+    (p : Putting pack₀ frames₀ pack frames) (took : pack ≡ with_own_page pack' f page)
     (away : (f : ℕ) (page : List ℕ) → In pack₀.pages (f, page) → IsAway frames₀ f)
-    (apart : AreApart pack₀.pages) where
+    (apart : HaveNoFrameTwice pack₀.pages) where
   pages-are : pack₀.pages ≡ pack'.pages ++ (f, whole page) ∷ p.done
   pages-are = ap (λ (x : Pack). x.pages) p.is ∙ ap (λ (x : Pack). x.pages ++ p.done) took
       ∙ append_assoc pack'.pages ((f, whole page) ∷ []) p.done
 
-  one-apart : AreApart ((f, whole page) ∷ p.done)
-  one-apart = apart-right pack'.pages ((f, whole page) ∷ p.done) (subst AreApart pages-are apart)
+  one-apart : HaveNoFrameTwice ((f, whole page) ∷ p.done)
+  one-apart = apart-right pack'.pages ((f, whole page) ∷ p.done) (subst HaveNoFrameTwice pages-are apart)
 
   pub put-away : IsAway frames f
   put-away = still-away p.done frames₀ frames f p.put one-apart.0
@@ -202,7 +202,7 @@ module _ (pack₀ pack pack' : Pack) (frames₀ frames : Store) (f : ℕ) (page 
 
 -- ---- threads
 
-pub set-one : (t : Tables) (p : Pack) → IsThread t.threads p.thread
+pub set-one : (t : Tables) (p : Pack) → IsLiveThread t.threads p.thread
     → AreSet (p ∷ []) t (thread_by (ran p.registers p.budget) t p.thread)
 set-one t p live = record {
   processes = refl;
@@ -282,7 +282,7 @@ set-then p ps old mid new first then out = record {
 
 -- a thread that lives lives on where others are set
 pub set-lives : (ps : List Pack) (old new : Tables) (s : ℕ) → AreSet ps old new
-    → IsThread old.threads s → IsThread new.threads s
+    → IsLiveThread old.threads s → IsLiveThread new.threads s
 set-lives ps old new s a live =
     by (thread_in new.threads s) (thread_in old.threads s) (a.same s) live
   where
@@ -304,19 +304,19 @@ pub record Taking (packs₀ : List Pack) (frames₀ : Store) (table₀ : Tables)
 module _ (packs₀ packs rest : List Pack) (frames₀ frames : Store) (table₀ table : Tables) (p : Pack)
     (k : Taking packs₀ frames₀ table₀ packs frames table) (popped : packs ≡ rest ++ p ∷ [])
     (away : (f : ℕ) (page : List ℕ) → In (all_pages packs₀) (f, page) → IsAway frames₀ f)
-    (apart : AreApart (all_pages packs₀)) (live : (q : Pack) → In packs₀ q
-    → IsThread table₀.threads q.thread) (others : AreOthers packs₀) where
+    (apart : HaveNoFrameTwice (all_pages packs₀)) (live : (q : Pack) → In packs₀ q
+    → IsLiveThread table₀.threads q.thread) (others : AreOthers packs₀) where
   pub packs-are : packs₀ ≡ rest ++ p ∷ k.done
   packs-are = k.is ∙ ap (λ ps. ps ++ k.done) popped ∙ append_assoc rest (p ∷ []) k.done
 
   pages-are-all : all_pages packs₀ ≡ all_pages rest ++ (p.pages ++ all_pages k.done)
   pages-are-all = ap all_pages packs-are ∙ pages-append rest (p ∷ k.done)
 
-  apart-here : AreApart (p.pages ++ all_pages k.done)
+  apart-here : HaveNoFrameTwice (p.pages ++ all_pages k.done)
   apart-here = apart-right (all_pages rest) (p.pages ++ all_pages k.done)
-      (subst AreApart pages-are-all apart)
+      (subst HaveNoFrameTwice pages-are-all apart)
 
-  pub take-apart : AreApart p.pages
+  pub take-apart : HaveNoFrameTwice p.pages
   take-apart = apart-left p.pages (all_pages k.done) apart-here
 
   pub take-away : (f : ℕ) (page : List ℕ) → In p.pages (f, page) → IsAway frames f
@@ -327,7 +327,7 @@ module _ (packs₀ packs rest : List Pack) (frames₀ frames : Store) (table₀ 
       (in-right (all_pages rest) (p.pages ++ all_pages k.done) (f, page)
       (in-left p.pages (all_pages k.done) (f, page) h))))
 
-  pub take-live : IsThread table.threads p.thread
+  pub take-live : IsLiveThread table.threads p.thread
   take-live = set-lives k.done table₀ table p.thread k.set
       (live p (subst (λ ps. In ps p) (sym packs-are) (in-right rest (p ∷ k.done) p (inl refl))))
 

@@ -9,7 +9,7 @@ use Rattle.dos_world.specs.declared.Owner.TheVariants.{Free, Of}
 use Rattle.page_store.specs.Store.{Store, whole, shown, owner_at, with_away}
 use Rattle.dos_world.specs.World.{is_free}
 use Rattle.page_store.proofs.Joined.{home-at}
-use Rattle.quantum_run.specs.Packs.{bytes_at, HoldsNo, with_page}
+use Rattle.quantum_run.specs.Packs.{bytes_of_frame, HoldsNo, with_own_page}
 use Rattle.quantum_run.specs.Shows.{Pack}
 use Rattle.group_rounds.specs.Handing.{AreOnce, AreBegun, IsFor, GoesOut, Stays, HasBelow, Handing}
 use Rattle.group_rounds.proofs.HandingLaws.{beside}
@@ -81,13 +81,13 @@ below-stays t old n begun p none h = record {
 }
   where
     by : (frame : ℕ) → frame < n + 1 → owner_at old frame ≡ Of t → (frame ≡ n) ⊎ (frame ≢ n)
-        → (j : ℕ) × (slice_get p.pages j ≡ Some (frame, bytes_at old.pages frame))
+        → (j : ℕ) × (slice_get p.pages j ≡ Some (frame, bytes_of_frame old.pages frame))
     by frame low mine (inl same) = absurd (none (ap (owner_at old) (sym same) ∙ mine))
     by frame low mine (inr other) = h.all frame (omega (arith, low, other)) mine
 
 pub below-takes : (t : ℕ) (old : Store) (n : ℕ) (begun p : Pack) (page : List ℕ)
     → owner_at old n ≡ Of t → slice_get old.pages n ≡ Some (Some page) → HasBelow t old n begun p
-    → HasBelow t old (n + 1) begun (with_page p n page)
+    → HasBelow t old (n + 1) begun (with_own_page p n page)
 below-takes t old n begun p page mine home h = record {
   is = ap (λ (x : Pack). record x { pages = p.pages ++ (n, whole page) ∷ [] }) h.is;
   owner = λ j frame bytes at.
@@ -98,31 +98,31 @@ below-takes t old n begun p page mine home h = record {
       (either-of p.pages (n, whole page) k (frame, b) other);
 }
   where
-    bytes-are : bytes_at old.pages n ≡ whole page
+    bytes-are : bytes_of_frame old.pages n ≡ whole page
     bytes-are = ap (λ o. elim o as (λ _. List ℕ) [ None ↦ shown None | Some x ↦ shown x ]) home
 
     owner_by : (j frame : ℕ) (bytes : List ℕ) → (slice_get p.pages j ≡ Some (frame, bytes))
         ⊎ ((j ≡ length p.pages) × (◌≡◌ {A = ℕ × List ℕ} (frame, bytes) (n, whole page)))
-        → (owner_at old frame ≡ Of t) × (frame < n + 1) × (bytes ≡ bytes_at old.pages frame)
+        → (owner_at old frame ≡ Of t) × (frame < n + 1) × (bytes ≡ bytes_of_frame old.pages frame)
     owner_by j frame bytes (inl at) = let r = h.owner j frame bytes at in let low = r.1 in
         (r.0, omega (arith, low), r.2)
     owner_by j frame bytes (inr q) = let same = page-is q.1 in let eq = same.0 in (
       ap (owner_at old) eq ∙ mine,
       omega (arith, eq),
       same.1 ∙ sym bytes-are
-          ∙ ap (bytes_at old.pages) (sym eq),
+          ∙ ap (bytes_of_frame old.pages) (sym eq),
     )
 
     all_by : (frame : ℕ) → frame < n + 1 → owner_at old frame ≡ Of t → (frame ≡ n) ⊎ (frame ≢ n)
         → (j : ℕ) × (slice_get (p.pages ++ (n, whole page) ∷ []) j
-        ≡ Some (frame, bytes_at old.pages frame))
+        ≡ Some (frame, bytes_of_frame old.pages frame))
     all_by frame low own (inl same) = (
       length p.pages,
       last-of p.pages (n, whole page) ∙ ap (λ x. Some (n, x)) (sym bytes-are)
-          ∙ ap (λ f. Some (f, bytes_at old.pages f)) (sym same),
+          ∙ ap (λ f. Some (f, bytes_of_frame old.pages f)) (sym same),
     )
     all_by frame low own (inr other) = let r = h.all frame (omega (arith, low, other)) own in
-        (r.0, first-of p.pages (n, whole page) r.0 (frame, bytes_at old.pages frame) r.1)
+        (r.0, first-of p.pages (n, whole page) r.0 (frame, bytes_of_frame old.pages frame) r.1)
 
     apart_by : (j k frame : ℕ) (a b : List ℕ) → (slice_get p.pages j ≡ Some (frame, a))
         ⊎ ((j ≡ length p.pages) × (◌≡◌ {A = ℕ × List ℕ} (frame, a) (n, whole page)))
@@ -232,7 +232,7 @@ module _ (ts : List ℕ) (begun : List Pack) (old : Store) (apart : AreOnce ts)
           owners = h.owners;
           uses = h.uses;
           count = length-set new.pages n None ∙ h.count;
-          level = length-set packs g.place (with_page g.pack n g.page) ∙ h.level;
+          level = length-set packs g.place (with_own_page g.pack n g.page) ∙ h.level;
           away = λ frame place t below is. away_by frame place t below is (cases_eq frame n);
           home = λ frame q. put-other new.pages n None frame (not_this frame q)
               ∙ h.home frame (home_of frame q);
@@ -265,14 +265,14 @@ module _ (ts : List ℕ) (begun : List Pack) (old : Store) (apart : AreOnce ts)
         home_of frame (inr out) = inr out
 
         each_by : (i t : ℕ) (p : Pack) → slice_get ts i ≡ Some t
-            → slice_get (slice_set packs g.place (with_page g.pack n g.page)) i ≡ Some p
+            → slice_get (slice_set packs g.place (with_own_page g.pack n g.page)) i ≡ Some p
             → (i ≡ g.place) ⊎ (i ≢ g.place) → (b : Pack) × (slice_get begun i ≡ Some b)
             × HasBelow t old (n + 1) b p
         each_by i t p at here (inl same) =
-            let is : p ≡ with_page g.pack n g.page =
+            let is : p ≡ with_own_page g.pack n g.page =
             pack-is (sym here
-            ∙ ap (slice_get (slice_set packs g.place (with_page g.pack n g.page))) same
-            ∙ put-there packs g.place (with_page g.pack n g.page) g.pack g.found) in
+            ∙ ap (slice_get (slice_set packs g.place (with_own_page g.pack n g.page))) same
+            ∙ put-there packs g.place (with_own_page g.pack n g.page) g.pack g.found) in
             let thread : t ≡ g.thread = number-is (sym at ∙ ap (slice_get ts) same ∙ g.for.0) in
             let has = h.each i t g.pack at (ap (slice_get packs) same ∙ g.found) in (
               has.0,
@@ -283,7 +283,7 @@ module _ (ts : List ℕ) (begun : List Pack) (old : Store) (apart : AreOnce ts)
             )
         each_by i t p at here (inr other) =
             let has = h.each i t p
-            at (sym (put-other packs g.place (with_page g.pack n g.page) i other) ∙ here) in (
+            at (sym (put-other packs g.place (with_own_page g.pack n g.page) i other) ∙ here) in (
               has.0,
               has.1,
               below-stays t old n has.0 p

@@ -17,11 +17,11 @@ use Rattle.quantum_run.specs.Shows.{Pack, Shows}
 use Rattle.flat_machine.specs.Round.{all_alone}
 use Rattle.round_core.proofs.Commute.{Among}
 use Rattle.round_core.proofs.Bringing.{DifferIn, decide-owner}
-use Rattle.proc_table.specs.Tables.{thread_in, IsThread}
+use Rattle.proc_table.specs.Tables.{thread_in, IsLiveThread}
 use Rattle.kernel_calls.specs.StateWorld.{IsSound, sent, world_of}
 use Rattle.kernel_objects.specs.Pipework.{Pipework}
 use Rattle.kernel_calls.specs.declared.state.State.{State}
-use Rattle.group_rounds.specs.Handing.{AreOnce, In, all_pages, AreApart, AreOthers, IsFor, Handing}
+use Rattle.group_rounds.specs.Handing.{AreOnce, In, all_pages, HaveNoFrameTwice, AreOthers, IsFor, Handing}
 use Rattle.group_rounds.specs.Handing.{PutBack}
 use Rattle.group_rounds.specs.Handing.{AreSet, pack_of, view_of}
 use Rattle.group_rounds.specs.Phases.{AreLive}
@@ -69,7 +69,7 @@ pages-in (r ∷ qs) q x (inr h) k = in-right r.pages (all_pages qs) x (pages-in 
 
 apart-list : (xs : List (ℕ × List ℕ))
     → ((j k f : ℕ) (a b : List ℕ) → slice_get xs j ≡ Some (f, a) → slice_get xs k ≡ Some (f, b)
-    → j ≡ k) → AreApart xs
+    → j ≡ k) → HaveNoFrameTwice xs
 apart-list [] h = tt
 apart-list (x ∷ xs) h = (
   λ page q. let at = in-at xs (x.0, page) q in let same : suc at.0 ≡ 0 =
@@ -78,8 +78,8 @@ apart-list (x ∷ xs) h = (
       omega (arith, same)),
 )
 
-apart-append : (xs ys : List (ℕ × List ℕ)) → AreApart xs → AreApart ys
-    → ((f : ℕ) (a b : List ℕ) → In xs (f, a) → In ys (f, b) → ⊥) → AreApart (xs ++ ys)
+apart-append : (xs ys : List (ℕ × List ℕ)) → HaveNoFrameTwice xs → HaveNoFrameTwice ys
+    → ((f : ℕ) (a b : List ℕ) → In xs (f, a) → In ys (f, b) → ⊥) → HaveNoFrameTwice (xs ++ ys)
 apart-append [] ys a b c = b
 apart-append (x ∷ xs) ys a b c = (
   λ page q. by page (in-either xs ys (x.0, page) q),
@@ -97,7 +97,7 @@ pub packs-apart : (Mine : ℕ → ℕ → Type 0) → ((f s t : ℕ) → Mine f 
     → ((q : Pack) → In qs q → (j k f : ℕ) (a b : List ℕ) → slice_get q.pages j ≡ Some (f, a)
     → slice_get q.pages k ≡ Some (f, b) → j ≡ k)
     → ((q : Pack) (f : ℕ) (page : List ℕ) → In qs q → In q.pages (f, page) → Mine f q.thread)
-    → AreApart (all_pages qs)
+    → HaveNoFrameTwice (all_pages qs)
 packs-apart Mine one [] others each mine = tt
 packs-apart Mine one (q ∷ qs) others each mine =
     apart-append q.pages (all_pages qs) (apart-list q.pages (each q (inl refl)))
@@ -208,7 +208,7 @@ module _ (s : State) (sound : IsSound s) (ts : List ℕ) (live : AreLive s.table
   others = others-of qs (λ i j p q a b e. let m = known i p a in let n = known j q b in
       apart i j m.thread m.starter (n.starter ∙ ap Some (sym n.is ∙ sym e ∙ m.is)))
 
-  pub pages-apart : AreApart (all_pages qs)
+  pub pages-apart : HaveNoFrameTwice (all_pages qs)
   pages-apart = packs-apart (λ f t. owner_at s.frames f ≡ Of t)
       (λ f a b x y. Of-is a b (sym x ∙ y)) qs others one (λ q f page k m. (mine q f page k m).0)
     where
@@ -230,11 +230,11 @@ module _ (s : State) (sound : IsSound s) (ts : List ℕ) (live : AreLive s.table
       let m = mine r.0 f page r.1 r.2 in
       h.away f m.1 r.0.thread (frame-low s sound ts live new ps h f r.0.thread m.0) m.2
 
-  pub threads-live : (q : Pack) → In qs q → IsThread s.table.threads q.thread
+  pub threads-live : (q : Pack) → In qs q → IsLiveThread s.table.threads q.thread
   threads-live q k =
       let i = in-at qs q k in
       let n = known i.0 q i.1 in
-      subst (IsThread s.table.threads) (sym n.is)
+      subst (IsLiveThread s.table.threads) (sym n.is)
       (lives s sound ts live new ps h i.0 n.thread n.starter)
 
   pub rooms : (q : Pack) → In qs q → q.room ≡ length s.frames.pages

@@ -13,9 +13,9 @@ use Rattle.flat_machine.specs.Laws.{kept}
 use Rattle.page_store.specs.Store.{Store, whole, shown, joined, owner_at}
 use Rattle.page_store.proofs.Joined.{home-at, length-joined, page_of-joined}
 use Rattle.page_store.proofs.Counts.{owned-within}
-use Rattle.quantum_run.specs.Packs.{bytes_at, empty_pack, space_in, with_thread_of}
+use Rattle.quantum_run.specs.Packs.{bytes_of_frame, empty_pack, space_held, with_thread_of}
 use Rattle.quantum_run.specs.Shows.{Pack, Shows, CanRun, frames_of}
-use Rattle.proc_table.specs.Tables.{Tables, held_in, thread_in, IsThread}
+use Rattle.proc_table.specs.Tables.{Tables, held_in, thread_in, IsLiveThread}
 use Rattle.kernel_calls.specs.StateWorld.{IsSound, sent, world_of}
 use Rattle.kernel_calls.specs.declared.state.State.{State}
 use Rattle.group_rounds.specs.Handing.{HasBelow, Handing, pack_of, view_of}
@@ -39,7 +39,7 @@ map-at {A} f (y ∷ xs) zero x h = ap (λ o. option_map f o) h
 map-at f (y ∷ xs) (suc i) x h = map-at f xs i x h
 
 space-shown : (ps : List Process) (p : ℕ) (h : Holdings) → held_in ps p ≡ Some h
-    → numbered (map space_in ps) p ≡ Some (Some h.space)
+    → numbered (map space_held ps) p ≡ Some (Some h.space)
 space-shown ps zero h q = cc
 space-shown [] (suc i) h q = cc
 space-shown (x ∷ ps) (suc zero) h q =
@@ -79,8 +79,8 @@ module _ (s : State) (sound : IsSound s) (ts : List ℕ) (live : AreLive s.table
     (new : Store) (packs : List Pack)
     (h : Handing ts (map (pack_of s.table (length s.frames.pages)) ts) s.frames new packs
     (length s.frames.pages)) where
-  abbrev pub lives : (i t : ℕ) → slice_get ts i ≡ Some t → IsThread s.table.threads t
-  lives i t at = let r = place-of ts i t 0 at in subst (IsThread s.table.threads) r.1 (live i 0 r.0)
+  abbrev pub lives : (i t : ℕ) → slice_get ts i ≡ Some t → IsLiveThread s.table.threads t
+  lives i t at = let r = place-of ts i t 0 at in subst (IsLiveThread s.table.threads) r.1 (live i 0 r.0)
 
   pub owner-new : (frame : ℕ) → slice_index_or new.owners frame Free ≡ owner_at s.frames frame
   owner-new frame = ap (λ (os : List Owner). slice_index_or os frame Free) h.owners
@@ -91,7 +91,7 @@ module _ (s : State) (sound : IsSound s) (ts : List ℕ) (live : AreLive s.table
 
   -- the bytes of a frame
   pub bytes-page : (frame : ℕ) → frame < length s.frames.pages
-      → bytes_at s.frames.pages frame ≡ page_of (joined s.frames.pages) frame
+      → bytes_of_frame s.frames.pages frame ≡ page_of (joined s.frames.pages) frame
   bytes-page frame low =
       let x = home-at s.frames.pages frame sound.counted.home.home low in
       ap (λ o. elim o as (λ _. List ℕ) [ None ↦ shown None | Some y ↦ shown y ]) x.1

@@ -8,7 +8,7 @@ use Rattle.flat_machine.specs.Laws.{kept}
 use Rattle.page_store.specs.Store.{Store}
 use Rattle.flat_machine.specs.Alone.{budget_of}
 use Rattle.quantum_run.specs.Shows.{Pack}
-use Rattle.worker_pool.specs.Ran.{AllRan, budgets}
+use Rattle.worker_pool.specs.Ran.{AllRan, budgets_left}
 use Rattle.kernel_calls.specs.StateWorld.{IsSound, world_of}
 use Rattle.kernel_calls.specs.declared.state.State.{State}
 use Rattle.group_rounds.specs.Handing.{AreOnce, AreSet, Handing, pack_of, view_of}
@@ -34,7 +34,7 @@ budget-is w t b r h = by (thread_at w t) h
 budgets-are : (s : State) (ts : List ℕ) (ps : List Pack) → length ps ≡ length ts
     → ((i t : ℕ) (p : Pack) → slice_get ts i ≡ Some t → slice_get ps i ≡ Some p
     → p.budget ≡ budget_in s t)
-    → budgets ps ≡ sum_by (budget_in s) ts
+    → budgets_left ps ≡ sum_by (budget_in s) ts
 budgets-are s [] [] level each = refl
 budgets-are s [] (p ∷ ps) level each = absurd (grind arith)
 budgets-are s (t ∷ ts) [] level each = absurd (grind arith)
@@ -49,7 +49,7 @@ module _ (s : State) (sound : IsSound s) (ts : List ℕ) (live : AreLive s.table
     (h : Handing ts (map (pack_of s.table (length s.frames.pages)) ts) s.frames new ps
     (length s.frames.pages)) (ran : AllRan (view_of new s.table) ps qs) where
   -- as they go out
-  out : budgets ps ≡ sum_by (budget_in s) ts
+  out : budgets_left ps ≡ sum_by (budget_in s) ts
   out = budgets-are s ts ps h.level (λ i t p at here.
       let begun = opened-is s sound ts live new ps h i t p at here in
       let sh = shows-it s sound ts live new ps h i t p at here 0 [] [] in
@@ -57,7 +57,7 @@ module _ (s : State) (sound : IsSound s) (ts : List ℕ) (live : AreLive s.table
       (budget-is (world_of 0 s) p.thread p.budget p.registers sh.thread))
 
   -- as they come back
-  back : (s2 : State) → AreSet qs s.table s2.table → budgets qs ≡ sum_by (budget_in s2) ts
+  back : (s2 : State) → AreSet qs s.table s2.table → budgets_left qs ≡ sum_by (budget_in s2) ts
   back s2 set = budgets-are s2 ts qs (ran.level ∙ h.level) (λ i t q at here.
       let n = known s sound ts live apart new ps qs h ran i q here in
       let thread : q.thread ≡ t = n.is ∙ number-is (sym n.starter ∙ at) in
@@ -69,5 +69,5 @@ module _ (s : State) (sound : IsSound s) (ts : List ℕ) (live : AreLive s.table
 
   -- what they have run is what their threads have
   pub work-is : (s2 : State) → AreSet qs s.table s2.table
-      → budgets ps - budgets qs ≡ work_between s s2 ts
+      → budgets_left ps - budgets_left qs ≡ work_between s s2 ts
   work-is s2 set = ap₂ (λ a b. a - b) out (back s2 set)

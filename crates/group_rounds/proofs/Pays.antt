@@ -32,13 +32,13 @@ use Rattle.round_core.proofs.Allowed.{Comes, over_allows, over_comes}
 use Rattle.round_core.proofs.Services.{IsSaid, Leaves, Said, Stands, service_left}
 use Rattle.proc_table.specs.Tables.{thread_in}
 use Rattle.group_rounds.specs.Plays.{GoesOn}
-use Rattle.group_rounds.specs.Outside.{is_end}
+use Rattle.group_rounds.specs.Outside.{is_end_question}
 use Rattle.group_rounds.proofs.ThreadRunLaws.{thread_in-by}
 
 -- any question but that of the run's end, and any answer
 abbrev pub asking : Protocol
 asking = record {
-  may = λ question output error. is_end (Some question) ≡ false;
+  may = λ question output error. is_end_question (Some question) ≡ false;
   answers = λ answer. ⊤;
   posts = λ post. ⊤;
   brings = λ answer is k d lt. tt;
@@ -176,10 +176,10 @@ pub no_end_over : {A : Type 0} (P : A → Type 0) (es : List Exchange) (play lef
 no_end_over P [] play left may h = tt
 no_end_over P (x ∷ es) (done a) left may h = absurd h
 no_end_over P (x ∷ es) (ask question output error next) left may h =
-    by_exchange x (ap (λ q. is_end (Some q)) (sym h.0) ∙ may.0)
+    by_exchange x (ap (λ q. is_end_question (Some q)) (sym h.0) ∙ may.0)
     (no_end_over P es (next (answer_of x)) left (may.1 (answer_of x) tt) h.1)
   where
-    by_exchange : (x : Exchange) → is_end (Some (question_of x)) ≡ false → HasNoEnd es
+    by_exchange : (x : Exchange) → is_end_question (Some (question_of x)) ≡ false → HasNoEnd es
         → HasNoEnd (x ∷ es)
     by_exchange (Signals round list) other rest = rest
     by_exchange (input_exchange round tid max bytes) other rest = rest
@@ -196,6 +196,6 @@ no_end-append (End ending rounds ∷ es) fs h k = absurd h
 -- and the question that it comes to isn't
 pub question_no_end : {A : Type 0} (P : A → Type 0) (given : List Answer) (play : Play A)
     (question : Question) (output error : List ℕ) → Allows asking P play
-    → over given play ≡ asks question output error → is_end (Some question) ≡ false
+    → over given play ≡ asks question output error → is_end_question (Some question) ≡ false
 question_no_end P given play question output error may e =
     subst (Comes asking P) e (over_comes asking P given play may (λ k d lt. tt))

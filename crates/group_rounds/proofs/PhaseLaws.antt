@@ -10,7 +10,7 @@ use Rattle.dos_laws.specs.Standing.{LawfulWith}
 use Rattle.dos_laws.proofs.StandsKeeps.{stands-budget}
 use Rattle.flat_machine.specs.Rest.{rest_of, rest_if_live, serial_of}
 use Rattle.flat_machine.specs.Round.{with_budgets}
-use Rattle.proc_table.specs.Tables.{Tables, IsThread, thread_by, thread_in, with_budget}
+use Rattle.proc_table.specs.Tables.{Tables, IsLiveThread, thread_by, thread_in, with_budget}
 use Rattle.dos_io.specs.Borders.{BorderState}
 use Rattle.kernel_calls.specs.StateWorld.{HaveParts, IsCounted, IsSound, sent, world_of}
 use Rattle.kernel_calls.specs.Plays.{PlaysOn, Stopper, StopsIn, stopper}
@@ -68,7 +68,7 @@ module _ (s : State) (table : Tables) (quantum t : ℕ)
 
   pub budget_live : (xs : List ℕ) → AreLive s.table.threads xs → AreLive table.threads xs
   budget_live xs live k d lt =
-      subst (λ (table : Tables). IsThread table.threads (get_or xs k d)) (sym set)
+      subst (λ (table : Tables). IsLiveThread table.threads (get_or xs k d)) (sym set)
       (lives_by (with_budget quantum) s.table.threads t (get_or xs k d) (live k d lt))
 
 -- ---- the serial phase

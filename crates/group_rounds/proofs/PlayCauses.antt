@@ -6,7 +6,7 @@ use Rattle.dos_world.specs.Play.{Play}
 use Rattle.dos_world.specs.declared.Question.{Question}
 use Rattle.dos_world.specs.declared.Question.TheVariants.{Signals, Input, Clock, End}
 use Rattle.dos_io.specs.Borders.{BorderState, BorderStands, ShimFails, SinkFails}
-use Rattle.dos_io.specs.Outside.{Rose, counted}
+use Rattle.dos_io.specs.Outside.{Rose, counted_to_limit}
 use Rattle.dos_io.specs.declared.border.Stream.TheVariants.{Output, Error}
 use Rattle.dos_io.specs.declared.shim.ShimStop.{ShimStop}
 use Rattle.kernel_calls.specs.Plays.{IsBeforeEnd, StopsAsking, Stopper, StopsIn, by_shim, by_sink}
@@ -16,7 +16,7 @@ use Rattle.kernel_calls.specs.declared.state.RunStop.{RunStop}
 use Rattle.kernel_calls.specs.declared.state.RunStop.TheVariants.{HostFault, LogFull, Misfit}
 use Rattle.kernel_calls.specs.declared.state.RunStop.TheVariants.{OutFault, ErrFault, Memory}
 use Rattle.kernel_calls.specs.declared.state.State.{State}
-use Rattle.group_rounds.specs.Outside.{HaveCauses, is_end}
+use Rattle.group_rounds.specs.Outside.{HaveCauses, is_end_question}
 
 no_less : (n m : ℕ) → m ≡ n → n ≤ m
 no_less n m is = subst (λ k. n ≤ k) (sym is) (le_refl n)
@@ -35,7 +35,7 @@ fails_of q world play (by_sink stream) s before after h = h.fails
 rose : (before after : BorderState) (why : ShimStop) → ShimFails before why after
     → Rose before.shim.stops after.shim.stops
 rose before after why h =
-    subst (λ n. counted before.shim.stops ≤ n) (sym h.stops) (le_refl _)
+    subst (λ n. counted_to_limit before.shim.stops ≤ n) (sym h.stops) (le_refl _)
 
 module _ {T : Type 0} (before after : BorderState) where
   pub causes_ok : (value : T) → BorderStands before after
@@ -112,12 +112,12 @@ by_question q world play s before after P holds ErrFault h = tt
 pub asks_before_end : {A : Type 0} (q : ℕ) (world : A → World) (play : World → Play A) (s : State)
     (before after : BorderState) (stop : RunStop)
     → StopsIn q world play (stopper stop) s before after
-    → OnSome (shim_stop stop) (is_end after.shim.asked ≡ false)
+    → OnSome (shim_stop stop) (is_end_question after.shim.asked ≡ false)
 asks_before_end q world play s before after stop h =
     by_question q world play s before after _
-    (λ why asks. ap is_end asks.asked ∙ no_end asks.question asks.running) stop h
+    (λ why asks. ap is_end_question asks.asked ∙ no_end asks.question asks.running) stop h
   where
-    no_end : (question : Question) → IsBeforeEnd question → is_end (Some question) ≡ false
+    no_end : (question : Question) → IsBeforeEnd question → is_end_question (Some question) ≡ false
     no_end (Signals round) h = refl
     no_end (Input round tid max) h = refl
     no_end (Clock round tid) h = refl

@@ -6,7 +6,7 @@ use Rattle.dos_world.specs.Signals.{made_ready, ripen}
 use Rattle.dos_world.specs.declared.ThreadState.TheVariants.{Ready}
 use Rattle.dos_laws.specs.Standing.{LawfulWith}
 use Rattle.dos_laws.proofs.StandsKeeps.{stands_kept}
-use Rattle.proc_table.specs.Tables.{Tables, IsThread, thread_by}
+use Rattle.proc_table.specs.Tables.{Tables, IsLiveThread, thread_by}
 use Rattle.kernel_calls.specs.StateWorld.{IsCounted, IsSound, sent, world_of}
 use Rattle.kernel_calls.specs.declared.state.State.{State}
 use Rattle.group_rounds.specs.Phases.{AreLive, ripe_in}
@@ -28,7 +28,7 @@ module _ (s : State) (table : Tables) (t : ℕ)
 
   pub ready_live : (xs : List ℕ) → AreLive s.table.threads xs → AreLive table.threads xs
   ready_live xs live k d lt =
-      subst (λ (table : Tables). IsThread table.threads (get_or xs k d)) (sym set)
+      subst (λ (table : Tables). IsLiveThread table.threads (get_or xs k d)) (sym set)
       (lives_by (in_state Ready) s.table.threads t (get_or xs k d) (live k d lt))
 
 pub ready_out : (s : State) (xs : List ℕ) (i : ℕ) → length xs ≤ i → (q : ℕ) (o e : List ℕ)

@@ -17,7 +17,7 @@ use Rattle.dos_io.specs.Posts.{FitsPost, ArePosts}
 use Rattle.dos_laws.proofs.StandsKeeps.{stands_kept}
 use Rattle.dos_laws.proofs.StandsMasks.{found_in}
 use Rattle.dos_laws.specs.Standing.{LawfulWith}
-use Rattle.proc_table.specs.Tables.{Tables, IsProcess, IsThread, held_in, thread_by, thread_in}
+use Rattle.proc_table.specs.Tables.{Tables, IsProcess, IsLiveThread, held_in, thread_by, thread_in}
 use Rattle.kernel_calls.specs.Ending.{posted_in}
 use Rattle.kernel_calls.specs.StateWorld.{IsCounted, IsSound, sent, world_of}
 use Rattle.kernel_calls.specs.declared.state.State.{State}
@@ -181,7 +181,7 @@ pub record HasAction (s : State) (t signal action : ℕ) : Type 0 where
   pub read : (q : ℕ) (o e : List ℕ)
       → action_of (sent o e (world_of q s)) thread.process signal ≡ action
 
-pub has_action : (s : State) → IsSound s → (t p signal action : ℕ) → IsThread s.table.threads t
+pub has_action : (s : State) → IsSound s → (t p signal action : ℕ) → IsLiveThread s.table.threads t
     → IfSome (thread_in s.table.threads t) (λ thread. p ≡ thread.process)
     → IfSome (held_in s.table.processes p) (λ h. action ≡ slice_index h.actions (signal - 1))
     → HasAction s t signal action

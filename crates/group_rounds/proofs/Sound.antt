@@ -21,7 +21,7 @@ use Rattle.round_core.specs.Invariants.{IsInvariant}
 use Rattle.flat_machine.specs.Rest.{granted_by, page_granted}
 use Rattle.flat_machine.specs.Round.{all_alone}
 use Rattle.round_core.proofs.Keeps.{kept_throughout}
-use Rattle.proc_table.specs.Tables.{IsThread as Lives}
+use Rattle.proc_table.specs.Tables.{IsLiveThread as Lives}
 use Rattle.kernel_calls.specs.StateWorld.{HaveParts, IsCounted, IsReady, IsSound, sent, world_of}
 use Rattle.kernel_calls.specs.declared.state.State.{State}
 

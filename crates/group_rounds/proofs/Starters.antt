@@ -10,7 +10,7 @@ use Rattle.dos_world.specs.World.{World, Thread, flat, is_state, first_of}
 use Rattle.dos_world.specs.Signals.{would_wait}
 use Rattle.dos_world.specs.declared.ThreadState.{ThreadState}
 use Rattle.dos_world.specs.declared.ThreadState.TheVariants.{Ready, Retry}
-use Rattle.proc_table.specs.Tables.{IsThread, thread_in, next_in}
+use Rattle.proc_table.specs.Tables.{IsLiveThread, thread_in, next_in}
 use Rattle.group_rounds.specs.Phases.{AreLive, ready_in, ripe_in, is_ready, is_ripe}
 
 -- the live threads above a number
@@ -204,20 +204,20 @@ find_all P test (y ∷ ys) x all e =
 
 -- what stands at a place is there
 lives_at : (threads : List (Option Thread)) (k : ℕ) (o : Option Thread)
-    → slice_get threads k ≡ Some o → IsSome o → IsThread threads (1 + k)
+    → slice_get threads k ≡ Some o → IsSome o → IsLiveThread threads (1 + k)
 lives_at threads k o at some =
-    subst (λ n. IsThread threads n) (let e : suc k ≡ 1 + k = omega arith in e)
+    subst (λ n. IsLiveThread threads n) (let e : suc k ≡ 1 + k = omega arith in e)
     (subst (λ x. IsSome (flat x)) (sym at) some)
 
 pub next_lives : (threads : List (Option Thread)) (last next : ℕ) → next_in threads last ≡ Some next
-    → IsThread threads next
+    → IsLiveThread threads next
 next_lives threads last next e =
-    find_all (IsThread threads) (nat_lt last) (numbers_of is_some threads) next
-    (places_all 1 is_some threads (IsThread threads)
+    find_all (IsLiveThread threads) (nat_lt last) (numbers_of is_some threads) next
+    (places_all 1 is_some threads (IsLiveThread threads)
     (λ k o at some. lives_at threads k o at some)) e
 
 pub ready_live : (threads : List (Option Thread)) → AreLive threads (ready_in threads)
-ready_live threads = places_all 1 (is_state Ready) threads (IsThread threads)
+ready_live threads = places_all 1 (is_state Ready) threads (IsLiveThread threads)
     (λ k o at pass. lives_at threads k o at (some_ready o pass))
   where
     some_ready : (o : Option Thread) → is_state Ready o ≡ true → IsSome o
@@ -227,8 +227,8 @@ ready_live threads = places_all 1 (is_state Ready) threads (IsThread threads)
 -- all live threads live, and so do those of them that pass a test
 pub found_live : (threads : List (Option Thread)) (test : ℕ → Bool)
     → AreLive threads (filter test (numbers_of is_some threads))
-found_live threads test = All-filter test (IsThread threads) (numbers_of is_some threads)
-    (places_all 1 is_some threads (IsThread threads)
+found_live threads test = All-filter test (IsLiveThread threads) (numbers_of is_some threads)
+    (places_all 1 is_some threads (IsLiveThread threads)
     (λ k o at some. lives_at threads k o at some))
 
 -- ---- the loop: what is gathered, and those that pass of those that are left

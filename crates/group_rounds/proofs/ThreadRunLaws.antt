@@ -20,7 +20,7 @@ use Rattle.flat_machine.specs.Laws.{after_steps}
 use Rattle.dos_world.specs.World.{ran}
 use Rattle.flat_machine.specs.Rest.{page_granted, granted_by}
 use Rattle.page_store.specs.Store.{Store, AreHome, IsOwned, with_grant}
-use Rattle.proc_table.specs.Tables.{Tables, thread_in, held_in, thread_by, IsThread, IsProcess}
+use Rattle.proc_table.specs.Tables.{Tables, thread_in, held_in, thread_by, IsLiveThread, IsProcess}
 use Rattle.kernel_calls.specs.StateWorld.{HaveParts, IsSound, world_of, sent}
 use Rattle.kernel_calls.specs.declared.state.State.{State}
 use Rattle.kernel_calls.proofs.Counted.{all_counted, counted_like}
@@ -44,7 +44,7 @@ pub record Seen (s : State) (t : ℕ) : Type 0 where
   pub holdings : Holdings
   pub has : held_in s.table.processes thread.process ≡ Some holdings
 
-pub seen : (s : State) (t : ℕ) → IsSound s → IsThread s.table.threads t → Seen s t
+pub seen : (s : State) (t : ℕ) → IsSound s → IsLiveThread s.table.threads t → Seen s t
 seen s t sound live =
     let found = some_of (thread_in s.table.threads t) live in
     let had = process_lives (world_of 16 s) t found.0 (sound_one s sound) found.1 in
@@ -81,7 +81,7 @@ same_change f g threads (suc i) thread is same = go threads i is
 
 -- ---- what is read of it
 
-module _ (s : State) (t : ℕ) (sound : IsSound s) (live : IsThread s.table.threads t) where
+module _ (s : State) (t : ℕ) (sound : IsSound s) (live : IsLiveThread s.table.threads t) where
   abbrev here : Seen s t
   here = seen s t sound live
 
@@ -185,7 +185,7 @@ pub record IsRunFrom (s : State) (t : ℕ) (entries : List (ℕ × Entry)) (regi
   pub count : length frames.owners ≡ length frames.pages
   pub table_is : table ≡ thread_by (ran registers' budget') s.table t
 
-module _ (s : State) (t : ℕ) (sound : IsSound s) (live : IsThread s.table.threads t)
+module _ (s : State) (t : ℕ) (sound : IsSound s) (live : IsLiveThread s.table.threads t)
     (entries : List (ℕ × Entry)) (registers : Registers) (budget : ℕ) (frames : Store)
     (table : Tables) (registers' : Registers) (budget' : ℕ) (reason : Option Reason)
     (es : entries ≡ (seen s t sound live).holdings.space)
@@ -270,12 +270,12 @@ module _ (s : State) (t : ℕ) (sound : IsSound s) (live : IsThread s.table.thre
   parts_after ts = parts_then s after ts ts sound
       (steps_keep ts (budget - budget') (world_of 16 s) (world_of 16 after) t (runs_so 16 [] []))
 
-  pub live_after : IsThread table.threads t
+  pub live_after : IsLiveThread table.threads t
   live_after = subst (λ o. IsSome o) (sym thread_after) refl
 
 -- ---- after a grant
 
-module _ (s : State) (t : ℕ) (sound : IsSound s) (live : IsThread s.table.threads t) (address : ℕ)
+module _ (s : State) (t : ℕ) (sound : IsSound s) (live : IsLiveThread s.table.threads t) (address : ℕ)
     (access : Access) (entries : List (ℕ × Entry))
     (es : entries ≡ (seen s t sound live).holdings.space) where
   entry_is : (q : ℕ) (o e : List ℕ)

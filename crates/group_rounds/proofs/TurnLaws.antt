@@ -25,7 +25,7 @@ use Rattle.round_core.specs.Laws.{MapsWithin}
 use Rattle.flat_machine.specs.Rest.{page_granted, process_of, after_service, turns, rest_of}
 use Rattle.round_core.proofs.Turning.{goes_on, turns-granted, turns-fault, turns-service}
 use Rattle.round_core.proofs.Turning.{turns-after_steps, few_grants, needed-granted}
-use Rattle.proc_table.specs.Tables.{thread_in, IsThread}
+use Rattle.proc_table.specs.Tables.{thread_in, IsLiveThread}
 use Rattle.kernel_calls.specs.StateWorld.{HaveParts, IsSound, world_of, sent, way_in, left_after}
 use Rattle.kernel_calls.specs.Plays.{Answers, Plays, PlaysOn, PlaysOnce, Stopper, StopsIn}
 use Rattle.kernel_calls.specs.Plays.{sent_then}
@@ -222,7 +222,7 @@ turn_plays s s' t budget stops result before after h q =
     (λ o e served out err. fronts_after_service o e (budget_in s t - 1) t served [] (out, err))
     (once_plays q (λ w. service w t) result s s' before after h))
 
-module _ (s s' : State) (t : ℕ) (live : IsThread s.table.threads t) (before after : BorderState)
+module _ (s s' : State) (t : ℕ) (live : IsLiveThread s.table.threads t) (before after : BorderState)
     (way : Served) (answers : Answers (λ w. service w t) s before way s' after) where
   caller : (thread : Thread) × (thread_in s.table.threads t ≡ Some thread)
   caller = some_of (thread_in s.table.threads t) live
@@ -266,7 +266,7 @@ module _ (s s' : State) (t : ℕ) (live : IsThread s.table.threads t) (before af
       go Yields h on = cc
       go Gone h on = cc
 
-  pub on_lives : goes_on_after way ≡ true → IsThread s'.table.threads t
+  pub on_lives : goes_on_after way ≡ true → IsLiveThread s'.table.threads t
   on_lives on = go (thread_in s'.table.threads t) (on_left on)
     where
       go : (o : Option Thread)

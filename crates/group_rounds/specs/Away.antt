@@ -54,24 +54,24 @@ pub record HaveRun (a after : Away) : Type 0 where
   pub rest : after ≡ record a { packs = after.packs }
 
 -- the kernel's world with the budgets set, whatever bytes were sent before
-abbrev pub opening : Held → List ℕ → List ℕ → World
-opening k o e =
+abbrev pub opening_with_budgets : Held → List ℕ → List ℕ → World
+opening_with_budgets k o e =
     with_budgets (sent o e (world_of k.config.quantum k.state)) (ready_in k.state.table.threads)
 
 -- The kernel's parallel phase led to this one; and it ran so many instructions.
 pub record IsParallelOf (k : Held) (work : ℕ) (after : Held) : Type 0 where
   pub runs : (o e : List ℕ)
-      → parallel (opening k o e) ≡ sent o e (world_of k.config.quantum after.state)
+      → parallel (opening_with_budgets k o e) ≡ sent o e (world_of k.config.quantum after.state)
   pub work_is : (o e : List ℕ)
-      → world_budgets (opening k o e) (ready_in k.state.table.threads)
-      - world_budgets (parallel (opening k o e)) (ready_in k.state.table.threads) ≡ work
+      → world_budgets (opening_with_budgets k o e) (ready_in k.state.table.threads)
+      - world_budgets (parallel (opening_with_budgets k o e)) (ready_in k.state.table.threads) ≡ work
   pub config : after.config ≡ k.config
   pub starters : after.starters ≡ ready_in k.state.table.threads
   pub running : after.failed ≡ false
   pub round : after.state.round ≡ k.state.round
 
 -- room for the packs to come back, and for the next round
-pub record HasRoom (frames : ℕ) (config : Config) (starters : ℕ) (spare out : List Pack)
+pub record HasRoomToComeBack (frames : ℕ) (config : Config) (starters : ℕ) (spare out : List Pack)
     (spare_room out_room : ℕ) : Type 0 where
   pub frames_are : frames ≡ config.frames
   pub starters_room : 64 ≤ starters

@@ -5,7 +5,7 @@ use Rattle.dos_world.specs.declared.Owner.TheVariants.{Of}
 use Rattle.flat_machine.specs.Laws.{kept}
 use Rattle.page_store.specs.Store.{Store, whole, owner_at, with_away}
 use Rattle.flat_machine.specs.Laws.{without_run}
-use Rattle.quantum_run.specs.Packs.{bytes_at, empty_pack, with_page, with_thread_of}
+use Rattle.quantum_run.specs.Packs.{bytes_of_frame, empty_pack, with_own_page, with_thread_of}
 pub use Rattle.quantum_run.specs.Packs.{view_of}
 use Rattle.quantum_run.specs.Shows.{Pack}
 use Rattle.proc_table.specs.Tables.{Tables, thread_in}
@@ -26,9 +26,9 @@ abbrev pub AreOnce : List ℕ → Type 0
 AreOnce ts = (i j t : ℕ) → slice_get ts i ≡ Some t → slice_get ts j ≡ Some t → i ≡ j
 
 -- no frame twice
-abbrev pub AreApart : List (ℕ × List ℕ) → Type 0
-AreApart [] = Unit {0}
-AreApart (x ∷ xs) = ((page : List ℕ) → In xs (x.0, page) → ⊥) × AreApart xs
+abbrev pub HaveNoFrameTwice : List (ℕ × List ℕ) → Type 0
+HaveNoFrameTwice [] = Unit {0}
+HaveNoFrameTwice (x ∷ xs) = ((page : List ℕ) → In xs (x.0, page) → ⊥) × HaveNoFrameTwice xs
 
 -- no thread twice
 abbrev pub AreOthers : List Pack → Type 0
@@ -87,7 +87,7 @@ pub record GoesOut (ts : List ℕ) (old : Store) (packs : List Pack) (frame : �
   pub pack : Pack
   pub found : slice_get packs place ≡ Some pack
   pub frames : new ≡ with_away old frame
-  pub packs_are : after ≡ slice_set packs place (with_page pack frame page)
+  pub packs_are : after ≡ slice_set packs place (with_own_page pack frame page)
 
 -- or it stays
 pub record Stays (ts : List ℕ) (old : Store) (packs : List Pack) (frame : ℕ) (new : Store)
@@ -100,9 +100,9 @@ pub record Stays (ts : List ℕ) (old : Store) (packs : List Pack) (frame : ℕ)
 pub record HasBelow (t : ℕ) (old : Store) (n : ℕ) (begun p : Pack) : Type 0 where
   pub is : p ≡ record begun { pages = p.pages }
   pub owner : (j frame : ℕ) (page : List ℕ) → slice_get p.pages j ≡ Some (frame, page)
-      → (owner_at old frame ≡ Of t) × (frame < n) × (page ≡ bytes_at old.pages frame)
+      → (owner_at old frame ≡ Of t) × (frame < n) × (page ≡ bytes_of_frame old.pages frame)
   pub all : (frame : ℕ) → frame < n → owner_at old frame ≡ Of t
-      → (j : ℕ) × (slice_get p.pages j ≡ Some (frame, bytes_at old.pages frame))
+      → (j : ℕ) × (slice_get p.pages j ≡ Some (frame, bytes_of_frame old.pages frame))
   pub apart : (j k frame : ℕ) (a b : List ℕ) → slice_get p.pages j ≡ Some (frame, a)
       → slice_get p.pages k ≡ Some (frame, b) → j ≡ k
 

@@ -24,12 +24,12 @@ HasShimCause stop before after =
     ]
 
 -- whether what was asked is the run's end
-abbrev pub is_end : Option Question → Bool
-is_end None = false
-is_end (Some (Signals round)) = false
-is_end (Some (Input round tid max)) = false
-is_end (Some (Clock round tid)) = false
-is_end (Some (End ending rounds)) = true
+abbrev pub is_end_question : Option Question → Bool
+is_end_question None = false
+is_end_question (Some (Signals round)) = false
+is_end_question (Some (Input round tid max)) = false
+is_end_question (Some (Clock round tid)) = false
+is_end_question (Some (End ending rounds)) = true
 
 -- No sink's count falls, and a stop comes only where its object's count rose.
 pub record HaveCauses {T : Type 0} (result : Result T RunStop) (before after : ShimState)

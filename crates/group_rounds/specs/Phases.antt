@@ -4,7 +4,7 @@ use Rattle.dos_world.specs.Numbered.{numbers_of}
 use Rattle.dos_world.specs.World.{World, Thread, is_state, thread_at}
 use Rattle.dos_world.specs.Signals.{would_wait}
 use Rattle.dos_world.specs.declared.ThreadState.TheVariants.{Ready, Retry}
-use Rattle.proc_table.specs.Tables.{IsThread, thread_in}
+use Rattle.proc_table.specs.Tables.{IsLiveThread, thread_in}
 use Rattle.flat_machine.specs.Round.{all_alone}
 use Rattle.kernel_calls.specs.StateWorld.{IsSound, sent, world_of}
 use Rattle.kernel_calls.specs.declared.state.State.{State}
@@ -20,7 +20,7 @@ is_ready threads t = is_state Ready (thread_in threads t)
 
 -- each of these is a live thread
 abbrev pub AreLive : List (Option Thread) → List ℕ → Type 0
-AreLive threads starters = All (IsThread threads) starters
+AreLive threads starters = All (IsLiveThread threads) starters
 
 -- whether the thread of this number waits, and its service would not wait any more
 abbrev pub is_ripe : World → ℕ → Bool

@@ -1,6 +1,6 @@
 // The parallel phase in three steps: the pages go out, the packs run, and all comes back.
 ghost use Rattle.std.specs.Prelude.{ℕ, ◌≡◌, ◌-◌, false};
-ghost use Rattle.worker_pool.specs.Ran.{GrewBy, budgets};
+ghost use Rattle.worker_pool.specs.Ran.{GrewBy, budgets_left};
 ghost use Rattle.group_rounds.specs.Away.{Away, HaveRun, IsHandedOut, IsParallelOf};
 ghost use Rattle.group_rounds.specs.Kernels.{Held};
 
@@ -30,7 +30,7 @@ pub struct HandedOut {
 impl Model for HandedOut {
     ghost use Rattle.std.specs.Vec.{vec_capacity};
     ghost use Rattle.kernel_calls.specs.declared.state.State.{State as state_type};
-    ghost use Rattle.group_rounds.specs.Away.{Away, HasRoom, WentOut};
+    ghost use Rattle.group_rounds.specs.Away.{Away, HasRoomToComeBack, WentOut};
 
     ghost Value = { Away };
 
@@ -68,7 +68,7 @@ impl Model for PartsRun {
     ghost use Rattle.quantum_run.specs.Shows.{Pack as pack_value};
     ghost use Rattle.worker_pool.specs.Ran.{AllRan};
     ghost use Rattle.kernel_calls.specs.declared.state.State.{State as state_type};
-    ghost use Rattle.group_rounds.specs.Away.{Away, HasRoom, WentOut};
+    ghost use Rattle.group_rounds.specs.Away.{Away, HasRoomToComeBack, WentOut};
     ghost use Rattle.group_rounds.specs.Handing.{view_of};
 
     ghost Value = { Away };
@@ -131,7 +131,7 @@ pub fn hand_out(kernel: Kernel) -> HandedOut
 pub fn run_parts<W: Workers>(handed: HandedOut, workers: &mut W) -> PartsRun
     ensures runs { HaveRun handed result }
     ensures tally { GrewBy (W.tally workers.old) (W.tally workers.new)
-        (budgets handed.packs - budgets result.packs) }
+        (budgets_left handed.packs - budgets_left result.packs) }
     ensures fixed { W.fixed workers.new ≡ W.fixed workers.old }
 {
     let HandedOut {
@@ -159,7 +159,7 @@ pub fn run_parts<W: Workers>(handed: HandedOut, workers: &mut W) -> PartsRun
 /// parallel phase of its world, with the budgets set.
 pub fn take_in(ran: PartsRun) -> Kernel
     ensures { (k : Held) (a : Away) → IsHandedOut k a → HaveRun a ran
-        → IsParallelOf k (budgets a.packs - budgets ran.packs) result }
+        → IsParallelOf k (budgets_left a.packs - budgets_left ran.packs) result }
 {
     let PartsRun {
         mut state,

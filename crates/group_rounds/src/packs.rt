@@ -4,14 +4,14 @@ ghost use Rattle.std.specs.Prelude.{List, Some, IfOk, IsSome, MatchOption, lengt
 ghost use Rattle.std.specs.Vec.{vec_capacity};
 ghost use Rattle.dos_world.specs.declared.Owner.TheVariants.{Of};
 ghost use Rattle.page_store.specs.Store.{AreHome, IsAway, IsHome, owner_at};
-ghost use Rattle.proc_table.specs.Tables.{IsThread};
+ghost use Rattle.proc_table.specs.Tables.{IsLiveThread};
 ghost use Rattle.quantum_run.specs.Shows.{Pack as pack_value};
 ghost use Rattle.quantum_run.specs.Packs.{HoldsNo};
 ghost use Rattle.kernel_calls.specs.StateWorld.{IsSound};
 ghost use Rattle.group_rounds.specs.Parts.{work_between};
-ghost use Rattle.worker_pool.specs.Ran.{AllCanRun, AllRan, GrewBy, budgets};
+ghost use Rattle.worker_pool.specs.Ran.{AllCanRun, AllRan, GrewBy, budgets_left};
 ghost use Rattle.group_rounds.specs.Phases.{AreLive, HaveRunAlone};
-ghost use Rattle.group_rounds.specs.Handing.{AreOnce, In, all_pages, AreApart, AreOthers, AreBegun};
+ghost use Rattle.group_rounds.specs.Handing.{AreOnce, In, all_pages, HaveNoFrameTwice, AreOthers, AreBegun};
 ghost use Rattle.group_rounds.specs.Handing.{AreSpare, GoesOut, Handing, PutBack, AreSet, Stays};
 ghost use Rattle.group_rounds.specs.Handing.{pack_of, view_of};
 
@@ -153,7 +153,7 @@ fn place_of(starters: &[u32], tid: u32) -> Option<usize>
 
 // a starter's pack, before its pages come
 fn fill_next(table: &Table, tid: u32, spare: &mut Vec<Pack>, packs: &mut Vec<Pack>)
-    requires live { IsThread table.now.threads tid }
+    requires live { IsLiveThread table.now.threads tid }
     requires some { 0 < length spare.old.items }
     requires room { length packs.old.items + 1 ≤ vec_capacity packs.old }
     requires empty { (p : pack_value) → In spare.old.items p → p.pages ≡ [] }
@@ -272,7 +272,7 @@ pub(crate) fn hand_out(
 fn put_pages(frames: &mut Frames, pack: &mut Pack)
     requires away { (frame : ℕ) (page : List ℕ) → In pack.old.pages (frame, page)
         → IsAway frames.old frame }
-    requires apart { AreApart pack.old.pages }
+    requires apart { HaveNoFrameTwice pack.old.pages }
     ensures back { PutBack pack.old.pages frames.old frames.new }
     ensures pack { pack.new ≡ record pack.old { pages = [] } }
 {
@@ -285,8 +285,8 @@ fn put_pages(frames: &mut Frames, pack: &mut Pack)
 fn take_back(state: &mut State, pack: &mut Pack)
     requires away { (frame : ℕ) (page : List ℕ) → In pack.old.pages (frame, page)
         → IsAway state.old.frames frame }
-    requires apart { AreApart pack.old.pages }
-    requires live { IsThread state.old.table.threads pack.old.thread }
+    requires apart { HaveNoFrameTwice pack.old.pages }
+    requires live { IsLiveThread state.old.table.threads pack.old.thread }
     ensures back { PutBack pack.old.pages state.old.frames state.new.frames }
     ensures set { AreSet (pack.old ∷ []) state.old.table state.new.table }
     ensures round { state.new.round ≡ state.old.round }
@@ -325,7 +325,7 @@ pub(crate) fn run_parts<W: Workers>(
     ensures state { state.new ≡ state.old }
     ensures room { vec_capacity packs.old ≤ vec_capacity packs.new }
     ensures tally { GrewBy (W.tally workers.old) (W.tally workers.new)
-        (budgets packs.old.items - budgets packs.new.items) }
+        (budgets_left packs.old.items - budgets_left packs.new.items) }
     ensures fixed { W.fixed workers.new ≡ W.fixed workers.old }
 {
     let Shared { frames, table } = stand_in;
@@ -361,7 +361,7 @@ fn run_out<W: Workers>(
     ensures stand_in { IsSome stand_in.new }
     ensures room { vec_capacity packs.old ≤ vec_capacity packs.new }
     ensures tally { GrewBy (W.tally workers.old) (W.tally workers.new)
-        (budgets packs.old.items - budgets packs.new.items) }
+        (budgets_left packs.old.items - budgets_left packs.new.items) }
     ensures fixed { W.fixed workers.new ≡ W.fixed workers.old }
 {
     let other = stand_in.take().unwrap();
@@ -373,9 +373,9 @@ fn run_out<W: Workers>(
 pub(crate) fn take_in(state: &mut State, packs: &mut Vec<Pack>, spare: &mut Vec<Pack>)
     requires away { (frame : ℕ) (page : List ℕ) → In (all_pages packs.old.items) (frame, page)
         → IsAway state.old.frames frame }
-    requires apart { AreApart (all_pages packs.old.items) }
+    requires apart { HaveNoFrameTwice (all_pages packs.old.items) }
     requires live { (p : pack_value) → In packs.old.items p
-        → IsThread state.old.table.threads p.thread }
+        → IsLiveThread state.old.table.threads p.thread }
     requires others { AreOthers packs.old.items }
     requires room { length spare.old.items + length packs.old.items ≤ vec_capacity spare.old }
     ensures back { PutBack (all_pages packs.old.items) state.old.frames state.new.frames }

@@ -8,7 +8,7 @@ ghost use Rattle.dos_io.specs.Shims.{HasNoEnd};
 ghost use Rattle.flat_machine.specs.Step.{step};
 ghost use Rattle.flat_machine.specs.Alone.{alone, emptied};
 ghost use Rattle.flat_machine.specs.Rest.{page_granted, process_of, rest_of};
-ghost use Rattle.proc_table.specs.Tables.{IsThread, thread_by};
+ghost use Rattle.proc_table.specs.Tables.{IsLiveThread, thread_by};
 ghost use Rattle.kernel_calls.specs.StateWorld.{HaveParts, IsReady, IsSound, sent, world_of};
 ghost use Rattle.kernel_calls.specs.Plays.{Plays};
 ghost use Rattle.group_rounds.specs.Parts.{KeepsCount, RanPart, budget_in, goes_on_after};
@@ -23,7 +23,7 @@ use quantum_run::run_until_stop;
 
 // no reservation
 fn empty_reservation(table: &mut Table, tid: u32)
-    requires live { IsThread table.old.threads tid }
+    requires live { IsLiveThread table.old.threads tid }
     ensures { table.new ≡ thread_by (registers_by released) table.old tid }
 {
     let mut regs = *table.regs(tid);
@@ -34,7 +34,7 @@ fn empty_reservation(table: &mut Table, tid: u32)
 /// A part of the thread begins: with no reservation.
 pub(crate) fn begin(state: &mut State, tid: u32)
     requires sound { IsSound state.old }
-    requires live { IsThread state.old.table.threads tid }
+    requires live { IsLiveThread state.old.table.threads tid }
     ensures empties { (q : ℕ) (o e : List ℕ)
         → emptied (sent o e (world_of q state.old)) tid ≡ sent o e (world_of q state.new) }
     ensures budget { budget_in state.new tid ≡ budget_in state.old tid }
@@ -42,7 +42,7 @@ pub(crate) fn begin(state: &mut State, tid: u32)
     ensures parts { (ts : List ℕ) → HaveParts ts state.old → HaveParts ts state.new }
     ensures round { state.new.round ≡ state.old.round }
     ensures count { KeepsCount state.old state.new }
-    ensures live { IsThread state.new.table.threads tid }
+    ensures live { IsLiveThread state.new.table.threads tid }
 {
     empty_reservation(&mut state.table, tid);
 }
@@ -51,13 +51,13 @@ pub(crate) fn begin(state: &mut State, tid: u32)
 /// None exactly where the budget is 0.
 pub(crate) fn run(state: &mut State, tid: u32) -> Option<Reason>
     requires sound { IsSound state.old }
-    requires live { IsThread state.old.table.threads tid }
+    requires live { IsLiveThread state.old.table.threads tid }
     ensures ran { RanPart state.old tid state.new result }
     ensures sound { IsSound state.new }
     ensures parts { (ts : List ℕ) → HaveParts ts state.old → HaveParts ts state.new }
     ensures round { state.new.round ≡ state.old.round }
     ensures count { KeepsCount state.old state.new }
-    ensures live { IsThread state.new.table.threads tid }
+    ensures live { IsLiveThread state.new.table.threads tid }
 {
     let mut budget = state.table.budget(tid);
     if budget == 0 {
@@ -76,7 +76,7 @@ pub(crate) fn run(state: &mut State, tid: u32) -> Option<Reason>
 /// The thread's parallel part, in place: how many instructions it did, each for one of its budget.
 pub(crate) fn run_alone(state: &mut State, tid: u32) -> u32
     requires sound { IsSound state.old }
-    requires live { IsThread state.old.table.threads tid }
+    requires live { IsLiveThread state.old.table.threads tid }
     ensures runs { (q : ℕ) (o e : List ℕ)
         → alone (sent o e (world_of q state.old)) tid ≡ sent o e (world_of q state.new) }
     ensures paid { budget_in state.old tid ≡ result + budget_in state.new tid }
@@ -93,7 +93,7 @@ pub(crate) fn run_alone(state: &mut State, tid: u32) -> u32
 // the page at an address is granted
 fn grant(state: &mut State, tid: u32, address: u32, access: Access)
     requires sound { IsSound state.old }
-    requires live { IsThread state.old.table.threads tid }
+    requires live { IsLiveThread state.old.table.threads tid }
     ensures grants { (q : ℕ) (o e : List ℕ)
         → page_granted (sent o e (world_of q state.old)) tid address access
         ≡ sent o e (world_of q state.new) }
@@ -112,7 +112,7 @@ fn grant(state: &mut State, tid: u32, address: u32, access: Access)
 // the thread's process ends, with 128 plus the number of its fault
 fn end_by_fault(state: &mut State, tid: u32, number: u8)
     requires sound { IsSound state.old }
-    requires live { IsThread state.old.table.threads tid }
+    requires live { IsLiveThread state.old.table.threads tid }
     requires small { number ≤ 11 }
     ensures ends { (q : ℕ) (o e : List ℕ)
         → process_ended (sent o e (world_of q state.old))
@@ -146,7 +146,7 @@ fn take_turn<B: Border>(
     border: &mut B,
 ) -> Result<bool, RunStop>
     requires sound { IsSound state.old }
-    requires live { IsThread state.old.table.threads tid }
+    requires live { IsLiveThread state.old.table.threads tid }
     requires ready { IsReady state.old.table.threads tid }
     requires budget { 0 < budget_in state.old tid }
     requires stops { (q : ℕ) (o e : List ℕ)
@@ -156,7 +156,7 @@ fn take_turn<B: Border>(
         state.old (B.state border.old) state.new (B.state border.new) }
     ensures less { IfOk result (λ on. on ≡ true
         → part_measure state.new tid < part_measure state.old tid) }
-    ensures live { IfOk result (λ on. on ≡ true → IsThread state.new.table.threads tid) }
+    ensures live { IfOk result (λ on. on ≡ true → IsLiveThread state.new.table.threads tid) }
     ensures sound { OnOk result (IsSound state.new) }
     ensures parts { IfOk result (λ on. (ts : List ℕ) → HaveParts (tid ∷ ts) state.old
         → HaveParts (if on then tid ∷ ts else ts) state.new) }
@@ -187,7 +187,7 @@ fn take_turn<B: Border>(
 /// After an `Err` nothing is said of the state but its round.
 pub(crate) fn finish<B: Border>(state: &mut State, tid: u32, border: &mut B) -> Result<(), RunStop>
     requires sound { IsSound state.old }
-    requires live { IsThread state.old.table.threads tid }
+    requires live { IsLiveThread state.old.table.threads tid }
     requires ready { IsReady state.old.table.threads tid }
     requires told { HasNoEnd (B.state border.old).shim.told }
     ensures serves { Serves (λ w. rest_of w tid) result

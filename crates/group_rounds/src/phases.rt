@@ -7,7 +7,7 @@ ghost use Rattle.dos_io.specs.Shims.{HasNoEnd};
 ghost use Rattle.dos_laws.specs.Standing.{IsAwake};
 ghost use Rattle.flat_machine.specs.Rest.{rest_if_live, serial_of};
 ghost use Rattle.flat_machine.specs.Round.{with_budgets};
-ghost use Rattle.proc_table.specs.Tables.{IsThread};
+ghost use Rattle.proc_table.specs.Tables.{IsLiveThread};
 ghost use Rattle.kernel_calls.specs.StateWorld.{HaveParts, IsSound, sent, world_of};
 ghost use Rattle.group_rounds.specs.Parts.{KeepsCount};
 ghost use Rattle.group_rounds.specs.Phases.{AreLive, is_ready, ready_in};
@@ -33,7 +33,7 @@ pub(crate) fn add(found: &mut Vec<u32>, tid: u32)
 
 // one more starter, for which there is room, if its thread is ready
 fn add_if_ready(table: &Table, starters: &mut Vec<u32>, tid: u32)
-    requires live { IsThread table.now.threads tid }
+    requires live { IsLiveThread table.now.threads tid }
     requires room { length starters.old.items + 1 ≤ vec_capacity starters.old }
     ensures items { starters.new.items ≡ starters.old.items
         ++ filter (is_ready table.now.threads) (tid ∷ []) }

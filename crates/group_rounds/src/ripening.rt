@@ -2,7 +2,7 @@
 ghost use Rattle.std.specs.Prelude.{◌≡◌, ◌≤◌, ◌+◌, ◌++◌, ◌∷◌, [], ℕ, List, filter, length};
 ghost use Rattle.std.specs.Vec.{vec_capacity};
 ghost use Rattle.dos_world.specs.Signals.{made_ready, ripen};
-ghost use Rattle.proc_table.specs.Tables.{IsThread};
+ghost use Rattle.proc_table.specs.Tables.{IsLiveThread};
 ghost use Rattle.kernel_calls.specs.StateWorld.{IsCounted, IsSound, sent, world_of};
 ghost use Rattle.group_rounds.specs.Parts.{KeepsCount};
 ghost use Rattle.group_rounds.specs.Phases.{AreLive, is_ripe, ripe_in};
@@ -14,7 +14,7 @@ use kernel_calls::{State, would_wait};
 // whether the thread waits, and its service would not wait any more
 fn is_ripe(state: &State, tid: u32) -> bool
     requires sound { IsSound state.now }
-    requires live { IsThread state.now.table.threads tid }
+    requires live { IsLiveThread state.now.table.threads tid }
     ensures { (q : ℕ) (o e : List ℕ)
         → result ≡ is_ripe (sent o e (world_of q state.now)) tid }
 {
@@ -24,7 +24,7 @@ fn is_ripe(state: &State, tid: u32) -> bool
 // one more, for which there is room, if its thread is ripe
 fn add_if_ripe(state: &State, found: &mut Vec<u32>, tid: u32)
     requires sound { IsSound state.now }
-    requires live { IsThread state.now.table.threads tid }
+    requires live { IsLiveThread state.now.table.threads tid }
     requires room { length found.old.items + 1 ≤ vec_capacity found.old }
     ensures items { (q : ℕ) (o e : List ℕ)
         → found.new.items ≡ found.old.items

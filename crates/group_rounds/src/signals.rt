@@ -5,7 +5,7 @@ ghost use Rattle.std.specs.Vec.{vec_capacity};
 ghost use Rattle.dos_world.specs.SignalCalls.{is_signal};
 ghost use Rattle.dos_world.specs.Signals.{all_posted, default_action, delivered, handler_action};
 ghost use Rattle.dos_world.specs.Signals.{interrupted, signal_turn, signal_turns, signalled};
-ghost use Rattle.proc_table.specs.Tables.{IsThread, thread_in};
+ghost use Rattle.proc_table.specs.Tables.{IsLiveThread, thread_in};
 ghost use Rattle.kernel_calls.specs.Ending.{posted_in};
 ghost use Rattle.kernel_calls.specs.StateWorld.{IsCounted, IsSound, sent, world_of};
 ghost use Rattle.group_rounds.specs.Parts.{KeepsCount};
@@ -50,7 +50,7 @@ fn post_all(state: &mut State, list: &SignalList)
 // the default action: 17 is dropped, any other signal ends the process
 fn act_by_default(state: &mut State, tid: u32, signal: u8)
     requires sound { IsSound state.old }
-    requires live { IsThread state.old.table.threads tid }
+    requires live { IsLiveThread state.old.table.threads tid }
     requires signal { is_signal signal ≡ true }
     ensures acts { IfSome (thread_in state.old.table.threads tid)
         (λ thread. (q : ℕ) (o e : List ℕ)
@@ -70,7 +70,7 @@ fn act_by_default(state: &mut State, tid: u32, signal: u8)
 
 // a thread that waits or sleeps goes on with -4 in a0
 fn interrupt(state: &mut State, tid: u32)
-    requires live { IsThread state.old.table.threads tid }
+    requires live { IsLiveThread state.old.table.threads tid }
     ensures interrupts { IfSome (thread_in state.old.table.threads tid)
         (λ thread. (q : ℕ) (o e : List ℕ)
         → interrupted (sent o e (world_of q state.old)) tid thread
@@ -78,7 +78,7 @@ fn interrupt(state: &mut State, tid: u32)
     ensures room { IfSome (thread_in state.old.table.threads tid)
         (λ thread. length thread.saved < 4)
         → IfSome (thread_in state.new.table.threads tid) (λ thread. length thread.saved < 4) }
-    ensures live { IsThread state.new.table.threads tid }
+    ensures live { IsLiveThread state.new.table.threads tid }
     ensures counted { IsCounted state.old → IsCounted state.new }
     ensures round { state.new.round ≡ state.old.round }
     ensures count { KeepsCount state.old state.new }
@@ -92,7 +92,7 @@ fn interrupt(state: &mut State, tid: u32)
 
 // the handler begins; where four are saved already, the signal stays pending
 fn act_by_handler(state: &mut State, tid: u32, signal: u8, handler: u32)
-    requires live { IsThread state.old.table.threads tid }
+    requires live { IsLiveThread state.old.table.threads tid }
     requires counted { IsCounted state.old }
     requires signal { is_signal signal ≡ true }
     ensures acts { IfSome (thread_in state.old.table.threads tid)
@@ -120,7 +120,7 @@ fn is_default(action: u32, signal: u8) -> bool
 // a signal comes to a thread
 fn deliver(state: &mut State, tid: u32, signal: u8)
     requires sound { IsSound state.old }
-    requires live { IsThread state.old.table.threads tid }
+    requires live { IsLiveThread state.old.table.threads tid }
     requires signal { is_signal signal ≡ true }
     ensures delivers { IfSome (thread_in state.old.table.threads tid)
         (λ thread. (q : ℕ) (o e : List ℕ)

@@ -6,7 +6,7 @@ use mathlib.Core.Option.{some, some-injective, some-ne-none}
 use native.Mathlib.Decide.{ℕ_discrete}
 use lib.ListN.{get_elem?}
 use Rattle.std.specs.Prelude.{None}
-use Rattle.hand_board.specs.Placed.{one_if, times, without, total, once, blanks}
+use Rattle.hand_board.specs.Placed.{count_where, times, without, total, once, blanks}
 use Rattle.hand_board.proofs.Front.{Apart, Distinct, Within}
 
 pub within : {A : Type 0} → (l : List A) (i : ℕ) (x : A) → get_elem? l i ≡ some x → i < length l
@@ -30,10 +30,10 @@ times_append x [] m = omega arith
 times_append x (y ∷ ys) m = omega (arith, times_append x ys m)
 
 pub once_one : (w : ℕ) → once w ≢ 0 → w ≡ 1
-once_one w n = dite (ℕ_discrete w 1) (λ e. e) (λ ne. absurd (n (ap one_if (ne_eqb w 1 ne))))
+once_one w n = dite (ℕ_discrete w 1) (λ e. e) (λ ne. absurd (n (ap count_where (ne_eqb w 1 ne))))
 
 pub once_none : (w : ℕ) → w ≢ 1 → once w ≡ 0
-once_none w n = ap one_if (ne_eqb w 1 n)
+once_none w n = ap count_where (ne_eqb w 1 n)
 
 without_here : (x y : ℕ) (l : List ℕ) → y ≡ x → without x (y ∷ l) ≡ l
 without_here x y l e = rw (eq-eqb y x e) refl
@@ -131,7 +131,7 @@ times_bring i j l h = let r = split_at i l h in
     let c = times_append j r.0 (i ∷ r.1) in let d = times_append j r.0 r.1 in omega arith
 
 pub once_most : (w : ℕ) → once w ≤ 1
-once_most w = dite (ℕ_discrete w 1) (λ e. let a : once w ≡ 1 = ap one_if (eq-eqb w 1 e) in
+once_most w = dite (ℕ_discrete w 1) (λ e. let a : once w ≡ 1 = ap count_where (eq-eqb w 1 e) in
     omega arith)
     (λ n. let a = once_none w n in
     omega arith)

@@ -11,7 +11,7 @@ use lib.ListN.{get_elem?}
 use Rattle.atomic_table.specs.Table.{Act, Valid, carried_after, homes_after}
 use Rattle.atomic_table.proofs.Lists.{at_set, at_snoc, set_here, set_else, at_map}
 use Rattle.hand_board.specs.declared.rule.Knows.{Knows}
-use Rattle.hand_board.specs.Placed.{Knowing, Lies, Placed, times, once, total, whole, without, tail}
+use Rattle.hand_board.specs.Placed.{Knowing, Lies, Placed, times, once, total, whole_share, without, tail}
 use Rattle.hand_board.specs.Placed.{blanks, to_front, without_front, left_half, right_half}
 use Rattle.hand_board.specs.Placed.{spent_view, first_view}
 use Rattle.hand_board.proofs.Counts.{times_here, times_else, times_append, times_bring}
@@ -327,7 +327,7 @@ module _ {T : Type 0} (fin way : T → T → Type 0) (opened : List T) where
   -- no share is above the whole
   pub placed_share : (ph : ℕ → ℕ) (homes : Homes T) (views : List (Knows T))
       → Placed fin way opened ph homes views → (id : ℕ) (v : Knows T) → get_elem? views id ≡ some v
-      → v.share ≤ whole
+      → v.share ≤ whole_share
   placed_share ph homes views h id v at =
       let p = total_part (λ (u : Knows T). u.share) views id v at in
       let q = h.shares in
@@ -336,7 +336,7 @@ module _ {T : Type 0} (fin way : T → T → Type 0) (opened : List T) where
   -- who has every share and nothing in hand knows that no number is in a hand
   pub none_out : (ph : ℕ → ℕ) (homes : Homes T) (views : List (Knows T))
       → Placed fin way opened ph homes views → (id : ℕ) (v : Knows T) → get_elem? views id ≡ some v
-      → v.share ≡ whole → v.hand ≡ [] → (i : ℕ) → ph i ≢ 1
+      → v.share ≡ whole_share → v.hand ≡ [] → (i : ℕ) → ph i ≢ 1
   none_out ph homes views h id v at all empty i one =
       let alone = total_alone (λ (u : Knows T). times i u.hand)
       (λ (u : Knows T). u.share) views id v at (h.shares ∙ sym all)

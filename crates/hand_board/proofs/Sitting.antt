@@ -7,10 +7,10 @@ use native.Mathlib.Decide.{ℕ_discrete, dec_le}
 use Rattle.atomic_table.specs.Table.{Me, rest}
 use Rattle.atomic_table.specs.Seated.{TableId}
 use Rattle.hand_board.specs.declared.rule.Knows.{Knows}
-use Rattle.hand_board.specs.Placed.{times, whole, without, blanks, to_front, without_front}
+use Rattle.hand_board.specs.Placed.{times, whole_share, without, blanks, to_front, without_front}
 use Rattle.hand_board.specs.Rule.{with_found, with_claimed, with_resumed}
 use Rattle.hand_board.specs.Rule.{joined}
-use Rattle.hand_board.specs.Seating.{Sits, Seating, seating, Has, Standing, Stands, standing}
+use Rattle.hand_board.specs.Seating.{Sits, Seating, seating, Has, Standing, BoardStands, standing}
 use Rattle.hand_board.proofs.Counts.{times_else, times_append, times_without}
 
 abbrev second_of : {A : Type 0} → A → List (ℕ × A) → A
@@ -41,7 +41,7 @@ at_table sees same shows = ap (λ z. z.board) sees ∙ same ∙ sym (ap (λ z. z
 module _ {T : Type 0} {id : TableId} {opened : List T} {count len room : ℕ}
     {board : Standing T} where
   -- a number of the board has a word in its table
-  pub has_word : (number : ℕ) → Stands id opened count len room → standing id opened room ≡ board
+  pub has_word : (number : ℕ) → BoardStands id opened count len room → standing id opened room ≡ board
       → number < length board.opened → (number < length opened) × (number + 1 < id.words)
   has_word number stands shows low =
       let all = stands.all in
@@ -186,7 +186,7 @@ module _ {T : Type 0} where
   pub sits_joined : (b b1 b2 : TableId) (m w l n : Me (Option T) (Knows T))
       (share more next more_next : ℕ) (ended more_ended : Bool) (next2 : ℕ) (ended2 : Bool)
       → Sits b m share next ended → Sits b1 w more more_next more_ended → b ≡ b1 → w.0.hand ≡ []
-      → l ≡ (joined m.0 w.0, m.1) → (n ≡ l) × (l.0.share ≤ whole) → b2 ≡ b
+      → l ≡ (joined m.0 w.0, m.1) → (n ≡ l) × (l.0.share ≤ whole_share) → b2 ≡ b
       → next2 ≡ max next more_next → ended2 ≡ (ended || more_ended)
       → Sits b2 n (share + more) next2 ended2
   sits_joined b b1 b2 m w l n share more next more_next ended more_ended next2 ended2 s r same empty

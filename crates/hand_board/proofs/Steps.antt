@@ -13,7 +13,7 @@ use Rattle.atomic_table.specs.Table.{homes_after, keeps, takes, gives, Allows, S
 use Rattle.atomic_table.specs.Table.{opening}
 use Rattle.atomic_table.proofs.Lists.{at_set, at_snoc, set_else, set_again, exchanged}
 use Rattle.hand_board.specs.declared.rule.Knows.{Knows}
-use Rattle.hand_board.specs.Placed.{Placed, times, once, whole, blanks, to_front, without_front}
+use Rattle.hand_board.specs.Placed.{Placed, times, once, whole_share, blanks, to_front, without_front}
 use Rattle.hand_board.specs.Placed.{left_half, right_half, spent_view, first_view}
 use Rattle.hand_board.specs.Rule.{Holds, Claimed, ClaimedAt, Given, Weighed, Brought, BroughtAt}
 use Rattle.hand_board.specs.Rule.{with_found, with_claimed, joined}
@@ -346,7 +346,7 @@ module _ {T : Type 0} (fin way : T → T → Type 0) (opened : List T) where
   -- who has every share, has found all and has nothing in hand knows that all is at home, and each
   -- pack finished, or under way where its word is 3; so it is in a table that is closed then
   pub ends : (s : State (Option T) (Knows T)) → Holds fin way opened s → (id : ℕ) (v : Knows T)
-      → get_elem? s.views id ≡ some v → v.share ≡ whole → v.hand ≡ []
+      → get_elem? s.views id ≡ some v → v.share ≡ whole_share → v.hand ≡ []
       → ((k : ℕ) → k < length opened → 0 < times k v.found)
       → (ws : List ℕ) (os : List (Option T)) → s.words ≡ ws
       → ((k : ℕ) (y : Option T) → get_elem? s.homes k ≡ some (some y) → get_elem? os k ≡ some y)

@@ -7,14 +7,14 @@ use lib.ListN.{get_elem?}
 use Rattle.hand_board.specs.declared.rule.Knows.{Knows}
 
 -- 1 where it is so, else 0
-abbrev pub one_if : Bool → ℕ
-one_if true = 1
-one_if false = 0
+abbrev pub count_where : Bool → ℕ
+count_where true = 1
+count_where false = 0
 
 -- how often x stands in the list
 abbrev pub times : ℕ → List ℕ → ℕ
 times x [] = 0
-times x (y ∷ ys) = one_if (y == x) + times x ys
+times x (y ∷ ys) = count_where (y == x) + times x ys
 
 -- the list without the first x
 abbrev pub without : ℕ → List ℕ → List ℕ
@@ -33,7 +33,7 @@ total f (v ∷ vs) = f v + total f vs
 
 -- in how many hands a number is: in one in phase 1, and else in none
 abbrev pub once : ℕ → ℕ
-once phase = one_if (phase == 1)
+once phase = count_where (phase == 1)
 
 -- What has come of x can be worked on, and where that ends x is finished.
 abbrev pub IsUnderWay : {T : Type 0} → (ready : T → Type 0) → (ends finished : T → T → Type 0) → T
@@ -41,8 +41,8 @@ abbrev pub IsUnderWay : {T : Type 0} → (ready : T → Type 0) → (ends finish
 IsUnderWay {T} ready ends finished x y = ready y × ((z : T) → ends y z → finished x z)
 
 -- the shares of all seats
-abbrev pub whole : ℕ
-whole = 4294967296
+abbrev pub whole_share : ℕ
+whole_share = 4294967296
 
 module _ {T : Type 0} where
   -- the places of the numbers in a hand, each empty
@@ -71,12 +71,12 @@ module _ {T : Type 0} where
     pub held : (i : ℕ) → total (λ (v : Knows T). times i v.hand) views ≡ once (phase i)
     pub done : (i : ℕ) → phase i ≡ 2 → Lies finished opened homes i
     pub waiting : (i : ℕ) → phase i ≡ 3 → Lies under_way opened homes i
-    pub shares : total (λ (v : Knows T). v.share) views ≡ whole
+    pub shares : total (λ (v : Knows T). v.share) views ≡ whole_share
     pub knowing : (j : ℕ) (v : Knows T) → get_elem? views j ≡ some v → Knowing opened v
 
   -- what the first seat knows
   abbrev pub first_view : List T → Knows T
-  first_view xs = record { opened = xs; share = whole; hand = []; found = [] }
+  first_view xs = record { opened = xs; share = whole_share; hand = []; found = [] }
 
   -- what is left of a seat that was joined to another
   abbrev pub spent_view : Knows T

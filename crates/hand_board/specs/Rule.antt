@@ -7,7 +7,7 @@ use mathlib.Core.Option.{some}
 use lib.ListN.{get_elem?}
 use Rattle.atomic_table.specs.Table.{State, Me, Step, rest}
 use Rattle.hand_board.specs.declared.rule.Knows.{Knows}
-use Rattle.hand_board.specs.Placed.{Placed, times, without, whole, blanks, to_front, without_front}
+use Rattle.hand_board.specs.Placed.{Placed, times, without, whole_share, blanks, to_front, without_front}
 
 module _ {T : Type 0} where
   -- Word 0 isn't used. The word of number i is word i + 1: 0 while its pack lies at home as the
@@ -81,4 +81,4 @@ module _ {T : Type 0} where
   -- no share is more than the whole
   abbrev pub Weighed : Step (Option T) → Me (Option T) (Knows T) → ℕ → Me (Option T) (Knows T)
       → Type 0
-  Weighed st m r n = (n ≡ m) × (m.0.share ≤ whole)
+  Weighed st m r n = (n ≡ m) × (m.0.share ≤ whole_share)

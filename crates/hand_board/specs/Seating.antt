@@ -6,7 +6,7 @@ use lib.ListN.{get_elem?}
 use Rattle.atomic_table.specs.Seated.{TableId}
 use Rattle.atomic_table.specs.Table.{Me}
 use Rattle.hand_board.specs.declared.rule.Knows.{Knows}
-use Rattle.hand_board.specs.Placed.{times, blanks, whole}
+use Rattle.hand_board.specs.Placed.{times, blanks, whole_share}
 
 -- of which board, the packs as they opened, the share, the numbers found begun, those in the hand,
 -- from where on it searches, and whether it has ended
@@ -28,7 +28,7 @@ module _ {T : Type 0} where
     pub sized : (board.words ≡ length me.0.opened + 1) × (board.slots ≡ length me.0.opened)
     pub slots : me.1 ≡ blanks me.0.hand
     pub share_is : me.0.share ≡ share
-    pub positive : (0 < share) × (share ≤ whole)
+    pub positive : (0 < share) × (share ≤ whole_share)
     pub low : (k : ℕ) → Has k me.0.hand → k < length me.0.opened
     pub below : (k : ℕ) → k < next → Has k me.0.found
     pub all : ended ≡ true → (k : ℕ) → k < length me.0.opened → Has k me.0.found
@@ -74,7 +74,7 @@ pub record Standing (T : Type 0) : Type 0 where
   pub room : ℕ
 
 -- what is always true of a board: its counts, and an empty vector with room for all
-pub record Stands {T : Type 0} (id : TableId) (opened : List T) (count len room : ℕ) : Type 0 where
+pub record BoardStands {T : Type 0} (id : TableId) (opened : List T) (count len room : ℕ) : Type 0 where
   pub sized : (id.words ≡ count + 1) × (id.slots ≡ count)
   pub all : length opened ≡ count
   pub roomy : (len ≡ 0) × (count ≤ room)

@@ -5,7 +5,7 @@ ghost use Rattle.std.specs.Prelude.{IfSome, IfNone, IfOk, IfErr, Some, None, map
 ghost use mathlib.Core.Option.{some};
 ghost use lib.ListN.{get_elem?};
 ghost use Rattle.atomic_table.specs.Table.{rest};
-ghost use Rattle.hand_board.specs.Placed.{IsUnderWay, first_view, times, without, whole};
+ghost use Rattle.hand_board.specs.Placed.{IsUnderWay, first_view, times, without, whole_share};
 ghost use Rattle.hand_board.specs.Seating.{Has, AllFinished};
 
 use crate::rule::{Bring, Claim, Give, Halve, Knows, Merge, Once, Part, Resume, Weigh};
@@ -41,7 +41,7 @@ pub struct Board<T: Part> {
 
 impl<T: Part> Model for Board<T> {
     ghost use Rattle.std.specs.Prelude.{vec_len, vec_capacity};
-    ghost use Rattle.hand_board.specs.Seating.{Standing, Stands, standing};
+    ghost use Rattle.hand_board.specs.Seating.{Standing, BoardStands, standing};
 
     ghost Value = { Standing T };
 
@@ -155,7 +155,7 @@ fn board_of<T: Part>(
         ≡ record {
           board = table.shared.table_id;
           opened = table.shared.key.value.items;
-          share = whole;
+          share = whole_share;
           found = [];
           hand = [];
           next = 0;
@@ -213,7 +213,7 @@ impl<T: Part> Board<T> {
             ≡ record {
               board = r.0.id;
               opened = packs.items;
-              share = whole;
+              share = whole_share;
               found = [];
               hand = [];
               next = 0;
@@ -452,7 +452,7 @@ impl<T: Part> Board<T> {
     /// and has nothing in hand.
     pub fn close(self, seat: BoardSeat<T>) -> Vec<T>
         requires board { seat.board ≡ self.id }
-        requires whole { (seat.share ≡ whole) × (seat.ended ≡ true) × (seat.hand ≡ []) }
+        requires whole { (seat.share ≡ whole_share) × (seat.ended ≡ true) × (seat.hand ≡ []) }
         ensures finished { AllFinished T.finished self.opened result.items }
         ensures capacity { vec_capacity result ≡ self.room }
     {

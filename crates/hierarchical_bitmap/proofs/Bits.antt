@@ -12,7 +12,7 @@ use Rattle.std.proofs.lemmas.Nat.Bits.{bit_at-zero, bit_at_set_same, bit_at_set_
 use Rattle.std.proofs.lemmas.Nat.Bits.{bit_at_clear_same, bit_at_clear_other}
 use Rattle.std.proofs.lemmas.Bool.{cases_eq}
 use Rattle.std.proofs.lemmas.Bool.Decides.{nat_tests}
-use Rattle.hierarchical_bitmap.specs.Levels.{bit, bits, itself, mask, with_bit, without_bit}
+use Rattle.hierarchical_bitmap.specs.Levels.{bit, places_set, itself, mask, with_place, without_place}
 
 -- ---- one bit of a word
 
@@ -27,46 +27,46 @@ some-bit n i h = elim (cases_eq n 0) [
 -- ---- one bit of a level
 
 pub with_bit-word : (words : List ℕ) (place : ℕ) → place / 64 < length words
-    → get_or (with_bit words place) (place / 64) 0
+    → get_or (with_place words place) (place / 64) 0
     ≡ bit_or (get_or words (place / 64) 0) (mask place)
 with_bit-word words place h = get_or-set_same words (place / 64) _ 0 h
 
 pub without_bit-word : (words : List ℕ) (place : ℕ) → place / 64 < length words
-    → get_or (without_bit words place) (place / 64) 0
+    → get_or (without_place words place) (place / 64) 0
     ≡ bit_and (get_or words (place / 64) 0) (bit_not w64 (mask place))
 without_bit-word words place h = get_or-set_same words (place / 64) _ 0 h
 
 pub with_bit-others : (words : List ℕ) (place k : ℕ) → k ≢ place / 64
-    → get_or (with_bit words place) k 0 ≡ get_or words k 0
+    → get_or (with_place words place) k 0 ≡ get_or words k 0
 with_bit-others words place k apart = get_or-set_other words (place / 64) k _ 0 apart
 
 pub without_bit-others : (words : List ℕ) (place k : ℕ) → k ≢ place / 64
-    → get_or (without_bit words place) k 0 ≡ get_or words k 0
+    → get_or (without_place words place) k 0 ≡ get_or words k 0
 without_bit-others words place k apart = get_or-set_other words (place / 64) k _ 0 apart
 
-pub length-with_bit : (words : List ℕ) (place : ℕ) → length (with_bit words place) ≡ length words
+pub length-with_bit : (words : List ℕ) (place : ℕ) → length (with_place words place) ≡ length words
 length-with_bit words place = length-set words (place / 64) _
 
 pub length-without_bit : (words : List ℕ) (place : ℕ)
-    → length (without_bit words place) ≡ length words
+    → length (without_place words place) ≡ length words
 length-without_bit words place = length-set words (place / 64) _
 
 pub with_bit-same : (words : List ℕ) (place : ℕ) → place / 64 < length words
-    → bit (with_bit words place) place ≡ 1
+    → bit (with_place words place) place ≡ 1
 with_bit-same words place h = ap (λ w. bit_at w (place % 64)) (with_bit-word words place h)
     ∙ bit_at_set_same w64 (get_or words (place / 64) 0) (place % 64) (omega arith)
 
 pub without_bit-same : (words : List ℕ) (place : ℕ) → place / 64 < length words
-    → bit (without_bit words place) place ≡ 0
+    → bit (without_place words place) place ≡ 0
 without_bit-same words place h = ap (λ w. bit_at w (place % 64)) (without_bit-word words place h)
     ∙ bit_at_clear_same w64 (get_or words (place / 64) 0) (place % 64) (omega arith)
 
 pub with_bit-other : (words : List ℕ) (place k : ℕ) → place / 64 < length words → k ≢ place
-    → bit (with_bit words place) k ≡ bit words k
+    → bit (with_place words place) k ≡ bit words k
 with_bit-other words place k h apart = elim (cases_eq (k / 64) (place / 64)) [
   | inl e ↦
       let other : k % 64 ≢ place % 64 = λ same. apart (omega arith) in
-      ap (λ i. bit_at (get_or (with_bit words place) i 0) (k % 64)) e
+      ap (λ i. bit_at (get_or (with_place words place) i 0) (k % 64)) e
       ∙ ap (λ w. bit_at w (k % 64)) (with_bit-word words place h)
       ∙ bit_at_set_other w64 (get_or words (place / 64) 0) (place % 64) (omega arith) (k % 64) other
       ∙ ap (λ i. bit_at (get_or words i 0) (k % 64)) (sym e)
@@ -74,11 +74,11 @@ with_bit-other words place k h apart = elim (cases_eq (k / 64) (place / 64)) [
 ]
 
 pub without_bit-other : (words : List ℕ) (place k : ℕ) → place / 64 < length words → k ≢ place
-    → bit (without_bit words place) k ≡ bit words k
+    → bit (without_place words place) k ≡ bit words k
 without_bit-other words place k h apart = elim (cases_eq (k / 64) (place / 64)) [
   | inl e ↦
       let other : k % 64 ≢ place % 64 = λ same. apart (omega arith) in
-      ap (λ i. bit_at (get_or (without_bit words place) i 0) (k % 64)) e
+      ap (λ i. bit_at (get_or (without_place words place) i 0) (k % 64)) e
       ∙ ap (λ w. bit_at w (k % 64)) (without_bit-word words place h)
       ∙ bit_at_clear_other w64 (get_or words (place / 64) 0) (place % 64) (omega arith) (k % 64)
       (omega arith) other
@@ -106,23 +106,23 @@ changed f g a (suc n) (suc i) place v at is others =
     (changed f g (a + 1) n i place v (omega arith) is others)
 
 pub bits-with_bit : (count : ℕ) (words : List ℕ) (place : ℕ) → place / 64 < length words
-    → bits count (with_bit words place) ≡ set (bits count words) place true
-unfolding bits
+    → places_set count (with_place words place) ≡ set (places_set count words) place true
+unfolding places_set
 bits-with_bit count words place h =
-    changed (λ k. bit words k == 1) (λ k. bit (with_bit words place) k == 1) 0 count place place
+    changed (λ k. bit words k == 1) (λ k. bit (with_place words place) k == 1) 0 count place place
     true (omega arith) (ap (λ b. b == 1) (with_bit-same words place h))
     (λ k apart. ap (λ b. b == 1) (with_bit-other words place k h apart))
 
 pub bits-without_bit : (count : ℕ) (words : List ℕ) (place : ℕ) → place / 64 < length words
-    → bits count (without_bit words place) ≡ set (bits count words) place false
-unfolding bits
+    → places_set count (without_place words place) ≡ set (places_set count words) place false
+unfolding places_set
 bits-without_bit count words place h =
-    changed (λ k. bit words k == 1) (λ k. bit (without_bit words place) k == 1) 0 count place place
+    changed (λ k. bit words k == 1) (λ k. bit (without_place words place) k == 1) 0 count place place
     false (omega arith) (ap (λ b. b == 1) (without_bit-same words place h))
     (λ k apart. ap (λ b. b == 1) (without_bit-other words place k h apart))
 
-pub length-bits : (count : ℕ) (words : List ℕ) → length (bits count words) ≡ count
-unfolding bits
+pub length-bits : (count : ℕ) (words : List ℕ) → length (places_set count words) ≡ count
+unfolding places_set
 length-bits count words = length-map-range_with_len (λ k. bit words k == 1) 0 count
 
 -- zeros have no bit
@@ -141,8 +141,8 @@ zeros-word (suc n) (suc k) = zeros-word n k
 pub zeros-bit : (n k : ℕ) → bit (zeros n) k ≡ 0
 zeros-bit n k = ap (λ w. bit_at w (k % 64)) (zeros-word n (k / 64)) ∙ bit_at-zero (k % 64)
 
-pub bits-zeros : (count n : ℕ) → bits count (zeros n) ≡ replicate count false
-unfolding bits
+pub bits-zeros : (count n : ℕ) → places_set count (zeros n) ≡ replicate count false
+unfolding places_set
 bits-zeros count n = none 0 count
   where
     none : (a m : ℕ) → map (λ k. bit (zeros n) k == 1) (range_with_len a m)

@@ -14,7 +14,7 @@ use Rattle.std.proofs.lemmas.Nat.{and_le_l}
 use Rattle.std.proofs.lemmas.Nat.Bits.{bit_at-zero, bit_at-trailing_zeros}
 use Rattle.std.proofs.lemmas.Bool.{cases_eq, cases_lt}
 use Rattle.std.proofs.lemmas.Bool.Decides.{nat_tests}
-use Rattle.hierarchical_bitmap.specs.Levels.{bit, bits, is_set, itself, mask, with_bit, without_bit}
+use Rattle.hierarchical_bitmap.specs.Levels.{bit, places_set, is_set, itself, mask, with_place, without_place}
 use Rattle.hierarchical_bitmap.specs.Levels.{AreLevels, AreZeroBelow, IsLowest, IsSummary}
 use Rattle.hierarchical_bitmap.proofs.Bits.{zeros, length-zeros, with_bit-others}
 use Rattle.hierarchical_bitmap.proofs.Bits.{without_bit-others, length-with_bit, length-without_bit}
@@ -28,19 +28,19 @@ use Rattle.hierarchical_bitmap.proofs.Bits.{position-is_none}
 
 pub summary-with_bit : (upper lower : List ℕ) (place : ℕ) → place / 64 < length lower
     → place / 64 / 64 < length upper → IsSummary upper lower
-    → IsSummary (with_bit upper (place / 64)) (with_bit lower place)
+    → IsSummary (with_place upper (place / 64)) (with_place lower place)
 summary-with_bit upper lower place h u s = record {
   some = λ k some. elim (cases_eq k (place / 64)) [
-    | inl e ↦ ap (λ i. bit (with_bit upper (place / 64)) i) e ∙ with_bit-same upper (place / 64) u
+    | inl e ↦ ap (λ i. bit (with_place upper (place / 64)) i) e ∙ with_bit-same upper (place / 64) u
     | inr other ↦ with_bit-other upper (place / 64) k u other
         ∙ s.some k (omega (arith, some, with_bit-others lower place k other))
   ];
   none = λ k none. elim (cases_eq k (place / 64)) [
     | inl e ↦ absurd (omega (
       arith,
-      some-bit (get_or (with_bit lower place) (place / 64) 0) (place % 64)
+      some-bit (get_or (with_place lower place) (place / 64) 0) (place % 64)
           (with_bit-same lower place h),
-      ap (λ i. get_or (with_bit lower place) i 0) e,
+      ap (λ i. get_or (with_place lower place) i 0) e,
       none,
     ))
     | inr other ↦ with_bit-other upper (place / 64) k u other
@@ -50,8 +50,8 @@ summary-with_bit upper lower place h u s = record {
 
 -- the word isn't 0 yet
 pub summary-left : (upper lower : List ℕ) (place : ℕ) → place / 64 < length lower
-    → 0 < get_or (without_bit lower place) (place / 64) 0 → IsSummary upper lower
-    → IsSummary upper (without_bit lower place)
+    → 0 < get_or (without_place lower place) (place / 64) 0 → IsSummary upper lower
+    → IsSummary upper (without_place lower place)
 summary-left upper lower place h left s = record {
   some = λ k some. elim (cases_eq k (place / 64)) [
     | inl e ↦ s.some k (omega (
@@ -64,23 +64,23 @@ summary-left upper lower place h left s = record {
     | inr other ↦ s.some k (omega (arith, some, without_bit-others lower place k other))
   ];
   none = λ k none. elim (cases_eq k (place / 64)) [
-    | inl e ↦ absurd (omega (arith, left, none, ap (λ i. get_or (without_bit lower place) i 0) e))
+    | inl e ↦ absurd (omega (arith, left, none, ap (λ i. get_or (without_place lower place) i 0) e))
     | inr other ↦ s.none k (sym (without_bit-others lower place k other) ∙ none)
   ];
 }
 
 -- the word is 0 now
 pub summary-without_bit : (upper lower : List ℕ) (place : ℕ) → place / 64 / 64 < length upper
-    → get_or (without_bit lower place) (place / 64) 0 ≡ 0 → IsSummary upper lower
-    → IsSummary (without_bit upper (place / 64)) (without_bit lower place)
+    → get_or (without_place lower place) (place / 64) 0 ≡ 0 → IsSummary upper lower
+    → IsSummary (without_place upper (place / 64)) (without_place lower place)
 summary-without_bit upper lower place u zero s = record {
   some = λ k some. elim (cases_eq k (place / 64)) [
-    | inl e ↦ absurd (omega (arith, zero, some, ap (λ i. get_or (without_bit lower place) i 0) e))
+    | inl e ↦ absurd (omega (arith, zero, some, ap (λ i. get_or (without_place lower place) i 0) e))
     | inr other ↦ without_bit-other upper (place / 64) k u other
         ∙ s.some k (omega (arith, some, without_bit-others lower place k other))
   ];
   none = λ k none. elim (cases_eq k (place / 64)) [
-    | inl e ↦ ap (λ i. bit (without_bit upper (place / 64)) i) e
+    | inl e ↦ ap (λ i. bit (without_place upper (place / 64)) i) e
         ∙ without_bit-same upper (place / 64) u
     | inr other ↦ without_bit-other upper (place / 64) k u other
         ∙ s.none k (sym (without_bit-others lower place k other) ∙ none)
@@ -145,7 +145,7 @@ module _ {count : ℕ} {places words groups : List ℕ} (l : AreLevels count pla
   }
 
   -- a place of the list that is shown
-  module _ {now : List Bool} (shows : bits count places ≡ now) (place : ℕ)
+  module _ {now : List Bool} (shows : places_set count places ≡ now) (place : ℕ)
       (low : place < length now) where
     within : place < count
     within = omega (arith, low, ap (λ (bs : List Bool). length bs) shows, length-bits count places)
@@ -161,8 +161,8 @@ module _ {count : ℕ} {places words groups : List ℕ} (l : AreLevels count pla
 
     -- ---- it is set
 
-    pub levels-set : AreLevels count (with_bit places place) (with_bit words (place / 64))
-        (with_bit groups (place / 64 / 64))
+    pub levels-set : AreLevels count (with_place places place) (with_place words (place / 64))
+        (with_place groups (place / 64 / 64))
     levels-set = alike (length-with_bit places place) (length-with_bit words (place / 64))
         (length-with_bit groups (place / 64 / 64))
         (λ k past. with_bit-other places place k in_places (λ e. omega (arith, past, e, within))
@@ -170,45 +170,45 @@ module _ {count : ℕ} {places words groups : List ℕ} (l : AreLevels count pla
         (summary-with_bit words places place in_places in_words l.of_places)
         (summary-with_bit groups words (place / 64) in_words in_groups l.of_words)
 
-    pub shown-set : {ps : List ℕ} → ps ≡ with_bit places place → bits count ps ≡ set now place true
-    shown-set e = ap (λ (xs : List ℕ). bits count xs) e ∙ bits-with_bit count places place in_places
+    pub shown-set : {ps : List ℕ} → ps ≡ with_place places place → places_set count ps ≡ set now place true
+    shown-set e = ap (λ (xs : List ℕ). places_set count xs) e ∙ bits-with_bit count places place in_places
         ∙ ap (λ (bs : List Bool). set bs place true) shows
 
     -- ---- it is cleared
 
-    none_more : (k : ℕ) → count ≤ k → bit (without_bit places place) k ≡ 0
+    none_more : (k : ℕ) → count ≤ k → bit (without_place places place) k ≡ 0
     none_more k past =
         without_bit-other places place k in_places (λ e. omega (arith, past, e, within))
         ∙ l.no_more k past
 
     -- the place's word isn't 0 yet
-    pub levels-left : 0 < get_or (without_bit places place) (place / 64) 0
-        → AreLevels count (without_bit places place) words groups
+    pub levels-left : 0 < get_or (without_place places place) (place / 64) 0
+        → AreLevels count (without_place places place) words groups
     levels-left left = alike (length-without_bit places place) refl refl none_more
         (summary-left words places place in_places left l.of_places) l.of_words
 
     -- it is 0, and the word above it isn't
-    pub levels-word_left : get_or (without_bit places place) (place / 64) 0 ≡ 0
-        → 0 < get_or (without_bit words (place / 64)) (place / 64 / 64) 0
-        → AreLevels count (without_bit places place) (without_bit words (place / 64)) groups
+    pub levels-word_left : get_or (without_place places place) (place / 64) 0 ≡ 0
+        → 0 < get_or (without_place words (place / 64)) (place / 64 / 64) 0
+        → AreLevels count (without_place places place) (without_place words (place / 64)) groups
     levels-word_left zero left = alike (length-without_bit places place)
         (length-without_bit words (place / 64)) refl none_more
         (summary-without_bit words places place in_words zero l.of_places)
         (summary-left groups words (place / 64) in_words left l.of_words)
 
     -- both are 0
-    pub levels-cleared : get_or (without_bit places place) (place / 64) 0 ≡ 0
-        → get_or (without_bit words (place / 64)) (place / 64 / 64) 0 ≡ 0
-        → AreLevels count (without_bit places place) (without_bit words (place / 64))
-        (without_bit groups (place / 64 / 64))
+    pub levels-cleared : get_or (without_place places place) (place / 64) 0 ≡ 0
+        → get_or (without_place words (place / 64)) (place / 64 / 64) 0 ≡ 0
+        → AreLevels count (without_place places place) (without_place words (place / 64))
+        (without_place groups (place / 64 / 64))
     levels-cleared zero word_zero = alike (length-without_bit places place)
         (length-without_bit words (place / 64)) (length-without_bit groups (place / 64 / 64))
         none_more (summary-without_bit words places place in_words zero l.of_places)
         (summary-without_bit groups words (place / 64) in_groups word_zero l.of_words)
 
-    pub shown-cleared : {ps : List ℕ} → ps ≡ without_bit places place
-        → bits count ps ≡ set now place false
-    shown-cleared e = ap (λ (xs : List ℕ). bits count xs) e
+    pub shown-cleared : {ps : List ℕ} → ps ≡ without_place places place
+        → places_set count ps ≡ set now place false
+    shown-cleared e = ap (λ (xs : List ℕ). places_set count xs) e
         ∙ bits-without_bit count places place in_places
         ∙ ap (λ (bs : List Bool). set bs place false) shows
 
@@ -317,35 +317,35 @@ none-below upper lower s none k = elim (cases_eq (get_or lower k 0) 0) [
 ]
 
 bit-at : (count k : ℕ) (words : List ℕ) → k < count
-    → get_or (bits count words) k false ≡ (bit words k == 1)
-unfolding bits
+    → get_or (places_set count words) k false ≡ (bit words k == 1)
+unfolding places_set
 bit-at count k words h =
     get_or-map-range_with_len (λ i. bit words i == 1) 0 count k k false h (omega arith)
 
 pub lowest-place : {count place : ℕ} {places words groups : List ℕ}
     → AreLevels count places words groups → IsLowest places place
-    → (place < count) × (position itself (bits count places) ≡ Some place)
+    → (place < count) × (position itself (places_set count places) ≡ Some place)
 lowest-place {count} {place} {places} {words} {groups} l low =
     let within : place < count = elim (cases_lt place count) [
       | inl under ↦ under
       | inr past ↦ absurd (omega (arith, l.no_more place past, low.set))
     ] in (
       within,
-      position-is (bits count places) place (omega (arith, within, length-bits count places))
+      position-is (places_set count places) place (omega (arith, within, length-bits count places))
           (bit-at count place places within ∙ ap (λ b. b == 1) low.set)
           (λ k h. bit-at count k places (omega (arith, within, h))
           ∙ ap (λ b. b == 1) (low.below k h)),
     )
 
 pub lowest-none : {count : ℕ} {places words groups : List ℕ} → AreLevels count places words groups
-    → ((k : ℕ) → get_or groups k 0 ≡ 0) → position itself (bits count places) ≡ None
+    → ((k : ℕ) → get_or groups k 0 ≡ 0) → position itself (places_set count places) ≡ None
 lowest-none {count} {places} {words} {groups} l none =
     let zero = none-below words places l.of_places (none-below groups words l.of_words none) in
-    position-is_none (bits count places) (λ k. elim (cases_lt k count) [
+    position-is_none (places_set count places) (λ k. elim (cases_lt k count) [
       | inl within ↦ bit-at count k places within
           ∙ ap (λ w. bit_at w (k % 64) == 1) (zero (k / 64))
           ∙ ap (λ b. b == 1) (bit_at-zero (k % 64))
-      | inr past ↦ get_or_past (bits count places) k false
+      | inr past ↦ get_or_past (places_set count places) k false
           (omega (arith, past, length-bits count places))
     ])
 

@@ -12,18 +12,18 @@ abbrev pub is_set : ℕ → Bool
 is_set word = not (word == 0)
 
 -- the first places, each set or not
-unfoldable pub bits : ℕ → List ℕ → List Bool
-bits count words = map (λ place. bit words place == 1) (range_with_len 0 count)
+unfoldable pub places_set : ℕ → List ℕ → List Bool
+places_set count words = map (λ place. bit words place == 1) (range_with_len 0 count)
 
 abbrev pub mask : ℕ → ℕ
 mask place = 1 * 2 ^ (place % 64) % 2 ^ 64
 
-abbrev pub with_bit : List ℕ → ℕ → List ℕ
-with_bit words place = slice_set words (place / 64)
+abbrev pub with_place : List ℕ → ℕ → List ℕ
+with_place words place = slice_set words (place / 64)
     (bit_or (slice_index words (place / 64)) (mask place))
 
-abbrev pub without_bit : List ℕ → ℕ → List ℕ
-without_bit words place = slice_set words (place / 64)
+abbrev pub without_place : List ℕ → ℕ → List ℕ
+without_place words place = slice_set words (place / 64)
     (bit_and (slice_index words (place / 64)) (bit_not w64 (mask place)))
 
 abbrev pub AreZeroBelow : List ℕ → ℕ → Type 0

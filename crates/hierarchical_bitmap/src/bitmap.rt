@@ -22,7 +22,7 @@ pub struct Bitmap {
 
 impl Model for Bitmap {
     ghost use Rattle.std.specs.Prelude.{Bool, List};
-    ghost use Rattle.hierarchical_bitmap.specs.Levels.{AreLevels, bits};
+    ghost use Rattle.hierarchical_bitmap.specs.Levels.{AreLevels, places_set};
 
     ghost Value = { List Bool };
 

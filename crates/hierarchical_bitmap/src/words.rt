@@ -1,12 +1,12 @@
 // One level: words of 64 bits. Bit k of a level is bit k % 64 of word k / 64.
 ghost use Rattle.std.specs.Prelude.{◌≡◌, ◌/◌, ◌^◌, ◌<◌, ◌==◌, length, position, slice_index};
 ghost use Rattle.std.specs.Prelude.{IfSome};
-ghost use Rattle.hierarchical_bitmap.specs.Levels.{is_set, AreZeroBelow, IsLowest, with_bit};
-ghost use Rattle.hierarchical_bitmap.specs.Levels.{without_bit};
+ghost use Rattle.hierarchical_bitmap.specs.Levels.{is_set, AreZeroBelow, IsLowest, with_place};
+ghost use Rattle.hierarchical_bitmap.specs.Levels.{without_place};
 
 pub fn set_bit(words: &mut Vec<u64>, place: usize)
     requires { place / 64 < length words.old.items }
-    ensures { words.new.items ≡ with_bit words.old.items place }
+    ensures { words.new.items ≡ with_place words.old.items place }
 {
     words[place / 64] |= 1 << (place % 64);
 }
@@ -14,7 +14,7 @@ pub fn set_bit(words: &mut Vec<u64>, place: usize)
 /// Clears the bit, and says whether its word is 0 now.
 pub fn clear_bit(words: &mut Vec<u64>, place: usize) -> bool
     requires { place / 64 < length words.old.items }
-    ensures cleared { words.new.items ≡ without_bit words.old.items place }
+    ensures cleared { words.new.items ≡ without_place words.old.items place }
     ensures zero { result ≡ (slice_index words.new.items (place / 64) == 0) }
 {
     words[place / 64] &= !(1 << (place % 64));

@@ -5,10 +5,10 @@ use Rattle.dos_world.specs.Play.{over, gives}
 use Rattle.dos_world.specs.Services.{Call, charged, went, service, service_for, service_of}
 use Rattle.dos_world.specs.Services.{call_of}
 use Rattle.dos_io.specs.Borders.{BorderState}
-use Rattle.proc_table.specs.Tables.{Tables, IsThread, thread_in}
+use Rattle.proc_table.specs.Tables.{Tables, IsLiveThread, thread_in}
 use Rattle.kernel_calls.specs.StateWorld.{sent, world_of}
 use Rattle.kernel_calls.specs.Built.{definition_by, named}
-use Rattle.kernel_calls.specs.CallResults.{call_in, paid}
+use Rattle.kernel_calls.specs.CallResults.{call_in, paid_state}
 use Rattle.kernel_calls.specs.Plays.{StopsBy, Stopper, by_shim, by_sink, with_more}
 use Rattle.kernel_calls.specs.declared.state.State.{State}
 use Rattle.kernel_calls.specs.declared.state.Asked.{Asked}
@@ -20,16 +20,16 @@ abbrev pub asked : ℕ → ℕ → ℕ → ℕ → ℕ → Asked
 asked t p x y z = record { thread = t; process = p; a0 = x; a1 = y; a2 = z }
 
 -- what a live thread calls is the service that its registers name, once it is paid for
-pub called : (s : State) (t p x y z n : ℕ) (r : Registers) → IsThread s.table.threads t
+pub called : (s : State) (t p x y z n : ℕ) (r : Registers) → IsLiveThread s.table.threads t
     → IfSome (thread_in s.table.threads t) (λ thread. r ≡ thread.registers)
     → IfSome (thread_in s.table.threads t) (λ thread. p ≡ thread.process)
     → x ≡ get r 10 → y ≡ get r 11 → z ≡ get r 12 → n ≡ get r 17
     → (q : ℕ) (o e : List ℕ)
     → service (sent o e (world_of q s)) t
-    ≡ definition_by (named n) (call_in (sent o e (world_of q (paid s t))) (asked t p x y z))
+    ≡ definition_by (named n) (call_in (sent o e (world_of q (paid_state s t))) (asked t p x y z))
 called s t p x y z n r live registers process first second third number q o e =
     by (thread_in s.table.threads t) live registers process
-    ∙ ap (λ f. f (call_in (sent o e (world_of q (paid s t))) (asked t p x y z))) (named_is n)
+    ∙ ap (λ f. f (call_in (sent o e (world_of q (paid_state s t))) (asked t p x y z))) (named_is n)
   where
     w : World
     w = sent o e (world_of q s)
@@ -65,9 +65,9 @@ called s t p x y z n r live registers process first second third number q o e =
 
 -- ---- the service of the thread, once it is paid for
 
-module _ (s mid : State) (t : ℕ) (found : Option Service) (a : Asked) (charges : mid ≡ paid s t)
+module _ (s mid : State) (t : ℕ) (found : Option Service) (a : Asked) (charges : mid ≡ paid_state s t)
     (calls : (q : ℕ) (o e : List ℕ) → service (sent o e (world_of q s)) t
-    ≡ definition_by found (call_in (sent o e (world_of q (paid s t))) a)) where
+    ≡ definition_by found (call_in (sent o e (world_of q (paid_state s t))) a)) where
   pub calls_paid : (q : ℕ) (o e : List ℕ) → service (sent o e (world_of q s)) t
       ≡ definition_by found (call_in (sent o e (world_of q mid)) a)
   calls_paid q o e = calls q o e

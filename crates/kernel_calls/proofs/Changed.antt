@@ -7,7 +7,7 @@ use Rattle.dos_world.specs.Kernel.{answered}
 use Rattle.dos_world.specs.Services.{charged}
 use Rattle.dos_laws.proofs.Numbers.{changed_there}
 use Rattle.dos_laws.proofs.Stands.{at_changed}
-use Rattle.proc_table.specs.Tables.{Tables, IsThread, thread_in, thread_by, ran}
+use Rattle.proc_table.specs.Tables.{Tables, IsLiveThread, thread_in, thread_by, ran}
 
 -- two changes that agree on the thread are one
 changed_same : (f g : Thread → Thread) (xs : List (Option Thread)) (t : ℕ)
@@ -70,8 +70,8 @@ changed_twice T t f g = ap (λ threads. with_threads threads) (both T.threads t)
     both xs (suc i) = at xs i
 
 -- a live thread that is changed lives
-pub lives_changed : (f : Thread → Thread) (xs : List (Option Thread)) (t : ℕ) → IsThread xs t
-    → IsThread (changed (option_map f) xs t) t
+pub lives_changed : (f : Thread → Thread) (xs : List (Option Thread)) (t : ℕ) → IsLiveThread xs t
+    → IsLiveThread (changed (option_map f) xs t) t
 lives_changed f xs t live =
     subst (λ (o : Option Thread). IsSome o) (sym (changed_there f xs t)) (by (thread_in xs t) live)
   where
@@ -80,8 +80,8 @@ lives_changed f xs t live =
     by (Some thread) live = refl
 
 -- a live thread lives where any is changed
-pub lives_still : (f : Thread → Thread) (xs : List (Option Thread)) (u t : ℕ) → IsThread xs t
-    → IsThread (changed (option_map f) xs u) t
+pub lives_still : (f : Thread → Thread) (xs : List (Option Thread)) (u t : ℕ) → IsLiveThread xs t
+    → IsLiveThread (changed (option_map f) xs u) t
 lives_still f xs u t live =
     at_changed (λ (o : Option Thread). IsSome o) f xs u t (λ other. live)
     (λ same. subst (λ n. IsSome (option_map f (thread_in xs n))) same
@@ -92,11 +92,11 @@ lives_still f xs u t live =
     by (Some thread) live = refl
 
 -- a live thread stands where one is added
-pub thread_stands : (xs ys : List (Option Thread)) (t : ℕ) → IsThread xs t → IsThread (xs ++ ys) t
+pub thread_stands : (xs ys : List (Option Thread)) (t : ℕ) → IsLiveThread xs t → IsLiveThread (xs ++ ys) t
 thread_stands xs ys zero live = live
 thread_stands xs ys (suc i) live = at xs i live
   where
-    at : (xs : List (Option Thread)) (i : ℕ) → IsThread xs (suc i) → IsThread (xs ++ ys) (suc i)
+    at : (xs : List (Option Thread)) (i : ℕ) → IsLiveThread xs (suc i) → IsLiveThread (xs ++ ys) (suc i)
     at [] i live = cc
     at (x ∷ xs) zero live = live
     at (x ∷ xs) (suc i) live = at xs i live

@@ -10,7 +10,7 @@ use Rattle.dos_world.specs.Calls.{Call, returns_two, went}
 use Rattle.dos_world.specs.ProcessCalls.{any_process, children_where, collected, collected_by, wait}
 use Rattle.dos_world.specs.ProcessCalls.{wait_by}
 use Rattle.dos_laws.proofs.StandsWaits.{filtered_at, held_same, place_is}
-use Rattle.proc_table.specs.Children.{after_wait, children_in, outcome, outcome_by, status_in}
+use Rattle.proc_table.specs.Children.{after_wait, children_in, outcome, outcome_by, status_of_ended}
 use Rattle.proc_table.specs.Tables.{Tables, thread_by}
 use Rattle.proc_table.specs.declared.collected.Collected.TheVariants.{Got}
 use Rattle.kernel_calls.specs.StateWorld.{IsCounted, IsSound, sent, world_of}
@@ -28,7 +28,7 @@ module _ (c : Call) (p status : ℕ) where
   got (Some any) None e = cc
   got (Some any) (Some n) e =
       let same : n ≡ p = cc in
-      let told : status_in c.world.processes n ≡ status = cc in
+      let told : status_of_ended c.world.processes n ≡ status = cc in
       ap (λ k. returns_two (collected c.world n) n k c) told
       ∙ ap (λ m. returns_two (collected c.world m) m status c) same
 

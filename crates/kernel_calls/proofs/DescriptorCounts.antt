@@ -15,7 +15,7 @@ use Rattle.dos_world.specs.World.{Process, Holdings, all_holdings, on_holdings}
 use Rattle.dos_world.specs.DescriptorCalls.{with_end}
 use Rattle.dos_world.specs.declared.End.{End}
 use Rattle.dos_laws.proofs.Holders.{sum_changed}
-use Rattle.proc_table.specs.Tables.{held_in, end_in}
+use Rattle.proc_table.specs.Tables.{held_in, end_named}
 use Rattle.kernel_calls.specs.StateWorld.{ends_of}
 use Rattle.kernel_calls.proofs.PipeEnds.{more-no}
 
@@ -138,7 +138,7 @@ second_free test end (x ∷ ends) a i same first =
 pub count_more : (o : Option Holdings) (i n m : ℕ) (d : Option End) → i < 32
     → IfSome o (λ h. length h.descriptors ≡ 32)
     → (n ≤ i) × IfSome o (λ h. n ≡ count_by is_none (take i h.descriptors))
-    → IfSome o (λ h. d ≡ end_in h i) → m ≡ cond (is_none d) 1 0
+    → IfSome o (λ h. d ≡ end_named h i) → m ≡ cond (is_none d) 1 0
     → (n + m ≤ i + 1) × IfSome o (λ h. n + m ≡ count_by is_none (take (i + 1) h.descriptors))
 count_more o i n m d low count so_far is one = (by_test (is_none d) one, by o count so_far.1 is)
   where
@@ -148,7 +148,7 @@ count_more o i n m d low count so_far is one = (by_test (is_none d) one, by o co
 
     by : (o : Option Holdings) → IfSome o (λ h. length h.descriptors ≡ 32)
         → IfSome o (λ h. n ≡ count_by is_none (take i h.descriptors))
-        → IfSome o (λ h. d ≡ end_in h i)
+        → IfSome o (λ h. d ≡ end_named h i)
         → IfSome o (λ h. n + m ≡ count_by is_none (take (i + 1) h.descriptors))
     by None count so_far is = tt
     by (Some h) count so_far is =
@@ -188,7 +188,7 @@ count_set test ends k end within =
 -- the ends of all processes
 pub ends_set : (test : Option End → Bool) (ps : List Process) (p : ℕ) (h : Holdings) (k : ℕ)
     (end : Option End) → held_in ps p ≡ Some h → k < length h.descriptors
-    → ends_of test (changed (on_holdings (with_end k end)) ps p) + cond (test (end_in h k)) 1 0
+    → ends_of test (changed (on_holdings (with_end k end)) ps p) + cond (test (end_named h k)) 1 0
     ≡ ends_of test ps + cond (test end) 1 0
 ends_set test ps p h k end is within =
     omega (

@@ -23,7 +23,7 @@ use Rattle.dos_laws.proofs.Holders.{sum_changed}
 use Rattle.page_store.specs.Store.{joined, page_at}
 use Rattle.page_store.specs.Store.{shown as page_shown}
 use Rattle.page_store.proofs.Joined.{joined-tidied, zeros-shown}
-use Rattle.proc_table.specs.Tables.{Tables, held_in, held_by, end_in}
+use Rattle.proc_table.specs.Tables.{Tables, held_in, held_by, end_named}
 use Rattle.kernel_objects.specs.Pipework.{Pipework}
 use Rattle.kernel_calls.specs.Ending.{IsNamed, without_end}
 use Rattle.kernel_calls.specs.Ends.{CanHave, with_end_more}
@@ -84,11 +84,11 @@ module _ (s : State) (a : Asked) (h : Holdings)
   lives = subst (λ (o : Option Holdings). IsSome o) (sym is) refl
 
   -- a0
-  pub names : (q : ℕ) (o e : List ℕ) (d : Option End) → d ≡ end_in h a.a0
+  pub names : (q : ℕ) (o e : List ℕ) (d : Option End) → d ≡ end_named h a.a0
       → descriptor (call_in (sent o e (world_of q s)) a) ≡ d
   names q o e d same =
       descriptor_is (sent o e (world_of q s)) a d lives
-      (subst (λ (k : Option Holdings). IfSome k (λ x. d ≡ end_in x a.a0)) (sym is) same)
+      (subst (λ (k : Option Holdings). IfSome k (λ x. d ≡ end_named x a.a0)) (sym is) same)
 
   abbrev ends_shown : Option Holdings → List (Option End)
   ends_shown o = elim o as (λ _. List (Option End)) [ None ↦ [] | Some x ↦ x.descriptors ]
@@ -107,7 +107,7 @@ module _ (s : State) (a : Asked) (h : Holdings)
 
   -- ---- dup
 
-  pub dups : (end : End) (k : ℕ) (new : State) → Some end ≡ end_in h a.a0
+  pub dups : (end : End) (k : ℕ) (new : State) → Some end ≡ end_named h a.a0
       → Some k ≡ position is_none h.descriptors
       → new ≡ answering (with_set s a.process k (Some end) (with_end_more end s.pipes)) a.thread k
       → ActsQuietly dup s a Went new
@@ -121,7 +121,7 @@ module _ (s : State) (a : Asked) (h : Holdings)
       (sym (bytes_stay end s.pipes))
       ∙ ap (λ x. done (went (sent o e (world_of q x)))) (sym left)
 
-  pub dup_full : (end : End) (new : State) → Some end ≡ end_in h a.a0
+  pub dup_full : (end : End) (new : State) → Some end ≡ end_named h a.a0
       → None ≡ position is_none h.descriptors → new ≡ answering s a.thread (minus 24)
       → ActsQuietly dup s a Went new
   dup_full end new open_is lowest left q o e =
@@ -130,7 +130,7 @@ module _ (s : State) (a : Asked) (h : Holdings)
       ∙ ap (λ x. dup_by (Some end) x c) (lowest_free q o e ∙ sym lowest)
       ∙ ap (λ x. done (went (sent o e (world_of q x)))) (sym left)
 
-  pub dup_closed : (new : State) → None ≡ end_in h a.a0 → new ≡ answering s a.thread (minus 9)
+  pub dup_closed : (new : State) → None ≡ end_named h a.a0 → new ≡ answering s a.thread (minus 9)
       → ActsQuietly dup s a Went new
   dup_closed new shut left q o e =
       let c : Call = call_in (sent o e (world_of q s)) a in
@@ -147,7 +147,7 @@ module _ (s : State) (a : Asked) (h : Holdings)
             (tidied (with_holdings c.world c.process (with_end c.a0 None))) 0 c
       ]
 
-  pub close_closed : (new : State) → None ≡ end_in h a.a0 → new ≡ answering s a.thread (minus 9)
+  pub close_closed : (new : State) → None ≡ end_named h a.a0 → new ≡ answering s a.thread (minus 9)
       → ActsQuietly close s a Went new
   close_closed new shut left q o e =
       let c : Call = call_in (sent o e (world_of q s)) a in
@@ -155,7 +155,7 @@ module _ (s : State) (a : Asked) (h : Holdings)
       ∙ ap (λ x. done (went (sent o e (world_of q x)))) (sym left)
 
   module _ (lawful : Lawful (world_of 16 s)) (counted : IsCounted s) (end : End)
-      (open_is : end_in h a.a0 ≡ Some end) where
+      (open_is : end_named h a.a0 ≡ Some end) where
     abbrev left : World
     left = with_holdings (world_of 16 s) a.process (with_end a.a0 None)
 
@@ -257,7 +257,7 @@ module _ (s : State) (sound : IsSound s) (a : Asked) (are : AreAsked s a) where
 
   -- a0 names an end, which the lowest free one names now
   pub dup_row : (end : End) (k : ℕ) (table : Tables) (pipes : Pipework) (new : State)
-      → IfSome held (λ h. Some end ≡ end_in h a.a0)
+      → IfSome held (λ h. Some end ≡ end_named h a.a0)
       → IfSome held (λ h. Some k ≡ position is_none h.descriptors)
       → table ≡ held_by (with_end k (Some end)) s.table a.process
       → pipes ≡ with_end_more end s.pipes
@@ -265,8 +265,8 @@ module _ (s : State) (sound : IsSound s) (a : Asked) (are : AreAsked s a) where
       → ActsQuietly dup s a Went new × IsCounted new
   dup_row end k table pipes new open_is lowest opens adds answers =
       let h : Holdings = has.0 in
-      let names_it : Some end ≡ end_in h a.a0 =
-      of_held s a h has.1 (λ x. Some end ≡ end_in x a.a0) open_is in
+      let names_it : Some end ≡ end_named h a.a0 =
+      of_held s a h has.1 (λ x. Some end ≡ end_named x a.a0) open_is in
       let first : Some k ≡ position is_none h.descriptors =
       of_held s a h has.1 (λ x. Some k ≡ position is_none x.descriptors) lowest in
       let left : new ≡ answering (with_set s a.process k (Some end) (with_end_more end s.pipes))
@@ -287,51 +287,51 @@ module _ (s : State) (sound : IsSound s) (a : Asked) (are : AreAsked s a) where
       )
 
   -- what a0 names is in range
-  pub named_range : (d : Option End) (end : End) → IfSome held (λ h. d ≡ end_in h a.a0)
+  pub named_range : (d : Option End) (end : End) → IfSome held (λ h. d ≡ end_named h a.a0)
       → d ≡ Some end → IsEnd (Some end)
   named_range d end is same =
       let h : Holdings = has.0 in
       end_range s (lawful_now s sound) sound.counted a.process h has.1 a.a0 end
-      (sym (of_held s a h has.1 (λ x. d ≡ end_in x a.a0) is) ∙ same)
+      (sym (of_held s a h has.1 (λ x. d ≡ end_named x a.a0) is) ∙ same)
 
   -- so an end may come to its pipe
-  pub dup_can_have : (end : End) (k : ℕ) → IfSome held (λ h. Some end ≡ end_in h a.a0)
+  pub dup_can_have : (end : End) (k : ℕ) → IfSome held (λ h. Some end ≡ end_named h a.a0)
       → IfSome held (λ h. Some k ≡ position is_none h.descriptors) → CanHave end s.pipes
   dup_can_have end k open_is lowest =
       let h : Holdings = has.0 in
       can_have s (lawful_now s sound) sound.counted a.process h has.1 k
       (lowest_is_free h.descriptors k
       (of_held s a h has.1 (λ x. Some k ≡ position is_none x.descriptors) lowest))
-      a.a0 end (sym (of_held s a h has.1 (λ x. Some end ≡ end_in x a.a0) open_is))
+      a.a0 end (sym (of_held s a h has.1 (λ x. Some end ≡ end_named x a.a0) open_is))
 
   -- none is free
-  pub dup_full_row : (end : End) (new : State) → IfSome held (λ h. Some end ≡ end_in h a.a0)
+  pub dup_full_row : (end : End) (new : State) → IfSome held (λ h. Some end ≡ end_named h a.a0)
       → IfSome held (λ h. None ≡ position is_none h.descriptors)
       → new ≡ answering s a.thread (minus 24) → ActsQuietly dup s a Went new
   dup_full_row end new open_is lowest answers =
       let h : Holdings = has.0 in
-      dup_full s a h has.1 end new (of_held s a h has.1 (λ x. Some end ≡ end_in x a.a0) open_is)
+      dup_full s a h has.1 end new (of_held s a h has.1 (λ x. Some end ≡ end_named x a.a0) open_is)
       (of_held s a h has.1 (λ x. None ≡ position is_none x.descriptors) lowest) answers
 
   -- what a0 names is a pipe's end that is there
-  pub close_named : (end : End) → IfSome held (λ h. Some end ≡ end_in h a.a0)
+  pub close_named : (end : End) → IfSome held (λ h. Some end ≡ end_named h a.a0)
       → IsNamed (Some end) s.pipes
   close_named end open_is =
       let h : Holdings = has.0 in
       is_named s (lawful_now s sound) sound.counted a.process h has.1 a.a0 end
-      (sym (of_held s a h has.1 (λ x. Some end ≡ end_in x a.a0) open_is))
+      (sym (of_held s a h has.1 (λ x. Some end ≡ end_named x a.a0) open_is))
 
   -- it is closed
   pub close_row : (end : End) (table : Tables) (pipes : Pipework) (new : State)
-      → IfSome held (λ h. Some end ≡ end_in h a.a0)
+      → IfSome held (λ h. Some end ≡ end_named h a.a0)
       → table ≡ held_by (with_end a.a0 None) s.table a.process
       → pipes ≡ without_end (Some end) s.pipes
       → new ≡ answering (record s { table = table; pipes = pipes }) a.thread 0
       → ActsQuietly close s a Went new × IsCounted new
   close_row end table pipes new open_is closed drops answers =
       let h : Holdings = has.0 in
-      let names_it : end_in h a.a0 ≡ Some end =
-      sym (of_held s a h has.1 (λ x. Some end ≡ end_in x a.a0) open_is) in
+      let names_it : end_named h a.a0 ≡ Some end =
+      sym (of_held s a h has.1 (λ x. Some end ≡ end_named x a.a0) open_is) in
       let left_is : new ≡ answering (with_set s a.process a.a0 None
       (without_end (Some end) s.pipes))
       a.thread 0 =

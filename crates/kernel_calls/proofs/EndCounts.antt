@@ -16,7 +16,7 @@ use Rattle.dos_world.specs.declared.End.{End}
 use Rattle.dos_world.specs.declared.End.TheVariants.{Input, Output, Error, PipeRead, PipeWrite}
 use Rattle.dos_laws.proofs.Holders.{all_changed, count_changed}
 use Rattle.dos_laws.proofs.Mapped.{held_all}
-use Rattle.proc_table.specs.Tables.{held_in, end_in}
+use Rattle.proc_table.specs.Tables.{held_in, end_named}
 use Rattle.kernel_objects.specs.Pipework.{Pipework}
 use Rattle.kernel_calls.specs.Ending.{AreDropped, AreNamed, IsNamed, without_end}
 use Rattle.kernel_calls.specs.Ends.{CanHave, with_end_more}
@@ -64,7 +64,7 @@ module _ (ps : List Process) (p : ℕ) (h : Holdings) (k : ℕ) (is : held_in ps
       → ends_of test (changed (on_holdings (with_end k (Some end))) ps p)
       ≡ ends_of test ps + cond (test (Some end)) 1 0
   set_free test none end =
-      let was : cond {A = ℕ} (test (end_in h k)) 1 0 ≡ 0 =
+      let was : cond {A = ℕ} (test (end_named h k)) 1 0 ≡ 0 =
       ap (λ x. cond {A = ℕ} (test x) 1 0) free.closed ∙ ap (λ b. cond {A = ℕ} b 1 0) none in
       omega (arith, was, ends_set test ps p h k (Some end) is free.within)
 
@@ -140,7 +140,7 @@ module _ (s : State) (lawful : Lawful (world_of 16 s)) (counted : IsCounted s) (
       lawful.processes.holdings is
 
   -- what an open descriptor names is in range
-  pub end_range : (k : ℕ) (end : End) → end_in h k ≡ Some end → IsEnd (Some end)
+  pub end_range : (k : ℕ) (end : End) → end_named h k ≡ Some end → IsEnd (Some end)
   end_range k end open_is =
       subst IsEnd (sym (unwrap_or-slice_get h.descriptors k None) ∙ open_is)
       (All-get_or IsEnd h.descriptors k None (open_within h.descriptors k end open_is)
@@ -148,9 +148,9 @@ module _ (s : State) (lawful : Lawful (world_of 16 s)) (counted : IsCounted s) (
 
   -- an open descriptor is counted
   one_counts : (test : Option End → Bool) → test None ≡ false → (k : ℕ) (end : End)
-      → end_in h k ≡ Some end → test (Some end) ≡ true → 0 < ends_of test ps
+      → end_named h k ≡ Some end → test (Some end) ≡ true → 0 < ends_of test ps
   one_counts test none k end open_is passes =
-      let here : cond {A = ℕ} (test (end_in h k)) 1 0 ≡ 1 =
+      let here : cond {A = ℕ} (test (end_named h k)) 1 0 ≡ 1 =
       ap (λ x. cond {A = ℕ} (test x) 1 0) open_is ∙ ap (λ b. cond {A = ℕ} b 1 0) passes in
       let gone : cond {A = ℕ} (test None) 1 0 ≡ 0 = ap (λ b. cond {A = ℕ} b 1 0) none in
       omega (
@@ -182,7 +182,7 @@ module _ (s : State) (lawful : Lawful (world_of 16 s)) (counted : IsCounted s) (
       )
 
   -- a pipe whose end is named can have one more, where a descriptor is free
-  pub can_have : (k : ℕ) → IsFreeAt h.descriptors k → (n : ℕ) (end : End) → end_in h n ≡ Some end
+  pub can_have : (k : ℕ) → IsFreeAt h.descriptors k → (n : ℕ) (end : End) → end_named h n ≡ Some end
       → CanHave end s.pipes
   can_have k free n (PipeRead pipe) open_is =
       let same : reads_pipe pipe (Some (PipeRead pipe)) ≡ true = eq-eqb pipe pipe refl in
@@ -218,7 +218,7 @@ module _ (s : State) (lawful : Lawful (world_of 16 s)) (counted : IsCounted s) (
 
   -- ---- an end less
 
-  module _ (k : ℕ) (end : End) (open_is : end_in h k ≡ Some end) where
+  module _ (k : ℕ) (end : End) (open_is : end_named h k ≡ Some end) where
     abbrev one : List (Option End)
     one = Some end ∷ []
 
@@ -228,7 +228,7 @@ module _ (s : State) (lawful : Lawful (world_of 16 s)) (counted : IsCounted s) (
     ends_left : (test : Option End → Bool) → test None ≡ false
         → ends_of test left + count_by test one ≡ ends_of test ps
     ends_left test none =
-        let was : cond {A = ℕ} (test (end_in h k)) 1 0 ≡ cond (test (Some end)) 1 0 =
+        let was : cond {A = ℕ} (test (end_named h k)) 1 0 ≡ cond (test (Some end)) 1 0 =
         ap (λ x. cond {A = ℕ} (test x) 1 0) open_is in
         let gone : cond {A = ℕ} (test None) 1 0 ≡ 0 = ap (λ b. cond {A = ℕ} b 1 0) none in
         omega (

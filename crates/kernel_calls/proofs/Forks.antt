@@ -23,7 +23,7 @@ use Rattle.dos_laws.proofs.StandsChildren.{all_holdings-push}
 use Rattle.dos_laws.proofs.StandsForks.{copied_space_moved}
 use Rattle.kernel_objects.specs.Pipework.{Pipework}
 use Rattle.page_store.specs.Store.{Store, uses_at}
-use Rattle.proc_table.specs.Tables.{IsProcess, IsThread, Tables, held_in, thread_by, thread_in}
+use Rattle.proc_table.specs.Tables.{IsProcess, IsLiveThread, Tables, held_in, thread_by, thread_in}
 use Rattle.kernel_mem.proofs.Children.{held_last, to-process}
 use Rattle.kernel_mem.specs.Forking.{AreTaken, fork_call, with_space}
 use Rattle.kernel_mem.specs.Memory.{entries_of}
@@ -233,8 +233,8 @@ module _ (s : State) (a : Asked) (sound : IsSound s) (asked : AreAsked s a) wher
           sum_by-cons f begun [],
         )
 
-    pub caller_stays : IsThread table.threads a.thread
-    caller_stays = subst (λ ts. IsThread ts a.thread) (sym is_made.threads)
+    pub caller_stays : IsLiveThread table.threads a.thread
+    caller_stays = subst (λ ts. IsLiveThread ts a.thread) (sym is_made.threads)
         (thread_stands s.table.threads (Some (child_thread call.world thread_is.0) ∷ []) a.thread
         asked.live)
 

@@ -17,7 +17,7 @@ use Rattle.dos_io.specs.declared.exchange.Exchange.TheVariants.{Input as input_e
 use Rattle.dos_laws.specs.Standing.{IsPost}
 use Rattle.kernel_mem.specs.MemoryWorld.{in_world}
 use Rattle.page_store.specs.Store.{Store}
-use Rattle.proc_table.specs.Tables.{held_in, end_in}
+use Rattle.proc_table.specs.Tables.{held_in, end_named}
 use Rattle.kernel_calls.specs.StateWorld.{IsSound, base, sent, world_of}
 use Rattle.kernel_calls.specs.Plays.{PlaysOnce}
 use Rattle.kernel_calls.specs.CallResults.{AreAsked, asked_count, call_in, source_of}
@@ -71,7 +71,7 @@ input_plays s a count moved frames buffer before after new first same within lon
 -- ---- where a0 reads from
 
 pub reads_as : (s : State) (sound : IsSound s) (a : Asked) → AreAsked s a → (d end : Option End)
-    → IfSome (held_in s.table.processes a.process) (λ h. d ≡ end_in h a.a0) → d ≡ end
+    → IfSome (held_in s.table.processes a.process) (λ h. d ≡ end_named h a.a0) → d ≡ end
     → (q : ℕ) (o e : List ℕ)
     → read (call_in (sent o e (world_of q s)) a)
     ≡ read_by end (call_in (sent o e (world_of q s)) a)

@@ -18,9 +18,9 @@ use Rattle.dos_laws.proofs.Mapped.{entry_taken, not_free}
 use Rattle.dos_laws.proofs.Outside.{lawful-counted}
 use Rattle.kernel_objects.specs.Pipework.{Pipework}
 use Rattle.page_store.specs.Store.{Store, joined}
-use Rattle.proc_table.specs.Tables.{Tables, IsThread, IsProcess, thread_in, thread_by, ran}
+use Rattle.proc_table.specs.Tables.{Tables, IsLiveThread, IsProcess, thread_in, thread_by, ran}
 use Rattle.kernel_mem.specs.MemoryWorld.{IsCaller, NamesUsedFrames, KeepsUses}
-use Rattle.kernel_calls.specs.StateWorld.{IsCounted, IsReady, IsSound, Stands, world_of}
+use Rattle.kernel_calls.specs.StateWorld.{IsCounted, IsReady, IsSound, StandsButOwners, world_of}
 use Rattle.kernel_calls.specs.CallResults.{AreAsked}
 use Rattle.kernel_calls.specs.declared.state.State.{State}
 use Rattle.kernel_calls.specs.declared.state.Asked.{Asked}
@@ -38,7 +38,7 @@ module _ (s : State) (sound : IsSound s) where
   now = lawful_now s sound
 
   -- the process of a live thread lives
-  pub caller : (t : ℕ) → IsThread s.table.threads t → IsCaller s.table t
+  pub caller : (t : ℕ) → IsLiveThread s.table.threads t → IsCaller s.table t
   caller t live = record {
     thread = live;
     process =
@@ -50,7 +50,7 @@ module _ (s : State) (sound : IsSound s) where
       by None h = tt
       by (Some thread) h = h.process
 
-  pub process_alive : (t p : ℕ) → IsThread s.table.threads t
+  pub process_alive : (t p : ℕ) → IsLiveThread s.table.threads t
       → IfSome (thread_in s.table.threads t) (λ thread. p ≡ thread.process)
       → IsProcess s.table.processes p
   process_alive t p live own = by (thread_in s.table.threads t) live own (caller t live).process
@@ -98,7 +98,7 @@ sound-counted s h sound =
 
 -- ---- where all stands but owners
 
-module _ (s new : State) (stood : Stands s new) (round : new.round ≡ s.round) where
+module _ (s new : State) (stood : StandsButOwners s new) (round : new.round ≡ s.round) where
   pub counted-stands : IsCounted s → IsCounted new
   counted-stands counted = counted_like s new (record {
     home = record {
@@ -167,7 +167,7 @@ module _ (s new : State) (stood : Stands s new) (round : new.round ≡ s.round) 
 
 -- ---- a call that is paid for
 
-pub asked_charged : (s : State) (a : Asked) → IsThread s.table.threads a.thread
+pub asked_charged : (s : State) (a : Asked) → IsLiveThread s.table.threads a.thread
     → IsReady s.table.threads a.thread
     → IfSome (thread_in s.table.threads a.thread) (λ thread. a.process ≡ thread.process)
     → AreAsked (record s { table = thread_by charged s.table a.thread }) a
@@ -196,8 +196,8 @@ asked_charged s a live ready process = record {
 pub stands-restored : (s paid after new : State) (t budget : ℕ) (r : Registers)
     → IfSome (thread_in s.table.threads t) (λ thread. r ≡ thread.registers)
     → IfSome (thread_in s.table.threads t) (λ thread. budget ≡ thread.budget)
-    → paid ≡ record s { table = thread_by charged s.table t } → Stands paid after
-    → new ≡ record after { table = thread_by (ran r budget) after.table t } → Stands s new
+    → paid ≡ record s { table = thread_by charged s.table t } → StandsButOwners paid after
+    → new ≡ record after { table = thread_by (ran r budget) after.table t } → StandsButOwners s new
 stands-restored s paid after new t budget r registers left paid_is stood is = record {
   table = ap (λ (x : State). x.table) is
       ∙ ap (λ T. thread_by (ran r budget) T t) (stood.table ∙ ap (λ (x : State). x.table) paid_is)

@@ -3,7 +3,7 @@ use Rattle.std.proofs.Common.{◌≡◌, ℕ, Bool, true, false, cond, List, [],
 use Rattle.std.proofs.Common.{ap, ◌∙◌}
 use Rattle.std.specs.Prelude.{◌==◌, find}
 use Rattle.dos_world.specs.Services.{Service as FlatService, services, service_by, service_of}
-use Rattle.kernel_calls.specs.Built.{row_of, number_of, built_services, named}
+use Rattle.kernel_calls.specs.Built.{row_of, service_number, built_services, named}
 use Rattle.kernel_calls.specs.Built.{definition_by}
 use Rattle.kernel_calls.specs.declared.naming.Service.{Service}
 
@@ -14,7 +14,7 @@ rows_are = refl
 
 module _ (number : ℕ) where
   abbrev has_number : Service → Bool
-  has_number service = number_of service == number
+  has_number service = service_number service == number
 
   -- the service of a number in a list of rows
   row_found : (names : List Service)

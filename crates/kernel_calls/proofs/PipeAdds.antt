@@ -13,7 +13,7 @@ use Rattle.dos_world.specs.Lawful.{IsEnd}
 use Rattle.dos_world.specs.declared.End.{End}
 use Rattle.dos_world.specs.declared.End.TheVariants.{Input, Output, Error, PipeRead, PipeWrite}
 use Rattle.kernel_objects.specs.Pipework.{Pipework}
-use Rattle.proc_table.specs.Tables.{end_in}
+use Rattle.proc_table.specs.Tables.{end_named}
 use Rattle.kernel_calls.specs.Children.{AreAdded, CanComeAgain, CanName, with_named}
 use Rattle.kernel_calls.proofs.EndCounts.{one_more}
 use Rattle.kernel_calls.proofs.PipeEnds.{more-no, more-none, open-by, open-by-second}
@@ -138,13 +138,13 @@ module _ (o : Option Holdings) (old s : Pipework) (i : ℕ) (e : Option End) (al
     (count : IfSome o (λ h. length h.descriptors ≡ 32))
     (can : IfSome o (λ h. CanComeAgain h.descriptors old))
     (added : IfSome o (λ h. AreAdded (take i h.descriptors) old s))
-    (is : IfSome o (λ h. e ≡ end_in h i)) (below : i < 32) where
+    (is : IfSome o (λ h. e ≡ end_named h i)) (below : i < 32) where
   pub end_can : CanName e s
   end_can = by o alive count can added is
     where
       by : (o : Option Holdings) → IsSome o → IfSome o (λ h. length h.descriptors ≡ 32)
           → IfSome o (λ h. CanComeAgain h.descriptors old)
-          → IfSome o (λ h. AreAdded (take i h.descriptors) old s) → IfSome o (λ h. e ≡ end_in h i)
+          → IfSome o (λ h. AreAdded (take i h.descriptors) old s) → IfSome o (λ h. e ≡ end_named h i)
           → CanName e s
       by None a c n d is = absurd (cc)
       by (Some h) a c n d is =
@@ -157,7 +157,7 @@ module _ (o : Option Holdings) (old s : Pipework) (i : ℕ) (e : Option End) (al
     where
       by : (o : Option Holdings) → IfSome o (λ h. length h.descriptors ≡ 32)
           → IfSome o (λ h. CanComeAgain h.descriptors old)
-          → IfSome o (λ h. AreAdded (take i h.descriptors) old s) → IfSome o (λ h. e ≡ end_in h i)
+          → IfSome o (λ h. AreAdded (take i h.descriptors) old s) → IfSome o (λ h. e ≡ end_named h i)
           → IfSome o (λ h. AreAdded (take (i + 1) h.descriptors) old new)
       by None c n d is = tt
       by (Some h) c n d is =

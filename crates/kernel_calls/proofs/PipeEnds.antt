@@ -10,7 +10,7 @@ use Rattle.std.proofs.lemmas.List.Elements.{All-get_or}
 use Rattle.std.proofs.lemmas.List.Sums.{count_by_more_no, count_by_more_yes, sum_by-take-drop}
 use Rattle.std.proofs.lemmas.Option.{unwrap_or-slice_get}
 use Rattle.dos_world.specs.World.{Holdings}
-use Rattle.proc_table.specs.Tables.{end_in}
+use Rattle.proc_table.specs.Tables.{end_named}
 use Rattle.dos_world.specs.Counts.{reads_pipe, writes_pipe}
 use Rattle.dos_world.specs.Lawful.{IsEnd}
 use Rattle.dos_world.specs.declared.End.{End}
@@ -291,13 +291,13 @@ module _ (o : Option Holdings) (old s : Pipework) (i : ℕ) (e : Option End) (al
     (count : IfSome o (λ h. length h.descriptors ≡ 32))
     (named : IfSome o (λ h. AreNamed h.descriptors old))
     (dropped : IfSome o (λ h. AreDropped (take i h.descriptors) old s))
-    (is : IfSome o (λ h. e ≡ end_in h i)) (low : i < 32) where
+    (is : IfSome o (λ h. e ≡ end_named h i)) (low : i < 32) where
   pub end-named : IsNamed e s
   end-named = by o alive count named dropped is
     where
       by : (o : Option Holdings) → IsSome o → IfSome o (λ h. length h.descriptors ≡ 32)
           → IfSome o (λ h. AreNamed h.descriptors old)
-          → IfSome o (λ h. AreDropped (take i h.descriptors) old s) → IfSome o (λ h. e ≡ end_in h i)
+          → IfSome o (λ h. AreDropped (take i h.descriptors) old s) → IfSome o (λ h. e ≡ end_named h i)
           → IsNamed e s
       by None a c n d is = absurd (cc)
       by (Some h) a c n d is =
@@ -310,7 +310,7 @@ module _ (o : Option Holdings) (old s : Pipework) (i : ℕ) (e : Option End) (al
     where
       by : (o : Option Holdings) → IsSome o → IfSome o (λ h. length h.descriptors ≡ 32)
           → IfSome o (λ h. AreNamed h.descriptors old)
-          → IfSome o (λ h. AreDropped (take i h.descriptors) old s) → IfSome o (λ h. e ≡ end_in h i)
+          → IfSome o (λ h. AreDropped (take i h.descriptors) old s) → IfSome o (λ h. e ≡ end_named h i)
           → IfSome o (λ h. AreDropped (take (i + 1) h.descriptors) old new)
       by None a c n d is = tt
       by (Some h) a c n d is =

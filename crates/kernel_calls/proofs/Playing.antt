@@ -12,7 +12,7 @@ use Rattle.dos_io.specs.Borders.{BorderState, BorderStands, Crossing, ShimFails}
 use Rattle.dos_io.specs.Borders.{SinkFails, Tells, bytes_to, exchanged, exchanges_of, faults_of}
 use Rattle.dos_io.specs.Borders.{going_to, put, told_of}
 use Rattle.dos_io.specs.Exchanges.{answer_of}
-use Rattle.dos_io.specs.Outside.{IsFront, Rose, counted, grown}
+use Rattle.dos_io.specs.Outside.{IsFront, Rose, counted_to_limit, grown}
 use Rattle.dos_io.specs.Shims.{HasNoEnd}
 use Rattle.dos_io.specs.declared.border.Stream.{Stream}
 use Rattle.dos_io.specs.declared.border.Stream.TheVariants.{Output, Error}
@@ -173,7 +173,7 @@ plays_told q p left s s' b b' h told = subst HasNoEnd (sym h.tells.exchanges)
 pub shim_fails_then : (b b' b'' : BorderState) (why : ShimStop) → BorderStands b b'
     → ShimFails b' why b'' → ShimFails b why b''
 shim_fails_then b b' b'' why h k = record {
-  stops = k.stops ∙ ap counted h.shim.stops;
+  stops = k.stops ∙ ap counted_to_limit h.shim.stops;
   last = k.last;
   faults = λ s. k.faults s ∙ h.faults s;
 }

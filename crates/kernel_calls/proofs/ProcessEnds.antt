@@ -20,7 +20,7 @@ use Rattle.dos_world.specs.Counts.{uses_of, is_mapped, is_open, owner_if_mapped,
 use Rattle.dos_world.specs.Counts.{reads_pipe, writes_pipe, bytes_if_mapped}
 use Rattle.dos_world.specs.declared.Owner.{Owner}
 use Rattle.dos_world.specs.declared.Owner.TheVariants.{Free}
-use Rattle.dos_laws.specs.Ends.{ended_processes, closed}
+use Rattle.dos_laws.specs.Ends.{ended_processes, without_process}
 use Rattle.dos_laws.proofs.EveryEnd.{lawful-process_ended}
 use Rattle.dos_laws.proofs.StandsEnds.{among}
 use Rattle.dos_laws.proofs.EndedProcesses.{orphans_have}
@@ -28,7 +28,7 @@ use Rattle.dos_laws.proofs.Ends.{length-map_from, get_or-map_from}
 use Rattle.dos_laws.proofs.Mapped.{some_is, held_all}
 use Rattle.page_store.specs.Store.{Store, joined, shown, uses_at, owner_at, page_at}
 use Rattle.page_store.proofs.Joined.{zeros-shown}
-use Rattle.proc_table.specs.Tables.{Tables, IsProcess, IsThread, thread_in, held_in, held_by}
+use Rattle.proc_table.specs.Tables.{Tables, IsProcess, IsLiveThread, thread_in, held_in, held_by}
 use Rattle.proc_table.specs.Tables.{thread_by, with_ended}
 use Rattle.kernel_mem.specs.Memory.{AreUsed, IsDropped, entries_of}
 use Rattle.kernel_mem.specs.MemoryWorld.{space_in}
@@ -282,7 +282,7 @@ module _ (s : State) (sound : IsSound s) (p status : ℕ) (live : IsProcess s.ta
 
     -- before its parent is told
     closed_is : (q : ℕ) (o e : List ℕ)
-        → tidied (closed (sent o e (world_of q s)) p status) ≡ sent o e (world_of q mid)
+        → tidied (without_process (sent o e (world_of q s)) p status) ≡ sent o e (world_of q mid)
     closed_is q o e =
         ap (λ bytes. with_lists (sent o e (world_of q s)) bytes
         (map_from 0 (owner_if_mapped left) s.frames.owners)
@@ -332,7 +332,7 @@ module _ (s : State) (sound : IsSound s) (p status : ℕ) (live : IsProcess s.ta
       pub ends : (q : ℕ) (o e : List ℕ)
           → process_ended (sent o e (world_of q s)) p status ≡ sent o e (world_of q (new parent))
       ends q o e =
-          ap (λ n. posted (tidied (closed (sent o e (world_of q s)) p status)) n 17)
+          ap (λ n. posted (tidied (without_process (sent o e (world_of q s)) p status)) n 17)
           (parent_is q o e)
           ∙ ap (λ v. posted v parent 17) (closed_is q o e) ∙ told_is parent q o e
 
@@ -387,7 +387,7 @@ module _ (s : State) (sound : IsSound s) (p status : ℕ) (live : IsProcess s.ta
 
 -- the first of a process's threads lives
 pub first-lives : (threads : List (Option Thread)) (p t : ℕ)
-    → Some t ≡ first_of (numbers_of (belongs_to p) threads) → IsThread threads t
+    → Some t ≡ first_of (numbers_of (belongs_to p) threads) → IsLiveThread threads t
 first-lives threads p t e =
     by (thread_in threads t)
     (sym (among (belongs_to p) refl threads t)

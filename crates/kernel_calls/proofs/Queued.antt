@@ -16,7 +16,7 @@ use Rattle.dos_laws.proofs.Stands.{times, times-cons}
 use Rattle.dos_laws.proofs.StandsSignals.{all-filtered}
 use Rattle.dos_laws.proofs.StandsEnds.{among}
 use Rattle.kernel_objects.specs.Queue.{first_on, sleeps_on}
-use Rattle.proc_table.specs.Tables.{Tables, IsThread, thread_in, thread_by}
+use Rattle.proc_table.specs.Tables.{Tables, IsLiveThread, thread_in, thread_by}
 use Rattle.kernel_calls.specs.Queued.{AreQueued, AreWoken, queued, threads_on}
 use Rattle.kernel_calls.proofs.Changed.{lives_still}
 
@@ -36,7 +36,7 @@ all_times P (s ∷ ss) each = All-cons (λ (s : Sleeper). P s.thread) s ss
 -- who sleeps lives, and stands in the queue once
 pub lawful_queued : (w : World) → Lawful w → AreQueued w.threads w.sleepers
 lawful_queued w lawful = record {
-  live = all_times (IsThread w.threads) w.sleepers
+  live = all_times (IsLiveThread w.threads) w.sleepers
       (λ t some. lives (thread_at w t) (omega (arith, lawful.threads.asleep t, some)));
   once = λ t. omega (arith, lawful.threads.asleep t, one (thread_at w t));
 }
@@ -119,7 +119,7 @@ at_most_one f (u ∷ us) each =
     omega (arith, sum_by-cons f u us, each u, at_most_one f us each)
 
 -- Where a live thread doesn't sleep, another may: at most 64 threads live.
-pub queue_room : (w : World) (t : ℕ) → Lawful w → IsThread w.threads t
+pub queue_room : (w : World) (t : ℕ) → Lawful w → IsLiveThread w.threads t
     → turns_asleep (thread_at w t) ≡ 0 → length w.sleepers < 64
 queue_room w t lawful live up =
     omega (
@@ -135,11 +135,11 @@ queue_room w t lawful live up =
     some_is None live = cc
     some_is (Some thread) live = refl
 
-    is_listed : (t : ℕ) → IsThread w.threads t → list_any (λ u. u == t) (live_threads w) ≡ true
+    is_listed : (t : ℕ) → IsLiveThread w.threads t → list_any (λ u. u == t) (live_threads w) ≡ true
     is_listed t live = among is_some refl w.threads t ∙ some_is (thread_in w.threads t) live
 
     listed_all : All (λ s. list_any (λ u. u == s.thread) (live_threads w) ≡ true) w.sleepers
-    listed_all = All-weaker (λ (s : Sleeper). IsThread w.threads s.thread)
+    listed_all = All-weaker (λ (s : Sleeper). IsLiveThread w.threads s.thread)
         (λ s. list_any (λ u. u == s.thread) (live_threads w) ≡ true)
         (λ s. is_listed s.thread) w.sleepers (lawful_queued w lawful).live
 
@@ -249,9 +249,9 @@ fewer t test (s ∷ ss) = by (test s) (fewer t test ss)
 pub queued_woken : (T : Tables) (ss : List Sleeper) (t : ℕ) → AreQueued T.threads ss
     → AreQueued (thread_by (awake 0) T t).threads (filter (is_other t) ss)
 queued_woken T ss t are = record {
-  live = all-filtered (λ s. IsThread (thread_by (awake 0) T t).threads s.thread) (is_other t) ss
-      (All-weaker (λ (s : Sleeper). IsThread T.threads s.thread)
-      (λ s. IsThread (thread_by (awake 0) T t).threads s.thread)
+  live = all-filtered (λ s. IsLiveThread (thread_by (awake 0) T t).threads s.thread) (is_other t) ss
+      (All-weaker (λ (s : Sleeper). IsLiveThread T.threads s.thread)
+      (λ s. IsLiveThread (thread_by (awake 0) T t).threads s.thread)
       (λ s live. lives_still (awake 0) T.threads t s.thread live) ss are.live);
   once = λ u. omega (arith, fewer u (is_other t) ss, are.once u);
 }
@@ -272,7 +272,7 @@ pub record AreWaking (frame offset most : ℕ) (old : Tables) (old_queue : List 
   pub count_is : length (take most (threads_on frame offset old_queue))
       ≡ count + length (take (most - count) (threads_on frame offset queue))
   pub are : AreQueued table.threads queue
-  pub lives : (t : ℕ) → IsThread old.threads t → IsThread table.threads t
+  pub lives : (t : ℕ) → IsLiveThread old.threads t → IsLiveThread table.threads t
   pub processes : table.processes ≡ old.processes
   pub room : table.room ≡ old.room
 

@@ -13,10 +13,10 @@ use Rattle.dos_world.specs.declared.End.TheVariants.{Input, Output, Error, PipeR
 use Rattle.dos_io.specs.declared.border.Stream.{Stream}
 use Rattle.dos_io.specs.declared.border.Stream.TheVariants.{Output as output_stream}
 use Rattle.dos_io.specs.declared.border.Stream.TheVariants.{Error as error_stream}
-use Rattle.proc_table.specs.Tables.{thread_by, held_in, end_in}
+use Rattle.proc_table.specs.Tables.{thread_by, held_in, end_named}
 use Rattle.kernel_mem.specs.MemoryWorld.{in_world}
 use Rattle.kernel_objects.specs.Pipework.{Pipework}
-use Rattle.kernel_calls.specs.StateWorld.{IsSound, Stands, world_of, base, sent}
+use Rattle.kernel_calls.specs.StateWorld.{IsSound, StandsButOwners, world_of, base, sent}
 use Rattle.kernel_calls.specs.Plays.{with_more}
 use Rattle.kernel_calls.specs.CallResults.{AreAsked, call_in, asked_count, are_readable, target_of}
 use Rattle.kernel_calls.specs.CallResults.{write_to}
@@ -49,7 +49,7 @@ moved s b d c e is = ap (λ (t : Bool). cond t (returns 0 c) (cond b (s c) (refu
 pub sent-bytes : (s m new : State) (a : Asked) (stream : Stream) (bytes : List ℕ)
     → asked_count a ≢ 0 → ((q : ℕ) (o e : List ℕ) → are_readable (sent o e (world_of q s)) a ≡ true)
     → ((w : World) → copied_in (in_world w s.frames s.table) a.thread a.a1 (asked_count a)
-    ≡ (in_world w m.frames m.table, bytes)) → m.round ≡ s.round → Stands s m
+    ≡ (in_world w m.frames m.table, bytes)) → m.round ≡ s.round → StandsButOwners s m
     → new ≡ answering m a.thread (asked_count a) → (q : ℕ) (o e : List ℕ)
     → transfers (write_to stream) (are_readable (sent o e (world_of q s)) a)
     (call_in (sent o e (world_of q s)) a)
@@ -85,10 +85,10 @@ sent-bytes s m new a stream bytes some all copied same stood is q o e =
 
 -- what the table says of a descriptor is what the call's descriptor names
 pub descriptor_is : (w : World) (a : Asked) (d : Option End) → IsSome (live_process w a.process)
-    → IfSome (live_process w a.process) (λ h. d ≡ end_in h a.a0) → descriptor (call_in w a) ≡ d
+    → IfSome (live_process w a.process) (λ h. d ≡ end_named h a.a0) → descriptor (call_in w a) ≡ d
 descriptor_is w a d live is = by (live_process w a.process) live is
   where
-    by : (o : Option Holdings) → IsSome o → IfSome o (λ h. d ≡ end_in h a.a0)
+    by : (o : Option Holdings) → IsSome o → IfSome o (λ h. d ≡ end_named h a.a0)
         → unwrap_or (slice_get
         (elim o as (λ _. List (Option End)) [ None ↦ [] | Some h ↦ h.descriptors ]) a.a0)
         None ≡ d
@@ -97,7 +97,7 @@ descriptor_is w a d live is = by (live_process w a.process) live is
 
 -- so the call's descriptor is this end
 pub names_end : (s : State) (sound : IsSound s) (a : Asked) → AreAsked s a → (d end : Option End)
-    → IfSome (held_in s.table.processes a.process) (λ h. d ≡ end_in h a.a0) → d ≡ end
+    → IfSome (held_in s.table.processes a.process) (λ h. d ≡ end_named h a.a0) → d ≡ end
     → (q : ℕ) (o e : List ℕ) → descriptor (call_in (sent o e (world_of q s)) a) ≡ end
 names_end s sound a are d end is same q o e =
     descriptor_is (sent o e (world_of q s)) a d
@@ -105,7 +105,7 @@ names_end s sound a are d end is same q o e =
 
 -- and it writes what a write to that end writes
 pub writes_as : (s : State) (sound : IsSound s) (a : Asked) → AreAsked s a → (d end : Option End)
-    → IfSome (held_in s.table.processes a.process) (λ h. d ≡ end_in h a.a0) → d ≡ end
+    → IfSome (held_in s.table.processes a.process) (λ h. d ≡ end_named h a.a0) → d ≡ end
     → (q : ℕ) (o e : List ℕ)
     → write (call_in (sent o e (world_of q s)) a)
     ≡ write_by end (call_in (sent o e (world_of q s)) a)

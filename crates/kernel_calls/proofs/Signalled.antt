@@ -5,7 +5,7 @@ use Rattle.std.specs.Prelude.{slice_index}
 use Rattle.dos_world.specs.Numbered.{numbers_of}
 use Rattle.dos_world.specs.World.{Holdings, Thread, Registers, belongs_to, first_of}
 use Rattle.dos_world.specs.Kernel.{pending_with}
-use Rattle.proc_table.specs.Tables.{Tables, IsThread, restored_in, thread_in, thread_by}
+use Rattle.proc_table.specs.Tables.{Tables, IsLiveThread, restored_in, thread_in, thread_by}
 use Rattle.kernel_calls.specs.Ending.{posted_in}
 use Rattle.kernel_calls.proofs.Counted.{all_counted}
 
@@ -45,7 +45,7 @@ post_room T p signal is_none = post_keeps (λ (U : Tables). U.room ≡ T.room) T
     refl (λ t. refl)
 
 -- what a handler that is left leaves
-pub restored_counted : (T new : Tables) (t : ℕ) → IsThread T.threads t
+pub restored_counted : (T new : Tables) (t : ℕ) → IsLiveThread T.threads t
     → IfSome (thread_in T.threads t) (λ thread. new ≡ restored_in thread.saved T t)
     → (all_counted new.processes ≡ all_counted T.processes) × (new.room ≡ T.room)
 restored_counted T new t live is = by (thread_in T.threads t) live is

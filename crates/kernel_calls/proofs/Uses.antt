@@ -16,7 +16,7 @@ use Rattle.dos_world.specs.declared.Owner.TheVariants.{Free}
 use Rattle.dos_laws.specs.Ends.{ended_processes}
 use Rattle.dos_laws.proofs.EndedProcesses.{before, orphans_have}
 use Rattle.dos_laws.proofs.Ends.{length-map_from, get_or-map_from}
-use Rattle.page_store.specs.Store.{Store, cleared, joined, shown, owner_at, page_at, uses_at}
+use Rattle.page_store.specs.Store.{Store, zeroed, joined, shown, owner_at, page_at, uses_at}
 use Rattle.page_store.proofs.Joined.{joined-tidied, shown-cleared}
 use Rattle.proc_table.specs.Tables.{held_in}
 use Rattle.kernel_mem.specs.Memory.{IsDropped, entries_of}
@@ -144,6 +144,6 @@ bytes-dropped left gone old new dropped count uses blank =
     ∙ ap (λ k. cond (is_mapped left k) (shown (page_at old frame)) zero_page) here)
   where
     shows : (b : Bool) (page : Option (List ℕ))
-        → shown (cond b (cleared page) page) ≡ cond b zero_page (shown page)
+        → shown (cond b (zeroed page) page) ≡ cond b zero_page (shown page)
     shows true page = shown-cleared page
     shows false page = refl

@@ -28,10 +28,10 @@ use Rattle.dos_laws.proofs.Mapped.{some_is}
 use Rattle.dos_laws.proofs.Numbers.{changed_there}
 use Rattle.kernel_objects.specs.Pipework.{bytes_at, ends_at}
 use Rattle.page_store.specs.Store.{Store as Held}
-use Rattle.proc_table.specs.Tables.{IsProcess, end_in, held_in, thread_in}
+use Rattle.proc_table.specs.Tables.{IsProcess, end_named, held_in, thread_in}
 use Rattle.kernel_mem.specs.MemoryWorld.{entry_in, in_world, space_in}
 use Rattle.kernel_calls.specs.StateWorld.{IsCounted, IsSound, sent, world_of}
-use Rattle.kernel_calls.specs.CallResults.{asked_count, call_in, paid}
+use Rattle.kernel_calls.specs.CallResults.{asked_count, call_in, paid_state}
 use Rattle.kernel_calls.specs.declared.state.State.{State}
 use Rattle.kernel_calls.specs.declared.state.Asked.{Asked}
 use Rattle.kernel_calls.proofs.EndCounts.{end_range}
@@ -45,7 +45,7 @@ module _ (s : State) (t q : ℕ) (o e : List ℕ) where
   before = sent o e (world_of q s)
 
   abbrev after : World
-  after = sent o e (world_of q (paid s t))
+  after = sent o e (world_of q (paid_state s t))
 
   pub entry_paid : (address : ℕ) → entry_at after t address ≡ entry_in s.table t address
   entry_paid address =
@@ -177,7 +177,7 @@ module _ (pipe : ℕ) (c : Call) (some : count_of c ≢ 0) where
 module _ (s : State) (counted : IsCounted s) (a : Asked) (pipe q : ℕ) (o e : List ℕ)
     (reached tells : Bool) where
   abbrev call : Call
-  call = call_in (sent o e (world_of q (paid s a.thread))) a
+  call = call_in (sent o e (world_of q (paid_state s a.thread))) a
 
   abbrev IsReached : Access → Type 0
   IsReached access = (w : World) (frames : Held) → reached
@@ -222,8 +222,8 @@ module _ (s : State) (counted : IsCounted s) (a : Asked) (pipe q : ℕ) (o e : L
 -- what an open descriptor of a live process names is in range
 pub named_range : (s : State) → IsSound s → (p k : ℕ) (end : End)
     → IsProcess s.table.processes p
-    → IfSome (held_in s.table.processes p) (λ h. Some end ≡ end_in h k) → IsEnd (Some end)
+    → IfSome (held_in s.table.processes p) (λ h. Some end ≡ end_named h k) → IsEnd (Some end)
 named_range s sound p k end live same =
     let had = some_is (held_in s.table.processes p) live in
     end_range s (lawful_now s sound) sound.counted p had.0 had.1 k end
-    (sym (subst (λ (x : Option Holdings). IfSome x (λ h. Some end ≡ end_in h k)) had.1 same))
+    (sym (subst (λ (x : Option Holdings). IfSome x (λ h. Some end ≡ end_named h k)) had.1 same))

@@ -61,8 +61,8 @@ built_services =
 -- ---- what follows from them
 
 -- the number of a service
-abbrev pub number_of : Service → ℕ
-number_of service = (row_of service).0
+abbrev pub service_number : Service → ℕ
+service_number service = (row_of service).0
 
 -- what it does
 abbrev pub definition_of : Service → FlatService
@@ -74,7 +74,7 @@ quiet_definition_of service = (quiet_row_of service).1
 
 -- the service of this number, where there is one
 abbrev pub named : ℕ → Option Service
-named number = find (λ service. number_of service == number) built_services
+named number = find (λ service. service_number service == number) built_services
 
 -- what is done for a call of it; without one the call is refused
 abbrev pub definition_by : Option Service → FlatService

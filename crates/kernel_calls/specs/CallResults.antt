@@ -11,7 +11,7 @@ use Rattle.dos_world.specs.declared.End.TheVariants.{Input, Output, Error, PipeR
 use Rattle.dos_io.specs.declared.border.Stream.{Stream}
 use Rattle.dos_io.specs.declared.border.Stream.TheVariants.{Output as output_stream}
 use Rattle.dos_io.specs.declared.border.Stream.TheVariants.{Error as error_stream}
-use Rattle.proc_table.specs.Tables.{IsThread, thread_by, thread_in}
+use Rattle.proc_table.specs.Tables.{IsLiveThread, thread_by, thread_in}
 use Rattle.kernel_calls.specs.StateWorld.{IsReady, world_of, sent, way_in}
 use Rattle.kernel_calls.specs.declared.state.State.{State}
 use Rattle.kernel_calls.specs.declared.state.Asked.{Asked}
@@ -36,12 +36,12 @@ call_in w a = record {
 }
 
 -- the state once t's call is paid for
-abbrev pub paid : State → ℕ → State
-paid s t = record s { table = thread_by charged s.table t }
+abbrev pub paid_state : State → ℕ → State
+paid_state s t = record s { table = thread_by charged s.table t }
 
 -- the thread that asks lives and is ready, and its process is the one that is said
 pub record AreAsked (s : State) (a : Asked) : Type 0 where
-  pub live : IsThread s.table.threads a.thread
+  pub live : IsLiveThread s.table.threads a.thread
   pub ready : IsReady s.table.threads a.thread
   pub process : IfSome (thread_in s.table.threads a.thread) (λ thread. a.process ≡ thread.process)
 

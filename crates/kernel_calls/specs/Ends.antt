@@ -5,15 +5,15 @@ use Rattle.dos_world.specs.declared.End.TheVariants.{PipeRead, PipeWrite}
 use Rattle.kernel_objects.specs.Pipework.{Pipework, ends_at, is_open_at, with_ends}
 
 -- a pipe that is open, and may have an end of this kind more
-pub record HasRoom (pipe : ℕ) (writer : Bool) (s : Pipework) : Type 0 where
+pub record HasRoomForEnd (pipe : ℕ) (writer : Bool) (s : Pipework) : Type 0 where
   pub number : pipe < 64
   pub opened : is_open_at s pipe ≡ true
   pub few : ends_at s pipe writer < 1024
 
 -- so is the pipe of an end, where it is a pipe's
 abbrev pub CanHave : End → Pipework → Type 0
-CanHave (PipeRead pipe) s = HasRoom pipe false s
-CanHave (PipeWrite pipe) s = HasRoom pipe true s
+CanHave (PipeRead pipe) s = HasRoomForEnd pipe false s
+CanHave (PipeWrite pipe) s = HasRoomForEnd pipe true s
 CanHave _ s = Unit {0}
 
 -- the pipes with one end more, where it is a pipe's

@@ -4,7 +4,7 @@ use Rattle.std.specs.Prelude.{◌==◌}
 use Rattle.dos_world.specs.FutexCalls.{all_woken}
 use Rattle.dos_world.specs.World.{World, Thread, Sleeper}
 use Rattle.kernel_objects.specs.Queue.{sleeps_on}
-use Rattle.proc_table.specs.Tables.{Tables, IsThread}
+use Rattle.proc_table.specs.Tables.{Tables, IsLiveThread}
 
 -- who sleeps on a word, in the order of the queue
 abbrev pub threads_on : ℕ → ℕ → List Sleeper → List ℕ
@@ -12,7 +12,7 @@ threads_on frame offset queue = map (λ s. s.thread) (filter (sleeps_on frame of
 
 -- Who sleeps lives, and stands in the queue once.
 pub record AreQueued (threads : List (Option Thread)) (queue : List Sleeper) : Type 0 where
-  pub live : All (λ s. IsThread threads s.thread) queue
+  pub live : All (λ s. IsLiveThread threads s.thread) queue
   pub once : (t : ℕ) → count_by (λ s. s.thread == t) queue ≤ 1
 
 -- the world with the processes and threads of this table, and these sleepers
@@ -30,6 +30,6 @@ pub record AreWoken (frame offset most : ℕ) (old : Tables) (old_queue : List S
       → all_woken (queued w old old_queue) (take most (threads_on frame offset old_queue))
       ≡ queued w new new_queue
   pub count : number ≡ length (take most (threads_on frame offset old_queue))
-  pub lives : (t : ℕ) → IsThread old.threads t → IsThread new.threads t
+  pub lives : (t : ℕ) → IsLiveThread old.threads t → IsLiveThread new.threads t
   pub processes : new.processes ≡ old.processes
   pub room : new.room ≡ old.room

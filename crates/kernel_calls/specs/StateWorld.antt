@@ -125,7 +125,7 @@ shim_stop ErrFault = None
 -- All stands but owners: each process and thread is as it was, its registers and budget too, and so
 -- are each frame's page and uses.
 -- Owners differ at most by the grants of what was read.
-pub record Stands (old new : State) : Type 0 where
+pub record StandsButOwners (old new : State) : Type 0 where
   pub table : new.table ≡ old.table
   pub frames : KeepsUses old.frames new.frames
   pub pipes : new.pipes ≡ old.pipes

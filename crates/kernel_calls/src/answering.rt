@@ -2,7 +2,7 @@
 ghost use Rattle.std.specs.Prelude.{◌≡◌, ◌<◌};
 ghost use Rattle.dos_world.specs.World.{registers_by};
 ghost use Rattle.dos_world.specs.Kernel.{answered, answered_two, minus};
-ghost use Rattle.proc_table.specs.Tables.{IsThread, thread_by};
+ghost use Rattle.proc_table.specs.Tables.{IsLiveThread, thread_by};
 ghost use Rattle.kernel_calls.specs.StateWorld.{IsCounted};
 
 use crate::state::State;
@@ -10,7 +10,7 @@ use proc_table::Table;
 
 /// The thread goes on with this answer.
 pub(crate) fn reply(state: &mut State, tid: u32, value: u32)
-    requires live { IsThread state.old.table.threads tid }
+    requires live { IsLiveThread state.old.table.threads tid }
     ensures answers { state.new
         ≡ record state.old {
           table =
@@ -23,7 +23,7 @@ pub(crate) fn reply(state: &mut State, tid: u32, value: u32)
 
 /// The thread goes on with these answers, in a0 and a1.
 pub(crate) fn reply_two(state: &mut State, tid: u32, first: u32, second: u32)
-    requires live { IsThread state.old.table.threads tid }
+    requires live { IsLiveThread state.old.table.threads tid }
     ensures answers { state.new
         ≡ record state.old {
           table =
@@ -36,7 +36,7 @@ pub(crate) fn reply_two(state: &mut State, tid: u32, first: u32, second: u32)
 
 /// The thread goes on with this refusal.
 pub(crate) fn refuse_call(state: &mut State, tid: u32, number: u8)
-    requires live { IsThread state.old.table.threads tid }
+    requires live { IsLiveThread state.old.table.threads tid }
     requires number { 0 < number }
     ensures answers { state.new
         ≡ record state.old {
@@ -49,7 +49,7 @@ pub(crate) fn refuse_call(state: &mut State, tid: u32, number: u8)
 }
 
 fn answer_in(table: &mut Table, tid: u32, value: u32)
-    requires { IsThread table.old.threads tid }
+    requires { IsLiveThread table.old.threads tid }
     ensures { table.new ≡ thread_by (registers_by (answered value)) table.old tid }
 {
     let mut regs = *table.regs(tid);
@@ -60,7 +60,7 @@ fn answer_in(table: &mut Table, tid: u32, value: u32)
 }
 
 fn answer_two_in(table: &mut Table, tid: u32, first: u32, second: u32)
-    requires { IsThread table.old.threads tid }
+    requires { IsLiveThread table.old.threads tid }
     ensures { table.new ≡ thread_by (registers_by (answered_two first second)) table.old tid }
 {
     answer_in(table, tid, first);

@@ -3,7 +3,7 @@ ghost use Rattle.std.specs.Prelude.{◌≡◌, ◌<◌, IfErr};
 ghost use Rattle.dos_world.specs.World.{registers_by};
 ghost use Rattle.dos_world.specs.Kernel.{answered};
 ghost use Rattle.dos_world.specs.Services.{map_pages, share, unmap};
-ghost use Rattle.proc_table.specs.Tables.{IsThread, thread_by};
+ghost use Rattle.proc_table.specs.Tables.{IsLiveThread, thread_by};
 ghost use Rattle.kernel_calls.specs.Memory.{answer_by};
 ghost use Rattle.kernel_calls.specs.StateWorld.{IsCounted, IsSound};
 ghost use Rattle.kernel_calls.specs.CallResults.{AreAsked, ActsQuietly};
@@ -67,7 +67,7 @@ pub(crate) fn share(state: &mut State, asked: &Asked)
 
 // The thread goes on with 0, or with the refusal.
 fn conclude(state: &mut State, tid: u32, outcome: Result<(), u8>)
-    requires live { IsThread state.old.table.threads tid }
+    requires live { IsLiveThread state.old.table.threads tid }
     requires number { IfErr outcome (λ number. 0 < number) }
     ensures { state.new
         ≡ record state.old {

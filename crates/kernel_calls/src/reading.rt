@@ -13,7 +13,7 @@ ghost use Rattle.dos_io.specs.Borders.{Crosses, StopsAt, exchanged};
 ghost use Rattle.dos_io.specs.declared.exchange.Exchange.TheVariants.{Input as input_exchange};
 ghost use Rattle.kernel_mem.specs.MemoryWorld.{in_world};
 ghost use Rattle.page_store.specs.Store.{Store as Held};
-ghost use Rattle.kernel_calls.specs.StateWorld.{IsCounted, IsSound, Stands};
+ghost use Rattle.kernel_calls.specs.StateWorld.{IsCounted, IsSound, StandsButOwners};
 ghost use Rattle.kernel_calls.specs.Plays.{PlaysOnce};
 ghost use Rattle.kernel_calls.specs.CallResults.{AreAsked, asked_count, call_in, source_of};
 
@@ -45,7 +45,7 @@ pub(crate) fn read<B: Border>(
     ensures plays { PlaysOnce (λ w. read (call_in w asked.now)) result
         state.old (B.state border.old) state.new (B.state border.new) }
     ensures counted { OnOk result (IsCounted state.new) }
-    ensures stands { OnErr result (Stands state.old state.new) }
+    ensures stands { OnErr result (StandsButOwners state.old state.new) }
     ensures round { state.new.round ≡ state.old.round }
     ensures follows { B.follows border.old border.new }
 {
@@ -82,7 +82,7 @@ fn read_input<B: Border>(
     ensures plays { PlaysOnce (λ w. read_by (Some Input) (call_in w asked.now)) result
         state.old (B.state border.old) state.new (B.state border.new) }
     ensures counted { OnOk result (IsCounted state.new) }
-    ensures stands { OnErr result (Stands state.old state.new) }
+    ensures stands { OnErr result (StandsButOwners state.old state.new) }
     ensures round { state.new.round ≡ state.old.round }
     ensures follows { B.follows border.old border.new }
 {
@@ -118,7 +118,7 @@ fn ask_input<B: Border>(
     ensures plays { PlaysOnce (λ w. read_input (call_in w asked.now)) result
         state.old (B.state border.old) state.new (B.state border.new) }
     ensures counted { OnOk result (IsCounted state.new) }
-    ensures stands { OnErr result (Stands state.old state.new) }
+    ensures stands { OnErr result (StandsButOwners state.old state.new) }
     ensures round { state.new.round ≡ state.old.round }
     ensures follows { B.follows border.old border.new }
 {

@@ -2,12 +2,12 @@
 ghost use Rattle.std.specs.Prelude.{◌≡◌, ◌<◌, ℕ, List, ◌∷◌, IfSome, IfOk, OnErr, OnOk};
 ghost use Rattle.dos_world.specs.Services.{service};
 ghost use Rattle.dos_io.specs.Shims.{HasNoEnd};
-ghost use Rattle.proc_table.specs.Tables.{IsThread, ran, thread_by, thread_in};
-ghost use Rattle.kernel_calls.specs.StateWorld.{HaveParts, IsCounted, IsReady, IsSound, Stands};
+ghost use Rattle.proc_table.specs.Tables.{IsLiveThread, ran, thread_by, thread_in};
+ghost use Rattle.kernel_calls.specs.StateWorld.{HaveParts, IsCounted, IsReady, IsSound, StandsButOwners};
 ghost use Rattle.kernel_calls.specs.StateWorld.{left_after, sent, world_of};
 ghost use Rattle.kernel_calls.specs.Plays.{PlaysOnce};
 ghost use Rattle.kernel_calls.specs.Built.{definition_by, definition_of, quiet_definition_of};
-ghost use Rattle.kernel_calls.specs.CallResults.{AreAsked, ActsQuietly, call_in, paid};
+ghost use Rattle.kernel_calls.specs.CallResults.{AreAsked, ActsQuietly, call_in, paid_state};
 
 use crate::answering::{refuse_call, reply};
 use crate::children::{fork, wait};
@@ -34,7 +34,7 @@ use dos_world::errors::ENOSYS;
 /// that the service sends has crossed the border, and nothing else; where the shim stops, nothing.
 pub fn serve<B: Border>(state: &mut State, tid: u32, border: &mut B) -> Result<Served, RunStop>
     requires sound { IsSound state.old }
-    requires live { IsThread state.old.table.threads tid }
+    requires live { IsLiveThread state.old.table.threads tid }
     requires ready { IsReady state.old.table.threads tid }
     requires budget { IfSome (thread_in state.old.table.threads tid) (λ thread. 0 < thread.budget) }
     requires told { HasNoEnd (B.state border.old).shim.told }
@@ -44,7 +44,7 @@ pub fn serve<B: Border>(state: &mut State, tid: u32, border: &mut B) -> Result<S
     ensures parts { IfOk result
         (λ way. (ts : List ℕ) → HaveParts (tid ∷ ts) state.old
         → HaveParts (left_after way tid ts) state.new) }
-    ensures stands { OnErr result (Stands state.old state.new) }
+    ensures stands { OnErr result (StandsButOwners state.old state.new) }
     ensures round { state.new.round ≡ state.old.round }
     ensures follows { B.follows border.old border.new }
 {
@@ -63,12 +63,12 @@ pub fn serve<B: Border>(state: &mut State, tid: u32, border: &mut B) -> Result<S
 
 // The service that the thread's registers name, where there is one, and what they ask it.
 fn call_by(state: &State, tid: u32) -> (Option<Service>, Asked)
-    requires live { IsThread state.now.table.threads tid }
+    requires live { IsLiveThread state.now.table.threads tid }
     requires ready { IsReady state.now.table.threads tid }
-    ensures asked { AreAsked (paid state.now tid) result.1 }
+    ensures asked { AreAsked (paid_state state.now tid) result.1 }
     ensures calls { (q : ℕ) (o e : List ℕ)
         → service (sent o e (world_of q state.now)) tid
-        ≡ definition_by result.0 (call_in (sent o e (world_of q (paid state.now tid))) result.1) }
+        ≡ definition_by result.0 (call_in (sent o e (world_of q (paid_state state.now tid))) result.1) }
 {
     let regs = *state.table.regs(tid);
     let asked = Asked {
@@ -84,9 +84,9 @@ fn call_by(state: &State, tid: u32) -> (Option<Service>, Asked)
 // One of the thread's budget goes, and its reservation.
 fn charge(state: &mut State, tid: u32)
     requires sound { IsSound state.old }
-    requires live { IsThread state.old.table.threads tid }
+    requires live { IsLiveThread state.old.table.threads tid }
     requires budget { IfSome (thread_in state.old.table.threads tid) (λ thread. 0 < thread.budget) }
-    ensures charges { state.new ≡ paid state.old tid }
+    ensures charges { state.new ≡ paid_state state.old tid }
     ensures sound { IsSound state.new }
 {
     state.table.charge(tid);
@@ -94,7 +94,7 @@ fn charge(state: &mut State, tid: u32)
 
 // The thread's registers and budget are these again.
 fn restore(state: &mut State, tid: u32, regs: Regs, budget: u32)
-    requires { IsThread state.old.table.threads tid }
+    requires { IsLiveThread state.old.table.threads tid }
     ensures { state.new
         ≡ record state.old { table = thread_by (ran regs budget) state.old.table tid } }
 {
@@ -114,7 +114,7 @@ fn dispatch<B: Border>(
     ensures plays { PlaysOnce (λ w. definition_by service (call_in w asked.now)) result
         state.old (B.state border.old) state.new (B.state border.new) }
     ensures counted { OnOk result (IsCounted state.new) }
-    ensures stands { OnErr result (Stands state.old state.new) }
+    ensures stands { OnErr result (StandsButOwners state.old state.new) }
     ensures round { state.new.round ≡ state.old.round }
     ensures follows { B.follows border.old border.new }
 {
@@ -139,7 +139,7 @@ fn perform<B: Border>(
     ensures plays { PlaysOnce (λ w. definition_of service (call_in w asked.now)) result
         state.old (B.state border.old) state.new (B.state border.new) }
     ensures counted { OnOk result (IsCounted state.new) }
-    ensures stands { OnErr result (Stands state.old state.new) }
+    ensures stands { OnErr result (StandsButOwners state.old state.new) }
     ensures round { state.new.round ≡ state.old.round }
     ensures follows { B.follows border.old border.new }
 {

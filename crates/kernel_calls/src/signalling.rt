@@ -3,7 +3,7 @@ ghost use Rattle.std.specs.Prelude.{◌≡◌, ◌<◌, ◌==◌, ◌||◌, not,
 ghost use Rattle.dos_world.specs.World.{registers_by};
 ghost use Rattle.dos_world.specs.SignalCalls.{is_action, is_signal, kill, refused_in_place};
 ghost use Rattle.dos_world.specs.SignalCalls.{sig_handler, sig_mask, sig_return};
-ghost use Rattle.proc_table.specs.Tables.{IsThread, thread_by};
+ghost use Rattle.proc_table.specs.Tables.{IsLiveThread, thread_by};
 ghost use Rattle.kernel_calls.specs.Ending.{posted_in};
 ghost use Rattle.kernel_calls.specs.StateWorld.{IsCounted, IsSound};
 ghost use Rattle.kernel_calls.specs.CallResults.{AreAsked, ActsQuietly};
@@ -87,7 +87,7 @@ pub(crate) fn sig_return(state: &mut State, asked: &Asked)
 }
 
 fn refuse_in_place(table: &mut Table, tid: u32)
-    requires { IsThread table.old.threads tid }
+    requires { IsLiveThread table.old.threads tid }
     ensures { table.new ≡ thread_by (registers_by refused_in_place) table.old tid }
 {
     let mut regs = *table.regs(tid);

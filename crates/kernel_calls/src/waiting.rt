@@ -14,7 +14,7 @@ ghost use Rattle.dos_world.specs.declared.End.TheVariants.{PipeRead, PipeWrite};
 ghost use Rattle.kernel_mem.specs.MemoryWorld.{in_world};
 ghost use Rattle.kernel_objects.specs.Pipework.{bytes_at, ends_at};
 ghost use Rattle.page_store.specs.Store.{Store as Held};
-ghost use Rattle.proc_table.specs.Tables.{IsThread};
+ghost use Rattle.proc_table.specs.Tables.{IsLiveThread};
 ghost use Rattle.kernel_calls.specs.CallResults.{asked_count};
 ghost use Rattle.kernel_calls.specs.StateWorld.{IsSound, sent, world_of};
 ghost use Rattle.kernel_calls.specs.Waits.{IsCalling, TellsWait};
@@ -48,7 +48,7 @@ const PIPE_SIZE: u32 = 4096;
 /// in. It only looks: no page is granted.
 pub fn would_wait(state: &State, tid: u32) -> bool
     requires sound { IsSound state.now }
-    requires live { IsThread state.now.table.threads tid }
+    requires live { IsLiveThread state.now.table.threads tid }
     ensures { (q : ℕ) (o e : List ℕ)
         → result ≡ would_wait (sent o e (world_of q state.now)) tid }
 {

@@ -7,7 +7,7 @@ ghost use Rattle.dos_world.specs.Services.{transfers, write};
 ghost use Rattle.kernel_mem.specs.MemoryWorld.{in_world, NamesUsedFrames, IsCaller, HasAllHome};
 ghost use Rattle.kernel_mem.specs.MemoryWorld.{KeepsUses};
 ghost use Rattle.page_store.specs.Store.{Store as Held};
-ghost use Rattle.kernel_calls.specs.StateWorld.{IsCounted, IsSound, Stands};
+ghost use Rattle.kernel_calls.specs.StateWorld.{IsCounted, IsSound, StandsButOwners};
 ghost use Rattle.kernel_calls.specs.Plays.{PlaysOnce, by_sink, stopper};
 ghost use Rattle.kernel_calls.specs.CallResults.{AreAsked, are_readable, call_in, target_of};
 ghost use Rattle.kernel_calls.specs.CallResults.{write_to};
@@ -41,7 +41,7 @@ pub(crate) fn write<B: Border>(
     ensures plays { PlaysOnce (λ w. write (call_in w asked.now)) result
         state.old (B.state border.old) state.new (B.state border.new) }
     ensures counted { OnOk result (IsCounted state.new) }
-    ensures stands { OnErr result (Stands state.old state.new) }
+    ensures stands { OnErr result (StandsButOwners state.old state.new) }
     ensures round { state.new.round ≡ state.old.round }
     ensures follows { B.follows border.old border.new }
 {
@@ -80,7 +80,7 @@ fn send<B: Border>(
         (call_in w asked.now)) result
         state.old (B.state border.old) state.new (B.state border.new) }
     ensures counted { OnOk result (IsCounted state.new) }
-    ensures stands { OnErr result (Stands state.old state.new) }
+    ensures stands { OnErr result (StandsButOwners state.old state.new) }
     ensures round { state.new.round ≡ state.old.round }
     ensures follows { B.follows border.old border.new }
 {
@@ -129,7 +129,7 @@ fn take_in(state: &mut State, asked: &Asked, count: u32)
         → copied_in (in_world w state.old.frames state.old.table) asked.now.thread asked.now.a1
         count ≡ (in_world w state.new.frames state.new.table, take count state.new.buffer) }
     ensures counted { IsCounted state.new }
-    ensures stands { Stands state.old state.new }
+    ensures stands { StandsButOwners state.old state.new }
     ensures round { state.new.round ≡ state.old.round }
 {
     fill(

@@ -16,7 +16,7 @@ use Rattle.dos_world.specs.ProcessCalls.{are_processes_full, child_process, chil
 use Rattle.dos_world.specs.ProcessCalls.{copied_space, forked, forked_by, private_entries}
 use Rattle.dos_world.specs.ProcessCalls.{with_child}
 use Rattle.page_store.specs.Store.{Store, free_count}
-use Rattle.proc_table.specs.Tables.{Tables, IsProcess, IsThread, held_as, held_in, thread_in}
+use Rattle.proc_table.specs.Tables.{Tables, IsProcess, IsLiveThread, held_as, held_in, thread_in}
 use Rattle.proc_table.specs.Tables.{held_by, new_process, process_added}
 use Rattle.kernel_mem.specs.MemoryWorld.{in_world, space_in, IsCaller}
 use Rattle.kernel_mem.specs.Forking.{child_begun, child_without, fork_call, with_space}
@@ -162,7 +162,7 @@ pub record HasChild (old_table : Tables) (tid pid : ℕ) (table : Tables) : Type
       (child_begun (length old_table.processes + 1) thread)
 
 pub has-child : (old_table table : Tables) (tid pid : ℕ) → IsProcess old_table.processes pid
-    → IsThread old_table.threads tid
+    → IsLiveThread old_table.threads tid
     → IfSome (held_in old_table.processes pid)
     (λ h. IfSome (thread_in old_table.threads tid)
     (λ thread. table ≡ process_added old_table (child_without pid h)
@@ -269,7 +269,7 @@ module _ {old_table : Tables} {tid pid : ℕ} {table : Tables}
 -- ---- the refusals
 
 pub forked-few : (w : World) (s0 : Store) (old_table : Tables) (tid pid : ℕ)
-    → IsProcess old_table.processes pid → IsThread old_table.threads tid
+    → IsProcess old_table.processes pid → IsLiveThread old_table.threads tid
     → are_processes_full old_table.processes old_table.threads ≡ false
     → nat_lt (free_frames (in_world w s0 old_table)) (private_entries (space_in old_table pid))
     ≡ true

@@ -18,7 +18,7 @@ use Rattle.dos_world.specs.World.{World, is_free, page_of}
 use Rattle.dos_world.specs.Reach.{with_page}
 use Rattle.dos_world.specs.Kernel.{with_fresh, lowest_free_frame}
 use Rattle.dos_world.specs.ProcessCalls.{private_entries}
-use Rattle.page_store.specs.Store.{Store, IsCopied, joined, shown, owner_at, with_more}
+use Rattle.page_store.specs.Store.{Store, IsCopied, joined, shown, owner_at, with_use_more}
 use Rattle.page_store.proofs.Joined.{joined-set, page_of-joined, home-at}
 use Rattle.page_store.proofs.Counts.{owned-within, count_by-taken, position_more}
 use Rattle.proc_table.specs.Tables.{Tables}
@@ -46,7 +46,7 @@ first_use uses n f h none = ap (λ v. get_or (set uses n (v + 1)) f 0) (sym none
     ∙ one_more uses n f h
 
 pub more-shared : (s : Store) (n : ℕ) → HasAllHome s → n < length s.uses
-    → IsUsedMore s n (with_more s n)
+    → IsUsedMore s n (with_use_more s n)
 more-shared s n home within =
     record {
       home = record { home = home.home; owners = home.owners };

@@ -9,7 +9,7 @@ use Rattle.std.proofs.lemmas.Bool.Decides.{nat_tests}
 use Rattle.std.proofs.lemmas.List.{length-map, get_or-map}
 use Rattle.std.proofs.lemmas.Option.{get_or_from_slice_get}
 use Rattle.dos_world.specs.declared.Entry.{Entry}
-use Rattle.space_map.specs.Mapping.{in_run, no_entry, page_at, IsFirstFrom, IsRising}
+use Rattle.space_map.specs.Mapping.{in_run, no_entry, page_of_entry, IsFirstFrom, IsRising}
 
 -- ---- a list of which one part passes a test
 
@@ -57,18 +57,18 @@ module _ (page count : ℕ) (e : ℕ × Entry) where
   ]
 
 module _ (es : List (ℕ × Entry)) (rising : IsRising es) where
-  pub next-page : (i : ℕ) → i + 1 < length es → page_at es i < page_at es (i + 1)
+  pub next-page : (i : ℕ) → i + 1 < length es → page_of_entry es i < page_of_entry es (i + 1)
   next-page i h =
       let count : length (map (λ (e : ℕ × Entry). e.0) es) ≡ length es =
       length-map es (λ (e : ℕ × Entry). e.0) in
-      let one : get_or (map (λ (e : ℕ × Entry). e.0) es) i 0 ≡ page_at es i =
+      let one : get_or (map (λ (e : ℕ × Entry). e.0) es) i 0 ≡ page_of_entry es i =
       get_or-map (λ (e : ℕ × Entry). e.0) es i (0, no_entry) 0 (omega arith) in
-      let two : get_or (map (λ (e : ℕ × Entry). e.0) es) (i + 1) 0 ≡ page_at es (i + 1) =
+      let two : get_or (map (λ (e : ℕ × Entry). e.0) es) (i + 1) 0 ≡ page_of_entry es (i + 1) =
       get_or-map (λ (e : ℕ × Entry). e.0) es (i + 1) (0, no_entry) 0 (omega arith) in
       omega (arith, rising i (omega arith))
 
   -- the pages don't fall
-  later-page : (i k : ℕ) → i + k < length es → page_at es i ≤ page_at es (i + k)
+  later-page : (i k : ℕ) → i + k < length es → page_of_entry es i ≤ page_of_entry es (i + k)
   later-page i zero h = let here : i + 0 ≡ i = omega arith in rw here (omega arith)
   later-page i (suc k) h =
       let here : i + suc k ≡ i + k + 1 = omega arith in
@@ -90,13 +90,13 @@ module _ (es : List (ℕ × Entry)) (rising : IsRising es) where
         at : get_or es place (0, no_entry) ≡ e
         at = get_or_from_slice_get es place e (0, no_entry) here
 
-        past : (i : ℕ) → place ≤ i → i < length es → page + count ≤ page_at es i
+        past : (i : ℕ) → place ≤ i → i < length es → page + count ≤ page_of_entry es i
         past i l m =
             let k : ℕ = i - place in
             let is : place + k ≡ i = omega arith in
-            let low : page + count ≤ page_at es place =
+            let low : page + count ≤ page_of_entry es place =
             run-passed page count (get_or es place (0, no_entry))
             (from.higher place after within) (ap (in_run page count) at ∙ out) in
-            let most : page_at es place ≤ page_at es i =
+            let most : page_of_entry es place ≤ page_of_entry es i =
             rw is at (later-page place k (omega arith)) in
             omega arith

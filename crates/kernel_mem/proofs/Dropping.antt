@@ -16,7 +16,7 @@ use Rattle.std.proofs.lemmas.List.Sums.{sum_by-cons, sum_by-take-drop}
 use Rattle.dos_world.specs.declared.Owner.{Owner}
 use Rattle.dos_world.specs.declared.Owner.TheVariants.{Free}
 use Rattle.dos_world.specs.declared.Entry.{Entry}
-use Rattle.page_store.specs.Store.{Store, cleared, with_less, owner_at, page_at, uses_at}
+use Rattle.page_store.specs.Store.{Store, zeroed, with_less, owner_at, page_at, uses_at}
 use Rattle.page_store.proofs.Counts.{used-within}
 use Rattle.kernel_mem.specs.Memory.{entries_of, is_last, page_without, IsDropped, AreUsed}
 
@@ -136,7 +136,7 @@ less-owner t n f = elim (cases_eq f n) [
     off false d = refl
 
 zeroed : (pages : List (Option (List ℕ))) (n : ℕ)
-    → get_or (set pages n (cleared (get_or pages n None))) n None ≡ cleared (get_or pages n None)
+    → get_or (set pages n (zeroed (get_or pages n None))) n None ≡ zeroed (get_or pages n None)
 zeroed [] n = refl
 zeroed (p ∷ pages) zero = refl
 zeroed (p ∷ pages) (suc n) = zeroed pages n
@@ -144,35 +144,35 @@ zeroed (p ∷ pages) (suc n) = zeroed pages n
 -- a frame is zero once none of its uses is left, and else keeps its page
 less-page : (t : Store) (n f : ℕ)
     → page_at (with_less t n) f
-    ≡ cond ((n == f) && (uses_at t f == 1)) (cleared (page_at t f)) (page_at t f)
+    ≡ cond ((n == f) && (uses_at t f == 1)) (zeroed (page_at t f)) (page_at t f)
 less-page t n f = elim (cases_eq f n) [
   | inl same ↦ ap (λ k. get_or (with_less t n).pages k None) same ∙ at (get_or t.uses n 0 == 1)
-      ∙ ap (λ k. cond (get_or t.uses k 0 == 1) (cleared (page_at t k)) (page_at t k)) (sym same)
-      ∙ ap (λ (b : Bool). cond (b && (uses_at t f == 1)) (cleared (page_at t f)) (page_at t f))
+      ∙ ap (λ k. cond (get_or t.uses k 0 == 1) (zeroed (page_at t k)) (page_at t k)) (sym same)
+      ∙ ap (λ (b : Bool). cond (b && (uses_at t f == 1)) (zeroed (page_at t f)) (page_at t f))
       (sym (is same))
   | inr other ↦ off (get_or t.uses n 0 == 1) other
-      ∙ ap (λ (b : Bool). cond (b && (uses_at t f == 1)) (cleared (page_at t f)) (page_at t f))
+      ∙ ap (λ (b : Bool). cond (b && (uses_at t f == 1)) (zeroed (page_at t f)) (page_at t f))
       (sym (ne_eqb n f (λ e. other (sym e))))
 ]
   where
     is : f ≡ n → (n == f) ≡ true
     is e = grind (arith, nat_tests)
 
-    at : (b : Bool) → get_or (cond b (set t.pages n (cleared (page_at t n))) t.pages) n None
-        ≡ cond b (cleared (page_at t n)) (page_at t n)
+    at : (b : Bool) → get_or (cond b (set t.pages n (zeroed (page_at t n))) t.pages) n None
+        ≡ cond b (zeroed (page_at t n)) (page_at t n)
     at true = zeroed t.pages n
     at false = refl
 
     off : (b : Bool) → f ≢ n
-        → get_or (cond b (set t.pages n (cleared (page_at t n))) t.pages) f None ≡ page_at t f
-    off true d = get_or-set_other t.pages n f (cleared (page_at t n)) None d
+        → get_or (cond b (set t.pages n (zeroed (page_at t n))) t.pages) f None ≡ page_at t f
+    off true d = get_or-set_other t.pages n f (zeroed (page_at t n)) None d
     off false d = refl
 
-cleared_twice : (p : Option (List ℕ)) → cleared (cleared p) ≡ cleared p
+cleared_twice : (p : Option (List ℕ)) → zeroed (zeroed p) ≡ zeroed p
 cleared_twice None = refl
 cleared_twice (Some page) = refl
 
-cleared_again : (b : Bool) (p : Option (List ℕ)) → cleared (cond b (cleared p) p) ≡ cleared p
+cleared_again : (b : Bool) (p : Option (List ℕ)) → zeroed (cond b (zeroed p) p) ≡ zeroed p
 cleared_again true p = cleared_twice p
 cleared_again false p = refl
 
@@ -223,14 +223,14 @@ dropped-more s t new gone more e used dropped one is within = record {
       omega (arith, used f, one f) in
       let last : Bool = (e.1.frame == f) && (uses_at s f - entries_of gone f == 1) in
       ap (λ x. page_at x f) is ∙ less-page t e.1.frame f
-      ∙ ap (λ (u : ℕ). cond ((e.1.frame == f) && (u == 1)) (cleared (page_at t f)) (page_at t f))
+      ∙ ap (λ (u : ℕ). cond ((e.1.frame == f) && (u == 1)) (zeroed (page_at t f)) (page_at t f))
       (dropped.uses f)
-      ∙ ap (λ p. cond last (cleared p) p) (dropped.pages f)
+      ∙ ap (λ p. cond last (zeroed p) p) (dropped.pages f)
       ∙ ap (λ p. cond last p (page_without gone s f))
       (cleared_again (is_last gone s f) (page_at s f))
-      ∙ both-last (cleared (page_at s f)) (page_at s f) (uses_at s f) (entries_of gone f)
+      ∙ both-last (zeroed (page_at s f)) (page_at s f) (uses_at s f) (entries_of gone f)
       (e.1.frame == f) few
-      ∙ ap (λ n. cond (nat_lt 0 n && (uses_at s f == n)) (cleared (page_at s f)) (page_at s f))
+      ∙ ap (λ n. cond (nat_lt 0 n && (uses_at s f == n)) (zeroed (page_at s f)) (page_at s f))
       (sym (one f));
   count = ap (λ (x : Store). length x.owners) is ∙ lengths (uses_at t e.1.frame == 1)
       ∙ dropped.count;
@@ -249,9 +249,9 @@ dropped-more s t new gone more e used dropped one is within = record {
 }
   where
     page_lengths : (b : Bool)
-        → length (cond b (set t.pages e.1.frame (cleared (page_at t e.1.frame))) t.pages)
+        → length (cond b (set t.pages e.1.frame (zeroed (page_at t e.1.frame))) t.pages)
         ≡ length t.pages
-    page_lengths true = length-set t.pages e.1.frame (cleared (page_at t e.1.frame))
+    page_lengths true = length-set t.pages e.1.frame (zeroed (page_at t e.1.frame))
     page_lengths false = refl
 
     lengths : (b : Bool) → length (cond b (set t.owners e.1.frame Free) t.owners) ≡ length t.owners
@@ -292,7 +292,7 @@ home-dropped gone s new dropped home k d lt =
     same_default (x ∷ xs) zero a b h = refl
     same_default (x ∷ xs) (suc i) a b h = same_default xs i a b (omega arith)
 
-    either : (b : Bool) (p : Option (List ℕ)) → is_some (cond b (cleared p) p) ≡ is_some p
+    either : (b : Bool) (p : Option (List ℕ)) → is_some (cond b (zeroed p) p) ≡ is_some p
     either true None = refl
     either true (Some page) = refl
     either false p = refl

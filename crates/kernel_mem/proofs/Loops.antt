@@ -18,7 +18,7 @@ use Rattle.dos_world.specs.World.{on_holdings, live_changed, look, is_free}
 use Rattle.dos_world.specs.Kernel.{put, with_entry}
 use Rattle.dos_world.specs.ProcessCalls.{copied_space, private_entries}
 use Rattle.page_store.specs.Store.{Store, free_count, owner_at, uses_at}
-use Rattle.space_map.specs.Mapping.{IsRising, page_at, no_entry as no_page}
+use Rattle.space_map.specs.Mapping.{IsRising, page_of_entry, no_entry as no_page}
 use Rattle.proc_table.specs.Tables.{Tables, IsProcess, held_in, held_by}
 use Rattle.proc_table.proofs.Standing.{spaced_by}
 use Rattle.kernel_mem.specs.Memory.{entries_of}
@@ -162,7 +162,7 @@ space-changed f T next_table child alive is =
 -- ---- put behind all pages
 
 pub put-last : (cs : List (ℕ × Entry)) (page : ℕ) (e : Entry)
-    → ((k : ℕ) → k < length cs → page_at cs k < page) → put page e cs ≡ cs ++ (page, e) ∷ []
+    → ((k : ℕ) → k < length cs → page_of_entry cs k < page) → put page e cs ≡ cs ++ (page, e) ∷ []
 put-last [] page e below = refl
 put-last (x ∷ cs) page e below =
     let above : nat_lt page x.0 ≡ false = grind (arith, nat_tests, below 0 (omega arith)) in
@@ -170,7 +170,7 @@ put-last (x ∷ cs) page e below =
     ∙ ap (λ ys. x ∷ ys) (put-last cs page e (λ k h. below (suc k) (omega arith)))
 
 pub look-above : (cs : List (ℕ × Entry)) (page : ℕ)
-    → ((k : ℕ) → k < length cs → page_at cs k < page) → look cs page ≡ None
+    → ((k : ℕ) → k < length cs → page_of_entry cs k < page) → look cs page ≡ None
 look-above [] page below = refl
 look-above (x ∷ cs) page below =
     let other : (x.0 == page) ≡ false = grind (arith, nat_tests, below 0 (omega arith)) in
@@ -218,7 +218,7 @@ pub record IsCopying (s0 : Store) (old_table : Tables) (pid child tid i : ℕ) (
   pub taken : (f : ℕ) → is_free (owner_at s0 f) ≡ false → is_free (owner_at s f) ≡ false
   pub length_is : length (space_in T child) ≡ i
   pub below : i < length (space_in old_table pid) → (k : ℕ) → k < i
-      → page_at (space_in T child) k < page_at (space_in old_table pid) i
+      → page_of_entry (space_in T child) k < page_of_entry (space_in old_table pid) i
   pub free : free_count s + private_entries (take i (space_in old_table pid)) ≡ free_count s0
 
 entries-append : (cs : List (ℕ × Entry)) (e : ℕ × Entry) (f : ℕ)
@@ -230,12 +230,12 @@ entries-append cs e f = omega (
 )
 
 page-more : (cs : List (ℕ × Entry)) (e : ℕ × Entry) (k n : ℕ) → length cs ≡ n → k < n
-    → page_at (cs ++ e ∷ []) k ≡ page_at cs k
+    → page_of_entry (cs ++ e ∷ []) k ≡ page_of_entry cs k
 page-more cs e k n l h = ap (λ (x : ℕ × Entry). x.0)
     (get_or_append_left cs (e ∷ []) (0, no_page) k (omega arith))
 
 page-last : (cs : List (ℕ × Entry)) (e : ℕ × Entry) (n : ℕ) → length cs ≡ n
-    → page_at (cs ++ e ∷ []) n ≡ e.0
+    → page_of_entry (cs ++ e ∷ []) n ≡ e.0
 page-last [] e zero l = refl
 page-last [] e (suc n) l = absurd (omega arith)
 page-last (x ∷ cs) e zero l = absurd (omega arith)
@@ -274,10 +274,10 @@ module _ {s0 s : Store} {old_table T : Tables} {pid child tid i : ℕ}
     child-lives : IsProcess T.processes child
     child-lives = still-live (with_space (space_in T child)) T old_table child so_far.table alive
 
-    page-here : page_at (space_in old_table pid) i ≡ e.0
+    page-here : page_of_entry (space_in old_table pid) i ≡ e.0
     page-here = ap (λ (x : ℕ × Entry). x.0) next.here
 
-    pub pages-below : (k : ℕ) → k < length (space_in T child) → page_at (space_in T child) k < e.0
+    pub pages-below : (k : ℕ) → k < length (space_in T child) → page_of_entry (space_in T child) k < e.0
     pages-below k h = omega
         (arith, page-here, so_far.below next.within k (omega (arith, so_far.length_is)))
 
@@ -330,20 +330,20 @@ module _ {s0 s : Store} {old_table T : Tables} {pid child tid i : ℕ}
           pair x ys = (x, ys)
 
           ap-below : i + 1 < length (space_in old_table pid) → (k : ℕ) → k < i + 1
-              → page_at (space_in next_table child) k < page_at (space_in old_table pid) (i + 1)
+              → page_of_entry (space_in next_table child) k < page_of_entry (space_in old_table pid) (i + 1)
           ap-below h k l =
-              let after : page_at (space_in old_table pid) i < page_at (space_in old_table pid)
+              let after : page_of_entry (space_in old_table pid) i < page_of_entry (space_in old_table pid)
               (i + 1) =
               next-page (space_in old_table pid) next.sorted i h in
-              let now : page_at (space_in next_table child) k
-              ≡ page_at (space_in T child ++ (e.0, copy) ∷ []) k =
-              ap (λ (es : List (ℕ × Entry)). page_at es k) space-now in
+              let now : page_of_entry (space_in next_table child) k
+              ≡ page_of_entry (space_in T child ++ (e.0, copy) ∷ []) k =
+              ap (λ (es : List (ℕ × Entry)). page_of_entry es k) space-now in
               elim (cases_eq k i) [
                 | inl same ↦
                     omega (
                       arith,
                       now,
-                      ap (page_at (space_in T child ++ (e.0, copy) ∷ [])) same,
+                      ap (page_of_entry (space_in T child ++ (e.0, copy) ∷ [])) same,
                       page-last (space_in T child) (e.0, copy) i so_far.length_is,
                       page-here,
                     )

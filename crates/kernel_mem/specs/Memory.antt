@@ -4,7 +4,7 @@ use Rattle.std.specs.Prelude.{count_by, if◌then◌else◌}
 use Rattle.dos_world.specs.declared.Entry.{Entry}
 use Rattle.dos_world.specs.declared.Owner.{Owner}
 use Rattle.dos_world.specs.declared.Owner.TheVariants.{Free}
-use Rattle.page_store.specs.Store.{Store, cleared, owner_at, page_at, uses_at}
+use Rattle.page_store.specs.Store.{Store, zeroed, owner_at, page_at, uses_at}
 
 -- how many entries of a space have a frame
 abbrev pub entries_of : List (ℕ × Entry) → ℕ → ℕ
@@ -26,7 +26,7 @@ owner_without space s frame = if is_last space s frame then Free else owner_at s
 -- the page of a frame: zeros where its last use is gone
 abbrev pub page_without : List (ℕ × Entry) → Store → ℕ → Option (List ℕ)
 page_without space s frame =
-    if is_last space s frame then cleared (page_at s frame) else page_at s frame
+    if is_last space s frame then zeroed (page_at s frame) else page_at s frame
 
 -- Each entry of a space is a use less, and a frame is Free and zero where none is left. No other
 -- page and no other owner changed.

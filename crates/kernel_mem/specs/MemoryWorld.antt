@@ -8,7 +8,7 @@ use Rattle.dos_world.specs.declared.Access.{Access}
 use Rattle.dos_world.specs.declared.Entry.{Entry}
 use Rattle.dos_world.specs.declared.Owner.TheVariants.{Free, Of}
 use Rattle.page_store.specs.Store.{Store, joined, owner_at, with_grant}
-use Rattle.proc_table.specs.Tables.{Tables, thread_in, held_in, IsThread, IsProcess}
+use Rattle.proc_table.specs.Tables.{Tables, thread_in, held_in, IsLiveThread, IsProcess}
 
 -- the world with the bytes and owners of these frames, and the processes and threads of this table
 abbrev pub in_world : World → Store → Tables → World
@@ -50,7 +50,7 @@ with_open s frame t access =
 
 -- the thread lives, and so does its process
 pub record IsCaller (table : Tables) (t : ℕ) : Type 0 where
-  pub thread : IsThread table.threads t
+  pub thread : IsLiveThread table.threads t
   pub process : IfSome (thread_in table.threads t)
       (λ thread. IsProcess table.processes thread.process)
 

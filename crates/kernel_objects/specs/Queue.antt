@@ -11,6 +11,6 @@ abbrev pub first_on : List Sleeper → ℕ → ℕ → Option ℕ
 first_on sleepers frame offset = option_map (λ s. s.thread) (find (sleeps_on frame offset) sleepers)
 
 -- at most 64 sleep, and their memory was taken
-pub record IsTaken (sleepers : List Sleeper) (capacity : ℕ) : Type 0 where
+pub record IsQueueTaken (sleepers : List Sleeper) (capacity : ℕ) : Type 0 where
   pub few : length sleepers ≤ 64
   pub taken : 64 ≤ capacity

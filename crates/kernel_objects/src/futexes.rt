@@ -38,7 +38,7 @@ impl Model for FutexQueue {
     ghost use Rattle.std.specs.Prelude.{List};
     ghost use Rattle.std.specs.Vec.{vec_capacity};
     ghost use Rattle.dos_world.specs.World.{Sleeper as Flat};
-    ghost use Rattle.kernel_objects.specs.Queue.{IsTaken};
+    ghost use Rattle.kernel_objects.specs.Queue.{IsQueueTaken};
 
     ghost Value = { List Flat };
 

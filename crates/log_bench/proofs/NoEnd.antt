@@ -4,7 +4,7 @@ use Rattle.dos_world.specs.declared.Question.{Question}
 use Rattle.dos_io.specs.declared.exchange.Exchange.{Exchange}
 use Rattle.dos_io.specs.declared.exchange.Exchange.TheVariants.{Signals, Input, Clock, End}
 use Rattle.dos_io.specs.declared.shim.ShimStop.{ShimStop}
-use Rattle.dos_io.specs.Shims.{ShimState, answered, Stopped, HasNoEnd}
+use Rattle.dos_io.specs.Shims.{ShimState, shim_answered, Stopped, HasNoEnd}
 
 both : (es fs : List Exchange) → HasNoEnd es → HasNoEnd fs → HasNoEnd (es ++ fs)
 both [] fs p q = q
@@ -23,7 +23,7 @@ second (End ending rounds ∷ es) fs p = absurd p
 -- a question that isn't the end, answered or not, doesn't tell it
 pub asked : {T : Type 0} (r : Result T ShimStop) (old new : ShimState) (q : Question)
     (e : T → Exchange) → HasNoEnd old.told → ((x : T) → HasNoEnd (e x ∷ []))
-    → IfOk r (λ x. new ≡ answered old (e x)) → IfErr r (λ stop. Stopped old q stop new)
+    → IfOk r (λ x. new ≡ shim_answered old (e x)) → IfErr r (λ stop. Stopped old q stop new)
     → HasNoEnd new.told
 asked (Ok x) old new q e h p ok err =
     subst (λ (s : ShimState). HasNoEnd s.told) (sym ok) (both old.told (e x ∷ []) h (p x))

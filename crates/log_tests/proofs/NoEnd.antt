@@ -6,7 +6,7 @@ use Rattle.dos_world.specs.declared.Question.{Question}
 use Rattle.dos_io.specs.declared.exchange.Exchange.{Exchange}
 use Rattle.dos_io.specs.declared.exchange.Exchange.TheVariants.{Signals, Input, Clock, End}
 use Rattle.dos_io.specs.declared.shim.ShimStop.{ShimStop}
-use Rattle.dos_io.specs.Shims.{ShimState, answered, Stopped, HasNoEnd}
+use Rattle.dos_io.specs.Shims.{ShimState, shim_answered, Stopped, HasNoEnd}
 
 push : (es : List Exchange) (e : Exchange) → HasNoEnd es → HasNoEnd (e ∷ [])
     → HasNoEnd (es ++ e ∷ [])
@@ -18,7 +18,7 @@ push (End ending rounds ∷ es) e h p = absurd h
 
 -- after an answer that has no value of its own
 pub after_answer : {T : Type 0} (r : Result T ShimStop) (old new : ShimState) (q : Question)
-    (e : Exchange) → HasNoEnd old.told → HasNoEnd (e ∷ []) → OnOk r (new ≡ answered old e)
+    (e : Exchange) → HasNoEnd old.told → HasNoEnd (e ∷ []) → OnOk r (new ≡ shim_answered old e)
     → IfErr r (λ stop. Stopped old q stop new) → HasNoEnd new.told
 after_answer (Ok x) old new q e h p ok err =
     subst (λ (s : ShimState). HasNoEnd s.told) (sym ok) (push old.told e h p)
@@ -27,7 +27,7 @@ after_answer (Err stop) old new q e h p ok err = subst HasNoEnd (sym err.told) h
 -- after an answer that has one
 pub after_value : {T : Type 0} (r : Result T ShimStop) (old new : ShimState) (q : Question)
     (e : T → Exchange) → HasNoEnd old.told → ((x : T) → HasNoEnd (e x ∷ []))
-    → IfOk r (λ x. new ≡ answered old (e x)) → IfErr r (λ stop. Stopped old q stop new)
+    → IfOk r (λ x. new ≡ shim_answered old (e x)) → IfErr r (λ stop. Stopped old q stop new)
     → HasNoEnd new.told
 after_value (Ok x) old new q e h p ok err =
     subst (λ (s : ShimState). HasNoEnd s.told) (sym ok) (push old.told (e x) h (p x))
@@ -43,6 +43,6 @@ has_end (End e r ∷ es) ending rounds h = h
 
 -- after the end was told
 pub after_end : (old new : ShimState) (ending : Ending) (rounds : ℕ)
-    → new ≡ answered old (End ending rounds) → HasNoEnd new.told → ⊥
+    → new ≡ shim_answered old (End ending rounds) → HasNoEnd new.told → ⊥
 after_end old new ending rounds is none =
     has_end old.told ending rounds (subst (λ (s : ShimState). HasNoEnd s.told) is none)

@@ -26,7 +26,7 @@ use Rattle.kernel_calls.specs.declared.state.RunStop.TheVariants.{OutFault, ErrF
 use Rattle.worker_pool.specs.Ran.{GrewBy}
 use Rattle.shim_log.specs.declared.header.LogHeader.{LogHeader}
 use Rattle.shim_log.specs.declared.version.LogVersion.TheVariants.{Two}
-use Rattle.shim_log.specs.Ledger.{Follows, IsLedger, LedgerState, MayStop, empty_ledger, end_of}
+use Rattle.shim_log.specs.Ledger.{RecorderFollows, IsLedger, LedgerState, MayStop, empty_ledger, end_of_ledger}
 use Rattle.shim_log.specs.Ledger.{recorder_state}
 use Rattle.shim_log.specs.LogText.{Log, exchanges, logtext}
 use Rattle.shim_log.specs.Ranges.{AreEntries, FitsLog}
@@ -62,7 +62,7 @@ fronts_same (x ∷ es) (y ∷ fs) e f is =
 
 entries_of : (es : List Exchange) (ending : Ending) (rounds : ℕ) (entries : List Exchange)
     (ended : Option (Ending × ℕ)) → AreEntries entries
-    → es ++ End ending rounds ∷ [] ≡ entries ++ end_of ended → es ≡ entries
+    → es ++ End ending rounds ∷ [] ≡ entries ++ end_of_ledger ended → es ≡ entries
 entries_of es ending rounds entries None fits is =
     absurd (no_end_entry es ending rounds
     (subst AreEntries (sym (append-nil entries) ∙ sym is ∙ refl) fits))
@@ -98,11 +98,11 @@ may_stop s t question stop header posts clock h =
 
 pub followed : {H : Type 0} (told : H → Option Told) (faults : H → ℕ) (start after : LedgerState)
     (h h' i i' : H) → h ≡ h' → i' ≡ i
-    → Follows start after (told h) (told i) (faults h) (faults i)
-    → Follows start after (told h') (told i') (faults h') (faults i')
+    → RecorderFollows start after (told h) (told i) (faults h) (faults i)
+    → RecorderFollows start after (told h') (told i') (faults h') (faults i')
 followed told faults start after h h' i i' before left follows =
-    subst (λ x. Follows start after (told x) (told i') (faults x) (faults i')) before
-    (subst (λ x. Follows start after (told h) (told x) (faults h) (faults x)) (sym left) follows)
+    subst (λ x. RecorderFollows start after (told x) (told i') (faults x) (faults i')) before
+    (subst (λ x. RecorderFollows start after (told h) (told x) (faults h) (faults x)) (sym left) follows)
 
 pub no_end_told : (start start' : LedgerState) → start ≡ start'
     → start' ≡ empty_ledger start'.posts start'.clock start'.header start'.room
@@ -113,7 +113,7 @@ no_end_told start start' same begins =
 -- ---- the run
 
 module _ (k : Held) (start after : LedgerState) (a b : Option Told) (m n : ℕ)
-    (o e o1 e1 : Option (List ℕ)) (follows : Follows start after a b m n)
+    (o e o1 e1 : Option (List ℕ)) (follows : RecorderFollows start after a b m n)
     (begins : start ≡ empty_ledger start.posts start.clock start.header start.room) where
   abbrev told : List Exchange
   told = (recorder_state after).told
@@ -124,7 +124,7 @@ module _ (k : Held) (start after : LedgerState) (a b : Option Told) (m n : ℕ)
   all_given : Given start.posts start.clock 0 a b told
   all_given =
       recording_given start.posts start.clock start.header start.room after a b m n
-      (subst (λ (s : LedgerState). Follows s after a b m n) begins follows)
+      (subst (λ (s : LedgerState). RecorderFollows s after a b m n) begins follows)
 
   had_room : IsLedger after → HadRoom start.header start.posts [] after.entries
   had_room kept =
@@ -176,7 +176,7 @@ module _ (k : Held) (start after : LedgerState) (a b : Option Told) (m n : ℕ)
       until_no_end k (recorder_state start).told told o e o1 e1 nothing_told images config
       opened run.question run.more.output run.more.error ran in
       let entries : told ≡ after.entries =
-      ap (λ (x : Option (Ending × ℕ)). after.entries ++ end_of x) (no_end after none)
+      ap (λ (x : Option (Ending × ℕ)). after.entries ++ end_of_ledger x) (no_end after none)
       ∙ append-nil after.entries in (
         run.more.output,
         run.more.error,
@@ -253,7 +253,7 @@ module _ (k : Held) (start after : LedgerState) (a b : Option Told) (m n : ℕ)
 module _ (k : Held) (ledger start after : LedgerState) (a b : Option Told) (m n : ℕ)
     (o e o1 e1 : Option (List ℕ)) (same : start ≡ ledger)
     (begins : ledger ≡ empty_ledger ledger.posts ledger.clock ledger.header ledger.room)
-    (follows : Follows start after a b m n) where
+    (follows : RecorderFollows start after a b m n) where
   begun : start ≡ empty_ledger start.posts start.clock start.header start.room
   begun = subst (λ (s : LedgerState). s ≡ empty_ledger s.posts s.clock s.header s.room) (sym same)
       begins

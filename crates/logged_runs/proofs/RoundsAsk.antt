@@ -25,7 +25,7 @@ use Rattle.flat_machine.specs.Round.{is_none_of}
 use Rattle.flat_machine.specs.Round.{phases, begun, round_of, counted, budgets}
 use Rattle.flat_machine.specs.Round.{went as went_on}
 use Rattle.round_core.proofs.Allowed.{then_allows, allows_less}
-use Rattle.group_rounds.specs.Outside.{is_end}
+use Rattle.group_rounds.specs.Outside.{is_end_question}
 use Rattle.group_rounds.proofs.Pays.{asking, service_pays, HasPaid}
 use Rattle.flat_machine.specs.Machine.{Finish, rounds_of, told_end}
 use Rattle.dpg_run.proofs.RunKeeps.{goes_on}
@@ -135,10 +135,10 @@ no_end_before (e ∷ es) asked (ask question output error next) never is =
     let h = heads question (question_of e)
     (questions (map answer_of es) (next (answer_of e) >>= told_end))
     (map question_of es ++ asked ∷ []) is in
-    by_exchange e (ap (λ q. is_end (Some q)) (sym h.0) ∙ never.0)
+    by_exchange e (ap (λ q. is_end_question (Some q)) (sym h.0) ∙ never.0)
     (no_end_before es asked (next (answer_of e)) (never.1 (answer_of e) tt) h.1)
   where
-    by_exchange : (e : Exchange) → is_end (Some (question_of e)) ≡ false → HasNoEnd es
+    by_exchange : (e : Exchange) → is_end_question (Some (question_of e)) ≡ false → HasNoEnd es
         → HasNoEnd (e ∷ es)
     by_exchange (signals round list) other rest = rest
     by_exchange (Input round tid max bytes) other rest = rest

@@ -11,7 +11,7 @@ use Rattle.page_store.specs.Store.{Store, whole}
 use Rattle.proc_table.specs.Tables.{Tables}
 use mathlib.Core.Logic.{dite}
 use native.Mathlib.Decide.{ℕ_discrete}
-use Rattle.quantum_run.specs.Packs.{space_in, view_of}
+use Rattle.quantum_run.specs.Packs.{space_held, view_of}
 use Rattle.quantum_run.specs.Shows.{Pack, View, CanRun, frames_of}
 use Rattle.worker_pool.specs.Ran.{AllCanRun}
 use Rattle.page_store.proofs.Joined.{home-at}
@@ -96,7 +96,7 @@ one-page (None ∷ []) some count = absurd (none-there (home-at (None ∷ []) 0 
 one-page (x ∷ y ∷ ps) some count = absurd (omega arith)
 
 pub all-can : (s : Store) (t : Tables) (ps : List Pack) → HasOneShared s
-    → map space_in t.processes ≡ Some page_of_code ∷ [] → All IsLoop ps
+    → map space_held t.processes ≡ Some page_of_code ∷ [] → All IsLoop ps
     → AllCanRun (view_of s t) ps
 all-can s t ps one space loops i p at =
     let page = one-page s.pages one.1 one.2 in

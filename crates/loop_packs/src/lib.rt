@@ -8,7 +8,7 @@ mod staying;
 
 ghost use Rattle.std.specs.Prelude.{◌≡◌, ◌∷◌, [], All, IfOk, Some, ◌<◌, ◌^◌, length, map, vec_len};
 ghost use Rattle.page_store.specs.Store.{AreHome};
-ghost use Rattle.quantum_run.specs.Packs.{space_in};
+ghost use Rattle.quantum_run.specs.Packs.{space_held};
 ghost use Rattle.loop_packs.specs.Loops.{HasOneShared, IsLoop, page_of_code};
 
 use dos_world::{Access, Entry, Regs, Size};
@@ -54,7 +54,7 @@ fn one_frame(alloc: Global) -> Result<Frames, AllocError>
 }
 
 fn one_process(alloc: Global) -> Result<Table, AllocError>
-    ensures { IfOk result (λ t. map space_in t.processes ≡ Some page_of_code ∷ []) }
+    ensures { IfOk result (λ t. map space_held t.processes ≡ Some page_of_code ∷ []) }
 {
     let mut table = Table::reserve(alloc, 1)?;
     match table.add_process(0, Regs::new(0x10000), SignalState::new(0)) {
@@ -74,7 +74,7 @@ fn one_process(alloc: Global) -> Result<Table, AllocError>
 // what the packs are lent
 fn lent(alloc: Global) -> Result<Shared, AllocError>
     ensures frames { IfOk result (λ s. HasOneShared s.frames) }
-    ensures table { IfOk result (λ s. map space_in s.table.processes ≡ Some page_of_code ∷ []) }
+    ensures table { IfOk result (λ s. map space_held s.table.processes ≡ Some page_of_code ∷ []) }
 {
     let table = one_process(alloc)?;
     let frames = one_frame(alloc)?;
@@ -126,7 +126,7 @@ fn repeat<W: Workers>(workers: &mut W, packs: &mut Vec<Pack>, mut shared: Shared
     requires count { vec_len packs.old < 2 ^ 32 }
     requires loops { All IsLoop packs.old.items }
     requires frames { HasOneShared shared.frames }
-    requires table { map space_in shared.table.processes ≡ Some page_of_code ∷ [] }
+    requires table { map space_held shared.table.processes ≡ Some page_of_code ∷ [] }
 {
     for _ in 0..load.calls {
         refill(packs, load.first, load.others);

@@ -17,7 +17,7 @@ use Rattle.dos_world.specs.World.{page_of}
 use Rattle.dos_world.specs.Counts.{bytes_if_mapped}
 use Rattle.dos_world.specs.declared.Owner.{Owner}
 use Rattle.dos_world.specs.Kernel.{zero_page}
-use Rattle.page_store.specs.Store.{whole, shown, joined, cleared}
+use Rattle.page_store.specs.Store.{whole, shown, joined, zeroed}
 use Rattle.page_store.proofs.Pages.{length-whole, length-zero_page, written-splice}
 use Rattle.page_store.proofs.Pages.{whole-zero_page, whole-none}
 
@@ -92,7 +92,7 @@ joined-set_same (o ∷ ps) zero p q e h =
 joined-set_same (o ∷ ps) (suc f) p q e h = ap (λ xs. shown o ++ xs) (joined-set_same ps f p q e h)
 
 -- a page that was cleared shows zeros
-pub shown-cleared : (page : Option (List ℕ)) → shown (cleared page) ≡ zero_page
+pub shown-cleared : (page : Option (List ℕ)) → shown (zeroed page) ≡ zero_page
 shown-cleared None = whole-none
 shown-cleared (Some page) = whole-zero_page
 

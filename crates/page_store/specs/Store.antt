@@ -87,8 +87,8 @@ AreFreeFrom owners high = (frame : ℕ) → high ≤ frame
 -- ---- changing
 
 -- this many frames with zero pages, all home, Free and without uses
-abbrev pub unused : ℕ → Store
-unused count = record {
+abbrev pub unused_frames : ℕ → Store
+unused_frames count = record {
   pages = replicate count (Some zero_page);
   owners = replicate count Free;
   uses = replicate count 0;
@@ -110,13 +110,13 @@ with_owned s frame t = record s {
   uses = slice_set s.uses frame 1;
 }
 
-abbrev pub with_more : Store → ℕ → Store
-with_more s frame = record s { uses = slice_set s.uses frame (uses_at s frame + 1) }
+abbrev pub with_use_more : Store → ℕ → Store
+with_use_more s frame = record s { uses = slice_set s.uses frame (uses_at s frame + 1) }
 
 -- zeros in place of a page that is home
-abbrev pub cleared : Option (List ℕ) → Option (List ℕ)
-cleared None = None
-cleared (Some page) = Some zero_page
+abbrev pub zeroed : Option (List ℕ) → Option (List ℕ)
+zeroed None = None
+zeroed (Some page) = Some zero_page
 
 -- the frame's page, None while it is away
 abbrev pub page_at : Store → ℕ → Option (List ℕ)
@@ -125,7 +125,7 @@ page_at s frame = slice_index_or s.pages frame None
 -- one use less, and at none Free and zero
 abbrev pub with_less : Store → ℕ → Store
 with_less s frame = record {
-  pages = if uses_at s frame == 1 then slice_set s.pages frame (cleared (page_at s frame))
+  pages = if uses_at s frame == 1 then slice_set s.pages frame (zeroed (page_at s frame))
       else s.pages;
   owners = if uses_at s frame == 1 then slice_set s.owners frame Free else s.owners;
   uses = slice_set s.uses frame (uses_at s frame - 1);

@@ -8,8 +8,8 @@ ghost use Rattle.dos_world.specs.Kernel.{zero_page};
 ghost use Rattle.dos_world.specs.Reach.{granted};
 ghost use Rattle.page_store.specs.Store.{AreFreeFrom, AreHome, IsAway, IsCopied, IsHome, IsHomeIn};
 ghost use Rattle.page_store.specs.Store.{IsOwned, IsPageCopied, IsUnused, free_count, owner_at};
-ghost use Rattle.page_store.specs.Store.{cleared, unused, uses_at, with_away, with_owned};
-ghost use Rattle.page_store.specs.Store.{with_grant, with_home, with_less, with_more};
+ghost use Rattle.page_store.specs.Store.{zeroed, unused_frames, uses_at, with_away, with_owned};
+ghost use Rattle.page_store.specs.Store.{with_grant, with_home, with_less, with_use_more};
 ghost use Rattle.page_store.specs.Lending.{LendsPage, LendsSlot};
 
 use crate::Page;
@@ -55,7 +55,7 @@ impl Model for Frames {
 impl Frames {
     /// `count` frames: all home, zero, Free and without uses. All their memory is taken here.
     pub fn reserve(alloc: Global, count: u32) -> Result<Frames, AllocError>
-        ensures { IfOk result (λ f. f ≡ unused count) }
+        ensures { IfOk result (λ f. f ≡ unused_frames count) }
     {
         Ok(Frames {
             pages: zero_pages(alloc, count)?,
@@ -236,7 +236,7 @@ impl Frames {
     pub fn use_more(&mut self, frame: u32)
         requires owned { IsOwned self.old frame }
         requires few { uses_at self.old frame < 2 ^ 32 - 1 }
-        ensures one { self.new ≡ with_more self.old frame }
+        ensures one { self.new ≡ with_use_more self.old frame }
         ensures within { frame < length self.old.uses }
     {
         self.uses[frame as usize] += 1;
@@ -262,7 +262,7 @@ impl Frames {
 
 // a page that is home becomes zero
 fn clear_home(slot: &mut Option<Page>)
-    ensures { slot.new ≡ cleared slot.old }
+    ensures { slot.new ≡ zeroed slot.old }
 {
     match slot {
         Some(page) => page.clear(),

@@ -3,7 +3,7 @@ ghost use Rattle.std.specs.Prelude.{◌≡◌, ◌<◌, ◌^◌, ◌∷◌, [], 
 ghost use Rattle.std.specs.Prelude.{true};
 ghost use mathlib.Core.Option.{some};
 ghost use lib.ListN.{get_elem?};
-ghost use Rattle.hand_board.specs.Placed.{times, without, whole};
+ghost use Rattle.hand_board.specs.Placed.{times, without, whole_share};
 ghost use Rattle.pool_tests.specs.Hands.{IsAt};
 
 use hand_board::{Board, BoardSeat, Job, Part};
@@ -48,7 +48,7 @@ fn opened(rt: &impl Abort, alloc: Global, packs: Vec<Number>) -> (Board<Number>,
         ≡ record {
           board = result.0.id;
           opened = packs.items;
-          share = whole;
+          share = whole_share;
           found = [];
           hand = [];
           next = 0;

@@ -8,7 +8,7 @@ use Rattle.proc_table.specs.declared.record.Kept.TheVariants.{Live}
 use Rattle.proc_table.specs.declared.record.Links.{Links}
 use Rattle.proc_table.specs.declared.record.Record.{Record}
 use Rattle.proc_table.specs.Links.{AreLinked, AreLinkedBy, IsLinkable, is_child_at, is_uncollected}
-use Rattle.proc_table.specs.Links.{links_at, next_in, no_links, passes, previous_in, with_child}
+use Rattle.proc_table.specs.Links.{links_at, next_in, no_links, passes, previous_in, with_child_linked}
 use Rattle.proc_table.specs.Links.{with_link}
 use Rattle.proc_table.proofs.Grown.{grown}
 use Rattle.proc_table.proofs.Moved.{at_last, before_last, beyond, child_to, family}
@@ -62,8 +62,8 @@ module _ (L : List Links) (p c : ℕ) (number : c ≡ length L + 1) (within : p 
         after_within = λ some low. absurd (omega arith);
       }
 
-  pub child_length : length (with_child L p c) ≡ length L + 1
-  unfolding with_child
+  pub child_length : length (with_child_linked L p c) ≡ length L + 1
+  unfolding with_child_linked
   child_length = link_length (with_link pushed p (previous_in L p 65536) c) p c 65536
       (second_linkable (with_link pushed p (previous_in L p 65536) c) refl) ∙ tied_length
 
@@ -88,8 +88,8 @@ module _ (R : List Record) (L : List Links) (few : length R ≤ 65535) (count : 
   ]
 
   pub added_linked : (c : ℕ) → c ≡ length L + 1
-      → AreLinked (R ++ (record { parent = p; kept = Live place }) ∷ []) (with_child L p c)
-  unfolding with_child
+      → AreLinked (R ++ (record { parent = p; kept = Live place }) ∷ []) (with_child_linked L p c)
+  unfolding with_child_linked
   added_linked c number =
       let r : Record = record { parent = p; kept = Live place } in
       let new : List Record = R ++ r ∷ [] in

@@ -11,7 +11,7 @@ use Rattle.dos_world.specs.World.{Process, first_of, has_ended, is_child}
 use Rattle.dos_world.specs.ProcessCalls.{any_process}
 use Rattle.space_map.specs.Mapping.{Mapping}
 use Rattle.proc_table.specs.Children.{children_in}
-use Rattle.proc_table.specs.Places.{holdings_in, process_by, shown, is_child_record}
+use Rattle.proc_table.specs.Places.{holdings_in, process_by, processes_shown, is_child_record}
 use Rattle.proc_table.specs.Places.{first_child}
 use Rattle.proc_table.specs.Links.{passes, passes_at}
 use Rattle.proc_table.specs.declared.record.Belongings.{Belongings}
@@ -233,9 +233,9 @@ places_shown f t u same n (x ∷ xs) =
 
 pub children_shown : (asked : Bool) (S : List Mapping) (D : List Belongings) (R : List Record)
     (parent which : ℕ)
-    → first_of (children_in (test_of asked) (shown S D R) parent which)
+    → first_of (children_in (test_of asked) (processes_shown S D R) parent which)
     ≡ first_child asked R parent which
-unfolding shown
+unfolding processes_shown
 children_shown asked S D R parent which =
     ap (λ ps. first_of (filter (names which) ps))
     (places_shown (process_by (holdings_in S D))

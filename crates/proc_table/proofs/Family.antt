@@ -11,7 +11,7 @@ use Rattle.proc_table.specs.declared.record.Kept.{Kept}
 use Rattle.proc_table.specs.declared.record.Kept.TheVariants.{Live, Ended}
 use Rattle.proc_table.specs.declared.record.Links.{Links}
 use Rattle.proc_table.specs.declared.record.Record.{Record}
-use Rattle.proc_table.specs.Places.{is_collected, kept_as, orphan_record, place_in, place_of}
+use Rattle.proc_table.specs.Places.{is_collected, kept_as, orphan_record, place_in, place_of_record}
 use Rattle.proc_table.specs.Links.{AreLinked, AreLinkedBy, IsLinkable, IsNext, childless}
 use Rattle.proc_table.specs.Links.{is_child_at, is_uncollected, next_in, passes}
 use Rattle.proc_table.specs.Links.{previous_in, with_link, with_next, with_previous}
@@ -114,14 +114,14 @@ collected_test q status None = refl
 collected_test q status (Some r) = and_false (r.parent == q)
 
 -- who ends is a child still
-ended_test : (q status : ℕ) (o : Option Record) → IsSome (option_and_then place_of o)
+ended_test : (q status : ℕ) (o : Option Record) → IsSome (option_and_then place_of_record o)
     → passes (is_uncollected q) (option_map (kept_as (Ended status false)) o)
     ≡ passes (is_uncollected q) o
 ended_test q status None h = cc
 ended_test q status (Some r) h = by r.kept h
   where
     by : (k : Kept)
-        → IsSome (place_of (let x : Record = record { parent = r.parent; kept = k } in x))
+        → IsSome (place_of_record (let x : Record = record { parent = r.parent; kept = k } in x))
         → ((r.parent == q) && not false) ≡ ((r.parent == q) && not (is_collected k))
     by (Live place) h = refl
     by (Ended status collected) h = cc

@@ -5,7 +5,7 @@ use Rattle.std.specs.Prelude.{find, not, ◌&&◌}
 use Rattle.std.proofs.lemmas.Bool.{cases_eq}
 use Rattle.dos_world.specs.Numbered.{run_of}
 use Rattle.dos_world.specs.World.{has_bit}
-use Rattle.proc_table.specs.Saved.{is_open, lowest_open}
+use Rattle.proc_table.specs.Saved.{is_deliverable, lowest_open}
 
 first_in : (test : ℕ → Bool) (n count p : ℕ) → n ≤ p → p < n + count
     → ((k : ℕ) → n ≤ k → k < p → test k ≡ false) → test p ≡ true
@@ -30,18 +30,18 @@ none_in test n (suc count) below =
 
 -- a signal that is pending and not masked
 pub opens : (pending mask signal : ℕ) → has_bit pending signal ≡ true → has_bit mask signal ≡ false
-    → is_open pending mask signal ≡ true
+    → is_deliverable pending mask signal ≡ true
 opens pending mask signal set free = ap (λ b. b && not (has_bit mask signal)) set ∙ ap not free
 
 -- the first that passes is the lowest signal that comes
 pub lowest_is : (pending mask p : ℕ) → 1 ≤ p → p < 32
-    → ((k : ℕ) → 1 ≤ k → k < p → is_open pending mask k ≡ false) → is_open pending mask p ≡ true
+    → ((k : ℕ) → 1 ≤ k → k < p → is_deliverable pending mask k ≡ false) → is_deliverable pending mask p ≡ true
     → Some p ≡ lowest_open pending mask
 lowest_is pending mask p low high below here =
-    sym (first_in (is_open pending mask) 1 31 p low (omega arith) below here)
+    sym (first_in (is_deliverable pending mask) 1 31 p low (omega arith) below here)
 
 -- where none passes, none comes
-pub lowest_none : (pending mask : ℕ) → ((k : ℕ) → 1 ≤ k → k < 32 → is_open pending mask k ≡ false)
+pub lowest_none : (pending mask : ℕ) → ((k : ℕ) → 1 ≤ k → k < 32 → is_deliverable pending mask k ≡ false)
     → None ≡ lowest_open pending mask
 lowest_none pending mask below =
-    sym (none_in (is_open pending mask) 1 31 (λ k l h. below k l (omega arith)))
+    sym (none_in (is_deliverable pending mask) 1 31 (λ k l h. below k l (omega arith)))

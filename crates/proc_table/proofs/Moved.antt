@@ -9,7 +9,7 @@ use Rattle.std.proofs.lemmas.Bool.Decides.{nat_tests}
 use Rattle.std.proofs.lemmas.Option.{get_or_from_slice_get, slice_get-get_or}
 use Rattle.dos_world.specs.Numbered.{numbered, changed, changed_at}
 use Rattle.proc_table.specs.declared.record.Record.{Record}
-use Rattle.proc_table.specs.Places.{is_collected, place_in, place_of}
+use Rattle.proc_table.specs.Places.{is_collected, place_in, place_of_record}
 use Rattle.proc_table.specs.Links.{is_child_at, is_uncollected}
 use Rattle.proc_table.specs.Links.{passes}
 use Rattle.proc_table.proofs.Linked.{IsFamily}
@@ -163,7 +163,7 @@ module _ {A : Type 0} where
 pub live_given : (R : List Record) (p : ℕ) → IsSome (place_in R p) → IsSome (numbered R p)
 live_given R p h = by (numbered R p) h
   where
-    by : (o : Option Record) → IsSome (option_and_then place_of o) → IsSome o
+    by : (o : Option Record) → IsSome (option_and_then place_of_record o) → IsSome o
     by None h = h
     by (Some r) h = refl
 

@@ -19,7 +19,7 @@ use Rattle.dos_world.specs.ProcessCalls.{collected_by}
 use Rattle.space_map.specs.Mapping.{Mapping, empty}
 use Rattle.proc_table.specs.Tables.{held_in, new_process}
 use Rattle.proc_table.specs.Places.{first_belongings, holdings_by, holdings_in, no_belongings}
-use Rattle.proc_table.specs.Places.{life_by, process_by, shown, place_kept, place_of, place_in}
+use Rattle.proc_table.specs.Places.{life_by, process_by, processes_shown, place_kept, place_of_record, place_in}
 use Rattle.proc_table.specs.Places.{is_placed, orphan_record, status_or_0, IsHeld, AreHeld}
 use Rattle.proc_table.specs.declared.record.Record.{Record}
 use Rattle.proc_table.specs.declared.record.Belongings.{Belongings}
@@ -57,19 +57,19 @@ numbered-map f xs (suc i) = get-map f xs i
 -- ---- what a live process has
 
 pub shown_length : (S : List Mapping) (D : List Belongings) (R : List Record)
-    → length (shown S D R) ≡ length R
-unfolding shown
+    → length (processes_shown S D R) ≡ length R
+unfolding processes_shown
 shown_length S D R = length-map R (process_by (holdings_in S D))
 
 pub numbered_shown : (S : List Mapping) (D : List Belongings) (R : List Record) (p : ℕ)
-    → numbered (shown S D R) p ≡ option_map (process_by (holdings_in S D)) (numbered R p)
-unfolding shown
+    → numbered (processes_shown S D R) p ≡ option_map (process_by (holdings_in S D)) (numbered R p)
+unfolding processes_shown
 numbered_shown S D R p = numbered-map (process_by (holdings_in S D)) R p
 
 -- what a live process has is what stands at its place
 pub held_shown : (S : List Mapping) (D : List Belongings) (R : List Record) (p : ℕ)
-    → held_in (shown S D R) p ≡ option_map (holdings_in S D) (place_in R p)
-unfolding shown
+    → held_in (processes_shown S D R) p ≡ option_map (holdings_in S D) (place_in R p)
+unfolding processes_shown
 held_shown S D R p = ap (option_and_then holdings_of)
     (numbered-map (process_by (holdings_in S D)) R p) ∙ one (numbered R p)
   where
@@ -81,18 +81,18 @@ held_shown S D R p = ap (option_and_then holdings_of)
 
     one : (o : Option Record)
         → option_and_then holdings_of (option_map (process_by (holdings_in S D)) o)
-        ≡ option_map (holdings_in S D) (option_and_then place_of o)
+        ≡ option_map (holdings_in S D) (option_and_then place_of_record o)
     one None = refl
     one (Some r) = of_kept r.kept r.parent
 
 pub get_within : (R : List Record) (i : ℕ) {place : ℕ}
-    → option_and_then place_of (slice_get R i) ≡ Some place → i < length R
+    → option_and_then place_of_record (slice_get R i) ≡ Some place → i < length R
 get_within [] i e = cc
 get_within (r ∷ R) zero e = omega arith
 get_within (r ∷ R) (suc i) e = omega (arith, get_within R i e)
 
 pub get_placed : (R : List Record) (i : ℕ) (d : Record) (place : ℕ) → i < length R
-    → option_and_then place_of (slice_get R i) ≡ Some place → place_of (get_or R i d) ≡ Some place
+    → option_and_then place_of_record (slice_get R i) ≡ Some place → place_of_record (get_or R i d) ≡ Some place
 get_placed [] i d place h e = absurd (omega arith)
 get_placed (r ∷ R) zero d place h e = e
 get_placed (r ∷ R) (suc i) d place h e = get_placed R i d place (omega arith) e
@@ -101,7 +101,7 @@ get_placed (r ∷ R) (suc i) d place h e = get_placed R i d place (omega arith) 
 
 module _ (holders : List (Option ℕ)) (place : ℕ) where
   pub held_at : (n : ℕ) (R : List Record) (i : ℕ) → AreHeld holders n R
-      → option_and_then place_of (slice_get R i) ≡ Some place
+      → option_and_then place_of_record (slice_get R i) ≡ Some place
       → slice_get holders place ≡ Some (Some (n + i))
   held_at n [] i h e = cc
   held_at n (r ∷ R) zero h e = subst (λ (o : Option ℕ). IsHeld holders o n) e h.0
@@ -120,13 +120,13 @@ module _ (holders : List (Option ℕ)) (place : ℕ) where
       → AreHeld (set holders place x) n R
   all_kept x n [] apart h = tt
   all_kept x n (r ∷ R) apart h = (
-    kept_elsewhere x (place_of r) n (apart n (omega arith)) h.0,
+    kept_elsewhere x (place_of_record r) n (apart n (omega arith)) h.0,
     all_kept x (suc n) R (λ m le. apart m (omega arith)) h.1,
   )
 
   -- a place is freed with the end of its process
   pub ended_held : (t n i : ℕ) (R : List Record) (y : Record) → n + i ≡ t
-      → slice_get holders place ≡ Some (Some t) → place_of y ≡ None → AreHeld holders n R
+      → slice_get holders place ≡ Some (Some t) → place_of_record y ≡ None → AreHeld holders n R
       → AreHeld (set holders place None) n (set R i y)
   ended_held t n i [] y e at gone h = tt
   ended_held t n zero (r ∷ R) y e at gone h = (
@@ -137,7 +137,7 @@ module _ (holders : List (Option ℕ)) (place : ℕ) where
       not_above : (m : ℕ) → suc n ≤ m → Some (Some t) ≡ Some (Some m) → ⊥
       not_above m le is = let same : t ≡ m = cc in omega arith
   ended_held t n (suc i) (r ∷ R) y e at gone h = (
-    kept_elsewhere None (place_of r) n (λ is. not_here (sym at ∙ is)) h.0,
+    kept_elsewhere None (place_of_record r) n (λ is. not_here (sym at ∙ is)) h.0,
     ended_held t (suc n) i R y (omega arith) at gone h.1,
   )
     where
@@ -150,13 +150,13 @@ orphans_held holders p n [] h = tt
 orphans_held holders p n (r ∷ R) h = (h.0, orphans_held holders p (suc n) R h.1)
 
 pub held_pushed : (holders : List (Option ℕ)) (n : ℕ) (R : List Record) (r : Record)
-    → AreHeld holders n R → IsHeld holders (place_of r) (n + length R)
+    → AreHeld holders n R → IsHeld holders (place_of_record r) (n + length R)
     → AreHeld holders n (R ++ r ∷ [])
-held_pushed holders n [] r h is = (subst (IsHeld holders (place_of r)) (omega arith) is, tt)
+held_pushed holders n [] r h is = (subst (IsHeld holders (place_of_record r)) (omega arith) is, tt)
 held_pushed holders n (x ∷ R) r h is = (
   h.0,
   held_pushed holders (suc n) R r h.1
-      (subst (IsHeld holders (place_of r)) (omega arith) is),
+      (subst (IsHeld holders (place_of_record r)) (omega arith) is),
 )
 
 -- ---- what stands at a place changes
@@ -170,7 +170,7 @@ module _ (old new : ℕ → Holdings) (holders : List (Option ℕ)) (place : ℕ
   same_life (Ended status collected) n apart h = refl
 
   same_process : (r : Record) (n : ℕ) → slice_get holders place ≢ Some (Some n)
-      → IsHeld holders (place_of r) n → process_by new r ≡ process_by old r
+      → IsHeld holders (place_of_record r) n → process_by new r ≡ process_by old r
   same_process r n apart h =
       ap (λ (l : Life). let p : Process = record { parent = r.parent; life = l } in p)
       (same_life r.kept n apart h)
@@ -186,7 +186,7 @@ module _ (old new : ℕ → Holdings) (holders : List (Option ℕ)) (place : ℕ
 
   pub changed_process : (f : Holdings → Holdings) (t n i : ℕ) (R : List Record) → n + i ≡ t
       → new place ≡ f (old place) → slice_get holders place ≡ Some (Some t) → AreHeld holders n R
-      → option_and_then place_of (slice_get R i) ≡ Some place
+      → option_and_then place_of_record (slice_get R i) ≡ Some place
       → map (process_by new) R ≡ changed_at (on_holdings f) (map (process_by old) R) i
   changed_process f t n i [] e is at h here = cc
   changed_process f t n zero (r ∷ R) e is at h here =
@@ -215,8 +215,8 @@ module _ (old new : ℕ → Holdings) (holders : List (Option ℕ)) (place : ℕ
 
 -- the live processes are those with a place
 pub holdings_count : (S : List Mapping) (D : List Belongings) (R : List Record)
-    → length (all_holdings (shown S D R)) ≡ count_by is_placed R
-unfolding shown
+    → length (all_holdings (processes_shown S D R)) ≡ count_by is_placed R
+unfolding processes_shown
 holdings_count S D R = by R ∙ length-filter is_placed R
   where
     step : (k : Kept) (parent : ℕ) (R : List Record) (r : Record)
@@ -295,7 +295,7 @@ collected_shown held (suc i) (r ∷ R) x y e q h =
 
 -- who holds no place may change
 pub marked_held : (holders : List (Option ℕ)) (n i : ℕ) (R : List Record) (y : Record)
-    → place_of y ≡ None → AreHeld holders n R → AreHeld holders n (set R i y)
+    → place_of_record y ≡ None → AreHeld holders n R → AreHeld holders n (set R i y)
 marked_held holders n i [] y gone h = tt
 marked_held holders n zero (r ∷ R) y gone h =
     (subst (λ (o : Option ℕ). IsHeld holders o n) (sym gone) tt, h.1)
@@ -345,9 +345,9 @@ free_place holders place e =
 pub shown_ended : (S : List Mapping) (D : List Belongings) (p status : ℕ) (R : List Record)
     (x y : Record) → x ≡ get_or R (p - 1) x → y ≡ record x { kept = Ended status false }
     → p - 1 + 1 ≡ p → p - 1 < length R
-    → shown S D (map (orphan_record p) (set R (p - 1) y))
-    ≡ map (orphaned p) (changed (ended_by status) (shown S D R) p)
-unfolding shown
+    → processes_shown S D (map (orphan_record p) (set R (p - 1) y))
+    ≡ map (orphaned p) (changed (ended_by status) (processes_shown S D R) p)
+unfolding processes_shown
 shown_ended S D zero status R x y read is n h = absurd (omega arith)
 shown_ended S D (suc i) status R x y read is n h =
     let here : suc i - 1 ≡ i = omega arith in
@@ -359,10 +359,10 @@ shown_ended S D (suc i) status R x y read is n h =
 pub shown_added : (R : List Record) (holders : List (Option ℕ)) (S : List Mapping)
     (D : List Belongings) (place parent : ℕ) (y : Mapping) → slice_get holders place ≡ Some None
     → place < length S → place < length D → y.entries ≡ [] → AreHeld holders 1 R
-    → shown (set S place y) (set D place first_belongings)
-    (R ++ record { parent = parent; kept = Live place } ∷ []) ≡ shown S D R
+    → processes_shown (set S place y) (set D place first_belongings)
+    (R ++ record { parent = parent; kept = Live place } ∷ []) ≡ processes_shown S D R
     ++ new_process parent ∷ []
-unfolding shown
+unfolding processes_shown
 shown_added R holders S D place parent y free s d is held =
     let new : ℕ → Holdings = holdings_in (set S place y) (set D place first_belongings) in
     let r : Record = record { parent = parent; kept = Live place } in

@@ -14,8 +14,8 @@ use Rattle.dos_world.specs.World.{Thread, belongs_to, first_of, none_of}
 use Rattle.dos_world.specs.Kernel.{unless_of}
 use Rattle.dos_world.specs.ThreadCalls.{are_threads_full}
 use Rattle.proc_table.specs.Tables.{thread_in, next_in}
-use Rattle.proc_table.specs.Spread.{live_in, spread, AreRising, IsSpreadKept, no_entry}
-use Rattle.proc_table.specs.Spread.{IsAt, IsGapFor, IsGapAbove}
+use Rattle.proc_table.specs.Spread.{live_in, spread, AreRising, IsSpreadKept, no_thread_entry}
+use Rattle.proc_table.specs.Spread.{IsThreadAt, IsGapForThread, IsGapAbove}
 use Rattle.proc_table.proofs.Spread.{from_low, rising_set, rising_push, rising_remove}
 use Rattle.proc_table.proofs.Spread.{rising_filter, spread_at, spread_length, spread_changed}
 use Rattle.proc_table.proofs.Spread.{spread_mapped, spread_pushed, numbers_spread, in_at, in_gap}
@@ -23,13 +23,13 @@ use Rattle.proc_table.proofs.Spread.{in_set_here, in_set_other, in_removed_here,
 use Rattle.proc_table.proofs.Spread.{in_filtered, first_found, next_found, kept_all}
 
 -- a place among the entries as a function is lent them
-pub at_in : {es live : List (ℕ × Thread)} {t place : ℕ} → es ≡ live → IsAt es t place
-    → IsAt live t place
-at_in {es} {live} {t} {place} e at = subst (λ xs. IsAt xs t place) e at
+pub at_in : {es live : List (ℕ × Thread)} {t place : ℕ} → es ≡ live → IsThreadAt es t place
+    → IsThreadAt live t place
+at_in {es} {live} {t} {place} e at = subst (λ xs. IsThreadAt xs t place) e at
 
-pub gap_in : {es live : List (ℕ × Thread)} {t place : ℕ} → es ≡ live → IsGapFor es t place
-    → IsGapFor live t place
-gap_in {es} {live} {t} {place} e gap = subst (λ xs. IsGapFor xs t place) e gap
+pub gap_in : {es live : List (ℕ × Thread)} {t place : ℕ} → es ≡ live → IsGapForThread es t place
+    → IsGapForThread live t place
+gap_in {es} {live} {t} {place} e gap = subst (λ xs. IsGapForThread xs t place) e gap
 
 pub above_in : {es live : List (ℕ × Thread)} {t place : ℕ} → es ≡ live → IsGapAbove es t place
     → IsGapAbove live t place
@@ -52,19 +52,19 @@ module _ {live : List (ℕ × Thread)} {given capacity : ℕ} {now : List (Optio
   pub few_in : {es : List (ℕ × Thread)} → es ≡ live → length es ≤ 64
   few_in e = omega (arith, kept.few, ap (λ (xs : List (ℕ × Thread)). length xs) e)
 
-  pub stands : {t place : ℕ} → IsAt live t place
-      → thread_in now t ≡ Some (get_or live place no_entry).1
+  pub stands : {t place : ℕ} → IsThreadAt live t place
+      → thread_in now t ≡ Some (get_or live place no_thread_entry).1
   stands {t} {place} at = shown_at t ∙ in_at 1 (given + 1) live t place kept.rising at
 
   -- what stands at the place of a live thread
-  pub reads : {t place : ℕ} {x : ℕ × Thread} → IsAt live t place → x ≡ get_or live place x
+  pub reads : {t place : ℕ} {x : ℕ × Thread} → IsThreadAt live t place → x ≡ get_or live place x
       → thread_in now t ≡ Some x.1
   reads {t} {place} {x} at read =
       stands at ∙ ap (λ (e : ℕ × Thread). Some e.1)
-      (sym (get_or_read live place x at.within read no_entry))
+      (sym (get_or_read live place x at.within read no_thread_entry))
 
   -- a search that ends in a gap
-  pub gone : {t place : ℕ} → IsGapFor live t place → thread_in now t ≡ None
+  pub gone : {t place : ℕ} → IsGapForThread live t place → thread_in now t ≡ None
   gone {t} {place} gap = shown_at t ∙ in_gap live t place gap
 
   pub count_shown : (test : Option Thread → Bool) → test None ≡ false
@@ -110,17 +110,17 @@ module _ {live : List (ℕ × Thread)} {given capacity : ℕ} {now : List (Optio
 
   -- ---- changes
 
-  starts_above : {t place : ℕ} → IsAt live t place → 1 ≤ t
+  starts_above : {t place : ℕ} → IsThreadAt live t place → 1 ≤ t
   starts_above {t} {place} at =
       omega (arith, at.is, from_low 1 (given + 1) live place kept.rising at.within)
 
-  number_read : {t place : ℕ} {x : ℕ × Thread} → IsAt live t place → x ≡ get_or live place x
+  number_read : {t place : ℕ} {x : ℕ × Thread} → IsThreadAt live t place → x ≡ get_or live place x
       → x.0 ≡ t
   number_read {t} {place} {x} at read =
-      ap (λ (e : ℕ × Thread). e.0) (get_or_read live place x at.within read no_entry) ∙ at.is
+      ap (λ (e : ℕ × Thread). e.0) (get_or_read live place x at.within read no_thread_entry) ∙ at.is
 
   -- a thread written at its place
-  pub written : (f : Thread → Thread) {t place : ℕ} {x y : ℕ × Thread} → IsAt live t place
+  pub written : (f : Thread → Thread) {t place : ℕ} {x y : ℕ × Thread} → IsThreadAt live t place
       → x ≡ get_or live place x → y ≡ (x.0, f x.1)
       → spread (set live place y) given ≡ changed (option_map f) now t
   written f {t} {place} {x} {y} at read is =
@@ -133,7 +133,7 @@ module _ {live : List (ℕ × Thread)} {given capacity : ℕ} {now : List (Optio
       (λ m apart. in_set_other live t place m y at number apart) here
       ∙ ap (λ ts. changed (option_map f) ts t) shown
 
-  pub kept_set : (y : ℕ × Thread) {t place : ℕ} {x : ℕ × Thread} {same : ℕ} → IsAt live t place
+  pub kept_set : (y : ℕ × Thread) {t place : ℕ} {x : ℕ × Thread} {same : ℕ} → IsThreadAt live t place
       → x ≡ get_or live place x → y.0 ≡ x.0 → same ≡ capacity
       → IsSpreadKept (set live place y) given same
   kept_set y {t} {place} {x} {same} at read is c = record {
@@ -164,7 +164,7 @@ module _ {live : List (ℕ × Thread)} {given capacity : ℕ} {now : List (Optio
         taken = omega (arith, kept.taken);
       }
 
-  pub removed : {t place : ℕ} {new : List (ℕ × Thread)} → IsAt live t place
+  pub removed : {t place : ℕ} {new : List (ℕ × Thread)} → IsThreadAt live t place
       → new ≡ remove live place → spread new given ≡ changed none_of now t
   removed {t} {place} {new} at is =
       ap (λ es. spread es given) is
@@ -173,7 +173,7 @@ module _ {live : List (ℕ × Thread)} {given capacity : ℕ} {now : List (Optio
       (in_removed_here 1 (given + 1) live t place kept.rising at)
       ∙ ap (λ ts. changed none_of ts t) shown
 
-  pub kept_remove : {t place : ℕ} {new : List (ℕ × Thread)} {same : ℕ} → IsAt live t place
+  pub kept_remove : {t place : ℕ} {new : List (ℕ × Thread)} {same : ℕ} → IsThreadAt live t place
       → new ≡ remove live place → same ≡ capacity → IsSpreadKept new given same
   kept_remove {t} {place} {new} {same} at is c = record {
     rising = subst (AreRising 1 (given + 1)) (sym is)

@@ -14,8 +14,8 @@ use Rattle.std.proofs.lemmas.Bool.Decides.{nat_tests}
 use Rattle.dos_world.specs.Numbered.{numbered, changed, changed_at, places_from, numbers_of, run_of}
 use Rattle.dos_world.specs.World.{Thread, flat, first_of}
 use Rattle.dos_world.specs.Kernel.{unless_of}
-use Rattle.proc_table.specs.Spread.{live_in, spread, AreRising, AreInOrder, no_entry, number_at}
-use Rattle.proc_table.specs.Spread.{IsAt, IsGapFor, IsGapAbove}
+use Rattle.proc_table.specs.Spread.{live_in, spread, AreRising, AreInOrder, no_thread_entry, thread_number_at}
+use Rattle.proc_table.specs.Spread.{IsThreadAt, IsGapForThread, IsGapAbove}
 
 -- ---- numbers that rise
 
@@ -31,14 +31,14 @@ rising_wider low high lower higher (e ∷ live) l h r = (
 )
 
 pub from_low : (low high : ℕ) (live : List (ℕ × Thread)) (i : ℕ) → AreRising low high live
-    → i < length live → low ≤ number_at live i
+    → i < length live → low ≤ thread_number_at live i
 from_low low high [] i r h = absurd (omega arith)
 from_low low high (e ∷ live) zero r h = r.0
 from_low low high (e ∷ live) (suc i) r h =
     omega (arith, r.0, from_low (suc e.0) high live i r.2 (omega arith))
 
 pub rises : (low high : ℕ) (live : List (ℕ × Thread)) (i j : ℕ) → AreRising low high live → i < j
-    → j < length live → number_at live i < number_at live j
+    → j < length live → thread_number_at live i < thread_number_at live j
 rises low high [] i j r lt h = absurd (omega arith)
 rises low high (e ∷ live) i zero r lt h = absurd (omega arith)
 rises low high (e ∷ live) zero (suc j) r lt h =
@@ -51,22 +51,22 @@ rises low high (e ∷ live) (suc i) (suc j) r lt h =
 module _ (live : List (ℕ × Thread)) (order : AreInOrder live) (t : ℕ) where
   comparisons_rise : IsNonDecreasingBy (λ e. ordering_index (nat_cmp e.0 t)) live
   comparisons_rise = IsNonDecreasingBy-from_default
-      (λ e. ordering_index (nat_cmp e.0 t)) live no_entry (λ i j le within.
-      let numbers_rise : number_at live i ≤ number_at live j =
+      (λ e. ordering_index (nat_cmp e.0 t)) live no_thread_entry (λ i j le within.
+      let numbers_rise : thread_number_at live i ≤ thread_number_at live j =
       grind (
         arith,
         rises 1 order.0 live i j order.1,
-        λ (same : i ≡ j). ap (number_at live) same,
+        λ (same : i ≡ j). ap (thread_number_at live) same,
       ) in
       grind (arith, nat_tests))
 
   -- a binary search by number ends at the thread, or at the gap for it
   pub searched : (r : Result ℕ ℕ) → IsSearchInRange r (length live)
       → IsBinarySearchResult (λ e. nat_cmp e.0 t) live r
-      → record { found : IfOk r (IsAt live t); gap : IfErr r (IsGapFor live t) }
+      → record { found : IfOk r (IsThreadAt live t); gap : IfErr r (IsGapForThread live t) }
   searched (Ok place) within equal =
       record {
-        found = record { within = within; is = ranked _ t _ (sym (equal no_entry)) };
+        found = record { within = within; is = ranked _ t _ (sym (equal no_thread_entry)) };
         gap =
             tt;
       }
@@ -74,8 +74,8 @@ module _ (live : List (ℕ × Thread)) (order : AreInOrder live) (t : ℕ) where
     found = tt;
     gap = record {
       within = within;
-      lower = λ j lt. ranked _ t _ (sym ((parted comparisons_rise).0 j no_entry (omega arith) lt));
-      higher = λ j le lt. ranked _ t _ (sym ((parted comparisons_rise).1 j no_entry le lt));
+      lower = λ j lt. ranked _ t _ (sym ((parted comparisons_rise).0 j no_thread_entry (omega arith) lt));
+      higher = λ j le lt. ranked _ t _ (sym ((parted comparisons_rise).1 j no_thread_entry le lt));
     };
   }
 
@@ -88,7 +88,7 @@ other_test : (n t : ℕ) → n ≢ t → (n == t) ≡ false
 other_test n t e = grind (arith, nat_tests)
 
 abbrev pub IsNowhere : List (ℕ × Thread) → ℕ → Type 0
-IsNowhere live t = (i : ℕ) → i < length live → number_at live i ≢ t
+IsNowhere live t = (i : ℕ) → i < length live → thread_number_at live i ≢ t
 
 pub in_nowhere : (live : List (ℕ × Thread)) (t : ℕ) → IsNowhere live t → live_in live t ≡ None
 in_nowhere [] t none = refl
@@ -96,7 +96,7 @@ in_nowhere (e ∷ live) t none =
     rw (other_test e.0 t (none 0 (omega arith)))
     (in_nowhere live t (λ i h. none (suc i) (omega arith)))
 
-pub in_gap : (live : List (ℕ × Thread)) (t place : ℕ) → IsGapFor live t place
+pub in_gap : (live : List (ℕ × Thread)) (t place : ℕ) → IsGapForThread live t place
     → live_in live t ≡ None
 in_gap live t place gap = in_nowhere live t (λ i h e. grind (arith, gap.lower i, gap.higher i))
 
@@ -112,11 +112,11 @@ in_above low high t (e ∷ live) r h =
     rw (other_test e.0 t (λ s. omega (arith, r.1))) (in_above (suc e.0) high t live r.2 h)
 
 pub in_at : (low high : ℕ) (live : List (ℕ × Thread)) (t place : ℕ) → AreRising low high live
-    → IsAt live t place → live_in live t ≡ Some (get_or live place no_entry).1
+    → IsThreadAt live t place → live_in live t ≡ Some (get_or live place no_thread_entry).1
 in_at low high [] t place r at = absurd (omega (arith, at.within))
 in_at low high (e ∷ live) t zero r at = rw (same_test e.0 t at.is) refl
 in_at low high (e ∷ live) t (suc i) r at =
-    let rest : IsAt live t i = record { within = omega (arith, at.within); is = at.is } in
+    let rest : IsThreadAt live t i = record { within = omega (arith, at.within); is = at.is } in
     rw (other_test e.0 t (λ s.
     omega (arith, from_low (suc e.0) high live i r.2 rest.within, rest.is)))
     (in_at (suc e.0) high live t i r.2 rest)
@@ -299,7 +299,7 @@ numbers_spread test live given none r =
 -- ---- a thread written in its place
 
 pub rising_set : (low high : ℕ) (live : List (ℕ × Thread)) (place : ℕ) (y : ℕ × Thread)
-    → AreRising low high live → place < length live → y.0 ≡ number_at live place
+    → AreRising low high live → place < length live → y.0 ≡ thread_number_at live place
     → AreRising low high (set live place y)
 rising_set low high [] place y r h e = absurd (omega arith)
 rising_set low high (x ∷ live) zero y r h e =
@@ -308,12 +308,12 @@ rising_set low high (x ∷ live) (suc i) y r h e =
     (r.0, r.1, rising_set (suc x.0) high live i y r.2 (omega arith) e)
 
 pub in_set_here : (low high : ℕ) (live : List (ℕ × Thread)) (t place : ℕ) (y : ℕ × Thread)
-    → AreRising low high live → IsAt live t place → y.0 ≡ t
+    → AreRising low high live → IsThreadAt live t place → y.0 ≡ t
     → live_in (set live place y) t ≡ Some y.1
 in_set_here low high [] t place y r at e = absurd (omega (arith, at.within))
 in_set_here low high (x ∷ live) t zero y r at e = rw (same_test y.0 t e) refl
 in_set_here low high (x ∷ live) t (suc i) y r at e =
-    let rest : IsAt live t i = record { within = omega (arith, at.within); is = at.is } in
+    let rest : IsThreadAt live t i = record { within = omega (arith, at.within); is = at.is } in
     rw (other_test x.0 t (λ s.
     omega (arith, from_low (suc x.0) high live i r.2 rest.within, rest.is)))
     (in_set_here (suc x.0) high live t i y r.2 rest e)
@@ -329,14 +329,14 @@ in_rest x new old m same = by (x.0 == m)
     by true = refl
     by false = same
 
-pub in_set_other : (live : List (ℕ × Thread)) (t place m : ℕ) (y : ℕ × Thread) → IsAt live t place
+pub in_set_other : (live : List (ℕ × Thread)) (t place m : ℕ) (y : ℕ × Thread) → IsThreadAt live t place
     → y.0 ≡ t → m ≢ t → live_in (set live place y) m ≡ live_in live m
 in_set_other [] t place m y at e apart = absurd (omega (arith, at.within))
 in_set_other (x ∷ live) t zero m y at e apart =
     rw (other_test y.0 m (λ s. apart (sym s ∙ e)), other_test x.0 m (λ s. apart (sym s ∙ at.is)))
     refl
 in_set_other (x ∷ live) t (suc i) m y at e apart =
-    let rest : IsAt live t i = record { within = omega (arith, at.within); is = at.is } in
+    let rest : IsThreadAt live t i = record { within = omega (arith, at.within); is = at.is } in
     in_rest x (set live i y) live m (in_set_other live t i m y rest e apart)
 
 -- ---- threads that come and go
@@ -366,23 +366,23 @@ rising_filter keep low high (e ∷ live) r =
     ]
 
 pub in_removed_here : (low high : ℕ) (live : List (ℕ × Thread)) (t place : ℕ)
-    → AreRising low high live → IsAt live t place → live_in (remove live place) t ≡ None
+    → AreRising low high live → IsThreadAt live t place → live_in (remove live place) t ≡ None
 in_removed_here low high [] t place r at = absurd (omega (arith, at.within))
 in_removed_here low high (e ∷ live) t zero r at =
     in_below (suc e.0) high t live r.2 (omega (arith, at.is))
 in_removed_here low high (e ∷ live) t (suc i) r at =
-    let rest : IsAt live t i = record { within = omega (arith, at.within); is = at.is } in
+    let rest : IsThreadAt live t i = record { within = omega (arith, at.within); is = at.is } in
     rw (other_test e.0 t (λ s.
     omega (arith, from_low (suc e.0) high live i r.2 rest.within, rest.is)))
     (in_removed_here (suc e.0) high live t i r.2 rest)
 
-pub in_removed_other : (live : List (ℕ × Thread)) (t place m : ℕ) → IsAt live t place → m ≢ t
+pub in_removed_other : (live : List (ℕ × Thread)) (t place m : ℕ) → IsThreadAt live t place → m ≢ t
     → live_in (remove live place) m ≡ live_in live m
 in_removed_other [] t place m at apart = absurd (omega (arith, at.within))
 in_removed_other (e ∷ live) t zero m at apart =
     rw (other_test e.0 m (λ s. apart (sym s ∙ at.is))) refl
 in_removed_other (e ∷ live) t (suc i) m at apart =
-    let rest : IsAt live t i = record { within = omega (arith, at.within); is = at.is } in
+    let rest : IsThreadAt live t i = record { within = omega (arith, at.within); is = at.is } in
     in_rest e (remove live i) live m (in_removed_other live t i m rest apart)
 
 pub in_filtered : (p low high : ℕ) (live : List (ℕ × Thread)) (m : ℕ) → AreRising low high live
@@ -454,7 +454,7 @@ kept_all (e ∷ live) = ap (λ es. e ∷ es) (kept_all live)
 
 -- behind a thread begin those above its number
 pub above_at : (high : ℕ) (live : List (ℕ × Thread)) (t place : ℕ) → AreRising 1 high live
-    → IsAt live t place → IsGapAbove live t (place + 1)
+    → IsThreadAt live t place → IsGapAbove live t (place + 1)
 above_at high live t place r at = record {
   within = omega (arith, at.within);
   lower = λ i lt. grind (
@@ -462,7 +462,7 @@ above_at high live t place r at = record {
     at.is,
     at.within,
     rises 1 high live i place r,
-    λ (same : i ≡ place). ap (number_at live) same,
+    λ (same : i ≡ place). ap (thread_number_at live) same,
   );
   higher = λ i le within. omega (arith, at.is, rises 1 high live place i r (omega arith) within);
 }

@@ -18,8 +18,8 @@ use Rattle.dos_world.specs.declared.End.{End}
 use Rattle.dos_world.specs.declared.Entry.{Entry}
 use Rattle.space_map.specs.Mapping.{Mapping, empty}
 use Rattle.proc_table.specs.Tables.{held_as, held_in, IsParent, IsProcess, new_process}
-use Rattle.proc_table.specs.Places.{Group, group, kept_as, first_belongings, holdings_by}
-use Rattle.proc_table.specs.Places.{holdings_in, no_belongings, process_by, shown, place_of}
+use Rattle.proc_table.specs.Places.{Group, group_shown, kept_as, first_belongings, holdings_by}
+use Rattle.proc_table.specs.Places.{holdings_in, no_belongings, process_by, processes_shown, place_of_record}
 use Rattle.proc_table.specs.Places.{place_in, is_placed, orphan_record, status_or_0, IsHeld}
 use Rattle.proc_table.specs.Places.{AreHeld, ArePlaced}
 use Rattle.proc_table.specs.declared.record.Record.{Record}
@@ -49,13 +49,13 @@ no_record = record { parent = 0; kept = Live 0 }
 -- What is kept is placed, and shows this group.
 pub record Stands (R : List Record) (holders : List (Option ℕ)) (S : List Mapping)
     (D : List Belongings) (count room : ℕ) (now : Group) : Type 0 where
-  pub shows : group S D R room ≡ now
+  pub shows : group_shown S D R room ≡ now
   pub placed : ArePlaced R holders S D count room
 
 module _ {R : List Record} {holders : List (Option ℕ)} {S : List Mapping} {D : List Belongings}
-    {count room : ℕ} {now : Group} (shows : group S D R room ≡ now)
+    {count room : ℕ} {now : Group} (shows : group_shown S D R room ≡ now)
     (placed : ArePlaced R holders S D count room) where
-  pub processes_shown : shown S D R ≡ now.processes
+  pub processes_shown : processes_shown S D R ≡ now.processes
   processes_shown = ap (λ (g : Group). g.processes) shows
 
   room_shown : room ≡ now.room
@@ -107,8 +107,8 @@ module _ {R : List Record} {holders : List (Option ℕ)} {S : List Mapping} {D :
       → ((q : ℕ) → q ≢ place → holdings_in S' D' q ≡ holdings_in S D q)
       → holdings_in S' D' place ≡ f (holdings_in S D place)
       → (p : ℕ) → place_in R p ≡ Some place → slice_get holders place ≡ Some (Some p)
-      → shown S' D' R ≡ changed (on_holdings f) (shown S D R) p
-  unfolding shown
+      → processes_shown S' D' R ≡ changed (on_holdings f) (processes_shown S D R) p
+  unfolding processes_shown
   shown_changed place S' D' f others here zero e at = cc
   shown_changed place S' D' f others here (suc i) e at =
       changed_process (holdings_in S D) (holdings_in S' D') holders place others f (suc i) 1 i R
@@ -176,7 +176,7 @@ module _ {R : List Record} {holders : List (Option ℕ)} {S : List Mapping} {D :
     changes : (S' : List Mapping) (D' : List Belongings) (f : Holdings → Holdings)
         → ((q : ℕ) → q ≢ place → holdings_in S' D' q ≡ holdings_in S D q)
         → holdings_in S' D' place ≡ f (holdings_in S D place)
-        → group S' D' R room ≡ record now { processes = changed (on_holdings f) now.processes p }
+        → group_shown S' D' R room ≡ record now { processes = changed (on_holdings f) now.processes p }
     changes S' D' f others here =
         ap (λ ps. let g : Group = record { processes = ps; room = room } in g)
         (shown_changed place S' D' f others here p found at_place)
@@ -252,16 +252,16 @@ module _ {R : List Record} {holders : List (Option ℕ)} {S : List Mapping} {D :
 
     -- its record
     recorded : (p - 1 + 1 ≡ p) × (p - 1 < length R)
-        × (option_and_then place_of (slice_get R (p - 1)) ≡ Some place)
+        × (option_and_then place_of_record (slice_get R (p - 1)) ≡ Some place)
     recorded = by p found
       where
         by : (p : ℕ) → place_in R p ≡ Some place → (p - 1 + 1 ≡ p) × (p - 1 < length R)
-            × (option_and_then place_of (slice_get R (p - 1)) ≡ Some place)
+            × (option_and_then place_of_record (slice_get R (p - 1)) ≡ Some place)
         by zero e = cc
         by (suc i) e = (
           omega arith,
           omega (arith, get_within R i e),
-          subst (λ n. option_and_then place_of (slice_get R n) ≡ Some place) {x = i}
+          subst (λ n. option_and_then place_of_record (slice_get R n) ≡ Some place) {x = i}
               (omega arith) e,
         )
 
@@ -280,10 +280,10 @@ module _ {R : List Record} {holders : List (Option ℕ)} {S : List Mapping} {D :
     pub one_lives : 1 ≤ count
     one_lives = omega (arith, freed, placed.holding)
 
-    one_ended : (x y : Record) → x ≡ get_or R (p - 1) x → place_of y ≡ None
+    one_ended : (x y : Record) → x ≡ get_or R (p - 1) x → place_of_record y ≡ None
         → count_by is_placed (set R (p - 1) y) + 1 ≡ count_by is_placed R
     one_ended x y read gone =
-        let was : place_of (get_or R (p - 1) y) ≡ Some place =
+        let was : place_of_record (get_or R (p - 1) y) ≡ Some place =
         get_placed R (p - 1) y place recorded.1 recorded.2 in
         omega (
           arith,
@@ -305,7 +305,7 @@ module _ {R : List Record} {holders : List (Option ℕ)} {S : List Mapping} {D :
         (omega (arith, recorded.0)) (omega (arith, recorded.0, recorded.1)) read)) in
         record {
           shows = ap (λ ps. let g : Group = record { processes = ps; room = room } in g)
-              (ap (shown S D) e
+              (ap (processes_shown S D) e
               ∙ shown_ended S D p status R x y read refl recorded.0 recorded.1)
               ∙ ap (λ (g : Group). let h : Group =
               record g { processes = map (orphaned p) (changed (ended_by status) g.processes p) }
@@ -334,18 +334,18 @@ module _ {R : List Record} {holders : List (Option ℕ)} {S : List Mapping} {D :
 
   pub collected_standing : (p : ℕ) → 1 ≤ p → p - 1 < length R → (status : ℕ)
       → ((x : Record) → x ≡ get_or R (p - 1) x
-      → (place_of x ≡ None) × (status ≡ status_or_0 x.kept))
+      → (place_of_record x ≡ None) × (status ≡ status_or_0 x.kept))
       → {new : List Record} → new ≡ changed (kept_as (Ended status true)) R p
       → Stands new holders S D count room
       (record now { processes = changed collected_by now.processes p })
-  unfolding shown
+  unfolding processes_shown
   collected_standing p from within status gone {new} is =
       let x : Record = get_or R (p - 1) no_record in
       let y : Record = kept_as (Ended status true) x in
       let read : x ≡ get_or R (p - 1) x = read_again R (p - 1) no_record within in
       let e : new ≡ set R (p - 1) y =
       is ∙ sym (changed_is (kept_as (Ended status true)) R p x from (omega (arith, within)) read) in
-      let was : place_of (get_or R (p - 1) y) ≡ None =
+      let was : place_of_record (get_or R (p - 1) y) ≡ None =
       (gone (get_or R (p - 1) y) (read_again R (p - 1) y within)).0 in
       record {
         shows = ap (λ ps. let g : Group = record { processes = ps; room = room } in g)
@@ -421,7 +421,7 @@ module _ {R : List Record} {holders : List (Option ℕ)} {S : List Mapping} {D :
         let H : List (Option ℕ) = set holders place (Some (n + 1)) in
         let in_holders : place < length holders =
         omega (arith, free_within, placed.holders_count) in
-        let holder : IsHeld H (place_of r) (1 + length R) =
+        let holder : IsHeld H (place_of_record r) (1 + length R) =
         get-set_same holders place (Some (n + 1)) in_holders
         ∙ ap (λ m. Some (Some m)) (omega (arith, number)) in
         let was : get_or holders place None ≡ None =
@@ -431,8 +431,8 @@ module _ {R : List Record} {holders : List (Option ℕ)} {S : List Mapping} {D :
         ∙ All-get_or (λ (s : Mapping). s.room ≡ room) S place x free_in_spaces placed.rooms in
         record {
           shows = ap (λ ps. let g : Group = record { processes = ps; room = room } in g)
-              (ap (λ c. shown (set S place y) (set D place c) new) begins
-              ∙ ap (shown (set S place y) (set D place first_belongings)) e
+              (ap (λ c. processes_shown (set S place y) (set D place c) new) begins
+              ∙ ap (processes_shown (set S place y) (set D place first_belongings)) e
               ∙ shown_added R holders S D place parent y free free_in_spaces free_in_belongings
               (ap (λ (s : Mapping). s.entries) is) placed.held)
               ∙ ap (λ (g : Group). let h : Group =
@@ -467,8 +467,8 @@ module _ {R : List Record} {holders : List (Option ℕ)} {S : List Mapping} {D :
 -- ---- no process
 
 pub none_standing : (R : List Record) (S : List Mapping) (D : List Belongings) (room : ℕ) → R ≡ []
-    → group S D R room ≡ record { processes = []; room = room }
-unfolding shown
+    → group_shown S D R room ≡ record { processes = []; room = room }
+unfolding processes_shown
 none_standing R S D room e =
     ap (λ (rs : List Record). let g : Group =
     record { processes = map (process_by (holdings_in S D)) rs; room = room } in g) e

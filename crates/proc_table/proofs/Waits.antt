@@ -10,10 +10,10 @@ use Rattle.dos_world.specs.Numbered.{numbered, changed}
 use Rattle.dos_world.specs.World.{Process, first_of, status_of}
 use Rattle.dos_world.specs.ProcessCalls.{any_process, collected_by}
 use Rattle.space_map.specs.Mapping.{Mapping}
-use Rattle.proc_table.specs.Children.{children_in, outcome, outcome_by, status_in}
+use Rattle.proc_table.specs.Children.{children_in, outcome, outcome_by, status_of_ended}
 use Rattle.proc_table.specs.declared.collected.Collected.TheVariants.{Got, Wait, NoChild}
-use Rattle.proc_table.specs.Places.{ArePlaced, Group, first_child, group, has_come, holdings_in}
-use Rattle.proc_table.specs.Places.{is_child_record, is_collected, kept_as, place_kept, place_of}
+use Rattle.proc_table.specs.Places.{ArePlaced, Group, first_child, group_shown, has_come, holdings_in}
+use Rattle.proc_table.specs.Places.{is_child_record, is_collected, kept_as, place_kept, place_of_record}
 use Rattle.proc_table.specs.Places.{process_by, status_or_0}
 use Rattle.proc_table.specs.Links.{passes, passes_at}
 use Rattle.proc_table.specs.declared.record.Belongings.{Belongings}
@@ -26,7 +26,7 @@ use Rattle.proc_table.proofs.Places.{numbered_shown}
 use Rattle.proc_table.proofs.Standing.{Stands, collected_standing, processes_shown}
 
 module _ {R : List Record} {holders : List (Option ℕ)} {S : List Mapping} {D : List Belongings}
-    {count room : ℕ} {now : Group} (shows : group S D R room ≡ now)
+    {count room : ℕ} {now : Group} (shows : group_shown S D R room ≡ now)
     (placed : ArePlaced R holders S D count room) (parent which : ℕ) where
   first_is : (asked : Bool)
       → first_of (children_in (test_of asked) now.processes parent which)
@@ -87,7 +87,7 @@ module _ {R : List Record} {holders : List (Option ℕ)} {S : List Mapping} {D :
     record_at : (x : Record) → x ≡ get_or R (p - 1) x → slice_get R (p - 1) ≡ Some x
     record_at x read = slice_get-get_or R (p - 1) x found_within ∙ ap (λ r. Some r) (sym read)
 
-    found_ended : (x : Record) → x ≡ get_or R (p - 1) x → place_of x ≡ None
+    found_ended : (x : Record) → x ≡ get_or R (p - 1) x → place_of_record x ≡ None
     found_ended x read = by x.kept
         (and_parts ((x.parent == parent) && not (is_collected x.kept)) (has_come true x.kept)
         (found_passes.2 x (record_at x read))).1
@@ -97,9 +97,9 @@ module _ {R : List Record} {holders : List (Option ℕ)} {S : List Mapping} {D :
         by (Ended status collected) e = refl
 
     found_status : (x : Record) → x ≡ get_or R (p - 1) x
-        → status_in now.processes p ≡ status_or_0 x.kept
+        → status_of_ended now.processes p ≡ status_or_0 x.kept
     found_status x read =
-        ap (λ qs. status_in qs p) (sym (processes_shown shows placed))
+        ap (λ qs. status_of_ended qs p) (sym (processes_shown shows placed))
         ∙ ap status_by (numbered_shown S D R p)
         ∙ ap (λ o. status_by (option_map (process_by (holdings_in S D)) o))
         (given p found_from ∙ record_at x read) ∙ kept x.kept
@@ -125,7 +125,7 @@ module _ {R : List Record} {holders : List (Option ℕ)} {S : List Mapping} {D :
         ∙ outcome_is (Some a) (Some p) e found
 
   got_found : {p status : ℕ} → Got p status ≡ outcome now.processes parent which
-      → (first_child true R parent which ≡ Some p) × (status ≡ status_in now.processes p)
+      → (first_child true R parent which ≡ Some p) × (status ≡ status_of_ended now.processes p)
   got_found {p} {status} e = by (first_child false R parent which)
       (first_child true R parent which) refl
       (e ∙ sym (outcome_is (first_child false R parent which)
@@ -133,13 +133,13 @@ module _ {R : List Record} {holders : List (Option ℕ)} {S : List Mapping} {D :
     where
       by : (any come : Option ℕ) → first_child true R parent which ≡ come
           → Got p status ≡ outcome_by any come now.processes
-          → (first_child true R parent which ≡ Some p) × (status ≡ status_in now.processes p)
+          → (first_child true R parent which ≡ Some p) × (status ≡ status_of_ended now.processes p)
       by None come is e = cc
       by (Some a) None is e = cc
       by (Some a) (Some q) is e =
           let same : p ≡ q = cc in
-          let value : status ≡ status_in now.processes q = cc in
-          (is ∙ ap (λ n. Some n) (sym same), value ∙ ap (status_in now.processes) (sym same))
+          let value : status ≡ status_of_ended now.processes q = cc in
+          (is ∙ ap (λ n. Some n) (sym same), value ∙ ap (status_of_ended now.processes) (sym same))
 
   -- the child that a wait has got
   module _ {p status : ℕ} (got : Got p status ≡ outcome now.processes parent which) where

@@ -14,13 +14,13 @@ children_in test processes parent which =
     (numbers_of (λ process. is_child parent process && test process) processes)
 
 -- the status of a process that has ended
-abbrev pub status_in : List Process → ℕ → ℕ
-status_in processes p = elim (numbered processes p) [ None ↦ 0 | Some process ↦ status_of process ]
+abbrev pub status_of_ended : List Process → ℕ → ℕ
+status_of_ended processes p = elim (numbered processes p) [ None ↦ 0 | Some process ↦ status_of process ]
 
 abbrev pub outcome_by : Option ℕ → Option ℕ → List Process → Collected
 outcome_by None _ processes = NoChild
 outcome_by (Some any) None processes = Wait
-outcome_by (Some any) (Some p) processes = Got p (status_in processes p)
+outcome_by (Some any) (Some p) processes = Got p (status_of_ended processes p)
 
 -- What a wait comes to: by the first child, and by the first that has ended.
 abbrev pub outcome : List Process → ℕ → ℕ → Collected

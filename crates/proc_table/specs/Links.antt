@@ -76,8 +76,8 @@ with_link links parent before after =
     else with_previous (with_next links parent before after) parent after before
 
 -- with a new number, the last child of the parent
-unfoldable pub with_child : List Links → ℕ → ℕ → List Links
-with_child links parent number =
+unfoldable pub with_child_linked : List Links → ℕ → ℕ → List Links
+with_child_linked links parent number =
     with_link (with_link (links ++ no_links ∷ []) parent (previous_in links parent 65536) number)
     parent number 65536
 
@@ -120,7 +120,7 @@ pub record IsWalkable (records : List Record) (links : List Links) (parent : ℕ
   pub within : parent ≤ length records
 
 -- Each record has its links, and the memory of both was taken.
-pub record AreKept (records : List Record) (links : List Links) (room links_room : ℕ) : Type 0 where
+pub record AreLinksKept (records : List Record) (links : List Links) (room links_room : ℕ) : Type 0 where
   pub linked : AreLinked records links
   pub count : length links ≡ length records
   pub few : length records ≤ 65535

@@ -43,26 +43,26 @@ abbrev pub process_by : (ℕ → Holdings) → Record → Process
 process_by held r = record { parent = r.parent; life = life_by held r.kept }
 
 -- the processes that these records and places stand for
-unfoldable pub shown : List Mapping → List Belongings → List Record → List Process
-shown spaces belongings records = map (process_by (holdings_in spaces belongings)) records
+unfoldable pub processes_shown : List Mapping → List Belongings → List Record → List Process
+processes_shown spaces belongings records = map (process_by (holdings_in spaces belongings)) records
 
-abbrev pub group : List Mapping → List Belongings → List Record → ℕ → Group
-group spaces belongings records room =
-    record { processes = shown spaces belongings records; room = room }
+abbrev pub group_shown : List Mapping → List Belongings → List Record → ℕ → Group
+group_shown spaces belongings records room =
+    record { processes = processes_shown spaces belongings records; room = room }
 
 abbrev pub place_kept : Kept → Option ℕ
 place_kept (Live place) = Some place
 place_kept (Ended status collected) = None
 
 -- the place of a process, where it lives
-abbrev pub place_of : Record → Option ℕ
-place_of r = place_kept r.kept
+abbrev pub place_of_record : Record → Option ℕ
+place_of_record r = place_kept r.kept
 
 abbrev pub place_in : List Record → ℕ → Option ℕ
-place_in records p = option_and_then place_of (numbered records p)
+place_in records p = option_and_then place_of_record (numbered records p)
 
 abbrev pub is_placed : Record → Bool
-is_placed r = is_some (place_of r)
+is_placed r = is_some (place_of_record r)
 
 -- whether a process has ended and its parent has collected it
 abbrev pub is_collected : Kept → Bool
@@ -113,7 +113,7 @@ IsHeld holders (Some place) n = slice_get holders place ≡ Some (Some n)
 -- the processes from number n on hold their places
 abbrev pub AreHeld : List (Option ℕ) → ℕ → List Record → Type 0
 AreHeld holders n [] = Unit {0}
-AreHeld holders n (r ∷ records) = IsHeld holders (place_of r) n × AreHeld holders (suc n) records
+AreHeld holders n (r ∷ records) = IsHeld holders (place_of_record r) n × AreHeld holders (suc n) records
 
 -- Each process that lives holds a place of its own, of 32. Live is the count of both.
 pub record ArePlaced (records : List Record) (holders : List (Option ℕ)) (spaces : List Mapping)

@@ -10,10 +10,10 @@ use Rattle.proc_table.specs.Tables.{Signals}
 -- ---- slots
 
 -- what is in the slots, up to the first that is empty
-abbrev pub filled : {A : Type 0} → List (Option A) → List A
-filled [] = []
-filled (None ∷ slots) = []
-filled (Some x ∷ slots) = x ∷ filled slots
+abbrev pub filled_slots : {A : Type 0} → List (Option A) → List A
+filled_slots [] = []
+filled_slots (None ∷ slots) = []
+filled_slots (Some x ∷ slots) = x ∷ filled_slots slots
 
 -- the values in so many slots, and the rest empty
 abbrev pub slots_of : {A : Type 0} → ℕ → List A → List (Option A)
@@ -24,12 +24,12 @@ slots_of (suc n) (x ∷ xs) = Some x ∷ slots_of n xs
 -- ---- which signal comes
 
 -- whether a signal is pending and not masked
-abbrev pub is_open : ℕ → ℕ → ℕ → Bool
-is_open pending mask signal = has_bit pending signal && not (has_bit mask signal)
+abbrev pub is_deliverable : ℕ → ℕ → ℕ → Bool
+is_deliverable pending mask signal = has_bit pending signal && not (has_bit mask signal)
 
 -- the lowest signal that is pending and not masked
 abbrev pub lowest_open : ℕ → ℕ → Option ℕ
-lowest_open pending mask = find (is_open pending mask) (run_of 1 31)
+lowest_open pending mask = find (is_deliverable pending mask) (run_of 1 31)
 
 -- 9 where it is pending, else the lowest pending signal that isn't masked
 abbrev pub first_signal : ℕ → ℕ → Option ℕ

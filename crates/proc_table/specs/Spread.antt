@@ -31,26 +31,26 @@ pub record IsSpreadKept (live : List (ℕ × Thread)) (given capacity : ℕ) : T
 abbrev pub AreInOrder : List (ℕ × Thread) → Type 0
 AreInOrder live = (high : ℕ) × AreRising 1 high live
 
-abbrev pub no_entry : ℕ × Thread
-no_entry = (0, ready_thread 0 (blank 0) 0 [])
+abbrev pub no_thread_entry : ℕ × Thread
+no_thread_entry = (0, ready_thread 0 (blank 0) 0 [])
 
-abbrev pub number_at : List (ℕ × Thread) → ℕ → ℕ
-number_at live place = let e : ℕ × Thread = slice_index_or live place no_entry in e.0
+abbrev pub thread_number_at : List (ℕ × Thread) → ℕ → ℕ
+thread_number_at live place = let e : ℕ × Thread = slice_index_or live place no_thread_entry in e.0
 
 -- the thread of this number stands at this place
-pub record IsAt (live : List (ℕ × Thread)) (t place : ℕ) : Type 0 where
+pub record IsThreadAt (live : List (ℕ × Thread)) (t place : ℕ) : Type 0 where
   pub within : place < length live
-  pub is : number_at live place ≡ t
+  pub is : thread_number_at live place ≡ t
 
 -- the thread of this number would stand at this place: lower numbers before it, and higher ones
 -- from it on
-pub record IsGapFor (live : List (ℕ × Thread)) (t place : ℕ) : Type 0 where
+pub record IsGapForThread (live : List (ℕ × Thread)) (t place : ℕ) : Type 0 where
   pub within : place ≤ length live
-  pub lower : (i : ℕ) → i < place → number_at live i < t
-  pub higher : (i : ℕ) → place ≤ i → i < length live → t < number_at live i
+  pub lower : (i : ℕ) → i < place → thread_number_at live i < t
+  pub higher : (i : ℕ) → place ≤ i → i < length live → t < thread_number_at live i
 
 -- the threads above this number begin at this place
 pub record IsGapAbove (live : List (ℕ × Thread)) (t place : ℕ) : Type 0 where
   pub within : place ≤ length live
-  pub lower : (i : ℕ) → i < place → number_at live i ≤ t
-  pub higher : (i : ℕ) → place ≤ i → i < length live → t < number_at live i
+  pub lower : (i : ℕ) → i < place → thread_number_at live i ≤ t
+  pub higher : (i : ℕ) → place ≤ i → i < length live → t < thread_number_at live i

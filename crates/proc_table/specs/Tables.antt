@@ -11,7 +11,7 @@ use Rattle.dos_world.specs.Kernel.{unless_of, orphaned, ended_by}
 use Rattle.dos_world.specs.SignalCalls.{restored}
 use Rattle.dos_world.specs.declared.End.{End}
 use Rattle.dos_world.specs.declared.Entry.{Entry}
-use Rattle.space_map.specs.Mapping.{put_run, with_replaced, with_shared_run, without_run}
+use Rattle.space_map.specs.Mapping.{put_run, with_replaced, with_shared_run, without_page_run}
 
 -- Processes and threads are numbered from 1. Each live process's space has room for so many
 -- entries.
@@ -37,8 +37,8 @@ pub record Signals : Type 0 where
 abbrev pub thread_in : List (Option Thread) → ℕ → Option Thread
 thread_in threads t = flat (numbered threads t)
 
-abbrev pub IsThread : List (Option Thread) → ℕ → Type 0
-IsThread threads t = IsSome (thread_in threads t)
+abbrev pub IsLiveThread : List (Option Thread) → ℕ → Type 0
+IsLiveThread threads t = IsSome (thread_in threads t)
 
 -- what the process of this number has, where it lives
 abbrev pub held_in : List Process → ℕ → Option Holdings
@@ -56,8 +56,8 @@ abbrev pub last_status : Process → Option ℕ
 last_status process = elim process.life [ live h ↦ None | ended status collected ↦ Some status ]
 
 -- what a descriptor names, where it is open
-abbrev pub end_in : Holdings → ℕ → Option End
-end_in h number = unwrap_or (slice_get h.descriptors number) None
+abbrev pub end_named : Holdings → ℕ → Option End
+end_named h number = unwrap_or (slice_get h.descriptors number) None
 
 -- the lowest live thread above a number
 abbrev pub next_in : List (Option Thread) → ℕ → Option ℕ
@@ -124,7 +124,7 @@ entry_replaced page entry h = record h { space = with_replaced page entry h.spac
 
 -- what a process has, without so many pages from this one on
 abbrev pub run_unmapped : ℕ → ℕ → Holdings → Holdings
-run_unmapped page count h = record h { space = without_run page count h.space }
+run_unmapped page count h = record h { space = without_page_run page count h.space }
 
 -- what a process has, with so many pages from this one on shared
 abbrev pub run_shared : ℕ → ℕ → Holdings → Holdings

@@ -10,7 +10,7 @@ ghost use Rattle.dos_world.specs.Kernel.{ended_by, orphaned, with_entry, without
 ghost use Rattle.dos_world.specs.DescriptorCalls.{with_end};
 ghost use Rattle.dos_world.specs.SignalCalls.{is_signal, with_action};
 ghost use Rattle.space_map.specs.Mapping.{IsMapped, empty, in_run};
-ghost use Rattle.proc_table.specs.Tables.{IsParent, IsProcess, end_in, entry_replaced, held_as};
+ghost use Rattle.proc_table.specs.Tables.{IsParent, IsProcess, end_named, entry_replaced, held_as};
 ghost use Rattle.proc_table.specs.Tables.{held_in, last_status, new_process, run_put, run_shared};
 ghost use Rattle.proc_table.specs.Tables.{run_unmapped, without_ends};
 ghost use Rattle.proc_table.specs.Children.{after_wait, outcome};
@@ -40,7 +40,7 @@ pub(crate) struct Processes {
 }
 
 impl Model for Processes {
-    ghost use Rattle.proc_table.specs.Places.{ArePlaced, Group, group};
+    ghost use Rattle.proc_table.specs.Places.{ArePlaced, Group, group_shown};
 
     ghost Value = { Group };
 
@@ -272,7 +272,7 @@ impl Processes {
 
     pub(crate) fn descriptor(&self, pid: u32, number: u32) -> Option<End>
         requires { IsProcess self.now.processes pid }
-        ensures { IfSome (held_in self.now.processes pid) (λ h. result ≡ end_in h number) }
+        ensures { IfSome (held_in self.now.processes pid) (λ h. result ≡ end_named h number) }
     {
         end_at(
             &self.belongings[self.records.place_of(pid)].descriptors,

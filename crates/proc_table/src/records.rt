@@ -8,7 +8,7 @@ ghost use Rattle.proc_table.specs.declared.record.Kept.TheVariants.{Live, Ended}
 ghost use Rattle.proc_table.specs.Places.{first_child, has_come, is_child_record, is_collected};
 ghost use Rattle.proc_table.specs.Places.{kept_as, orphan_record, place_in};
 ghost use Rattle.proc_table.specs.Links.{IsLinkable, IsWalkable, childless, next_in, no_links};
-ghost use Rattle.proc_table.specs.Links.{passes_at, previous_in, with_child, with_link, with_next};
+ghost use Rattle.proc_table.specs.Links.{passes_at, previous_in, with_child_linked, with_link, with_next};
 ghost use Rattle.proc_table.specs.Links.{with_previous};
 
 use crate::record::{Kept, Links, Record};
@@ -33,7 +33,7 @@ impl Model for Records {
     ghost use Rattle.std.specs.Prelude.{List};
     ghost use Rattle.std.specs.Vec.{vec_capacity};
     ghost use Rattle.proc_table.specs.declared.record.Record.{Record};
-    ghost use Rattle.proc_table.specs.Links.{AreKept};
+    ghost use Rattle.proc_table.specs.Links.{AreLinksKept};
 
     ghost Value = { List Record };
 
@@ -286,7 +286,7 @@ fn add_links(links: &mut Vec<Links>, parent: u32, number: u32)
     requires few { length links.old.items < 65535 }
     requires last { previous_in links.old.items parent 65536 ≤ length links.old.items }
     requires room { length links.old.items < vec_capacity links.old }
-    ensures items { links.new.items ≡ with_child links.old.items parent number }
+    ensures items { links.new.items ≡ with_child_linked links.old.items parent number }
     ensures capacity { vec_capacity links.old ≤ vec_capacity links.new }
 {
     let last = last_child(links, parent);

@@ -1,7 +1,7 @@
 // The signals of a thread.
 ghost use Rattle.std.specs.Prelude.{◌≡◌, ◌<◌, [], ◌∷◌, length, None, Some, IfNone, IfSome, find};
 ghost use Rattle.dos_world.specs.SignalSet.{allowed_mask, has_bit, with_bit, without_bit};
-ghost use Rattle.proc_table.specs.Saved.{first_signal, handled, is_open, lowest_open};
+ghost use Rattle.proc_table.specs.Saved.{first_signal, handled, is_deliverable, lowest_open};
 
 use crate::processes::first_none;
 use dos_world::Regs;
@@ -30,7 +30,7 @@ impl Model for SignalState {
     ghost use Rattle.std.specs.Prelude.{◌≡◌};
     ghost use Rattle.std.proofs.Common.{sym};
     ghost use Rattle.proc_table.specs.Tables.{Signals};
-    ghost use Rattle.proc_table.specs.Saved.{filled, slots_of};
+    ghost use Rattle.proc_table.specs.Saved.{filled_slots, slots_of};
 
     ghost Value = { Signals };
 

@@ -15,8 +15,8 @@ ghost use Rattle.dos_world.specs.SignalCalls.{is_signal, masked, with_action};
 ghost use Rattle.dos_world.specs.Signals.{chosen, cleared, handling};
 ghost use Rattle.space_map.specs.Mapping.{IsMapped, in_run};
 ghost use Rattle.proc_table.specs.Children.{after_wait, outcome};
-ghost use Rattle.proc_table.specs.Tables.{are_any, restored_in, IsParent, IsProcess, IsThread};
-ghost use Rattle.proc_table.specs.Tables.{end_in, entry_replaced, held_as, held_by, held_in};
+ghost use Rattle.proc_table.specs.Tables.{are_any, restored_in, IsParent, IsProcess, IsLiveThread};
+ghost use Rattle.proc_table.specs.Tables.{end_named, entry_replaced, held_as, held_by, held_in};
 ghost use Rattle.proc_table.specs.Tables.{last_status, new_process, next_in, no_tables, ran};
 ghost use Rattle.proc_table.specs.Tables.{thread_by, thread_in, with_budget, with_ended};
 ghost use Rattle.proc_table.specs.Tables.{process_added, run_put, run_shared, run_unmapped};
@@ -137,7 +137,7 @@ impl Table {
     /// The thread is gone; its number isn't given again.
     #[tactic(auto, using(crate::proofs::Lengths::lengths))]
     pub fn end_thread(&mut self, tid: u32)
-        requires { IsThread self.old.threads tid }
+        requires { IsLiveThread self.old.threads tid }
         ensures { self.new ≡ record self.old { threads = changed none_of self.old.threads tid } }
     {
         self.threads.remove(tid);
@@ -226,7 +226,7 @@ impl Table {
 
     /// The thread's process.
     pub fn process_of(&self, tid: u32) -> u32
-        requires { IsThread self.now.threads tid }
+        requires { IsLiveThread self.now.threads tid }
         ensures { IfSome (thread_in self.now.threads tid) (λ thread. result ≡ thread.process) }
     {
         self.threads.get(tid).process
@@ -262,7 +262,7 @@ impl Table {
 
     /// The thread's registers.
     pub fn regs(&self, tid: u32) -> &Regs
-        requires { IsThread self.now.threads tid }
+        requires { IsLiveThread self.now.threads tid }
         ensures { IfSome (thread_in self.now.threads tid)
             (λ thread. result.now ≡ thread.registers) }
     {
@@ -272,7 +272,7 @@ impl Table {
     /// Sets the thread's registers.
     #[tactic(auto, using(crate::proofs::Lengths::lengths))]
     pub fn set_regs(&mut self, tid: u32, regs: Regs)
-        requires { IsThread self.old.threads tid }
+        requires { IsLiveThread self.old.threads tid }
         ensures { self.new ≡ thread_by (registers_by (λ _. regs)) self.old tid }
     {
         let thread = self.threads.get_mut(tid);
@@ -281,7 +281,7 @@ impl Table {
 
     /// The thread's budget: how many units of work it may still do in this round.
     pub fn budget(&self, tid: u32) -> u32
-        requires { IsThread self.now.threads tid }
+        requires { IsLiveThread self.now.threads tid }
         ensures { IfSome (thread_in self.now.threads tid) (λ thread. result ≡ thread.budget) }
     {
         self.threads.get(tid).budget
@@ -290,7 +290,7 @@ impl Table {
     /// Sets the thread's budget.
     #[tactic(auto, using(crate::proofs::Lengths::lengths))]
     pub fn set_budget(&mut self, tid: u32, budget: u32)
-        requires { IsThread self.old.threads tid }
+        requires { IsLiveThread self.old.threads tid }
         ensures { self.new ≡ thread_by (with_budget budget) self.old tid }
     {
         let thread = self.threads.get_mut(tid);
@@ -300,7 +300,7 @@ impl Table {
     /// Sets the thread's registers and its budget, as they are after a run.
     #[tactic(auto, using(crate::proofs::Lengths::lengths))]
     pub fn set_run(&mut self, tid: u32, regs: Regs, budget: u32)
-        requires { IsThread self.old.threads tid }
+        requires { IsLiveThread self.old.threads tid }
         ensures { self.new ≡ thread_by (ran regs budget) self.old tid }
     {
         let thread = self.threads.get_mut(tid);
@@ -310,7 +310,7 @@ impl Table {
 
     /// Whether the thread runs or waits.
     pub fn state(&self, tid: u32) -> ThreadState
-        requires { IsThread self.now.threads tid }
+        requires { IsLiveThread self.now.threads tid }
         ensures { IfSome (thread_in self.now.threads tid) (λ thread. result ≡ thread.state) }
     {
         self.threads.get(tid).state
@@ -319,7 +319,7 @@ impl Table {
     /// Sets whether the thread runs or waits.
     #[tactic(auto, using(crate::proofs::Lengths::lengths))]
     pub fn set_state(&mut self, tid: u32, state: ThreadState)
-        requires { IsThread self.old.threads tid }
+        requires { IsLiveThread self.old.threads tid }
         ensures { self.new ≡ thread_by (in_state state) self.old tid }
     {
         let thread = self.threads.get_mut(tid);
@@ -329,7 +329,7 @@ impl Table {
     /// The thread is ready with this answer: it is in a0, and pc is past the ecall.
     #[tactic(auto, using(crate::proofs::Lengths::lengths))]
     pub fn wake(&mut self, tid: u32, value: u32)
-        requires { IsThread self.old.threads tid }
+        requires { IsLiveThread self.old.threads tid }
         ensures { self.new ≡ thread_by (awake value) self.old tid }
     {
         let thread = self.threads.get_mut(tid);
@@ -341,7 +341,7 @@ impl Table {
 
     /// The thread's mask, a set of bits: bit k for signal k.
     pub fn mask(&self, tid: u32) -> u32
-        requires { IsThread self.now.threads tid }
+        requires { IsLiveThread self.now.threads tid }
         ensures { IfSome (thread_in self.now.threads tid) (λ thread. result ≡ thread.mask) }
     {
         self.threads.get(tid).signals.mask()
@@ -349,7 +349,7 @@ impl Table {
 
     /// The thread's signals.
     pub fn signals(&self, tid: u32) -> &SignalState
-        requires { IsThread self.now.threads tid }
+        requires { IsLiveThread self.now.threads tid }
         ensures mask { IfSome (thread_in self.now.threads tid)
             (λ thread. result.now.mask ≡ thread.mask) }
         ensures saved { IfSome (thread_in self.now.threads tid)
@@ -361,7 +361,7 @@ impl Table {
     /// The signal is pending at the thread.
     #[tactic(auto, using(crate::proofs::Lengths::lengths))]
     pub fn post(&mut self, tid: u32, signal: u8)
-        requires live { IsThread self.old.threads tid }
+        requires live { IsLiveThread self.old.threads tid }
         requires signal { signal < 32 }
         ensures { self.new ≡ thread_by (pending_with signal) self.old tid }
     {
@@ -372,7 +372,7 @@ impl Table {
     /// The signal that comes to the thread: 9 where it is pending, else the lowest pending one that
     /// isn't masked. None exactly where there is neither.
     pub fn first_signal(&self, tid: u32) -> Option<u8>
-        requires { IsThread self.now.threads tid }
+        requires { IsLiveThread self.now.threads tid }
         ensures { IfSome (thread_in self.now.threads tid) (λ thread. result ≡ chosen thread) }
     {
         self.threads.get(tid).signals.first()
@@ -380,7 +380,7 @@ impl Table {
 
     /// How many registers and masks of the thread are saved, at most 4.
     pub fn depth(&self, tid: u32) -> u32
-        requires { IsThread self.now.threads tid }
+        requires { IsLiveThread self.now.threads tid }
         ensures { IfSome (thread_in self.now.threads tid) (λ thread. result ≡ length thread.saved) }
     {
         self.threads.get(tid).signals.depth()
@@ -389,7 +389,7 @@ impl Table {
     /// The signal isn't pending at the thread any more.
     #[tactic(auto, using(crate::proofs::Lengths::lengths))]
     pub fn clear_signal(&mut self, tid: u32, signal: u8)
-        requires live { IsThread self.old.threads tid }
+        requires live { IsLiveThread self.old.threads tid }
         requires signal { signal < 32 }
         ensures { self.new ≡ thread_by (cleared signal) self.old tid }
     {
@@ -400,7 +400,7 @@ impl Table {
     /// Sets the thread's mask, less bits 0 and 9.
     #[tactic(auto, using(crate::proofs::Lengths::lengths))]
     pub fn set_mask(&mut self, tid: u32, mask: u32)
-        requires { IsThread self.old.threads tid }
+        requires { IsLiveThread self.old.threads tid }
         ensures { self.new ≡ thread_by (masked mask) self.old tid }
     {
         let thread = self.threads.get_mut(tid);
@@ -411,7 +411,7 @@ impl Table {
     /// masked and not pending any more, and the thread goes on at `handler` with the signal in a0.
     #[tactic(auto, using(crate::proofs::Lengths::lengths))]
     pub fn begin_handler(&mut self, tid: u32, signal: u8, handler: u32)
-        requires live { IsThread self.old.threads tid }
+        requires live { IsLiveThread self.old.threads tid }
         requires signal { signal < 32 }
         requires room { IfSome (thread_in self.old.threads tid)
             (λ thread. length thread.saved < 4) }
@@ -428,7 +428,7 @@ impl Table {
     /// reservation. False exactly where nothing is saved; nothing changes then.
     #[tactic(auto, using(crate::proofs::Lengths::lengths))]
     pub fn restore(&mut self, tid: u32) -> bool
-        requires { IsThread self.old.threads tid }
+        requires { IsLiveThread self.old.threads tid }
         ensures found { IfSome (thread_in self.old.threads tid)
             (λ thread. result ≡ are_any thread.saved) }
         ensures restores { IfSome (thread_in self.old.threads tid)
@@ -451,7 +451,7 @@ impl Table {
     /// Takes one unit of the thread's budget for a service, and its reservation.
     #[tactic(auto, using(crate::proofs::Lengths::lengths))]
     pub fn charge(&mut self, tid: u32)
-        requires live { IsThread self.old.threads tid }
+        requires live { IsLiveThread self.old.threads tid }
         requires budget { IfSome (thread_in self.old.threads tid) (λ thread. 0 < thread.budget) }
         ensures { self.new ≡ thread_by charged self.old tid }
     {
@@ -536,7 +536,7 @@ impl Table {
     /// descriptor.
     pub fn descriptor(&self, pid: u32, number: u32) -> Option<End>
         requires { IsProcess self.now.processes pid }
-        ensures { IfSome (held_in self.now.processes pid) (λ h. result ≡ end_in h number) }
+        ensures { IfSome (held_in self.now.processes pid) (λ h. result ≡ end_named h number) }
     {
         self.processes.descriptor(pid, number)
     }
@@ -562,7 +562,7 @@ impl Table {
     #[tactic(auto, using(crate::proofs::Lengths::lengths))]
     pub fn close(&mut self, pid: u32, number: u32) -> Option<End>
         requires { IsProcess self.old.processes pid }
-        ensures was { IfSome (held_in self.old.processes pid) (λ h. result ≡ end_in h number) }
+        ensures was { IfSome (held_in self.old.processes pid) (λ h. result ≡ end_named h number) }
         ensures closes { self.new ≡ held_by (with_end number None) self.old pid }
     {
         let end = self.processes.descriptor(pid, number);

@@ -7,8 +7,8 @@ ghost use Rattle.dos_world.specs.World.{belongs_to, first_of, none_of, registers
 ghost use Rattle.dos_world.specs.Kernel.{pending_with, unless_of};
 ghost use Rattle.dos_world.specs.Calls.{charged};
 ghost use Rattle.dos_world.specs.ThreadCalls.{are_threads_full};
-ghost use Rattle.proc_table.specs.Tables.{IsThread, next_in, ran, thread_in, with_budget};
-ghost use Rattle.proc_table.specs.Spread.{AreInOrder, IsAt, IsGapAbove, IsGapFor, live_in};
+ghost use Rattle.proc_table.specs.Tables.{IsLiveThread, next_in, ran, thread_in, with_budget};
+ghost use Rattle.proc_table.specs.Spread.{AreInOrder, IsThreadAt, IsGapAbove, IsGapForThread, live_in};
 ghost use Rattle.std.specs.Borrow.{sem};
 ghost use Rattle.proc_table.specs.Lending.{LendsThread};
 
@@ -102,7 +102,7 @@ impl Threads {
     }
 
     pub(crate) fn get(&self, tid: u32) -> &Thread
-        requires { IsThread self.now tid }
+        requires { IsLiveThread self.now tid }
         ensures { thread_in self.now tid ≡ Some result.now }
     {
         &self.live[place_of(&self.live, tid)].1
@@ -110,7 +110,7 @@ impl Threads {
 
     // the thread, to be changed
     pub(crate) fn get_mut(&mut self, tid: u32) -> &mut Thread
-        requires { IsThread self.old tid }
+        requires { IsLiveThread self.old tid }
         ensures is { thread_in self.old tid ≡ Some result.now }
         ensures* writes_back { sem 𝓛 (LendsThread self.entry tid result) }
     {
@@ -120,7 +120,7 @@ impl Threads {
 
     // one unit of the budget less, and nothing reserved
     pub(crate) fn charge(&mut self, tid: u32)
-        requires live { IsThread self.old tid }
+        requires live { IsLiveThread self.old tid }
         requires budget { IfSome (thread_in self.old tid) (λ thread. 0 < thread.budget) }
         ensures { self.new ≡ changed (option_map charged) self.old tid }
     {
@@ -131,7 +131,7 @@ impl Threads {
     }
 
     pub(crate) fn remove(&mut self, tid: u32)
-        requires { IsThread self.old tid }
+        requires { IsLiveThread self.old tid }
         ensures { self.new ≡ changed none_of self.old tid }
     {
         let place = place_of(&self.live, tid);
@@ -221,7 +221,7 @@ fn number_in(live: &[(u32, Thread)], place: usize) -> Option<u32>
 
 // whether the thread stands at this place; any place
 fn stands_at(live: &[(u32, Thread)], tid: u32, place: usize) -> bool
-    ensures { result ≡ true → IsAt live.now tid place }
+    ensures { result ≡ true → IsThreadAt live.now tid place }
 {
     match live.get(place) {
         Some(entry) => entry.0 == tid,
@@ -244,8 +244,8 @@ fn place_from_end(live: &[(u32, Thread)], tid: u32) -> usize {
 // above it.
 fn search(live: &[(u32, Thread)], tid: u32) -> Result<usize, usize>
     requires { AreInOrder live.now }
-    ensures found { IfOk result (IsAt live.now tid) }
-    ensures gap { IfErr result (IsGapFor live.now tid) }
+    ensures found { IfOk result (IsThreadAt live.now tid) }
+    ensures gap { IfErr result (IsGapForThread live.now tid) }
 {
     let first = (tid as usize).wrapping_sub(1);
     if stands_at(live, tid, first) {
@@ -262,7 +262,7 @@ fn search(live: &[(u32, Thread)], tid: u32) -> Result<usize, usize>
 fn place_of(live: &[(u32, Thread)], tid: u32) -> usize
     requires order { AreInOrder live.now }
     requires live { IsSome (live_in live.now tid) }
-    ensures { IsAt live.now tid result }
+    ensures { IsThreadAt live.now tid result }
 {
     match search(live, tid) {
         Ok(place) => place,

@@ -5,7 +5,7 @@ use Rattle.std.specs.Prelude.{slice_index_or, ◌==◌, ◌||◌}
 use Rattle.std.specs.List.{list_any}
 use Rattle.std.proofs.lemmas.List.Elements.{All-same, All-set, All-nil, All-cons, All-replicate}
 use Rattle.quantum_run.specs.declared.slot.Slot.{Slot}
-use Rattle.quantum_run.specs.Knowing.{AreApart, IsBase, IsNoCode, empty_slot, no_base}
+use Rattle.quantum_run.specs.Knowing.{FetchesAreApart, IsBase, IsNoCode, empty_slot, no_base}
 
 -- a slot that has found nothing, whatever stands for slots that aren't there
 pub empty-page : (slots : List Slot) (place : ℕ) (none : Slot)
@@ -32,23 +32,23 @@ no-frame (slot ∷ slots) frame none =
     (no-frame slots frame more.1)
 
 -- where nothing is found for stores
-pub apart-none : (fetched : List Slot) (n : ℕ) → AreApart fetched (replicate n empty_slot)
+pub apart-none : (fetched : List Slot) (n : ℕ) → FetchesAreApart fetched (replicate n empty_slot)
 apart-none fetched n =
     All-replicate (λ (slot : Slot). slot.page < 2 ^ 20 → IsNoCode fetched slot.frame) n empty_slot
     (λ h. absurd (omega (arith, h)))
 
 -- one more slot of a fetch, whose frame no store finds
 pub apart-fetched : (fetched stored : List Slot) (place : ℕ) (slot : Slot)
-    → AreApart fetched stored → IsNoCode stored slot.frame
-    → AreApart (set fetched place slot) stored
+    → FetchesAreApart fetched stored → IsNoCode stored slot.frame
+    → FetchesAreApart (set fetched place slot) stored
 apart-fetched fetched stored place slot apart free k d h small =
     All-set (λ (s : Slot). s.frame ≢ (slice_index_or stored k d).frame) fetched place slot
     (λ same. free k d h (sym same)) (apart k d h small)
 
 -- one more slot for stores, of a frame that no fetch has found
 pub apart-stored : (fetched stored new : List Slot) (place : ℕ) (slot : Slot)
-    → new ≡ set stored place slot → AreApart fetched stored → IsNoCode fetched slot.frame
-    → AreApart fetched new
+    → new ≡ set stored place slot → FetchesAreApart fetched stored → IsNoCode fetched slot.frame
+    → FetchesAreApart fetched new
 apart-stored fetched stored new place slot is apart free =
     let P : Slot → Type 0 = λ (s : Slot). s.page < 2 ^ 20 → IsNoCode fetched s.frame in
     All-same P new (set stored place slot) is

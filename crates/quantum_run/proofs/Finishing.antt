@@ -16,7 +16,7 @@ use Rattle.flat_machine.specs.Laws.{kept}
 use Rattle.flat_machine.specs.Alone.{steps}
 use Rattle.flat_machine.specs.Laws.{without_run, DiffersInOwn}
 use Rattle.quantum_run.specs.Pages.{is_here, overlay}
-use Rattle.quantum_run.specs.Packs.{IsPacked, bytes_at, paired}
+use Rattle.quantum_run.specs.Packs.{IsPacked, bytes_of_frame, paired}
 use Rattle.quantum_run.specs.ThreadRuns.{IsRunOf, run_to, store_of}
 use Rattle.dos_world.specs.World.{ran}
 use Rattle.quantum_run.specs.Shows.{Pack, View, Shows, thread_space}
@@ -201,7 +201,7 @@ module _ (t pid : ℕ) (r : Registers) (budget : ℕ) (held : List ℕ)
 
     -- an own page, afterwards
     page-after : (i frame : ℕ) → slice_get held i ≡ Some frame → owner_of w frame ≡ Of t
-        → bytes_at after frame ≡ page_of end.bytes frame
+        → bytes_of_frame after frame ≡ page_of end.bytes frame
     page-after i frame at mine =
         sym (page-own after lent frame level-after
         (same-here table after frame same ∙ packed.here i frame at))

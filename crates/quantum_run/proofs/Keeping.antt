@@ -7,7 +7,7 @@ use Rattle.page_store.specs.Store.{whole, shown}
 use Rattle.dos_world.specs.World.{Registers}
 use Rattle.quantum_run.specs.Shows.{Pack}
 use Rattle.quantum_run.specs.Pages.{is_here}
-use Rattle.quantum_run.specs.Packs.{IsPacked, bytes_at, how_many, paired}
+use Rattle.quantum_run.specs.Packs.{IsPacked, bytes_of_frame, how_many, paired}
 use Rattle.quantum_run.proofs.Overlay.{here-within}
 use Rattle.quantum_run.proofs.Packing.{paired-at}
 
@@ -113,14 +113,14 @@ paired-other [] table f x other = refl
 paired-other (g ∷ held) table f x other =
     ap (λ bytes. (g, bytes) ∷ paired held (set table f x))
     (ap bytes_of (at-other table f x g (other 0 g refl)))
-    ∙ ap (λ rest. (g, bytes_at table g) ∷ rest)
+    ∙ ap (λ rest. (g, bytes_of_frame table g) ∷ rest)
     (paired-other held table f x (λ i k h. other (suc i) k h))
 
 pub paired-more : (held : List ℕ) (table : Table) (f : ℕ)
-    → paired (held ++ f ∷ []) table ≡ paired held table ++ (f, bytes_at table f) ∷ []
+    → paired (held ++ f ∷ []) table ≡ paired held table ++ (f, bytes_of_frame table f) ∷ []
 paired-more [] table f = refl
 paired-more (g ∷ held) table f =
-    ap (λ rest. (g, bytes_at table g) ∷ rest) (paired-more held table f)
+    ap (λ rest. (g, bytes_of_frame table g) ∷ rest) (paired-more held table f)
 
 -- ---- a page more, and one less
 
@@ -160,7 +160,7 @@ not-here held table capacity pages f packed is none = by (is_here table f) refl
     by : (b : Bool) → is_here table f ≡ b → is_here table f ≡ false
     by false e = e
     by true e = let a = packed.all f e in
-        absurd (none a.0 (bytes_at table f)
+        absurd (none a.0 (bytes_of_frame table f)
         (ap (λ ps. slice_get ps a.0) (sym is) ∙ paired-at held table a.0 f a.1))
 
 module _ (held : List ℕ) (table : Table) (capacity : ℕ) (packed : IsPacked held table capacity)

@@ -17,11 +17,11 @@ use Rattle.flat_machine.specs.Step.{half_at}
 use Rattle.rv_exec.specs.Follows.{word_at}
 use Rattle.rv_form.specs.Notes.{Note, AreBelow, note_at, nothing, first_base}
 use Rattle.quantum_run.specs.declared.slot.Slot.{Slot}
-use Rattle.quantum_run.specs.Finding.{AreFramesOf, place_in}
+use Rattle.quantum_run.specs.Finding.{AreFramesOf, flat_place}
 use Rattle.quantum_run.specs.Knowing.{AreKnown, IsInPage, IsKnown, IsKnownHalf, IsNoCode}
 use Rattle.quantum_run.specs.Knowing.{KeepsKnown, empty_slot, no_base}
 use Rattle.quantum_run.specs.Knowing.{slot_of}
-use Rattle.quantum_run.specs.Showing.{Still, Holds, ShowsKnown}
+use Rattle.quantum_run.specs.Showing.{Still, HoldsWorld, ShowsKnown}
 use Rattle.quantum_run.proofs.Places.{length-bytes}
 use Rattle.quantum_run.proofs.Reaching.{half-found, number-four, word-alone, word-both}
 
@@ -137,13 +137,13 @@ keeps-found base fetched pages place slot empty notes are some at address fits k
           aligned = known.aligned;
           found = ap (λ (s : Slot). s.page) same ∙ known.found;
           read = known.read ∙ sym (ap (λ (s : Slot).
-              number_at (joined pages) (place_in s.frame a) Half) same);
+              number_at (joined pages) (flat_place s.frame a) Half) same);
         }
 
 -- what is written in a frame that no fetch has found
 pub keeps-written : (base : ℕ) (fetched : List Slot) (pages new : List (Option (List ℕ)))
     (frame address : ℕ) (size : Size) (value : ℕ) → address % width size ≡ 0
-    → joined new ≡ written (joined pages) (place_in frame address) (bytes_of (width size) value)
+    → joined new ≡ written (joined pages) (flat_place frame address) (bytes_of (width size) value)
     → IsNoCode fetched frame → KeepsKnown base fetched pages base fetched new
 keeps-written base fetched pages new frame address size value aligned is free notes are some at a
     fits key =
@@ -151,19 +151,19 @@ keeps-written base fetched pages new frame address size value aligned is free no
     (are some at a fits key)
   where
     by_length : (f a : ℕ)
-        → (place_in frame address + width size ≤ place_in f a)
-        ⊎ (place_in f a + 2 ≤ place_in frame address)
-        → (place_in frame address + length (bytes_of (width size) value) ≤ place_in f a)
-        ⊎ (place_in f a + 2 ≤ place_in frame address)
+        → (flat_place frame address + width size ≤ flat_place f a)
+        ⊎ (flat_place f a + 2 ≤ flat_place frame address)
+        → (flat_place frame address + length (bytes_of (width size) value) ≤ flat_place f a)
+        ⊎ (flat_place f a + 2 ≤ flat_place frame address)
     by_length f a (inl h) = inl (omega (arith, h, length-bytes (width size) value))
     by_length f a (inr h) = inr h
 
     stays : (f a : ℕ)
-        → (place_in frame address + length (bytes_of (width size) value) ≤ place_in f a)
-        ⊎ (place_in f a + 2 ≤ place_in frame address)
-        → number_at (joined new) (place_in f a) Half ≡ number_at (joined pages) (place_in f a) Half
-    stays f a out = ap (λ bytes. number_at bytes (place_in f a) Half) is
-        ∙ ap number_of (beside-written (place_in f a) 2 (place_in frame address)
+        → (flat_place frame address + length (bytes_of (width size) value) ≤ flat_place f a)
+        ⊎ (flat_place f a + 2 ≤ flat_place frame address)
+        → number_at (joined new) (flat_place f a) Half ≡ number_at (joined pages) (flat_place f a) Half
+    stays f a out = ap (λ bytes. number_at bytes (flat_place f a) Half) is
+        ∙ ap number_of (beside-written (flat_place f a) 2 (flat_place frame address)
         (bytes_of (width size) value) (joined pages) out)
 
     by_half : (a half : ℕ) → a < 2 ^ 32 → IsKnownHalf fetched pages a half
@@ -255,7 +255,7 @@ known-aside base fetched pages notes place word are =
 
 -- a halfword that is known is what the flat world has there
 half-known : (fixed : Still) (pages : List (Option (List ℕ))) (t : ℕ) (w : World)
-    (fetched : List Slot) (address half : ℕ) → Holds fixed pages t w → address < 2 ^ 32
+    (fetched : List Slot) (address half : ℕ) → HoldsWorld fixed pages t w → address < 2 ^ 32
     → AreFramesOf fixed.thread fixed.owners fixed.entries Fetch fetched
     → IsKnownHalf fetched pages address half → half_at w t address ≡ Ok half
 half-known fixed pages t w fetched address half holds fits frames known =
@@ -266,7 +266,7 @@ half-known fixed pages t w fetched address half holds fits frames known =
 
 -- and so is a code
 pub word-known : (fixed : Still) (pages : List (Option (List ℕ))) (t : ℕ) (w : World)
-    (fetched : List Slot) (address code : ℕ) → Holds fixed pages t w → address < 2 ^ 32
+    (fetched : List Slot) (address code : ℕ) → HoldsWorld fixed pages t w → address < 2 ^ 32
     → AreFramesOf fixed.thread fixed.owners fixed.entries Fetch fetched
     → IsKnown fetched pages address code → word_at w t address ≡ Ok code
 word-known fixed pages t w fetched address code holds fits frames (inl known) =
@@ -284,13 +284,13 @@ word-known fixed pages t w fetched address code holds fits frames (inr known) =
 pub half-in-page : (fetched : List Slot) (pages : List (Option (List ℕ)))
     (slot : Slot) (address half : ℕ) → slot_of fetched address ≡ slot
     → slot.page ≡ address / 4096 → address % 2 ≡ 0
-    → half ≡ number_at (joined pages) (place_in slot.frame address) Half
+    → half ≡ number_at (joined pages) (flat_place slot.frame address) Half
     → IsKnownHalf fetched pages address half
 half-in-page fetched pages slot address half here page even is = record {
   aligned = even;
   found = ap (λ (s : Slot). s.page) here ∙ page;
   read = is ∙ sym (ap (λ (s : Slot).
-      number_at (joined pages) (place_in s.frame address) Half) here);
+      number_at (joined pages) (flat_place s.frame address) Half) here);
 }
 
 -- a code in the page that a fetch has found is known
@@ -304,11 +304,11 @@ known-in-page fetched pages slot address code here page even fits (inl lone) = i
     aligned = even;
     found = ap (λ (s : Slot). s.page) here ∙ page;
     read = lone.1 ∙ sym (ap (λ (s : Slot).
-        number_at (joined pages) (place_in s.frame address) Half) here);
+        number_at (joined pages) (flat_place s.frame address) Half) here);
   },
 )
 known-in-page fetched pages slot address code here page even fits (inr whole) =
-    let bytes : List ℕ = drop (place_in slot.frame address) (joined pages) in
+    let bytes : List ℕ = drop (flat_place slot.frame address) (joined pages) in
     let low : ℕ = number_of (take 2 bytes) in
     let high : ℕ = number_of (take 2 (drop 2 bytes)) in
     let is : code ≡ low + 2 ^ 16 * high = whole.2 ∙ number-four bytes in
@@ -318,7 +318,7 @@ known-in-page fetched pages slot address code here page even fits (inr whole) =
     let same : after / 4096 ≡ address / 4096 = omega (arith, next, room) in
     let there : slot_of fetched after ≡ slot =
     ap (λ number. slice_index_or fetched (number % 64) empty_slot) same ∙ here in
-    let place : place_in slot.frame after ≡ place_in slot.frame address + 2 =
+    let place : flat_place slot.frame after ≡ flat_place slot.frame address + 2 =
     omega (arith, next, room) in
     inr (record {
       low = low;
@@ -328,16 +328,16 @@ known-in-page fetched pages slot address code here page even fits (inr whole) =
         aligned = even;
         found = ap (λ (s : Slot). s.page) here ∙ page;
         read = sym (ap (λ (s : Slot).
-            number_at (joined pages) (place_in s.frame address) Half) here);
+            number_at (joined pages) (flat_place s.frame address) Half) here);
       };
       second = record {
         aligned = omega (arith, next, even);
         found = ap (λ (s : Slot). s.page) there ∙ page ∙ sym same;
         read = ap (λ xs. number_of (take 2 xs))
-            (drop-drop 2 (place_in slot.frame address) (joined pages))
+            (drop-drop 2 (flat_place slot.frame address) (joined pages))
             ∙ ap (λ k. number_of (take 2 (drop k (joined pages)))) (sym place)
             ∙ sym (ap (λ (s : Slot).
-            number_at (joined pages) (place_in s.frame after) Half) there);
+            number_at (joined pages) (flat_place s.frame after) Half) there);
       };
       is = is;
     })

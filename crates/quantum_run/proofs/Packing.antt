@@ -20,7 +20,7 @@ use Rattle.page_store.specs.Store.{whole, shown, joined}
 use Rattle.page_store.proofs.Joined.{page_of-joined}
 use Rattle.quantum_run.specs.Finding.{frame_by, frame_for, IsWriting}
 use Rattle.quantum_run.specs.Pages.{is_here, overlay}
-use Rattle.quantum_run.specs.Packs.{IsPacked, bytes_at, how_many, paired}
+use Rattle.quantum_run.specs.Packs.{IsPacked, bytes_of_frame, how_many, paired}
 use Rattle.quantum_run.specs.Shows.{frames_of}
 use Rattle.quantum_run.proofs.Overlay.{here-page, here-within, overlay-own, overlay-lent}
 
@@ -33,20 +33,20 @@ frames-paired (f ∷ held) table = ap (λ fs. f ∷ fs) (frames-paired held tabl
 
 pub paired-at : (held : List ℕ) (table : List (Option (List ℕ))) (i frame : ℕ)
     → slice_get held i ≡ Some frame
-    → slice_get (paired held table) i ≡ Some (frame, bytes_at table frame)
+    → slice_get (paired held table) i ≡ Some (frame, bytes_of_frame table frame)
 paired-at [] table i frame h = cc
 paired-at (f ∷ held) table zero frame h = let is : f ≡ frame = cc in
-    ap (λ x. Some (x, bytes_at table x)) is
+    ap (λ x. Some (x, bytes_of_frame table x)) is
 paired-at (f ∷ held) table (suc i) frame h = paired-at held table i frame h
 
 -- and back
 pub paired-is : (held : List ℕ) (table : List (Option (List ℕ))) (i frame : ℕ) (page : List ℕ)
     → slice_get (paired held table) i ≡ Some (frame, page) → (slice_get held i ≡ Some frame)
-    × (bytes_at table frame ≡ page)
+    × (bytes_of_frame table frame ≡ page)
 paired-is [] table i frame page h = cc
 paired-is (f ∷ held) table zero frame page h =
     let same : f ≡ frame = ap (λ o. number o) h in
-    (ap Some same, ap (bytes_at table) (sym same) ∙ ap (λ o. bytes o) h)
+    (ap Some same, ap (bytes_of_frame table) (sym same) ∙ ap (λ o. bytes o) h)
   where
     number : Option (ℕ × List ℕ) → ℕ
     number None = 0
@@ -60,7 +60,7 @@ paired-is (f ∷ held) table (suc i) frame page h = paired-is held table i frame
 -- ---- pages that are here
 
 pub bytes-here : (table : List (Option (List ℕ))) (frame : ℕ) (page : List ℕ)
-    → slice_get table frame ≡ Some (Some page) → bytes_at table frame ≡ whole page
+    → slice_get table frame ≡ Some (Some page) → bytes_of_frame table frame ≡ whole page
 bytes-here table frame page h =
     ap (λ o. elim o as (λ _. List ℕ) [ None ↦ shown None | Some x ↦ shown x ]) h
 
@@ -126,7 +126,7 @@ get-within pages frame page h = here-within pages frame (here-is pages frame pag
 -- the bytes of an own page, and of a lent one that isn't own
 pub page-own : (table lent : List (Option (List ℕ))) (frame : ℕ) → length table ≡ length lent
     → is_here table frame ≡ true
-    → page_of (joined (overlay table lent)) frame ≡ bytes_at table frame
+    → page_of (joined (overlay table lent)) frame ≡ bytes_of_frame table frame
 page-own table lent frame level here =
     let page = here-page table frame here in
     page_of-joined (overlay table lent) frame (Some page.0)

@@ -22,7 +22,7 @@ use Rattle.page_store.proofs.Joined.{joined-number, joined-written}
 use Rattle.quantum_run.specs.ThreadRuns.{AreMapped}
 use Rattle.quantum_run.specs.declared.slot.Slot.{Slot}
 use Rattle.quantum_run.specs.Finding.{AreFramesOf, IsFrameOf, IsWriting, frame_by, frame_for}
-use Rattle.quantum_run.specs.Finding.{place_in}
+use Rattle.quantum_run.specs.Finding.{flat_place}
 use Rattle.quantum_run.specs.Knowing.{empty_slot}
 use Rattle.quantum_run.specs.Pages.{is_here}
 
@@ -170,9 +170,9 @@ aligned-within address size h =
 pub read-joined : (pages : List (Option (List ℕ))) (frame address : ℕ) (size : Size) (page : List ℕ)
     (n : ℕ) → slice_get pages frame ≡ Some (Some page) → address % 4096 + width size ≤ 4096
     → n ≡ number_at (whole page) (address % 4096) size
-    → n ≡ number_at (joined pages) (place_in frame address) size
+    → n ≡ number_at (joined pages) (flat_place frame address) size
 read-joined pages frame address size page n home within is =
-    is ∙ sym (joined-number pages frame (address % 4096) (width size) (place_in frame address)
+    is ∙ sym (joined-number pages frame (address % 4096) (width size) (flat_place frame address)
     (Some page) home within refl)
 
 pub length-bytes : (k n : ℕ) → length (bytes_of k n) ≡ k
@@ -184,10 +184,10 @@ pub written-joined : (pages : List (Option (List ℕ))) (frame address : ℕ) (s
     (old new : List ℕ) (value : ℕ) → slice_get pages frame ≡ Some (Some old)
     → address % width size ≡ 0
     → whole new ≡ written (whole old) (address % 4096) (bytes_of (width size) value)
-    → joined (set pages frame (Some new)) ≡ written (joined pages) (place_in frame address)
+    → joined (set pages frame (Some new)) ≡ written (joined pages) (flat_place frame address)
     (bytes_of (width size) value)
 written-joined pages frame address size old new value home aligned is =
-    joined-written pages frame (address % 4096) (place_in frame address) old new
+    joined-written pages frame (address % 4096) (flat_place frame address) old new
     (bytes_of (width size) value) home is
     (omega (arith, length-bytes (width size) value, aligned-within address size aligned))
     refl

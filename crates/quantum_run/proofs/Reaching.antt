@@ -17,18 +17,18 @@ use Rattle.dos_world.specs.declared.Size.TheVariants.{Half}
 use Rattle.page_store.specs.Store.{joined, number_at}
 use Rattle.flat_machine.specs.Step.{◌>>=◌, reached, place_or_reason, half_at}
 use Rattle.rv_exec.specs.Follows.{word_at}
-use Rattle.quantum_run.specs.Finding.{frame_by, frame_for, place_in}
+use Rattle.quantum_run.specs.Finding.{frame_by, frame_for, flat_place}
 use Rattle.rv_form.specs.Notes.{Note}
 use Rattle.quantum_run.specs.declared.slot.Slot.{Slot}
 use Rattle.quantum_run.specs.Knowing.{AreKnown, KeepsKnown}
-use Rattle.quantum_run.specs.Showing.{Still, Holds, ShowsBy, ShowsKnown}
+use Rattle.quantum_run.specs.Showing.{Still, HoldsWorld, ShowsBy, ShowsKnown}
 
 -- an aligned access reaches its place in the frame that is found for it
 pub reached-frame : (fixed : Still) (pages : List (Option (List ℕ))) (t : ℕ) (w : World)
-    → Holds fixed pages t w → (a : ℕ) (size : Size) (access : Access) → a % width size ≡ 0
+    → HoldsWorld fixed pages t w → (a : ℕ) (size : Size) (access : Access) → a % width size ≡ 0
     → reached w t a size access
     ≡ (frame_for fixed.thread fixed.owners fixed.entries access a
-    >>= λ frame. Ok (place_in frame a))
+    >>= λ frame. Ok (flat_place frame a))
 reached-frame fixed pages t w holds a size access aligned =
     ap (λ b. place_or_reason a access
     (cond (not b) (fault 7) (in_frame w t a access (entry_at w t a))))
@@ -41,7 +41,7 @@ reached-frame fixed pages t w holds a size access aligned =
         (cond (not right) (fault 11)
         (cond foreign_to (foreign frame) (at (4096 * frame + a % 4096))))
         ≡ (cond (not right) (Err (Fault 11)) (cond foreign_to (Err (Page a access)) (Ok frame))
-        >>= λ frame. Ok (place_in frame a))
+        >>= λ frame. Ok (flat_place frame a))
     by_test false foreign_to frame = refl
     by_test true true frame = refl
     by_test true false frame = refl
@@ -52,7 +52,7 @@ reached-frame fixed pages t w holds a size access aligned =
           | None ↦ Err (Fault 11)
           | Some e ↦ frame_by fixed.thread fixed.owners access a e
         ])
-        >>= λ frame. Ok (place_in frame a))
+        >>= λ frame. Ok (flat_place frame a))
     by_entry None = refl
     by_entry (Some e) =
         ap (λ b. place_or_reason a access
@@ -70,7 +70,7 @@ pub shows-stays : {F : Type 0} (old new : Still) (fixed after : F)
 shows-stays old new fixed after pages left_pages f t w same kept is s = record {
   still = same ∙ s.still;
   fixed_is = kept ∙ s.fixed_is;
-  holds = subst (λ ps. Holds f.0 ps t w) (sym is) s.holds;
+  holds = subst (λ ps. HoldsWorld f.0 ps t w) (sym is) s.holds;
 }
 
 pub shows-known : {F : Type 0} (old new : Still) (fixed after : F)
@@ -129,12 +129,12 @@ number-four (a ∷ []) = omega arith
 number-four (a ∷ b ∷ xs) = omega arith
 
 module _ (fixed : Still) (pages : List (Option (List ℕ))) (t : ℕ) (w : World)
-    (holds : Holds fixed pages t w) where
+    (holds : HoldsWorld fixed pages t w) where
   pub half-found : (a frame : ℕ) → a % 2 ≡ 0
       → frame_for fixed.thread fixed.owners fixed.entries Fetch a ≡ Ok frame
-      → half_at w t a ≡ Ok (number_at (joined pages) (place_in frame a) Half)
+      → half_at w t a ≡ Ok (number_at (joined pages) (flat_place frame a) Half)
   half-found a frame even found =
       ap (λ (x : Result ℕ Reason). x >>= λ place. Ok (loaded w place 2))
       (reached-frame fixed pages t w holds a Half Fetch even
-      ∙ ap (λ (x : Result ℕ Reason). x >>= λ f. Ok (place_in f a)) found)
-      ∙ ap (λ bytes. Ok (number_of (take 2 (drop (place_in frame a) bytes)))) holds.bytes
+      ∙ ap (λ (x : Result ℕ Reason). x >>= λ f. Ok (flat_place f a)) found)
+      ∙ ap (λ bytes. Ok (number_of (take 2 (drop (flat_place frame a) bytes)))) holds.bytes

@@ -16,7 +16,7 @@ use Rattle.flat_machine.specs.Step.{step}
 use Rattle.flat_machine.specs.Alone.{steps}
 use Rattle.quantum_run.specs.Finding.{frame_for, IsWriting}
 use Rattle.quantum_run.specs.Pages.{is_here, overlay}
-use Rattle.quantum_run.specs.Packs.{IsPacked, paired, space_in, view_of}
+use Rattle.quantum_run.specs.Packs.{IsPacked, paired, space_held, view_of}
 use Rattle.quantum_run.specs.Shows.{Pack, View, CanRun, LeadsTo, RanOut, Shows}
 use Rattle.quantum_run.specs.ThreadRuns.{IsRunOf, run_to, store_of}
 use Rattle.flat_machine.specs.Laws.{after_steps}
@@ -28,7 +28,7 @@ use Rattle.quantum_run.proofs.Slices.{leads, runs-out}
 
 -- the space that was looked up is the one that the view shows
 space-entries : (processes : List Process) (pid : ℕ) (entries found : List (ℕ × Entry))
-    → numbered (map space_in processes) pid ≡ Some (Some entries)
+    → numbered (map space_held processes) pid ≡ Some (Some entries)
     → IfSome (held_in processes pid) (λ h. found ≡ h.space) → found ≡ entries
 space-entries processes zero entries found h e = cc
 space-entries [] (suc i) entries found h e = cc
@@ -149,7 +149,7 @@ module _ (t pid : ℕ) (r : Registers) (budget : ℕ) (held : List ℕ)
         → (w : World) → Shows before view w → Shows now view (steps n w t)
     shown n ends =
         finished t pid r budget held table frames.pages capacity frames.owners
-        (map space_in tables.processes) entries packed level as_many
+        (map space_held tables.processes) entries packed level as_many
         (can.space ∙ ap (λ x. Some (Some x)) (sym same-space))
         (λ i frame at. can.owned i frame
         (ap (λ fs. slice_get fs i) (frames-paired held table) ∙ at))

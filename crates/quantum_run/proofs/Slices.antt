@@ -4,7 +4,7 @@ use Rattle.dos_world.specs.Numbered.{numbered}
 use Rattle.dos_world.specs.World.{World, released, look}
 use Rattle.dos_world.specs.declared.Owner.TheVariants.{Of}
 use Rattle.flat_machine.specs.Alone.{budget_of, emptied, steps}
-use Rattle.quantum_run.specs.Shows.{Pack, View, Shows, CanRun, Finished, LeadsTo, RanOut, begun}
+use Rattle.quantum_run.specs.Shows.{Pack, View, Shows, CanRun, Finished, LeadsTo, RanOut, begun_pack}
 use Rattle.quantum_run.specs.Shows.{frames_of}
 use Rattle.flat_machine.proofs.After.{steps-split}
 use Rattle.quantum_run.proofs.Parts.{budget-is, emptied-space, emptied-kept}
@@ -13,7 +13,7 @@ use Rattle.quantum_run.proofs.Parts.{budget-is, emptied-space, emptied-kept}
 
 -- A pack without a reservation shows the world in which its thread has none.
 begun-shows : (p : Pack) (v : View) (w : World) → Shows p v w
-    → Shows (begun p) v (emptied w p.thread)
+    → Shows (begun_pack p) v (emptied w p.thread)
 begun-shows p v w shows = record {
   owners = shows.owners;
   thread = emptied-kept w p.thread p.registers p.budget shows.thread;
@@ -31,7 +31,7 @@ begun-shows p v w shows = record {
 }
 
 -- What runs out from a part's begin is the whole part.
-pub begun-runs : (p : Pack) (v : View) (q : Pack) → RanOut (begun p) v q → Finished p v q
+pub begun-runs : (p : Pack) (v : View) (q : Pack) → RanOut (begun_pack p) v q → Finished p v q
 begun-runs p v q out = λ w shows.
     let t = p.thread in
     let begins = begun-shows p v w shows in
@@ -58,8 +58,8 @@ still-can p q v thread process frames room can = record {
   level = room ∙ can.level;
 }
 
-pub begun-can : (p : Pack) (v : View) → CanRun p v → CanRun (begun p) v
-begun-can p v can = still-can p (begun p) v refl refl refl refl can
+pub begun-can : (p : Pack) (v : View) → CanRun p v → CanRun (begun_pack p) v
+begun-can p v can = still-can p (begun_pack p) v refl refl refl refl can
 
 -- ---- where a slice leads
 

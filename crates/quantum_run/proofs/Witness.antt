@@ -11,7 +11,7 @@ use Rattle.dos_world.specs.declared.Owner.{Owner}
 use Rattle.dos_world.specs.declared.Owner.TheVariants.{Free, Shared, Of}
 use Rattle.dos_world.specs.declared.ThreadState.TheVariants.{Ready}
 use Rattle.page_store.specs.Store.{joined}
-use Rattle.quantum_run.specs.Showing.{Still, Holds}
+use Rattle.quantum_run.specs.Showing.{Still, HoldsWorld}
 
 abbrev renamed : ℕ → Owner → Owner
 renamed t Free = Free
@@ -68,7 +68,7 @@ owners-foreign t access (x ∷ xs) zero = same-foreign t access x
 owners-foreign t access (x ∷ xs) (suc frame) = owners-foreign t access xs frame
 
 pub witness-holds : (fixed : Still) (pages : List (Option (List ℕ))) (r : Registers) (budget : ℕ)
-    → Holds fixed pages 1 (witness fixed pages r budget)
+    → HoldsWorld fixed pages 1 (witness fixed pages r budget)
 witness-holds fixed pages r budget =
     record {
       bytes = refl;

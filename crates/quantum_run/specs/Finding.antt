@@ -48,5 +48,5 @@ IsWriting Store = Unit {0}
 IsWriting Claim = Unit {0}
 
 -- the place of an address in the flat bytes, by its page's frame
-abbrev pub place_in : ℕ → ℕ → ℕ
-place_in frame address = 4096 * frame + address % 4096
+abbrev pub flat_place : ℕ → ℕ → ℕ
+flat_place frame address = 4096 * frame + address % 4096

@@ -6,7 +6,7 @@ use Rattle.dos_world.specs.declared.Size.TheVariants.{Half, Word}
 use Rattle.page_store.specs.Store.{joined, number_at}
 use Rattle.rv_form.specs.Notes.{Note, first_base, note_at}
 use Rattle.quantum_run.specs.declared.slot.Slot.{Slot}
-use Rattle.quantum_run.specs.Finding.{place_in}
+use Rattle.quantum_run.specs.Finding.{flat_place}
 
 -- a slot that has found nothing: no page has this number
 abbrev pub empty_slot : Slot
@@ -21,7 +21,7 @@ pub record IsKnownHalf (fetched : List Slot) (pages : List (Option (List ℕ)))
     (address half : ℕ) : Type 0 where
   pub aligned : address % 2 ≡ 0
   pub found : (slot_of fetched address).page ≡ address / 4096
-  pub read : half ≡ number_at (joined pages) (place_in (slot_of fetched address).frame address) Half
+  pub read : half ≡ number_at (joined pages) (flat_place (slot_of fetched address).frame address) Half
 
 -- The halfwords of a word, the lower at this address, whose low two bits are 11.
 pub record IsKnownWord (fetched : List Slot) (pages : List (Option (List ℕ)))
@@ -42,9 +42,9 @@ IsKnown fetched pages address code =
 -- In the page of this frame stands this code, all of it, at the offset of this address.
 abbrev pub IsInPage : List (Option (List ℕ)) → (frame address code : ℕ) → Type 0
 IsInPage pages frame address code =
-    ((code % 4 ≢ 3) × (code ≡ number_at (joined pages) (place_in frame address) Half))
+    ((code % 4 ≢ 3) × (code ≡ number_at (joined pages) (flat_place frame address) Half))
     ⊎ ((code % 4 ≡ 3) × (address % 4096 + 4 ≤ 4096)
-    × (code ≡ number_at (joined pages) (place_in frame address) Word))
+    × (code ≡ number_at (joined pages) (flat_place frame address) Word))
 
 -- the base of no key
 abbrev pub no_base : ℕ
@@ -72,5 +72,5 @@ abbrev pub IsNoCode : List Slot → ℕ → Type 0
 IsNoCode fetched frame = All (λ slot. slot.frame ≢ frame) fetched
 
 -- No frame that a fetch has found is found again for stores without a search.
-abbrev pub AreApart : (fetched stored : List Slot) → Type 0
-AreApart fetched stored = All (λ slot. slot.page < 2 ^ 20 → IsNoCode fetched slot.frame) stored
+abbrev pub FetchesAreApart : (fetched stored : List Slot) → Type 0
+FetchesAreApart fetched stored = All (λ slot. slot.page < 2 ^ 20 → IsNoCode fetched slot.frame) stored

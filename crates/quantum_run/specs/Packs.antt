@@ -12,12 +12,12 @@ use Rattle.quantum_run.specs.declared.pack.Shared.{Shared as SharedOf}
 use Rattle.quantum_run.specs.declared.pack.View.{View as ViewOf}
 
 -- the bytes that a frame's page shows
-abbrev pub bytes_at : List (Option (List ℕ)) → ℕ → List ℕ
-bytes_at table frame = elim (slice_get table frame) [ None ↦ shown None | Some page ↦ shown page ]
+abbrev pub bytes_of_frame : List (Option (List ℕ)) → ℕ → List ℕ
+bytes_of_frame table frame = elim (slice_get table frame) [ None ↦ shown None | Some page ↦ shown page ]
 
 -- these frames, each with its page
 abbrev pub paired : List ℕ → List (Option (List ℕ)) → List (ℕ × List ℕ)
-paired held table = map (λ frame. (frame, bytes_at table frame)) held
+paired held table = map (λ frame. (frame, bytes_of_frame table frame)) held
 
 -- how many pages are here
 abbrev pub how_many : List (Option (List ℕ)) → ℕ
@@ -52,27 +52,27 @@ with_thread_of p thread process registers budget =
     record p { thread = thread; process = process; registers = registers; budget = budget }
 
 -- one page more
-abbrev pub with_page : Pack → ℕ → List ℕ → Pack
-with_page p frame page = record p { pages = p.pages ++ (frame, whole page) ∷ [] }
+abbrev pub with_own_page : Pack → ℕ → List ℕ → Pack
+with_own_page p frame page = record p { pages = p.pages ++ (frame, whole page) ∷ [] }
 
 abbrev pub HoldsNo : Pack → ℕ → Type 0
 HoldsNo p frame = (i : ℕ) (page : List ℕ) → slice_get p.pages i ≡ Some (frame, page) → ⊥
 
 -- the space of a process, where it lives
-abbrev pub space_in : Process → Option (List (ℕ × Entry))
-space_in process = option_map (λ (h : Holdings). h.space) (holdings_of process)
+abbrev pub space_held : Process → Option (List (ℕ × Entry))
+space_held process = option_map (λ (h : Holdings). h.space) (holdings_of process)
 
 -- what packs see of these frames and this table
 abbrev pub view_of : Store → Tables → View
 view_of s table = record {
   owners = s.owners;
   pages = map (option_map whole) s.pages;
-  spaces = map space_in table.processes;
+  spaces = map space_held table.processes;
 }
 
 -- what a view shows
-abbrev pub seen : ViewOf → View
-seen v = view_of v.frames.now v.table.now
+abbrev pub seen_by_view : ViewOf → View
+seen_by_view v = view_of v.frames.now v.table.now
 
 -- what is shared shows
 abbrev pub seen_in : SharedOf → View

@@ -2,5 +2,5 @@
 use Rattle.std.specs.Prelude.{ℕ, ◌-◌, ◌++◌, List, Option, None, length, replicate}
 
 -- so many places: those that are written, and empty ones
-abbrev pub filled : List (Option (List ℕ)) → ℕ → List (Option (List ℕ))
-filled written count = written ++ replicate (count - length written) None
+abbrev pub filled_up : List (Option (List ℕ)) → ℕ → List (Option (List ℕ))
+filled_up written count = written ++ replicate (count - length written) None

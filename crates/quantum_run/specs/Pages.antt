@@ -13,8 +13,8 @@ use Rattle.quantum_run.specs.Finding.{frame_for, IsWriting}
 abbrev pub is_here : List (Option (List ℕ)) → ℕ → Bool
 is_here pages frame = elim (slice_get pages frame) [ None ↦ false | Some page ↦ is_some page ]
 
-abbrev pub IsHomeIn : List (Option (List ℕ)) → ℕ → Type 0
-IsHomeIn pages frame = is_here pages frame ≡ true
+abbrev pub IsPageHere : List (Option (List ℕ)) → ℕ → Type 0
+IsPageHere pages frame = is_here pages frame ≡ true
 
 -- the page of a frame has these bytes written at an offset; all other pages stand
 pub record Writes (old new : List (Option (List ℕ))) (frame offset : ℕ)
@@ -28,7 +28,7 @@ pub record Writes (old new : List (Option (List ℕ))) (frame offset : ℕ)
 -- each frame that an access of t finds has its page here
 abbrev pub AreReached : ℕ → List Owner → List (ℕ × Entry) → List (Option (List ℕ)) → Type 0
 AreReached t owners entries pages = (access : Access) (address frame : ℕ)
-    → frame_for t owners entries access address ≡ Ok frame → IsHomeIn pages frame
+    → frame_for t owners entries access address ≡ Ok frame → IsPageHere pages frame
 
 -- and those that it would write are its own
 abbrev pub AreOwn : ℕ → List Owner → List (ℕ × Entry) → (ℕ → Bool) → Type 0

@@ -27,7 +27,7 @@ still t owners entries = record { thread = t; owners = owners; entries = entries
 
 -- The pages hold w's bytes; t has these entries in w, and what is foreign to it there is what is
 -- foreign to the thread that runs.
-pub record Holds (fixed : Still) (pages : List (Option (List ℕ))) (t : ℕ) (w : World) : Type 0 where
+pub record HoldsWorld (fixed : Still) (pages : List (Option (List ℕ))) (t : ℕ) (w : World) : Type 0 where
   pub bytes : w.bytes ≡ joined pages
   pub entry : (address : ℕ) → entry_at w t address ≡ look fixed.entries (address / 4096)
   pub foreign : (access : Access) (frame : ℕ)
@@ -39,7 +39,7 @@ pub record ShowsBy {F : Type 0} (now : Still) (fixed_now : F) (pages : List (Opt
     (fixed : Still × F) (t : ℕ) (w : World) : Type 0 where
   pub still : now ≡ fixed.0
   pub fixed_is : fixed_now ≡ fixed.1
-  pub holds : Holds fixed.0 pages t w
+  pub holds : HoldsWorld fixed.0 pages t w
 
 -- The same, and each word that a memo has by a key of its base is known.
 pub record ShowsKnown {F : Type 0} (now : Still) (fixed_now : F) (pages : List (Option (List ℕ)))

@@ -69,8 +69,8 @@ Finished p v after = (w : World) → Shows p v w → Shows after v (alone w p.th
 -- ---- a part in slices
 
 -- the pack as its thread's part begins: without a reservation
-abbrev pub begun : Pack → Pack
-begun p = record p { registers = released p.registers }
+abbrev pub begun_pack : Pack → Pack
+begun_pack p = record p { registers = released p.registers }
 
 -- The later pack is the thread run out from where the earlier one stands, until it stops or its
 -- budget is 0, in each world that the earlier pack and the view show.

@@ -2,8 +2,8 @@
 ghost use Rattle.std.specs.Prelude.{◌≡◌, ◌<◌, ◌≤◌, ◌+◌, ◌++◌, ◌∷◌, [], length, map, replicate};
 ghost use Rattle.std.specs.Prelude.{true, false, None, IfOk, MatchOption};
 ghost use Rattle.page_store.specs.Store.{whole};
-ghost use Rattle.quantum_run.specs.Shows.{CanRun, Finished, LeadsTo, RanOut, begun, frames_of};
-ghost use Rattle.quantum_run.specs.Packs.{HoldsNo, empty_pack, seen, seen_in, with_page};
+ghost use Rattle.quantum_run.specs.Shows.{CanRun, Finished, LeadsTo, RanOut, begun_pack, frames_of};
+ghost use Rattle.quantum_run.specs.Packs.{HoldsNo, empty_pack, seen_by_view, seen_in, with_own_page};
 ghost use Rattle.quantum_run.specs.Packs.{with_thread_of};
 
 use crate::late_memo::LateMemo;
@@ -36,7 +36,7 @@ pub struct Shared {
 impl Shared {
     /// The view of it that each pack is lent.
     pub fn view(&self) -> View<'_>
-        ensures { seen result ≡ seen_in self.now }
+        ensures { seen_by_view result ≡ seen_in self.now }
     {
         View {
             frames: &self.frames,
@@ -113,7 +113,7 @@ impl Pack {
     pub fn add_page(&mut self, frame: u32, page: Page)
         requires room { frame < self.old.room }
         requires other { HoldsNo self.old frame }
-        ensures { self.new ≡ with_page self.old frame page }
+        ensures { self.new ≡ with_own_page self.old frame page }
     {
         self.own.put(frame, page);
         match self.held.push(frame) {
@@ -125,7 +125,7 @@ impl Pack {
     /// The page that came last; None exactly where none is held.
     pub fn take_page(&mut self) -> Option<(u32, Page)>
         ensures { MatchOption result ((self.old.pages ≡ []) × (self.new ≡ self.old))
-            (λ r. self.old ≡ with_page self.new r.0 r.1) }
+            (λ r. self.old ≡ with_own_page self.new r.0 r.1) }
     {
         let frame = self.held.pop()?;
         match self.own.take(frame) {
@@ -136,7 +136,7 @@ impl Pack {
 
     /// The thread's part begins: it has no reservation.
     pub fn begin(&mut self)
-        ensures { self.new ≡ begun self.old }
+        ensures { self.new ≡ begun_pack self.old }
     {
         self.regs.set_held(None);
     }
@@ -167,8 +167,8 @@ impl Pack {
 /// the parallel phase, in each world that the pack and the view show. It takes no memory and no
 /// lock.
 pub fn run_pack(pack: &mut Pack, view: &View<'_>)
-    requires can { CanRun pack.old (seen view.now) }
-    ensures finished { Finished pack.old (seen view.now) pack.new }
+    requires can { CanRun pack.old (seen_by_view view.now) }
+    ensures finished { Finished pack.old (seen_by_view view.now) pack.new }
     ensures thread { pack.new.thread ≡ pack.old.thread }
     ensures process { pack.new.process ≡ pack.old.process }
     ensures frames { frames_of pack.new.pages ≡ frames_of pack.old.pages }
@@ -181,8 +181,8 @@ pub fn run_pack(pack: &mut Pack, view: &View<'_>)
 
 /// Runs the pack's thread from where it stands until its next instruction stops or its budget is 0.
 pub fn run_out(pack: &mut Pack, view: &View<'_>)
-    requires can { CanRun pack.old (seen view.now) }
-    ensures out { RanOut pack.old (seen view.now) pack.new }
+    requires can { CanRun pack.old (seen_by_view view.now) }
+    ensures out { RanOut pack.old (seen_by_view view.now) pack.new }
     ensures thread { pack.new.thread ≡ pack.old.thread }
     ensures process { pack.new.process ≡ pack.old.process }
     ensures frames { frames_of pack.new.pages ≡ frames_of pack.old.pages }
@@ -197,9 +197,9 @@ pub fn run_out(pack: &mut Pack, view: &View<'_>)
 /// 0, but no more than `most` instructions: whether it has run out. It takes no memory and no
 /// lock.
 pub fn run_slice(pack: &mut Pack, view: &View<'_>, most: u32) -> bool
-    requires can { CanRun pack.old (seen view.now) }
-    ensures out { result ≡ true → RanOut pack.old (seen view.now) pack.new }
-    ensures more { result ≡ false → LeadsTo pack.old (seen view.now) pack.new
+    requires can { CanRun pack.old (seen_by_view view.now) }
+    ensures out { result ≡ true → RanOut pack.old (seen_by_view view.now) pack.new }
+    ensures more { result ≡ false → LeadsTo pack.old (seen_by_view view.now) pack.new
         × (0 < pack.new.budget) × (pack.new.budget + most ≡ pack.old.budget) }
     ensures thread { pack.new.thread ≡ pack.old.thread }
     ensures process { pack.new.process ≡ pack.old.process }

@@ -2,7 +2,7 @@
 ghost use Rattle.std.specs.Prelude.{◌≡◌, ◌≤◌, ◌<◌, length, replicate, slice_get, slice_set, IfOk};
 ghost use Rattle.std.specs.Prelude.{Some, None};
 ghost use Rattle.std.specs.Vec.{vec_capacity};
-ghost use Rattle.quantum_run.specs.PagePlaces.{filled};
+ghost use Rattle.quantum_run.specs.PagePlaces.{filled_up};
 
 use page_store::Page;
 use std::alloc::{AllocError, Global};
@@ -22,7 +22,7 @@ pub(crate) struct Places {
 impl Model for Places {
     ghost use Rattle.std.specs.Prelude.{List, Option, ℕ, ◌≤◌, length};
     ghost use Rattle.std.specs.Vec.{vec_capacity};
-    ghost use Rattle.quantum_run.specs.PagePlaces.{filled};
+    ghost use Rattle.quantum_run.specs.PagePlaces.{filled_up};
 
     ghost Value = { List (Option (List ℕ)) };
 
@@ -66,7 +66,7 @@ impl Places {
 pub(crate) fn write_out(pages: &mut Vec<Option<Page>>, count: u32)
     requires within { length pages.old.items ≤ count }
     requires room { count ≤ vec_capacity pages.old }
-    ensures items { pages.new.items ≡ filled pages.old.items count }
+    ensures items { pages.new.items ≡ filled_up pages.old.items count }
     ensures room { vec_capacity pages.new ≡ vec_capacity pages.old }
 {
     for _place in pages.len()..count as usize {

@@ -5,7 +5,7 @@ ghost use Rattle.dos_world.specs.Reach.{bytes_of, width};
 ghost use Rattle.dos_world.specs.declared.Owner.{Owner as owner_type};
 ghost use Rattle.dos_world.specs.declared.Owner.TheVariants.{Free};
 ghost use Rattle.page_store.specs.Store.{number_at, whole};
-ghost use Rattle.quantum_run.specs.Pages.{IsHomeIn, Writes};
+ghost use Rattle.quantum_run.specs.Pages.{IsPageHere, Writes};
 
 use dos_world::{Owner, Size};
 use page_store::{Frames, Page};
@@ -27,7 +27,7 @@ pub trait Pages: Drop {
         ensures { result ≡ slice_index_or (owners self.now) frame Free };
 
     fn page(&self, frame: u32) -> &Page
-        requires { IsHomeIn (pages self.now) frame }
+        requires { IsPageHere (pages self.now) frame }
         ensures { slice_get (pages self.now) frame ≡ Some (Some result.now) };
 
     fn write(&mut self, frame: u32, offset: u32, size: Size, value: u32)

@@ -8,11 +8,11 @@ ghost use Rattle.dos_world.specs.declared.Access.TheVariants.{Fetch, Load, Store
 ghost use Rattle.page_store.specs.Store.{joined, number_at};
 ghost use Rattle.rv_form.specs.Notes.{note_at};
 ghost use Rattle.quantum_run.specs.Showing.{HasWordOrReason, ShowsKnown, Still, still};
-ghost use Rattle.quantum_run.specs.Finding.{AreFramesOf, IsFrameOf, IsWriting, frame_for, place_in};
-ghost use Rattle.quantum_run.specs.Knowing.{AreApart, AreKnown, IsBase, IsInPage, IsKnown};
+ghost use Rattle.quantum_run.specs.Finding.{AreFramesOf, IsFrameOf, IsWriting, frame_for, flat_place};
+ghost use Rattle.quantum_run.specs.Knowing.{FetchesAreApart, AreKnown, IsBase, IsInPage, IsKnown};
 ghost use Rattle.quantum_run.specs.Knowing.{IsKnownHalf};
 ghost use Rattle.quantum_run.specs.Knowing.{IsNoCode, KeepsKnown, no_base, slot_of};
-ghost use Rattle.quantum_run.specs.Pages.{AreReached, AreOwn, AreWithin, IsHomeIn};
+ghost use Rattle.quantum_run.specs.Pages.{AreReached, AreOwn, AreWithin, IsPageHere};
 
 use crate::pages::Pages;
 use crate::slot::Slot;
@@ -141,7 +141,7 @@ impl<'a, P: Pages> Running<'a, P> {
         ensures value { ok_or result self.new.refused
             ≡ frame_for self.old.tid
             (P.owners self.old.pages) self.old.space.now.entries Load address }
-        ensures home { IfSome result (λ frame. IsHomeIn (P.pages self.new.pages) frame) }
+        ensures home { IfSome result (λ frame. IsPageHere (P.pages self.new.pages) frame) }
         ensures still { still self.new.tid (P.owners self.new.pages) self.new.space.now.entries
             ≡ still self.old.tid (P.owners self.old.pages) self.old.space.now.entries }
         ensures fixed { P.fixed self.new.pages ≡ P.fixed self.old.pages }
@@ -176,7 +176,7 @@ impl<'a, P: Pages> Running<'a, P> {
         ensures value { ok_or result self.new.refused
             ≡ frame_for self.old.tid
             (P.owners self.old.pages) self.old.space.now.entries Load address }
-        ensures home { IfSome result (λ frame. IsHomeIn (P.pages self.new.pages) frame) }
+        ensures home { IfSome result (λ frame. IsPageHere (P.pages self.new.pages) frame) }
         ensures still { still self.new.tid (P.owners self.new.pages) self.new.space.now.entries
             ≡ still self.old.tid (P.owners self.old.pages) self.old.space.now.entries }
         ensures fixed { P.fixed self.new.pages ≡ P.fixed self.old.pages }
@@ -214,7 +214,7 @@ impl<'a, P: Pages> Running<'a, P> {
         ensures value { ok_or result self.new.refused
             ≡ frame_for self.old.tid
             (P.owners self.old.pages) self.old.space.now.entries Fetch address }
-        ensures home { IfSome result (λ frame. IsHomeIn (P.pages self.new.pages) frame) }
+        ensures home { IfSome result (λ frame. IsPageHere (P.pages self.new.pages) frame) }
         ensures slot { IfSome result (λ frame.
             slot_of self.new.fetched address ≡ record { page = address / 4096; frame = frame }) }
         ensures known { KeepsKnown self.old.base self.old.fetched (P.pages self.old.pages)
@@ -289,7 +289,7 @@ impl<'a, P: Pages> Running<'a, P> {
         ensures value { ok_or result self.new.refused
             ≡ frame_for self.old.tid
             (P.owners self.old.pages) self.old.space.now.entries access address }
-        ensures home { IfSome result (λ frame. IsHomeIn (P.pages self.new.pages) frame) }
+        ensures home { IfSome result (λ frame. IsPageHere (P.pages self.new.pages) frame) }
         ensures own { IfSome result (λ frame. P.is_own self.new.pages frame ≡ true) }
         ensures free { IfSome result
             (λ frame. (self.new.base ≡ no_base) ⊎ IsNoCode self.new.fetched frame) }
@@ -310,10 +310,10 @@ impl<'a, P: Pages> Running<'a, P> {
     /// The number at an address whose page is this frame's, where it lies in that page.
     #[inline(always)]
     fn read(&self, frame: u32, address: u32, size: Size) -> u32
-        requires home { IsHomeIn (P.pages self.now.pages) frame }
+        requires home { IsPageHere (P.pages self.now.pages) frame }
         requires within { address % 4096 + width size ≤ 4096 }
         ensures value { result ≡ number_at (joined (P.pages self.now.pages))
-            (place_in frame address) size }
+            (flat_place frame address) size }
         ensures range { result < 256 ^ width size }
     {
         self.pages.page(frame).read(address % 4096, size)
@@ -326,7 +326,7 @@ impl<'a, P: Pages> Running<'a, P> {
         requires free { (self.old.base ≡ no_base) ⊎ IsNoCode self.old.fetched frame }
         requires aligned { address % width size ≡ 0 }
         ensures bytes { joined (P.pages self.new.pages) ≡ written (joined (P.pages self.old.pages))
-            (place_in frame address) (bytes_of (width size) value) }
+            (flat_place frame address) (bytes_of (width size) value) }
         ensures known { KeepsKnown self.old.base self.old.fetched (P.pages self.old.pages)
             self.new.base self.new.fetched (P.pages self.new.pages) }
         ensures still { still self.new.tid (P.owners self.new.pages) self.new.space.now.entries
@@ -340,7 +340,7 @@ impl<'a, P: Pages> Running<'a, P> {
     /// in another page.
     #[inline(always)]
     fn code_in(&self, frame: u32, address: u32) -> Option<u32>
-        requires home { IsHomeIn (P.pages self.now.pages) frame }
+        requires home { IsPageHere (P.pages self.now.pages) frame }
         requires even { address % 2 ≡ 0 }
         ensures { IfSome result (λ code. IsInPage (P.pages self.now.pages) frame address code) }
     {

@@ -16,9 +16,9 @@ word_at w t pc = half_at w t pc
     (half_at w t ((pc + 2) % 2 ^ 32) >>= λ high. Ok (low + 2 ^ 16 * high)) else Ok low
 
 -- a store's answer without the world
-abbrev pub answer_of : Result World Reason → Result (Unit {0}) Reason
-answer_of (Ok after) = Ok tt
-answer_of (Err reason) = Err reason
+abbrev pub answer_of_store : Result World Reason → Result (Unit {0}) Reason
+answer_of_store (Ok after) = Ok tt
+answer_of_store (Err reason) = Err reason
 
 -- the world that a store leaves
 abbrev pub after_of : World → Result World Reason → World
@@ -38,13 +38,13 @@ registers_of r (Ok x) = x.0
 registers_of r (Err reason) = r
 
 -- the world
-abbrev pub world_of : World → Result (Registers × World) Reason → World
-world_of w (Ok x) = x.1
-world_of w (Err reason) = w
+abbrev pub world_left : World → Result (Registers × World) Reason → World
+world_left w (Ok x) = x.1
+world_left w (Err reason) = w
 
 -- The registers old became new with this answer, and the memory shows what is left.
 pub record Follows (shows : World → Type 0) (w : World) (old new : Registers) (went : Went)
     (o : Result (Registers × World) Reason) : Type 0 where
   pub went_is : went ≡ went_of o
   pub registers : new ≡ registers_of old o
-  pub world : shows (world_of w o)
+  pub world : shows (world_left w o)

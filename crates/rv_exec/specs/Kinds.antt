@@ -16,14 +16,14 @@ IsAmo o =
     ⊎ (o ≡ op.AmominW) ⊎ (o ≡ op.AmomaxW) ⊎ (o ≡ op.AmominuW) ⊎ (o ≡ op.AmomaxuW)
 
 -- on a register and a constant
-abbrev pub IsImmediate : Op → Type 0
-IsImmediate o =
+abbrev pub IsOnImmediate : Op → Type 0
+IsOnImmediate o =
     (o ≡ op.Addi) ⊎ (o ≡ op.Slti) ⊎ (o ≡ op.Sltiu) ⊎ (o ≡ op.Xori) ⊎ (o ≡ op.Ori) ⊎ (o ≡ op.Andi)
     ⊎ (o ≡ op.Slli) ⊎ (o ≡ op.Srli) ⊎ (o ≡ op.Srai)
 
 -- on two registers, of RV32I
-abbrev pub IsRegister : Op → Type 0
-IsRegister o =
+abbrev pub IsOnRegisters : Op → Type 0
+IsOnRegisters o =
     (o ≡ op.Add) ⊎ (o ≡ op.Sub) ⊎ (o ≡ op.Sll) ⊎ (o ≡ op.Slt) ⊎ (o ≡ op.Sltu) ⊎ (o ≡ op.Xor)
     ⊎ (o ≡ op.Srl) ⊎ (o ≡ op.Sra) ⊎ (o ≡ op.Or) ⊎ (o ≡ op.And)
 

@@ -2,7 +2,7 @@
 ghost use Rattle.std.specs.Prelude.{ℕ};
 ghost use Rattle.rv_exec.specs.Instruction.{effect_of_form};
 ghost use Rattle.rv_exec.specs.Arrivals.{PerformsAt, SettlesAt, arrived, went};
-ghost use Rattle.rv_exec.specs.Kinds.{IsAccess, IsAmo, IsImmediate, IsMultiplication, IsRegister};
+ghost use Rattle.rv_exec.specs.Kinds.{IsAccess, IsAmo, IsOnImmediate, IsMultiplication, IsOnRegisters};
 ghost use Rattle.dos_world.specs.declared.Reason.{Reason};
 ghost use Rattle.std.specs.Prelude.{◌≡◌};
 
@@ -64,7 +64,7 @@ fn amo_by_form<M: Memory>(regs: &mut Regs, memory: &mut M, form: &Form, why: &mu
 #[inline(always)]
 #[tactic(auto, unfolding(flat_machine::specs::Effect::effect, rv_form::specs::Forms::instr_of))]
 fn immediate_by_form(regs: &mut Regs, form: &Form) -> Next
-    requires { IsImmediate form.now.op }
+    requires { IsOnImmediate form.now.op }
     ensures { (pc : ℕ) (why : Reason) → SettlesAt pc result why regs.old regs.new
         (effect_of_form form.now) }
 {
@@ -86,7 +86,7 @@ fn immediate_by_form(regs: &mut Regs, form: &Form) -> Next
 #[inline(always)]
 #[tactic(auto, unfolding(flat_machine::specs::Effect::effect, rv_form::specs::Forms::instr_of))]
 fn register_by_form(regs: &mut Regs, form: &Form) -> Next
-    requires { IsRegister form.now.op }
+    requires { IsOnRegisters form.now.op }
     ensures { (pc : ℕ) (why : Reason) → SettlesAt pc result why regs.old regs.new
         (effect_of_form form.now) }
 {

@@ -2,7 +2,7 @@
 ghost use Rattle.std.specs.Prelude.{◌≡◌, ℕ};
 ghost use Rattle.dos_world.specs.World.{World, Thread, with_thread};
 ghost use Rattle.flat_machine.specs.Step.{half_at, load_at, store_at, claim_at};
-ghost use Rattle.rv_exec.specs.Follows.{word_at, answer_of, after_of};
+ghost use Rattle.rv_exec.specs.Follows.{word_at, answer_of_store, after_of};
 
 use dos_world::{Reason, Size};
 
@@ -51,7 +51,7 @@ pub trait Memory {
     fn store(&mut self, address: u32, size: Size, value: u32) -> Result<(), Reason>
         ensures { (f : Fixed) (t : ℕ) (w : World) → shows self.old f t w
             → shows self.new f t (after_of w (store_at w t address size value))
-            × (result ≡ answer_of (store_at w t address size value)) };
+            × (result ≡ answer_of_store (store_at w t address size value)) };
 
     /// The word at an address; a word that is stored there next is stored.
     fn claim(&mut self, address: u32) -> Result<u32, Reason>

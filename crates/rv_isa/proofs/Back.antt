@@ -6,7 +6,7 @@ use Rattle.std.proofs.lemmas.Bool.{eqb-true}
 use Rattle.std.proofs.lemmas.Bool.Decides.{nat_tests}
 use Rattle.rv_isa.specs.Fields.{field, flag, rd, rs1, rs2, imm_i, imm_s, bits_s, bits_b, bits_j}
 use Rattle.rv_isa.specs.Meaning.{Row, fits, found, rows, base_rows, meaning, branch, load, store}
-use Rattle.rv_isa.specs.Meaning.{arithmetic, register, amo, fence, system, jal, jalr, upper}
+use Rattle.rv_isa.specs.Meaning.{arithmetic, register, amo, fence, system, jal, jalr, upper_row}
 use Rattle.rv_isa.specs.Valid.{IsValid, IsSecond, IsImmediate}
 use Rattle.rv_isa.specs.Encoding.{encoding, twos, r_type, i_type, s_type, b_type, j_type, one_if}
 use Rattle.rv_isa.specs.Encoding.{branch_funct3, load_funct3, store_funct3, imm_funct3}
@@ -160,7 +160,7 @@ fence_back fetch w h e =
     )
 
 upper_back : (auipc : Bool) → (w : ℕ) → w < 2 ^ 32 → bit_and w 0x7F ≡ (if auipc then 0x17 else 0x37)
-    → GoesBack (upper auipc w) w
+    → GoesBack (upper_row auipc w) w
 upper_back auipc w h e = (
   (omega arith, omega arith, omega arith),
   u_parts w (if auipc then 0x17 else 0x37) h (sym (opcode_mask w) ∙ e),

@@ -6,7 +6,7 @@ use Rattle.std.proofs.lemmas.Nat.{and_mask, and_mod}
 use Rattle.std.proofs.lemmas.Bool.{and_parts, eqb-true, both_ways, false_from_ne_true}
 use Rattle.rv_isa.specs.declared.Instr.{Instr}
 use Rattle.rv_isa.specs.Meaning.{Row, by_opcode, by_funct3, fits, found, rows, base_rows, meaning}
-use Rattle.rv_isa.specs.Meaning.{with_fields, upper, jal, jalr, branch, load, store, arithmetic}
+use Rattle.rv_isa.specs.Meaning.{with_fields, upper_row, jal, jalr, branch, load, store, arithmetic}
 use Rattle.rv_isa.specs.Meaning.{register, amo, fence, system, branch_rows, load_rows, store_rows}
 use Rattle.rv_isa.specs.Meaning.{arithmetic_rows, register_rows, multiply_rows, atomic_rows}
 use Rattle.rv_isa.specs.Meaning.{fence_rows, system_rows, branch_in, load_in, store_in}
@@ -126,13 +126,13 @@ unfolding rows base_rows system_in
 meaning_system w is = of_group w 0x73 (with_fields system system_rows) is refl
     ∙ named system w system_rows
 
-pub meaning_lui : (w : ℕ) → bit_and w 127 ≡ 0x37 → meaning w ≡ Some (upper false w)
+pub meaning_lui : (w : ℕ) → bit_and w 127 ≡ 0x37 → meaning w ≡ Some (upper_row false w)
 unfolding rows base_rows found
-meaning_lui w is = of_group w 0x37 (by_opcode 0x37 (upper false) ∷ []) is refl ∙ rw is refl
+meaning_lui w is = of_group w 0x37 (by_opcode 0x37 (upper_row false) ∷ []) is refl ∙ rw is refl
 
-pub meaning_auipc : (w : ℕ) → bit_and w 127 ≡ 0x17 → meaning w ≡ Some (upper true w)
+pub meaning_auipc : (w : ℕ) → bit_and w 127 ≡ 0x17 → meaning w ≡ Some (upper_row true w)
 unfolding rows base_rows found
-meaning_auipc w is = of_group w 0x17 (by_opcode 0x17 (upper true) ∷ []) is refl ∙ rw is refl
+meaning_auipc w is = of_group w 0x17 (by_opcode 0x17 (upper_row true) ∷ []) is refl ∙ rw is refl
 
 pub meaning_jal : (w : ℕ) → bit_and w 127 ≡ 0x6F → meaning w ≡ Some (jal w)
 unfolding rows base_rows found

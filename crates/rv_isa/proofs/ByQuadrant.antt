@@ -9,7 +9,7 @@ use Rattle.rv_isa.specs.declared.BranchOp.TheVariants.{Beq, Bne}
 use Rattle.rv_isa.specs.declared.Instr.{Instr}
 use Rattle.rv_isa.specs.Meaning.{Row, fits, found}
 use Rattle.rv_isa.specs.Compressed.{rows, expansion, expanded, arithmetic_rows, shift_rows}
-use Rattle.rv_isa.specs.Compressed.{move_rows, by_funct3, addi4spn, lw, sw, addi, jal, li, j}
+use Rattle.rv_isa.specs.Compressed.{move_rows, by_funct3, addi4spn, c_lw, c_sw, c_addi, jal, c_li, j}
 use Rattle.rv_isa.specs.Compressed.{branch}
 use Rattle.rv_isa.specs.Compressed.{lui_or_addi16sp, lwsp, swsp, IsSingle}
 use Rattle.rv_isa.proofs.Single.{all_apart, one_fits}
@@ -75,25 +75,25 @@ unfolding rows found
 expansion_addi4spn h is =
     of_group h 0x0000 (by_funct3 0b00 0b000 addi4spn ∷ []) is refl ∙ rw is refl
 
-pub expansion_lw : (h : ℕ) → bit_and h 0xE003 ≡ 0x4000 → expansion h ≡ lw h
+pub expansion_lw : (h : ℕ) → bit_and h 0xE003 ≡ 0x4000 → expansion h ≡ c_lw h
 unfolding rows found
-expansion_lw h is = of_group h 0x4000 (by_funct3 0b00 0b010 lw ∷ []) is refl ∙ rw is refl
+expansion_lw h is = of_group h 0x4000 (by_funct3 0b00 0b010 c_lw ∷ []) is refl ∙ rw is refl
 
-pub expansion_sw : (h : ℕ) → bit_and h 0xE003 ≡ 0xC000 → expansion h ≡ sw h
+pub expansion_sw : (h : ℕ) → bit_and h 0xE003 ≡ 0xC000 → expansion h ≡ c_sw h
 unfolding rows found
-expansion_sw h is = of_group h 0xC000 (by_funct3 0b00 0b110 sw ∷ []) is refl ∙ rw is refl
+expansion_sw h is = of_group h 0xC000 (by_funct3 0b00 0b110 c_sw ∷ []) is refl ∙ rw is refl
 
-pub expansion_addi : (h : ℕ) → bit_and h 0xE003 ≡ 0x0001 → expansion h ≡ addi h
+pub expansion_addi : (h : ℕ) → bit_and h 0xE003 ≡ 0x0001 → expansion h ≡ c_addi h
 unfolding rows found
-expansion_addi h is = of_group h 0x0001 (by_funct3 0b01 0b000 addi ∷ []) is refl ∙ rw is refl
+expansion_addi h is = of_group h 0x0001 (by_funct3 0b01 0b000 c_addi ∷ []) is refl ∙ rw is refl
 
 pub expansion_jal : (h : ℕ) → bit_and h 0xE003 ≡ 0x2001 → expansion h ≡ jal h
 unfolding rows found
 expansion_jal h is = of_group h 0x2001 (by_funct3 0b01 0b001 jal ∷ []) is refl ∙ rw is refl
 
-pub expansion_li : (h : ℕ) → bit_and h 0xE003 ≡ 0x4001 → expansion h ≡ li h
+pub expansion_li : (h : ℕ) → bit_and h 0xE003 ≡ 0x4001 → expansion h ≡ c_li h
 unfolding rows found
-expansion_li h is = of_group h 0x4001 (by_funct3 0b01 0b010 li ∷ []) is refl ∙ rw is refl
+expansion_li h is = of_group h 0x4001 (by_funct3 0b01 0b010 c_li ∷ []) is refl ∙ rw is refl
 
 pub expansion_lui : (h : ℕ) → bit_and h 0xE003 ≡ 0x6001 → expansion h ≡ lui_or_addi16sp h
 unfolding rows found

@@ -37,35 +37,35 @@ low_register half = 8 + field 4 2 half
 
 -- ---- immediates: bits high:low of the halfword stand from bit `at` on
 
-abbrev pub bits : (at high low : ℕ) → ℕ → ℕ
-bits at high low half = field high low half * 2 ^ at
+abbrev pub bits_from : (at high low : ℕ) → ℕ → ℕ
+bits_from at high low half = field high low half * 2 ^ at
 
 -- C.ADDI4SPN
 abbrev pub imm_wide : ℕ → ℕ
-imm_wide half = bits 4 12 11 half + bits 6 10 7 half + bits 2 6 6 half + bits 3 5 5 half
+imm_wide half = bits_from 4 12 11 half + bits_from 6 10 7 half + bits_from 2 6 6 half + bits_from 3 5 5 half
 
 -- C.LW, C.SW
 abbrev pub imm_word : ℕ → ℕ
-imm_word half = bits 3 12 10 half + bits 2 6 6 half + bits 6 5 5 half
+imm_word half = bits_from 3 12 10 half + bits_from 2 6 6 half + bits_from 6 5 5 half
 
 -- C.LWSP
 abbrev pub imm_load : ℕ → ℕ
-imm_load half = bits 5 12 12 half + bits 2 6 4 half + bits 6 3 2 half
+imm_load half = bits_from 5 12 12 half + bits_from 2 6 4 half + bits_from 6 3 2 half
 
 -- C.SWSP
 abbrev pub imm_store : ℕ → ℕ
-imm_store half = bits 2 12 9 half + bits 6 8 7 half
+imm_store half = bits_from 2 12 9 half + bits_from 6 8 7 half
 
 -- C.ADDI, C.LI, C.ANDI, and the amounts of shifts
 abbrev pub bits_small : ℕ → ℕ
-bits_small half = bits 5 12 12 half + bits 0 6 2 half
+bits_small half = bits_from 5 12 12 half + bits_from 0 6 2 half
 
 abbrev pub imm_small : ℕ → ℤ
 imm_small half = sign_extended 6 (bits_small half)
 
 -- C.LUI
 abbrev pub bits_upper : ℕ → ℕ
-bits_upper half = bits 17 12 12 half + bits 12 6 2 half
+bits_upper half = bits_from 17 12 12 half + bits_from 12 6 2 half
 
 abbrev pub imm_upper : ℕ → ℕ
 imm_upper half = cast_unsigned w32 (sign_extended 18 (bits_upper half))
@@ -73,7 +73,7 @@ imm_upper half = cast_unsigned w32 (sign_extended 18 (bits_upper half))
 -- C.ADDI16SP
 abbrev pub bits_stack : ℕ → ℕ
 bits_stack half =
-    bits 9 12 12 half + bits 4 6 6 half + bits 6 5 5 half + bits 7 4 3 half + bits 5 2 2 half
+    bits_from 9 12 12 half + bits_from 4 6 6 half + bits_from 6 5 5 half + bits_from 7 4 3 half + bits_from 5 2 2 half
 
 abbrev pub imm_stack : ℕ → ℤ
 imm_stack half = sign_extended 10 (bits_stack half)
@@ -81,8 +81,8 @@ imm_stack half = sign_extended 10 (bits_stack half)
 -- C.JAL, C.J
 abbrev pub bits_jump : ℕ → ℕ
 bits_jump half =
-    bits 11 12 12 half + bits 4 11 11 half + bits 8 10 9 half + bits 10 8 8 half
-    + bits 6 7 7 half + bits 7 6 6 half + bits 1 5 3 half + bits 5 2 2 half
+    bits_from 11 12 12 half + bits_from 4 11 11 half + bits_from 8 10 9 half + bits_from 10 8 8 half
+    + bits_from 6 7 7 half + bits_from 7 6 6 half + bits_from 1 5 3 half + bits_from 5 2 2 half
 
 abbrev pub imm_jump : ℕ → ℤ
 imm_jump half = sign_extended 12 (bits_jump half)
@@ -90,7 +90,7 @@ imm_jump half = sign_extended 12 (bits_jump half)
 -- C.BEQZ, C.BNEZ
 abbrev pub bits_branch : ℕ → ℕ
 bits_branch half =
-    bits 8 12 12 half + bits 3 11 10 half + bits 6 6 5 half + bits 1 4 3 half + bits 5 2 2 half
+    bits_from 8 12 12 half + bits_from 3 11 10 half + bits_from 6 6 5 half + bits_from 1 4 3 half + bits_from 5 2 2 half
 
 abbrev pub imm_branch : ℕ → ℤ
 imm_branch half = sign_extended 9 (bits_branch half)
@@ -105,36 +105,36 @@ abbrev pub addi4spn : ℕ → Option Instr
 addi4spn half =
     unless (imm_wide half == 0) (Imm Addi (low_register half) 2 (pos (imm_wide half)))
 
-abbrev pub lw : ℕ → Option Instr
-lw half = Some (Load Lw (low_register half) (high_register half) (pos (imm_word half)))
+abbrev pub c_lw : ℕ → Option Instr
+c_lw half = Some (Load Lw (low_register half) (high_register half) (pos (imm_word half)))
 
-abbrev pub sw : ℕ → Option Instr
-sw half = Some (Store Sw (high_register half) (low_register half) (pos (imm_word half)))
+abbrev pub c_sw : ℕ → Option Instr
+c_sw half = Some (Store Sw (high_register half) (low_register half) (pos (imm_word half)))
 
-abbrev pub addi : ℕ → Option Instr
-addi half = Some (Imm Addi (rd half) (rd half) (imm_small half))
+abbrev pub c_addi : ℕ → Option Instr
+c_addi half = Some (Imm Addi (rd half) (rd half) (imm_small half))
 
 abbrev pub jal : ℕ → Option Instr
 jal half = Some (Jal 1 (imm_jump half))
 
-abbrev pub li : ℕ → Option Instr
-li half = Some (Imm Addi (rd half) 0 (imm_small half))
+abbrev pub c_li : ℕ → Option Instr
+c_li half = Some (Imm Addi (rd half) 0 (imm_small half))
 
 abbrev pub addi16sp : ℕ → Option Instr
 addi16sp half = unless (bits_stack half == 0) (Imm Addi 2 2 (imm_stack half))
 
-abbrev pub lui : ℕ → Option Instr
-lui half = unless (bits_upper half == 0) (Upper false (rd half) (imm_upper half))
+abbrev pub c_lui : ℕ → Option Instr
+c_lui half = unless (bits_upper half == 0) (Upper false (rd half) (imm_upper half))
 
 -- C.ADDI16SP where rd is x2, else C.LUI
 abbrev pub lui_or_addi16sp : ℕ → Option Instr
-lui_or_addi16sp half = if rd half == 2 then addi16sp half else lui half
+lui_or_addi16sp half = if rd half == 2 then addi16sp half else c_lui half
 
 abbrev pub shift_right : ShiftOp → ℕ → Option Instr
 shift_right op half = Some (Shift op (high_register half) (high_register half) (rs2 half))
 
-abbrev pub andi : ℕ → Option Instr
-andi half = Some (Imm Andi (high_register half) (high_register half) (imm_small half))
+abbrev pub c_andi : ℕ → Option Instr
+c_andi half = Some (Imm Andi (high_register half) (high_register half) (imm_small half))
 
 abbrev pub register : RegOp → ℕ → Option Instr
 register op half = Some (Reg op (high_register half) (high_register half) (low_register half))
@@ -145,8 +145,8 @@ j half = Some (Jal 0 (imm_jump half))
 abbrev pub branch : BranchOp → ℕ → Option Instr
 branch op half = Some (Branch op (high_register half) 0 (imm_branch half))
 
-abbrev pub slli : ℕ → Option Instr
-slli half = Some (Shift Slli (rd half) (rd half) (rs2 half))
+abbrev pub c_slli : ℕ → Option Instr
+c_slli half = Some (Shift Slli (rd half) (rd half) (rs2 half))
 
 abbrev pub lwsp : ℕ → Option Instr
 lwsp half = unless (rd half == 0) (Load Lw (rd half) 2 (pos (imm_load half)))
@@ -207,7 +207,7 @@ abbrev pub arithmetic_rows : List (Row (ℕ → Option Instr))
 arithmetic_rows =
     by_funct2_alone 0b00 (shift_right Srli) ∷  -- C.SRLI, 16.5
     by_funct2_alone 0b01 (shift_right Srai) ∷  -- C.SRAI, 16.5
-    by_funct2 0b10 andi ∷  -- C.ANDI, 16.5
+    by_funct2 0b10 c_andi ∷  -- C.ANDI, 16.5
     by_operation 0b00 (register Sub) ∷  -- C.SUB, 16.5
     by_operation 0b01 (register Xor) ∷  -- C.XOR, 16.5
     by_operation 0b10 (register Or) ∷  -- C.OR, 16.5
@@ -217,7 +217,7 @@ arithmetic_rows =
 -- quadrant 10, funct3 000
 abbrev pub shift_rows : List (Row (ℕ → Option Instr))
 shift_rows =
-    by_bit12 0b10 0b000 0 slli ∷  -- C.SLLI, 16.5
+    by_bit12 0b10 0b000 0 c_slli ∷  -- C.SLLI, 16.5
     []
 
 -- quadrant 10, funct3 100
@@ -230,11 +230,11 @@ move_rows =
 unfoldable pub rows : List (Row (ℕ → Option Instr))
 rows =
     by_funct3 0b00 0b000 addi4spn  -- C.ADDI4SPN, 16.5
-    ∷ by_funct3 0b00 0b010 lw  -- C.LW, 16.3
-    ∷ by_funct3 0b00 0b110 sw  -- C.SW, 16.3
-    ∷ by_funct3 0b01 0b000 addi  -- C.NOP and C.ADDI, 16.5
+    ∷ by_funct3 0b00 0b010 c_lw  -- C.LW, 16.3
+    ∷ by_funct3 0b00 0b110 c_sw  -- C.SW, 16.3
+    ∷ by_funct3 0b01 0b000 c_addi  -- C.NOP and C.ADDI, 16.5
     ∷ by_funct3 0b01 0b001 jal  -- C.JAL, 16.4
-    ∷ by_funct3 0b01 0b010 li  -- C.LI, 16.5
+    ∷ by_funct3 0b01 0b010 c_li  -- C.LI, 16.5
     ∷ by_funct3 0b01 0b011 lui_or_addi16sp  -- C.ADDI16SP and C.LUI, 16.5
     ∷ arithmetic_rows
     ++ by_funct3 0b01 0b101 j  -- C.J, 16.4

@@ -180,8 +180,8 @@ atomic_rows =
 
 -- ---- the fields and the immediate that a format takes from the word
 
-abbrev pub upper : Bool → ℕ → Instr
-upper auipc word = Upper auipc (rd word) (imm_u word)
+abbrev pub upper_row : Bool → ℕ → Instr
+upper_row auipc word = Upper auipc (rd word) (imm_u word)
 
 abbrev pub jal : ℕ → Instr
 jal word = Jal (rd word) (imm_j word)
@@ -225,7 +225,7 @@ with_fields instr rows = map (with_name instr) rows
 
 unfoldable pub base_rows : List (Row (ℕ → Instr))
 base_rows =
-    by_opcode 0x37 (upper false) ∷ by_opcode 0x17 (upper true)
+    by_opcode 0x37 (upper_row false) ∷ by_opcode 0x17 (upper_row true)
     ∷ by_opcode 0x6F jal ∷ by_funct3 0x67 0 jalr
     ∷ with_fields branch branch_rows
     ++ with_fields load load_rows

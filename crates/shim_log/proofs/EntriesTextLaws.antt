@@ -12,7 +12,7 @@ use Rattle.shim_log.specs.LogText.{item_text, items_text, entries_text}
 use Rattle.shim_log.specs.Ranges.{AreEntries, most_exchanges}
 use Rattle.shim_log.specs.Reading.{item_at, after_item, nothing_read}
 use Rattle.shim_log.specs.Spelling.{AreSpelled}
-use Rattle.shim_log.specs.EntriesText.{items_within, items_in_text, entries_of, IsEntriesText}
+use Rattle.shim_log.specs.EntriesText.{items_within, items_in_text, entries_in_text, IsEntriesText}
 use Rattle.shim_log.proofs.ItemReading.{item_again, fits_comes}
 use Rattle.shim_log.proofs.SpellingLaws.{spelled_again, spelled_few, spelled_fits}
 
@@ -71,12 +71,12 @@ pub spelled_text : (v : LogVersion) (items : List Item) → AreSpelled v nothing
 spelled_text v items spelled = ap items_text (spelled_again v nothing_read items spelled)
 
 pub kept_text : (v : LogVersion) (text : List ℕ) (count : ℕ) → IsEntriesText v text count
-    → text ≡ entries_text v (entries_of v text)
+    → text ≡ entries_text v (entries_in_text v text)
 kept_text v text count is =
     is.text_is ∙ sym (spelled_text v (items_in_text v text) is.spelled)
 
 pub kept_fits : (v : LogVersion) (text : List ℕ) (count : ℕ) → IsEntriesText v text count
-    → AreEntries (entries_of v text)
+    → AreEntries (entries_in_text v text)
 kept_fits v text count is = spelled_fits v nothing_read (items_in_text v text) is.spelled
 
 pub kept_few : (v : LogVersion) (text : List ℕ) (count : ℕ) → IsEntriesText v text count

@@ -13,8 +13,8 @@ use Rattle.dos_io.specs.Posts.{FitsPost}
 use Rattle.shim_log.specs.Bytes.{IsBytes}
 use Rattle.shim_log.specs.Ranges.{FitsSignals, FitsInput, FitsClock, InRange, HasPosts}
 use Rattle.shim_log.specs.LogText.{post_text, ending_code, entry_text}
-use Rattle.shim_log.specs.Reading.{bytes_at, many_at, post_at, signals_at, input_at, clock_at}
-use Rattle.shim_log.specs.Reading.{ending_by, end_at}
+use Rattle.shim_log.specs.Reading.{read_bytes, many_at, post_at, signals_at, input_at, clock_at}
+use Rattle.shim_log.specs.Reading.{ending_of_byte, end_at}
 use Rattle.shim_log.proofs.FieldLaws.{bind_ok, ok_is, Takes, then, number_then, number_again}
 use Rattle.shim_log.proofs.FieldLaws.{wide16, wide32, wide64, ranged_then, ranged_again}
 use Rattle.shim_log.proofs.FieldLaws.{ranged_byte_then, ranged_byte_again, bytes_take, bytes_again}
@@ -63,13 +63,13 @@ clock_again end round tid n rest fits =
 
 -- ---- the end
 
-ending_back : (n : ℕ) → n < 3 → ending_code (ending_by n) ≡ n
+ending_back : (n : ℕ) → n < 3 → ending_code (ending_of_byte n) ≡ n
 ending_back zero lt = refl
 ending_back (suc zero) lt = refl
 ending_back (suc (suc zero)) lt = refl
 ending_back (suc (suc (suc n))) lt = absurd (omega arith)
 
-ending_again : (ending : Ending) → ending_by (ending_code ending) ≡ ending
+ending_again : (ending : Ending) → ending_of_byte (ending_code ending) ≡ ending
 ending_again Done = refl
 ending_again Limit = refl
 ending_again Stalled = refl
@@ -85,9 +85,9 @@ unfolding end_at
 end_takes end bytes x fits e =
     let a = ranged_byte_then 0 2 end bytes _ x fits e in
     let b = number_then w32 _ wide32 end a.rest _ x a.takes.rest_fits a.more in
-    let code : ending_code (ending_by a.n) ≡ a.n = ending_back a.n a.most in
+    let code : ending_code (ending_of_byte a.n) ≡ a.n = ending_back a.n a.most in
     let text = behind 0 _ _ _ (then _ _ _ _ _ a.takes b.takes) in
-    subst (Spells 0 bytes) (ok_is (End (ending_by a.n) b.n, b.rest) x b.more)
+    subst (Spells 0 bytes) (ok_is (End (ending_of_byte a.n) b.n, b.rest) x b.more)
     (record {
       takes = subst (λ (k : ℕ). Takes (0 ∷ bytes) (0 ∷ (one k ++ to_le_bytes w32 b.n)) b.rest)
           (sym code)
@@ -186,7 +186,7 @@ input_takes end bytes x fits e =
     let b = number_then w32 _ wide32 end a.rest _ x a.takes.rest_fits a.more in
     let c = ranged_then w16 _ wide16 1 4096 end b.rest _ x b.takes.rest_fits b.more in
     let d = ranged_then w16 _ wide16 0 c.n end c.rest _ x c.takes.rest_fits c.more in
-    let f = bind_ok (bytes_at d.n end d.rest) _ x d.more in
+    let f = bind_ok (read_bytes d.n end d.rest) _ x d.more in
     let p = bytes_take d.n end d.rest f.0.0 f.0.1 d.takes.rest_fits f.1 in
     let text = behind 2 _ _ _ (then _ _ _ _ _ a.takes
     (then _ _ _ _ _ b.takes (then _ _ _ _ _ c.takes (then _ _ _ _ _ d.takes p.0)))) in

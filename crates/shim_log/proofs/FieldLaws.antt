@@ -13,7 +13,7 @@ use Rattle.std.proofs.lemmas.Nat.{from_le_bytes-to_le_bytes_4, from_le_bytes-to_
 use Rattle.shim_log.specs.declared.refusal.LogError.{LogError}
 use Rattle.shim_log.specs.declared.refusal.LogError.TheVariants as refusal
 use Rattle.shim_log.specs.Bytes.{IsBytes}
-use Rattle.shim_log.specs.Reading.{Reader, ◌>>=◌, place, bytes_at, number_at, within, ranged_at}
+use Rattle.shim_log.specs.Reading.{Reader, ◌>>=◌, place, read_bytes, read_number, within, ranged_at}
 use Rattle.shim_log.specs.Reading.{ranged_byte_at, header_number_at, many_at}
 
 pub IsBytes-drop : (n : ℕ) (bytes : List ℕ) → IsBytes bytes → IsBytes (drop n bytes)
@@ -86,7 +86,7 @@ then a x b y c p q =
 -- ---- bytes
 
 pub bytes_take : (count end : ℕ) (bytes text rest : List ℕ) → IsBytes bytes
-    → bytes_at count end bytes ≡ Ok (text, rest)
+    → read_bytes count end bytes ≡ Ok (text, rest)
     → Takes bytes text rest × (length text ≡ count) × IsBytes text
 bytes_take count end bytes text rest fits e =
     let g = guard_ok (ltb (length bytes) count) (refusal.Short (place end bytes))
@@ -103,7 +103,7 @@ bytes_take count end bytes text rest fits e =
     )
 
 pub bytes_again : (end : ℕ) (text rest : List ℕ)
-    → bytes_at (length text) end (text ++ rest) ≡ Ok (text, rest)
+    → read_bytes (length text) end (text ++ rest) ≡ Ok (text, rest)
 bytes_again end text rest =
     let long : ltb (length (text ++ rest)) (length text) ≡ false =
     le-ltb _ _ (omega (arith, length-append text rest)) in
@@ -154,10 +154,10 @@ wide64 = record {
 }
 
 pub number_takes : (w : Width) (limit : ℕ) (wide : IsWide w limit) (end : ℕ) (bytes : List ℕ)
-    (n : ℕ) (rest : List ℕ) → IsBytes bytes → number_at w end bytes ≡ Ok (n, rest)
+    (n : ℕ) (rest : List ℕ) → IsBytes bytes → read_number w end bytes ≡ Ok (n, rest)
     → Takes bytes (to_le_bytes w n) rest × (n < limit)
 number_takes w limit wide end bytes n rest fits e =
-    let b = bind_ok (bytes_at (byte_len w) end bytes) _ (n, rest) e in
+    let b = bind_ok (read_bytes (byte_len w) end bytes) _ (n, rest) e in
     let p = bytes_take (byte_len w) end bytes b.0.0 b.0.1 fits b.1 in
     let front : Takes bytes (to_le_bytes w (from_le_bytes w b.0.0)) b.0.1 =
     subst (λ (t : List ℕ). Takes bytes t b.0.1) (sym (wide.back b.0.0 p.1 p.2)) p.0 in
@@ -165,11 +165,11 @@ number_takes w limit wide end bytes n rest fits e =
     (ok_is (from_le_bytes w b.0.0, b.0.1) (n, rest) b.2) (front, wide.below b.0.0 p.2)
 
 pub number_again : (w : Width) (limit : ℕ) (wide : IsWide w limit) (end n : ℕ) (rest : List ℕ)
-    → n < limit → number_at w end (to_le_bytes w n ++ rest) ≡ Ok (n, rest)
+    → n < limit → read_number w end (to_le_bytes w n ++ rest) ≡ Ok (n, rest)
 number_again w limit wide end n rest lt =
     let text : List ℕ = to_le_bytes w n in
-    let first : bytes_at (byte_len w) end (text ++ rest) ≡ Ok (text, rest) =
-    subst (λ (k : ℕ). bytes_at k end (text ++ rest) ≡ Ok (text, rest)) (wide.len n)
+    let first : read_bytes (byte_len w) end (text ++ rest) ≡ Ok (text, rest) =
+    subst (λ (k : ℕ). read_bytes k end (text ++ rest) ≡ Ok (text, rest)) (wide.len n)
     (bytes_again end text rest) in
     rw (first, wide.again n lt) refl
 
@@ -186,20 +186,20 @@ pub record Read {B : Type 0} (f : ℕ × List ℕ → Result B LogError) (y : B)
 
 pub number_then : {B : Type 0} (w : Width) (limit : ℕ) (wide : IsWide w limit) (end : ℕ)
     (bytes : List ℕ) (f : ℕ × List ℕ → Result B LogError) (y : B) → IsBytes bytes
-    → (number_at w end bytes >>= f) ≡ Ok y → Read f y bytes (to_le_bytes w) 0 limit
+    → (read_number w end bytes >>= f) ≡ Ok y → Read f y bytes (to_le_bytes w) 0 limit
 number_then w limit wide end bytes f y fits e =
-    let b = bind_ok (number_at w end bytes) f y e in
+    let b = bind_ok (read_number w end bytes) f y e in
     let t = number_takes w limit wide end bytes b.0.0 b.0.1 fits b.1 in
     record { n = b.0.0; rest = b.0.1; takes = t.0; least = omega arith; most = t.1; more = b.2 }
 
 -- a number whose range is tested, with any refusal
 checked_then : {B : Type 0} (w : Width) (limit : ℕ) (wide : IsWide w limit) (low high end : ℕ)
     (wrong : LogError) (bytes : List ℕ) (f : ℕ × List ℕ → Result B LogError) (y : B) → IsBytes bytes
-    → ((number_at w end bytes >>= within low high wrong) >>= f) ≡ Ok y
+    → ((read_number w end bytes >>= within low high wrong) >>= f) ≡ Ok y
     → Read f y bytes (to_le_bytes w) low (suc high)
 checked_then w limit wide low high end wrong bytes f y fits e =
-    let b = bind_ok (number_at w end bytes >>= within low high wrong) f y e in
-    let c = bind_ok (number_at w end bytes) (within low high wrong) b.0 b.1 in
+    let b = bind_ok (read_number w end bytes >>= within low high wrong) f y e in
+    let c = bind_ok (read_number w end bytes) (within low high wrong) b.0 b.1 in
     let t = number_takes w limit wide end bytes c.0.0 c.0.1 fits c.1 in
     let g = within_ok low high wrong c.0 b.0 c.2 in
     record {

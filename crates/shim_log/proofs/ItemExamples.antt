@@ -7,7 +7,7 @@ use Rattle.shim_log.specs.declared.version.LogVersion.TheVariants.{Two}
 use Rattle.shim_log.specs.LogText.{Log, logtext}
 use Rattle.shim_log.specs.Items.{quiet, kept, items_of}
 use Rattle.shim_log.specs.Items.{quiet_rounds}
-use Rattle.shim_log.specs.Reading.{log_at, header_at, fields_at, magic_at, version_at}
+use Rattle.shim_log.specs.Reading.{log_at, read_header, fields_at, magic_at, version_at}
 use Rattle.shim_log.specs.Reading.{header_number_at, many_at, body_at, item_at, quiet_at}
 use Rattle.shim_log.specs.Reading.{quiet_round_at, signals_at, post_at, input_at, clock_at}
 use Rattle.shim_log.specs.Reading.{end_at, ranged_at, ranged_byte_at}
@@ -37,7 +37,7 @@ has_67_bytes : length text_two ≡ 67
 has_67_bytes = refl
 
 read : log_at text_two ≡ Ok small
-unfolding log_at header_at fields_at magic_at version_at header_number_at many_at body_at item_at
+unfolding log_at read_header fields_at magic_at version_at header_number_at many_at body_at item_at
     quiet_at
     quiet_round_at signals_at post_at input_at clock_at end_at ranged_at ranged_byte_at quiet_rounds
 read = refl
@@ -46,7 +46,7 @@ read = refl
 none : log_at (start ++ digest
     ++ (0x04 ∷ 0x01 ∷ 0x00 ∷ 0x00 ∷ 0x00 ∷ 0x00 ∷ 0x00 ∷ 0x00 ∷ 0x00 ∷ []) ++ end_one)
     ≡ Err (Entry 57)
-unfolding log_at header_at fields_at magic_at version_at header_number_at many_at body_at item_at
+unfolding log_at read_header fields_at magic_at version_at header_number_at many_at body_at item_at
     quiet_at
     quiet_round_at signals_at post_at input_at clock_at end_at ranged_at ranged_byte_at quiet_rounds
 none = refl
@@ -71,7 +71,7 @@ apart : log_at (start ++ digest
     ++ (0x04 ∷ 0x01 ∷ 0x00 ∷ 0x00 ∷ 0x00 ∷ 0x01 ∷ 0x00 ∷ 0x00 ∷ 0x00 ∷ [])
     ++ (0x04 ∷ 0x02 ∷ 0x00 ∷ 0x00 ∷ 0x00 ∷ 0x01 ∷ 0x00 ∷ 0x00 ∷ 0x00 ∷ []) ++ end_one)
     ≡ Err (Entry 62)
-unfolding log_at header_at fields_at magic_at version_at header_number_at many_at body_at item_at
+unfolding log_at read_header fields_at magic_at version_at header_number_at many_at body_at item_at
     quiet_at
     quiet_round_at signals_at post_at input_at clock_at end_at ranged_at ranged_byte_at quiet_rounds
 apart = refl
@@ -79,7 +79,7 @@ apart = refl
 -- no signals as an entry of their own are refused at their count
 signals_of_none : log_at (start ++ digest
     ++ (0x01 ∷ 0x01 ∷ 0x00 ∷ 0x00 ∷ 0x00 ∷ 0x00 ∷ []) ++ end_one) ≡ Err (Entry 57)
-unfolding log_at header_at fields_at magic_at version_at header_number_at many_at body_at item_at
+unfolding log_at read_header fields_at magic_at version_at header_number_at many_at body_at item_at
     quiet_at
     quiet_round_at signals_at post_at input_at clock_at end_at ranged_at ranged_byte_at quiet_rounds
 signals_of_none = refl
@@ -90,7 +90,7 @@ kind_4_in_version_1 : log_at
     ∷ 0x86 ∷ 0x01 ∷ 0x00 ∷ 0x00 ∷ 0x10 ∷ 0x00 ∷ 0x00 ∷ digest
     ++ (0x04 ∷ 0x01 ∷ 0x00 ∷ 0x00 ∷ 0x00 ∷ 0x01 ∷ 0x00 ∷ 0x00 ∷ 0x00 ∷ []) ++ end_one)
     ≡ Err (Entry 52)
-unfolding log_at header_at fields_at magic_at version_at header_number_at many_at body_at item_at
+unfolding log_at read_header fields_at magic_at version_at header_number_at many_at body_at item_at
     quiet_at
     quiet_round_at signals_at post_at input_at clock_at end_at ranged_at ranged_byte_at quiet_rounds
 kind_4_in_version_1 = refl

@@ -17,7 +17,7 @@ use Rattle.shim_log.specs.Bytes.{IsBytes}
 use Rattle.shim_log.specs.Items.{Item, quiet, kept}
 use Rattle.shim_log.specs.LogText.{entry_text, item_text}
 use Rattle.shim_log.specs.Ranges.{InRange, NotEnd, HasPosts, least_posts, most_exchanges}
-use Rattle.shim_log.specs.Reading.{place, number_at, is_next, quiet_round_at, quiet_at}
+use Rattle.shim_log.specs.Reading.{place, read_number, is_next, quiet_round_at, quiet_at}
 use Rattle.shim_log.specs.Reading.{quiet_in, as_item, item_of_kind, item_at, signals_at, input_at}
 use Rattle.shim_log.specs.Reading.{clock_at, end_at, after_item}
 use Rattle.shim_log.specs.Views.{item_ending}
@@ -105,9 +105,9 @@ quiet_takes : (p : Progress) (end : ℕ) (bytes : List ℕ) (x : Item × List �
 unfolding quiet_at quiet_round_at
 quiet_takes p end bytes x fits le e =
     let a = bind_ok (quiet_round_at p.goes_on end bytes) _ x e in
-    let b = bind_ok (number_at w32 end bytes) _ a.0 a.1 in
+    let b = bind_ok (read_number w32 end bytes) _ a.0 a.1 in
     let g = guard_ok (is_next p.goes_on b.0.0) (refusal.Entry (place end bytes)) b.0 a.0 b.2 in
-    let here : number_at w32 end bytes ≡ Ok (a.0.0, a.0.1) = b.1 ∙ ap (λ y. done y) g.1 in
+    let here : read_number w32 end bytes ≡ Ok (a.0.0, a.0.1) = b.1 ∙ ap (λ y. done y) g.1 in
     let t = number_takes w32 _ wide32 end bytes a.0.0 a.0.1 fits here in
     let apart : is_next p.goes_on a.0.0 ≡ false =
     ap (λ (y : ℕ × List ℕ). is_next p.goes_on y.0) (sym g.1) ∙ g.0 in

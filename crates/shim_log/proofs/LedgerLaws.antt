@@ -31,8 +31,8 @@ use Rattle.dos_world.specs.declared.Question.TheVariants.{Input as input_questio
 use Rattle.dos_world.specs.declared.Question.TheVariants.{Clock as clock_question}
 use Rattle.dos_world.specs.declared.Question.TheVariants.{End as end_question}
 use Rattle.shim_log.proofs.GrowingLaws.{loud_grows}
-use Rattle.shim_log.specs.Ledger.{LedgerState, ArePlanned, end_of, recorder_state}
-use Rattle.shim_log.specs.Ledger.{IsLedger, AddsEntry, stopped, added, Follows}
+use Rattle.shim_log.specs.Ledger.{LedgerState, ArePlanned, end_of_ledger, recorder_state}
+use Rattle.shim_log.specs.Ledger.{IsLedger, AddsEntry, stopped, added, RecorderFollows}
 use Rattle.shim_log.proofs.EntriesTextLaws.{all_push}
 
 room_push : (h : LogHeader) (posts : List (ℕ × Post)) (seen es : List Exchange) (e : Exchange)
@@ -147,7 +147,7 @@ stop_is s u e = cc
 
 pub follows_stop : (b : LedgerState) (q : Question) (stop : ShimStop) (r : ℕ) (a : Option Told)
     (m n : ℕ) → m ≤ n → (stop ≡ HostFault → Rose m n)
-    → Follows b (record (stopped b q stop) { room = r }) a a m n
+    → RecorderFollows b (record (stopped b q stop) { room = r }) a a m n
 follows_stop b q stop r a m n le h = record {
   header_same = refl;
   posts_same = refl;
@@ -191,7 +191,7 @@ new_ledger posts clock h es r none planned few fits = record {
 -- what it says of an exchange that was added
 pub follows_adds : (b : LedgerState) (e : Exchange) (r : ℕ) (a c : Option Told) (m n : ℕ)
     → b.ended ≡ None → m ≤ n → Given b.posts b.clock (length (readings b.entries)) a c (e ∷ [])
-    → Follows b (record (added b e) { room = r }) a c m n
+    → RecorderFollows b (record (added b e) { room = r }) a c m n
 follows_adds b e r a c m n none le given =
     let told : (recorder_state b).told ≡ b.entries = rw none (append-nil b.entries) in
     record {
@@ -199,7 +199,7 @@ follows_adds b e r a c m n none le given =
       posts_same = refl;
       clock_same = refl;
       more = e ∷ [];
-      told_is = ap (λ (x : Option _). (b.entries ++ e ∷ []) ++ end_of x) none
+      told_is = ap (λ (x : Option _). (b.entries ++ e ∷ []) ++ end_of_ledger x) none
           ∙ append-nil (b.entries ++ e ∷ []) ∙ ap (λ (x : List Exchange). x ++ e ∷ []) (sym told);
       given = subst (λ (x : List Exchange). Given b.posts b.clock (length (readings x)) a c
           (e ∷ [])) (sym told) given;
@@ -286,7 +286,7 @@ pub has_end : (b : LedgerState) → IsLedger b → b.ended ≡ None
     → (HasNoEnd (recorder_state b).told → ⊥) → ⊥
 has_end b is none wrong =
     wrong (subst HasNoEnd
-    (sym (ap (λ (x : Option (Ending × ℕ)). b.entries ++ end_of x) none ∙ append-nil b.entries))
+    (sym (ap (λ (x : Option (Ending × ℕ)). b.entries ++ end_of_ledger x) none ∙ append-nil b.entries))
     (entries_no_end b.entries is.entries))
 
 -- the log of its entries is no longer than a log may be

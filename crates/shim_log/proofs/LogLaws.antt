@@ -21,10 +21,10 @@ use Rattle.shim_log.specs.declared.progress.Progress.{Progress}
 use Rattle.shim_log.specs.Bytes.{IsBytes, FitsDigest}
 use Rattle.shim_log.specs.Items.{Item, quiet, kept, items_in, exchanges_of}
 use Rattle.shim_log.specs.Ranges.{FitsHeader, FitsLog, most_exchanges}
-use Rattle.shim_log.specs.LogText.{Log, magic, version_number, header_text, entry_text, item_text}
+use Rattle.shim_log.specs.LogText.{Log, log_magic, version_number, header_text, entry_text, item_text}
 use Rattle.shim_log.specs.LogText.{items_text, entries_text, logtext}
-use Rattle.shim_log.specs.Reading.{◌>>=◌, place, bytes_at, number_at, many_at, magic_at, version_at}
-use Rattle.shim_log.specs.Reading.{header_number_at, fields_at, header_at, nothing_read, after_item}
+use Rattle.shim_log.specs.Reading.{◌>>=◌, place, read_bytes, read_number, many_at, magic_at, version_at}
+use Rattle.shim_log.specs.Reading.{header_number_at, fields_at, read_header, nothing_read, after_item}
 use Rattle.shim_log.specs.Reading.{item_at, Body, behind_item, body_at, log_of, log_at}
 use Rattle.shim_log.specs.Spelling.{FitsItem, MayCome, AreSpelled}
 use Rattle.shim_log.proofs.FieldLaws.{bind_ok, guard_true, done, ok_is, Takes, then, number_takes}
@@ -137,21 +137,21 @@ module _ (v : LogVersion) where
 -- ---- the header
 
 digest_takes : (end : ℕ) (bytes : List ℕ) (x : List ℕ × List ℕ) → IsBytes bytes
-    → bytes_at 32 end bytes ≡ Ok x → Takes bytes x.0 x.1 × FitsDigest x.0
+    → read_bytes 32 end bytes ≡ Ok x → Takes bytes x.0 x.1 × FitsDigest x.0
 digest_takes end bytes x fits e =
     let p = bytes_take 32 end bytes x.0 x.1 fits e in
     (p.0, record { len = p.1; bytes = p.2 })
 
 digest_again : (end : ℕ) (d rest : List ℕ) → FitsDigest d
-    → bytes_at 32 end (d ++ rest) ≡ Ok (d, rest)
-digest_again end d rest fits = subst (λ (k : ℕ). bytes_at k end (d ++ rest) ≡ Ok (d, rest)) fits.len
+    → read_bytes 32 end (d ++ rest) ≡ Ok (d, rest)
+digest_again end d rest fits = subst (λ (k : ℕ). read_bytes k end (d ++ rest) ≡ Ok (d, rest)) fits.len
     (bytes_again end d rest)
 
 digests_again : (end : ℕ) (ds : List (List ℕ)) (rest : List ℕ) → AllByRecursion FitsDigest ds
-    → many_at (bytes_at 32) (length ds) end (concat ds ++ rest) ≡ Ok (ds, rest)
+    → many_at (read_bytes 32) (length ds) end (concat ds ++ rest) ≡ Ok (ds, rest)
 digests_again end ds rest fits =
-    subst (λ (t : List ℕ). many_at (bytes_at 32) (length ds) end (t ++ rest) ≡ Ok (ds, rest))
-    (sym (concat_is ds)) (many_again (bytes_at 32) (λ d. d) FitsDigest digest_again end ds rest
+    subst (λ (t : List ℕ). many_at (read_bytes 32) (length ds) end (t ++ rest) ≡ Ok (ds, rest))
+    (sym (concat_is ds)) (many_again (read_bytes 32) (λ d. d) FitsDigest digest_again end ds rest
     fits)
 
 at_most : (n high : ℕ) → n < suc high → n ≤ high
@@ -164,14 +164,14 @@ count_most : (m n high : ℕ) → m ≡ n → n < suc high → m ≤ high
 count_most m n high e lt = omega arith
 
 magic_takes : (end : ℕ) (bytes rest : List ℕ) → IsBytes bytes → magic_at end bytes ≡ Ok rest
-    → Takes bytes magic rest
+    → Takes bytes log_magic rest
 unfolding magic_at
 magic_takes end bytes rest fits e =
-    let a = bind_ok (bytes_at 4 end bytes) _ rest e in
+    let a = bind_ok (read_bytes 4 end bytes) _ rest e in
     let p = bytes_take 4 end bytes a.0.0 a.0.1 fits a.1 in
-    let g = guard_true (bytes_eq a.0.0 magic) refusal.Magic a.0.1 rest a.2 in
-    subst (λ (r : List ℕ). Takes bytes magic r) g.1
-    (subst (λ (m : List ℕ). Takes bytes m a.0.1) ((bytes_eq-Decides a.0.0 magic).0 g.0) p.0)
+    let g = guard_true (bytes_eq a.0.0 log_magic) refusal.Magic a.0.1 rest a.2 in
+    subst (λ (r : List ℕ). Takes bytes log_magic r) g.1
+    (subst (λ (m : List ℕ). Takes bytes m a.0.1) ((bytes_eq-Decides a.0.0 log_magic).0 g.0) p.0)
 
 -- the version of a number that is 1 or 2
 version_known : (b c : Bool) (n : ℕ) (rest : List ℕ) (x : LogVersion × List ℕ) → eqb n 1 ≡ b
@@ -190,7 +190,7 @@ version_takes : (end : ℕ) (bytes : List ℕ) (x : LogVersion × List ℕ) → 
     → version_at end bytes ≡ Ok x → Takes bytes (to_le_bytes w16 (version_number x.0)) x.1
 unfolding version_at
 version_takes end bytes x fits e =
-    let a = bind_ok (number_at w16 end bytes) _ x e in
+    let a = bind_ok (read_number w16 end bytes) _ x e in
     let p = number_takes w16 _ wide16 end bytes a.0.0 a.0.1 fits a.1 in
     let g = version_known (eqb a.0.0 1) (eqb a.0.0 2) a.0.0 a.0.1 x refl refl a.2 in
     subst (λ (r : List ℕ). Takes bytes (to_le_bytes w16 (version_number x.0)) r) g.1
@@ -204,13 +204,13 @@ pub record SpellsHeader (bytes : List ℕ) (x : (LogVersion × LogHeader) × Lis
 header_spelled : (w : LogVersion) (bytes rest : List ℕ) (n : ℕ) (h : LogHeader) → length h.digests ≡
     n
     → Takes bytes
-    (magic ++ (to_le_bytes w16 (version_number w) ++ (to_le_bytes w16
+    (log_magic ++ (to_le_bytes w16 (version_number w) ++ (to_le_bytes w16
     n ++ (to_le_bytes w32 h.quantum ++ (to_le_bytes w32
     h.rounds ++ (to_le_bytes w32 h.frames ++ flat_map (λ d. d) h.digests)))))) rest
     → Takes bytes (header_text w h) rest
 header_spelled w bytes rest n h count text =
     let fields : List ℕ → ℕ → List ℕ = λ ds m.
-    magic ++ (to_le_bytes w16 (version_number w) ++ (to_le_bytes w16
+    log_magic ++ (to_le_bytes w16 (version_number w) ++ (to_le_bytes w16
     m ++ (to_le_bytes w32 h.quantum ++ (to_le_bytes w32
     h.rounds ++ (to_le_bytes w32 h.frames ++ ds))))) in
     subst (λ (m : ℕ). Takes bytes (fields (concat h.digests) m) rest) (sym count)
@@ -218,7 +218,7 @@ header_spelled w bytes rest n h count text =
 
 -- Fields that were taken one behind the other are a header. The lists are what is left at each.
 header_made : (w : LogVersion) (bytes s v i q r f rest : List ℕ) (n quantum rounds frames : ℕ)
-    (digests : List (List ℕ)) → Takes bytes magic s → Takes s (to_le_bytes w16 (version_number w)) v
+    (digests : List (List ℕ)) → Takes bytes log_magic s → Takes s (to_le_bytes w16 (version_number w)) v
     → Takes v (to_le_bytes w16 n) i → Takes i (to_le_bytes w32 quantum) q
     → Takes q (to_le_bytes w32 rounds) r → Takes r (to_le_bytes w32 frames) f
     → SpellsMany (λ d. d) FitsDigest n f (digests, rest) → 1 ≤ n → n < suc 8 → 16 ≤ quantum
@@ -245,7 +245,7 @@ header_made w bytes s v i q r f rest n quantum rounds frames digests a b c d g h
 
 -- the fields behind the first bytes and the version
 fields_take : (w : LogVersion) (end : ℕ) (bytes s v : List ℕ) (x : LogHeader × List ℕ)
-    → Takes bytes magic s → Takes s (to_le_bytes w16 (version_number w)) v
+    → Takes bytes log_magic s → Takes s (to_le_bytes w16 (version_number w)) v
     → fields_at end v ≡ Ok x → SpellsHeader bytes ((w, x.0), x.1)
 unfolding fields_at
 fields_take w end bytes s v x p q e =
@@ -253,8 +253,8 @@ fields_take w end bytes s v x p q e =
     let d = header_then w32 _ wide32 16 65536 end c.rest _ x c.takes.rest_fits c.more in
     let f = header_then w32 _ wide32 1 1000000 end d.rest _ x d.takes.rest_fits d.more in
     let g = header_then w32 _ wide32 16 16384 end f.rest _ x f.takes.rest_fits f.more in
-    let h = bind_ok (many_at (bytes_at 32) c.n end g.rest) _ x g.more in
-    let k = many_take (bytes_at 32) (λ d. d) FitsDigest digest_takes c.n end g.rest h.0
+    let h = bind_ok (many_at (read_bytes 32) c.n end g.rest) _ x g.more in
+    let k = many_take (read_bytes 32) (λ d. d) FitsDigest digest_takes c.n end g.rest h.0
     g.takes.rest_fits h.1 in
     subst (λ (y : LogHeader × List ℕ). SpellsHeader bytes ((w, y.0), y.1))
     (ok_is (record { quantum = d.n; rounds = f.n; frames = g.n; digests = h.0.0 }, h.0.1) x h.2)
@@ -262,8 +262,8 @@ fields_take w end bytes s v x p q e =
     d.takes f.takes g.takes k c.least c.most d.least d.most f.least f.most g.least g.most)
 
 pub header_takes : (end : ℕ) (bytes : List ℕ) (x : (LogVersion × LogHeader) × List ℕ)
-    → IsBytes bytes → header_at end bytes ≡ Ok x → SpellsHeader bytes x
-unfolding header_at
+    → IsBytes bytes → read_header end bytes ≡ Ok x → SpellsHeader bytes x
+unfolding read_header
 header_takes end bytes x fits e =
     let a = bind_ok (magic_at end bytes) _ x e in
     let p = magic_takes end bytes a.0 fits a.1 in
@@ -273,9 +273,9 @@ header_takes end bytes x fits e =
     subst (SpellsHeader bytes) (ok_is ((b.0.0, c.0.0), c.0.1) x c.2)
     (fields_take b.0.0 end bytes a.0 b.0.1 c.0 p q c.1)
 
-magic_again : (end : ℕ) (rest : List ℕ) → magic_at end (magic ++ rest) ≡ Ok rest
+magic_again : (end : ℕ) (rest : List ℕ) → magic_at end (log_magic ++ rest) ≡ Ok rest
 unfolding magic_at
-magic_again end rest = rw (bytes_again end magic rest) refl
+magic_again end rest = rw (bytes_again end log_magic rest) refl
 
 version_again : (end : ℕ) (v : LogVersion) (rest : List ℕ)
     → version_at end (to_le_bytes w16 (version_number v) ++ rest) ≡ Ok (v, rest)
@@ -306,18 +306,18 @@ fields_again end h rest fits =
     ∙ goes (header_number_at w32 16 16384 end r3) _ (h.frames, r4)
     (header_again w32 _ wide32 16 16384 end h.frames r4 (omega (arith, fits.frames.1))
     fits.frames.0 fits.frames.1)
-    ∙ goes (many_at (bytes_at 32) (length h.digests) end r4) _ (h.digests, rest)
+    ∙ goes (many_at (read_bytes 32) (length h.digests) end r4) _ (h.digests, rest)
     (digests_again end h.digests rest fits.digests)
 
 pub header_again_all : (end : ℕ) (v : LogVersion) (h : LogHeader) (rest : List ℕ)
-    → FitsHeader h → header_at end (header_text v h ++ rest) ≡ Ok ((v, h), rest)
-unfolding header_at
+    → FitsHeader h → read_header end (header_text v h ++ rest) ≡ Ok ((v, h), rest)
+unfolding read_header
 header_again_all end v h rest fits =
     let number : List ℕ = to_le_bytes w16 (version_number v) in
     let r0 : List ℕ = to_le_bytes w16 (length h.digests) ++ (to_le_bytes w32
     h.quantum ++ (to_le_bytes w32 h.rounds ++ (to_le_bytes w32 h.frames ++ (concat h.digests ++
     rest)))) in
-    goes (magic_at end (magic ++ (number ++ r0))) _ (number ++ r0)
+    goes (magic_at end (log_magic ++ (number ++ r0))) _ (number ++ r0)
     (magic_again end (number ++ r0))
     ∙ goes (version_at end (number ++ r0)) _ (v, r0) (version_again end v r0)
     ∙ goes (fields_at end r0) _ (h, rest) (fields_again end h rest fits)
@@ -345,7 +345,7 @@ pub log_takes : (bytes : List ℕ) (log : Log) → IsBytes bytes → log_at byte
     → SpellsLog bytes log
 unfolding log_at
 log_takes bytes log fits e =
-    let a = bind_ok (header_at (length bytes) bytes) _ log e in
+    let a = bind_ok (read_header (length bytes) bytes) _ log e in
     let p = header_takes (length bytes) bytes a.0 fits a.1 in
     let b = bind_ok (body_at a.0.0.0 (length a.0.1) nothing_read (length bytes) a.0.1) _ log a.2 in
     let q = body_takes a.0.0.0 (length a.0.1) nothing_read (length bytes) a.0.1 b.0
@@ -380,8 +380,8 @@ log_again log fits =
     fits.few in
     let regrouped : logtext log ≡ header_text v log.header ++ (items_text items ++ last) =
     append_assoc (header_text v log.header) (items_text items) last in
-    let head : header_at end (logtext log) ≡ Ok ((v, log.header), items_text items ++ last) =
-    ap (header_at end) regrouped ∙ header_again_all end v log.header (items_text items ++ last)
+    let head : read_header end (logtext log) ≡ Ok ((v, log.header), items_text items ++ last) =
+    ap (read_header end) regrouped ∙ header_again_all end v log.header (items_text items ++ last)
     fits.header in
     let enough : length items < length (items_text items ++ last) =
     rw (length-append (items_text items) last)

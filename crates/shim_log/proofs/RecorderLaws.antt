@@ -15,10 +15,10 @@ use Rattle.dos_io.specs.declared.shim.ShimStop.{ShimStop}
 use Rattle.dos_io.specs.declared.shim.ShimStop.TheVariants.{HostFault}
 use Rattle.dos_io.specs.Given.{posts_in, readings, Given, GivesHost, GivesCounted, GivesInputs}
 use Rattle.dos_io.specs.Given.{GivesReadings, AreCountedFrom}
-use Rattle.dos_io.specs.Shims.{answered, HasNoEnd}
+use Rattle.dos_io.specs.Shims.{shim_answered, HasNoEnd}
 use Rattle.shim_log.specs.declared.header.LogHeader.{LogHeader}
-use Rattle.shim_log.specs.Ledger.{LedgerState, end_of, recorder_state, empty_ledger, added, stopped}
-use Rattle.shim_log.specs.Ledger.{closed, Follows, next_reading}
+use Rattle.shim_log.specs.Ledger.{LedgerState, end_of_ledger, recorder_state, empty_ledger, added, stopped}
+use Rattle.shim_log.specs.Ledger.{ledger_closed, RecorderFollows, next_reading}
 use Rattle.shim_log.proofs.LedgerLaws.{follows_adds, follows_stop}
 
 pub readings_short : (es : List Exchange) → length (readings es) ≤ length es
@@ -26,12 +26,12 @@ readings_short [] = omega arith
 readings_short (Clock round tid n ∷ es) = omega (arith, readings_short es)
 readings_short (e ∷ es) = omega (arith, readings_short es)
 
-has_end : (es : List Exchange) (e : Ending × ℕ) → HasNoEnd (es ++ end_of (Some e)) → ⊥
+has_end : (es : List Exchange) (e : Ending × ℕ) → HasNoEnd (es ++ end_of_ledger (Some e)) → ⊥
 has_end [] e h = h
 has_end (End ending rounds ∷ es) e h = h
 has_end (x ∷ es) e h = has_end es e h
 
-none_ended : (es : List Exchange) (ended : Option (Ending × ℕ)) → HasNoEnd (es ++ end_of ended)
+none_ended : (es : List Exchange) (ended : Option (Ending × ℕ)) → HasNoEnd (es ++ end_of_ledger ended)
     → ended ≡ None
 none_ended es None h = refl
 none_ended es (Some e) h = absurd (has_end es e h)
@@ -40,12 +40,12 @@ pub no_end : (b : LedgerState) → HasNoEnd (recorder_state b).told → b.ended 
 no_end b h = none_ended b.entries b.ended h
 
 shows : (b : LedgerState) (e : Exchange) → b.ended ≡ None
-    → recorder_state (added b e) ≡ answered (recorder_state b) e
+    → recorder_state (added b e) ≡ shim_answered (recorder_state b) e
 shows b e none =
-    let told : (b.entries ++ e ∷ []) ++ end_of b.ended ≡ (b.entries ++ end_of b.ended) ++ e ∷ [] =
-    ap (λ (x : Option (Ending × ℕ)). (b.entries ++ e ∷ []) ++ end_of x) none
+    let told : (b.entries ++ e ∷ []) ++ end_of_ledger b.ended ≡ (b.entries ++ end_of_ledger b.ended) ++ e ∷ [] =
+    ap (λ (x : Option (Ending × ℕ)). (b.entries ++ e ∷ []) ++ end_of_ledger x) none
     ∙ append-nil (b.entries ++ e ∷ []) ∙ ap (λ (x : List Exchange). x ++ e ∷ [])
-    (sym (ap (λ (x : Option (Ending × ℕ)). b.entries ++ end_of x) none
+    (sym (ap (λ (x : Option (Ending × ℕ)). b.entries ++ end_of_ledger x) none
     ∙ append-nil b.entries)) in
     ap (λ (x : List Exchange). record { told = x; stops = b.stops; last = b.last; asked = None })
     told
@@ -53,21 +53,21 @@ shows b e none =
 -- b' has more room than b, and n has one more exchange
 pub adds_ok : (b b' n : LedgerState) (r r' : ℕ) (e : Exchange) → HasNoEnd (recorder_state b).told
     → b' ≡ record b { room = r' } → n ≡ record (added b' e) { room = r }
-    → recorder_state n ≡ answered (recorder_state b) e
+    → recorder_state n ≡ shim_answered (recorder_state b) e
 adds_ok b b' n r r' e h same is = ap recorder_state is
     ∙ ap (λ (x : LedgerState). recorder_state (added x e)) same ∙ shows b e (no_end b h)
 
 pub adds_follow : (b b' n : LedgerState) (r r' : ℕ) (e : Exchange) (a c : Option Told) (l m : ℕ)
     → HasNoEnd (recorder_state b).told → b' ≡ record b { room = r' }
     → n ≡ record (added b' e) { room = r } → l ≤ m
-    → Given b'.posts b'.clock (length (readings b'.entries)) a c (e ∷ []) → Follows b n a c l m
+    → Given b'.posts b'.clock (length (readings b'.entries)) a c (e ∷ []) → RecorderFollows b n a c l m
 adds_follow b b' n r r' e a c l m h same is le given =
     let given' : Given b.posts b.clock (length (readings b.entries)) a c (e ∷ []) =
     subst (λ (x : LedgerState). Given x.posts x.clock (length (readings x.entries)) a c
     (e ∷ [])) same given in
     let n-is : n ≡ record (added b e) { room = r } =
     is ∙ ap (λ (x : LedgerState). record (added x e) { room = r }) same in
-    subst (λ (x : LedgerState). Follows b x a c l m) (sym n-is)
+    subst (λ (x : LedgerState). RecorderFollows b x a c l m) (sym n-is)
     (follows_adds b e r a c l m (no_end b h) le given')
 
 abbrev pub one_number : ℕ → Option ℕ
@@ -172,11 +172,11 @@ given_input posts clock k a c round tid max bytes e h =
 -- ---- the end
 
 pub closes_ok : (b n : LedgerState) (ending : Ending) (rounds : ℕ)
-    → HasNoEnd (recorder_state b).told → n ≡ closed b ending rounds
-    → recorder_state n ≡ answered (recorder_state b) (End ending rounds)
+    → HasNoEnd (recorder_state b).told → n ≡ ledger_closed b ending rounds
+    → recorder_state n ≡ shim_answered (recorder_state b) (End ending rounds)
 closes_ok b n ending rounds h is =
-    let none : b.entries ++ end_of b.ended ≡ b.entries =
-    ap (λ (x : Option (Ending × ℕ)). b.entries ++ end_of x) (no_end b h)
+    let none : b.entries ++ end_of_ledger b.ended ≡ b.entries =
+    ap (λ (x : Option (Ending × ℕ)). b.entries ++ end_of_ledger x) (no_end b h)
     ∙ append-nil b.entries in
     ap recorder_state is
     ∙ ap (λ (x : List Exchange). record {
@@ -187,12 +187,12 @@ closes_ok b n ending rounds h is =
     }) (sym none)
 
 pub closes_follow : (b n : LedgerState) (ending : Ending) (rounds : ℕ) (a : Option Told) (m : ℕ)
-    → HasNoEnd (recorder_state b).told → n ≡ closed b ending rounds → Follows b n a a m m
+    → HasNoEnd (recorder_state b).told → n ≡ ledger_closed b ending rounds → RecorderFollows b n a a m m
 closes_follow b n ending rounds a m h is =
-    let none : b.entries ++ end_of b.ended ≡ b.entries =
-    ap (λ (x : Option (Ending × ℕ)). b.entries ++ end_of x) (no_end b h)
+    let none : b.entries ++ end_of_ledger b.ended ≡ b.entries =
+    ap (λ (x : Option (Ending × ℕ)). b.entries ++ end_of_ledger x) (no_end b h)
     ∙ append-nil b.entries in
-    subst (λ (x : LedgerState). Follows b x a a m m) (sym is) (record {
+    subst (λ (x : LedgerState). RecorderFollows b x a a m m) (sym is) (record {
       header_same = refl;
       posts_same = refl;
       clock_same = refl;
@@ -207,19 +207,19 @@ closes_follow b n ending rounds a m h is =
 
 pub stops_follow : (b b' n : LedgerState) (r : ℕ) (q : Question) (stop : ShimStop)
     (a c : Option Told) (l m : ℕ) → b' ≡ record b { room = r } → n ≡ stopped b' q stop → c ≡ a
-    → l ≤ m → (stop ≡ HostFault → Rose l m) → Follows b n a c l m
+    → l ≤ m → (stop ≡ HostFault → Rose l m) → RecorderFollows b n a c l m
 stops_follow b b' n r q stop a c l m same is told le rose =
-    let g : Follows b (stopped (record b { room = r }) q stop) a a l m =
+    let g : RecorderFollows b (stopped (record b { room = r }) q stop) a a l m =
     follows_stop b q stop r a l m le rose in
-    subst (λ (x : Option Told). Follows b n a x l m) (sym told)
-    (subst (λ (x : LedgerState). Follows b x a a l m)
+    subst (λ (x : Option Told). RecorderFollows b n a x l m) (sym told)
+    (subst (λ (x : LedgerState). RecorderFollows b x a a l m)
     (sym (is ∙ ap (λ (x : LedgerState). stopped x q stop) same)) g)
 
 -- ---- from the first question on
 
 pub recording_given : (posts : List (ℕ × Post)) (clock : ClockRule) (header : LogHeader) (room : ℕ)
     (after : LedgerState) (a b : Option Told) (m n : ℕ)
-    → Follows (empty_ledger posts clock header room) after a b m n
+    → RecorderFollows (empty_ledger posts clock header room) after a b m n
     → Given posts clock 0 a b (recorder_state after).told
 recording_given posts clock header room after a b m n follows =
     subst (λ (es : List Exchange). Given posts clock 0 a b es) (sym follows.told_is) follows.given

@@ -18,7 +18,7 @@ use Rattle.dos_io.specs.declared.exchange.Exchange.{Exchange}
 use Rattle.dos_io.specs.declared.exchange.Exchange.TheVariants.{Signals, Input, Clock, End}
 use Rattle.dos_io.specs.declared.shim.ShimStop.{ShimStop}
 use Rattle.dos_io.specs.Exchanges.{question_of}
-use Rattle.dos_io.specs.Shims.{answered, HasNoEnd}
+use Rattle.dos_io.specs.Shims.{shim_answered, HasNoEnd}
 use Rattle.shim_log.specs.declared.refusal.LogError.{LogError}
 use Rattle.shim_log.specs.declared.version.LogVersion.{LogVersion}
 use Rattle.shim_log.specs.declared.version.LogVersion.TheVariants.{One, Two}
@@ -95,7 +95,7 @@ drop_none : (n : ℕ) → drop n (exchanges_of []) ≡ []
 drop_none zero = refl
 drop_none (suc n) = refl
 
-pub record First (log : Log) (answered place within : ℕ) : Type 0 where
+pub record First (log : Log) (shim_answered place within : ℕ) : Type 0 where
   pub progress : Progress
   pub item : Item
   pub items : List Item
@@ -103,15 +103,15 @@ pub record First (log : Log) (answered place within : ℕ) : Type 0 where
       ≡ item_text item ++ items_text items
   pub fits : FitsItem log.version progress item
   pub spelled : AreSpelled log.version (after_item progress item) items
-  pub left : drop answered log.entries ≡ drop within (expanded item ++ exchanges_of items)
+  pub left : drop shim_answered log.entries ≡ drop within (expanded item ++ exchanges_of items)
   pub within_first : IsWithin within (item ∷ items)
 
-pub first_is : (log : Log) (answered place within : ℕ) → StandsAt log answered place within
-    → answered < length log.entries → First log answered place within
-first_is log answered place within st lt = by_items st.items refl
+pub first_is : (log : Log) (shim_answered place within : ℕ) → StandsAt log shim_answered place within
+    → shim_answered < length log.entries → First log shim_answered place within
+first_is log shim_answered place within st lt = by_items st.items refl
   where
-    by_items : (items : List Item) → st.items ≡ items → First log answered place within
-    by_items [] is = absurd (none_left log.entries answered lt
+    by_items : (items : List Item) → st.items ≡ items → First log shim_answered place within
+    by_items [] is = absurd (none_left log.entries shim_answered lt
         (st.left ∙ ap (λ (xs : List Item). drop within (exchanges_of xs)) is
         ∙ drop_none within))
     by_items (item ∷ items) is =
@@ -128,10 +128,10 @@ first_is log answered place within st lt = by_items st.items refl
         }
 
 -- what is read there
-read_again : (log : Log) (answered place within end : ℕ) (f : First log answered place within)
+read_again : (log : Log) (shim_answered place within end : ℕ) (f : First log shim_answered place within)
     → item_at log.version nothing_read end (item_text f.item ++ items_text f.items)
     ≡ Ok (f.item, items_text f.items)
-read_again log answered place within end f =
+read_again log shim_answered place within end f =
     item_again log.version nothing_read end f.item (items_text f.items)
     (fits_comes log.version nothing_read f.item
     (comes_first log.version f.progress nothing_read f.item (omega arith) refl f.fits))
@@ -141,14 +141,14 @@ pub record IsRead (log : Log) (place : ℕ) (text left : List ℕ) : Type 0 wher
   pub text_is : text ≡ entries_text log.version log.entries
   pub left_is : left ≡ drop place text
 
-module _ (log : Log) (answered place within : ℕ) (text left : List ℕ)
-    (f : First log answered place within) (here : IsRead log place text left) where
+module _ (log : Log) (shim_answered place within : ℕ) (text left : List ℕ)
+    (f : First log shim_answered place within) (here : IsRead log place text left) where
   left_spells : left ≡ item_text f.item ++ items_text f.items
   left_spells = here.left_is ∙ ap (drop place) here.text_is ∙ f.text_is
 
   pub never_refused : (refusal : LogError)
       → item_at log.version nothing_read (length text) left ≡ Err refusal → ⊥
-  never_refused refusal is = absurd (let e = sym (read_again log answered place within
+  never_refused refusal is = absurd (let e = sym (read_again log shim_answered place within
       (length text) f) ∙ ap (item_at log.version nothing_read (length text)) (sym left_spells)
       ∙ is in cc)
 
@@ -158,7 +158,7 @@ module _ (log : Log) (answered place within : ℕ) (text left : List ℕ)
   read_is item rest is =
       let same : (f.item, items_text f.items) ≡ (item, rest) =
       ok_is (f.item, items_text f.items) (item, rest)
-      (sym (read_again log answered place within (length text) f)
+      (sym (read_again log shim_answered place within (length text) f)
       ∙ ap (item_at log.version nothing_read (length text)) (sym left_spells) ∙ is) in
       (ap (λ (x : Item × List ℕ). x.0) same, ap (λ (x : Item × List ℕ). x.1) same)
 
@@ -178,14 +178,14 @@ within_none One p (quiet round count ∷ items) spelled = absurd spelled.0
 within_none Two p (quiet round count ∷ items) spelled = omega (arith, spelled.0.some)
 
 -- behind the entry
-behind_first : (log : Log) (answered place within : ℕ) (text left : List ℕ)
-    (f : First log answered place within) (here : IsRead log place text left) (item : Item)
+behind_first : (log : Log) (shim_answered place within : ℕ) (text left : List ℕ)
+    (f : First log shim_answered place within) (here : IsRead log place text left) (item : Item)
     (rest : List ℕ) → item_at log.version nothing_read (length text) left ≡ Ok (item, rest)
-    → drop (answered + 1) log.entries ≡ exchanges_of f.items
-    → StandsAt log (answered + 1) (length text - length rest) 0
-behind_first log answered place within text left f here item rest is left_over =
-    let there = rest_place log answered place within text left f here item rest is in
-    let read = read_is log answered place within text left f here item rest is in
+    → drop (shim_answered + 1) log.entries ≡ exchanges_of f.items
+    → StandsAt log (shim_answered + 1) (length text - length rest) 0
+behind_first log shim_answered place within text left f here item rest is left_over =
+    let there = rest_place log shim_answered place within text left f here item rest is in
+    let read = read_is log shim_answered place within text left f here item rest is in
     record {
       progress = after_item f.progress f.item;
       items = f.items;
@@ -347,15 +347,15 @@ stands_first log fits =
       inside = omega arith;
     }
 
-pub stands_last : (log : Log) (answered : ℕ) (text : List ℕ)
-    → text ≡ entries_text log.version log.entries → answered ≡ length log.entries
-    → StandsAt log (answered + 1) (length text) 0
-stands_last log answered text is all = record {
+pub stands_last : (log : Log) (shim_answered : ℕ) (text : List ℕ)
+    → text ≡ entries_text log.version log.entries → shim_answered ≡ length log.entries
+    → StandsAt log (shim_answered + 1) (length text) 0
+stands_last log shim_answered text is all = record {
   progress = nothing_read;
   items = [];
   text_is = ap (drop (length text)) (sym is) ∙ drop_all text;
   spelled = tt;
-  left = past log.entries (answered + 1) (omega (arith, all));
+  left = past log.entries (shim_answered + 1) (omega (arith, all));
   within_first = refl;
   inside = subst (λ (t : List ℕ). length text ≤ length t) is (omega arith);
 }
@@ -373,7 +373,7 @@ stands_last log answered text is all = record {
 -- ---- what it tells after an answer
 
 pub plays : (p n : ReplayState) (e : Exchange) → slice_get (exchanges p.log) p.answered ≡ Some e
-    → n ≡ replay_advanced p → replayer_state n ≡ answered (replayer_state p) e
+    → n ≡ replay_advanced p → replayer_state n ≡ shim_answered (replayer_state p) e
 plays p n e at is =
     let within : p.answered < length (exchanges p.log) =
     slice_get_within (exchanges p.log) p.answered e at in

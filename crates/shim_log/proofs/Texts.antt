@@ -5,7 +5,7 @@ use Rattle.dos_io.specs.declared.exchange.Exchange.TheVariants.{Signals, Input, 
 use Rattle.shim_log.specs.declared.version.LogVersion.TheVariants.{One}
 use Rattle.shim_log.specs.LogText.{Log, exchanges, header_text, entry_text, logtext}
 use Rattle.shim_log.specs.Items.{quiet_rounds}
-use Rattle.shim_log.specs.Reading.{log_at, header_at, fields_at, magic_at, version_at}
+use Rattle.shim_log.specs.Reading.{log_at, read_header, fields_at, magic_at, version_at}
 use Rattle.shim_log.specs.Reading.{header_number_at, many_at, body_at, item_at, quiet_at}
 use Rattle.shim_log.specs.Reading.{quiet_round_at, signals_at, post_at, input_at, clock_at}
 use Rattle.shim_log.specs.Reading.{end_at, ranged_at, ranged_byte_at}
@@ -45,7 +45,7 @@ has_64_bytes : length text ≡ 64
 has_64_bytes = refl
 
 read : log_at text ≡ Ok smallest
-unfolding log_at header_at fields_at magic_at version_at header_number_at many_at body_at item_at
+unfolding log_at read_header fields_at magic_at version_at header_number_at many_at body_at item_at
     quiet_at
     quiet_round_at signals_at post_at input_at clock_at end_at ranged_at ranged_byte_at quiet_rounds
 read = refl
@@ -95,7 +95,7 @@ all_kinds = record {
 }
 
 all_kinds_read : log_at (logtext all_kinds) ≡ Ok all_kinds
-unfolding log_at header_at fields_at magic_at version_at header_number_at many_at body_at item_at
+unfolding log_at read_header fields_at magic_at version_at header_number_at many_at body_at item_at
     quiet_at
     quiet_round_at signals_at post_at input_at clock_at end_at ranged_at ranged_byte_at quiet_rounds
 all_kinds_read = refl

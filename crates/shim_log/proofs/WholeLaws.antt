@@ -9,13 +9,13 @@ use Rattle.shim_log.specs.Bytes.{IsBytes}
 use Rattle.shim_log.specs.LogText.{Log, logtext}
 use Rattle.shim_log.specs.Ranges.{FitsLog}
 use Rattle.shim_log.specs.Gives.{ReadsAs}
-use Rattle.shim_log.specs.Reading.{place, bytes_at, log_at}
+use Rattle.shim_log.specs.Reading.{place, read_bytes, log_at}
 use Rattle.shim_log.proofs.FieldLaws.{guard_ok, Takes}
 use Rattle.shim_log.proofs.LengthLaws.{ranges_of_read}
 use Rattle.shim_log.proofs.LogLaws.{log_takes}
 
 pub bytes_len : (count end : ℕ) (bytes text rest : List ℕ)
-    → bytes_at count end bytes ≡ Ok (text, rest) → length text ≡ count
+    → read_bytes count end bytes ≡ Ok (text, rest) → length text ≡ count
 bytes_len count end bytes text rest e =
     let g = guard_ok (ltb (length bytes) count) (refusal.Short (place end bytes))
     (take count bytes, drop count bytes) (text, rest) e in

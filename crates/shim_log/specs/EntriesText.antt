@@ -25,14 +25,14 @@ unfoldable pub items_in_text : LogVersion → List ℕ → List Item
 items_in_text v text = items_within v (length text) nothing_read text
 
 -- the exchanges that they stand for
-abbrev pub entries_of : LogVersion → List ℕ → List Exchange
-entries_of v text = exchanges_of (items_in_text v text)
+abbrev pub entries_in_text : LogVersion → List ℕ → List Exchange
+entries_in_text v text = exchanges_of (items_in_text v text)
 
 -- The text is that of the entries that it has, which stand for so many exchanges.
 pub record IsEntriesText (v : LogVersion) (text : List ℕ) (count : ℕ) : Type 0 where
   pub text_is : text ≡ items_text (items_in_text v text)
   pub spelled : AreSpelled v nothing_read (items_in_text v text)
-  pub count_is : count ≡ length (entries_of v text)
+  pub count_is : count ≡ length (entries_in_text v text)
 
 -- what entries are seen as
 pub record EntriesState : Type 0 where

@@ -16,7 +16,7 @@ use Rattle.dos_io.specs.declared.shim.ShimStop.TheVariants.{LogFull, HostFault, 
 use Rattle.dos_io.specs.Posts.{FitsPost}
 use Rattle.dos_io.specs.Hosts.{Told}
 use Rattle.dos_io.specs.Given.{readings, counted_reading, Given}
-use Rattle.dos_io.specs.Outside.{counted, Rose}
+use Rattle.dos_io.specs.Outside.{counted_to_limit, Rose}
 use Rattle.dos_io.specs.Shims.{ShimState}
 use Rattle.shim_log.specs.declared.header.LogHeader.{LogHeader}
 use Rattle.shim_log.specs.declared.version.LogVersion.TheVariants.{Two}
@@ -37,14 +37,14 @@ pub record LedgerState : Type 0 where
   pub asked : Option Question
   pub room : ℕ
 
-abbrev pub end_of : Option (Ending × ℕ) → List Exchange
-end_of None = []
-end_of (Some e) = End e.0 e.1 ∷ []
+abbrev pub end_of_ledger : Option (Ending × ℕ) → List Exchange
+end_of_ledger None = []
+end_of_ledger (Some e) = End e.0 e.1 ∷ []
 
 -- as of every shim
 abbrev pub recorder_state : LedgerState → ShimState
 recorder_state b = record {
-  told = b.entries ++ end_of b.ended;
+  told = b.entries ++ end_of_ledger b.ended;
   stops = b.stops;
   last = b.last;
   asked = b.asked;
@@ -110,19 +110,19 @@ empty_ledger posts clock header room = record {
 
 -- after a stop
 abbrev pub stopped : LedgerState → Question → ShimStop → LedgerState
-stopped b q stop = record b { stops = counted b.stops; last = Some stop; asked = Some q }
+stopped b q stop = record b { stops = counted_to_limit b.stops; last = Some stop; asked = Some q }
 
 -- after an answer
 abbrev pub added : LedgerState → Exchange → LedgerState
 added b e = record b { entries = b.entries ++ e ∷ []; asked = None }
 
 -- after the end
-abbrev pub closed : LedgerState → Ending → ℕ → LedgerState
-closed b ending rounds = record b { ended = Some (ending, rounds); asked = None }
+abbrev pub ledger_closed : LedgerState → Ending → ℕ → LedgerState
+ledger_closed b ending rounds = record b { ended = Some (ending, rounds); asked = None }
 
 -- From s to t: what a recorder did, where its host told a and had the count m before, and tells b
 -- and has n now.
-pub record Follows (s t : LedgerState) (a b : Option Told) (m n : ℕ) : Type 0 where
+pub record RecorderFollows (s t : LedgerState) (a b : Option Told) (m n : ℕ) : Type 0 where
   pub header_same : t.header ≡ s.header
   pub posts_same : t.posts ≡ s.posts
   pub clock_same : t.clock ≡ s.clock

@@ -28,8 +28,8 @@ exchanges log = log.entries ++ End log.ending log.rounds ∷ []
 -- ---- the header
 
 -- `DPGL`
-abbrev pub magic : List ℕ
-magic = 0x44 ∷ 0x50 ∷ 0x47 ∷ 0x4C ∷ []
+abbrev pub log_magic : List ℕ
+log_magic = 0x44 ∷ 0x50 ∷ 0x47 ∷ 0x4C ∷ []
 
 -- what stands for the version
 abbrev pub version_number : LogVersion → ℕ
@@ -40,7 +40,7 @@ version_number Two = 2
 -- for each image
 abbrev pub header_text : LogVersion → LogHeader → List ℕ
 header_text v h =
-    magic ++ to_le_bytes w16 (version_number v) ++ to_le_bytes w16 (length h.digests)
+    log_magic ++ to_le_bytes w16 (version_number v) ++ to_le_bytes w16 (length h.digests)
     ++ to_le_bytes w32 h.quantum ++ to_le_bytes w32 h.rounds ++ to_le_bytes w32 h.frames
     ++ concat h.digests
 

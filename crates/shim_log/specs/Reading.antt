@@ -17,7 +17,7 @@ use Rattle.shim_log.specs.declared.version.LogVersion.{LogVersion}
 use Rattle.shim_log.specs.declared.version.LogVersion.TheVariants.{One, Two}
 use Rattle.shim_log.specs.declared.progress.Progress.{Progress}
 use Rattle.shim_log.specs.Items.{Item, quiet, kept, exchanges_of}
-use Rattle.shim_log.specs.LogText.{Log, magic}
+use Rattle.shim_log.specs.LogText.{Log, log_magic}
 use Rattle.shim_log.specs.Ranges.{most_exchanges, least_posts}
 
 -- A reader is given the length of the whole text and the bytes that are left of it, and answers a
@@ -39,20 +39,20 @@ abbrev pub ◌>>=◌ : {A B : Type 0} → Result A LogError → (A → Result B 
 -- ---- fields
 
 -- so many bytes
-abbrev pub bytes_at : ℕ → Reader (List ℕ)
-bytes_at n end bytes =
+abbrev pub read_bytes : ℕ → Reader (List ℕ)
+read_bytes n end bytes =
     if nat_lt (length bytes) n then Err (refusal.Short (place end bytes))
     else Ok (take n bytes, drop n bytes)
 
 -- one byte
-abbrev pub byte_at : Reader ℕ
-byte_at end [] = Err (refusal.Short (place end []))
-byte_at end (b ∷ bytes) = Ok (b, bytes)
+abbrev pub read_byte : Reader ℕ
+read_byte end [] = Err (refusal.Short (place end []))
+read_byte end (b ∷ bytes) = Ok (b, bytes)
 
 -- a number, little-endian
-abbrev pub number_at : Width → Reader ℕ
-number_at w end bytes = do
-  text ← bytes_at (byte_len w) end bytes
+abbrev pub read_number : Width → Reader ℕ
+read_number w end bytes = do
+  text ← read_bytes (byte_len w) end bytes
   Ok (from_le_bytes w text.0, text.1)
 
 -- what was read, if the number is in the range
@@ -62,17 +62,17 @@ within low high wrong read = if is_in_range low high read.0 then Ok read else Er
 -- a number of the header
 unfoldable pub header_number_at : Width → (low high : ℕ) → Reader ℕ
 header_number_at w low high end bytes =
-    number_at w end bytes >>= within low high (refusal.Header (place end bytes))
+    read_number w end bytes >>= within low high (refusal.Header (place end bytes))
 
 -- a number of an entry
 unfoldable pub ranged_at : Width → (low high : ℕ) → Reader ℕ
 ranged_at w low high end bytes =
-    number_at w end bytes >>= within low high (refusal.Entry (place end bytes))
+    read_number w end bytes >>= within low high (refusal.Entry (place end bytes))
 
 -- a byte of an entry
 unfoldable pub ranged_byte_at : (low high : ℕ) → Reader ℕ
 ranged_byte_at low high end bytes =
-    byte_at end bytes >>= within low high (refusal.Entry (place end bytes))
+    read_byte end bytes >>= within low high (refusal.Entry (place end bytes))
 
 -- so many, one behind the other
 unfoldable pub many_at : {A : Type 0} → Reader A → ℕ → Reader (List A)
@@ -87,13 +87,13 @@ many_at one_at (suc n) end bytes = do
 -- the first four bytes
 unfoldable pub magic_at : ℕ → List ℕ → Result (List ℕ) LogError
 magic_at end bytes = do
-  first ← bytes_at 4 end bytes
-  if bytes_eq first.0 magic then Ok first.1 else Err refusal.Magic
+  first ← read_bytes 4 end bytes
+  if bytes_eq first.0 log_magic then Ok first.1 else Err refusal.Magic
 
 -- the version, 1 or 2
 unfoldable pub version_at : Reader LogVersion
 version_at end bytes = do
-  n ← number_at w16 end bytes
+  n ← read_number w16 end bytes
   if n.0 == 1 then Ok (One, n.1)
       else (if n.0 == 2 then Ok (Two, n.1) else Err (refusal.Version n.0))
 
@@ -104,15 +104,15 @@ fields_at end bytes = do
   quantum ← header_number_at w32 16 65536 end images.1
   rounds ← header_number_at w32 1 1000000 end quantum.1
   frames ← header_number_at w32 16 16384 end rounds.1
-  digests ← many_at (bytes_at 32) images.0 end frames.1
+  digests ← many_at (read_bytes 32) images.0 end frames.1
   Ok (
     record { quantum = quantum.0; rounds = rounds.0; frames = frames.0; digests = digests.0 },
     digests.1,
   )
 
 -- the whole header
-unfoldable pub header_at : Reader (LogVersion × LogHeader)
-header_at end bytes = do
+unfoldable pub read_header : Reader (LogVersion × LogHeader)
+read_header end bytes = do
   start ← magic_at end bytes
   version ← version_at end start
   header ← fields_at end version.1
@@ -123,14 +123,14 @@ header_at end bytes = do
 -- a process and a signal
 unfoldable pub post_at : Reader Post
 post_at end bytes = do
-  pid ← number_at w32 end bytes
+  pid ← read_number w32 end bytes
   signal ← ranged_byte_at 1 31 end pid.1
   Ok (record { pid = pid.0; signal = signal.0 }, signal.1)
 
 -- a round's signals, of so many posts at least
 unfoldable pub signals_at : ℕ → Reader Exchange
 signals_at least end bytes = do
-  round ← number_at w32 end bytes
+  round ← read_number w32 end bytes
   count ← ranged_byte_at least 32 end round.1
   posts ← many_at post_at count.0 end count.1
   Ok (Signals round.0 posts.0, posts.1)
@@ -138,33 +138,33 @@ signals_at least end bytes = do
 -- an input, of no more bytes than were asked for
 unfoldable pub input_at : Reader Exchange
 input_at end bytes = do
-  round ← number_at w32 end bytes
-  tid ← number_at w32 end round.1
+  round ← read_number w32 end bytes
+  tid ← read_number w32 end round.1
   max ← ranged_at w16 1 4096 end tid.1
   len ← ranged_at w16 0 max.0 end max.1
-  input ← bytes_at len.0 end len.1
+  input ← read_bytes len.0 end len.1
   Ok (Input round.0 tid.0 max.0 input.0, input.1)
 
 -- a reading of the clock
 unfoldable pub clock_at : Reader Exchange
 clock_at end bytes = do
-  round ← number_at w32 end bytes
-  tid ← number_at w32 end round.1
-  n ← number_at w64 end tid.1
+  round ← read_number w32 end bytes
+  tid ← read_number w32 end round.1
+  n ← read_number w64 end tid.1
   Ok (Clock round.0 tid.0 n.0, n.1)
 
 -- the ending of a byte from 0 to 2
-abbrev pub ending_by : ℕ → Ending
-ending_by zero = Done
-ending_by (suc zero) = Limit
-ending_by (suc (suc n)) = Stalled
+abbrev pub ending_of_byte : ℕ → Ending
+ending_of_byte zero = Done
+ending_of_byte (suc zero) = Limit
+ending_of_byte (suc (suc n)) = Stalled
 
 -- the end
 unfoldable pub end_at : Reader Exchange
 end_at end bytes = do
   code ← ranged_byte_at 0 2 end bytes
-  rounds ← number_at w32 end code.1
-  Ok (End (ending_by code.0) rounds.0, rounds.1)
+  rounds ← read_number w32 end code.1
+  Ok (End (ending_of_byte code.0) rounds.0, rounds.1)
 
 -- How many exchanges were read so far, and the round with which a quiet entry would go on with the
 -- last entry, where that is a quiet one: before the first entry, and behind an entry.
@@ -184,7 +184,7 @@ is_next (Some next) round = next == round
 -- the first round of a quiet entry, which doesn't go on with the one before it
 unfoldable pub quiet_round_at : Option ℕ → Reader ℕ
 quiet_round_at goes_on end bytes = do
-  round ← number_at w32 end bytes
+  round ← read_number w32 end bytes
   if is_next goes_on round.0 then Err (refusal.Entry (place end bytes)) else Ok round
 
 -- a quiet entry: no round is past 2^32 - 1, and no more exchanges are held than may be
@@ -219,7 +219,7 @@ item_of_kind v p at (suc (suc (suc (suc (suc n))))) end bytes = Err (refusal.Ent
 -- come.
 unfoldable pub item_at : LogVersion → Progress → Reader Item
 item_at v p end bytes = do
-  kind ← byte_at end bytes
+  kind ← read_byte end bytes
   if kind.0 == 0 then as_item (end_at end kind.1)
       else (if p.held == most_exchanges then Err (refusal.Entry (place end bytes))
       else item_of_kind v p (place end bytes) kind.0 end kind.1)
@@ -260,7 +260,7 @@ log_of start body = record {
 -- A header, the entries and the end, and nothing more.
 unfoldable pub log_at : List ℕ → Result Log LogError
 log_at bytes = do
-  start ← header_at (length bytes) bytes
+  start ← read_header (length bytes) bytes
   body ← body_at start.0.0 (length start.1) nothing_read (length bytes) start.1
   if length body.1 == 0 then Ok (log_of start.0 body.0)
       else Err (refusal.AfterEnd (place (length bytes) body.1))

@@ -11,9 +11,9 @@ use Rattle.dos_io.specs.Given.{readings, Given}
 use Rattle.dos_io.specs.Outside.{Rose}
 use Rattle.dos_io.proofs.GivenLaws.{given_then, given_none, readings_append, rose_before}
 use Rattle.dos_io.proofs.GivenLaws.{rose_after}
-use Rattle.shim_log.specs.Ledger.{LedgerState, recorder_state, Follows}
+use Rattle.shim_log.specs.Ledger.{LedgerState, recorder_state, RecorderFollows}
 
-pub follows_itself : (s : LedgerState) (a : Option Told) (m : ℕ) → Follows s s a a m m
+pub follows_itself : (s : LedgerState) (a : Option Told) (m : ℕ) → RecorderFollows s s a a m m
 follows_itself s a m = record {
   header_same = refl;
   posts_same = refl;
@@ -33,8 +33,8 @@ cause_then s t u l m n p q c (inr h) = inr (λ e. rose_before l m n p q (h e))
 cause_then s t u l m n p q (inl same) (inl same') = inl (same'.0 ∙ same.0, same'.1 ∙ same.1)
 cause_then s t u l m n p q (inr h) (inl same') = inr (λ e. rose_after l m n (h (sym same'.1 ∙ e)) q)
 
-pub follows_on : (s t u : LedgerState) (a b c : Option Told) (l m n : ℕ) → Follows s t a b l m
-    → Follows t u b c m n → Follows s u a c l n
+pub follows_on : (s t u : LedgerState) (a b c : Option Told) (l m n : ℕ) → RecorderFollows s t a b l m
+    → RecorderFollows t u b c m n → RecorderFollows s u a c l n
 follows_on s t u a b c l m n p q =
     let count : length (readings (recorder_state t).told)
     ≡ length (readings (recorder_state s).told) + length (readings p.more) =

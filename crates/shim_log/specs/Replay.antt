@@ -8,7 +8,7 @@ use Rattle.dos_io.specs.declared.exchange.Exchange.{Exchange}
 use Rattle.dos_io.specs.declared.shim.ShimStop.{ShimStop}
 use Rattle.dos_io.specs.declared.shim.ShimStop.TheVariants.{Misfit}
 use Rattle.dos_io.specs.Exchanges.{question_of}
-use Rattle.dos_io.specs.Outside.{counted}
+use Rattle.dos_io.specs.Outside.{counted_to_limit}
 use Rattle.dos_io.specs.Shims.{ShimState}
 use Rattle.shim_log.specs.declared.progress.Progress.{Progress}
 use Rattle.shim_log.specs.Items.{Item, quiet, kept, exchanges_of}
@@ -77,7 +77,7 @@ pub record IsReplay (p : ReplayState) : Type 0 where
 
 -- after a stop
 abbrev pub replay_stopped : ReplayState → Question → ShimStop → ReplayState
-replay_stopped p q stop = record p { stops = counted p.stops; last = Some stop; asked = Some q }
+replay_stopped p q stop = record p { stops = counted_to_limit p.stops; last = Some stop; asked = Some q }
 
 -- after an answer
 abbrev pub replay_advanced : ReplayState → ReplayState

@@ -1,7 +1,7 @@
 // Entries, kept as their text.
 
 ghost use Rattle.std.specs.Prelude.{◌≡◌, ◌≤◌, ℕ, List, length, IfOk};
-ghost use Rattle.shim_log.specs.EntriesText.{entries_of, IsEntriesText};
+ghost use Rattle.shim_log.specs.EntriesText.{entries_in_text, IsEntriesText};
 ghost use Rattle.shim_log.specs.LogText.{entries_text};
 ghost use Rattle.shim_log.specs.Ranges.{AreEntries};
 
@@ -19,7 +19,7 @@ pub struct Entries {
 }
 
 impl Model for Entries {
-    ghost use Rattle.shim_log.specs.EntriesText.{entries_of, IsEntriesText, EntriesState};
+    ghost use Rattle.shim_log.specs.EntriesText.{entries_in_text, IsEntriesText, EntriesState};
 
     ghost Value = { EntriesState };
 
@@ -36,7 +36,7 @@ impl Entries {
     pub(crate) fn of(version: LogVersion, text: Vec<u8>, count: u32) -> Entries
         requires { IsEntriesText version text.items count }
         ensures version { result.version ≡ version }
-        ensures list { result.list ≡ entries_of version text.items }
+        ensures list { result.list ≡ entries_in_text version text.items }
     {
         Entries {
             version,
@@ -54,7 +54,7 @@ impl Entries {
     ) -> Result<Entries, AllocError>
         requires { IsEntriesText version text.now count }
         ensures version { IfOk result (λ entries. entries.version ≡ version) }
-        ensures list { IfOk result (λ entries. entries.list ≡ entries_of version text.now) }
+        ensures list { IfOk result (λ entries. entries.list ≡ entries_in_text version text.now) }
     {
         Ok(Entries::of(version, Vec::from_slice(alloc, text)?, count))
     }

@@ -5,7 +5,7 @@ ghost use Rattle.dos_io.specs.declared.exchange.Exchange.{Exchange};
 ghost use Rattle.shim_log.specs.declared.refusal.LogError.{LogError as LogErrorValue};
 ghost use Rattle.shim_log.specs.Gives.{Gives, behind};
 ghost use Rattle.shim_log.specs.Reading.{post_at, many_at, signals_at, input_at, clock_at, end_at};
-ghost use Rattle.shim_log.specs.Reading.{ending_by, quiet_round_at, quiet_at, quiet_in, as_item};
+ghost use Rattle.shim_log.specs.Reading.{ending_of_byte, quiet_round_at, quiet_at, quiet_in, as_item};
 ghost use Rattle.shim_log.specs.Reading.{item_of_kind, item_at};
 ghost use Rattle.shim_log.specs.Views.{posts_in_text, exchange_of, item_of};
 ghost use Rattle.shim_log.specs.Passing.{Passes};
@@ -98,7 +98,7 @@ fn read_clock(end: usize, bytes: &[u8]) -> Result<(Entry<'_>, &[u8]), LogError>
 }
 
 fn ending_from(code: u8) -> Ending
-    ensures { result ≡ ending_by code }
+    ensures { result ≡ ending_of_byte code }
 {
     match code {
         0 => Ending::Done,

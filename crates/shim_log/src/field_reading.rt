@@ -2,7 +2,7 @@
 ghost use Rattle.std.specs.Prelude.{◌≡◌, ◌≤◌, ℕ, List, length, IfOk};
 ghost use Rattle.std.specs.Int.{w16, w32, w64};
 ghost use Rattle.shim_log.specs.Gives.{Gives};
-ghost use Rattle.shim_log.specs.Reading.{place, bytes_at, number_at, byte_at, ranged_at};
+ghost use Rattle.shim_log.specs.Reading.{place, read_bytes, read_number, read_byte, ranged_at};
 ghost use Rattle.shim_log.specs.Reading.{ranged_byte_at, header_number_at};
 
 use crate::refusal::LogError;
@@ -14,7 +14,7 @@ pub(crate) fn place(end: usize, bytes: &[u8]) -> u64
 }
 
 pub(crate) fn read_bytes(count: usize, end: usize, bytes: &[u8]) -> Result<(&[u8], &[u8]), LogError>
-    ensures { Gives (λ x. (x.0.now, x.1.now)) result (bytes_at count end bytes.now) }
+    ensures { Gives (λ x. (x.0.now, x.1.now)) result (read_bytes count end bytes.now) }
 {
     if bytes.len() < count {
         return Err(LogError::Short(place(end, bytes)));
@@ -23,7 +23,7 @@ pub(crate) fn read_bytes(count: usize, end: usize, bytes: &[u8]) -> Result<(&[u8
 }
 
 pub(crate) fn read_byte(end: usize, bytes: &[u8]) -> Result<(u8, &[u8]), LogError>
-    ensures { Gives (λ x. (x.0, x.1.now)) result (byte_at end bytes.now) }
+    ensures { Gives (λ x. (x.0, x.1.now)) result (read_byte end bytes.now) }
 {
     match bytes {
         [] => Err(LogError::Short(place(end, bytes))),
@@ -32,7 +32,7 @@ pub(crate) fn read_byte(end: usize, bytes: &[u8]) -> Result<(u8, &[u8]), LogErro
 }
 
 pub(crate) fn read_u16(end: usize, bytes: &[u8]) -> Result<(u16, &[u8]), LogError>
-    ensures { Gives (λ x. (x.0, x.1.now)) result (number_at w16 end bytes.now) }
+    ensures { Gives (λ x. (x.0, x.1.now)) result (read_number w16 end bytes.now) }
 {
     if bytes.len() < 2 {
         return Err(LogError::Short(place(end, bytes)));
@@ -43,7 +43,7 @@ pub(crate) fn read_u16(end: usize, bytes: &[u8]) -> Result<(u16, &[u8]), LogErro
 }
 
 pub(crate) fn read_u32(end: usize, bytes: &[u8]) -> Result<(u32, &[u8]), LogError>
-    ensures { Gives (λ x. (x.0, x.1.now)) result (number_at w32 end bytes.now) }
+    ensures { Gives (λ x. (x.0, x.1.now)) result (read_number w32 end bytes.now) }
 {
     if bytes.len() < 4 {
         return Err(LogError::Short(place(end, bytes)));
@@ -54,7 +54,7 @@ pub(crate) fn read_u32(end: usize, bytes: &[u8]) -> Result<(u32, &[u8]), LogErro
 }
 
 pub(crate) fn read_u64(end: usize, bytes: &[u8]) -> Result<(u64, &[u8]), LogError>
-    ensures { Gives (λ x. (x.0, x.1.now)) result (number_at w64 end bytes.now) }
+    ensures { Gives (λ x. (x.0, x.1.now)) result (read_number w64 end bytes.now) }
 {
     if bytes.len() < 8 {
         return Err(LogError::Short(place(end, bytes)));

@@ -18,7 +18,7 @@ ghost use Rattle.shim_log.specs.LogText.{Log, header_text, entry_text, item_text
 ghost use Rattle.shim_log.specs.LogText.{exchanges, logtext};
 ghost use Rattle.shim_log.specs.Ranges.{FitsLog};
 ghost use Rattle.shim_log.specs.Reading.{log_at};
-ghost use Rattle.shim_log.specs.Ledger.{LedgerState, Follows, empty_ledger, recorder_state};
+ghost use Rattle.shim_log.specs.Ledger.{LedgerState, RecorderFollows, empty_ledger, recorder_state};
 ghost use Rattle.shim_log.specs.Replay.{ReplayState, StandsNext, IsMisfitOf, replayer_state};
 
 /// The text of a log is read as that log.
@@ -63,11 +63,11 @@ pub fn text_lengths()
 pub fn recordings_are_given()
     ensures given { (posts : List (ℕ × Post)) (clock : ClockRule) (header : LogHeader) (room : ℕ)
         (after : LedgerState) (a b : Option Told) (m n : ℕ)
-        → Follows (empty_ledger posts clock header room) after a b m n
+        → RecorderFollows (empty_ledger posts clock header room) after a b m n
         → Given posts clock 0 a b (recorder_state after).told }
     ensures header { (posts : List (ℕ × Post)) (clock : ClockRule) (header : LogHeader) (room : ℕ)
         (after : LedgerState) (a b : Option Told) (m n : ℕ)
-        → Follows (empty_ledger posts clock header room) after a b m n → after.header ≡ header }
+        → RecorderFollows (empty_ledger posts clock header room) after a b m n → after.header ≡ header }
 {}
 
 /// A replayer that has told an end has told its whole log.

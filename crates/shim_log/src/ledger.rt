@@ -12,7 +12,7 @@ ghost use Rattle.shim_log.specs.LogText.{entries_text, exchanges, logtext};
 ghost use Rattle.shim_log.specs.Ranges.{FitsHeader};
 ghost use Rattle.shim_log.specs.Room.{GrowsBy, IsFull, NoRoom, longest};
 ghost use Rattle.shim_log.specs.Ledger.{LedgerState, IsLedger, recorder_state, ArePlanned};
-ghost use Rattle.shim_log.specs.Ledger.{AddsEntry, MayStop, stopped, added, closed, empty_ledger};
+ghost use Rattle.shim_log.specs.Ledger.{AddsEntry, MayStop, stopped, added, ledger_closed, empty_ledger};
 ghost use Rattle.shim_log.specs.Ledger.{next_reading};
 
 use crate::growing::GrowingEntries;
@@ -275,7 +275,7 @@ impl Ledger {
 
     /// Keeps the end.
     pub(crate) fn close(&mut self, ending: Ending, rounds: u32)
-        ensures { self.new ≡ closed self.old ending rounds }
+        ensures { self.new ≡ ledger_closed self.old ending rounds }
     {
         self.ended = Some((ending, rounds));
         self.asked = None;

@@ -4,10 +4,10 @@ ghost use Rattle.std.specs.Prelude.{◌≡◌, ◌≤◌, ◌<◌, ◌-◌, ℕ,
 ghost use Rattle.std.specs.Str.{bytes_eq};
 ghost use Rattle.shim_log.specs.EntriesText.{IsEntriesText};
 ghost use Rattle.shim_log.specs.Gives.{Gives, ReadsAs};
-ghost use Rattle.shim_log.specs.Reading.{magic_at, version_at, header_at, bytes_at, many_at};
+ghost use Rattle.shim_log.specs.Reading.{magic_at, version_at, read_header, read_bytes, many_at};
 ghost use Rattle.shim_log.specs.Reading.{fields_at, nothing_read, body_at, log_of, log_at};
 ghost use Rattle.shim_log.specs.Views.{body_of};
-ghost use Rattle.shim_log.specs.LogText.{Log as LogValue, magic, logtext};
+ghost use Rattle.shim_log.specs.LogText.{Log as LogValue, log_magic, logtext};
 ghost use Rattle.shim_log.specs.Ranges.{FitsHeader, FitsLog};
 
 use crate::entries::Entries;
@@ -79,7 +79,7 @@ fn read_tail(version: LogVersion, end: usize, bytes: &[u8]) -> Result<(Tail<'_>,
 
 // Whether a log begins with these bytes.
 fn is_magic(front: &[u8]) -> bool
-    ensures { result ≡ bytes_eq front.now magic }
+    ensures { result ≡ bytes_eq front.now log_magic }
 {
     front == b"DPGL".as_slice()
 }
@@ -121,7 +121,7 @@ fn digest_of(bytes: &[u8]) -> [u8; 32]
 
 fn read_digests(count: u16, end: usize, bytes: &[u8]) -> Result<(Digests, &[u8]), LogError>
     requires { count ≤ 8 }
-    ensures { Gives (λ x. (x.0, x.1.now)) result (many_at (bytes_at 32) count end bytes.now) }
+    ensures { Gives (λ x. (x.0, x.1.now)) result (many_at (read_bytes 32) count end bytes.now) }
 {
     let mut digests = Digests::new();
     let mut rest = bytes;
@@ -152,9 +152,9 @@ fn read_fields(end: usize, bytes: &[u8]) -> Result<(LogHeader, &[u8]), LogError>
     Ok((header, rest))
 }
 
-#[tactic(auto, unfolding(crate::specs::Reading::header_at))]
+#[tactic(auto, unfolding(crate::specs::Reading::read_header))]
 fn read_header(end: usize, bytes: &[u8]) -> Result<(LogVersion, LogHeader, &[u8]), LogError>
-    ensures { Gives (λ x. ((x.0, x.1), x.2.now)) result (header_at end bytes.now) }
+    ensures { Gives (λ x. ((x.0, x.1), x.2.now)) result (read_header end bytes.now) }
 {
     let rest = read_magic(end, bytes)?;
     let (version, rest) = read_version(end, rest)?;

@@ -2,7 +2,7 @@
 ghost use Rattle.std.specs.Prelude.{◌≡◌, ◌++◌, length, IfOk, OnOk};
 ghost use Rattle.std.specs.Int.{w16, w32, to_le_bytes};
 ghost use Rattle.std.specs.List.{concat};
-ghost use Rattle.shim_log.specs.LogText.{magic, version_number, header_text, ending_code};
+ghost use Rattle.shim_log.specs.LogText.{log_magic, version_number, header_text, ending_code};
 ghost use Rattle.shim_log.specs.LogText.{entry_text};
 ghost use Rattle.shim_log.specs.LogText.{logtext};
 ghost use Rattle.dos_io.specs.declared.exchange.Exchange.TheVariants.{End as end};
@@ -26,7 +26,7 @@ fn put_numbers(out: &mut Vec<u8>, header: &LogHeader) -> Result<(), AllocError>
 
 fn put_start(out: &mut Vec<u8>, version: LogVersion, images: u16) -> Result<(), AllocError>
     ensures { OnOk result (out.new.items ≡ out.old.items
-        ++ (magic ++ to_le_bytes w16 (version_number version) ++ to_le_bytes w16 images)) }
+        ++ (log_magic ++ to_le_bytes w16 (version_number version) ++ to_le_bytes w16 images)) }
 {
     out.extend_from_slice(b"DPGL".as_slice())?;
     out.extend_from_slice(&version.number().to_le_bytes())?;

@@ -4,7 +4,7 @@ ghost use Rattle.dos_io.specs.Shims.{HasNoEnd};
 ghost use Rattle.shim_log.specs.LogText.{exchanges, logtext};
 ghost use Rattle.shim_log.specs.Ranges.{FitsHeader};
 ghost use Rattle.shim_log.specs.Ledger.{LedgerState, IsLedger, ArePlanned, recorder_state};
-ghost use Rattle.shim_log.specs.Ledger.{empty_ledger, Follows};
+ghost use Rattle.shim_log.specs.Ledger.{empty_ledger, RecorderFollows};
 
 use crate::header::LogHeader;
 use crate::ledger::Ledger;
@@ -34,7 +34,7 @@ pub struct Recorder<'h, H> {
 impl<'h, H: Host> Shim for Recorder<'h, H> {
     ghost use Rattle.std.specs.Prelude.{◌≡◌};
     ghost use Rattle.std.proofs.Common.{rules, refl, ◌∙◌};
-    ghost use Rattle.shim_log.specs.Ledger.{recorder_state, Follows};
+    ghost use Rattle.shim_log.specs.Ledger.{recorder_state, RecorderFollows};
     ghost use Rattle.shim_log.specs.RecorderFollows.{follows_itself, follows_on};
 
     ghost state = { λ s. recorder_state s.ledger };

@@ -17,19 +17,19 @@ use Rattle.std.proofs.lemmas.List.Sums.{length-filter, count_by-le-length}
 use Rattle.dos_world.specs.declared.Entry.{Entry}
 use Rattle.dos_world.specs.World.{look}
 use Rattle.space_map.proofs.Mapped.{get_or_any}
-use Rattle.space_map.specs.Mapping.{no_entry, page_at, IsAt, IsGapFor, without, marked, with_shared}
+use Rattle.space_map.specs.Mapping.{no_entry, page_of_entry, IsAt, IsGapFor, without_entry, marked, with_page_shared}
 use Rattle.space_map.specs.Mapping.{replaced, with_replaced, shared_in_run, with_shared_run, IsKept}
 use Rattle.space_map.specs.Mapping.{IsFirstFrom, IsRising, Mapping}
 
 abbrev pub Rises : List (ℕ × Entry) → Type 0
-Rises es = (i j : ℕ) → i < j → j < length es → page_at es i < page_at es j
+Rises es = (i j : ℕ) → i < j → j < length es → page_of_entry es i < page_of_entry es j
 
 module _ (es : List (ℕ × Entry)) (sorted : Rises es) (page : ℕ) where
   comparisons_rise : IsNonDecreasingBy (λ e. ordering_index (nat_cmp e.0 page)) es
   comparisons_rise = IsNonDecreasingBy-from_default (λ e. ordering_index (nat_cmp e.0 page)) es
       (0, no_entry) (λ i j le within.
-      let pages_rise : page_at es i ≤ page_at es j =
-      grind (arith, sorted i j, λ (same : i ≡ j). ap (page_at es) same) in
+      let pages_rise : page_of_entry es i ≤ page_of_entry es j =
+      grind (arith, sorted i j, λ (same : i ≡ j). ap (page_of_entry es) same) in
       grind (arith, nat_tests))
 
   -- a binary search by page ends at the page, or at the gap for it
@@ -56,16 +56,16 @@ pub rising-adjacent : (es : List (ℕ × Entry)) → Rises es → IsRising es
 rising-adjacent es sorted k h =
     let count : length (map (λ (e : ℕ × Entry). e.0) es) ≡ length es =
     length-map es (λ (e : ℕ × Entry). e.0) in
-    let one : get_or (map (λ (e : ℕ × Entry). e.0) es) k 0 ≡ page_at es k =
+    let one : get_or (map (λ (e : ℕ × Entry). e.0) es) k 0 ≡ page_of_entry es k =
     get_or-map (λ (e : ℕ × Entry). e.0) es k (0, no_entry) 0 (omega arith) in
-    let two : get_or (map (λ (e : ℕ × Entry). e.0) es) (k + 1) 0 ≡ page_at es (k + 1) =
+    let two : get_or (map (λ (e : ℕ × Entry). e.0) es) (k + 1) 0 ≡ page_of_entry es (k + 1) =
     get_or-map (λ (e : ℕ × Entry). e.0) es (k + 1) (0, no_entry) 0 (omega arith) in
     omega (arith, sorted k (k + 1) (omega arith) (omega arith))
 
 -- ---- looking up
 
 abbrev NoneBefore : List (ℕ × Entry) → ℕ → ℕ → Type 0
-NoneBefore es page n = (i : ℕ) → i < n → page_at es i ≡ page → ⊥
+NoneBefore es page n = (i : ℕ) → i < n → page_of_entry es i ≡ page → ⊥
 
 none_rest : (e : ℕ × Entry) (es : List (ℕ × Entry)) (page n : ℕ) → NoneBefore (e ∷ es) page (suc n)
     → NoneBefore es page n
@@ -119,7 +119,7 @@ nothing o e h = let never : IsSome {T = Entry} None = subst (λ (x : Option Entr
 -- ---- removing
 
 without-none : (es : List (ℕ × Entry)) (page : ℕ) → NoneBefore es page (length es)
-    → without page es ≡ es
+    → without_entry page es ≡ es
 without-none [] page none = refl
 without-none (e ∷ es) page none =
     rw (other_test e page (none 0 (omega arith)))
@@ -129,7 +129,7 @@ rises-rest : (e : ℕ × Entry) (es : List (ℕ × Entry)) → Rises (e ∷ es) 
 rises-rest e es sorted i j lt within = sorted (suc i) (suc j) (omega arith) (omega arith)
 
 pub remove-without : (es : List (ℕ × Entry)) (page place : ℕ) → Rises es → IsAt es page place
-    → remove es place ≡ without page es
+    → remove es place ≡ without_entry page es
 remove-without [] page place sorted at = absurd (omega (arith, at.within))
 remove-without (e ∷ es) page zero sorted at =
     let none : NoneBefore es page (length es) =
@@ -168,7 +168,7 @@ set-changed f (e ∷ es) page (suc n) new keeps sorted at is =
 
 pub set-shared : (es : List (ℕ × Entry)) (page place : ℕ) (new : ℕ × Entry) → Rises es
     → IsAt es page place → new ≡ (page, record (get_or es place (0, no_entry)).1 { shared = true })
-    → set es place new ≡ with_shared page es
+    → set es place new ≡ with_page_shared page es
 set-shared es page place new sorted at is =
     let here : ℕ × Entry = get_or es place (0, no_entry) in
     set-changed (marked page) es page place new (λ e other. rw other refl) sorted at
@@ -206,10 +206,10 @@ rises-map : (f : ℕ × Entry → ℕ × Entry) → ((e : ℕ × Entry) → (f e
     → (es : List (ℕ × Entry)) → Rises es → Rises (map f es)
 rises-map f same es sorted i j lt within =
     let count : length (map f es) ≡ length es = length-map es f in
-    let one : page_at (map f es) i ≡ page_at es i =
+    let one : page_of_entry (map f es) i ≡ page_of_entry es i =
     ap (λ (e : ℕ × Entry). e.0) (get_or-map f es i (0, no_entry) (0, no_entry) (omega arith))
     ∙ same (get_or es i (0, no_entry)) in
-    let two : page_at (map f es) j ≡ page_at es j =
+    let two : page_of_entry (map f es) j ≡ page_of_entry es j =
     ap (λ (e : ℕ × Entry). e.0) (get_or-map f es j (0, no_entry) (0, no_entry) (omega arith))
     ∙ same (get_or es j (0, no_entry)) in
     omega (arith, sorted i j lt (omega arith))
@@ -272,9 +272,9 @@ rises-remove es place h sorted i j lt within =
     let number : (ℕ × Entry) → ℕ = λ (e : ℕ × Entry). e.0 in
     let count = length-remove es place h in
     let before : (k : ℕ) → k < place
-    → page_at new k ≡ page_at es k =
+    → page_of_entry new k ≡ page_of_entry es k =
     λ k l. ap number (get_or-remove_below es place (0, no_entry) k l h) in
-    let after : (k : ℕ) → place ≤ k → page_at new k ≡ page_at es (k + 1) =
+    let after : (k : ℕ) → place ≤ k → page_of_entry new k ≡ page_of_entry es (k + 1) =
     λ k l. ap number (get_or-remove_above es place (0, no_entry) k l h) in
     grind (
       arith,

@@ -13,7 +13,7 @@ use Rattle.std.proofs.lemmas.List.Folds.{list_any_at}
 use Rattle.dos_world.specs.declared.Entry.{Entry}
 use Rattle.dos_world.specs.Kernel.{put}
 use Rattle.dos_world.specs.Numbered.{run_of}
-use Rattle.space_map.specs.Mapping.{no_entry, page_at, in_run, put_run, IsFirstFrom, IsGapFor}
+use Rattle.space_map.specs.Mapping.{no_entry, page_of_entry, in_run, put_run, IsFirstFrom, IsGapFor}
 use Rattle.space_map.specs.Mapping.{IsKept}
 use Rattle.space_map.proofs.Places.{Rises}
 use Rattle.space_map.proofs.Runs.{out-of-run}
@@ -21,8 +21,8 @@ use Rattle.space_map.proofs.Runs.{out-of-run}
 -- the run would stand at this place: lower pages before it, and from it on pages behind the run
 pub record IsRunGap (es : List (ℕ × Entry)) (page count place : ℕ) : Type 0 where
   pub within : place ≤ length es
-  pub lower : (i : ℕ) → i < place → page_at es i < page
-  pub higher : (i : ℕ) → place ≤ i → i < length es → page + count ≤ page_at es i
+  pub lower : (i : ℕ) → i < place → page_of_entry es i < page
+  pub higher : (i : ℕ) → place ≤ i → i < length es → page + count ≤ page_of_entry es i
 
 -- where none of the run is mapped, it stands at the first page that isn't below it
 pub run-gap : (es : List (ℕ × Entry)) (page count first : ℕ) → IsFirstFrom es page first
@@ -95,7 +95,7 @@ length-run page zero entry = refl
 length-run page (suc count) entry = omega (arith, length-run (suc page) count entry)
 
 page-of-run : (page count : ℕ) (entry : Entry) (i : ℕ) → i < count
-    → page_at (run_entries page count entry) i ≡ page + i
+    → page_of_entry (run_entries page count entry) i ≡ page + i
 page-of-run page zero entry i h = absurd (omega arith)
 page-of-run page (suc count) entry zero h = omega arith
 page-of-run page (suc count) entry (suc i) h =
@@ -147,8 +147,8 @@ rises-run es page count place entry gap sorted i j lt within =
     front = front-length es page count place entry gap.within
 
     before : (k : ℕ) → k < place
-        → page_at (insert_slice es place (run_entries page count entry)) k
-        ≡ page_at es k
+        → page_of_entry (insert_slice es place (run_entries page count entry)) k
+        ≡ page_of_entry es k
     before k h = ap (λ (e : ℕ × Entry). e.0)
         (get_or_append_left (take place es ++ run_entries page count entry) (drop place es)
         (0, no_entry) k (omega (arith, front))
@@ -157,7 +157,7 @@ rises-run es page count place entry gap sorted i j lt within =
         ∙ get_or-take place es k (0, no_entry) h)
 
     here : (k : ℕ) → place ≤ k → k < place + count
-        → page_at (insert_slice es place (run_entries page count entry)) k
+        → page_of_entry (insert_slice es place (run_entries page count entry)) k
         ≡ page + (k - place)
     here k h l = ap (λ (e : ℕ × Entry). e.0)
         (get_or_append_left (take place es ++ run_entries page count entry) (drop place es)
@@ -167,15 +167,15 @@ rises-run es page count place entry gap sorted i j lt within =
         ∙ page-of-run page count entry (k - place) (omega arith)
 
     after : (k : ℕ) → place + count ≤ k
-        → page_at (insert_slice es place (run_entries page count entry)) k
-        ≡ page_at es (k - count)
+        → page_of_entry (insert_slice es place (run_entries page count entry)) k
+        ≡ page_of_entry es (k - count)
     after k h =
         let same : place + (k - (place + count)) ≡ k - count = omega arith in
         ap (λ (e : ℕ × Entry). e.0)
         (get_or-append_right (take place es ++ run_entries page count entry) (drop place es)
         (place + count) k (0, no_entry) front h
         ∙ get_or-drop place es (k - (place + count)) (0, no_entry))
-        ∙ ap (page_at es) same
+        ∙ ap (page_of_entry es) same
 
 pub kept-run : (entry : Entry) {es new : List (ℕ × Entry)} {room capacity grown : ℕ}
     {page count place : ℕ} → IsKept es room capacity → IsRunGap es page count place

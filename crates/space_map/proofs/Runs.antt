@@ -9,8 +9,8 @@ use Rattle.std.proofs.lemmas.Bool.Decides.{nat_tests}
 use Rattle.std.proofs.lemmas.List.Folds.{list_any_at}
 use Rattle.dos_world.specs.declared.Entry.{Entry}
 use Rattle.dos_world.specs.MemoryCalls.{share_if}
-use Rattle.space_map.specs.Mapping.{no_entry, page_at, in_run, shared_in_run, with_shared_run}
-use Rattle.space_map.specs.Mapping.{without_run, IsAt, IsFirstFrom, IsGapFor, IsRun}
+use Rattle.space_map.specs.Mapping.{no_entry, page_of_entry, in_run, shared_in_run, with_shared_run}
+use Rattle.space_map.specs.Mapping.{without_page_run, IsAt, IsFirstFrom, IsGapFor, IsRun}
 use Rattle.space_map.proofs.Places.{Rises}
 
 -- ---- a list of which one part passes a test
@@ -132,18 +132,18 @@ parted es page count first end sorted from run = record {
   before = λ i l. below-run page count (get_or es i (0, no_entry)) (from.lower i l);
   inside = run.inside;
   behind = λ i l m.
-      let low : page + count ≤ page_at es end =
+      let low : page + count ≤ page_of_entry es end =
       out-of-run page count (get_or es end (0, no_entry))
       (from.higher end run.rises (omega arith)) (run.ends (omega arith)) in
       past-run page count (get_or es i (0, no_entry)) (elim (cases_eq i end) [
-        | inl same ↦ omega (arith, low, ap (page_at es) same)
+        | inl same ↦ omega (arith, low, ap (page_of_entry es) same)
         | inr other ↦ omega (arith, low, sorted end i (omega arith) m)
       ]);
 }
 
 pub run-removed : (es : List (ℕ × Entry)) (page count first end : ℕ) → Rises es
     → IsFirstFrom es page first → IsRun es page count first end
-    → remove_range es first end ≡ without_run page count es
+    → remove_range es first end ≡ without_page_run page count es
 run-removed es page count first end sorted from run =
     sym (filter-parted (in_run page count) es (0, no_entry) first end
     (parted es page count first end sorted from run))
@@ -172,13 +172,13 @@ any-first es page count first sorted from within =
     none : in_run page count (get_or es first (0, no_entry)) ≡ false
         → Fail (in_run page count) es (0, no_entry)
     none out i l =
-        let low : page + count ≤ page_at es first =
+        let low : page + count ≤ page_of_entry es first =
         out-of-run page count (get_or es first (0, no_entry))
         (from.higher first (omega arith) within) out in
         elim (cases_lt i first) [
           | inl early ↦ below-run page count (get_or es i (0, no_entry)) (from.lower i early)
           | inr late ↦ past-run page count (get_or es i (0, no_entry)) (elim (cases_eq i first) [
-            | inl same ↦ omega (arith, low, ap (page_at es) same)
+            | inl same ↦ omega (arith, low, ap (page_of_entry es) same)
             | inr other ↦ omega (arith, low, sorted first i (omega arith) l)
           ])
         ]
@@ -197,7 +197,7 @@ first-at es page place sorted at = record {
   within = omega (arith, at.within);
   lower = λ i l. omega (arith, sorted i place l at.within, at.is);
   higher = λ i l m. elim (cases_eq i place) [
-    | inl same ↦ omega (arith, at.is, ap (page_at es) same)
+    | inl same ↦ omega (arith, at.is, ap (page_of_entry es) same)
     | inr other ↦ omega (arith, sorted place i (omega arith) m, at.is)
   ];
 }

@@ -24,15 +24,15 @@ abbrev pub IsMapped : List (ℕ × Entry) → ℕ → Type 0
 IsMapped entries page = IsSome (look entries page)
 
 -- the entries of the other pages
-abbrev pub without : ℕ → List (ℕ × Entry) → List (ℕ × Entry)
-without page entries = filter (λ e. not (e.0 == page)) entries
+abbrev pub without_entry : ℕ → List (ℕ × Entry) → List (ℕ × Entry)
+without_entry page entries = filter (λ e. not (e.0 == page)) entries
 
 -- an entry that is shared where it is this page's
 abbrev pub marked : ℕ → (ℕ × Entry) → (ℕ × Entry)
 marked page e = (e.0, record e.1 { shared = (e.0 == page) || e.1.shared })
 
-abbrev pub with_shared : ℕ → List (ℕ × Entry) → List (ℕ × Entry)
-with_shared page entries = map (marked page) entries
+abbrev pub with_page_shared : ℕ → List (ℕ × Entry) → List (ℕ × Entry)
+with_page_shared page entries = map (marked page) entries
 
 -- an entry, or this one in its place where it is this page's
 abbrev pub replaced : ℕ → Entry → (ℕ × Entry) → (ℕ × Entry)
@@ -53,8 +53,8 @@ abbrev pub in_run : ℕ → ℕ → (ℕ × Entry) → Bool
 in_run page count e = nat_le page e.0 && nat_lt e.0 (page + count)
 
 -- the entries of the other pages
-abbrev pub without_run : ℕ → ℕ → List (ℕ × Entry) → List (ℕ × Entry)
-without_run page count entries = filter (λ e. not (in_run page count e)) entries
+abbrev pub without_page_run : ℕ → ℕ → List (ℕ × Entry) → List (ℕ × Entry)
+without_page_run page count entries = filter (λ e. not (in_run page count e)) entries
 
 -- an entry that is shared where it is of one of these pages
 abbrev pub shared_in_run : ℕ → ℕ → (ℕ × Entry) → ℕ × Entry
@@ -68,12 +68,12 @@ with_shared_run page count entries = map (shared_in_run page count) entries
 abbrev pub no_entry : Entry
 no_entry = record { frame = 0; write = false; exec = false; shared = false }
 
-abbrev pub page_at : List (ℕ × Entry) → ℕ → ℕ
-page_at entries place = let e : ℕ × Entry = slice_index_or entries place (0, no_entry) in e.0
+abbrev pub page_of_entry : List (ℕ × Entry) → ℕ → ℕ
+page_of_entry entries place = let e : ℕ × Entry = slice_index_or entries place (0, no_entry) in e.0
 
 -- the pages rise, the entries have room, and the room was taken
 pub record IsKept (entries : List (ℕ × Entry)) (room capacity : ℕ) : Type 0 where
-  pub rising : (i j : ℕ) → i < j → j < length entries → page_at entries i < page_at entries j
+  pub rising : (i j : ℕ) → i < j → j < length entries → page_of_entry entries i < page_of_entry entries j
   pub fits : length entries ≤ room
   pub taken : room ≤ capacity
   pub few : room < 2 ^ 32
@@ -81,19 +81,19 @@ pub record IsKept (entries : List (ℕ × Entry)) (room capacity : ℕ) : Type 0
 -- the page's entry stands at this place
 pub record IsAt (entries : List (ℕ × Entry)) (page place : ℕ) : Type 0 where
   pub within : place < length entries
-  pub is : page_at entries place ≡ page
+  pub is : page_of_entry entries place ≡ page
 
 -- the page would stand at this place: lower pages before it, and higher ones from it on
 pub record IsGapFor (entries : List (ℕ × Entry)) (page place : ℕ) : Type 0 where
   pub within : place ≤ length entries
-  pub lower : (i : ℕ) → i < place → page_at entries i < page
-  pub higher : (i : ℕ) → place ≤ i → i < length entries → page < page_at entries i
+  pub lower : (i : ℕ) → i < place → page_of_entry entries i < page
+  pub higher : (i : ℕ) → place ≤ i → i < length entries → page < page_of_entry entries i
 
 -- the pages before this place are below this one, and the others aren't
 pub record IsFirstFrom (entries : List (ℕ × Entry)) (page place : ℕ) : Type 0 where
   pub within : place ≤ length entries
-  pub lower : (i : ℕ) → i < place → page_at entries i < page
-  pub higher : (i : ℕ) → place ≤ i → i < length entries → page ≤ page_at entries i
+  pub lower : (i : ℕ) → i < place → page_of_entry entries i < page
+  pub higher : (i : ℕ) → place ≤ i → i < length entries → page ≤ page_of_entry entries i
 
 -- from the first place up to the end there are pages of the run, and at the end there is none
 pub record IsRun (entries : List (ℕ × Entry)) (page count first end : ℕ) : Type 0 where

@@ -6,7 +6,7 @@ ghost use Rattle.dos_world.specs.Kernel.{put};
 ghost use Rattle.dos_world.specs.Numbered.{run_of};
 ghost use Rattle.space_map.specs.Mapping.{IsAt, IsFirstFrom, IsGapFor, IsMapped, IsRun, IsRising};
 ghost use Rattle.space_map.specs.Mapping.{empty, in_run, put_run, shared_in_run, with_replaced};
-ghost use Rattle.space_map.specs.Mapping.{with_shared, with_shared_run, without, without_run};
+ghost use Rattle.space_map.specs.Mapping.{with_page_shared, with_shared_run, without_entry, without_page_run};
 ghost use Rattle.std.specs.List.{insert_slice, list_any, remove_range, slice_range};
 ghost use Rattle.std.specs.Vec.{vec_capacity};
 
@@ -103,7 +103,7 @@ impl Space {
     pub fn remove(&mut self, page: u32) -> Entry
         requires { IsMapped self.old.entries page }
         ensures entry { look self.old.entries page ≡ Some result }
-        ensures others { self.new ≡ record self.old { entries = without page self.old.entries } }
+        ensures others { self.new ≡ record self.old { entries = without_entry page self.old.entries } }
     {
         match self.search(page) {
             Ok(place) => self.entries.remove(place).1,
@@ -126,7 +126,7 @@ impl Space {
     /// Makes a page's entry shared. Nothing else changes.
     pub fn mark_shared(&mut self, page: u32)
         requires { IsMapped self.old.entries page }
-        ensures { self.new ≡ record self.old { entries = with_shared page self.old.entries } }
+        ensures { self.new ≡ record self.old { entries = with_page_shared page self.old.entries } }
     {
         match self.search(page) {
             Ok(place) => {
@@ -174,7 +174,7 @@ impl Space {
 
     /// Unmaps those of `count` pages from this one on that are mapped. The other pages stay.
     pub fn remove_run(&mut self, page: u32, count: u32)
-        ensures { self.new ≡ record self.old { entries = without_run page count self.old.entries } }
+        ensures { self.new ≡ record self.old { entries = without_page_run page count self.old.entries } }
     {
         let first = self.first_from(page) as usize;
         let end = end_of_run(&self.entries, first, page, count);

@@ -7,7 +7,7 @@ use Rattle.std.proofs.lemmas.Option.{same_Some}
 use Rattle.std.specs.Prelude.{slice_get, ◌||◌, ◌==◌}
 use Rattle.dos_world.specs.World.{look}
 use Rattle.quantum_run.specs.Shows.{Pack, View, CanRun, frames_of}
-use Rattle.staying_workers.specs.Ready.{MayRun, entries_of, is_home, space_under, stands_in}
+use Rattle.staying_workers.specs.Ready.{MayRun, entries_of_process, is_home, space_under, stands_in}
 
 either_of : (a b : Bool) → (a || b) ≡ true → (a ≡ true) ⊎ (b ≡ true)
 either_of true b e = inl refl
@@ -35,7 +35,7 @@ page_of (Some (Some page)) e = (page, refl)
 
 pub may_of : (p : Pack) (v : View) → CanRun p v → MayRun p v
 may_of p v can =
-    let same : space_under v p ≡ can.entries = ap entries_of can.space in (
+    let same : space_under v p ≡ can.entries = ap entries_of_process can.space in (
       can.space ∙ ap (λ es. Some (Some es)) (sym same),
       (λ page e at. can.mapped page e (subst (λ es. look es page ≡ Some e) same at)),
       (λ frame of_. let r = can.own frame of_ in stands frame (frames_of p.pages) r.0 r.1),

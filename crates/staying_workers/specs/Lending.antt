@@ -7,8 +7,8 @@ use Rattle.worker_pool.specs.Ran.{HasRun, HasRunOut}
 use Rattle.staying_workers.specs.Ready.{MayRun}
 use Rattle.staying_workers.specs.declared.held.Held.{Held}
 
-abbrev pub packs_of : List Held → List Pack
-packs_of hs = map (λ (h : Held). h.pack) hs
+abbrev pub packs_held : List Held → List Pack
+packs_held hs = map (λ (h : Held). h.pack) hs
 
 -- what all see is this
 abbrev pub Share : Shared → List Held → Type 0
@@ -18,15 +18,15 @@ Share s hs = All (λ (h : Held). h.shared.value ≡ s) hs
 abbrev pub AreOfTerm : ℕ → List Held → Type 0
 AreOfTerm term hs = All (λ (h : Held). h.shared.term ≡ term) hs
 
-abbrev pub IsReady : Held → Type 0
-IsReady h = MayRun h.pack (seen_in h.shared.value)
+abbrev pub MayRunHeld : Held → Type 0
+MayRunHeld h = MayRun h.pack (seen_in h.shared.value)
 
 -- the later pack is the earlier one run out, and what it shares is as it was
-abbrev pub IsRunOut : Held → Held → Type 0
-IsRunOut before after = (after.shared ≡ before.shared)
+abbrev pub IsHeldRunOut : Held → Held → Type 0
+IsHeldRunOut before after = (after.shared ≡ before.shared)
     × HasRunOut (seen_in before.shared.value) before.pack after.pack
 
 -- the later pack is the earlier one's whole part, and what it shares is as it was
-abbrev pub IsFinished : Held → Held → Type 0
-IsFinished before after = (after.shared ≡ before.shared)
+abbrev pub IsHeldFinished : Held → Held → Type 0
+IsHeldFinished before after = (after.shared ≡ before.shared)
     × HasRun (seen_in before.shared.value) before.pack after.pack

@@ -14,10 +14,10 @@ stands_in n [] = false
 stands_in n (m ∷ ms) = (m == n) || stands_in n ms
 
 -- the entries of a process's space: none where it has ended
-abbrev pub entries_of : Option (Option (List (ℕ × Entry))) → List (ℕ × Entry)
-entries_of None = []
-entries_of (Some None) = []
-entries_of (Some (Some entries)) = entries
+abbrev pub entries_of_process : Option (Option (List (ℕ × Entry))) → List (ℕ × Entry)
+entries_of_process None = []
+entries_of_process (Some None) = []
+entries_of_process (Some (Some entries)) = entries
 
 -- whether a page is home
 abbrev pub is_home : Option (Option (List ℕ)) → Bool
@@ -27,7 +27,7 @@ is_home (Some (Some page)) = true
 
 -- the space of the pack's process
 abbrev pub space_under : View → Pack → List (ℕ × Entry)
-space_under v p = entries_of (numbered v.spaces p.process)
+space_under v p = entries_of_process (numbered v.spaces p.process)
 
 -- As `CanRun` of quantum_run says.
 abbrev pub MayRun : Pack → View → Type 0

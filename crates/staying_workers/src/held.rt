@@ -1,6 +1,6 @@
 // A pack with a loan of what it shares, and how packs become such and come back.
 ghost use Rattle.std.specs.Prelude.{◌≡◌, ◌<◌, ◌≤◌, ◌^◌, vec_len, vec_capacity};
-ghost use Rattle.staying_workers.specs.Lending.{AreOfTerm, Share, packs_of};
+ghost use Rattle.staying_workers.specs.Lending.{AreOfTerm, Share, packs_held};
 
 use counted_loans::{Lender, Loan};
 use hand_board::Part;
@@ -18,7 +18,7 @@ pub struct Held {
 }
 
 impl Part for Held {
-    ghost use Rattle.staying_workers.specs.Lending.{IsFinished, IsReady, IsRunOut};
+    ghost use Rattle.staying_workers.specs.Lending.{IsHeldFinished, MayRunHeld, IsHeldRunOut};
 
     ghost ready = { IsReady };
 
@@ -52,7 +52,7 @@ pub(crate) fn lend(
     requires none { lender.out ≡ 0 }
     requires count { vec_len packs.old < 2 ^ 32 }
     requires room { (vec_len held.old ≡ 0) × (vec_len packs.old ≤ vec_capacity held.old) }
-    ensures packs { packs_of held.new.items ≡ packs.old.items }
+    ensures packs { packs_held held.new.items ≡ packs.old.items }
     ensures share { Share lender.value held.new.items }
     ensures term { AreOfTerm lender.term held.new.items }
     ensures lender { (result.value ≡ lender.value) × (result.term ≡ lender.term)
@@ -79,7 +79,7 @@ pub(crate) fn take_back(
     requires room { (vec_len packs.old ≡ 0) × (vec_len held ≤ vec_capacity packs.old) }
     requires term { AreOfTerm lender.term held.items }
     requires out { (lender.out ≡ vec_len held) × (vec_len held < 2 ^ 32) }
-    ensures packs { packs.new.items ≡ packs_of held.items }
+    ensures packs { packs.new.items ≡ packs_held held.items }
     ensures capacity { vec_capacity packs.new ≡ vec_capacity packs.old }
     ensures lender { (result.value ≡ lender.value) × (result.out ≡ 0) }
 {

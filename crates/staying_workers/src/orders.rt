@@ -1,7 +1,7 @@
 // What a worker that stays is told to do.
 ghost use Rattle.std.specs.Prelude.{◌≡◌, []};
 ghost use Rattle.worker_pool.specs.Parts.{AreReady};
-ghost use Rattle.staying_workers.specs.Lending.{IsReady};
+ghost use Rattle.staying_workers.specs.Lending.{MayRunHeld};
 
 use crate::held::Held;
 use counted_loans::Loan;

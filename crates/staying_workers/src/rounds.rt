@@ -1,11 +1,11 @@
 // One call's packs, over a board at which workers are lent a seat.
 ghost use Rattle.std.specs.Prelude.{◌≡◌, ◌+◌, ◌<◌, ◌≤◌, ◌^◌, [], true, All, sum_by, IfOk, IfErr};
 ghost use Rattle.std.specs.Prelude.{vec_len, vec_capacity};
-ghost use Rattle.hand_board.specs.Placed.{whole};
+ghost use Rattle.hand_board.specs.Placed.{whole_share};
 ghost use Rattle.hand_board.specs.Seating.{AllFinished};
 ghost use Rattle.order_place.specs.Rule.{free};
 ghost use Rattle.worker_pool.specs.Parts.{AreReady};
-ghost use Rattle.staying_workers.specs.Lending.{IsFinished, IsReady};
+ghost use Rattle.staying_workers.specs.Lending.{IsHeldFinished, MayRunHeld};
 ghost use Rattle.staying_workers.specs.Busy.{IsAt, share_out};
 
 use crate::held::Held;
@@ -54,7 +54,7 @@ fn halved<G: Gate>(
     requires board { seat.board ≡ at.now.id }
     requires same { board.value ≡ at.now }
     requires fresh { seat.hand ≡ [] }
-    requires ready { AreReady IsReady seat.opened }
+    requires ready { AreReady MayRunHeld seat.opened }
     requires share { 2 ≤ seat.share }
     ensures seat { (result.0.board ≡ seat.board) × (result.0.opened ≡ seat.opened)
         × (result.0.hand ≡ []) }
@@ -165,7 +165,7 @@ fn send_all<G: Gate + Drop>(
     requires lender { (lender.value ≡ at.now) × (lender.out ≡ 1) }
     requires board { seat.board ≡ at.now.id }
     requires fresh { seat.hand ≡ [] }
-    requires ready { AreReady IsReady seat.opened }
+    requires ready { AreReady MayRunHeld seat.opened }
     requires room { (vec_len busy.old ≡ 0) × (others ≤ vec_capacity busy.old) }
     requires few { others < 2 ^ 32 }
     ensures lender { (result.0.value ≡ lender.value) × (result.0.term ≡ lender.term)
@@ -267,12 +267,12 @@ fn run_board<R: Threads, G: Gate + Drop>(
     requires lender { lender.out ≡ 0 }
     requires board { seat.board ≡ lender.value.id }
     requires fresh { seat.hand ≡ [] }
-    requires whole { seat.share ≡ whole }
+    requires whole { seat.share ≡ whole_share }
     requires opened { seat.opened ≡ lender.value.opened }
-    requires ready { AreReady IsReady seat.opened }
+    requires ready { AreReady MayRunHeld seat.opened }
     requires room { (vec_len busy ≡ 0) × (others ≤ vec_capacity busy) }
     requires few { others < 2 ^ 32 }
-    ensures finished { AllFinished IsFinished lender.value.opened result.items }
+    ensures finished { AllFinished IsHeldFinished lender.value.opened result.items }
     ensures capacity { vec_capacity result ≡ lender.value.room }
 {
     let (lender, mine) = lender.lend();
@@ -290,10 +290,10 @@ fn run_board<R: Threads, G: Gate + Drop>(
 fn run_swept<G: Gate>(board: Board<Held>, seat: BoardSeat<Held>, gate: &G) -> Vec<Held>
     requires board { seat.board ≡ board.id }
     requires fresh { seat.hand ≡ [] }
-    requires whole { seat.share ≡ whole }
+    requires whole { seat.share ≡ whole_share }
     requires opened { seat.opened ≡ board.opened }
-    requires ready { AreReady IsReady seat.opened }
-    ensures finished { AllFinished IsFinished board.opened result.items }
+    requires ready { AreReady MayRunHeld seat.opened }
+    ensures finished { AllFinished IsHeldFinished board.opened result.items }
     ensures capacity { vec_capacity result ≡ board.room }
 {
     let seat = sweep(&board, seat, gate);
@@ -311,9 +311,9 @@ pub(crate) fn run_each<R: Threads, G: Gate + Drop>(
     others: usize,
 ) -> Result<Vec<Held>, Vec<Held>>
     requires count { vec_len parts < 2 ^ 32 }
-    requires ready { AreReady IsReady parts.items }
+    requires ready { AreReady MayRunHeld parts.items }
     requires few { others < 2 ^ 32 }
-    ensures ok { IfOk result (λ v. AllFinished IsFinished parts.items v.items
+    ensures ok { IfOk result (λ v. AllFinished IsHeldFinished parts.items v.items
         × (vec_capacity v ≡ vec_capacity parts)) }
     ensures err { IfErr result
         (λ v. (v.items ≡ parts.items) × (vec_capacity v ≡ vec_capacity parts)) }

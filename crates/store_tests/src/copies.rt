@@ -1,7 +1,7 @@
 // Bytes that go out to memory, and a fork: both of a process with two pages, the second shared.
 ghost use Rattle.std.specs.Prelude.{◌≡◌, ◌∷◌, [], length, IfOk};
 ghost use Rattle.kernel_mem.specs.MemoryWorld.{IsCaller, HasAllHome};
-ghost use Rattle.page_store.specs.Store.{AreHome, unused, with_owned};
+ghost use Rattle.page_store.specs.Store.{AreHome, unused_frames, with_owned};
 ghost use Rattle.store_tests.specs.Memory.{HasTwoPages, two_owners};
 
 use crate::checks::{same, same_at};
@@ -15,7 +15,7 @@ use std::process::Abort;
 
 // Four frames, of which the first is thread 1's.
 fn one_frame(alloc: Global) -> Result<Frames, AllocError>
-    ensures { IfOk result (λ f. f ≡ with_owned (unused 4) 0 1) }
+    ensures { IfOk result (λ f. f ≡ with_owned (unused_frames 4) 0 1) }
 {
     let mut frames = Frames::reserve(alloc, 4)?;
     let _ = frames.fresh(1);

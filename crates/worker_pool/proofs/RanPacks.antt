@@ -8,11 +8,11 @@ use Rattle.std.proofs.lemmas.List.{length-map}
 use mathlib.Core.Option.{some, some-injective, some-ne-none}
 use lib.ListN.{get_elem?}
 use Rattle.hand_board.specs.Seating.{AllFinished}
-use Rattle.quantum_run.specs.Packs.{seen}
+use Rattle.quantum_run.specs.Packs.{seen_by_view}
 use Rattle.quantum_run.specs.Shows.{Pack, View, CanRun}
 use Rattle.worker_pool.specs.declared.lent.Lent.{Lent}
-use Rattle.worker_pool.specs.Lending.{packs_of, See, IsFinished, IsReady}
-use Rattle.worker_pool.specs.Ran.{AllCanRun, AllRan, AllRunnable, EachRan, HasRun, budgets}
+use Rattle.worker_pool.specs.Lending.{packs_of, See, IsFinished, MayRunPack}
+use Rattle.worker_pool.specs.Ran.{AllCanRun, AllRan, AllRunnable, EachRan, HasRun, budgets_left}
 
 -- ---- by index and by place
 
@@ -100,7 +100,7 @@ one-more v old now n p q level low here run ran rest = (
 
 -- ---- budgets
 
-pub budgets-fall : (v : View) (ps qs : List Pack) → AllRan v ps qs → budgets qs ≤ budgets ps
+pub budgets-fall : (v : View) (ps qs : List Pack) → AllRan v ps qs → budgets_left qs ≤ budgets_left ps
 budgets-fall v [] [] ran = omega arith
 budgets-fall v [] (q ∷ qs) ran = absurd (let level = ran.level in omega arith)
 budgets-fall v (p ∷ ps) [] ran = absurd (let level = ran.level in omega arith)
@@ -149,15 +149,15 @@ module _ {L : Type 0} (pack : L → Pack) (v : View) (same : L → Type 0) where
       finished-by finished by ls ms all.1 (λ j e k. is (suc j) e (omega arith)) i d (omega arith)
 
 pub ready-of : (v : View) (ls : List Lent) → AllRunnable v (packs_of ls) → See v ls
-    → (k : ℕ) (x : Lent) → get_elem? ls k ≡ some x → IsReady x
+    → (k : ℕ) (x : Lent) → get_elem? ls k ≡ some x → MayRunPack x
 ready-of v ls =
-    ready-by (λ (l : Lent). l.pack) v (λ (l : Lent). seen l.view.now ≡ v) IsReady
+    ready-by (λ (l : Lent). l.pack) v (λ (l : Lent). seen_by_view l.view.now ≡ v) MayRunPack
     (λ l same can. subst (λ z. CanRun l.pack z) (sym same) can) ls
 
 pub finished-ran : (v : View) (ls ms : List Lent) → AllFinished IsFinished ls ms → See v ls
     → EachRan v (packs_of ls) (packs_of ms)
 finished-ran v ls ms =
-    finished-by (λ (l : Lent). l.pack) v (λ (l : Lent). seen l.view.now ≡ v) IsFinished
+    finished-by (λ (l : Lent). l.pack) v (λ (l : Lent). seen_by_view l.view.now ≡ v) IsFinished
     (λ l m same all. subst (λ z. HasRun z l.pack m.pack) same all.1) ls ms
 
 pub packs-length : (ls : List Lent) → length (packs_of ls) ≡ length ls

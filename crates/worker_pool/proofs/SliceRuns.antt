@@ -1,11 +1,11 @@
 -- A pack whose part is run in slices.
 use Rattle.std.proofs.Common.{◌∙◌, arith}
-use Rattle.quantum_run.specs.Shows.{Pack, View, CanRun, LeadsTo, begun}
+use Rattle.quantum_run.specs.Shows.{Pack, View, CanRun, LeadsTo, begun_pack}
 use Rattle.quantum_run.proofs.Slices.{begun-runs, still-can}
 use Rattle.worker_pool.specs.Ran.{HasRun, HasRunBy, HasRunOut}
 
 -- a pack whose part has begun, and runs out, has run
-pub begun-run : (v : View) (p q : Pack) → HasRunOut v (begun p) q → HasRun v p q
+pub begun-run : (v : View) (p q : Pack) → HasRunOut v (begun_pack p) q → HasRun v p q
 begun-run v p q run = record {
   finished = begun-runs p v q run.finished;
   thread = run.thread;

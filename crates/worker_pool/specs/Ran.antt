@@ -30,9 +30,9 @@ abbrev pub AllCanRun : View → List Pack → Type 0
 AllCanRun v packs = (i : ℕ) (p : Pack) → slice_get packs i ≡ Some p → CanRun p v
 
 -- what is left of all budgets
-abbrev pub budgets : List Pack → ℕ
-budgets [] = 0
-budgets (p ∷ ps) = p.budget + budgets ps
+abbrev pub budgets_left : List Pack → ℕ
+budgets_left [] = 0
+budgets_left (p ∷ ps) = p.budget + budgets_left ps
 
 -- A tally, which counts modulo 2^64, has grown by so many instructions.
 abbrev pub GrewBy : (before after work : ℕ) → Type 0

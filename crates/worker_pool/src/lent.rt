@@ -1,6 +1,6 @@
 // A pack with the view that is lent to it, and how packs become such and come back.
 ghost use Rattle.std.specs.Prelude.{◌≡◌, ◌≤◌, vec_len, vec_capacity};
-ghost use Rattle.quantum_run.specs.Packs.{seen};
+ghost use Rattle.quantum_run.specs.Packs.{seen_by_view};
 ghost use Rattle.worker_pool.specs.Lending.{See, packs_of};
 
 use crate::crew::Task;
@@ -18,7 +18,7 @@ pub struct Lent<'a> {
 }
 
 impl<'a> Part for Lent<'a> {
-    ghost use Rattle.worker_pool.specs.Lending.{IsFinished, IsReady, IsRunOut};
+    ghost use Rattle.worker_pool.specs.Lending.{IsFinished, MayRunPack, IsRunOut};
 
     ghost ready = { IsReady };
 
@@ -45,7 +45,7 @@ impl<'a> Task for Lent<'a> {
 pub(crate) fn lend<'a>(packs: &mut Vec<Pack>, view: &'a View<'a>, lent: &mut Vec<Lent<'a>>)
     requires { (vec_len lent.old ≡ 0) × (vec_len packs.old ≤ vec_capacity lent.old) }
     ensures packs { packs_of lent.new.items ≡ packs.old.items }
-    ensures views { See (seen view.now) lent.new.items }
+    ensures views { See (seen_by_view view.now) lent.new.items }
     ensures len { vec_len lent.new ≡ vec_len packs.old }
     ensures empty { vec_len packs.new ≡ 0 }
     ensures capacity { vec_capacity packs.new ≡ vec_capacity packs.old }

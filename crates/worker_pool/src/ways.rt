@@ -1,6 +1,6 @@
 // The ways to run packs.
 ghost use Rattle.std.specs.Prelude.{◌≡◌, ◌<◌, ◌≤◌, ◌^◌, All, length, vec_len, vec_capacity};
-ghost use Rattle.quantum_run.specs.Packs.{seen, seen_in};
+ghost use Rattle.quantum_run.specs.Packs.{seen_by_view, seen_in};
 ghost use Rattle.quantum_run.specs.Shows.{CanRun};
 ghost use Rattle.worker_pool.specs.Ran.{AllCanRun, AllRan, AllRunnable, EachRan, HasRun};
 
@@ -127,8 +127,8 @@ pub enum Way<'a, R, G, S> {
 // one pack, whose number passes the gate
 fn run_gated<G: Gate>(gate: &G, number: usize, pack: &mut Pack, view: &View<'_>)
     requires number { number < 2 ^ 32 }
-    requires can { CanRun pack.old (seen view.now) }
-    ensures { HasRun (seen view.now) pack.old pack.new }
+    requires can { CanRun pack.old (seen_by_view view.now) }
+    ensures { HasRun (seen_by_view view.now) pack.old pack.new }
 {
     gate.pass(number as u32);
     run_pack(pack, view);
@@ -137,9 +137,9 @@ fn run_gated<G: Gate>(gate: &G, number: usize, pack: &mut Pack, view: &View<'_>)
 /// Runs one pack after another, on the caller's own thread.
 pub fn run_in_place<G: Gate>(gate: &G, packs: &mut Vec<Pack>, view: &View<'_>)
     requires count { vec_len packs.old < 2 ^ 32 }
-    requires can { AllRunnable (seen view.now) packs.old.items }
+    requires can { AllRunnable (seen_by_view view.now) packs.old.items }
     ensures number { length packs.new.items ≡ length packs.old.items }
-    ensures each { EachRan (seen view.now) packs.old.items packs.new.items }
+    ensures each { EachRan (seen_by_view view.now) packs.old.items packs.new.items }
     ensures room { vec_capacity packs.new ≡ vec_capacity packs.old }
 {
     for place in 0..packs.len() {
@@ -157,13 +157,13 @@ fn run_evenly<R: Threads + Sync, G: Gate + Sync>(
 )
     requires threads { 0 < threads }
     requires count { length packs.old < 2 ^ 32 }
-    requires can { AllRunnable (seen view.now) packs.old }
+    requires can { AllRunnable (seen_by_view view.now) packs.old }
     ensures number { length packs.new ≡ length packs.old }
-    ensures each { EachRan (seen view.now) packs.old packs.new }
+    ensures each { EachRan (seen_by_view view.now) packs.old packs.new }
 {
     let run = |number: usize, pack: &mut Pack|
-        requires { (number < 2 ^ 32) × CanRun pack.now (seen view.now) }
-        ensures { HasRun (seen view.entry.now) pack.entry.now pack.exit.now }
+        requires { (number < 2 ^ 32) × CanRun pack.now (seen_by_view view.now) }
+        ensures { HasRun (seen_by_view view.entry.now) pack.entry.now pack.exit.now }
     { run_gated(gate, number, pack, view) };
     thread::for_each_mut(rt, packs, threads as usize, &run);
 }
@@ -176,9 +176,9 @@ fn run_spread<R: Threads + Sync, G: Gate + Sync>(
     view: &View<'_>,
 )
     requires count { vec_len packs.old < 2 ^ 32 }
-    requires can { AllRunnable (seen view.now) packs.old.items }
+    requires can { AllRunnable (seen_by_view view.now) packs.old.items }
     ensures number { length packs.new.items ≡ length packs.old.items }
-    ensures each { EachRan (seen view.now) packs.old.items packs.new.items }
+    ensures each { EachRan (seen_by_view view.now) packs.old.items packs.new.items }
     ensures room { vec_capacity packs.new ≡ vec_capacity packs.old }
 {
     let workers = hands.enough_for(packs.len());
@@ -199,9 +199,9 @@ fn run_shared<R: Threads + Sync, G: Gate + Sync>(
     view: &View<'_>,
 )
     requires count { vec_len packs.old < 2 ^ 32 }
-    requires can { AllRunnable (seen view.now) packs.old.items }
+    requires can { AllRunnable (seen_by_view view.now) packs.old.items }
     ensures number { length packs.new.items ≡ length packs.old.items }
-    ensures each { EachRan (seen view.now) packs.old.items packs.new.items }
+    ensures each { EachRan (seen_by_view view.now) packs.old.items packs.new.items }
     ensures room { vec_capacity packs.new ≡ vec_capacity packs.old }
 {
     let workers = hands.enough_for(packs.len());

@@ -2,7 +2,7 @@
 ghost use Rattle.std.specs.Prelude.{◌≡◌, ◌<◌, ◌≤◌, ◌+◌, ◌-◌, ◌%◌, ◌^◌, ℕ, length};
 ghost use Rattle.std.specs.Prelude.{vec_len, vec_capacity};
 ghost use Rattle.quantum_run.specs.Packs.{seen_in};
-ghost use Rattle.worker_pool.specs.Ran.{AllCanRun, AllRan, budgets};
+ghost use Rattle.worker_pool.specs.Ran.{AllCanRun, AllRan, budgets_left};
 
 use crate::gate::Gate;
 use crate::ways::{Staff, Way, run_by};
@@ -54,7 +54,7 @@ pub trait Workers {
         ensures shared { result ≡ shared }
         ensures room { vec_capacity packs.old ≤ vec_capacity packs.new }
         ensures tally { tally self.new
-            ≡ (tally self.old + (budgets packs.old.items - budgets packs.new.items)) % 2 ^ 64 }
+            ≡ (tally self.old + (budgets_left packs.old.items - budgets_left packs.new.items)) % 2 ^ 64 }
         ensures fixed { fixed self.new ≡ fixed self.old }
     {
         let before = budgets_of(packs.as_slice());
@@ -68,7 +68,7 @@ pub trait Workers {
 // the sum of the budgets
 fn budgets_of(packs: &[Pack]) -> u64
     requires { length packs.now < 2 ^ 32 }
-    ensures { result ≡ budgets packs.now }
+    ensures { result ≡ budgets_left packs.now }
 {
     let mut sum = 0u64;
     for pack in packs {

@@ -1,6 +1,6 @@
 use Rattle.std.proofs.Common.{inl, refl}
 use Rattle.std.proofs.lemmas.Result.{err_from_is_err_and}
-use Rattle.dos_cmd.specs.Requests.{asked_by}
+use Rattle.dos_cmd.specs.Requests.{request_asked}
 use Rattle.dos_cmd.proofs.NotBegun.{says_nothing}
 use Rattle.dos_cmd.proofs.RunCalls.{prepared}
 use Rattle.dos_cmd.proofs.run.prepare.Goals as goal
@@ -26,7 +26,7 @@ returns-in-Ok-clause-ready g c =
     let named = opening.opened in record {
       images = named.images;
       taken = named.taken;
-      prepared = λ o. prepared (asked_by c.args.request.now) named.images
+      prepared = λ o. prepared (request_asked c.args.request.now) named.images
           (record o { files = g.F.Files.content c.args.files.now }) c.in_ok-kernel.kernel
           c.in-Ok.ledger _ _ _ _ _ named.opened c.in-Ok.ensures.empty refl refl refl
           opening.digests;

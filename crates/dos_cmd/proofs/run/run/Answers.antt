@@ -1,7 +1,7 @@
 use Rattle.std.proofs.Common.{le_refl, le_trans, refl}
 use Rattle.std.proofs.lemmas.Result.{err_from_is_err_and}
 use Rattle.dos_cmd.specs.Outside.{Outside, Faults, outside, faults}
-use Rattle.dos_cmd.specs.Requests.{asked_by}
+use Rattle.dos_cmd.specs.Requests.{request_asked}
 use Rattle.dos_cmd.proofs.RunCalls.{run_did, run_leaves}
 use Rattle.dos_cmd.proofs.run.run.Goals as goal
 
@@ -37,13 +37,13 @@ returns g c =
     (g.O.Sink.faults c.run_opened-ended.new.out) (g.E.Sink.faults c.args.err.now)
     (g.E.Sink.faults c.run_opened-ended.new.err) in
     record {
-      did = run_did (asked_by c.args.request.now) ready.images o (g.F.Files.tells
+      did = run_did (request_asked c.args.request.now) ready.images o (g.F.Files.tells
           c.prepare.new.files)
           (g.F.Files.content c.prepare.new.files) c.in_ok-kernel.kernel c.in_ok-kernel.ledger
           c.run_opened-ended.result at.tells at.stays c.run_opened-ended.ensures.did (ready.prepared
           o)
           ready.taken;
-      leaves = run_leaves (asked_by c.args.request.now) ready.images o (g.F.Files.tells
+      leaves = run_leaves (request_asked c.args.request.now) ready.images o (g.F.Files.tells
           c.prepare.new.files)
           (g.F.Files.content c.prepare.new.files) f (g.F.Files.faults c.args.files.now)
           c.in_ok-kernel.kernel c.in_ok-kernel.ledger c.run_opened-ended.result at.tells at.stays

@@ -2,7 +2,7 @@ use Rattle.std.proofs.Common.{ℕ, sym, ap, subst}
 use Rattle.proc_table.specs.Tables.{Tables}
 use Rattle.flat_machine.specs.Opening.{page_count}
 use Rattle.group_open.specs.Filling.{HasPlace}
-use Rattle.group_open.specs.Group.{with_opened}
+use Rattle.group_open.specs.Group.{with_process_opened}
 use Rattle.group_open.specs.declared.filling.Opened.{Opened}
 use Rattle.group_open.proofs.GroupLaws.{not_full, more_room, next_opened, opened_place}
 use Rattle.group_open.proofs.group.open_image.Goals as goal
@@ -24,7 +24,7 @@ open_pages-requires-clause-place c =
     let opened = c.open_process-opened.ensures in
     subst (λ (t : Tables). HasPlace t c.open_process-opened.result.pid 0 (page_count image))
     (sym opened.opens)
-    (subst (λ (p : ℕ). HasPlace (with_opened c.args.table.now image) p 0 (page_count image))
+    (subst (λ (p : ℕ). HasPlace (with_process_opened c.args.table.now image) p 0 (page_count image))
     (sym (ap (λ (o : Opened). o.pid) opened.numbers))
     (opened_place more.count c.args.frames.now c.args.table.now more.images image
     more.opened more.fits))

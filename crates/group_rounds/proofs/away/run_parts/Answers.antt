@@ -1,5 +1,5 @@
 use Rattle.std.proofs.Common.{◌-◌, ap, sym, subst, arith}
-use Rattle.worker_pool.specs.Ran.{AllRan, GrewBy, budgets}
+use Rattle.worker_pool.specs.Ran.{AllRan, GrewBy, budgets_left}
 use Rattle.kernel_calls.specs.declared.state.State.{State}
 use Rattle.group_rounds.specs.Away.{Away, HaveRun, WentOut}
 use Rattle.group_rounds.specs.Handing.{view_of}
@@ -53,7 +53,7 @@ returns g c =
             rest = ap (λ (s : State). away s i.config i.starters.items packs) e.state;
           });
       tally = subst (λ (a : Away). GrewBy (g.W.Workers.tally c.args.workers.now)
-          (g.W.Workers.tally c.run_parts-stand_in.new.workers) (budgets a.packs - budgets packs))
+          (g.W.Workers.tally c.run_parts-stand_in.new.workers) (budgets_left a.packs - budgets_left packs))
           view e.tally;
       fixed = e.fixed;
     }

@@ -1,5 +1,5 @@
 use Rattle.std.proofs.Common.{ℕ, ◌≤◌, ◌-◌, refl, sym, ◌∙◌, subst, arith, false}
-use Rattle.worker_pool.specs.Ran.{budgets}
+use Rattle.worker_pool.specs.Ran.{budgets_left}
 use Rattle.group_rounds.specs.Away.{Away, HaveRun, IsParallelOf}
 use Rattle.group_rounds.proofs.AwayLaws.{away, are-away, are-apart, are-live, are-others, have-room}
 use Rattle.group_rounds.proofs.AwayLaws.{between-again, is-parallel}
@@ -58,7 +58,7 @@ returns c = λ k a out have.
     let i = c.ran.inside in
     let ran : Away = away i.state i.config i.starters.items i.out.items in
     let e = c.take_in.ensures in
-    subst (λ (x : Away). IsParallelOf k (budgets a.packs - budgets x.packs) (record {
+    subst (λ (x : Away). IsParallelOf k (budgets_left a.packs - budgets_left x.packs) (record {
       state = c.take_in.new.state;
       config = i.config;
       starters = i.starters.items;

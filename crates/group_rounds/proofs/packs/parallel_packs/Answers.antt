@@ -1,7 +1,7 @@
 use Rattle.std.proofs.Common.{ℕ, List, ◌≡◌, ◌∙◌, ap, sym, subst, length, arith}
 use Rattle.page_store.specs.Store.{Store, IsAway}
 use Rattle.quantum_run.specs.Shows.{CanRun, Pack}
-use Rattle.proc_table.specs.Tables.{Tables, IsThread}
+use Rattle.proc_table.specs.Tables.{Tables, IsLiveThread}
 use Rattle.kernel_calls.specs.declared.state.State.{State}
 use Rattle.worker_pool.specs.Ran.{AllRan, GrewBy}
 use Rattle.group_rounds.specs.Handing.{AreSet, PutBack, view_of}
@@ -69,7 +69,7 @@ take_in-requires g c =
       away = λ f page k. subst (λ (x : State). IsAway x.frames f) (sym same)
           (pages-away s sound ts live apart new ps qs h ran f page k);
       apart = pages-apart s sound ts live apart new ps qs h ran;
-      live = λ p k. subst (λ (table : Tables). IsThread table.threads p.thread)
+      live = λ p k. subst (λ (table : Tables). IsLiveThread table.threads p.thread)
           (sym (ap (λ (x : State). x.table) same ∙ c.hand_out.ensures.table))
           (threads-live s sound ts live apart new ps qs h ran p k);
       others = others s sound ts live apart new ps qs h ran;

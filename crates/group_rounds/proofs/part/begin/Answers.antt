@@ -2,7 +2,7 @@ use Rattle.std.proofs.Common.{[], ◌≡◌, ℕ, refl, sym, ap, ◌∙◌, subs
 use Rattle.dos_world.specs.World.{Thread, registers_by, released}
 use Rattle.dos_laws.specs.Standing.{LawfulWith}
 use Rattle.dos_laws.proofs.StandsKeeps.{stands_kept}
-use Rattle.proc_table.specs.Tables.{Tables, thread_in, IsThread}
+use Rattle.proc_table.specs.Tables.{Tables, thread_in, IsLiveThread}
 use Rattle.kernel_calls.specs.StateWorld.{world_of}
 use Rattle.kernel_calls.specs.declared.state.State.{State}
 use Rattle.group_rounds.specs.Parts.{budget_in}
@@ -50,6 +50,6 @@ returns-clause-parts c = λ ts.
 
 pub returns-clause-live : goal.returns-clause-live
 returns-clause-live c =
-    subst (λ (table : Tables). IsThread table.threads c.args.tid) (sym c.empty_reservation.ensures)
+    subst (λ (table : Tables). IsLiveThread table.threads c.args.tid) (sym c.empty_reservation.ensures)
     (lives_by (registers_by released) c.args.state.now.table.threads c.args.tid c.args.tid
     c.requires.live)

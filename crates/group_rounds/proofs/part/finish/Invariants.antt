@@ -1,6 +1,6 @@
 use Rattle.std.proofs.Common.{◌≡◌, ◌∷◌, ℕ, List}
 use Rattle.flat_machine.specs.Rest.{rest_of}
-use Rattle.proc_table.specs.Tables.{IsThread}
+use Rattle.proc_table.specs.Tables.{IsLiveThread}
 use Rattle.kernel_calls.specs.StateWorld.{HaveParts, IsReady, IsSound}
 use Rattle.dos_io.specs.Shims.{HasNoEnd}
 use Rattle.kernel_calls.specs.Plays.{PlaysOn}
@@ -10,7 +10,7 @@ use Rattle.group_rounds.proofs.part.finish.Given as goal
 abbrev pub invariant-loop-reason : goal.invariant-loop-reason
 invariant-loop-reason g l = record {
   sound : IsSound l.state;
-  live : IsThread l.state.table.threads l.fn.tid;
+  live : IsLiveThread l.state.table.threads l.fn.tid;
   round : l.state.round ≡ l.fn.state.round;
   count : KeepsCount l.fn.state l.state;
   goes : (q : ℕ) → PlaysOn q (λ w. rest_of w l.fn.tid) l.fn.state

@@ -3,7 +3,7 @@ use Rattle.std.proofs.Common.{Some}
 use Rattle.std.specs.Prelude.{Err, IfSome}
 use Rattle.dos_world.specs.World.{Thread}
 use Rattle.round_core.proofs.Faults.{step-small}
-use Rattle.proc_table.specs.Tables.{IsThread, Tables, thread_in}
+use Rattle.proc_table.specs.Tables.{IsLiveThread, Tables, thread_in}
 use Rattle.kernel_calls.specs.StateWorld.{world_of}
 use Rattle.group_rounds.proofs.TurnLaws.{grant_goes, grant_measure, fault_goes, service_goes}
 use Rattle.group_rounds.proofs.TurnLaws.{on_measure, on_lives, served_count, parts_left, turn_plays}
@@ -59,7 +59,7 @@ returns-in-Page g c =
           c.in-Page.access c.requires.sound c.requires.budget
           (λ q o e. c.requires.stops q o e ∙ ap Err c.in-Page.is) granted.grants granted.table;
       live = λ on.
-          subst (λ (t : Tables). IsThread t.threads c.args.tid) (sym granted.table)
+          subst (λ (t : Tables). IsLiveThread t.threads c.args.tid) (sym granted.table)
           c.requires.live;
       sound = granted.sound;
       parts = λ ts. granted.parts (c.args.tid ∷ ts);

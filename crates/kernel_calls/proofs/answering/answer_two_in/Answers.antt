@@ -1,14 +1,14 @@
 use Rattle.std.proofs.Common.{◌≡◌, ℕ, sym, ap, subst, ◌∙◌}
 use Rattle.dos_world.specs.World.{registers_by, set}
 use Rattle.dos_world.specs.Kernel.{answered}
-use Rattle.proc_table.specs.Tables.{Tables, IsThread, thread_by}
+use Rattle.proc_table.specs.Tables.{Tables, IsLiveThread, thread_by}
 use Rattle.kernel_calls.proofs.Changed.{changed_twice, lives_changed, registers_set}
 use Rattle.kernel_calls.proofs.answering.answer_two_in.Goals as goal
 
 -- it lives after the first answer
 lives : (old new : Tables) (t value : ℕ) → new ≡ thread_by (registers_by (answered value)) old t
-    → IsThread old.threads t → IsThread new.threads t
-lives old new t value is live = subst (λ (T : Tables). IsThread T.threads t) (sym is)
+    → IsLiveThread old.threads t → IsLiveThread new.threads t
+lives old new t value is live = subst (λ (T : Tables). IsLiveThread T.threads t) (sym is)
     (lives_changed (registers_by (answered value)) old.threads t live)
 
 pub regs-requires : goal.regs-requires

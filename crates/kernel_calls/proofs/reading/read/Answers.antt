@@ -3,7 +3,7 @@ use Rattle.dos_world.specs.Play.{done}
 use Rattle.dos_world.specs.Services.{went, read, read_by}
 use Rattle.dos_world.specs.declared.End.{End}
 use Rattle.dos_world.specs.declared.End.TheVariants.{Input, PipeRead}
-use Rattle.proc_table.specs.Tables.{held_in, end_in}
+use Rattle.proc_table.specs.Tables.{held_in, end_named}
 use Rattle.kernel_calls.specs.StateWorld.{IsSound, sent, world_of}
 use Rattle.kernel_calls.specs.CallResults.{AreAsked, call_in, source_of}
 use Rattle.kernel_calls.specs.declared.state.State.{State}
@@ -19,7 +19,7 @@ use Rattle.kernel_calls.proofs.reading.read.Goals as goal
 
 -- a read from a source, where the descriptor names it
 from_source : (s : State) (sound : IsSound s) (a : Asked) → AreAsked s a → (d : Option End)
-    (source : Source) → IfSome (held_in s.table.processes a.process) (λ h. d ≡ end_in h a.a0)
+    (source : Source) → IfSome (held_in s.table.processes a.process) (λ h. d ≡ end_named h a.a0)
     → source_of d ≡ Some source → (q : ℕ) (o e : List ℕ)
     → read (call_in (sent o e (world_of q s)) a)
     ≡ read_by (Some (end_of source)) (call_in (sent o e (world_of q s)) a)

@@ -1,8 +1,8 @@
 use Rattle.std.proofs.Common.{sym, ap, ◌∙◌, subst}
 use Rattle.dos_world.specs.Services.{charged, service}
-use Rattle.proc_table.specs.Tables.{Tables, IsThread}
+use Rattle.proc_table.specs.Tables.{Tables, IsLiveThread}
 use Rattle.kernel_calls.specs.Built.{definition_by}
-use Rattle.kernel_calls.specs.StateWorld.{Stands}
+use Rattle.kernel_calls.specs.StateWorld.{StandsButOwners}
 use Rattle.kernel_calls.specs.Plays.{Answers, stopper}
 use Rattle.kernel_calls.specs.CallResults.{AreAsked, call_in}
 use Rattle.kernel_calls.specs.declared.state.State.{State}
@@ -21,7 +21,7 @@ dispatch-requires-clause-asked g c =
 
 pub restore-requires : goal.restore-requires
 restore-requires g c =
-    subst (λ (T : Tables). IsThread T.threads c.args.tid)
+    subst (λ (T : Tables). IsLiveThread T.threads c.args.tid)
     (sym (c.in-Err.ensures.stands.table
     ∙ ap (λ (s : State). s.table) c.charge.ensures.charges))
     (lives_changed charged c.args.state.now.table.threads c.args.tid c.requires.live)
@@ -51,7 +51,7 @@ returns-in-Ok-clause-parts g c =
     parts-served _ c.dispatch.new.state c.args.tid c.in-Ok.way _ _ (answers g c) c.requires.sound
 
 -- after a stop
-stands : (g : given.Over) (c : goal.After-restore g) → Stands c.args.state.now c.restore.new.state
+stands : (g : given.Over) (c : goal.After-restore g) → StandsButOwners c.args.state.now c.restore.new.state
 stands g c =
     stands-restored c.args.state.now c.charge.new.state c.dispatch.new.state c.restore.new.state
     c.args.tid c.budget-budget.result c.regs-regs.result.now c.regs-regs.ensures

@@ -1,13 +1,13 @@
 use Rattle.std.proofs.Common.{◌+◌, List, refl, sym, subst, arith}
 use Rattle.dos_world.specs.World.{Sleeper}
 use Rattle.dos_world.specs.Kernel.{awake}
-use Rattle.proc_table.specs.Tables.{Tables, IsThread, thread_by}
+use Rattle.proc_table.specs.Tables.{Tables, IsLiveThread, thread_by}
 use Rattle.kernel_calls.specs.Queued.{AreWoken}
 use Rattle.kernel_calls.proofs.Queued.{AreWaking, first_all, waking_more, woken_out}
 use Rattle.kernel_calls.proofs.sleeping.wake_first.Goals as goal
 
 pub wake-requires : goal.wake-requires
-wake-requires c = first_all (IsThread c.loop-count.table.threads) c.args.frame c.args.offset
+wake-requires c = first_all (IsLiveThread c.loop-count.table.threads) c.args.frame c.args.offset
     c.loop-count.futexes c.in-Some.tid c.loop-count.invariant.are.live
     (sym c.in-Some.ensures.first)
 

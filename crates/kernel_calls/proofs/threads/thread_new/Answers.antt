@@ -1,5 +1,5 @@
 use Rattle.std.proofs.Common.{sym, subst}
-use Rattle.proc_table.specs.Tables.{Tables, IsThread}
+use Rattle.proc_table.specs.Tables.{Tables, IsLiveThread}
 use Rattle.kernel_calls.specs.StateWorld.{IsCounted}
 use Rattle.kernel_calls.proofs.Changed.{thread_stands}
 use Rattle.kernel_calls.proofs.Counted.{counted-threads}
@@ -7,7 +7,7 @@ use Rattle.kernel_calls.proofs.threads.thread_new.Goals as goal
 
 pub reply-requires : goal.reply-requires
 reply-requires c = record {
-  live = subst (λ (T : Tables). IsThread T.threads c.args.asked.now.thread)
+  live = subst (λ (T : Tables). IsLiveThread T.threads c.args.asked.now.thread)
       (sym c.in-Ok.ensures.begins)
       (thread_stands c.args.state.now.table.threads _ c.args.asked.now.thread
       c.requires.asked.live);

@@ -3,7 +3,7 @@ use Rattle.std.proofs.lemmas.Bool.Decides.{nat_tests}
 use Rattle.dos_world.specs.Calls.{Service}
 use Rattle.dos_world.specs.Services.{service_of}
 use Rattle.kernel_calls.specs.StateWorld.{sent, world_of}
-use Rattle.kernel_calls.specs.CallResults.{call_in, paid}
+use Rattle.kernel_calls.specs.CallResults.{call_in, paid_state}
 use Rattle.kernel_calls.specs.Waits.{TellsWait}
 use Rattle.kernel_calls.specs.declared.state.State.{State}
 use Rattle.kernel_calls.specs.declared.state.Asked.{Asked}
@@ -47,5 +47,5 @@ returns c = λ q o e.
     let not_11 : c.args.number ≢ 11 =
     grind (arith, nat_tests, c.if-number-eq-FUTEX_WAIT.false) in
     sym (patient c.args.number (not_5, not_7, not_8, not_11)
-    (call_in (sent o e (world_of q (paid c.args.state.now c.args.asked.now.thread)))
+    (call_in (sent o e (world_of q (paid_state c.args.state.now c.args.asked.now.thread)))
     c.args.asked.now))

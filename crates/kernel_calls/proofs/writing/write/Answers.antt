@@ -3,7 +3,7 @@ use Rattle.dos_world.specs.Play.{done}
 use Rattle.dos_world.specs.Services.{went, transfers, write, write_by}
 use Rattle.dos_world.specs.declared.End.{End}
 use Rattle.dos_world.specs.declared.End.TheVariants.{PipeWrite}
-use Rattle.proc_table.specs.Tables.{held_in, end_in}
+use Rattle.proc_table.specs.Tables.{held_in, end_named}
 use Rattle.kernel_calls.specs.StateWorld.{IsSound, sent, world_of}
 use Rattle.kernel_calls.specs.CallResults.{AreAsked, are_readable, call_in, target_of, write_to}
 use Rattle.kernel_calls.specs.declared.state.State.{State}
@@ -19,7 +19,7 @@ use Rattle.kernel_calls.proofs.writing.write.Goals as goal
 
 -- a write to a target, where the descriptor names it
 to_target : (s : State) (sound : IsSound s) (a : Asked) → AreAsked s a → (d : Option End)
-    (target : Target) → IfSome (held_in s.table.processes a.process) (λ h. d ≡ end_in h a.a0)
+    (target : Target) → IfSome (held_in s.table.processes a.process) (λ h. d ≡ end_named h a.a0)
     → target_of d ≡ Some target → (q : ℕ) (o e : List ℕ)
     → write (call_in (sent o e (world_of q s)) a)
     ≡ write_by (Some (end_of target)) (call_in (sent o e (world_of q s)) a)

@@ -1,6 +1,6 @@
 use Rattle.std.proofs.Common.{◌≡◌, List, [], ◌∷◌, ◌++◌, length, sym, ap, ◌∙◌, subst}
 use Rattle.proc_table.specs.declared.record.Links.{Links}
-use Rattle.proc_table.specs.Links.{IsLinkable, no_links, previous_in, with_child, with_link}
+use Rattle.proc_table.specs.Links.{IsLinkable, no_links, previous_in, with_child_linked, with_link}
 use Rattle.proc_table.proofs.Added.{first_linkable, second_linkable}
 use Rattle.proc_table.proofs.records.add_links.Goals as goal
 
@@ -30,7 +30,7 @@ link-requires-2 c =
     last)
 
 pub returns-clause-items : goal.returns-clause-items
-unfolding with_child
+unfolding with_child_linked
 returns-clause-items c =
     let last : c.last_child-last.result ≡ previous_in c.args.links.now.items c.args.parent 65536 =
     c.last_child-last.ensures

@@ -3,7 +3,7 @@ use Rattle.std.proofs.Common.{Some, IfSome}
 use Rattle.std.specs.List.{position}
 use Rattle.dos_world.specs.declared.Access.{Access}
 use Rattle.dos_world.specs.World.{is_free}
-use Rattle.page_store.specs.Store.{Store, unused, with_owned, with_grant, AreHome}
+use Rattle.page_store.specs.Store.{Store, unused_frames, with_owned, with_grant, AreHome}
 use Rattle.round_tests.proofs.quanta.four_frames.Goals as goal
 
 -- what a call of `take` leaves of frames that are known, where the lowest that is free is this one
@@ -16,7 +16,7 @@ taken known frame t s new is owned lowest =
 
 pub returns : goal.returns
 returns c =
-    let e1 = taken (unused 4) 0 1 _ _ c.in_ok-frames.ensures c.take.ensures.owned refl in
+    let e1 = taken (unused_frames 4) 0 1 _ _ c.in_ok-frames.ensures c.take.ensures.owned refl in
     let e2 = taken _ 1 1 _ _ e1 c.take-2.ensures.owned refl in
     let e3 = taken _ 2 2 _ _ e2 c.take-3.ensures.owned refl in
     let e4 = taken _ 3 1 _ _ e3 c.take-4.ensures.owned refl in

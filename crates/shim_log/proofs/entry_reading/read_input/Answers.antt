@@ -3,62 +3,62 @@ use Rattle.std.specs.Int.{w16, w32}
 use Rattle.std.proofs.lemmas.Result.{err_from_is_err_and}
 use Rattle.dos_io.specs.declared.exchange.Exchange.TheVariants.{Input}
 use Rattle.shim_log.specs.declared.refusal.LogError.{LogError}
-use Rattle.shim_log.specs.Reading.{bytes_at, number_at, ranged_at, input_at}
+use Rattle.shim_log.specs.Reading.{read_bytes, read_number, ranged_at, input_at}
 use Rattle.shim_log.proofs.FieldLaws.{goes, stops}
 use Rattle.shim_log.proofs.entry_reading.read_input.Goals as goal
 
 -- ---- each field is read behind those in front of it
 
 module _ (end : ℕ) (bytes : List ℕ) where
-  no_round : (e : LogError) → number_at w32 end bytes ≡ Err e → input_at end bytes ≡ Err e
+  no_round : (e : LogError) → read_number w32 end bytes ≡ Err e → input_at end bytes ≡ Err e
   unfolding input_at
-  no_round e a = stops (number_at w32 end bytes) _ e a
+  no_round e a = stops (read_number w32 end bytes) _ e a
 
-  no_tid : (round : ℕ × List ℕ) (e : LogError) → number_at w32 end bytes ≡ Ok round
-      → number_at w32 end round.1 ≡ Err e → input_at end bytes ≡ Err e
+  no_tid : (round : ℕ × List ℕ) (e : LogError) → read_number w32 end bytes ≡ Ok round
+      → read_number w32 end round.1 ≡ Err e → input_at end bytes ≡ Err e
   unfolding input_at
   no_tid round e a b =
-      goes (number_at w32 end bytes) _ round a ∙ stops (number_at w32 end round.1) _ e b
+      goes (read_number w32 end bytes) _ round a ∙ stops (read_number w32 end round.1) _ e b
 
-  no_max : (round tid : ℕ × List ℕ) (e : LogError) → number_at w32 end bytes ≡ Ok round
-      → number_at w32 end round.1 ≡ Ok tid → ranged_at w16 1 4096 end tid.1 ≡ Err e
+  no_max : (round tid : ℕ × List ℕ) (e : LogError) → read_number w32 end bytes ≡ Ok round
+      → read_number w32 end round.1 ≡ Ok tid → ranged_at w16 1 4096 end tid.1 ≡ Err e
       → input_at end bytes ≡ Err e
   unfolding input_at
   no_max round tid e a b c =
-      goes (number_at w32 end bytes) _ round a ∙ goes (number_at w32 end round.1) _ tid b
+      goes (read_number w32 end bytes) _ round a ∙ goes (read_number w32 end round.1) _ tid b
       ∙ stops (ranged_at w16 1 4096 end tid.1) _ e c
 
-  no_len : (round tid max : ℕ × List ℕ) (e : LogError) → number_at w32 end bytes ≡ Ok round
-      → number_at w32 end round.1 ≡ Ok tid → ranged_at w16 1 4096 end tid.1 ≡ Ok max
+  no_len : (round tid max : ℕ × List ℕ) (e : LogError) → read_number w32 end bytes ≡ Ok round
+      → read_number w32 end round.1 ≡ Ok tid → ranged_at w16 1 4096 end tid.1 ≡ Ok max
       → ranged_at w16 0 max.0 end max.1 ≡ Err e → input_at end bytes ≡ Err e
   unfolding input_at
   no_len round tid max e a b c d =
-      goes (number_at w32 end bytes) _ round a ∙ goes (number_at w32 end round.1) _ tid b
+      goes (read_number w32 end bytes) _ round a ∙ goes (read_number w32 end round.1) _ tid b
       ∙ goes (ranged_at w16 1 4096 end tid.1) _ max c
       ∙ stops (ranged_at w16 0 max.0 end max.1) _ e d
 
-  no_bytes : (round tid max len : ℕ × List ℕ) (e : LogError) → number_at w32 end bytes ≡ Ok round
-      → number_at w32 end round.1 ≡ Ok tid → ranged_at w16 1 4096 end tid.1 ≡ Ok max
-      → ranged_at w16 0 max.0 end max.1 ≡ Ok len → bytes_at len.0 end len.1 ≡ Err e
+  no_bytes : (round tid max len : ℕ × List ℕ) (e : LogError) → read_number w32 end bytes ≡ Ok round
+      → read_number w32 end round.1 ≡ Ok tid → ranged_at w16 1 4096 end tid.1 ≡ Ok max
+      → ranged_at w16 0 max.0 end max.1 ≡ Ok len → read_bytes len.0 end len.1 ≡ Err e
       → input_at end bytes ≡ Err e
   unfolding input_at
   no_bytes round tid max len e a b c d f =
-      goes (number_at w32 end bytes) _ round a ∙ goes (number_at w32 end round.1) _ tid b
+      goes (read_number w32 end bytes) _ round a ∙ goes (read_number w32 end round.1) _ tid b
       ∙ goes (ranged_at w16 1 4096 end tid.1) _ max c
       ∙ goes (ranged_at w16 0 max.0 end max.1) _ len d
-      ∙ stops (bytes_at len.0 end len.1) _ e f
+      ∙ stops (read_bytes len.0 end len.1) _ e f
 
   all_fields : (round tid max len : ℕ × List ℕ) (input : List ℕ × List ℕ)
-      → number_at w32 end bytes ≡ Ok round → number_at w32 end round.1 ≡ Ok tid
+      → read_number w32 end bytes ≡ Ok round → read_number w32 end round.1 ≡ Ok tid
       → ranged_at w16 1 4096 end tid.1 ≡ Ok max → ranged_at w16 0 max.0 end max.1 ≡ Ok len
-      → bytes_at len.0 end len.1 ≡ Ok input
+      → read_bytes len.0 end len.1 ≡ Ok input
       → input_at end bytes ≡ Ok (Input round.0 tid.0 max.0 input.0, input.1)
   unfolding input_at
   all_fields round tid max len input a b c d f =
-      goes (number_at w32 end bytes) _ round a ∙ goes (number_at w32 end round.1) _ tid b
+      goes (read_number w32 end bytes) _ round a ∙ goes (read_number w32 end round.1) _ tid b
       ∙ goes (ranged_at w16 1 4096 end tid.1) _ max c
       ∙ goes (ranged_at w16 0 max.0 end max.1) _ len d
-      ∙ goes (bytes_at len.0 end len.1) _ input f
+      ∙ goes (read_bytes len.0 end len.1) _ input f
 
 -- ---- the ways out
 

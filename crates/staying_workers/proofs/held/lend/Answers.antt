@@ -4,16 +4,16 @@ use Rattle.std.proofs.lemmas.List.{reverse-append, map-append, append_assoc}
 use Rattle.std.proofs.lemmas.List.Elements.{All-push}
 use Rattle.quantum_run.specs.Shows.{Pack}
 use Rattle.staying_workers.specs.declared.held.Held.{Held}
-use Rattle.staying_workers.specs.Lending.{AreOfTerm, packs_of, Share}
+use Rattle.staying_workers.specs.Lending.{AreOfTerm, packs_held, Share}
 use Rattle.staying_workers.proofs.held.lend.Goals as goal
 
 -- the last of those that are left goes behind those that are out
 goes_out : (out : List Held) (one : Held) (left : List Pack)
-    → packs_of (out ++ one ∷ []) ++ reverse left ≡ packs_of out ++ reverse (left ++ one.pack ∷ [])
+    → packs_held (out ++ one ∷ []) ++ reverse left ≡ packs_held out ++ reverse (left ++ one.pack ∷ [])
 goes_out out one left =
     ap (λ ps. ps ++ reverse left) (map-append (λ (h : Held). h.pack) out (one ∷ []))
-    ∙ append_assoc (packs_of out) (one.pack ∷ []) (reverse left)
-    ∙ ap (λ ps. packs_of out ++ ps) (sym (reverse-append left (one.pack ∷ [])))
+    ∙ append_assoc (packs_held out) (one.pack ∷ []) (reverse left)
+    ∙ ap (λ ps. packs_held out ++ ps) (sym (reverse-append left (one.pack ∷ [])))
 
 pub loop-pack-preserved : goal.loop-pack-preserved
 loop-pack-preserved c =
@@ -26,9 +26,9 @@ loop-pack-preserved c =
     let pushed = c.push_reserved.ensures in
     let inv = c.loop-pack.invariant in
     let more = ap (λ l. l.out) lent.0 in (
-      ap (λ (hs : List Held). packs_of hs ++ reverse left) pushed.items
+      ap (λ (hs : List Held). packs_held hs ++ reverse left) pushed.items
           ∙ goes_out out one left
-          ∙ ap (λ ps. packs_of out ++ reverse ps) (sym popped.items)
+          ∙ ap (λ ps. packs_held out ++ reverse ps) (sym popped.items)
           ∙ inv.0,
       subst (λ (hs : List Held). Share lender.value hs) (sym pushed.items)
           (All-push (λ (h : Held). h.shared.value ≡ lender.value) out one inv.1 (lent.1 ∙ inv.3)),

@@ -6,7 +6,7 @@ use Rattle.std.proofs.lemmas.List.Elements.{All-pop}
 use Rattle.std.proofs.lemmas.List.Sorted.{All-permutation, IsPermutation-reverse}
 use Rattle.quantum_run.specs.Shows.{Pack}
 use Rattle.staying_workers.specs.declared.held.Held.{Held}
-use Rattle.staying_workers.specs.Lending.{AreOfTerm, packs_of}
+use Rattle.staying_workers.specs.Lending.{AreOfTerm, packs_held}
 use Rattle.staying_workers.proofs.held.take_back.Goals as goal
 
 none : (ps : List Pack) → length ps ≡ 0 → ps ≡ []
@@ -15,10 +15,10 @@ none (p ∷ ps) e = absurd (omega arith)
 
 -- the last of those that are out goes behind those that are home
 comes_home : (home : List Pack) (left : List Held) (one : Held)
-    → (home ++ one.pack ∷ []) ++ packs_of (reverse left)
-    ≡ home ++ packs_of (reverse (left ++ one ∷ []))
-comes_home home left one = append_assoc home (one.pack ∷ []) (packs_of (reverse left))
-    ∙ ap (λ hs. home ++ packs_of hs) (sym (reverse-append left (one ∷ [])))
+    → (home ++ one.pack ∷ []) ++ packs_held (reverse left)
+    ≡ home ++ packs_held (reverse (left ++ one ∷ []))
+comes_home home left one = append_assoc home (one.pack ∷ []) (packs_held (reverse left))
+    ∙ ap (λ hs. home ++ packs_held hs) (sym (reverse-append left (one ∷ [])))
 
 pub loop-one-init : goal.loop-one-init
 loop-one-init c =
@@ -28,9 +28,9 @@ loop-one-init c =
     let len = c.reverse.ensures.len in
     let empty : length c.args.packs.now.items ≡ 0 =
     let ok = c.args.packs.now.ok in let e = c.requires.room.0 in omega arith in (
-      ap (λ (ps : List Pack). ps ++ packs_of (reverse c.reverse.new.self.items))
+      ap (λ (ps : List Pack). ps ++ packs_held (reverse c.reverse.new.self.items))
           (none c.args.packs.now.items empty)
-          ∙ ap packs_of (ap reverse turned ∙ reverse-reverse items),
+          ∙ ap packs_held (ap reverse turned ∙ reverse-reverse items),
       subst (λ (hs : List Held). AreOfTerm term hs) (sym turned)
           (All-permutation (λ (h : Held). h.shared.term ≡ term) items (reverse items)
           (IsPermutation-reverse items) c.requires.term),
@@ -61,9 +61,9 @@ loop-one-preserved c =
     let term = c.args.lender.term in
     let back = c.take_back-lender.ensures in
     let out = ap (λ l. l.out) back in (
-      ap (λ (ps : List Pack). ps ++ packs_of (reverse left)) pushed.items
+      ap (λ (ps : List Pack). ps ++ packs_held (reverse left)) pushed.items
           ∙ comes_home c.loop-one.packs.items left one
-          ∙ ap (λ (hs : List Held). c.loop-one.packs.items ++ packs_of (reverse hs))
+          ∙ ap (λ (hs : List Held). c.loop-one.packs.items ++ packs_held (reverse hs))
           (sym popped.items)
           ∙ inv.0,
       (All-pop (λ (h : Held). h.shared.term ≡ term) c.loop-one.held.items left (Some one)

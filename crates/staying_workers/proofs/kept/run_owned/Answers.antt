@@ -4,7 +4,7 @@ use Rattle.quantum_run.specs.Shows.{Pack}
 use Rattle.quantum_run.specs.declared.pack.Shared.{Shared}
 use Rattle.worker_pool.specs.Ran.{AllCanRun, AllRan}
 use Rattle.worker_pool.proofs.RanPacks.{as-many}
-use Rattle.staying_workers.specs.Lending.{AreOfTerm, IsFinished, packs_of}
+use Rattle.staying_workers.specs.Lending.{AreOfTerm, IsHeldFinished, packs_held}
 use Rattle.staying_workers.proofs.RanPacks.{all_ran, ready_of, still_of_term}
 use Rattle.staying_workers.proofs.kept.run_owned.Goals as goal
 
@@ -16,7 +16,7 @@ run_each-requires-clause-ready g c =
 
 pub take_back-requires-clause-room : goal.take_back-requires-clause-room
 take_back-requires-clause-room g c =
-    let f = as-many IsFinished _ _ c.in-Ok-run_each.ensures.ok.0 in
+    let f = as-many IsHeldFinished _ _ c.in-Ok-run_each.ensures.ok.0 in
     let lent = c.lend-lender.ensures in
     let a = lent.len in let b = lent.capacity in let e = lent.empty in
     let x = c.in-Ok-run_each.held.ok in let y = c.lend-lender.new.held.ok in
@@ -30,7 +30,7 @@ take_back-requires-clause-term g c =
 
 pub take_back-requires-clause-out : goal.take_back-requires-clause-out
 take_back-requires-clause-out g c =
-    let f = as-many IsFinished _ _ c.in-Ok-run_each.ensures.ok.0 in
+    let f = as-many IsHeldFinished _ _ c.in-Ok-run_each.ensures.ok.0 in
     let lent = c.lend-lender.ensures in
     let a = lent.len in let o = lent.lender.2 in let n = c.requires.count in
     let x = c.in-Ok-run_each.held.ok in let y = c.lend-lender.new.held.ok in
@@ -43,13 +43,13 @@ run_beside-requires-in-Err-clause-can g c =
     subst (λ (s : Shared). AllCanRun (seen_in s) c.take_back-lender.new.packs.items)
     (sym (back.lender.0 ∙ lent.lender.0))
     (subst (λ (l : List Pack). AllCanRun (seen_in c.args.lender.value) l)
-    (sym (back.packs ∙ ap packs_of c.in-Err.ensures.err.0 ∙ lent.packs)) c.requires.can)
+    (sym (back.packs ∙ ap packs_held c.in-Err.ensures.err.0 ∙ lent.packs)) c.requires.can)
 
 pub returns-in-Ok-run_each-clause-runs : goal.returns-in-Ok-run_each-clause-runs
 returns-in-Ok-run_each-clause-runs g c =
     let s = c.args.lender.value in
     subst (λ (l : List Pack). AllRan (seen_in s) c.args.packs.now.items l)
     (sym c.take_back.ensures.packs)
-    (subst (λ (l : List Pack). AllRan (seen_in s) l (packs_of c.in-Ok-run_each.held.items))
+    (subst (λ (l : List Pack). AllRan (seen_in s) l (packs_held c.in-Ok-run_each.held.items))
     c.lend-lender.ensures.packs
     (all_ran s _ _ c.in-Ok-run_each.ensures.ok.0 c.lend-lender.ensures.share))

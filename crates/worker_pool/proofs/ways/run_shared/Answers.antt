@@ -1,5 +1,5 @@
 use Rattle.std.proofs.Common.{◌≡◌, ◌∙◌, length, sym, subst, ap, arith, List}
-use Rattle.quantum_run.specs.Packs.{seen}
+use Rattle.quantum_run.specs.Packs.{seen_by_view}
 use Rattle.quantum_run.specs.Shows.{Pack}
 use Rattle.worker_pool.specs.Lending.{packs_of, IsFinished}
 use Rattle.worker_pool.specs.Ran.{AllRunnable, EachRan}
@@ -8,8 +8,8 @@ use Rattle.worker_pool.proofs.ways.run_shared.Goals as goal
 
 pub run_each-requires-clause-ready : goal.run_each-requires-clause-ready
 run_each-requires-clause-ready g c κs within =
-    ready-of (seen c.args.view.now) _
-    (subst (AllRunnable (seen c.args.view.now)) (sym c.lend.ensures.packs) c.requires.can)
+    ready-of (seen_by_view c.args.view.now) _
+    (subst (AllRunnable (seen_by_view c.args.view.now)) (sym c.lend.ensures.packs) c.requires.can)
     c.lend.ensures.views
 
 pub take_back-requires : goal.take_back-requires
@@ -21,7 +21,7 @@ take_back-requires g c =
 
 pub returns-in-Ok-run_each : goal.returns-in-Ok-run_each
 returns-in-Ok-run_each g c =
-    let v = seen c.args.view.now in
+    let v = seen_by_view c.args.view.now in
     let old : List Pack = c.args.packs.now.items in
     let now : List Pack = packs_of c.in-Ok-run_each.lent.items in
     let back : c.take_back.new.packs.items ≡ now = c.take_back.ensures.packs in
@@ -44,7 +44,7 @@ run_spread-requires-in-Err-clause-can g c κs within =
     let same : c.take_back-in-Err.new.packs.items ≡ c.args.packs.now.items =
     c.take_back-in-Err.ensures.packs ∙ ap packs_of c.in-Err.ensures.err.0
     ∙ c.lend.ensures.packs in
-    subst (AllRunnable (seen c.args.view.now)) (sym same) c.requires.can
+    subst (AllRunnable (seen_by_view c.args.view.now)) (sym same) c.requires.can
 
 pub returns-in-Err : goal.returns-in-Err
 returns-in-Err g c =
@@ -54,7 +54,7 @@ returns-in-Err g c =
     let ran = c.run_spread-in-Err.ensures in
     record {
       number = ran.number ∙ ap (λ (l : List Pack). length l) same;
-      each = subst (λ (l : List Pack). EachRan (seen c.args.view.now) l
+      each = subst (λ (l : List Pack). EachRan (seen_by_view c.args.view.now) l
           c.run_spread-in-Err.new.packs.items) same ran.each;
       room = ran.room ∙ c.take_back-in-Err.ensures.capacity ∙ c.lend.ensures.capacity;
     }

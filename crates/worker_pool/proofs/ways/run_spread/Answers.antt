@@ -1,7 +1,7 @@
 use Rattle.std.proofs.Common.{◌≡◌, ◌∙◌, ◌++◌, ℕ, List, length, take, drop, ap, sym, subst, arith}
 use Rattle.std.proofs.Common.{take_all}
 use Rattle.std.proofs.lemmas.List.{take-append-le}
-use Rattle.quantum_run.specs.Packs.{seen}
+use Rattle.quantum_run.specs.Packs.{seen_by_view}
 use Rattle.quantum_run.specs.Shows.{Pack}
 use Rattle.worker_pool.specs.Ran.{EachRan}
 use Rattle.worker_pool.proofs.ways.run_spread.Goals as goal
@@ -23,7 +23,7 @@ returns-clause-number g c =
 
 pub returns-clause-each : goal.returns-clause-each
 returns-clause-each g c =
-    let v = seen c.args.view.now in
+    let v = seen_by_view c.args.view.now in
     let now : List Pack = c.run_evenly.new.packs in
     let old : List Pack = c.args.packs.now.items in
     let level : length now ≡ length old =

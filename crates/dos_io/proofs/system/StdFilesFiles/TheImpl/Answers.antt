@@ -2,7 +2,7 @@
 use Rattle.std.proofs.Common.{◌≡◌, List, ℕ, Option, Some, None, Result, Ok, Err, IfOk, IsTrue}
 use Rattle.std.proofs.Common.{false, refl, arith}
 use Rattle.std.proofs.lemmas.Result.{IfErr-at_err}
-use Rattle.dos_io.specs.Outside.{counted}
+use Rattle.dos_io.specs.Outside.{counted_to_limit}
 use Rattle.dos_io.specs.declared.files.FileError.TheVariants.{TooLong, Fault}
 use Rattle.dos_io.proofs.system.StdFilesFiles.TheImpl.Goals as goal
 
@@ -34,7 +34,7 @@ set-tells g c = record {
   memory = λ _. refl;
   never = λ is. let other : TooLong ≡ Fault =
       IfErr-at_err (λ e. e ≡ Fault) is c.ensures.fault in cc;
-  fault = λ is. let rose : c.new.self.now.faults ≡ counted c.args.self.now.faults =
+  fault = λ is. let rose : c.new.self.now.faults ≡ counted_to_limit c.args.self.now.faults =
       IfErr-at_err _ is c.ensures.counted in omega arith;
   others = λ _ _. refl;
   tells = refl;

@@ -1,6 +1,6 @@
 use Rattle.std.proofs.Common.{◌≤◌, ◌+◌, List, [], length, false, sym, subst, ap, ap₂, ◌∙◌, arith}
 use Rattle.atomic_table.specs.Seated.{TableId}
-use Rattle.hand_board.specs.Placed.{whole, first_view}
+use Rattle.hand_board.specs.Placed.{whole_share, first_view}
 use Rattle.hand_board.specs.Seating.{Seating}
 use Rattle.hand_board.proofs.board.Board.new.Goals as goal
 
@@ -8,7 +8,7 @@ abbrev first_seat : {T : Type 0} → TableId → List T → Seating T
 first_seat id opened = record {
   board = id;
   opened = opened;
-  share = whole;
+  share = whole_share;
   found = [];
   hand = [];
   next = 0;

@@ -1,5 +1,5 @@
 use Rattle.std.proofs.Common.{ℕ, List, ap, ◌∙◌, arith, refl}
-use Rattle.hierarchical_bitmap.specs.Levels.{bits}
+use Rattle.hierarchical_bitmap.specs.Levels.{places_set}
 use Rattle.hierarchical_bitmap.proofs.Bits.{bits-zeros}
 use Rattle.hierarchical_bitmap.proofs.Summaries.{levels-are, levels-zeros}
 use Rattle.hierarchical_bitmap.proofs.bitmap.Bitmap.empty.Goals as goal
@@ -12,4 +12,4 @@ invariant_of-result c =
 
 pub returns : goal.returns
 returns c =
-    ap (λ (xs : List ℕ). bits c.args.count xs) c.in_ok-zeros.ensures ∙ bits-zeros c.args.count _
+    ap (λ (xs : List ℕ). places_set c.args.count xs) c.in_ok-zeros.ensures ∙ bits-zeros c.args.count _

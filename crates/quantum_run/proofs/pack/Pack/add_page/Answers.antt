@@ -4,7 +4,7 @@ use Rattle.std.proofs.Common.{length-set, ℕ, List, Option, Some, false, slice_
 use Rattle.page_store.specs.Store.{whole}
 use Rattle.quantum_run.specs.Shows.{Pack}
 use Rattle.quantum_run.specs.Pages.{is_here}
-use Rattle.quantum_run.specs.Packs.{HoldsNo, IsPacked, paired, with_page}
+use Rattle.quantum_run.specs.Packs.{HoldsNo, IsPacked, paired, with_own_page}
 use Rattle.quantum_run.proofs.Keeping.{not-here, room-left, packed-more, paired-with, packed-view}
 use Rattle.quantum_run.proofs.pack.Pack.add_page.Goals as goal
 
@@ -61,4 +61,4 @@ returns c =
     ∙ ap (λ own. paired (k.held.items ++ c.args.frame ∷ []) own) c.put.ensures ∙ pages)
     (ap (λ (own : List (Option (List ℕ))). length own) c.put.ensures
     ∙ length-set k.own c.args.frame (Some c.args.page))
-    ∙ ap (λ (p : Pack). with_page p c.args.frame c.args.page) c.self.view_is
+    ∙ ap (λ (p : Pack). with_own_page p c.args.frame c.args.page) c.self.view_is

@@ -3,7 +3,7 @@ use Rattle.std.proofs.lemmas.List.Elements.{All-set}
 use Rattle.dos_world.specs.declared.Access.TheVariants.{Fetch, Store}
 use Rattle.quantum_run.specs.declared.slot.Slot.{Slot}
 use Rattle.quantum_run.specs.Finding.{AreFramesOf, IsFrameOf}
-use Rattle.quantum_run.specs.Knowing.{AreApart, IsBase, KeepsKnown}
+use Rattle.quantum_run.specs.Knowing.{FetchesAreApart, IsBase, KeepsKnown}
 use Rattle.quantum_run.proofs.Apart.{apart-fetched, apart-none, base-none, empty-page}
 use Rattle.quantum_run.proofs.Knowing.{keeps-found, keeps-none}
 use Rattle.quantum_run.proofs.Places.{none-found}
@@ -42,12 +42,12 @@ invariant_of-self g c =
             | inr none ↦ none-found m.tid owners entries Store stored none
           ];
       apart = elim c.forget_frame.ensures as
-          (λ _. AreApart (set m.fetched c.args.place c.args.slot) stored) [
+          (λ _. FetchesAreApart (set m.fetched c.args.place c.args.slot) stored) [
             | inl same ↦ subst (λ (s : List Slot).
-                AreApart (set m.fetched c.args.place c.args.slot) s) (sym same.0)
+                FetchesAreApart (set m.fetched c.args.place c.args.slot) s) (sym same.0)
                 (apart-fetched m.fetched m.stored c.args.place c.args.slot m.apart same.1)
             | inr none ↦ subst (λ (s : List Slot).
-                AreApart (set m.fetched c.args.place c.args.slot) s) (sym none)
+                FetchesAreApart (set m.fetched c.args.place c.args.slot) s) (sym none)
                 (apart-none (set m.fetched c.args.place c.args.slot) 64)
           ];
       base_is = elim c.base_beside-self.ensures as (λ _. IsBase c.base_beside-self.result) [

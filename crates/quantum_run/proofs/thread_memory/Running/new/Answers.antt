@@ -1,7 +1,7 @@
 use Rattle.dos_world.specs.declared.Access.TheVariants.{Fetch, Load, Store}
 use Rattle.std.proofs.Common.{List, sym, subst}
 use Rattle.quantum_run.specs.declared.slot.Slot.{Slot}
-use Rattle.quantum_run.specs.Knowing.{AreApart}
+use Rattle.quantum_run.specs.Knowing.{FetchesAreApart}
 use Rattle.quantum_run.proofs.Apart.{apart-none}
 use Rattle.quantum_run.proofs.Places.{none-found}
 use Rattle.quantum_run.proofs.thread_memory.Running.new.Goals as goal
@@ -26,5 +26,5 @@ invariant_of-result-clause-stored_are g c =
 
 pub invariant_of-result-clause-apart : goal.invariant_of-result-clause-apart
 invariant_of-result-clause-apart g c =
-    subst (λ (slots : List Slot). AreApart c.nothing_found.result slots)
+    subst (λ (slots : List Slot). FetchesAreApart c.nothing_found.result slots)
     (sym c.nothing_found-3.ensures) (apart-none c.nothing_found.result 64)

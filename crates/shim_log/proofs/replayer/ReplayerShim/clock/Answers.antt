@@ -1,7 +1,7 @@
 use Rattle.std.proofs.Common.{◌∙◌, Some, sym, ap}
 use Rattle.dos_io.specs.declared.exchange.Exchange.{Exchange}
 use Rattle.dos_io.specs.Exchanges.{question_of}
-use Rattle.dos_io.specs.Shims.{answered}
+use Rattle.dos_io.specs.Shims.{shim_answered}
 use Rattle.shim_log.specs.Views.{exchange_of}
 use Rattle.shim_log.specs.Replay.{replayer_state}
 use Rattle.shim_log.proofs.ReplayLaws.{is_next, plays, clock_is}
@@ -18,5 +18,5 @@ returns-in-Clock-clause-ok c =
     let got = c.in-Ok.ensures.entry ∙ ap (λ x. Some (exchange_of x)) c.in-Clock.is in
     let asks = ap (λ x. question_of (exchange_of x)) (sym c.in-Clock.is) ∙ c.in-Ok.ensures.asked in
     plays c.args.self.now c.advance.new.self _ got c.advance.ensures
-    ∙ ap (λ (e : Exchange). answered (replayer_state c.args.self.now) e)
+    ∙ ap (λ (e : Exchange). shim_answered (replayer_state c.args.self.now) e)
     (clock_is _ _ _ _ _ asks)

@@ -1,6 +1,6 @@
 use Rattle.std.proofs.Common.{◌∙◌, ap}
 use Rattle.dos_io.specs.declared.exchange.Exchange.{Exchange}
-use Rattle.dos_io.specs.Shims.{answered}
+use Rattle.dos_io.specs.Shims.{shim_answered}
 use Rattle.shim_log.specs.Replay.{replayer_state}
 use Rattle.shim_log.proofs.ReplayLaws.{is_next, plays, end_is}
 use Rattle.shim_log.proofs.replayer.ReplayerShim.end.Goals as goal
@@ -14,5 +14,5 @@ advance-requires-clause-more c = is_next c.args.self.now c.requires
 pub returns-in-Ok-clause-ok : goal.returns-in-Ok-clause-ok
 returns-in-Ok-clause-ok c =
     plays c.args.self.now c.advance.new.self _ c.in-Ok.ensures.entry c.advance.ensures
-    ∙ ap (λ (e : Exchange). answered (replayer_state c.args.self.now) e)
+    ∙ ap (λ (e : Exchange). shim_answered (replayer_state c.args.self.now) e)
     (end_is _ _ _ c.in-Ok.ensures.asked)

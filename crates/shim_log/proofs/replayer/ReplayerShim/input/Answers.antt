@@ -3,7 +3,7 @@ use Rattle.std.proofs.lemmas.List.{take_at}
 use Rattle.dos_io.specs.declared.exchange.Exchange.TheVariants.{Input}
 use Rattle.dos_io.specs.declared.exchange.Exchange.{Exchange}
 use Rattle.dos_io.specs.Exchanges.{question_of}
-use Rattle.dos_io.specs.Shims.{answered}
+use Rattle.dos_io.specs.Shims.{shim_answered}
 use Rattle.shim_log.specs.Views.{exchange_of}
 use Rattle.shim_log.specs.Replay.{replayer_state}
 use Rattle.shim_log.proofs.ReplayLaws.{is_next, plays, input_is}
@@ -26,7 +26,7 @@ returns-in-Input-clause-ok c =
     (length c.in-Input.bytes.now) (ap length c.copy_from_slice.ensures.after)
     ∙ c.copy_from_slice.ensures.after in
     plays c.args.self.now c.advance.new.self _ got c.advance.ensures
-    ∙ ap (λ (e : Exchange). answered (replayer_state c.args.self.now) e)
+    ∙ ap (λ (e : Exchange). shim_answered (replayer_state c.args.self.now) e)
     (input_is _ _ _ _ _ _ _ asks)
-    ∙ ap (λ (bs : List ℕ). answered (replayer_state c.args.self.now)
+    ∙ ap (λ (bs : List ℕ). shim_answered (replayer_state c.args.self.now)
     (Input c.args.round c.args.tid (length c.args.buf.now) bs)) (sym bytes)

@@ -3,7 +3,7 @@ use Rattle.dos_world.specs.declared.Post.{Post}
 use Rattle.dos_io.specs.declared.exchange.Exchange.{Exchange}
 use Rattle.dos_io.specs.declared.exchange.Exchange.TheVariants.{Signals}
 use Rattle.dos_io.specs.Exchanges.{question_of}
-use Rattle.dos_io.specs.Shims.{answered}
+use Rattle.dos_io.specs.Shims.{shim_answered}
 use Rattle.shim_log.specs.Views.{exchange_of}
 use Rattle.shim_log.specs.Replay.{replayer_state}
 use Rattle.shim_log.proofs.ReplayLaws.{is_next, plays, signals_is}
@@ -21,7 +21,7 @@ returns-in-Signals-clause-ok c =
     let asks = ap (λ x. question_of (exchange_of x)) (sym c.in-Signals.is) ∙ c.in-Ok.ensures.asked
     in
     plays c.args.self.now c.advance.new.self _ got c.advance.ensures
-    ∙ ap (λ (e : Exchange). answered (replayer_state c.args.self.now) e)
+    ∙ ap (λ (e : Exchange). shim_answered (replayer_state c.args.self.now) e)
     (signals_is _ _ _ asks)
-    ∙ ap (λ (list : List Post). answered (replayer_state c.args.self.now)
+    ∙ ap (λ (list : List Post). shim_answered (replayer_state c.args.self.now)
     (Signals c.args.round list)) (sym c.fill.ensures)

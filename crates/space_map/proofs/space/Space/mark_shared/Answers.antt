@@ -2,7 +2,7 @@ use Rattle.std.proofs.Common.{◌≡◌, ℕ, true, get_or, refl}
 use Rattle.std.proofs.Common.{ap}
 use Rattle.std.proofs.lemmas.List.{get_or_read}
 use Rattle.dos_world.specs.declared.Entry.{Entry}
-use Rattle.space_map.specs.Mapping.{no_entry, with_shared}
+use Rattle.space_map.specs.Mapping.{no_entry, with_page_shared}
 use Rattle.space_map.proofs.Places.{look-gap, set-shared, shown-changed, nothing, kept-set}
 use Rattle.space_map.proofs.Places.{at-inside, index-of}
 use Rattle.space_map.proofs.space.Space.mark_shared.Goals as goal
@@ -36,7 +36,7 @@ returns c =
     let at = at-inside c.self.view_is c.in-Ok.ensures.found in
     let read : c.index.result.now ≡ get_or c.self.inside.entries.items c.in-Ok.place (0, no_entry) =
     get_or_read _ _ _ at.within c.index.ensures _ in
-    shown-changed (with_shared c.args.page) c.self.view_is
+    shown-changed (with_page_shared c.args.page) c.self.view_is
     (set-shared c.self.inside.entries.items c.args.page c.in-Ok.place
     (c.args.page, record c.index.result.now.1 { shared = true }) c.self.invariant.rising
     at (ap (λ (e : ℕ × Entry). (c.args.page, record e.1 { shared = true })) read))

@@ -1,4 +1,4 @@
-use Rattle.quantum_run.specs.Packs.{seen}
+use Rattle.quantum_run.specs.Packs.{seen_by_view}
 use Rattle.quantum_run.specs.Shows.{LeadsTo}
 use Rattle.worker_pool.specs.Ran.{HasRunBy}
 use Rattle.worker_pool.proofs.SliceRuns.{slice-can, slice-run}
@@ -8,7 +8,7 @@ pub returns-clause-more : goal.returns-clause-more
 returns-clause-more c = λ no.
     let before = c.args.self.now.pack in
     let now = c.run_slice.new.pack in
-    let v = seen c.args.self.now.view.now in
+    let v = seen_by_view c.args.self.now.view.now in
     let ran = c.run_slice.ensures in
     let slice : HasRunBy LeadsTo v before now = record {
       finished = (ran.more no).0;
