@@ -29,7 +29,8 @@ use Rattle.dos_words.specs.declared.request.Request.TheVariants.{Run, Replay, Ge
 use Rattle.dos_cmd.specs.Judging.{Taken, judgement}
 use Rattle.dos_cmd.specs.Outside.{Outside, Faults, OutputFailed, Says}
 use Rattle.dos_cmd.specs.ReplayLeaves.{DidReplay, Misfitted}
-use Rattle.dos_cmd.specs.Results.{Begun, NotTaken, OfLog, Did, HasMisfit, WasStopped, Leaves, WasDone}
+use Rattle.dos_cmd.specs.Results.{Begun, NotTaken, OfLog, Did, HasMisfit, WasStopped, Leaves}
+use Rattle.dos_cmd.specs.Results.{WasDone}
 use Rattle.dos_cmd.specs.Results.{Fails, Refused, CutShort, MustReplay, MustDo}
 use Rattle.dos_cmd.proofs.Saying.{with_error, with_faults, output_failed, fails_more}
 

@@ -74,7 +74,8 @@ told_is a b q = cc
 pub quiet_run : (k k' : Held) (before after : Quietness) (begun bytes : List ℕ) (ending : Ending)
     (work count : ℕ) (digest : List ℕ) (tally tally' : ℕ)
     → FollowsQuietly (quiet_shown before) (quiet_shown after) → begun ≡ []
-    → RanGroup k.config k.state (telling (quiet_shown before).told (Some begun) None) ending k'.state
+    → RanGroup k.config k.state (telling (quiet_shown before).told (Some begun) None) ending
+        k'.state
     (telling (quiet_shown after).told (Some bytes) None) work → GrewBy tally tally' work
     → count ≡ byte_count bytes → digest ≡ sha256 bytes → (images : List Image) (config : Config)
     → IsOpenedWith k images config
@@ -100,7 +101,8 @@ quiet_run k k' before after begun bytes ending work count digest tally tally' fo
       seen = seen;
       is = record {
         exchanges = es;
-        quiet = quiet_more (quiet_shown before) (quiet_shown after) es follows run.more.exchanges_are;
+        quiet = quiet_more (quiet_shown before) (quiet_shown after) es follows
+            run.more.exchanges_are;
         fits = from_opening (λ w c. FitsFrom w c es) run.fits;
         is = from_opening (λ w c. machine_from w c (map answer_of es) ≡ ends seen) run.ends;
       };

@@ -44,7 +44,8 @@ OfLog (Some log) P = P log
 -- What is asked for was done with what was taken for it, and ended with this status.
 abbrev pub Did : Request → Taken → ℕ → Outside → Type 0
 Did (Run quantum rounds frames workers posts clock_from clock_step log names) taken status o =
-    DidRun (run_request_asked quantum rounds frames posts clock_from clock_step log names) taken.images
+    DidRun (run_request_asked quantum rounds frames posts clock_from clock_step log names)
+        taken.images
     status o
 Did (Replay workers log names) taken status o =
     OfLog taken.log (λ read. DidReplay read taken.images status o)
@@ -76,7 +77,8 @@ HasMisfit _ taken found last o = ⊥
 -- An output failed while what is asked for was done.
 abbrev pub Cut : Request → Taken → Outside → Type 0
 Cut (Run quantum rounds frames workers posts clock_from clock_step log names) taken o =
-    CutRun (run_request_asked quantum rounds frames posts clock_from clock_step log names) taken.images o
+    CutRun (run_request_asked quantum rounds frames posts clock_from clock_step log names)
+        taken.images o
     ⊎ CutRunReport (run_request_asked quantum rounds frames posts clock_from clock_step log names)
     taken.images o
 Cut (Replay workers log names) taken o =
@@ -113,7 +115,8 @@ Leaves asked o f refusals.Files last =
     Rose f.files f.files_after
     × (Says o last ⊎ Begun asked o (λ taken. Unwritten asked taken last o))
 Leaves asked o f refusals.Host last =
-    Rose f.host f.host_after × Begun asked o (λ taken. WasStopped asked taken stops.HostFault last o)
+    Rose f.host f.host_after × Begun asked o
+        (λ taken. WasStopped asked taken stops.HostFault last o)
 Leaves asked o f refusals.Sink last =
     OutputFailed f × (last ≡ []) × Begun asked o (λ taken. Cut asked taken o)
 Leaves asked o f refusals.LogFull last =

@@ -6,7 +6,8 @@ use Rattle.dos_io.specs.declared.exchange.Exchange.{Exchange}
 use Rattle.dos_io.specs.declared.exchange.Exchange.TheVariants.{Signals}
 use Rattle.dos_io.specs.Exchanges.{HaveNoPosts}
 use Rattle.dos_io.specs.Shims.{ShimState}
-use Rattle.dos_io.specs.Quiet.{quiet_exchange, IsQuiet, AreQuiet, Quietness, quiet_shown, FollowsQuietly}
+use Rattle.dos_io.specs.Quiet.{quiet_exchange, IsQuiet, AreQuiet, Quietness, quiet_shown}
+use Rattle.dos_io.specs.Quiet.{FollowsQuietly}
 use Rattle.dos_world.specs.declared.Question.{Question}
 use Rattle.dos_world.specs.declared.Question.TheVariants.{Signals as signals_question}
 use Rattle.dos_world.specs.declared.Question.TheVariants.{Input as input_question}

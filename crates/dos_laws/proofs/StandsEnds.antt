@@ -294,11 +294,13 @@ module _ (w : World) (lawful : Lawful w) (p status : ℕ) (small : status < 256)
 pub stands-process_ended : (ts : List ℕ) (w : World) (p status : ℕ) → status < 256 → LawfulWith ts w
     → LawfulWith ts (process_ended w p status)
 stands-process_ended ts w p status h k =
-    stands-posted ts (tidied (without_process w p status)) (parent_of w p) 17 (omega arith) (omega arith)
+    stands-posted ts (tidied (without_process w p status)) (parent_of w p) 17 (omega arith)
+        (omega arith)
     (record {
       lawful = lawful-closed w k.lawful p status h;
       awake =
-          awake_by w (tidied (without_process w p status)) ts (awake-closed w k.lawful p status h) k.awake;
+          awake_by w (tidied (without_process w p status)) ts (awake-closed w k.lawful p status h)
+              k.awake;
       apart = k.apart;
     })
 

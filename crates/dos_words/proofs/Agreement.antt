@@ -17,7 +17,8 @@ use Rattle.dos_words.specs.declared.request.Request.{Request}
 use Rattle.dos_words.specs.Numbers.{Text}
 use Rattle.dos_words.specs.Asked.{Values, run_asked, replay_asked, inspect_asked, gen_asked}
 use Rattle.dos_words.specs.Commands.{Command, run, replay, inspect, gen, command_named}
-use Rattle.dos_words.specs.Canonical.{Pairs, pairs_and_names, are_once, is_option_allowed, are_allowed}
+use Rattle.dos_words.specs.Canonical.{Pairs, pairs_and_names, are_once, is_option_allowed}
+use Rattle.dos_words.specs.Canonical.{are_allowed}
 use Rattle.dos_words.specs.Canonical.{values_in, canonical}
 use Rattle.dos_words.specs.Clap.{words_app, values_among, names_among, asked_by, where_taken}
 use Rattle.dos_words.specs.Clap.{clap_request}

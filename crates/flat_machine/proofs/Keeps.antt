@@ -176,7 +176,8 @@ Ok-is : {w w' : World} → ◌≡◌ {A = Result World Reason} (Ok w) (Ok w') �
 Ok-is h = cc
 
 -- Each kind of effect: only a store and a claim write.
-performed-keeps : (w w' : World) (t : ℕ) (e : Effect) → performed w t e ≡ Ok w' → LeavesOthers t w w'
+performed-keeps : (w w' : World) (t : ℕ) (e : Effect) → performed w t e ≡ Ok w'
+    → LeavesOthers t w w'
 performed-keeps w w' t (goes r) h =
     subst (LeavesOthers t w) (Ok-is h) (record { owners = refl; bytes = λ i n. refl })
 performed-keeps w w' t (loads address size next) h =

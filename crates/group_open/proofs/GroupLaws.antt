@@ -23,7 +23,8 @@ use Rattle.proc_table.specs.Tables.{process_added}
 use Rattle.flat_machine.specs.Opening.{image_bytes, needed, opening_descriptors, opening_process}
 use Rattle.flat_machine.specs.Opening.{opening_registers, opening_thread, owners_from, page_count}
 use Rattle.flat_machine.specs.Opening.{processes_from, space_from}
-use Rattle.group_open.specs.Filling.{HasPlace, HasFrames, IsFilled, IsOwnedBySome, OpensImage, with_entries_more}
+use Rattle.group_open.specs.Filling.{HasPlace, HasFrames, IsFilled, IsOwnedBySome, OpensImage}
+use Rattle.group_open.specs.Filling.{with_entries_more}
 use Rattle.std.proofs.lemmas.List.{append-nil, append_assoc, flat_map_more}
 use Rattle.dos_world.specs.declared.Entry.{Entry}
 use Rattle.dos_world.specs.declared.Owner.{Owner}
@@ -175,7 +176,8 @@ module _ (count : ℕ) (s : Store) (t : Tables) (images : List Image) (image : I
   }
 
   next_processes : (entries : List (ℕ × Entry))
-      → (held_by (with_entries_more entries) (with_process_opened t image) (length t.processes + 1)).processes
+      → (held_by (with_entries_more entries) (with_process_opened t image)
+          (length t.processes + 1)).processes
       ≡ t.processes ++ record {
         parent = 0;
         life =
@@ -192,17 +194,20 @@ module _ (count : ℕ) (s : Store) (t : Tables) (images : List Image) (image : I
       ∙ changed_last (on_holdings (with_entries_more entries)) t.processes
       (on_holdings with_first_ends (new_process 0))
 
-  pub next_opened : (new : Store) (after u : Tables) (pid tid : ℕ) → after ≡ with_process_opened t image
+  pub next_opened : (new : Store) (after u : Tables) (pid tid : ℕ) → after
+      ≡ with_process_opened t image
       → pid ≡ length t.processes + 1 → tid ≡ length t.threads + 1
       → OpensImage s new after u pid tid image → IsOpened count new u (images ++ image ∷ [])
   next_opened new after u pid tid after_is pid_is tid_is opens =
       let owners = owners_from 1 images in
       let first : length owners ≡ 0 + needed images = omega (arith, owners_length 1 images) in
       let maps = opens.maps (flat_map image_bytes images) owners o.filled in
-      let is : u ≡ held_by (with_entries_more (space_from image (length owners))) (with_process_opened t image)
+      let is : u ≡ held_by (with_entries_more (space_from image (length owners)))
+            (with_process_opened t image)
       (length t.processes + 1) =
       maps ∙ ap (λ v. held_by (with_entries_more (space_from image (length owners))) v pid) after_is
-      ∙ ap (held_by (with_entries_more (space_from image (length owners))) (with_process_opened t image)) pid_is
+      ∙ ap (held_by (with_entries_more (space_from image (length owners)))
+          (with_process_opened t image)) pid_is
       in
       let thread : tid ≡ 1 + length images = omega (arith, thread_count) in
       record {
@@ -228,7 +233,8 @@ module _ (count : ℕ) (s : Store) (t : Tables) (images : List Image) (image : I
 
 -- ---- from none on
 
-pub nothing_opened : (count : ℕ) (s : Store) (t : Tables) → s ≡ unused_frames count → t ≡ no_tables count
+pub nothing_opened : (count : ℕ) (s : Store) (t : Tables) → s ≡ unused_frames count → t
+    ≡ no_tables count
     → IsOpened count s t []
 nothing_opened count s t none no_process =
     let size : length (replicate count (Some zero_page)) ≡ count =

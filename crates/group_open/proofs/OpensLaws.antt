@@ -38,7 +38,8 @@ opens_none s t p entries bytes owners no_entry no_byte no_owner = record {
 -- one page: the entry of the frame that was taken
 pub opens_one : (s new : Store) (t u : Tables) (p tid page frame more : ℕ) (entry : Entry)
     (entries : ℕ → ℕ × Entry) (shows : List ℕ)
-    → TakesFrame s new tid frame shows → HasPlace t p page more → u ≡ held_by (with_entry page entry) t p
+    → TakesFrame s new tid frame shows → HasPlace t p page more → u
+        ≡ held_by (with_entry page entry) t p
     → entries frame ≡ (page, entry) → Opens s new t u p (λ n. entries n ∷ []) shows (Of tid ∷ [])
 opens_one s new t u p tid page frame more entry entries shows takes place put is = record {
   count = takes_count s new tid frame shows takes;
@@ -46,7 +47,8 @@ opens_one s new t u p tid page frame more entry entries shows takes place put is
   maps = λ b o f.
       put ∙ entry_is_more t p page entry more place
       ∙ ap (λ e. held_by (with_entries_more (e ∷ [])) t p) (sym is)
-      ∙ ap (λ n. held_by (with_entries_more (entries n ∷ [])) t p) (frame_is s frame b o f takes.lowest);
+      ∙ ap (λ n. held_by (with_entries_more (entries n ∷ [])) t p)
+          (frame_is s frame b o f takes.lowest);
 }
 
 -- what was opened first and what was opened then, as one
@@ -67,7 +69,8 @@ opens_more s m new t u v p first second bytes later owners others a b = record {
       b.maps (bs ++ bytes) (os ++ owners) (a.fills bs os f)
       ∙ ap (λ w. held_by (with_entries_more (second (length (os ++ owners)))) w p) (a.maps bs os f)
       ∙ more_twice (first (length os)) (second (length (os ++ owners))) t p
-      ∙ ap (λ n. held_by (with_entries_more (first (length os) ++ second n)) t p) (length-append os owners);
+      ∙ ap (λ n. held_by (with_entries_more (first (length os) ++ second n)) t p)
+          (length-append os owners);
 }
 
 -- the same under other names

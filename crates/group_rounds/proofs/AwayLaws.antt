@@ -9,7 +9,8 @@ use Rattle.kernel_calls.specs.StateWorld.{sent, world_of}
 use Rattle.kernel_calls.specs.declared.state.State.{State}
 use Rattle.worker_pool.specs.Ran.{AllRan, AllCanRun, budgets_left}
 use Rattle.group_rounds.specs.Away.{Away, WentOut, IsHandedOut, HaveRun, IsParallelOf}
-use Rattle.group_rounds.specs.Handing.{In, all_pages, HaveNoFrameTwice, AreOthers, AreSet, PutBack, view_of}
+use Rattle.group_rounds.specs.Handing.{In, all_pages, HaveNoFrameTwice, AreOthers, AreSet, PutBack}
+use Rattle.group_rounds.specs.Handing.{view_of}
 use Rattle.group_rounds.specs.Kernels.{Held, IsBetweenRounds}
 use Rattle.group_rounds.specs.Parts.{work_between}
 use Rattle.group_rounds.specs.Phases.{ready_in}

@@ -176,7 +176,8 @@ module _ (pack₀ pack pack' : Pack) (frames₀ frames : Store) (f : ℕ) (page 
       ∙ append_assoc pack'.pages ((f, whole page) ∷ []) p.done
 
   one-apart : HaveNoFrameTwice ((f, whole page) ∷ p.done)
-  one-apart = apart-right pack'.pages ((f, whole page) ∷ p.done) (subst HaveNoFrameTwice pages-are apart)
+  one-apart = apart-right pack'.pages ((f, whole page) ∷ p.done)
+      (subst HaveNoFrameTwice pages-are apart)
 
   pub put-away : IsAway frames f
   put-away = still-away p.done frames₀ frames f p.put one-apart.0

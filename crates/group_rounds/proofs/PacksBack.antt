@@ -21,7 +21,8 @@ use Rattle.proc_table.specs.Tables.{thread_in, IsLiveThread}
 use Rattle.kernel_calls.specs.StateWorld.{IsSound, sent, world_of}
 use Rattle.kernel_objects.specs.Pipework.{Pipework}
 use Rattle.kernel_calls.specs.declared.state.State.{State}
-use Rattle.group_rounds.specs.Handing.{AreOnce, In, all_pages, HaveNoFrameTwice, AreOthers, IsFor, Handing}
+use Rattle.group_rounds.specs.Handing.{AreOnce, In, all_pages, HaveNoFrameTwice, AreOthers, IsFor}
+use Rattle.group_rounds.specs.Handing.{Handing}
 use Rattle.group_rounds.specs.Handing.{PutBack}
 use Rattle.group_rounds.specs.Handing.{AreSet, pack_of, view_of}
 use Rattle.group_rounds.specs.Phases.{AreLive}

@@ -80,7 +80,8 @@ module _ (s : State) (sound : IsSound s) (ts : List ℕ) (live : AreLive s.table
     (h : Handing ts (map (pack_of s.table (length s.frames.pages)) ts) s.frames new packs
     (length s.frames.pages)) where
   abbrev pub lives : (i t : ℕ) → slice_get ts i ≡ Some t → IsLiveThread s.table.threads t
-  lives i t at = let r = place-of ts i t 0 at in subst (IsLiveThread s.table.threads) r.1 (live i 0 r.0)
+  lives i t at = let r = place-of ts i t 0 at
+      in subst (IsLiveThread s.table.threads) r.1 (live i 0 r.0)
 
   pub owner-new : (frame : ℕ) → slice_index_or new.owners frame Free ≡ owner_at s.frames frame
   owner-new frame = ap (λ (os : List Owner). slice_index_or os frame Free) h.owners

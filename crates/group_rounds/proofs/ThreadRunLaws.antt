@@ -275,7 +275,8 @@ module _ (s : State) (t : ℕ) (sound : IsSound s) (live : IsLiveThread s.table.
 
 -- ---- after a grant
 
-module _ (s : State) (t : ℕ) (sound : IsSound s) (live : IsLiveThread s.table.threads t) (address : ℕ)
+module _ (s : State) (t : ℕ) (sound : IsSound s) (live : IsLiveThread s.table.threads t)
+    (address : ℕ)
     (access : Access) (entries : List (ℕ × Entry))
     (es : entries ≡ (seen s t sound live).holdings.space) where
   entry_is : (q : ℕ) (o e : List ℕ)

@@ -64,7 +64,8 @@ pub record IsParallelOf (k : Held) (work : ℕ) (after : Held) : Type 0 where
       → parallel (opening_with_budgets k o e) ≡ sent o e (world_of k.config.quantum after.state)
   pub work_is : (o e : List ℕ)
       → world_budgets (opening_with_budgets k o e) (ready_in k.state.table.threads)
-      - world_budgets (parallel (opening_with_budgets k o e)) (ready_in k.state.table.threads) ≡ work
+      - world_budgets (parallel (opening_with_budgets k o e)) (ready_in k.state.table.threads)
+          ≡ work
   pub config : after.config ≡ k.config
   pub starters : after.starters ≡ ready_in k.state.table.threads
   pub running : after.failed ≡ false

@@ -11,7 +11,8 @@ ghost use Rattle.kernel_calls.specs.StateWorld.{IsSound};
 ghost use Rattle.group_rounds.specs.Parts.{work_between};
 ghost use Rattle.worker_pool.specs.Ran.{AllCanRun, AllRan, GrewBy, budgets_left};
 ghost use Rattle.group_rounds.specs.Phases.{AreLive, HaveRunAlone};
-ghost use Rattle.group_rounds.specs.Handing.{AreOnce, In, all_pages, HaveNoFrameTwice, AreOthers, AreBegun};
+ghost use Rattle.group_rounds.specs.Handing.{AreOnce, In, all_pages, HaveNoFrameTwice, AreOthers};
+ghost use Rattle.group_rounds.specs.Handing.{AreBegun};
 ghost use Rattle.group_rounds.specs.Handing.{AreSpare, GoesOut, Handing, PutBack, AreSet, Stays};
 ghost use Rattle.group_rounds.specs.Handing.{pack_of, view_of};
 

@@ -11,7 +11,8 @@ use lib.ListN.{get_elem?}
 use Rattle.atomic_table.specs.Table.{Act, Valid, carried_after, homes_after}
 use Rattle.atomic_table.proofs.Lists.{at_set, at_snoc, set_here, set_else, at_map}
 use Rattle.hand_board.specs.declared.rule.Knows.{Knows}
-use Rattle.hand_board.specs.Placed.{Knowing, Lies, Placed, times, once, total, whole_share, without, tail}
+use Rattle.hand_board.specs.Placed.{Knowing, Lies, Placed, times, once, total, whole_share, without}
+use Rattle.hand_board.specs.Placed.{tail}
 use Rattle.hand_board.specs.Placed.{blanks, to_front, without_front, left_half, right_half}
 use Rattle.hand_board.specs.Placed.{spent_view, first_view}
 use Rattle.hand_board.proofs.Counts.{times_here, times_else, times_append, times_bring}

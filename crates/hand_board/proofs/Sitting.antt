@@ -41,7 +41,8 @@ at_table sees same shows = ap (λ z. z.board) sees ∙ same ∙ sym (ap (λ z. z
 module _ {T : Type 0} {id : TableId} {opened : List T} {count len room : ℕ}
     {board : Standing T} where
   -- a number of the board has a word in its table
-  pub has_word : (number : ℕ) → BoardStands id opened count len room → standing id opened room ≡ board
+  pub has_word : (number : ℕ) → BoardStands id opened count len room → standing id opened room
+      ≡ board
       → number < length board.opened → (number < length opened) × (number + 1 < id.words)
   has_word number stands shows low =
       let all = stands.all in

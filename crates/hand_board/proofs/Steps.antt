@@ -13,7 +13,8 @@ use Rattle.atomic_table.specs.Table.{homes_after, keeps, takes, gives, Allows, S
 use Rattle.atomic_table.specs.Table.{opening}
 use Rattle.atomic_table.proofs.Lists.{at_set, at_snoc, set_else, set_again, exchanged}
 use Rattle.hand_board.specs.declared.rule.Knows.{Knows}
-use Rattle.hand_board.specs.Placed.{Placed, times, once, whole_share, blanks, to_front, without_front}
+use Rattle.hand_board.specs.Placed.{Placed, times, once, whole_share, blanks, to_front}
+use Rattle.hand_board.specs.Placed.{without_front}
 use Rattle.hand_board.specs.Placed.{left_half, right_half, spent_view, first_view}
 use Rattle.hand_board.specs.Rule.{Holds, Claimed, ClaimedAt, Given, Weighed, Brought, BroughtAt}
 use Rattle.hand_board.specs.Rule.{with_found, with_claimed, joined}

@@ -7,7 +7,8 @@ use mathlib.Core.Option.{some}
 use lib.ListN.{get_elem?}
 use Rattle.atomic_table.specs.Table.{State, Me, Step, rest}
 use Rattle.hand_board.specs.declared.rule.Knows.{Knows}
-use Rattle.hand_board.specs.Placed.{Placed, times, without, whole_share, blanks, to_front, without_front}
+use Rattle.hand_board.specs.Placed.{Placed, times, without, whole_share, blanks, to_front}
+use Rattle.hand_board.specs.Placed.{without_front}
 
 module _ {T : Type 0} where
   -- Word 0 isn't used. The word of number i is word i + 1: 0 while its pack lies at home as the

@@ -12,7 +12,8 @@ use Rattle.std.proofs.lemmas.Nat.Bits.{bit_at-zero, bit_at_set_same, bit_at_set_
 use Rattle.std.proofs.lemmas.Nat.Bits.{bit_at_clear_same, bit_at_clear_other}
 use Rattle.std.proofs.lemmas.Bool.{cases_eq}
 use Rattle.std.proofs.lemmas.Bool.Decides.{nat_tests}
-use Rattle.hierarchical_bitmap.specs.Levels.{bit, places_set, itself, mask, with_place, without_place}
+use Rattle.hierarchical_bitmap.specs.Levels.{bit, places_set, itself, mask, with_place}
+use Rattle.hierarchical_bitmap.specs.Levels.{without_place}
 
 -- ---- one bit of a word
 
@@ -117,7 +118,8 @@ pub bits-without_bit : (count : ℕ) (words : List ℕ) (place : ℕ) → place 
     → places_set count (without_place words place) ≡ set (places_set count words) place false
 unfolding places_set
 bits-without_bit count words place h =
-    changed (λ k. bit words k == 1) (λ k. bit (without_place words place) k == 1) 0 count place place
+    changed (λ k. bit words k == 1) (λ k. bit (without_place words place) k == 1) 0 count place
+        place
     false (omega arith) (ap (λ b. b == 1) (without_bit-same words place h))
     (λ k apart. ap (λ b. b == 1) (without_bit-other words place k h apart))
 

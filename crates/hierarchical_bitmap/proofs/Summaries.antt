@@ -14,7 +14,8 @@ use Rattle.std.proofs.lemmas.Nat.{and_le_l}
 use Rattle.std.proofs.lemmas.Nat.Bits.{bit_at-zero, bit_at-trailing_zeros}
 use Rattle.std.proofs.lemmas.Bool.{cases_eq, cases_lt}
 use Rattle.std.proofs.lemmas.Bool.Decides.{nat_tests}
-use Rattle.hierarchical_bitmap.specs.Levels.{bit, places_set, is_set, itself, mask, with_place, without_place}
+use Rattle.hierarchical_bitmap.specs.Levels.{bit, places_set, is_set, itself, mask, with_place}
+use Rattle.hierarchical_bitmap.specs.Levels.{without_place}
 use Rattle.hierarchical_bitmap.specs.Levels.{AreLevels, AreZeroBelow, IsLowest, IsSummary}
 use Rattle.hierarchical_bitmap.proofs.Bits.{zeros, length-zeros, with_bit-others}
 use Rattle.hierarchical_bitmap.proofs.Bits.{without_bit-others, length-with_bit, length-without_bit}
@@ -170,8 +171,10 @@ module _ {count : ℕ} {places words groups : List ℕ} (l : AreLevels count pla
         (summary-with_bit words places place in_places in_words l.of_places)
         (summary-with_bit groups words (place / 64) in_words in_groups l.of_words)
 
-    pub shown-set : {ps : List ℕ} → ps ≡ with_place places place → places_set count ps ≡ set now place true
-    shown-set e = ap (λ (xs : List ℕ). places_set count xs) e ∙ bits-with_bit count places place in_places
+    pub shown-set : {ps : List ℕ} → ps ≡ with_place places place → places_set count ps
+        ≡ set now place true
+    shown-set e = ap (λ (xs : List ℕ). places_set count xs) e
+        ∙ bits-with_bit count places place in_places
         ∙ ap (λ (bs : List Bool). set bs place true) shows
 
     -- ---- it is cleared

@@ -65,7 +65,8 @@ called s t p x y z n r live registers process first second third number q o e =
 
 -- ---- the service of the thread, once it is paid for
 
-module _ (s mid : State) (t : ℕ) (found : Option Service) (a : Asked) (charges : mid ≡ paid_state s t)
+module _ (s mid : State) (t : ℕ) (found : Option Service) (a : Asked)
+    (charges : mid ≡ paid_state s t)
     (calls : (q : ℕ) (o e : List ℕ) → service (sent o e (world_of q s)) t
     ≡ definition_by found (call_in (sent o e (world_of q (paid_state s t))) a)) where
   pub calls_paid : (q : ℕ) (o e : List ℕ) → service (sent o e (world_of q s)) t

@@ -92,11 +92,13 @@ lives_still f xs u t live =
     by (Some thread) live = refl
 
 -- a live thread stands where one is added
-pub thread_stands : (xs ys : List (Option Thread)) (t : ℕ) → IsLiveThread xs t → IsLiveThread (xs ++ ys) t
+pub thread_stands : (xs ys : List (Option Thread)) (t : ℕ) → IsLiveThread xs t
+    → IsLiveThread (xs ++ ys) t
 thread_stands xs ys zero live = live
 thread_stands xs ys (suc i) live = at xs i live
   where
-    at : (xs : List (Option Thread)) (i : ℕ) → IsLiveThread xs (suc i) → IsLiveThread (xs ++ ys) (suc i)
+    at : (xs : List (Option Thread)) (i : ℕ) → IsLiveThread xs (suc i)
+        → IsLiveThread (xs ++ ys) (suc i)
     at [] i live = cc
     at (x ∷ xs) zero live = live
     at (x ∷ xs) (suc i) live = at xs i live

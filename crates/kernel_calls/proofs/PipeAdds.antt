@@ -144,7 +144,8 @@ module _ (o : Option Holdings) (old s : Pipework) (i : ℕ) (e : Option End) (al
     where
       by : (o : Option Holdings) → IsSome o → IfSome o (λ h. length h.descriptors ≡ 32)
           → IfSome o (λ h. CanComeAgain h.descriptors old)
-          → IfSome o (λ h. AreAdded (take i h.descriptors) old s) → IfSome o (λ h. e ≡ end_named h i)
+          → IfSome o (λ h. AreAdded (take i h.descriptors) old s)
+          → IfSome o (λ h. e ≡ end_named h i)
           → CanName e s
       by None a c n d is = absurd (cc)
       by (Some h) a c n d is =
@@ -157,7 +158,8 @@ module _ (o : Option Holdings) (old s : Pipework) (i : ℕ) (e : Option End) (al
     where
       by : (o : Option Holdings) → IfSome o (λ h. length h.descriptors ≡ 32)
           → IfSome o (λ h. CanComeAgain h.descriptors old)
-          → IfSome o (λ h. AreAdded (take i h.descriptors) old s) → IfSome o (λ h. e ≡ end_named h i)
+          → IfSome o (λ h. AreAdded (take i h.descriptors) old s)
+          → IfSome o (λ h. e ≡ end_named h i)
           → IfSome o (λ h. AreAdded (take (i + 1) h.descriptors) old new)
       by None c n d is = tt
       by (Some h) c n d is =

@@ -297,7 +297,8 @@ module _ (o : Option Holdings) (old s : Pipework) (i : ℕ) (e : Option End) (al
     where
       by : (o : Option Holdings) → IsSome o → IfSome o (λ h. length h.descriptors ≡ 32)
           → IfSome o (λ h. AreNamed h.descriptors old)
-          → IfSome o (λ h. AreDropped (take i h.descriptors) old s) → IfSome o (λ h. e ≡ end_named h i)
+          → IfSome o (λ h. AreDropped (take i h.descriptors) old s)
+          → IfSome o (λ h. e ≡ end_named h i)
           → IsNamed e s
       by None a c n d is = absurd (cc)
       by (Some h) a c n d is =
@@ -310,7 +311,8 @@ module _ (o : Option Holdings) (old s : Pipework) (i : ℕ) (e : Option End) (al
     where
       by : (o : Option Holdings) → IsSome o → IfSome o (λ h. length h.descriptors ≡ 32)
           → IfSome o (λ h. AreNamed h.descriptors old)
-          → IfSome o (λ h. AreDropped (take i h.descriptors) old s) → IfSome o (λ h. e ≡ end_named h i)
+          → IfSome o (λ h. AreDropped (take i h.descriptors) old s)
+          → IfSome o (λ h. e ≡ end_named h i)
           → IfSome o (λ h. AreDropped (take (i + 1) h.descriptors) old new)
       by None a c n d is = tt
       by (Some h) a c n d is =

@@ -3,7 +3,8 @@ ghost use Rattle.std.specs.Prelude.{◌≡◌, ◌<◌, ℕ, List, ◌∷◌, If
 ghost use Rattle.dos_world.specs.Services.{service};
 ghost use Rattle.dos_io.specs.Shims.{HasNoEnd};
 ghost use Rattle.proc_table.specs.Tables.{IsLiveThread, ran, thread_by, thread_in};
-ghost use Rattle.kernel_calls.specs.StateWorld.{HaveParts, IsCounted, IsReady, IsSound, StandsButOwners};
+ghost use Rattle.kernel_calls.specs.StateWorld.{HaveParts, IsCounted, IsReady, IsSound};
+ghost use Rattle.kernel_calls.specs.StateWorld.{StandsButOwners};
 ghost use Rattle.kernel_calls.specs.StateWorld.{left_after, sent, world_of};
 ghost use Rattle.kernel_calls.specs.Plays.{PlaysOnce};
 ghost use Rattle.kernel_calls.specs.Built.{definition_by, definition_of, quiet_definition_of};
@@ -68,7 +69,8 @@ fn call_by(state: &State, tid: u32) -> (Option<Service>, Asked)
     ensures asked { AreAsked (paid_state state.now tid) result.1 }
     ensures calls { (q : ℕ) (o e : List ℕ)
         → service (sent o e (world_of q state.now)) tid
-        ≡ definition_by result.0 (call_in (sent o e (world_of q (paid_state state.now tid))) result.1) }
+        ≡ definition_by result.0
+        (call_in (sent o e (world_of q (paid_state state.now tid))) result.1) }
 {
     let regs = *state.table.regs(tid);
     let asked = Asked {

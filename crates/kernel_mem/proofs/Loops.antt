@@ -277,7 +277,8 @@ module _ {s0 s : Store} {old_table T : Tables} {pid child tid i : ℕ}
     page-here : page_of_entry (space_in old_table pid) i ≡ e.0
     page-here = ap (λ (x : ℕ × Entry). x.0) next.here
 
-    pub pages-below : (k : ℕ) → k < length (space_in T child) → page_of_entry (space_in T child) k < e.0
+    pub pages-below : (k : ℕ) → k < length (space_in T child)
+        → page_of_entry (space_in T child) k < e.0
     pages-below k h = omega
         (arith, page-here, so_far.below next.within k (omega (arith, so_far.length_is)))
 
@@ -330,9 +331,11 @@ module _ {s0 s : Store} {old_table T : Tables} {pid child tid i : ℕ}
           pair x ys = (x, ys)
 
           ap-below : i + 1 < length (space_in old_table pid) → (k : ℕ) → k < i + 1
-              → page_of_entry (space_in next_table child) k < page_of_entry (space_in old_table pid) (i + 1)
+              → page_of_entry (space_in next_table child) k < page_of_entry
+                  (space_in old_table pid) (i + 1)
           ap-below h k l =
-              let after : page_of_entry (space_in old_table pid) i < page_of_entry (space_in old_table pid)
+              let after : page_of_entry (space_in old_table pid) i < page_of_entry
+                    (space_in old_table pid)
               (i + 1) =
               next-page (space_in old_table pid) next.sorted i h in
               let now : page_of_entry (space_in next_table child) k

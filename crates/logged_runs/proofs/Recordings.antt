@@ -26,7 +26,8 @@ use Rattle.kernel_calls.specs.declared.state.RunStop.TheVariants.{OutFault, ErrF
 use Rattle.worker_pool.specs.Ran.{GrewBy}
 use Rattle.shim_log.specs.declared.header.LogHeader.{LogHeader}
 use Rattle.shim_log.specs.declared.version.LogVersion.TheVariants.{Two}
-use Rattle.shim_log.specs.Ledger.{RecorderFollows, IsLedger, LedgerState, MayStop, empty_ledger, end_of_ledger}
+use Rattle.shim_log.specs.Ledger.{RecorderFollows, IsLedger, LedgerState, MayStop, empty_ledger}
+use Rattle.shim_log.specs.Ledger.{end_of_ledger}
 use Rattle.shim_log.specs.Ledger.{recorder_state}
 use Rattle.shim_log.specs.LogText.{Log, exchanges, logtext}
 use Rattle.shim_log.specs.Ranges.{AreEntries, FitsLog}
@@ -102,7 +103,8 @@ pub followed : {H : Type 0} (told : H → Option Told) (faults : H → ℕ) (sta
     → RecorderFollows start after (told h') (told i') (faults h') (faults i')
 followed told faults start after h h' i i' before left follows =
     subst (λ x. RecorderFollows start after (told x) (told i') (faults x) (faults i')) before
-    (subst (λ x. RecorderFollows start after (told h) (told x) (faults h) (faults x)) (sym left) follows)
+    (subst (λ x. RecorderFollows start after (told h) (told x) (faults h) (faults x)) (sym left)
+        follows)
 
 pub no_end_told : (start start' : LedgerState) → start ≡ start'
     → start' ≡ empty_ledger start'.posts start'.clock start'.header start'.room

@@ -8,7 +8,8 @@ use Rattle.proc_table.specs.declared.record.Kept.TheVariants.{Live}
 use Rattle.proc_table.specs.declared.record.Links.{Links}
 use Rattle.proc_table.specs.declared.record.Record.{Record}
 use Rattle.proc_table.specs.Links.{AreLinked, AreLinkedBy, IsLinkable, is_child_at, is_uncollected}
-use Rattle.proc_table.specs.Links.{links_at, next_in, no_links, passes, previous_in, with_child_linked}
+use Rattle.proc_table.specs.Links.{links_at, next_in, no_links, passes, previous_in}
+use Rattle.proc_table.specs.Links.{with_child_linked}
 use Rattle.proc_table.specs.Links.{with_link}
 use Rattle.proc_table.proofs.Grown.{grown}
 use Rattle.proc_table.proofs.Moved.{at_last, before_last, beyond, child_to, family}

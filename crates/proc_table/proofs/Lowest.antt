@@ -35,13 +35,15 @@ opens pending mask signal set free = ap (λ b. b && not (has_bit mask signal)) s
 
 -- the first that passes is the lowest signal that comes
 pub lowest_is : (pending mask p : ℕ) → 1 ≤ p → p < 32
-    → ((k : ℕ) → 1 ≤ k → k < p → is_deliverable pending mask k ≡ false) → is_deliverable pending mask p ≡ true
+    → ((k : ℕ) → 1 ≤ k → k < p → is_deliverable pending mask k ≡ false)
+        → is_deliverable pending mask p ≡ true
     → Some p ≡ lowest_open pending mask
 lowest_is pending mask p low high below here =
     sym (first_in (is_deliverable pending mask) 1 31 p low (omega arith) below here)
 
 -- where none passes, none comes
-pub lowest_none : (pending mask : ℕ) → ((k : ℕ) → 1 ≤ k → k < 32 → is_deliverable pending mask k ≡ false)
+pub lowest_none : (pending mask : ℕ)
+    → ((k : ℕ) → 1 ≤ k → k < 32 → is_deliverable pending mask k ≡ false)
     → None ≡ lowest_open pending mask
 lowest_none pending mask below =
     sym (none_in (is_deliverable pending mask) 1 31 (λ k l h. below k l (omega arith)))

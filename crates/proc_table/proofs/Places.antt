@@ -19,7 +19,8 @@ use Rattle.dos_world.specs.ProcessCalls.{collected_by}
 use Rattle.space_map.specs.Mapping.{Mapping, empty}
 use Rattle.proc_table.specs.Tables.{held_in, new_process}
 use Rattle.proc_table.specs.Places.{first_belongings, holdings_by, holdings_in, no_belongings}
-use Rattle.proc_table.specs.Places.{life_by, process_by, processes_shown, place_kept, place_of_record, place_in}
+use Rattle.proc_table.specs.Places.{life_by, process_by, processes_shown, place_kept}
+use Rattle.proc_table.specs.Places.{place_of_record, place_in}
 use Rattle.proc_table.specs.Places.{is_placed, orphan_record, status_or_0, IsHeld, AreHeld}
 use Rattle.proc_table.specs.declared.record.Record.{Record}
 use Rattle.proc_table.specs.declared.record.Belongings.{Belongings}
@@ -92,7 +93,8 @@ get_within (r ∷ R) zero e = omega arith
 get_within (r ∷ R) (suc i) e = omega (arith, get_within R i e)
 
 pub get_placed : (R : List Record) (i : ℕ) (d : Record) (place : ℕ) → i < length R
-    → option_and_then place_of_record (slice_get R i) ≡ Some place → place_of_record (get_or R i d) ≡ Some place
+    → option_and_then place_of_record (slice_get R i) ≡ Some place → place_of_record (get_or R i d)
+        ≡ Some place
 get_placed [] i d place h e = absurd (omega arith)
 get_placed (r ∷ R) zero d place h e = e
 get_placed (r ∷ R) (suc i) d place h e = get_placed R i d place (omega arith) e

@@ -133,7 +133,8 @@ module _ {live : List (ℕ × Thread)} {given capacity : ℕ} {now : List (Optio
       (λ m apart. in_set_other live t place m y at number apart) here
       ∙ ap (λ ts. changed (option_map f) ts t) shown
 
-  pub kept_set : (y : ℕ × Thread) {t place : ℕ} {x : ℕ × Thread} {same : ℕ} → IsThreadAt live t place
+  pub kept_set : (y : ℕ × Thread) {t place : ℕ} {x : ℕ × Thread} {same : ℕ}
+      → IsThreadAt live t place
       → x ≡ get_or live place x → y.0 ≡ x.0 → same ≡ capacity
       → IsSpreadKept (set live place y) given same
   kept_set y {t} {place} {x} {same} at read is c = record {

@@ -14,7 +14,8 @@ use Rattle.std.proofs.lemmas.Bool.Decides.{nat_tests}
 use Rattle.dos_world.specs.Numbered.{numbered, changed, changed_at, places_from, numbers_of, run_of}
 use Rattle.dos_world.specs.World.{Thread, flat, first_of}
 use Rattle.dos_world.specs.Kernel.{unless_of}
-use Rattle.proc_table.specs.Spread.{live_in, spread, AreRising, AreInOrder, no_thread_entry, thread_number_at}
+use Rattle.proc_table.specs.Spread.{live_in, spread, AreRising, AreInOrder, no_thread_entry}
+use Rattle.proc_table.specs.Spread.{thread_number_at}
 use Rattle.proc_table.specs.Spread.{IsThreadAt, IsGapForThread, IsGapAbove}
 
 -- ---- numbers that rise
@@ -74,7 +75,8 @@ module _ (live : List (ℕ × Thread)) (order : AreInOrder live) (t : ℕ) where
     found = tt;
     gap = record {
       within = within;
-      lower = λ j lt. ranked _ t _ (sym ((parted comparisons_rise).0 j no_thread_entry (omega arith) lt));
+      lower = λ j lt. ranked _ t _
+          (sym ((parted comparisons_rise).0 j no_thread_entry (omega arith) lt));
       higher = λ j le lt. ranked _ t _ (sym ((parted comparisons_rise).1 j no_thread_entry le lt));
     };
   }
@@ -329,7 +331,8 @@ in_rest x new old m same = by (x.0 == m)
     by true = refl
     by false = same
 
-pub in_set_other : (live : List (ℕ × Thread)) (t place m : ℕ) (y : ℕ × Thread) → IsThreadAt live t place
+pub in_set_other : (live : List (ℕ × Thread)) (t place m : ℕ) (y : ℕ × Thread)
+    → IsThreadAt live t place
     → y.0 ≡ t → m ≢ t → live_in (set live place y) m ≡ live_in live m
 in_set_other [] t place m y at e apart = absurd (omega (arith, at.within))
 in_set_other (x ∷ live) t zero m y at e apart =

@@ -19,7 +19,8 @@ use Rattle.dos_world.specs.declared.Entry.{Entry}
 use Rattle.space_map.specs.Mapping.{Mapping, empty}
 use Rattle.proc_table.specs.Tables.{held_as, held_in, IsParent, IsProcess, new_process}
 use Rattle.proc_table.specs.Places.{Group, group_shown, kept_as, first_belongings, holdings_by}
-use Rattle.proc_table.specs.Places.{holdings_in, no_belongings, process_by, processes_shown, place_of_record}
+use Rattle.proc_table.specs.Places.{holdings_in, no_belongings, process_by, processes_shown}
+use Rattle.proc_table.specs.Places.{place_of_record}
 use Rattle.proc_table.specs.Places.{place_in, is_placed, orphan_record, status_or_0, IsHeld}
 use Rattle.proc_table.specs.Places.{AreHeld, ArePlaced}
 use Rattle.proc_table.specs.declared.record.Record.{Record}
@@ -176,7 +177,8 @@ module _ {R : List Record} {holders : List (Option ℕ)} {S : List Mapping} {D :
     changes : (S' : List Mapping) (D' : List Belongings) (f : Holdings → Holdings)
         → ((q : ℕ) → q ≢ place → holdings_in S' D' q ≡ holdings_in S D q)
         → holdings_in S' D' place ≡ f (holdings_in S D place)
-        → group_shown S' D' R room ≡ record now { processes = changed (on_holdings f) now.processes p }
+        → group_shown S' D' R room
+            ≡ record now { processes = changed (on_holdings f) now.processes p }
     changes S' D' f others here =
         ap (λ ps. let g : Group = record { processes = ps; room = room } in g)
         (shown_changed place S' D' f others here p found at_place)

@@ -12,8 +12,10 @@ use Rattle.dos_world.specs.ProcessCalls.{any_process, collected_by}
 use Rattle.space_map.specs.Mapping.{Mapping}
 use Rattle.proc_table.specs.Children.{children_in, outcome, outcome_by, status_of_ended}
 use Rattle.proc_table.specs.declared.collected.Collected.TheVariants.{Got, Wait, NoChild}
-use Rattle.proc_table.specs.Places.{ArePlaced, Group, first_child, group_shown, has_come, holdings_in}
-use Rattle.proc_table.specs.Places.{is_child_record, is_collected, kept_as, place_kept, place_of_record}
+use Rattle.proc_table.specs.Places.{ArePlaced, Group, first_child, group_shown, has_come}
+use Rattle.proc_table.specs.Places.{holdings_in}
+use Rattle.proc_table.specs.Places.{is_child_record, is_collected, kept_as, place_kept}
+use Rattle.proc_table.specs.Places.{place_of_record}
 use Rattle.proc_table.specs.Places.{process_by, status_or_0}
 use Rattle.proc_table.specs.Links.{passes, passes_at}
 use Rattle.proc_table.specs.declared.record.Belongings.{Belongings}

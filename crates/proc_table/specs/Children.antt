@@ -15,7 +15,8 @@ children_in test processes parent which =
 
 -- the status of a process that has ended
 abbrev pub status_of_ended : List Process → ℕ → ℕ
-status_of_ended processes p = elim (numbered processes p) [ None ↦ 0 | Some process ↦ status_of process ]
+status_of_ended processes p =
+    elim (numbered processes p) [ None ↦ 0 | Some process ↦ status_of process ]
 
 abbrev pub outcome_by : Option ℕ → Option ℕ → List Process → Collected
 outcome_by None _ processes = NoChild

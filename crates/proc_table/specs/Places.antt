@@ -113,7 +113,8 @@ IsHeld holders (Some place) n = slice_get holders place ≡ Some (Some n)
 -- the processes from number n on hold their places
 abbrev pub AreHeld : List (Option ℕ) → ℕ → List Record → Type 0
 AreHeld holders n [] = Unit {0}
-AreHeld holders n (r ∷ records) = IsHeld holders (place_of_record r) n × AreHeld holders (suc n) records
+AreHeld holders n (r ∷ records) =
+    IsHeld holders (place_of_record r) n × AreHeld holders (suc n) records
 
 -- Each process that lives holds a place of its own, of 32. Live is the count of both.
 pub record ArePlaced (records : List Record) (holders : List (Option ℕ)) (spaces : List Mapping)

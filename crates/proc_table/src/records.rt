@@ -8,7 +8,8 @@ ghost use Rattle.proc_table.specs.declared.record.Kept.TheVariants.{Live, Ended}
 ghost use Rattle.proc_table.specs.Places.{first_child, has_come, is_child_record, is_collected};
 ghost use Rattle.proc_table.specs.Places.{kept_as, orphan_record, place_in};
 ghost use Rattle.proc_table.specs.Links.{IsLinkable, IsWalkable, childless, next_in, no_links};
-ghost use Rattle.proc_table.specs.Links.{passes_at, previous_in, with_child_linked, with_link, with_next};
+ghost use Rattle.proc_table.specs.Links.{passes_at, previous_in, with_child_linked, with_link};
+ghost use Rattle.proc_table.specs.Links.{with_next};
 ghost use Rattle.proc_table.specs.Links.{with_previous};
 
 use crate::record::{Kept, Links, Record};

@@ -8,7 +8,8 @@ ghost use Rattle.dos_world.specs.Kernel.{pending_with, unless_of};
 ghost use Rattle.dos_world.specs.Calls.{charged};
 ghost use Rattle.dos_world.specs.ThreadCalls.{are_threads_full};
 ghost use Rattle.proc_table.specs.Tables.{IsLiveThread, next_in, ran, thread_in, with_budget};
-ghost use Rattle.proc_table.specs.Spread.{AreInOrder, IsThreadAt, IsGapAbove, IsGapForThread, live_in};
+ghost use Rattle.proc_table.specs.Spread.{AreInOrder, IsThreadAt, IsGapAbove, IsGapForThread};
+ghost use Rattle.proc_table.specs.Spread.{live_in};
 ghost use Rattle.std.specs.Borrow.{sem};
 ghost use Rattle.proc_table.specs.Lending.{LendsThread};
 

@@ -4,7 +4,8 @@ use Rattle.dos_world.specs.Numbered.{numbered}
 use Rattle.dos_world.specs.World.{World, released, look}
 use Rattle.dos_world.specs.declared.Owner.TheVariants.{Of}
 use Rattle.flat_machine.specs.Alone.{budget_of, emptied, steps}
-use Rattle.quantum_run.specs.Shows.{Pack, View, Shows, CanRun, Finished, LeadsTo, RanOut, begun_pack}
+use Rattle.quantum_run.specs.Shows.{Pack, View, Shows, CanRun, Finished, LeadsTo, RanOut}
+use Rattle.quantum_run.specs.Shows.{begun_pack}
 use Rattle.quantum_run.specs.Shows.{frames_of}
 use Rattle.flat_machine.proofs.After.{steps-split}
 use Rattle.quantum_run.proofs.Parts.{budget-is, emptied-space, emptied-kept}

@@ -21,7 +21,8 @@ pub record IsKnownHalf (fetched : List Slot) (pages : List (Option (List ℕ)))
     (address half : ℕ) : Type 0 where
   pub aligned : address % 2 ≡ 0
   pub found : (slot_of fetched address).page ≡ address / 4096
-  pub read : half ≡ number_at (joined pages) (flat_place (slot_of fetched address).frame address) Half
+  pub read : half ≡ number_at (joined pages) (flat_place (slot_of fetched address).frame address)
+      Half
 
 -- The halfwords of a word, the lower at this address, whose low two bits are 11.
 pub record IsKnownWord (fetched : List Slot) (pages : List (Option (List ℕ)))
@@ -73,4 +74,5 @@ IsNoCode fetched frame = All (λ slot. slot.frame ≢ frame) fetched
 
 -- No frame that a fetch has found is found again for stores without a search.
 abbrev pub FetchesAreApart : (fetched stored : List Slot) → Type 0
-FetchesAreApart fetched stored = All (λ slot. slot.page < 2 ^ 20 → IsNoCode fetched slot.frame) stored
+FetchesAreApart fetched stored =
+    All (λ slot. slot.page < 2 ^ 20 → IsNoCode fetched slot.frame) stored

@@ -13,7 +13,8 @@ use Rattle.quantum_run.specs.declared.pack.View.{View as ViewOf}
 
 -- the bytes that a frame's page shows
 abbrev pub bytes_of_frame : List (Option (List ℕ)) → ℕ → List ℕ
-bytes_of_frame table frame = elim (slice_get table frame) [ None ↦ shown None | Some page ↦ shown page ]
+bytes_of_frame table frame =
+    elim (slice_get table frame) [ None ↦ shown None | Some page ↦ shown page ]
 
 -- these frames, each with its page
 abbrev pub paired : List ℕ → List (Option (List ℕ)) → List (ℕ × List ℕ)

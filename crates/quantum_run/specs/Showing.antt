@@ -27,7 +27,8 @@ still t owners entries = record { thread = t; owners = owners; entries = entries
 
 -- The pages hold w's bytes; t has these entries in w, and what is foreign to it there is what is
 -- foreign to the thread that runs.
-pub record HoldsWorld (fixed : Still) (pages : List (Option (List ℕ))) (t : ℕ) (w : World) : Type 0 where
+pub record HoldsWorld (fixed : Still) (pages : List (Option (List ℕ))) (t : ℕ) (w : World) : Type 0
+    where
   pub bytes : w.bytes ≡ joined pages
   pub entry : (address : ℕ) → entry_at w t address ≡ look fixed.entries (address / 4096)
   pub foreign : (access : Access) (frame : ℕ)

@@ -3,7 +3,8 @@ ghost use Rattle.std.specs.Prelude.{◌≡◌, ◌<◌, ◌≤◌, ◌+◌, ◌+
 ghost use Rattle.std.specs.Prelude.{true, false, None, IfOk, MatchOption};
 ghost use Rattle.page_store.specs.Store.{whole};
 ghost use Rattle.quantum_run.specs.Shows.{CanRun, Finished, LeadsTo, RanOut, begun_pack, frames_of};
-ghost use Rattle.quantum_run.specs.Packs.{HoldsNo, empty_pack, seen_by_view, seen_in, with_own_page};
+ghost use Rattle.quantum_run.specs.Packs.{HoldsNo, empty_pack, seen_by_view, seen_in};
+ghost use Rattle.quantum_run.specs.Packs.{with_own_page};
 ghost use Rattle.quantum_run.specs.Packs.{with_thread_of};
 
 use crate::late_memo::LateMemo;

@@ -8,7 +8,8 @@ ghost use Rattle.dos_world.specs.declared.Access.TheVariants.{Fetch, Load, Store
 ghost use Rattle.page_store.specs.Store.{joined, number_at};
 ghost use Rattle.rv_form.specs.Notes.{note_at};
 ghost use Rattle.quantum_run.specs.Showing.{HasWordOrReason, ShowsKnown, Still, still};
-ghost use Rattle.quantum_run.specs.Finding.{AreFramesOf, IsFrameOf, IsWriting, frame_for, flat_place};
+ghost use Rattle.quantum_run.specs.Finding.{AreFramesOf, IsFrameOf, IsWriting, frame_for};
+ghost use Rattle.quantum_run.specs.Finding.{flat_place};
 ghost use Rattle.quantum_run.specs.Knowing.{FetchesAreApart, AreKnown, IsBase, IsInPage, IsKnown};
 ghost use Rattle.quantum_run.specs.Knowing.{IsKnownHalf};
 ghost use Rattle.quantum_run.specs.Knowing.{IsNoCode, KeepsKnown, no_base, slot_of};

@@ -2,7 +2,8 @@
 ghost use Rattle.std.specs.Prelude.{ℕ};
 ghost use Rattle.rv_exec.specs.Instruction.{effect_of_form};
 ghost use Rattle.rv_exec.specs.Arrivals.{PerformsAt, SettlesAt, arrived, went};
-ghost use Rattle.rv_exec.specs.Kinds.{IsAccess, IsAmo, IsOnImmediate, IsMultiplication, IsOnRegisters};
+ghost use Rattle.rv_exec.specs.Kinds.{IsAccess, IsAmo, IsOnImmediate, IsMultiplication};
+ghost use Rattle.rv_exec.specs.Kinds.{IsOnRegisters};
 ghost use Rattle.dos_world.specs.declared.Reason.{Reason};
 ghost use Rattle.std.specs.Prelude.{◌≡◌};
 

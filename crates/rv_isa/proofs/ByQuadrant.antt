@@ -9,7 +9,8 @@ use Rattle.rv_isa.specs.declared.BranchOp.TheVariants.{Beq, Bne}
 use Rattle.rv_isa.specs.declared.Instr.{Instr}
 use Rattle.rv_isa.specs.Meaning.{Row, fits, found}
 use Rattle.rv_isa.specs.Compressed.{rows, expansion, expanded, arithmetic_rows, shift_rows}
-use Rattle.rv_isa.specs.Compressed.{move_rows, by_funct3, addi4spn, c_lw, c_sw, c_addi, jal, c_li, j}
+use Rattle.rv_isa.specs.Compressed.{move_rows, by_funct3, addi4spn, c_lw, c_sw, c_addi, jal, c_li}
+use Rattle.rv_isa.specs.Compressed.{j}
 use Rattle.rv_isa.specs.Compressed.{branch}
 use Rattle.rv_isa.specs.Compressed.{lui_or_addi16sp, lwsp, swsp, IsSingle}
 use Rattle.rv_isa.proofs.Single.{all_apart, one_fits}

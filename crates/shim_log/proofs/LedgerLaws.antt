@@ -286,7 +286,8 @@ pub has_end : (b : LedgerState) → IsLedger b → b.ended ≡ None
     → (HasNoEnd (recorder_state b).told → ⊥) → ⊥
 has_end b is none wrong =
     wrong (subst HasNoEnd
-    (sym (ap (λ (x : Option (Ending × ℕ)). b.entries ++ end_of_ledger x) none ∙ append-nil b.entries))
+    (sym (ap (λ (x : Option (Ending × ℕ)). b.entries ++ end_of_ledger x) none
+    ∙ append-nil b.entries))
     (entries_no_end b.entries is.entries))
 
 -- the log of its entries is no longer than a log may be

@@ -21,10 +21,13 @@ use Rattle.shim_log.specs.declared.progress.Progress.{Progress}
 use Rattle.shim_log.specs.Bytes.{IsBytes, FitsDigest}
 use Rattle.shim_log.specs.Items.{Item, quiet, kept, items_in, exchanges_of}
 use Rattle.shim_log.specs.Ranges.{FitsHeader, FitsLog, most_exchanges}
-use Rattle.shim_log.specs.LogText.{Log, log_magic, version_number, header_text, entry_text, item_text}
+use Rattle.shim_log.specs.LogText.{Log, log_magic, version_number, header_text, entry_text}
+use Rattle.shim_log.specs.LogText.{item_text}
 use Rattle.shim_log.specs.LogText.{items_text, entries_text, logtext}
-use Rattle.shim_log.specs.Reading.{◌>>=◌, place, read_bytes, read_number, many_at, magic_at, version_at}
-use Rattle.shim_log.specs.Reading.{header_number_at, fields_at, read_header, nothing_read, after_item}
+use Rattle.shim_log.specs.Reading.{◌>>=◌, place, read_bytes, read_number, many_at, magic_at}
+use Rattle.shim_log.specs.Reading.{version_at}
+use Rattle.shim_log.specs.Reading.{header_number_at, fields_at, read_header, nothing_read}
+use Rattle.shim_log.specs.Reading.{after_item}
 use Rattle.shim_log.specs.Reading.{item_at, Body, behind_item, body_at, log_of, log_at}
 use Rattle.shim_log.specs.Spelling.{FitsItem, MayCome, AreSpelled}
 use Rattle.shim_log.proofs.FieldLaws.{bind_ok, guard_true, done, ok_is, Takes, then, number_takes}
@@ -144,7 +147,8 @@ digest_takes end bytes x fits e =
 
 digest_again : (end : ℕ) (d rest : List ℕ) → FitsDigest d
     → read_bytes 32 end (d ++ rest) ≡ Ok (d, rest)
-digest_again end d rest fits = subst (λ (k : ℕ). read_bytes k end (d ++ rest) ≡ Ok (d, rest)) fits.len
+digest_again end d rest fits =
+    subst (λ (k : ℕ). read_bytes k end (d ++ rest) ≡ Ok (d, rest)) fits.len
     (bytes_again end d rest)
 
 digests_again : (end : ℕ) (ds : List (List ℕ)) (rest : List ℕ) → AllByRecursion FitsDigest ds
@@ -218,7 +222,8 @@ header_spelled w bytes rest n h count text =
 
 -- Fields that were taken one behind the other are a header. The lists are what is left at each.
 header_made : (w : LogVersion) (bytes s v i q r f rest : List ℕ) (n quantum rounds frames : ℕ)
-    (digests : List (List ℕ)) → Takes bytes log_magic s → Takes s (to_le_bytes w16 (version_number w)) v
+    (digests : List (List ℕ)) → Takes bytes log_magic s
+    → Takes s (to_le_bytes w16 (version_number w)) v
     → Takes v (to_le_bytes w16 n) i → Takes i (to_le_bytes w32 quantum) q
     → Takes q (to_le_bytes w32 rounds) r → Takes r (to_le_bytes w32 frames) f
     → SpellsMany (λ d. d) FitsDigest n f (digests, rest) → 1 ≤ n → n < suc 8 → 16 ≤ quantum

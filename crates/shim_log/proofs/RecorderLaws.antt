@@ -17,7 +17,8 @@ use Rattle.dos_io.specs.Given.{posts_in, readings, Given, GivesHost, GivesCounte
 use Rattle.dos_io.specs.Given.{GivesReadings, AreCountedFrom}
 use Rattle.dos_io.specs.Shims.{shim_answered, HasNoEnd}
 use Rattle.shim_log.specs.declared.header.LogHeader.{LogHeader}
-use Rattle.shim_log.specs.Ledger.{LedgerState, end_of_ledger, recorder_state, empty_ledger, added, stopped}
+use Rattle.shim_log.specs.Ledger.{LedgerState, end_of_ledger, recorder_state, empty_ledger, added}
+use Rattle.shim_log.specs.Ledger.{stopped}
 use Rattle.shim_log.specs.Ledger.{ledger_closed, RecorderFollows, next_reading}
 use Rattle.shim_log.proofs.LedgerLaws.{follows_adds, follows_stop}
 
@@ -31,7 +32,8 @@ has_end [] e h = h
 has_end (End ending rounds ∷ es) e h = h
 has_end (x ∷ es) e h = has_end es e h
 
-none_ended : (es : List Exchange) (ended : Option (Ending × ℕ)) → HasNoEnd (es ++ end_of_ledger ended)
+none_ended : (es : List Exchange) (ended : Option (Ending × ℕ))
+    → HasNoEnd (es ++ end_of_ledger ended)
     → ended ≡ None
 none_ended es None h = refl
 none_ended es (Some e) h = absurd (has_end es e h)
@@ -42,7 +44,8 @@ no_end b h = none_ended b.entries b.ended h
 shows : (b : LedgerState) (e : Exchange) → b.ended ≡ None
     → recorder_state (added b e) ≡ shim_answered (recorder_state b) e
 shows b e none =
-    let told : (b.entries ++ e ∷ []) ++ end_of_ledger b.ended ≡ (b.entries ++ end_of_ledger b.ended) ++ e ∷ [] =
+    let told : (b.entries ++ e ∷ []) ++ end_of_ledger b.ended
+    ≡ (b.entries ++ end_of_ledger b.ended) ++ e ∷ [] =
     ap (λ (x : Option (Ending × ℕ)). (b.entries ++ e ∷ []) ++ end_of_ledger x) none
     ∙ append-nil (b.entries ++ e ∷ []) ∙ ap (λ (x : List Exchange). x ++ e ∷ [])
     (sym (ap (λ (x : Option (Ending × ℕ)). b.entries ++ end_of_ledger x) none
@@ -60,7 +63,8 @@ adds_ok b b' n r r' e h same is = ap recorder_state is
 pub adds_follow : (b b' n : LedgerState) (r r' : ℕ) (e : Exchange) (a c : Option Told) (l m : ℕ)
     → HasNoEnd (recorder_state b).told → b' ≡ record b { room = r' }
     → n ≡ record (added b' e) { room = r } → l ≤ m
-    → Given b'.posts b'.clock (length (readings b'.entries)) a c (e ∷ []) → RecorderFollows b n a c l m
+    → Given b'.posts b'.clock (length (readings b'.entries)) a c (e ∷ [])
+    → RecorderFollows b n a c l m
 adds_follow b b' n r r' e a c l m h same is le given =
     let given' : Given b.posts b.clock (length (readings b.entries)) a c (e ∷ []) =
     subst (λ (x : LedgerState). Given x.posts x.clock (length (readings x.entries)) a c
@@ -187,7 +191,8 @@ closes_ok b n ending rounds h is =
     }) (sym none)
 
 pub closes_follow : (b n : LedgerState) (ending : Ending) (rounds : ℕ) (a : Option Told) (m : ℕ)
-    → HasNoEnd (recorder_state b).told → n ≡ ledger_closed b ending rounds → RecorderFollows b n a a m m
+    → HasNoEnd (recorder_state b).told → n ≡ ledger_closed b ending rounds
+    → RecorderFollows b n a a m m
 closes_follow b n ending rounds a m h is =
     let none : b.entries ++ end_of_ledger b.ended ≡ b.entries =
     ap (λ (x : Option (Ending × ℕ)). b.entries ++ end_of_ledger x) (no_end b h)

@@ -106,7 +106,8 @@ pub record First (log : Log) (shim_answered place within : ℕ) : Type 0 where
   pub left : drop shim_answered log.entries ≡ drop within (expanded item ++ exchanges_of items)
   pub within_first : IsWithin within (item ∷ items)
 
-pub first_is : (log : Log) (shim_answered place within : ℕ) → StandsAt log shim_answered place within
+pub first_is : (log : Log) (shim_answered place within : ℕ)
+    → StandsAt log shim_answered place within
     → shim_answered < length log.entries → First log shim_answered place within
 first_is log shim_answered place within st lt = by_items st.items refl
   where
@@ -128,7 +129,8 @@ first_is log shim_answered place within st lt = by_items st.items refl
         }
 
 -- what is read there
-read_again : (log : Log) (shim_answered place within end : ℕ) (f : First log shim_answered place within)
+read_again : (log : Log) (shim_answered place within end : ℕ)
+    (f : First log shim_answered place within)
     → item_at log.version nothing_read end (item_text f.item ++ items_text f.items)
     ≡ Ok (f.item, items_text f.items)
 read_again log shim_answered place within end f =

@@ -33,7 +33,8 @@ cause_then s t u l m n p q c (inr h) = inr (λ e. rose_before l m n p q (h e))
 cause_then s t u l m n p q (inl same) (inl same') = inl (same'.0 ∙ same.0, same'.1 ∙ same.1)
 cause_then s t u l m n p q (inr h) (inl same') = inr (λ e. rose_after l m n (h (sym same'.1 ∙ e)) q)
 
-pub follows_on : (s t u : LedgerState) (a b c : Option Told) (l m n : ℕ) → RecorderFollows s t a b l m
+pub follows_on : (s t u : LedgerState) (a b c : Option Told) (l m n : ℕ)
+    → RecorderFollows s t a b l m
     → RecorderFollows t u b c m n → RecorderFollows s u a c l n
 follows_on s t u a b c l m n p q =
     let count : length (readings (recorder_state t).told)

@@ -77,7 +77,8 @@ pub record IsReplay (p : ReplayState) : Type 0 where
 
 -- after a stop
 abbrev pub replay_stopped : ReplayState → Question → ShimStop → ReplayState
-replay_stopped p q stop = record p { stops = counted_to_limit p.stops; last = Some stop; asked = Some q }
+replay_stopped p q stop =
+    record p { stops = counted_to_limit p.stops; last = Some stop; asked = Some q }
 
 -- after an answer
 abbrev pub replay_advanced : ReplayState → ReplayState

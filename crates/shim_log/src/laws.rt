@@ -67,7 +67,8 @@ pub fn recordings_are_given()
         → Given posts clock 0 a b (recorder_state after).told }
     ensures header { (posts : List (ℕ × Post)) (clock : ClockRule) (header : LogHeader) (room : ℕ)
         (after : LedgerState) (a b : Option Told) (m n : ℕ)
-        → RecorderFollows (empty_ledger posts clock header room) after a b m n → after.header ≡ header }
+        → RecorderFollows (empty_ledger posts clock header room) after a b m n
+        → after.header ≡ header }
 {}
 
 /// A replayer that has told an end has told its whole log.

@@ -12,7 +12,8 @@ ghost use Rattle.shim_log.specs.LogText.{entries_text, exchanges, logtext};
 ghost use Rattle.shim_log.specs.Ranges.{FitsHeader};
 ghost use Rattle.shim_log.specs.Room.{GrowsBy, IsFull, NoRoom, longest};
 ghost use Rattle.shim_log.specs.Ledger.{LedgerState, IsLedger, recorder_state, ArePlanned};
-ghost use Rattle.shim_log.specs.Ledger.{AddsEntry, MayStop, stopped, added, ledger_closed, empty_ledger};
+ghost use Rattle.shim_log.specs.Ledger.{AddsEntry, MayStop, stopped, added, ledger_closed};
+ghost use Rattle.shim_log.specs.Ledger.{empty_ledger};
 ghost use Rattle.shim_log.specs.Ledger.{next_reading};
 
 use crate::growing::GrowingEntries;

@@ -17,7 +17,8 @@ use Rattle.std.proofs.lemmas.List.Sums.{length-filter, count_by-le-length}
 use Rattle.dos_world.specs.declared.Entry.{Entry}
 use Rattle.dos_world.specs.World.{look}
 use Rattle.space_map.proofs.Mapped.{get_or_any}
-use Rattle.space_map.specs.Mapping.{no_entry, page_of_entry, IsAt, IsGapFor, without_entry, marked, with_page_shared}
+use Rattle.space_map.specs.Mapping.{no_entry, page_of_entry, IsAt, IsGapFor, without_entry, marked}
+use Rattle.space_map.specs.Mapping.{with_page_shared}
 use Rattle.space_map.specs.Mapping.{replaced, with_replaced, shared_in_run, with_shared_run, IsKept}
 use Rattle.space_map.specs.Mapping.{IsFirstFrom, IsRising, Mapping}
 

@@ -73,7 +73,8 @@ page_of_entry entries place = let e : ℕ × Entry = slice_index_or entries plac
 
 -- the pages rise, the entries have room, and the room was taken
 pub record IsKept (entries : List (ℕ × Entry)) (room capacity : ℕ) : Type 0 where
-  pub rising : (i j : ℕ) → i < j → j < length entries → page_of_entry entries i < page_of_entry entries j
+  pub rising : (i j : ℕ) → i < j → j < length entries
+      → page_of_entry entries i < page_of_entry entries j
   pub fits : length entries ≤ room
   pub taken : room ≤ capacity
   pub few : room < 2 ^ 32

@@ -6,7 +6,8 @@ ghost use Rattle.dos_world.specs.Kernel.{put};
 ghost use Rattle.dos_world.specs.Numbered.{run_of};
 ghost use Rattle.space_map.specs.Mapping.{IsAt, IsFirstFrom, IsGapFor, IsMapped, IsRun, IsRising};
 ghost use Rattle.space_map.specs.Mapping.{empty, in_run, put_run, shared_in_run, with_replaced};
-ghost use Rattle.space_map.specs.Mapping.{with_page_shared, with_shared_run, without_entry, without_page_run};
+ghost use Rattle.space_map.specs.Mapping.{with_page_shared, with_shared_run, without_entry};
+ghost use Rattle.space_map.specs.Mapping.{without_page_run};
 ghost use Rattle.std.specs.List.{insert_slice, list_any, remove_range, slice_range};
 ghost use Rattle.std.specs.Vec.{vec_capacity};
 

@@ -33,7 +33,8 @@ packs_length : (hs : List Held) → length (packs_held hs) ≡ length hs
 packs_length hs = length-map hs (λ (h : Held). h.pack)
 
 -- packs that are those of a board as it opened are ready too
-pub still_ready : {old new : List Held} → new ≡ old → AreReady MayRunHeld old → AreReady MayRunHeld new
+pub still_ready : {old new : List Held} → new ≡ old → AreReady MayRunHeld old
+    → AreReady MayRunHeld new
 still_ready is ready = subst (λ (l : List Held). AreReady MayRunHeld l) (sym is) ready
 
 -- the same as one fact, with the number of packs

@@ -100,7 +100,8 @@ one-more v old now n p q level low here run ran rest = (
 
 -- ---- budgets
 
-pub budgets-fall : (v : View) (ps qs : List Pack) → AllRan v ps qs → budgets_left qs ≤ budgets_left ps
+pub budgets-fall : (v : View) (ps qs : List Pack) → AllRan v ps qs
+    → budgets_left qs ≤ budgets_left ps
 budgets-fall v [] [] ran = omega arith
 budgets-fall v [] (q ∷ qs) ran = absurd (let level = ran.level in omega arith)
 budgets-fall v (p ∷ ps) [] ran = absurd (let level = ran.level in omega arith)

@@ -54,7 +54,8 @@ pub trait Workers {
         ensures shared { result ≡ shared }
         ensures room { vec_capacity packs.old ≤ vec_capacity packs.new }
         ensures tally { tally self.new
-            ≡ (tally self.old + (budgets_left packs.old.items - budgets_left packs.new.items)) % 2 ^ 64 }
+            ≡ (tally self.old + (budgets_left packs.old.items - budgets_left packs.new.items))
+            % 2 ^ 64 }
         ensures fixed { fixed self.new ≡ fixed self.old }
     {
         let before = budgets_of(packs.as_slice());

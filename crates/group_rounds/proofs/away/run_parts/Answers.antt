@@ -53,7 +53,8 @@ returns g c =
             rest = ap (λ (s : State). away s i.config i.starters.items packs) e.state;
           });
       tally = subst (λ (a : Away). GrewBy (g.W.Workers.tally c.args.workers.now)
-          (g.W.Workers.tally c.run_parts-stand_in.new.workers) (budgets_left a.packs - budgets_left packs))
+          (g.W.Workers.tally c.run_parts-stand_in.new.workers)
+              (budgets_left a.packs - budgets_left packs))
           view e.tally;
       fixed = e.fixed;
     }

@@ -51,7 +51,8 @@ returns-in-Ok-clause-parts g c =
     parts-served _ c.dispatch.new.state c.args.tid c.in-Ok.way _ _ (answers g c) c.requires.sound
 
 -- after a stop
-stands : (g : given.Over) (c : goal.After-restore g) → StandsButOwners c.args.state.now c.restore.new.state
+stands : (g : given.Over) (c : goal.After-restore g)
+    → StandsButOwners c.args.state.now c.restore.new.state
 stands g c =
     stands-restored c.args.state.now c.charge.new.state c.dispatch.new.state c.restore.new.state
     c.args.tid c.budget-budget.result c.regs-regs.result.now c.regs-regs.ensures

@@ -8,7 +8,8 @@ use Rattle.worker_pool.proofs.ways.run_evenly.Goals as goal
 pub for_each_mut-requires-clause-accepts : goal.for_each_mut-requires-clause-accepts
 for_each_mut-requires-clause-accepts g c κs within i p low is = (
   omega (arith, low, c.requires.count),
-  subst (λ (x : Pack). CanRun x (seen_by_view c.args.view.now)) (sym is) (c.requires.can i p.now low),
+  subst (λ (x : Pack). CanRun x (seen_by_view c.args.view.now)) (sym is)
+      (c.requires.can i p.now low),
 )
 
 pub returns-clause-each : goal.returns-clause-each

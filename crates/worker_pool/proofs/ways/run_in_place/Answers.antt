@@ -10,7 +10,8 @@ loop-place-preserved g c =
     let count = c.len-place-end.ensures in
     let level = inv.level in
     let pack = c.index_mut.result.now in
-    let more = one-more (seen_by_view c.args.view.now) c.args.packs.now.items c.loop-place.packs.items
+    let more = one-more (seen_by_view c.args.view.now) c.args.packs.now.items
+    c.loop-place.packs.items
     c.loop-place.place pack
     c.run_gated.new.pack level (omega (arith, test, count, level))
     (sym c.index_mut.ensures.value) c.run_gated.ensures inv.ran inv.rest in

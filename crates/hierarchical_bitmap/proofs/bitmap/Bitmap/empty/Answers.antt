@@ -12,4 +12,5 @@ invariant_of-result c =
 
 pub returns : goal.returns
 returns c =
-    ap (λ (xs : List ℕ). places_set c.args.count xs) c.in_ok-zeros.ensures ∙ bits-zeros c.args.count _
+    ap (λ (xs : List ℕ). places_set c.args.count xs) c.in_ok-zeros.ensures
+        ∙ bits-zeros c.args.count _

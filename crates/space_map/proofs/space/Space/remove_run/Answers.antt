@@ -7,7 +7,8 @@ use Rattle.space_map.proofs.Runs.{run-removed}
 use Rattle.space_map.proofs.space.Space.remove_run.Goals as goal
 
 left : (c : goal.After-cut)
-    → c.cut.new.entries.items ≡ without_page_run c.args.page c.args.count c.self.inside.entries.items
+    → c.cut.new.entries.items ≡ without_page_run c.args.page c.args.count
+    c.self.inside.entries.items
 left c =
     let from = first-inside c.self.view_is c.first_from-first.ensures in
     let run = subst (λ (xs : List (ℕ × Entry)). IsRun xs c.args.page c.args.count

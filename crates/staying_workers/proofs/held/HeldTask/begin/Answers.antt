@@ -11,6 +11,7 @@ pub returns : goal.returns
 returns c =
     let held : Held = c.args.self.now in
     let v = seen_in held.shared.value in
-    subst (λ (p : Pack). IsUnderWay MayRunHeld IsHeldRunOut IsHeldFinished held (record held { pack = p }))
+    subst (λ (p : Pack). IsUnderWay MayRunHeld IsHeldRunOut IsHeldFinished held
+        (record held { pack = p }))
     (sym c.begin.ensures)
     (c.requires, λ z out. (out.0, begun-run v held.pack z.pack out.1))
