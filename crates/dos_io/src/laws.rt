@@ -45,5 +45,5 @@ pub fn empty_answers_are_the_end()
 pub fn quiet_shims_bring_no_signals()
     ensures posts { (old new : ShimState) (more : List Exchange) → FollowsQuietly old new
         → new.told ≡ old.told ++ more → HaveNoPosts more }
-    ensures last { (shim : Quietness) → IfSome (quiet_shown shim).last (λ stop. stop ≡ ShimStop.Memory) }
+    ensures last { (s : Quietness) → IfSome (quiet_shown s).last (λ stop. stop ≡ ShimStop.Memory) }
 {}

@@ -8,7 +8,7 @@ use Rattle.dos_world.specs.World.{World, Process, holdings_of, Thread, flat, thr
 use Rattle.dos_world.specs.World.{live_process, belongs_to, with_thread}
 use Rattle.dos_world.specs.Lawful.{Lawful, IsThread, AreRegisters, IsPending, IsMask, IsSaved}
 use Rattle.dos_world.specs.Lawful.{turns_asleep}
-use Rattle.flat_machine.specs.Laws.{without_run}
+use Rattle.flat_machine.specs.Laws.{without_progress}
 use Rattle.dos_laws.proofs.Stands.{lawful-changed, lawful-lively}
 
 -- ---- other threads
@@ -38,13 +38,14 @@ lawful-with_threads w ts kept l =
 
 -- a change that leaves all of a thread but its registers and its budget, and its registers in range
 pub record ChangesRun (f : Thread → Thread) : Type 0 where
-  pub rest : (thread : Thread) → without_run (f thread) ≡ without_run thread
+  pub rest : (thread : Thread) → without_progress (f thread) ≡ without_progress thread
   pub ranges : (thread : Thread) → AreRegisters thread.registers → AreRegisters (f thread).registers
 
 -- what holds of a thread without its run holds of what such a change leaves
 of_rest : (P : Thread → Type 0) (f : Thread → Thread)
-    → ((thread : Thread) → without_run (f thread) ≡ without_run thread) → (thread : Thread)
-    → P (without_run thread) → P (without_run (f thread))
+    → ((thread : Thread) → without_progress (f thread) ≡ without_progress thread)
+        → (thread : Thread)
+    → P (without_progress thread) → P (without_progress (f thread))
 of_rest P f rest thread h = subst P (sym (rest thread)) h
 
 module _ (f : Thread → Thread) (c : ChangesRun f) where

@@ -13,11 +13,12 @@ use Rattle.flat_machine.proofs.Keeps.{step-keeps}
 use Rattle.flat_machine.proofs.Stays.{step-form}
 use Rattle.flat_machine.proofs.Threads.{seen-changed, same-seen}
 use Rattle.flat_machine.specs.Alone.{budget_of, emptied, steps, alone}
-use Rattle.flat_machine.specs.Laws.{without_run, DiffersInOwn}
+use Rattle.flat_machine.specs.Laws.{without_progress, DiffersInOwn}
 
 -- bytes of its own and such a change of the thread
 changed_own : (w : World) (t : ℕ) (b : List ℕ) (f : Thread → Thread)
-    → ((thread : Thread) → without_run (f thread) ≡ without_run thread) → length b ≡ length w.bytes
+    → ((thread : Thread) → without_progress (f thread) ≡ without_progress thread) → length b
+        ≡ length w.bytes
     → ((i : ℕ) → owner_of w (i / 4096) ≢ Of t → get_or b i 0 ≡ get_or w.bytes i 0)
     → DiffersInOwn t w (with_thread (record w { bytes = b }) t f)
 changed_own w t b f same count kept = record {
@@ -26,8 +27,8 @@ changed_own w t b f same count kept = record {
   bytes = kept;
   processes = refl;
   others = λ s other. ap flat (changed_other (option_map f) w.threads t s other);
-  thread = seen-changed without_run f w.threads t
-      ∙ same-seen (λ x. without_run (f x)) without_run (thread_at w t) same;
+  thread = seen-changed without_progress f w.threads t
+      ∙ same-seen (λ x. without_progress (f x)) without_progress (thread_at w t) same;
   pipes = refl;
   sleepers = refl;
   rounds = refl;

@@ -66,8 +66,8 @@ abbrev pub kept : Thread → Registers × ℕ
 kept thread = (thread.registers, thread.budget)
 
 -- a thread without its registers and its budget
-abbrev pub without_run : Thread → Thread
-without_run thread = record thread { registers = blank 0; budget = 0 }
+abbrev pub without_progress : Thread → Thread
+without_progress thread = record thread { registers = blank 0; budget = 0 }
 
 -- Two worlds differ at most in t's registers, t's budget and the bytes of frames that are t's.
 pub record DiffersInOwn (t : ℕ) (old new : World) : Type 0 where
@@ -77,7 +77,8 @@ pub record DiffersInOwn (t : ℕ) (old new : World) : Type 0 where
       → slice_index new.bytes i ≡ slice_index old.bytes i
   pub processes : new.processes ≡ old.processes
   pub others : (s : ℕ) → s ≢ t → thread_at new s ≡ thread_at old s
-  pub thread : option_map without_run (thread_at new t) ≡ option_map without_run (thread_at old t)
+  pub thread : option_map without_progress (thread_at new t)
+      ≡ option_map without_progress (thread_at old t)
   pub pipes : new.pipes ≡ old.pipes
   pub sleepers : new.sleepers ≡ old.sleepers
   pub rounds : new.rounds ≡ old.rounds

@@ -9,7 +9,7 @@ use Rattle.dos_world.specs.World.{Thread, flat}
 use Rattle.dos_world.proofs.Numbers.{changed_other, length-changed}
 use Rattle.flat_machine.specs.Laws.{kept}
 use Rattle.page_store.specs.Store.{Store, whole, IsAway, with_home}
-use Rattle.flat_machine.specs.Laws.{without_run}
+use Rattle.flat_machine.specs.Laws.{without_progress}
 use Rattle.quantum_run.specs.Packs.{with_own_page}
 use Rattle.quantum_run.specs.Shows.{Pack}
 use Rattle.proc_table.specs.Tables.{Tables, thread_in, thread_by, ran, IsLiveThread}
@@ -234,24 +234,25 @@ set-one t p live = record {
     set_by q (inr h) = absurd h
 
     without : (o : Option Thread)
-        → option_map without_run (option_map (ran p.registers p.budget) o)
-        ≡ option_map without_run o
+        → option_map without_progress (option_map (ran p.registers p.budget) o)
+        ≡ option_map without_progress o
     without None = refl
     without (Some x) = refl
 
     same_by : (s : ℕ) (b : Bool) → eqb s p.thread ≡ b
-        → option_map without_run
+        → option_map without_progress
         (thread_in (changed (option_map (ran p.registers p.budget)) t.threads p.thread) s)
-        ≡ option_map without_run (thread_in t.threads s)
+        ≡ option_map without_progress (thread_in t.threads s)
     same_by s true e =
         let here : s ≡ p.thread = eqb-true s p.thread e in
-        subst (λ (n : ℕ). option_map without_run
+        subst (λ (n : ℕ). option_map without_progress
         (thread_in (changed (option_map (ran p.registers p.budget)) t.threads p.thread)
-        n) ≡ option_map without_run (thread_in t.threads n)) (sym here)
-        (ap (option_map without_run) (thread_in-by (ran p.registers p.budget) t.threads p.thread)
+        n) ≡ option_map without_progress (thread_in t.threads n)) (sym here)
+        (ap (option_map without_progress)
+            (thread_in-by (ran p.registers p.budget) t.threads p.thread)
         ∙ without (thread_in t.threads p.thread))
     same_by s false e = let other : s ≢ p.thread = λ q. grind (arith, q, e) in
-        ap (λ o. option_map without_run (flat o))
+        ap (λ o. option_map without_progress (flat o))
         (changed_other (option_map (ran p.registers p.budget)) t.threads p.thread s other)
 
 pub set-then : (p : Pack) (ps : List Pack) (old mid new : Tables) → AreSet ps old mid
@@ -287,7 +288,8 @@ pub set-lives : (ps : List Pack) (old new : Tables) (s : ℕ) → AreSet ps old 
 set-lives ps old new s a live =
     by (thread_in new.threads s) (thread_in old.threads s) (a.same s) live
   where
-    by : (o q : Option Thread) → option_map without_run o ≡ option_map without_run q → IsSome q
+    by : (o q : Option Thread) → option_map without_progress o ≡ option_map without_progress q
+        → IsSome q
         → IsSome o
     by None None e h = h
     by None (Some x) e h = cc

@@ -6,7 +6,7 @@ use Rattle.std.specs.Prelude.{IsSome, slice_get, sum_by}
 use Rattle.std.proofs.lemmas.List.Sums.{sum_by-cons}
 use Rattle.dos_world.specs.World.{Thread, thread_at}
 use Rattle.flat_machine.specs.Alone.{alone}
-use Rattle.flat_machine.specs.Laws.{without_run}
+use Rattle.flat_machine.specs.Laws.{without_progress}
 use Rattle.flat_machine.specs.Round.{all_alone}
 use Rattle.round_core.proofs.Bringing.{all_alone-differ}
 use Rattle.kernel_calls.specs.StateWorld.{sent, world_of}
@@ -52,7 +52,8 @@ sum-less f g t n less same (x ∷ xs) (suc i) at apart =
 
 -- ---- one part
 
-same-some : (o p : Option Thread) → option_map without_run o ≡ option_map without_run p → IsSome p
+same-some : (o p : Option Thread) → option_map without_progress o ≡ option_map without_progress p
+    → IsSome p
     → IsSome o
 same-some None None e h = h
 same-some None (Some thread) e h = cc

@@ -65,7 +65,7 @@ pub record IsParallelOf (k : Held) (work : ℕ) (after : Held) : Type 0 where
   pub work_is : (o e : List ℕ)
       → world_budgets (opening_with_budgets k o e) (ready_in k.state.table.threads)
       - world_budgets (parallel (opening_with_budgets k o e)) (ready_in k.state.table.threads)
-          ≡ work
+      ≡ work
   pub config : after.config ≡ k.config
   pub starters : after.starters ≡ ready_in k.state.table.threads
   pub running : after.failed ≡ false

@@ -4,7 +4,7 @@ use Rattle.std.specs.Prelude.{option_map, slice_get, slice_set}
 use Rattle.dos_world.specs.declared.Owner.TheVariants.{Of}
 use Rattle.flat_machine.specs.Laws.{kept}
 use Rattle.page_store.specs.Store.{Store, whole, owner_at, with_away}
-use Rattle.flat_machine.specs.Laws.{without_run}
+use Rattle.flat_machine.specs.Laws.{without_progress}
 use Rattle.quantum_run.specs.Packs.{bytes_of_frame, empty_pack, with_own_page, with_thread_of}
 pub use Rattle.quantum_run.specs.Packs.{view_of}
 use Rattle.quantum_run.specs.Shows.{Pack}
@@ -56,8 +56,8 @@ pub record AreSet (packs : List Pack) (old new : Tables) : Type 0 where
       → option_map kept (thread_in new.threads p.thread) ≡ Some (p.registers, p.budget)
   pub others : (s : ℕ) → ((p : Pack) → In packs p → p.thread ≢ s)
       → thread_in new.threads s ≡ thread_in old.threads s
-  pub same : (s : ℕ) → option_map without_run (thread_in new.threads s)
-      ≡ option_map without_run (thread_in old.threads s)
+  pub same : (s : ℕ) → option_map without_progress (thread_in new.threads s)
+      ≡ option_map without_progress (thread_in old.threads s)
 
 -- ---- going out
 

@@ -11,7 +11,7 @@ use Rattle.dos_world.specs.Kernel.{unless_of, orphaned, ended_by}
 use Rattle.dos_world.specs.SignalCalls.{restored}
 use Rattle.dos_world.specs.declared.End.{End}
 use Rattle.dos_world.specs.declared.Entry.{Entry}
-use Rattle.space_map.specs.Mapping.{put_run, with_replaced, with_shared_run, without_page_run}
+use Rattle.space_map.specs.Mapping.{put_run, with_replaced, with_shared_run, without_run}
 
 -- Processes and threads are numbered from 1. Each live process's space has room for so many
 -- entries.
@@ -124,7 +124,7 @@ entry_replaced page entry h = record h { space = with_replaced page entry h.spac
 
 -- what a process has, without so many pages from this one on
 abbrev pub run_unmapped : ℕ → ℕ → Holdings → Holdings
-run_unmapped page count h = record h { space = without_page_run page count h.space }
+run_unmapped page count h = record h { space = without_run page count h.space }
 
 -- what a process has, with so many pages from this one on shared
 abbrev pub run_shared : ℕ → ℕ → Holdings → Holdings

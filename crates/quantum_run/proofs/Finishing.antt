@@ -14,7 +14,7 @@ use Rattle.page_store.proofs.Joined.{length-joined}
 use Rattle.flat_machine.specs.Laws.{AreAlike}
 use Rattle.flat_machine.specs.Laws.{kept}
 use Rattle.flat_machine.specs.Alone.{steps}
-use Rattle.flat_machine.specs.Laws.{without_run, DiffersInOwn}
+use Rattle.flat_machine.specs.Laws.{without_progress, DiffersInOwn}
 use Rattle.quantum_run.specs.Pages.{is_here, overlay}
 use Rattle.quantum_run.specs.Packs.{IsPacked, bytes_of_frame, paired}
 use Rattle.quantum_run.specs.ThreadRuns.{IsRunOf, run_to, store_of}
@@ -30,7 +30,7 @@ use Rattle.quantum_run.proofs.Spaces.{entry-space}
 
 -- a thread's space where its process and the processes are the same
 space-same : (u w : World) (t : ℕ) → u.processes ≡ w.processes
-    → option_map without_run (thread_at u t) ≡ option_map without_run (thread_at w t)
+    → option_map without_progress (thread_at u t) ≡ option_map without_progress (thread_at w t)
     → thread_space u t ≡ thread_space w t
 space-same u w t ps ts = by_thread (thread_at u t) (thread_at w t) ts
     ∙ ap (λ x. elim (thread_at w t) as (λ _. List (ℕ × Entry)) [
@@ -41,7 +41,8 @@ space-same u w t ps ts = by_thread (thread_at u t) (thread_at w t) ts
     in_space : List Process → ℕ → List (ℕ × Entry)
     in_space x p = space_of (record w { processes = x }) p
 
-    by_thread : (a b : Option Thread) → option_map without_run a ≡ option_map without_run b
+    by_thread : (a b : Option Thread) → option_map without_progress a
+        ≡ option_map without_progress b
         → (elim a as (λ _. List (ℕ × Entry)) [
           | None ↦ []
           | Some thread ↦ in_space u.processes thread.process
@@ -54,7 +55,7 @@ space-same u w t ps ts = by_thread (thread_at u t) (thread_at w t) ts
     by_thread None (Some y) q = cc
     by_thread (Some x) None q = cc
     by_thread (Some x) (Some y) q =
-        let same : without_run x ≡ without_run y = cc in
+        let same : without_progress x ≡ without_progress y = cc in
         ap (λ (z : Thread). in_space u.processes z.process) same
 
 pub Some-some : {a b : List (ℕ × Entry)}

@@ -17,7 +17,7 @@ use Rattle.flat_machine.specs.Step.{step, paid_by}
 use Rattle.flat_machine.specs.Laws.{kept}
 use Rattle.flat_machine.proofs.Stays.{step-form}
 use Rattle.flat_machine.specs.Alone.{budget_of, emptied, steps, alone}
-use Rattle.flat_machine.specs.Laws.{without_run, DiffersInOwn}
+use Rattle.flat_machine.specs.Laws.{without_progress, DiffersInOwn}
 use Rattle.flat_machine.proofs.After.{steps-ok, steps-stopped}
 use Rattle.flat_machine.proofs.Own.{alone-own}
 use Rattle.flat_machine.specs.Round.{all_alone}
@@ -34,7 +34,7 @@ pub record DifferIn (ts : List ℕ) (w u : World) : Type 0 where
   pub numbers : length u.threads ≡ length w.threads
   pub others : (s : ℕ) → (Among ts s → ⊥) → thread_at u s ≡ thread_at w s
   pub threads : (s : ℕ)
-      → option_map without_run (thread_at u s) ≡ option_map without_run (thread_at w s)
+      → option_map without_progress (thread_at u s) ≡ option_map without_progress (thread_at w s)
   pub pipes : u.pipes ≡ w.pipes
   pub sleepers : u.sleepers ≡ w.sleepers
   pub rounds : u.rounds ≡ w.rounds
@@ -103,13 +103,14 @@ differ-first t ts w v u d numbers r = record {
 }
   where
     by_eq : (s : ℕ) (b : Bool) → eqb s t ≡ b
-        → option_map without_run (thread_at v s) ≡ option_map without_run (thread_at w s)
+        → option_map without_progress (thread_at v s) ≡ option_map without_progress (thread_at w s)
     by_eq s true e =
-        subst (λ n. option_map without_run (thread_at v n) ≡ option_map without_run (thread_at w n))
+        subst (λ n. option_map without_progress (thread_at v n)
+            ≡ option_map without_progress (thread_at w n))
         (sym (eqb-true s t e)) d.thread
     by_eq s false e =
         let other : s ≢ t = λ q. grind (arith, q, e) in
-        ap (option_map without_run) (d.others s other)
+        ap (option_map without_progress) (d.others s other)
 
 pub all_alone-differ : (ts : List ℕ) (w : World) → DifferIn ts w (all_alone w ts)
 all_alone-differ [] w = differ_in_nothing w
@@ -171,15 +172,15 @@ restore : Registers × ℕ → Thread → Thread
 restore k thread = record thread { registers = k.0; budget = k.1 }
 
 same-thread : (a b : Option Thread) → option_map kept a ≡ option_map kept b
-    → option_map without_run a ≡ option_map without_run b → a ≡ b
+    → option_map without_progress a ≡ option_map without_progress b → a ≡ b
 unfolding restore
 same-thread None None k w = refl
 same-thread None (Some y) k w = cc
 same-thread (Some x) None k w = cc
 same-thread (Some x) (Some y) k w =
     let kx : kept x ≡ kept y = cc in
-    let wx : without_run x ≡ without_run y = cc in
-    ap Some (ap (λ z. restore z (without_run x)) kx ∙ ap (λ z. restore (kept y) z) wx)
+    let wx : without_progress x ≡ without_progress y = cc in
+    ap Some (ap (λ z. restore z (without_progress x)) kx ∙ ap (λ z. restore (kept y) z) wx)
 
 mk : List ℕ → List Owner → List Process → List (Option Thread) → List (List ℕ) → List Sleeper → ℕ
     → ℕ → List ℕ → List ℕ → World

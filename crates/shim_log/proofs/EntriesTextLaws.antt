@@ -7,7 +7,7 @@ use Rattle.std.proofs.lemmas.List.Concat.{flat_map-cons}
 use Rattle.dos_io.specs.declared.exchange.Exchange.TheVariants.{Signals, Input, Clock, End}
 use Rattle.shim_log.specs.declared.version.LogVersion.{LogVersion}
 use Rattle.shim_log.specs.declared.progress.Progress.{Progress}
-use Rattle.shim_log.specs.Items.{Item, quiet, kept, exchanges_of}
+use Rattle.shim_log.specs.Items.{Item, quiet, kept, exchanges_of_items}
 use Rattle.shim_log.specs.LogText.{item_text, items_text, entries_text}
 use Rattle.shim_log.specs.Ranges.{AreEntries, most_exchanges}
 use Rattle.shim_log.specs.Reading.{item_at, after_item, nothing_read}
@@ -56,18 +56,18 @@ text_spells v text items is spelled = ap (items_in_text v) is ∙ text_again v i
 -- such a text, with what it shows
 pub text_kept : (v : LogVersion) (text : List ℕ) (items : List Item) (count : ℕ)
     → text ≡ items_text items → AreSpelled v nothing_read items
-    → count ≡ length (exchanges_of items) → IsEntriesText v text count
+    → count ≡ length (exchanges_of_items items) → IsEntriesText v text count
 text_kept v text items count is spelled count_is =
     let shows : items_in_text v text ≡ items = text_spells v text items is spelled in
     record {
       text_is = is ∙ ap items_text (sym shows);
       spelled = subst (AreSpelled v nothing_read) (sym shows) spelled;
-      count_is = count_is ∙ ap (λ (xs : List Item). length (exchanges_of xs)) (sym shows);
+      count_is = count_is ∙ ap (λ (xs : List Item). length (exchanges_of_items xs)) (sym shows);
     }
 
 -- the text of what entries stand for is theirs
 pub spelled_text : (v : LogVersion) (items : List Item) → AreSpelled v nothing_read items
-    → entries_text v (exchanges_of items) ≡ items_text items
+    → entries_text v (exchanges_of_items items) ≡ items_text items
 spelled_text v items spelled = ap items_text (spelled_again v nothing_read items spelled)
 
 pub kept_text : (v : LogVersion) (text : List ℕ) (count : ℕ) → IsEntriesText v text count

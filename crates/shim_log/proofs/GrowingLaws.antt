@@ -10,7 +10,8 @@ use Rattle.dos_io.specs.declared.exchange.Exchange.{Exchange}
 use Rattle.dos_io.specs.declared.exchange.Exchange.TheVariants.{Signals}
 use Rattle.shim_log.specs.declared.version.LogVersion.TheVariants.{Two}
 use Rattle.shim_log.specs.declared.progress.Progress.{Progress}
-use Rattle.shim_log.specs.Items.{Item, quiet, kept, items_of, quiet_rounds, exchanges_of, IsLoud}
+use Rattle.shim_log.specs.Items.{Item, quiet, kept, items_of, quiet_rounds, exchanges_of_items}
+use Rattle.shim_log.specs.Items.{IsLoud}
 use Rattle.shim_log.specs.Items.{GoesNotOn, AreJoined}
 use Rattle.shim_log.specs.LogText.{entry_text, item_text, items_text, entries_text}
 use Rattle.shim_log.specs.Ranges.{InRange, NotEnd, most_exchanges}
@@ -69,18 +70,20 @@ text_pushed xs item =
     (flat_map-cons item_text item [] ∙ append-nil (item_text item))
 
 exchanges_pushed : (xs : List Item) (item : Item) (es : List Exchange) (e : Exchange)
-    → exchanges_of xs ≡ es → exchanges_of (item ∷ []) ≡ e ∷ []
-    → exchanges_of (xs ++ item ∷ []) ≡ es ++ e ∷ []
+    → exchanges_of_items xs ≡ es → exchanges_of_items (item ∷ []) ≡ e ∷ []
+    → exchanges_of_items (xs ++ item ∷ []) ≡ es ++ e ∷ []
 exchanges_pushed xs item es e is one =
-    exchanges_append xs (item ∷ []) ∙ ap (λ (t : List Exchange). exchanges_of xs ++ t) one
+    exchanges_append xs (item ∷ []) ∙ ap (λ (t : List Exchange). exchanges_of_items xs ++ t) one
     ∙ ap (λ (t : List Exchange). t ++ e ∷ []) is
 
 grows_with : (xs : List Item) (item : Item) (es : List Exchange) (e : Exchange) → items_of es ≡ xs
-    → exchanges_of xs ≡ es → AreJoined (xs ++ item ∷ []) → exchanges_of (item ∷ []) ≡ e ∷ []
+    → exchanges_of_items xs ≡ es → AreJoined (xs ++ item ∷ []) → exchanges_of_items (item ∷ [])
+        ≡ e ∷ []
     → GrowsBy es e (length (item_text item))
 unfolding GrowsBy
 grows_with xs item es e spelled is are one =
-    let all : exchanges_of (xs ++ item ∷ []) ≡ es ++ e ∷ [] = exchanges_pushed xs item es e is one
+    let all : exchanges_of_items (xs ++ item ∷ []) ≡ es
+          ++ e ∷ [] = exchanges_pushed xs item es e is one
     in
     let items : items_of (es ++ e ∷ []) ≡ xs ++ item ∷ [] =
     ap items_of (sym all) ∙ joined_again (xs ++ item ∷ []) are in
@@ -101,7 +104,7 @@ module _ (text : List ℕ) (stretch : Option (ℕ × ℕ)) (count : ℕ) (k : Is
     xs = grown_items text stretch
 
     abbrev es : List Exchange
-    es = exchanges_of xs
+    es = exchanges_of_items xs
 
     pub grown_text : entries_text Two es ≡ text ++ items_text (stretch_items stretch)
     grown_text =
@@ -119,10 +122,10 @@ module _ (text : List ℕ) (stretch : Option (ℕ × ℕ)) (count : ℕ) (k : Is
         ∙ ap (λ (t : List ℕ). t ++ items_text (stretch_items stretch)) (sym k.text_is))
 
     pub closed : (new : List ℕ) → new ≡ text ++ items_text (stretch_items stretch)
-        → IsEntriesText Two new count × (exchanges_of (items_in_text Two new) ≡ es)
+        → IsEntriesText Two new count × (exchanges_of_items (items_in_text Two new) ≡ es)
     closed new is = (
       text_kept Two new xs count (is ∙ put_is) k.spelled k.count_is,
-      ap exchanges_of (text_spells Two new xs (is ∙ put_is) k.spelled),
+      ap exchanges_of_items (text_spells Two new xs (is ∙ put_is) k.spelled),
     )
 
     held_is : (after_items nothing_read xs).held ≡ count
@@ -132,12 +135,12 @@ module _ (text : List ℕ) (stretch : Option (ℕ × ℕ)) (count : ℕ) (k : Is
 pub record Grew (text : List ℕ) (stretch : Option (ℕ × ℕ)) (count : ℕ) (e : Exchange)
     (new : List ℕ) (left : Option (ℕ × ℕ)) : Type 0 where
   pub kept : IsGrowing new left (count + 1)
-  pub shows : exchanges_of (grown_items new left)
-      ≡ exchanges_of (grown_items text stretch) ++ e ∷ []
+  pub shows : exchanges_of_items (grown_items new left)
+      ≡ exchanges_of_items (grown_items text stretch) ++ e ∷ []
 
 counted : (xs : List Item) (es : List Exchange) (e : Exchange) (count : ℕ)
-    → exchanges_of xs ≡ es ++ e ∷ [] → count ≡ length es
-    → count + 1 ≡ length (exchanges_of xs)
+    → exchanges_of_items xs ≡ es ++ e ∷ [] → count ≡ length es
+    → count + 1 ≡ length (exchanges_of_items xs)
 counted xs es e count is count_is =
     omega (arith, count_is, ap length is, length-append es (e ∷ []))
 
@@ -166,7 +169,7 @@ grows_kept text stretch count e new k fits no_end loud few is =
     (flat_map-cons item_text (kept e) [] ∙ append-nil (entry_text e))) in
     let shows : items_in_text Two new ≡ all = text_spells Two new all text_is spelled in
     let grown : grown_items new None ≡ all = append-nil (items_in_text Two new) ∙ shows in
-    let exchanges : exchanges_of all ≡ exchanges_of before ++ e ∷ [] =
+    let exchanges : exchanges_of_items all ≡ exchanges_of_items before ++ e ∷ [] =
     exchanges_append before (kept e ∷ []) in
     record {
       kept = record {
@@ -174,10 +177,10 @@ grows_kept text stretch count e new k fits no_end loud few is =
         spelled = subst (AreSpelled Two nothing_read) (sym grown) spelled;
         shut = ap (λ (ys : List Item). (after_items nothing_read ys).goes_on) shows
             ∙ ap (λ (p : Progress). p.goes_on) (after_append nothing_read before (kept e ∷ []));
-        count_is = counted all (exchanges_of before) e count exchanges k.count_is
-            ∙ ap (λ (ys : List Item). length (exchanges_of ys)) (sym grown);
+        count_is = counted all (exchanges_of_items before) e count exchanges k.count_is
+            ∙ ap (λ (ys : List Item). length (exchanges_of_items ys)) (sym grown);
       };
-      shows = ap exchanges_of grown ∙ exchanges;
+      shows = ap exchanges_of_items grown ∙ exchanges;
     }
 
 -- ---- a round without a signal
@@ -228,15 +231,15 @@ on_is false s more round is e = absurd cc
 
 pub quiet_grows : (text : List ℕ) (stretch : Option (ℕ × ℕ)) (count round : ℕ)
     → IsGrowing text stretch count → counted_up stretch round ≡ None
-    → GrowsBy (exchanges_of (grown_items text stretch)) (Signals round []) 9
+    → GrowsBy (exchanges_of_items (grown_items text stretch)) (Signals round []) 9
 unfolding quiet_rounds
 quiet_grows text stretch count round k none =
     let before : List Item = grown_items text stretch in
     let apart : (after_items nothing_read before).goes_on ≡ Some round → ⊥ =
     λ e. goes_apart stretch round none (sym (after_grown text stretch count k) ∙ e) in
     let are = spelled_joined nothing_read before k.spelled in
-    subst (GrowsBy (exchanges_of before) (Signals round [])) (nine round)
-    (grows_with before (quiet round 1) (exchanges_of before) (Signals round [])
+    subst (GrowsBy (exchanges_of_items before) (Signals round [])) (nine round)
+    (grows_with before (quiet round 1) (exchanges_of_items before) (Signals round [])
     (joined_again before are) refl
     (joined_push nothing_read before (quiet round 1) are (omega arith, apart)) refl)
   where
@@ -267,17 +270,18 @@ grows_quiet text stretch count round new k none low few is =
     let shows : items_in_text Two new ≡ before = text_spells Two new before text_is k.spelled in
     let grown : grown_items new (Some (round, 1)) ≡ all =
     ap (λ (ys : List Item). ys ++ quiet round 1 ∷ []) shows in
-    let exchanges : exchanges_of all ≡ exchanges_of before ++ Signals round [] ∷ [] =
+    let exchanges : exchanges_of_items all ≡ exchanges_of_items before ++ Signals round [] ∷ [] =
     exchanges_append before (quiet round 1 ∷ []) in
     record {
       kept = record {
         text_is = text_is ∙ ap items_text (sym shows);
         spelled = subst (AreSpelled Two nothing_read) (sym grown) spelled;
         shut = tt;
-        count_is = counted all (exchanges_of before) (Signals round []) count exchanges k.count_is
-            ∙ ap (λ (ys : List Item). length (exchanges_of ys)) (sym grown);
+        count_is = counted all (exchanges_of_items before) (Signals round []) count exchanges
+            k.count_is
+            ∙ ap (λ (ys : List Item). length (exchanges_of_items ys)) (sym grown);
       };
-      shows = ap exchanges_of grown ∙ exchanges;
+      shows = ap exchanges_of_items grown ∙ exchanges;
     }
 
 -- a stretch of one round more
@@ -295,20 +299,20 @@ module _ (text : List ℕ) (s : ℕ × ℕ) (count round : ℕ) (k : IsGrowing t
   last_fits : FitsQuiet (after_items nothing_read front) s.0 s.1
   last_fits = (spelled_back Two nothing_read front (quiet s.0 s.1 ∷ []) k.spelled).0
 
-  longer : exchanges_of (quiet s.0 (s.1 + 1) ∷ [])
-      ≡ exchanges_of (quiet s.0 s.1 ∷ []) ++ Signals round [] ∷ []
+  longer : exchanges_of_items (quiet s.0 (s.1 + 1) ∷ [])
+      ≡ exchanges_of_items (quiet s.0 s.1 ∷ []) ++ Signals round [] ∷ []
   longer =
       append-nil (quiet_rounds s.0 (s.1 + 1)) ∙ quiet_last s.0 s.1
       ∙ ap (λ (r : ℕ). quiet_rounds s.0 s.1 ++ Signals r [] ∷ []) on
       ∙ ap (λ (xs : List Exchange). xs ++ Signals round [] ∷ [])
       (sym (append-nil (quiet_rounds s.0 s.1)))
 
-  more_exchanges : exchanges_of more
-      ≡ exchanges_of (grown_items text (Some s)) ++ Signals round [] ∷ []
+  more_exchanges : exchanges_of_items more
+      ≡ exchanges_of_items (grown_items text (Some s)) ++ Signals round [] ∷ []
   more_exchanges =
       exchanges_append front (quiet s.0 (s.1 + 1) ∷ [])
-      ∙ ap (λ (xs : List Exchange). exchanges_of front ++ xs) longer
-      ∙ sym (append_assoc (exchanges_of front) (exchanges_of (quiet s.0 s.1 ∷ []))
+      ∙ ap (λ (xs : List Exchange). exchanges_of_items front ++ xs) longer
+      ∙ sym (append_assoc (exchanges_of_items front) (exchanges_of_items (quiet s.0 s.1 ∷ []))
       (Signals round [] ∷ []))
       ∙ ap (λ (xs : List Exchange). xs ++ Signals round [] ∷ [])
       (sym (exchanges_append front (quiet s.0 s.1 ∷ [])))
@@ -336,12 +340,13 @@ module _ (text : List ℕ) (s : ℕ × ℕ) (count round : ℕ) (k : IsGrowing t
       joined_push nothing_read front (quiet s.0 (s.1 + 1))
       (spelled_joined nothing_read front front_spelled) (omega arith, last_fits.apart)
 
-  on_grows_by : GrowsBy (exchanges_of (grown_items text (Some s))) (Signals round []) 0
+  on_grows_by : GrowsBy (exchanges_of_items (grown_items text (Some s))) (Signals round []) 0
   unfolding GrowsBy
   on_grows_by =
-      let items : items_of (exchanges_of (grown_items text (Some s)) ++ Signals round [] ∷ [])
+      let items : items_of (exchanges_of_items (grown_items text (Some s)) ++ Signals round [] ∷ [])
       ≡ more = ap items_of (sym more_exchanges) ∙ joined_again more more_joined in
-      let old : items_of (exchanges_of (grown_items text (Some s))) ≡ grown_items text (Some s) =
+      let old : items_of (exchanges_of_items (grown_items text (Some s)))
+            ≡ grown_items text (Some s) =
       joined_again (grown_items text (Some s))
       (spelled_joined nothing_read (grown_items text (Some s)) k.spelled) in
       omega (
@@ -364,7 +369,8 @@ module _ (text : List ℕ) (s : ℕ × ℕ) (count round : ℕ) (k : IsGrowing t
       text_is = k.text_is;
       spelled = more_spelled low few;
       shut = tt;
-      count_is = counted more (exchanges_of (grown_items text (Some s))) (Signals round []) count
+      count_is = counted more (exchanges_of_items (grown_items text (Some s))) (Signals round [])
+          count
           more_exchanges k.count_is;
     };
     shows = more_exchanges;
@@ -372,7 +378,7 @@ module _ (text : List ℕ) (s : ℕ × ℕ) (count round : ℕ) (k : IsGrowing t
 
 pub on_grows : (text : List ℕ) (stretch : Option (ℕ × ℕ)) (count round : ℕ) (more : ℕ × ℕ)
     → IsGrowing text stretch count → counted_up stretch round ≡ Some more
-    → GrowsBy (exchanges_of (grown_items text stretch)) (Signals round []) 0
+    → GrowsBy (exchanges_of_items (grown_items text stretch)) (Signals round []) 0
 on_grows text None count round more k on = absurd cc
 on_grows text (Some s) count round more k on =
     on_grows_by text s count round k

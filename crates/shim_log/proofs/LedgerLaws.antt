@@ -25,7 +25,7 @@ use Rattle.shim_log.proofs.LengthLaws.{header_length, input_length, text_length}
 use Rattle.dos_io.specs.declared.exchange.Exchange.TheVariants.{Signals, Input, Clock, End}
 use Rattle.dos_io.specs.Posts.{ArePosts}
 use Rattle.dos_io.specs.Given.{posts_in}
-use Rattle.shim_log.specs.Room.{most_bytes, longest, IsOver, NoRoom, HadRoom, GrowsBy, IsFull}
+use Rattle.shim_log.specs.Room.{most_bytes, longest, IsOver, NoRoom, HadRoom, GrowsBy, IsLogFull}
 use Rattle.dos_world.specs.declared.Question.TheVariants.{Signals as signals_question}
 use Rattle.dos_world.specs.declared.Question.TheVariants.{Input as input_question}
 use Rattle.dos_world.specs.declared.Question.TheVariants.{Clock as clock_question}
@@ -52,21 +52,21 @@ room_push h posts seen (x ∷ es) e had not = (
 -- ---- counted in bytes
 
 full_is : (h : LogHeader) (posts : List (ℕ × Post)) (es : List Exchange) (q : Question) (bytes : ℕ)
-    → GrowsBy es (longest posts q) bytes → IsFull h es bytes
+    → GrowsBy es (longest posts q) bytes → IsLogFull h es bytes
     → IsOver h es (longest posts q) ⊎ (most_exchanges ≤ length es)
-unfolding GrowsBy IsFull IsOver
+unfolding GrowsBy IsLogFull IsOver
 full_is h posts es q bytes grows (inl over) = inl (omega (arith, grows, over))
 full_is h posts es q bytes grows (inr held) = inr held
 
 is_full : (h : LogHeader) (posts : List (ℕ × Post)) (es : List Exchange) (q : Question) (bytes : ℕ)
     → GrowsBy es (longest posts q) bytes
-    → IsOver h es (longest posts q) ⊎ (most_exchanges ≤ length es) → IsFull h es bytes
-unfolding GrowsBy IsFull IsOver
+    → IsOver h es (longest posts q) ⊎ (most_exchanges ≤ length es) → IsLogFull h es bytes
+unfolding GrowsBy IsLogFull IsOver
 is_full h posts es q bytes grows (inl over) = inl (omega (arith, grows, over))
 is_full h posts es q bytes grows (inr held) = inr held
 
 pub no_room : (h : LogHeader) (posts : List (ℕ × Post)) (es : List Exchange) (q : Question)
-    (bytes : ℕ) → AddsEntry q → GrowsBy es (longest posts q) bytes → IsFull h es bytes
+    (bytes : ℕ) → AddsEntry q → GrowsBy es (longest posts q) bytes → IsLogFull h es bytes
     → NoRoom h posts es q
 no_room h posts es (signals_question round) bytes adds grows full =
     full_is h posts es (signals_question round) bytes grows full
@@ -77,7 +77,7 @@ no_room h posts es (clock_question round tid) bytes adds grows full =
 no_room h posts es (end_question ending rounds) bytes adds grows full = absurd adds
 
 pub is_free : (h : LogHeader) (posts : List (ℕ × Post)) (es : List Exchange) (q : Question)
-    (bytes : ℕ) → GrowsBy es (longest posts q) bytes → NoRoom h posts es q → IsFull h es bytes
+    (bytes : ℕ) → GrowsBy es (longest posts q) bytes → NoRoom h posts es q → IsLogFull h es bytes
 is_free h posts es (signals_question round) bytes grows none =
     is_full h posts es (signals_question round) bytes grows none
 is_free h posts es (input_question round tid max) bytes grows none =

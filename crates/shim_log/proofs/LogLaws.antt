@@ -19,7 +19,7 @@ use Rattle.shim_log.specs.declared.version.LogVersion.{LogVersion}
 use Rattle.shim_log.specs.declared.version.LogVersion.TheVariants.{One, Two}
 use Rattle.shim_log.specs.declared.progress.Progress.{Progress}
 use Rattle.shim_log.specs.Bytes.{IsBytes, FitsDigest}
-use Rattle.shim_log.specs.Items.{Item, quiet, kept, items_in, exchanges_of}
+use Rattle.shim_log.specs.Items.{Item, quiet, kept, items_in, exchanges_of_items}
 use Rattle.shim_log.specs.Ranges.{FitsHeader, FitsLog, most_exchanges}
 use Rattle.shim_log.specs.LogText.{Log, log_magic, version_number, header_text, entry_text}
 use Rattle.shim_log.specs.LogText.{item_text}
@@ -344,7 +344,7 @@ log_spelled bytes rest start body both nothing spelled =
     both ∙ ap (λ (r : List ℕ). (front ++ (items_text body.items ++ last)) ++ r) nothing
     ∙ append-nil (front ++ (items_text body.items ++ last))
     ∙ ap (λ (t : List ℕ). front ++ (t ++ last)) (sym (spelled_text start.0 body.items spelled))
-    ∙ sym (append_assoc front (entries_text start.0 (exchanges_of body.items)) last)
+    ∙ sym (append_assoc front (entries_text start.0 (exchanges_of_items body.items)) last)
 
 pub log_takes : (bytes : List ℕ) (log : Log) → IsBytes bytes → log_at bytes ≡ Ok log
     → SpellsLog bytes log

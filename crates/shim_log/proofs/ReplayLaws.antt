@@ -18,12 +18,13 @@ use Rattle.dos_io.specs.declared.exchange.Exchange.{Exchange}
 use Rattle.dos_io.specs.declared.exchange.Exchange.TheVariants.{Signals, Input, Clock, End}
 use Rattle.dos_io.specs.declared.shim.ShimStop.{ShimStop}
 use Rattle.dos_io.specs.Exchanges.{question_of}
-use Rattle.dos_io.specs.Shims.{shim_answered, HasNoEnd}
+use Rattle.dos_io.specs.Shims.{HasNoEnd}
 use Rattle.shim_log.specs.declared.refusal.LogError.{LogError}
 use Rattle.shim_log.specs.declared.version.LogVersion.{LogVersion}
 use Rattle.shim_log.specs.declared.version.LogVersion.TheVariants.{One, Two}
 use Rattle.shim_log.specs.declared.progress.Progress.{Progress}
-use Rattle.shim_log.specs.Items.{Item, quiet, kept, items_in, quiet_rounds, expanded, exchanges_of}
+use Rattle.shim_log.specs.Items.{Item, quiet, kept, items_in, quiet_rounds, exchanges_of_item}
+use Rattle.shim_log.specs.Items.{exchanges_of_items}
 use Rattle.shim_log.specs.LogText.{Log, item_text, items_text, entries_text, exchanges}
 use Rattle.shim_log.specs.Ranges.{AreEntries, InRange, FitsLog}
 use Rattle.shim_log.specs.Reading.{item_at, after_item, nothing_read}
@@ -91,11 +92,11 @@ none_left [] n lt is = omega (arith, lt)
 none_left (e ∷ es) zero lt is = cc
 none_left (e ∷ es) (suc n) lt is = none_left es n (omega (arith, lt)) is
 
-drop_none : (n : ℕ) → drop n (exchanges_of []) ≡ []
+drop_none : (n : ℕ) → drop n (exchanges_of_items []) ≡ []
 drop_none zero = refl
 drop_none (suc n) = refl
 
-pub record First (log : Log) (shim_answered place within : ℕ) : Type 0 where
+pub record First (log : Log) (answered place within : ℕ) : Type 0 where
   pub progress : Progress
   pub item : Item
   pub items : List Item
@@ -103,17 +104,18 @@ pub record First (log : Log) (shim_answered place within : ℕ) : Type 0 where
       ≡ item_text item ++ items_text items
   pub fits : FitsItem log.version progress item
   pub spelled : AreSpelled log.version (after_item progress item) items
-  pub left : drop shim_answered log.entries ≡ drop within (expanded item ++ exchanges_of items)
+  pub left : drop answered log.entries
+      ≡ drop within (exchanges_of_item item ++ exchanges_of_items items)
   pub within_first : IsWithin within (item ∷ items)
 
-pub first_is : (log : Log) (shim_answered place within : ℕ)
-    → StandsAt log shim_answered place within
-    → shim_answered < length log.entries → First log shim_answered place within
-first_is log shim_answered place within st lt = by_items st.items refl
+pub first_is : (log : Log) (answered place within : ℕ)
+    → StandsAt log answered place within
+    → answered < length log.entries → First log answered place within
+first_is log answered place within st lt = by_items st.items refl
   where
-    by_items : (items : List Item) → st.items ≡ items → First log shim_answered place within
-    by_items [] is = absurd (none_left log.entries shim_answered lt
-        (st.left ∙ ap (λ (xs : List Item). drop within (exchanges_of xs)) is
+    by_items : (items : List Item) → st.items ≡ items → First log answered place within
+    by_items [] is = absurd (none_left log.entries answered lt
+        (st.left ∙ ap (λ (xs : List Item). drop within (exchanges_of_items xs)) is
         ∙ drop_none within))
     by_items (item ∷ items) is =
         let spelled = subst (AreSpelled log.version st.progress) is st.spelled in
@@ -124,16 +126,16 @@ first_is log shim_answered place within st lt = by_items st.items refl
           text_is = st.text_is ∙ ap items_text is ∙ flat_map-cons item_text item items;
           fits = spelled.0;
           spelled = spelled.1;
-          left = st.left ∙ ap (λ (xs : List Item). drop within (exchanges_of xs)) is;
+          left = st.left ∙ ap (λ (xs : List Item). drop within (exchanges_of_items xs)) is;
           within_first = subst (IsWithin within) is st.within_first;
         }
 
 -- what is read there
-read_again : (log : Log) (shim_answered place within end : ℕ)
-    (f : First log shim_answered place within)
+read_again : (log : Log) (answered place within end : ℕ)
+    (f : First log answered place within)
     → item_at log.version nothing_read end (item_text f.item ++ items_text f.items)
     ≡ Ok (f.item, items_text f.items)
-read_again log shim_answered place within end f =
+read_again log answered place within end f =
     item_again log.version nothing_read end f.item (items_text f.items)
     (fits_comes log.version nothing_read f.item
     (comes_first log.version f.progress nothing_read f.item (omega arith) refl f.fits))
@@ -143,14 +145,14 @@ pub record IsRead (log : Log) (place : ℕ) (text left : List ℕ) : Type 0 wher
   pub text_is : text ≡ entries_text log.version log.entries
   pub left_is : left ≡ drop place text
 
-module _ (log : Log) (shim_answered place within : ℕ) (text left : List ℕ)
-    (f : First log shim_answered place within) (here : IsRead log place text left) where
+module _ (log : Log) (answered place within : ℕ) (text left : List ℕ)
+    (f : First log answered place within) (here : IsRead log place text left) where
   left_spells : left ≡ item_text f.item ++ items_text f.items
   left_spells = here.left_is ∙ ap (drop place) here.text_is ∙ f.text_is
 
   pub never_refused : (refusal : LogError)
       → item_at log.version nothing_read (length text) left ≡ Err refusal → ⊥
-  never_refused refusal is = absurd (let e = sym (read_again log shim_answered place within
+  never_refused refusal is = absurd (let e = sym (read_again log answered place within
       (length text) f) ∙ ap (item_at log.version nothing_read (length text)) (sym left_spells)
       ∙ is in cc)
 
@@ -160,7 +162,7 @@ module _ (log : Log) (shim_answered place within : ℕ) (text left : List ℕ)
   read_is item rest is =
       let same : (f.item, items_text f.items) ≡ (item, rest) =
       ok_is (f.item, items_text f.items) (item, rest)
-      (sym (read_again log shim_answered place within (length text) f)
+      (sym (read_again log answered place within (length text) f)
       ∙ ap (item_at log.version nothing_read (length text)) (sym left_spells) ∙ is) in
       (ap (λ (x : Item × List ℕ). x.0) same, ap (λ (x : Item × List ℕ). x.1) same)
 
@@ -180,14 +182,14 @@ within_none One p (quiet round count ∷ items) spelled = absurd spelled.0
 within_none Two p (quiet round count ∷ items) spelled = omega (arith, spelled.0.some)
 
 -- behind the entry
-behind_first : (log : Log) (shim_answered place within : ℕ) (text left : List ℕ)
-    (f : First log shim_answered place within) (here : IsRead log place text left) (item : Item)
+behind_first : (log : Log) (answered place within : ℕ) (text left : List ℕ)
+    (f : First log answered place within) (here : IsRead log place text left) (item : Item)
     (rest : List ℕ) → item_at log.version nothing_read (length text) left ≡ Ok (item, rest)
-    → drop (shim_answered + 1) log.entries ≡ exchanges_of f.items
-    → StandsAt log (shim_answered + 1) (length text - length rest) 0
-behind_first log shim_answered place within text left f here item rest is left_over =
-    let there = rest_place log shim_answered place within text left f here item rest is in
-    let read = read_is log shim_answered place within text left f here item rest is in
+    → drop (answered + 1) log.entries ≡ exchanges_of_items f.items
+    → StandsAt log (answered + 1) (length text - length rest) 0
+behind_first log answered place within text left f here item rest is left_over =
+    let there = rest_place log answered place within text left f here item rest is in
+    let read = read_is log answered place within text left f here item rest is in
     record {
       progress = after_item f.progress f.item;
       items = f.items;
@@ -221,10 +223,10 @@ next_kept p place within text left rest e lt st here is =
     let read = read_is p.log p.answered place within text left f here (kept e) rest is in
     let none : within ≡ 0 =
     subst (λ (x : Item). IsWithin within (x ∷ f.items)) read.0 f.within_first in
-    let found : drop p.answered p.log.entries ≡ e ∷ exchanges_of f.items =
-    f.left ∙ ap (λ (k : ℕ). drop k (expanded f.item ++ exchanges_of f.items)) none
-    ∙ ap (λ (x : Item). drop 0 (expanded x ++ exchanges_of f.items)) read.0 in
-    let got = get_first p.log.entries (exchanges_of f.items) p.answered e found in
+    let found : drop p.answered p.log.entries ≡ e ∷ exchanges_of_items f.items =
+    f.left ∙ ap (λ (k : ℕ). drop k (exchanges_of_item f.item ++ exchanges_of_items f.items)) none
+    ∙ ap (λ (x : Item). drop 0 (exchanges_of_item x ++ exchanges_of_items f.items)) read.0 in
+    let got = get_first p.log.entries (exchanges_of_items f.items) p.answered e found in
     record {
       entry = get_left p.log.entries (End p.log.ending p.log.rounds ∷ []) p.answered lt ∙ got.0;
       fits = range_of p.log.version f.progress f.item e read.0 f.fits;
@@ -283,13 +285,14 @@ module _ (p : ReplayState) (place within : ℕ) (text left rest : List ℕ) (rou
 
     found : (slice_get p.log.entries p.answered ≡ Some (Signals (round + within) []))
         × (drop (p.answered + 1) p.log.entries
-        ≡ drop (within + 1) (quiet_rounds round count ++ exchanges_of f.items))
+        ≡ drop (within + 1) (quiet_rounds round count ++ exchanges_of_items f.items))
     found =
-        get_first p.log.entries (drop (within + 1) (quiet_rounds round count ++ exchanges_of
-        f.items))
+        get_first p.log.entries
+        (drop (within + 1) (quiet_rounds round count ++ exchanges_of_items f.items))
         p.answered (Signals (round + within) [])
-        (f.left ∙ ap (λ (x : Item). drop within (expanded x ++ exchanges_of f.items)) read.0
-        ∙ quiet_first round count within (exchanges_of f.items) in_stretch)
+        (f.left
+        ∙ ap (λ (x : Item). drop within (exchanges_of_item x ++ exchanges_of_items f.items)) read.0
+        ∙ quiet_first round count within (exchanges_of_items f.items) in_stretch)
 
     entry_is : slice_get (exchanges p.log) p.answered ≡ Some (Signals (round + within) [])
     entry_is =
@@ -312,7 +315,8 @@ module _ (p : ReplayState) (place within : ℕ) (text left rest : List ℕ) (rou
         text_is = f.text_is ∙ sym (flat_map-cons item_text f.item f.items);
         spelled = (f.fits, f.spelled);
         left = found.1
-            ∙ ap (λ (x : Item). drop (within + 1) (expanded x ++ exchanges_of f.items)) (sym
+            ∙ ap (λ (x : Item). drop (within + 1)
+                (exchanges_of_item x ++ exchanges_of_items f.items)) (sym
             read.0);
         within_first = subst (λ (x : Item). IsWithin (within + 1) (x ∷ f.items)) (sym read.0) more;
         inside = st.inside;
@@ -329,8 +333,8 @@ module _ (p : ReplayState) (place within : ℕ) (text left rest : List ℕ) (rou
           behind = behind_first p.log p.answered place within text left f here (quiet round count)
               rest is
               (found.1
-              ∙ ap (λ (k : ℕ). drop k (quiet_rounds round count ++ exchanges_of f.items)) all
-              ∙ quiet_over round count (exchanges_of f.items));
+              ∙ ap (λ (k : ℕ). drop k (quiet_rounds round count ++ exchanges_of_items f.items)) all
+              ∙ quiet_over round count (exchanges_of_items f.items));
         }
 
 -- ---- before the first and behind the last
@@ -349,15 +353,15 @@ stands_first log fits =
       inside = omega arith;
     }
 
-pub stands_last : (log : Log) (shim_answered : ℕ) (text : List ℕ)
-    → text ≡ entries_text log.version log.entries → shim_answered ≡ length log.entries
-    → StandsAt log (shim_answered + 1) (length text) 0
-stands_last log shim_answered text is all = record {
+pub stands_last : (log : Log) (answered : ℕ) (text : List ℕ)
+    → text ≡ entries_text log.version log.entries → answered ≡ length log.entries
+    → StandsAt log (answered + 1) (length text) 0
+stands_last log answered text is all = record {
   progress = nothing_read;
   items = [];
   text_is = ap (drop (length text)) (sym is) ∙ drop_all text;
   spelled = tt;
-  left = past log.entries (shim_answered + 1) (omega (arith, all));
+  left = past log.entries (answered + 1) (omega (arith, all));
   within_first = refl;
   inside = subst (λ (t : List ℕ). length text ≤ length t) is (omega arith);
 }
@@ -375,7 +379,7 @@ stands_last log shim_answered text is all = record {
 -- ---- what it tells after an answer
 
 pub plays : (p n : ReplayState) (e : Exchange) → slice_get (exchanges p.log) p.answered ≡ Some e
-    → n ≡ replay_advanced p → replayer_state n ≡ shim_answered (replayer_state p) e
+    → n ≡ replay_advanced p → replayer_state n ≡ answered (replayer_state p) e
 plays p n e at is =
     let within : p.answered < length (exchanges p.log) =
     slice_get_within (exchanges p.log) p.answered e at in

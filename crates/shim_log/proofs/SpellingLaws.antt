@@ -9,7 +9,8 @@ use Rattle.shim_log.specs.declared.version.LogVersion.{LogVersion}
 use Rattle.shim_log.specs.declared.version.LogVersion.TheVariants.{One, Two}
 use Rattle.shim_log.specs.declared.progress.Progress.{Progress}
 use Rattle.shim_log.specs.Items.{Item, quiet, kept, items_of, items_in, each_kept, quiet_rounds}
-use Rattle.shim_log.specs.Items.{expanded, exchanges_of, IsLoud, GoesNotOn, AreJoined}
+use Rattle.shim_log.specs.Items.{exchanges_of_item, exchanges_of_items, IsLoud, GoesNotOn}
+use Rattle.shim_log.specs.Items.{AreJoined}
 use Rattle.shim_log.specs.LogText.{item_text, items_text}
 use Rattle.shim_log.specs.Ranges.{AreEntries, HasPosts, most_exchanges}
 use Rattle.shim_log.specs.Reading.{after_item, nothing_read}
@@ -39,11 +40,11 @@ spelled_back v p [] ys h = h
 spelled_back v p (x ∷ xs) ys h = spelled_back v (after_item p x) xs ys h.1
 
 pub exchanges_append : (xs ys : List Item)
-    → exchanges_of (xs ++ ys) ≡ exchanges_of xs ++ exchanges_of ys
+    → exchanges_of_items (xs ++ ys) ≡ exchanges_of_items xs ++ exchanges_of_items ys
 exchanges_append [] ys = refl
 exchanges_append (x ∷ xs) ys =
-    ap (λ (es : List Exchange). expanded x ++ es) (exchanges_append xs ys)
-    ∙ sym (append_assoc (expanded x) (exchanges_of xs) (exchanges_of ys))
+    ap (λ (es : List Exchange). exchanges_of_item x ++ es) (exchanges_append xs ys)
+    ∙ sym (append_assoc (exchanges_of_item x) (exchanges_of_items xs) (exchanges_of_items ys))
 
 pub items_text_append : (xs ys : List Item)
     → items_text (xs ++ ys) ≡ items_text xs ++ items_text ys
@@ -93,13 +94,14 @@ quiet_behind round (suc n) es fits = quiet_behind (suc round) n es fits.1
 -- ---- what entries stand for is in its ranges
 
 pub item_length : (round count : ℕ) (items : List Item)
-    → length (exchanges_of (quiet round count ∷ items)) ≡ count + length (exchanges_of items)
+    → length (exchanges_of_items (quiet round count ∷ items))
+        ≡ count + length (exchanges_of_items items)
 item_length round count items =
-    length-append (quiet_rounds round count) (exchanges_of items)
-    ∙ ap (λ (n : ℕ). n + length (exchanges_of items)) (quiet_length round count)
+    length-append (quiet_rounds round count) (exchanges_of_items items)
+    ∙ ap (λ (n : ℕ). n + length (exchanges_of_items items)) (quiet_length round count)
 
 pub after_held : (p : Progress) (items : List Item)
-    → (after_items p items).held ≡ p.held + length (exchanges_of items)
+    → (after_items p items).held ≡ p.held + length (exchanges_of_items items)
 after_held p [] = omega arith
 after_held p (quiet round count ∷ items) =
     omega (
@@ -110,7 +112,7 @@ after_held p (quiet round count ∷ items) =
 after_held p (kept e ∷ items) = omega (arith, after_held (after_item p (kept e)) items)
 
 pub spelled_few : (v : LogVersion) (p : Progress) (items : List Item) → AreSpelled v p items
-    → p.held ≤ most_exchanges → p.held + length (exchanges_of items) ≤ most_exchanges
+    → p.held ≤ most_exchanges → p.held + length (exchanges_of_items items) ≤ most_exchanges
 spelled_few v p [] h le = omega (arith, le)
 spelled_few v p (kept e ∷ items) h le =
     omega (arith, spelled_few v (after_item p (kept e)) items h.1 h.0.held)
@@ -123,13 +125,13 @@ spelled_few Two p (quiet round count ∷ items) h le =
     )
 
 pub spelled_fits : (v : LogVersion) (p : Progress) (items : List Item) → AreSpelled v p items
-    → AreEntries (exchanges_of items)
+    → AreEntries (exchanges_of_items items)
 spelled_fits v p [] h = tt
 spelled_fits v p (kept e ∷ items) h =
     ((h.0.range, h.0.no_end), spelled_fits v (after_item p (kept e)) items h.1)
 spelled_fits One p (quiet round count ∷ items) h = absurd h.0
 spelled_fits Two p (quiet round count ∷ items) h =
-    quiet_fits round count (exchanges_of items) h.0.last
+    quiet_fits round count (exchanges_of_items items) h.0.last
     (spelled_fits Two (after_item p (quiet round count)) items h.1)
 
 -- ---- and has these entries
@@ -173,24 +175,24 @@ spelled_joined p (quiet round count ∷ items) h = (
 )
 
 each_again : (p : Progress) (items : List Item) → AreSpelled One p items
-    → each_kept (exchanges_of items) ≡ items
+    → each_kept (exchanges_of_items items) ≡ items
 each_again p [] h = refl
 each_again p (kept e ∷ items) h =
     ap (λ (xs : List Item). kept e ∷ xs) (each_again (after_item p (kept e)) items h.1)
 each_again p (quiet round count ∷ items) h = absurd h.0
 
 pub spelled_again : (v : LogVersion) (p : Progress) (items : List Item) → AreSpelled v p items
-    → items_in v (exchanges_of items) ≡ items
+    → items_in v (exchanges_of_items items) ≡ items
 spelled_again One p items h = each_again p items h
 spelled_again Two p items h = joined_again items (spelled_joined p items h)
 
 -- ---- the entries of exchanges in their ranges are spelled
 
-each_expanded : (es : List Exchange) → exchanges_of (each_kept es) ≡ es
+each_expanded : (es : List Exchange) → exchanges_of_items (each_kept es) ≡ es
 each_expanded [] = refl
 each_expanded (e ∷ es) = ap (λ (xs : List Exchange). e ∷ xs) (each_expanded es)
 
-pub expanded_in : (v : LogVersion) (es : List Exchange) → exchanges_of (items_in v es) ≡ es
+pub expanded_in : (v : LogVersion) (es : List Exchange) → exchanges_of_items (items_in v es) ≡ es
 expanded_in One es = each_expanded es
 expanded_in Two es = items_expanded es
 
@@ -224,7 +226,8 @@ starts_apart None round count items h e = absurd cc
 starts_apart (Some n) round count items h e = h (sym (some_is n round e))
 
 joined_spelled : (p : Progress) (items : List Item) → AreJoined items
-    → AreEntries (exchanges_of items) → p.held + length (exchanges_of items) ≤ most_exchanges
+    → AreEntries (exchanges_of_items items)
+        → p.held + length (exchanges_of_items items) ≤ most_exchanges
     → Starts p.goes_on items → AreSpelled Two p items
 joined_spelled p [] are fits le starts = tt
 joined_spelled p (kept e ∷ items) are fits le starts = (
@@ -241,11 +244,11 @@ joined_spelled p (quiet round (suc n) ∷ items) are fits le starts = (
   record {
     apart = starts_apart p.goes_on round (suc n) items starts;
     some = are.0;
-    last = quiet_bound round n (exchanges_of items) fits;
+    last = quiet_bound round n (exchanges_of_items items) fits;
     held = omega (arith, le, item_length round (suc n) items);
   },
   joined_spelled (after_item p (quiet round (suc n))) items are.2
-      (quiet_behind round (suc n) (exchanges_of items) fits)
+      (quiet_behind round (suc n) (exchanges_of_items items) fits)
       (omega (arith, le, item_length round (suc n) items)) are.1,
 )
 

@@ -10,7 +10,7 @@ use Rattle.shim_log.specs.declared.refusal.LogError.{LogError}
 use Rattle.shim_log.specs.declared.refusal.LogError.TheVariants as refusal
 use Rattle.shim_log.specs.declared.version.LogVersion.{LogVersion}
 use Rattle.shim_log.specs.declared.progress.Progress.{Progress}
-use Rattle.shim_log.specs.Items.{Item, quiet, kept, exchanges_of}
+use Rattle.shim_log.specs.Items.{Item, quiet, kept, exchanges_of_items}
 use Rattle.shim_log.specs.LogText.{item_text, items_text}
 use Rattle.shim_log.specs.Ranges.{most_exchanges}
 use Rattle.shim_log.specs.Reading.{◌>>=◌, place, Body, behind_item, item_at, body_at, after_item}
@@ -91,7 +91,7 @@ module _ (v : LogVersion) (end : ℕ) (bytes rest : List ℕ) (p : Progress) (co
   pub rest_short : length rest ≤ length bytes
   rest_short = omega (arith, ap length w.split, length-append (items_text w.items) rest)
 
-  pub walk_held : p.held ≡ length (exchanges_of w.items)
+  pub walk_held : p.held ≡ length (exchanges_of_items w.items)
   walk_held = omega (
     arith,
     ap (λ (q : Progress). q.held) w.progress,

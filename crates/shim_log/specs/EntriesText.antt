@@ -6,7 +6,7 @@ use Rattle.shim_log.specs.declared.refusal.LogError.{LogError}
 use Rattle.shim_log.specs.declared.version.LogVersion.{LogVersion}
 use Rattle.shim_log.specs.declared.version.LogVersion.TheVariants.{Two}
 use Rattle.shim_log.specs.declared.progress.Progress.{Progress}
-use Rattle.shim_log.specs.Items.{Item, quiet, exchanges_of}
+use Rattle.shim_log.specs.Items.{Item, quiet, exchanges_of_items}
 use Rattle.shim_log.specs.LogText.{items_text}
 use Rattle.shim_log.specs.Reading.{item_at, nothing_read, after_item}
 use Rattle.shim_log.specs.Spelling.{AreSpelled, after_items}
@@ -26,7 +26,7 @@ items_in_text v text = items_within v (length text) nothing_read text
 
 -- the exchanges that they stand for
 abbrev pub entries_in_text : LogVersion → List ℕ → List Exchange
-entries_in_text v text = exchanges_of (items_in_text v text)
+entries_in_text v text = exchanges_of_items (items_in_text v text)
 
 -- The text is that of the entries that it has, which stand for so many exchanges.
 pub record IsEntriesText (v : LogVersion) (text : List ℕ) (count : ℕ) : Type 0 where
@@ -64,7 +64,7 @@ pub record IsGrowing (text : List ℕ) (stretch : Option (ℕ × ℕ)) (count : 
   pub text_is : text ≡ items_text (items_in_text Two text)
   pub spelled : AreSpelled Two nothing_read (grown_items text stretch)
   pub shut : IsShut stretch (items_in_text Two text)
-  pub count_is : count ≡ length (exchanges_of (grown_items text stretch))
+  pub count_is : count ≡ length (exchanges_of_items (grown_items text stretch))
 
 -- what they are seen as: their list, and for how many more bytes memory is taken
 pub record GrowingState : Type 0 where

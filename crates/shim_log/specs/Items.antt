@@ -15,16 +15,16 @@ pub data Item : Type 0 where
 -- ---- from exchanges to entries: each stretch is as long as it can be
 
 -- a round without a signal, in front of these entries
-abbrev pub joined : ℕ → List Item → List Item
-joined round [] = quiet round 1 ∷ []
-joined round (quiet next count ∷ items) =
+abbrev pub joined_round : ℕ → List Item → List Item
+joined_round round [] = quiet round 1 ∷ []
+joined_round round (quiet next count ∷ items) =
     if next == round + 1 then quiet round (count + 1) ∷ items
     else quiet round 1 ∷ quiet next count ∷ items
-joined round (kept e ∷ items) = quiet round 1 ∷ kept e ∷ items
+joined_round round (kept e ∷ items) = quiet round 1 ∷ kept e ∷ items
 
 -- an exchange in front of these entries
 abbrev pub in_front : Exchange → List Item → List Item
-in_front (Signals round []) items = joined round items
+in_front (Signals round []) items = joined_round round items
 in_front (Signals round (post ∷ posts)) items = kept (Signals round (post ∷ posts)) ∷ items
 in_front (Input round tid max bytes) items = kept (Input round tid max bytes) ∷ items
 in_front (Clock round tid n) items = kept (Clock round tid n) ∷ items
@@ -52,13 +52,13 @@ quiet_rounds round zero = []
 quiet_rounds round (suc n) = Signals round [] ∷ quiet_rounds (suc round) n
 
 -- what an entry stands for
-abbrev pub expanded : Item → List Exchange
-expanded (quiet round count) = quiet_rounds round count
-expanded (kept e) = e ∷ []
+abbrev pub exchanges_of_item : Item → List Exchange
+exchanges_of_item (quiet round count) = quiet_rounds round count
+exchanges_of_item (kept e) = e ∷ []
 
-abbrev pub exchanges_of : List Item → List Exchange
-exchanges_of [] = []
-exchanges_of (item ∷ items) = expanded item ++ exchanges_of items
+abbrev pub exchanges_of_items : List Item → List Exchange
+exchanges_of_items [] = []
+exchanges_of_items (item ∷ items) = exchanges_of_item item ++ exchanges_of_items items
 
 -- ---- the entries that stand for some exchanges
 

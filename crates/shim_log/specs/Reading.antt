@@ -16,7 +16,7 @@ use Rattle.shim_log.specs.declared.header.LogHeader.{LogHeader}
 use Rattle.shim_log.specs.declared.version.LogVersion.{LogVersion}
 use Rattle.shim_log.specs.declared.version.LogVersion.TheVariants.{One, Two}
 use Rattle.shim_log.specs.declared.progress.Progress.{Progress}
-use Rattle.shim_log.specs.Items.{Item, quiet, kept, exchanges_of}
+use Rattle.shim_log.specs.Items.{Item, quiet, kept, exchanges_of_items}
 use Rattle.shim_log.specs.LogText.{Log, log_magic}
 use Rattle.shim_log.specs.Ranges.{most_exchanges, least_posts}
 
@@ -252,7 +252,7 @@ abbrev pub log_of : LogVersion × LogHeader → Body → Log
 log_of start body = record {
   version = start.0;
   header = start.1;
-  entries = exchanges_of body.items;
+  entries = exchanges_of_items body.items;
   ending = body.ending;
   rounds = body.rounds;
 }

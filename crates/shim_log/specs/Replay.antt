@@ -11,7 +11,7 @@ use Rattle.dos_io.specs.Exchanges.{question_of}
 use Rattle.dos_io.specs.Outside.{counted_to_limit}
 use Rattle.dos_io.specs.Shims.{ShimState}
 use Rattle.shim_log.specs.declared.progress.Progress.{Progress}
-use Rattle.shim_log.specs.Items.{Item, quiet, kept, exchanges_of}
+use Rattle.shim_log.specs.Items.{Item, quiet, kept, exchanges_of_items}
 use Rattle.shim_log.specs.LogText.{Log, exchanges, entries_text, items_text}
 use Rattle.shim_log.specs.Spelling.{AreSpelled}
 
@@ -66,7 +66,7 @@ pub record StandsAt (log : Log) (answered place within : ℕ) : Type 0 where
   pub items : List Item
   pub text_is : drop place (entries_text log.version log.entries) ≡ items_text items
   pub spelled : AreSpelled log.version progress items
-  pub left : drop answered log.entries ≡ drop within (exchanges_of items)
+  pub left : drop answered log.entries ≡ drop within (exchanges_of_items items)
   pub within_first : IsWithin within items
   pub inside : place ≤ length (entries_text log.version log.entries)
 

@@ -55,7 +55,7 @@ GrowsBy es e bytes =
 -- With so many bytes more, and the end's six, the text would be longer than a log may be; or as
 -- many
 -- exchanges are held as may be.
-unfoldable pub IsFull : LogHeader → List Exchange → ℕ → Type 0
-IsFull header es bytes =
+unfoldable pub IsLogFull : LogHeader → List Exchange → ℕ → Type 0
+IsLogFull header es bytes =
     (most_bytes < length (header_text Two header) + length (entries_text Two es) + bytes + 6)
     ⊎ (most_exchanges ≤ length es)

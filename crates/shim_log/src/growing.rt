@@ -32,7 +32,7 @@ pub struct GrowingEntries {
 
 impl Model for GrowingEntries {
     ghost use Rattle.std.specs.Prelude.{List, length, vec_len, vec_capacity, ◌-◌, ◌+◌, ◌≤◌};
-    ghost use Rattle.shim_log.specs.Items.{exchanges_of};
+    ghost use Rattle.shim_log.specs.Items.{exchanges_of_items};
     ghost use Rattle.shim_log.specs.LogText.{items_text};
     ghost use Rattle.shim_log.specs.EntriesText.{GrowingState, IsGrowing, grown_items};
     ghost use Rattle.shim_log.specs.EntriesText.{stretch_items};

@@ -13,7 +13,7 @@ ghost use Rattle.shim_log.specs.declared.header.LogHeader.{LogHeader};
 ghost use Rattle.dos_io.specs.declared.exchange.Exchange.{Exchange};
 ghost use Rattle.shim_log.specs.Bytes.{IsBytes, AreDigests};
 ghost use Rattle.shim_log.specs.declared.version.LogVersion.{LogVersion};
-ghost use Rattle.shim_log.specs.Items.{Item, quiet, AreJoined, exchanges_of, items_of};
+ghost use Rattle.shim_log.specs.Items.{Item, quiet, AreJoined, exchanges_of_items, items_of};
 ghost use Rattle.shim_log.specs.LogText.{Log, header_text, entry_text, item_text, entries_text};
 ghost use Rattle.shim_log.specs.LogText.{exchanges, logtext};
 ghost use Rattle.shim_log.specs.Ranges.{FitsLog};
@@ -86,10 +86,10 @@ pub fn misfits_stand_next()
 /// Some exchanges and the entries of version 2 that stand for them determine each other; of each
 /// stretch of rounds without a signal there is one entry.
 pub fn entries_are_exchanges()
-    ensures back { (es : List Exchange) → exchanges_of (items_of es) ≡ es }
+    ensures back { (es : List Exchange) → exchanges_of_items (items_of es) ≡ es }
     ensures joined { (es : List Exchange) → AreJoined (items_of es) }
     ensures again { (items : List Item) → AreJoined items
-        → items_of (exchanges_of items) ≡ items }
+        → items_of (exchanges_of_items items) ≡ items }
 {}
 
 /// The texts of one log in two versions are read as logs that differ in the version alone.

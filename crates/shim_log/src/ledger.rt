@@ -10,7 +10,7 @@ ghost use Rattle.dos_io.specs.Shims.{HasNoEnd};
 ghost use Rattle.shim_log.specs.declared.version.LogVersion.TheVariants.{Two};
 ghost use Rattle.shim_log.specs.LogText.{entries_text, exchanges, logtext};
 ghost use Rattle.shim_log.specs.Ranges.{FitsHeader};
-ghost use Rattle.shim_log.specs.Room.{GrowsBy, IsFull, NoRoom, longest};
+ghost use Rattle.shim_log.specs.Room.{GrowsBy, IsLogFull, NoRoom, longest};
 ghost use Rattle.shim_log.specs.Ledger.{LedgerState, IsLedger, recorder_state, ArePlanned};
 ghost use Rattle.shim_log.specs.Ledger.{AddsEntry, MayStop, stopped, added, ledger_closed};
 ghost use Rattle.shim_log.specs.Ledger.{empty_ledger};
@@ -140,11 +140,11 @@ impl Ledger {
 
     // With so many bytes more the log would have no room for its end; or it has as many exchanges
     // as it may have.
-    #[tactic(auto, unfolding(crate::specs::Room::IsFull))]
+    #[tactic(auto, unfolding(crate::specs::Room::IsLogFull))]
     fn is_full(&self, bytes: usize) -> bool
         requires { bytes ≤ 8192 }
-        ensures full { IsTrue result → IsFull self.now.header self.now.entries bytes }
-        ensures free { IsFull self.now.header self.now.entries bytes → IsTrue result }
+        ensures full { IsTrue result → IsLogFull self.now.header self.now.entries bytes }
+        ensures free { IsLogFull self.now.header self.now.entries bytes → IsTrue result }
     {
         if self.entries.len() == 16777216 {
             return true;

@@ -17,7 +17,7 @@ use Rattle.std.proofs.lemmas.List.Sums.{length-filter, count_by-le-length}
 use Rattle.dos_world.specs.declared.Entry.{Entry}
 use Rattle.dos_world.specs.World.{look}
 use Rattle.space_map.proofs.Mapped.{get_or_any}
-use Rattle.space_map.specs.Mapping.{no_entry, page_of_entry, IsAt, IsGapFor, without_entry, marked}
+use Rattle.space_map.specs.Mapping.{no_entry, page_of_entry, IsAt, IsGapFor, all_but, marked}
 use Rattle.space_map.specs.Mapping.{with_page_shared}
 use Rattle.space_map.specs.Mapping.{replaced, with_replaced, shared_in_run, with_shared_run, IsKept}
 use Rattle.space_map.specs.Mapping.{IsFirstFrom, IsRising, Mapping}
@@ -120,7 +120,7 @@ nothing o e h = let never : IsSome {T = Entry} None = subst (λ (x : Option Entr
 -- ---- removing
 
 without-none : (es : List (ℕ × Entry)) (page : ℕ) → NoneBefore es page (length es)
-    → without_entry page es ≡ es
+    → all_but page es ≡ es
 without-none [] page none = refl
 without-none (e ∷ es) page none =
     rw (other_test e page (none 0 (omega arith)))
@@ -130,7 +130,7 @@ rises-rest : (e : ℕ × Entry) (es : List (ℕ × Entry)) → Rises (e ∷ es) 
 rises-rest e es sorted i j lt within = sorted (suc i) (suc j) (omega arith) (omega arith)
 
 pub remove-without : (es : List (ℕ × Entry)) (page place : ℕ) → Rises es → IsAt es page place
-    → remove es place ≡ without_entry page es
+    → remove es place ≡ all_but page es
 remove-without [] page place sorted at = absurd (omega (arith, at.within))
 remove-without (e ∷ es) page zero sorted at =
     let none : NoneBefore es page (length es) =

@@ -10,7 +10,7 @@ use Rattle.std.proofs.lemmas.List.Folds.{list_any_at}
 use Rattle.dos_world.specs.declared.Entry.{Entry}
 use Rattle.dos_world.specs.MemoryCalls.{share_if}
 use Rattle.space_map.specs.Mapping.{no_entry, page_of_entry, in_run, shared_in_run, with_shared_run}
-use Rattle.space_map.specs.Mapping.{without_page_run, IsAt, IsFirstFrom, IsGapFor, IsRun}
+use Rattle.space_map.specs.Mapping.{without_run, IsAt, IsFirstFrom, IsGapFor, IsRun}
 use Rattle.space_map.proofs.Places.{Rises}
 
 -- ---- a list of which one part passes a test
@@ -143,7 +143,7 @@ parted es page count first end sorted from run = record {
 
 pub run-removed : (es : List (ℕ × Entry)) (page count first end : ℕ) → Rises es
     → IsFirstFrom es page first → IsRun es page count first end
-    → remove_range es first end ≡ without_page_run page count es
+    → remove_range es first end ≡ without_run page count es
 run-removed es page count first end sorted from run =
     sym (filter-parted (in_run page count) es (0, no_entry) first end
     (parted es page count first end sorted from run))

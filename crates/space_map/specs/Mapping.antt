@@ -24,8 +24,8 @@ abbrev pub IsMapped : List (ℕ × Entry) → ℕ → Type 0
 IsMapped entries page = IsSome (look entries page)
 
 -- the entries of the other pages
-abbrev pub without_entry : ℕ → List (ℕ × Entry) → List (ℕ × Entry)
-without_entry page entries = filter (λ e. not (e.0 == page)) entries
+abbrev pub all_but : ℕ → List (ℕ × Entry) → List (ℕ × Entry)
+all_but page entries = filter (λ e. not (e.0 == page)) entries
 
 -- an entry that is shared where it is this page's
 abbrev pub marked : ℕ → (ℕ × Entry) → (ℕ × Entry)
@@ -53,8 +53,8 @@ abbrev pub in_run : ℕ → ℕ → (ℕ × Entry) → Bool
 in_run page count e = nat_le page e.0 && nat_lt e.0 (page + count)
 
 -- the entries of the other pages
-abbrev pub without_page_run : ℕ → ℕ → List (ℕ × Entry) → List (ℕ × Entry)
-without_page_run page count entries = filter (λ e. not (in_run page count e)) entries
+abbrev pub without_run : ℕ → ℕ → List (ℕ × Entry) → List (ℕ × Entry)
+without_run page count entries = filter (λ e. not (in_run page count e)) entries
 
 -- an entry that is shared where it is of one of these pages
 abbrev pub shared_in_run : ℕ → ℕ → (ℕ × Entry) → ℕ × Entry

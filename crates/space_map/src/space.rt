@@ -6,8 +6,8 @@ ghost use Rattle.dos_world.specs.Kernel.{put};
 ghost use Rattle.dos_world.specs.Numbered.{run_of};
 ghost use Rattle.space_map.specs.Mapping.{IsAt, IsFirstFrom, IsGapFor, IsMapped, IsRun, IsRising};
 ghost use Rattle.space_map.specs.Mapping.{empty, in_run, put_run, shared_in_run, with_replaced};
-ghost use Rattle.space_map.specs.Mapping.{with_page_shared, with_shared_run, without_entry};
-ghost use Rattle.space_map.specs.Mapping.{without_page_run};
+ghost use Rattle.space_map.specs.Mapping.{with_page_shared, with_shared_run, all_but};
+ghost use Rattle.space_map.specs.Mapping.{without_run};
 ghost use Rattle.std.specs.List.{insert_slice, list_any, remove_range, slice_range};
 ghost use Rattle.std.specs.Vec.{vec_capacity};
 
@@ -104,7 +104,7 @@ impl Space {
     pub fn remove(&mut self, page: u32) -> Entry
         requires { IsMapped self.old.entries page }
         ensures entry { look self.old.entries page ≡ Some result }
-        ensures others { self.new ≡ record self.old { entries = without_entry page self.old.entries } }
+        ensures others { self.new ≡ record self.old { entries = all_but page self.old.entries } }
     {
         match self.search(page) {
             Ok(place) => self.entries.remove(place).1,
@@ -175,7 +175,7 @@ impl Space {
 
     /// Unmaps those of `count` pages from this one on that are mapped. The other pages stay.
     pub fn remove_run(&mut self, page: u32, count: u32)
-        ensures { self.new ≡ record self.old { entries = without_page_run page count self.old.entries } }
+        ensures { self.new ≡ record self.old { entries = without_run page count self.old.entries } }
     {
         let first = self.first_from(page) as usize;
         let end = end_of_run(&self.entries, first, page, count);

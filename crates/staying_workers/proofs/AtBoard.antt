@@ -6,7 +6,7 @@ use Rattle.order_place.specs.Rule.{giver, lent}
 use Rattle.order_place.specs.declared.worker.Worker.{Worker}
 use Rattle.staying_workers.specs.declared.held.Held.{Held}
 use Rattle.staying_workers.specs.declared.orders.PackOrder.{PackOrder}
-use Rattle.staying_workers.specs.Busy.{IsAt, share_out}
+use Rattle.staying_workers.specs.Busy.{IsWorkerAt, share_out}
 
 abbrev head_or : {A : Type 0} → A → List A → A
 head_or d [] = d
@@ -20,12 +20,12 @@ single f (x ∷ y ∷ ys) b e = absurd (let n = ap length e in omega arith)
 
 module _ {G : Type 0} (term : ℕ) (board : TableId) (opened : List Held) (w : Worker (PackOrder G))
   where
-    pub order_at : IsAt term board opened w → (x : PackOrder G) × (w.seat.me ≡ lent x)
+    pub order_at : IsWorkerAt term board opened w → (x : PackOrder G) × (w.seat.me ≡ lent x)
     order_at at =
         let s = single (λ (x : PackOrder G). x.board.term) w.seat.me.0.out term at.1 in
         (s.0, at.0 ∙ ap (λ (l : List (PackOrder G)). (giver l, [])) s.1)
 
-    pub order_is : IsAt term board opened w → (x : PackOrder G) → w.seat.me ≡ lent x
+    pub order_is : IsWorkerAt term board opened w → (x : PackOrder G) → w.seat.me ≡ lent x
         → (x.board.term ≡ term) × (x.seat.board ≡ board) × (x.seat.opened ≡ opened)
         × (share_out w ≡ x.seat.share)
     order_is at x e =

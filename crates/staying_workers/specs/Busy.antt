@@ -9,8 +9,8 @@ use Rattle.staying_workers.specs.declared.orders.PackOrder.{PackOrder}
 
 -- the worker has one order, with a loan of this term and a seat at this board, which knows these
 -- packs
-abbrev pub IsAt : {G : Type 0} → ℕ → TableId → List Held → Worker (PackOrder G) → Type 0
-IsAt {G} term board opened w = (w.seat.me ≡ (giver w.seat.me.0.out, []))
+abbrev pub IsWorkerAt : {G : Type 0} → ℕ → TableId → List Held → Worker (PackOrder G) → Type 0
+IsWorkerAt {G} term board opened w = (w.seat.me ≡ (giver w.seat.me.0.out, []))
     × (map (λ (x : PackOrder G). x.board.term) w.seat.me.0.out ≡ term ∷ [])
     × (map (λ (x : PackOrder G). x.seat.board) w.seat.me.0.out ≡ board ∷ [])
     × (map (λ (x : PackOrder G). x.seat.opened) w.seat.me.0.out ≡ opened ∷ [])

@@ -6,7 +6,7 @@ ghost use Rattle.hand_board.specs.Seating.{AllFinished};
 ghost use Rattle.order_place.specs.Rule.{free};
 ghost use Rattle.worker_pool.specs.Parts.{AreReady};
 ghost use Rattle.staying_workers.specs.Lending.{IsHeldFinished, MayRunHeld};
-ghost use Rattle.staying_workers.specs.Busy.{IsAt, share_out};
+ghost use Rattle.staying_workers.specs.Busy.{IsWorkerAt, share_out};
 
 use crate::held::Held;
 use crate::orders::PackOrder;
@@ -30,7 +30,7 @@ pub(crate) struct Idle<G: Gate> {
 
 // A worker with this order.
 fn sent<G: Gate + Drop>(idle: Idle<G>, order: PackOrder<G>) -> Worker<PackOrder<G>>
-    ensures at { IsAt order.board.term order.seat.board order.seat.opened result }
+    ensures at { IsWorkerAt order.board.term order.seat.board order.seat.opened result }
     ensures share { share_out result ≡ order.seat.share }
 {
     let Idle { mut worker } = idle;
@@ -173,7 +173,7 @@ fn send_all<G: Gate + Drop>(
     ensures few { vec_len busy.new < 2 ^ 32 }
     ensures seat { (result.1.board ≡ seat.board) × (result.1.opened ≡ seat.opened)
         × (result.1.hand ≡ []) }
-    ensures busy { All (IsAt lender.term seat.board seat.opened) busy.new.items }
+    ensures busy { All (IsWorkerAt lender.term seat.board seat.opened) busy.new.items }
     ensures shares { result.1.share + sum_by share_out busy.new.items ≡ seat.share }
 {
     let step = apart(at.count(), others);
@@ -207,7 +207,7 @@ fn bring_back<R: Threads, G: Gate + Drop>(
     opened: &BoardSeat<Held>,
     idle: &mut Vec<Idle<G>>,
 ) -> (Lender<Board<Held>, Global>, BoardSeat<Held>)
-    requires at { IsAt lender.term at.now.id opened.now.opened worker }
+    requires at { IsWorkerAt lender.term at.now.id opened.now.opened worker }
     requires out { (0 < lender.out) × (lender.out < 2 ^ 63) }
     ensures lender { (result.0.value ≡ lender.value) × (result.0.term ≡ lender.term)
         × (result.0.out + 1 ≡ lender.out) }
@@ -238,7 +238,7 @@ fn gather<R: Threads, G: Gate + Drop>(
 ) -> (Lender<Board<Held>, Global>, BoardSeat<Held>)
     requires board { seat.board ≡ at.now.id }
     requires seat { (seat.hand ≡ []) × (seat.ended ≡ true) }
-    requires busy { All (IsAt lender.term seat.board seat.opened) busy.items }
+    requires busy { All (IsWorkerAt lender.term seat.board seat.opened) busy.items }
     requires out { (lender.out ≡ vec_len busy + 1) × (vec_len busy < 2 ^ 32) }
     ensures lender { (result.0.value ≡ lender.value) × (result.0.term ≡ lender.term)
         × (result.0.out ≡ 1) }

@@ -54,7 +54,7 @@ returns g c =
           });
       tally = subst (λ (a : Away). GrewBy (g.W.Workers.tally c.args.workers.now)
           (g.W.Workers.tally c.run_parts-stand_in.new.workers)
-              (budgets_left a.packs - budgets_left packs))
+          (budgets_left a.packs - budgets_left packs))
           view e.tally;
       fixed = e.fixed;
     }

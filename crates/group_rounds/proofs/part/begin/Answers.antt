@@ -51,6 +51,6 @@ returns-clause-parts c = λ ts.
 pub returns-clause-live : goal.returns-clause-live
 returns-clause-live c =
     subst (λ (table : Tables). IsLiveThread table.threads c.args.tid)
-        (sym c.empty_reservation.ensures)
+    (sym c.empty_reservation.ensures)
     (lives_by (registers_by released) c.args.state.now.table.threads c.args.tid c.args.tid
     c.requires.live)

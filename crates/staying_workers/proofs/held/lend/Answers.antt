@@ -10,7 +10,7 @@ use Rattle.staying_workers.proofs.held.lend.Goals as goal
 -- the last of those that are left goes behind those that are out
 goes_out : (out : List Held) (one : Held) (left : List Pack)
     → packs_held (out ++ one ∷ []) ++ reverse left ≡ packs_held out
-        ++ reverse (left ++ one.pack ∷ [])
+    ++ reverse (left ++ one.pack ∷ [])
 goes_out out one left =
     ap (λ ps. ps ++ reverse left) (map-append (λ (h : Held). h.pack) out (one ∷ []))
     ∙ append_assoc (packs_held out) (one.pack ∷ []) (reverse left)

@@ -2,7 +2,7 @@ use Rattle.std.proofs.Common.{◌||◌, ℕ, List, Some, ap, sum_by, sym, subst,
 use Rattle.std.proofs.lemmas.List.Elements.{All-pop}
 use Rattle.std.proofs.lemmas.List.Sums.{sum_by-append}
 use Rattle.hand_board.specs.Seating.{Seating}
-use Rattle.staying_workers.specs.Busy.{IsAt, share_out}
+use Rattle.staying_workers.specs.Busy.{IsWorkerAt, share_out}
 use Rattle.staying_workers.specs.declared.held.Held.{Held}
 use Rattle.staying_workers.specs.declared.orders.PackOrder.{PackOrder}
 use Rattle.order_place.specs.declared.worker.Worker.{Worker}
@@ -16,13 +16,14 @@ bring_back-rest-requires g c =
     let inv = c.loop-worker.invariant in
     let w = c.in-Some.worker in
     let term = c.args.lender.term in
-    let popped = All-pop (IsAt term c.args.seat.board c.args.seat.opened) c.loop-worker.busy.items
+    let popped = All-pop (IsWorkerAt term c.args.seat.board c.args.seat.opened)
+          c.loop-worker.busy.items
     c.pop.new.self.items (Some w) c.in-Some.ensures.items inv.4 in
     let len = c.in-Some.ensures.len in
     record {
-      at = subst (λ t. IsAt t c.args.at.now.id c.loop-worker.seat.opened w) (sym inv.7)
-          (subst (λ b. IsAt term b c.loop-worker.seat.opened w) c.requires.board
-          (subst (λ (o : List Held). IsAt term c.args.seat.board o w) (sym inv.3) popped.1));
+      at = subst (λ t. IsWorkerAt t c.args.at.now.id c.loop-worker.seat.opened w) (sym inv.7)
+          (subst (λ b. IsWorkerAt term b c.loop-worker.seat.opened w) c.requires.board
+          (subst (λ (o : List Held). IsWorkerAt term c.args.seat.board o w) (sym inv.3) popped.1));
       out = (omega (arith, inv.8), omega (arith, inv.8, inv.9));
     }
 
@@ -31,7 +32,7 @@ loop-worker-preserved g c =
     let inv = c.loop-worker.invariant in
     let w = c.in-Some.worker in
     let e = c.join-seat.ensures in
-    let popped = All-pop (IsAt c.args.lender.term c.args.seat.board c.args.seat.opened)
+    let popped = All-pop (IsWorkerAt c.args.lender.term c.args.seat.board c.args.seat.opened)
     c.loop-worker.busy.items c.pop.new.self.items (Some w) c.in-Some.ensures.items inv.4 in
     let share = ap (λ (s : Seating Held). s.share) e in
     let back = c.bring_back-rest.ensures.share in

@@ -1,12 +1,12 @@
 use Rattle.std.proofs.Common.{◌≡◌, ◌+◌, ◌<◌, ◌^◌, [], true, All, sum_by, vec_len}
-use Rattle.staying_workers.specs.Busy.{IsAt, share_out}
+use Rattle.staying_workers.specs.Busy.{IsWorkerAt, share_out}
 use Rattle.staying_workers.proofs.rounds.gather.Given as goal
 
 abbrev pub invariant-loop-worker : goal.invariant-loop-worker
 invariant-loop-worker g l =
     (l.seat.board ≡ l.fn.seat.board) × (l.seat.hand ≡ []) × (l.seat.ended ≡ true)
     × (l.seat.opened ≡ l.fn.seat.opened)
-    × All (IsAt l.fn.lender.term l.fn.seat.board l.fn.seat.opened) l.busy.items
+    × All (IsWorkerAt l.fn.lender.term l.fn.seat.board l.fn.seat.opened) l.busy.items
     × (l.seat.share + sum_by share_out l.busy.items
     ≡ l.fn.seat.share + sum_by share_out l.fn.busy.items)
     × (l.lender.value ≡ l.fn.lender.value) × (l.lender.term ≡ l.fn.lender.term)

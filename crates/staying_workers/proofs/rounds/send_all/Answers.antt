@@ -2,7 +2,7 @@ use Rattle.std.proofs.Common.{◌∷◌, [], ℕ, All, List, sum_by, ap, sym, su
 use Rattle.std.proofs.lemmas.List.Elements.{All-push}
 use Rattle.std.proofs.lemmas.List.Sums.{sum_by-append}
 use Rattle.order_place.specs.declared.worker.Worker.{Worker}
-use Rattle.staying_workers.specs.Busy.{IsAt, share_out}
+use Rattle.staying_workers.specs.Busy.{IsWorkerAt, share_out}
 use Rattle.staying_workers.specs.declared.held.Held.{Held}
 use Rattle.staying_workers.specs.declared.orders.PackOrder.{PackOrder}
 use Rattle.staying_workers.proofs.RanPacks.{still_ready}
@@ -27,10 +27,10 @@ loop-sent-preserved g c =
     let board = c.args.seat.board in
     let opened = c.args.seat.opened in
     let loan = ap (λ l. l.term) h.order.2 ∙ lent.2 ∙ inv.8 in
-    let at = subst (λ t. IsAt t board opened w) loan
-    (subst (λ b. IsAt c.halved-ours.result.1.board.term b opened w) (h.order.0 ∙ inv.0)
+    let at = subst (λ t. IsWorkerAt t board opened w) loan
+    (subst (λ b. IsWorkerAt c.halved-ours.result.1.board.term b opened w) (h.order.0 ∙ inv.0)
     (subst (λ (o : List Held).
-    IsAt c.halved-ours.result.1.board.term c.halved-ours.result.1.seat.board o w)
+    IsWorkerAt c.halved-ours.result.1.board.term c.halved-ours.result.1.seat.board o w)
     (h.order.1 ∙ inv.1) c.sent.ensures.at)) in
     let sum = ap (sum_by_out g.row.G.Denot) pushed.items
     ∙ sum_by-append share_out before (w ∷ []) in
@@ -41,8 +41,8 @@ loop-sent-preserved g c =
       h.seat.0 ∙ inv.0,
       h.seat.1 ∙ inv.1,
       h.seat.2,
-      subst (λ (l : List (Worker (PackOrder g.row.G.Denot))). All (IsAt term board opened) l)
-          (sym pushed.items) (All-push (IsAt term board opened) before w inv.3 at),
+      subst (λ (l : List (Worker (PackOrder g.row.G.Denot))). All (IsWorkerAt term board opened) l)
+          (sym pushed.items) (All-push (IsWorkerAt term board opened) before w inv.3 at),
       omega (arith, sum, mine, cut, all),
       omega (arith, pushed.len, inv.5),
       omega (arith, pushed.capacity, inv.6),

@@ -1,4 +1,4 @@
-use Rattle.space_map.specs.Mapping.{without_page_run}
+use Rattle.space_map.specs.Mapping.{without_run}
 use Rattle.proc_table.proofs.Lengths.{index_of}
 use Rattle.proc_table.proofs.Standing.{lives, space_written, within_spaces}
 use Rattle.proc_table.proofs.processes.Processes.remove_run.Goals as goal
@@ -12,10 +12,10 @@ index_mut-requires c = index_of c.self.inside.spaces
 
 pub invariant_of-self : goal.invariant_of-self
 invariant_of-self c = (space_written c.self.view_is c.self.invariant c.args.pid
-    c.place_of-place.ensures (without_page_run c.args.page c.args.count)
+    c.place_of-place.ensures (without_run c.args.page c.args.count)
     c.index_mut.ensures.value c.remove_run.ensures).placed
 
 pub returns : goal.returns
 returns c = (space_written c.self.view_is c.self.invariant c.args.pid
-    c.place_of-place.ensures (without_page_run c.args.page c.args.count)
+    c.place_of-place.ensures (without_run c.args.page c.args.count)
     c.index_mut.ensures.value c.remove_run.ensures).shows

@@ -1,9 +1,9 @@
 use Rattle.std.proofs.Common.{◌≡◌, [], List, ℕ, None, refl, arith, ap, ◌∙◌}
-use Rattle.shim_log.specs.Items.{exchanges_of}
+use Rattle.shim_log.specs.Items.{exchanges_of_items}
 use Rattle.shim_log.specs.EntriesText.{IsGrowing, items_in_text, items_within, grown_items}
 use Rattle.shim_log.proofs.growing.GrowingEntries.new.Goals as goal
 
-none : exchanges_of (grown_items [] None) ≡ []
+none : exchanges_of_items (grown_items [] None) ≡ []
 unfolding items_in_text items_within
 none = refl
 
@@ -16,4 +16,4 @@ invariant_of-result c = (rw c.new.ensures.items none_kept, omega arith)
 
 pub returns : goal.returns
 returns c =
-    ap (λ (text : List ℕ). exchanges_of (grown_items text None)) c.new.ensures.items ∙ none
+    ap (λ (text : List ℕ). exchanges_of_items (grown_items text None)) c.new.ensures.items ∙ none

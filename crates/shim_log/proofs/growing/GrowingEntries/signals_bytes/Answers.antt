@@ -4,7 +4,7 @@ use Rattle.std.proofs.lemmas.List.{nil_from_length}
 use Rattle.dos_world.specs.declared.Post.{Post}
 use Rattle.dos_io.specs.declared.exchange.Exchange.{Exchange}
 use Rattle.dos_io.specs.declared.exchange.Exchange.TheVariants.{Signals}
-use Rattle.shim_log.specs.Items.{exchanges_of}
+use Rattle.shim_log.specs.Items.{exchanges_of_items}
 use Rattle.shim_log.specs.EntriesText.{GrowingState, grown_items}
 use Rattle.shim_log.specs.Room.{GrowsBy}
 use Rattle.shim_log.proofs.GrowingLaws.{loud_grows, quiet_grows, on_grows, stretch_few, is_loud}
@@ -28,7 +28,7 @@ returns-in-Some-clause-value c =
     let none : c.args.list.now ≡ [] = nil_from_length c.args.list.now (omega arith) in
     subst (λ (es : List Exchange). GrowsBy es (Signals c.args.round c.args.list.now) 0)
     (ap (λ (s : GrowingState). s.list) c.self.view_is)
-    (subst (λ (posts : List Post). GrowsBy (exchanges_of (grown_items c.self.inside.text.items
+    (subst (λ (posts : List Post). GrowsBy (exchanges_of_items (grown_items c.self.inside.text.items
     c.self.inside.stretch)) (Signals c.args.round posts) 0) (sym none)
     (on_grows _ _ _ c.args.round _ c.self.invariant.0 (sym c.counted_up.ensures ∙ c.in-Some.is)))
 
@@ -37,6 +37,6 @@ returns-in-None-clause-value c =
     let none : c.args.list.now ≡ [] = nil_from_length c.args.list.now (omega arith) in
     subst (λ (es : List Exchange). GrowsBy es (Signals c.args.round c.args.list.now) 9)
     (ap (λ (s : GrowingState). s.list) c.self.view_is)
-    (subst (λ (posts : List Post). GrowsBy (exchanges_of (grown_items c.self.inside.text.items
+    (subst (λ (posts : List Post). GrowsBy (exchanges_of_items (grown_items c.self.inside.text.items
     c.self.inside.stretch)) (Signals c.args.round posts) 9) (sym none)
     (quiet_grows _ _ _ c.args.round c.self.invariant.0 (sym c.counted_up.ensures ∙ c.in-None.is)))

@@ -2,7 +2,7 @@ use Rattle.std.proofs.Common.{◌≡◌, ◌∙◌, ℕ, Some, get_or, ap, sym, 
 use Rattle.std.proofs.lemmas.List.{get_or_read}
 use Rattle.dos_world.specs.declared.Entry.{Entry}
 use Rattle.dos_world.specs.World.{look}
-use Rattle.space_map.specs.Mapping.{Mapping, IsAt, no_entry, without_entry}
+use Rattle.space_map.specs.Mapping.{Mapping, IsAt, no_entry, all_but}
 use Rattle.space_map.proofs.Places.{look-at, look-gap, remove-without, kept-remove, shown-changed}
 use Rattle.space_map.proofs.Places.{nothing}
 use Rattle.space_map.proofs.space.Space.remove.Goals as goal
@@ -34,7 +34,7 @@ pub returns-clause-others : goal.returns-clause-others
 returns-clause-others c =
     let at = subst (λ (m : Mapping). IsAt m.entries c.args.page c.in-Ok.place)
     (sym c.self.view_is) c.in-Ok.ensures.found in
-    shown-changed (without_entry c.args.page) c.self.view_is
+    shown-changed (all_but c.args.page) c.self.view_is
     (c.remove.ensures.items
     ∙ remove-without c.self.inside.entries.items c.args.page c.in-Ok.place
     c.self.invariant.rising at)

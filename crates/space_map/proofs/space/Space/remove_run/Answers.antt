@@ -1,13 +1,13 @@
 use Rattle.std.proofs.Common.{◌≡◌, ◌∙◌, ℕ, List, subst}
 use Rattle.std.specs.Prelude.{not}
 use Rattle.dos_world.specs.declared.Entry.{Entry}
-use Rattle.space_map.specs.Mapping.{IsRun, in_run, without_page_run}
+use Rattle.space_map.specs.Mapping.{IsRun, in_run, without_run}
 use Rattle.space_map.proofs.Places.{first-inside, kept-filter, shown-changed}
 use Rattle.space_map.proofs.Runs.{run-removed}
 use Rattle.space_map.proofs.space.Space.remove_run.Goals as goal
 
 left : (c : goal.After-cut)
-    → c.cut.new.entries.items ≡ without_page_run c.args.page c.args.count
+    → c.cut.new.entries.items ≡ without_run c.args.page c.args.count
     c.self.inside.entries.items
 left c =
     let from = first-inside c.self.view_is c.first_from-first.ensures in
@@ -24,4 +24,4 @@ invariant_of-self c =
     c.cut.ensures.capacity
 
 pub returns : goal.returns
-returns c = shown-changed (without_page_run c.args.page c.args.count) c.self.view_is (left c)
+returns c = shown-changed (without_run c.args.page c.args.count) c.self.view_is (left c)

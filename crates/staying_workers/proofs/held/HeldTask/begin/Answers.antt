@@ -12,6 +12,6 @@ returns c =
     let held : Held = c.args.self.now in
     let v = seen_in held.shared.value in
     subst (λ (p : Pack). IsUnderWay MayRunHeld IsHeldRunOut IsHeldFinished held
-        (record held { pack = p }))
+    (record held { pack = p }))
     (sym c.begin.ensures)
     (c.requires, λ z out. (out.0, begun-run v held.pack z.pack out.1))
