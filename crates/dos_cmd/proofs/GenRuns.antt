@@ -75,7 +75,7 @@ pub quiet_run : (k k' : Held) (before after : Quietness) (begun bytes : List ℕ
     (work count : ℕ) (digest : List ℕ) (tally tally' : ℕ)
     → FollowsQuietly (quiet_shown before) (quiet_shown after) → begun ≡ []
     → RanGroup k.config k.state (telling (quiet_shown before).told (Some begun) None) ending
-        k'.state
+    k'.state
     (telling (quiet_shown after).told (Some bytes) None) work → GrewBy tally tally' work
     → count ≡ byte_count bytes → digest ≡ sha256 bytes → (images : List Image) (config : Config)
     → IsOpenedWith k images config

@@ -45,7 +45,7 @@ OfLog (Some log) P = P log
 abbrev pub Did : Request → Taken → ℕ → Outside → Type 0
 Did (Run quantum rounds frames workers posts clock_from clock_step log names) taken status o =
     DidRun (run_request_asked quantum rounds frames posts clock_from clock_step log names)
-        taken.images
+    taken.images
     status o
 Did (Replay workers log names) taken status o =
     OfLog taken.log (λ read. DidReplay read taken.images status o)
@@ -78,7 +78,7 @@ HasMisfit _ taken found last o = ⊥
 abbrev pub Cut : Request → Taken → Outside → Type 0
 Cut (Run quantum rounds frames workers posts clock_from clock_step log names) taken o =
     CutRun (run_request_asked quantum rounds frames posts clock_from clock_step log names)
-        taken.images o
+    taken.images o
     ⊎ CutRunReport (run_request_asked quantum rounds frames posts clock_from clock_step log names)
     taken.images o
 Cut (Replay workers log names) taken o =
@@ -116,7 +116,7 @@ Leaves asked o f refusals.Files last =
     × (Says o last ⊎ Begun asked o (λ taken. Unwritten asked taken last o))
 Leaves asked o f refusals.Host last =
     Rose f.host f.host_after × Begun asked o
-        (λ taken. WasStopped asked taken stops.HostFault last o)
+    (λ taken. WasStopped asked taken stops.HostFault last o)
 Leaves asked o f refusals.Sink last =
     OutputFailed f × (last ≡ []) × Begun asked o (λ taken. Cut asked taken o)
 Leaves asked o f refusals.LogFull last =

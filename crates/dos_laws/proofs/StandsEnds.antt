@@ -295,12 +295,12 @@ pub stands-process_ended : (ts : List ℕ) (w : World) (p status : ℕ) → stat
     → LawfulWith ts (process_ended w p status)
 stands-process_ended ts w p status h k =
     stands-posted ts (tidied (without_process w p status)) (parent_of w p) 17 (omega arith)
-        (omega arith)
+    (omega arith)
     (record {
       lawful = lawful-closed w k.lawful p status h;
       awake =
           awake_by w (tidied (without_process w p status)) ts (awake-closed w k.lawful p status h)
-              k.awake;
+          k.awake;
       apart = k.apart;
     })
 

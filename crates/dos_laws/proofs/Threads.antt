@@ -44,7 +44,7 @@ pub record ChangesRun (f : Thread → Thread) : Type 0 where
 -- what holds of a thread without its run holds of what such a change leaves
 of_rest : (P : Thread → Type 0) (f : Thread → Thread)
     → ((thread : Thread) → without_progress (f thread) ≡ without_progress thread)
-        → (thread : Thread)
+    → (thread : Thread)
     → P (without_progress thread) → P (without_progress (f thread))
 of_rest P f rest thread h = subst P (sym (rest thread)) h
 

@@ -89,7 +89,7 @@ pub options_are : (shape : Shape) (ids : List Text) (pairs : Pairs)
 options_are shape ids [] options allowed plain = tt
 options_are shape ids (pair ∷ pairs) options allowed plain =
     let b = and_parts (is_option_allowed ids pair) (list_all (is_option_allowed ids) pairs) allowed
-          in
+    in
     (word_by shape ids pair.0 options b.0, plain.0, options_are shape ids pairs options b.1 plain.1)
 
 -- ---- each once

@@ -18,7 +18,7 @@ use Rattle.flat_machine.specs.Laws.{without_progress, DiffersInOwn}
 -- bytes of its own and such a change of the thread
 changed_own : (w : World) (t : ℕ) (b : List ℕ) (f : Thread → Thread)
     → ((thread : Thread) → without_progress (f thread) ≡ without_progress thread) → length b
-        ≡ length w.bytes
+    ≡ length w.bytes
     → ((i : ℕ) → owner_of w (i / 4096) ≢ Of t → get_or b i 0 ≡ get_or w.bytes i 0)
     → DiffersInOwn t w (with_thread (record w { bytes = b }) t f)
 changed_own w t b f same count kept = record {

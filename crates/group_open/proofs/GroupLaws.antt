@@ -177,7 +177,7 @@ module _ (count : ℕ) (s : Store) (t : Tables) (images : List Image) (image : I
 
   next_processes : (entries : List (ℕ × Entry))
       → (held_by (with_entries_more entries) (with_process_opened t image)
-          (length t.processes + 1)).processes
+      (length t.processes + 1)).processes
       ≡ t.processes ++ record {
         parent = 0;
         life =
@@ -203,11 +203,11 @@ module _ (count : ℕ) (s : Store) (t : Tables) (images : List Image) (image : I
       let first : length owners ≡ 0 + needed images = omega (arith, owners_length 1 images) in
       let maps = opens.maps (flat_map image_bytes images) owners o.filled in
       let is : u ≡ held_by (with_entries_more (space_from image (length owners)))
-            (with_process_opened t image)
+      (with_process_opened t image)
       (length t.processes + 1) =
       maps ∙ ap (λ v. held_by (with_entries_more (space_from image (length owners))) v pid) after_is
       ∙ ap (held_by (with_entries_more (space_from image (length owners)))
-          (with_process_opened t image)) pid_is
+      (with_process_opened t image)) pid_is
       in
       let thread : tid ≡ 1 + length images = omega (arith, thread_count) in
       record {

@@ -111,9 +111,9 @@ pub more_twice : (first second : List (ℕ × Entry)) (t : Tables) (p : ℕ)
 more_twice first second t p =
     held_twice (with_entries_more second) (with_entries_more first) t p
     ∙ held_same (λ h. with_entries_more second (with_entries_more first h))
-        (with_entries_more (first ++ second)) t p
+    (with_entries_more (first ++ second)) t p
     (held_all (λ h. with_entries_more second (with_entries_more first h)
-        ≡ with_entries_more (first ++ second) h)
+    ≡ with_entries_more (first ++ second) h)
     (held_in t.processes p)
     (λ h. ap (λ es. record h { space = es }) (append_assoc h.space first second)))
 
@@ -144,7 +144,7 @@ pub entry_is_more : (t : Tables) (p page : ℕ) (entry : Entry) (more : ℕ) →
 entry_is_more t p page entry more h =
     held_same (with_entry page entry) (with_entries_more ((page, entry) ∷ [])) t p
     (held_if (λ k. with_entry page entry k ≡ with_entries_more ((page, entry) ∷ []) k) t p h.held
-        h.is
+    h.is
     (ap (λ es. record h.held { space = es })
     (put_last page entry h.held.space h.below)))
 
@@ -157,7 +157,7 @@ place_unmapped t p page more h =
 -- the place that is left behind these entries
 pub place_after : (t u : Tables) (p page above more left : ℕ) (entries : List (ℕ × Entry))
     → HasPlace t p page more → u ≡ held_by (with_entries_more entries) t p
-        → All (λ e. e.0 < above) entries
+    → All (λ e. e.0 < above) entries
     → page ≤ above → length entries + left ≤ more → HasPlace u p above left
 place_after t u p page above more left entries h e below le fits =
     let room = h.room in

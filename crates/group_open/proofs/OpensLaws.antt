@@ -39,7 +39,7 @@ opens_none s t p entries bytes owners no_entry no_byte no_owner = record {
 pub opens_one : (s new : Store) (t u : Tables) (p tid page frame more : ℕ) (entry : Entry)
     (entries : ℕ → ℕ × Entry) (shows : List ℕ)
     → TakesFrame s new tid frame shows → HasPlace t p page more → u
-        ≡ held_by (with_entry page entry) t p
+    ≡ held_by (with_entry page entry) t p
     → entries frame ≡ (page, entry) → Opens s new t u p (λ n. entries n ∷ []) shows (Of tid ∷ [])
 opens_one s new t u p tid page frame more entry entries shows takes place put is = record {
   count = takes_count s new tid frame shows takes;
@@ -48,7 +48,7 @@ opens_one s new t u p tid page frame more entry entries shows takes place put is
       put ∙ entry_is_more t p page entry more place
       ∙ ap (λ e. held_by (with_entries_more (e ∷ [])) t p) (sym is)
       ∙ ap (λ n. held_by (with_entries_more (entries n ∷ [])) t p)
-          (frame_is s frame b o f takes.lowest);
+      (frame_is s frame b o f takes.lowest);
 }
 
 -- what was opened first and what was opened then, as one
@@ -70,7 +70,7 @@ opens_more s m new t u v p first second bytes later owners others a b = record {
       ∙ ap (λ w. held_by (with_entries_more (second (length (os ++ owners)))) w p) (a.maps bs os f)
       ∙ more_twice (first (length os)) (second (length (os ++ owners))) t p
       ∙ ap (λ n. held_by (with_entries_more (first (length os) ++ second n)) t p)
-          (length-append os owners);
+      (length-append os owners);
 }
 
 -- the same under other names

@@ -249,7 +249,7 @@ set-one t p live = record {
         (thread_in (changed (option_map (ran p.registers p.budget)) t.threads p.thread)
         n) ≡ option_map without_progress (thread_in t.threads n)) (sym here)
         (ap (option_map without_progress)
-            (thread_in-by (ran p.registers p.budget) t.threads p.thread)
+        (thread_in-by (ran p.registers p.budget) t.threads p.thread)
         ∙ without (thread_in t.threads p.thread))
     same_by s false e = let other : s ≢ p.thread = λ q. grind (arith, q, e) in
         ap (λ o. option_map without_progress (flat o))

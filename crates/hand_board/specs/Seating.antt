@@ -75,10 +75,10 @@ pub record Standing (T : Type 0) : Type 0 where
 
 -- what is always true of a board: its counts, and an empty vector with room for all
 pub record BoardStands {T : Type 0} (id : TableId) (opened : List T) (count len room : ℕ) : Type 0
-    where
-  pub sized : (id.words ≡ count + 1) × (id.slots ≡ count)
-  pub all : length opened ≡ count
-  pub roomy : (len ≡ 0) × (count ≤ room)
+  where
+    pub sized : (id.words ≡ count + 1) × (id.slots ≡ count)
+    pub all : length opened ≡ count
+    pub roomy : (len ≡ 0) × (count ≤ room)
 
 abbrev pub standing : {T : Type 0} → TableId → List T → ℕ → Standing T
 standing id opened room = record { id = id; opened = opened; room = room }

@@ -119,7 +119,7 @@ pub bits-without_bit : (count : ℕ) (words : List ℕ) (place : ℕ) → place 
 unfolding places_set
 bits-without_bit count words place h =
     changed (λ k. bit words k == 1) (λ k. bit (without_place words place) k == 1) 0 count place
-        place
+    place
     false (omega arith) (ap (λ b. b == 1) (without_bit-same words place h))
     (λ k apart. ap (λ b. b == 1) (without_bit-other words place k h apart))
 

@@ -332,10 +332,10 @@ module _ {s0 s : Store} {old_table T : Tables} {pid child tid i : ℕ}
 
           ap-below : i + 1 < length (space_in old_table pid) → (k : ℕ) → k < i + 1
               → page_of_entry (space_in next_table child) k < page_of_entry
-                  (space_in old_table pid) (i + 1)
+              (space_in old_table pid) (i + 1)
           ap-below h k l =
               let after : page_of_entry (space_in old_table pid) i < page_of_entry
-                    (space_in old_table pid)
+              (space_in old_table pid)
               (i + 1) =
               next-page (space_in old_table pid) next.sorted i h in
               let now : page_of_entry (space_in next_table child) k

@@ -104,7 +104,7 @@ pub followed : {H : Type 0} (told : H → Option Told) (faults : H → ℕ) (sta
 followed told faults start after h h' i i' before left follows =
     subst (λ x. RecorderFollows start after (told x) (told i') (faults x) (faults i')) before
     (subst (λ x. RecorderFollows start after (told h) (told x) (faults h) (faults x)) (sym left)
-        follows)
+    follows)
 
 pub no_end_told : (start start' : LedgerState) → start ≡ start'
     → start' ≡ empty_ledger start'.posts start'.clock start'.header start'.room

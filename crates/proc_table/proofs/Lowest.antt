@@ -36,7 +36,7 @@ opens pending mask signal set free = ap (λ b. b && not (has_bit mask signal)) s
 -- the first that passes is the lowest signal that comes
 pub lowest_is : (pending mask p : ℕ) → 1 ≤ p → p < 32
     → ((k : ℕ) → 1 ≤ k → k < p → is_deliverable pending mask k ≡ false)
-        → is_deliverable pending mask p ≡ true
+    → is_deliverable pending mask p ≡ true
     → Some p ≡ lowest_open pending mask
 lowest_is pending mask p low high below here =
     sym (first_in (is_deliverable pending mask) 1 31 p low (omega arith) below here)

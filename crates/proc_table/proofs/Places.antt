@@ -94,7 +94,7 @@ get_within (r ∷ R) (suc i) e = omega (arith, get_within R i e)
 
 pub get_placed : (R : List Record) (i : ℕ) (d : Record) (place : ℕ) → i < length R
     → option_and_then place_of_record (slice_get R i) ≡ Some place → place_of_record (get_or R i d)
-        ≡ Some place
+    ≡ Some place
 get_placed [] i d place h e = absurd (omega arith)
 get_placed (r ∷ R) zero d place h e = e
 get_placed (r ∷ R) (suc i) d place h e = get_placed R i d place (omega arith) e

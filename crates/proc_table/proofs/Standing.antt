@@ -178,7 +178,7 @@ module _ {R : List Record} {holders : List (Option ℕ)} {S : List Mapping} {D :
         → ((q : ℕ) → q ≢ place → holdings_in S' D' q ≡ holdings_in S D q)
         → holdings_in S' D' place ≡ f (holdings_in S D place)
         → group_shown S' D' R room
-            ≡ record now { processes = changed (on_holdings f) now.processes p }
+        ≡ record now { processes = changed (on_holdings f) now.processes p }
     changes S' D' f others here =
         ap (λ ps. let g : Group = record { processes = ps; room = room } in g)
         (shown_changed place S' D' f others here p found at_place)

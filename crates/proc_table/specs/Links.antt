@@ -121,9 +121,9 @@ pub record IsWalkable (records : List Record) (links : List Links) (parent : ℕ
 
 -- Each record has its links, and the memory of both was taken.
 pub record AreLinksKept (records : List Record) (links : List Links) (room links_room : ℕ) : Type 0
-    where
-  pub linked : AreLinked records links
-  pub count : length links ≡ length records
-  pub few : length records ≤ 65535
-  pub taken : 65535 ≤ room
-  pub links_taken : 65535 ≤ links_room
+  where
+    pub linked : AreLinked records links
+    pub count : length links ≡ length records
+    pub few : length records ≤ 65535
+    pub taken : 65535 ≤ room
+    pub links_taken : 65535 ≤ links_room

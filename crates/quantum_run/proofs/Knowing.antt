@@ -162,7 +162,7 @@ keeps-written base fetched pages new frame address size value aligned is free no
         → (flat_place frame address + length (bytes_of (width size) value) ≤ flat_place f a)
         ⊎ (flat_place f a + 2 ≤ flat_place frame address)
         → number_at (joined new) (flat_place f a) Half
-            ≡ number_at (joined pages) (flat_place f a) Half
+        ≡ number_at (joined pages) (flat_place f a) Half
     stays f a out = ap (λ bytes. number_at bytes (flat_place f a) Half) is
         ∙ ap number_of (beside-written (flat_place f a) 2 (flat_place frame address)
         (bytes_of (width size) value) (joined pages) out)

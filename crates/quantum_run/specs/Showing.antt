@@ -28,12 +28,12 @@ still t owners entries = record { thread = t; owners = owners; entries = entries
 -- The pages hold w's bytes; t has these entries in w, and what is foreign to it there is what is
 -- foreign to the thread that runs.
 pub record HoldsWorld (fixed : Still) (pages : List (Option (List ℕ))) (t : ℕ) (w : World) : Type 0
-    where
-  pub bytes : w.bytes ≡ joined pages
-  pub entry : (address : ℕ) → entry_at w t address ≡ look fixed.entries (address / 4096)
-  pub foreign : (access : Access) (frame : ℕ)
-      → is_foreign t access (owner_of w frame)
-      ≡ is_foreign fixed.thread access (slice_index_or fixed.owners frame Free)
+  where
+    pub bytes : w.bytes ≡ joined pages
+    pub entry : (address : ℕ) → entry_at w t address ≡ look fixed.entries (address / 4096)
+    pub foreign : (access : Access) (frame : ℕ)
+        → is_foreign t access (owner_of w frame)
+        ≡ is_foreign fixed.thread access (slice_index_or fixed.owners frame Free)
 
 -- What stands still is as it was, and so is what the pages keep; and the pages hold w for t.
 pub record ShowsBy {F : Type 0} (now : Still) (fixed_now : F) (pages : List (Option (List ℕ)))

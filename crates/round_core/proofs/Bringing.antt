@@ -106,7 +106,7 @@ differ-first t ts w v u d numbers r = record {
         → option_map without_progress (thread_at v s) ≡ option_map without_progress (thread_at w s)
     by_eq s true e =
         subst (λ n. option_map without_progress (thread_at v n)
-            ≡ option_map without_progress (thread_at w n))
+        ≡ option_map without_progress (thread_at w n))
         (sym (eqb-true s t e)) d.thread
     by_eq s false e =
         let other : s ≢ t = λ q. grind (arith, q, e) in

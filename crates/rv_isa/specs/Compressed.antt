@@ -75,7 +75,7 @@ imm_upper half = cast_unsigned w32 (sign_extended 18 (bits_upper half))
 abbrev pub bits_stack : ℕ → ℕ
 bits_stack half =
     bits_from 9 12 12 half + bits_from 4 6 6 half + bits_from 6 5 5 half + bits_from 7 4 3 half
-        + bits_from 5 2 2 half
+    + bits_from 5 2 2 half
 
 abbrev pub imm_stack : ℕ → ℤ
 imm_stack half = sign_extended 10 (bits_stack half)
@@ -93,7 +93,7 @@ imm_jump half = sign_extended 12 (bits_jump half)
 abbrev pub bits_branch : ℕ → ℕ
 bits_branch half =
     bits_from 8 12 12 half + bits_from 3 11 10 half + bits_from 6 6 5 half + bits_from 1 4 3 half
-        + bits_from 5 2 2 half
+    + bits_from 5 2 2 half
 
 abbrev pub imm_branch : ℕ → ℤ
 imm_branch half = sign_extended 9 (bits_branch half)

@@ -78,12 +78,12 @@ exchanges_pushed xs item es e is one =
 
 grows_with : (xs : List Item) (item : Item) (es : List Exchange) (e : Exchange) → items_of es ≡ xs
     → exchanges_of_items xs ≡ es → AreJoined (xs ++ item ∷ []) → exchanges_of_items (item ∷ [])
-        ≡ e ∷ []
+    ≡ e ∷ []
     → GrowsBy es e (length (item_text item))
 unfolding GrowsBy
 grows_with xs item es e spelled is are one =
     let all : exchanges_of_items (xs ++ item ∷ []) ≡ es
-          ++ e ∷ [] = exchanges_pushed xs item es e is one
+    ++ e ∷ [] = exchanges_pushed xs item es e is one
     in
     let items : items_of (es ++ e ∷ []) ≡ xs ++ item ∷ [] =
     ap items_of (sym all) ∙ joined_again (xs ++ item ∷ []) are in
@@ -346,7 +346,7 @@ module _ (text : List ℕ) (s : ℕ × ℕ) (count round : ℕ) (k : IsGrowing t
       let items : items_of (exchanges_of_items (grown_items text (Some s)) ++ Signals round [] ∷ [])
       ≡ more = ap items_of (sym more_exchanges) ∙ joined_again more more_joined in
       let old : items_of (exchanges_of_items (grown_items text (Some s)))
-            ≡ grown_items text (Some s) =
+      ≡ grown_items text (Some s) =
       joined_again (grown_items text (Some s))
       (spelled_joined nothing_read (grown_items text (Some s)) k.spelled) in
       omega (

@@ -64,7 +64,7 @@ joined_expanded round (quiet next count ∷ items) = by_cases (eqb next (round +
     by_cases true is = let on : next ≡ round + 1 = eqb-true next (round + 1) is in
         ap exchanges_of_items (joined_on round next count items on)
         ∙ ap (λ (es : List Exchange). es ++ exchanges_of_items items)
-            (quiet_more round next count on)
+        (quiet_more round next count on)
     by_cases false is =
         ap exchanges_of_items (joined_apart round next count items (not_equal next (round + 1) is))
         ∙ ap (λ (es : List Exchange). es ++ exchanges_of_items (quiet next count ∷ items))

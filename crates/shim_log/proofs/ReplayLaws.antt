@@ -316,7 +316,7 @@ module _ (p : ReplayState) (place within : ℕ) (text left rest : List ℕ) (rou
         spelled = (f.fits, f.spelled);
         left = found.1
             ∙ ap (λ (x : Item). drop (within + 1)
-                (exchanges_of_item x ++ exchanges_of_items f.items)) (sym
+            (exchanges_of_item x ++ exchanges_of_items f.items)) (sym
             read.0);
         within_first = subst (λ (x : Item). IsWithin (within + 1) (x ∷ f.items)) (sym read.0) more;
         inside = st.inside;

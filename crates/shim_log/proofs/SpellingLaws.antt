@@ -95,7 +95,7 @@ quiet_behind round (suc n) es fits = quiet_behind (suc round) n es fits.1
 
 pub item_length : (round count : ℕ) (items : List Item)
     → length (exchanges_of_items (quiet round count ∷ items))
-        ≡ count + length (exchanges_of_items items)
+    ≡ count + length (exchanges_of_items items)
 item_length round count items =
     length-append (quiet_rounds round count) (exchanges_of_items items)
     ∙ ap (λ (n : ℕ). n + length (exchanges_of_items items)) (quiet_length round count)
@@ -227,7 +227,7 @@ starts_apart (Some n) round count items h e = h (sym (some_is n round e))
 
 joined_spelled : (p : Progress) (items : List Item) → AreJoined items
     → AreEntries (exchanges_of_items items)
-        → p.held + length (exchanges_of_items items) ≤ most_exchanges
+    → p.held + length (exchanges_of_items items) ≤ most_exchanges
     → Starts p.goes_on items → AreSpelled Two p items
 joined_spelled p [] are fits le starts = tt
 joined_spelled p (kept e ∷ items) are fits le starts = (

@@ -17,7 +17,7 @@ bring_back-rest-requires g c =
     let w = c.in-Some.worker in
     let term = c.args.lender.term in
     let popped = All-pop (IsWorkerAt term c.args.seat.board c.args.seat.opened)
-          c.loop-worker.busy.items
+    c.loop-worker.busy.items
     c.pop.new.self.items (Some w) c.in-Some.ensures.items inv.4 in
     let len = c.in-Some.ensures.len in
     record {

@@ -13,4 +13,4 @@ invariant_of-result c =
 pub returns : goal.returns
 returns c =
     ap (λ (xs : List ℕ). places_set c.args.count xs) c.in_ok-zeros.ensures
-        ∙ bits-zeros c.args.count _
+    ∙ bits-zeros c.args.count _
