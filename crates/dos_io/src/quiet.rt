@@ -76,9 +76,9 @@ impl Shim for Quiet {
     ghost use Rattle.dos_io.specs.Quiet.{quiet_shown, FollowsQuietly};
     ghost use Rattle.dos_io.specs.QuietLaws.{follows_itself, follows_on};
 
-    ghost state = { shown };
+    ghost state = { quiet_shown };
 
-    ghost follows = { λ s t. FollowsQuietly (shown s) (shown t) };
+    ghost follows = { λ s t. FollowsQuietly (quiet_shown s) (quiet_shown t) };
 
     fn signals(&mut self, round: u32, list: &mut SignalList) -> Result<(), ShimStop> {
         self.keep(Question::Signals { round })?;
@@ -102,7 +102,7 @@ impl Shim for Quiet {
         Ok(())
     }
 
-    ghost reflexive = { λ s. follows_itself (shown s) };
+    ghost reflexive = { λ s. follows_itself (quiet_shown s) };
 
-    ghost transitive = { λ s t u p q. follows_on (shown s) (shown t) (shown u) p q };
+    ghost transitive = { λ s t u p q. follows_on (quiet_shown s) (quiet_shown t) (quiet_shown u) p q };
 }

@@ -24,7 +24,7 @@ impl Model for Image {
 
     ghost view = { λ i. record { entry = i.entry; parts = i.parts } };
 
-    ghost invariant = { λ i. IsSound (record { entry = i.entry; parts = i.parts }) };
+    ghost invariant = { λ i. IsSoundImage (record { entry = i.entry; parts = i.parts }) };
 }
 
 impl Image {

@@ -46,7 +46,7 @@ impl Model for HandedOut {
       config = h.config;
       starters = h.starters.items;
       packs = h.out.items;
-    })) × HasRoom h.frames h.config (vec_capacity h.starters) h.spare.items h.out.items
+    })) × HasRoomToComeBack h.frames h.config (vec_capacity h.starters) h.spare.items h.out.items
         (vec_capacity h.spare) (vec_capacity h.out) };
 }
 
@@ -87,7 +87,7 @@ impl Model for PartsRun {
           starters = h.starters.items;
           packs = packs;
         }) × AllRan (view_of h.state.frames h.state.table) packs h.out.items)
-        × HasRoom h.frames h.config (vec_capacity h.starters) h.spare.items h.out.items
+        × HasRoomToComeBack h.frames h.config (vec_capacity h.starters) h.spare.items h.out.items
         (vec_capacity h.spare) (vec_capacity h.out) };
 }
 

@@ -48,7 +48,7 @@ impl<T: Part> Model for Board<T> {
     ghost view = { λ b. standing b.table.shared.table_id b.table.shared.key.value.items
         (vec_capacity b.room) };
 
-    ghost invariant = { λ b. Stands b.table.shared.table_id b.table.shared.key.value.items b.count
+    ghost invariant = { λ b. BoardStands b.table.shared.table_id b.table.shared.key.value.items b.count
         (vec_len b.room) (vec_capacity b.room) };
 }
 

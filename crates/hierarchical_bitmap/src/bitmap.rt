@@ -26,7 +26,7 @@ impl Model for Bitmap {
 
     ghost Value = { List Bool };
 
-    ghost view = { λ b. bits b.count b.places.items };
+    ghost view = { λ b. places_set b.count b.places.items };
 
     ghost invariant = { λ b. AreLevels b.count b.places.items b.words.items b.groups.items };
 }

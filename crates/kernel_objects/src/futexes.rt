@@ -44,7 +44,7 @@ impl Model for FutexQueue {
 
     ghost view = { λ q. q.sleepers.items };
 
-    ghost invariant = { λ q. IsTaken q.sleepers.items (vec_capacity q.sleepers) };
+    ghost invariant = { λ q. IsQueueTaken q.sleepers.items (vec_capacity q.sleepers) };
 }
 
 impl FutexQueue {

@@ -44,7 +44,7 @@ impl Model for Processes {
 
     ghost Value = { Group };
 
-    ghost view = { λ p. group p.spaces.items p.belongings.items p.records p.room };
+    ghost view = { λ p. group_shown p.spaces.items p.belongings.items p.records p.room };
 
     ghost invariant = { λ p.
         ArePlaced p.records p.holders p.spaces.items p.belongings.items p.live p.room };

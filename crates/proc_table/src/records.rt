@@ -41,7 +41,7 @@ impl Model for Records {
     ghost view = { λ r. r.records.items };
 
     ghost invariant = { λ r.
-        AreKept r.records.items r.links.items (vec_capacity r.records) (vec_capacity r.links) };
+        AreLinksKept r.records.items r.links.items (vec_capacity r.records) (vec_capacity r.links) };
 }
 
 impl Records {

@@ -34,9 +34,9 @@ impl Model for SignalState {
 
     ghost Value = { Signals };
 
-    ghost view = { λ s. record { pending = s.pending; mask = s.mask; saved = filled s.saved } };
+    ghost view = { λ s. record { pending = s.pending; mask = s.mask; saved = filled_slots s.saved } };
 
-    ghost invariant = { λ s. s.saved ≡ slots_of 4 (filled s.saved) };
+    ghost invariant = { λ s. s.saved ≡ slots_of 4 (filled_slots s.saved) };
 
     ghost inverse = { λ s.
         record { pending = s.pending; mask = s.mask; saved = slots_of 4 s.saved } };

@@ -26,7 +26,7 @@ impl Model for Places {
 
     ghost Value = { List (Option (List ℕ)) };
 
-    ghost view = { λ p. filled p.pages.items p.count };
+    ghost view = { λ p. filled_up p.pages.items p.count };
 
     ghost invariant = { λ p. (length p.pages.items ≤ p.count) × (p.count ≤ vec_capacity p.pages) };
 }

@@ -51,7 +51,7 @@ pub struct Running<'a, P: Pages> {
     ghost fetched_are: { AreFramesOf tid (P.owners pages) space.now.entries Fetch fetched },
     ghost loaded_are: { AreFramesOf tid (P.owners pages) space.now.entries Load loaded },
     ghost stored_are: { AreFramesOf tid (P.owners pages) space.now.entries Store stored },
-    ghost apart: { AreApart fetched stored },
+    ghost apart: { FetchesAreApart fetched stored },
     ghost base_is: { IsBase base },
 }
 

@@ -25,7 +25,7 @@ impl Model for Entries {
 
     ghost view = { λ s. record {
       version = s.version;
-      list = entries_of s.version s.text.items;
+      list = entries_in_text s.version s.text.items;
     } };
 
     ghost invariant = { λ s. IsEntriesText s.version s.text.items s.count };

@@ -40,7 +40,7 @@ impl Model for GrowingEntries {
     ghost Value = { GrowingState };
 
     ghost view = { λ s. record {
-      list = exchanges_of (grown_items s.text.items s.stretch);
+      list = exchanges_of_items (grown_items s.text.items s.stretch);
       room = vec_capacity s.text - (vec_len s.text + length (items_text (stretch_items s.stretch)));
     } };
 

@@ -40,7 +40,7 @@ impl<'h, H: Host> Shim for Recorder<'h, H> {
     ghost state = { λ s. recorder_state s.ledger };
 
     ghost follows = { λ s t. (t.host.ghost_name ≡ s.host.ghost_name)
-        × Follows s.ledger t.ledger (H.told s.host.now) (H.told t.host.now)
+        × RecorderFollows s.ledger t.ledger (H.told s.host.now) (H.told t.host.now)
         (H.faults s.host.now) (H.faults t.host.now) };
 
     fn signals(&mut self, round: u32, list: &mut SignalList) -> Result<(), ShimStop> {

@@ -20,11 +20,11 @@ pub struct Held {
 impl Part for Held {
     ghost use Rattle.staying_workers.specs.Lending.{IsHeldFinished, MayRunHeld, IsHeldRunOut};
 
-    ghost ready = { IsReady };
+    ghost ready = { MayRunHeld };
 
-    ghost ends = { IsRunOut };
+    ghost ends = { IsHeldRunOut };
 
-    ghost finished = { IsFinished };
+    ghost finished = { IsHeldFinished };
 
     fn finish(&mut self) {
         let shared = self.shared.get();

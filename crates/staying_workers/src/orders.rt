@@ -20,7 +20,7 @@ pub struct PackOrder<G> {
     pub gate: Arc<G, Global>,
     pub first: u32,
     ghost seated: { (seat.board ≡ board.value.id) × (seat.hand ≡ [])
-        × AreReady IsReady seat.opened },
+        × AreReady MayRunHeld seat.opened },
 }
 
 impl<G> Errand for PackOrder<G> {

@@ -20,7 +20,7 @@ pub struct Lent<'a> {
 impl<'a> Part for Lent<'a> {
     ghost use Rattle.worker_pool.specs.Lending.{IsFinished, MayRunPack, IsRunOut};
 
-    ghost ready = { IsReady };
+    ghost ready = { MayRunPack };
 
     ghost ends = { IsRunOut };
 
