@@ -9,7 +9,7 @@ use Rattle.dos_world.specs.declared.Ending.{Ending}
 use Rattle.dos_io.specs.Exchanges.{question_of, answer_of}
 use Rattle.dos_io.specs.Hosts.{Told}
 use Rattle.dos_io.specs.Outside.{grown, GrewByFront, Rose}
-use Rattle.dos_io.specs.Quiet.{Quietness, quiet_shown, FollowsQuietly}
+use Rattle.dos_io.specs.Quiet.{Quietness, shown_by, FollowsQuietly}
 use Rattle.dos_io.specs.Shims.{ShimState}
 use Rattle.dos_io.specs.declared.exchange.Exchange.{Exchange}
 use Rattle.dos_io.specs.declared.shim.ShimStop.{ShimStop}
@@ -51,15 +51,15 @@ use Rattle.dos_cmd.proofs.NotBegun.{not_opened_as, says_nothing}
 
 -- It stops for want of memory alone.
 pub memory_alone : (stop : RunStop) (before : ShimState) (shim : Quietness)
-    → HasShimCause stop before (quiet_shown shim) → HasSinkCause stop 0 0 0 0
+    → HasShimCause stop before (shown_by shim) → HasSinkCause stop 0 0 0 0
     → refusal_by stop ≡ refusals.Memory
 memory_alone stop before shim h k = by_stop stop h k
   where
-    of_memory : (s : ShimStop) → (quiet_shown shim).last ≡ Some s → s ≡ shims.Memory
+    of_memory : (s : ShimStop) → (shown_by shim).last ≡ Some s → s ≡ shims.Memory
     of_memory s e = subst (λ (o : Option ShimStop). IfSome o (λ x. x ≡ shims.Memory)) e
         (last_is_memory shim)
 
-    by_stop : (stop : RunStop) → HasShimCause stop before (quiet_shown shim)
+    by_stop : (stop : RunStop) → HasShimCause stop before (shown_by shim)
         → HasSinkCause stop 0 0 0 0 → refusal_by stop ≡ refusals.Memory
     by_stop stops.HostFault h k = let same = of_memory shims.HostFault h.1 in cc
     by_stop stops.LogFull h k = let same = of_memory shims.LogFull h.1 in cc
@@ -73,10 +73,10 @@ told_is a b q = cc
 
 pub quiet_run : (k k' : Held) (before after : Quietness) (begun bytes : List ℕ) (ending : Ending)
     (work count : ℕ) (digest : List ℕ) (tally tally' : ℕ)
-    → FollowsQuietly (quiet_shown before) (quiet_shown after) → begun ≡ []
-    → RanGroup k.config k.state (telling (quiet_shown before).told (Some begun) None) ending
+    → FollowsQuietly (shown_by before) (shown_by after) → begun ≡ []
+    → RanGroup k.config k.state (telling (shown_by before).told (Some begun) None) ending
     k'.state
-    (telling (quiet_shown after).told (Some bytes) None) work → GrewBy tally tally' work
+    (telling (shown_by after).told (Some bytes) None) work → GrewBy tally tally' work
     → count ≡ byte_count bytes → digest ≡ sha256 bytes → (images : List Image) (config : Config)
     → IsOpenedWith k images config
     → RanQuietly images config k' ending count digest tally tally'
@@ -101,7 +101,7 @@ quiet_run k k' before after begun bytes ending work count digest tally tally' fo
       seen = seen;
       is = record {
         exchanges = es;
-        quiet = quiet_more (quiet_shown before) (quiet_shown after) es follows
+        quiet = quiet_more (shown_by before) (shown_by after) es follows
             run.more.exchanges_are;
         fits = from_opening (λ w c. FitsFrom w c es) run.fits;
         is = from_opening (λ w c. machine_from w c (map answer_of es) ≡ ends seen) run.ends;

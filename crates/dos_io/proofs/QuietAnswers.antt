@@ -6,7 +6,7 @@ use Rattle.dos_io.specs.declared.exchange.Exchange.{Exchange}
 use Rattle.dos_io.specs.declared.exchange.Exchange.TheVariants.{Signals}
 use Rattle.dos_io.specs.Exchanges.{HaveNoPosts}
 use Rattle.dos_io.specs.Shims.{ShimState}
-use Rattle.dos_io.specs.Quiet.{quiet_exchange, IsQuiet, AreQuiet, Quietness, quiet_shown}
+use Rattle.dos_io.specs.Quiet.{quiet_exchange, IsQuiet, AreQuiet, Quietness, shown_by}
 use Rattle.dos_io.specs.Quiet.{FollowsQuietly}
 use Rattle.dos_world.specs.declared.Question.{Question}
 use Rattle.dos_world.specs.declared.Question.TheVariants.{Signals as signals_question}
@@ -31,7 +31,7 @@ pub no_posts_more : (old new : ShimState) (es : List Exchange) → FollowsQuietl
 no_posts_more old new es f told = quiet_no_posts es (quiet_more old new es f told)
 
 -- its last stop, where it has one
-pub last_is_memory : (shim : Quietness) → IfSome (quiet_shown shim).last (λ stop. stop ≡ Memory)
+pub last_is_memory : (shim : Quietness) → IfSome (shown_by shim).last (λ stop. stop ≡ Memory)
 last_is_memory shim = elim (nat_eq shim.stops 0) as
     (λ b. IfSome (cond b None (Some Memory)) (λ stop. stop ≡ Memory)) [ true ↦ tt | false ↦ refl ]
 
@@ -44,7 +44,7 @@ is_quiet (end_question ending rounds) = tt
 -- an answer more
 pub follows_answer : (old new : Quietness) (question : Question)
     → new ≡ record old { questions = old.questions ++ question ∷ []; asked = None }
-    → FollowsQuietly (quiet_shown old) (quiet_shown new)
+    → FollowsQuietly (shown_by old) (shown_by new)
 follows_answer old new question e = record {
   more = quiet_exchange question ∷ [];
   told = ap (λ (q : Quietness). map quiet_exchange q.questions) e

@@ -47,8 +47,8 @@ abbrev pub last_stop : ℕ → Option ShimStop
 last_stop stops = if stops == 0 then None else Some Memory
 
 -- as of every shim
-abbrev pub quiet_shown : Quietness → ShimState
-quiet_shown q = record {
+abbrev pub shown_by : Quietness → ShimState
+shown_by q = record {
   told = map quiet_exchange q.questions;
   stops = q.stops;
   last = last_stop q.stops;

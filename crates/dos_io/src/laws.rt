@@ -7,7 +7,7 @@ ghost use Rattle.dos_io.specs.declared.exchange.ClockRule.{ClockRule};
 ghost use Rattle.dos_io.specs.Hosts.{Told, AreFilled, taken};
 ghost use Rattle.dos_io.specs.Exchanges.{question_of, HaveNoPosts};
 ghost use Rattle.dos_io.specs.Shims.{ShimState};
-ghost use Rattle.dos_io.specs.Quiet.{Quietness, quiet_shown, FollowsQuietly};
+ghost use Rattle.dos_io.specs.Quiet.{Quietness, shown_by, FollowsQuietly};
 ghost use Rattle.dos_io.specs.declared.shim.ShimStop.{ShimStop};
 ghost use Rattle.dos_io.specs.Given.{Given, readings};
 
@@ -45,5 +45,5 @@ pub fn empty_answers_are_the_end()
 pub fn quiet_shims_bring_no_signals()
     ensures posts { (old new : ShimState) (more : List Exchange) → FollowsQuietly old new
         → new.told ≡ old.told ++ more → HaveNoPosts more }
-    ensures last { (s : Quietness) → IfSome (quiet_shown s).last (λ stop. stop ≡ ShimStop.Memory) }
+    ensures last { (s : Quietness) → IfSome (shown_by s).last (λ stop. stop ≡ ShimStop.Memory) }
 {}

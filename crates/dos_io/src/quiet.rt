@@ -1,7 +1,7 @@
 // A shim that nothing reaches.
 ghost use Rattle.std.specs.Prelude.{◌≡◌, ◌++◌, ◌∷◌, [], None, Some, OnOk, IfErr, IfSome};
 ghost use Rattle.dos_io.specs.Outside.{counted_to_limit};
-ghost use Rattle.dos_io.specs.Quiet.{quiet_shown};
+ghost use Rattle.dos_io.specs.Quiet.{shown_by};
 
 use crate::{Shim, ShimStop, SignalList};
 use dos_world::{Ending, Question};
@@ -73,12 +73,12 @@ impl Quiet {
 }
 
 impl Shim for Quiet {
-    ghost use Rattle.dos_io.specs.Quiet.{quiet_shown, FollowsQuietly};
+    ghost use Rattle.dos_io.specs.Quiet.{shown_by, FollowsQuietly};
     ghost use Rattle.dos_io.specs.QuietLaws.{follows_itself, follows_on};
 
-    ghost state = { quiet_shown };
+    ghost state = { shown_by };
 
-    ghost follows = { λ s t. FollowsQuietly (quiet_shown s) (quiet_shown t) };
+    ghost follows = { λ s t. FollowsQuietly (shown_by s) (shown_by t) };
 
     fn signals(&mut self, round: u32, list: &mut SignalList) -> Result<(), ShimStop> {
         self.keep(Question::Signals { round })?;
@@ -102,7 +102,7 @@ impl Shim for Quiet {
         Ok(())
     }
 
-    ghost reflexive = { λ s. follows_itself (quiet_shown s) };
+    ghost reflexive = { λ s. follows_itself (shown_by s) };
 
-    ghost transitive = { λ s t u p q. follows_on (quiet_shown s) (quiet_shown t) (quiet_shown u) p q };
+    ghost transitive = { λ s t u p q. follows_on (shown_by s) (shown_by t) (shown_by u) p q };
 }

@@ -10,7 +10,7 @@ use Rattle.hand_board.specs.declared.rule.Knows.{Knows}
 use Rattle.hand_board.specs.Placed.{times, whole_share, without, blanks, to_front, without_front}
 use Rattle.hand_board.specs.Rule.{with_found, with_claimed, with_resumed}
 use Rattle.hand_board.specs.Rule.{joined}
-use Rattle.hand_board.specs.Seating.{Sits, Seating, seating, Has, Standing, BoardStands, standing}
+use Rattle.hand_board.specs.Seating.{Sits, Seating, seating, Has, Standing, IsBoard, standing}
 use Rattle.hand_board.proofs.Counts.{times_else, times_append, times_without}
 
 abbrev second_of : {A : Type 0} → A → List (ℕ × A) → A
@@ -41,7 +41,7 @@ at_table sees same shows = ap (λ z. z.board) sees ∙ same ∙ sym (ap (λ z. z
 module _ {T : Type 0} {id : TableId} {opened : List T} {count len room : ℕ}
     {board : Standing T} where
   -- a number of the board has a word in its table
-  pub has_word : (number : ℕ) → BoardStands id opened count len room → standing id opened room
+  pub has_word : (number : ℕ) → IsBoard id opened count len room → standing id opened room
       ≡ board
       → number < length board.opened → (number < length opened) × (number + 1 < id.words)
   has_word number stands shows low =

@@ -74,7 +74,7 @@ pub record Standing (T : Type 0) : Type 0 where
   pub room : ℕ
 
 -- what is always true of a board: its counts, and an empty vector with room for all
-pub record BoardStands {T : Type 0} (id : TableId) (opened : List T) (count len room : ℕ) : Type 0
+pub record IsBoard {T : Type 0} (id : TableId) (opened : List T) (count len room : ℕ) : Type 0
   where
     pub sized : (id.words ≡ count + 1) × (id.slots ≡ count)
     pub all : length opened ≡ count

@@ -41,14 +41,14 @@ pub struct Board<T: Part> {
 
 impl<T: Part> Model for Board<T> {
     ghost use Rattle.std.specs.Prelude.{vec_len, vec_capacity};
-    ghost use Rattle.hand_board.specs.Seating.{Standing, BoardStands, standing};
+    ghost use Rattle.hand_board.specs.Seating.{Standing, IsBoard, standing};
 
     ghost Value = { Standing T };
 
     ghost view = { λ b. standing b.table.shared.table_id b.table.shared.key.value.items
         (vec_capacity b.room) };
 
-    ghost invariant = { λ b. BoardStands b.table.shared.table_id b.table.shared.key.value.items b.count
+    ghost invariant = { λ b. IsBoard b.table.shared.table_id b.table.shared.key.value.items b.count
         (vec_len b.room) (vec_capacity b.room) };
 }
 

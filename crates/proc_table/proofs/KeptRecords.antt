@@ -11,7 +11,7 @@ use Rattle.proc_table.specs.declared.record.Links.{Links}
 use Rattle.proc_table.specs.declared.record.Record.{Record}
 use Rattle.proc_table.specs.Places.{has_come, is_child_record, is_collected, kept_as, orphan_record}
 use Rattle.proc_table.specs.Places.{place_in}
-use Rattle.proc_table.specs.Links.{AreLinksKept, AreLinked, IsLinkable, IsWalkable, childless}
+use Rattle.proc_table.specs.Links.{AreStored, AreLinked, IsLinkable, IsWalkable, childless}
 use Rattle.proc_table.specs.Links.{is_child_at}
 use Rattle.proc_table.specs.Links.{is_uncollected, next_in, passes, passes_at, previous_in}
 use Rattle.proc_table.specs.Links.{with_child_linked, with_link}
@@ -29,7 +29,7 @@ child_test asked p (Some r) e =
     (and_parts ((r.parent == p) && not (is_collected r.kept)) (has_come asked r.kept) e).0
 
 module _ {R now : List Record} {L : List Links} {room links_room : ℕ}
-    (kept : AreLinksKept R L room links_room) (shows : R ≡ now) where
+    (kept : AreStored R L room links_room) (shows : R ≡ now) where
   -- ---- a walk
 
   pub walkable : {records : List Record} {links : List Links} → records ≡ R → links ≡ L → (p : ℕ)
@@ -60,7 +60,7 @@ module _ {R now : List Record} {L : List Links} {room links_room : ℕ}
 
     pub kept_added : {new : List Record} {M : List Links} {grown links_grown : ℕ}
         → new ≡ R ++ record { parent = p; kept = Live place } ∷ [] → M ≡ with_child_linked L p n
-        → room ≤ grown → links_room ≤ links_grown → AreLinksKept new M grown links_grown
+        → room ≤ grown → links_room ≤ links_grown → AreStored new M grown links_grown
     kept_added {new} {M} {grown} {links_grown} is ms more links_more =
         let r : Record = record { parent = p; kept = Live place } in
         record {
@@ -102,7 +102,7 @@ module _ {R now : List Record} {L : List Links} {room links_room : ℕ}
     pub kept_collected : (status : ℕ) {new : List Record} {M : List Links} {same links_same : ℕ}
         → new ≡ changed (kept_as (Ended status true)) R c
         → M ≡ with_link L p (previous_in L p c) (next_in L p c) → same ≡ room
-        → links_same ≡ links_room → AreLinksKept new M same links_same
+        → links_same ≡ links_room → AreStored new M same links_same
     kept_collected status {new} {M} {same} {links_same} ns ms s ls = record {
       linked = subst (λ K. AreLinked new K) (sym ms)
           (subst (λ rs. AreLinked rs (with_link L p (previous_in L p c) (next_in L p c))) (sym ns)
@@ -148,7 +148,7 @@ module _ {R now : List Record} {L : List Links} {room links_room : ℕ}
 
     pub kept_ended : {new : List Record} {M : List Links} {same links_same : ℕ}
         → new ≡ map (orphan_record p) ended → M ≡ changed childless L p → same ≡ room
-        → links_same ≡ links_room → AreLinksKept new M same links_same
+        → links_same ≡ links_room → AreStored new M same links_same
     kept_ended {new} {M} {same} {links_same} ns ms s ls =
         let walk = ended_walkable refl in
         record {

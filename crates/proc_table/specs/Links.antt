@@ -120,7 +120,7 @@ pub record IsWalkable (records : List Record) (links : List Links) (parent : ℕ
   pub within : parent ≤ length records
 
 -- Each record has its links, and the memory of both was taken.
-pub record AreLinksKept (records : List Record) (links : List Links) (room links_room : ℕ) : Type 0
+pub record AreStored (records : List Record) (links : List Links) (room links_room : ℕ) : Type 0
   where
     pub linked : AreLinked records links
     pub count : length links ≡ length records

@@ -10,10 +10,10 @@ use Rattle.proc_table.specs.Tables.{Signals}
 -- ---- slots
 
 -- what is in the slots, up to the first that is empty
-abbrev pub filled_slots : {A : Type 0} → List (Option A) → List A
-filled_slots [] = []
-filled_slots (None ∷ slots) = []
-filled_slots (Some x ∷ slots) = x ∷ filled_slots slots
+abbrev pub kept_slots : {A : Type 0} → List (Option A) → List A
+kept_slots [] = []
+kept_slots (None ∷ slots) = []
+kept_slots (Some x ∷ slots) = x ∷ kept_slots slots
 
 -- the values in so many slots, and the rest empty
 abbrev pub slots_of : {A : Type 0} → ℕ → List A → List (Option A)

@@ -34,14 +34,14 @@ impl Model for Records {
     ghost use Rattle.std.specs.Prelude.{List};
     ghost use Rattle.std.specs.Vec.{vec_capacity};
     ghost use Rattle.proc_table.specs.declared.record.Record.{Record};
-    ghost use Rattle.proc_table.specs.Links.{AreLinksKept};
+    ghost use Rattle.proc_table.specs.Links.{AreStored};
 
     ghost Value = { List Record };
 
     ghost view = { λ r. r.records.items };
 
     ghost invariant = { λ r.
-        AreLinksKept r.records.items r.links.items (vec_capacity r.records) (vec_capacity r.links) };
+        AreStored r.records.items r.links.items (vec_capacity r.records) (vec_capacity r.links) };
 }
 
 impl Records {

@@ -30,13 +30,13 @@ impl Model for SignalState {
     ghost use Rattle.std.specs.Prelude.{◌≡◌};
     ghost use Rattle.std.proofs.Common.{sym};
     ghost use Rattle.proc_table.specs.Tables.{Signals};
-    ghost use Rattle.proc_table.specs.Saved.{filled_slots, slots_of};
+    ghost use Rattle.proc_table.specs.Saved.{kept_slots, slots_of};
 
     ghost Value = { Signals };
 
-    ghost view = { λ s. record { pending = s.pending; mask = s.mask; saved = filled_slots s.saved } };
+    ghost view = { λ s. record { pending = s.pending; mask = s.mask; saved = kept_slots s.saved } };
 
-    ghost invariant = { λ s. s.saved ≡ slots_of 4 (filled_slots s.saved) };
+    ghost invariant = { λ s. s.saved ≡ slots_of 4 (kept_slots s.saved) };
 
     ghost inverse = { λ s.
         record { pending = s.pending; mask = s.mask; saved = slots_of 4 s.saved } };

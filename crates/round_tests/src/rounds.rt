@@ -1,6 +1,6 @@
 ghost use Rattle.std.specs.Prelude.{◌≡◌, ◌≤◌, false, is_err, length, IfOk, OnOk};
 ghost use Rattle.dos_world.specs.Lawful.{IsConfig};
-ghost use Rattle.dos_io.specs.Quiet.{quiet_shown};
+ghost use Rattle.dos_io.specs.Quiet.{shown_by};
 ghost use Rattle.dos_io.specs.Shims.{HasNoEnd};
 ghost use Rattle.group_rounds.specs.Kernels.{IsFresh};
 
@@ -141,7 +141,7 @@ struct Outside {
 impl Outside {
     // The sinks have room for 8 bytes each. The puts to output of these numbers fail.
     fn new(rt: &impl Abort, alloc: Global, out_failing: &[u32]) -> Outside
-        ensures { HasNoEnd (quiet_shown result.shim).told }
+        ensures { HasNoEnd (shown_by result.shim).told }
     {
         let shim = Quiet::new(alloc);
         let out = MemorySink::new(alloc, 8, out_failing).expect(rt, "memory");
@@ -154,9 +154,9 @@ impl Outside {
 fn round<R: Threads + Sync>(kernel: &mut Kernel, outside: &mut Outside) -> Result<RoundEnd, RunStop>
     requires running { kernel.old.failed ≡ false }
     requires limit { kernel.old.state.round ≤ kernel.old.config.rounds }
-    requires told { HasNoEnd (quiet_shown outside.old.shim).told }
+    requires told { HasNoEnd (shown_by outside.old.shim).told }
     ensures failed { kernel.new.failed ≡ is_err result }
-    ensures told { OnOk result (HasNoEnd (quiet_shown outside.new.shim).told) }
+    ensures told { OnOk result (HasNoEnd (shown_by outside.new.shim).told) }
 {
     let Outside { shim, out, err } = outside;
     let mut tally = Tally::new();
@@ -167,7 +167,7 @@ fn round<R: Threads + Sync>(kernel: &mut Kernel, outside: &mut Outside) -> Resul
 // the serial phase by itself
 fn serial(kernel: &mut Kernel, outside: &mut Outside) -> Result<(), RunStop>
     requires running { kernel.old.failed ≡ false }
-    requires told { HasNoEnd (quiet_shown outside.old.shim).told }
+    requires told { HasNoEnd (shown_by outside.old.shim).told }
 {
     let Outside { shim, out, err } = outside;
     serial_over(kernel, shim, out, err)
@@ -180,7 +180,7 @@ fn serial_behind(
     outside: &mut Outside,
 ) -> Result<(), RunStop>
     requires running { kernel.old.failed ≡ is_err end }
-    requires told { OnOk end (HasNoEnd (quiet_shown outside.old.shim).told) }
+    requires told { OnOk end (HasNoEnd (shown_by outside.old.shim).told) }
 {
     match end {
         Ok(_) => serial(kernel, outside),
@@ -264,7 +264,7 @@ fn a_sink_that_fails_stops_the_round(rt: HostRuntime) {
 
 // The kernel hasn't failed, and its serial phase goes well.
 fn check_serial(rt: &impl Abort, kernel: &mut Kernel, outside: &mut Outside)
-    requires { HasNoEnd (quiet_shown outside.old.shim).told }
+    requires { HasNoEnd (shown_by outside.old.shim).told }
 {
     assert!(rt; !kernel.is_failed());
     assert_eq!(rt; serial(kernel, outside), Ok(()));
