@@ -102,23 +102,23 @@ module _ (h : ℕ) where
   good_addi4spn = good_unless (half.imm_wide h == 0) _
       ((low_fits, two, plain_range (half.imm_wide h) (omega arith)), inl refl)
 
-  good_lw : GoodSome (half.lw h)
+  good_lw : GoodSome (half.c_lw h)
   good_lw = ((low_fits, high_fits, plain_range (half.imm_word h) (omega arith)), refl)
 
-  good_sw : GoodSome (half.sw h)
+  good_sw : GoodSome (half.c_sw h)
   good_sw = ((high_fits, low_fits, plain_range (half.imm_word h) (omega arith)), refl)
 
-  good_addi : GoodSome (half.addi h)
+  good_addi : GoodSome (half.c_addi h)
   good_addi = ((rd_fits, rd_fits, small_range (half.bits_small h) (omega arith)), inl refl)
 
   good_jal : GoodSome (half.jal h)
   good_jal = ((lit< tt, jump_range (half.bits_jump h) (omega arith) (omega arith)), tt)
 
-  good_li : GoodSome (half.li h)
+  good_li : GoodSome (half.c_li h)
   good_li = ((rd_fits, zero_fits, small_range (half.bits_small h) (omega arith)), inl refl)
 
   good_lui : GoodSome (half.lui_or_addi16sp h)
-  good_lui = good_if (half.rd h == 2) (half.addi16sp h) (half.lui h)
+  good_lui = good_if (half.rd h == 2) (half.addi16sp h) (half.c_lui h)
       (good_unless (half.bits_stack h == 0) _
       ((two, two, stack_range (half.bits_stack h) (omega arith)), inl refl))
       (good_unless (half.bits_upper h == 0) _ (
@@ -133,7 +133,7 @@ module _ (h : ℕ) where
   good_shift : (op : ShiftOp) → GoodSome (half.shift_right op h)
   good_shift op = ((high_fits, high_fits, rs2_fits), tt)
 
-  good_andi : GoodSome (half.andi h)
+  good_andi : GoodSome (half.c_andi h)
   good_andi = ((high_fits, high_fits, small_range (half.bits_small h) (omega arith)), inr refl)
 
   good_sub : GoodSome (half.register Sub h)
@@ -173,7 +173,7 @@ module _ (h : ℕ) where
     inr refl,
   )
 
-  good_slli : GoodSome (half.slli h)
+  good_slli : GoodSome (half.c_slli h)
   good_slli = ((rd_fits, rd_fits, rs2_fits), tt)
 
   good_lwsp : GoodSome (half.lwsp h)

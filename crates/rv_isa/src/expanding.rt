@@ -205,7 +205,7 @@ fn move_stack_pointer(half: u32) -> Option<Instr>
 }
 
 fn lui(half: u32) -> Option<Instr>
-    ensures { result ≡ table.lui half }
+    ensures { result ≡ table.c_lui half }
 {
     if bits_upper(half) == 0 {
         None
@@ -241,7 +241,7 @@ fn shift(op: ShiftOp, half: u32) -> Option<Instr>
 }
 
 fn andi(half: u32) -> Option<Instr>
-    ensures { result ≡ table.andi half }
+    ensures { result ≡ table.c_andi half }
 {
     let register = high_register(half);
     Some(Instr::Imm {
