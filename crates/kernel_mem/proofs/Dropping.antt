@@ -135,11 +135,11 @@ less-owner t n f = elim (cases_eq f n) [
     off true d = get_or-set_other t.owners n f Free Free d
     off false d = refl
 
-zeroed : (pages : List (Option (List ℕ))) (n : ℕ)
+zeroed_at : (pages : List (Option (List ℕ))) (n : ℕ)
     → get_or (set pages n (zeroed (get_or pages n None))) n None ≡ zeroed (get_or pages n None)
-zeroed [] n = refl
-zeroed (p ∷ pages) zero = refl
-zeroed (p ∷ pages) (suc n) = zeroed pages n
+zeroed_at [] n = refl
+zeroed_at (p ∷ pages) zero = refl
+zeroed_at (p ∷ pages) (suc n) = zeroed_at pages n
 
 -- a frame is zero once none of its uses is left, and else keeps its page
 less-page : (t : Store) (n f : ℕ)
@@ -160,7 +160,7 @@ less-page t n f = elim (cases_eq f n) [
 
     at : (b : Bool) → get_or (cond b (set t.pages n (zeroed (page_at t n))) t.pages) n None
         ≡ cond b (zeroed (page_at t n)) (page_at t n)
-    at true = zeroed t.pages n
+    at true = zeroed_at t.pages n
     at false = refl
 
     off : (b : Bool) → f ≢ n

@@ -56,21 +56,21 @@ pub record Stands (R : List Record) (holders : List (Option ℕ)) (S : List Mapp
 module _ {R : List Record} {holders : List (Option ℕ)} {S : List Mapping} {D : List Belongings}
     {count room : ℕ} {now : Group} (shows : group_shown S D R room ≡ now)
     (placed : ArePlaced R holders S D count room) where
-  pub processes_shown : processes_shown S D R ≡ now.processes
-  processes_shown = ap (λ (g : Group). g.processes) shows
+  pub processes_same : processes_shown S D R ≡ now.processes
+  processes_same = ap (λ (g : Group). g.processes) shows
 
   room_shown : room ≡ now.room
   room_shown = ap (λ (g : Group). g.room) shows
 
   pub given_shown : length now.processes ≡ length R
-  given_shown = ap (λ ps. length ps) (sym processes_shown) ∙ shown_length S D R
+  given_shown = ap (λ ps. length ps) (sym processes_same) ∙ shown_length S D R
 
   pub living_shown : count ≡ length (all_holdings now.processes)
   living_shown = placed.living ∙ sym (holdings_count S D R)
-      ∙ ap (λ ps. length (all_holdings ps)) processes_shown
+      ∙ ap (λ ps. length (all_holdings ps)) processes_same
 
   pub held_now : (p : ℕ) → held_in now.processes p ≡ option_map (holdings_in S D) (place_in R p)
-  held_now p = ap (λ ps. held_in ps p) (sym processes_shown) ∙ held_shown S D R p
+  held_now p = ap (λ ps. held_in ps p) (sym processes_same) ∙ held_shown S D R p
 
   -- a live process has a place
   pub lives : (p : ℕ) → IsProcess now.processes p → IsSome (place_in R p)
@@ -83,7 +83,7 @@ module _ {R : List Record} {holders : List (Option ℕ)} {S : List Mapping} {D :
   -- a number that was given has a record
   pub given_record : (p : ℕ) → IsSome (numbered now.processes p) → IsSome (numbered R p)
   given_record p h = by (numbered R p) (subst (λ (o : Option Process). IsSome o)
-      (ap (λ ps. numbered ps p) (sym processes_shown) ∙ numbered_shown S D R p) h)
+      (ap (λ ps. numbered ps p) (sym processes_same) ∙ numbered_shown S D R p) h)
     where
       by : (o : Option Record) → IsSome (option_map (process_by (holdings_in S D)) o) → IsSome o
       by None h = h
@@ -93,7 +93,7 @@ module _ {R : List Record} {holders : List (Option ℕ)} {S : List Mapping} {D :
   pub of_record : (p : ℕ) (P : Process → Type 0) {x : Record} → numbered R p ≡ Some x
       → P (process_by (holdings_in S D) x) → IfSome (numbered now.processes p) P
   of_record p P {x} is h = subst (λ (o : Option Process). IfSome o P)
-      (sym (ap (λ ps. numbered ps p) (sym processes_shown) ∙ numbered_shown S D R p
+      (sym (ap (λ ps. numbered ps p) (sym processes_same) ∙ numbered_shown S D R p
       ∙ ap (option_map (process_by (holdings_in S D))) is)) h
 
   -- the parent of a new process was given its number, or is 0

@@ -25,7 +25,7 @@ use Rattle.proc_table.specs.declared.record.Record.{Record}
 use Rattle.proc_table.proofs.Children.{Passes, children_shown, first_passes, names, test_of}
 use Rattle.proc_table.proofs.Moved.{there}
 use Rattle.proc_table.proofs.Places.{numbered_shown}
-use Rattle.proc_table.proofs.Standing.{Stands, collected_standing, processes_shown}
+use Rattle.proc_table.proofs.Standing.{Stands, collected_standing, processes_same}
 
 module _ {R : List Record} {holders : List (Option ℕ)} {S : List Mapping} {D : List Belongings}
     {count room : ℕ} {now : Group} (shows : group_shown S D R room ≡ now)
@@ -34,7 +34,7 @@ module _ {R : List Record} {holders : List (Option ℕ)} {S : List Mapping} {D :
       → first_of (children_in (test_of asked) now.processes parent which)
       ≡ first_child asked R parent which
   first_is asked = ap (λ qs. first_of (children_in (test_of asked) qs parent which))
-      (sym (processes_shown shows placed)) ∙ children_shown asked S D R parent which
+      (sym (processes_same shows placed)) ∙ children_shown asked S D R parent which
 
   outcome_is : (any come : Option ℕ) → first_child false R parent which ≡ any
       → first_child true R parent which ≡ come
@@ -101,7 +101,7 @@ module _ {R : List Record} {holders : List (Option ℕ)} {S : List Mapping} {D :
     found_status : (x : Record) → x ≡ get_or R (p - 1) x
         → status_of_ended now.processes p ≡ status_or_0 x.kept
     found_status x read =
-        ap (λ qs. status_of_ended qs p) (sym (processes_shown shows placed))
+        ap (λ qs. status_of_ended qs p) (sym (processes_same shows placed))
         ∙ ap status_by (numbered_shown S D R p)
         ∙ ap (λ o. status_by (option_map (process_by (holdings_in S D)) o))
         (given p found_from ∙ record_at x read) ∙ kept x.kept
