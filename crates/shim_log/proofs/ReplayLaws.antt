@@ -18,7 +18,7 @@ use Rattle.dos_io.specs.declared.exchange.Exchange.{Exchange}
 use Rattle.dos_io.specs.declared.exchange.Exchange.TheVariants.{Signals, Input, Clock, End}
 use Rattle.dos_io.specs.declared.shim.ShimStop.{ShimStop}
 use Rattle.dos_io.specs.Exchanges.{question_of}
-use Rattle.dos_io.specs.Shims.{HasNoEnd}
+use Rattle.dos_io.specs.Shims.{shim_answered, HasNoEnd}
 use Rattle.shim_log.specs.declared.refusal.LogError.{LogError}
 use Rattle.shim_log.specs.declared.version.LogVersion.{LogVersion}
 use Rattle.shim_log.specs.declared.version.LogVersion.TheVariants.{One, Two}
@@ -379,7 +379,7 @@ stands_last log answered text is all = record {
 -- ---- what it tells after an answer
 
 pub plays : (p n : ReplayState) (e : Exchange) → slice_get (exchanges p.log) p.answered ≡ Some e
-    → n ≡ replay_advanced p → replayer_state n ≡ answered (replayer_state p) e
+    → n ≡ replay_advanced p → replayer_state n ≡ shim_answered (replayer_state p) e
 plays p n e at is =
     let within : p.answered < length (exchanges p.log) =
     slice_get_within (exchanges p.log) p.answered e at in
