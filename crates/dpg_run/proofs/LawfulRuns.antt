@@ -16,7 +16,7 @@ use Rattle.round_core.proofs.KeepsBoth.{both_kept}
 use Rattle.round_core.proofs.SameRun.{same_run_kept}
 use Rattle.dos_laws.specs.Standing.{LawfulWith, IsFit, fit_protocol}
 use Rattle.dos_laws.proofs.LawfulRounds.{at_rest}
-use Rattle.dos_laws.proofs.Outside.{lawful-counted, lawful-outside}
+use Rattle.dos_laws.proofs.Outside.{lawful-counted}
 use Rattle.dos_laws.proofs.StandsKeeps.{stands_kept}
 use Rattle.dpg_run.specs.Laws.{LeavesFinish, RunOwes}
 use Rattle.flat_machine.specs.Machine.{Finish, rounds_of, rounds_from}

@@ -1,5 +1,5 @@
 pub mod ReportLaws
-mod RoundsRun
+pub mod RoundsRun
 pub mod RunKeeps
 mod Limits
 pub mod LawfulRuns

@@ -1,10 +1,10 @@
 -- Rounds of the kernel one after another, and the end that the shim is told.
 use Rattle.std.proofs.Common.{ℕ, suc, ◌+◌, ◌-◌, ◌≡◌, refl, sym, ap, ap₂, ◌∙◌, subst, List, [], ◌∷◌}
-use Rattle.std.proofs.Common.{◌++◌, length, append-nil, append_assoc, ◌<◌, ◌≤◌, Option, None, Some}
+use Rattle.std.proofs.Common.{◌++◌, length, append-nil, append_assoc, ◌≤◌, Option, None, Some}
 use Rattle.std.proofs.Common.{arith}
 use Rattle.std.specs.Prelude.{◌==◌, Bool, true, false, not, map, is_some, if◌then◌else◌, Err, Ok}
 use Rattle.std.specs.Prelude.{Result}
-use Rattle.std.specs.Prelude.{OnSome}
+use Rattle.std.specs.Prelude.{MatchBool, OnOk, OnSome}
 use Rattle.std.proofs.lemmas.List.{map-append}
 use Rattle.dos_world.specs.Numbered.{numbers_of}
 use Rattle.dos_world.specs.World.{World}
@@ -28,7 +28,8 @@ use Rattle.kernel_calls.specs.declared.state.State.{State}
 use Rattle.group_rounds.specs.Plays.{GoesOn}
 use Rattle.group_rounds.specs.StatePlays.{Telling, told_at}
 use Rattle.group_rounds.specs.Outside.{is_end_question}
-use Rattle.group_rounds.specs.Rounds.{end_in, work_in}
+use Rattle.group_rounds.specs.Kernels.{IsBetweenRounds}
+use Rattle.group_rounds.specs.Rounds.{end_in, next_round, work_in}
 use Rattle.group_rounds.specs.declared.round.RoundEnd.{RoundEnd}
 use Rattle.group_rounds.specs.declared.round.RoundEnd.TheVariants.{Went, Done, Stalled}
 use Rattle.group_rounds.proofs.PlayLaws.{goes-append, goes-exchanges, goes-then, goes-over}
@@ -38,17 +39,22 @@ use Rattle.group_rounds.proofs.StatePlayLaws.{told_more, told_so}
 use Rattle.kernel_calls.specs.Plays.{AreFrontsOf, GoesOver, Plays, PlaysOn, Stopper, StopsAsking}
 use Rattle.kernel_calls.specs.Plays.{StopsIn, by_shim, by_sink, stopper}
 use Rattle.kernel_calls.proofs.Playing.{SendsBehind, plays_after, plays_and, plays_before}
-use Rattle.kernel_calls.proofs.Playing.{plays_still, stops_after}
+use Rattle.kernel_calls.proofs.Playing.{plays_from, plays_still}
 use Rattle.dos_io.specs.Borders.{BorderState, Crossing, Tells, bytes_to, exchanges_of}
 use Rattle.dos_io.specs.declared.border.Stream.TheVariants.{Output, Error}
 use Rattle.dos_io.proofs.OutsideLaws.{front-whole}
+use Rattle.group_rounds.proofs.PlayCauses.{asks_before_end, by_question, causes_err, fails_of}
 use Rattle.group_rounds.proofs.FrontLaws.{HasSent, fronts_kept, fronts_over, sending}
+use Rattle.worker_pool.specs.Ran.{GrewBy}
+use Rattle.worker_pool.proofs.Growing.{grew-more, grew-nothing}
 use Rattle.flat_machine.specs.Machine.{Finish, rounds_of, rounds_from, told_end, run_from}
 use Rattle.flat_machine.specs.Machine.{result_of}
 use Rattle.dpg_run.specs.Laws.{LeavesFinish, RunOwes}
 use Rattle.dpg_run.proofs.RunKeeps.{rounds_keep}
-use Rattle.dpg_run.specs.GroupRuns.{AreFronts, CutGroup, RanRounds, RanGroup, StoppedGroup}
-use Rattle.dpg_run.specs.GroupRuns.{ending_by, finish_in, has_failed}
+use Rattle.dpg_run.specs.GroupRuns.{AreFronts, CutGroup, PlaysNext, PlaysRounds, PlaysSome}
+use Rattle.dpg_run.specs.GroupRuns.{IsCountedIn, RanRounds, RanGroup, RunsGroup, StoppedGroup}
+use Rattle.dpg_run.specs.GroupRuns.{end_by, ending_by, finish_in, has_failed, left_of_run}
+use Rattle.dpg_run.specs.GroupRuns.{rounds_left}
 
 -- ---- fronts
 
@@ -75,7 +81,10 @@ module _ (o e : List ℕ) where
       (λ finish. HasSent o e [] finish.world) (rounds_of left w work) (λ finish left. left.2)
       (rounds_keep (sending o e) left (λ n. HasSent o e) (owes left) left 0 w work (omega arith) h))
 
--- ---- rounds so far
+-- ---- one round
+
+pub with_nothing : (n : ℕ) → n + 0 ≡ n
+with_nothing n = omega arith
 
 -- what follows a round, with so many left and after so much work
 abbrev after_round : ℕ → ℕ → FlatEnd → Play Finish
@@ -83,48 +92,20 @@ after_round left work (went next more) = rounds_of left next (work + more)
 after_round left work (finished last) = done (finish_in done_ending last work)
 after_round left work (stalled last) = done (finish_in stalled_ending last work)
 
--- the next one, behind one that was run
-after_more : (left work : ℕ) (so : RoundEnd) (more : ℕ) (last : World) → so ≡ Went
-    → after_round left work (end_in so more last) ≡ rounds_of left last (work + work_in so more)
-after_more left work Went more last is = refl
-after_more left work Done more last is = absurd cc
-after_more left work Stalled more last is = absurd cc
-
--- nothing, behind one with which the run ends
-after_last : (left work : ℕ) (so : RoundEnd) (ending : Ending) (more : ℕ) (last : World)
-    → ending_by so ≡ Some ending
-    → after_round left work (end_in so more last) ≡ done (finish_in ending last work)
-after_last left work Went ending more last is = absurd cc
-after_last left work Done ending more last is =
-    let same : done_ending ≡ ending = cc in
-    ap (λ e. done (finish_in e last work)) same
-after_last left work Stalled ending more last is =
-    let same : stalled_ending ≡ ending = cc in
-    ap (λ e. done (finish_in e last work)) same
-
--- whose phases aren't run
-pub no_work : (so : RoundEnd) (ending : Ending) (work : ℕ) → ending_by so ≡ Some ending
-    → work_in so work ≡ 0
-no_work Went ending work is = absurd cc
-no_work Done ending work is = refl
-no_work Stalled ending work is = refl
-
--- and with another it goes on
-pub goes_after : (so : RoundEnd) → ending_by so ≡ None → so ≡ Went
-goes_after Went is = refl
-goes_after Done is = absurd cc
-goes_after Stalled is = absurd cc
-
--- From the start so many rounds were run, with so much work, and so many are left.
-abbrev pub RanSome : (q rounds : ℕ) → State → BorderState → ℕ → State → BorderState → ℕ → Type 0
-RanSome q rounds start before left s after work =
-    PlaysOn q (λ w. rounds_of rounds w 0) start before (λ w. rounds_of left w work) s after
-
-pub ran_none : (q rounds left : ℕ) (start : State) (b : BorderState) → rounds ≡ left
-    → RanSome q rounds start b left start b 0
-ran_none q rounds left start b all =
-    plays_still q (λ w. rounds_of rounds w 0) (λ w. rounds_of left w 0) start start b
-    (λ o e. ap (λ n. rounds_of n (sent o e (world_of q start)) 0) all)
+-- is what is left of the run
+behind_round : (config : Config) (left work : ℕ) (so : RoundEnd) (ended : Option Ending) (more : ℕ)
+    (last : World) → ending_by so ≡ ended → (so ≡ Went → config.rounds - last.rounds ≡ left)
+    → after_round left work (end_in so more last)
+    ≡ left_of_run config ended (work + work_in so more) last
+behind_round config left work Went ended more last is rounds =
+    ap (λ n. rounds_of n last (work + more)) (sym (rounds refl))
+    ∙ ap (λ e. left_of_run config e (work + more) last) is
+behind_round config left work Done ended more last is rounds =
+    ap (λ n. done (finish_in done_ending last n)) (sym (with_nothing work))
+    ∙ ap (λ e. left_of_run config e (work + 0) last) is
+behind_round config left work Stalled ended more last is rounds =
+    ap (λ n. done (finish_in stalled_ending last n)) (sym (with_nothing work))
+    ∙ ap (λ e. left_of_run config e (work + 0) last) is
 
 -- what follows a round sends its bytes behind those that were sent
 after_behind : (left work : ℕ) → SendsBehind world_ended (λ (finish : Finish). finish.world)
@@ -134,97 +115,222 @@ after_behind left work o e (went next more) out err =
 after_behind left work o e (finished last) out err = (out, err)
 after_behind left work o e (stalled last) out err = (out, err)
 
-module _ (q rounds left : ℕ) (start s : State) (before told : BorderState) (work : ℕ)
-    (some : RanSome q rounds start before (suc left) s told work) where
-  -- a round more
-  pub round_plays : (result : Result RoundEnd RunStop) (s' : State) (after : BorderState) (more : ℕ)
-      → Plays q world_ended (λ w. round_of w) (λ end w. done (end_in end more w)) result s told s'
-      after
-      → Plays q (λ finish. finish.world) (λ w. rounds_of rounds w 0)
-      (λ end w. after_round left work (end_in end more w)) result start before s' after
-  round_plays result s' after more k =
-      plays_after q (λ finish. finish.world) (λ w. rounds_of rounds w 0)
-      (λ w. rounds_of (suc left) w work) (λ end w. after_round left work (end_in end more w)) result
-      start s s' before told after some
-      (plays_before q world_ended (λ finish. finish.world) (λ w. round_of w)
-      (after_round left work) (λ end w. done (end_in end more w)) result s s' told after
-      (after_behind left work) k)
+-- one round that is run leaves one less
+one_less : (rounds round now : ℕ) (so : RoundEnd) → now ≡ next_round so round → so ≡ Went
+    → rounds - (now - 1) ≡ rounds - round
+one_less rounds round now Went is ran = omega (arith, is)
+one_less rounds round now Done is ran = absurd cc
+one_less rounds round now Stalled is ran = absurd cc
 
-  -- behind which the next is run
-  pub round_more : (so : RoundEnd) (s' : State) (after : BorderState) (more : ℕ) → so ≡ Went
-      → PlaysOn q (λ w. round_of w) s told (λ w. done (end_in so more w)) s' after
-      → RanSome q rounds start before left s' after (work + work_in so more)
-  round_more so s' after more is h =
-      plays_and q (λ w. rounds_of rounds w 0) (λ w. after_round left work (end_in so more w))
-      (λ w. rounds_of left w (work + work_in so more)) start s' s' before after after
-      (round_plays (Ok so) s' after more (record { goes = h; stops = tt })).goes
-      (plays_still q (λ w. after_round left work (end_in so more w))
-      (λ w. rounds_of left w (work + work_in so more)) s' s' after
-      (λ o e. after_more left work so more (sent o e (world_of q s')) is))
+-- the end of a round by that of the run
+end_is : (so : RoundEnd) (ended : Option Ending) → ending_by so ≡ ended → so ≡ end_by ended
+end_is Went ended is = ap end_by is
+end_is Done ended is = ap end_by is
+end_is Stalled ended is = ap end_by is
 
-  -- behind which none is run
-  pub round_ends : (so : RoundEnd) (ending : Ending) (s' : State) (after : BorderState) (more : ℕ)
-      → ending_by so ≡ Some ending
-      → PlaysOn q (λ w. round_of w) s told (λ w. done (end_in so more w)) s' after
-      → PlaysOn q (λ w. rounds_of rounds w 0) start before (λ w. done (finish_in ending w work)) s'
+pub next_ok : (q : ℕ) (s s' : State) (told after : BorderState) (so : RoundEnd)
+    (ended : Option Ending) (more : ℕ) → ending_by so ≡ ended
+    → PlaysOn q (λ w. round_of w) s told (λ w. done (end_in so more w)) s' after
+    → PlaysNext q (Ok ended) s told s' after
+next_ok q s s' told after so ended more is h = record {
+  work = more;
+  plays = record {
+    goes = subst (λ x. PlaysOn q (λ w. round_of w) s told (λ w. done (end_in x more w)) s' after)
+        (end_is so ended is) h;
+    stops = tt;
+  };
+}
+
+pub next_err : (q : ℕ) (s s' : State) (told after : BorderState) (stop : RunStop) (more : ℕ)
+    → Plays q world_ended (λ w. round_of w) (λ (end : RoundEnd) w. done (end_in end more w))
+    (Err stop) s told s' after
+    → PlaysNext q (Err stop) s told s' after
+next_err q s s' told after stop more k =
+    record { work = more; plays = record { goes = tt; stops = k.stops } }
+
+pub next_numbered : (round now : ℕ) (so : RoundEnd) (ended : Option Ending) → ending_by so ≡ ended
+    → now ≡ next_round so round → now ≡ next_round (end_by ended) round
+next_numbered round now so ended is counted =
+    counted ∙ ap (λ end. next_round end round) (end_is so ended is)
+
+module _ (config : Config) (s s' : State) (told after : BorderState) (tally tally_after : ℕ)
+    (first : 1 ≤ s.round) (allowed : s.round ≤ config.rounds) where
+  -- a round is left
+  begins : (earlier : ℕ) (o e : List ℕ)
+      → rounds_left config earlier (sent o e (world_of config.quantum s))
+      ≡ rounds_of (suc (config.rounds - s.round)) (sent o e (world_of config.quantum s)) earlier
+  begins earlier o e =
+      ap (λ n. rounds_of n (sent o e (world_of config.quantum s)) earlier)
+      (let n : config.rounds - (s.round - 1) ≡ suc (config.rounds - s.round) =
+      omega (arith, first, allowed) in n)
+
+  -- and what the rounds play, as it is run
+  left_plays : (result : Result RoundEnd RunStop) (earlier more : ℕ)
+      → Plays config.quantum world_ended (λ w. round_of w) (λ end w. done (end_in end more w))
+      result s told s' after
+      → Plays config.quantum (λ finish. finish.world) (λ w. rounds_left config earlier w)
+      (λ end w. after_round (config.rounds - s.round) earlier (end_in end more w)) result s told s'
       after
-  round_ends so ending s' after more is h =
-      plays_and q (λ w. rounds_of rounds w 0) (λ w. after_round left work (end_in so more w))
-      (λ w. done (finish_in ending w work)) start s' s' before after after
-      (round_plays (Ok so) s' after more (record { goes = h; stops = tt })).goes
-      (plays_still q (λ w. after_round left work (end_in so more w))
-      (λ w. done (finish_in ending w work)) s' s' after
-      (λ o e. after_last left work so ending more (sent o e (world_of q s')) is))
+  left_plays result earlier more k =
+      plays_from config.quantum (λ finish. finish.world) (λ w. rounds_left config earlier w)
+      (λ w. rounds_of (suc (config.rounds - s.round)) w earlier)
+      (λ end w. after_round (config.rounds - s.round) earlier (end_in end more w)) result s s' told
+      after (begins earlier)
+      (plays_before config.quantum world_ended (λ finish. finish.world) (λ w. round_of w)
+      (after_round (config.rounds - s.round) earlier) (λ end w. done (end_in end more w)) result s
+      s' told after (after_behind (config.rounds - s.round) earlier) k)
+
+  pub some_ok : (so : RoundEnd) (ended : Option Ending) (more : ℕ) → ending_by so ≡ ended
+      → s'.round ≡ next_round so s.round
+      → PlaysOn config.quantum (λ w. round_of w) s told (λ w. done (end_in so more w)) s' after
+      → GrewBy tally tally_after (work_in so more)
+      → PlaysSome config (Ok ended) s told s' after tally tally_after
+  some_ok so ended more is round h grew = record {
+    work = work_in so more;
+    plays = λ earlier. record {
+      goes = plays_and config.quantum (λ w. rounds_left config earlier w)
+          (λ w. after_round (config.rounds - s.round) earlier (end_in so more w))
+          (λ w. left_of_run config ended (earlier + work_in so more) w) s s' s' told after after
+          (left_plays (Ok so) earlier more (record { goes = h; stops = tt })).goes
+          (plays_still config.quantum
+          (λ w. after_round (config.rounds - s.round) earlier (end_in so more w))
+          (λ w. left_of_run config ended (earlier + work_in so more) w) s' s' after
+          (λ o e. behind_round config (config.rounds - s.round) earlier so ended more
+          (sent o e (world_of config.quantum s')) is
+          (one_less config.rounds s.round s'.round so round)));
+      stops = tt;
+    };
+    grew = grew;
+  }
+
+  pub some_err : (stop : RunStop) (more : ℕ)
+      → Plays config.quantum world_ended (λ w. round_of w)
+      (λ (end : RoundEnd) w. done (end_in end more w)) (Err stop) s told s' after
+      → PlaysSome config (Err stop) s told s' after tally tally_after
+  some_err stop more k = record {
+    work = 0;
+    plays = λ earlier. record { goes = tt; stops = (left_plays (Err stop) earlier more k).stops };
+    grew = tt;
+  }
+
+-- ---- some rounds
+
+pub some_none : (config : Config) (s : State) (b : BorderState) (tally : ℕ)
+    → PlaysSome config (Ok None) s b s b tally tally
+some_none config s b tally = record {
+  work = 0;
+  plays = λ earlier. record {
+    goes = plays_still config.quantum (λ w. rounds_left config earlier w)
+        (λ w. rounds_left config (earlier + 0) w) s s b
+        (λ o e. ap (λ n. rounds_left config n (sent o e (world_of config.quantum s)))
+        (sym (with_nothing earlier)));
+    stops = tt;
+  };
+  grew = grew-nothing tally;
+}
 
 -- no round is left
-pub rounds_over : (q rounds : ℕ) (start s : State) (before told : BorderState) (work : ℕ)
-    (ending : Ending)
+pub some_over : (config : Config) (s : State) (b : BorderState) (tally : ℕ) (ending : Ending)
+    → config.rounds ≤ s.round - 1
     → ending ≡ (if length
     (numbers_of is_some s.table.threads) == 0 then done_ending else limit_ending)
-    → RanSome q rounds start before 0 s told work
-    → PlaysOn q (λ w. rounds_of rounds w 0) start before (λ w. done (finish_in ending w work)) s
-    told
-rounds_over q rounds start s before told work ending is some =
-    plays_and q (λ w. rounds_of rounds w 0) (λ w. rounds_of 0 w work)
-    (λ w. done (finish_in ending w work)) start s s before told told some
-    (plays_still q (λ w. rounds_of 0 w work) (λ w. done (finish_in ending w work)) s s told
-    (λ o e. ap (λ ending. done (finish_in ending (sent o e (world_of q s)) work)) (sym is)))
-
--- the rounds of a run that begins
-pub from_start : (config : Config) (start : State) → start.round ≡ 1 → (o e : List ℕ)
-    → rounds_from (sent o e (world_of config.quantum start)) config
-    ≡ rounds_of config.rounds (sent o e (world_of config.quantum start)) 0
-from_start config start first o e =
-    ap (λ n. rounds_of n (sent o e (world_of config.quantum start)) 0)
-    (let n : config.rounds - (start.round - 1) ≡ config.rounds = omega (arith, first) in n)
-
-pub from_begin : (config : Config) (start s : State) (b b' : BorderState)
-    (left : World → Play Finish) → start.round ≡ 1
-    → PlaysOn config.quantum (λ w. rounds_of config.rounds w 0) start b left s b'
-    → PlaysOn config.quantum (λ w. rounds_from w config) start b left s b'
-from_begin config start s b b' left first h =
-    plays_and config.quantum (λ w. rounds_from w config) (λ w. rounds_of config.rounds w 0) left
-    start start s b b b'
-    (plays_still config.quantum (λ w. rounds_from w config) (λ w. rounds_of config.rounds w 0) start
-    start b (from_start config start first)) h
-
--- a round in which the run stops
-pub round_halts : (config : Config) (left : ℕ) (start s s' : State)
-    (before told after : BorderState) (work more : ℕ) (stop : RunStop) → start.round ≡ 1
-    → RanSome config.quantum config.rounds start before (suc left) s told work
-    → Plays config.quantum world_ended (λ w. round_of w)
-    (λ (end : RoundEnd) w. done (end_in end more w)) (Err stop) s told s' after
-    → Plays config.quantum (λ finish. finish.world) (λ w. rounds_from w config)
-    (λ (ending : Ending) w. done (finish_in ending w 0)) (Err stop) start before s' after
-round_halts config left start s s' before told after work more stop first some k = record {
-  goes = tt;
-  stops = stops_after config.quantum (λ finish. finish.world) (λ w. rounds_from w config)
-      (λ w. rounds_of config.rounds w 0) start start before before after (stopper stop)
-      (plays_still config.quantum (λ w. rounds_from w config) (λ w. rounds_of config.rounds w 0)
-      start start before (from_start config start first))
-      (round_plays config.quantum config.rounds left start s before told work some (Err stop) s'
-      after more k).stops;
+    → PlaysSome config (Ok (Some ending)) s b s b tally tally
+some_over config s b tally ending past is = record {
+  work = 0;
+  plays = λ earlier. record {
+    goes = plays_still config.quantum (λ w. rounds_left config earlier w)
+        (λ w. done (finish_in ending w (earlier + 0))) s s b
+        (λ o e. ap (λ n. rounds_of n (sent o e (world_of config.quantum s)) earlier)
+        (let n : config.rounds - (s.round - 1) ≡ 0 = omega (arith, past) in n)
+        ∙ ap (λ n. rounds_of 0 (sent o e (world_of config.quantum s)) n)
+        (sym (with_nothing earlier))
+        ∙ ap (λ end. done (finish_in end (sent o e (world_of config.quantum s)) (earlier + 0)))
+        (sym is));
+    stops = tt;
+  };
+  grew = grew-nothing tally;
 }
+
+both_grew : (result : Result (Option Ending) RunStop) (t t' t'' work more : ℕ)
+    → GrewBy t t' work → OnOk result (GrewBy t' t'' more) → OnOk result (GrewBy t t'' (work + more))
+both_grew (Ok ended) t t' t'' work more g h = grew-more t t' t'' work more g h
+both_grew (Err stop) t t' t'' work more g h = tt
+
+-- first so, then so
+both_some : (config : Config) (result : Result (Option Ending) RunStop) (s s' s'' : State)
+    (b b' b'' : BorderState) (t t' t'' : ℕ) → PlaysSome config (Ok None) s b s' b' t t'
+    → PlaysSome config result s' b' s'' b'' t' t'' → PlaysSome config result s b s'' b'' t t''
+both_some config result s s' s'' b b' b'' t t' t'' h k = record {
+  work = h.work + k.work;
+  plays = λ earlier.
+      plays_after config.quantum (λ finish. finish.world) (λ w. rounds_left config earlier w)
+      (λ w. rounds_left config (earlier + h.work) w)
+      (λ ended w. left_of_run config ended (earlier + (h.work + k.work)) w) result s s' s'' b b' b''
+      (h.plays earlier).goes
+      (subst (λ n. Plays config.quantum (λ finish. finish.world)
+      (λ w. rounds_left config (earlier + h.work) w) (λ ended w. left_of_run config ended n w)
+      result
+      s' b' s'' b'')
+      (let n : (earlier + h.work) + k.work ≡ earlier + (h.work + k.work) = omega arith in n)
+      (k.plays (earlier + h.work)));
+  grew = both_grew result t t' t'' h.work k.work h.grew k.grew;
+}
+
+-- under the configuration with which the first began
+pub some_then : (config here : Config) (result : Result (Option Ending) RunStop) (s s' s'' : State)
+    (b b' b'' : BorderState) (t t' t'' : ℕ) → here ≡ config
+    → PlaysSome config (Ok None) s b s' b' t t' → PlaysSome here result s' b' s'' b'' t' t''
+    → PlaysSome config result s b s'' b'' t t''
+some_then config here result s s' s'' b b' b'' t t' t'' same h k =
+    both_some config result s s' s'' b b' b'' t t' t'' h
+    (subst (λ (c : Config). PlaysSome c result s' b' s'' b'' t' t'') same k)
+
+-- so many more are counted
+pub counted_more : (ended : Option Ending) (rounds start round now : ℕ) → ended ≡ None
+    → round ≡ start + rounds → IsCountedIn ended 1 round now → now ≡ start + (rounds + 1)
+counted_more None rounds start round now is before one = omega (arith, before, one)
+counted_more (Some ending) rounds start round now is before one = absurd cc
+
+-- a kernel's state, as it was read
+pub between_here : (s read : State) (config : Config) → read ≡ s → IsBetweenRounds read config
+    → IsBetweenRounds s config
+between_here s read config is h = subst (λ (x : State). IsBetweenRounds x config) is h
+
+-- what is known where a test is true, or false
+pub where_true : (test : Bool) (P Q : Type 0) → test ≡ true → MatchBool test P Q → P
+where_true true P Q is h = h
+where_true false P Q is h = absurd cc
+
+pub where_false : (test : Bool) (P Q : Type 0) → test ≡ false → MatchBool test P Q → Q
+where_false true P Q is h = absurd cc
+where_false false P Q is h = h
+
+-- a round is counted as one
+pub counted_one : (ended : Option Ending) (round now : ℕ)
+    → now ≡ next_round (end_by ended) round → IsCountedIn ended 1 round now
+counted_one None round now is = is
+counted_one (Some ending) round now is = tt
+
+-- ---- all rounds
+
+pub all_ok : (config : Config) (ending : Ending) (s s' : State) (b b' : BorderState) (t t' : ℕ)
+    → PlaysSome config (Ok (Some ending)) s b s' b' t t'
+    → PlaysRounds config (Ok ending) s b s' b' t t'
+all_ok config ending s s' b b' t t' h = record {
+  work = h.work;
+  plays = record {
+    goes = subst (λ n. PlaysOn config.quantum (λ w. rounds_from w config) s b
+        (λ w. done (finish_in ending w n)) s' b')
+        (let n : 0 + h.work ≡ h.work = omega arith in n) (h.plays 0).goes;
+    stops = tt;
+  };
+  grew = h.grew;
+}
+
+pub all_err : (config : Config) (stop : RunStop) (s s' : State) (b b' : BorderState) (t t' : ℕ)
+    → PlaysSome config (Err stop) s b s' b' t t' → PlaysRounds config (Err stop) s b s' b' t t'
+all_err config stop s s' b b' t t' h =
+    record { work = 0; plays = record { goes = tt; stops = (h.plays 0).stops }; grew = tt }
 
 -- ---- a run that stops before its end
 
@@ -381,24 +487,6 @@ module _ (config : Config) (start s : State) (before told : Telling) (ending : E
           ∙ goes-over_more ran.more.exchanges (posts [] ∷ [])
           (rounds_from (world_of config.quantum start) config) (done finish) ran.goes
 
--- ---- in a loop that counts the rounds
-
--- before the round of this index one more than those after it are left
-pub some_at : (q rounds i : ℕ) (start s : State) (before told : BorderState) (work : ℕ)
-    → i < rounds → RanSome q rounds start before (rounds - i) s told work
-    → RanSome q rounds start before (suc (rounds - (i + 1))) s told work
-some_at q rounds i start s before told work lt some =
-    subst (λ n. RanSome q rounds start before n s told work)
-    (let e : rounds - i ≡ suc (rounds - (i + 1)) = omega (arith, lt) in e) some
-
--- after the last none is left
-pub none_left : (q rounds i : ℕ) (start s : State) (before told : BorderState) (work : ℕ)
-    → rounds ≤ i → RanSome q rounds start before (rounds - i) s told work
-    → RanSome q rounds start before 0 s told work
-none_left q rounds i start s before told work le some =
-    subst (λ n. RanSome q rounds start before n s told work)
-    (let e : rounds - i ≡ 0 = omega (arith, le) in e) some
-
 -- ---- whether the kernel has failed
 
 -- by a stop before the end
@@ -420,3 +508,33 @@ stands_at_end stop reason asked ending rounds failed is stopped at =
       | None ↦ true
       | Some reason ↦ not (is_end_question asked)
     ]) stopped ∙ ap (λ a. not (is_end_question a)) at)
+
+-- a run whose rounds stopped
+pub runs_stopped : (config : Config) (start s : State) (before after : BorderState) (stop : RunStop)
+    (failed : Bool) (t t' : ℕ) → failed ≡ true
+    → PlaysRounds config (Err stop) start before s after t t'
+    → RunsGroup config (Err stop) start before s after failed t t'
+runs_stopped config start s before after stop failed t t' is h =
+    let stops = h.plays.stops in
+    record {
+      runs = tt;
+      asks = by_question config.quantum (λ finish. finish.world) (λ w. rounds_from w config) start
+          _ _ _ (stopped_group config start before after) stop stops;
+      cut = cut_group config start before after (stopper stop) stops;
+      told_end = tt;
+      failed = failed_before _ _ _ is
+          (asks_before_end config.quantum (λ finish. finish.world) (λ w. rounds_from w config)
+          start before after stop stops);
+      causes = causes_err before after stop
+          (fails_of config.quantum (λ finish. finish.world) (λ w. rounds_from w config)
+          (stopper stop) start before after stops);
+    }
+
+-- where it hasn't, it stands between two rounds
+pub within_limit : (result : Result Ending RunStop) (asked : Option Question) (failed : Bool)
+    (s : State) (here config : Config) → failed ≡ has_failed result asked
+    → (failed ≡ false → IsBetweenRounds s here) → here ≡ config
+    → OnOk result (s.round - 1 ≤ config.rounds)
+within_limit (Ok ending) asked failed s here config is sound same =
+    subst (λ (c : Config). s.round - 1 ≤ c.rounds) same (sound is).rounds
+within_limit (Err stop) asked failed s here config is sound same = tt

@@ -1,6 +1,7 @@
 -- What it means that the kernel has run a group to its end, or that the run has stopped. This
 -- project's own rules.
-use Rattle.std.specs.Prelude.{ℕ, ◌≡◌, ◌-◌, Bool, true, false, not, List, [], ◌∷◌, ◌++◌, map, Option}
+use Rattle.std.specs.Prelude.{ℕ, ◌≡◌, ◌+◌, ◌-◌, Bool, true, false, not, List, [], ◌∷◌, ◌++◌, map}
+use Rattle.std.specs.Prelude.{Option, ⊤}
 use Rattle.std.specs.Prelude.{Some, None, Result, Ok, Err, IfErr, IfOk, OnErr, OnOk, OnSome}
 use Rattle.dos_world.specs.World.{World}
 use Rattle.dos_world.specs.Play.{Play, done, over, questions, asks}
@@ -15,19 +16,22 @@ use Rattle.dos_io.specs.Outside.{IsFront}
 use Rattle.dos_io.specs.Shims.{HasNoEnd}
 use Rattle.dos_io.specs.declared.exchange.Exchange.{Exchange}
 use Rattle.dos_io.specs.declared.exchange.Exchange.TheVariants.{End as end_exchange}
+use Rattle.dos_laws.specs.Plays.{world_ended}
 use Rattle.worker_pool.specs.Ran.{GrewBy}
 use Rattle.kernel_calls.specs.Plays.{Plays}
 use Rattle.kernel_calls.specs.StateWorld.{sent, shim_stop, world_of}
 use Rattle.kernel_calls.specs.declared.state.RunStop.{RunStop}
 use Rattle.kernel_calls.specs.declared.state.State.{State}
 use Rattle.group_rounds.specs.Plays.{GoesOn}
+use Rattle.group_rounds.specs.Rounds.{end_in}
 use Rattle.group_rounds.specs.StatePlays.{Telling, ToldMore, told_at}
 use Rattle.group_rounds.specs.Outside.{HaveCauses, is_end_question}
 use Rattle.group_rounds.specs.declared.round.RoundEnd.{RoundEnd}
 use Rattle.group_rounds.specs.declared.round.RoundEnd.TheVariants.{Went, Done, Stalled}
 use Rattle.dpg_run.specs.Fits.{FitsFrom}
-use Rattle.flat_machine.specs.Machine.{Finish, Ran, machine_from, rounds_from, run_from, ends}
-use Rattle.flat_machine.specs.Machine.{needs}
+use Rattle.flat_machine.specs.Machine.{Finish, Ran, machine_from, rounds_from, rounds_of, run_from}
+use Rattle.flat_machine.specs.Machine.{ends, needs}
+use Rattle.flat_machine.specs.Round.{round_of}
 use Rattle.flat_machine.specs.Machine.{status_in}
 
 -- how a run ended, in which world, after so much work
@@ -48,6 +52,45 @@ pub record PlaysRounds (config : Config) (result : Result Ending RunStop) (old :
     pub work : ℕ
     pub plays : Plays config.quantum (λ finish. finish.world) (λ w. rounds_from w config)
         (λ ending w. done (finish_in ending w work)) result old before new after
+    pub grew : OnOk result (GrewBy tally tally_after work)
+
+-- how a round ended after which a run has ended so, or goes on
+abbrev pub end_by : Option Ending → RoundEnd
+end_by None = Went
+end_by (Some stalled_ending) = Stalled
+end_by (Some _) = Done
+
+-- The call plays one round of the old state's world, whatever bytes were sent before.
+pub record PlaysNext (quantum : ℕ) (result : Result (Option Ending) RunStop) (old : State)
+    (before : BorderState) (new : State) (after : BorderState) : Type 0 where
+  pub work : ℕ
+  pub plays : Plays quantum world_ended (λ w. round_of w)
+      (λ ended w. done (end_in (end_by ended) work w)) result old before new after
+
+-- the rounds that the configuration leaves to a world, after so much work
+abbrev pub rounds_left : Config → (work : ℕ) → World → Play Finish
+rounds_left config work w = rounds_of (config.rounds - w.rounds) w work
+
+-- what is left of a run that has ended so, or goes on
+abbrev pub left_of_run : Config → Option Ending → (work : ℕ) → World → Play Finish
+left_of_run config None work w = rounds_left config work w
+left_of_run config (Some ending) work w = done (finish_in ending w work)
+
+-- Where the run goes on after so many rounds, they are counted.
+abbrev pub IsCountedIn : Option Ending → (rounds round now : ℕ) → Type 0
+IsCountedIn None rounds round now = now ≡ round + rounds
+IsCountedIn (Some ending) rounds round now = ⊤
+
+-- The call plays some of the rounds that the configuration leaves to the old state's world,
+-- whatever bytes were sent before, and whatever work was done: to an ending, or so far that the
+-- rest is left. Its own work is what the tally grew by.
+pub record PlaysSome (config : Config) (result : Result (Option Ending) RunStop) (old : State)
+    (before : BorderState) (new : State) (after : BorderState) (tally tally_after : ℕ) : Type 0
+  where
+    pub work : ℕ
+    pub plays : (earlier : ℕ) → Plays config.quantum (λ finish. finish.world)
+        (λ w. rounds_left config earlier w)
+        (λ ended w. left_of_run config ended (earlier + work) w) result old before new after
     pub grew : OnOk result (GrewBy tally tally_after work)
 
 -- The rounds of the machine from the old state's world, over the exchanges that are told more, have

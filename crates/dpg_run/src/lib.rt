@@ -8,4 +8,4 @@ mod run;
 
 pub use open::open_group;
 pub use report::{put_processes, put_report};
-pub use run::run_group;
+pub use run::{limit_ending, run_group, run_next, run_some, tell_end};

@@ -1,14 +1,20 @@
 // A whole run.
 ghost use Rattle.std.specs.Prelude.{ℕ, ◌≡◌, ◌≤◌, ◌-◌, ◌==◌, false, if◌then◌else◌, is_err, is_some};
-ghost use Rattle.std.specs.Prelude.{length, IfOk, IfErr, OnErr, OnOk, OnSome};
+ghost use Rattle.std.specs.Prelude.{◌<◌, ◌++◌, List, MatchBool, length, IfErr, IfOk, Ok, OnErr};
+ghost use Rattle.std.specs.Prelude.{OnOk, OnSome};
 ghost use Rattle.dos_world.specs.Numbered.{numbers_of};
 ghost use Rattle.dos_io.specs.Shims.{HasNoEnd};
 ghost use Rattle.kernel_calls.specs.StateWorld.{shim_stop};
 ghost use Rattle.worker_pool.specs.Ran.{GrewBy};
+ghost use Rattle.group_rounds.specs.Rounds.{next_round};
 ghost use Rattle.group_rounds.specs.StatePlays.{telling};
 ghost use Rattle.group_rounds.specs.Outside.{HaveCauses};
-ghost use Rattle.dpg_run.specs.GroupRuns.{AreEnded, CutGroup, PlaysRounds, RanGroup, RunsGroup};
-ghost use Rattle.dpg_run.specs.GroupRuns.{StoppedGroup};
+ghost use Rattle.dos_io.specs.Borders.{BorderState};
+ghost use Rattle.dos_io.specs.declared.exchange.Exchange.{Exchange};
+ghost use Rattle.dos_world.specs.declared.Config.{Config};
+ghost use Rattle.kernel_calls.specs.declared.state.State.{State};
+ghost use Rattle.dpg_run.specs.GroupRuns.{AreEnded, CutGroup, IsCountedIn, PlaysNext, PlaysRounds};
+ghost use Rattle.dpg_run.specs.GroupRuns.{PlaysSome, RanGroup, RunsGroup, StoppedGroup, end_by};
 ghost use Rattle.dpg_run.specs.GroupRuns.{ending_by, has_failed};
 ghost use Rattle.group_rounds.specs.Kernels.{IsBetweenRounds};
 
@@ -18,8 +24,8 @@ use group_rounds::{Kernel, RoundEnd, run_round};
 use kernel_calls::{RunStop, run_stop};
 use worker_pool::Workers;
 
-// how a run ends where no round is left
-fn limit_ending(kernel: &Kernel) -> Ending
+/// How a run ends where no round is left.
+pub fn limit_ending(kernel: &Kernel) -> Ending
     ensures ending { result
         ≡ (if length (numbers_of is_some kernel.now.state.table.threads) == 0 then
         Ending.Done else Ending.Limit) }
@@ -43,31 +49,153 @@ fn ending_after(end: RoundEnd) -> Option<Ending>
     }
 }
 
-// the rounds of a run, as many as its configuration allows
-fn run_rounds<B: Border, W: Workers>(
+/// Runs one round, of those that the configuration leaves, and answers how the run ends with it, if
+/// it does. After an `Err` the kernel has failed.
+pub fn run_next<B: Border, W: Workers>(
     kernel: &mut Kernel,
     border: &mut B,
     workers: &mut W,
-) -> Result<Ending, RunStop>
+) -> Result<Option<Ending>, RunStop>
     requires running { kernel.old.failed ≡ false }
-    requires fresh { kernel.old.state.round ≡ 1 }
+    requires limit { kernel.old.state.round ≤ kernel.old.config.rounds }
     requires told { HasNoEnd (B.state border.old).shim.told }
-    ensures plays { PlaysRounds kernel.old.config result
+    ensures plays { PlaysNext kernel.old.config.quantum result
+        kernel.old.state (B.state border.old) kernel.new.state (B.state border.new) }
+    ensures some { PlaysSome kernel.old.config result
         kernel.old.state (B.state border.old) kernel.new.state (B.state border.new)
         (W.tally workers.old) (W.tally workers.new) }
+    ensures round { IfOk result
+        (λ ended. kernel.new.state.round ≡ next_round (end_by ended) kernel.old.state.round) }
+    ensures uncounted { OnErr result (kernel.new.state.round ≡ kernel.old.state.round) }
+    ensures told { OnOk result (HasNoEnd (B.state border.new).shim.told) }
     ensures sound { kernel.new.failed ≡ false → IsBetweenRounds kernel.new.state kernel.new.config }
     ensures config { kernel.new.config ≡ kernel.old.config }
     ensures failed { kernel.new.failed ≡ is_err result }
     ensures follows { B.follows border.old border.new }
     ensures fixed { W.fixed workers.new ≡ W.fixed workers.old }
 {
-    let rounds = kernel.config().rounds;
+    let _state = kernel.state();
+    match run_round(kernel, border, workers) {
+        Ok(end) => Ok(ending_after(end)),
+        Err(stop) => Err(stop),
+    }
+}
+
+// whether the configuration leaves no round
+fn is_over(kernel: &Kernel) -> bool
+    ensures { MatchBool result (kernel.now.config.rounds ≤ kernel.now.state.round - 1)
+        (kernel.now.state.round - 1 < kernel.now.config.rounds) }
+{
+    kernel.rounds() >= kernel.config().rounds
+}
+
+// one round, where the configuration leaves one; else the run ends
+fn run_left<B: Border, W: Workers>(
+    kernel: &mut Kernel,
+    border: &mut B,
+    workers: &mut W,
+) -> Result<Option<Ending>, RunStop>
+    requires running { kernel.old.failed ≡ false }
+    requires told { HasNoEnd (B.state border.old).shim.told }
+    ensures some { PlaysSome kernel.old.config result
+        kernel.old.state (B.state border.old) kernel.new.state (B.state border.new)
+        (W.tally workers.old) (W.tally workers.new) }
+    ensures counted { IfOk result
+        (λ ended. IsCountedIn ended 1 kernel.old.state.round kernel.new.state.round) }
+    ensures told { OnOk result (HasNoEnd (B.state border.new).shim.told) }
+    ensures sound { kernel.new.failed ≡ false → IsBetweenRounds kernel.new.state kernel.new.config }
+    ensures config { kernel.new.config ≡ kernel.old.config }
+    ensures failed { kernel.new.failed ≡ is_err result }
+    ensures follows { B.follows border.old border.new }
+    ensures fixed { W.fixed workers.new ≡ W.fixed workers.old }
+{
+    if is_over(kernel) {
+        Ok(Some(limit_ending(kernel)))
+    } else {
+        run_next(kernel, border, workers)
+    }
+}
+
+/// Runs so many rounds, or fewer where the run ends before that: then it answers how, and else
+/// None. After an `Err` the kernel has failed.
+pub fn run_some<B: Border, W: Workers>(
+    kernel: &mut Kernel,
+    border: &mut B,
+    workers: &mut W,
+    rounds: u32,
+) -> Result<Option<Ending>, RunStop>
+    requires running { kernel.old.failed ≡ false }
+    requires told { HasNoEnd (B.state border.old).shim.told }
+    ensures some { PlaysSome kernel.old.config result
+        kernel.old.state (B.state border.old) kernel.new.state (B.state border.new)
+        (W.tally workers.old) (W.tally workers.new) }
+    ensures counted { IfOk result
+        (λ ended. IsCountedIn ended rounds kernel.old.state.round kernel.new.state.round) }
+    ensures told { OnOk result (HasNoEnd (B.state border.new).shim.told) }
+    ensures sound { kernel.new.failed ≡ false → IsBetweenRounds kernel.new.state kernel.new.config }
+    ensures config { kernel.new.config ≡ kernel.old.config }
+    ensures failed { kernel.new.failed ≡ is_err result }
+    ensures follows { B.follows border.old border.new }
+    ensures fixed { W.fixed workers.new ≡ W.fixed workers.old }
+{
+    let _state = kernel.state();
     for _round in 0..rounds {
-        if let Some(ending) = ending_after(run_round(kernel, border, workers)?) {
-            return Ok(ending);
+        if let Some(ending) = run_left(kernel, border, workers)? {
+            return Ok(Some(ending));
         }
     }
-    Ok(limit_ending(kernel))
+    Ok(None)
+}
+
+// the rounds of a run, as many as its configuration leaves
+fn run_rounds<B: Border, W: Workers>(
+    kernel: &mut Kernel,
+    border: &mut B,
+    workers: &mut W,
+) -> Result<Ending, RunStop>
+    requires running { kernel.old.failed ≡ false }
+    requires told { HasNoEnd (B.state border.old).shim.told }
+    ensures plays { PlaysRounds kernel.old.config result
+        kernel.old.state (B.state border.old) kernel.new.state (B.state border.new)
+        (W.tally workers.old) (W.tally workers.new) }
+    ensures told { OnOk result (HasNoEnd (B.state border.new).shim.told) }
+    ensures sound { kernel.new.failed ≡ false → IsBetweenRounds kernel.new.state kernel.new.config }
+    ensures config { kernel.new.config ≡ kernel.old.config }
+    ensures failed { kernel.new.failed ≡ is_err result }
+    ensures follows { B.follows border.old border.new }
+    ensures fixed { W.fixed workers.new ≡ W.fixed workers.old }
+{
+    let _state = kernel.state();
+    let rounds = kernel.config().rounds;
+    let ended = run_some(kernel, border, workers, rounds)?;
+    match ended {
+        Some(ending) => Ok(ending),
+        None => Ok(limit_ending(kernel)),
+    }
+}
+
+/// Tells the shim the end of a run whose rounds have ended so.
+pub fn tell_end<B: Border>(
+    kernel: &Kernel,
+    border: &mut B,
+    ending: Ending,
+) -> Result<Ending, RunStop>
+    requires { HasNoEnd (B.state border.old).shim.told }
+    // from wherever the rounds began
+    ensures runs { (config : Config) (old : State) (before : BorderState) (tally tally_after : ℕ)
+        → kernel.now.failed ≡ false
+        → PlaysRounds config (Ok ending) old before kernel.now.state (B.state border.old) tally
+        tally_after
+        → RunsGroup config result old before kernel.now.state (B.state border.new)
+        kernel.now.failed tally tally_after }
+    ensures more { (exchanges : List Exchange)
+        × ((B.state border.new).shim.told ≡ (B.state border.old).shim.told ++ exchanges) }
+    ensures follows { B.follows border.old border.new }
+{
+    match border.end(ending, kernel.rounds()) {
+        Ok(()) => Ok(ending),
+        Err(stop) => Err(run_stop(stop)),
+    }
 }
 
 // a run of rounds, and the shim is told its end
@@ -77,7 +205,6 @@ fn run_over<B: Border, W: Workers>(
     workers: &mut W,
 ) -> Result<Ending, RunStop>
     requires running { kernel.old.failed ≡ false }
-    requires fresh { kernel.old.state.round ≡ 1 }
     requires told { HasNoEnd (B.state border.old).shim.told }
     ensures runs { RunsGroup kernel.old.config result
         kernel.old.state (B.state border.old) kernel.new.state (B.state border.new)
@@ -88,10 +215,9 @@ fn run_over<B: Border, W: Workers>(
     ensures follows { B.follows border.old border.new }
     ensures fixed { W.fixed workers.new ≡ W.fixed workers.old }
 {
-    let ending = run_rounds(kernel, border, workers)?;
-    match border.end(ending, kernel.rounds()) {
-        Ok(()) => Ok(ending),
-        Err(stop) => Err(run_stop(stop)),
+    match run_rounds(kernel, border, workers) {
+        Ok(ending) => tell_end(kernel, border, ending),
+        Err(stop) => Err(stop),
     }
 }
 
