@@ -47,6 +47,8 @@ module _ {T : Type 0} (before after : BorderState) where
     shim = tt;
     stands = record { stops = h.shim.stops; last = h.shim.last };
     sinks = tt;
+    out_steady = λ _. h.faults Output;
+    err_steady = λ _. h.faults Error;
   }
 
   pub causes_err : (stop : RunStop) → Fails (stopper stop) before after
@@ -58,6 +60,8 @@ module _ {T : Type 0} (before after : BorderState) where
     shim = (rose before after _ h, h.last);
     stands = tt;
     sinks = tt;
+    out_steady = λ _. h.faults Output;
+    err_steady = λ _. h.faults Error;
   }
   causes_err LogFull h = record {
     out_later = no_less _ _ (h.faults Output);
@@ -65,6 +69,8 @@ module _ {T : Type 0} (before after : BorderState) where
     shim = (rose before after _ h, h.last);
     stands = tt;
     sinks = tt;
+    out_steady = λ _. h.faults Output;
+    err_steady = λ _. h.faults Error;
   }
   causes_err (Misfit m) h = record {
     out_later = no_less _ _ (h.faults Output);
@@ -72,6 +78,8 @@ module _ {T : Type 0} (before after : BorderState) where
     shim = (rose before after _ h, h.last);
     stands = tt;
     sinks = tt;
+    out_steady = λ _. h.faults Output;
+    err_steady = λ _. h.faults Error;
   }
   causes_err Memory h = record {
     out_later = no_less _ _ (h.faults Output);
@@ -79,6 +87,8 @@ module _ {T : Type 0} (before after : BorderState) where
     shim = (rose before after _ h, h.last);
     stands = tt;
     sinks = tt;
+    out_steady = λ _. h.faults Output;
+    err_steady = λ _. h.faults Error;
   }
   causes_err OutFault h = record {
     out_later = h.later;
@@ -86,6 +96,8 @@ module _ {T : Type 0} (before after : BorderState) where
     shim = record { stops = h.shim.stops; last = h.shim.last };
     stands = tt;
     sinks = h.rose;
+    out_steady = λ other. absurd (other refl);
+    err_steady = λ _. h.others Error (λ same. cc);
   }
   causes_err ErrFault h = record {
     out_later = no_less _ _ (h.others Output (λ same. cc));
@@ -93,6 +105,8 @@ module _ {T : Type 0} (before after : BorderState) where
     shim = record { stops = h.shim.stops; last = h.shim.last };
     stands = tt;
     sinks = h.rose;
+    out_steady = λ _. h.others Output (λ same. cc);
+    err_steady = λ other. absurd (other refl);
   }
 
 -- what holds where the shim stopped
