@@ -1,6 +1,6 @@
 -- What `gen` leaves, from part to whole.
-use Rattle.std.proofs.Common.{◌≡◌, ◌≤◌, ◌-◌, ◌++◌, inl, inr, ℕ, Bool, List, [], ◌∷◌, map, Option, Some}
-use Rattle.std.proofs.Common.{None, Result, sym, ap, ◌∙◌, subst, refl, append_assoc, arith}
+use Rattle.std.proofs.Common.{◌≡◌, ◌≤◌, ◌-◌, ◌++◌, inl, inr, ℕ, Bool, List, [], ◌∷◌, map, Option}
+use Rattle.std.proofs.Common.{Some, None, Result, sym, ap, ◌∙◌, subst, refl, append_assoc, arith}
 use Rattle.std.specs.Prelude.{IfSome, OnOk, OnErr}
 use Rattle.sha2.specs.Sha256.{sha256}
 use Rattle.dos_world.specs.World.{World}

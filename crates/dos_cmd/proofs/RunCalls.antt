@@ -69,7 +69,8 @@ pub images_refused : (a : RunAsked) (n : ℕ) (o : Outside) (f : Faults) (why : 
     → (why ≡ refusals.Files → Rose f.files f.files_after) → Says o []
     → Leaves (run_asked_with a n) o f why []
 images_refused a n o f why h rose says =
-    leaves_reading (run_asked_with a n) o f why (of_files why _ _ (refused_with a n o.files) h) rose says
+    leaves_reading (run_asked_with a n) o f why (of_files why _ _ (refused_with a n o.files) h) rose
+    says
 
 pub not_opened : (a : RunAsked) (n : ℕ) (o : Outside) (f : Faults) (images : List Image)
     (why : Refusal) → IfSome (images_from 1 (map o.files a.names)) (λ i. i ≡ Ok images)
