@@ -1,6 +1,7 @@
 -- A replay of a run that was done, over what the run wrote and the same images, shows the same.
 use Rattle.std.proofs.Common.{◌≡◌, ◌≤◌, ◌<◌, refl, sym, ap, ◌∙◌, subst, ℕ, suc, Bool, true, false}
-use Rattle.std.proofs.Common.{List, [], ◌∷◌, length, map, Option, Some, None, Ok, Err, arith}
+use Rattle.std.proofs.Common.{List, [], ◌∷◌, length, map, Option, Some, None, Result, Ok, Err}
+use Rattle.std.proofs.Common.{arith}
 use Rattle.std.specs.Prelude.{◌++◌, IfSome, IsTrue, nat_lt, option_and_then, option_map}
 use Rattle.std.proofs.lemmas.Bool.{eq-eqb}
 use Rattle.std.proofs.lemmas.Bool.Decides.{nat_tests}
@@ -63,16 +64,22 @@ images_told : (number : ℕ) (files : List (Option (List ℕ))) (ds : List (List
     → digests_of files ≡ Some ds → (found : Images) × (images_from number files ≡ Some found)
 images_told number [] ds told = (Ok [], refl)
 images_told number (None ∷ files) ds told = absurd cc
-images_told number (Some file ∷ files) ds told = by_rest (digests_of files) refl told
+images_told number (Some file ∷ files) ds told =
+    by_rest (digests_of files) refl told (λ others is. images_told (suc number) files others is)
   where
     by_rest : (rest : Option (List (List ℕ))) → digests_of files ≡ rest
         → digests_of (Some file ∷ files) ≡ Some ds
+        → ((others : List (List ℕ)) → digests_of files ≡ Some others
+        → (all : Images) × (images_from (suc number) files ≡ Some all))
         → (found : Images) × (images_from number (Some file ∷ files) ≡ Some found)
-    by_rest None is told =
+    by_rest None is told behind =
         let none : digests_of (Some file ∷ files) ≡ None = rw is refl in absurd cc
-    by_rest (Some others) is told =
-        let rest = images_told (suc number) files others is in
+    by_rest (Some others) is told behind =
+        let rest = behind others is in
         then_told number file (images_from (suc number) files) rest.0 rest.1
+
+abbrev images_ok : List Image → Images
+images_ok images = Ok images
 
 -- what a run's images are taken for has room
 run_taken : (config : Config) (found : Images) (taken : Taken)
@@ -84,7 +91,7 @@ run_taken config (Ok images) taken is =
   where
     by_test : (b : Bool) → nat_lt config.frames (needed images) ≡ b
         → of_images (with_room config (Ok images)) ≡ Ok taken
-        → (Ok images ≡ Ok taken.images) × (needed taken.images ≤ config.frames)
+        → (images_ok images ≡ images_ok taken.images) × (needed taken.images ≤ config.frames)
     by_test true over is =
         let refused : of_images (with_room config (Ok images))
         ≡ Err (refusals.NoRoom (needed images) config.frames) = rw over refl in
@@ -93,7 +100,7 @@ run_taken config (Ok images) taken is =
         let kept : of_images (with_room config (Ok images))
         ≡ Ok (record { log = None; images = images }) = rw fits refl in
         let same : images ≡ taken.images = cc in
-        (ap (λ i. Ok i) same, subst (λ i. needed i ≤ config.frames) same (grind (arith, nat_tests)))
+        (ap images_ok same, subst (λ i. needed i ≤ config.frames) same (grind (arith, nat_tests)))
 
 abbrev judged_as : Judgement → Option Judgement
 judged_as j = Some j

@@ -1,6 +1,6 @@
 // A whole run.
-ghost use Rattle.std.specs.Prelude.{ℕ, ◌≡◌, ◌≤◌, ◌-◌, ◌==◌, false, if◌then◌else◌, is_err, is_some};
-ghost use Rattle.std.specs.Prelude.{length, IfOk, IfErr, OnErr, OnOk, OnSome};
+ghost use Rattle.std.specs.Prelude.{ℕ, ◌≡◌, ◌≢◌, ◌≤◌, ◌-◌, ◌==◌, false, if◌then◌else◌, is_err};
+ghost use Rattle.std.specs.Prelude.{is_some, length, Err, IfOk, IfErr, OnErr, OnOk, OnSome};
 ghost use Rattle.dos_world.specs.Numbered.{numbers_of};
 ghost use Rattle.dos_io.specs.Shims.{HasNoEnd};
 ghost use Rattle.kernel_calls.specs.StateWorld.{shim_stop};
@@ -135,6 +135,8 @@ pub fn run_group<S: Shim, O: Sink, E: Sink, W: Workers>(
     ensures failed { kernel.new.failed ≡ has_failed result (S.state shim.new).asked }
     ensures causes { HaveCauses result (S.state shim.old) (S.state shim.new) (O.faults out.old)
         (O.faults out.new) (E.faults err.old) (E.faults err.new) }
+    ensures out_steady { result ≢ Err RunStop.OutFault → O.faults out.new ≡ O.faults out.old }
+    ensures err_steady { result ≢ Err RunStop.ErrFault → E.faults err.new ≡ E.faults err.old }
     ensures follows { S.follows shim.old shim.new }
     ensures fixed { W.fixed workers.new ≡ W.fixed workers.old }
 {

@@ -47,8 +47,6 @@ module _ {T : Type 0} (before after : BorderState) where
     shim = tt;
     stands = record { stops = h.shim.stops; last = h.shim.last };
     sinks = tt;
-    out_steady = λ _. h.faults Output;
-    err_steady = λ _. h.faults Error;
   }
 
   pub causes_err : (stop : RunStop) → Fails (stopper stop) before after
@@ -60,8 +58,6 @@ module _ {T : Type 0} (before after : BorderState) where
     shim = (rose before after _ h, h.last);
     stands = tt;
     sinks = tt;
-    out_steady = λ _. h.faults Output;
-    err_steady = λ _. h.faults Error;
   }
   causes_err LogFull h = record {
     out_later = no_less _ _ (h.faults Output);
@@ -69,8 +65,6 @@ module _ {T : Type 0} (before after : BorderState) where
     shim = (rose before after _ h, h.last);
     stands = tt;
     sinks = tt;
-    out_steady = λ _. h.faults Output;
-    err_steady = λ _. h.faults Error;
   }
   causes_err (Misfit m) h = record {
     out_later = no_less _ _ (h.faults Output);
@@ -78,8 +72,6 @@ module _ {T : Type 0} (before after : BorderState) where
     shim = (rose before after _ h, h.last);
     stands = tt;
     sinks = tt;
-    out_steady = λ _. h.faults Output;
-    err_steady = λ _. h.faults Error;
   }
   causes_err Memory h = record {
     out_later = no_less _ _ (h.faults Output);
@@ -87,8 +79,6 @@ module _ {T : Type 0} (before after : BorderState) where
     shim = (rose before after _ h, h.last);
     stands = tt;
     sinks = tt;
-    out_steady = λ _. h.faults Output;
-    err_steady = λ _. h.faults Error;
   }
   causes_err OutFault h = record {
     out_later = h.later;
@@ -96,8 +86,6 @@ module _ {T : Type 0} (before after : BorderState) where
     shim = record { stops = h.shim.stops; last = h.shim.last };
     stands = tt;
     sinks = h.rose;
-    out_steady = λ other. absurd (other refl);
-    err_steady = λ _. h.others Error (λ same. cc);
   }
   causes_err ErrFault h = record {
     out_later = no_less _ _ (h.others Output (λ same. cc));
@@ -105,8 +93,6 @@ module _ {T : Type 0} (before after : BorderState) where
     shim = record { stops = h.shim.stops; last = h.shim.last };
     stands = tt;
     sinks = h.rose;
-    out_steady = λ _. h.others Output (λ same. cc);
-    err_steady = λ other. absurd (other refl);
   }
 
 -- what holds where the shim stopped

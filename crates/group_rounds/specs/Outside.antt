@@ -1,13 +1,12 @@
 -- Why a run stops, and what a run may do to its shim and its sinks. This project's own rules.
-use Rattle.std.specs.Prelude.{ℕ, ◌≡◌, ◌≢◌, ◌≤◌, Bool, true, false, Option, Some, None, Result, Err}
-use Rattle.std.specs.Prelude.{IfErr, OnOk}
+use Rattle.std.specs.Prelude.{ℕ, ◌≡◌, ◌≤◌, Bool, true, false, Option, Some, None, Result, IfErr}
+use Rattle.std.specs.Prelude.{OnOk}
 use Rattle.dos_world.specs.declared.Question.{Question}
 use Rattle.dos_world.specs.declared.Question.TheVariants.{Signals, Input, Clock, End}
 use Rattle.dos_io.specs.Outside.{Rose}
 use Rattle.dos_io.specs.Shims.{ShimState}
 use Rattle.kernel_calls.specs.StateWorld.{HasSinkCause, shim_stop}
 use Rattle.kernel_calls.specs.declared.state.RunStop.{RunStop}
-use Rattle.kernel_calls.specs.declared.state.RunStop.TheVariants.{OutFault, ErrFault}
 
 -- ---- causes
 
@@ -32,8 +31,7 @@ is_end_question (Some (Input round tid max)) = false
 is_end_question (Some (Clock round tid)) = false
 is_end_question (Some (End ending rounds)) = true
 
--- No sink's count falls, and a stop comes only where its object's count rose. A sink's count stands
--- unless it is what stopped the run.
+-- No sink's count falls, and a stop comes only where its object's count rose.
 pub record HaveCauses {T : Type 0} (result : Result T RunStop) (before after : ShimState)
     (out out_after err err_after : ℕ) : Type 0 where
   pub out_later : out ≤ out_after
@@ -41,5 +39,3 @@ pub record HaveCauses {T : Type 0} (result : Result T RunStop) (before after : S
   pub shim : IfErr result (λ stop. HasShimCause stop before after)
   pub stands : OnOk result (HasNotStopped before after)
   pub sinks : IfErr result (λ stop. HasSinkCause stop out out_after err err_after)
-  pub out_steady : result ≢ Err OutFault → out_after ≡ out
-  pub err_steady : result ≢ Err ErrFault → err_after ≡ err

@@ -15,6 +15,7 @@ use Rattle.group_rounds.proofs.PlayCauses.{causes_ok, fails_of}
 use Rattle.flat_machine.specs.Machine.{rounds_from}
 use Rattle.dpg_run.proofs.RoundsRun.{end_told, end_stops, end_cut, failed_before, stands_at_end}
 use Rattle.dpg_run.proofs.RoundsRun.{cut_group, ran_rounds, stopped_group}
+use Rattle.dpg_run.proofs.SteadySinks.{err_stands, out_stands}
 use Rattle.dpg_run.proofs.run.run_over.Goals as goal
 
 pub run_rounds-requires-clause-running : goal.run_rounds-requires-clause-running
@@ -32,6 +33,8 @@ returns-in_err-ending g c =
     let start = c.args.kernel.now.state in
     let stop = c.in_err-ending.field-0.0 in
     let stops = c.in_err-ending.ensures.plays.plays.stops in
+    let fails = fails_of config.quantum (λ finish. finish.world) (λ w. rounds_from w config)
+    (stopper stop) start _ _ stops in
     let p = err_from_is_err_and c.from_residual.result c.from_residual.ensures.1 in
     rw (p.1, p.2) (record {
       sound = c.run_rounds.ensures.sound;
@@ -46,9 +49,9 @@ returns-in_err-ending g c =
             (asks_before_end config.quantum (λ finish. finish.world) (λ w. rounds_from w config)
             start
             _ _ stop stops);
-        causes = causes_err _ _ stop
-            (fails_of config.quantum (λ finish. finish.world) (λ w. rounds_from w config)
-            (stopper stop) start _ _ stops);
+        causes = causes_err _ _ stop fails;
+        out_steady = out_stands _ _ stop fails;
+        err_steady = err_stands _ _ stop fails;
       };
       config = c.run_rounds.ensures.config;
       follows = c.run_rounds.ensures.follows;
@@ -73,6 +76,7 @@ returns-in-Ok g c =
     ∙ ap (λ n. (g.B.Border.state c.run_rounds.new.border).shim.told
     ++ End c.in_ok-ending.ending n ∷ []) c.rounds.ensures in
     let running = c.run_rounds.ensures.failed ∙ ap is_err c.in_ok-ending.was in
+    let stands = stands_then _ _ _ rounds.plays.goes.stands crosses.stands in
     record {
       runs = record {
         runs = (
@@ -93,7 +97,9 @@ returns-in-Ok g c =
               c.requires.told;
         };
         failed = running;
-        causes = causes_ok _ _ _ (stands_then _ _ _ rounds.plays.goes.stands crosses.stands);
+        causes = causes_ok _ _ _ stands;
+        out_steady = λ _. stands.faults Output;
+        err_steady = λ _. stands.faults Error;
       };
       sound = c.run_rounds.ensures.sound;
       limit = subst (λ (config : Config). s.round - 1 ≤ config.rounds)
@@ -112,6 +118,14 @@ returns-in-Err g c =
     let rounds = c.in_ok-ending.ensures.plays in
     let ran = ran_rounds config start s _ _ c.in_ok-ending.ending rounds.work rounds.plays.goes in
     let stop = c.in-Err.ensures.err in
+    let fails = subst (λ by. Fails by (g.B.Border.state c.args.border.now)
+    (g.B.Border.state c.end.new.self))
+    (sym (stopped_by c.run_stop.result c.in-Err.stop c.run_stop.ensures))
+    (shim_fails_then _ _ _ c.in-Err.stop rounds.plays.goes.stands (record {
+      stops = stop.shim.stops;
+      last = stop.shim.last;
+      faults = stop.faults;
+    })) in
     record {
       sound = c.run_rounds.ensures.sound;
       limit = tt;
@@ -127,15 +141,9 @@ returns-in-Err g c =
         failed = stands_at_end _ c.in-Err.stop _ _ _ _
             (c.run_rounds.ensures.failed ∙ ap is_err c.in_ok-ending.was) c.run_stop.ensures
             stop.shim.asked;
-        causes = causes_err _ _ c.run_stop.result
-            (subst (λ by. Fails by (g.B.Border.state c.args.border.now)
-            (g.B.Border.state c.end.new.self))
-            (sym (stopped_by c.run_stop.result c.in-Err.stop c.run_stop.ensures))
-            (shim_fails_then _ _ _ c.in-Err.stop rounds.plays.goes.stands (record {
-              stops = stop.shim.stops;
-              last = stop.shim.last;
-              faults = stop.faults;
-            })));
+        causes = causes_err _ _ c.run_stop.result fails;
+        out_steady = out_stands _ _ c.run_stop.result fails;
+        err_steady = err_stands _ _ c.run_stop.result fails;
       };
       config = c.run_rounds.ensures.config;
       follows = g.met.B.Border.transitive _ _ _ c.run_rounds.ensures.follows

@@ -40,8 +40,8 @@ returns-in-Ok g c =
       sinks = tt;
       host_later = follows.grows;
       out_later = run.causes.out_later;
-      out_steady = λ _. run.causes.out_steady (not_stopped _ _);
-      err_steady = λ _. run.causes.err_steady (not_stopped _ _);
+      out_steady = λ _. run.out_steady (not_stopped _ _);
+      err_steady = λ _. run.err_steady (not_stopped _ _);
       err_later = run.causes.err_later;
       fixed = run.fixed;
     }
@@ -70,8 +70,8 @@ returns-in-Err g c =
       sinks = run.causes.sinks;
       host_later = follows.grows;
       out_later = run.causes.out_later;
-      out_steady = λ other. run.causes.out_steady (other_stop _ _ _ _ other);
-      err_steady = λ other. run.causes.err_steady (other_stop _ _ _ _ other);
+      out_steady = λ other. run.out_steady (other_stop _ _ _ _ other);
+      err_steady = λ other. run.err_steady (other_stop _ _ _ _ other);
       err_later = run.causes.err_later;
       fixed = run.fixed;
     }
