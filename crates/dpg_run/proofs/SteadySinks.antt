@@ -8,11 +8,11 @@ use Rattle.kernel_calls.specs.declared.state.RunStop.TheVariants.{HostFault, Log
 use Rattle.kernel_calls.specs.declared.state.RunStop.TheVariants.{OutFault, ErrFault, Memory}
 use Rattle.group_rounds.proofs.PlayCauses.{Fails}
 
-module _ {T : Type 0} (before after : BorderState) where
-  abbrev pub Other : (stop fault : RunStop) → Type 0
-  Other stop fault = ◌≡◌ {A = Result T RunStop} (Err stop) (Err fault) → ⊥
+abbrev pub IsOther : (T : Type 0) (stop fault : RunStop) → Type 0
+IsOther T stop fault = ◌≡◌ {A = Result T RunStop} (Err stop) (Err fault) → ⊥
 
-  pub out_stands : (stop : RunStop) → Fails (stopper stop) before after → Other stop OutFault
+module _ {T : Type 0} (before after : BorderState) where
+  pub out_stands : (stop : RunStop) → Fails (stopper stop) before after → IsOther T stop OutFault
       → after.out_faults ≡ before.out_faults
   out_stands HostFault h other = h.faults Output
   out_stands LogFull h other = h.faults Output
@@ -21,7 +21,7 @@ module _ {T : Type 0} (before after : BorderState) where
   out_stands OutFault h other = absurd (other refl)
   out_stands ErrFault h other = h.others Output (λ same. cc)
 
-  pub err_stands : (stop : RunStop) → Fails (stopper stop) before after → Other stop ErrFault
+  pub err_stands : (stop : RunStop) → Fails (stopper stop) before after → IsOther T stop ErrFault
       → after.err_faults ≡ before.err_faults
   err_stands HostFault h other = h.faults Error
   err_stands LogFull h other = h.faults Error
