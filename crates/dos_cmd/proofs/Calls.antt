@@ -55,8 +55,8 @@ told_as None x P is h = absurd cc
 told_as (Some y) x P is h = let same : y ≡ x = cc in subst P same h
 
 -- two requests that the words ask for are one
-asked_once : (words : List Text) (a b : Request) → request words ≡ Some a → request words ≡ Some b
-    → a ≡ b
+pub asked_once : (words : List Text) (a b : Request) → request words ≡ Some a
+    → request words ≡ Some b → a ≡ b
 asked_once words a b p q = let both : Some a ≡ Some b = sym p ∙ q in cc
 
 not_none : (words : List Text) (a : Request) → request words ≡ Some a → request words ≡ None → ⊥

@@ -1,6 +1,6 @@
 -- What `gen` leaves, from part to whole.
-use Rattle.std.proofs.Common.{◌≡◌, ◌≤◌, ◌-◌, ◌++◌, inl, ℕ, Bool, List, [], ◌∷◌, map, Option, Some}
-use Rattle.std.proofs.Common.{None, Result, sym, ap, ◌∙◌, subst, refl, append_assoc, arith}
+use Rattle.std.proofs.Common.{◌≡◌, ◌≤◌, ◌-◌, ◌++◌, inl, inr, ℕ, Bool, List, [], ◌∷◌, map, Option}
+use Rattle.std.proofs.Common.{Some, None, Result, sym, ap, ◌∙◌, subst, refl, append_assoc, arith}
 use Rattle.std.specs.Prelude.{IfSome, OnOk, OnErr}
 use Rattle.sha2.specs.Sha256.{sha256}
 use Rattle.dos_world.specs.World.{World}
@@ -188,15 +188,33 @@ never_without_room number threads images config why these this few h =
 
 -- It ran out of memory, and nothing was put.
 pub leaves_memory : (number threads n : ℕ) (tells : Bool) (f : Text → Option (List ℕ))
+    (h : Option Told) (out e : Option (List ℕ)) (tally : ℕ) (counts : Faults) (why : Refusal)
+    → why ≡ refusals.Memory
+    → Leaves (requests.Gen number threads n) (outside tells f f h h out out e e tally tally)
+    counts why []
+leaves_memory number threads n tells f h out e tally counts why is =
+    subst (λ (w : Refusal). Leaves (requests.Gen number threads n)
+    (outside tells f f h h out out e e tally tally) counts w []) (sym is)
+    (inl (says_nothing (outside tells f f h h out out e e tally tally) refl refl (λ name. refl)
+    refl refl))
+
+-- It ran out of memory in its run, and nothing was put.
+pub leaves_stopped : (number threads n : ℕ) (tells : Bool) (f : Text → Option (List ℕ))
     (h : Option Told) (out e : Option (List ℕ)) (tally tally' : ℕ) (counts : Faults)
     (why : Refusal) → why ≡ refusals.Memory
     → Leaves (requests.Gen number threads n) (outside tells f f h h out out e e tally tally')
     counts why []
-leaves_memory number threads n tells f h out e tally tally' counts why is =
+leaves_stopped number threads n tells f h out e tally tally' counts why is =
     subst (λ (w : Refusal). Leaves (requests.Gen number threads n)
     (outside tells f f h h out out e e tally tally') counts w []) (sym is)
-    (inl (says_nothing (outside tells f f h h out out e e tally tally') refl refl (λ name. refl)
-    refl))
+    (inr (inl (record {
+      taken = record { log = None; images = generated number threads ∷ [] };
+      is = refl;
+      so = record {
+        grew = record { out_is = grown-nothing out; err_is = grown-nothing e };
+        stays = record { files_stay = λ name. refl; host_stays = refl };
+      };
+    })))
 
 -- It was opened with the image that is generated.
 pub opened_with : (number threads : ℕ) (kernel : Held) (images : List Image)
@@ -252,6 +270,7 @@ module _ (number threads : ℕ) (kernel' : Held) (ending : Ending) (count : ℕ)
       so = record {
         seen = ran.seen;
         is = ran.is;
+        counted = ran.counted;
         cut = record {
           out_is = subst (λ (t : List ℕ). GrewByFront out out' t) ran.summary_is front;
           err_stays = refl;

@@ -3,9 +3,11 @@ pub mod NotBegun
 mod Calls
 mod RunFiles
 mod RunEnds
+mod Steady
 mod RunCalls
 pub mod ReplayTaking
 pub mod ReplayEnds
 mod GenRuns
+mod Repeats
 mod BareRuns
 mod WorkedExample

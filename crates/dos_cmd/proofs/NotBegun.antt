@@ -13,19 +13,20 @@ use Rattle.dos_texts.specs.declared.refusal.Refusal.{Refusal}
 use Rattle.dos_texts.specs.declared.refusal.Refusal.TheVariants as refusals
 use Rattle.dos_words.specs.declared.request.Request.{Request}
 use Rattle.dos_cmd.specs.Judging.{OfFiles, judgement, with_room}
-use Rattle.dos_cmd.specs.Outside.{Outside, Faults, FilesStay, HostStays, Says}
+use Rattle.dos_cmd.specs.Outside.{Outside, Faults, FilesStay, HostStays, Says, TallyStays}
 use Rattle.dos_cmd.specs.ReplayLeaves.{OfReading}
 use Rattle.dos_cmd.specs.Results.{Leaves}
 use Rattle.dos_cmd.specs.Stops.{IsNotOpened}
 
--- Output and error stand.
+-- All stands.
 pub says_nothing : (o : Outside) → o.out_after ≡ o.out → o.err_after ≡ o.err → FilesStay o
-    → HostStays o → Says o []
-says_nothing o out err files host = record {
+    → HostStays o → TallyStays o → Says o []
+says_nothing o out err files host tally = record {
   out_stays = out;
   err_says = err ∙ grown-nothing o.err;
   files_stay = files;
   host_stays = host;
+  tally_stays = tally;
 }
 
 -- ---- what was read is refused

@@ -159,6 +159,7 @@ module _ (log : Log) (images : List Image) (kernel after : Held) (ending : Endin
         inr (record {
           seen = run.0;
           replayed = run.1;
+          counted = run.2.counted;
           grew = record {
             out_is = run.2.put.out_is;
             err_is = subst (λ (t : Option (List ℕ)). GrewByFront t err1 (report run.0))

@@ -17,21 +17,15 @@ use Rattle.dos_texts.specs.Exit.{ending_status}
 use Rattle.dos_texts.specs.declared.refusal.Refusal.{Refusal}
 use Rattle.dos_texts.specs.declared.refusal.Refusal.TheVariants as refusals
 use Rattle.dos_words.specs.Numbers.{Text}
-use Rattle.dos_words.specs.declared.request.Request.{Request}
-use Rattle.dos_words.specs.declared.request.Request.TheVariants.{Run}
 use Rattle.dos_cmd.specs.Judging.{Images, Judgement, Taken, OfFiles, digests_of, images_from}
 use Rattle.dos_cmd.specs.Judging.{judgement, of_images, with_room}
 use Rattle.dos_cmd.specs.Outside.{Outside, Faults, Says}
+use Rattle.dos_cmd.specs.Repeating.{run_asked_with}
 use Rattle.dos_cmd.specs.Results.{Begun, Did, Leaves}
 use Rattle.dos_cmd.specs.RunLeaves.{RunAsked, DidRun, IsPrepared, clock_rule, header_of}
 use Rattle.dos_cmd.specs.Stops.{IsNotOpened, LeavesRun}
 use Rattle.dos_cmd.proofs.NotBegun.{has_room, leaves_reading, no_room, not_opened_as, of_files}
 use Rattle.dos_cmd.proofs.RunEnds.{then_rose}
-
--- the request, with so many workers
-abbrev pub run_words : RunAsked → (workers : ℕ) → Request
-run_words a workers = Run a.config.quantum a.config.rounds a.config.frames workers a.posts
-    a.clock_from a.clock_step a.log a.names
 
 -- ---- what its files are taken for
 
@@ -50,14 +44,14 @@ then_taken config (Some i) images j e h =
 pub taken_with : (a : RunAsked) (n : ℕ) (contents : Text → Option (List ℕ)) (images : List Image)
     → needed images ≤ a.config.frames
     → IfSome (images_from 1 (map contents a.names)) (λ i. i ≡ Ok images)
-    → IfSome (judgement contents (run_words a n)) (λ j. j ≡ Ok (only_images images))
+    → IfSome (judgement contents (run_asked_with a n)) (λ j. j ≡ Ok (only_images images))
 taken_with a n contents images fits h =
     then_taken a.config (images_from 1 (map contents a.names)) (Ok images)
     (Ok (only_images images)) (ap of_images (has_room a.config images fits)) h
 
 refused_with : (a : RunAsked) (n : ℕ) (contents : Text → Option (List ℕ)) (why : Refusal)
     → IfSome (images_from 1 (map contents a.names)) (λ i. i ≡ Err why)
-    → IfSome (judgement contents (run_words a n)) (λ j. j ≡ Err why)
+    → IfSome (judgement contents (run_asked_with a n)) (λ j. j ≡ Err why)
 refused_with a n contents why h =
     then_taken a.config (images_from 1 (map contents a.names)) (Err why) (Err why) refl h
 
@@ -73,15 +67,16 @@ same_images (Some i) images others e h =
 pub images_refused : (a : RunAsked) (n : ℕ) (o : Outside) (f : Faults) (why : Refusal)
     → OfFiles why (λ r. IfSome (images_from 1 (map o.files a.names)) (λ i. i ≡ Err r))
     → (why ≡ refusals.Files → Rose f.files f.files_after) → Says o []
-    → Leaves (run_words a n) o f why []
+    → Leaves (run_asked_with a n) o f why []
 images_refused a n o f why h rose says =
-    leaves_reading (run_words a n) o f why (of_files why _ _ (refused_with a n o.files) h) rose says
+    leaves_reading (run_asked_with a n) o f why (of_files why _ _ (refused_with a n o.files) h) rose
+    says
 
 pub not_opened : (a : RunAsked) (n : ℕ) (o : Outside) (f : Faults) (images : List Image)
     (why : Refusal) → IfSome (images_from 1 (map o.files a.names)) (λ i. i ≡ Ok images)
-    → IsNotOpened images a.config why → Says o [] → Leaves (run_words a n) o f why []
+    → IsNotOpened images a.config why → Says o [] → Leaves (run_asked_with a n) o f why []
 not_opened a n o f images why told h says =
-    not_opened_as images a.config why (λ (w : Refusal). Leaves (run_words a n) o f w []) h
+    not_opened_as images a.config why (λ (w : Refusal). Leaves (run_asked_with a n) o f w []) h
     (λ over. record {
       is = then_taken a.config (images_from 1 (map o.files a.names)) (Ok images)
           (Err (refusals.NoRoom (needed images) a.config.frames))
@@ -140,8 +135,8 @@ earlier a images o f before why le h = h
 
 leaves_begun : (a : RunAsked) (n : ℕ) (o : Outside) (f : Faults) (images : List Image)
     (why : Refusal)
-    → IfSome (judgement o.files (run_words a n)) (λ j. j ≡ Ok (only_images images))
-    → LeavesRun a images o f why → Leaves (run_words a n) o f why []
+    → IfSome (judgement o.files (run_asked_with a n)) (λ j. j ≡ Ok (only_images images))
+    → LeavesRun a images o f why → Leaves (run_asked_with a n) o f why []
 leaves_begun a n o f images refusals.Files is h =
     (h.0, inr (record { taken = only_images images; is = is; so = h.1 }))
 leaves_begun a n o f images refusals.Host is h =
@@ -163,9 +158,9 @@ pub run_did : (a : RunAsked) (images : List Image) (o : Outside) (tells : Bool)
     → IsPrepared asked i kernel ledger a.log (record o { files_tell = tells; files = files })
     → DidRun asked i (ending_status ending) (record o { files_tell = tells; files = files }))
     → IsPrepared a images kernel ledger a.log o
-    → ((n : ℕ) → IfSome (judgement o.files (run_words a n)) (λ j. j ≡ Ok (only_images images)))
-    → (n : ℕ) → IfOk r (λ ending. Begun (run_words a n) o
-    (λ taken. Did (run_words a n) taken (ending_status ending) o))
+    → ((n : ℕ) → IfSome (judgement o.files (run_asked_with a n)) (λ j. j ≡ Ok (only_images images)))
+    → (n : ℕ) → IfOk r (λ ending. Begun (run_asked_with a n) o
+    (λ taken. Did (run_asked_with a n) taken (ending_status ending) o))
 run_did a images o tells files kernel ledger (Err why) same stays did p is = λ n. tt
 run_did a images o tells files kernel ledger (Ok ending) same stays did p is = λ n.
     let here : (asked : RunAsked) (i : List Image) → IsPrepared asked i kernel ledger a.log o
@@ -183,8 +178,8 @@ pub run_leaves : (a : RunAsked) (images : List Image) (o : Outside) (tells : Boo
     → IsPrepared asked i kernel ledger a.log (record o { files_tell = tells; files = files })
     → LeavesRun asked i (record o { files_tell = tells; files = files }) f why)
     → IsPrepared a images kernel ledger a.log o
-    → ((n : ℕ) → IfSome (judgement o.files (run_words a n)) (λ j. j ≡ Ok (only_images images)))
-    → (n : ℕ) → IfErr r (λ why. Leaves (run_words a n) o (record f { files = before }) why [])
+    → ((n : ℕ) → IfSome (judgement o.files (run_asked_with a n)) (λ j. j ≡ Ok (only_images images)))
+    → (n : ℕ) → IfErr r (λ why. Leaves (run_asked_with a n) o (record f { files = before }) why [])
 run_leaves a images o tells files f before kernel ledger (Ok ending) same stays le leaves p is =
     λ n. tt
 run_leaves a images o tells files f before kernel ledger (Err why) same stays le leaves p is = λ n.

@@ -198,6 +198,7 @@ run_unwritten o f kernel after ledger name ending log why whole is rose others a
       log = log;
       seen = run.0;
       was = was_recorded asked images o kernel ledger name log run.0 p run.1;
+      counted = run.2.counted;
       grew = record {
         out_is = run.2.put.out_is;
         err_is = put_nothing o.err o.err_after run.0.error run.2.put.err_is;
@@ -266,6 +267,7 @@ cut_so o f kernel after ledger name ending log err_then whole written others ros
         was = was_recorded asked images o kernel ledger name log run.0 p run.1;
         written = subst (λ (n : Text). FileHolds o n (logtext log)) (sym p.log_is) written;
         others = subst (OthersStay o) (sym p.log_is) others;
+        counted = run.2.counted;
         grew = record {
           out_is = run.2.put.out_is;
           err_is = subst (λ (t : Option (List ℕ)). GrewByFront t o.err_after (report run.0))

@@ -11,7 +11,7 @@ use Rattle.dos_texts.specs.declared.refusal.Refusal.{Refusal}
 use Rattle.dos_texts.specs.declared.refusal.Refusal.TheVariants as refusals
 use Rattle.dos_words.specs.Numbers.{Text}
 use Rattle.dos_words.specs.declared.request.Request.{Request}
-use Rattle.dos_words.specs.declared.request.Request.TheVariants.{Run, Replay}
+use Rattle.dos_words.specs.declared.request.Request.TheVariants.{Run, Replay, Gen}
 use Rattle.dos_cmd.specs.Judging.{Taken}
 use Rattle.dos_cmd.specs.Outside.{Outside, Faults, Grew, Says, OutputFailed}
 use Rattle.dos_cmd.specs.ReplayLeaves.{Misfitted}
@@ -42,6 +42,7 @@ module _ (o : Outside) (e : Option (List ℕ)) (last : List ℕ) (more : e ≡ g
       err_says = more ∙ ap (λ told. grown told last) (s.err_says ∙ sym (grown-nothing o.err));
       files_stay = s.files_stay;
       host_stays = s.host_stays;
+      tally_stays = s.tally_stays;
     }
 
     not_taken_more : (asked : Request) (why : Refusal) → NotTaken asked o why []
@@ -66,6 +67,10 @@ module _ (o : Outside) (e : Option (List ℕ)) (last : List ℕ) (more : e ≡ g
       grew = grew_more h.output h.error h.grew;
       files_stay = h.files_stay;
     }
+    stopped_more (Gen number threads w) taken stops.Memory h = record {
+      grew = grew_more [] [] h.grew;
+      stays = record { files_stay = h.stays.files_stay; host_stays = h.stays.host_stays };
+    }
     stopped_more asked taken stop h = absurd h
 
     unwritten_more : (asked : Request) (taken : Taken) → Unwritten asked taken [] o
@@ -85,6 +90,7 @@ module _ (o : Outside) (e : Option (List ℕ)) (last : List ℕ) (more : e ≡ g
         };
         recorded = h.was.recorded;
       };
+      counted = h.counted;
       grew = grew_more h.seen.output h.seen.error h.grew;
       others = h.others;
     }

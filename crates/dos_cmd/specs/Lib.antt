@@ -6,3 +6,4 @@ pub mod Printing
 pub mod Stops
 pub mod Requests
 pub mod Results
+pub mod Repeating

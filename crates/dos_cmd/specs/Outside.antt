@@ -97,12 +97,17 @@ pub record FileHolds (o : Outside) (name : Text) (bytes : List ℕ) : Type 0 whe
 abbrev pub HostStays : Outside → Type 0
 HostStays o = o.host_after ≡ o.host
 
--- Error grew by these bytes; output, the files and the host stay.
+-- The workers ran nothing.
+abbrev pub TallyStays : Outside → Type 0
+TallyStays o = o.tally_after ≡ o.tally
+
+-- Error grew by these bytes; output, the files, the host and the tally stay.
 pub record Says (o : Outside) (last : List ℕ) : Type 0 where
   pub out_stays : o.out_after ≡ o.out
   pub err_says : o.err_after ≡ grown o.err last
   pub files_stay : FilesStay o
   pub host_stays : HostStays o
+  pub tally_stays : TallyStays o
 
 -- The tally grew by so many instructions, modulo 2^64.
 abbrev pub Counted : Outside → ℕ → Type 0

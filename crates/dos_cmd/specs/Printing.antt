@@ -13,6 +13,7 @@ use Rattle.dos_texts.specs.Exit.{ending_status}
 use Rattle.dos_texts.specs.Printed.{inspect_lines, summary_of}
 use Rattle.dos_cmd.specs.Judging.{gen_config}
 use Rattle.dos_cmd.specs.Outside.{Outside, Counted, Grew, FilesStay, HostStays}
+use Rattle.dos_cmd.specs.ReplayLeaves.{StaysAll}
 
 -- The one image was inspected: its lines went to output.
 pub record Inspected (images : List Image) (status : ℕ) (o : Outside) : Type 0 where
@@ -60,7 +61,13 @@ pub record CutInspect (images : List Image) (o : Outside) : Type 0 where
 pub record CutSummary (images : List Image) (o : Outside) : Type 0 where
   pub seen : Seen
   pub is : RunsQuietly images gen_config seen
+  pub counted : Counted o seen.work
   pub cut : CutLines (summary seen) o
+
+-- The generated group's run took all memory. Error grew by these bytes alone.
+pub record QuietlyStopped (last : List ℕ) (o : Outside) : Type 0 where
+  pub grew : Grew o [] last
+  pub stays : StaysAll o
 
 -- ---- from part to whole
 

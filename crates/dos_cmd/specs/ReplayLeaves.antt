@@ -51,6 +51,7 @@ pub record CutReplay (log : Log) (images : List Image) (o : Outside) : Type 0 wh
 pub record CutReplayReport (log : Log) (images : List Image) (o : Outside) : Type 0 where
   pub seen : Seen
   pub replayed : Replayed images log seen
+  pub counted : Counted o seen.work
   pub grew : GrewUpToLast o seen.output seen.error (report seen)
   pub stays : StaysAll o
 

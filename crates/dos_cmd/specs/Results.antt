@@ -20,7 +20,7 @@ use Rattle.dos_cmd.specs.Outside.{Outside, Faults, FilesStay, OutputFailed, Says
 use Rattle.dos_cmd.specs.RunLeaves.{RunAsked, DidRun, StoppedRun, UnwrittenRun, CutRun}
 use Rattle.dos_cmd.specs.RunLeaves.{CutRunReport}
 use Rattle.dos_cmd.specs.ReplayLeaves.{DidReplay, Misfitted, CutReplay, CutReplayReport}
-use Rattle.dos_cmd.specs.Printing.{Inspected, Generated, CutInspect, CutSummary}
+use Rattle.dos_cmd.specs.Printing.{Inspected, Generated, CutInspect, CutSummary, QuietlyStopped}
 
 -- ---- it was done
 
@@ -54,11 +54,12 @@ Did (Gen number threads workers) taken status o = Generated taken.images status 
 
 -- ---- it was begun, and came to no report
 
--- A recorded run was stopped so.
+-- A run was stopped so: a recorded one, or the generated group's for want of memory.
 abbrev pub WasStopped : Request → Taken → ShimStop → (last : List ℕ) → Outside → Type 0
 WasStopped (Run quantum rounds frames workers posts clock_from clock_step log names) taken stop last
     o = StoppedRun (run_request_asked quantum rounds frames posts clock_from clock_step log names)
     taken.images stop last o
+WasStopped (Gen number threads workers) taken stops.Memory last o = QuietlyStopped last o
 WasStopped _ taken stop last o = ⊥
 
 -- A recorded run's log couldn't be written.

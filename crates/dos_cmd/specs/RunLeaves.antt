@@ -100,6 +100,7 @@ pub record UnwrittenRun (asked : RunAsked) (images : List Image) (last : List â„
   pub log : Log
   pub seen : Seen
   pub was : WasRecorded asked images o log seen
+  pub counted : Counted o seen.work
   pub grew : Grew o seen.output (seen.error ++ last)
   pub others : OthersStay o asked.log
 
@@ -121,4 +122,5 @@ pub record CutRunReport (asked : RunAsked) (images : List Image) (o : Outside) :
   pub was : WasRecorded asked images o log seen
   pub written : FileHolds o asked.log (logtext log)
   pub others : OthersStay o asked.log
+  pub counted : Counted o seen.work
   pub grew : GrewUpToLast o seen.output seen.error (report seen)

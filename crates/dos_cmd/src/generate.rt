@@ -1,6 +1,6 @@
 // The command `gen`.
-ghost use Rattle.std.specs.Prelude.{◌≡◌, ◌≤◌, ◌-◌, ◌++◌, ℕ, Bool, List, Option, [], map, false};
-ghost use Rattle.std.specs.Prelude.{IfOk, IfErr, OnOk, OnErr};
+ghost use Rattle.std.specs.Prelude.{◌≡◌, ◌≢◌, ◌≤◌, ◌-◌, ◌++◌, ℕ, Bool, List, Option, [], map};
+ghost use Rattle.std.specs.Prelude.{false, Err, IfOk, IfErr, OnOk, OnErr};
 ghost use Rattle.dos_world.specs.declared.Config.{Config};
 ghost use Rattle.dos_io.specs.Hosts.{Told};
 ghost use Rattle.dos_io.specs.Outside.{grown, GrewByFront, HasCause};
@@ -83,6 +83,7 @@ fn put_ending<O: Sink>(kernel: &Kernel, ending: Ending, out: &mut O) -> Result<(
         (rounds_line (kernel.now.state.round - 1) ending
         ++ process_lines 1 (map status_in kernel.now.state.table.processes))) }
     ensures cause { HasCause (O.faults out.old) (O.faults out.new) result }
+    ensures steady { OnOk result (O.faults out.new ≡ O.faults out.old) }
 {
     out.put(rounds_line(kernel.rounds(), ending).as_str().as_bytes())?;
     put_processes(&kernel.state().table, out)
@@ -97,6 +98,7 @@ fn put_summary<O: Sink>(kernel: &Kernel, ran: &Ran, out: &mut O) -> Result<(), S
         (summary_of (map status_in kernel.now.state.table.processes) (kernel.now.state.round - 1)
         ran.now.ending ran.now.count ran.now.digest)) }
     ensures cause { HasCause (O.faults out.old) (O.faults out.new) result }
+    ensures steady { OnOk result (O.faults out.new ≡ O.faults out.old) }
 {
     put_ending(kernel, ran.ending, out)?;
     put_output(ran.count, &ran.digest, out)
@@ -127,6 +129,7 @@ pub(crate) fn generate<O: Sink, W: Workers>(
         (W.tally workers.old) (W.tally workers.new))
         (faults k k l l (O.faults out.old) (O.faults out.new) m m) why []) }
     ensures out_later { O.faults out.old ≤ O.faults out.new }
+    ensures out_steady { result ≢ Err Refusal.Sink → O.faults out.new ≡ O.faults out.old }
     ensures fixed { W.fixed workers.new ≡ W.fixed workers.old }
 {
     let Ok(image) = generated_image(alloc, number, threads) else {

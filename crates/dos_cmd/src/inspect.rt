@@ -1,5 +1,5 @@
 // The command `inspect`.
-ghost use Rattle.std.specs.Prelude.{◌≤◌, ℕ, List, Option, [], IfOk, IfErr};
+ghost use Rattle.std.specs.Prelude.{◌≡◌, ◌≢◌, ◌≤◌, ℕ, List, Option, [], Err, IfOk, IfErr};
 ghost use Rattle.dos_io.specs.Hosts.{Told};
 ghost use Rattle.dos_texts.specs.Exit.{ending_status};
 ghost use Rattle.dos_words.specs.declared.request.Request.TheVariants as requests;
@@ -35,6 +35,7 @@ pub(crate) fn inspect<F: Files, O: Sink>(
         (O.faults out.old) (O.faults out.new) n n) why []) }
     ensures files_later { F.faults files.old ≤ F.faults files.new }
     ensures out_later { O.faults out.old ≤ O.faults out.new }
+    ensures out_steady { result ≢ Err Refusal.Sink → O.faults out.new ≡ O.faults out.old }
 {
     let (image, _digest) = load(alloc, files, 1, name)?;
     let put = put_inspect(&image, out);

@@ -1,6 +1,6 @@
 // The command `replay`. It is lent no host.
-ghost use Rattle.std.specs.Prelude.{◌≡◌, ◌≤◌, ℕ, Bool, List, Option, [], length, map, IfOk, IfErr};
-ghost use Rattle.std.specs.Prelude.{IfSome, IsErrOf, OnOk, Ok, Err, None};
+ghost use Rattle.std.specs.Prelude.{◌≡◌, ◌≢◌, ◌≤◌, ℕ, Bool, List, Option, [], length, map, IfOk};
+ghost use Rattle.std.specs.Prelude.{IfErr, IfSome, IsErrOf, OnOk, Ok, Err, None};
 ghost use Rattle.dos_world.specs.Lawful.{IsConfig};
 ghost use Rattle.dos_io.specs.Hosts.{Told};
 ghost use Rattle.dos_io.specs.Outside.{Rose};
@@ -115,6 +115,8 @@ fn replay_taken<O: Sink, E: Sink, W: Workers>(
         (E.faults err.new)) why) }
     ensures out_later { O.faults out.old ≤ O.faults out.new }
     ensures err_later { E.faults err.old ≤ E.faults err.new }
+    ensures out_steady { result ≢ Err Refusal.Sink → O.faults out.new ≡ O.faults out.old }
+    ensures err_steady { result ≢ Err Refusal.Sink → E.faults err.new ≡ E.faults err.old }
     ensures fixed { W.fixed workers.new ≡ W.fixed workers.old }
 {
     let mut kernel = open(alloc, images, config_of(&log))?;
@@ -162,6 +164,8 @@ pub(crate) fn replay<F: Files, O: Sink, E: Sink, W: Workers>(
     ensures files_later { F.faults files.old ≤ F.faults files.new }
     ensures out_later { O.faults out.old ≤ O.faults out.new }
     ensures err_later { E.faults err.old ≤ E.faults err.new }
+    ensures out_steady { result ≢ Err Refusal.Sink → O.faults out.new ≡ O.faults out.old }
+    ensures err_steady { result ≢ Err Refusal.Sink → E.faults err.new ≡ E.faults err.old }
     ensures fixed { W.fixed workers.new ≡ W.fixed workers.old }
 {
     let (log, images) = take(alloc, files, log, names)?;

@@ -1,6 +1,6 @@
 // The command `run`.
 ghost use Rattle.std.specs.Prelude.{◌≡◌, ◌≢◌, ◌≤◌, ◌⊎◌, ℕ, List, [], length, map, IfOk, IfErr};
-ghost use Rattle.std.specs.Prelude.{IfSome, IsErrOf, IsTrue, OnOk, OnErr, Some, false};
+ghost use Rattle.std.specs.Prelude.{IfSome, IsErrOf, IsTrue, OnOk, OnErr, Some, Err, false};
 ghost use Rattle.dos_world.specs.Lawful.{IsConfig};
 ghost use Rattle.dos_io.specs.Outside.{GrewByFront, HasCause, Rose, grown};
 ghost use Rattle.dpg_run.specs.Report.{report_in};
@@ -149,6 +149,7 @@ pub(crate) fn report<E: Sink>(
         (report_in (kernel_world kernel.now) ending)) }
     ensures sink { IfErr result (λ why. why ≡ Refusal.Sink) }
     ensures cause { HasCause (E.faults err.old) (E.faults err.new) result }
+    ensures steady { OnOk result (E.faults err.new ≡ E.faults err.old) }
 {
     match put_report(kernel, ending, err) {
         Ok(()) => Ok(ending),
@@ -180,6 +181,7 @@ fn conclude<F: Files, E: Sink>(
     ensures others { (n : List ℕ) → n ≢ name.now → F.content files.new n ≡ F.content files.old n }
     ensures files_later { F.faults files.old ≤ F.faults files.new }
     ensures err_later { E.faults err.old ≤ E.faults err.new }
+    ensures err_steady { result ≢ Err Refusal.Sink → E.faults err.new ≡ E.faults err.old }
 {
     store(alloc, files, name, log)?;
     report(kernel, ending, err)
@@ -225,6 +227,8 @@ fn run_opened<F: Files, H: Host, O: Sink, E: Sink, W: Workers>(
     ensures host_later { H.faults host.old ≤ H.faults host.new }
     ensures out_later { O.faults out.old ≤ O.faults out.new }
     ensures err_later { E.faults err.old ≤ E.faults err.new }
+    ensures out_steady { result ≢ Err Refusal.Sink → O.faults out.new ≡ O.faults out.old }
+    ensures err_steady { result ≢ Err Refusal.Sink → E.faults err.new ≡ E.faults err.old }
     ensures fixed { W.fixed workers.new ≡ W.fixed workers.old }
 {
     match record_group(kernel, host, ledger, out, err, workers) {
@@ -325,6 +329,8 @@ pub(crate) fn run<F: Files, H: Host, O: Sink, E: Sink, W: Workers>(
     ensures host_later { H.faults host.old ≤ H.faults host.new }
     ensures out_later { O.faults out.old ≤ O.faults out.new }
     ensures err_later { E.faults err.old ≤ E.faults err.new }
+    ensures out_steady { result ≢ Err Refusal.Sink → O.faults out.new ≡ O.faults out.old }
+    ensures err_steady { result ≢ Err Refusal.Sink → E.faults err.new ≡ E.faults err.old }
     ensures fixed { W.fixed workers.new ≡ W.fixed workers.old }
 {
     let (mut kernel, ledger) = prepare(alloc, request, files)?;

@@ -1,12 +1,14 @@
 //! The top call: from the words to the exit status.
 ghost use Rattle.std.specs.Prelude.{◌≡◌, ◌≢◌, ◌≤◌, ◌⊎◌, [], None, Some, Ok, Err, IfOk, IfErr};
-ghost use Rattle.std.specs.Prelude.{map, string_bytes};
+ghost use Rattle.std.specs.Prelude.{ℕ, List, map, string_bytes};
 ghost use Rattle.dos_words.specs.declared.request.Request.{Request as Asked};
 ghost use Rattle.dos_words.specs.Ranges.{FitsRequest};
+ghost use Rattle.dos_words.specs.Numbers.{Text};
 ghost use Rattle.dos_words.specs.Request.{request};
 ghost use Rattle.dos_texts.specs.Exit.{IsStatus, ending_status, refusal_status};
 ghost use Rattle.dos_cmd.specs.Judging.{Taken, judgement};
-ghost use Rattle.dos_cmd.specs.Outside.{outside, faults};
+ghost use Rattle.dos_cmd.specs.Outside.{Outside, outside, faults};
+ghost use Rattle.dos_cmd.specs.Repeating.{IsReplayOf, ShowTheSame};
 ghost use Rattle.dos_cmd.specs.Results.{Begun, CutShort, Did, Fails, WasDone, Leaves, MustDo};
 ghost use Rattle.dos_cmd.specs.Results.{Refused};
 
@@ -65,6 +67,8 @@ fn execute<F: Files, H: Host, O: Sink, E: Sink, W: Workers>(
     ensures host_later { H.faults host.old ≤ H.faults host.new }
     ensures out_later { O.faults out.old ≤ O.faults out.new }
     ensures err_later { E.faults err.old ≤ E.faults err.new }
+    ensures out_steady { result ≢ Err Refusal.Sink → O.faults out.new ≡ O.faults out.old }
+    ensures err_steady { result ≢ Err Refusal.Sink → E.faults err.new ≡ E.faults err.old }
     ensures fixed { W.fixed workers.new ≡ W.fixed workers.old }
 {
     match request {
@@ -130,6 +134,8 @@ fn command<F: Files, H: Host, O: Sink, E: Sink, W: Workers>(
     ensures host_later { H.faults host.old ≤ H.faults host.new }
     ensures out_later { O.faults out.old ≤ O.faults out.new }
     ensures err_later { E.faults err.old ≤ E.faults err.new }
+    ensures out_steady { result ≢ Err Refusal.Sink → O.faults out.new ≡ O.faults out.old }
+    ensures err_steady { result ≢ Err Refusal.Sink → E.faults err.new ≡ E.faults err.old }
     ensures fixed { W.fixed workers.new ≡ W.fixed workers.old }
 {
     let request = read_request(alloc, words)?;
@@ -165,7 +171,7 @@ fn command<F: Files, H: Host, O: Sink, E: Sink, W: Workers>(
 /// | 4 | exactly where a log is longer than 67108864 bytes or refused, isn't of these images, or
 /// isn't of their run |
 /// | 5 | only where the count of `files` or of `host` rose |
-/// | 6 | only where the count of `out` or `err` rose |
+/// | 6 | exactly where a put failed: the count of `out` or `err` rose, and else both stand |
 /// | 7 | exactly where processes live after as many rounds as there may be |
 /// | 8 | exactly where processes live, and none of their threads can go on |
 /// | 9 | only for want of memory |
@@ -226,10 +232,24 @@ pub fn dos_main<F: Files, H: Host, O: Sink, E: Sink, W: Workers>(
         (H.told host.new) (O.told out.old) (O.told out.new) (E.told err.old) (E.told err.new)
         (W.tally workers.old) (W.tally workers.new)) }
 
+    // A replay of a run that was done shows what the run showed.
+    ensures replays { (earlier : List Text) (status : ℕ) (run : Outside)
+        → WasDone earlier status run → IsReplayOf earlier run (map string_bytes words.now)
+        (outside (F.tells files.old) (F.content files.old) (F.content files.new) (H.told host.old)
+        (H.told host.new) (O.told out.old) (O.told out.new) (E.told err.old) (E.told err.new)
+        (W.tally workers.old) (W.tally workers.new))
+        → result ≢ 5 → result ≢ 6 → result ≢ 9
+        → ShowTheSame status run result
+        (outside (F.tells files.old) (F.content files.old) (F.content files.new) (H.told host.old)
+        (H.told host.new) (O.told out.old) (O.told out.new) (E.told err.old) (E.told err.new)
+        (W.tally workers.old) (W.tally workers.new)) }
+
     ensures files_later { F.faults files.old ≤ F.faults files.new }
     ensures host_later { H.faults host.old ≤ H.faults host.new }
     ensures out_later { O.faults out.old ≤ O.faults out.new }
     ensures err_later { E.faults err.old ≤ E.faults err.new }
+    ensures out_steady { result ≢ 6 → O.faults out.new ≡ O.faults out.old }
+    ensures err_steady { result ≢ 6 → E.faults err.new ≡ E.faults err.old }
     ensures fixed { W.fixed workers.new ≡ W.fixed workers.old }
 {
     match command(alloc, words, files, host, out, err, workers) {

@@ -68,3 +68,10 @@ second_fails (Ok x) t before now bytes line more last is also told front = tt
 second_fails (Err e) t before now bytes line more last is also told front =
     front_of_whole t before now bytes more [] (line ++ last) told front
     (ap (λ l. l ++ last) (sym is) ∙ ap (λ l. bytes ++ l) (sym also ∙ sym (append-nil more)))
+
+-- ---- counts of faults, which stand where no put fails
+
+pub both_steady : {T E : Type 0} (result : Result T E) (start between now : ℕ) → between ≡ start
+    → OnOk result (now ≡ between) → OnOk result (now ≡ start)
+both_steady (Ok x) start between now first second = second ∙ first
+both_steady (Err e) start between now first second = tt

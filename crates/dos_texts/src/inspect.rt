@@ -59,6 +59,7 @@ pub fn put_inspect<O: Sink>(image: &Image, out: &mut O) -> Result<(), SinkFault>
     ensures front { OnErr result (GrewByFront (O.told out.old) (O.told out.new)
         (inspect_lines image.now)) }
     ensures cause { HasCause (O.faults out.old) (O.faults out.new) result }
+    ensures steady { OnOk result (O.faults out.new ≡ O.faults out.old) }
 {
     let first = entry_line(image.entry());
     put_line(&first, out)?;

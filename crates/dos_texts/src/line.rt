@@ -64,6 +64,7 @@ pub(crate) fn put_line<S: Sink>(line: &ArrayString<LINE>, sink: &mut S) -> Resul
     ensures told { OnOk result (S.told sink.new ≡ grown (S.told sink.old) line.now.bytes) }
     ensures front { OnErr result (GrewByFront (S.told sink.old) (S.told sink.new) line.now.bytes) }
     ensures cause { HasCause (S.faults sink.old) (S.faults sink.new) result }
+    ensures steady { OnOk result (S.faults sink.new ≡ S.faults sink.old) }
 {
     sink.put(line.as_str().as_bytes())
 }

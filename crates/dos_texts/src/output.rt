@@ -39,6 +39,7 @@ pub fn put_output<O: Sink>(count: u64, digest: &[u8; 32], out: &mut O) -> Result
         (GrewByFront (O.told out.old) (O.told out.new)
         (output_line count ++ sha256_line digest.now)) }
     ensures cause { HasCause (O.faults out.old) (O.faults out.new) result }
+    ensures steady { OnOk result (O.faults out.new ≡ O.faults out.old) }
 {
     let first = output_line(count);
     put_line(&first, out)?;

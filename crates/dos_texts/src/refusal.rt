@@ -107,7 +107,8 @@ impl Refusal {
 }
 
 /// Puts a refusal's line to `err` by one put, and answers the exit status. Where a sink has failed
-/// already, or this put fails, that is 6; of the line a front was put then, of any length.
+/// already, or this put fails, that is 6; of the line a front was put then, of any length. With any
+/// other status no put has failed.
 #[tactic(auto, using(crate::proofs::Statuses::sink), unfolding(crate::specs::Exit::refusal_status))]
 pub fn put_refusal<E: Sink>(refusal: Refusal, err: &mut E) -> u8
     ensures told { result ≢ 6 → (refusal ≢ Refusal.Sink) × (result ≡ refusal_status refusal)
@@ -117,6 +118,7 @@ pub fn put_refusal<E: Sink>(refusal: Refusal, err: &mut E) -> u8
     ensures front { result ≡ 6 → GrewByFront (E.told err.old) (E.told err.new) (line_of refusal) }
     ensures statuses { IsStatus result }
     ensures later { E.faults err.old ≤ E.faults err.new }
+    ensures steady { result ≢ 6 → E.faults err.new ≡ E.faults err.old }
 {
     if refusal == Refusal::Sink {
         return Refusal::Sink.status();

@@ -6,3 +6,4 @@ pub mod LawfulRuns
 pub mod Asked
 pub mod QuietRuns
 pub mod MisfitLaws
+mod SteadySinks

@@ -49,6 +49,7 @@ use Rattle.worker_pool.specs.Ran.{GrewBy}
 use Rattle.worker_pool.proofs.Growing.{grew-more, grew-nothing}
 use Rattle.flat_machine.specs.Machine.{Finish, rounds_of, rounds_from, told_end, run_from}
 use Rattle.flat_machine.specs.Machine.{result_of}
+use Rattle.dpg_run.proofs.SteadySinks.{err_stands, out_stands}
 use Rattle.dpg_run.specs.Laws.{LeavesFinish, RunOwes}
 use Rattle.dpg_run.proofs.RunKeeps.{rounds_keep}
 use Rattle.dpg_run.specs.GroupRuns.{AreFronts, CutGroup, PlaysNext, PlaysRounds, PlaysSome}
@@ -516,6 +517,8 @@ pub runs_stopped : (config : Config) (start s : State) (before after : BorderSta
     → RunsGroup config (Err stop) start before s after failed t t'
 runs_stopped config start s before after stop failed t t' is h =
     let stops = h.plays.stops in
+    let fails = fails_of config.quantum (λ finish. finish.world) (λ w. rounds_from w config)
+    (stopper stop) start before after stops in
     record {
       runs = tt;
       asks = by_question config.quantum (λ finish. finish.world) (λ w. rounds_from w config) start
@@ -525,9 +528,9 @@ runs_stopped config start s before after stop failed t t' is h =
       failed = failed_before _ _ _ is
           (asks_before_end config.quantum (λ finish. finish.world) (λ w. rounds_from w config)
           start before after stop stops);
-      causes = causes_err before after stop
-          (fails_of config.quantum (λ finish. finish.world) (λ w. rounds_from w config)
-          (stopper stop) start before after stops);
+      causes = causes_err before after stop fails;
+      out_steady = out_stands before after stop fails;
+      err_steady = err_stands before after stop fails;
     }
 
 -- where it hasn't, it stands between two rounds

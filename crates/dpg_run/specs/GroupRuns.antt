@@ -1,8 +1,7 @@
 -- What it means that the kernel has run a group to its end, or that the run has stopped. This
 -- project's own rules.
-use Rattle.std.specs.Prelude.{ℕ, ◌≡◌, ◌+◌, ◌-◌, Bool, true, false, not, List, [], ◌∷◌, ◌++◌, map}
-use Rattle.std.specs.Prelude.{Option, ⊤}
-use Rattle.std.specs.Prelude.{Some, None, Result, Ok, Err, IfErr, IfOk, OnErr, OnOk, OnSome}
+use Rattle.std.specs.Prelude.{ℕ, ◌≡◌, ◌≢◌, ◌+◌, ◌-◌, Bool, true, false, not, List, [], ◌∷◌, ◌++◌}
+use Rattle.std.specs.Prelude.{map, Option, ⊤}
 use Rattle.dos_world.specs.World.{World}
 use Rattle.dos_world.specs.Play.{Play, done, over, questions, asks}
 use Rattle.dos_world.specs.declared.Config.{Config}
@@ -21,6 +20,7 @@ use Rattle.worker_pool.specs.Ran.{GrewBy}
 use Rattle.kernel_calls.specs.Plays.{Plays}
 use Rattle.kernel_calls.specs.StateWorld.{sent, shim_stop, world_of}
 use Rattle.kernel_calls.specs.declared.state.RunStop.{RunStop}
+use Rattle.kernel_calls.specs.declared.state.RunStop.TheVariants.{OutFault, ErrFault}
 use Rattle.kernel_calls.specs.declared.state.State.{State}
 use Rattle.group_rounds.specs.Plays.{GoesOn}
 use Rattle.group_rounds.specs.Rounds.{end_in}
@@ -161,7 +161,8 @@ has_failed (Ok ending) asked = false
 has_failed (Err stop) asked =
     elim (shim_stop stop) [ None ↦ true | Some reason ↦ not (is_end_question asked) ]
 
--- What a whole run leaves, by how it ended: of the machine, of who failed, and of the kernel.
+-- What a whole run leaves, by how it ended: of the machine, of who failed, and of the kernel. A
+-- sink's count of faults stands unless it is what stopped the run.
 pub record RunsGroup (config : Config) (result : Result Ending RunStop) (old : State)
     (before : BorderState) (new : State) (after : BorderState) (has : Bool)
     (tally tally_after : ℕ) : Type 0 where
@@ -175,3 +176,5 @@ pub record RunsGroup (config : Config) (result : Result Ending RunStop) (old : S
   pub failed : has ≡ has_failed result after.shim.asked
   pub causes : HaveCauses result before.shim after.shim before.out_faults after.out_faults
       before.err_faults after.err_faults
+  pub out_steady : result ≢ Err OutFault → after.out_faults ≡ before.out_faults
+  pub err_steady : result ≢ Err ErrFault → after.err_faults ≡ before.err_faults

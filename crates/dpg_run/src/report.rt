@@ -23,6 +23,7 @@ pub fn put_processes<S: Sink>(table: &Table, sink: &mut S) -> Result<(), SinkFau
         (GrewByFront (S.told sink.old) (S.told sink.new)
         (process_lines 1 (map status_in table.now.processes))) }
     ensures cause { HasCause (S.faults sink.old) (S.faults sink.new) result }
+    ensures steady { OnOk result (S.faults sink.new ≡ S.faults sink.old) }
 {
     for place in 0..table.processes() {
         let pid = place + 1;
@@ -47,6 +48,7 @@ fn put_lines<S: Sink>(
         (GrewByFront (S.told sink.old) (S.told sink.new)
         (report_of (map status_in table.now.processes) rounds ending)) }
     ensures cause { HasCause (S.faults sink.old) (S.faults sink.new) result }
+    ensures steady { OnOk result (S.faults sink.new ≡ S.faults sink.old) }
 {
     put_processes(table, sink)?;
     sink.put(rounds_line(rounds, ending).as_str().as_bytes())
@@ -62,6 +64,7 @@ pub fn put_report<S: Sink>(kernel: &Kernel, ending: Ending, sink: &mut S) -> Res
         (GrewByFront (S.told sink.old) (S.told sink.new)
         (report_in (kernel_world kernel.now) ending)) }
     ensures cause { HasCause (S.faults sink.old) (S.faults sink.new) result }
+    ensures steady { OnOk result (S.faults sink.new ≡ S.faults sink.old) }
 {
     put_lines(&kernel.state().table, kernel.rounds(), ending, sink)
 }

@@ -1,7 +1,7 @@
 // A whole run.
-ghost use Rattle.std.specs.Prelude.{ℕ, ◌≡◌, ◌≤◌, ◌-◌, ◌==◌, false, if◌then◌else◌, is_err, is_some};
-ghost use Rattle.std.specs.Prelude.{◌<◌, ◌++◌, List, MatchBool, length, IfErr, IfOk, Ok, OnErr};
-ghost use Rattle.std.specs.Prelude.{OnOk, OnSome};
+ghost use Rattle.std.specs.Prelude.{ℕ, ◌≡◌, ◌≢◌, ◌≤◌, ◌<◌, ◌-◌, ◌==◌, ◌++◌, List, length};
+ghost use Rattle.std.specs.Prelude.{false, if◌then◌else◌, is_err, is_some, MatchBool};
+ghost use Rattle.std.specs.Prelude.{Ok, Err, IfOk, IfErr, OnErr, OnOk, OnSome};
 ghost use Rattle.dos_world.specs.Numbered.{numbers_of};
 ghost use Rattle.dos_io.specs.Shims.{HasNoEnd};
 ghost use Rattle.kernel_calls.specs.StateWorld.{shim_stop};
@@ -261,6 +261,8 @@ pub fn run_group<S: Shim, O: Sink, E: Sink, W: Workers>(
     ensures failed { kernel.new.failed ≡ has_failed result (S.state shim.new).asked }
     ensures causes { HaveCauses result (S.state shim.old) (S.state shim.new) (O.faults out.old)
         (O.faults out.new) (E.faults err.old) (E.faults err.new) }
+    ensures out_steady { result ≢ Err RunStop.OutFault → O.faults out.new ≡ O.faults out.old }
+    ensures err_steady { result ≢ Err RunStop.ErrFault → E.faults err.new ≡ E.faults err.old }
     ensures follows { S.follows shim.old shim.new }
     ensures fixed { W.fixed workers.new ≡ W.fixed workers.old }
 {

@@ -1,5 +1,5 @@
 -- Where a run has stopped, and at which question.
-use Rattle.std.proofs.Common.{◌≡◌, subst, Option, Some, Ok, Err, IsErrOf}
+use Rattle.std.proofs.Common.{◌≡◌, ap, subst, Option, Some, Result, Ok, Err, IsErrOf}
 use Rattle.std.specs.Prelude.{IfSome}
 use Rattle.dos_world.specs.declared.Question.{Question}
 use Rattle.dos_io.specs.declared.shim.ShimStop.{ShimStop}
@@ -13,6 +13,14 @@ not_stopped x e is = cc
 pub this_stop : (T : Type 0) (stop other : RunStop) → IsErrOf {T = T} (Err stop) other
     → stop ≡ other
 this_stop T stop other is = cc
+
+-- what isn't that stop isn't it in a result of another type
+pub other_stop : (T U : Type 0) (stop other : RunStop)
+    → (◌≡◌ {A = Result T RunStop} (Err stop) (Err other) → ⊥)
+    → ◌≡◌ {A = Result U RunStop} (Err stop) (Err other) → ⊥
+other_stop T U stop other differs is =
+    let same : stop ≡ other = cc in
+    differs (ap (λ (s : RunStop). (let result : Result T RunStop = Err s in result)) same)
 
 -- what is said of a question and a stop, where they are known
 pub stops_so : (asked : Option Question) (last : Option ShimStop) (question : Question)

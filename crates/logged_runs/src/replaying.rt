@@ -1,5 +1,6 @@
 // A run that is replayed.
-ghost use Rattle.std.specs.Prelude.{◌≡◌, ◌≤◌, ℕ, List, false, IfOk, IfErr, IsErrOf, OnErr};
+ghost use Rattle.std.specs.Prelude.{◌≡◌, ◌≢◌, ◌≤◌, ℕ, List, Err, false, IfOk, IfErr, IsErrOf};
+ghost use Rattle.std.specs.Prelude.{OnErr};
 ghost use Rattle.dos_world.specs.declared.Misfit.{Misfit};
 ghost use Rattle.elf_image.specs.Image.{Image};
 ghost use Rattle.flat_machine.specs.Machine.{Seen};
@@ -47,6 +48,8 @@ pub fn replay_group<O: Sink, E: Sink, W: Workers>(
     ensures only { IfErr result StopsReplay }
     ensures sinks { IfErr result (λ stop. HasSinkCause stop (O.faults out.old) (O.faults out.new)
         (E.faults err.old) (E.faults err.new)) }
+    ensures out_steady { result ≢ Err RunStop.OutFault → O.faults out.new ≡ O.faults out.old }
+    ensures err_steady { result ≢ Err RunStop.ErrFault → E.faults err.new ≡ E.faults err.old }
     ensures out_later { O.faults out.old ≤ O.faults out.new }
     ensures err_later { E.faults err.old ≤ E.faults err.new }
     ensures fixed { W.fixed workers.new ≡ W.fixed workers.old }

@@ -2,8 +2,8 @@ use Rattle.std.proofs.Common.{[], ◌∷◌, refl, le_refl}
 use Rattle.std.proofs.lemmas.Result.{err_from_is_err_and}
 use Rattle.generated_group.specs.Generated.{generated}
 use Rattle.dos_cmd.specs.Judging.{gen_config}
-use Rattle.dos_cmd.proofs.GenRuns.{gen_cut, gen_did, leaves_memory, never_without_room, one_image}
-use Rattle.dos_cmd.proofs.GenRuns.{opened_with}
+use Rattle.dos_cmd.proofs.GenRuns.{gen_cut, gen_did, leaves_memory, leaves_stopped}
+use Rattle.dos_cmd.proofs.GenRuns.{never_without_room, one_image, opened_with}
 use Rattle.dos_cmd.specs.Printing.{RanQuietly}
 use Rattle.dos_cmd.proofs.generate.generate.Given.{Over}
 use Rattle.dos_cmd.proofs.generate.generate.Goals.{In-Ok-run_quietly}
@@ -15,11 +15,12 @@ returns-in_err-kernel g c =
     rw (p.1, p.2) (record {
       did = λ n tells f h e. tt;
       leaves = λ n tells f h e k l m. leaves_memory c.args.number c.args.threads n tells f h _ e
-          _ _ _ _ (never_without_room c.args.number c.args.threads c.from_ref.result.now _ _
+          _ _ _ (never_without_room c.args.number c.args.threads c.from_ref.result.now _ _
           (one_image c.args.number c.args.threads c.from_ref.result.now c.in-Ok.image
           c.from_ref.ensures.value c.in-Ok.ensures) refl c.requires.few
           c.in_err-kernel.ensures.refused);
       out_later = le_refl _;
+      out_steady = λ _. refl;
       fixed = refl;
     })
 
@@ -27,8 +28,9 @@ pub returns-in-Err : goal.returns-in-Err
 returns-in-Err g c = record {
   did = λ n tells f h e. tt;
   leaves = λ n tells f h e k l m.
-      leaves_memory c.args.number c.args.threads n tells f h _ e _ _ _ _ c.in-Err.ensures.refused;
+      leaves_stopped c.args.number c.args.threads n tells f h _ e _ _ _ _ c.in-Err.ensures.refused;
   out_later = le_refl _;
+  out_steady = λ _. refl;
   fixed = c.run_quietly.ensures.fixed;
 }
 
@@ -50,6 +52,7 @@ returns-in-Ok-put g c = record {
       _ _ _ _ (ran g (goal.at.returns-in-Ok-put g c).In-Ok-run_quietly) c.in-Ok-put.ensures.told;
   leaves = λ n tells f h e k l m. tt;
   out_later = c.in-Ok-put.ensures.cause.later;
+  out_steady = λ _. c.in-Ok-put.ensures.steady;
   fixed = c.run_quietly.ensures.fixed;
 }
 
@@ -61,5 +64,6 @@ returns-in-Err-put g c = record {
       _ _ _ _ (ran g (goal.at.returns-in-Err-put g c).In-Ok-run_quietly) _ _
       c.in-Err-put.ensures.cause.failed c.in-Err-put.ensures.front;
   out_later = c.in-Err-put.ensures.cause.later;
+  out_steady = λ other. absurd (other refl);
   fixed = c.run_quietly.ensures.fixed;
 }

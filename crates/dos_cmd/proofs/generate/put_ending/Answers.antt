@@ -1,7 +1,7 @@
 use Rattle.std.proofs.Common.{◌≡◌, ◌-◌, map}
 use Rattle.flat_machine.specs.Machine.{status_in}
 use Rattle.dos_texts.specs.Report.{process_lines, rounds_line}
-use Rattle.dos_texts.proofs.Pieces.{both_told, first_fails, on_err, second_fails}
+use Rattle.dos_texts.proofs.Pieces.{both_steady, both_told, first_fails, on_err, second_fails}
 use Rattle.dos_cmd.proofs.GenRuns.{same_lines, same_rounds}
 use Rattle.dos_cmd.proofs.generate.put_ending.Given.{Over}
 use Rattle.dos_cmd.proofs.generate.put_ending.Goals.{After-put}
@@ -34,3 +34,8 @@ returns-clause-front g c =
     (first g (goal.at.returns-clause-front g c).After-put)
     (same_lines c.state.result.now c.args.kernel.now.state c.state.ensures.state)
     c.in_ok-put.ensures.ok c.put_processes.ensures.front
+
+pub returns-clause-steady : goal.returns-clause-steady
+returns-clause-steady g c =
+    both_steady c.put_processes.result _ _ _ c.in_ok-put.ensures.steady
+    c.put_processes.ensures.steady

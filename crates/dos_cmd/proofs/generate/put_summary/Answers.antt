@@ -1,6 +1,6 @@
 use Rattle.std.proofs.Common.{map, ◌-◌}
 use Rattle.flat_machine.specs.Machine.{status_in}
-use Rattle.dos_texts.proofs.Pieces.{on_err}
+use Rattle.dos_texts.proofs.Pieces.{both_steady, on_err}
 use Rattle.dos_cmd.proofs.GenRuns.{summary_told, summary_unended, summary_unprinted}
 use Rattle.dos_cmd.proofs.generate.put_summary.Goals as goal
 
@@ -25,3 +25,8 @@ returns-clause-front g c =
     let ran = c.args.ran.now in
     summary_unprinted (map status_in state.table.processes) (state.round - 1) ran.ending ran.count
     ran.digest c.put_output.result _ _ _ c.in_ok-put_ending.ensures.told c.put_output.ensures.front
+
+pub returns-clause-steady : goal.returns-clause-steady
+returns-clause-steady g c =
+    both_steady c.put_output.result _ _ _ c.in_ok-put_ending.ensures.steady
+    c.put_output.ensures.steady

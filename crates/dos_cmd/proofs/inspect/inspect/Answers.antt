@@ -51,9 +51,10 @@ returns-in_err-image g c =
           (g.O.Sink.faults c.args.out.now) (g.O.Sink.faults c.args.out.now) n n) _
           (of_files _ _ _ (one_refused (g.F.Files.content c.args.files.now) c.args.name.now)
           load.refused)
-          (λ e. load.fault (is_err_of _ _ e)) (says_nothing _ refl refl load.stays refl);
+          (λ e. load.fault (is_err_of _ _ e)) (says_nothing _ refl refl load.stays refl refl);
       files_later = load.later;
       out_later = le_refl _;
+      out_steady = λ _. refl;
     })
 
 pub returns-in-Ok-clause-did : goal.returns-in-Ok-clause-did
@@ -91,3 +92,9 @@ returns-in-Err-clause-leaves g c = λ h e t m n. (
     };
   },
 )
+
+pub returns-in-Ok-clause-out_steady : goal.returns-in-Ok-clause-out_steady
+returns-in-Ok-clause-out_steady g c = λ _. c.in-Ok.ensures.steady
+
+pub returns-in-Err-clause-out_steady : goal.returns-in-Err-clause-out_steady
+returns-in-Err-clause-out_steady g c = λ other. absurd (other refl)

@@ -22,10 +22,12 @@ returns-in_err-log g c =
           (faults (g.F.Files.faults c.args.files.now) (g.F.Files.faults c.take.new.files) m m
           (g.O.Sink.faults c.args.out.now) (g.O.Sink.faults c.args.out.now)
           (g.E.Sink.faults c.args.err.now) (g.E.Sink.faults c.args.err.now)) _ take.refused
-          (λ e. take.fault (is_err_of _ _ e)) (says_nothing _ refl refl take.stays refl));
+          (λ e. take.fault (is_err_of _ _ e)) (says_nothing _ refl refl take.stays refl refl));
       files_later = c.take.ensures.later;
       out_later = le_refl _;
       err_later = le_refl _;
+      out_steady = λ _. refl;
+      err_steady = λ _. refl;
       fixed = refl;
     })
 
@@ -55,6 +57,8 @@ returns g c =
       files_later = c.take.ensures.later;
       out_later = c.replay_taken.ensures.out_later;
       err_later = c.replay_taken.ensures.err_later;
+      out_steady = c.replay_taken.ensures.out_steady;
+      err_steady = c.replay_taken.ensures.err_steady;
       fixed = c.replay_taken.ensures.fixed;
     }
 

@@ -1,10 +1,11 @@
-use Rattle.std.proofs.Common.{le_refl, le_trans, refl}
+use Rattle.std.proofs.Common.{le_refl, le_trans, refl, ◌∙◌}
 use Rattle.std.proofs.lemmas.Result.{err_from_is_err_and}
 use Rattle.dos_cmd.specs.Outside.{outside, faults}
 use Rattle.dos_cmd.proofs.ReplayEnds.{has_room, not_opened, on_ok, opened_by, replay_cut}
 use Rattle.dos_cmd.proofs.ReplayEnds.{replay_did, replay_stopped}
 use Rattle.dos_cmd.proofs.NotBegun.{says_nothing}
 use Rattle.dos_cmd.proofs.RunEnds.{is_err_of}
+use Rattle.dos_cmd.proofs.Steady.{no_stop, outputs_steady, report_steady}
 use Rattle.dos_cmd.proofs.replay.replay_taken.Goals as goal
 
 pub returns-in_err-kernel : goal.returns-in_err-kernel
@@ -20,9 +21,11 @@ returns-in_err-kernel g c =
           (faults k k' m m (g.O.Sink.faults c.args.out.now) (g.O.Sink.faults c.args.out.now)
           (g.E.Sink.faults c.args.err.now) (g.E.Sink.faults c.args.err.now)) _
           c.config_of.result c.config_of.ensures.config c.in_err-kernel.ensures.refused
-          (says_nothing _ refl refl stay refl));
+          (says_nothing _ refl refl stay refl refl));
       out_later = le_refl _;
       err_later = le_refl _;
+      out_steady = λ _. refl;
+      err_steady = λ _. refl;
       fixed = refl;
     })
 
@@ -50,6 +53,10 @@ returns-in-Err g c = record {
       (record { files_stay = stay; host_stays = λ i. h });
   out_later = c.in-Err.ensures.out_later;
   err_later = c.in-Err.ensures.err_later;
+  out_steady = λ other. (outputs_steady c.in-Err.stop _ _ _ _ _ c.refusal_by.ensures
+      c.in-Err.ensures.out_steady c.in-Err.ensures.err_steady other).0;
+  err_steady = λ other. (outputs_steady c.in-Err.stop _ _ _ _ _ c.refusal_by.ensures
+      c.in-Err.ensures.out_steady c.in-Err.ensures.err_steady other).1;
   fixed = c.in-Err.ensures.fixed;
 }
 
@@ -83,5 +90,8 @@ returns-in-Ok g c =
           c.report-ended.ensures.front;
       out_later = c.in-Ok.ensures.out_later;
       err_later = le_trans c.in-Ok.ensures.err_later c.report-ended.ensures.cause.later;
+      out_steady = λ _. run.out_steady (no_stop _ _);
+      err_steady = λ other. report_steady c.report-ended.result _ _ c.report-ended.ensures.sink
+          c.report-ended.ensures.steady other ∙ run.err_steady (no_stop _ _);
       fixed = c.in-Ok.ensures.fixed;
     }

@@ -3,6 +3,7 @@ use Rattle.std.proofs.lemmas.Result.{err_from_is_err_and}
 use Rattle.dpg_run.specs.Report.{report_in}
 use Rattle.group_rounds.specs.Kernels.{kernel_world}
 use Rattle.dos_cmd.proofs.RunEnds.{is_err_of, unreported, written_then}
+use Rattle.dos_cmd.proofs.Steady.{report_steady}
 use Rattle.dos_cmd.proofs.run.conclude.Goals as goal
 
 pub returns-in_err-store-clause-leaves : goal.returns-in_err-store-clause-leaves
@@ -32,3 +33,7 @@ returns-clause-leaves g c =
     (g.E.Sink.told c.args.err.now) (g.E.Sink.told c.report.new.err)
     (report_in (kernel_world c.args.kernel.now) c.args.ending) store.content store.holds
     c.report.ensures.sink c.report.ensures.cause c.report.ensures.front
+
+pub returns-clause-err_steady : goal.returns-clause-err_steady
+returns-clause-err_steady g c =
+    report_steady c.report.result _ _ c.report.ensures.sink c.report.ensures.steady

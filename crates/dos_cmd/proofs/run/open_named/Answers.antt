@@ -16,7 +16,7 @@ returns-in_err-images-clause-leaves g c =
     (g.F.Files.content c.load_all.new.files) h h out out err err t t)
     (faults (g.F.Files.faults c.args.files.now) (g.F.Files.faults c.load_all.new.files) k k l l m m)
     _ load.refused (λ e. load.fault (is_err_of _ _ e))
-    (says_nothing _ refl refl load.stays refl))
+    (says_nothing _ refl refl load.stays refl refl))
 
 pub returns-in_err-opened-clause-leaves : goal.returns-in_err-opened-clause-leaves
 returns-in_err-opened-clause-leaves g c =
@@ -28,7 +28,7 @@ returns-in_err-opened-clause-leaves g c =
     (g.F.Files.content c.load_all.new.files) h h out out err err t t)
     (faults (g.F.Files.faults c.args.files.now) (g.F.Files.faults c.load_all.new.files) k k l l m m)
     c.deref.result.now _ (same_images _ _ _ c.deref.ensures.value load.accepted)
-    c.in_err-opened.ensures.refused (says_nothing _ refl refl load.stays refl))
+    c.in_err-opened.ensures.refused (says_nothing _ refl refl load.stays refl refl))
 
 pub returns-clause-opened : goal.returns-clause-opened
 returns-clause-opened g c =

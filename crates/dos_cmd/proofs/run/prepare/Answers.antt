@@ -41,7 +41,7 @@ returns-in-Err g c =
       fresh = tt;
       begins = tt;
       leaves = rw c.in-Err.ensures.memory
-          (λ n h out err t k l m. inl (says_nothing _ refl refl opening.stays refl));
+          (λ n h out err t k l m. inl (says_nothing _ refl refl opening.stays refl refl));
       later = opening.later;
       stays = opening.stays;
       tells = opening.tells;

@@ -18,6 +18,8 @@ returns-in_err-kernel g c =
       host_later = le_refl _;
       out_later = le_refl _;
       err_later = le_refl _;
+      out_steady = λ _. refl;
+      err_steady = λ _. refl;
       fixed = refl;
     })
 
@@ -53,6 +55,8 @@ returns g c =
       host_later = c.run_opened-ended.ensures.host_later;
       out_later = c.run_opened-ended.ensures.out_later;
       err_later = c.run_opened-ended.ensures.err_later;
+      out_steady = c.run_opened-ended.ensures.out_steady;
+      err_steady = c.run_opened-ended.ensures.err_steady;
       fixed = c.run_opened-ended.ensures.fixed;
     }
 

@@ -1,6 +1,7 @@
-use Rattle.std.proofs.Common.{le_refl, le_trans, refl}
+use Rattle.std.proofs.Common.{le_refl, le_trans, refl, ◌∙◌}
 use Rattle.dos_cmd.specs.Outside.{Outside, Faults, outside, faults}
 use Rattle.dos_cmd.proofs.RunEnds.{is_err_of, run_stopped, run_unended, run_did}
+use Rattle.dos_cmd.proofs.Steady.{no_stop, outputs_steady}
 use Rattle.dos_cmd.proofs.run.run_opened.Goals as goal
 
 pub returns-in-Err : goal.returns-in-Err
@@ -25,6 +26,10 @@ returns-in-Err g c = record {
   host_later = c.in-Err.ensures.host_later;
   out_later = c.in-Err.ensures.out_later;
   err_later = c.in-Err.ensures.err_later;
+  out_steady = λ other. (outputs_steady c.in-Err.stop _ _ _ _ _ c.refusal_by.ensures
+      c.in-Err.ensures.out_steady c.in-Err.ensures.err_steady other).0;
+  err_steady = λ other. (outputs_steady c.in-Err.stop _ _ _ _ _ c.refusal_by.ensures
+      c.in-Err.ensures.out_steady c.in-Err.ensures.err_steady other).1;
   fixed = c.in-Err.ensures.fixed;
 }
 
@@ -57,6 +62,8 @@ returns-in-Ok g c =
       host_later = c.in-Ok.ensures.host_later;
       out_later = c.in-Ok.ensures.out_later;
       err_later = le_trans c.in-Ok.ensures.err_later c.conclude.ensures.err_later;
+      out_steady = λ _. run.out_steady (no_stop _ _);
+      err_steady = λ other. c.conclude.ensures.err_steady other ∙ run.err_steady (no_stop _ _);
       fixed = c.in-Ok.ensures.fixed;
     }
 

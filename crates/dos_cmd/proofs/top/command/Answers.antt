@@ -11,11 +11,13 @@ returns-in_err-request g c =
     rw (p.1, p.2) (record {
       finished = tt;
       fails = not_read (map string_bytes c.args.words.now) _ _ _ read.refused read.only
-          (says_nothing _ refl refl (λ n. refl) refl);
+          (says_nothing _ refl refl (λ n. refl) refl refl);
       files_later = le_refl _;
       host_later = le_refl _;
       out_later = le_refl _;
       err_later = le_refl _;
+      out_steady = λ _. refl;
+      err_steady = λ _. refl;
       fixed = refl;
     })
 
@@ -34,5 +36,7 @@ returns g c =
       host_later = ended.host_later;
       out_later = ended.out_later;
       err_later = ended.err_later;
+      out_steady = ended.out_steady;
+      err_steady = ended.err_steady;
       fixed = ended.fixed ∙ c.hire.ensures.fixed;
     }

@@ -1,8 +1,10 @@
-use Rattle.std.proofs.Common.{inl, le_trans, map, string_bytes}
+use Rattle.std.proofs.Common.{inl, le_trans, map, string_bytes, ◌∙◌}
 use Rattle.dos_texts.proofs.Statuses.{refusal_ends_not}
 use Rattle.dos_cmd.proofs.Calls.{status_ends, ends_not_six, ends_or_not, finished_as}
 use Rattle.dos_cmd.proofs.Calls.{finished_not_none, finished_not_refused, finished_must, fails_none}
 use Rattle.dos_cmd.proofs.Calls.{fails_refused, fails_must, refused_as, cut_short}
+use Rattle.dos_cmd.proofs.Repeats.{repeats}
+use Rattle.dos_cmd.proofs.Steady.{no_sink, no_stop}
 use Rattle.dos_cmd.proofs.top.dos_main.Goals as goal
 
 -- ---- it did what it was asked for
@@ -19,10 +21,15 @@ returns-in-Ok g c = record {
       c.in-Ok.ensures.finished ask told);
   done = λ asked taken ask told a b d. finished_must _ _ _ asked taken (finished_as _ _ _ _
       c.ending_status.ensures c.in-Ok.ensures.finished) ask told;
+  replays = λ earlier status run did same a b d. repeats earlier (map string_bytes
+      c.args.words.now) status _ run _ did same (λ asked taken ask told. finished_must _ _ _ asked
+      taken (finished_as _ _ _ _ c.ending_status.ensures c.in-Ok.ensures.finished) ask told);
   files_later = c.command.ensures.files_later;
   host_later = c.command.ensures.host_later;
   out_later = c.command.ensures.out_later;
   err_later = c.command.ensures.err_later;
+  out_steady = λ _. c.in-Ok.ensures.out_steady (no_stop _ _);
+  err_steady = λ _. c.in-Ok.ensures.err_steady (no_stop _ _);
   fixed = c.command.ensures.fixed;
 }
 
@@ -45,9 +52,19 @@ returns-in-Err g c = record {
       _ _ _ c.put_refusal.ensures.later (c.put_refusal.ensures.told b) c.in-Err.ensures.fails in
       fails_must (map string_bytes c.args.words.now) _ _ _ _ asked taken r.status_is r.fails ask
       told a b d;
+  replays = λ earlier status run did same a b d. let r = refused_as (map string_bytes
+      c.args.words.now) _ _ _ _ _ _ c.put_refusal.ensures.later (c.put_refusal.ensures.told b)
+      c.in-Err.ensures.fails in
+      repeats earlier (map string_bytes c.args.words.now) status _ run _ did same
+      (λ asked taken ask told. fails_must (map string_bytes c.args.words.now) _ _ _ _ asked taken
+      r.status_is r.fails ask told a b d);
   files_later = c.command.ensures.files_later;
   host_later = c.command.ensures.host_later;
   out_later = c.command.ensures.out_later;
   err_later = le_trans c.command.ensures.err_later c.put_refusal.ensures.later;
+  out_steady = λ other. c.in-Err.ensures.out_steady (no_sink _ _
+      (c.put_refusal.ensures.told other).0);
+  err_steady = λ other. c.put_refusal.ensures.steady other ∙ c.in-Err.ensures.err_steady
+      (no_sink _ _ (c.put_refusal.ensures.told other).0);
   fixed = c.command.ensures.fixed;
 }

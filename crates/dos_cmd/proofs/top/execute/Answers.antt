@@ -44,6 +44,8 @@ returns-in-Run g c =
       host_later = c.run.ensures.host_later;
       out_later = c.run.ensures.out_later;
       err_later = c.run.ensures.err_later;
+      out_steady = c.run.ensures.out_steady;
+      err_steady = c.run.ensures.err_steady;
       fixed = c.run.ensures.fixed;
     }
 
@@ -61,6 +63,8 @@ returns-in-Replay g c =
       host_later = le_refl _;
       out_later = c.replay.ensures.out_later;
       err_later = c.replay.ensures.err_later;
+      out_steady = c.replay.ensures.out_steady;
+      err_steady = c.replay.ensures.err_steady;
       fixed = c.replay.ensures.fixed;
     }
 
@@ -80,6 +84,8 @@ returns-in-Inspect g c =
       host_later = le_refl _;
       out_later = c.inspect.ensures.out_later;
       err_later = le_refl _;
+      out_steady = c.inspect.ensures.out_steady;
+      err_steady = λ _. refl;
       fixed = refl;
     }
 
@@ -111,5 +117,7 @@ returns-in-Gen g c =
       host_later = le_refl _;
       out_later = c.generate.ensures.out_later;
       err_later = le_refl _;
+      out_steady = c.generate.ensures.out_steady;
+      err_steady = λ _. refl;
       fixed = c.generate.ensures.fixed;
     }

@@ -10,6 +10,7 @@ loop-part-init g c =
     record {
       told = parts_start _ _ _ _ c.args.image.now.parts line c.in_ok-put_line.ensures.told;
       later = c.put_line.ensures.cause.later;
+      steady = c.in_ok-put_line.ensures.steady;
     }
 
 pub loop-part-preserved : goal.loop-part-preserved
@@ -21,6 +22,7 @@ loop-part-preserved g c =
           (omega arith) c.part-item.is c.part_line-next.ensures c.loop-part.invariant.told
           c.in_ok-put_line-2.ensures.told;
       later = omega (arith, c.loop-part.invariant.later, cause.later);
+      steady = c.in_ok-put_line-2.ensures.steady ∙ c.loop-part.invariant.steady;
     }
 
 pub returns-clause-told : goal.returns-clause-told

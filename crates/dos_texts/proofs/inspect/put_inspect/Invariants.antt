@@ -11,4 +11,5 @@ invariant-loop-part g l = record {
       ≡ grown (g.O.Sink.told l.fn.out)
       (entry_line l.fn.image.entry ++ flat_map part_line (take l.part-index l.fn.image.parts));
   later : g.O.Sink.faults l.fn.out ≤ g.O.Sink.faults l.out;
+  steady : g.O.Sink.faults l.out ≡ g.O.Sink.faults l.fn.out;
 }

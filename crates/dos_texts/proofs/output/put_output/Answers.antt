@@ -1,5 +1,5 @@
 use Rattle.dos_texts.specs.Printed.{output_line, sha256_line}
-use Rattle.dos_texts.proofs.Pieces.{on_err, first_fails, both_told, second_fails}
+use Rattle.dos_texts.proofs.Pieces.{on_err, first_fails, both_steady, both_told, second_fails}
 use Rattle.dos_texts.proofs.output.put_output.Goals as goal
 
 pub returns-in_err-put_line-clause-front : goal.returns-in_err-put_line-clause-front
@@ -19,3 +19,8 @@ returns-clause-front g c =
     second_fails c.put_line-2.result _ _ _ _ (output_line c.args.count) _
     (sha256_line c.args.digest.now) c.output_line-first.ensures c.sha256_line-last.ensures
     c.in_ok-put_line.ensures.told c.put_line-2.ensures.front
+
+pub returns-clause-steady : goal.returns-clause-steady
+returns-clause-steady g c =
+    both_steady c.put_line-2.result _ _ _ c.in_ok-put_line.ensures.steady
+    c.put_line-2.ensures.steady

@@ -1,7 +1,8 @@
 use Rattle.std.proofs.Common.{◌≡◌, map, refl}
 use Rattle.flat_machine.specs.Machine.{status_in}
 use Rattle.dos_texts.specs.Report.{process_lines, rounds_line}
-use Rattle.dos_texts.proofs.Pieces.{on_err, same_text, first_fails, both_told, second_fails}
+use Rattle.dos_texts.proofs.Pieces.{on_err, same_text, first_fails, both_steady, both_told}
+use Rattle.dos_texts.proofs.Pieces.{second_fails}
 use Rattle.dpg_run.proofs.report.put_lines.Given.{Over}
 use Rattle.dpg_run.proofs.report.put_lines.Goals.{After-put}
 use Rattle.dpg_run.proofs.report.put_lines.Goals as goal
@@ -35,3 +36,7 @@ returns-clause-front g c =
     (rounds_line c.args.rounds c.args.ending) refl
     (last g (goal.at.returns-clause-front g c).After-put) c.in_ok-put_processes.ensures.told
     c.put.ensures.err
+
+pub returns-clause-steady : goal.returns-clause-steady
+returns-clause-steady g c =
+    both_steady c.put.result _ _ _ c.in_ok-put_processes.ensures.steady c.put.ensures.steady

@@ -1,4 +1,4 @@
-use Rattle.std.proofs.Common.{◌+◌, map, arith}
+use Rattle.std.proofs.Common.{◌+◌, ◌∙◌, map, arith}
 use Rattle.std.proofs.lemmas.List.{length-map}
 use Rattle.flat_machine.specs.Machine.{status_in}
 use Rattle.dos_texts.specs.Report.{process_line}
@@ -36,6 +36,7 @@ loop-place-preserved g c =
           c.as_bytes.ensures.value c.as_str.ensures.value c.process_line.ensures)
           c.in_ok-put.ensures.ok;
       later = omega (arith, c.loop-place.invariant.later, later);
+      steady = c.in_ok-put.ensures.steady ∙ c.loop-place.invariant.steady;
     }
 
 pub returns-clause-told : goal.returns-clause-told

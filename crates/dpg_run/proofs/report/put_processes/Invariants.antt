@@ -10,4 +10,5 @@ invariant-loop-place g l = record {
   told : g.S.Sink.told l.sink ≡ grown (g.S.Sink.told l.fn.sink)
       (process_lines 1 (take l.place (map status_in l.fn.table.processes)));
   later : g.S.Sink.faults l.fn.sink ≤ g.S.Sink.faults l.sink;
+  steady : g.S.Sink.faults l.sink ≡ g.S.Sink.faults l.fn.sink;
 }

@@ -47,6 +47,8 @@ returns g c =
       config = e.config;
       failed = runs.failed;
       causes = runs.causes;
+      out_steady = runs.out_steady;
+      err_steady = runs.err_steady;
       follows = subst (g.S.Shim.follows c.args.shim.now) (sym shim_is) e.follows.3;
       fixed = e.fixed;
     }

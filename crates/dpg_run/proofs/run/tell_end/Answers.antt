@@ -7,6 +7,7 @@ use Rattle.kernel_calls.proofs.ServicePlays.{stopped_by}
 use Rattle.kernel_calls.proofs.Playing.{shim_fails_then, stands_then}
 use Rattle.group_rounds.proofs.PlayCauses.{Fails, causes_err, causes_ok}
 use Rattle.dpg_run.proofs.RoundsRun.{end_told, end_stops, end_cut, ran_rounds, stands_at_end}
+use Rattle.dpg_run.proofs.SteadySinks.{err_stands, out_stands}
 use Rattle.dpg_run.proofs.run.tell_end.Goals as goal
 
 pub end-requires : goal.end-requires
@@ -20,26 +21,30 @@ returns-in-Ok g c =
     ∙ ap (λ n. (g.B.Border.state c.args.border.now).shim.told ++ End c.args.ending n ∷ [])
     c.rounds.ensures in
     record {
-      runs = λ config start before tally tally_after running rounds. record {
-        runs = (
-          rounds.work,
-          end_told config start s _ _ c.args.ending rounds.work
-              (ran_rounds config start s before (g.B.Border.state c.args.border.now) c.args.ending
-              rounds.work rounds.plays.goes) _ told_is
-              (crosses.tells.bytes Output ∙ sym (grown-nothing _))
-              (crosses.tells.bytes Error ∙ sym (grown-nothing _)),
-          rounds.grew,
-        );
-        asks = tt;
-        cut = tt;
-        told_end = record {
-          before = (g.B.Border.state c.args.border.now).shim.told;
-          told_is = told_is;
-          running = c.requires;
-        };
-        failed = running;
-        causes = causes_ok _ _ _ (stands_then _ _ _ rounds.plays.goes.stands crosses.stands);
-      };
+      runs = λ config start before tally tally_after running rounds.
+          let stands = stands_then _ _ _ rounds.plays.goes.stands crosses.stands in
+          record {
+            runs = (
+              rounds.work,
+              end_told config start s _ _ c.args.ending rounds.work
+                  (ran_rounds config start s before (g.B.Border.state c.args.border.now)
+                  c.args.ending rounds.work rounds.plays.goes) _ told_is
+                  (crosses.tells.bytes Output ∙ sym (grown-nothing _))
+                  (crosses.tells.bytes Error ∙ sym (grown-nothing _)),
+              rounds.grew,
+            );
+            asks = tt;
+            cut = tt;
+            told_end = record {
+              before = (g.B.Border.state c.args.border.now).shim.told;
+              told_is = told_is;
+              running = c.requires;
+            };
+            failed = running;
+            causes = causes_ok _ _ _ stands;
+            out_steady = λ _. stands.faults Output;
+            err_steady = λ _. stands.faults Error;
+          };
       more = (End c.args.ending c.rounds.result ∷ [], crosses.tells.exchanges);
       follows = c.end.ensures.follows;
     }
@@ -52,6 +57,13 @@ returns-in-Err g c =
       runs = λ config start before tally tally_after running rounds.
           let ran = ran_rounds config start s before (g.B.Border.state c.args.border.now)
           c.args.ending rounds.work rounds.plays.goes in
+          let fails = subst (λ by. Fails by before (g.B.Border.state c.end.new.self))
+          (sym (stopped_by c.run_stop.result c.in-Err.stop c.run_stop.ensures))
+          (shim_fails_then _ _ _ c.in-Err.stop rounds.plays.goes.stands (record {
+            stops = stop.shim.stops;
+            last = stop.shim.last;
+            faults = stop.faults;
+          })) in
           record {
             runs = tt;
             asks = rw c.run_stop.ensures (end_stops config start s _ _ c.args.ending rounds.work
@@ -63,14 +75,9 @@ returns-in-Err g c =
             told_end = tt;
             failed = stands_at_end _ c.in-Err.stop _ _ _ _ running c.run_stop.ensures
                 stop.shim.asked;
-            causes = causes_err _ _ c.run_stop.result
-                (subst (λ by. Fails by before (g.B.Border.state c.end.new.self))
-                (sym (stopped_by c.run_stop.result c.in-Err.stop c.run_stop.ensures))
-                (shim_fails_then _ _ _ c.in-Err.stop rounds.plays.goes.stands (record {
-                  stops = stop.shim.stops;
-                  last = stop.shim.last;
-                  faults = stop.faults;
-                })));
+            causes = causes_err _ _ c.run_stop.result fails;
+            out_steady = out_stands _ _ c.run_stop.result fails;
+            err_steady = err_stands _ _ c.run_stop.result fails;
           };
       more = ([], stop.shim.told ∙ sym (append-nil _));
       follows = c.end.ensures.follows;

@@ -1,5 +1,5 @@
 use Rattle.std.proofs.Common.{sym, ◌∙◌}
-use Rattle.logged_runs.proofs.Stops.{not_stopped, this_stop}
+use Rattle.logged_runs.proofs.Stops.{not_stopped, other_stop, this_stop}
 use Rattle.logged_runs.proofs.FromOpening.{is_told}
 use Rattle.logged_runs.proofs.Recordings.{followed, host_rose, no_end_told, recorded}
 use Rattle.logged_runs.proofs.Recordings.{recorded_ahead, stopped}
@@ -40,6 +40,8 @@ returns-in-Ok g c =
       sinks = tt;
       host_later = follows.grows;
       out_later = run.causes.out_later;
+      out_steady = λ _. run.out_steady (not_stopped _ _);
+      err_steady = λ _. run.err_steady (not_stopped _ _);
       err_later = run.causes.err_later;
       fixed = run.fixed;
     }
@@ -68,6 +70,8 @@ returns-in-Err g c =
       sinks = run.causes.sinks;
       host_later = follows.grows;
       out_later = run.causes.out_later;
+      out_steady = λ other. run.out_steady (other_stop _ _ _ _ other);
+      err_steady = λ other. run.err_steady (other_stop _ _ _ _ other);
       err_later = run.causes.err_later;
       fixed = run.fixed;
     }

@@ -1,7 +1,7 @@
 use Rattle.std.proofs.Common.{sym, subst}
 use Rattle.dos_io.specs.Shims.{HasNoEnd}
 use Rattle.shim_log.specs.Replay.{replayer_state}
-use Rattle.logged_runs.proofs.Stops.{not_stopped, this_stop}
+use Rattle.logged_runs.proofs.Stops.{not_stopped, other_stop, this_stop}
 use Rattle.logged_runs.proofs.FromOpening.{is_told}
 use Rattle.logged_runs.proofs.Replays.{only, replayed, replayed_ahead, replayed_until, nothing_told}
 use Rattle.logged_runs.proofs.Replays.{same_log}
@@ -31,6 +31,8 @@ returns-in-Ok g c =
       only = tt;
       sinks = tt;
       out_later = run.causes.out_later;
+      out_steady = λ _. run.out_steady (not_stopped _ _);
+      err_steady = λ _. run.err_steady (not_stopped _ _);
       err_later = run.causes.err_later;
       fixed = run.fixed;
     }
@@ -53,6 +55,8 @@ returns g c =
           _ _ _ _ told c.in-Err.stop run.asks c.new-shim.result run.causes.shim c.look.ensures;
       sinks = run.causes.sinks;
       out_later = run.causes.out_later;
+      out_steady = λ other. run.out_steady (other_stop _ _ _ _ other);
+      err_steady = λ other. run.err_steady (other_stop _ _ _ _ other);
       err_later = run.causes.err_later;
       fixed = run.fixed;
     }
