@@ -34,7 +34,7 @@ impl Bench {
     /// A bench of so many questions.
     pub fn new(alloc: Global, kind: Kind, count: u32) -> io::Result<Bench> {
         let (log, _) = record(alloc, kind, count)?;
-        let text = write_log(alloc, &log)?;
+        let text = write_log(alloc, &log, log.version())?;
         Ok(Bench {
             alloc,
             kind,
@@ -52,7 +52,7 @@ impl Bench {
                 Ok(0)
             }
             Work::Record => Ok(u64::from(record(self.alloc, self.kind, self.count)?.1)),
-            Work::Write => Ok(write_log(self.alloc, &self.log)?.len() as u64),
+            Work::Write => Ok(write_log(self.alloc, &self.log, self.log.version())?.len() as u64),
             Work::Read => Ok(u64::from(read(self.alloc, &self.text)?.len())),
             Work::Replay => Ok(u64::from(replay(self.alloc, &self.text, self.kind, self.count)?)),
         }

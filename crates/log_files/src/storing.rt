@@ -1,12 +1,19 @@
 // A log, written to its file.
 ghost use Rattle.std.specs.Prelude.{◌≡◌, ◌≢◌, ◌≤◌, ℕ, List, IsTrue, IfSome, IsErrOf, OnOk, Some};
-ghost use Rattle.std.specs.Prelude.{Err};
+ghost use Rattle.std.specs.Prelude.{Err, IfOk};
 ghost use Rattle.dos_io.specs.Outside.{Rose};
 ghost use Rattle.shim_log.specs.LogText.{logtext};
 
 use dos_io::{FileError, Files};
 use shim_log::{Log, write_log};
-use std::alloc::Global;
+use std::alloc::{AllocError, Global};
+
+// The text of the log in its version.
+fn text_of(alloc: Global, log: &Log) -> Result<Vec<u8>, AllocError>
+    ensures { IfOk result (λ text. text.items ≡ logtext log.now) }
+{
+    write_log(alloc, log, log.version())
+}
 
 /// Gives the file of this name the text of the log as its content. All other names stay. After a
 /// fault, which comes only where the count of `files` rose, the name may hold anything; for want
@@ -30,7 +37,7 @@ pub fn store_log<F: Files>(
     ensures tells { F.tells files.new ≡ F.tells files.old }
     ensures later { F.faults files.old ≤ F.faults files.new }
 {
-    match write_log(alloc, log) {
+    match text_of(alloc, log) {
         Ok(text) => files.set(name, &text),
         Err(_) => Err(FileError::Memory),
     }

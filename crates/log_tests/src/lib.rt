@@ -20,3 +20,5 @@ mod shims;
 mod sinks;
 #[cfg(test)]
 mod texts;
+#[cfg(test)]
+mod versions;

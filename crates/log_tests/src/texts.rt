@@ -68,6 +68,6 @@ pub fn is_read(rt: &impl Abort, alloc: Global, text: &[u8], refusal: Option<Read
 
 /// The log is written as this text.
 pub fn is_written(rt: &impl Abort, alloc: Global, log: &Log, text: &[u8]) {
-    let written = write_log(alloc, log).expect(rt, "memory");
+    let written = write_log(alloc, log, log.version()).expect(rt, "memory");
     are(rt, &written, text);
 }

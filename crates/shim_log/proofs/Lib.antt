@@ -12,6 +12,7 @@ pub mod PostTexts
 pub mod TailLoop
 pub mod WholeLaws
 pub mod ReplayLaws
+pub mod TranslationLaws
 pub mod PostLaws
 pub mod LedgerLaws
 pub mod RecorderLaws

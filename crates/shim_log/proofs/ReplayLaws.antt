@@ -26,7 +26,7 @@ use Rattle.shim_log.specs.declared.progress.Progress.{Progress}
 use Rattle.shim_log.specs.Items.{Item, quiet, kept, items_in, quiet_rounds, exchanges_of_item}
 use Rattle.shim_log.specs.Items.{exchanges_of_items}
 use Rattle.shim_log.specs.LogText.{Log, item_text, items_text, entries_text, exchanges}
-use Rattle.shim_log.specs.Ranges.{AreEntries, InRange, FitsLog}
+use Rattle.shim_log.specs.Ranges.{AreEntries, InRange, NotEnd, FitsLog}
 use Rattle.shim_log.specs.Reading.{item_at, after_item, nothing_read}
 use Rattle.shim_log.specs.Spelling.{FitsItem, FitsQuiet, AreSpelled}
 use Rattle.shim_log.specs.Replay.{ReplayState, StandsNext, IsMisfitOf, replayer_state}
@@ -50,7 +50,7 @@ is_next p h = end_is_last p.log.entries p.log.ending p.log.rounds p.answered h
 
 -- ---- what is read at its place
 
-get_left : (es fs : List Exchange) (k : ℕ) → k < length es
+pub get_left : (es fs : List Exchange) (k : ℕ) → k < length es
     → slice_get (es ++ fs) k ≡ slice_get es k
 get_left [] fs k lt = absurd (omega arith)
 get_left (e ∷ es) fs zero lt = refl
@@ -202,35 +202,37 @@ behind_first log answered place within text left f here item rest is left_over =
     }
 
 -- The next exchange, and where the one behind it stands.
-pub record NextAt (p : ReplayState) (e : Exchange) (place within : ℕ) : Type 0 where
-  pub entry : slice_get (exchanges p.log) p.answered ≡ Some e
+pub record NextAt (log : Log) (answered : ℕ) (e : Exchange) (place within : ℕ) : Type 0 where
+  pub entry : slice_get log.entries answered ≡ Some e
   pub fits : InRange e
-  pub behind : StandsAt p.log (p.answered + 1) place within
+  pub no_end : NotEnd e
+  pub behind : StandsAt log (answered + 1) place within
 
 range_of : (v : LogVersion) (p : Progress) (item : Item) (e : Exchange) → item ≡ kept e
-    → FitsItem v p item → InRange e
+    → FitsItem v p item → InRange e × NotEnd e
 range_of v p item e is fits =
     let kept_fits : FitsItem v p (kept e) = subst (FitsItem v p) is fits in
-    kept_fits.range
+    (kept_fits.range, kept_fits.no_end)
 
-pub next_kept : (p : ReplayState) (place within : ℕ) (text left rest : List ℕ) (e : Exchange)
-    → p.answered < length p.log.entries → StandsAt p.log p.answered place within
-    → IsRead p.log place text left
-    → item_at p.log.version nothing_read (length text) left ≡ Ok (kept e, rest)
-    → NextAt p e (length text - length rest) 0
-next_kept p place within text left rest e lt st here is =
-    let f = first_is p.log p.answered place within st lt in
-    let read = read_is p.log p.answered place within text left f here (kept e) rest is in
+pub next_kept : (log : Log) (answered place within : ℕ) (text left rest : List ℕ) (e : Exchange)
+    → answered < length log.entries → StandsAt log answered place within
+    → IsRead log place text left
+    → item_at log.version nothing_read (length text) left ≡ Ok (kept e, rest)
+    → NextAt log answered e (length text - length rest) 0
+next_kept log answered place within text left rest e lt st here is =
+    let f = first_is log answered place within st lt in
+    let read = read_is log answered place within text left f here (kept e) rest is in
     let none : within ≡ 0 =
     subst (λ (x : Item). IsWithin within (x ∷ f.items)) read.0 f.within_first in
-    let found : drop p.answered p.log.entries ≡ e ∷ exchanges_of_items f.items =
+    let found : drop answered log.entries ≡ e ∷ exchanges_of_items f.items =
     f.left ∙ ap (λ (k : ℕ). drop k (exchanges_of_item f.item ++ exchanges_of_items f.items)) none
     ∙ ap (λ (x : Item). drop 0 (exchanges_of_item x ++ exchanges_of_items f.items)) read.0 in
-    let got = get_first p.log.entries (exchanges_of_items f.items) p.answered e found in
+    let got = get_first log.entries (exchanges_of_items f.items) answered e found in
     record {
-      entry = get_left p.log.entries (End p.log.ending p.log.rounds ∷ []) p.answered lt ∙ got.0;
-      fits = range_of p.log.version f.progress f.item e read.0 f.fits;
-      behind = behind_first p.log p.answered place within text left f here (kept e) rest is got.1;
+      entry = got.0;
+      fits = (range_of log.version f.progress f.item e read.0 f.fits).0;
+      no_end = (range_of log.version f.progress f.item e read.0 f.fits).1;
+      behind = behind_first log answered place within text left f here (kept e) rest is got.1;
     }
 
 -- ---- in the midst of a stretch
@@ -266,37 +268,33 @@ quiet_range Two p item round count is fits =
     let quiet_fits : FitsQuiet p round count = subst (FitsItem Two p) is fits in
     quiet_fits.last
 
-module _ (p : ReplayState) (place within : ℕ) (text left rest : List ℕ) (round count : ℕ)
-    (lt : p.answered < length p.log.entries) (st : StandsAt p.log p.answered place within)
-    (here : IsRead p.log place text left)
-    (is : item_at p.log.version nothing_read (length text) left ≡ Ok (quiet round count, rest))
+module _ (log : Log) (answered place within : ℕ) (text left rest : List ℕ) (round count : ℕ)
+    (lt : answered < length log.entries) (st : StandsAt log answered place within)
+    (here : IsRead log place text left)
+    (is : item_at log.version nothing_read (length text) left ≡ Ok (quiet round count, rest))
   where
-    abbrev f : First p.log p.answered place within
-    f = first_is p.log p.answered place within st lt
+    abbrev f : First log answered place within
+    f = first_is log answered place within st lt
 
     abbrev read : (f.item ≡ quiet round count) × (items_text f.items ≡ rest)
-    read = read_is p.log p.answered place within text left f here (quiet round count) rest is
+    read = read_is log answered place within text left f here (quiet round count) rest is
 
     pub in_stretch : within < count
     in_stretch = subst (λ (x : Item). IsWithin within (x ∷ f.items)) read.0 f.within_first
 
     pub in_range : round + count ≤ 2 ^ 32
-    in_range = quiet_range p.log.version f.progress f.item round count read.0 f.fits
+    in_range = quiet_range log.version f.progress f.item round count read.0 f.fits
 
-    found : (slice_get p.log.entries p.answered ≡ Some (Signals (round + within) []))
-        × (drop (p.answered + 1) p.log.entries
+    found : (slice_get log.entries answered ≡ Some (Signals (round + within) []))
+        × (drop (answered + 1) log.entries
         ≡ drop (within + 1) (quiet_rounds round count ++ exchanges_of_items f.items))
     found =
-        get_first p.log.entries
+        get_first log.entries
         (drop (within + 1) (quiet_rounds round count ++ exchanges_of_items f.items))
-        p.answered (Signals (round + within) [])
+        answered (Signals (round + within) [])
         (f.left
         ∙ ap (λ (x : Item). drop within (exchanges_of_item x ++ exchanges_of_items f.items)) read.0
         ∙ quiet_first round count within (exchanges_of_items f.items) in_stretch)
-
-    entry_is : slice_get (exchanges p.log) p.answered ≡ Some (Signals (round + within) [])
-    entry_is =
-        get_left p.log.entries (End p.log.ending p.log.rounds ∷ []) p.answered lt ∙ found.0
 
     entry_fits : InRange (Signals (round + within) [])
     entry_fits = record {
@@ -305,10 +303,12 @@ module _ (p : ReplayState) (place within : ℕ) (text left rest : List ℕ) (rou
       posts = tt;
     }
 
-    pub next_more : within + 1 < count → NextAt p (Signals (round + within) []) place (within + 1)
+    pub next_more : within + 1 < count
+        → NextAt log answered (Signals (round + within) []) place (within + 1)
     next_more more = record {
-      entry = entry_is;
+      entry = found.0;
       fits = entry_fits;
+      no_end = tt;
       behind = record {
         progress = f.progress;
         items = f.item ∷ f.items;
@@ -324,13 +324,14 @@ module _ (p : ReplayState) (place within : ℕ) (text left rest : List ℕ) (rou
     }
 
     pub next_last : count ≤ within + 1
-        → NextAt p (Signals (round + within) []) (length text - length rest) 0
+        → NextAt log answered (Signals (round + within) []) (length text - length rest) 0
     next_last last =
         let all : within + 1 ≡ count = omega (arith, in_stretch, last) in
         record {
-          entry = entry_is;
+          entry = found.0;
           fits = entry_fits;
-          behind = behind_first p.log p.answered place within text left f here (quiet round count)
+          no_end = tt;
+          behind = behind_first log answered place within text left f here (quiet round count)
               rest is
               (found.1
               ∙ ap (λ (k : ℕ). drop k (quiet_rounds round count ++ exchanges_of_items f.items)) all
@@ -378,16 +379,19 @@ stands_last log answered text is all = record {
 
 -- ---- what it tells after an answer
 
+-- with the next exchange
+pub passed_more : (es : List Exchange) (n : ℕ) (e : Exchange) → slice_get es n ≡ Some e
+    → take (n + 1) es ≡ take n es ++ e ∷ []
+passed_more es n e at =
+    take_more es n e (slice_get_within es n e at)
+    ∙ ap (λ (x : Exchange). take n es ++ x ∷ []) (get_or_from_slice_get es n e e at)
+
 pub plays : (p n : ReplayState) (e : Exchange) → slice_get (exchanges p.log) p.answered ≡ Some e
     → n ≡ replay_advanced p → replayer_state n ≡ shim_answered (replayer_state p) e
 plays p n e at is =
-    let within : p.answered < length (exchanges p.log) =
-    slice_get_within (exchanges p.log) p.answered e at in
     let more : take (p.answered + 1) (exchanges p.log)
     ≡ take p.answered (exchanges p.log) ++ e ∷ [] =
-    take_more (exchanges p.log) p.answered e within
-    ∙ ap (λ (x : Exchange). take p.answered (exchanges p.log) ++ x ∷ [])
-    (get_or_from_slice_get (exchanges p.log) p.answered e e at) in
+    passed_more (exchanges p.log) p.answered e at in
     ap replayer_state is
     ∙ ap (λ (x : List Exchange). record {
       told = x;

@@ -14,11 +14,14 @@ pub mod laws;
 mod ledger;
 mod log;
 mod log_reading;
+mod log_walk;
 mod log_writing;
+mod posts;
 mod progress;
 mod recorder;
 mod refusal;
 mod replayer;
+mod translation;
 mod version;
 
 pub use header::{Digests, LogHeader};

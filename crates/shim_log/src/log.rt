@@ -43,7 +43,7 @@ impl Model for Log {
 }
 
 impl Log {
-    ghost use Rattle.shim_log.specs.LogText.{exchanges, entries_text};
+    ghost use Rattle.shim_log.specs.LogText.{exchanges, entries_text, logtext};
     ghost use Rattle.shim_log.specs.Ranges.{FitsLog, AreEntries};
 
     /// What the run is of.
@@ -66,6 +66,14 @@ impl Log {
         ensures fits { FitsLog self.now }
     {
         self.entries.len() + 1
+    }
+
+    /// How long its text is.
+    pub fn bytes(&self) -> usize
+        ensures { result ≡ length (logtext self.now) }
+    {
+        let _len = self.len();
+        26 + 32 * self.header().digests.len() + self.text().len()
     }
 
     // The exchanges but the end, as their text.

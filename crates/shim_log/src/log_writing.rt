@@ -3,12 +3,13 @@ ghost use Rattle.std.specs.Prelude.{◌≡◌, ◌++◌, length, IfOk, OnOk};
 ghost use Rattle.std.specs.Int.{w16, w32, to_le_bytes};
 ghost use Rattle.std.specs.List.{concat};
 ghost use Rattle.shim_log.specs.LogText.{log_magic, version_number, header_text, ending_code};
-ghost use Rattle.shim_log.specs.LogText.{entry_text};
+ghost use Rattle.shim_log.specs.LogText.{entry_text, entries_text};
 ghost use Rattle.shim_log.specs.LogText.{logtext};
 ghost use Rattle.dos_io.specs.declared.exchange.Exchange.TheVariants.{End as end};
 
 use crate::header::{Digests, LogHeader};
 use crate::log::Log;
+use crate::translation::{joined_entries, put_each};
 use crate::version::LogVersion;
 use dos_world::Ending;
 use std::alloc::{AllocError, Global};
@@ -73,13 +74,32 @@ fn put_end(out: &mut Vec<u8>, ending: Ending, rounds: u32) -> Result<(), AllocEr
     Ok(())
 }
 
-/// The one text of the log in its version. The error is want of memory.
-pub fn write_log(alloc: Global, log: &Log) -> Result<Vec<u8>, AllocError>
-    ensures { IfOk result (λ v. v.items ≡ logtext log.now) }
+// Puts the entries of a log in this version.
+fn put_entries(
+    alloc: Global,
+    out: &mut Vec<u8>,
+    log: &Log,
+    version: LogVersion,
+) -> Result<(), AllocError>
+    ensures { OnOk result (out.new.items ≡ out.old.items ++ entries_text version log.now.entries) }
+{
+    if log.version() == version {
+        return out.extend_from_slice(log.text());
+    }
+    match version {
+        LogVersion::One => put_each(out, log),
+        LogVersion::Two => out.extend_from_slice(joined_entries(alloc, log)?.text()),
+    }
+}
+
+/// The one text of the log in this version; in its own it is copied. In the other one it may be
+/// longer than a log may be. The error is want of memory.
+pub fn write_log(alloc: Global, log: &Log, version: LogVersion) -> Result<Vec<u8>, AllocError>
+    ensures { IfOk result (λ v. v.items ≡ logtext (record log.now { version = version })) }
 {
     let mut out = Vec::new(alloc);
-    put_header(&mut out, log.version(), &log.header)?;
-    out.extend_from_slice(log.text())?;
+    put_header(&mut out, version, &log.header)?;
+    put_entries(alloc, &mut out, log, version)?;
     put_end(&mut out, log.ending(), log.rounds())?;
     Ok(out)
 }

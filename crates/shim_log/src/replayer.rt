@@ -11,12 +11,11 @@ ghost use Rattle.shim_log.specs.Replay.{IsReplay, IsMisfitOf, StandsAt};
 ghost use Rattle.shim_log.specs.Replay.{replay_stopped, replay_advanced};
 
 use crate::entry::Entry;
-use crate::entry_reading::read_item;
-use crate::item::Item;
 use crate::log::Log;
-use crate::progress::Progress;
+use crate::log_walk::entry_at;
+use crate::posts::fill;
 use dos_io::{Shim, ShimStop, SignalList};
-use dos_world::{Ending, Misfit, Post, Question};
+use dos_world::{Ending, Misfit, Question};
 use std::marker::Model;
 
 /// Answers each question by the next entry of a log, and stops where that entry is of another
@@ -55,51 +54,6 @@ impl Model for Replayer {
         × StandsAt s.log s.answered s.place s.within };
 }
 
-// The bytes from a place on.
-fn behind(text: &[u8], place: usize) -> &[u8]
-    requires { place ≤ length text.now }
-    ensures { result.now ≡ drop place text.now }
-{
-    &text[place..]
-}
-
-// The first of the posts that these bytes spell, and the bytes of the others.
-fn first_post(posts: &[u8]) -> (Post, &[u8])
-    requires { 5 ≤ length posts.now }
-    ensures value { posts_in_text posts.now ≡ result.0 ∷ posts_in_text result.1.now }
-    ensures len { length posts.now ≡ 5 + length result.1.now }
-{
-    let (front, rest) = posts.split_at(5);
-    let pid = u32::from_le_bytes([front[0], front[1], front[2], front[3]]);
-    let post = Post {
-        pid,
-        signal: front[4],
-    };
-    (post, rest)
-}
-
-// The posts that these bytes spell, into `list`.
-fn fill(list: &mut SignalList, posts: &[u8])
-    requires few { length (posts_in_text posts.now) ≤ 32 }
-    requires fits { ArePosts (posts_in_text posts.now) }
-    ensures { list.new ≡ posts_in_text posts.now }
-{
-    list.clear();
-    let mut rest = posts;
-    for _ in 0..posts.len() / 5 {
-        let (post, after) = first_post(rest);
-        list.push(post);
-        rest = after;
-    }
-}
-
-// A round without a signal.
-fn quiet_entry<'a>(round: u32) -> Entry<'a>
-    ensures { exchange_of result ≡ Exchange.Signals round [] }
-{
-    Entry::Signals { round, posts: &[] }
-}
-
 impl Replayer {
     /// A replayer that was asked nothing yet.
     pub fn new(log: Log) -> Replayer
@@ -133,8 +87,7 @@ impl Replayer {
     }
 
     // The next exchange, and where the one behind it stands: the place of its entry in the text,
-    // and
-    // how many of that entry's rounds are in front of it.
+    // and how many of that entry's rounds are in front of it.
     fn next(&self) -> (Entry<'_>, usize, u32)
         requires { self.now.answered ≤ length self.now.log.entries }
         ensures entry { slice_get (exchanges self.now.log) self.now.answered
@@ -142,28 +95,14 @@ impl Replayer {
         ensures fits { InRange (exchange_of result.0) }
         ensures behind { StandsAt self.now.log (self.now.answered + 1) result.1 result.2 }
     {
-        let text = self.log.text();
         if self.answered == self.log.count() {
             let end = Entry::End {
                 ending: self.log.ending(),
                 rounds: self.log.rounds(),
             };
-            return (end, text.len(), 0);
+            return (end, self.log.text().len(), 0);
         }
-        let left = behind(text, self.place);
-        match read_item(self.log.version(), Progress::new(), text.len(), left) {
-            Ok((item, rest)) => match item {
-                Item::Kept(entry) => (entry, text.len() - rest.len(), 0),
-                Item::Quiet { round, count } => {
-                    let entry = quiet_entry(round + self.within);
-                    if self.within + 1 < count {
-                        return (entry, self.place, self.within + 1);
-                    }
-                    (entry, text.len() - rest.len(), 0)
-                }
-            },
-            Err(_) => unreachable!(),
-        }
+        entry_at(&self.log, self.answered, self.place, self.within)
     }
 
     // The next exchange, which is of this question, and where the one behind it stands; or the

@@ -14,7 +14,7 @@ pub enum LogVersion {
 
 impl LogVersion {
     /// What stands in the header.
-    pub(crate) fn number(self) -> u16
+    pub fn number(self) -> u16
         ensures { result ≡ version_number self }
     {
         match self {

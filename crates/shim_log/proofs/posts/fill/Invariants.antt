@@ -1,7 +1,7 @@
 use Rattle.std.proofs.Common.{◌≡◌, ◌+◌, ◌*◌, ◌++◌, length}
 use Rattle.dos_io.specs.Posts.{ArePosts}
 use Rattle.shim_log.specs.Views.{posts_in_text}
-use Rattle.shim_log.proofs.replayer.fill.Given as goal
+use Rattle.shim_log.proofs.posts.fill.Given as goal
 
 abbrev pub invariant-loop : goal.invariant-loop
 invariant-loop l = (length l.posts ≡ 5 * l.counter + length l.rest)
