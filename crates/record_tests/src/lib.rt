@@ -1,5 +1,6 @@
-//! Tests of the whole program over files and sinks in memory: logs, what they record of the host and
-//! how they are replayed, the order in which things cross, and faults at each call from outside.
+//! Tests of the whole program over files and sinks in memory: logs, what they record of the host
+//! and how they are replayed, the order in which things cross, and faults at each call from
+//! outside.
 #![tactic(auto)]
 
 #[cfg(test)]
