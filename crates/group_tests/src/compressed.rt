@@ -1,9 +1,9 @@
 //! Guests of compressed instructions, and of instructions over two pages. The halfwords are those
 //! that GNU's assembler makes of the lines beside them.
+use crate::calls::{Wanted, leaves, run_twice};
+use crate::guests;
+use crate::guests::{files_of_halves, files_with};
 use dos_io::{Files, MemoryFiles};
-use program_calls::calls::{Wanted, leaves, run_twice};
-use program_calls::guests;
-use program_calls::guests::{files_of_halves, files_with};
 use std::alloc::Global;
 use std::process::Abort;
 use std::thread::Threads;

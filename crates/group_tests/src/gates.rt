@@ -2,12 +2,12 @@
 //! the top call, by a gate that holds the first pack of a round until others have begun.
 ghost use Rattle.std.specs.Prelude.{◌<◌, ◌≤◌};
 
+use crate::calls::{NOTHING, call_by, check_left};
+use crate::checks::same;
+use crate::files::usual_files;
+use crate::guests::{ENDLESS, add_guest};
 use dos_io::MemoryFiles;
 use loop_packs::{Holding, StayingHeld};
-use program_calls::calls::{NOTHING, call_by, check_left};
-use program_calls::checks::same;
-use program_calls::files::usual_files;
-use program_calls::guests::{ENDLESS, add_guest};
 use staying_workers::Kept;
 use std::alloc::{AllocError, Global};
 use std::process::Abort;

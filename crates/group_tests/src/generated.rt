@@ -1,6 +1,6 @@
 //! The group that is made from a number.
+use crate::calls::leaves;
 use dos_io::MemoryFiles;
-use program_calls::calls::leaves;
 use std::alloc::Global;
 use std::process::Abort;
 use std::thread::Threads;

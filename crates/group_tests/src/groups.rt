@@ -1,7 +1,7 @@
 //! Groups of several images, and room for them.
-use program_calls::calls::{Case, SILENT, call, check_cases, check_long};
-use program_calls::files::usual_files;
-use program_calls::guests::{LONG_WRITE, files_with};
+use crate::calls::{Case, SILENT, call, check_cases, check_long};
+use crate::files::usual_files;
+use crate::guests::{LONG_WRITE, files_with};
 
 const GROUPS: [Case; 6] = [
     Case {

@@ -1,8 +1,8 @@
 //! Guests that do what they may not, or as much as they may: with one worker and with 32, and each
 //! replayed.
+use crate::calls::run_twice;
+use crate::machine_words::add_words;
 use dos_io::MemoryFiles;
-use program_calls::calls::run_twice;
-use program_calls::machine_words::add_words;
 use std::alloc::Global;
 use std::process::Abort;
 use std::thread::Threads;

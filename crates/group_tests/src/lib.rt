@@ -3,7 +3,19 @@
 #![tactic(auto)]
 
 #[cfg(test)]
+mod calls;
+#[cfg(test)]
+mod checks;
+#[cfg(test)]
+mod clocks;
+#[cfg(test)]
 mod compressed;
+#[cfg(test)]
+mod failing;
+#[cfg(test)]
+mod faults;
+#[cfg(test)]
+mod files;
 #[cfg(test)]
 mod gates;
 #[cfg(test)]
@@ -11,7 +23,17 @@ mod generated;
 #[cfg(test)]
 mod groups;
 #[cfg(test)]
+mod guests;
+#[cfg(test)]
 mod hostile;
+#[cfg(test)]
+mod logs;
+#[cfg(test)]
+mod machine_words;
+#[cfg(test)]
+mod ordered;
+#[cfg(test)]
+mod recorded;
 #[cfg(test)]
 mod refusals;
 #[cfg(test)]

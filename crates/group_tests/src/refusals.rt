@@ -1,6 +1,6 @@
 //! Calls that run no guest.
-use program_calls::calls::{Case, SILENT, check_cases, leaves};
-use program_calls::files::{add_zeros, usual_files};
+use crate::calls::{Case, SILENT, check_cases, leaves};
+use crate::files::{add_zeros, usual_files};
 
 const OTHERS: [&[&str]; 34] = [
     &[],

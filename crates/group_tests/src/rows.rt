@@ -1,6 +1,6 @@
 //! Guests of one image.
-use program_calls::calls::run_twice;
-use program_calls::guests;
+use crate::calls::run_twice;
+use crate::guests;
 use rv_isa::Instr;
 use std::alloc::Global;
 use std::process::Abort;

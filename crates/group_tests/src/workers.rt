@@ -1,11 +1,11 @@
 //! The same with any number of workers: bytes, rounds and the tally.
-use dos_io::MemoryFiles;
-use program_calls::calls::{NOTHING, call_by, check_left, leaves};
-use program_calls::checks::{same, same_at};
-use program_calls::files::usual_files;
-use program_calls::guests::{
+use crate::calls::{NOTHING, call_by, check_left, leaves};
+use crate::checks::{same, same_at};
+use crate::files::usual_files;
+use crate::guests::{
     BEHIND_NINE, ENDLESS, ENDS, MAKES_THREADS, PRINTS_BEHIND, RACE, add_guest, file_at, padded,
 };
+use dos_io::MemoryFiles;
 use std::alloc::Global;
 use std::process::Abort;
 use std::thread::Threads;

@@ -1,10 +1,10 @@
 //! What runs record: rounds, signals and input; and hosts and outputs that fail in a run.
-use dos_io::MemoryFiles;
-use program_calls::calls::{
+use crate::calls::{
     NOTHING, Outside, Wanted, call_over, check_left, check_replay, has_log, leaves_over, log_length,
 };
-use program_calls::checks::{same, same_at};
-use program_calls::guests::{CATCHES, ECHOES, FORKS, MAPS, READS, WAITS, add_guest, files_with};
+use crate::checks::{same, same_at};
+use crate::guests::{CATCHES, ECHOES, FORKS, MAPS, READS, WAITS, add_guest, files_with};
+use dos_io::MemoryFiles;
 use rv_isa::Instr;
 use std::alloc::Global;
 use std::process::Abort;

@@ -1,7 +1,7 @@
 //! Each put of a call fails in turn: what was put before stands, and nothing follows.
-use program_calls::calls::{Case, SILENT, check_cases};
-use program_calls::files::usual_files;
-use program_calls::guests::{PRINTS_TO_BOTH, add_guest};
+use crate::calls::{Case, SILENT, check_cases};
+use crate::files::usual_files;
+use crate::guests::{PRINTS_TO_BOTH, add_guest};
 
 // The guest's four puts and the report's two, in the order in which they come.
 const PUTS: [Case; 7] = [

@@ -1,9 +1,9 @@
 //! Faults of files, host and outputs, each at its call, and logs that are no longer whole: what the
 //! call leaves then, and the log's file.
+use crate::calls::{LOG, NOTHING, Outside, Wanted, leaves, leaves_over};
+use crate::checks::same_at;
+use crate::machine_words::add_words;
 use dos_io::{Files, MemoryFiles};
-use program_calls::calls::{LOG, NOTHING, Outside, Wanted, leaves, leaves_over};
-use program_calls::checks::same_at;
-use program_calls::machine_words::add_words;
 use std::alloc::Global;
 use std::process::Abort;
 use std::thread::Threads;

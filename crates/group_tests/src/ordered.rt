@@ -3,11 +3,11 @@ ghost use Rattle.std.specs.Prelude.{◌≡◌, ◌<◌, ◌≤◌, length, drop,
 ghost use Rattle.dos_io.specs.Outside.{HasCause};
 ghost use Rattle.dos_io.specs.Memory.{calls_of};
 
+use crate::calls::LOG;
+use crate::checks::same_at;
+use crate::machine_words::add_words;
 use dos_cmd::dos_main;
 use dos_io::{FileError, Files, Host, HostFault, MemoryFiles, MemoryHost, Sink, SinkFault};
-use program_calls::calls::LOG;
-use program_calls::checks::same_at;
-use program_calls::machine_words::add_words;
 use std::alloc::{AllocError, Global};
 use std::cell::RefCell;
 use std::process::Abort;

@@ -1,12 +1,12 @@
 //! What a run writes into its log, byte for byte, and what a replay says of other logs.
-use dos_io::MemoryFiles;
-use program_calls::calls::{
+use crate::calls::{
     Case, LOG, NOTHING, Outside, SILENT, call, check_cases, check_left, check_replay, leaves,
     leaves_over, log_of,
 };
-use program_calls::checks::same;
-use program_calls::files::{add_zeros, usual_files};
-use program_calls::guests::{ENDS_WITH_0, SEVEN, add_guest, files_with};
+use crate::checks::same;
+use crate::files::{add_zeros, usual_files};
+use crate::guests::{ENDS_WITH_0, SEVEN, add_guest, files_with};
+use dos_io::MemoryFiles;
 use std::alloc::Global;
 use std::process::Abort;
 use std::thread::Threads;

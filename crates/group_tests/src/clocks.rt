@@ -1,10 +1,8 @@
 //! A guest that looks at the clock, and options in another order.
+use crate::calls::{LOG, NOTHING, Outside, Wanted, leaves, log_of, run_twice, run_twice_over};
+use crate::checks::same;
+use crate::guests::{CLOCKS, files_with};
 use dos_io::MemoryFiles;
-use program_calls::calls::{
-    LOG, NOTHING, Outside, Wanted, leaves, log_of, run_twice, run_twice_over,
-};
-use program_calls::checks::same;
-use program_calls::guests::{CLOCKS, files_with};
 use std::alloc::Global;
 use std::process::Abort;
 use std::thread::Threads;
