@@ -8,6 +8,7 @@ declare -A options_of=(
   [replay]='--log=file --workers=1-32'
   [inspect]=''
   [gen]='--number=number --threads=1-32 --workers=1-32'
+  [migrate]='--log=file --to=file'
 )
 
 # What the option $1 of the command $2 takes, or nothing where it has no such option.
@@ -39,9 +40,9 @@ why_not() {
 # Which word isn't one, of words that ask for nothing.
 wrong_word() {
   local command=${1-} word value kind why names=0 given=' ' is_open=1
-  [ $# -gt 0 ] || { echo 'a command is wanted: run, replay, inspect or gen'; return; }
+  [ $# -gt 0 ] || { echo 'a command is wanted: run, replay, inspect, gen or migrate'; return; }
   [ -n "$command" ] && [ "${options_of[$command]+known}" ] || {
-    echo "$command is no command: these are run, replay, inspect and gen"
+    echo "$command is no command: these are run, replay, inspect, gen and migrate"
     return
   }
   shift
@@ -74,27 +75,30 @@ wrong_word() {
     gen)
       [[ $given = *' --number '* && $given = *' --threads '* ]] ||
         { echo 'gen wants --number and --threads'; return; } ;;
+    migrate)
+      [[ $given = *' --log '* && $given = *' --to '* ]] ||
+        { echo 'migrate wants --log and --to, each with a file'; return; } ;;
   esac
   case $command$names in
-    gen0|inspect1|run[1-8]|replay[1-8]) ;;
-    gen*) echo 'gen takes no names' ;;
+    gen0|migrate0|inspect1|run[1-8]|replay[1-8]) ;;
+    gen*|migrate*) echo "$command takes no names" ;;
     inspect*) echo 'inspect takes one name' ;;
     *0) echo "$command wants the name of a file" ;;
     *) echo "$command takes at most 8 names" ;;
   esac
 }
 
-# The file that `run` would write its log to, where there is such a file and it isn't a log: it doesn't
-# begin as one does.
+# The file that `run` or `migrate` would write a log to, where there is such a file and it isn't a log:
+# it doesn't begin as one does.
 no_log() {
-  local log=
-  [ "${1-}" = run ] || return
+  local log= option
+  case ${1-} in run) option=--log ;; migrate) option=--to ;; *) return ;; esac
   shift
   while [ $# -gt 0 ]; do
     case $1 in
       --) break ;;
-      --log) log=${2-} ;;
-      --log=*) log=${1#--log=} ;;
+      "$option") log=${2-} ;;
+      "$option"=*) log=${1#"$option"=} ;;
     esac
     case $1 in --*=*) shift ;; --*) shift; [ $# -eq 0 ] || shift ;; *) shift ;; esac
   done

@@ -25,12 +25,12 @@ use Rattle.dos_texts.specs.declared.refusal.Refusal.TheVariants as refusals
 use Rattle.dos_words.specs.Numbers.{Text}
 use Rattle.dos_words.specs.Request.{request}
 use Rattle.dos_words.specs.declared.request.Request.{Request}
-use Rattle.dos_words.specs.declared.request.Request.TheVariants.{Run, Replay, Gen}
+use Rattle.dos_words.specs.declared.request.Request.TheVariants.{Run, Replay, Gen, Migrate}
 use Rattle.dos_cmd.specs.Judging.{Taken, judgement}
 use Rattle.dos_cmd.specs.Outside.{Outside, Faults, OutputFailed, Says}
 use Rattle.dos_cmd.specs.ReplayLeaves.{DidReplay, Misfitted}
 use Rattle.dos_cmd.specs.Results.{Begun, NotTaken, OfLog, Did, HasMisfit, WasStopped, Leaves}
-use Rattle.dos_cmd.specs.Results.{WasDone}
+use Rattle.dos_cmd.specs.Results.{FullLog, WasDone}
 use Rattle.dos_cmd.specs.Results.{Fails, Refused, CutShort, MustReplay, MustDo}
 use Rattle.dos_cmd.proofs.Saying.{with_error, with_faults, output_failed, fails_more}
 
@@ -121,6 +121,7 @@ replayed_must words w log names taken n o h = of_log taken.log h
 did_must : (words : List Text) (asked : Request) (taken : Taken) (n : ℕ) (o : Outside)
     → Did asked taken n o → MustDo asked taken n o
 did_must words (Replay w log names) taken n o h = replayed_must words w log names taken n o h
+did_must words (Migrate log to) taken n o h = h
 did_must words asked taken n o h = λ full. h
 
 pub finished_must : (words : List Text) (n : ℕ) (o : Outside) (asked : Request) (taken : Taken)
@@ -136,6 +137,15 @@ finished_must words n o asked taken h ask told =
 
 -- ---- a call that came to no report
 
+-- A full log is the file's own, or a run's that the files were taken for.
+full_status : (asked : Request) (o : Outside) (other : Refusal) (last : List ℕ)
+    → FullLog asked o last → judgement o.files asked ≡ Some (Err other)
+    → refusals.LogFull ≡ other
+full_status (Migrate log to) o other last h told =
+    sym (refused_is o (Migrate log to) refusals.LogFull other last h told)
+full_status asked o other last h told =
+    absurd (taken_not o asked (λ taken. WasStopped asked taken stops.LogFull last o) other h told)
+
 -- Its status is a refusal's; want of memory, a fault of the outside and a full log say nothing of
 -- what the files are taken for.
 leaves_status : (asked : Request) (o : Outside) (f : Faults) (why other : Refusal) (last : List ℕ)
@@ -150,7 +160,7 @@ leaves_status asked o f refusals.Files other last h told a b d = absurd (a refl)
 leaves_status asked o f refusals.Host other last h told a b d = absurd (a refl)
 leaves_status asked o f refusals.Sink other last h told a b d = absurd (b refl)
 leaves_status asked o f refusals.LogFull other last h told a b d =
-    absurd (taken_not o asked (λ taken. WasStopped asked taken stops.LogFull last o) other h told)
+    ap refusal_status (full_status asked o other last h told)
 leaves_status asked o f refusals.Memory other last h told a b d = absurd (d refl)
 leaves_status asked o f why other last h told a b d =
     ap refusal_status (sym (refused_is o asked why other last h told))
@@ -176,6 +186,17 @@ full_must : (asked : Request) (taken : Taken) (last : List ℕ) (n : ℕ) (o : O
 full_must (Run q r f w posts from step log names) taken last n o is h = λ full. absurd (full is)
 full_must asked taken last n o is h = absurd h
 
+full_log_must : (asked : Request) (taken : Taken) (o : Outside) (n : ℕ) → n ≡ 10
+    → FullLog asked o (line_of refusals.LogFull) → judgement o.files asked ≡ Some (Ok taken)
+    → MustDo asked taken n o
+full_log_must (Migrate log to) taken o n is h told =
+    absurd (refused_not o (Migrate log to) refusals.LogFull _ taken h told)
+full_log_must asked taken o n is h told =
+    let same = taken_is o asked
+    (λ t. WasStopped asked t stops.LogFull (line_of refusals.LogFull) o) taken h told in
+    subst (λ (t : Taken). MustDo asked t n o) same
+    (full_must asked h.taken (line_of refusals.LogFull) n o is h.so)
+
 leaves_must : (asked : Request) (taken : Taken) (o : Outside) (f : Faults) (why : Refusal) (n : ℕ)
     → n ≡ refusal_status why → Leaves asked o f why (line_of why)
     → judgement o.files asked ≡ Some (Ok taken) → n ≢ 5 → n ≢ 6 → n ≢ 9 → MustDo asked taken n o
@@ -190,10 +211,7 @@ leaves_must asked taken o f refusals.Files n is h told a b d = absurd (a is)
 leaves_must asked taken o f refusals.Host n is h told a b d = absurd (a is)
 leaves_must asked taken o f refusals.Sink n is h told a b d = absurd (b is)
 leaves_must asked taken o f refusals.LogFull n is h told a b d =
-    let same = taken_is o asked
-    (λ t. WasStopped asked t stops.LogFull (line_of refusals.LogFull) o) taken h told in
-    subst (λ (t : Taken). MustDo asked t n o) same
-    (full_must asked h.taken (line_of refusals.LogFull) n o is h.so)
+    full_log_must asked taken o n is h told
 leaves_must asked taken o f refusals.Memory n is h told a b d = absurd (d is)
 leaves_must asked taken o f why n is h told a b d =
     absurd (refused_not o asked why _ taken h told)

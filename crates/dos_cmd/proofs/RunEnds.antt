@@ -168,7 +168,7 @@ stays_at o name n true same at others =
 stays_at o name n false other at others =
     others n (λ e. let same : bytes_eq n name ≡ true = (bytes_eq-Decides n name).1 e in cc)
 
-all_stay : (o : Outside) (name : Text) → o.files_after name ≡ o.files name → OthersStay o name
+pub all_stay : (o : Outside) (name : Text) → o.files_after name ≡ o.files name → OthersStay o name
     → FilesStay o
 all_stay o name at others = λ n. stays_at o name n (bytes_eq n name) refl at others
 

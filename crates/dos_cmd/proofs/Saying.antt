@@ -11,12 +11,12 @@ use Rattle.dos_texts.specs.declared.refusal.Refusal.{Refusal}
 use Rattle.dos_texts.specs.declared.refusal.Refusal.TheVariants as refusals
 use Rattle.dos_words.specs.Numbers.{Text}
 use Rattle.dos_words.specs.declared.request.Request.{Request}
-use Rattle.dos_words.specs.declared.request.Request.TheVariants.{Run, Replay, Gen}
+use Rattle.dos_words.specs.declared.request.Request.TheVariants.{Run, Replay, Gen, Migrate}
 use Rattle.dos_cmd.specs.Judging.{Taken}
 use Rattle.dos_cmd.specs.Outside.{Outside, Faults, Grew, Says, OutputFailed}
 use Rattle.dos_cmd.specs.ReplayLeaves.{Misfitted}
 use Rattle.dos_cmd.specs.Results.{Begun, NotTaken, WasStopped, Unwritten, HasMisfit, OfLog, Cut}
-use Rattle.dos_cmd.specs.Results.{Leaves, Fails}
+use Rattle.dos_cmd.specs.Results.{FullLog, Leaves, Fails}
 
 -- error tells this in the end
 abbrev pub with_error : Outside → Option (List ℕ) → Outside
@@ -94,6 +94,12 @@ module _ (o : Outside) (e : Option (List ℕ)) (last : List ℕ) (more : e ≡ g
       grew = grew_more h.seen.output h.seen.error h.grew;
       others = h.others;
     }
+    unwritten_more (Migrate log to) taken h = record {
+      out_stays = h.out_stays;
+      err_says = more ∙ ap (λ told. grown told last) (h.err_says ∙ sym (grown-nothing o.err));
+      others = h.others;
+      host_stays = h.host_stays;
+    }
     unwritten_more asked taken h = absurd h
 
     misfit_more : (asked : Request) (taken : Taken) (found : Misfit)
@@ -116,6 +122,13 @@ module _ (o : Outside) (e : Option (List ℕ)) (last : List ℕ) (more : e ≡ g
         → Begun asked o P → Begun asked (with_error o e) Q
     begun_more asked P Q then h =
         record { taken = h.taken; is = h.is; so = then h.taken h.so }
+
+    full_more : (asked : Request) → FullLog asked o [] → FullLog asked (with_error o e) last
+    full_more (Migrate log to) h = not_taken_more (Migrate log to) refusals.LogFull h
+    full_more asked h =
+        begun_more asked (λ taken. WasStopped asked taken stops.LogFull [] o)
+        (λ taken. WasStopped asked taken stops.LogFull last (with_error o e))
+        (λ taken. stopped_more asked taken stops.LogFull) h
 
 -- where nothing more was said
 same_error : (o : Outside) (e : Option (List ℕ)) → e ≡ grown o.err_after [] → e ≡ o.err_after
@@ -173,9 +186,7 @@ leaves_more asked o f n e refusals.Sink last later none more h =
           (same_error o e (more ∙ ap (grown o.err_after) nothing))) h.2,
     )
 leaves_more asked o f n e refusals.LogFull last later none more h =
-    begun_more o e last more asked (λ taken. WasStopped asked taken stops.LogFull [] o)
-    (λ taken. WasStopped asked taken stops.LogFull last (with_error o e))
-    (λ taken. stopped_more o e last more asked taken stops.LogFull) h
+    full_more o e last more asked h
 leaves_more asked o f n e refusals.Memory last later none more h = elim h [
   | inl says ↦ inl (says_more o e last more says)
   | inr (inl begun) ↦ inr (inl (begun_more o e last more asked

@@ -13,11 +13,14 @@ use Rattle.logged_runs.specs.Replaying.{config_of}
 use Rattle.sha2.specs.Sha256.{sha256}
 use Rattle.shim_log.specs.Bytes.{FitsDigest}
 use Rattle.shim_log.specs.LogText.{Log}
+use Rattle.shim_log.specs.Room.{most_bytes}
 use Rattle.dos_texts.specs.declared.refusal.Refusal.{Refusal}
 use Rattle.dos_texts.specs.declared.refusal.Refusal.TheVariants as refusals
 use Rattle.dos_words.specs.Numbers.{Text}
 use Rattle.dos_words.specs.declared.request.Request.{Request}
 use Rattle.dos_words.specs.declared.request.Request.TheVariants.{Run, Replay, Inspect, Gen}
+use Rattle.dos_words.specs.declared.request.Request.TheVariants.{Migrate}
+use Rattle.dos_cmd.specs.Migrating.{migrated_text}
 
 -- ---- one image; images are counted from 1 in the order of the words
 
@@ -113,6 +116,18 @@ abbrev pub replay_judgement : Option (List ℕ) → List (Option (List ℕ)) →
 replay_judgement None files = None
 replay_judgement (Some file) files = by_log (log_verdict file) files
 
+-- ---- a log alone
+
+-- Its text of version 2 may not be longer than a log may be.
+unfoldable pub migrated_of : Log → Judgement
+migrated_of log = if nat_lt most_bytes (length (migrated_text log)) then Err refusals.LogFull
+    else Ok (record { log = Some log; images = [] })
+
+-- what the log's file is taken for
+abbrev pub migrate_judged : Result Log LogRefusal → Judgement
+migrate_judged (Err why) = Err (refusals.Log why)
+migrate_judged (Ok log) = migrated_of log
+
 -- ---- what the words ask for
 
 -- what `gen` runs with
@@ -131,6 +146,8 @@ judgement contents (Replay workers log names) =
 judgement contents (Inspect name) = option_map of_images (images_from 1 (contents name ∷ []))
 judgement contents (Gen number threads workers) =
     Some (Ok (record { log = None; images = generated number threads ∷ [] }))
+judgement contents (Migrate log to) =
+    option_map (λ file. migrate_judged (log_verdict file)) (contents log)
 
 -- A refusal that reading files may come to: of an image, by what its file tells; or a fault of the
 -- files, or want of memory.

@@ -3,6 +3,7 @@ pub mod Judging
 pub mod RunLeaves
 pub mod ReplayLeaves
 pub mod Printing
+pub mod Migrating
 pub mod Stops
 pub mod Requests
 pub mod Results

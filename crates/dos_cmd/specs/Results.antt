@@ -15,11 +15,13 @@ use Rattle.dos_words.specs.Numbers.{Text}
 use Rattle.dos_words.specs.Request.{request}
 use Rattle.dos_words.specs.declared.request.Request.{Request}
 use Rattle.dos_words.specs.declared.request.Request.TheVariants.{Run, Replay, Inspect, Gen}
+use Rattle.dos_words.specs.declared.request.Request.TheVariants.{Migrate}
 use Rattle.dos_cmd.specs.Judging.{Taken, judgement}
 use Rattle.dos_cmd.specs.Outside.{Outside, Faults, FilesStay, OutputFailed, Says}
 use Rattle.dos_cmd.specs.RunLeaves.{RunAsked, DidRun, StoppedRun, UnwrittenRun, CutRun}
 use Rattle.dos_cmd.specs.RunLeaves.{CutRunReport}
 use Rattle.dos_cmd.specs.ReplayLeaves.{DidReplay, Misfitted, CutReplay, CutReplayReport}
+use Rattle.dos_cmd.specs.Migrating.{Migrated, UnwrittenText, CutMigration}
 use Rattle.dos_cmd.specs.Printing.{Inspected, Generated, CutInspect, CutSummary, QuietlyStopped}
 
 -- ---- it was done
@@ -51,6 +53,7 @@ Did (Replay workers log names) taken status o =
     OfLog taken.log (λ read. DidReplay read taken.images status o)
 Did (Inspect name) taken status o = Inspected taken.images status o
 Did (Gen number threads workers) taken status o = Generated taken.images status o
+Did (Migrate log to) taken status o = OfLog taken.log (λ read. Migrated read to status o)
 
 -- ---- it was begun, and came to no report
 
@@ -62,11 +65,12 @@ WasStopped (Run quantum rounds frames workers posts clock_from clock_step log na
 WasStopped (Gen number threads workers) taken stops.Memory last o = QuietlyStopped last o
 WasStopped _ taken stop last o = ⊥
 
--- A recorded run's log couldn't be written.
+-- A recorded run's log couldn't be written, or a log anew.
 abbrev pub Unwritten : Request → Taken → (last : List ℕ) → Outside → Type 0
 Unwritten (Run quantum rounds frames workers posts clock_from clock_step log names) taken last o =
     UnwrittenRun (run_request_asked quantum rounds frames posts clock_from clock_step log names)
     taken.images last o
+Unwritten (Migrate log to) taken last o = UnwrittenText to last o
 Unwritten _ taken last o = ⊥
 
 -- A replay came to this misfit.
@@ -86,6 +90,7 @@ Cut (Replay workers log names) taken o =
     OfLog taken.log (λ read. CutReplay read taken.images o ⊎ CutReplayReport read taken.images o)
 Cut (Inspect name) taken o = CutInspect taken.images o
 Cut (Gen number threads workers) taken o = CutSummary taken.images o
+Cut (Migrate log to) taken o = OfLog taken.log (λ read. CutMigration read to o)
 
 -- What the files are taken for, as far as they tell, and what is then so.
 pub record Begun (asked : Request) (o : Outside) (P : Taken → Type 0) : Type 0 where
@@ -98,6 +103,11 @@ pub record Begun (asked : Request) (o : Outside) (P : Taken → Type 0) : Type 0
 pub record NotTaken (asked : Request) (o : Outside) (why : Refusal) (last : List ℕ) : Type 0 where
   pub is : IfSome (judgement o.files asked) (λ j. j ≡ Err why)
   pub says : Says o last
+
+-- A log has no room: for what a run's question may bring, or for a text of version 2.
+abbrev pub FullLog : Request → Outside → (last : List ℕ) → Type 0
+FullLog (Migrate log to) o last = NotTaken (Migrate log to) o refusals.LogFull last
+FullLog asked o last = Begun asked o (λ taken. WasStopped asked taken stops.LogFull last o)
 
 -- ---- why what is asked for came to no report, and what stands then; error has grown by the last
 -- bytes, behind those of a run
@@ -120,8 +130,7 @@ Leaves asked o f refusals.Host last =
     (λ taken. WasStopped asked taken stops.HostFault last o)
 Leaves asked o f refusals.Sink last =
     OutputFailed f × (last ≡ []) × Begun asked o (λ taken. Cut asked taken o)
-Leaves asked o f refusals.LogFull last =
-    Begun asked o (λ taken. WasStopped asked taken stops.LogFull last o)
+Leaves asked o f refusals.LogFull last = FullLog asked o last
 Leaves asked o f refusals.Memory last =
     Says o last
     ⊎ Begun asked o (λ taken. WasStopped asked taken stops.Memory last o)
@@ -171,4 +180,5 @@ abbrev pub MustDo : Request → Taken → ℕ → Outside → Type 0
 MustDo (Replay workers log names) taken status o =
     OfLog taken.log (λ read. MustReplay
     (misfit taken.images (config_of read.header) (exchanges read)) read taken status o)
+MustDo (Migrate log to) taken status o = Did (Migrate log to) taken status o
 MustDo asked taken status o = (status ≢ 10) → Did asked taken status o

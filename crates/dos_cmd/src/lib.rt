@@ -1,6 +1,7 @@
 //! The commands of `dos`: `run` reads 1 to 8 images, runs them as one group, records the run in a
 //! log and reports; `replay` runs them again by the answers of such a log; `inspect` prints the
-//! parts of an image; `gen` runs an image that is made from a number.
+//! parts of an image; `gen` runs an image that is made from a number; `migrate` writes a log's
+//! text of version 2.
 #![tactic(auto)]
 
 // A kernel, images and a request are passed to `drop`: where the end of a scope drops them, the
@@ -9,6 +10,7 @@
 mod generate;
 mod images;
 mod inspect;
+mod migrate;
 mod replay;
 mod run;
 mod stops;

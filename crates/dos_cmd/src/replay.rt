@@ -29,7 +29,7 @@ use std::alloc::Global;
 use worker_pool::Workers;
 
 /// Reads the log.
-fn read<F: Files>(alloc: Global, files: &mut F, name: &Text) -> Result<Log, Refusal>
+pub(crate) fn read<F: Files>(alloc: Global, files: &mut F, name: &Text) -> Result<Log, Refusal>
     ensures accepted { IfOk result (λ log. IfSome (F.content files.old name.now)
         (λ file. log_verdict file ≡ Ok log)) }
     ensures refused { IfErr result (λ why. OfLogFile why (λ found. IfSome
@@ -37,6 +37,7 @@ fn read<F: Files>(alloc: Global, files: &mut F, name: &Text) -> Result<Log, Refu
     ensures fault { IsErrOf result Refusal.Files → Rose (F.faults files.old) (F.faults files.new) }
     ensures later { F.faults files.old ≤ F.faults files.new }
     ensures stays { (n : List ℕ) → F.content files.new n ≡ F.content files.old n }
+    ensures tells { F.tells files.new ≡ F.tells files.old }
 {
     match load_log(alloc, files, name.as_str()) {
         Ok(log) => Ok(log),

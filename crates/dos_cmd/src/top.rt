@@ -14,6 +14,7 @@ ghost use Rattle.dos_cmd.specs.Results.{Refused};
 
 use crate::generate::generate;
 use crate::inspect::inspect;
+use crate::migrate::migrate;
 use crate::replay::replay;
 use crate::run::{RunRequest, run};
 use crate::words::read_request;
@@ -35,6 +36,7 @@ fn hire<W: Workers>(request: &Request, workers: &mut W)
         Request::Replay { workers: hired, .. } => workers.hire(*hired),
         Request::Inspect { .. } => {}
         Request::Gen { workers: hired, .. } => workers.hire(*hired),
+        Request::Migrate { .. } => {}
     }
 }
 
@@ -106,6 +108,7 @@ fn execute<F: Files, H: Host, O: Sink, E: Sink, W: Workers>(
             threads,
             ..
         } => generate(alloc, *number, *threads, out, workers),
+        Request::Migrate { log, to } => migrate(alloc, log, to, files, out),
     }
 }
 
@@ -158,6 +161,8 @@ fn command<F: Files, H: Host, O: Sink, E: Sink, W: Workers>(
 /// - `inspect NAME` prints an image's entry and parts to `out`.
 /// - `gen --number N --threads N [--workers N]` runs an image that is made from a number, with
 ///   nothing from outside, and prints how it ended, how many bytes it wrote, and their digest.
+/// - `migrate --log OLD --to NEW` reads the log OLD, writes its text of version 2 to the file NEW,
+///   which may be OLD, and prints the version and the length of both texts to `out`.
 ///
 /// For `run`, `replay` and `gen` `workers` are hired, as many as the words say: at most so many
 /// threads run a round's packs, the caller's among them. What the call does is the same with any
@@ -165,7 +170,7 @@ fn command<F: Files, H: Host, O: Sink, E: Sink, W: Workers>(
 ///
 /// | Status | Comes |
 /// |---|---|
-/// | 0 | no process lives any more, or the image was inspected |
+/// | 0 | no process lives any more, or the image was inspected, or the log was written anew |
 /// | 2 | exactly where the words ask for nothing |
 /// | 3 | exactly where an image is longer than 4194304 bytes or refused, or there is no room |
 /// | 4 | exactly where a log is longer than 67108864 bytes or refused, isn't of these images, or
@@ -175,7 +180,8 @@ fn command<F: Files, H: Host, O: Sink, E: Sink, W: Workers>(
 /// | 7 | exactly where processes live after as many rounds as there may be |
 /// | 8 | exactly where processes live, and none of their threads can go on |
 /// | 9 | only for want of memory |
-/// | 10 | exactly where the log has no room for what a question may bring |
+/// | 10 | exactly where the log has no room for what a question may bring, or for its text of
+/// version 2 |
 ///
 /// A put that fails gives 6 in place of any other status, and nothing is put after it. Each
 /// "exactly" yields to 5, 6 and 9. With 2, 3, 4, 5, 9 and 10 `err` grows by one line behind what

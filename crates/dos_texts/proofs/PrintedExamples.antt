@@ -4,6 +4,8 @@ use Rattle.std.specs.Prelude.{ℕ, List, [], ◌∷◌, ◌++◌, codes, replica
 use Rattle.std.specs.Prelude.{◌≡◌, refl}
 use Rattle.dos_world.specs.declared.Ending.TheVariants.{Done, Limit, Stalled}
 use Rattle.dos_texts.specs.Report.{report_of}
+use Rattle.shim_log.specs.declared.version.LogVersion.TheVariants.{One}
+use Rattle.dos_texts.specs.Migration.{migrated_lines}
 use Rattle.dos_texts.specs.Printed.{entry_line, part_line, inspect_lines, summary_of}
 
 abbrev ended : List ℕ
@@ -75,3 +77,10 @@ generated_live : summary_of (None ∷ []) 100000 Limit 0 (replicate 32 0x9C)
     ++ codes "sha256 9c9c9c9c9c9c9c9c9c9c9c9c9c9c9c9c9c9c9c9c9c9c9c9c9c9c9c9c9c9c9c9c" ++ ended
 unfolding digits
 generated_live = refl
+
+-- ---- migrate, of a log of version 1
+
+migrated : migrated_lines One 70 67 ≡ (codes "version 1 bytes 70" ++ ended)
+    ++ codes "version 2 bytes 67" ++ ended
+unfolding digits
+migrated = refl

@@ -1,4 +1,5 @@
 pub mod Report
 pub mod Lines
 pub mod Printed
+pub mod Migration
 pub mod Exit

@@ -1,10 +1,9 @@
 -- Canonical words ask for the same by clap.
-use Rattle.std.proofs.Common.{◌≡◌, ◌∙◌, ◌≤◌, ◌⊎◌, ℕ, inl, inr, Bool, cond, true, false, refl, sym}
+use Rattle.std.proofs.Common.{◌≡◌, ◌∙◌, ◌≤◌, ◌⊎◌, ℕ, inl, inr, true, false, refl, sym}
 use Rattle.std.proofs.Common.{ap, ap₂, subst, arith, List, [], ◌∷◌, ◌++◌, length, append-nil}
 use Rattle.std.proofs.Common.{Option, Some, None, rules}
 use Rattle.std.specs.Prelude.{codes, option_and_then, unwrap_or, slice_get}
 use Rattle.std.specs.List.{list_all, AllByRecursion}
-use Rattle.std.specs.Str.{bytes_eq}
 use Rattle.std.proofs.lemmas.Bool.{and_parts}
 use Rattle.clap.specs.Lexer.{usize_max}
 use Rattle.clap.specs.Walk.{Row, nothing_held, arg_by_index}
@@ -16,7 +15,9 @@ use Rattle.clap.proofs.OnLiterals.{clap_on_literals}
 use Rattle.dos_words.specs.declared.request.Request.{Request}
 use Rattle.dos_words.specs.Numbers.{Text}
 use Rattle.dos_words.specs.Asked.{Values, run_asked, replay_asked, inspect_asked, gen_asked}
-use Rattle.dos_words.specs.Commands.{Command, run, replay, inspect, gen, command_named}
+use Rattle.dos_words.specs.Asked.{migrate_asked}
+use Rattle.dos_words.specs.Commands.{Command, run, replay, inspect, gen, migrate, commands}
+use Rattle.dos_words.specs.Commands.{command_named}
 use Rattle.dos_words.specs.Canonical.{Pairs, pairs_and_names, are_once, is_option_allowed}
 use Rattle.dos_words.specs.Canonical.{are_allowed}
 use Rattle.dos_words.specs.Canonical.{values_in, canonical}
@@ -28,7 +29,7 @@ use Rattle.dos_words.proofs.Levels.{TakesNames, IsLevel, ArePlain, IsTaken, name
 use Rattle.dos_words.proofs.Levels.{names_taken, stray_refused}
 use Rattle.dos_words.proofs.Tops.{Enters, fault_is, entered_is}
 use Rattle.dos_words.proofs.Splits.{Parts, Splits, splits, few_names}
-use Rattle.dos_words.proofs.RangeLaws.{some_is, bind_some, guard_some}
+use Rattle.dos_words.proofs.RangeLaws.{bind_some, guard_some, named_in}
 use Rattle.dos_words.proofs.Options.{same_text, are_options, options_are, are_fresh, either_way}
 use Rattle.dos_words.proofs.Options.{reads_value, reads_names}
 
@@ -78,6 +79,11 @@ gen_asks : (v w : Values) (names : List Text) → AgreeOn gen.options v w
 gen_asks v w [] h = rw (h.0, h.1.0, h.1.1.0) refl
 gen_asks v w (name ∷ names) h = refl
 
+migrate_asks : (v w : Values) (names : List Text) → AgreeOn migrate.options v w
+    → migrate_asked v names ≡ migrate_asked w names
+migrate_asks v w [] h = rw (h.0, h.1.0) refl
+migrate_asks v w (name ∷ names) h = refl
+
 run_is_built : IsBuilt run (shape_at 0)
 unfolding clap_on_literals
 run_is_built = record {
@@ -124,6 +130,18 @@ gen_is_built = record {
   options = are_options (shape_at 3) gen.options refl;
   treats_names = inr (refl, λ v name names. refl);
   asks = gen_asks;
+}
+
+migrate_is_built : IsBuilt migrate (shape_at 4)
+unfolding clap_on_literals
+migrate_is_built = record {
+  enters = search rules;
+  name_is = refl;
+  itself = refl;
+  level = search rules;
+  options = are_options (shape_at 4) migrate.options refl;
+  treats_names = inr (refl, λ v name names. refl);
+  asks = migrate_asks;
 }
 
 -- ---- canonical words of one command
@@ -215,38 +233,27 @@ record HasBuilt (name : Text) (command : Command) : Type 0 where
   shape : Shape
   is_built : IsBuilt command shape
 
-abbrev some_command : Command → Option Command
-some_command command = Some command
-
-by_name : (name : Text) (a b c d : Bool) (command : Command) → bytes_eq name run.name ≡ a
-    → bytes_eq name replay.name ≡ b → bytes_eq name inspect.name ≡ c → bytes_eq name gen.name ≡ d
-    → cond a (some_command run) (cond b (some_command replay)
-    (cond c (some_command inspect) (cond d (some_command gen) None))) ≡ Some command
-    → HasBuilt name command
-by_name name true b c d command i j k l e = subst (HasBuilt name) (some_is run command e)
-    (record { same_name = same_text name run.name i; shape = shape_at 0; is_built = run_is_built })
-by_name name false true c d command i j k l e =
-    subst (HasBuilt name) (some_is replay command e) (record {
-      same_name = same_text name replay.name j;
-      shape = shape_at 1;
-      is_built = replay_is_built;
-    })
-by_name name false false true d command i j k l e =
-    subst (HasBuilt name) (some_is inspect command e) (record {
-      same_name = same_text name inspect.name k;
-      shape = shape_at 2;
-      is_built = inspect_is_built;
-    })
-by_name name false false false true command i j k l e =
-    subst (HasBuilt name) (some_is gen command e)
-    (record { same_name = same_text name gen.name l; shape = shape_at 3; is_built = gen_is_built })
-by_name name false false false false command i j k l e = absurd cc
+abbrev IsBuiltSomehow : Command → Type 0
+IsBuiltSomehow command = (shape : Shape) × IsBuilt command shape
 
 named_built : (name : Text) (command : Command) → command_named name ≡ Some command
     → HasBuilt name command
 named_built name command e =
-    by_name name (bytes_eq name run.name) (bytes_eq name replay.name) (bytes_eq name inspect.name)
-    (bytes_eq name gen.name) command refl refl refl refl e
+    let built = named_in IsBuiltSomehow name commands command (
+      (shape_at 0, run_is_built),
+      (
+        (shape_at 1, replay_is_built),
+        (
+          (shape_at 2, inspect_is_built),
+          ((shape_at 3, gen_is_built), ((shape_at 4, migrate_is_built), tt)),
+        ),
+      ),
+    ) e in
+    record {
+      same_name = same_text name command.name built.1;
+      shape = built.0.0;
+      is_built = built.0.1;
+    }
 
 -- Canonical words ask for the same by clap.
 canonical_agrees : (words : List Text) (asked : Option Request) → length words ≤ usize_max

@@ -1,6 +1,6 @@
 -- Each request that is given has its numbers in range.
 use Rattle.std.proofs.Common.{◌≡◌, ◌∙◌, ◌≤◌, ℕ, suc, Bool, cond, true, false, leb, ◌&&◌, List, []}
-use Rattle.std.proofs.Common.{◌∷◌, length, Option, Some, None, refl, ap, subst, arith}
+use Rattle.std.proofs.Common.{◌∷◌, length, Option, Some, None, find, refl, ap, subst, arith}
 use Rattle.std.specs.Prelude.{option_and_then, bytes_eq, codes, IfSome}
 use Rattle.std.specs.List.{AllByRecursion}
 use Rattle.std.specs.Int.{IsInRange}
@@ -10,12 +10,13 @@ use Rattle.clap.specs.Words.{Row, fault_of, subcommand_of}
 use Rattle.clap.specs.Kinds.{Kinds}
 use Rattle.dos_words.specs.declared.request.Request.{Request}
 use Rattle.dos_words.specs.declared.request.Request.TheVariants.{Run, Replay, Inspect, Gen}
+use Rattle.dos_words.specs.declared.request.Request.TheVariants.{Migrate}
 use Rattle.dos_words.specs.Numbers.{Text, number, where_within, number_within, parts_by, post_in}
 use Rattle.dos_words.specs.Numbers.{posts_in_all, colon, comma}
 use Rattle.dos_words.specs.Asked.{Values, number_or, posts_or_none, number_if_given, most_u64}
 use Rattle.dos_words.specs.Asked.{workers_of, images_of, run_asked, replay_asked, inspect_asked}
-use Rattle.dos_words.specs.Asked.{gen_asked}
-use Rattle.dos_words.specs.Commands.{Command, run, replay, inspect, gen, command_named}
+use Rattle.dos_words.specs.Asked.{gen_asked, migrate_asked}
+use Rattle.dos_words.specs.Commands.{Command, commands, command_named}
 use Rattle.dos_words.specs.Canonical.{pairs_and_names, are_allowed, canonical, values_in}
 use Rattle.dos_words.specs.Clap.{words_app, asked_by, where_taken, values_among, names_among}
 use Rattle.dos_words.specs.Clap.{clap_request}
@@ -196,24 +197,36 @@ gen_fits value [] r e =
       workers_fit value workers.0 workers.1,
     )
 
-by_name : (a b c d : Bool) (command : Command)
-    → cond a (some run) (cond b (some replay) (cond c (some inspect) (cond d (some gen) None)))
-    ≡ Some command → AsksInRange command.asked
-by_name true b c d command e =
-    subst (λ (x : Command). AsksInRange x.asked) (some_is run command e) run_fits
-by_name false true c d command e =
-    subst (λ (x : Command). AsksInRange x.asked) (some_is replay command e) replay_fits
-by_name false false true d command e =
-    subst (λ (x : Command). AsksInRange x.asked) (some_is inspect command e) inspect_fits
-by_name false false false true command e =
-    subst (λ (x : Command). AsksInRange x.asked) (some_is gen command e) gen_fits
-by_name false false false false command e = absurd cc
+migrate_fits : AsksInRange migrate_asked
+migrate_fits value (name ∷ names) r e = absurd cc
+migrate_fits value [] r e =
+    let log = bind_some (value (codes "log")) _ r e in
+    let to = bind_some (value (codes "to")) _ r log.2 in
+    subst FitsRequest (some_is (Migrate log.0 to.0) r to.2) tt
+
+-- What holds of each of these holds of the one that has the name.
+pub named_in : (P : Command → Type 0) (name : Text) (all : List Command) (command : Command)
+    → AllByRecursion P all → find (λ c. bytes_eq name c.name) all ≡ Some command
+    → P command × (bytes_eq name command.name ≡ true)
+named_in P name [] command each e = absurd cc
+named_in P name (first ∷ all) command each e =
+    by_test (bytes_eq name first.name) refl e (named_in P name all command each.1)
+  where
+    by_test : (b : Bool) → bytes_eq name first.name ≡ b
+        → cond b (some first) (find (λ c. bytes_eq name c.name) all) ≡ Some command
+        → (find (λ c. bytes_eq name c.name) all ≡ Some command
+        → P command × (bytes_eq name command.name ≡ true))
+        → P command × (bytes_eq name command.name ≡ true)
+    by_test true is e later =
+        subst (λ (c : Command). P c × (bytes_eq name c.name ≡ true)) (some_is first command e)
+        (each.0, is)
+    by_test false is e later = later e
 
 named_fits : (name : Text) (command : Command) → command_named name ≡ Some command
     → AsksInRange command.asked
 named_fits name command e =
-    by_name (bytes_eq name run.name) (bytes_eq name replay.name) (bytes_eq name inspect.name)
-    (bytes_eq name gen.name) command e
+    (named_in (λ (c : Command). AsksInRange c.asked) name commands command
+    (run_fits, (replay_fits, (inspect_fits, (gen_fits, (migrate_fits, tt))))) e).0
 
 -- ---- both readings
 

@@ -2,6 +2,7 @@
 use Rattle.std.specs.Prelude.{ℕ, List, [], ◌∷◌, ◌++◌, flat_map, replicate, Some, None, codes, ◌≡◌}
 use Rattle.std.specs.Prelude.{refl}
 use Rattle.dos_words.specs.declared.request.Request.TheVariants.{Run, Replay, Inspect, Gen}
+use Rattle.dos_words.specs.declared.request.Request.TheVariants.{Migrate}
 use Rattle.dos_words.specs.Request.{request}
 use Rattle.dos_world.specs.declared.Post.{Post}
 use Rattle.dos_words.specs.Numbers.{posts_from}
@@ -63,6 +64,27 @@ gen_defaults = refl
 gen_options : request (codes "gen" ∷ codes "--workers" ∷ codes "1" ∷ codes "--threads" ∷ codes "32"
     ∷ codes "--number" ∷ codes "4294967295" ∷ []) ≡ Some (Gen 4294967295 32 1)
 gen_options = refl
+
+-- ---- migrate
+
+migrate_one : request (codes "migrate" ∷ codes "--log" ∷ codes "l" ∷ codes "--to" ∷ codes "m" ∷ [])
+    ≡ Some (Migrate (codes "l") (codes "m"))
+migrate_one = refl
+
+-- the new text may take the old one's place
+migrate_over : request (codes "migrate" ∷ codes "--to" ∷ codes "l" ∷ codes "--log" ∷ codes "l"
+    ∷ []) ≡ Some (Migrate (codes "l") (codes "l"))
+migrate_over = refl
+
+migrate_no_log : request (codes "migrate" ∷ codes "--to" ∷ codes "m" ∷ []) ≡ None
+migrate_no_log = refl
+
+migrate_no_to : request (codes "migrate" ∷ codes "--log" ∷ codes "l" ∷ []) ≡ None
+migrate_no_to = refl
+
+migrate_name : request (codes "migrate" ∷ codes "--log" ∷ codes "l" ∷ codes "--to" ∷ codes "m"
+    ∷ codes "a" ∷ []) ≡ None
+migrate_name = refl
 
 -- ---- the bounds of each number: the lowest and the highest, and one past them
 

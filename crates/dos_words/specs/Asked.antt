@@ -9,6 +9,7 @@ use Rattle.dos_world.specs.declared.Post.{Post}
 use Rattle.dos_words.specs.Numbers.{Text, ◌>>=◌, number_within, posts_from}
 use Rattle.dos_words.specs.declared.request.Request.{Request}
 use Rattle.dos_words.specs.declared.request.Request.TheVariants.{Run, Replay, Inspect, Gen}
+use Rattle.dos_words.specs.declared.request.Request.TheVariants.{Migrate}
 
 -- the value of an option by its name, where it is given
 abbrev pub Values : Type 0
@@ -80,3 +81,11 @@ gen_asked value [] = do
   workers ← workers_of value
   Some (Gen number threads workers)
 gen_asked value _ = None
+
+-- `migrate`, with no names
+abbrev pub migrate_asked : Values → List Text → Option Request
+migrate_asked value [] = do
+  log ← value (codes "log")
+  to ← value (codes "to")
+  Some (Migrate log to)
+migrate_asked value _ = None

@@ -3,6 +3,7 @@ use Rattle.std.specs.Prelude.{Bool, true, false, List, [], ◌∷◌, Option, fi
 use Rattle.dos_words.specs.declared.request.Request.{Request}
 use Rattle.dos_words.specs.Numbers.{Text}
 use Rattle.dos_words.specs.Asked.{Values, run_asked, replay_asked, inspect_asked, gen_asked}
+use Rattle.dos_words.specs.Asked.{migrate_asked}
 
 -- its name, its options without their dashes, whether names follow them, and what it asks for
 pub record Command : Type 0 where
@@ -44,9 +45,18 @@ gen = record {
   asked = gen_asked;
 }
 
+-- writes a log anew
+abbrev pub migrate : Command
+migrate = record {
+  name = codes "migrate";
+  options = codes "log" ∷ codes "to" ∷ [];
+  has_names = false;
+  asked = migrate_asked;
+}
+
 -- all of them
 abbrev pub commands : List Command
-commands = run ∷ replay ∷ inspect ∷ gen ∷ []
+commands = run ∷ replay ∷ inspect ∷ gen ∷ migrate ∷ []
 
 -- the command of this name
 abbrev pub command_named : Text → Option Command

@@ -7,6 +7,7 @@ use Rattle.dos_words.specs.Numbers.{Text}
 use Rattle.dos_words.specs.Asked.{most_u64}
 use Rattle.dos_words.specs.declared.request.Request.{Request}
 use Rattle.dos_words.specs.declared.request.Request.TheVariants.{Run, Replay, Inspect, Gen}
+use Rattle.dos_words.specs.declared.request.Request.TheVariants.{Migrate}
 
 -- a post with its round
 pub record FitsAskedPost (post : ℕ × Post) : Type 0 where
@@ -35,3 +36,4 @@ FitsRequest (Replay workers log names) = IsInRange 1 32 workers × IsInRange 1 8
 FitsRequest (Inspect name) = ⊤
 FitsRequest (Gen number threads workers) =
     (number ≤ 4294967295) × IsInRange 1 32 threads × IsInRange 1 32 workers
+FitsRequest (Migrate log to) = ⊤

@@ -6,7 +6,7 @@ ghost use Rattle.clap.specs.Words.{app_of, kind_of, rows_of, found_of, subcomman
 ghost use Rattle.dos_words.specs.Numbers.{number_within};
 ghost use Rattle.dos_words.specs.Asked.{most_u64, number_or, number_if_given, posts_or_none};
 ghost use Rattle.dos_words.specs.Asked.{images_of, run_asked, replay_asked, inspect_asked};
-ghost use Rattle.dos_words.specs.Asked.{gen_asked};
+ghost use Rattle.dos_words.specs.Asked.{gen_asked, migrate_asked};
 ghost use Rattle.dos_words.specs.Clap.{words_app, asked_by, clap_request};
 ghost use Rattle.dos_words.specs.Request.{request};
 ghost use Rattle.dos_words.specs.Reads.{Reads, Takes, values_found, names_given, names_found};
@@ -265,6 +265,18 @@ fn read_gen(matches: &ArgMatches<'_>) -> Result<Request, WordsError>
     })
 }
 
+/// What `migrate` asks for.
+fn read_migrate(alloc: Global, matches: &ArgMatches<'_>) -> Result<Request, WordsError>
+    ensures { Reads result (migrate_asked (values_found matches.now) (names_found matches.now)) }
+{
+    if has_names(matches) {
+        return Err(WordsError::Refused);
+    }
+    let log = text_of(alloc, matches, "log")?;
+    let to = text_of(alloc, matches, "to")?;
+    Ok(Request::Migrate { log, to })
+}
+
 /// What the command asks for, by its name.
 fn read_command(alloc: Global, name: &str, matches: &ArgMatches<'_>) -> Result<Request, WordsError>
     ensures { Reads result (asked_by (name.now, rows_of (found_of matches.now))) }
@@ -280,6 +292,9 @@ fn read_command(alloc: Global, name: &str, matches: &ArgMatches<'_>) -> Result<R
     }
     if name == "gen" {
         return read_gen(matches);
+    }
+    if name == "migrate" {
+        return read_migrate(alloc, matches);
     }
     Err(WordsError::Refused)
 }

@@ -165,4 +165,11 @@ pub enum Request {
         /// How many threads of the host run the rounds: 1 to 32.
         workers: u32,
     },
+    /// The version 2 text of a log.
+    Migrate {
+        /// The file of the log.
+        log: Text,
+        /// The file of the new text, which may be the same.
+        to: Text,
+    },
 }

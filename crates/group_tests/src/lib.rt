@@ -31,6 +31,8 @@ mod logs;
 #[cfg(test)]
 mod machine_words;
 #[cfg(test)]
+mod migrations;
+#[cfg(test)]
 mod ordered;
 #[cfg(test)]
 mod recorded;

@@ -124,6 +124,14 @@ fn generates(alloc: Global, texts: &[&str]) -> Option<[u32; 3]> {
     }
 }
 
+/// Whether these words ask for the log `l` anew in the file `m`.
+fn migrates(alloc: Global, texts: &[&str]) -> bool {
+    match asked(alloc, texts) {
+        Ok(Request::Migrate { log, to }) => log.as_str() == "l" && to.as_str() == "m",
+        _ => false,
+    }
+}
+
 fn check_replay(rt: &impl Abort, alloc: Global, texts: &[&str], wanted: u32) {
     same_at(rt, replays(alloc, texts, wanted), true, texts);
 }
@@ -149,4 +157,27 @@ fn other_commands_are_read(rt: HostRuntime) {
         "4294967295",
     ];
     same(&rt, generates(alloc, &most), Some([4294967295, 32, 32]));
+}
+
+#[test]
+fn migrations_have_a_log_and_a_file(rt: HostRuntime) {
+    let alloc = rt.alloc();
+    same(
+        &rt,
+        migrates(alloc, &["migrate", "--log", "l", "--to", "m"]),
+        true,
+    );
+    same(
+        &rt,
+        migrates(alloc, &["migrate", "--to=m", "--log=l"]),
+        true,
+    );
+    check_refused(&rt, alloc, &["migrate", "--log", "l"]);
+    check_refused(&rt, alloc, &["migrate", "--to", "m"]);
+    check_refused(&rt, alloc, &["migrate", "--log", "l", "--to", "m", "a"]);
+    check_refused(
+        &rt,
+        alloc,
+        &["migrate", "--log", "l", "--to", "m", "--to", "n"],
+    );
 }

@@ -121,3 +121,21 @@ returns-in-Gen g c =
       err_steady = λ _. refl;
       fixed = c.generate.ensures.fixed;
     }
+
+-- ---- migrate
+
+pub returns-in-Migrate : goal.returns-in-Migrate
+returns-in-Migrate g c =
+    let host = g.H.Host.told c.args.host.now in
+    let err = g.E.Sink.told c.args.err.now in
+    let tally = g.W.Workers.tally c.args.workers.now in
+    record {
+      did = did_as _ _ _ _ (c.migrate.ensures.did host err tally) c.in-Migrate.is;
+      leaves = leaves_as _ _ _ _ _ (c.migrate.ensures.leaves host err tally
+          (g.H.Host.faults c.args.host.now) (g.E.Sink.faults c.args.err.now)) c.in-Migrate.is;
+      files_later = c.migrate.ensures.files_later;
+      host_later = le_refl _;
+      out_later = c.migrate.ensures.out_later;
+      err_later = le_refl _;
+      fixed = refl;
+    }

@@ -6,6 +6,7 @@ use Rattle.dos_words.specs.declared.request.Request.{Request}
 use Rattle.dos_words.specs.declared.error.WordsError.{WordsError}
 use Rattle.dos_words.specs.Numbers.{Text}
 use Rattle.dos_words.specs.Commands.{Command, command_named, run, replay, inspect, gen}
+use Rattle.dos_words.specs.Commands.{migrate}
 use Rattle.dos_words.specs.Clap.{values_among, names_among, asked_by}
 use Rattle.dos_words.specs.Reads.{Reads}
 use Rattle.dos_words.proofs.read.read_command.Goals as goal
@@ -22,8 +23,11 @@ later_named : (name : Text) (command : Command) (more : List Command)
 later_named name command more is = rw is refl
 
 -- those that come after a command
+abbrev behind_inspect : List Command
+behind_inspect = gen ∷ migrate ∷ []
+
 abbrev behind_replay : List Command
-behind_replay = inspect ∷ gen ∷ []
+behind_replay = inspect ∷ behind_inspect
 
 abbrev behind_run : List Command
 behind_run = replay ∷ behind_replay
@@ -60,7 +64,7 @@ returns-then-eq-3 c =
     reads_named name (rows_of (found_of c.args.matches.now)) (Some inspect) c.read_inspect.result
     (later_named name run behind_run (sym c.if-eq.ensures)
     ∙ later_named name replay behind_replay (sym c.if-eq-2.ensures)
-    ∙ first_named name inspect (gen ∷ []) (sym c.if-eq-3.ensures)) c.read_inspect.ensures
+    ∙ first_named name inspect behind_inspect (sym c.if-eq-3.ensures)) c.read_inspect.ensures
 
 pub returns-then-eq-4 : goal.returns-then-eq-4
 returns-then-eq-4 c =
@@ -68,8 +72,18 @@ returns-then-eq-4 c =
     reads_named name (rows_of (found_of c.args.matches.now)) (Some gen) c.read_gen.result
     (later_named name run behind_run (sym c.if-eq.ensures)
     ∙ later_named name replay behind_replay (sym c.if-eq-2.ensures)
-    ∙ later_named name inspect (gen ∷ []) (sym c.if-eq-3.ensures)
-    ∙ first_named name gen [] (sym c.if-eq-4.ensures)) c.read_gen.ensures
+    ∙ later_named name inspect behind_inspect (sym c.if-eq-3.ensures)
+    ∙ first_named name gen (migrate ∷ []) (sym c.if-eq-4.ensures)) c.read_gen.ensures
+
+pub returns-then-eq-5 : goal.returns-then-eq-5
+returns-then-eq-5 c =
+    let name : Text = c.args.name.now in
+    reads_named name (rows_of (found_of c.args.matches.now)) (Some migrate) c.read_migrate.result
+    (later_named name run behind_run (sym c.if-eq.ensures)
+    ∙ later_named name replay behind_replay (sym c.if-eq-2.ensures)
+    ∙ later_named name inspect behind_inspect (sym c.if-eq-3.ensures)
+    ∙ later_named name gen (migrate ∷ []) (sym c.if-eq-4.ensures)
+    ∙ first_named name migrate [] (sym c.if-eq-5.ensures)) c.read_migrate.ensures
 
 pub returns : goal.returns
 returns c =
@@ -78,5 +92,6 @@ returns c =
     ap (asked_of rows)
     (later_named name run behind_run (sym c.if-eq.ensures)
     ∙ later_named name replay behind_replay (sym c.if-eq-2.ensures)
-    ∙ later_named name inspect (gen ∷ []) (sym c.if-eq-3.ensures)
-    ∙ later_named name gen [] (sym c.if-eq-4.ensures))
+    ∙ later_named name inspect behind_inspect (sym c.if-eq-3.ensures)
+    ∙ later_named name gen (migrate ∷ []) (sym c.if-eq-4.ensures)
+    ∙ later_named name migrate [] (sym c.if-eq-5.ensures))
