@@ -194,6 +194,7 @@ module _ (name to : Text) (log : Log) (tells read_tells : Bool)
             others = stored.others;
             grew = record { out_is = does.out_is; err_is = grown-nothing e };
             host_stays = refl;
+            tally_stays = refl;
           })
 
   pub migrate_leaves : (k k' k'' n n' : ℕ) → k ≤ k'
@@ -208,11 +209,11 @@ module _ (name to : Text) (log : Log) (tells read_tells : Bool)
       by_why refusals.LogFull x = record {
         is = log_judged_as files name to log (Err refusals.LogFull) (long_refused log x.0) accepted;
         says = says_nothing (seen h e t) x.1.out_stays refl
-            (λ name. x.1.files_stay name ∙ stays name) refl;
+            (λ name. x.1.files_stay name ∙ stays name) refl refl;
       }
       by_why refusals.Memory x =
           inl (says_nothing (seen h e t) x.out_stays refl
-          (λ name. x.files_stay name ∙ stays name) refl)
+          (λ name. x.files_stay name ∙ stays name) refl refl)
       by_why refusals.Files x = (
         then_rose k k' k'' later x.1.rose,
         inr (begun h e t _ x.0 (record {
@@ -220,6 +221,7 @@ module _ (name to : Text) (log : Log) (tells read_tells : Bool)
           err_says = grown-nothing e;
           others = λ name other. x.1.others name other ∙ stays name;
           host_stays = refl;
+          tally_stays = refl;
         })),
       )
       by_why refusals.Sink x =
@@ -236,6 +238,7 @@ module _ (name to : Text) (log : Log) (tells read_tells : Bool)
               out_is = x.1.front;
               err_stays = refl;
               host_stays = refl;
+              tally_stays = refl;
             }),
           )
       by_why why x = absurd x

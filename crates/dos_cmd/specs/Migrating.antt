@@ -10,7 +10,7 @@ use Rattle.dos_texts.specs.Migration.{migrated_lines}
 use Rattle.dos_texts.specs.declared.refusal.Refusal.{Refusal}
 use Rattle.dos_texts.specs.declared.refusal.Refusal.TheVariants as refusals
 use Rattle.dos_words.specs.Numbers.{Text}
-use Rattle.dos_cmd.specs.Outside.{Outside, FileHolds, Grew, HostStays, OthersStay}
+use Rattle.dos_cmd.specs.Outside.{Outside, FileHolds, Grew, HostStays, OthersStay, TallyStays}
 
 -- the log's text of version 2
 unfoldable pub migrated_text : Log → List ℕ
@@ -28,6 +28,7 @@ pub record Migrated (log : Log) (to : Text) (status : ℕ) (o : Outside) : Type 
   pub others : OthersStay o to
   pub grew : Grew o (migration_lines log) []
   pub host_stays : HostStays o
+  pub tally_stays : TallyStays o
 
 -- The text couldn't be written. Error grew by the last bytes; no other file changed.
 pub record UnwrittenText (to : Text) (last : List ℕ) (o : Outside) : Type 0 where
@@ -35,6 +36,7 @@ pub record UnwrittenText (to : Text) (last : List ℕ) (o : Outside) : Type 0 wh
   pub err_says : o.err_after ≡ grown o.err last
   pub others : OthersStay o to
   pub host_stays : HostStays o
+  pub tally_stays : TallyStays o
 
 -- Output failed in the two lines. The text was written before.
 pub record CutMigration (log : Log) (to : Text) (o : Outside) : Type 0 where
@@ -43,6 +45,7 @@ pub record CutMigration (log : Log) (to : Text) (o : Outside) : Type 0 where
   pub out_is : GrewByFront o.out o.out_after (migration_lines log)
   pub err_stays : o.err_after ≡ o.err
   pub host_stays : HostStays o
+  pub tally_stays : TallyStays o
 
 -- ---- from part to whole
 

@@ -12,7 +12,7 @@ use Rattle.worker_pool.specs.Ran.{GrewBy}
 use Rattle.dos_texts.specs.Exit.{ending_status}
 use Rattle.dos_texts.specs.Printed.{inspect_lines, summary_of}
 use Rattle.dos_cmd.specs.Judging.{gen_config}
-use Rattle.dos_cmd.specs.Outside.{Outside, Counted, Grew, FilesStay, HostStays}
+use Rattle.dos_cmd.specs.Outside.{Outside, Counted, Grew, FilesStay, HostStays, TallyStays}
 use Rattle.dos_cmd.specs.ReplayLeaves.{StaysAll}
 
 -- The one image was inspected: its lines went to output.
@@ -23,6 +23,7 @@ pub record Inspected (images : List Image) (status : ℕ) (o : Outside) : Type 0
   pub grew : Grew o (inspect_lines parsed) []
   pub files_stay : FilesStay o
   pub host_stays : HostStays o
+  pub tally_stays : TallyStays o
 
 -- a count of bytes, which stands still at 2^64 - 1
 abbrev pub byte_count : List ℕ → ℕ
@@ -56,6 +57,7 @@ pub record CutInspect (images : List Image) (o : Outside) : Type 0 where
   pub parsed : Image
   pub only : images ≡ parsed ∷ []
   pub cut : CutLines (inspect_lines parsed) o
+  pub tally_stays : TallyStays o
 
 -- in the summary
 pub record CutSummary (images : List Image) (o : Outside) : Type 0 where

@@ -1,6 +1,6 @@
 // The command `migrate`. It is lent no host, and nothing for errors.
 ghost use Rattle.std.specs.Prelude.{◌≡◌, ◌≢◌, ◌≤◌, ◌<◌, ◌⊎◌, ℕ, List, Option, [], length};
-ghost use Rattle.std.specs.Prelude.{IfOk, IfErr, IfSome, IsErrOf, IsTrue, OnOk, Some};
+ghost use Rattle.std.specs.Prelude.{Err, IfOk, IfErr, IfSome, IsErrOf, IsTrue, OnOk, Some};
 ghost use Rattle.dos_io.specs.Hosts.{Told};
 ghost use Rattle.dos_io.specs.Outside.{Rose};
 ghost use Rattle.shim_log.specs.Room.{most_bytes};
@@ -78,6 +78,7 @@ fn migrate_read<F: Files, O: Sink>(
         (F.faults files.old) (F.faults files.new) (O.faults out.old) (O.faults out.new)) }
     ensures files_later { F.faults files.old ≤ F.faults files.new }
     ensures out_later { O.faults out.old ≤ O.faults out.new }
+    ensures out_steady { result ≢ Err Refusal.Sink → O.faults out.new ≡ O.faults out.old }
 {
     let text = text_of(alloc, log)?;
     store(files, to, &text)?;
@@ -111,6 +112,7 @@ pub(crate) fn migrate<F: Files, O: Sink>(
         (O.faults out.old) (O.faults out.new) n n) why []) }
     ensures files_later { F.faults files.old ≤ F.faults files.new }
     ensures out_later { O.faults out.old ≤ O.faults out.new }
+    ensures out_steady { result ≢ Err Refusal.Sink → O.faults out.new ≡ O.faults out.old }
 {
     let old = read(alloc, files, log)?;
     migrate_read(alloc, &old, to, files, out)

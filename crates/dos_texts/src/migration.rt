@@ -36,6 +36,7 @@ pub fn put_migrated<O: Sink>(
     ensures front { OnErr result
         (GrewByFront (O.told out.old) (O.told out.new) (migrated_lines version bytes written)) }
     ensures cause { HasCause (O.faults out.old) (O.faults out.new) result }
+    ensures steady { OnOk result (O.faults out.new ≡ O.faults out.old) }
 {
     let first = version_line(version, bytes);
     put_line(&first, out)?;

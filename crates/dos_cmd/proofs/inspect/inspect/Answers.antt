@@ -69,6 +69,7 @@ returns-in-Ok-clause-did g c = λ h e t. record {
     grew = record { out_is = c.in-Ok.ensures.told; err_is = grown-nothing e };
     files_stay = c.load.ensures.stays;
     host_stays = refl;
+    tally_stays = refl;
   };
 }
 
@@ -89,6 +90,7 @@ returns-in-Err-clause-leaves g c = λ h e t m n. (
         files_stay = c.load.ensures.stays;
         host_stays = refl;
       };
+      tally_stays = refl;
     };
   },
 )

@@ -22,9 +22,10 @@ returns-in_err-old g c =
           (migrate_reading (g.F.Files.content c.args.files.now) c.args.log.now c.args.to.now _
           read.refused)
           (λ e. read.fault (is_err_of _ _ e))
-          (says_nothing _ refl refl c.read.ensures.stays refl);
+          (says_nothing _ refl refl c.read.ensures.stays refl refl);
       files_later = c.read.ensures.later;
       out_later = le_refl _;
+      out_steady = λ _. refl;
     })
 
 pub returns : goal.returns
@@ -49,4 +50,5 @@ returns g c =
           (g.O.Sink.faults c.migrate_read.new.out) read.later ended.leaves h e t m n;
       files_later = le_trans read.later ended.files_later;
       out_later = ended.out_later;
+      out_steady = ended.out_steady;
     }

@@ -15,6 +15,7 @@ returns-in_err-text g c =
       leaves = not_made c.args.log.now c.args.to.now _ _ _ _ _ _ c.in_err-text.ensures.refused;
       files_later = le_refl _;
       out_later = le_refl _;
+      out_steady = λ _. refl;
     })
 
 pub returns-in_err-store : goal.returns-in_err-store
@@ -29,6 +30,7 @@ returns-in_err-store g c =
           store.fault (λ e. store.cause (is_err_of _ _ e)) c.store.ensures.others;
       files_later = c.store.ensures.later;
       out_later = le_refl _;
+      out_steady = λ _. refl;
     })
 
 pub returns-in-Ok : goal.returns-in-Ok
@@ -46,6 +48,7 @@ returns-in-Ok g c = record {
   leaves = tt;
   files_later = c.store.ensures.later;
   out_later = c.in-Ok.ensures.cause.later;
+  out_steady = λ _. c.in-Ok.ensures.steady;
 }
 
 pub returns-in-Err : goal.returns-in-Err
@@ -65,4 +68,5 @@ returns-in-Err g c = record {
   );
   files_later = c.store.ensures.later;
   out_later = c.in-Err.ensures.cause.later;
+  out_steady = λ other. absurd (other refl);
 }

@@ -137,5 +137,7 @@ returns-in-Migrate g c =
       host_later = le_refl _;
       out_later = c.migrate.ensures.out_later;
       err_later = le_refl _;
+      out_steady = c.migrate.ensures.out_steady;
+      err_steady = λ _. refl;
       fixed = refl;
     }
