@@ -1,4 +1,4 @@
-use Rattle.std.proofs.Common.{le_refl, refl, ap, ◌∙◌}
+use Rattle.std.proofs.Common.{le_refl, refl, length, rules, vec_len, ap, ◌≡◌, ◌∙◌}
 use Rattle.std.proofs.lemmas.Result.{err_from_is_err_and}
 use Rattle.dos_io.specs.Outside.{grown}
 use Rattle.dos_cmd.proofs.MigrationEnds.{lines_are, not_made, not_stored, stored_text}
@@ -34,39 +34,43 @@ returns-in_err-store g c =
     })
 
 pub returns-in-Ok : goal.returns-in-Ok
-returns-in-Ok g c = record {
-  ends = refl;
-  migrated = record {
-    fits = c.in_ok-text.ensures.fits;
-    stored = stored_text c.args.log.now c.args.to.now c.deref.result.now _ _ _
-        (c.deref.ensures.value ∙ c.in_ok-text.ensures.text) c.in_ok-store.ensures.content
-        c.in_ok-store.ensures.holds c.store.ensures.others;
-    out_is = c.in-Ok.ensures.told ∙ ap (grown (g.O.Sink.told c.args.out.now))
-        (lines_are c.args.log.now _ _ _ c.version.ensures c.bytes.ensures
-        (c.len.ensures ∙ c.in_ok-text.ensures.text));
-  };
-  leaves = tt;
-  files_later = c.store.ensures.later;
-  out_later = c.in-Ok.ensures.cause.later;
-  out_steady = λ _. c.in-Ok.ensures.steady;
-}
-
-pub returns-in-Err : goal.returns-in-Err
-returns-in-Err g c = record {
-  ends = tt;
-  migrated = tt;
-  leaves = (
-    c.in_ok-text.ensures.fits,
+returns-in-Ok g c =
+    let count : vec_len c.in_ok-text.text ≡ length c.in_ok-text.text.items = search rules in
     record {
-      rose = c.in-Err.ensures.cause.failed;
-      stored = stored_text c.args.log.now c.args.to.now c.deref.result.now _ _ _
-          (c.deref.ensures.value ∙ c.in_ok-text.ensures.text) c.in_ok-store.ensures.content
-          c.in_ok-store.ensures.holds c.store.ensures.others;
-      front = untold c.args.log.now _ _ _ _ _ c.version.ensures c.bytes.ensures
-          (c.len.ensures ∙ c.in_ok-text.ensures.text) c.in-Err.ensures.front;
-    },
-  );
-  files_later = c.store.ensures.later;
-  out_later = c.in-Err.ensures.cause.later;
-  out_steady = λ other. absurd (other refl);
-}
+      ends = refl;
+      migrated = record {
+        fits = c.in_ok-text.ensures.fits;
+        stored = stored_text c.args.log.now c.args.to.now c.deref.result.now _ _ _
+            (c.deref.ensures.value ∙ c.in_ok-text.ensures.text) c.in_ok-store.ensures.content
+            c.in_ok-store.ensures.holds c.store.ensures.others;
+        out_is = c.in-Ok.ensures.told ∙ ap (grown (g.O.Sink.told c.args.out.now))
+            (lines_are c.args.log.now _ _ _ c.version.ensures c.bytes.ensures
+            (c.len.ensures ∙ count ∙ ap length c.in_ok-text.ensures.text));
+      };
+      leaves = tt;
+      files_later = c.store.ensures.later;
+      out_later = c.in-Ok.ensures.cause.later;
+      out_steady = λ _. c.in-Ok.ensures.steady;
+    }
+
+pub returns : goal.returns
+returns g c =
+    let count : vec_len c.in_ok-text.text ≡ length c.in_ok-text.text.items = search rules in
+    record {
+      ends = tt;
+      migrated = tt;
+      leaves = (
+        c.in_ok-text.ensures.fits,
+        record {
+          rose = c.in-Err.ensures.cause.failed;
+          stored = stored_text c.args.log.now c.args.to.now c.deref.result.now _ _ _
+              (c.deref.ensures.value ∙ c.in_ok-text.ensures.text) c.in_ok-store.ensures.content
+              c.in_ok-store.ensures.holds c.store.ensures.others;
+          front = untold c.args.log.now _ _ _ _ _ c.version.ensures c.bytes.ensures
+              (c.len.ensures ∙ count ∙ ap length c.in_ok-text.ensures.text) c.in-Err.ensures.front;
+        },
+      );
+      files_later = c.store.ensures.later;
+      out_later = c.in-Err.ensures.cause.later;
+      out_steady = λ other. absurd (other refl);
+    }
