@@ -1,6 +1,7 @@
 -- How `migrate` ends.
 use Rattle.std.proofs.Common.{◌≡◌, ◌≢◌, ◌≤◌, ◌<◌, ◌⊎◌, inl, refl, sym, ap, ◌∙◌, subst, true, ℕ}
-use Rattle.std.proofs.Common.{Bool, List, [], length, Option, Some, None, Result, Ok, Err, inr, arith}
+use Rattle.std.proofs.Common.{Bool, List, [], length, Option, Some, None, Result, Ok, Err, inr}
+use Rattle.std.proofs.Common.{arith}
 use Rattle.std.specs.Prelude.{IfOk, IfErr, IfSome, IsTrue, OnOk, nat_lt, option_map}
 use Rattle.std.proofs.lemmas.Bool.{le-ltb}
 use Rattle.std.proofs.lemmas.Bool.Decides.{nat_tests}
