@@ -99,6 +99,7 @@ module _ (o : Outside) (e : Option (List ℕ)) (last : List ℕ) (more : e ≡ g
       err_says = more ∙ ap (λ told. grown told last) (h.err_says ∙ sym (grown-nothing o.err));
       others = h.others;
       host_stays = h.host_stays;
+      tally_stays = h.tally_stays;
     }
     unwritten_more asked taken h = absurd h
 
