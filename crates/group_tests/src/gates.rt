@@ -126,6 +126,32 @@ fn staying<R: Threads + Sync + Abort>(
     kept.dismiss(rt, alloc);
 }
 
+// How often it is tried with workers that stay. An order that no worker has begun is taken back, so
+// where the system is long in running a worker's thread, the caller runs all packs.
+const TRIES: u32 = 8;
+
+// These words leave what is wanted at each try, where so many packs pass and these numbers; and in
+// one of the tries number 0 isn't held in vain.
+fn check_staying<R: Threads + Sync + Abort>(
+    rt: &R,
+    alloc: Global,
+    words: &[&str],
+    err: &str,
+    wanted: u64,
+    passed: (u64, u64),
+) {
+    for _ in 0..TRIES {
+        let gate = shared_gate(rt, alloc, wanted);
+        staying(rt, alloc, &gate, words, err);
+        let (passes, entered, missed) = gate.seen();
+        same(rt, (passes, entered), passed);
+        if missed == 0 {
+            return;
+        }
+    }
+    same(rt, "no worker took a pack", "");
+}
+
 // a gate that threads own by count
 fn shared_gate(rt: &impl Abort, alloc: Global, wanted: u64) -> Arc<Holding, Global> {
     Arc::new(alloc, Holding::until(wanted))
@@ -157,9 +183,7 @@ fn two_at_once_stealing(rt: HostRuntime) {
 
 #[test]
 fn two_at_once_staying(rt: HostRuntime) {
-    let gate = shared_gate(&rt, rt.alloc(), 2);
-    staying(&rt, rt.alloc(), &gate, &TWO, TWO_LIVE);
-    check_gate(&rt, &gate, 4, 3);
+    check_staying(&rt, rt.alloc(), &TWO, TWO_LIVE, 2, (4, 3));
 }
 
 // Each thread has a half: 0 is held until 2 has begun.
@@ -187,7 +211,5 @@ fn one_goes_round_stealing(rt: HostRuntime) {
 
 #[test]
 fn one_goes_round_staying(rt: HostRuntime) {
-    let gate = shared_gate(&rt, rt.alloc(), 14);
-    staying(&rt, rt.alloc(), &gate, &FOUR, FOUR_LIVE);
-    check_gate(&rt, &gate, 8, 15);
+    check_staying(&rt, rt.alloc(), &FOUR, FOUR_LIVE, 14, (8, 15));
 }

@@ -1,5 +1,5 @@
 // A worker that stays: its thread, and how its order comes back.
-ghost use Rattle.std.specs.Prelude.{◌≡◌, IfSome, IfNone};
+ghost use Rattle.std.specs.Prelude.{◌≡◌, IfSome, IfNone, IfOk, IfErr};
 ghost use Rattle.order_place.specs.Rule.{free, idle, lent};
 
 use crate::place::{Place, PlaceSeat};
@@ -13,10 +13,6 @@ use std::thread::{Promise, PromisedHandle, Threads};
 
 /// How often a worker looks for an order before it ends: for about 100 microseconds.
 const LOOKS: u32 = 16_000;
-
-/// How often it looks for its first order, which its caller is about to lay, and may be kept from
-/// by whoever else runs: for about a tenth of a second of its own processor's time.
-const FIRST_LOOKS: u32 = 16_000_000;
 
 /// How often a caller looks for an order to come back before it sends the worker home.
 const CALLS: u32 = 16_000;
@@ -62,14 +58,15 @@ fn serve<T: Order>(place: &Place<T>, mut seat: PlaceSeat<T>) -> PlaceSeat<T>
     ensures place { result.table_id ≡ seat.table_id }
     ensures idle { result.me ≡ idle }
 {
-    let mut looks = FIRST_LOOKS;
+    let mut looks = 0;
     for _ in 0..u32::MAX {
-        if serve_one(place, &mut seat) {
-            looks = LOOKS;
-        } else if looks == 0 || place.is_told() {
+        if looks >= LOOKS || place.is_told() {
             break;
+        }
+        if serve_one(place, &mut seat) {
+            looks = 0;
         } else {
-            looks -= 1;
+            looks += 1;
             spin_loop();
         }
     }
@@ -121,27 +118,37 @@ fn work<T: Order + Drop>(place: Arc<Place<T>>, seat: PlaceSeat<T>) -> PlaceSeat<
 }
 
 impl<T: Order + Drop + Send + 'static> Worker<T> {
-    /// Starts a worker. None is want of memory, or of a thread.
-    pub fn start<R: Threads>(rt: &R, alloc: Global) -> Option<Worker<T>>
-        ensures { IfSome result (λ w. w.seat.me ≡ free) }
+    /// Starts a worker whose first order lies in its place before its thread begins. Err is want of
+    /// memory, or of a thread, and hands the order back.
+    pub fn start<R: Threads>(rt: &R, alloc: Global, order: T) -> Result<Worker<T>, T>
+        requires same { T.same order order }
+        ensures ok { IfOk result (λ w. w.seat.me ≡ lent order) }
+        ensures err { IfErr result (λ x. T.same order x) }
     {
-        let Some((place, seat, other)) = Place::<T>::new(alloc) else {
-            return None;
+        let Some((place, mut seat, other)) = Place::<T>::new(alloc) else {
+            return Err(order);
         };
         let Ok(place) = Arc::new(alloc, place) else {
-            return None;
+            return Err(order);
         };
         let Ok(theirs) = Arc::try_clone(&place) else {
-            return None;
+            return Err(order);
         };
+        let at: &Place<T> = &place;
+        at.lay(&mut seat, order);
         let promise = GoesHome(Snapshot::of(&other));
         match thread::spawn_with(rt, promise, move || work(theirs, other)) {
-            Ok(handle) => Some(Worker {
+            Ok(handle) => Ok(Worker {
                 place,
                 seat,
                 handle,
             }),
-            Err(_) => None,
+            Err(refused) => {
+                // the thread's work is done here: it gives its seat back at once
+                at.send_home();
+                let other = (refused.value)();
+                Err(at.settle(seat, other))
+            }
         }
     }
 }

@@ -6,3 +6,8 @@ use std::process::Abort;
 pub(crate) fn check_seen(rt: &impl Abort, gate: &Holding, wanted: (u64, u64, u64)) {
     assert_eq!(rt; gate.seen(), wanted);
 }
+
+/// Number 0 was held in vain at each try.
+pub(crate) fn fail_held(rt: &impl Abort) {
+    assert_eq!(rt; "number 0 was held in vain at each try", "");
+}

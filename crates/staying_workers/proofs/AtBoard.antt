@@ -1,5 +1,6 @@
 -- A worker with an order at a board.
 use Rattle.std.proofs.Common.{◌≡◌, ℕ, ◌+◌, List, [], ◌∷◌, length, map, refl, sym, ap, ◌∙◌, arith}
+use Rattle.std.proofs.Common.{subst}
 use Rattle.std.specs.List.{sum_by}
 use Rattle.atomic_table.specs.Seated.{TableId}
 use Rattle.order_place.specs.Rule.{giver, lent}
@@ -43,3 +44,17 @@ module _ {G : Type 0} (term : ℕ) (board : TableId) (opened : List Held) (w : W
               ∙ at.3),
           omega (arith, share),
         )
+
+module _ {G : Type 0} (w : Worker (PackOrder G)) where
+  pub at_board : (x : PackOrder G) → w.seat.me ≡ lent x
+      → IsWorkerAt x.board.term x.seat.board x.seat.opened w × (share_out w ≡ x.seat.share)
+  at_board x e =
+      let share : share_out w ≡ 0 + x.seat.share =
+      ap (λ m. sum_by (λ (z : PackOrder G). z.seat.share) m.0.out) e in (
+        subst (λ m. (m ≡ (giver m.0.out, []))
+            × (map (λ (z : PackOrder G). z.board.term) m.0.out ≡ x.board.term ∷ [])
+            × (map (λ (z : PackOrder G). z.seat.board) m.0.out ≡ x.seat.board ∷ [])
+            × (map (λ (z : PackOrder G). z.seat.opened) m.0.out ≡ x.seat.opened ∷ []))
+            (sym e) (refl, refl, refl, refl),
+        omega (arith, share),
+      )

@@ -5,7 +5,7 @@ ghost use Rattle.worker_pool.specs.Ran.{AllCanRun, AllRan};
 
 use crate::fewer::Fewer;
 use crate::held::{lend, take_back};
-use crate::rounds::{Idle, MOST, dismiss_all, refreshed, run_each};
+use crate::rounds::{Idle, MOST, dismiss_all, run_each};
 use counted_loans::Lender;
 use quantum_run::{Pack, Shared};
 use std::alloc::Global;
@@ -143,7 +143,7 @@ fn run_beside<G: Gate>(
 }
 
 // by the caller and so many workers; where memory is wanting, by the caller alone
-fn run_owned<R: Threads, G: Gate + Drop>(
+fn run_owned<R: Threads, G: Gate + Send + Sync + Drop + 'static>(
     rt: &R,
     alloc: Global,
     gate: &Arc<G, Global>,
@@ -195,8 +195,7 @@ pub fn run_lent<R: Threads, G: Gate + Send + Sync + Drop + 'static>(
     }
     match Box::new(alloc, shared) {
         Ok(owner) => {
-            let idle = kept.idle.replace(Vec::new(alloc));
-            let mut idle = refreshed(rt, alloc, idle, others);
+            let mut idle = kept.idle.replace(Vec::new(alloc));
             let lender = Lender::new(owner);
             let lender = run_owned(rt, alloc, gate, &mut idle, others, packs, lender);
             kept.keep(idle, others);

@@ -1,10 +1,11 @@
 // One call's packs, over a board at which workers are lent a seat.
-ghost use Rattle.std.specs.Prelude.{◌≡◌, ◌+◌, ◌<◌, ◌≤◌, ◌^◌, [], true, All, sum_by, IfOk, IfErr};
+ghost use Rattle.std.specs.Prelude.{◌≡◌, ◌+◌, ◌<◌, ◌≤◌, ◌^◌, [], true, All, sum_by, IfOk, IfErr, IfSome};
+ghost use Rattle.std.specs.Prelude.{IfNone};
 ghost use Rattle.std.specs.Prelude.{vec_len, vec_capacity};
 ghost use Rattle.hand_board.specs.Placed.{whole_share};
 ghost use Rattle.hand_board.specs.Seating.{AllFinished};
-ghost use Rattle.order_place.specs.Rule.{free};
-ghost use Rattle.worker_pool.specs.Parts.{AreReady};
+ghost use Rattle.order_place.specs.Rule.{free, lent};
+ghost use Rattle.worker_pool.specs.Parts.{AreReady, IsSameSeat};
 ghost use Rattle.staying_workers.specs.Lending.{IsHeldFinished, MayRunHeld};
 ghost use Rattle.staying_workers.specs.Busy.{IsWorkerAt, share_out};
 
@@ -28,10 +29,9 @@ pub(crate) struct Idle<G: Gate> {
     ghost free: { worker.seat.me ≡ free },
 }
 
-// A worker with this order.
-fn sent<G: Gate + Drop>(idle: Idle<G>, order: PackOrder<G>) -> Worker<PackOrder<G>>
-    ensures at { IsWorkerAt order.board.term order.seat.board order.seat.opened result }
-    ensures share { share_out result ≡ order.seat.share }
+// a worker that stays has this order now
+fn given<G: Gate + Drop>(idle: Idle<G>, order: PackOrder<G>) -> Worker<PackOrder<G>>
+    ensures { result.seat.me ≡ lent order }
 {
     let Idle { mut worker } = idle;
     worker.give(order);
@@ -72,76 +72,26 @@ fn halved<G: Gate>(
     (ours, order)
 }
 
-// one more worker, where there is memory and a thread for it
-fn started<R: Threads, G: Gate + Send + Sync + Drop + 'static>(
-    rt: &R,
-    alloc: Global,
-) -> Option<Idle<G>> {
-    match Worker::start(rt, alloc) {
-        Some(worker) => Some(Idle { worker }),
-        None => None,
-    }
-}
-
-// the next worker that takes orders; one that has left is replaced
-fn next_worker<R: Threads, G: Gate + Send + Sync + Drop + 'static>(
+// The next worker that stays has this order, or one that is started with it; one that has left is
+// joined. Err is want of memory, or of a thread.
+fn sent<R: Threads, G: Gate + Send + Sync + Drop + 'static>(
     rt: &R,
     alloc: Global,
     idle: &mut Vec<Idle<G>>,
-) -> Option<Idle<G>> {
+    order: PackOrder<G>,
+) -> Result<Worker<PackOrder<G>>, PackOrder<G>>
+    ensures ok { IfOk result (λ w. w.seat.me ≡ lent order) }
+    ensures err { IfErr result (λ x. IsSameSeat order.seat x.seat × (x.board ≡ order.board)) }
+{
     let Some(next) = idle.pop() else {
-        return started(rt, alloc);
+        return Worker::start(rt, alloc, order);
     };
     if !next.worker.has_left() {
-        return Some(next);
+        return Ok(given(next, order));
     }
     let Idle { worker } = next;
     worker.dismiss(rt);
-    started(rt, alloc)
-}
-
-// whether the last so many of these take orders
-fn are_there<G: Gate + Drop>(idle: &[Idle<G>], others: usize) -> bool {
-    if idle.len() < others {
-        return false;
-    }
-    let (_rest, used) = idle.split_at(idle.len() - others);
-    for next in used {
-        if next.worker.has_left() {
-            return false;
-        }
-    }
-    true
-}
-
-/// The last so many of these take orders, where there is memory and a thread for each.
-pub(crate) fn refreshed<R: Threads, G: Gate + Send + Sync + Drop + 'static>(
-    rt: &R,
-    alloc: Global,
-    mut idle: Vec<Idle<G>>,
-    others: usize,
-) -> Vec<Idle<G>> {
-    if are_there(&idle, others) {
-        return idle;
-    }
-    let mut fresh = Vec::new(alloc);
-    for _ in 0..others {
-        let Some(next) = next_worker(rt, alloc, &mut idle) else {
-            break;
-        };
-        if fresh.push(next).is_err() {
-            break;
-        }
-    }
-    put_back(idle, fresh)
-}
-
-// those come behind these, the last first
-fn put_back<G: Gate + Drop>(mut idle: Vec<Idle<G>>, mut fresh: Vec<Idle<G>>) -> Vec<Idle<G>> {
-    while let Some(next) = fresh.pop() {
-        let _ = idle.push(next);
-    }
-    idle
+    Worker::start(rt, alloc, order)
 }
 
 /// These have ended when this returns.
@@ -152,8 +102,49 @@ pub(crate) fn dismiss_all<R: Threads, G: Gate + Drop>(rt: &R, mut idle: Vec<Idle
     }
 }
 
+// half of the seat is sent as an order, where there is a worker for it; else all comes back
+fn send_one<R: Threads, G: Gate + Send + Sync + Drop + 'static>(
+    rt: &R,
+    alloc: Global,
+    at: &Board<Held>,
+    lender: Lender<Board<Held>, Global>,
+    seat: BoardSeat<Held>,
+    gate: Arc<G, Global>,
+    idle: &mut Vec<Idle<G>>,
+    first: u32,
+) -> (
+    Lender<Board<Held>, Global>,
+    BoardSeat<Held>,
+    Option<Worker<PackOrder<G>>>,
+)
+    requires lender { (lender.value ≡ at.now) × (lender.out < 2 ^ 62) }
+    requires board { seat.board ≡ at.now.id }
+    requires fresh { seat.hand ≡ [] }
+    requires ready { AreReady MayRunHeld seat.opened }
+    requires share { 2 ≤ seat.share }
+    ensures lender { (result.0.value ≡ lender.value) × (result.0.term ≡ lender.term) }
+    ensures seat { (result.1.board ≡ seat.board) × (result.1.opened ≡ seat.opened)
+        × (result.1.hand ≡ []) }
+    ensures some { IfSome result.2 (λ w. IsWorkerAt lender.term seat.board seat.opened w
+        × (result.1.share + share_out w ≡ seat.share) × (result.0.out ≡ lender.out + 1)) }
+    ensures none { IfNone result.2
+        ((result.1.share ≡ seat.share) × (result.0.out ≡ lender.out)) }
+{
+    let (lender, board) = lender.lend();
+    let (ours, order) = halved(at, board, seat, gate, first);
+    match sent(rt, alloc, idle, order) {
+        Ok(worker) => (lender, ours, Some(worker)),
+        Err(order) => {
+            let (lender, other) = taken_apart(lender, order);
+            (lender, at.join(ours, other), None)
+        }
+    }
+}
+
 // an order for each of so many workers
-fn send_all<G: Gate + Drop>(
+fn send_all<R: Threads, G: Gate + Send + Sync + Drop + 'static>(
+    rt: &R,
+    alloc: Global,
     at: &Board<Held>,
     mut lender: Lender<Board<Held>, Global>,
     mut seat: BoardSeat<Held>,
@@ -185,17 +176,36 @@ fn send_all<G: Gate + Drop>(
         if seat.share() < 2 {
             break;
         }
-        let Some(next) = idle.pop() else {
+        first = first.saturating_add(step);
+        let (left, ours, worker) = send_one(rt, alloc, at, lender, seat, door, idle, first);
+        lender = left;
+        seat = ours;
+        let Some(worker) = worker else {
             break;
         };
-        first = first.saturating_add(step);
-        let (rest, board) = lender.lend();
-        lender = rest;
-        let (ours, order) = halved(at, board, seat, door, first);
-        seat = ours;
-        busy.push_reserved(sent(next, order));
+        busy.push_reserved(worker);
     }
     (lender, seat)
+}
+
+// the seat of an order, and its loan
+fn taken_apart<G: Gate + Drop>(
+    lender: Lender<Board<Held>, Global>,
+    order: PackOrder<G>,
+) -> (Lender<Board<Held>, Global>, BoardSeat<Held>)
+    requires term { order.board.term ≡ lender.term }
+    requires out { (0 < lender.out) × (lender.out < 2 ^ 63) }
+    ensures lender { (result.0.value ≡ lender.value) × (result.0.term ≡ lender.term)
+        × (result.0.out + 1 ≡ lender.out) }
+    ensures seat { result.1 ≡ order.seat }
+{
+    let PackOrder {
+        board,
+        seat,
+        gate: _,
+        first: _,
+    } = order;
+    (lender.take_back(board), seat)
 }
 
 // the seat of a worker's order, and its loan; the worker, where it stays, is idle again
@@ -218,13 +228,7 @@ fn bring_back<R: Threads, G: Gate + Drop>(
     if let Some(worker) = back {
         let _ = idle.push(Idle { worker });
     }
-    let PackOrder {
-        board,
-        seat,
-        gate: _,
-        first: _,
-    } = order;
-    (lender.take_back(board), seat)
+    taken_apart(lender, order)
 }
 
 // All seats come back, and all loans but the caller's.
@@ -255,8 +259,9 @@ fn gather<R: Threads, G: Gate + Drop>(
 }
 
 // by the caller and the workers
-fn run_board<R: Threads, G: Gate + Drop>(
+fn run_board<R: Threads, G: Gate + Send + Sync + Drop + 'static>(
     rt: &R,
+    alloc: Global,
     lender: Lender<Board<Held>, Global>,
     seat: BoardSeat<Held>,
     gate: &Arc<G, Global>,
@@ -277,7 +282,7 @@ fn run_board<R: Threads, G: Gate + Drop>(
 {
     let (lender, mine) = lender.lend();
     let at = mine.get();
-    let (lender, seat) = send_all(at, lender, seat, gate, idle, others, &mut busy);
+    let (lender, seat) = send_all(rt, alloc, at, lender, seat, gate, idle, others, &mut busy);
     let door: &G = gate;
     let seat = share(at, seat, door);
     let (lender, seat) = gather(rt, at, lender, seat, busy, idle);
@@ -302,7 +307,7 @@ fn run_swept<G: Gate>(board: Board<Held>, seat: BoardSeat<Held>, gate: &G) -> Ve
 
 /// Runs each part over a board, by the caller and by so many workers. Err is want of memory for the
 /// board, and hands the parts back as they were.
-pub(crate) fn run_each<R: Threads, G: Gate + Drop>(
+pub(crate) fn run_each<R: Threads, G: Gate + Send + Sync + Drop + 'static>(
     rt: &R,
     alloc: Global,
     parts: Vec<Held>,
@@ -323,7 +328,10 @@ pub(crate) fn run_each<R: Threads, G: Gate + Drop>(
     };
     let (board, seat) = Board::new(alloc, parts)?;
     match Box::new(alloc, board) {
-        Ok(board) => Ok(run_board(rt, Lender::new(board), seat, gate, idle, others, busy)),
+        Ok(board) => {
+            let lender = Lender::new(board);
+            Ok(run_board(rt, alloc, lender, seat, gate, idle, others, busy))
+        }
         Err(failed) => {
             let door: &G = gate;
             Ok(run_swept(failed.value, seat, door))

@@ -6,7 +6,7 @@ use Rattle.staying_workers.proofs.kept.run_lent.Goals as goal
 
 pub run_owned-lender-requires-clause-can : goal.run_owned-lender-requires-clause-can
 run_owned-lender-requires-clause-can g c =
-    subst (λ (s : Shared). AllCanRun (seen_in s) c.args.packs.now.items)
+    λ κs κ. subst (λ (s : Shared). AllCanRun (seen_in s) c.args.packs.now.items)
     (sym (c.new-lender.ensures.0 ∙ c.in-Ok.ensures.ok)) c.requires.can
 
 pub run_alone-requires-in-Err-clause-can : goal.run_alone-requires-in-Err-clause-can
