@@ -50,8 +50,8 @@ fn gate(rt: &impl Abort, alloc: Global, wanted: u64) -> Arc<Holding, Global> {
         .expect(rt, "memory")
 }
 
-// How often it is tried that number 0 isn't held in vain. An order that no worker has begun is taken
-// back, so where the system is long in running a worker's thread, the caller runs all packs.
+// How often it is tried that number 0 isn't held in vain. An order that no worker has begun is
+// taken back, so where the system is long in running a worker's thread, the caller runs all packs.
 const TRIES: u32 = 8;
 
 // Two workers run this at a gate with these wanted: so many packs pass, and these numbers, and so

@@ -11,7 +11,8 @@ use Rattle.staying_workers.proofs.kept.run_owned.Goals as goal
 pub run_each-requires-clause-ready : goal.run_each-requires-clause-ready
 run_each-requires-clause-ready g c =
     let s = c.args.lender.value in
-    λ κs κ. ready_of s c.lend-lender.new.held.items (subst (λ (l : List Pack). AllCanRun (seen_in s) l)
+    λ κs κ. ready_of s c.lend-lender.new.held.items
+    (subst (λ (l : List Pack). AllCanRun (seen_in s) l)
     (sym c.lend-lender.ensures.packs) c.requires.can) c.lend-lender.ensures.share
 
 pub take_back-requires-clause-room : goal.take_back-requires-clause-room

@@ -6,7 +6,8 @@ use Rattle.staying_workers.proofs.rounds.run_each.Goals as goal
 
 pub run_board-requires-clause-ready : goal.run_board-requires-clause-ready
 run_board-requires-clause-ready g c =
-    λ κs κ. still_ready (ap (λ (s : Seating Held). s.opened) c.in_ok-board.ensures.seat) c.requires.ready
+    λ κs κ. still_ready (ap (λ (s : Seating Held). s.opened) c.in_ok-board.ensures.seat)
+    c.requires.ready
 
 pub run_swept-requires-clause-ready : goal.run_swept-requires-clause-ready
 run_swept-requires-clause-ready g c =
