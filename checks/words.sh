@@ -9,6 +9,7 @@ declare -A options_of=(
   [inspect]=''
   [gen]='--number=number --threads=1-32 --workers=1-32'
   [migrate]='--log=file --to=file'
+  [trace]='--log=file --workers=1-32'
 )
 
 # What the option $1 of the command $2 takes, or nothing where it has no such option.
@@ -40,9 +41,9 @@ why_not() {
 # Which word isn't one, of words that ask for nothing.
 wrong_word() {
   local command=${1-} word value kind why names=0 given=' ' is_open=1
-  [ $# -gt 0 ] || { echo 'a command is wanted: run, replay, inspect, gen or migrate'; return; }
+  [ $# -gt 0 ] || { echo 'a command is wanted: run, replay, inspect, gen, migrate or trace'; return; }
   [ -n "$command" ] && [ "${options_of[$command]+known}" ] || {
-    echo "$command is no command: these are run, replay, inspect, gen and migrate"
+    echo "$command is no command: these are run, replay, inspect, gen, migrate and trace"
     return
   }
   shift
@@ -70,7 +71,7 @@ wrong_word() {
     [ "$names" -eq 0 ] || { echo "$word stands behind a name: options come first"; return; }
   done
   case $command in
-    run|replay)
+    run|replay|trace)
       [[ $given = *' --log '* ]] || { echo "$command wants --log and the file of the log"; return; } ;;
     gen)
       [[ $given = *' --number '* && $given = *' --threads '* ]] ||
@@ -80,7 +81,7 @@ wrong_word() {
         { echo 'migrate wants --log and --to, each with a file'; return; } ;;
   esac
   case $command$names in
-    gen0|migrate0|inspect1|run[1-8]|replay[1-8]) ;;
+    gen0|migrate0|inspect1|run[1-8]|replay[1-8]|trace[1-8]) ;;
     gen*|migrate*) echo "$command takes no names" ;;
     inspect*) echo 'inspect takes one name' ;;
     *0) echo "$command wants the name of a file" ;;

@@ -26,12 +26,14 @@ use Rattle.dos_words.specs.Numbers.{Text}
 use Rattle.dos_words.specs.Request.{request}
 use Rattle.dos_words.specs.declared.request.Request.{Request}
 use Rattle.dos_words.specs.declared.request.Request.TheVariants.{Run, Replay, Gen, Migrate}
+use Rattle.dos_words.specs.declared.request.Request.TheVariants.{Trace}
 use Rattle.dos_cmd.specs.Judging.{Taken, judgement}
 use Rattle.dos_cmd.specs.Outside.{Outside, Faults, OutputFailed, Says}
 use Rattle.dos_cmd.specs.ReplayLeaves.{DidReplay, Misfitted}
+use Rattle.dos_cmd.specs.TraceLeaves.{DidTrace, MisfittedTrace}
 use Rattle.dos_cmd.specs.Results.{Begun, NotTaken, OfLog, Did, HasMisfit, WasStopped, Leaves}
 use Rattle.dos_cmd.specs.Results.{FullLog, WasDone}
-use Rattle.dos_cmd.specs.Results.{Fails, Refused, CutShort, MustReplay, MustDo}
+use Rattle.dos_cmd.specs.Results.{Fails, Refused, CutShort, MustReplay, MustTrace, MustDo}
 use Rattle.dos_cmd.proofs.Saying.{with_error, with_faults, output_failed, fails_more}
 
 -- ---- statuses
@@ -118,9 +120,23 @@ replayed_must words w log names taken n o h = of_log taken.log h
         fits_have_none 0 (exchanges l) (group taken.images (config_of l.header)) h.replayed.fits in
         subst (λ (m : Option Misfit). MustReplay m l taken n o) (sym none) h
 
+traced_must : (w : ℕ) (log : Text) (names : List Text) (taken : Taken) (n : ℕ) (o : Outside)
+    → Did (Trace w log names) taken n o → MustDo (Trace w log names) taken n o
+traced_must w log names taken n o h = of_log taken.log h
+  where
+    of_log : (read : Option Log) → OfLog read (λ l. DidTrace l taken.images n o)
+        → OfLog read (λ l. MustTrace (misfit taken.images (config_of l.header) (exchanges l)) l
+        taken n o)
+    of_log None h = absurd h
+    of_log (Some l) h =
+        let none : misfit taken.images (config_of l.header) (exchanges l) ≡ None =
+        fits_have_none 0 (exchanges l) (group taken.images (config_of l.header)) h.replayed.fits in
+        subst (λ (m : Option Misfit). MustTrace m l taken n o) (sym none) h
+
 did_must : (words : List Text) (asked : Request) (taken : Taken) (n : ℕ) (o : Outside)
     → Did asked taken n o → MustDo asked taken n o
 did_must words (Replay w log names) taken n o h = replayed_must words w log names taken n o h
+did_must words (Trace w log names) taken n o h = traced_must w log names taken n o h
 did_must words (Migrate log to) taken n o h = h
 did_must words asked taken n o h = λ full. h
 
@@ -165,7 +181,7 @@ leaves_status asked o f refusals.Memory other last h told a b d = absurd (d refl
 leaves_status asked o f why other last h told a b d =
     ap refusal_status (sym (refused_is o asked why other last h told))
 
--- of a misfit, in a replay
+-- of a misfit, in a replay, traced or not
 misfit_must : (asked : Request) (taken : Taken) (found : Misfit) (n : ℕ) (o : Outside)
     → n ≡ refusal_status (refusals.Misfit found)
     → HasMisfit asked taken found (line_of (refusals.Misfit found)) o → MustDo asked taken n o
@@ -178,6 +194,15 @@ misfit_must (Replay w log names) taken found n o is h = of_log taken.log h
     of_log None h = absurd h
     of_log (Some l) h =
         subst (λ (m : Option Misfit). MustReplay m l taken n o) (sym h.replayed.is) (is, h)
+misfit_must (Trace w log names) taken found n o is h = of_log taken.log h
+  where
+    of_log : (read : Option Log)
+        → OfLog read (λ l. MisfittedTrace l taken.images found (line_of (refusals.Misfit found)) o)
+        → OfLog read (λ l. MustTrace (misfit taken.images (config_of l.header) (exchanges l)) l
+        taken n o)
+    of_log None h = absurd h
+    of_log (Some l) h =
+        subst (λ (m : Option Misfit). MustTrace m l taken n o) (sym h.replayed.is) (is, h)
 misfit_must asked taken found n o is h = absurd h
 
 -- of a log that is full, in a run

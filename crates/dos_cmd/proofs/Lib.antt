@@ -7,6 +7,7 @@ mod Steady
 mod RunCalls
 pub mod ReplayTaking
 pub mod ReplayEnds
+mod TraceEnds
 mod MigrationEnds
 mod GenRuns
 mod Repeats

@@ -9,12 +9,15 @@ use Rattle.dos_world.specs.declared.Misfit.{Misfit}
 use Rattle.shim_log.specs.LogText.{Log}
 use Rattle.dos_texts.specs.declared.refusal.Refusal.{Refusal}
 use Rattle.dos_texts.specs.declared.refusal.Refusal.TheVariants as refusals
+use Rattle.traced_logs.specs.TracedLogs.{first_log_lines}
 use Rattle.dos_words.specs.Numbers.{Text}
 use Rattle.dos_words.specs.declared.request.Request.{Request}
 use Rattle.dos_words.specs.declared.request.Request.TheVariants.{Run, Replay, Gen, Migrate}
+use Rattle.dos_words.specs.declared.request.Request.TheVariants.{Trace}
 use Rattle.dos_cmd.specs.Judging.{Taken}
 use Rattle.dos_cmd.specs.Outside.{Outside, Faults, Grew, Says, OutputFailed}
 use Rattle.dos_cmd.specs.ReplayLeaves.{Misfitted}
+use Rattle.dos_cmd.specs.TraceLeaves.{MisfittedTrace}
 use Rattle.dos_cmd.specs.Results.{Begun, NotTaken, WasStopped, Unwritten, HasMisfit, OfLog, Cut}
 use Rattle.dos_cmd.specs.Results.{FullLog, Leaves, Fails}
 
@@ -115,6 +118,18 @@ module _ (o : Outside) (e : Option (List ℕ)) (last : List ℕ) (more : e ≡ g
           error = h.error;
           replayed = h.replayed;
           grew = grew_more h.output h.error h.grew;
+          stays = record { files_stay = h.stays.files_stay; host_stays = h.stays.host_stays };
+        }
+    misfit_more (Trace w log names) taken found h = of_log taken.log h
+      where
+        of_log : (read : Option Log) → OfLog read (λ l. MisfittedTrace l taken.images found [] o)
+            → OfLog read (λ l. MisfittedTrace l taken.images found last (with_error o e))
+        of_log None h = absurd h
+        of_log (Some l) h = record {
+          output = h.output;
+          error = h.error;
+          replayed = h.replayed;
+          grew = grew_more (first_log_lines found.entry taken.images l) [] h.grew;
           stays = record { files_stay = h.stays.files_stay; host_stays = h.stays.host_stays };
         }
     misfit_more asked taken found h = absurd h

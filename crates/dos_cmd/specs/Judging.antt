@@ -19,7 +19,7 @@ use Rattle.dos_texts.specs.declared.refusal.Refusal.TheVariants as refusals
 use Rattle.dos_words.specs.Numbers.{Text}
 use Rattle.dos_words.specs.declared.request.Request.{Request}
 use Rattle.dos_words.specs.declared.request.Request.TheVariants.{Run, Replay, Inspect, Gen}
-use Rattle.dos_words.specs.declared.request.Request.TheVariants.{Migrate}
+use Rattle.dos_words.specs.declared.request.Request.TheVariants.{Migrate, Trace}
 use Rattle.dos_cmd.specs.Migrating.{migrated_text}
 
 -- ---- one image; images are counted from 1 in the order of the words
@@ -148,6 +148,8 @@ judgement contents (Gen number threads workers) =
     Some (Ok (record { log = None; images = generated number threads ∷ [] }))
 judgement contents (Migrate log to) =
     option_map (λ file. migrate_judged (log_verdict file)) (contents log)
+judgement contents (Trace workers log names) =
+    replay_judgement (contents log) (map contents names)
 
 -- A refusal that reading files may come to: of an image, by what its file tells; or a fault of the
 -- files, or want of memory.

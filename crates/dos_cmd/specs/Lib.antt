@@ -5,6 +5,7 @@ pub mod ReplayLeaves
 pub mod Printing
 pub mod Migrating
 pub mod Stops
+pub mod TraceLeaves
 pub mod Requests
 pub mod Results
 pub mod Repeating

@@ -15,12 +15,13 @@ use Rattle.dos_words.specs.Numbers.{Text}
 use Rattle.dos_words.specs.Request.{request}
 use Rattle.dos_words.specs.declared.request.Request.{Request}
 use Rattle.dos_words.specs.declared.request.Request.TheVariants.{Run, Replay, Inspect, Gen}
-use Rattle.dos_words.specs.declared.request.Request.TheVariants.{Migrate}
+use Rattle.dos_words.specs.declared.request.Request.TheVariants.{Migrate, Trace}
 use Rattle.dos_cmd.specs.Judging.{Taken, judgement}
 use Rattle.dos_cmd.specs.Outside.{Outside, Faults, FilesStay, OutputFailed, Says}
 use Rattle.dos_cmd.specs.RunLeaves.{RunAsked, DidRun, StoppedRun, UnwrittenRun, CutRun}
 use Rattle.dos_cmd.specs.RunLeaves.{CutRunReport}
 use Rattle.dos_cmd.specs.ReplayLeaves.{DidReplay, Misfitted, CutReplay, CutReplayReport}
+use Rattle.dos_cmd.specs.TraceLeaves.{DidTrace, MisfittedTrace, CutTrace, CutTraceReport}
 use Rattle.dos_cmd.specs.Migrating.{Migrated, UnwrittenText, CutMigration}
 use Rattle.dos_cmd.specs.Printing.{Inspected, Generated, CutInspect, CutSummary, QuietlyStopped}
 
@@ -54,6 +55,8 @@ Did (Replay workers log names) taken status o =
 Did (Inspect name) taken status o = Inspected taken.images status o
 Did (Gen number threads workers) taken status o = Generated taken.images status o
 Did (Migrate log to) taken status o = OfLog taken.log (λ read. Migrated read to status o)
+Did (Trace workers log names) taken status o =
+    OfLog taken.log (λ read. DidTrace read taken.images status o)
 
 -- ---- it was begun, and came to no report
 
@@ -73,10 +76,12 @@ Unwritten (Run quantum rounds frames workers posts clock_from clock_step log nam
 Unwritten (Migrate log to) taken last o = UnwrittenText to last o
 Unwritten _ taken last o = ⊥
 
--- A replay came to this misfit.
+-- A replay came to this misfit, traced or not.
 abbrev pub HasMisfit : Request → Taken → Misfit → (last : List ℕ) → Outside → Type 0
 HasMisfit (Replay workers log names) taken found last o =
     OfLog taken.log (λ read. Misfitted read taken.images found last o)
+HasMisfit (Trace workers log names) taken found last o =
+    OfLog taken.log (λ read. MisfittedTrace read taken.images found last o)
 HasMisfit _ taken found last o = ⊥
 
 -- An output failed while what is asked for was done.
@@ -91,6 +96,8 @@ Cut (Replay workers log names) taken o =
 Cut (Inspect name) taken o = CutInspect taken.images o
 Cut (Gen number threads workers) taken o = CutSummary taken.images o
 Cut (Migrate log to) taken o = OfLog taken.log (λ read. CutMigration read to o)
+Cut (Trace workers log names) taken o =
+    OfLog taken.log (λ read. CutTrace read taken.images o ⊎ CutTraceReport read taken.images o)
 
 -- What the files are taken for, as far as they tell, and what is then so.
 pub record Begun (asked : Request) (o : Outside) (P : Taken → Type 0) : Type 0 where
@@ -175,10 +182,20 @@ MustReplay None log taken status o = DidReplay log taken.images status o
 MustReplay (Some found) log taken status o = (status ≡ refusal_status (refusals.Misfit found))
     × Misfitted log taken.images found (line_of (refusals.Misfit found)) o
 
+-- The same of one that is traced.
+abbrev pub MustTrace : Option Misfit → Log → Taken → ℕ → Outside → Type 0
+MustTrace None log taken status o = DidTrace log taken.images status o
+MustTrace (Some found) log taken status o =
+    (status ≡ refusal_status (refusals.Misfit found))
+    × MisfittedTrace log taken.images found (line_of (refusals.Misfit found)) o
+
 -- With what is taken it is done; but a run's log may be full.
 abbrev pub MustDo : Request → Taken → ℕ → Outside → Type 0
 MustDo (Replay workers log names) taken status o =
     OfLog taken.log (λ read. MustReplay
+    (misfit taken.images (config_of read.header) (exchanges read)) read taken status o)
+MustDo (Trace workers log names) taken status o =
+    OfLog taken.log (λ read. MustTrace
     (misfit taken.images (config_of read.header) (exchanges read)) read taken status o)
 MustDo (Migrate log to) taken status o = Did (Migrate log to) taken status o
 MustDo asked taken status o = (status ≢ 10) → Did asked taken status o

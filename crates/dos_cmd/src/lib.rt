@@ -15,6 +15,7 @@ mod replay;
 mod run;
 mod stops;
 mod top;
+mod trace;
 mod words;
 
 pub use top::dos_main;

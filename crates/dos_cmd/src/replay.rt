@@ -48,7 +48,7 @@ pub(crate) fn read<F: Files>(alloc: Global, files: &mut F, name: &Text) -> Resul
 }
 
 /// What a log's run was given.
-fn config_of(log: &Log) -> Config
+pub(crate) fn config_of(log: &Log) -> Config
     ensures config { result ≡ config_of log.now.header }
     ensures range { IsConfig result }
 {
@@ -62,7 +62,7 @@ fn config_of(log: &Log) -> Config
 }
 
 /// Reads a log and the images that it is to be of, and agrees them.
-fn take<F: Files>(
+pub(crate) fn take<F: Files>(
     alloc: Global,
     files: &mut F,
     log: &Text,

@@ -17,6 +17,7 @@ use crate::inspect::inspect;
 use crate::migrate::migrate;
 use crate::replay::replay;
 use crate::run::{RunRequest, run};
+use crate::trace::trace;
 use crate::words::read_request;
 use dos_io::{Files, Host, Sink};
 use dos_texts::{Refusal, ending_status, put_refusal};
@@ -37,6 +38,7 @@ fn hire<W: Workers>(request: &Request, workers: &mut W)
         Request::Inspect { .. } => {}
         Request::Gen { workers: hired, .. } => workers.hire(*hired),
         Request::Migrate { .. } => {}
+        Request::Trace { workers: hired, .. } => workers.hire(*hired),
     }
 }
 
@@ -109,6 +111,7 @@ fn execute<F: Files, H: Host, O: Sink, E: Sink, W: Workers>(
             ..
         } => generate(alloc, *number, *threads, out, workers),
         Request::Migrate { log, to } => migrate(alloc, log, to, files, out),
+        Request::Trace { log, names, .. } => trace(alloc, log, names, files, out, err, workers),
     }
 }
 
@@ -163,10 +166,12 @@ fn command<F: Files, H: Host, O: Sink, E: Sink, W: Workers>(
 ///   nothing from outside, and prints how it ended, how many bytes it wrote, and their digest.
 /// - `migrate --log OLD --to NEW` reads the log OLD, writes its text of version 2 to the file NEW,
 ///   which may be OLD, and prints the version and the length of both texts to `out`.
+/// - `trace --log LOG [--workers N] NAME ..` replays a log, drops what the guests print, and prints
+///   to `out`, after each round, a line for each frame whose owner has changed in it.
 ///
-/// For `run`, `replay` and `gen` `workers` are hired, as many as the words say: at most so many
-/// threads run a round's packs, the caller's among them. What the call does is the same with any
-/// number of them. Their tally grows by the instructions that the packs run.
+/// For `run`, `replay`, `gen` and `trace` `workers` are hired, as many as the words say: at most so
+/// many threads run a round's packs, the caller's among them. What the call does is the same with
+/// any number of them. Their tally grows by the instructions that the packs run.
 ///
 /// | Status | Comes |
 /// |---|---|
@@ -186,7 +191,8 @@ fn command<F: Files, H: Host, O: Sink, E: Sink, W: Workers>(
 /// A put that fails gives 6 in place of any other status, and nothing is put after it. Each
 /// "exactly" yields to 5, 6 and 9. With 2, 3, 4, 5, 9 and 10 `err` grows by one line behind what
 /// the run has put by then, and there is no report. The log's file is written only where the run
-/// came to its ending. In a replay want of memory comes only before the run.
+/// came to its ending. In a replay, traced or not, want of memory comes only
+/// before the run.
 pub fn dos_main<F: Files, H: Host, O: Sink, E: Sink, W: Workers>(
     alloc: Global,
     words: &[String],

@@ -10,12 +10,12 @@ use Rattle.clap.specs.Words.{Row, fault_of, subcommand_of}
 use Rattle.clap.specs.Kinds.{Kinds}
 use Rattle.dos_words.specs.declared.request.Request.{Request}
 use Rattle.dos_words.specs.declared.request.Request.TheVariants.{Run, Replay, Inspect, Gen}
-use Rattle.dos_words.specs.declared.request.Request.TheVariants.{Migrate}
+use Rattle.dos_words.specs.declared.request.Request.TheVariants.{Migrate, Trace}
 use Rattle.dos_words.specs.Numbers.{Text, number, where_within, number_within, parts_by, post_in}
 use Rattle.dos_words.specs.Numbers.{posts_in_all, colon, comma}
 use Rattle.dos_words.specs.Asked.{Values, number_or, posts_or_none, number_if_given, most_u64}
 use Rattle.dos_words.specs.Asked.{workers_of, images_of, run_asked, replay_asked, inspect_asked}
-use Rattle.dos_words.specs.Asked.{gen_asked, migrate_asked}
+use Rattle.dos_words.specs.Asked.{gen_asked, migrate_asked, trace_asked}
 use Rattle.dos_words.specs.Commands.{Command, commands, command_named}
 use Rattle.dos_words.specs.Canonical.{pairs_and_names, are_allowed, canonical, values_in}
 use Rattle.dos_words.specs.Clap.{words_app, asked_by, where_taken, values_among, names_among}
@@ -178,6 +178,14 @@ replay_fits value names r e =
     subst FitsRequest (some_is (Replay workers.0 log.0 images.0) r images.2)
     (workers_fit value workers.0 workers.1, images_fit names images.0 images.1)
 
+trace_fits : AsksInRange trace_asked
+trace_fits value names r e =
+    let workers = bind_some (workers_of value) _ r e in
+    let log = bind_some (value (codes "log")) _ r workers.2 in
+    let images = bind_some (images_of names) _ r log.2 in
+    subst FitsRequest (some_is (Trace workers.0 log.0 images.0) r images.2)
+    (workers_fit value workers.0 workers.1, images_fit names images.0 images.1)
+
 inspect_fits : AsksInRange inspect_asked
 inspect_fits value [] r e = absurd cc
 inspect_fits value (name ∷ []) r e = subst FitsRequest (some_is (Inspect name) r e) tt
@@ -226,7 +234,7 @@ named_fits : (name : Text) (command : Command) → command_named name ≡ Some c
     → AsksInRange command.asked
 named_fits name command e =
     (named_in (λ (c : Command). AsksInRange c.asked) name commands command
-    (run_fits, (replay_fits, (inspect_fits, (gen_fits, (migrate_fits, tt))))) e).0
+    (run_fits, (replay_fits, (inspect_fits, (gen_fits, (migrate_fits, (trace_fits, tt)))))) e).0
 
 -- ---- both readings
 

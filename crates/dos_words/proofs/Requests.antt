@@ -2,7 +2,7 @@
 use Rattle.std.specs.Prelude.{ℕ, List, [], ◌∷◌, ◌++◌, flat_map, replicate, Some, None, codes, ◌≡◌}
 use Rattle.std.specs.Prelude.{refl}
 use Rattle.dos_words.specs.declared.request.Request.TheVariants.{Run, Replay, Inspect, Gen}
-use Rattle.dos_words.specs.declared.request.Request.TheVariants.{Migrate}
+use Rattle.dos_words.specs.declared.request.Request.TheVariants.{Migrate, Trace}
 use Rattle.dos_words.specs.Request.{request}
 use Rattle.dos_world.specs.declared.Post.{Post}
 use Rattle.dos_words.specs.Numbers.{posts_from}
@@ -85,6 +85,26 @@ migrate_no_to = refl
 migrate_name : request (codes "migrate" ∷ codes "--log" ∷ codes "l" ∷ codes "--to" ∷ codes "m"
     ∷ codes "a" ∷ []) ≡ None
 migrate_name = refl
+
+-- ---- trace
+
+trace_one : request (codes "trace" ∷ codes "--log" ∷ codes "l" ∷ codes "a" ∷ [])
+    ≡ Some (Trace 4 (codes "l") (codes "a" ∷ []))
+trace_one = refl
+
+trace_workers : request (codes "trace" ∷ codes "--workers" ∷ codes "32" ∷ codes "--log" ∷ codes "l"
+    ∷ codes "a" ∷ codes "b" ∷ []) ≡ Some (Trace 32 (codes "l") (codes "a" ∷ codes "b" ∷ []))
+trace_workers = refl
+
+trace_no_workers : request (codes "trace" ∷ codes "--workers" ∷ codes "0" ∷ codes "--log"
+    ∷ codes "l" ∷ codes "a" ∷ []) ≡ None
+trace_no_workers = refl
+
+trace_no_log : request (codes "trace" ∷ codes "a" ∷ []) ≡ None
+trace_no_log = refl
+
+trace_no_image : request (codes "trace" ∷ codes "--log" ∷ codes "l" ∷ []) ≡ None
+trace_no_image = refl
 
 -- ---- the bounds of each number: the lowest and the highest, and one past them
 

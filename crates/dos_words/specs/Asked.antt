@@ -9,7 +9,7 @@ use Rattle.dos_world.specs.declared.Post.{Post}
 use Rattle.dos_words.specs.Numbers.{Text, ◌>>=◌, number_within, posts_from}
 use Rattle.dos_words.specs.declared.request.Request.{Request}
 use Rattle.dos_words.specs.declared.request.Request.TheVariants.{Run, Replay, Inspect, Gen}
-use Rattle.dos_words.specs.declared.request.Request.TheVariants.{Migrate}
+use Rattle.dos_words.specs.declared.request.Request.TheVariants.{Migrate, Trace}
 
 -- the value of an option by its name, where it is given
 abbrev pub Values : Type 0
@@ -65,6 +65,14 @@ replay_asked value names = do
   log ← value (codes "log")
   images ← images_of names
   Some (Replay workers log images)
+
+-- `trace`, as `replay`
+abbrev pub trace_asked : Values → List Text → Option Request
+trace_asked value names = do
+  workers ← workers_of value
+  log ← value (codes "log")
+  images ← images_of names
+  Some (Trace workers log images)
 
 -- `inspect`, of one name
 abbrev pub inspect_asked : Values → List Text → Option Request

@@ -3,7 +3,7 @@ use Rattle.std.specs.Prelude.{Bool, true, false, List, [], ◌∷◌, Option, fi
 use Rattle.dos_words.specs.declared.request.Request.{Request}
 use Rattle.dos_words.specs.Numbers.{Text}
 use Rattle.dos_words.specs.Asked.{Values, run_asked, replay_asked, inspect_asked, gen_asked}
-use Rattle.dos_words.specs.Asked.{migrate_asked}
+use Rattle.dos_words.specs.Asked.{migrate_asked, trace_asked}
 
 -- its name, its options without their dashes, whether names follow them, and what it asks for
 pub record Command : Type 0 where
@@ -54,9 +54,18 @@ migrate = record {
   asked = migrate_asked;
 }
 
+-- runs by a log, and prints which frames change their owners
+abbrev pub trace_command : Command
+trace_command = record {
+  name = codes "trace";
+  options = codes "workers" ∷ codes "log" ∷ [];
+  has_names = true;
+  asked = trace_asked;
+}
+
 -- all of them
 abbrev pub commands : List Command
-commands = run ∷ replay ∷ inspect ∷ gen ∷ migrate ∷ []
+commands = run ∷ replay ∷ inspect ∷ gen ∷ migrate ∷ trace_command ∷ []
 
 -- the command of this name
 abbrev pub command_named : Text → Option Command

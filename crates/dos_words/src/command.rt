@@ -4,6 +4,7 @@ ghost use Rattle.clap.specs.Words.{App, Shape, app_of, shape_of, rule_of, with_r
 ghost use Rattle.clap.specs.Words.{with_subcommand, new_app};
 ghost use Rattle.clap.specs.declared.builder.command.Command.TheViews.{out-Command as fields_of};
 ghost use Rattle.dos_words.specs.Commands.{run, replay, inspect, gen, migrate};
+ghost use Rattle.dos_words.specs.Commands.{trace_command};
 ghost use Rattle.dos_words.specs.Clap.{option_rule, names_rule, command_shape, bare_app, words_app};
 
 use clap::{Arg, ArgAction, Command};
@@ -143,6 +144,15 @@ fn migrate_command<'a>(alloc: Global) -> Result<Command<'a>, AllocError>
     with_options(alloc, Command::new(alloc, "migrate"), &options)
 }
 
+fn traces_command<'a>(alloc: Global) -> Result<Command<'a>, AllocError>
+    ensures shape { IfOk result (λ c. shape_of c ≡ command_shape trace_command) }
+    ensures local { IfOk result (λ c. (fields_of c).has_globals ≡ false) }
+{
+    let options = ["workers", "log"];
+    let command = with_options(alloc, Command::new(alloc, "trace"), &options);
+    with_names(alloc, command)
+}
+
 /// The program itself. Its words are without its name; help is no word of it.
 fn bare_command<'a>(alloc: Global) -> Command<'a>
     ensures { app_of result ≡ bare_app }
@@ -209,7 +219,7 @@ fn files_command<'a>(alloc: Global) -> Result<Command<'a>, AllocError>
     with_command(runs_command(alloc), inspect_command(alloc))
 }
 
-/// The program with all commands but those of logs alone.
+/// The program with the commands of images.
 fn images_command<'a>(alloc: Global) -> Result<Command<'a>, AllocError>
     ensures { IfOk result (λ c.
         app_of c
@@ -219,9 +229,19 @@ fn images_command<'a>(alloc: Global) -> Result<Command<'a>, AllocError>
     with_command(files_command(alloc), gen_command(alloc))
 }
 
+/// The program with all commands but the last.
+fn first_commands<'a>(alloc: Global) -> Result<Command<'a>, AllocError>
+    ensures { IfOk result (λ c.
+        app_of c
+        ≡ fold with_subcommand bare_app
+        (map command_shape (run ∷ replay ∷ inspect ∷ gen ∷ migrate ∷ []))) }
+{
+    with_command(images_command(alloc), migrate_command(alloc))
+}
+
 /// The program with its commands.
 pub fn words_command<'a>(alloc: Global) -> Result<Command<'a>, AllocError>
     ensures { IfOk result (λ c. app_of c ≡ words_app) }
 {
-    with_command(images_command(alloc), migrate_command(alloc))
+    with_command(first_commands(alloc), traces_command(alloc))
 }

@@ -6,7 +6,7 @@ ghost use Rattle.clap.specs.Words.{app_of, kind_of, rows_of, found_of, subcomman
 ghost use Rattle.dos_words.specs.Numbers.{number_within};
 ghost use Rattle.dos_words.specs.Asked.{most_u64, number_or, number_if_given, posts_or_none};
 ghost use Rattle.dos_words.specs.Asked.{images_of, run_asked, replay_asked, inspect_asked};
-ghost use Rattle.dos_words.specs.Asked.{gen_asked, migrate_asked};
+ghost use Rattle.dos_words.specs.Asked.{gen_asked, migrate_asked, trace_asked};
 ghost use Rattle.dos_words.specs.Clap.{words_app, asked_by, clap_request};
 ghost use Rattle.dos_words.specs.Request.{request};
 ghost use Rattle.dos_words.specs.Reads.{Reads, Takes, values_found, names_given, names_found};
@@ -204,6 +204,21 @@ fn read_replay(alloc: Global, matches: &ArgMatches<'_>) -> Result<Request, Words
     })
 }
 
+/// What `trace` asks for.
+fn read_trace(alloc: Global, matches: &ArgMatches<'_>) -> Result<Request, WordsError>
+    ensures { Reads result (trace_asked (values_found matches.now) (names_found matches.now)) }
+{
+    let Some(workers) = number_of(matches, "workers", 1, 32, 4) else {
+        return Err(WordsError::Refused);
+    };
+    let (log, names) = files_of(alloc, matches)?;
+    Ok(Request::Trace {
+        workers,
+        log,
+        names,
+    })
+}
+
 /// What `inspect` asks for.
 fn read_inspect(alloc: Global, matches: &ArgMatches<'_>) -> Result<Request, WordsError>
     ensures { Reads result (inspect_asked (values_found matches.now) (names_found matches.now)) }
@@ -295,6 +310,9 @@ fn read_command(alloc: Global, name: &str, matches: &ArgMatches<'_>) -> Result<R
     }
     if name == "migrate" {
         return read_migrate(alloc, matches);
+    }
+    if name == "trace" {
+        return read_trace(alloc, matches);
     }
     Err(WordsError::Refused)
 }

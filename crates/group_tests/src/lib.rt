@@ -41,4 +41,6 @@ mod refusals;
 #[cfg(test)]
 mod rows;
 #[cfg(test)]
+mod traces;
+#[cfg(test)]
 mod workers;

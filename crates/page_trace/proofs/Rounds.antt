@@ -78,6 +78,23 @@ line_cause (Err LineFault) faults faults' only cause = cause.failed
 line_cause (Err (Run stop)) faults faults' only cause = absurd cc
 line_cause (Err Memory) faults faults' only cause = absurd cc
 
+-- without that, its sink's count stands
+pub line_steady : {T : Type 0} (r : Result T TraceStop) (faults faults' : ℕ)
+    → IfErr r (λ stop. stop ≡ LineFault) → OnOk r (faults' ≡ faults)
+    → (r ≡ Err LineFault → ⊥) → faults' ≡ faults
+line_steady (Ok x) faults faults' only steady other = steady
+line_steady (Err stop) faults faults' only steady other = absurd (other cc)
+
+pub no_fault : {T : Type 0} (x : T) → Ok x ≡ Err LineFault → ⊥
+no_fault x is = cc
+
+pub other_fault : (T U : Type 0) (stop : TraceStop)
+    → (◌≡◌ {A = Result T TraceStop} (Err stop) (Err LineFault) → ⊥)
+    → ◌≡◌ {A = Result U TraceStop} (Err stop) (Err LineFault) → ⊥
+other_fault T U stop differs is =
+    let same : stop ≡ LineFault = cc in
+    differs (ap (λ (s : TraceStop). (let result : Result T TraceStop = Err s in result)) same)
+
 -- the kernel hasn't failed
 pub still_running : {T : Type 0} (r : Result T TraceStop) (failed : Bool)
     → IfErr r (λ stop. stop ≡ LineFault) → failed ≡ false → OfRun r (λ ran. failed ≡ is_err ran)

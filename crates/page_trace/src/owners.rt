@@ -80,6 +80,7 @@ fn put_change<T: Sink>(
     ensures err { OnErr result (GrewByFront (T.told lines.old) (T.told lines.new)
         (change_lines (change_at round frame before after))) }
     ensures cause { HasCause (T.faults lines.old) (T.faults lines.new) result }
+    ensures steady { OnOk result (T.faults lines.new ≡ T.faults lines.old) }
 {
     if same_owner(before, after) {
         return Ok(());
@@ -113,6 +114,7 @@ fn note<T: Sink>(
     ensures err { OnErr result (GrewByFront (T.told lines.old) (T.told lines.new) (change_lines
         (change_at round frame (slice_index_or owners.old.items frame Free) after))) }
     ensures cause { HasCause (T.faults lines.old) (T.faults lines.new) result }
+    ensures steady { OnOk result (T.faults lines.new ≡ T.faults lines.old) }
 {
     let place = frame as usize;
     put_change(round, frame, owners[place], after, lines)?;
@@ -138,6 +140,7 @@ fn note_all<T: Sink>(
     ensures err { OnErr result (GrewByFront (T.told lines.old) (T.told lines.new) (change_lines
         (changes round (take high owners.old.items) (take high frames.now.owners)))) }
     ensures cause { HasCause (T.faults lines.old) (T.faults lines.new) result }
+    ensures steady { OnOk result (T.faults lines.new ≡ T.faults lines.old) }
 {
     for frame in 0..high {
         note(owners, round, frame, frames.owner(frame), lines)?;
@@ -172,6 +175,7 @@ impl Owners {
         ensures err { OnErr result (GrewByFront (T.told lines.old) (T.told lines.new)
             (change_lines (changes round self.old frames.now.owners))) }
         ensures cause { HasCause (T.faults lines.old) (T.faults lines.new) result }
+        ensures steady { OnOk result (T.faults lines.new ≡ T.faults lines.old) }
     {
         let _count = frames.count();
         let high = larger(self.high, frames.high());

@@ -1,5 +1,5 @@
 //! A run whose changes of owners are put round by round.
-ghost use Rattle.std.specs.Prelude.{◌≡◌, ◌≢◌, ◌≤◌, ◌-◌, false, is_err, length, IfErr, IfOk};
+ghost use Rattle.std.specs.Prelude.{◌≡◌, ◌≢◌, ◌≤◌, ◌-◌, false, is_err, length, Err, IfErr, IfOk};
 ghost use Rattle.std.specs.Prelude.{IsErrOf, OnErr, OnOk};
 ghost use Rattle.dos_io.specs.Outside.{GrewByFront, HasCause, grown};
 ghost use Rattle.dos_io.specs.Shims.{HasNoEnd};
@@ -36,6 +36,7 @@ fn put_round<T: Sink>(
     ensures err { OnErr result (GrewByFront (T.told lines.old) (T.told lines.new)
         (change_lines (changes round owners.old kernel.now.state.frames.owners))) }
     ensures cause { HasCause (T.faults lines.old) (T.faults lines.new) result }
+    ensures steady { OnOk result (T.faults lines.new ≡ T.faults lines.old) }
 {
     match owners.put_changes(round, &kernel.state().frames, lines) {
         Ok(()) => Ok(ended),
@@ -62,6 +63,7 @@ fn trace_next<B: Border, T: Sink, W: Workers>(
     ensures cause { IfErr result
         (λ stop. HasLineCause stop (T.faults lines.old) (T.faults lines.new)) }
     ensures later { T.faults lines.old ≤ T.faults lines.new }
+    ensures steady { result ≢ Err TraceStop.LineFault → T.faults lines.new ≡ T.faults lines.old }
     ensures sound { kernel.new.failed ≡ false → IsBetweenRounds kernel.new.state kernel.new.config }
     ensures config { kernel.new.config ≡ kernel.old.config }
     ensures failed { OfRun result (λ ran. kernel.new.failed ≡ is_err ran) }
@@ -103,6 +105,7 @@ fn trace_rounds<B: Border, T: Sink, W: Workers>(
     ensures cause { IfErr result
         (λ stop. HasLineCause stop (T.faults lines.old) (T.faults lines.new)) }
     ensures later { T.faults lines.old ≤ T.faults lines.new }
+    ensures steady { result ≢ Err TraceStop.LineFault → T.faults lines.new ≡ T.faults lines.old }
     ensures sound { kernel.new.failed ≡ false → IsBetweenRounds kernel.new.state kernel.new.config }
     ensures config { kernel.new.config ≡ kernel.old.config }
     ensures failed { OfRun result (λ ran. kernel.new.failed ≡ is_err ran) }
@@ -150,6 +153,7 @@ fn trace_over<B: Border, T: Sink, W: Workers>(
     ensures cause { IfErr result
         (λ stop. HasLineCause stop (T.faults lines.old) (T.faults lines.new)) }
     ensures later { T.faults lines.old ≤ T.faults lines.new }
+    ensures steady { result ≢ Err TraceStop.LineFault → T.faults lines.new ≡ T.faults lines.old }
     ensures sound { kernel.new.failed ≡ false → IsBetweenRounds kernel.new.state kernel.new.config }
     ensures config { kernel.new.config ≡ kernel.old.config }
     ensures follows { B.follows border.old border.new }
@@ -186,6 +190,7 @@ fn trace_owned<S: Shim, O: Sink, E: Sink, T: Sink, W: Workers>(
     ensures cause { IfErr result
         (λ stop. HasLineCause stop (T.faults lines.old) (T.faults lines.new)) }
     ensures later { T.faults lines.old ≤ T.faults lines.new }
+    ensures steady { result ≢ Err TraceStop.LineFault → T.faults lines.new ≡ T.faults lines.old }
     ensures sound { kernel.new.failed ≡ false → IsBetweenRounds kernel.new.state kernel.new.config }
     ensures config { kernel.new.config ≡ kernel.old.config }
     ensures follows { S.follows shim.old shim.new }
@@ -221,9 +226,11 @@ pub fn run_traced<S: Shim, O: Sink, E: Sink, T: Sink, W: Workers>(
         (traced (S.state shim.old).told (T.told lines.old))
         (traced (S.state shim.new).told (T.told lines.new)) }
     ensures memory { IsErrOf result TraceStop.Memory → kernel.new ≡ kernel.old }
+    ensures rested { IsErrOf result TraceStop.Memory → W.tally workers.new ≡ W.tally workers.old }
     ensures cause { IfErr result
         (λ stop. HasLineCause stop (T.faults lines.old) (T.faults lines.new)) }
     ensures later { T.faults lines.old ≤ T.faults lines.new }
+    ensures steady { result ≢ Err TraceStop.LineFault → T.faults lines.new ≡ T.faults lines.old }
     ensures sound { kernel.new.failed ≡ false → IsBetweenRounds kernel.new.state kernel.new.config }
     ensures config { kernel.new.config ≡ kernel.old.config }
     ensures follows { S.follows shim.old shim.new }

@@ -141,3 +141,22 @@ returns-in-Migrate g c =
       err_steady = λ _. refl;
       fixed = refl;
     }
+
+-- ---- trace
+
+pub returns-in-Trace : goal.returns-in-Trace
+returns-in-Trace g c =
+    let workers = c.in-Trace.workers in
+    let host = g.H.Host.told c.args.host.now in
+    record {
+      did = did_as _ _ _ _ (c.trace.ensures.did workers host) c.in-Trace.is;
+      leaves = leaves_as _ _ _ _ _ (c.trace.ensures.leaves workers host
+          (g.H.Host.faults c.args.host.now)) c.in-Trace.is;
+      files_later = c.trace.ensures.files_later;
+      host_later = le_refl _;
+      out_later = c.trace.ensures.out_later;
+      err_later = c.trace.ensures.err_later;
+      out_steady = c.trace.ensures.out_steady;
+      err_steady = c.trace.ensures.err_steady;
+      fixed = c.trace.ensures.fixed;
+    }

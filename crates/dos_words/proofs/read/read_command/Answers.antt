@@ -6,7 +6,7 @@ use Rattle.dos_words.specs.declared.request.Request.{Request}
 use Rattle.dos_words.specs.declared.error.WordsError.{WordsError}
 use Rattle.dos_words.specs.Numbers.{Text}
 use Rattle.dos_words.specs.Commands.{Command, command_named, run, replay, inspect, gen}
-use Rattle.dos_words.specs.Commands.{migrate}
+use Rattle.dos_words.specs.Commands.{migrate, trace_command}
 use Rattle.dos_words.specs.Clap.{values_among, names_among, asked_by}
 use Rattle.dos_words.specs.Reads.{Reads}
 use Rattle.dos_words.proofs.read.read_command.Goals as goal
@@ -23,8 +23,11 @@ later_named : (name : Text) (command : Command) (more : List Command)
 later_named name command more is = rw is refl
 
 -- those that come after a command
+abbrev behind_gen : List Command
+behind_gen = migrate ∷ trace_command ∷ []
+
 abbrev behind_inspect : List Command
-behind_inspect = gen ∷ migrate ∷ []
+behind_inspect = gen ∷ behind_gen
 
 abbrev behind_replay : List Command
 behind_replay = inspect ∷ behind_inspect
@@ -73,7 +76,7 @@ returns-then-eq-4 c =
     (later_named name run behind_run (sym c.if-eq.ensures)
     ∙ later_named name replay behind_replay (sym c.if-eq-2.ensures)
     ∙ later_named name inspect behind_inspect (sym c.if-eq-3.ensures)
-    ∙ first_named name gen (migrate ∷ []) (sym c.if-eq-4.ensures)) c.read_gen.ensures
+    ∙ first_named name gen behind_gen (sym c.if-eq-4.ensures)) c.read_gen.ensures
 
 pub returns-then-eq-5 : goal.returns-then-eq-5
 returns-then-eq-5 c =
@@ -82,8 +85,20 @@ returns-then-eq-5 c =
     (later_named name run behind_run (sym c.if-eq.ensures)
     ∙ later_named name replay behind_replay (sym c.if-eq-2.ensures)
     ∙ later_named name inspect behind_inspect (sym c.if-eq-3.ensures)
-    ∙ later_named name gen (migrate ∷ []) (sym c.if-eq-4.ensures)
-    ∙ first_named name migrate [] (sym c.if-eq-5.ensures)) c.read_migrate.ensures
+    ∙ later_named name gen behind_gen (sym c.if-eq-4.ensures)
+    ∙ first_named name migrate (trace_command ∷ []) (sym c.if-eq-5.ensures)) c.read_migrate.ensures
+
+pub returns-then-eq-6 : goal.returns-then-eq-6
+returns-then-eq-6 c =
+    let name : Text = c.args.name.now in
+    reads_named name (rows_of (found_of c.args.matches.now)) (Some trace_command)
+    c.read_trace.result
+    (later_named name run behind_run (sym c.if-eq.ensures)
+    ∙ later_named name replay behind_replay (sym c.if-eq-2.ensures)
+    ∙ later_named name inspect behind_inspect (sym c.if-eq-3.ensures)
+    ∙ later_named name gen behind_gen (sym c.if-eq-4.ensures)
+    ∙ later_named name migrate (trace_command ∷ []) (sym c.if-eq-5.ensures)
+    ∙ first_named name trace_command [] (sym c.if-eq-6.ensures)) c.read_trace.ensures
 
 pub returns : goal.returns
 returns c =
@@ -93,5 +108,6 @@ returns c =
     (later_named name run behind_run (sym c.if-eq.ensures)
     ∙ later_named name replay behind_replay (sym c.if-eq-2.ensures)
     ∙ later_named name inspect behind_inspect (sym c.if-eq-3.ensures)
-    ∙ later_named name gen (migrate ∷ []) (sym c.if-eq-4.ensures)
-    ∙ later_named name migrate [] (sym c.if-eq-5.ensures))
+    ∙ later_named name gen behind_gen (sym c.if-eq-4.ensures)
+    ∙ later_named name migrate (trace_command ∷ []) (sym c.if-eq-5.ensures)
+    ∙ later_named name trace_command [] (sym c.if-eq-6.ensures))

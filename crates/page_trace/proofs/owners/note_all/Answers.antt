@@ -22,6 +22,7 @@ loop-frame-init g c = record {
   told = grown-nothing _;
   few = omega arith;
   later = le_refl _;
+  steady = refl;
 }
 
 pub loop-frame-preserved : goal.loop-frame-preserved
@@ -40,6 +41,7 @@ loop-frame-preserved g c =
           c.in_ok-note.ensures.ok;
       few = omega (arith, c.loop-frame-test.true);
       later = le_trans inv.later c.note.ensures.cause.later;
+      steady = c.in_ok-note.ensures.steady ∙ inv.steady;
     }
 
 pub returns-in_err-note : goal.returns-in_err-note
@@ -64,6 +66,7 @@ returns-in_err-note g c =
         later = le_trans inv.later c.note.ensures.cause.later;
         failed = rose_later _ _ _ inv.later c.in_err-note.ensures.cause.failed;
       };
+      steady = tt;
     })
 
 pub returns : goal.returns
@@ -79,4 +82,5 @@ returns g c =
           (take k c.args.frames.now.owners)))) n;
       err = tt;
       cause = record { later = inv.later; failed = tt };
+      steady = inv.steady;
     }

@@ -13,4 +13,5 @@ invariant-loop-frame g l = record {
       (changes l.fn.round (take l.frame l.fn.owners.items) (take l.frame l.fn.frames.owners)));
   few : l.frame ≤ l.fn.high;
   later : g.T.Sink.faults l.fn.lines ≤ g.T.Sink.faults l.lines;
+  steady : g.T.Sink.faults l.lines ≡ g.T.Sink.faults l.fn.lines;
 }

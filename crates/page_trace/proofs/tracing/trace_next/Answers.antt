@@ -3,7 +3,7 @@ use Rattle.std.specs.Prelude.{is_err}
 use Rattle.dos_world.specs.declared.Config.{Config}
 use Rattle.kernel_calls.specs.declared.state.State.{State}
 use Rattle.dpg_run.proofs.RoundsRun.{between_here}
-use Rattle.page_trace.proofs.Rounds.{line_cause, round_put, still_running}
+use Rattle.page_trace.proofs.Rounds.{line_cause, line_steady, round_put, still_running}
 use Rattle.page_trace.proofs.tracing.trace_next.Goals as goal
 
 pub run_next-requires-clause-running : goal.run_next-requires-clause-running
@@ -38,6 +38,7 @@ returns-in-Ok g c =
       owners = put.kept;
       cause = line_cause c.put_round.result _ _ put.only put.cause;
       later = put.cause.later;
+      steady = line_steady c.put_round.result _ _ put.only put.steady;
       sound = c.run_next.ensures.sound;
       config = c.run_next.ensures.config;
       failed = still_running c.put_round.result c.run_next.new.kernel.failed put.only running;
@@ -58,6 +59,7 @@ returns-in-Err g c =
       owners = tt;
       cause = tt;
       later = le_refl _;
+      steady = λ _. refl;
       sound = c.run_next.ensures.sound;
       config = c.run_next.ensures.config;
       failed = c.run_next.ensures.failed ∙ ap is_err c.in-Err.is;

@@ -1,5 +1,6 @@
 use Rattle.page_trace.specs.Tracing.{traced_at}
-use Rattle.page_trace.proofs.Rounds.{of_run_cause, of_run_only, over_only, over_runs, over_traces}
+use Rattle.page_trace.proofs.Rounds.{no_fault, of_run_cause, of_run_only, over_only, over_runs}
+use Rattle.page_trace.proofs.Rounds.{over_traces}
 use Rattle.page_trace.proofs.tracing.trace_over.Goals as goal
 
 pub trace_rounds-requires-clause-running : goal.trace_rounds-requires-clause-running
@@ -30,6 +31,7 @@ returns-in-Ok g c =
       only = of_run_only c.end_run.result ended.stops;
       cause = of_run_cause c.end_run.result _ _ ended.stops;
       later = c.trace_rounds.ensures.later;
+      steady = λ _. rounds.steady (no_fault _);
       sound = c.trace_rounds.ensures.sound;
       config = c.trace_rounds.ensures.config;
       follows = g.met.B.Border.transitive _ _ _ c.trace_rounds.ensures.follows
@@ -52,6 +54,7 @@ returns-in-Err g c =
           c.in-Err.stop rounds.traces;
       cause = rounds.cause;
       later = c.trace_rounds.ensures.later;
+      steady = rounds.steady;
       sound = c.trace_rounds.ensures.sound;
       config = c.trace_rounds.ensures.config;
       follows = c.trace_rounds.ensures.follows;

@@ -35,6 +35,7 @@ returns g c =
       only = e.only;
       cause = e.cause;
       later = e.later;
+      steady = e.steady;
       sound = e.sound;
       config = e.config;
       follows = subst (g.S.Shim.follows c.args.shim.now) (sym shim_is) e.follows.3;

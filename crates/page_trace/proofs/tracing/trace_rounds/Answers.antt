@@ -1,8 +1,9 @@
 use Rattle.std.proofs.Common.{◌≡◌, ◌≤◌, ◌+◌, ◌-◌, ◌∙◌, arith, ℕ, le_refl, le_trans, refl, sym}
 use Rattle.std.proofs.lemmas.Result.{err_from_is_err_and}
 use Rattle.dpg_run.proofs.RoundsRun.{some_none, some_over, with_nothing}
-use Rattle.page_trace.proofs.Rounds.{cause_later, failed_as, in_limit, numbered, past_limit}
-use Rattle.page_trace.proofs.Rounds.{rounds_end, rounds_over, rounds_stop, some_more, traced_more}
+use Rattle.page_trace.proofs.Rounds.{cause_later, failed_as, in_limit, no_fault, numbered}
+use Rattle.page_trace.proofs.Rounds.{other_fault, past_limit, rounds_end, rounds_over, rounds_stop}
+use Rattle.page_trace.proofs.Rounds.{some_more, traced_more}
 use Rattle.page_trace.proofs.Traced.{traced_none}
 use Rattle.page_trace.proofs.tracing.trace_rounds.Given.{Over}
 use Rattle.page_trace.proofs.tracing.trace_rounds.Goals.{After-trace_next}
@@ -53,6 +54,7 @@ loop-round-init g c = record {
   told = c.requires.told;
   owners = c.requires.owners;
   later = le_refl _;
+  steady = refl;
   follows = g.met.B.Border.reflexive c.args.border.now;
   fixed = refl;
 }
@@ -77,6 +79,7 @@ returns-in_err-ending g c =
       told = tt;
       cause = cause_later _ _ _ _ inv.later c.in_err-ending.ensures.cause;
       later = le_trans inv.later next.later;
+      steady = λ other. c.in_err-ending.ensures.steady (other_fault _ _ _ other) ∙ inv.steady;
       sound = next.sound;
       config = next.config ∙ inv.config;
       failed = failed_as _ _ c.in_err-ending.ensures.failed;
@@ -98,6 +101,7 @@ returns-in-Some g c =
       told = c.in_ok-ending.ensures.traces.running;
       cause = tt;
       later = le_trans inv.later next.later;
+      steady = λ _. c.in_ok-ending.ensures.steady (no_fault _) ∙ inv.steady;
       sound = next.sound;
       config = next.config ∙ inv.config;
       failed = c.in_ok-ending.ensures.failed;
@@ -129,6 +133,7 @@ loop-round-preserved g c =
       told = traces.running;
       owners = c.in_ok-ending.ensures.owners;
       later = le_trans inv.later next.later;
+      steady = c.in_ok-ending.ensures.steady (no_fault _) ∙ inv.steady;
       follows = g.met.B.Border.transitive _ _ _ inv.follows next.follows;
       fixed = next.fixed ∙ inv.fixed;
     }
@@ -149,6 +154,7 @@ returns g c =
       told = inv.told;
       cause = tt;
       later = inv.later;
+      steady = λ _. inv.steady;
       sound = c.limit_ending.ensures.sound;
       config = inv.config;
       failed = inv.running;

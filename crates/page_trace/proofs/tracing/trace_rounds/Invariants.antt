@@ -21,6 +21,7 @@ invariant-loop-round g l = record {
   told : HasNoEnd (g.B.Border.state l.border).shim.told;
   owners : l.owners ≡ l.kernel.state.frames.owners;
   later : g.T.Sink.faults l.fn.lines ≤ g.T.Sink.faults l.lines;
+  steady : g.T.Sink.faults l.lines ≡ g.T.Sink.faults l.fn.lines;
   follows : g.B.Border.follows l.fn.border l.border;
   fixed : g.W.Workers.fixed l.workers ≡ g.W.Workers.fixed l.fn.workers;
 }
