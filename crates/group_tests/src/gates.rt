@@ -130,21 +130,24 @@ fn staying<R: Threads + Sync + Abort>(
 // where the system is long in running a worker's thread, the caller runs all packs.
 const TRIES: u32 = 8;
 
-// These words leave what is wanted at each try, where so many packs pass and these numbers; and in
-// one of the tries number 0 isn't held in vain.
+// These words leave what is wanted at each try, where so many packs pass in the first round or in
+// both, since a worker that was late leaves the second round to the caller, and these numbers; and
+// in one of the tries number 0 isn't held in vain.
 fn check_staying<R: Threads + Sync + Abort>(
     rt: &R,
     alloc: Global,
     words: &[&str],
     err: &str,
     wanted: u64,
-    passed: (u64, u64),
+    [first, both]: [u64; 2],
+    numbers: u64,
 ) {
     for _ in 0..TRIES {
         let gate = shared_gate(rt, alloc, wanted);
         staying(rt, alloc, &gate, words, err);
         let (passes, entered, missed) = gate.seen();
-        same(rt, (passes, entered), passed);
+        same(rt, entered, numbers);
+        same(rt, passes == first || passes == both, true);
         if missed == 0 {
             return;
         }
@@ -183,7 +186,7 @@ fn two_at_once_stealing(rt: HostRuntime) {
 
 #[test]
 fn two_at_once_staying(rt: HostRuntime) {
-    check_staying(&rt, rt.alloc(), &TWO, TWO_LIVE, 2, (4, 3));
+    check_staying(&rt, rt.alloc(), &TWO, TWO_LIVE, 2, [2, 4], 3);
 }
 
 // Each thread has a half: 0 is held until 2 has begun.
@@ -211,5 +214,5 @@ fn one_goes_round_stealing(rt: HostRuntime) {
 
 #[test]
 fn one_goes_round_staying(rt: HostRuntime) {
-    check_staying(&rt, rt.alloc(), &FOUR, FOUR_LIVE, 14, (8, 15));
+    check_staying(&rt, rt.alloc(), &FOUR, FOUR_LIVE, 14, [4, 8], 15);
 }
