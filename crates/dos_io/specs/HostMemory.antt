@@ -3,6 +3,7 @@ use Rattle.std.specs.Prelude.{ℕ, zero, suc, ◌-◌, Bool, true, false, List, 
 use Rattle.std.specs.Prelude.{drop, Option, Some, ◌==◌, if◌then◌else◌}
 use Rattle.dos_io.specs.Hosts.{Told}
 use Rattle.dos_io.specs.Calls.{CallState, succeeds}
+use Rattle.dos_io.specs.declared.host_question.HostQuestion.{HostQuestion}
 
 -- At most n pieces of these bytes: the first of so many bytes, the others of `size` bytes, the last
 -- one perhaps shorter. Each has a byte at least.
@@ -17,13 +18,14 @@ abbrev pub pieces_of : (first size : ℕ) → List ℕ → List (List ℕ)
 pieces_of first size bytes = cut (length bytes) first size bytes
 
 -- The bytes of input that are left, how many of them the first piece has, and each other piece; the
--- readings that are left; and its calls.
+-- readings that are left; its calls; and what it was asked.
 pub record HostState : Type 0 where
   pub left : List ℕ
   pub first : ℕ
   pub size : ℕ
   pub readings : List ℕ
   pub calls : CallState
+  pub asked : List HostQuestion
 
 -- what it tells
 abbrev pub told_by : HostState → Option Told

@@ -1,13 +1,14 @@
 // A host in memory, which fails at the calls that it is told to.
-ghost use Rattle.std.specs.Prelude.{◌≡◌, ◌≤◌, ◌<◌, is_ok, length, take, drop, IfOk, OnOk, OnErr};
-ghost use Rattle.std.specs.Prelude.{IfSome};
+ghost use Rattle.std.specs.Prelude.{◌≡◌, ◌≤◌, ◌<◌, ◌++◌, ◌∷◌, [], is_ok, length, take, drop};
+ghost use Rattle.std.specs.Prelude.{IfOk, OnOk, OnErr, IfSome};
 ghost use Rattle.dos_io.specs.Outside.{HasCause};
 ghost use Rattle.dos_io.specs.Calls.{no_calls, after_call};
 ghost use Rattle.dos_io.specs.Hosts.{taken, after_input, before_reading};
 ghost use Rattle.dos_io.specs.HostMemory.{told_by, input_succeeds, clock_succeeds, after_taking};
 
 use crate::calls::Calls;
-use crate::{Host, HostFault};
+use crate::host_trail::HostTrail;
+use crate::{Host, HostFault, HostQuestion};
 use std::alloc::{AllocError, Global};
 use std::marker::Model;
 
@@ -22,6 +23,7 @@ pub struct MemoryHost {
     clocks: Vec<u64>,
     read: usize,
     calls: Calls,
+    asked: HostTrail,
 }
 
 impl Model for MemoryHost {
@@ -36,6 +38,7 @@ impl Model for MemoryHost {
       size = h.size;
       readings = drop h.read h.clocks.items;
       calls = h.calls;
+      asked = h.asked.questions;
     } };
 
     ghost invariant = { λ h. (1 ≤ h.first) × (h.first ≤ h.size) × (h.given ≤ vec_len h.input)
@@ -59,6 +62,7 @@ impl MemoryHost {
           size = piece;
           readings = clocks.now;
           calls = no_calls failing.now;
+          asked = [];
         }) }
     {
         Ok(MemoryHost {
@@ -69,6 +73,7 @@ impl MemoryHost {
             clocks: Vec::from_slice(alloc, clocks)?,
             read: 0,
             calls: Calls::new(alloc, failing)?,
+            asked: HostTrail::new(),
         })
     }
 
@@ -108,6 +113,8 @@ impl Host for MemoryHost {
 
     ghost told = { told_by };
 
+    ghost asked = { λ h. h.asked };
+
     ghost faults = { λ h. h.calls.faults };
 
     fn input(&mut self, buf: &mut [u8]) -> Result<usize, HostFault>
@@ -123,8 +130,12 @@ impl Host for MemoryHost {
         ensures told_ok { OnOk result (told_by self.new ≡ after_input (length buf.old)
             (told_by self.old)) }
         ensures told_err { OnErr result (told_by self.new ≡ told_by self.old) }
+        ensures asked { self.new.asked
+            ≡ self.old.asked ++ HostQuestion.Bytes (length buf.old) ∷ [] }
         ensures cause { HasCause self.old.calls.faults self.new.calls.faults result }
+        ensures steady { OnOk result (self.new.calls.faults ≡ self.old.calls.faults) }
     {
+        self.asked = HostTrail::then(&self.asked, &HostQuestion::Bytes { most: buf.len() });
         if !self.calls.count(true) {
             return Err(HostFault {});
         }
@@ -141,8 +152,11 @@ impl Host for MemoryHost {
         ensures told_ok { IfOk result (λ n. told_by self.old ≡ before_reading n
             (told_by self.new)) }
         ensures told_err { OnErr result (told_by self.new ≡ told_by self.old) }
+        ensures asked { self.new.asked ≡ self.old.asked ++ HostQuestion.Reading ∷ [] }
         ensures cause { HasCause self.old.calls.faults self.new.calls.faults result }
+        ensures steady { OnOk result (self.new.calls.faults ≡ self.old.calls.faults) }
     {
+        self.asked = HostTrail::then(&self.asked, &HostQuestion::Reading);
         if !self.calls.count(self.read < self.clocks.len()) {
             return Err(HostFault {});
         }

@@ -1,10 +1,12 @@
 // The host over std: a reader, and the system's clock.
-ghost use Rattle.std.specs.Prelude.{◌≡◌, ◌≤◌, ◌<◌, None, take, drop, length, IfOk, OnOk, OnErr};
+ghost use Rattle.std.specs.Prelude.{◌≡◌, ◌≤◌, ◌<◌, ◌++◌, ◌∷◌, [], None, take, drop, length};
+ghost use Rattle.std.specs.Prelude.{IfOk, OnOk, OnErr};
 ghost use Rattle.std.specs.Io.KnownBytes.{Consumes, IsAtEnd, Keeps};
 ghost use Rattle.dos_io.specs.Outside.{HasCause, Rose, counted_to_limit};
 ghost use Rattle.dos_io.specs.System.{unread};
 
-use crate::{Host, HostFault};
+use crate::host_trail::HostTrail;
+use crate::{Host, HostFault, HostQuestion};
 use std::io::{self, Read};
 use std::time::{Clock, SystemTime, UNIX_EPOCH};
 
@@ -13,13 +15,14 @@ const MOST: usize = 4096;
 
 /// The host of a real run: input from a reader, which is `rt.stdin()`, and the system's clock.
 ///
-/// It tells nothing, since nobody knows what a terminal will give. What its reader gave stands in
-/// the clauses of `input`; std's clock says nothing of what it reads.
+/// It tells nothing of what it will give, since nobody knows what a terminal will. What its reader
+/// gave stands in the clauses of `input`; std's clock says nothing of what it reads.
 #[derive(Drop)]
 pub struct StdHost<'a, R: Clock, I: Read> {
     clock: &'a R,
     reader: I,
     faults: u64,
+    asked: HostTrail,
 }
 
 impl<'a, R: Clock, I: Read> StdHost<'a, R, I> {
@@ -27,11 +30,13 @@ impl<'a, R: Clock, I: Read> StdHost<'a, R, I> {
     pub fn new(reader: I, clock: &'a R) -> StdHost<'a, R, I>
         ensures reader { unread I.remaining result ≡ I.remaining reader }
         ensures faults { ⟦<StdHost<'a, R, I> as Host>⟧.faults result ≡ 0 }
+        ensures asked { ⟦<StdHost<'a, R, I> as Host>⟧.asked result ≡ [] }
     {
         StdHost {
             clock,
             reader,
             faults: 0,
+            asked: HostTrail::new(),
         }
     }
 
@@ -41,6 +46,7 @@ impl<'a, R: Clock, I: Read> StdHost<'a, R, I> {
         ensures later { self.old.faults ≤ self.new.faults }
         ensures rose { Rose self.old.faults self.new.faults }
         ensures reader { self.new.reader ≡ self.old.reader }
+        ensures asked { self.new.asked ≡ self.old.asked }
     {
         self.faults = self.faults.saturating_add(1);
         HostFault {}
@@ -87,6 +93,8 @@ impl<'a, R: Clock, I: Read> Host for StdHost<'a, R, I> {
     // tells.
     ghost told = { λ _. None };
 
+    ghost asked = { λ s. s.asked.questions };
+
     ghost faults = { λ s. s.faults };
 
     /// One read of the reader, for as many bytes as `buf` has, and 4096 at most: so a piece of the
@@ -110,8 +118,11 @@ impl<'a, R: Clock, I: Read> Host for StdHost<'a, R, I> {
         // As of every host.
         ensures short { IfOk result (λ k. k ≤ length buf.old) }
         ensures rest { IfOk result (λ k. drop k buf.new ≡ drop k buf.old) }
+        ensures asked { self.new.asked.questions
+            ≡ self.old.asked.questions ++ HostQuestion.Bytes (length buf.old) ∷ [] }
         ensures cause { HasCause self.old.faults self.new.faults result }
     {
+        self.asked = HostTrail::then(&self.asked, &HostQuestion::Bytes { most: buf.len() });
         match read_front(&mut self.reader, buf) {
             Ok(count) => Ok(count),
             Err(_) => Err(self.fault()),
@@ -126,8 +137,11 @@ impl<'a, R: Clock, I: Read> Host for StdHost<'a, R, I> {
         ensures counted { OnErr result (self.new.faults ≡ counted_to_limit self.old.faults) }
 
         // As of every host.
+        ensures asked { self.new.asked.questions
+            ≡ self.old.asked.questions ++ HostQuestion.Reading ∷ [] }
         ensures cause { HasCause self.old.faults self.new.faults result }
     {
+        self.asked = HostTrail::then(&self.asked, &HostQuestion::Reading);
         match nanoseconds(self.clock) {
             Some(reading) => Ok(reading),
             None => Err(self.fault()),

@@ -1,5 +1,6 @@
 //! What a call asks of its files and its host, and what it puts to its outputs, in one order.
-ghost use Rattle.std.specs.Prelude.{◌≡◌, ◌<◌, ◌≤◌, length, drop, None, false, IfOk};
+ghost use Rattle.std.specs.Prelude.{◌≡◌, ◌<◌, ◌≤◌, ◌++◌, ◌∷◌, [], length, drop, None, false, IfOk};
+ghost use Rattle.std.specs.Prelude.{OnOk};
 ghost use Rattle.dos_io.specs.Outside.{HasCause};
 ghost use Rattle.dos_io.specs.Memory.{calls_of};
 
@@ -7,7 +8,9 @@ use crate::calls::LOG;
 use crate::checks::same_at;
 use crate::machine_words::add_words;
 use dos_cmd::dos_main;
-use dos_io::{FileError, Files, Host, HostFault, MemoryFiles, MemoryHost, Sink, SinkFault};
+use dos_io::{
+    FileError, Files, Host, HostFault, HostQuestion, MemoryFiles, MemoryHost, Sink, SinkFault,
+};
 use std::alloc::{AllocError, Global};
 use std::cell::RefCell;
 use std::process::Abort;
@@ -66,13 +69,19 @@ struct NotedHost<'a> {
 impl Host for NotedHost<'_> {
     ghost told = { λ _. None };
 
+    ghost asked = { λ s. s.host.asked };
+
     ghost faults = { λ s. s.host.calls.faults };
 
     fn input(&mut self, buf: &mut [u8]) -> Result<usize, HostFault>
         requires { 0 < length buf.old }
         ensures short { IfOk result (λ k. k ≤ length buf.old) }
         ensures rest { IfOk result (λ k. drop k buf.new ≡ drop k buf.old) }
+        ensures asked { self.new.host.asked
+            ≡ self.old.host.asked ++ HostQuestion.Bytes (length buf.old) ∷ [] }
         ensures cause { HasCause self.old.host.calls.faults self.new.host.calls.faults result }
+        ensures steady { OnOk result (self.new.host.calls.faults
+            ≡ self.old.host.calls.faults) }
     {
         note(self.events, "input", b"");
         self.host.input(buf)

@@ -17,12 +17,16 @@ input-tells g c = record {
   rest = c.ensures.rest;
   told_ok = on_ok c.result refl;
   told_err = on_err c.result refl;
+  asked = c.ensures.asked;
   cause = c.ensures.cause;
+  steady = c.ensures.steady;
 }
 
 pub clock-tells : goal.clock-tells
 clock-tells g c = record {
   told_ok = on_ok c.result refl;
   told_err = on_err c.result refl;
+  asked = c.ensures.asked;
   cause = c.ensures.cause;
+  steady = c.ensures.steady;
 }
