@@ -16,6 +16,7 @@ pub mod TranslationLaws
 pub mod PostLaws
 pub mod LedgerLaws
 pub mod RecorderLaws
+pub mod AskingCalls
 pub mod ItemLaws
 mod ItemExamples
 pub mod SpellingLaws

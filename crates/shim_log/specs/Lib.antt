@@ -6,6 +6,8 @@ pub mod Room
 pub mod EntriesText
 pub mod Ledger
 pub mod RecorderFollows
+pub mod Asking
+pub mod AskingLaws
 pub mod Gives
 pub mod Views
 pub mod Replay

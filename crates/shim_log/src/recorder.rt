@@ -36,11 +36,15 @@ impl<'h, H: Host> Shim for Recorder<'h, H> {
     ghost use Rattle.std.proofs.Common.{rules, refl, ◌∙◌};
     ghost use Rattle.shim_log.specs.Ledger.{recorder_state, RecorderFollows};
     ghost use Rattle.shim_log.specs.RecorderFollows.{follows_itself, follows_on};
+    ghost use Rattle.shim_log.specs.Asking.{RecorderAsks};
+    ghost use Rattle.shim_log.specs.AskingLaws.{asks_nothing, asks_on};
 
     ghost state = { λ s. recorder_state s.ledger };
 
     ghost follows = { λ s t. (t.host.ghost_name ≡ s.host.ghost_name)
         × RecorderFollows s.ledger t.ledger (H.told s.host.now) (H.told t.host.now)
+        (H.faults s.host.now) (H.faults t.host.now)
+        × RecorderAsks s.ledger t.ledger (H.asked s.host.now) (H.asked t.host.now)
         (H.faults s.host.now) (H.faults t.host.now) };
 
     fn signals(&mut self, round: u32, list: &mut SignalList) -> Result<(), ShimStop> {
@@ -94,8 +98,8 @@ impl<'h, H: Host> Shim for Recorder<'h, H> {
 
     ghost reflexive = { λ s. (
       refl,
-      follows_itself s.ledger (H.told s.host.now)
-          (H.faults s.host.now),
+      follows_itself s.ledger (H.told s.host.now) (H.faults s.host.now),
+      asks_nothing s.ledger (H.asked s.host.now) (H.faults s.host.now),
     ) };
 
     ghost transitive = { λ s t u p q. (
@@ -103,6 +107,9 @@ impl<'h, H: Host> Shim for Recorder<'h, H> {
       follows_on s.ledger t.ledger u.ledger (H.told s.host.now)
           (H.told t.host.now) (H.told u.host.now) (H.faults s.host.now) (H.faults t.host.now)
           (H.faults u.host.now) p.1 q.1,
+      asks_on s.ledger t.ledger u.ledger (H.asked s.host.now) (H.asked t.host.now)
+          (H.asked u.host.now) (H.faults s.host.now) (H.faults t.host.now)
+          (H.faults u.host.now) p.2 q.2,
     ) };
 }
 

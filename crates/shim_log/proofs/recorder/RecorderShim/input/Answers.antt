@@ -1,5 +1,7 @@
-use Rattle.std.proofs.Common.{ℕ, subst, arith, refl}
+use Rattle.std.proofs.Common.{ℕ, [], ◌∷◌, ◌++◌, ◌∙◌, ap, subst, arith, refl}
+use Rattle.dos_io.specs.declared.host_question.HostQuestion.TheVariants.{Bytes}
 use Rattle.shim_log.proofs.RecorderLaws.{adds_ok, adds_follow, given_input, stops_follow}
+use Rattle.shim_log.proofs.AskingCalls.{answer_asks, clock_kept, stop_asks, stop_asks_nothing}
 use Rattle.dos_world.specs.declared.Question.TheVariants.{Input}
 use Rattle.shim_log.specs.Room.{GrowsBy, longest}
 use Rattle.shim_log.proofs.LedgerLaws.{input_grows}
@@ -15,6 +17,12 @@ returns-in-Ok-clause-follows g c = (
   adds_follow _ _ _ _ _ _ _ _ _ _ c.requires.told c.in_ok-make_room.ensures.same
       c.add_input.ensures c.input.ensures.cause.later
       (given_input _ _ _ _ _ _ _ _ _ c.in-Ok.ensures.told_ok c.in-Ok.ensures.bytes),
+  answer_asks _ _ _ _ _ _ _ (clock_kept c.args.self.now.ledger _ _ _ _ _
+      c.in_ok-make_room.ensures.same
+      c.add_input.ensures)
+      (adds_ok c.args.self.now.ledger c.make_room.new.self _ _ _ _ c.requires.told
+      c.in_ok-make_room.ensures.same c.add_input.ensures) c.input.ensures.asked
+      c.in-Ok.ensures.steady,
 )
 
 pub returns-in-Err-clause-follows : goal.returns-in-Err-clause-follows
@@ -23,6 +31,11 @@ returns-in-Err-clause-follows g c = (
   stops_follow c.args.self.now.ledger c.make_room.new.self c.stop.new.self
       c.make_room.new.self.room _ _ _ _ _ _ c.in_ok-make_room.ensures.same c.stop.ensures.after
       c.in-Err.ensures.told_err c.input.ensures.cause.later (λ _. c.in-Err.ensures.cause.failed),
+  stop_asks c.args.self.now.ledger c.make_room.new.self c.stop.new.self
+      c.make_room.new.self.room _ _ _ _ _ _ c.in_ok-make_room.ensures.same c.stop.ensures.after
+      (c.input.ensures.asked
+      ∙ ap (λ (n : ℕ). g.H.Host.asked c.args.self.now.host.now ++ Bytes n ∷ [])
+      (omega (arith, c.from.ensures))) (λ none. absurd none),
 )
 
 pub returns-in_err-make_room-clause-follows : goal.returns-in_err-make_room-clause-follows
@@ -32,6 +45,10 @@ returns-in_err-make_room-clause-follows g c = (
       (record c.args.self.now.ledger { room = c.make_room.new.self.room }) c.make_room.new.self
       c.make_room.new.self.room _ _ _ _ _ _ refl c.in_err-make_room.ensures.err.1 refl (omega arith)
       (λ e. absurd (c.in_err-make_room.ensures.err.0 e)),
+  stop_asks_nothing c.args.self.now.ledger
+      (record c.args.self.now.ledger { room = c.make_room.new.self.room }) c.make_room.new.self
+      c.make_room.new.self.room _ _ _ _ refl c.in_err-make_room.ensures.err.1
+      c.in_err-make_room.ensures.err.0,
 )
 
 pub make_room-requires-clause-grows : goal.make_room-requires-clause-grows

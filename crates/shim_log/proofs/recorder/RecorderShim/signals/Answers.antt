@@ -1,9 +1,11 @@
 use Rattle.std.proofs.Common.{List, subst, ◌∙◌, arith, refl, sym, ap}
+use Rattle.std.proofs.lemmas.List.{append-nil}
 use Rattle.dos_world.specs.declared.Post.{Post}
 use Rattle.dos_io.specs.declared.exchange.Exchange.TheVariants.{Signals}
 use Rattle.dos_io.specs.Given.{posts_in}
 use Rattle.shim_log.specs.Ledger.{LedgerState}
 use Rattle.shim_log.proofs.RecorderLaws.{stops_follow, adds_ok, adds_follow, given_posts}
+use Rattle.shim_log.proofs.AskingCalls.{answer_asks, clock_kept, stop_asks_nothing}
 use Rattle.shim_log.specs.Room.{GrowsBy}
 use Rattle.shim_log.proofs.GrowingLaws.{fits_grown}
 use Rattle.shim_log.proofs.recorder.RecorderShim.signals.Goals as goal
@@ -20,6 +22,11 @@ returns-clause-follows g c = (
       (given_posts _ _ _ _ _ _ (c.posts_of.ensures
       ∙ ap (λ (b : LedgerState). posts_in b.posts c.args.round)
       (sym c.in_ok-make_room.ensures.same))),
+  answer_asks _ _ _ _ _ _ _ (clock_kept c.args.self.now.ledger _ _ _ _ _
+      c.in_ok-make_room.ensures.same
+      c.add_signals.ensures)
+      (adds_ok c.args.self.now.ledger c.make_room.new.self _ _ _ _ c.requires
+      c.in_ok-make_room.ensures.same c.add_signals.ensures) (sym (append-nil _)) refl,
 )
 
 pub returns-in_err-make_room-clause-follows : goal.returns-in_err-make_room-clause-follows
@@ -29,6 +36,10 @@ returns-in_err-make_room-clause-follows g c = (
       (record c.args.self.now.ledger { room = c.make_room.new.self.room }) c.make_room.new.self
       c.make_room.new.self.room _ _ _ _ _ _ refl c.in_err-make_room.ensures.err.1 refl (omega arith)
       (λ e. absurd (c.in_err-make_room.ensures.err.0 e)),
+  stop_asks_nothing c.args.self.now.ledger
+      (record c.args.self.now.ledger { room = c.make_room.new.self.room }) c.make_room.new.self
+      c.make_room.new.self.room _ _ _ _ refl c.in_err-make_room.ensures.err.1
+      c.in_err-make_room.ensures.err.0,
 )
 
 -- with the round's posts, which are its longest answer
