@@ -1,4 +1,5 @@
 pub mod Calls
+pub mod FileCalls
 pub mod Memory
 pub mod HostMemory
 pub mod HostFilled

@@ -2,6 +2,7 @@
 use Rattle.std.specs.Prelude.{ℕ, Bool, true, List, Option, option_map, is_some}
 use Rattle.std.specs.BTreeMap.{get_by_text}
 use Rattle.dos_io.specs.Calls.{CallState, succeeds}
+use Rattle.dos_io.specs.FileCalls.{FileCall}
 use Rattle.dos_io.specs.declared.memory.MemoryFiles.{MemoryFiles}
 
 -- the content that is held under a name
@@ -11,6 +12,10 @@ held files name = option_map (λ content. content.items) (get_by_text files.cont
 -- the calls of get and set so far
 abbrev pub calls_of : MemoryFiles → CallState
 calls_of files = files.calls
+
+-- what they were asked so far
+abbrev pub asked_of : MemoryFiles → List FileCall
+asked_of files = files.asked.calls
 
 -- the next call succeeds, if it gets this name: something is held under it
 abbrev pub get_succeeds : MemoryFiles → List ℕ → Bool

@@ -1,6 +1,7 @@
 // Named files, read and written whole.
 ghost use Rattle.std.specs.Prelude.{◌≡◌, ◌≢◌, IsTrue, Bool, OnOk, Some, ◌<◌, ◌≤◌, List, ℕ, Option};
-ghost use Rattle.std.specs.Prelude.{length, IfOk, IfSome, IsErrOf};
+ghost use Rattle.std.specs.Prelude.{length, IfOk, IfSome, IsErrOf, [], ◌∷◌, ◌++◌};
+ghost use Rattle.dos_io.specs.FileCalls.{FileCall, getting, setting};
 ghost use Rattle.dos_io.specs.Outside.{Rose};
 ghost use Rattle.dos_io.specs.declared.files.FileError.TheVariants.{Memory};
 
@@ -49,6 +50,9 @@ pub trait Files {
     /// How often a call has failed by a fault. It never falls, and stands still at 2^64 - 1.
     ghost faults: { Self → ℕ };
 
+    /// The calls so far, in order, whatever they answered.
+    ghost asked: { Self → List FileCall };
+
     /// The content of a name, if it has at most `limit` bytes.
     fn get(&mut self, name: &str, limit: u64) -> Result<Vec<u8>, FileError>
         ensures bytes { IfOk result (λ v. IfSome (content self.old name.now) (λ t. v.items ≡ t)) }
@@ -59,6 +63,7 @@ pub trait Files {
             (λ t. limit < length t) }
         ensures fault { IsErrOf result FileError.Fault → Rose (faults self.old) (faults self.new) }
 
+        ensures asked { asked self.new ≡ asked self.old ++ getting name.now ∷ [] }
         ensures stays { (n : List ℕ) → content self.new n ≡ content self.old n }
         ensures tells { tells self.new ≡ tells self.old }
         ensures later { faults self.old ≤ faults self.new };
@@ -74,6 +79,7 @@ pub trait Files {
         ensures never { result ≢ Err FileError.TooLong }
         ensures fault { IsErrOf result FileError.Fault → Rose (faults self.old) (faults self.new) }
 
+        ensures asked { asked self.new ≡ asked self.old ++ setting name.now ∷ [] }
         ensures others { (n : List ℕ) → n ≢ name.now → content self.new n ≡ content self.old n }
         ensures tells { tells self.new ≡ tells self.old }
         ensures later { faults self.old ≤ faults self.new };

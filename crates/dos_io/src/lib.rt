@@ -7,6 +7,7 @@
 //! to; the forms over std tell nothing.
 #![tactic(auto)]
 
+mod asked_files;
 mod border;
 mod calls;
 mod exchange;

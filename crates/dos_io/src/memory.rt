@@ -1,11 +1,13 @@
 // A sink and files in memory, which fail at the calls that they are told to.
 ghost use Rattle.std.specs.Prelude.{◌≡◌, ◌≢◌, ◌↔◌, ◌<◌, ◌≤◌, ℕ, List, [], Some, None, not, true};
 ghost use Rattle.std.specs.Prelude.{is_ok, length, string_bytes, IsTrue, OnOk, OnErr, IfOk};
-ghost use Rattle.std.specs.Prelude.{IfSome, IsErrOf};
+ghost use Rattle.std.specs.Prelude.{IfSome, IsErrOf, ◌∷◌, ◌++◌};
 ghost use Rattle.dos_io.specs.Outside.{grown, GrewByFront, HasCause, Rose};
 ghost use Rattle.dos_io.specs.Calls.{no_calls, after_call, put_succeeds, after_put};
-ghost use Rattle.dos_io.specs.Memory.{held, calls_of, get_succeeds, set_succeeds};
+ghost use Rattle.dos_io.specs.FileCalls.{getting, setting};
+ghost use Rattle.dos_io.specs.Memory.{asked_of, held, calls_of, get_succeeds, set_succeeds};
 
+use crate::asked_files::AskedFiles;
 use crate::calls::Calls;
 use crate::{FileError, Files, Sink, SinkFault};
 use std::alloc::{AllocError, Global};
@@ -92,6 +94,7 @@ pub struct MemoryFiles {
     alloc: Global,
     contents: BTreeMap<String, Vec<u8>>,
     calls: Calls,
+    asked: AskedFiles,
 }
 
 impl MemoryFiles {
@@ -100,11 +103,13 @@ impl MemoryFiles {
     pub fn new(alloc: Global, failing: &[u32]) -> Result<MemoryFiles, AllocError>
         ensures empty { IfOk result (λ files. (n : List ℕ) → held files n ≡ None) }
         ensures calls { IfOk result (λ files. calls_of files ≡ no_calls failing.now) }
+        ensures asked { IfOk result (λ files. asked_of files ≡ []) }
     {
         Ok(MemoryFiles {
             alloc,
             contents: BTreeMap::new(alloc),
             calls: Calls::new(alloc, failing)?,
+            asked: AskedFiles::new(),
         })
     }
 
@@ -114,6 +119,7 @@ impl MemoryFiles {
         ensures others { (n : List ℕ) → n ≢ name.now → held self.new n ≡ held self.old n }
         ensures err { OnErr result (held self.new name.now ≡ held self.old name.now) }
         ensures calls { calls_of self.new ≡ calls_of self.old }
+        ensures asked { asked_of self.new ≡ asked_of self.old }
     {
         let (key, content) = owned(self.alloc, name, bytes)?;
         self.contents.insert(key, content)?;
@@ -154,6 +160,8 @@ impl Files for MemoryFiles {
 
     ghost faults = { λ s. (calls_of s).faults };
 
+    ghost asked = { asked_of };
+
     fn get(&mut self, name: &str, limit: u64) -> Result<Vec<u8>, FileError>
         ensures answer { IsErrOf result FileError.Fault
             ↔ IsTrue (not (get_succeeds self.old name.now)) }
@@ -167,9 +175,11 @@ impl Files for MemoryFiles {
             (λ t. limit < length t) }
         ensures fault { IsErrOf result FileError.Fault → Rose (calls_of self.old).faults
             (calls_of self.new).faults }
+        ensures asked { asked_of self.new ≡ asked_of self.old ++ getting name.now ∷ [] }
         ensures stays { (n : List ℕ) → held self.new n ≡ held self.old n }
         ensures later { (calls_of self.old).faults ≤ (calls_of self.new).faults }
     {
+        self.asked.get(name.as_bytes());
         if !self.calls.count(self.contents.contains_key(name)) {
             return Err(FileError::Fault);
         }
@@ -186,9 +196,11 @@ impl Files for MemoryFiles {
         ensures never { result ≢ Err FileError.TooLong }
         ensures fault { IsErrOf result FileError.Fault → Rose (calls_of self.old).faults
             (calls_of self.new).faults }
+        ensures asked { asked_of self.new ≡ asked_of self.old ++ setting name.now ∷ [] }
         ensures others { (n : List ℕ) → n ≢ name.now → held self.new n ≡ held self.old n }
         ensures later { (calls_of self.old).faults ≤ (calls_of self.new).faults }
     {
+        self.asked.set(name.as_bytes());
         if !self.calls.count(true) {
             return Err(FileError::Fault);
         }

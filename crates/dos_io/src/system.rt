@@ -1,11 +1,13 @@
 // The outside over std. It tells nothing that all sinks and files tell; what its writers and
 // readers did stands in its own clauses.
 ghost use Rattle.std.specs.Prelude.{◌≡◌, ◌≢◌, None, false, ◌<◌, ◌≤◌, ◌+◌, ℕ, List, length, IfOk};
-ghost use Rattle.std.specs.Prelude.{OnOk, OnErr, IfErr, IfSome, IsErrOf, take};
+ghost use Rattle.std.specs.Prelude.{OnOk, OnErr, IfErr, IfSome, IsErrOf, take, [], ◌∷◌, ◌++◌};
 ghost use Rattle.std.specs.Io.KnownBytes.{Appends, Consumes, IsAtEnd, Keeps};
+ghost use Rattle.dos_io.specs.FileCalls.{getting, setting};
 ghost use Rattle.dos_io.specs.Outside.{HasCause, counted_to_limit};
 ghost use Rattle.dos_io.specs.System.{writer_bytes, Gave, GaveMore, Took};
 
+use crate::asked_files::AskedFiles;
 use crate::{FileError, Files, Sink, SinkFault};
 use std::alloc::Global;
 use std::fs;
@@ -74,17 +76,21 @@ pub struct StdFiles<'a, R: fs::Files> {
     rt: &'a R,
     alloc: Global,
     faults: u64,
+    asked: AskedFiles,
 }
 
 impl<'a, R: fs::Files> StdFiles<'a, R> {
-    /// The runtime's files, with no fault so far. What is read goes into memory of `alloc`.
+    /// The runtime's files, with no fault so far, and asked nothing yet. What is read goes into
+    /// memory of `alloc`.
     pub fn new(rt: &'a R, alloc: Global) -> StdFiles<'a, R>
-        ensures { ⟦<StdFiles<'a, R> as Files>⟧.faults result ≡ 0 }
+        ensures faults { ⟦<StdFiles<'a, R> as Files>⟧.faults result ≡ 0 }
+        ensures asked { ⟦<StdFiles<'a, R> as Files>⟧.asked result ≡ [] }
     {
         StdFiles {
             rt,
             alloc,
             faults: 0,
+            asked: AskedFiles::new(),
         }
     }
 
@@ -150,11 +156,15 @@ impl<'a, R: fs::Files> Files for StdFiles<'a, R> {
 
     ghost faults = { λ s. s.faults };
 
+    ghost asked = { λ s. s.asked.calls };
+
     /// What a file gave, to its end, of which it takes at most one byte more than the limit. The
     /// count of faults rises by one at a fault, and at no other answer.
     fn get(&mut self, name: &str, limit: u64) -> Result<Vec<u8>, FileError>
         ensures gave { IfOk result (λ v. Gave R.File.remaining v.items) }
         ensures within { IfOk result (λ v. length v.items ≤ limit) }
+        ensures asked { ⟦<StdFiles<'a, R> as Files>⟧.asked self.new
+            ≡ ⟦<StdFiles<'a, R> as Files>⟧.asked self.old ++ getting name.now ∷ [] }
         ensures longer { IsErrOf result FileError.TooLong → GaveMore R.File.remaining limit }
         ensures counted { IsErrOf result FileError.Fault
             → ⟦<StdFiles<'a, R> as Files>⟧.faults self.new
@@ -165,6 +175,7 @@ impl<'a, R: fs::Files> Files for StdFiles<'a, R> {
             ≤ ⟦<StdFiles<'a, R> as Files>⟧.faults
             self.new }
     {
+        self.asked.get(name.as_bytes());
         let Ok(mut file) = fs::open(self.rt, name) else {
             return self.fault();
         };
@@ -178,6 +189,8 @@ impl<'a, R: fs::Files> Files for StdFiles<'a, R> {
     /// no other answer.
     fn set(&mut self, name: &str, bytes: &[u8]) -> Result<(), FileError>
         ensures took { OnOk result (Took R.File.contents bytes.now) }
+        ensures asked { ⟦<StdFiles<'a, R> as Files>⟧.asked self.new
+            ≡ ⟦<StdFiles<'a, R> as Files>⟧.asked self.old ++ setting name.now ∷ [] }
         ensures steady { OnOk result (⟦<StdFiles<'a, R> as Files>⟧.faults self.new
             ≡ ⟦<StdFiles<'a, R> as Files>⟧.faults self.old) }
         ensures fault { IfErr result (λ e. e ≡ FileError.Fault) }
@@ -187,6 +200,7 @@ impl<'a, R: fs::Files> Files for StdFiles<'a, R> {
             ≤ ⟦<StdFiles<'a, R> as Files>⟧.faults
             self.new }
     {
+        self.asked.set(name.as_bytes());
         let Ok(mut file) = fs::create(self.rt, name) else {
             return self.fault();
         };

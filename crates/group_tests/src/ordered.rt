@@ -2,7 +2,7 @@
 ghost use Rattle.std.specs.Prelude.{◌≡◌, ◌<◌, ◌≤◌, ◌++◌, ◌∷◌, [], length, drop, None, false, IfOk};
 ghost use Rattle.std.specs.Prelude.{OnOk};
 ghost use Rattle.dos_io.specs.Outside.{HasCause};
-ghost use Rattle.dos_io.specs.Memory.{calls_of};
+ghost use Rattle.dos_io.specs.Memory.{asked_of, calls_of};
 
 use crate::calls::LOG;
 use crate::checks::same_at;
@@ -47,6 +47,8 @@ impl Files for NotedFiles<'_> {
     ghost tells = { λ _. false };
 
     ghost faults = { λ s. (calls_of s.files).faults };
+
+    ghost asked = { λ s. asked_of s.files };
 
     fn get(&mut self, name: &str, limit: u64) -> Result<Vec<u8>, FileError> {
         note(self.events, "get ", name.as_bytes());

@@ -29,6 +29,17 @@ IsLogRefusal verdict (load.Log why) = verdict ≡ Err why
 IsLogRefusal verdict load.Fault = ⊤
 IsLogRefusal verdict load.Memory = ⊤
 
+-- the file itself is refused, and not what is in it held against the images
+abbrev pub IsOfFile : LogRefusal → Type 0
+IsOfFile (Images logged given) = ⊥
+IsOfFile (Digest number digest kept) = ⊥
+IsOfFile _ = ⊤
+
+-- so of a refusal
+abbrev pub IsForFile : LoadError → Type 0
+IsForFile (load.Log why) = IsOfFile why
+IsForFile _ = ⊤
+
 -- ---- the images
 
 -- The first of these images, counted from this number, whose digest isn't the log's.

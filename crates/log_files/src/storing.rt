@@ -1,6 +1,7 @@
 // A log, written to its file.
 ghost use Rattle.std.specs.Prelude.{◌≡◌, ◌≢◌, ◌≤◌, ℕ, List, IsTrue, IfSome, IsErrOf, OnOk, Some};
-ghost use Rattle.std.specs.Prelude.{Err, IfOk};
+ghost use Rattle.std.specs.Prelude.{Err, IfOk, ◌⊎◌, [], ◌∷◌, ◌++◌};
+ghost use Rattle.dos_io.specs.FileCalls.{setting};
 ghost use Rattle.dos_io.specs.Outside.{Rose};
 ghost use Rattle.shim_log.specs.LogText.{logtext};
 
@@ -33,6 +34,9 @@ pub fn store_log<F: Files>(
     ensures never { result ≢ Err FileError.TooLong }
     ensures fault { IsErrOf result FileError.Fault
         → Rose (F.faults files.old) (F.faults files.new) }
+    // once, or never where memory ran out before
+    ensures asked { (F.asked files.new ≡ F.asked files.old ++ setting name.now ∷ [])
+        ⊎ ((result ≡ Err FileError.Memory) × (F.asked files.new ≡ F.asked files.old)) }
     ensures others { (n : List ℕ) → n ≢ name.now → F.content files.new n ≡ F.content files.old n }
     ensures tells { F.tells files.new ≡ F.tells files.old }
     ensures later { F.faults files.old ≤ F.faults files.new }

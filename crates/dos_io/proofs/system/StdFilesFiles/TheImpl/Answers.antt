@@ -21,6 +21,7 @@ get-tells g c = record {
   within = c.ensures.within;
   too_long = λ _. tt;
   fault = λ is. omega (arith, c.ensures.counted is);
+  asked = c.ensures.asked;
   stays = λ _. refl;
   tells = refl;
   later = c.ensures.later;
@@ -36,6 +37,7 @@ set-tells g c = record {
       IfErr-at_err (λ e. e ≡ Fault) is c.ensures.fault in cc;
   fault = λ is. let rose : c.new.self.now.faults ≡ counted_to_limit c.args.self.now.faults =
       IfErr-at_err _ is c.ensures.counted in omega arith;
+  asked = c.ensures.asked;
   others = λ _ _. refl;
   tells = refl;
   later = c.ensures.later;
