@@ -1,5 +1,6 @@
 use Rattle.std.proofs.Common.{ℕ, subst, arith, refl}
-use Rattle.shim_log.proofs.RecorderLaws.{adds_ok, adds_follow, given_input, stops_follow}
+use Rattle.dos_io.proofs.GivenSteps.{given_input}
+use Rattle.shim_log.proofs.RecorderLaws.{adds_ok, adds_follow, stops_follow}
 use Rattle.dos_world.specs.declared.Question.TheVariants.{Input}
 use Rattle.shim_log.specs.Room.{GrowsBy, longest}
 use Rattle.shim_log.proofs.LedgerLaws.{input_grows}
