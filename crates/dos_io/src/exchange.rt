@@ -1,6 +1,9 @@
 // What crosses the border of a group: a question, and the answer that came.
+ghost use Rattle.std.specs.Prelude.{◌≡◌};
+ghost use Rattle.dos_io.specs.Exchanges.{question_of};
+
 use crate::signal_list::SignalList;
-use dos_world::Ending;
+use dos_world::{Ending, Question};
 use std::marker::Model;
 
 /// The bytes of an input. Contracts see them as a list.
@@ -15,6 +18,22 @@ impl Model for Piece {
     ghost Value = { List ℕ };
 
     ghost view = { λ piece. piece.bytes.items };
+}
+
+impl Piece {
+    /// The piece of these bytes.
+    pub fn of(bytes: Vec<u8>) -> Piece
+        ensures { result ≡ bytes.items }
+    {
+        Piece { bytes }
+    }
+
+    /// Its bytes.
+    pub fn bytes(&self) -> &[u8]
+        ensures { result.now ≡ self.now }
+    {
+        self.bytes.as_slice()
+    }
 }
 
 /// A question of a group and its answer, as a log keeps them.
@@ -54,6 +73,35 @@ pub enum Exchange {
         /// How many rounds were run.
         rounds: u32,
     },
+}
+
+impl Exchange {
+    /// What it answers.
+    pub fn question(&self) -> Question
+        ensures { result ≡ question_of self.now }
+    {
+        match self {
+            Exchange::Signals { round, .. } => Question::Signals { round: *round },
+            Exchange::Input {
+                round,
+                tid,
+                max,
+                ..
+            } => Question::Input {
+                round: *round,
+                tid: *tid,
+                max: *max,
+            },
+            Exchange::Clock { round, tid, .. } => Question::Clock {
+                round: *round,
+                tid: *tid,
+            },
+            Exchange::End { ending, rounds } => Question::End {
+                ending: *ending,
+                rounds: *rounds,
+            },
+        }
+    }
 }
 
 /// Where the readings of a clock come from.

@@ -1,6 +1,7 @@
 use Rattle.std.proofs.Common.{ℕ, [], ◌∷◌, ◌++◌, ◌∙◌, ap, subst, arith, refl}
 use Rattle.dos_io.specs.declared.host_question.HostQuestion.TheVariants.{Bytes}
-use Rattle.shim_log.proofs.RecorderLaws.{adds_ok, adds_follow, given_input, stops_follow}
+use Rattle.dos_io.proofs.GivenSteps.{given_input}
+use Rattle.shim_log.proofs.RecorderLaws.{adds_ok, adds_follow, stops_follow}
 use Rattle.shim_log.proofs.AskingCalls.{answer_asks, clock_kept, stop_asks, stop_asks_nothing}
 use Rattle.dos_world.specs.declared.Question.TheVariants.{Input}
 use Rattle.shim_log.specs.Room.{GrowsBy, longest}

@@ -2,9 +2,10 @@ use Rattle.std.proofs.Common.{List, subst, ◌∙◌, arith, refl, sym, ap}
 use Rattle.std.proofs.lemmas.List.{append-nil}
 use Rattle.dos_world.specs.declared.Post.{Post}
 use Rattle.dos_io.specs.declared.exchange.Exchange.TheVariants.{Signals}
+use Rattle.dos_io.proofs.GivenSteps.{given_posts}
 use Rattle.dos_io.specs.Given.{posts_in}
 use Rattle.shim_log.specs.Ledger.{LedgerState}
-use Rattle.shim_log.proofs.RecorderLaws.{stops_follow, adds_ok, adds_follow, given_posts}
+use Rattle.shim_log.proofs.RecorderLaws.{stops_follow, adds_ok, adds_follow}
 use Rattle.shim_log.proofs.AskingCalls.{answer_asks, clock_kept, stop_asks_nothing}
 use Rattle.shim_log.specs.Room.{GrowsBy}
 use Rattle.shim_log.proofs.GrowingLaws.{fits_grown}

@@ -1,0 +1,7 @@
+use Rattle.std.proofs.Common.{◌≡◌}
+use Rattle.crossbeam_queue.specs.Passes.{view, IsSamePass}
+use Rattle.twin_shims.proofs.line.Line.push_within.Given as goal
+
+abbrev pub invariant-loop : goal.invariant-loop
+invariant-loop l =
+    IsSamePass l.fn.pass l.pass × (view l.pass ≡ view l.fn.pass) × (l.note ≡ l.fn.note)
