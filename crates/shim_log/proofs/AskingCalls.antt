@@ -3,6 +3,7 @@
 use Rattle.std.proofs.Common.{◌≡◌, ◌≤◌, ◌^◌, ◌-◌, ℕ, List, [], ◌∷◌, ◌++◌, Option, Some, None, refl}
 use Rattle.std.proofs.Common.{sym, ap, subst, ◌∙◌, append_assoc, arith}
 use Rattle.std.proofs.lemmas.List.{append-nil}
+use Rattle.dos_world.specs.declared.Post.{Post}
 use Rattle.dos_world.specs.declared.Question.{Question}
 use Rattle.dos_world.specs.declared.Question.TheVariants.{Clock}
 use Rattle.dos_io.specs.Exchanges.{question_of}
@@ -15,7 +16,9 @@ use Rattle.dos_io.specs.declared.host_question.HostQuestion.{HostQuestion}
 use Rattle.dos_io.specs.declared.host_question.HostQuestion.TheVariants.{Reading}
 use Rattle.dos_io.specs.declared.shim.ShimStop.{ShimStop}
 use Rattle.dos_io.specs.declared.shim.ShimStop.TheVariants.{LogFull, HostFault, Memory, Misfit}
-use Rattle.shim_log.specs.Ledger.{LedgerState, added, next_reading, recorder_state, stopped}
+use Rattle.shim_log.specs.declared.header.LogHeader.{LogHeader}
+use Rattle.shim_log.specs.Ledger.{LedgerState, added, empty_ledger, next_reading, recorder_state}
+use Rattle.shim_log.specs.Ledger.{stopped}
 use Rattle.shim_log.specs.Asking.{ShimCall, answered, stopped_at, shown_after, asked_in, HostStands}
 use Rattle.shim_log.specs.Asking.{RecorderAsks, host_question, host_questions, stop_questions}
 use Rattle.shim_log.proofs.RecorderLaws.{one_number}
@@ -106,12 +109,12 @@ asked_no_reading b b' r k round tid n before same some =
 -- ---- all calls
 
 -- the exchanges of the calls that answered
-abbrev pub answers_of : List ShimCall → List Exchange
+abbrev answers_of : List ShimCall → List Exchange
 answers_of [] = []
 answers_of (answered e ∷ calls) = e ∷ answers_of calls
 answers_of (stopped_at q stop ∷ calls) = answers_of calls
 
-pub told_after : (s : ShimState) (cs : List ShimCall)
+told_after : (s : ShimState) (cs : List ShimCall)
     → (shown_after s cs).told ≡ s.told ++ answers_of cs
 told_after s [] = sym (append-nil s.told)
 told_after s (answered e ∷ cs) =
@@ -127,7 +130,7 @@ has_last s (answered e ∷ cs) stop some none = has_last (shim_answered s e) cs 
 has_last s (stopped_at q other ∷ cs) stop some none = has_last _ cs other refl none
 
 -- Where it never stopped, the host was asked for its answers.
-pub never_stopped : (clock : ClockRule) (s : ShimState) (cs : List ShimCall)
+never_stopped : (clock : ClockRule) (s : ShimState) (cs : List ShimCall)
     → (shown_after s cs).last ≡ None
     → (asked_in clock cs ≡ host_questions clock (answers_of cs)) × HostStands cs
 never_stopped clock s [] none = (refl, tt)
@@ -189,7 +192,7 @@ stands_by q (Misfit misfit) other = tt
 
 -- Where it stopped once, and shows the question and the stop, the host was asked for its answers,
 -- and then what that stop asks.
-pub stopped_once : (clock : ClockRule) (s : ShimState) (cs : List ShimCall) (q : Question)
+stopped_once : (clock : ClockRule) (s : ShimState) (cs : List ShimCall) (q : Question)
     (stop : ShimStop) → s.stops ≡ 0 → (shown_after s cs).stops ≡ 1
     → (shown_after s cs).asked ≡ Some q → (shown_after s cs).last ≡ Some stop
     → (asked_in clock cs ≡ host_questions clock (answers_of cs) ++ stop_questions clock q stop)
@@ -229,3 +232,39 @@ stopped_once clock s (stopped_at r other ∷ cs) q stop zero one asks last =
 
     same_stop : (x y : ShimStop) → ◌≡◌ {A = Option ShimStop} (Some x) (Some y) → x ≡ y
     same_stop x y e = cc
+
+-- ---- all calls since it was asked nothing
+
+module _ (posts : List (ℕ × Post)) (clock : ClockRule) (header : LogHeader) (room : ℕ)
+    (after : LedgerState) (before asked : List HostQuestion) (m n : ℕ)
+    (asks : RecorderAsks (empty_ledger posts clock header room) after before asked m n) where
+  abbrev start : ShimState
+  start = recorder_state (empty_ledger posts clock header room)
+
+  all_answers : answers_of asks.calls ≡ (recorder_state after).told
+  all_answers = sym (ap (λ (s : ShimState). s.told) asks.shows ∙ told_after start asks.calls)
+
+  pub asked_whole : after.last ≡ None
+      → (asked ≡ before ++ host_questions clock (recorder_state after).told) × (n ≡ m)
+  asked_whole none =
+      let all = never_stopped clock start asks.calls
+      (sym (ap (λ (s : ShimState). s.last) asks.shows) ∙ none) in (
+        asks.asked ∙ ap (λ (x : List HostQuestion). before ++ x)
+            (all.0 ∙ ap (host_questions clock) all_answers),
+        asks.steady all.1,
+      )
+
+  pub asked_until : (question : Question) (stop : ShimStop) → after.stops ≡ 1
+      → after.asked ≡ Some question → after.last ≡ Some stop
+      → (asked ≡ before ++ (host_questions clock (recorder_state after).told
+      ++ stop_questions clock question stop)) × ((stop ≡ HostFault → ⊥) → n ≡ m)
+  asked_until question stop once at so =
+      let all = stopped_once clock start asks.calls question stop refl
+      (sym (ap (λ (s : ShimState). s.stops) asks.shows) ∙ once)
+      (sym (ap (λ (s : ShimState). s.asked) asks.shows) ∙ at)
+      (sym (ap (λ (s : ShimState). s.last) asks.shows) ∙ so) in (
+        asks.asked ∙ ap (λ (x : List HostQuestion). before ++ x)
+            (all.0 ∙ ap (λ (es : List Exchange). host_questions clock es
+            ++ stop_questions clock question stop) all_answers),
+        λ other. asks.steady (all.1 other),
+      )

@@ -1,5 +1,6 @@
 //! Laws of the log. The functions do nothing; their contracts are the laws.
-ghost use Rattle.std.specs.Prelude.{◌≡◌, ◌≤◌, ◌+◌, ◌*◌, ℕ, List, Option, length, Ok};
+ghost use Rattle.std.specs.Prelude.{◌≡◌, ◌≢◌, ◌≤◌, ◌+◌, ◌*◌, ◌++◌, ℕ, List, Option, length, Ok};
+ghost use Rattle.std.specs.Prelude.{Some, None};
 ghost use Rattle.dos_world.specs.declared.Post.{Post};
 ghost use Rattle.dos_world.specs.declared.Ending.{Ending};
 ghost use Rattle.dos_io.specs.declared.exchange.Exchange.TheVariants.{Signals, Input, Clock, End};
@@ -19,6 +20,9 @@ ghost use Rattle.shim_log.specs.LogText.{exchanges, logtext};
 ghost use Rattle.shim_log.specs.Ranges.{FitsLog};
 ghost use Rattle.shim_log.specs.Reading.{log_at};
 ghost use Rattle.shim_log.specs.Ledger.{LedgerState, RecorderFollows, empty_ledger, recorder_state};
+ghost use Rattle.dos_io.specs.declared.host_question.HostQuestion.{HostQuestion};
+ghost use Rattle.dos_io.specs.declared.shim.ShimStop.TheVariants.{HostFault};
+ghost use Rattle.shim_log.specs.Asking.{RecorderAsks, host_questions, stop_questions};
 ghost use Rattle.shim_log.specs.Replay.{ReplayState, StandsNext, IsMisfitOf, replayer_state};
 
 /// The text of a log is read as that log.
@@ -69,6 +73,25 @@ pub fn recordings_are_given()
         (after : LedgerState) (a b : Option Told) (m n : ℕ)
         → RecorderFollows (empty_ledger posts clock header room) after a b m n
         → after.header ≡ header }
+{}
+
+/// What a recorder has asked its host since it was asked nothing: where it never stopped, the
+/// questions for all that it has told, once each and in their order; where it stopped once, at its
+/// last call, these and then what that stop asks, which is the question at which the host failed.
+/// The host's count of faults stands unless it failed then.
+pub fn recordings_ask_once()
+    ensures whole { (posts : List (ℕ × Post)) (clock : ClockRule) (header : LogHeader) (room : ℕ)
+        (after : LedgerState) (before asked : List HostQuestion) (m n : ℕ)
+        → RecorderAsks (empty_ledger posts clock header room) after before asked m n
+        → after.last ≡ None
+        → (asked ≡ before ++ host_questions clock (recorder_state after).told) × (n ≡ m) }
+    ensures stopped { (posts : List (ℕ × Post)) (clock : ClockRule) (header : LogHeader) (room : ℕ)
+        (after : LedgerState) (before asked : List HostQuestion) (m n : ℕ)
+        → RecorderAsks (empty_ledger posts clock header room) after before asked m n
+        → (question : Question) (stop : ShimStop) → after.stops ≡ 1
+        → after.asked ≡ Some question → after.last ≡ Some stop
+        → (asked ≡ before ++ (host_questions clock (recorder_state after).told
+        ++ stop_questions clock question stop)) × (stop ≢ HostFault → n ≡ m) }
 {}
 
 /// A replayer that has told an end has told its whole log.
