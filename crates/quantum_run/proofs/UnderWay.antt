@@ -20,7 +20,7 @@ use Rattle.round_core.proofs.Commute.{places-apart, ready-in, ready_of-change, s
 use Rattle.round_core.proofs.Commute.{stepped-ok, stepped-others, stepped-stop}
 use Rattle.quantum_run.specs.Shows.{Pack, View, Shows}
 use Rattle.quantum_run.specs.Laws.{EndsAreUnderWay, SlicesAddUp}
-use Rattle.quantum_run.specs.Mix.{IsUnderWay, times_named}
+use Rattle.quantum_run.specs.Mix.{RanAsNamed, times_named}
 use Rattle.quantum_run.proofs.Mix.{shows-kept, shows-stepped}
 use Rattle.quantum_run.proofs.Parts.{budget-is}
 use Rattle.quantum_run.proofs.Slices.{begun-shows}
@@ -258,7 +258,7 @@ shows-mixed p v (s ∷ order) u ready paid sh =
         (subst (λ b. Shows p v (steps (cond b (suc n) n) u p.thread)) e shown)))
 
 pub under-way : (w : World) (order : List ℕ) (v : View) (t : ℕ) (opening pack : Pack)
-    → Among (ready_threads w) t → IsUnderWay w order v t opening pack
+    → Among (ready_threads w) t → RanAsNamed w order v t opening pack
     → Shows pack v (mixed w order)
 under-way w order v t opening pack among h =
     let mine : pack.thread ≡ opening.thread = h.same ∙ sym h.thread in
@@ -283,7 +283,8 @@ under-way w order v t opening pack among h =
     (subst (λ n. n ≤ budget_of (fold emptied w (ready_threads w)) pack.thread) (sym named)
     (subst (λ n. times_named t order ≤ n) (sym whole) h.paid))
     (shows-all-emptied pack v (ready_threads w) (times_named pack.thread order) w
-    (places-apart 1 (is_state Ready) w.threads) (subst (Among (ready_threads w)) (sym h.same) among) there)
+    (places-apart 1 (is_state Ready) w.threads)
+    (subst (Among (ready_threads w)) (sym h.same) among) there)
 
 -- ---- slices
 

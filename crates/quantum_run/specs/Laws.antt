@@ -11,7 +11,7 @@ use Rattle.flat_machine.specs.Alone.{emptied, alone}
 use Rattle.flat_machine.specs.Mixed.{mixed}
 use Rattle.flat_machine.specs.Laws.{after_steps}
 use Rattle.quantum_run.specs.Shows.{Pack, View, RanFor, RanOut, Shows}
-use Rattle.quantum_run.specs.Mix.{turns_of, members, HaveBegun, IsUnderWay, PacksShow}
+use Rattle.quantum_run.specs.Mix.{turns_of, members, HaveBegun, RanAsNamed, PacksShow}
 use Rattle.quantum_run.specs.ThreadRuns.{IsRunOf, run_to}
 
 -- A thread without a reservation runs over the same frames and space.
@@ -54,7 +54,7 @@ PartsAreAMix = (w : World) (f : ℕ → Bool) (v : View) (packs : List Pack)
 -- names their threads show one world.
 abbrev pub PacksUnderWayAreAMix : Type 0
 PacksUnderWayAreAMix = (w : World) (order : List ℕ) (v : View) (i t : ℕ) (opening pack : Pack)
-    → slice_get (ready_threads w) i ≡ Some t → IsUnderWay w order v t opening pack
+    → slice_get (ready_threads w) i ≡ Some t → RanAsNamed w order v t opening pack
     → Shows pack v (mixed w order)
 
 -- What a pack has run in slices adds up.

@@ -25,7 +25,7 @@ times_named t (s ∷ order) =
 
 -- The pack opened on this world with this thread, its part has begun, and has run as often as this
 -- order names the thread, which its budget pays.
-pub record IsUnderWay (w : World) (order : List ℕ) (v : View) (t : ℕ) (opening pack : Pack)
+pub record RanAsNamed (w : World) (order : List ℕ) (v : View) (t : ℕ) (opening pack : Pack)
     : Type 0 where
   pub thread : opening.thread ≡ t
   pub same : pack.thread ≡ t
