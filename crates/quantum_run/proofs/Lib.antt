@@ -16,3 +16,4 @@ pub mod Knowing
 pub mod Slices
 pub mod Ready
 pub mod Mix
+mod UnderWay

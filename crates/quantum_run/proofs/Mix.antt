@@ -69,7 +69,7 @@ module _ (p : Pack) (v : View) (w w' : World) (s : ℕ) (other : s ≢ p.thread)
         → page_of w'.bytes frame ≡ page_of w.bytes frame
     own_page frame e = pages frame (λ q. other (Of-is s p.thread (sym q ∙ e)))
 
-    shows-kept : Shows p v w → Shows p v w'
+    pub shows-kept : Shows p v w → Shows p v w'
     shows-kept sh = record {
       owners = sh.owners ∙ sym owners;
       thread = ap (option_map kept) thread ∙ sh.thread;
@@ -105,7 +105,7 @@ page-same w w' s count same frame theirs =
     not_theirs i low high q =
         let here : i / 4096 ≡ frame = omega arith in theirs (sym (ap (owner_of w) here) ∙ q)
 
-shows-stepped : (p : Pack) (v : View) (u : World) (s : ℕ) → s ≢ p.thread → Shows p v u
+pub shows-stepped : (p : Pack) (v : View) (u : World) (s : ℕ) → s ≢ p.thread → Shows p v u
     → Shows p v (stepped u s)
 shows-stepped p v u s other sh = by_active (active u s) refl (step u s) refl
   where
@@ -287,7 +287,7 @@ members-apart f n (t ∷ ts) apart = by (members-apart f (suc n) ts apart.1) (f 
     by rest true = (λ s h. apart.0 s (members-among f (suc n) ts s h), rest)
     by rest false = rest
 
-at-among : (ts : List ℕ) (i t : ℕ) → slice_get ts i ≡ Some t → Among ts t
+pub at-among : (ts : List ℕ) (i t : ℕ) → slice_get ts i ≡ Some t → Among ts t
 at-among [] i t h = cc
 at-among (x ∷ ts) zero t h = inl cc
 at-among (x ∷ ts) (suc i) t h = inr (at-among ts i t h)

@@ -17,7 +17,7 @@ use Rattle.flat_machine.specs.Alone.{steps}
 use Rattle.quantum_run.specs.Finding.{frame_for, IsWriting}
 use Rattle.quantum_run.specs.Pages.{is_here, overlay}
 use Rattle.quantum_run.specs.Packs.{IsPacked, paired, space_held, view_of}
-use Rattle.quantum_run.specs.Shows.{Pack, View, CanRun, LeadsTo, RanOut, Shows}
+use Rattle.quantum_run.specs.Shows.{Pack, View, CanRun, LeadsTo, RanFor, RanOut, Shows}
 use Rattle.quantum_run.specs.ThreadRuns.{IsRunOf, run_to, store_of}
 use Rattle.flat_machine.specs.Laws.{after_steps}
 use Rattle.flat_machine.proofs.After.{steps-all}
@@ -170,3 +170,9 @@ module _ (t pid : ℕ) (r : Registers) (budget : ℕ) (held : List ℕ)
         (leads before view now (budget - left) refl (omega (arith, within))
         (shown (budget - left) (λ u run.
         steps-all (budget - left) u (end u) t (runs u run))))
+
+    pub slice-part : (most : ℕ) → budget - left ≡ most → RanFor most p view now
+    slice-part most count = subst (λ (q : Pack). RanFor most q view now) is
+        (shown most (λ u run.
+        ap (λ n. steps n u t) (sym count)
+        ∙ steps-all (budget - left) u (end u) t (runs u run)))

@@ -13,7 +13,7 @@ use Rattle.quantum_run.proofs.Parts.{budget-is, emptied-space, emptied-kept}
 -- ---- a part begins
 
 -- A pack without a reservation shows the world in which its thread has none.
-begun-shows : (p : Pack) (v : View) (w : World) → Shows p v w
+pub begun-shows : (p : Pack) (v : View) (w : World) → Shows p v w
     → Shows (begun_pack p) v (emptied w p.thread)
 begun-shows p v w shows = record {
   owners = shows.owners;

@@ -1,5 +1,5 @@
 -- Laws of threads that run; the functions of the module laws promise them.
-use Rattle.std.specs.Prelude.{ℕ, ◌≡◌, ◌-◌, ◌<◌, ◌≤◌, Bool, List, length, Option, Some, Err}
+use Rattle.std.specs.Prelude.{ℕ, ◌≡◌, ◌+◌, ◌-◌, ◌<◌, ◌≤◌, Bool, List, length, Option, Some, Err}
 use Rattle.std.specs.Prelude.{MatchOption, slice_get}
 use Rattle.dos_world.specs.Lawful.{Lawful}
 use Rattle.dos_world.specs.World.{World, Registers, ready_threads, released}
@@ -10,8 +10,8 @@ use Rattle.flat_machine.specs.Step.{step}
 use Rattle.flat_machine.specs.Alone.{emptied, alone}
 use Rattle.flat_machine.specs.Mixed.{mixed}
 use Rattle.flat_machine.specs.Laws.{after_steps}
-use Rattle.quantum_run.specs.Shows.{Pack, View, Shows}
-use Rattle.quantum_run.specs.Mix.{turns_of, members, HaveBegun, PacksShow}
+use Rattle.quantum_run.specs.Shows.{Pack, View, RanFor, RanOut, Shows}
+use Rattle.quantum_run.specs.Mix.{turns_of, members, HaveBegun, RanAsNamed, PacksShow}
 use Rattle.quantum_run.specs.ThreadRuns.{IsRunOf, run_to}
 
 -- A thread without a reservation runs over the same frames and space.
@@ -48,3 +48,21 @@ PartsAreAMix = (w : World) (f : ℕ → Bool) (v : View) (packs : List Pack)
     → Lawful w → HaveBegun w → length packs ≡ length (ready_threads w) → PacksShow w f v packs
     → (i t : ℕ) (p : Pack) → slice_get (ready_threads w) i ≡ Some t → slice_get packs i ≡ Some p
     → Shows p v (mixed w (turns_of w.quantum (members f 0 (ready_threads w))))
+
+-- A pack under way shows the world that the instructions in this order lead to, whatever threads
+-- the others are and in whatever order they come: so all packs that have run as often as one order
+-- names their threads show one world.
+abbrev pub PacksUnderWayAreAMix : Type 0
+PacksUnderWayAreAMix = (w : World) (order : List ℕ) (v : View) (i t : ℕ) (opening pack : Pack)
+    → slice_get (ready_threads w) i ≡ Some t → RanAsNamed w order v t opening pack
+    → Shows pack v (mixed w order)
+
+-- What a pack has run in slices adds up.
+abbrev pub SlicesAddUp : Type 0
+SlicesAddUp = (n m : ℕ) (p q r : Pack) (v : View) → q.thread ≡ p.thread → RanFor n p v q
+    → RanFor m q v r → RanFor (n + m) p v r
+
+-- A pack that has run out has run for its whole budget, and one that has only begun for nothing.
+pub record EndsAreUnderWay (p q : Pack) (v : View) : Type 0 where
+  pub out : RanOut p v q → RanFor p.budget p v q
+  pub begun : RanFor 0 p v p

@@ -1,10 +1,11 @@
--- Whole parts of some of the ready threads, as a mix of their instructions. This project's own.
-use Rattle.std.specs.Prelude.{ℕ, suc, ◌≡◌, ◌++◌, Bool, List, [], ◌∷◌, replicate, Some, None, IfSome}
-use Rattle.std.specs.Prelude.{IsTrue, slice_get, if◌then◌else◌}
+-- Parts of the ready threads, whole or under way, as a mix of their instructions. This project's
+-- own.
+use Rattle.std.specs.Prelude.{ℕ, suc, ◌≡◌, ◌≤◌, ◌==◌, ◌++◌, Bool, List, [], ◌∷◌, replicate, Some}
+use Rattle.std.specs.Prelude.{None, IfSome, IsTrue, slice_get, if◌then◌else◌}
 use Rattle.dos_world.specs.World.{World, thread_at, ready_threads, is_state}
 use Rattle.dos_world.specs.declared.ThreadState.TheVariants.{Ready}
 use Rattle.flat_machine.specs.Alone.{alone}
-use Rattle.quantum_run.specs.Shows.{Pack, View, Shows}
+use Rattle.quantum_run.specs.Shows.{Pack, View, RanFor, Shows, begun_pack}
 
 -- each of these so many times, one after another
 abbrev pub turns_of : ℕ → List ℕ → List ℕ
@@ -15,6 +16,22 @@ turns_of q (t ∷ ts) = replicate q t ++ turns_of q ts
 abbrev pub members : (ℕ → Bool) → ℕ → List ℕ → List ℕ
 members f n [] = []
 members f n (t ∷ ts) = let rest = members f (suc n) ts in if f n then t ∷ rest else rest
+
+-- how often this order names a thread
+abbrev pub times_named : ℕ → (order : List ℕ) → ℕ
+times_named t [] = 0
+times_named t (s ∷ order) =
+    let rest = times_named t order in if s == t then suc rest else rest
+
+-- The pack opened on this world with this thread, its part has begun, and has run as often as this
+-- order names the thread, which its budget pays.
+pub record RanAsNamed (w : World) (order : List ℕ) (v : View) (t : ℕ) (opening pack : Pack)
+    : Type 0 where
+  pub thread : opening.thread ≡ t
+  pub same : pack.thread ≡ t
+  pub shows : Shows opening v w
+  pub paid : times_named t order ≤ opening.budget
+  pub ran : RanFor (times_named t order) (begun_pack opening) v pack
 
 -- The ready threads have the quantum as their budget, and no reservation.
 abbrev pub HaveBegun : World → Type 0

@@ -78,6 +78,11 @@ abbrev pub RanOut : Pack → View → Pack → Type 0
 RanOut p v after =
     (w : World) → Shows p v w → Shows after v (steps (budget_of w p.thread) w p.thread)
 
+-- The later pack is the thread after this many instructions from where the earlier one stands, or
+-- fewer where it stops, in each world that the earlier pack and the view show.
+abbrev pub RanFor : ℕ → Pack → View → Pack → Type 0
+RanFor n p v after = (w : World) → Shows p v w → Shows after v (steps n w p.thread)
+
 -- Where the thread runs out from the later pack, it runs out from the earlier one.
 abbrev pub LeadsTo : Pack → View → Pack → Type 0
 LeadsTo p v later = (after : Pack) → RanOut later v after → RanOut p v after

@@ -1,5 +1,7 @@
 // Laws of the definitions, as contracts of functions that do nothing.
-ghost use Rattle.quantum_run.specs.Laws.{PartsAreAMix, RunsAreEmptied, RunsAreParts};
+ghost use Rattle.quantum_run.specs.Shows.{Pack as pack_value, View as view_value};
+ghost use Rattle.quantum_run.specs.Laws.{EndsAreUnderWay, PacksUnderWayAreAMix, PartsAreAMix};
+ghost use Rattle.quantum_run.specs.Laws.{RunsAreEmptied, RunsAreParts, SlicesAddUp};
 
 /// What `run_until_stop` runs over is the same after the reservation is emptied.
 pub fn runs_are_emptied()
@@ -15,4 +17,13 @@ pub fn runs_are_parts()
 /// finished ones' threads.
 pub fn parts_are_a_mix()
     ensures { PartsAreAMix }
+{}
+
+/// A pack whose part has run for some instructions, and isn't at its end, shows what the
+/// instructions of all threads lead to in whatever order names its thread so often. Finished packs
+/// and packs that have only begun are cases of it.
+pub fn packs_under_way_are_a_mix()
+    ensures mix { PacksUnderWayAreAMix }
+    ensures slices { SlicesAddUp }
+    ensures ends { (p q : pack_value) (v : view_value) → EndsAreUnderWay p q v }
 {}

@@ -2,7 +2,8 @@
 ghost use Rattle.std.specs.Prelude.{◌≡◌, ◌<◌, ◌≤◌, ◌+◌, ◌++◌, ◌∷◌, [], length, map, replicate};
 ghost use Rattle.std.specs.Prelude.{true, false, None, IfOk, MatchOption};
 ghost use Rattle.page_store.specs.Store.{whole};
-ghost use Rattle.quantum_run.specs.Shows.{CanRun, Finished, LeadsTo, RanOut, begun_pack, frames_of};
+ghost use Rattle.quantum_run.specs.Shows.{CanRun, Finished, LeadsTo, RanFor, RanOut, begun_pack};
+ghost use Rattle.quantum_run.specs.Shows.{frames_of};
 ghost use Rattle.quantum_run.specs.Packs.{HoldsNo, empty_pack, seen_by_view, seen_in};
 ghost use Rattle.quantum_run.specs.Packs.{with_own_page};
 ghost use Rattle.quantum_run.specs.Packs.{with_thread_of};
@@ -202,6 +203,7 @@ pub fn run_slice(pack: &mut Pack, view: &View<'_>, most: u32) -> bool
     ensures out { result ≡ true → RanOut pack.old (seen_by_view view.now) pack.new }
     ensures more { result ≡ false → LeadsTo pack.old (seen_by_view view.now) pack.new
         × (0 < pack.new.budget) × (pack.new.budget + most ≡ pack.old.budget) }
+    ensures part { result ≡ false → RanFor most pack.old (seen_by_view view.now) pack.new }
     ensures thread { pack.new.thread ≡ pack.old.thread }
     ensures process { pack.new.process ≡ pack.old.process }
     ensures frames { frames_of pack.new.pages ≡ frames_of pack.old.pages }

@@ -4,7 +4,7 @@ use Rattle.std.proofs.lemmas.Bool.{eqb-false}
 use Rattle.quantum_run.specs.Shows.{Pack, frames_of}
 use Rattle.quantum_run.proofs.Packing.{frames-paired, packed-kept, same-length}
 use Rattle.quantum_run.proofs.Ready.{floor-left, ready-reached, ready-own, ready-within}
-use Rattle.quantum_run.proofs.Ready.{slice-leads, slice-out}
+use Rattle.quantum_run.proofs.Ready.{slice-leads, slice-out, slice-part}
 use Rattle.quantum_run.proofs.pack.run_slice.Goals as goal
 use Rattle.quantum_run.proofs.pack.run_slice.Goals.{then-is_some, else-is_some}
 
@@ -97,3 +97,28 @@ returns-clause-more c = λ on.
       omega (arith, at, goes.1),
       omega (arith, at, goes.1, less, whole),
     )
+
+pub returns-clause-part : goal.returns-clause-part
+returns-clause-part c = λ on.
+    let k = c.pack.inside in
+    let v = c.args.view.now in
+    let n = c.run_lent-stop.new in
+    let e = c.run_lent-stop.ensures in
+    let stop = c.run_lent-stop.result in
+    let floor = c.saturating_sub-floor.result in
+    let goes : (is_some stop ≡ false) × (floor ≢ 0) =
+    elim c.if-is_some.branch as (λ _. (is_some stop ≡ false) × (floor ≢ 0)) [
+      | then-is_some b ↦ absurd (never (sym b.if-is_some.true ∙ sym b.result-is ∙ on))
+      | else-is_some b ↦ (
+        sym c.is_some.ensures ∙ b.if-is_some.false,
+        eqb-false floor 0 (sym b.result-is ∙ on),
+      )
+    ] in
+    let at : n.budget ≡ floor = floor-left _ stop n.budget floor goes.0 e.stop in
+    let less = c.saturating_sub-floor.ensures in
+    slice-part k.tid k.pid k.regs.value k.left k.held.items k.own _ c.pack.invariant
+    v.frames.now v.table.now c.space-space.result.now.entries c.space-space.ensures.entries
+    c.args.pack.now c.pack.view_is c.requires.can
+    (sym c.count-count.ensures.owners ∙ c.count-count.ensures.pages)
+    c.deref.result.now c.deref.ensures n.own n.regs n.budget floor stop e.here e.within
+    e.runs e.stop c.args.most (omega (arith, at, goes.1, less))
