@@ -1,20 +1,43 @@
 // How many workers fewer a call gets for a while, after some were late. No contract speaks of it.
 ghost use Rattle.std.specs.Prelude.{◌≤◌};
 
-/// So many calls go by before one worker more is tried.
-const CALLS: u32 = 64;
+/// After a lateness a call gets one worker fewer for so many instructions of all threads, about a
+/// millisecond; four times as many each time that one is late again soon after.
+const SHORTEST: u64 = 1 << 20;
 
-/// How many workers fewer, and for how many calls still.
+/// And no more than so many.
+const LONGEST: u64 = 1 << 26;
+
+/// What a thread loses where the system gives its processor to another program for a while, in
+/// instructions.
+const LOST: u64 = 1_350_000;
+
+/// How many workers fewer, for how many instructions still, how many it was last time, and how many
+/// were run since all was tried again.
 #[derive(Clone, Copy)]
 pub(crate) struct Fewer {
     by: u32,
-    calls: u32,
+    left: u64,
+    wait: u64,
+    since: u64,
+}
+
+// With so many threads, one of which is held up after fewer instructions than this, one thread
+// fewer that isn't held up is faster.
+fn soon(threads: u32) -> u64 {
+    let threads = u64::from(threads.min(32));
+    LOST * threads * threads.saturating_sub(1)
 }
 
 impl Fewer {
     /// None was late yet.
     pub(crate) fn new() -> Fewer {
-        Fewer { by: 0, calls: 0 }
+        Fewer {
+            by: 0,
+            left: 0,
+            wait: SHORTEST,
+            since: u64::MAX,
+        }
     }
 
     /// What is left of so many workers.
@@ -24,26 +47,35 @@ impl Fewer {
         workers.saturating_sub(self.by)
     }
 
-    /// One was late, or couldn't be started.
-    pub(crate) fn late(&self) -> Fewer {
+    /// One of so many threads was late, or couldn't be started.
+    pub(crate) fn late(&self, threads: u32) -> Fewer {
+        let wait = if self.since < soon(threads) {
+            self.wait.saturating_mul(4).min(LONGEST)
+        } else {
+            SHORTEST
+        };
         Fewer {
             by: self.by.saturating_add(1).min(31),
-            calls: CALLS,
+            left: wait,
+            wait,
+            since: 0,
         }
     }
 
-    /// A call has gone by.
-    pub(crate) fn passed(&self) -> Fewer {
-        if self.calls > 0 {
-            Fewer {
-                by: self.by,
-                calls: self.calls - 1,
-            }
-        } else {
-            Fewer {
-                by: self.by.saturating_sub(1),
-                calls: CALLS,
-            }
+    /// A call ran so many instructions.
+    pub(crate) fn passed(&self, work: u64) -> Fewer {
+        if self.by == 0 || self.left > work {
+            return Fewer {
+                left: self.left.saturating_sub(work),
+                since: self.since.saturating_add(work),
+                ..*self
+            };
+        }
+        Fewer {
+            by: self.by - 1,
+            left: self.wait,
+            since: 0,
+            ..*self
         }
     }
 }

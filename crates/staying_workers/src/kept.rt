@@ -41,7 +41,7 @@ impl<G: Gate + Drop> Kept<G> {
     // so many should be there after a call
     fn keep(&self, idle: Vec<Idle<G>>, others: usize) {
         if idle.len() < others {
-            self.fewer.set(self.fewer.get().late());
+            self.fewer.set(self.fewer.get().late(others.min(MOST) as u32 + 1));
         }
         self.idle.set(idle);
     }
@@ -79,7 +79,7 @@ impl<'a, R, G: Gate> Hired<'a, R, G> {
     /// A call ran so many instructions.
     pub fn note(&mut self, work: u64) {
         self.hands.note(work);
-        self.kept.fewer.set(self.kept.fewer.get().passed());
+        self.kept.fewer.set(self.kept.fewer.get().passed(work));
     }
 
     // the workers that are to run so many packs beside the caller
