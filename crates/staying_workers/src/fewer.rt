@@ -1,4 +1,4 @@
-// How many workers fewer a call gets for a while, after some were late. No contract speaks of it.
+// Whether a call gets one worker fewer for a while, after one was late. No contract speaks of it.
 ghost use Rattle.std.specs.Prelude.{◌≤◌};
 
 /// After a lateness a call gets one worker fewer for so many instructions of all threads, about a
@@ -6,17 +6,16 @@ ghost use Rattle.std.specs.Prelude.{◌≤◌};
 const SHORTEST: u64 = 1 << 20;
 
 /// And no more than so many.
-const LONGEST: u64 = 1 << 26;
+const LONGEST: u64 = 1 << 24;
 
 /// What a thread loses where the system gives its processor to another program for a while, in
 /// instructions.
 const LOST: u64 = 1_350_000;
 
-/// How many workers fewer, for how many instructions still, how many it was last time, and how many
-/// were run since all was tried again.
+/// For how many instructions there is still one worker fewer, for how many there was last time, and
+/// how many were run since all were tried again.
 #[derive(Clone, Copy)]
 pub(crate) struct Fewer {
-    by: u32,
     left: u64,
     wait: u64,
     since: u64,
@@ -33,7 +32,6 @@ impl Fewer {
     /// None was late yet.
     pub(crate) fn new() -> Fewer {
         Fewer {
-            by: 0,
             left: 0,
             wait: SHORTEST,
             since: u64::MAX,
@@ -44,7 +42,10 @@ impl Fewer {
     pub(crate) fn left(&self, workers: u32) -> u32
         ensures { result ≤ workers }
     {
-        workers.saturating_sub(self.by)
+        if self.left == 0 {
+            return workers;
+        }
+        workers.saturating_sub(1)
     }
 
     /// One of so many threads was late, or couldn't be started.
@@ -55,7 +56,6 @@ impl Fewer {
             SHORTEST
         };
         Fewer {
-            by: self.by.saturating_add(1).min(31),
             left: wait,
             wait,
             since: 0,
@@ -64,18 +64,11 @@ impl Fewer {
 
     /// A call ran so many instructions.
     pub(crate) fn passed(&self, work: u64) -> Fewer {
-        if self.by == 0 || self.left > work {
-            return Fewer {
-                left: self.left.saturating_sub(work),
-                since: self.since.saturating_add(work),
-                ..*self
-            };
-        }
+        let left = self.left.saturating_sub(work);
         Fewer {
-            by: self.by - 1,
-            left: self.wait,
-            since: 0,
-            ..*self
+            left,
+            wait: self.wait,
+            since: if left == 0 { self.since.saturating_add(work) } else { 0 },
         }
     }
 }
