@@ -8,7 +8,7 @@ use Rattle.dos_io.specs.Shims.{HasNoEnd}
 use Rattle.twin_shims.specs.declared.line.Hand.{Hand}
 use Rattle.twin_shims.specs.declared.note.Note.{Note}
 use Rattle.twin_shims.specs.declared.note.Note.TheVariants.{Told, Stopped}
-use Rattle.twin_shims.specs.Notes.{exchanges_in, notes_telling, closes, IsOpen, IsClosed, IsLine}
+use Rattle.twin_shims.specs.Notes.{exchanges_in, as_notes, closes, IsOpen, IsClosed, IsLine}
 use Rattle.twin_shims.specs.Order.{hand, HasPushed, HasPopped}
 
 pub exchanges_append : (xs ys : List Note)
@@ -17,11 +17,11 @@ exchanges_append [] ys = refl
 exchanges_append (Told e ∷ xs) ys = ap (λ (es : List Exchange). e ∷ es) (exchanges_append xs ys)
 exchanges_append (Stopped ∷ xs) ys = exchanges_append xs ys
 
-pub notes_append : (es fs : List Exchange) → notes_telling (es ++ fs) ≡ notes_telling es ++ notes_telling fs
+pub notes_append : (es fs : List Exchange) → as_notes (es ++ fs) ≡ as_notes es ++ as_notes fs
 notes_append [] fs = refl
 notes_append (e ∷ es) fs = ap (λ (xs : List Note). Told e ∷ xs) (notes_append es fs)
 
-pub open_from : (es : List Exchange) → HasNoEnd es → IsOpen (notes_telling es)
+pub open_from : (es : List Exchange) → HasNoEnd es → IsOpen (as_notes es)
 open_from [] none = tt
 open_from (Signals round list ∷ es) none = (refl, open_from es none)
 open_from (Input round tid max bytes ∷ es) none = (refl, open_from es none)

@@ -7,10 +7,11 @@ use Rattle.crossbeam_queue.specs.Fifo.{Pushes, Pops, Forks, Merges, Learns}
 use Rattle.crossbeam_queue.proofs.Lists.{at_set, at_snoc}
 use Rattle.twin_shims.specs.declared.line.Hand.{Hand}
 use Rattle.twin_shims.specs.declared.note.Note.{Note}
-use Rattle.twin_shims.specs.Notes.{FitsItsQuestion, AllFitQuestions}
-use Rattle.twin_shims.specs.Order.{hand, KnowsItsNotes, AreTakenInOrder, HasPushed, HasPopped}
+use Rattle.twin_shims.specs.Notes.{IsWithinMax, AreWithinMax}
+use Rattle.twin_shims.specs.Order.{hand, Knows, AreTakenInOrder, HasPushed, HasPopped}
 
-fit_push : (items : List Note) (x : Note) → AllFitQuestions items → FitsItsQuestion x → AllFitQuestions (items ++ x ∷ [])
+fit_push : (items : List Note) (x : Note) → AreWithinMax items → IsWithinMax x
+    → AreWithinMax (items ++ x ∷ [])
 fit_push [] x fits fit = (fit, tt)
 fit_push (y ∷ items) x fits fit = (fits.0, fit_push items x fits.1 fit)
 
@@ -46,13 +47,13 @@ begins =
       [],
       [],
       refl,
-      all_set (KnowsItsNotes 0 0 [] []) (first ∷ []) 0 first ((λ _. (refl, refl)), λ _. (refl, refl))
+      all_set (Knows 0 0 [] []) (first ∷ []) 0 first ((λ _. (refl, refl)), λ _. (refl, refl))
           (λ j u other e.
           absurd (other (at_end [] _ u j (λ x. some-ne-none u (sym x)) e))),
       tt,
     )
 
-pub sends : (n port : ℕ) (v : Hand) (x : Note) → v.pushes ≡ true → FitsItsQuestion x
+pub sends : (n port : ℕ) (v : Hand) (x : Note) → v.pushes ≡ true → IsWithinMax x
     → Pushes AreTakenInOrder n port v x (HasPushed v x)
 sends n port v x may fit items views _ h at =
     let w : Hand = hand v.pushes v.pops (v.pushed ++ x ∷ []) v.popped in
@@ -65,7 +66,7 @@ sends n port v x may fit items views _ h at =
         pushed,
         h.3,
         ap (λ l. l ++ x ∷ []) h.4 ∙ append_assoc h.3 items (x ∷ []),
-        all_set (KnowsItsNotes h.0 h.1 pushed h.3) views port w (
+        all_set (Knows h.0 h.1 pushed h.3) views port w (
           (λ _. ((mine.0 may).0, ap (λ l. l ++ x ∷ []) (mine.0 may).1)),
           mine.1,
         )
@@ -90,7 +91,7 @@ gets port v may x items views h at =
         h.2,
         popped,
         h.4 ∙ sym (append_assoc h.3 (x ∷ []) items),
-        all_set (KnowsItsNotes h.0 h.1 h.2 popped) views port w (
+        all_set (Knows h.0 h.1 h.2 popped) views port w (
           mine.0,
           λ _. ((mine.1 may).0, ap (λ l. l ++ x ∷ []) (mine.1 may).1),
         )
@@ -142,7 +143,7 @@ merges port v other u a b items views h at two at' =
     let was : get_elem? views other ≡ some u =
     ⊎_elim (λ x. absurd (two x.0)) (λ x. x.1) (at_set views port other both u at') in
     let theirs = (h.5 other u was).1 b in
-    let Now : ℕ → Hand → Type 0 = λ j y. j ≢ other → KnowsItsNotes h.0 port h.2 h.3 j y in
+    let Now : ℕ → Hand → Type 0 = λ j y. j ≢ other → Knows h.0 port h.2 h.3 j y in
     let now : All Now vs =
     all_set Now views port both (λ _. ((λ _. mine.0 a), λ _. (refl, theirs.1)))
     (λ j y _ e apart. (
@@ -154,7 +155,7 @@ merges port v other u a b items views h at two at' =
       h.2,
       h.3,
       h.4,
-      all_set (KnowsItsNotes h.0 port h.2 h.3) vs other (hand false false [] []) (
+      all_set (Knows h.0 port h.2 h.3) vs other (hand false false [] []) (
         (λ p. absurd (true≢false (sym p))),
         λ p. absurd (true≢false (sym p)),
       ) (λ j y apart e. now j y e apart),

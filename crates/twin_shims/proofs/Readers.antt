@@ -13,9 +13,9 @@ use Rattle.dos_io.specs.Exchanges.{question_of}
 use Rattle.dos_io.specs.Shims.{HasNoEnd, shim_answered}
 use Rattle.twin_shims.specs.declared.note.Note.{Note}
 use Rattle.twin_shims.specs.declared.note.Note.TheVariants.{Told}
-use Rattle.twin_shims.specs.Notes.{exchanges_in, notes_telling, closes, FitsItsQuestion, IsOpen}
-use Rattle.twin_shims.specs.Follower.{ReaderState, IsReader, front, used, told_by_reader}
-use Rattle.twin_shims.specs.Follower.{MayStopFollower, counted_to, follower_state, reader_took}
+use Rattle.twin_shims.specs.Notes.{exchanges_in, as_notes, closes, IsWithinMax, IsOpen}
+use Rattle.twin_shims.specs.Follower.{ReaderState, IsReader, front, used, reader_told}
+use Rattle.twin_shims.specs.Follower.{StopsReader, counted_to, follower_state, reader_took}
 use Rattle.twin_shims.specs.Follower.{reader_answered}
 use Rattle.twin_shims.proofs.Lines.{exchanges_append, notes_append, open_from, line_goes}
 
@@ -25,24 +25,25 @@ front_push (x ∷ []) note = refl
 front_push (x ∷ y ∷ xs) note = ap (λ (zs : List Note). x ∷ zs) (front_push (y ∷ xs) note)
 
 pub reader_takes : (closed now : Bool) (r : ReaderState) (note : Note) → IsReader closed r
-    → r.next ≡ None → r.asked ≡ None → HasNoEnd (told_by_reader r) → now ≡ closes note → FitsItsQuestion note
+    → r.next ≡ None → r.asked ≡ None → HasNoEnd (reader_told r) → now ≡ closes note
+    → IsWithinMax note
     → IsReader now (reader_took r note)
 reader_takes closed now r note is none quiet running closing fits =
-    let own : r.taken ≡ notes_telling (told_by_reader r) =
-    subst (λ (x : Option Note). used r.taken x ≡ notes_telling (told_by_reader r)) none is.told_only in
+    let own : r.taken ≡ as_notes (reader_told r) =
+    subst (λ (x : Option Note). used r.taken x ≡ as_notes (reader_told r)) none is.told_only in
     let before : front (r.taken ++ note ∷ []) ≡ r.taken = front_push r.taken note in
-    let told : exchanges_in (front (r.taken ++ note ∷ [])) ≡ told_by_reader r =
+    let told : exchanges_in (front (r.taken ++ note ∷ [])) ≡ reader_told r =
     ap exchanges_in before
     ∙ ap (λ (x : Option Note). exchanges_in (used r.taken x)) (sym none) in
     record {
       line = line_goes r.taken note now
-          (subst IsOpen (sym own) (open_from (told_by_reader r) running)) closing;
-      told_only = before ∙ own ∙ ap notes_telling (sym told);
+          (subst IsOpen (sym own) (open_from (reader_told r) running)) closing;
+      told_only = before ∙ own ∙ ap as_notes (sym told);
       next_is = ap (λ (x : List Note). x ++ note ∷ []) (sym before);
       fits = fits;
       count = is.count ∙ ap (λ (x : List Exchange). counted_to (length x)) (sym told);
       stop = subst (λ (x : Option Question).
-          IfSome x (λ q. IfSome r.last (MayStopFollower (reader_took r note) q))) (sym quiet) tt;
+          IfSome x (λ q. IfSome r.last (StopsReader (reader_took r note) q))) (sym quiet) tt;
       never = is.never;
     }
 
@@ -60,8 +61,8 @@ reader_answers closed r e is next =
     let ends : r.taken ≡ front r.taken ++ Told e ∷ [] =
     subst (λ (x : Option Note). IfSome x (λ note. r.taken ≡ front r.taken ++ note ∷ [])) next
     is.next_is in
-    let own : front r.taken ≡ notes_telling (exchanges_in (front r.taken)) =
-    subst (λ (x : Option Note). used r.taken x ≡ notes_telling (exchanges_in (used r.taken x))) next
+    let own : front r.taken ≡ as_notes (exchanges_in (front r.taken)) =
+    subst (λ (x : Option Note). used r.taken x ≡ as_notes (exchanges_in (used r.taken x))) next
     is.told_only in
     let count : r.answered ≡ counted_to (length (exchanges_in (front r.taken))) =
     subst (λ (x : Option Note). r.answered
@@ -70,7 +71,7 @@ reader_answers closed r e is next =
       line = is.line;
       told_only = ends ∙ ap (λ (x : List Note). x ++ Told e ∷ []) own
           ∙ sym (notes_append (exchanges_in (front r.taken)) (e ∷ []))
-          ∙ ap notes_telling (sym (told_more r.taken e ends));
+          ∙ ap as_notes (sym (told_more r.taken e ends));
       next_is = tt;
       fits = tt;
       count = count_more r.answered (length (exchanges_in (front r.taken))) count
@@ -110,7 +111,8 @@ shows_taking r note none =
 -- ---- the same of a state whose parts are equal to these
 
 pub took_is : (closed now : Bool) (r t : ReaderState) (note : Note) → IsReader closed r
-    → r.next ≡ None → r.asked ≡ None → HasNoEnd (told_by_reader r) → now ≡ closes note → FitsItsQuestion note
+    → r.next ≡ None → r.asked ≡ None → HasNoEnd (reader_told r) → now ≡ closes note
+    → IsWithinMax note
     → t ≡ reader_took r note → IsReader now t
 took_is closed now r t note is none quiet running closing fits same =
     subst (IsReader now) (sym same)
@@ -145,9 +147,9 @@ took_same r line taken note p q =
 
 -- an input's bytes fit where as many were asked for as there is room
 pub fits_room : (e : Exchange) (r t m round tid max : ℕ) (bytes : List ℕ) → e ≡ Input r t m bytes
-    → FitsItsQuestion (Told e) → question_of e ≡ input_question round tid max → length bytes ≤ max
+    → IsWithinMax (Told e) → question_of e ≡ input_question round tid max → length bytes ≤ max
 fits_room e r t m round tid max bytes is fit asks =
-    let few : length bytes ≤ m = subst (λ (x : Exchange). FitsItsQuestion (Told x)) is fit in
+    let few : length bytes ≤ m = subst (λ (x : Exchange). IsWithinMax (Told x)) is fit in
     let same : input_question r t m ≡ input_question round tid max =
     ap question_of (sym is) ∙ asks in
     let h : m ≡ max = cc in

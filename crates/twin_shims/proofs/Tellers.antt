@@ -15,7 +15,7 @@ use Rattle.dos_io.specs.Shims.{HasNoEnd}
 use Rattle.dos_io.proofs.GivenLaws.{given_none}
 use Rattle.twin_shims.specs.declared.note.Note.{Note}
 use Rattle.twin_shims.specs.declared.note.Note.TheVariants.{Told as told_note}
-use Rattle.twin_shims.specs.Notes.{exchanges_in, notes_telling, closes, IsOpen}
+use Rattle.twin_shims.specs.Notes.{exchanges_in, as_notes, closes, IsOpen}
 use Rattle.twin_shims.specs.Leader.{TellerState, IsTeller, FollowsLeader, teller_told}
 use Rattle.twin_shims.specs.Leader.{teller_stopped}
 use Rattle.twin_shims.proofs.Lines.{exchanges_append, notes_append, open_from, line_goes}
@@ -28,7 +28,7 @@ teller_goes closed now pushed after last e is none closing more =
     subst (λ (x : List Note). IsTeller now x last) (sym more) (record {
       told_only = ap (λ (x : List Note). x ++ told_note e ∷ []) is.told_only
           ∙ sym (notes_append (exchanges_in pushed) (e ∷ []))
-          ∙ ap notes_telling (sym (exchanges_append pushed (told_note e ∷ [])));
+          ∙ ap as_notes (sym (exchanges_append pushed (told_note e ∷ [])));
       line = line_goes pushed (told_note e) now
           (subst IsOpen (sym is.told_only) (open_from (exchanges_in pushed) none)) closing;
       never = is.never;

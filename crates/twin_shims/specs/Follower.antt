@@ -12,7 +12,7 @@ use Rattle.dos_io.specs.Outside.{counted_to_limit}
 use Rattle.dos_io.specs.Shims.{ShimState}
 use Rattle.twin_shims.specs.declared.note.Note.{Note}
 use Rattle.twin_shims.specs.declared.note.Note.TheVariants.{Told, Stopped}
-use Rattle.twin_shims.specs.Notes.{exchanges_in, notes_telling, FitsItsQuestion, IsLine}
+use Rattle.twin_shims.specs.Notes.{exchanges_in, as_notes, IsWithinMax, IsLine}
 
 -- all but the last
 abbrev pub front : List Note → List Note
@@ -37,12 +37,12 @@ used taken None = taken
 used taken (Some note) = front taken
 
 -- what it told: the exchanges of those notes
-abbrev pub told_by_reader : ReaderState → List Exchange
-told_by_reader r = exchanges_in (used r.taken r.next)
+abbrev pub reader_told : ReaderState → List Exchange
+reader_told r = exchanges_in (used r.taken r.next)
 
 -- as of every shim
 abbrev pub follower_state : ReaderState → ShimState
-follower_state r = record { told = told_by_reader r; stops = r.stops; last = r.last; asked = r.asked }
+follower_state r = record { told = reader_told r; stops = r.stops; last = r.last; asked = r.asked }
 
 -- before the first question
 abbrev pub new_reader : TableId → ReaderState
@@ -61,7 +61,7 @@ abbrev pub counted_to : ℕ → ℕ
 counted_to n = min n (2 ^ 32 - 1)
 
 -- The next note is of an exchange with another question.
-pub record IsMisfitWithNext (r : ReaderState) (asked : Question) (stop : ShimStop) : Type 0 where
+pub record IsNextMisfit (r : ReaderState) (asked : Question) (stop : ShimStop) : Type 0 where
   pub kept : Exchange
   pub next : r.next ≡ Some (Told kept)
   pub says : stop ≡ Misfit (record {
@@ -73,11 +73,11 @@ pub record IsMisfitWithNext (r : ReaderState) (asked : Question) (stop : ShimSto
 
 -- It stops so at this question by its next note: by a misfit where that is of another question, and
 -- by a fault of the host exactly where the leader has stopped.
-abbrev pub MayStopFollower : ReaderState → Question → ShimStop → Type 0
-MayStopFollower r q HostFault = r.next ≡ Some Stopped
-MayStopFollower r q (Misfit misfit) = IsMisfitWithNext r q (Misfit misfit)
-MayStopFollower r q LogFull = ⊥
-MayStopFollower r q Memory = ⊥
+abbrev pub StopsReader : ReaderState → Question → ShimStop → Type 0
+StopsReader r q HostFault = r.next ≡ Some Stopped
+StopsReader r q (Misfit misfit) = IsNextMisfit r q (Misfit misfit)
+StopsReader r q LogFull = ⊥
+StopsReader r q Memory = ⊥
 
 abbrev pub IsFollowerStop : ShimStop → Type 0
 IsFollowerStop HostFault = ⊤
@@ -88,11 +88,11 @@ IsFollowerStop Memory = ⊥
 -- what a follower keeps in its type
 pub record IsReader (closed : Bool) (r : ReaderState) : Type 0 where
   pub line : IsLine closed r.taken
-  pub told_only : used r.taken r.next ≡ notes_telling (told_by_reader r)
+  pub told_only : used r.taken r.next ≡ as_notes (reader_told r)
   pub next_is : IfSome r.next (λ note. r.taken ≡ front r.taken ++ note ∷ [])
-  pub fits : IfSome r.next FitsItsQuestion
-  pub count : r.answered ≡ counted_to (length (told_by_reader r))
-  pub stop : IfSome r.asked (λ q. IfSome r.last (MayStopFollower r q))
+  pub fits : IfSome r.next IsWithinMax
+  pub count : r.answered ≡ counted_to (length (reader_told r))
+  pub stop : IfSome r.asked (λ q. IfSome r.last (StopsReader r q))
   pub never : IfSome r.last IsFollowerStop
 
 -- From s to t: the same line, and the notes taken before are a prefix of those taken after.
@@ -111,7 +111,8 @@ reader_answered r = record r { next = None; answered = counted_to (r.answered + 
 
 -- after a stop
 abbrev pub reader_stopped : ReaderState → Question → ShimStop → ReaderState
-reader_stopped r q stop = record r { stops = counted_to_limit r.stops; last = Some stop; asked = Some q }
+reader_stopped r q stop =
+    record r { stops = counted_to_limit r.stops; last = Some stop; asked = Some q }
 
 -- the question of a note, if it is of an exchange
 abbrev pub question_of_note : Option Note → Option Question

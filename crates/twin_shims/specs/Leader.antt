@@ -12,7 +12,7 @@ use Rattle.dos_io.specs.Given.{Given}
 use Rattle.dos_io.specs.Outside.{counted_to_limit, Rose}
 use Rattle.dos_io.specs.Shims.{ShimState}
 use Rattle.twin_shims.specs.declared.note.Note.{Note}
-use Rattle.twin_shims.specs.Notes.{exchanges_in, notes_telling, IsLine}
+use Rattle.twin_shims.specs.Notes.{exchanges_in, as_notes, IsLine}
 
 -- which line it pushes into, the exchanges that it was told and pushed, and the stops
 pub record TellerState : Type 0 where
@@ -36,7 +36,8 @@ teller_told t e = record t { told = t.told ++ e ∷ []; asked = None }
 
 -- after a stop
 abbrev pub teller_stopped : TellerState → Question → ShimStop → TellerState
-teller_stopped t q stop = record t { stops = counted_to_limit t.stops; last = Some stop; asked = Some q }
+teller_stopped t q stop =
+    record t { stops = counted_to_limit t.stops; last = Some stop; asked = Some q }
 
 -- A leader's host may fail, and memory for a note may be wanting; there is no log, so none is full
 -- and none has a misfit.
@@ -48,7 +49,7 @@ IsLeaderStop (Misfit misfit) = ⊥
 
 -- what a leader keeps in its type: it has pushed a note for each exchange and nothing else
 pub record IsTeller (closed : Bool) (pushed : List Note) (last : Option ShimStop) : Type 0 where
-  pub told_only : pushed ≡ notes_telling (exchanges_in pushed)
+  pub told_only : pushed ≡ as_notes (exchanges_in pushed)
   pub line : IsLine closed pushed
   pub never : IfSome last IsLeaderStop
 

@@ -14,8 +14,8 @@ exchanges_in (Told e ∷ notes) = e ∷ exchanges_in notes
 exchanges_in (Stopped ∷ notes) = exchanges_in notes
 
 -- a note for each of these exchanges
-abbrev pub notes_telling : List Exchange → List Note
-notes_telling = map Told
+abbrev pub as_notes : List Exchange → List Note
+as_notes = map Told
 
 -- no note comes behind it: it is the end, or says that there will be none
 abbrev pub closes : Note → Bool
@@ -26,15 +26,15 @@ closes (Told (End ending rounds)) = true
 closes Stopped = true
 
 -- An input has no more bytes than were asked for.
-abbrev pub FitsItsQuestion : Note → Type 0
-FitsItsQuestion (Told (Signals round list)) = ⊤
-FitsItsQuestion (Told (Input round tid max bytes)) = length bytes ≤ max
-FitsItsQuestion (Told (Clock round tid n)) = ⊤
-FitsItsQuestion (Told (End ending rounds)) = ⊤
-FitsItsQuestion Stopped = ⊤
+abbrev pub IsWithinMax : Note → Type 0
+IsWithinMax (Told (Signals round list)) = ⊤
+IsWithinMax (Told (Input round tid max bytes)) = length bytes ≤ max
+IsWithinMax (Told (Clock round tid n)) = ⊤
+IsWithinMax (Told (End ending rounds)) = ⊤
+IsWithinMax Stopped = ⊤
 
-abbrev pub AllFitQuestions : List Note → Type 0
-AllFitQuestions = AllByRecursion FitsItsQuestion
+abbrev pub AreWithinMax : List Note → Type 0
+AreWithinMax = AllByRecursion IsWithinMax
 
 -- more notes may come: none of these closes
 abbrev pub IsOpen : List Note → Type 0

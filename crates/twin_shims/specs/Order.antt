@@ -5,14 +5,14 @@ use mathlib.Core.Option.{some}
 use lib.ListN.{get_elem?}
 use Rattle.twin_shims.specs.declared.line.Hand.{Hand}
 use Rattle.twin_shims.specs.declared.note.Note.{Note}
-use Rattle.twin_shims.specs.Notes.{FitsItsQuestion, AllFitQuestions}
+use Rattle.twin_shims.specs.Notes.{IsWithinMax, AreWithinMax}
 
 abbrev pub hand : (pushes pops : Bool) → (pushed popped : List Note) → Hand
 hand pushes pops pushed popped =
     record { pushes = pushes; pops = pops; pushed = pushed; popped = popped }
 
-abbrev pub KnowsItsNotes : (writer reader : ℕ) → (pushed popped : List Note) → ℕ → Hand → Type 0
-KnowsItsNotes writer reader pushed popped port v =
+abbrev pub Knows : (writer reader : ℕ) → (pushed popped : List Note) → ℕ → Hand → Type 0
+Knows writer reader pushed popped port v =
     (v.pushes ≡ true → (port ≡ writer) × (v.pushed ≡ pushed))
     × (v.pops ≡ true → (port ≡ reader) × (v.popped ≡ popped))
 
@@ -20,8 +20,8 @@ abbrev pub AreTakenInOrder : List Note → List Hand → Type 0
 AreTakenInOrder items views = (writer reader : ℕ) × (pushed popped : List Note)
     × (pushed ≡ popped ++ items)
     × ((port : ℕ) (v : Hand) → get_elem? views port ≡ some v
-    → KnowsItsNotes writer reader pushed popped port v)
-    × AllFitQuestions items
+    → Knows writer reader pushed popped port v)
+    × AreWithinMax items
 
 -- after this note was pushed
 abbrev pub HasPushed : (old : Hand) → Note → (new : Hand) → Type 0
@@ -29,4 +29,4 @@ HasPushed v note w = w ≡ hand v.pushes v.pops (v.pushed ++ note ∷ []) v.popp
 
 -- after this note was popped
 abbrev pub HasPopped : (old : Hand) → Note → (new : Hand) → Type 0
-HasPopped v note w = (w ≡ hand v.pushes v.pops v.pushed (v.popped ++ note ∷ [])) × FitsItsQuestion note
+HasPopped v note w = (w ≡ hand v.pushes v.pops v.pushed (v.popped ++ note ∷ [])) × IsWithinMax note

@@ -2,7 +2,7 @@
 ghost use Rattle.std.specs.Prelude.{◌≡◌, ◌≤◌, ◌++◌, List, length, drop};
 ghost use Rattle.std.specs.Prelude.{◌∷◌, [], IfSome};
 ghost use Rattle.twin_shims.specs.declared.note.Note.{Note};
-ghost use Rattle.twin_shims.specs.Follower.{IsFollowerStop, MayStopFollower, front};
+ghost use Rattle.twin_shims.specs.Follower.{IsFollowerStop, StopsReader, front};
 ghost use Rattle.twin_shims.specs.Notes.{IsClosed};
 
 use crate::pushed::Taken;
@@ -91,7 +91,7 @@ impl<'a, R: Wait> Following<'a, R> {
         ensures next { IfSome self.now.reader.next
             (λ note. self.now.reader.taken ≡ front self.now.reader.taken ++ note ∷ []) }
         ensures stop { IfSome self.now.reader.asked
-            (λ q. IfSome self.now.reader.last (MayStopFollower self.now.reader q)) }
+            (λ q. IfSome self.now.reader.last (StopsReader self.now.reader q)) }
         ensures never { IfSome self.now.reader.last IsFollowerStop }
     {
         self.reader.look();

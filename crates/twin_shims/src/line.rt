@@ -3,7 +3,7 @@ ghost use Rattle.std.specs.Prelude.{◌≡◌, ◌∷◌, ◌++◌, [], List, tr
 ghost use Rattle.std.specs.Prelude.{IfSome, IfNone};
 ghost use Rattle.crossbeam_queue.specs.Passes.{view, IsPassOf, IsSamePass};
 ghost use Rattle.twin_shims.specs.declared.note.Note.{Note};
-ghost use Rattle.twin_shims.specs.Notes.{FitsItsQuestion};
+ghost use Rattle.twin_shims.specs.Notes.{IsWithinMax};
 ghost use Rattle.twin_shims.specs.Order.{hand, HasPushed, HasPopped};
 
 use crate::bell::Bell;
@@ -114,7 +114,7 @@ impl Line {
     fn try_push(&self, pass: &mut Pass, note: Note) -> Result<(), Note>
         requires pass { IsPassOf self.now.queue pass.old }
         requires pushes { (view pass.old).pushes ≡ true }
-        requires fits { FitsItsQuestion note }
+        requires fits { IsWithinMax note }
         ensures pass { IsSamePass pass.old pass.new }
         ensures pushed { OnOk result (HasPushed (view pass.old) note (view pass.new)) }
         ensures full { IfErr result (λ back. (back ≡ note) × (view pass.new ≡ view pass.old)) }
@@ -128,7 +128,7 @@ impl Line {
     fn push_within(&self, pass: &mut Pass, mut note: Note, more: u32) -> Result<(), Note>
         requires pass { IsPassOf self.now.queue pass.old }
         requires pushes { (view pass.old).pushes ≡ true }
-        requires fits { FitsItsQuestion note }
+        requires fits { IsWithinMax note }
         ensures pass { IsSamePass pass.old pass.new }
         ensures pushed { OnOk result (HasPushed (view pass.old) note (view pass.new)) }
         ensures full { IfErr result (λ back. (back ≡ note) × (view pass.new ≡ view pass.old)) }
@@ -147,7 +147,7 @@ impl Line {
     fn push_or_sleep<R: Wait>(&self, rt: &R, pass: &mut Pass, note: Note) -> Result<(), Note>
         requires pass { IsPassOf self.now.queue pass.old }
         requires pushes { (view pass.old).pushes ≡ true }
-        requires fits { FitsItsQuestion note }
+        requires fits { IsWithinMax note }
         ensures pass { IsSamePass pass.old pass.new }
         ensures pushed { OnOk result (HasPushed (view pass.old) note (view pass.new)) }
         ensures full { IfErr result (λ back. (back ≡ note) × (view pass.new ≡ view pass.old)) }
@@ -171,7 +171,7 @@ impl Line {
     pub(crate) fn push<R: Wait>(&self, rt: &R, pass: &mut Pass, mut note: Note)
         requires pass { IsPassOf self.now.queue pass.old }
         requires pushes { (view pass.old).pushes ≡ true }
-        requires fits { FitsItsQuestion note }
+        requires fits { IsWithinMax note }
         ensures pass { IsSamePass pass.old pass.new }
         ensures pushed { HasPushed (view pass.old) note (view pass.new) }
     {

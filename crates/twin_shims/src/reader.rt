@@ -8,11 +8,11 @@ ghost use Rattle.dos_io.specs.Shims.{HasNoEnd, shim_answered, Stopped};
 ghost use Rattle.twin_shims.specs.declared.note.Note.{Note};
 ghost use Rattle.twin_shims.specs.declared.note.Note.TheVariants.{Told as told_note};
 ghost use Rattle.twin_shims.specs.declared.note.Note.TheVariants.{Stopped as stopped_note};
-ghost use Rattle.twin_shims.specs.Follower.{ReaderState, IsReader, MayStopFollower, FollowsReader};
-ghost use Rattle.twin_shims.specs.Follower.{new_reader, told_by_reader, follower_state, reader_took};
+ghost use Rattle.twin_shims.specs.Follower.{ReaderState, IsReader, StopsReader, FollowsReader};
+ghost use Rattle.twin_shims.specs.Follower.{new_reader, reader_told, follower_state, reader_took};
 ghost use Rattle.twin_shims.specs.Follower.{reader_answered, reader_stopped, question_of_note};
 ghost use Rattle.twin_shims.specs.Follower.{IsFollowerStop, front};
-ghost use Rattle.twin_shims.specs.Notes.{IsClosed, FitsItsQuestion};
+ghost use Rattle.twin_shims.specs.Notes.{IsClosed, IsWithinMax};
 ghost use Rattle.twin_shims.specs.Line.{line_id};
 ghost use Rattle.twin_shims.specs.Order.{hand};
 
@@ -89,7 +89,7 @@ impl<'l> Reader<'l> {
 
     // Takes the next note and waits for it, where it has none.
     fn pop_next<R: Wait>(&mut self, rt: &R)
-        requires told { HasNoEnd (told_by_reader self.old) }
+        requires told { HasNoEnd (reader_told self.old) }
         requires none { self.old.next ≡ None }
         requires asked { self.old.asked ≡ None }
         ensures { (note : Note) × (self.new ≡ reader_took self.old note) }
@@ -108,7 +108,7 @@ impl<'l> Reader<'l> {
 
     // Has a next note, which is waited for.
     fn take_next<R: Wait>(&mut self, rt: &R)
-        requires { HasNoEnd (told_by_reader self.old) }
+        requires { HasNoEnd (reader_told self.old) }
         ensures next { (note : Note) × (self.new.next ≡ Some note) }
         ensures told { follower_state self.new
             ≡ record (follower_state self.old) { asked = None } }
@@ -135,7 +135,7 @@ impl<'l> Reader<'l> {
     fn answer(&mut self) -> Exchange
         requires { (exchange : _) × (self.old.next ≡ Some (told_note exchange)) }
         ensures next { self.old.next ≡ Some (told_note result) }
-        ensures fits { FitsItsQuestion (told_note result) }
+        ensures fits { IsWithinMax (told_note result) }
         ensures told { follower_state self.new ≡ shim_answered (follower_state self.old) result }
         ensures follows { FollowsReader self.old self.new }
     {
@@ -151,7 +151,7 @@ impl<'l> Reader<'l> {
 
     // Stops, so, at this question.
     fn stop(&mut self, question: Question, stop: ShimStop) -> ShimStop
-        requires { MayStopFollower self.old question stop }
+        requires { StopsReader self.old question stop }
         ensures result { result ≡ stop }
         ensures after { self.new ≡ reader_stopped self.old question stop }
     {
@@ -164,9 +164,9 @@ impl<'l> Reader<'l> {
     /// The exchange of the next note, if it is of this question. Else it stops, and that note stays
     /// the next.
     pub(crate) fn fit<R: Wait>(&mut self, rt: &R, asked: Question) -> Result<Exchange, ShimStop>
-        requires { HasNoEnd (told_by_reader self.old) }
+        requires { HasNoEnd (reader_told self.old) }
         ensures question { IfOk result (λ exchange. question_of exchange ≡ asked) }
-        ensures fits { IfOk result (λ exchange. FitsItsQuestion (told_note exchange)) }
+        ensures fits { IfOk result (λ exchange. IsWithinMax (told_note exchange)) }
         ensures ok { IfOk result (λ exchange.
             follower_state self.new ≡ shim_answered (follower_state self.old) exchange) }
         ensures err { IfErr result (λ stop.
@@ -194,7 +194,7 @@ impl<'l> Reader<'l> {
     pub fn look(&self)
         ensures next { IfSome self.now.next
             (λ note. self.now.taken ≡ front self.now.taken ++ note ∷ []) }
-        ensures stop { IfSome self.now.asked (λ q. IfSome self.now.last (MayStopFollower self.now q)) }
+        ensures stop { IfSome self.now.asked (λ q. IfSome self.now.last (StopsReader self.now q)) }
         ensures never { IfSome self.now.last IsFollowerStop }
     {
         let _answered = self.answered;

@@ -5,7 +5,7 @@ ghost use Rattle.dos_io.specs.Shims.{HasNoEnd};
 ghost use Rattle.twin_shims.specs.Leader.{TellerState, IsLeaderStop, teller_told, teller_stopped};
 ghost use Rattle.twin_shims.specs.Leader.{new_teller};
 ghost use Rattle.twin_shims.specs.declared.note.Note.TheVariants.{Told as told_note};
-ghost use Rattle.twin_shims.specs.Notes.{exchanges_in, IsClosed, FitsItsQuestion};
+ghost use Rattle.twin_shims.specs.Notes.{exchanges_in, IsClosed, IsWithinMax};
 ghost use Rattle.twin_shims.specs.Line.{line_id};
 ghost use Rattle.twin_shims.specs.Order.{hand};
 
@@ -70,7 +70,7 @@ impl<'l> Teller<'l> {
     /// Pushes the note of an exchange that it was told, and waits for a place.
     pub(crate) fn tell<R: Wait>(&mut self, rt: &R, exchange: Exchange)
         requires running { HasNoEnd self.old.told }
-        requires fits { FitsItsQuestion (told_note exchange) }
+        requires fits { IsWithinMax (told_note exchange) }
         ensures { self.new ≡ teller_told self.old exchange }
     {
         let note = Note::Told(exchange);

@@ -1,7 +1,7 @@
 use Rattle.std.proofs.Common.{subst, sym, ap, ◌∙◌}
 use Rattle.crossbeam_queue.specs.Passes.{view}
 use Rattle.dos_io.specs.Shims.{HasNoEnd}
-use Rattle.twin_shims.specs.Follower.{ReaderState, told_by_reader}
+use Rattle.twin_shims.specs.Follower.{ReaderState, reader_told}
 use Rattle.twin_shims.proofs.Lines.{pops}
 use Rattle.twin_shims.proofs.Readers.{took_is, took_same}
 use Rattle.twin_shims.proofs.reader.Reader.pop_next.Goals as goal
@@ -26,7 +26,8 @@ invariant_of-self g c =
       took_is _ _ r _ c.pop-note.result c.self.invariant.2
           (ap (λ (r : ReaderState). r.next) c.self.view_is ∙ c.requires.none)
           (ap (λ (r : ReaderState). r.asked) c.self.view_is ∙ c.requires.asked)
-          (subst (λ (r : ReaderState). HasNoEnd (told_by_reader r)) (sym c.self.view_is) c.requires.told)
+          (subst (λ (r : ReaderState). HasNoEnd (reader_told r)) (sym c.self.view_is)
+          c.requires.told)
           c.closes-self-inside.ensures c.pop-note.ensures.popped.1
           (took_same r _ _ _ c.pop-note.ensures.pass.0 popped.popped_is),
     )
