@@ -68,7 +68,11 @@ impl Fewer {
         Fewer {
             left,
             wait: self.wait,
-            since: if left == 0 { self.since.saturating_add(work) } else { 0 },
+            since: if left == 0 {
+                self.since.saturating_add(work)
+            } else {
+                0
+            },
         }
     }
 }

@@ -41,7 +41,8 @@ impl<G: Gate + Drop> Kept<G> {
     // so many should be there after a call
     fn keep(&self, idle: Vec<Idle<G>>, others: usize) {
         if idle.len() < others {
-            self.fewer.set(self.fewer.get().late(others.min(MOST) as u32 + 1));
+            self.fewer
+                .set(self.fewer.get().late(others.min(MOST) as u32 + 1));
         }
         self.idle.set(idle);
     }
