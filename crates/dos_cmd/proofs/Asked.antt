@@ -1,6 +1,6 @@
 -- What files were asked, from call to call.
-use Rattle.std.proofs.Common.{◌≡◌, ◌≤◌, ◌⊎◌, ◌∙◌, ℕ, zero, suc, ◌+◌, Bool, true, false, cond, eqb, inl}
-use Rattle.std.proofs.Common.{inr}
+use Rattle.std.proofs.Common.{◌≡◌, ◌≤◌, ◌⊎◌, ◌∙◌, ℕ, zero, suc, ◌+◌, Bool, true, false, cond, eqb}
+use Rattle.std.proofs.Common.{inl, inr}
 use Rattle.std.proofs.Common.{List, [], ◌∷◌, ◌++◌, map, take, drop, length, Option, Some, None}
 use Rattle.std.proofs.Common.{Result, Ok, Err, refl, sym, ap, subst, append_assoc, arith}
 use Rattle.std.specs.Prelude.{IfErr, IsErrOf, slice_get, bytes_eq, ⊤}
@@ -147,13 +147,17 @@ log_until log names refusals.Sink asked (inr h) =
     inr (ap (λ (x : List FileCall). getting log ∷ x) h)
 log_until log names why asked h = ap (λ (x : List FileCall). getting log ∷ x) h
 
-pub log_then : {T : Type 0} (r : Result T Refusal) (log : Text) (names : List Text)
-    (b m a : List FileCall) → m ≡ b ++ getting log ∷ [] → Asks (files_named [] names []) r m a
-    → Asks (files_named (log ∷ []) names []) r b a
-log_then (Ok done) log names b m a first h =
+pub log_then_all : (log : Text) (names : List Text) (b m a : List FileCall)
+    → m ≡ b ++ getting log ∷ [] → a ≡ m ++ file_calls (files_named [] names [])
+    → a ≡ b ++ file_calls (files_named (log ∷ []) names [])
+log_then_all log names b m a first h =
     h ∙ ap (λ (x : List FileCall). x ++ (map getting names ++ [])) first
     ∙ append_assoc b (getting log ∷ []) (map getting names ++ [])
-log_then (Err why) log names b m a first h = record {
+
+pub log_then_stops : (log : Text) (names : List Text) (why : Refusal) (b m a : List FileCall)
+    → m ≡ b ++ getting log ∷ [] → AskedSoFar (files_named [] names []) why m a
+    → AskedSoFar (files_named (log ∷ []) names []) why b a
+log_then_stops log names why b m a first h = record {
   asked = getting log ∷ h.asked;
   until = log_until log names why h.asked h.until;
   after_is = h.after_is ∙ ap (λ (x : List FileCall). x ++ h.asked) first
@@ -327,26 +331,35 @@ all_read (Err why) log images b a later asked = stopped_later log images why b a
 abbrev pub WasAsked : {T : Type 0} → Result T FileError → Text → (b a : List FileCall) → Type 0
 WasAsked r name b a = (a ≡ b ++ setting name ∷ []) ⊎ ((r ≡ Err files.Memory) × (a ≡ b))
 
-pub was_stored : {T : Type 0} (x : T) (name : Text) (b a : List FileCall)
-    → WasAsked (Ok x) name b a → a ≡ b ++ setting name ∷ []
-was_stored x name b a (inl h) = h
-was_stored x name b a (inr h) = let is = h.0 in cc
+pub was_stored : {T : Type 0} (x : T) (text name : Text) (b a : List FileCall) → text ≡ name
+    → WasAsked (Ok x) text b a → a ≡ b ++ setting name ∷ []
+was_stored x text name b a is (inl h) =
+    h ∙ ap (λ (n : Text). b ++ setting n ∷ []) is
+was_stored x text name b a is (inr h) = let other = h.0 in cc
 
-pub no_memory : {T : Type 0} (r : Result T FileError) (name : Text) (b a : List FileCall)
-    → WasAsked r name b a → AskedSoFar (files_named [] [] (name ∷ [])) refusals.Memory b a
-no_memory r name b a (inl h) = record { asked = setting name ∷ []; until = ([], refl); after_is = h }
-no_memory r name b a (inr h) = record {
+pub no_memory : {T : Type 0} (r : Result T FileError) (text name : Text) (b a : List FileCall)
+    → text ≡ name → WasAsked r text b a
+    → AskedSoFar (files_named [] [] (name ∷ [])) refusals.Memory b a
+no_memory r text name b a is (inl h) = record {
+  asked = setting name ∷ [];
+  until = ([], refl);
+  after_is = h ∙ ap (λ (n : Text). b ++ setting n ∷ []) is;
+}
+no_memory r text name b a is (inr h) = record {
   asked = [];
   until = (setting name ∷ [], refl);
   after_is = h.1 ∙ none_asked b;
 }
 
-pub file_failed : {T : Type 0} (e : FileError) (name : Text) (b a : List FileCall)
-    → e ≡ files.Fault → WasAsked {T = T} (Err e) name b a
+pub file_failed : {T : Type 0} (e : FileError) (text name : Text) (b a : List FileCall)
+    → text ≡ name → e ≡ files.Fault → WasAsked {T = T} (Err e) text b a
     → AskedSoFar (files_named [] [] (name ∷ [])) refusals.Files b a
-file_failed e name b a is (inl h) =
-    record { asked = setting name ∷ []; until = ([], refl); after_is = h }
-file_failed {T} e name b a is (inr h) =
+file_failed e text name b a is fault (inl h) = record {
+  asked = setting name ∷ [];
+  until = ([], refl);
+  after_is = h ∙ ap (λ (n : Text). b ++ setting n ∷ []) is;
+}
+file_failed {T} e text name b a is fault (inr h) =
     let both : ◌≡◌ {A = Result T FileError} (Err e) (Err files.Memory) = h.0 in cc
 
 -- what was put then failed, or not

@@ -1,4 +1,4 @@
-use Rattle.std.proofs.Common.{◌≡◌, Ok, sym, ap, ◌∙◌}
+use Rattle.std.proofs.Common.{◌≡◌, Ok, refl, sym, ap, ◌∙◌}
 use Rattle.elf_image.specs.Image.{image}
 use Rattle.dos_cmd.proofs.RunEnds.{is_err_of, ok_no_err}
 use Rattle.dos_cmd.proofs.RunFiles.{long_no_fault, memory_no_fault, not_read_no_fault}

@@ -1,6 +1,7 @@
 use Rattle.std.proofs.Common.{le_refl, refl, length, rules, vec_len, ap, Err, ◌≡◌, ◌∙◌}
 use Rattle.std.proofs.lemmas.Result.{err_from_is_err_and}
 use Rattle.dos_io.specs.Outside.{grown}
+use Rattle.dos_world.specs.declared.Ending.{Ending}
 use Rattle.dos_texts.specs.declared.refusal.Refusal.TheVariants.{Sink}
 use Rattle.dos_cmd.proofs.Asked.{later_making, not_asked, put_then}
 use Rattle.dos_cmd.proofs.MigrationEnds.{lines_are, not_made, not_stored, stored_text}
@@ -75,7 +76,7 @@ returns g c =
               (c.len.ensures ∙ count ∙ ap length c.in_ok-text.ensures.text) c.in-Err.ensures.front;
         },
       );
-      asked = put_then (Err Sink) c.args.to.now _ _ refl c.in_ok-store.ensures.asked;
+      asked = put_then {T = Ending} (Err Sink) c.args.to.now _ _ refl c.in_ok-store.ensures.asked;
       files_later = c.store.ensures.later;
       out_later = c.in-Err.ensures.cause.later;
       out_steady = λ other. absurd (other refl);

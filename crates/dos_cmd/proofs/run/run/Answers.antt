@@ -15,8 +15,8 @@ returns-in_err-kernel g c =
           (g.O.Sink.told c.args.out.now) (g.E.Sink.told c.args.err.now)
           (g.W.Workers.tally c.args.workers.now) (g.H.Host.faults c.args.host.now)
           (g.O.Sink.faults c.args.out.now) (g.E.Sink.faults c.args.err.now));
-      asked = λ n. stopped_in_reads [] c.args.request.now.names.now (c.args.request.now.log.now ∷ [])
-          _ _ _ c.in_err-kernel.ensures.asked;
+      asked = λ n. stopped_in_reads [] c.args.request.now.names.now
+          (c.args.request.now.log.now ∷ []) _ _ _ c.in_err-kernel.ensures.asked;
       files_later = c.prepare.ensures.later;
       host_later = le_refl _;
       out_later = le_refl _;
