@@ -75,7 +75,8 @@ returns-in-Ok g c = record {
   few = few_as _ _ c.in_ok-images.ensures.count c.requires;
   refused = tt;
   fault = λ is. absurd (ok_no_err _ _ is);
-  asked = log_then_all c.args.log.now c.args.names.now _ _ _ c.read.ensures.asked c.in_ok-images.ensures.asked;
+  asked = log_then_all c.args.log.now c.args.names.now _ _ _ c.read.ensures.asked
+      c.in_ok-images.ensures.asked;
   later = le_trans c.read.ensures.later c.load_all.ensures.later;
   stays = λ n. c.load_all.ensures.stays n ∙ c.read.ensures.stays n;
 }
@@ -94,7 +95,8 @@ returns-in-Err g c = record {
   fault = λ is. absurd (not_files _ is);
   asked = not_agreed c.args.log.now c.args.names.now c.in_ok-images.digests
       c.header.result.now.digests c.in-Err.why _ _ c.in-Err.ensures
-      (log_then_all c.args.log.now c.args.names.now _ _ _ c.read.ensures.asked c.in_ok-images.ensures.asked);
+      (log_then_all c.args.log.now c.args.names.now _ _ _ c.read.ensures.asked
+      c.in_ok-images.ensures.asked);
   later = le_trans c.read.ensures.later c.load_all.ensures.later;
   stays = λ n. c.load_all.ensures.stays n ∙ c.read.ensures.stays n;
 }
