@@ -11,6 +11,7 @@ use Rattle.dos_io.specs.declared.files.FileError.TheVariants as files
 use Rattle.dos_world.specs.declared.Ending.{Ending}
 use Rattle.elf_image.specs.Image.{Image}
 use Rattle.kernel_calls.specs.declared.state.RunStop.{RunStop}
+use Rattle.kernel_calls.specs.declared.state.RunStop.TheVariants as stops
 use Rattle.log_files.specs.Judging.{IsOfFile, disagreement, first_other}
 use Rattle.log_files.specs.declared.refusal.LogRefusal.{LogRefusal}
 use Rattle.log_files.specs.declared.refusal.LogRefusal.TheVariants as logs
@@ -257,7 +258,12 @@ pub later_stop : (stop : RunStop) (why : Refusal) → why ≡ refusal_by stop �
 later_stop stop why is = subst IsLater (sym is) (go stop)
   where
     go : (stop : RunStop) → IsLater (refusal_by stop)
-    go stop = tt
+    go stops.OutFault = tt
+    go stops.ErrFault = tt
+    go stops.HostFault = tt
+    go stops.LogFull = tt
+    go (stops.Misfit found) = tt
+    go stops.Memory = tt
 
 pub later_run : (asked : RunAsked) (images : List Image) (o : Outside) (f : Faults) (why : Refusal)
     → LeavesRun asked images o f why → IsLater why
@@ -473,13 +479,17 @@ stopped_in_reads log images written why b a h = record {
 -- ---- of the request, and of the words
 
 pub asks_as : {T : Type 0} (r : Result T Refusal) (request asked : Request) (b a : List FileCall)
-    → Asks (named_by asked) r b a → request ≡ asked → Asks (named_by request) r b a
-asks_as r request asked b a h is = subst (λ (q : Request). Asks (named_by q) r b a) (sym is) h
+    → request ≡ asked → Asks (named_by asked) r b a → Asks (named_by request) r b a
+asks_as r request asked b a is h = subst (λ (q : Request). Asks (named_by q) r b a) (sym is) h
 
 pub asks_in : {T : Type 0} (r : Result T Refusal) (words : Option Request) (asked : Request)
     (b a : List FileCall) → words ≡ Some asked → Asks (named_by asked) r b a
     → Asks (named_in words) r b a
 asks_in r words asked b a is h = subst (λ (q : Option Request). Asks (named_in q) r b a) (sym is) h
+
+words_error : (why : Refusal) → why ≡ refusals.Words
+    → IsErrOf {T = Request} (Err why) refusals.Words
+words_error why is = cc
 
 -- words that ask for nothing, or weren't read for want of memory
 pub words_not_read : (words : Option Request) (why : Refusal) (b : List FileCall)
@@ -487,7 +497,7 @@ pub words_not_read : (words : Option Request) (why : Refusal) (b : List FileCall
     → (why ≡ refusals.Words) ⊎ (why ≡ refusals.Memory) → AskedSoFar (named_in words) why b b
 words_not_read words why b none (inl is) =
     subst (λ (q : Option Request). AskedSoFar (named_in q) why b b)
-    (sym (none (ap (λ (w : Refusal). (let e : Result Request Refusal = Err w in e)) is)))
+    (sym (none (words_error why is)))
     (record { asked = []; until = none_until why; after_is = none_asked b })
 words_not_read words why b none (inr is) =
     subst (λ (w : Refusal). AskedSoFar (named_in words) w b b) (sym is)
