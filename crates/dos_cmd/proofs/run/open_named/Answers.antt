@@ -52,7 +52,8 @@ returns-in_err-opened-clause-asked g c =
     let p = err_from_is_err_and c.from_residual-in_err-opened.result
     c.from_residual-in_err-opened.ensures.1 in
     rw (p.1, p.2) (stopped_later [] c.args.request.now.names.now _ _ _
-    (later_opening _ _ _ c.in_err-opened.ensures.refused) c.in_ok-images.ensures.asked)
+    (later_opening c.deref.result.now c.args.request.now.config _
+    c.in_err-opened.ensures.refused) c.in_ok-images.ensures.asked)
 
 pub returns-clause-asked : goal.returns-clause-asked
 returns-clause-asked g c = c.in_ok-images.ensures.asked
