@@ -27,6 +27,8 @@ use Rattle.dos_words.specs.Request.{request}
 use Rattle.dos_words.specs.declared.request.Request.{Request}
 use Rattle.dos_words.specs.declared.request.Request.TheVariants.{Run, Replay, Gen, Migrate}
 use Rattle.dos_words.specs.declared.request.Request.TheVariants.{Trace}
+use Rattle.dos_io.specs.FileCalls.{FileCall}
+use Rattle.dos_cmd.specs.Asking.{AskedSoFar, named_in}
 use Rattle.dos_cmd.specs.Judging.{Taken, judgement}
 use Rattle.dos_cmd.specs.Outside.{Outside, Faults, OutputFailed, Says}
 use Rattle.dos_cmd.specs.ReplayLeaves.{DidReplay, Misfitted}
@@ -286,12 +288,14 @@ fails_must words o f why n asked taken is (inr (inr h)) ask told a b d =
 pub refused_as : (words : List Text) (o : Outside) (f : Faults) (n faults : ℕ)
     (e : Option (List ℕ)) (why : Refusal) → f.err_after ≤ faults
     → (why ≢ refusals.Sink) × (n ≡ refusal_status why) × (e ≡ grown o.err_after (line_of why))
-    → Fails words o f why [] → Refused words n (with_error o e) (with_faults f faults)
-refused_as words o f n faults e why later told fails = record {
+    → Fails words o f why [] → {b a : List FileCall} → AskedSoFar (named_in (request words)) why b a
+    → Refused words n (with_error o e) (with_faults f faults) b a
+refused_as words o f n faults e why later told fails so_far = record {
   why = why;
   status_is = told.1;
   fails = fails_more words o f faults e why (line_of why) later (λ sink. absurd (told.0 sink))
       told.2 fails;
+  so_far = so_far;
 }
 
 -- ---- an output that failed
@@ -323,8 +327,9 @@ sink_failed words o f why last is (inr (inr h)) =
 pub cut_short : (words : List Text) (o : Outside) (f : Faults) (n : ℕ) (e : Option (List ℕ))
     (why : Refusal) → f.err_after ≤ n → f.err ≤ f.err_after → Fails words o f why []
     → (why ≡ refusals.Sink) ⊎ Rose f.err_after n → GrewByFront o.err_after e (line_of why)
-    → CutShort words (with_error o e) (with_faults f n)
-cut_short words o f n e why later grows fails failed front = record {
+    → {b a : List FileCall} → AskedSoFar (named_in (request words)) why b a
+    → CutShort words (with_error o e) (with_faults f n) b a
+cut_short words o f n e why later grows fails failed front so_far = record {
   failed = elim failed [
     | inl sink ↦ output_failed f n later (sink_failed words o f why [] sink fails)
     | inr rose ↦ inr (omega (arith, grows, rose))
@@ -334,6 +339,7 @@ cut_short words o f n e why later grows fails failed front = record {
   front = take_is_front front.0 (line_of why);
   fails = fails_more words o f n e why (take front.0 (line_of why)) later
       (front_nothing why front.0) front.1 fails;
+  so_far = so_far;
 }
 
 -- ---- what is done by each command, as a call of it

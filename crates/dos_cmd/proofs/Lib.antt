@@ -1,5 +1,6 @@
 mod Saying
 pub mod NotBegun
+mod Asked
 mod Calls
 mod RunFiles
 mod RunEnds

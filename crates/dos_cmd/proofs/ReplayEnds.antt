@@ -1,6 +1,6 @@
 -- What a replay leaves, by how it ends.
 use Rattle.std.proofs.Common.{◌≡◌, ◌≤◌, inl, inr, ℕ, Bool, List, [], map, append-nil, Option, Some}
-use Rattle.std.proofs.Common.{None, Result, Ok, Err, sym, ap, ◌∙◌, subst, refl}
+use Rattle.std.proofs.Common.{None, Result, Ok, Err, sym, ap, ◌∙◌, subst, refl, true}
 use Rattle.std.specs.Prelude.{IfSome, IfOk, IfErr, OnOk, OnErr}
 use Rattle.dos_io.specs.Hosts.{Told}
 use Rattle.dos_io.specs.Outside.{grown, GrewByFront, HasCause}
@@ -26,6 +26,7 @@ use Rattle.dos_texts.specs.declared.refusal.Refusal.{Refusal}
 use Rattle.dos_texts.specs.declared.refusal.Refusal.TheVariants as refusals
 use Rattle.dos_words.specs.Numbers.{Text}
 use Rattle.dos_words.specs.declared.request.Request.TheVariants as requests
+use Rattle.dos_cmd.proofs.Asked.{IsLater, later_replay}
 use Rattle.dos_cmd.specs.Judging.{Judgement, agreed, replay_judgement}
 use Rattle.dos_cmd.specs.Outside.{Outside, Faults, outside, faults, Says}
 use Rattle.dos_cmd.specs.ReplayLeaves.{StaysAll, CutReplay, DidReplay, LeavesTaken}
@@ -244,3 +245,16 @@ replay_leaves log images name names tells f f' out err out1 err1 tally tally1 k 
     (Err why) told stay leaves = λ n h m.
     leaves_taken log images name names n (outside tells f f' h h out out1 err err1 tally tally1)
     (faults k k' m m oc oc1 ec ec1) why told (leaves tells f f' h k k' m stay)
+
+-- All files were read before.
+pub replay_later : (log : Log) (images : List Image) (out err out1 err1 : Option (List ℕ))
+    (tally tally1 oc oc1 ec ec1 : ℕ) (r : Result Ending Refusal)
+    → IfErr r (λ why. (tells : Bool) (f f' : Text → Option (List ℕ)) (h : Option Told)
+    (k k' m : ℕ) → ((n : Text) → f' n ≡ f n) → LeavesTaken log images
+    (outside tells f f' h h out out1 err err1 tally tally1) (faults k k' m m oc oc1 ec ec1) why)
+    → IfErr r IsLater
+replay_later log images out err out1 err1 tally tally1 oc oc1 ec ec1 (Ok ended) leaves = tt
+replay_later log images out err out1 err1 tally tally1 oc oc1 ec ec1 (Err why) leaves =
+    later_replay log images
+    (outside true (λ n. None) (λ n. None) None None out out1 err err1 tally tally1)
+    (faults 0 0 0 0 oc oc1 ec ec1) why (leaves true (λ n. None) (λ n. None) None 0 0 0 (λ n. refl))

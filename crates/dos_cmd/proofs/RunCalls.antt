@@ -17,6 +17,7 @@ use Rattle.dos_texts.specs.Exit.{ending_status}
 use Rattle.dos_texts.specs.declared.refusal.Refusal.{Refusal}
 use Rattle.dos_texts.specs.declared.refusal.Refusal.TheVariants as refusals
 use Rattle.dos_words.specs.Numbers.{Text}
+use Rattle.dos_cmd.proofs.Asked.{IsLater, later_run}
 use Rattle.dos_cmd.specs.Judging.{Images, Judgement, Taken, OfFiles, digests_of, images_from}
 use Rattle.dos_cmd.specs.Judging.{judgement, of_images, with_room}
 use Rattle.dos_cmd.specs.Outside.{Outside, Faults, Says}
@@ -190,3 +191,20 @@ run_leaves a images o tells files f before kernel ledger (Err why) same stays le
     stays leaves in
     leaves_begun a n o (record f { files = before }) images why (is n)
     (earlier a images o f before why le (here a images p))
+
+-- All images were read before.
+pub run_later : (a : RunAsked) (images : List Image) (o : Outside) (tells : Bool)
+    (files : Text → Option (List ℕ)) (f : Faults) (kernel : Held) (ledger : LedgerState)
+    (r : Result Ending Refusal) → tells ≡ o.files_tell → ((n : Text) → files n ≡ o.files n)
+    → IfErr r (λ why. (asked : RunAsked) (i : List Image)
+    → IsPrepared asked i kernel ledger a.log (record o { files_tell = tells; files = files })
+    → LeavesRun asked i (record o { files_tell = tells; files = files }) f why)
+    → IsPrepared a images kernel ledger a.log o → IfErr r IsLater
+run_later a images o tells files f kernel ledger (Ok ending) same stays leaves p = tt
+run_later a images o tells files f kernel ledger (Err why) same stays leaves p =
+    let here : (asked : RunAsked) (i : List Image) → IsPrepared asked i kernel ledger a.log o
+    → LeavesRun asked i o f why =
+    carried (λ (x : Outside). (asked : RunAsked) (i : List Image)
+    → IsPrepared asked i kernel ledger a.log x → LeavesRun asked i x f why) o tells files same
+    stays leaves in
+    later_run a images o f why (here a images p)

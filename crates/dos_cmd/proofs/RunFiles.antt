@@ -16,6 +16,7 @@ use Rattle.sha2.specs.Sha256.{sha256}
 use Rattle.shim_log.specs.Bytes.{AreDigests, FitsDigest}
 use Rattle.dos_texts.specs.declared.refusal.Refusal.{Refusal}
 use Rattle.dos_texts.specs.declared.refusal.Refusal.TheVariants as refusals
+use Rattle.dos_cmd.specs.Asking.{IsOfImage}
 use Rattle.dos_cmd.specs.Judging.{limit, judged, verdict, Images, with_image, then_images}
 use Rattle.dos_cmd.specs.Judging.{images_from, digests_of, OfFiles}
 
@@ -88,6 +89,14 @@ not_read_no_fault number error r (inl k) is =
     let clash : refusals.Memory ≡ refusals.Files = cc in cc
 not_read_no_fault number error r (inr k) is =
     let clash : refusals.Image number error ≡ refusals.Files = cc in cc
+
+-- and of the image of its number
+pub not_read_numbered : (number : ℕ) (error : ImageError) (r : Refusal) → NotRead number error r
+    → OfFiles r (IsOfImage number)
+not_read_numbered number error r (inl k) =
+    subst (λ (v : Refusal). OfFiles v (IsOfImage number)) (sym k.1) tt
+not_read_numbered number error r (inr k) =
+    subst (λ (v : Refusal). OfFiles v (IsOfImage number)) (sym k.1) refl
 
 pub long_no_fault : {T : Type 0} (number : ℕ)
     → IsErrOf {T = T} (Err (refusals.TooLong number)) refusals.Files → ⊥

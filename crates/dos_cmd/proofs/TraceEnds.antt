@@ -1,6 +1,6 @@
 -- What a traced replay leaves, by how it ends.
 use Rattle.std.proofs.Common.{◌≡◌, ◌≤◌, inl, inr, ℕ, Bool, List, [], map, Option, Some, None}
-use Rattle.std.proofs.Common.{Result, Ok, Err, sym, ap, ◌∙◌, subst, refl}
+use Rattle.std.proofs.Common.{Result, Ok, Err, sym, ap, ◌∙◌, subst, refl, true}
 use Rattle.std.specs.Prelude.{IfSome, IfOk, IfErr, OnOk, OnErr}
 use Rattle.dos_io.specs.Hosts.{Told}
 use Rattle.dos_io.specs.Outside.{grown, GrewByFront, HasCause}
@@ -25,6 +25,7 @@ use Rattle.dos_texts.specs.declared.refusal.Refusal.{Refusal}
 use Rattle.dos_texts.specs.declared.refusal.Refusal.TheVariants as refusals
 use Rattle.dos_words.specs.Numbers.{Text}
 use Rattle.dos_words.specs.declared.request.Request.TheVariants as requests
+use Rattle.dos_cmd.proofs.Asked.{IsLater, later_trace}
 use Rattle.dos_cmd.specs.Judging.{agreed, replay_judgement}
 use Rattle.dos_cmd.specs.Outside.{Outside, Faults, outside, faults, Says}
 use Rattle.dos_cmd.specs.ReplayLeaves.{StaysAll}
@@ -216,6 +217,19 @@ trace_leaves log images name names tells f f' out err out1 err1 tally tally1 k k
     trace_leaves_taken log images name names n
     (outside tells f f' h h out out1 err err1 tally tally1)
     (faults k k' m m oc oc1 ec ec1) why told (leaves tells f f' h k k' m stay)
+
+-- All files were read before.
+pub trace_later : (log : Log) (images : List Image) (out err out1 err1 : Option (List ℕ))
+    (tally tally1 oc oc1 ec ec1 : ℕ) (r : Result Ending Refusal)
+    → IfErr r (λ why. (tells : Bool) (f f' : Text → Option (List ℕ)) (h : Option Told)
+    (k k' m : ℕ) → ((n : Text) → f' n ≡ f n) → LeavesTrace log images
+    (outside tells f f' h h out out1 err err1 tally tally1) (faults k k' m m oc oc1 ec ec1) why)
+    → IfErr r IsLater
+trace_later log images out err out1 err1 tally tally1 oc oc1 ec ec1 (Ok ended) leaves = tt
+trace_later log images out err out1 err1 tally tally1 oc oc1 ec ec1 (Err why) leaves =
+    later_trace log images
+    (outside true (λ n. None) (λ n. None) None None out out1 err err1 tally tally1)
+    (faults 0 0 0 0 oc oc1 ec ec1) why (leaves true (λ n. None) (λ n. None) None 0 0 0 (λ n. refl))
 
 -- ---- counts that stand
 

@@ -1,4 +1,5 @@
 pub mod Outside
+pub mod Asking
 pub mod Judging
 pub mod RunLeaves
 pub mod ReplayLeaves

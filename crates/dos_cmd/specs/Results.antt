@@ -1,5 +1,6 @@
 -- What a call leaves, by how it ends. This project's own rules.
 use Rattle.std.specs.Prelude.{◌≡◌, ◌≢◌, ◌⊎◌, ℕ, List, [], Option, Some, None, IfSome, Ok, Err}
+use Rattle.dos_io.specs.FileCalls.{FileCall}
 use Rattle.dos_io.specs.Outside.{IsFront, Rose}
 use Rattle.dos_io.specs.declared.shim.ShimStop.{ShimStop}
 use Rattle.dos_io.specs.declared.shim.ShimStop.TheVariants as stops
@@ -16,6 +17,7 @@ use Rattle.dos_words.specs.Request.{request}
 use Rattle.dos_words.specs.declared.request.Request.{Request}
 use Rattle.dos_words.specs.declared.request.Request.TheVariants.{Run, Replay, Inspect, Gen}
 use Rattle.dos_words.specs.declared.request.Request.TheVariants.{Migrate, Trace}
+use Rattle.dos_cmd.specs.Asking.{AskedSoFar, named_in}
 use Rattle.dos_cmd.specs.Judging.{Taken, judgement}
 use Rattle.dos_cmd.specs.Outside.{Outside, Faults, FilesStay, OutputFailed, Says}
 use Rattle.dos_cmd.specs.RunLeaves.{RunAsked, DidRun, StoppedRun, UnwrittenRun, CutRun}
@@ -159,20 +161,25 @@ Fails words o f why last =
     ⊎ ((why ≡ refusals.Memory) × Says o last)
     ⊎ ((asked : Request) × (request words ≡ Some asked) × Leaves asked o f why last)
 
--- It ended with a status that a refusal has, and error says so by its one line.
-pub record Refused (words : List Text) (status : ℕ) (o : Outside) (f : Faults) : Type 0 where
+-- It ended with a status that a refusal has, and error says so by its one line. No file was asked
+-- for behind the one for which it is refused.
+pub record Refused (words : List Text) (status : ℕ) (o : Outside) (f : Faults)
+    (asked asked_after : List FileCall) : Type 0 where
   pub why : Refusal
   pub status_is : status ≡ refusal_status why
   pub fails : Fails words o f why (line_of why)
+  pub so_far : AskedSoFar (named_in (request words)) why asked asked_after
 
 -- An output failed, and nothing was put after it: in what was asked for, or in a refusal's line, of
 -- which a front was put.
-pub record CutShort (words : List Text) (o : Outside) (f : Faults) : Type 0 where
+pub record CutShort (words : List Text) (o : Outside) (f : Faults)
+    (asked asked_after : List FileCall) : Type 0 where
   pub failed : OutputFailed f
   pub why : Refusal
   pub put : List ℕ
   pub front : IsFront put (line_of why)
   pub fails : Fails words o f why put
+  pub so_far : AskedSoFar (named_in (request words)) why asked asked_after
 
 -- ---- what must come, where the files tell what the words ask for
 

@@ -1,9 +1,11 @@
 // The images of a call, read from their files.
 ghost use Rattle.std.specs.Prelude.{◌≡◌, ◌≢◌, ◌≤◌, ◌<◌, ◌⊎◌, ℕ, List, map, length, IfOk, IfErr};
-ghost use Rattle.std.specs.Prelude.{IfSome, IsErrOf, OnOk};
+ghost use Rattle.std.specs.Prelude.{IfSome, IsErrOf, OnOk, [], ◌∷◌, ◌++◌};
+ghost use Rattle.dos_io.specs.FileCalls.{getting};
 ghost use Rattle.dos_io.specs.Outside.{Rose};
 ghost use Rattle.sha2.specs.Sha256.{sha256};
 ghost use Rattle.shim_log.specs.Bytes.{AreDigests, FitsDigest};
+ghost use Rattle.dos_cmd.specs.Asking.{Asks, IsOfImage, files_named};
 ghost use Rattle.dos_cmd.specs.Judging.{verdict, images_from, digests_of, IsNextImage, OfFiles};
 
 use dos_io::{FileError, Files};
@@ -43,7 +45,9 @@ pub(crate) fn load<F: Files>(
     ensures fits { IfOk result (λ x. FitsDigest x.1) }
     ensures refused { IfErr result (λ why. OfFiles why (λ why. IfSome
         (F.content files.old name.now) (λ file. verdict image file ≡ Err why))) }
+    ensures numbered { IfErr result (λ why. OfFiles why (IsOfImage image)) }
     ensures fault { IsErrOf result Refusal.Files → Rose (F.faults files.old) (F.faults files.new) }
+    ensures asked { F.asked files.new ≡ F.asked files.old ++ getting name.now ∷ [] }
     ensures later { F.faults files.old ≤ F.faults files.new }
     ensures stays { (n : List ℕ) → F.content files.new n ≡ F.content files.old n }
     ensures tells { F.tells files.new ≡ F.tells files.old }
@@ -75,7 +79,9 @@ fn load_next<F: Files>(
         images.old.items images.new.items digests.old digests.new) }
     ensures refused { IfErr result (λ why. OfFiles why (λ why. IfSome
         (F.content files.old name.now) (λ file. verdict image file ≡ Err why))) }
+    ensures numbered { IfErr result (λ why. OfFiles why (IsOfImage image)) }
     ensures fault { IsErrOf result Refusal.Files → Rose (F.faults files.old) (F.faults files.new) }
+    ensures asked { F.asked files.new ≡ F.asked files.old ++ getting name.now ∷ [] }
     ensures later { F.faults files.old ≤ F.faults files.new }
     ensures stays { (n : List ℕ) → F.content files.new n ≡ F.content files.old n }
     ensures tells { F.tells files.new ≡ F.tells files.old }
@@ -103,6 +109,8 @@ pub(crate) fn load_all<F: Files>(
     ensures refused { IfErr result (λ why. OfFiles why (λ why. IfSome
         (images_from 1 (map (F.content files.old) names.now)) (λ j. j ≡ Err why))) }
     ensures fault { IsErrOf result Refusal.Files → Rose (F.faults files.old) (F.faults files.new) }
+    ensures asked { Asks (files_named [] names.now []) result (F.asked files.old)
+        (F.asked files.new) }
     ensures later { F.faults files.old ≤ F.faults files.new }
     ensures stays { (n : List ℕ) → F.content files.new n ≡ F.content files.old n }
     ensures tells { F.tells files.new ≡ F.tells files.old }

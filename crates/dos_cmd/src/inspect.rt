@@ -3,6 +3,7 @@ ghost use Rattle.std.specs.Prelude.{◌≡◌, ◌≢◌, ◌≤◌, ℕ, List, 
 ghost use Rattle.dos_io.specs.Hosts.{Told};
 ghost use Rattle.dos_texts.specs.Exit.{ending_status};
 ghost use Rattle.dos_words.specs.declared.request.Request.TheVariants as requests;
+ghost use Rattle.dos_cmd.specs.Asking.{Asks, named_by};
 ghost use Rattle.dos_cmd.specs.Outside.{outside, faults};
 ghost use Rattle.dos_cmd.specs.Results.{Begun, Did, Leaves};
 
@@ -33,6 +34,8 @@ pub(crate) fn inspect<F: Files, O: Sink>(
         (O.told out.old) (O.told out.new) e e t t)
         (faults (F.faults files.old) (F.faults files.new) m m
         (O.faults out.old) (O.faults out.new) n n) why []) }
+    ensures asked { Asks (named_by (requests.Inspect name.now)) result (F.asked files.old)
+        (F.asked files.new) }
     ensures files_later { F.faults files.old ≤ F.faults files.new }
     ensures out_later { O.faults out.old ≤ O.faults out.new }
     ensures out_steady { result ≢ Err Refusal.Sink → O.faults out.new ≡ O.faults out.old }

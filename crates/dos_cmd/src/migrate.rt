@@ -1,11 +1,12 @@
 // The command `migrate`. It is lent no host, and nothing for errors.
 ghost use Rattle.std.specs.Prelude.{◌≡◌, ◌≢◌, ◌≤◌, ◌<◌, ◌⊎◌, ℕ, List, Option, [], length};
-ghost use Rattle.std.specs.Prelude.{Err, IfOk, IfErr, IfSome, IsErrOf, IsTrue, OnOk, Some};
+ghost use Rattle.std.specs.Prelude.{Err, IfOk, IfErr, IfSome, IsErrOf, IsTrue, OnOk, Some, ◌∷◌};
 ghost use Rattle.dos_io.specs.Hosts.{Told};
 ghost use Rattle.dos_io.specs.Outside.{Rose};
 ghost use Rattle.shim_log.specs.Room.{most_bytes};
 ghost use Rattle.dos_texts.specs.Exit.{ending_status};
 ghost use Rattle.dos_words.specs.declared.request.Request.TheVariants as requests;
+ghost use Rattle.dos_cmd.specs.Asking.{Asks, files_named, named_by};
 ghost use Rattle.dos_cmd.specs.Migrating.{migrated_text, DoesMigrate, LeavesMigration};
 ghost use Rattle.dos_cmd.specs.Outside.{outside, faults};
 ghost use Rattle.dos_cmd.specs.Results.{Begun, Did, Leaves};
@@ -50,6 +51,8 @@ fn store<F: Files>(files: &mut F, name: &Text, text: &[u8]) -> Result<(), Refusa
         ⊎ ((why ≡ Refusal.Memory)
         × (F.content files.new name.now ≡ F.content files.old name.now))) }
     ensures cause { IsErrOf result Refusal.Files → Rose (F.faults files.old) (F.faults files.new) }
+    ensures asked { Asks (files_named [] [] (name.now ∷ [])) result (F.asked files.old)
+        (F.asked files.new) }
     ensures others { (n : List ℕ) → n ≢ name.now → F.content files.new n ≡ F.content files.old n }
     ensures tells { F.tells files.new ≡ F.tells files.old }
     ensures later { F.faults files.old ≤ F.faults files.new }
@@ -76,6 +79,8 @@ fn migrate_read<F: Files, O: Sink>(
     ensures leaves { IfErr result (λ why. LeavesMigration log.now to.now why (F.tells files.old)
         (F.content files.old) (F.content files.new) (O.told out.old) (O.told out.new)
         (F.faults files.old) (F.faults files.new) (O.faults out.old) (O.faults out.new)) }
+    ensures asked { Asks (files_named [] [] (to.now ∷ [])) result (F.asked files.old)
+        (F.asked files.new) }
     ensures files_later { F.faults files.old ≤ F.faults files.new }
     ensures out_later { O.faults out.old ≤ O.faults out.new }
     ensures out_steady { result ≢ Err Refusal.Sink → O.faults out.new ≡ O.faults out.old }
@@ -110,6 +115,8 @@ pub(crate) fn migrate<F: Files, O: Sink>(
         (O.told out.old) (O.told out.new) e e t t)
         (faults (F.faults files.old) (F.faults files.new) m m
         (O.faults out.old) (O.faults out.new) n n) why []) }
+    ensures asked { Asks (named_by (requests.Migrate log.now to.now)) result (F.asked files.old)
+        (F.asked files.new) }
     ensures files_later { F.faults files.old ≤ F.faults files.new }
     ensures out_later { O.faults out.old ≤ O.faults out.new }
     ensures out_steady { result ≢ Err Refusal.Sink → O.faults out.new ≡ O.faults out.old }

@@ -1,14 +1,16 @@
 // The command `replay`. It is lent no host.
 ghost use Rattle.std.specs.Prelude.{◌≡◌, ◌≢◌, ◌≤◌, ℕ, Bool, List, Option, [], length, map, IfOk};
-ghost use Rattle.std.specs.Prelude.{IfErr, IfSome, IsErrOf, OnOk, Ok, Err, None};
+ghost use Rattle.std.specs.Prelude.{IfErr, IfSome, IsErrOf, OnOk, Ok, Err, None, ◌∷◌, ◌++◌};
+ghost use Rattle.dos_io.specs.FileCalls.{getting};
 ghost use Rattle.dos_world.specs.Lawful.{IsConfig};
 ghost use Rattle.dos_io.specs.Hosts.{Told};
 ghost use Rattle.dos_io.specs.Outside.{Rose};
 ghost use Rattle.flat_machine.specs.Opening.{needed};
-ghost use Rattle.log_files.specs.Judging.{log_verdict};
+ghost use Rattle.log_files.specs.Judging.{IsOfFile, log_verdict};
 ghost use Rattle.logged_runs.specs.Replaying.{config_of};
 ghost use Rattle.dos_texts.specs.Exit.{ending_status};
 ghost use Rattle.dos_words.specs.declared.request.Request.TheVariants as requests;
+ghost use Rattle.dos_cmd.specs.Asking.{Asks, files_named, named_by};
 ghost use Rattle.dos_cmd.specs.Judging.{agreed, replay_judgement};
 ghost use Rattle.dos_cmd.specs.Outside.{outside, faults};
 ghost use Rattle.dos_cmd.specs.ReplayLeaves.{DidReplay, LeavesTaken, OfLogFile, OfReading};
@@ -34,7 +36,9 @@ pub(crate) fn read<F: Files>(alloc: Global, files: &mut F, name: &Text) -> Resul
         (λ file. log_verdict file ≡ Ok log)) }
     ensures refused { IfErr result (λ why. OfLogFile why (λ found. IfSome
         (F.content files.old name.now) (λ file. log_verdict file ≡ Err found))) }
+    ensures of_file { IfErr result (λ why. OfLogFile why IsOfFile) }
     ensures fault { IsErrOf result Refusal.Files → Rose (F.faults files.old) (F.faults files.new) }
+    ensures asked { F.asked files.new ≡ F.asked files.old ++ getting name.now ∷ [] }
     ensures later { F.faults files.old ≤ F.faults files.new }
     ensures stays { (n : List ℕ) → F.content files.new n ≡ F.content files.old n }
     ensures tells { F.tells files.new ≡ F.tells files.old }
@@ -77,6 +81,8 @@ pub(crate) fn take<F: Files>(
     ensures refused { IfErr result (λ why. OfReading why (λ why. IfSome (replay_judgement
         (F.content files.old log.now) (map (F.content files.old) names.now)) (λ j. j ≡ Err why))) }
     ensures fault { IsErrOf result Refusal.Files → Rose (F.faults files.old) (F.faults files.new) }
+    ensures asked { Asks (files_named (log.now ∷ []) names.now []) result (F.asked files.old)
+        (F.asked files.new) }
     ensures later { F.faults files.old ≤ F.faults files.new }
     ensures stays { (n : List ℕ) → F.content files.new n ≡ F.content files.old n }
 {
@@ -162,6 +168,8 @@ pub(crate) fn replay<F: Files, O: Sink, E: Sink, W: Workers>(
         (W.tally workers.old) (W.tally workers.new))
         (faults (F.faults files.old) (F.faults files.new) m m (O.faults out.old) (O.faults out.new)
         (E.faults err.old) (E.faults err.new)) why []) }
+    ensures asked { (n : ℕ) → Asks (named_by (requests.Replay n log.now names.now)) result
+        (F.asked files.old) (F.asked files.new) }
     ensures files_later { F.faults files.old ≤ F.faults files.new }
     ensures out_later { O.faults out.old ≤ O.faults out.new }
     ensures err_later { E.faults err.old ≤ E.faults err.new }

@@ -1,6 +1,6 @@
 // The command `run`.
 ghost use Rattle.std.specs.Prelude.{◌≡◌, ◌≢◌, ◌≤◌, ◌⊎◌, ℕ, List, [], length, map, IfOk, IfErr};
-ghost use Rattle.std.specs.Prelude.{IfSome, IsErrOf, IsTrue, OnOk, OnErr, Some, Err, false};
+ghost use Rattle.std.specs.Prelude.{IfSome, IsErrOf, IsTrue, OnOk, OnErr, Some, Err, false, ◌∷◌};
 ghost use Rattle.dos_world.specs.Lawful.{IsConfig};
 ghost use Rattle.dos_io.specs.Outside.{GrewByFront, HasCause, Rose, grown};
 ghost use Rattle.dpg_run.specs.Report.{report_in};
@@ -12,6 +12,7 @@ ghost use Rattle.flat_machine.specs.Opening.{needed};
 ghost use Rattle.logged_runs.specs.Opened.{IsOpenedWith};
 ghost use Rattle.shim_log.specs.Ledger.{ArePlanned, empty_ledger};
 ghost use Rattle.dos_texts.specs.Exit.{ending_status};
+ghost use Rattle.dos_cmd.specs.Asking.{Asks, files_named, named_by};
 ghost use Rattle.dos_cmd.specs.Judging.{digests_of};
 ghost use Rattle.dos_cmd.specs.Outside.{outside, faults};
 ghost use Rattle.dos_cmd.specs.RunLeaves.{DidRun, IsPrepared, RunAsked, clock_rule, header_of};
@@ -124,6 +125,8 @@ fn store<F: Files>(alloc: Global, files: &mut F, name: &Text, log: &Log) -> Resu
         ⊎ ((why ≡ Refusal.Memory)
         × (F.content files.new name.now ≡ F.content files.old name.now))) }
     ensures cause { IsErrOf result Refusal.Files → Rose (F.faults files.old) (F.faults files.new) }
+    ensures asked { Asks (files_named [] [] (name.now ∷ [])) result (F.asked files.old)
+        (F.asked files.new) }
     ensures others { (n : List ℕ) → n ≢ name.now → F.content files.new n ≡ F.content files.old n }
     ensures tells { F.tells files.new ≡ F.tells files.old }
     ensures later { F.faults files.old ≤ F.faults files.new }
@@ -179,6 +182,8 @@ fn conclude<F: Files, E: Sink>(
         (F.content files.new) name.now (E.faults err.old) (E.faults err.new) (E.told err.old)
         (E.told err.new) (report_in (kernel_world kernel.now) ending)) }
     ensures others { (n : List ℕ) → n ≢ name.now → F.content files.new n ≡ F.content files.old n }
+    ensures asked { Asks (files_named [] [] (name.now ∷ [])) result (F.asked files.old)
+        (F.asked files.new) }
     ensures files_later { F.faults files.old ≤ F.faults files.new }
     ensures err_later { E.faults err.old ≤ E.faults err.new }
     ensures err_steady { result ≢ Err Refusal.Sink → E.faults err.new ≡ E.faults err.old }
@@ -223,6 +228,8 @@ fn run_opened<F: Files, H: Host, O: Sink, E: Sink, W: Workers>(
         (W.tally workers.old) (W.tally workers.new))
         (faults (F.faults files.old) (F.faults files.new) (H.faults host.old) (H.faults host.new)
         (O.faults out.old) (O.faults out.new) (E.faults err.old) (E.faults err.new)) why) }
+    ensures asked { Asks (files_named [] [] (name.now ∷ [])) result (F.asked files.old)
+        (F.asked files.new) }
     ensures files_later { F.faults files.old ≤ F.faults files.new }
     ensures host_later { H.faults host.old ≤ H.faults host.new }
     ensures out_later { O.faults out.old ≤ O.faults out.new }
@@ -255,6 +262,8 @@ fn open_named<F: Files>(
     ensures are_digests { IfOk result (λ x. AreDigests x.1) }
     ensures leaves { IfErr result (IsNotBegun request.now (F.tells files.old)
         (F.content files.old) (F.content files.new) (F.faults files.old) (F.faults files.new)) }
+    ensures asked { Asks (files_named [] request.now.names.now []) result (F.asked files.old)
+        (F.asked files.new) }
     ensures later { F.faults files.old ≤ F.faults files.new }
     ensures stays { (n : List ℕ) → F.content files.new n ≡ F.content files.old n }
     ensures tells { F.tells files.new ≡ F.tells files.old }
@@ -282,6 +291,8 @@ fn prepare<F: Files>(
     ensures begins { IfOk result (λ x. x.1 ≡ empty_ledger x.1.posts x.1.clock x.1.header x.1.room) }
     ensures leaves { IfErr result (IsNotBegun request.now (F.tells files.old)
         (F.content files.old) (F.content files.new) (F.faults files.old) (F.faults files.new)) }
+    ensures asked { Asks (files_named [] request.now.names.now []) result (F.asked files.old)
+        (F.asked files.new) }
     ensures later { F.faults files.old ≤ F.faults files.new }
     ensures stays { (n : List ℕ) → F.content files.new n ≡ F.content files.old n }
     ensures tells { F.tells files.new ≡ F.tells files.old }
@@ -325,6 +336,8 @@ pub(crate) fn run<F: Files, H: Host, O: Sink, E: Sink, W: Workers>(
         (W.tally workers.old) (W.tally workers.new))
         (faults (F.faults files.old) (F.faults files.new) (H.faults host.old) (H.faults host.new)
         (O.faults out.old) (O.faults out.new) (E.faults err.old) (E.faults err.new)) why []) }
+    ensures asked { (n : ℕ) → Asks (named_by (run_request request.now n)) result
+        (F.asked files.old) (F.asked files.new) }
     ensures files_later { F.faults files.old ≤ F.faults files.new }
     ensures host_later { H.faults host.old ≤ H.faults host.new }
     ensures out_later { O.faults out.old ≤ O.faults out.new }

@@ -1,11 +1,12 @@
 //! The top call: from the words to the exit status.
 ghost use Rattle.std.specs.Prelude.{◌≡◌, ◌≢◌, ◌≤◌, ◌⊎◌, [], None, Some, Ok, Err, IfOk, IfErr};
-ghost use Rattle.std.specs.Prelude.{ℕ, List, map, string_bytes};
+ghost use Rattle.std.specs.Prelude.{ℕ, List, map, string_bytes, ◌++◌};
 ghost use Rattle.dos_words.specs.declared.request.Request.{Request as Asked};
 ghost use Rattle.dos_words.specs.Ranges.{FitsRequest};
 ghost use Rattle.dos_words.specs.Numbers.{Text};
 ghost use Rattle.dos_words.specs.Request.{request};
 ghost use Rattle.dos_texts.specs.Exit.{IsStatus, ending_status, refusal_status};
+ghost use Rattle.dos_cmd.specs.Asking.{Asks, file_calls, named_by, named_in};
 ghost use Rattle.dos_cmd.specs.Judging.{Taken, judgement};
 ghost use Rattle.dos_cmd.specs.Outside.{Outside, outside, faults};
 ghost use Rattle.dos_cmd.specs.Repeating.{IsReplayOf, ShowTheSame};
@@ -67,6 +68,7 @@ fn execute<F: Files, H: Host, O: Sink, E: Sink, W: Workers>(
         (W.tally workers.old) (W.tally workers.new))
         (faults (F.faults files.old) (F.faults files.new) (H.faults host.old) (H.faults host.new)
         (O.faults out.old) (O.faults out.new) (E.faults err.old) (E.faults err.new)) why []) }
+    ensures asked { Asks (named_by request.now) result (F.asked files.old) (F.asked files.new) }
     ensures files_later { F.faults files.old ≤ F.faults files.new }
     ensures host_later { H.faults host.old ≤ H.faults host.new }
     ensures out_later { O.faults out.old ≤ O.faults out.new }
@@ -136,6 +138,8 @@ fn command<F: Files, H: Host, O: Sink, E: Sink, W: Workers>(
         (W.tally workers.old) (W.tally workers.new))
         (faults (F.faults files.old) (F.faults files.new) (H.faults host.old) (H.faults host.new)
         (O.faults out.old) (O.faults out.new) (E.faults err.old) (E.faults err.new)) why []) }
+    ensures asked { Asks (named_in (request (map string_bytes words.now))) result
+        (F.asked files.old) (F.asked files.new) }
     ensures files_later { F.faults files.old ≤ F.faults files.new }
     ensures host_later { H.faults host.old ≤ H.faults host.new }
     ensures out_later { O.faults out.old ≤ O.faults out.new }
@@ -211,6 +215,10 @@ pub fn dos_main<F: Files, H: Host, O: Sink, E: Sink, W: Workers>(
         (H.told host.new) (O.told out.old) (O.told out.new) (E.told err.old) (E.told err.new)
         (W.tally workers.old) (W.tally workers.new)) }
 
+    // Each file that they name is asked for once then, in order, and none besides.
+    ensures asked { (result ≡ 0) ⊎ (result ≡ 7) ⊎ (result ≡ 8) → F.asked files.new
+        ≡ F.asked files.old ++ file_calls (named_in (request (map string_bytes words.now))) }
+
     // It isn't, for a reason that the status and the one line tell.
     ensures refused { result ≢ 0 → result ≢ 6 → result ≢ 7 → result ≢ 8
         → Refused (map string_bytes words.now) result
@@ -218,7 +226,8 @@ pub fn dos_main<F: Files, H: Host, O: Sink, E: Sink, W: Workers>(
         (H.told host.new) (O.told out.old) (O.told out.new) (E.told err.old) (E.told err.new)
         (W.tally workers.old) (W.tally workers.new))
         (faults (F.faults files.old) (F.faults files.new) (H.faults host.old) (H.faults host.new)
-        (O.faults out.old) (O.faults out.new) (E.faults err.old) (E.faults err.new)) }
+        (O.faults out.old) (O.faults out.new) (E.faults err.old) (E.faults err.new))
+        (F.asked files.old) (F.asked files.new) }
 
     // An output failed.
     ensures six { result ≡ 6 → CutShort (map string_bytes words.now)
@@ -226,7 +235,8 @@ pub fn dos_main<F: Files, H: Host, O: Sink, E: Sink, W: Workers>(
         (H.told host.new) (O.told out.old) (O.told out.new) (E.told err.old) (E.told err.new)
         (W.tally workers.old) (W.tally workers.new))
         (faults (F.faults files.old) (F.faults files.new) (H.faults host.old) (H.faults host.new)
-        (O.faults out.old) (O.faults out.new) (E.faults err.old) (E.faults err.new)) }
+        (O.faults out.old) (O.faults out.new) (E.faults err.old) (E.faults err.new))
+        (F.asked files.old) (F.asked files.new) }
 
     // What must come, where nothing fails and memory is there.
     ensures words_refused { request (map string_bytes words.now) ≡ None → result ≢ 6 → result ≢ 9

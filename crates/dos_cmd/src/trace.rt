@@ -5,6 +5,7 @@ ghost use Rattle.dos_io.specs.Hosts.{Told};
 ghost use Rattle.flat_machine.specs.Opening.{needed};
 ghost use Rattle.dos_texts.specs.Exit.{ending_status};
 ghost use Rattle.dos_words.specs.declared.request.Request.TheVariants as requests;
+ghost use Rattle.dos_cmd.specs.Asking.{Asks, named_by};
 ghost use Rattle.dos_cmd.specs.Outside.{outside, faults};
 ghost use Rattle.dos_cmd.specs.Results.{Begun, Did, Leaves};
 ghost use Rattle.dos_cmd.specs.TraceLeaves.{DidTrace, LeavesTrace, trace_refusal};
@@ -107,6 +108,8 @@ pub(crate) fn trace<F: Files, O: Sink, E: Sink, W: Workers>(
         (W.tally workers.old) (W.tally workers.new))
         (faults (F.faults files.old) (F.faults files.new) m m (O.faults out.old) (O.faults out.new)
         (E.faults err.old) (E.faults err.new)) why []) }
+    ensures asked { (n : ℕ) → Asks (named_by (requests.Trace n log.now names.now)) result
+        (F.asked files.old) (F.asked files.new) }
     ensures files_later { F.faults files.old ≤ F.faults files.new }
     ensures out_later { O.faults out.old ≤ O.faults out.new }
     ensures err_later { E.faults err.old ≤ E.faults err.new }

@@ -1,7 +1,8 @@
-use Rattle.std.proofs.Common.{◌≡◌, Ok, sym, ap, ◌∙◌}
+use Rattle.std.proofs.Common.{◌≡◌, Ok, refl, sym, ap, ◌∙◌}
 use Rattle.elf_image.specs.Image.{image}
 use Rattle.dos_cmd.proofs.RunEnds.{is_err_of, ok_no_err}
 use Rattle.dos_cmd.proofs.RunFiles.{long_no_fault, memory_no_fault, not_read_no_fault}
+use Rattle.dos_cmd.proofs.RunFiles.{not_read_numbered}
 use Rattle.dos_cmd.proofs.RunFiles.{told_accepted, told_digest, told_long, told_not_read}
 use Rattle.dos_cmd.proofs.images.load.Goals as goal
 
@@ -15,6 +16,8 @@ returns-in-Err-TooLong g c =
       refused = told_long c.args.image (g.F.Files.content c.args.files.now c.args.name.now)
           (get.too_long (is_err_of _ _ c.in-Err-TooLong.field-0-is));
       fault = λ is. absurd (long_no_fault _ is);
+      numbered = refl;
+      asked = get.asked;
       later = get.later;
       stays = get.stays;
       tells = get.tells;
@@ -29,6 +32,8 @@ returns-in-Err-Fault g c =
       fits = tt;
       refused = tt;
       fault = λ is. get.fault (is_err_of _ _ c.in-Err-Fault.field-0-is);
+      numbered = tt;
+      asked = get.asked;
       later = get.later;
       stays = get.stays;
       tells = get.tells;
@@ -43,6 +48,8 @@ returns-in-Err-Memory g c =
       fits = tt;
       refused = tt;
       fault = λ is. absurd (memory_no_fault is);
+      numbered = tt;
+      asked = get.asked;
       later = get.later;
       stays = get.stays;
       tells = get.tells;
@@ -78,6 +85,8 @@ returns g c =
           (λ not. ap image (sym c.deref.ensures.value) ∙ c.in-Err.ensures.refused not);
       fault = λ is. absurd
           (not_read_no_fault c.args.image c.in-Err.error _ c.refusal_of.ensures is);
+      numbered = not_read_numbered c.args.image c.in-Err.error _ c.refusal_of.ensures;
+      asked = get.asked;
       later = get.later;
       stays = get.stays;
       tells = get.tells;

@@ -1,5 +1,6 @@
-use Rattle.std.proofs.Common.{◌≤◌, ◌∙◌, length, refl, le_refl, le_trans, subst}
+use Rattle.std.proofs.Common.{◌≤◌, ◌∙◌, ◌+◌, length, refl, le_refl, le_trans, subst}
 use Rattle.std.proofs.lemmas.Result.{err_from_is_err_and}
+use Rattle.dos_cmd.proofs.Asked.{image_not_read, images_read, none_asked, one_more}
 use Rattle.dos_cmd.proofs.RunEnds.{err_again, ok_no_err, then_rose}
 use Rattle.dos_cmd.proofs.RunFiles.{all_counted, digests_all, none_read, reads_all, reads_first}
 use Rattle.dos_cmd.proofs.RunFiles.{reads_more}
@@ -12,6 +13,7 @@ loop-index-init g c = record {
       c.new-digests.ensures;
   stays = λ n. refl;
   tells = refl;
+  asked = none_asked _;
   later = le_refl _;
 }
 
@@ -25,6 +27,8 @@ loop-index-preserved g c =
           c.loop-index.invariant.reads;
       stays = λ n. c.in_ok-load_next.ensures.stays n ∙ c.loop-index.invariant.stays n;
       tells = c.in_ok-load_next.ensures.tells ∙ c.loop-index.invariant.tells;
+      asked = one_more _ _ _ c.args.names.now c.loop-index.index c.at.result.now c.at.ensures
+          c.loop-index.invariant.asked c.in_ok-load_next.ensures.asked;
       later = le_trans c.loop-index.invariant.later c.in_ok-load_next.ensures.later;
     }
 
@@ -43,6 +47,9 @@ returns-in_err-load_next g c =
           (g.F.Files.content c.loop-index.files) c.args.names.now c.loop-index.index _ _
           c.at.result.now _ c.at.ensures before.stays next.refused before.reads;
       fault = λ is. then_rose _ _ _ before.later (next.fault (err_again _ _ is));
+      asked = image_not_read _ _ c.args.names.now (c.loop-index.index + 1) _ next.numbered
+          (one_more _ _ _ c.args.names.now c.loop-index.index c.at.result.now c.at.ensures
+          before.asked next.asked);
       later = le_trans before.later next.later;
       stays = λ n. next.stays n ∙ before.stays n;
       tells = next.tells ∙ before.tells;
@@ -64,6 +71,7 @@ returns g c =
       are_digests = all.reads.are_digests;
       refused = tt;
       fault = λ is. absurd (ok_no_err _ _ is);
+      asked = images_read _ _ c.args.names.now c.loop-index.index le all.asked;
       later = all.later;
       stays = all.stays;
       tells = all.tells;

@@ -9,6 +9,8 @@ returns-in_err-parsed g c =
     rw (p.1, p.2) (record {
       accepted = tt;
       refused = load.refused;
+      numbered = load.numbered;
+      asked = load.asked;
       fault = λ is. load.fault (err_again _ _ is);
       later = load.later;
       stays = load.stays;
@@ -29,6 +31,8 @@ returns g c =
         digest_last = c.push-2.ensures;
       };
       refused = tt;
+      numbered = tt;
+      asked = load.asked;
       fault = λ is. absurd (ok_no_err _ _ is);
       later = load.later;
       stays = load.stays;

@@ -9,6 +9,7 @@ use Rattle.dos_words.specs.declared.request.Request.TheVariants as requests
 use Rattle.dos_cmd.specs.Judging.{images_from, judgement, of_images, verdict}
 use Rattle.dos_texts.specs.declared.refusal.Refusal.{Refusal}
 use Rattle.dos_cmd.specs.Outside.{outside, faults}
+use Rattle.dos_cmd.proofs.Asked.{image_not_read, stopped_later}
 use Rattle.dos_cmd.proofs.NotBegun.{leaves_reading, of_files, says_nothing}
 use Rattle.dos_cmd.proofs.RunEnds.{is_err_of}
 use Rattle.dos_cmd.proofs.inspect.inspect.Goals as goal
@@ -52,6 +53,7 @@ returns-in_err-image g c =
           (of_files _ _ _ (one_refused (g.F.Files.content c.args.files.now) c.args.name.now)
           load.refused)
           (λ e. load.fault (is_err_of _ _ e)) (says_nothing _ refl refl load.stays refl refl);
+      asked = image_not_read _ _ (c.args.name.now ∷ []) 1 _ load.numbered load.asked;
       files_later = load.later;
       out_later = le_refl _;
       out_steady = λ _. refl;
@@ -100,3 +102,10 @@ returns-in-Ok-clause-out_steady g c = λ _. c.in-Ok.ensures.steady
 
 pub returns-in-Err-clause-out_steady : goal.returns-in-Err-clause-out_steady
 returns-in-Err-clause-out_steady g c = λ other. absurd (other refl)
+
+pub returns-in-Ok-clause-asked : goal.returns-in-Ok-clause-asked
+returns-in-Ok-clause-asked g c = c.load.ensures.asked
+
+pub returns-in-Err-clause-asked : goal.returns-in-Err-clause-asked
+returns-in-Err-clause-asked g c =
+    stopped_later [] (c.args.name.now ∷ []) _ _ _ tt c.load.ensures.asked

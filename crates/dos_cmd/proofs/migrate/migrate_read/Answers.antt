@@ -1,6 +1,9 @@
-use Rattle.std.proofs.Common.{le_refl, refl, length, rules, vec_len, ap, ◌≡◌, ◌∙◌}
+use Rattle.std.proofs.Common.{le_refl, refl, length, rules, vec_len, ap, Err, ◌≡◌, ◌∙◌}
 use Rattle.std.proofs.lemmas.Result.{err_from_is_err_and}
 use Rattle.dos_io.specs.Outside.{grown}
+use Rattle.dos_world.specs.declared.Ending.{Ending}
+use Rattle.dos_texts.specs.declared.refusal.Refusal.TheVariants.{Sink}
+use Rattle.dos_cmd.proofs.Asked.{later_making, not_asked, put_then}
 use Rattle.dos_cmd.proofs.MigrationEnds.{lines_are, not_made, not_stored, stored_text}
 use Rattle.dos_cmd.proofs.MigrationEnds.{untold}
 use Rattle.dos_cmd.proofs.RunEnds.{is_err_of}
@@ -13,6 +16,7 @@ returns-in_err-text g c =
       ends = tt;
       migrated = tt;
       leaves = not_made c.args.log.now c.args.to.now _ _ _ _ _ _ c.in_err-text.ensures.refused;
+      asked = not_asked c.args.to.now _ _ (later_making _ _ c.in_err-text.ensures.refused);
       files_later = le_refl _;
       out_later = le_refl _;
       out_steady = λ _. refl;
@@ -28,6 +32,7 @@ returns-in_err-store g c =
       migrated = tt;
       leaves = not_stored c.args.log.now c.args.to.now _ _ _ _ _ _ _ _ c.in_ok-text.ensures.fits
           store.fault (λ e. store.cause (is_err_of _ _ e)) c.store.ensures.others;
+      asked = store.asked;
       files_later = c.store.ensures.later;
       out_later = le_refl _;
       out_steady = λ _. refl;
@@ -48,6 +53,7 @@ returns-in-Ok g c =
             (c.len.ensures ∙ count ∙ ap length c.in_ok-text.ensures.text));
       };
       leaves = tt;
+      asked = c.in_ok-store.ensures.asked;
       files_later = c.store.ensures.later;
       out_later = c.in-Ok.ensures.cause.later;
       out_steady = λ _. c.in-Ok.ensures.steady;
@@ -70,6 +76,7 @@ returns g c =
               (c.len.ensures ∙ count ∙ ap length c.in_ok-text.ensures.text) c.in-Err.ensures.front;
         },
       );
+      asked = put_then {T = Ending} (Err Sink) c.args.to.now _ _ refl c.in_ok-store.ensures.asked;
       files_later = c.store.ensures.later;
       out_later = c.in-Err.ensures.cause.later;
       out_steady = λ other. absurd (other refl);

@@ -1,11 +1,12 @@
 use Rattle.std.proofs.Common.{◌≡◌, ◌∙◌, ◌≤◌, ℕ, ap, le_trans, length, subst, sym, Some, None}
-use Rattle.std.proofs.Common.{Err, arith}
+use Rattle.std.proofs.Common.{Err, [], arith}
 use Rattle.std.specs.Prelude.{IsErrOf}
 use Rattle.std.proofs.lemmas.Result.{err_from_is_err_and}
 use Rattle.log_files.specs.Judging.{disagreement}
 use Rattle.log_files.specs.declared.refusal.LogRefusal.{LogRefusal}
 use Rattle.shim_log.specs.declared.header.LogHeader.{LogHeader}
 use Rattle.dos_texts.specs.declared.refusal.Refusal.TheVariants as refusals
+use Rattle.dos_cmd.proofs.Asked.{log_not_read, log_then_all, log_then_stops, not_agreed}
 use Rattle.dos_cmd.proofs.NotBegun.{of_files}
 use Rattle.dos_cmd.proofs.RunEnds.{err_again, ok_no_err, then_rose}
 use Rattle.dos_cmd.proofs.ReplayTaking.{images_refused, reading_refused, same_count, taken_after}
@@ -31,6 +32,8 @@ returns-in_err-log g c =
       few = tt;
       refused = (reading_refused _ _ _ c.in_err-log.ensures.refused);
       fault = λ is. c.in_err-log.ensures.fault (err_again _ _ is);
+      asked = log_not_read c.args.log.now c.args.names.now [] _ _ _ c.in_err-log.ensures.of_file
+          c.read.ensures.asked;
       later = c.read.ensures.later;
       stays = c.read.ensures.stays;
     })
@@ -50,6 +53,8 @@ returns-in_err-images g c =
           c.in_err-images.ensures.refused);
       fault = λ is. then_rose _ _ _ c.read.ensures.later
           (c.in_err-images.ensures.fault (err_again _ _ is));
+      asked = log_then_stops c.args.log.now c.args.names.now _ _ _ _
+          c.read.ensures.asked c.in_err-images.ensures.asked;
       later = le_trans c.read.ensures.later c.load_all.ensures.later;
       stays = λ n. c.load_all.ensures.stays n ∙ c.read.ensures.stays n;
     })
@@ -70,6 +75,8 @@ returns-in-Ok g c = record {
   few = few_as _ _ c.in_ok-images.ensures.count c.requires;
   refused = tt;
   fault = λ is. absurd (ok_no_err _ _ is);
+  asked = log_then_all c.args.log.now c.args.names.now _ _ _ c.read.ensures.asked
+      c.in_ok-images.ensures.asked;
   later = le_trans c.read.ensures.later c.load_all.ensures.later;
   stays = λ n. c.load_all.ensures.stays n ∙ c.read.ensures.stays n;
 }
@@ -86,6 +93,10 @@ returns-in-Err g c = record {
       (subst (λ (h : LogHeader). disagreement c.in_ok-images.digests h.digests ≡ Some c.in-Err.why)
       c.header.ensures c.in-Err.ensures);
   fault = λ is. absurd (not_files _ is);
+  asked = not_agreed c.args.log.now c.args.names.now c.in_ok-images.digests
+      c.header.result.now.digests c.in-Err.why _ _ c.in-Err.ensures
+      (log_then_all c.args.log.now c.args.names.now _ _ _ c.read.ensures.asked
+      c.in_ok-images.ensures.asked);
   later = le_trans c.read.ensures.later c.load_all.ensures.later;
   stays = λ n. c.load_all.ensures.stays n ∙ c.read.ensures.stays n;
 }

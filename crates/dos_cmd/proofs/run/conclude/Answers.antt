@@ -2,6 +2,7 @@ use Rattle.std.proofs.Common.{inl, refl}
 use Rattle.std.proofs.lemmas.Result.{err_from_is_err_and}
 use Rattle.dpg_run.specs.Report.{report_in}
 use Rattle.group_rounds.specs.Kernels.{kernel_world}
+use Rattle.dos_cmd.proofs.Asked.{put_then}
 use Rattle.dos_cmd.proofs.RunEnds.{is_err_of, unreported, written_then}
 use Rattle.dos_cmd.proofs.Steady.{report_steady}
 use Rattle.dos_cmd.proofs.run.conclude.Goals as goal
@@ -37,3 +38,12 @@ returns-clause-leaves g c =
 pub returns-clause-err_steady : goal.returns-clause-err_steady
 returns-clause-err_steady g c =
     report_steady c.report.result _ _ c.report.ensures.sink c.report.ensures.steady
+
+pub returns-in_err-store-clause-asked : goal.returns-in_err-store-clause-asked
+returns-in_err-store-clause-asked g c =
+    let p = err_from_is_err_and c.from_residual.result c.from_residual.ensures.1 in
+    rw (p.1, p.2) c.in_err-store.ensures.asked
+
+pub returns-clause-asked : goal.returns-clause-asked
+returns-clause-asked g c = put_then c.report.result c.args.name.now _ _ c.report.ensures.sink
+    c.in_ok-store.ensures.asked

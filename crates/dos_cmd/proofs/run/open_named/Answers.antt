@@ -1,7 +1,8 @@
-use Rattle.std.proofs.Common.{refl}
+use Rattle.std.proofs.Common.{refl, []}
 use Rattle.std.proofs.lemmas.Result.{err_from_is_err_and}
 use Rattle.dos_cmd.specs.Outside.{outside, faults}
 use Rattle.dos_cmd.specs.Requests.{request_asked}
+use Rattle.dos_cmd.proofs.Asked.{later_opening, stopped_later}
 use Rattle.dos_cmd.proofs.NotBegun.{says_nothing}
 use Rattle.dos_cmd.proofs.RunEnds.{is_err_of}
 use Rattle.dos_cmd.proofs.RunCalls.{images_refused, not_opened, same_images, taken_with}
@@ -40,3 +41,19 @@ returns-clause-opened g c =
           (same_images _ _ _ c.deref.ensures.value load.accepted);
       opened = opening.opened;
     }
+
+pub returns-in_err-images-clause-asked : goal.returns-in_err-images-clause-asked
+returns-in_err-images-clause-asked g c =
+    let p = err_from_is_err_and c.from_residual.result c.from_residual.ensures.1 in
+    rw (p.1, p.2) c.in_err-images.ensures.asked
+
+pub returns-in_err-opened-clause-asked : goal.returns-in_err-opened-clause-asked
+returns-in_err-opened-clause-asked g c =
+    let p = err_from_is_err_and c.from_residual-in_err-opened.result
+    c.from_residual-in_err-opened.ensures.1 in
+    rw (p.1, p.2) (stopped_later [] c.args.request.now.names.now _ _ _
+    (later_opening c.deref.result.now c.args.request.now.config _
+    c.in_err-opened.ensures.refused) c.in_ok-images.ensures.asked)
+
+pub returns-clause-asked : goal.returns-clause-asked
+returns-clause-asked g c = c.in_ok-images.ensures.asked

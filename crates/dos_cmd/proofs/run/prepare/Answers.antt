@@ -1,6 +1,8 @@
-use Rattle.std.proofs.Common.{inl, refl}
+use Rattle.std.proofs.Common.{inl, refl, []}
 use Rattle.std.proofs.lemmas.Result.{err_from_is_err_and}
 use Rattle.dos_cmd.specs.Requests.{request_asked}
+use Rattle.dos_texts.specs.declared.refusal.Refusal.TheVariants.{Memory}
+use Rattle.dos_cmd.proofs.Asked.{stopped_later}
 use Rattle.dos_cmd.proofs.NotBegun.{says_nothing}
 use Rattle.dos_cmd.proofs.RunCalls.{prepared}
 use Rattle.dos_cmd.proofs.run.prepare.Goals as goal
@@ -15,6 +17,7 @@ returns-in_err-kernel g c =
       fresh = tt;
       begins = tt;
       leaves = opening.leaves;
+      asked = opening.asked;
       later = opening.later;
       stays = opening.stays;
       tells = opening.tells;
@@ -42,6 +45,8 @@ returns-in-Err g c =
       begins = tt;
       leaves = rw c.in-Err.ensures.memory
           (λ n h out err t k l m. inl (says_nothing _ refl refl opening.stays refl refl));
+      asked = rw c.in-Err.ensures.memory
+          (stopped_later [] c.args.request.now.names.now Memory _ _ tt opening.asked);
       later = opening.later;
       stays = opening.stays;
       tells = opening.tells;

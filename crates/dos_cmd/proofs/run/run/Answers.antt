@@ -1,8 +1,9 @@
-use Rattle.std.proofs.Common.{le_refl, le_trans, refl}
+use Rattle.std.proofs.Common.{le_refl, le_trans, refl, [], ◌∷◌}
 use Rattle.std.proofs.lemmas.Result.{err_from_is_err_and}
 use Rattle.dos_cmd.specs.Outside.{Outside, Faults, outside, faults}
 use Rattle.dos_cmd.specs.Requests.{request_asked}
-use Rattle.dos_cmd.proofs.RunCalls.{run_did, run_leaves}
+use Rattle.dos_cmd.proofs.Asked.{stopped_in_reads, written_then}
+use Rattle.dos_cmd.proofs.RunCalls.{run_did, run_later, run_leaves}
 use Rattle.dos_cmd.proofs.run.run.Goals as goal
 
 pub returns-in_err-kernel : goal.returns-in_err-kernel
@@ -14,6 +15,8 @@ returns-in_err-kernel g c =
           (g.O.Sink.told c.args.out.now) (g.E.Sink.told c.args.err.now)
           (g.W.Workers.tally c.args.workers.now) (g.H.Host.faults c.args.host.now)
           (g.O.Sink.faults c.args.out.now) (g.E.Sink.faults c.args.err.now));
+      asked = λ n. stopped_in_reads [] c.args.request.now.names.now
+          (c.args.request.now.log.now ∷ []) _ _ _ c.in_err-kernel.ensures.asked;
       files_later = c.prepare.ensures.later;
       host_later = le_refl _;
       out_later = le_refl _;
@@ -51,6 +54,12 @@ returns g c =
           c.in_ok-kernel.kernel c.in_ok-kernel.ledger c.run_opened-ended.result at.tells at.stays
           at.later
           c.run_opened-ended.ensures.leaves (ready.prepared o) ready.taken;
+      asked = λ n. written_then c.run_opened-ended.result [] c.args.request.now.names.now
+          c.args.request.now.log.now _ _ _ at.asked (run_later (request_asked
+          c.args.request.now) ready.images o (g.F.Files.tells c.prepare.new.files)
+          (g.F.Files.content c.prepare.new.files) f c.in_ok-kernel.kernel c.in_ok-kernel.ledger
+          c.run_opened-ended.result at.tells at.stays c.run_opened-ended.ensures.leaves
+          (ready.prepared o)) c.run_opened-ended.ensures.asked;
       files_later = le_trans c.prepare.ensures.later c.run_opened-ended.ensures.files_later;
       host_later = c.run_opened-ended.ensures.host_later;
       out_later = c.run_opened-ended.ensures.out_later;

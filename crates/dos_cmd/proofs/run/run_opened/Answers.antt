@@ -1,5 +1,6 @@
 use Rattle.std.proofs.Common.{le_refl, le_trans, refl, ◌∙◌}
 use Rattle.dos_cmd.specs.Outside.{Outside, Faults, outside, faults}
+use Rattle.dos_cmd.proofs.Asked.{later_stop, not_asked}
 use Rattle.dos_cmd.proofs.RunEnds.{is_err_of, run_stopped, run_unended, run_did}
 use Rattle.dos_cmd.proofs.Steady.{no_stop, outputs_steady}
 use Rattle.dos_cmd.proofs.run.run_opened.Goals as goal
@@ -22,6 +23,7 @@ returns-in-Err g c = record {
       run_stopped o f c.args.kernel.now c.args.ledger c.args.name.now c.in-Err.stop _
       c.refusal_by.ensures run.stopped run.cut (λ e. run.host_cause (is_err_of _ _ e)) run.sinks
       (λ n. refl);
+  asked = not_asked c.args.name.now _ _ (later_stop c.in-Err.stop _ c.refusal_by.ensures);
   files_later = le_refl _;
   host_later = c.in-Err.ensures.host_later;
   out_later = c.in-Err.ensures.out_later;
@@ -58,6 +60,7 @@ returns-in-Ok g c =
           (g.E.Sink.faults c.record_group.new.err) c.conclude.result run.ran
           c.conclude.ensures.others
           run.err_later c.conclude.ensures.leaves;
+      asked = c.conclude.ensures.asked;
       files_later = c.conclude.ensures.files_later;
       host_later = c.in-Ok.ensures.host_later;
       out_later = c.in-Ok.ensures.out_later;

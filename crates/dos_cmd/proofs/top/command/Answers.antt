@@ -1,5 +1,7 @@
 use Rattle.std.proofs.Common.{le_refl, map, refl, string_bytes, ◌∙◌}
 use Rattle.std.proofs.lemmas.Result.{err_from_is_err_and}
+use Rattle.dos_words.specs.Request.{request}
+use Rattle.dos_cmd.proofs.Asked.{asks_in, words_not_read}
 use Rattle.dos_cmd.proofs.Calls.{did_hired, fails_by, finished_by, leaves_hired, not_read}
 use Rattle.dos_cmd.proofs.NotBegun.{says_nothing}
 use Rattle.dos_cmd.proofs.top.command.Goals as goal
@@ -12,6 +14,8 @@ returns-in_err-request g c =
       finished = tt;
       fails = not_read (map string_bytes c.args.words.now) _ _ _ read.refused read.only
           (says_nothing _ refl refl (λ n. refl) refl refl);
+      asked = words_not_read (request (map string_bytes c.args.words.now)) _ _ read.refused
+          read.only;
       files_later = le_refl _;
       host_later = le_refl _;
       out_later = le_refl _;
@@ -32,6 +36,7 @@ returns g c =
       fails = fails_by c.execute-ended.result (map string_bytes c.args.words.now)
           c.in_ok-request.request _ _ asked
           (leaves_hired _ _ _ _ _ ended.leaves c.hire.ensures.tally);
+      asked = asks_in c.execute-ended.result _ _ _ _ asked ended.asked;
       files_later = ended.files_later;
       host_later = ended.host_later;
       out_later = ended.out_later;

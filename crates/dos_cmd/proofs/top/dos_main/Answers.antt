@@ -13,6 +13,7 @@ pub returns-in-Ok : goal.returns-in-Ok
 returns-in-Ok g c = record {
   statuses = inl (c.in-Ok.ending, c.ending_status.ensures);
   finished = λ _. finished_as _ _ _ _ c.ending_status.ensures c.in-Ok.ensures.finished;
+  asked = λ _. c.in-Ok.ensures.asked;
   refused = λ a b d e. absurd (ends_or_not _ (status_ends _ _ c.ending_status.ensures) a d e);
   six = λ six. absurd (ends_not_six _ (status_ends _ _ c.ending_status.ensures) six);
   words_refused = λ none a b. absurd (finished_not_none (map string_bytes c.args.words.now) _ _
@@ -40,21 +41,25 @@ returns-in-Err g c = record {
   statuses = c.put_refusal.ensures.statuses;
   finished = λ ends. absurd (refusal_ends_not _ _ (c.put_refusal.ensures.told (ends_not_six _
       ends)).1 ends);
+  asked = λ ends. absurd (refusal_ends_not _ _ (c.put_refusal.ensures.told (ends_not_six _
+      ends)).1 ends);
   refused = λ a b d e. refused_as _ _ _ _ _ _ _ c.put_refusal.ensures.later
-      (c.put_refusal.ensures.told b) c.in-Err.ensures.fails;
+      (c.put_refusal.ensures.told b) c.in-Err.ensures.fails c.in-Err.ensures.asked;
   six = λ six. cut_short _ _ _ _ _ _ c.put_refusal.ensures.later c.in-Err.ensures.err_later
-      c.in-Err.ensures.fails (c.put_refusal.ensures.sink six) (c.put_refusal.ensures.front six);
+      c.in-Err.ensures.fails (c.put_refusal.ensures.sink six) (c.put_refusal.ensures.front six)
+      c.in-Err.ensures.asked;
   words_refused = λ none a b. fails_none (map string_bytes c.args.words.now) _ _ _ _ _
       (c.put_refusal.ensures.told a).1 c.in-Err.ensures.fails none b;
   files_refused = λ asked why ask told a b d. fails_refused (map string_bytes c.args.words.now) _ _
       _ why _ _ asked (c.put_refusal.ensures.told b).1 c.in-Err.ensures.fails ask told a b d;
   done = λ asked taken ask told a b d. let r = refused_as (map string_bytes c.args.words.now) _ _ _
-      _ _ _ c.put_refusal.ensures.later (c.put_refusal.ensures.told b) c.in-Err.ensures.fails in
+      _ _ _ c.put_refusal.ensures.later (c.put_refusal.ensures.told b) c.in-Err.ensures.fails
+      c.in-Err.ensures.asked in
       fails_must (map string_bytes c.args.words.now) _ _ _ _ asked taken r.status_is r.fails ask
       told a b d;
   replays = λ earlier status run did same a b d. let r = refused_as (map string_bytes
       c.args.words.now) _ _ _ _ _ _ c.put_refusal.ensures.later (c.put_refusal.ensures.told b)
-      c.in-Err.ensures.fails in
+      c.in-Err.ensures.fails c.in-Err.ensures.asked in
       repeats earlier (map string_bytes c.args.words.now) status _ run _ did same
       (λ asked taken ask told. fails_must (map string_bytes c.args.words.now) _ _ _ _ asked taken
       r.status_is r.fails ask told a b d);

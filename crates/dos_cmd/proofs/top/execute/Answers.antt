@@ -1,5 +1,6 @@
 use Rattle.std.proofs.Common.{le_refl, refl, sym, ap, ◌∙◌}
 use Rattle.dos_words.specs.declared.request.Request.TheVariants.{Inspect}
+use Rattle.dos_cmd.proofs.Asked.{asks_as, none_named}
 use Rattle.dos_cmd.proofs.Calls.{are_planned, did_as, fits_gen, fits_run, leaves_as}
 use Rattle.dos_cmd.proofs.top.execute.Goals as goal
 
@@ -40,6 +41,7 @@ returns-in-Run g c =
     record {
       did = did_as _ _ _ _ (c.run.ensures.did workers) c.in-Run.is;
       leaves = leaves_as _ _ _ _ _ (c.run.ensures.leaves workers) c.in-Run.is;
+      asked = asks_as c.run.result _ _ _ _ c.in-Run.is (c.run.ensures.asked workers);
       files_later = c.run.ensures.files_later;
       host_later = c.run.ensures.host_later;
       out_later = c.run.ensures.out_later;
@@ -59,6 +61,7 @@ returns-in-Replay g c =
       did = did_as _ _ _ _ (c.replay.ensures.did workers host) c.in-Replay.is;
       leaves = leaves_as _ _ _ _ _ (c.replay.ensures.leaves workers host
           (g.H.Host.faults c.args.host.now)) c.in-Replay.is;
+      asked = asks_as c.replay.result _ _ _ _ c.in-Replay.is (c.replay.ensures.asked workers);
       files_later = c.replay.ensures.files_later;
       host_later = le_refl _;
       out_later = c.replay.ensures.out_later;
@@ -80,6 +83,7 @@ returns-in-Inspect g c =
       did = did_as _ _ _ _ (c.inspect.ensures.did host err tally) same;
       leaves = leaves_as _ _ _ _ _ (c.inspect.ensures.leaves host err tally
           (g.H.Host.faults c.args.host.now) (g.E.Sink.faults c.args.err.now)) same;
+      asked = asks_as c.inspect.result _ _ _ _ same c.inspect.ensures.asked;
       files_later = c.inspect.ensures.files_later;
       host_later = le_refl _;
       out_later = c.inspect.ensures.out_later;
@@ -113,6 +117,7 @@ returns-in-Gen g c =
       leaves = leaves_as _ _ _ _ _ (c.generate.ensures.leaves workers tells files host err
           (g.F.Files.faults c.args.files.now) (g.H.Host.faults c.args.host.now)
           (g.E.Sink.faults c.args.err.now)) c.in-Gen.is;
+      asked = asks_as c.generate.result _ _ _ _ c.in-Gen.is (none_named c.generate.result _);
       files_later = le_refl _;
       host_later = le_refl _;
       out_later = c.generate.ensures.out_later;
@@ -133,6 +138,7 @@ returns-in-Migrate g c =
       did = did_as _ _ _ _ (c.migrate.ensures.did host err tally) c.in-Migrate.is;
       leaves = leaves_as _ _ _ _ _ (c.migrate.ensures.leaves host err tally
           (g.H.Host.faults c.args.host.now) (g.E.Sink.faults c.args.err.now)) c.in-Migrate.is;
+      asked = asks_as c.migrate.result _ _ _ _ c.in-Migrate.is c.migrate.ensures.asked;
       files_later = c.migrate.ensures.files_later;
       host_later = le_refl _;
       out_later = c.migrate.ensures.out_later;
@@ -152,6 +158,7 @@ returns-in-Trace g c =
       did = did_as _ _ _ _ (c.trace.ensures.did workers host) c.in-Trace.is;
       leaves = leaves_as _ _ _ _ _ (c.trace.ensures.leaves workers host
           (g.H.Host.faults c.args.host.now)) c.in-Trace.is;
+      asked = asks_as c.trace.result _ _ _ _ c.in-Trace.is (c.trace.ensures.asked workers);
       files_later = c.trace.ensures.files_later;
       host_later = le_refl _;
       out_later = c.trace.ensures.out_later;
