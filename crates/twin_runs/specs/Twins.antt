@@ -61,6 +61,13 @@ LeaderCame (Err LogFull) images config told kernel out err out_after err_after t
 LeaderCame (Err (Misfit m)) images config told kernel out err out_after err_after tally
     tally_after = ⊥
 
+-- Over the exchanges of these notes a leader came to this.
+pub record Led (k k' : Held) (result : Result Ending RunStop) (notes : List Note)
+    (out err out_after err_after : Option (List ℕ)) (tally tally_after : ℕ) : Type 0 where
+  pub came : (images : List Image) (config : Config) → IsOpenedWith k images config
+      → LeaderCame result images config (exchanges_in notes) k' out err out_after err_after
+      tally tally_after
+
 -- ---- a follower
 
 -- what a follower's run comes to: its leader has stopped, or was told another question

@@ -15,7 +15,7 @@ ghost use Rattle.twin_shims.specs.Leader.{new_teller};
 ghost use Rattle.twin_shims.specs.Line.{line_id};
 ghost use Rattle.twin_shims.specs.Notes.{exchanges_in, IsClosed};
 ghost use Rattle.twin_runs.specs.Both.{RanBoth};
-ghost use Rattle.twin_runs.specs.Twins.{Followed, LeaderCame};
+ghost use Rattle.twin_runs.specs.Twins.{Followed, Led};
 
 use crate::follower::follow_group;
 use crate::leader::lead_group;
@@ -62,11 +62,8 @@ fn lead_by<'a, R: Wait, H: Host, O: Sink, E: Sink, W: Workers>(
     ensures closed { IsClosed result.1.notes }
     ensures given { Given [] FromHost 0 (H.told host.old) (H.told host.new)
         (exchanges_in result.1.notes) }
-    ensures came { (images : List Image) (config : Config)
-        → IsOpenedWith kernel.old images config
-        → LeaderCame result.0 images config (exchanges_in result.1.notes) kernel.new
-        (O.told out.old) (E.told err.old)
-        (O.told out.new) (E.told err.new)
+    ensures led { Led kernel.old kernel.new result.0 result.1.notes
+        (O.told out.old) (E.told err.old) (O.told out.new) (E.told err.new)
         (W.tally workers.old) (W.tally workers.new) }
     ensures host_cause { IsErrOf result.0 RunStop.HostFault
         → Rose (H.faults host.old) (H.faults host.new) }

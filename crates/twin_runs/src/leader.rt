@@ -1,15 +1,12 @@
 // A leader's run.
-ghost use Rattle.std.specs.Prelude.{◌≡◌, ◌≢◌, ◌≤◌, List, [], Err, false, IfErr, IsErrOf};
-ghost use Rattle.dos_world.specs.declared.Config.{Config};
+ghost use Rattle.std.specs.Prelude.{◌≡◌, ◌≢◌, ◌≤◌, [], Err, false, IfErr, IsErrOf};
 ghost use Rattle.dos_io.specs.Given.{Given};
 ghost use Rattle.dos_io.specs.Outside.{Rose};
 ghost use Rattle.dos_io.specs.declared.exchange.ClockRule.TheVariants.{FromHost};
-ghost use Rattle.elf_image.specs.Image.{Image};
 ghost use Rattle.kernel_calls.specs.StateWorld.{HasSinkCause};
-ghost use Rattle.logged_runs.specs.Opened.{IsOpenedWith};
 ghost use Rattle.twin_shims.specs.Leader.{new_teller};
 ghost use Rattle.twin_shims.specs.Notes.{exchanges_in, IsClosed};
-ghost use Rattle.twin_runs.specs.Twins.{LeaderCame};
+ghost use Rattle.twin_runs.specs.Twins.{Led};
 
 use dos_io::{Host, Sink};
 use dos_world::Ending;
@@ -49,8 +46,7 @@ pub fn lead_group<'a, R: Wait, H: Host, O: Sink, E: Sink, W: Workers>(
     ensures closed { IsClosed result.1.notes }
     ensures given { Given [] FromHost 0 (H.told host.old) (H.told host.new)
         (exchanges_in result.1.notes) }
-    ensures came { (images : List Image) (config : Config) → IsOpenedWith kernel.old images config
-        → LeaderCame result.0 images config (exchanges_in result.1.notes) kernel.new
+    ensures led { Led kernel.old kernel.new result.0 result.1.notes
         (O.told out.old) (E.told err.old) (O.told out.new) (E.told err.new)
         (W.tally workers.old) (W.tally workers.new) }
     ensures host_cause { IsErrOf result.0 RunStop.HostFault
