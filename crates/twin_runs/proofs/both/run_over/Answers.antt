@@ -10,18 +10,12 @@ pub join_mut-taken-requires-after_bounds : goal.join_mut-taken-requires-after_bo
 join_mut-taken-requires-after_bounds g c κs bounds = (
   (
     c.requires.second_running,
-    c.requires.second_fresh,
-    ap Some c.of-2.ensures,
-    search rules,
-    search rules,
-    search rules,
+    (c.requires.second_fresh, (ap Some c.of-2.ensures, (search rules, search rules, search rules))),
   ),
-  c.requires.running,
-  c.requires.fresh,
-  ap Some c.of.ensures,
-  search rules,
-  search rules,
-  search rules,
+  (
+    c.requires.running,
+    (c.requires.fresh, (ap Some c.of.ensures, (search rules, search rules, search rules))),
+  ),
 )
 
 pub returns-clause-ran : goal.returns-clause-ran
