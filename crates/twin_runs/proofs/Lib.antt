@@ -1,0 +1,5 @@
+pub mod Asking
+pub mod Leaders
+pub mod Followers
+pub mod Alikes
+pub mod BothRuns

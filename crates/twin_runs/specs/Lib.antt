@@ -1,0 +1,4 @@
+pub mod Twins
+pub mod Laws
+pub mod Alike
+pub mod Both
