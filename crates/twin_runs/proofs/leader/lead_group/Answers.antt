@@ -26,15 +26,17 @@ returns g c =
           (g.H.Host.told c.args.host.now) (g.H.Host.told c.host-1.given.0) es) (sym end.told)
           (all_given c.of-shim.result.teller c.run_group-result.new.shim.teller _ _ _ _ fresh
           follows);
-      led = record { came = λ images config opened. subst (λ (es : List Exchange).
-          LeaderCame c.run_group-result.result images config es c.run_group-result.new.kernel
-          (g.O.Sink.told c.args.out.now) (g.E.Sink.told c.args.err.now)
-          (g.O.Sink.told c.run_group-result.new.out) (g.E.Sink.told c.run_group-result.new.err)
-          (g.W.Workers.tally c.args.workers.now)
-          (g.W.Workers.tally c.run_group-result.new.workers)) (sym end.told)
-          (leader_came c.args.kernel.now c.run_group-result.new.kernel c.of-shim.result.teller
-          c.run_group-result.new.shim.teller _ _ _ _ _ _ fresh images config opened
-          c.run_group-result.result run.runs run.asks run.cut run.causes.shim c.look.ensures) };
+      led = record {
+        came = λ images config opened. subst (λ (es : List Exchange).
+            LeaderCame c.run_group-result.result images config es c.run_group-result.new.kernel
+            (g.O.Sink.told c.args.out.now) (g.E.Sink.told c.args.err.now)
+            (g.O.Sink.told c.run_group-result.new.out) (g.E.Sink.told c.run_group-result.new.err)
+            (g.W.Workers.tally c.args.workers.now)
+            (g.W.Workers.tally c.run_group-result.new.workers)) (sym end.told)
+            (leader_came c.args.kernel.now c.run_group-result.new.kernel c.of-shim.result.teller
+            c.run_group-result.new.shim.teller _ _ _ _ _ _ fresh images config opened
+            c.run_group-result.result run.runs run.asks run.cut run.causes.shim c.look.ensures);
+      };
       host_cause = λ is. host_rose c.of-shim.result.teller c.run_group-result.new.shim.teller
           _ _ _ _ c.run_group-result.result (ap (λ (t : TellerState). t.stops) begins) follows
           run.causes.shim is;
