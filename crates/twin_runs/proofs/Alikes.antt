@@ -1,5 +1,5 @@
 -- Where no put failed, a leader's run and its follower's are alike.
-use Rattle.std.proofs.Common.{◌≡◌, ◌≢◌, ℕ, refl, sym, ap, ◌∙◌, subst, List, [], ◌∷◌, ◌++◌, Option}
+use Rattle.std.proofs.Common.{◌≡◌, ℕ, refl, sym, ap, ◌∙◌, subst, List, [], ◌∷◌, ◌++◌, Option}
 use Rattle.std.proofs.Common.{Ok, Err, append-nil}
 use Rattle.std.specs.Prelude.{IfErr, Result}
 use Rattle.dos_world.specs.declared.Config.{Config}

@@ -7,7 +7,7 @@ use Rattle.dos_world.specs.declared.Question.{Question}
 use Rattle.dos_io.specs.declared.exchange.Exchange.{Exchange}
 use Rattle.dos_io.specs.Exchanges.{question_of, answer_of}
 use Rattle.elf_image.specs.Image.{Image}
-use Rattle.flat_machine.specs.Machine.{Finish, Seen, ends, group, machine}
+use Rattle.flat_machine.specs.Machine.{Finish, Seen, group, machine}
 use Rattle.dpg_run.proofs.Asked.{heads, seen_is}
 use Rattle.logged_runs.specs.Runs.{RanUntil, RanWhole}
 use Rattle.twin_runs.specs.Laws.{NextOrSame, same, next}

@@ -23,7 +23,7 @@ use Rattle.dpg_run.specs.GroupRuns.{CutGroup, RanGroup, StoppedGroup}
 use Rattle.logged_runs.specs.Opened.{IsOpenedWith}
 use Rattle.logged_runs.proofs.FromOpening.{ran_ahead, ran_until, ran_whole, put_ahead, put_until}
 use Rattle.twin_shims.specs.declared.note.Note.{Note}
-use Rattle.twin_shims.specs.declared.note.Note.TheVariants.{Told, Stopped as stopped_note}
+use Rattle.twin_shims.specs.declared.note.Note.TheVariants.{Stopped as stopped_note}
 use Rattle.twin_shims.specs.Follower.{ReaderState, IsFollowerStop, StopsReader, IsNextMisfit}
 use Rattle.twin_shims.specs.Follower.{front, used}
 use Rattle.twin_shims.specs.Follower.{reader_told, follower_state}

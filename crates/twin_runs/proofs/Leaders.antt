@@ -7,7 +7,6 @@ use Rattle.dos_world.specs.declared.Config.{Config}
 use Rattle.dos_world.specs.declared.Ending.{Ending}
 use Rattle.dos_io.specs.Given.{Given}
 use Rattle.dos_io.specs.Hosts.{Told}
-use Rattle.dos_io.specs.Shims.{HasNoEnd}
 use Rattle.dos_io.specs.declared.exchange.ClockRule.TheVariants.{FromHost}
 use Rattle.dos_io.specs.declared.exchange.Exchange.{Exchange}
 use Rattle.dos_io.specs.Outside.{Rose}
@@ -26,7 +25,6 @@ use Rattle.dpg_run.specs.GroupRuns.{CutGroup, RanGroup, StoppedGroup}
 use Rattle.logged_runs.specs.Opened.{IsOpenedWith}
 use Rattle.logged_runs.proofs.FromOpening.{ran_ahead, ran_until, ran_whole, put_ahead, put_until}
 use Rattle.twin_shims.specs.Leader.{TellerState, FollowsLeader, IsLeaderStop, leader_state}
-use Rattle.twin_shims.specs.Leader.{new_teller}
 use Rattle.twin_runs.specs.Twins.{LeaderCame}
 
 -- the host, from one moment to another at which it is the same

@@ -1,4 +1,4 @@
-use Rattle.std.proofs.Common.{◌≡◌, ℕ, List, [], Some, ap, rules}
+use Rattle.std.proofs.Common.{ℕ, [], Some, ap, rules}
 use Rattle.dos_io.specs.Given.{Given}
 use Rattle.dos_io.specs.declared.exchange.ClockRule.TheVariants.{FromHost}
 use Rattle.twin_shims.specs.Notes.{exchanges_in}

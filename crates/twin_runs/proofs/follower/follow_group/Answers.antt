@@ -1,4 +1,4 @@
-use Rattle.std.proofs.Common.{◌≡◌, [], sym, ap, subst, ◌∙◌}
+use Rattle.std.proofs.Common.{◌≡◌, [], ap, ◌∙◌}
 use Rattle.twin_shims.specs.Follower.{ReaderState, reader_told}
 use Rattle.twin_runs.proofs.Followers.{all_followed}
 use Rattle.twin_runs.proofs.follower.follow_group.Goals as goal
