@@ -17,5 +17,7 @@ input-tells g c = record {
   rest = c.ensures.rest;
   told_ok = on_ok c.result refl;
   told_err = on_err c.result refl;
+  asked = c.ensures.asked;
   cause = c.ensures.cause;
+  steady = c.ensures.steady;
 }
