@@ -7,3 +7,4 @@ pub mod Asked
 pub mod QuietRuns
 pub mod MisfitLaws
 mod SteadySinks
+pub mod Worked

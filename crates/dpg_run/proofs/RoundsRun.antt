@@ -29,7 +29,8 @@ use Rattle.group_rounds.specs.Plays.{GoesOn}
 use Rattle.group_rounds.specs.StatePlays.{Telling, told_at}
 use Rattle.group_rounds.specs.Outside.{is_end_question}
 use Rattle.group_rounds.specs.Kernels.{IsBetweenRounds}
-use Rattle.group_rounds.specs.Rounds.{end_in, next_round, work_in}
+use Rattle.group_rounds.specs.Rounds.{answers_since, begun_work, end_in, next_round, work_by}
+use Rattle.group_rounds.specs.Rounds.{work_in}
 use Rattle.group_rounds.specs.declared.round.RoundEnd.{RoundEnd}
 use Rattle.group_rounds.specs.declared.round.RoundEnd.TheVariants.{Went, Done, Stalled}
 use Rattle.group_rounds.proofs.PlayLaws.{goes-append, goes-exchanges, goes-then, goes-over}
@@ -44,6 +45,7 @@ use Rattle.dos_io.specs.Borders.{BorderState, Crossing, Tells, bytes_to, exchang
 use Rattle.dos_io.specs.declared.border.Stream.TheVariants.{Output, Error}
 use Rattle.dos_io.proofs.OutsideLaws.{front-whole}
 use Rattle.group_rounds.proofs.PlayCauses.{asks_before_end, by_question, causes_err, fails_of}
+use Rattle.group_rounds.proofs.WorkLaws.{plays_more, since_nothing, since_then}
 use Rattle.group_rounds.proofs.FrontLaws.{HasSent, fronts_kept, fronts_over, sending}
 use Rattle.worker_pool.specs.Ran.{GrewBy}
 use Rattle.worker_pool.proofs.Growing.{grew-more, grew-nothing}
@@ -56,6 +58,8 @@ use Rattle.dpg_run.specs.GroupRuns.{AreFronts, CutGroup, PlaysNext, PlaysRounds,
 use Rattle.dpg_run.specs.GroupRuns.{IsCountedIn, RanRounds, RanGroup, RunsGroup, StoppedGroup}
 use Rattle.dpg_run.specs.GroupRuns.{end_by, ending_by, finish_in, has_failed, left_of_run}
 use Rattle.dpg_run.specs.GroupRuns.{rounds_left}
+use Rattle.dpg_run.specs.Work.{HasWorked, rounds_work, work_from}
+use Rattle.dpg_run.proofs.Worked.{both_worked, round_worked, stop_worked}
 
 -- ---- fronts
 
@@ -86,6 +90,9 @@ module _ (o e : List ℕ) where
 
 pub with_nothing : (n : ℕ) → n + 0 ≡ n
 with_nothing n = omega arith
+
+plus_nothing : (n : ℕ) → n ≡ 0 + n
+plus_nothing n = omega arith
 
 -- what follows a round, with so many left and after so much work
 abbrev after_round : ℕ → ℕ → FlatEnd → Play Finish
@@ -184,7 +191,7 @@ module _ (config : Config) (s s' : State) (told after : BorderState) (tally tall
   pub some_ok : (so : RoundEnd) (ended : Option Ending) (more : ℕ) → ending_by so ≡ ended
       → s'.round ≡ next_round so s.round
       → PlaysOn config.quantum (λ w. round_of w) s told (λ w. done (end_in so more w)) s' after
-      → GrewBy tally tally_after (work_in so more)
+      → GrewBy tally tally_after (work_by (Ok so) more)
       → PlaysSome config (Ok ended) s told s' after tally tally_after
   some_ok so ended more is round h grew = record {
     work = work_in so more;
@@ -201,17 +208,22 @@ module _ (config : Config) (s s' : State) (told after : BorderState) (tally tall
           (one_less config.rounds s.round s'.round so round)));
       stops = tt;
     };
+    worked = round_worked config s first allowed s' told after so ended more is round h;
     grew = grew;
   }
 
   pub some_err : (stop : RunStop) (more : ℕ)
       → Plays config.quantum world_ended (λ w. round_of w)
       (λ (end : RoundEnd) w. done (end_in end more w)) (Err stop) s told s' after
+      → ((o e : List ℕ) → begun_work (sent o e (world_of config.quantum s))
+      (answers_since told.shim.told after.shim.told) ≡ more)
+      → GrewBy tally tally_after more
       → PlaysSome config (Err stop) s told s' after tally tally_after
-  some_err stop more k = record {
-    work = 0;
+  some_err stop more k ran grew = record {
+    work = more;
     plays = λ earlier. record { goes = tt; stops = (left_plays (Err stop) earlier more k).stops };
-    grew = tt;
+    worked = stop_worked config s first allowed s' told after (stopper stop) more k.stops ran;
+    grew = grew;
   }
 
 -- ---- some rounds
@@ -227,6 +239,13 @@ some_none config s b tally = record {
         (sym (with_nothing earlier)));
     stops = tt;
   };
+  worked = λ o e. (
+    o,
+    e,
+    λ more. ap (λ answers. work_from (sent o e (world_of config.quantum s)) config
+        (answers ++ more)) (since_nothing b.shim.told b.shim.told refl)
+        ∙ plus_nothing (work_from (sent o e (world_of config.quantum s)) config more),
+  );
   grew = grew-nothing tally;
 }
 
@@ -249,13 +268,11 @@ some_over config s b tally ending past is = record {
         (sym is));
     stops = tt;
   };
+  worked = λ o e. ap (λ n. rounds_work n (sent o e (world_of config.quantum s))
+      (answers_since b.shim.told b.shim.told))
+      (let n : config.rounds - (s.round - 1) ≡ 0 = omega (arith, past) in n);
   grew = grew-nothing tally;
 }
-
-both_grew : (result : Result (Option Ending) RunStop) (t t' t'' work more : ℕ)
-    → GrewBy t t' work → OnOk result (GrewBy t' t'' more) → OnOk result (GrewBy t t'' (work + more))
-both_grew (Ok ended) t t' t'' work more g h = grew-more t t' t'' work more g h
-both_grew (Err stop) t t' t'' work more g h = tt
 
 -- first so, then so
 both_some : (config : Config) (result : Result (Option Ending) RunStop) (s s' s'' : State)
@@ -274,7 +291,18 @@ both_some config result s s' s'' b b' b'' t t' t'' h k = record {
       s' b' s'' b'')
       (let n : (earlier + h.work) + k.work ≡ earlier + (h.work + k.work) = omega arith in n)
       (k.plays (earlier + h.work)));
-  grew = both_grew result t t' t'' h.work k.work h.grew k.grew;
+  worked = λ o e.
+      let told = plays_more config.quantum (λ finish. finish.world) (λ w. rounds_left config 0 w)
+      (λ ended w. left_of_run config ended (0 + h.work) w) (Ok None) s s' b b' (h.plays 0) in
+      let more = plays_more config.quantum (λ finish. finish.world) (λ w. rounds_left config 0 w)
+      (λ ended w. left_of_run config ended (0 + k.work) w) result s' s'' b' b'' (k.plays 0) in
+      subst (λ answers. HasWorked config result answers (sent o e (world_of config.quantum s)) s''
+      (h.work + k.work))
+      (sym (since_then b.shim.told b'.shim.told b''.shim.told told.0 more.0 told.1 more.1))
+      (both_worked config result s' s'' (answers_since b.shim.told b'.shim.told)
+      (answers_since b'.shim.told b''.shim.told) (sent o e (world_of config.quantum s)) h.work
+      k.work (h.worked o e) k.worked);
+  grew = grew-more t t' t'' h.work k.work h.grew k.grew;
 }
 
 -- under the configuration with which the first began
@@ -325,13 +353,18 @@ all_ok config ending s s' b b' t t' h = record {
         (let n : 0 + h.work ≡ h.work = omega arith in n) (h.plays 0).goes;
     stops = tt;
   };
+  worked = h.worked [] [];
   grew = h.grew;
 }
 
 pub all_err : (config : Config) (stop : RunStop) (s s' : State) (b b' : BorderState) (t t' : ℕ)
     → PlaysSome config (Err stop) s b s' b' t t' → PlaysRounds config (Err stop) s b s' b' t t'
-all_err config stop s s' b b' t t' h =
-    record { work = 0; plays = record { goes = tt; stops = (h.plays 0).stops }; grew = tt }
+all_err config stop s s' b b' t t' h = record {
+  work = h.work;
+  plays = record { goes = tt; stops = (h.plays 0).stops };
+  worked = h.worked [] [];
+  grew = h.grew;
+}
 
 -- ---- a run that stops before its end
 
@@ -510,6 +543,15 @@ stands_at_end stop reason asked ending rounds failed is stopped at =
       | Some reason ↦ not (is_end_question asked)
     ]) stopped ∙ ap (λ a. not (is_end_question a)) at)
 
+-- by the work over the answers that are told more
+pub grew_by : (config : Config) (start : State) (before after : BorderState) (t t' work : ℕ)
+    → work_from (world_of config.quantum start) config
+    (answers_since before.shim.told after.shim.told) ≡ work
+    → GrewBy t t' work
+    → GrewBy t t' (work_from (world_of config.quantum start) config
+    (answers_since before.shim.told after.shim.told))
+grew_by config start before after t t' work is grew = subst (λ n. GrewBy t t' n) (sym is) grew
+
 -- a run whose rounds stopped
 pub runs_stopped : (config : Config) (start s : State) (before after : BorderState) (stop : RunStop)
     (failed : Bool) (t t' : ℕ) → failed ≡ true
@@ -524,6 +566,7 @@ runs_stopped config start s before after stop failed t t' is h =
       asks = by_question config.quantum (λ finish. finish.world) (λ w. rounds_from w config) start
           _ _ _ (stopped_group config start before after) stop stops;
       cut = cut_group config start before after (stopper stop) stops;
+      grew = grew_by config start before after t t' h.work h.worked h.grew;
       told_end = tt;
       failed = failed_before _ _ _ is
           (asks_before_end config.quantum (λ finish. finish.world) (λ w. rounds_from w config)

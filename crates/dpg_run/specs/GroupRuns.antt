@@ -24,12 +24,13 @@ use Rattle.kernel_calls.specs.declared.state.RunStop.{RunStop}
 use Rattle.kernel_calls.specs.declared.state.RunStop.TheVariants.{OutFault, ErrFault}
 use Rattle.kernel_calls.specs.declared.state.State.{State}
 use Rattle.group_rounds.specs.Plays.{GoesOn}
-use Rattle.group_rounds.specs.Rounds.{end_in}
+use Rattle.group_rounds.specs.Rounds.{answers_since, end_in}
 use Rattle.group_rounds.specs.StatePlays.{Telling, ToldMore, told_at}
 use Rattle.group_rounds.specs.Outside.{HaveCauses, is_end_question}
 use Rattle.group_rounds.specs.declared.round.RoundEnd.{RoundEnd}
 use Rattle.group_rounds.specs.declared.round.RoundEnd.TheVariants.{Went, Done, Stalled}
 use Rattle.dpg_run.specs.Fits.{FitsFrom}
+use Rattle.dpg_run.specs.Work.{HasWorked, work_from}
 use Rattle.flat_machine.specs.Machine.{Finish, Ran, machine_from, rounds_from, rounds_of, run_from}
 use Rattle.flat_machine.specs.Machine.{ends, needs}
 use Rattle.flat_machine.specs.Round.{round_of}
@@ -46,14 +47,16 @@ ending_by Done = Some done_ending
 ending_by Stalled = Some stalled_ending
 
 -- The call plays the rounds of the machine from the old state's world, to an ending, after so much
--- work, by which the tally grew.
+-- work, or until it stops. The tally grew by their work over the answers that are told more.
 pub record PlaysRounds (config : Config) (result : Result Ending RunStop) (old : State)
     (before : BorderState) (new : State) (after : BorderState) (tally tally_after : ℕ) : Type 0
   where
     pub work : ℕ
     pub plays : Plays config.quantum (λ finish. finish.world) (λ w. rounds_from w config)
         (λ ending w. done (finish_in ending w work)) result old before new after
-    pub grew : OnOk result (GrewBy tally tally_after work)
+    pub worked : work_from (world_of config.quantum old) config
+        (answers_since before.shim.told after.shim.told) ≡ work
+    pub grew : GrewBy tally tally_after work
 
 -- how a round ended after which a run has ended so, or goes on
 abbrev pub end_by : Option Ending → RoundEnd
@@ -84,7 +87,7 @@ IsCountedIn (Some ending) rounds round now = ⊤
 
 -- The call plays some of the rounds that the configuration leaves to the old state's world,
 -- whatever bytes were sent before, and whatever work was done: to an ending, or so far that the
--- rest is left. Its own work is what the tally grew by.
+-- rest is left, or until it stops. Its own work is what the tally grew by.
 pub record PlaysSome (config : Config) (result : Result (Option Ending) RunStop) (old : State)
     (before : BorderState) (new : State) (after : BorderState) (tally tally_after : ℕ) : Type 0
   where
@@ -92,7 +95,10 @@ pub record PlaysSome (config : Config) (result : Result (Option Ending) RunStop)
     pub plays : (earlier : ℕ) → Plays config.quantum (λ finish. finish.world)
         (λ w. rounds_left config earlier w)
         (λ ended w. left_of_run config ended (earlier + work) w) result old before new after
-    pub grew : OnOk result (GrewBy tally tally_after work)
+    pub worked : (o e : List ℕ) → HasWorked config result
+        (answers_since before.shim.told after.shim.told) (sent o e (world_of config.quantum old))
+        new work
+    pub grew : GrewBy tally tally_after work
 
 -- The rounds of the machine from the old state's world, over the exchanges that are told more, have
 -- ended so, in the new state's world with the bytes that are told more, after so much work.
@@ -162,8 +168,8 @@ has_failed (Ok ending) asked = false
 has_failed (Err stop) asked =
     elim (shim_stop stop) [ None ↦ true | Some reason ↦ not (is_end_question asked) ]
 
--- What a whole run leaves, by how it ended: of the machine, of who failed, and of the kernel. A
--- sink's count of faults stands unless it is what stopped the run.
+-- What a whole run leaves, by how it ended: of the machine, of the tally, of who failed, and of the
+-- kernel. A sink's count of faults stands unless it is what stopped the run.
 pub record RunsGroup (config : Config) (result : Result Ending RunStop) (old : State)
     (before : BorderState) (new : State) (after : BorderState) (has : Bool)
     (tally tally_after : ℕ) : Type 0 where
@@ -173,6 +179,8 @@ pub record RunsGroup (config : Config) (result : Result Ending RunStop) (old : S
   pub asks : IfErr result (λ stop. OnSome (shim_stop stop)
       (StoppedGroup config old (told_at before) (told_at after) after.shim.asked))
   pub cut : OnErr result (CutGroup config old (told_at before) (told_at after))
+  pub grew : OnErr result (GrewBy tally tally_after (work_from (world_of config.quantum old) config
+      (answers_since before.shim.told after.shim.told)))
   pub told_end : IfOk result (λ ending. AreEnded ending (new.round - 1) after.shim.told)
   pub failed : has ≡ has_failed result after.shim.asked
   pub causes : HaveCauses result before.shim after.shim before.out_faults after.out_faults

@@ -1,5 +1,6 @@
 pub mod Report
 pub mod Fits
+pub mod Work
 pub mod GroupRuns
 pub mod QuietRuns
 pub mod Laws

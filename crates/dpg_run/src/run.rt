@@ -4,9 +4,9 @@ ghost use Rattle.std.specs.Prelude.{false, if◌then◌else◌, is_err, is_some,
 ghost use Rattle.std.specs.Prelude.{Ok, Err, IfOk, IfErr, OnErr, OnOk, OnSome};
 ghost use Rattle.dos_world.specs.Numbered.{numbers_of};
 ghost use Rattle.dos_io.specs.Shims.{HasNoEnd};
-ghost use Rattle.kernel_calls.specs.StateWorld.{shim_stop};
+ghost use Rattle.kernel_calls.specs.StateWorld.{shim_stop, world_of};
 ghost use Rattle.worker_pool.specs.Ran.{GrewBy};
-ghost use Rattle.group_rounds.specs.Rounds.{next_round};
+ghost use Rattle.group_rounds.specs.Rounds.{answers_since, next_round};
 ghost use Rattle.group_rounds.specs.StatePlays.{telling};
 ghost use Rattle.group_rounds.specs.Outside.{HaveCauses};
 ghost use Rattle.dos_io.specs.Borders.{BorderState};
@@ -16,6 +16,7 @@ ghost use Rattle.kernel_calls.specs.declared.state.State.{State};
 ghost use Rattle.dpg_run.specs.GroupRuns.{AreEnded, CutGroup, IsCountedIn, PlaysNext, PlaysRounds};
 ghost use Rattle.dpg_run.specs.GroupRuns.{PlaysSome, RanGroup, RunsGroup, StoppedGroup, end_by};
 ghost use Rattle.dpg_run.specs.GroupRuns.{ending_by, has_failed};
+ghost use Rattle.dpg_run.specs.Work.{work_from};
 ghost use Rattle.group_rounds.specs.Kernels.{IsBetweenRounds};
 
 use dos_io::{Border, GroupBorder, Shim, Sink};
@@ -89,33 +90,6 @@ fn is_over(kernel: &Kernel) -> bool
     kernel.rounds() >= kernel.config().rounds
 }
 
-// one round, where the configuration leaves one; else the run ends
-fn run_left<B: Border, W: Workers>(
-    kernel: &mut Kernel,
-    border: &mut B,
-    workers: &mut W,
-) -> Result<Option<Ending>, RunStop>
-    requires running { kernel.old.failed ≡ false }
-    requires told { HasNoEnd (B.state border.old).shim.told }
-    ensures some { PlaysSome kernel.old.config result
-        kernel.old.state (B.state border.old) kernel.new.state (B.state border.new)
-        (W.tally workers.old) (W.tally workers.new) }
-    ensures counted { IfOk result
-        (λ ended. IsCountedIn ended 1 kernel.old.state.round kernel.new.state.round) }
-    ensures told { OnOk result (HasNoEnd (B.state border.new).shim.told) }
-    ensures sound { kernel.new.failed ≡ false → IsBetweenRounds kernel.new.state kernel.new.config }
-    ensures config { kernel.new.config ≡ kernel.old.config }
-    ensures failed { kernel.new.failed ≡ is_err result }
-    ensures follows { B.follows border.old border.new }
-    ensures fixed { W.fixed workers.new ≡ W.fixed workers.old }
-{
-    if is_over(kernel) {
-        Ok(Some(limit_ending(kernel)))
-    } else {
-        run_next(kernel, border, workers)
-    }
-}
-
 /// Runs so many rounds, or fewer where the run ends before that: then it answers how, and else
 /// None. After an `Err` the kernel has failed.
 pub fn run_some<B: Border, W: Workers>(
@@ -140,38 +114,14 @@ pub fn run_some<B: Border, W: Workers>(
 {
     let _state = kernel.state();
     for _round in 0..rounds {
-        if let Some(ending) = run_left(kernel, border, workers)? {
+        if is_over(kernel) {
+            return Ok(Some(limit_ending(kernel)));
+        }
+        if let Some(ending) = run_next(kernel, border, workers)? {
             return Ok(Some(ending));
         }
     }
     Ok(None)
-}
-
-// the rounds of a run, as many as its configuration leaves
-fn run_rounds<B: Border, W: Workers>(
-    kernel: &mut Kernel,
-    border: &mut B,
-    workers: &mut W,
-) -> Result<Ending, RunStop>
-    requires running { kernel.old.failed ≡ false }
-    requires told { HasNoEnd (B.state border.old).shim.told }
-    ensures plays { PlaysRounds kernel.old.config result
-        kernel.old.state (B.state border.old) kernel.new.state (B.state border.new)
-        (W.tally workers.old) (W.tally workers.new) }
-    ensures told { OnOk result (HasNoEnd (B.state border.new).shim.told) }
-    ensures sound { kernel.new.failed ≡ false → IsBetweenRounds kernel.new.state kernel.new.config }
-    ensures config { kernel.new.config ≡ kernel.old.config }
-    ensures failed { kernel.new.failed ≡ is_err result }
-    ensures follows { B.follows border.old border.new }
-    ensures fixed { W.fixed workers.new ≡ W.fixed workers.old }
-{
-    let _state = kernel.state();
-    let rounds = kernel.config().rounds;
-    let ended = run_some(kernel, border, workers, rounds)?;
-    match ended {
-        Some(ending) => Ok(ending),
-        None => Ok(limit_ending(kernel)),
-    }
 }
 
 /// Tells the shim the end of a run whose rounds have ended so.
@@ -198,7 +148,7 @@ pub fn tell_end<B: Border>(
     }
 }
 
-// a run of rounds, and the shim is told its end
+// as many rounds as the configuration leaves, and the shim is told the end
 fn run_over<B: Border, W: Workers>(
     kernel: &mut Kernel,
     border: &mut B,
@@ -215,14 +165,21 @@ fn run_over<B: Border, W: Workers>(
     ensures follows { B.follows border.old border.new }
     ensures fixed { W.fixed workers.new ≡ W.fixed workers.old }
 {
-    match run_rounds(kernel, border, workers) {
-        Ok(ending) => tell_end(kernel, border, ending),
+    let _state = kernel.state();
+    let rounds = kernel.config().rounds;
+    match run_some(kernel, border, workers, rounds) {
+        Ok(Some(ending)) => tell_end(kernel, border, ending),
+        Ok(None) => {
+            let ending = limit_ending(kernel);
+            tell_end(kernel, border, ending)
+        }
         Err(stop) => Err(stop),
     }
 }
 
 /// Runs a group that has run no round to its end, and tells the shim the end. The workers' tally
-/// grows by the run's work, the instructions of all parallel phases.
+/// grows by the run's work, the instructions of all parallel phases, and where the run stops by
+/// those of the rounds until then, the stopped one's with them.
 ///
 /// After a stop at the end the kernel hasn't failed; after any other it has, and nothing more is
 /// said of it. After any stop each sink holds a front of what the machine sends to it; after the
@@ -255,6 +212,9 @@ pub fn run_group<S: Shim, O: Sink, E: Sink, W: Workers>(
         (CutGroup kernel.old.config kernel.old.state
         (telling (S.state shim.old).told (O.told out.old) (E.told err.old))
         (telling (S.state shim.new).told (O.told out.new) (E.told err.new))) }
+    ensures grew { OnErr result (GrewBy (W.tally workers.old) (W.tally workers.new)
+        (work_from (world_of kernel.old.config.quantum kernel.old.state) kernel.old.config
+        (answers_since (S.state shim.old).told (S.state shim.new).told))) }
     ensures told_end { IfOk result
         (λ ending. AreEnded ending (kernel.new.state.round - 1) (S.state shim.new).told) }
     ensures config { kernel.new.config ≡ kernel.old.config }

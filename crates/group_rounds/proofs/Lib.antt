@@ -8,6 +8,7 @@ pub mod TurnLaws
 pub mod Starters
 pub mod PhaseLaws
 pub mod RoundLaws
+pub mod WorkLaws
 pub mod HandingLaws
 pub mod HandingOut
 pub mod PacksRan

@@ -36,7 +36,7 @@ use Rattle.group_rounds.specs.declared.round.RoundEnd.TheVariants.{Went}
 use Rattle.worker_pool.specs.Ran.{GrewBy}
 use Rattle.group_rounds.specs.Parts.{work_between}
 use Rattle.group_rounds.specs.Phases.{ready_in}
-use Rattle.group_rounds.specs.Rounds.{AreStarters, end_in, work_in}
+use Rattle.group_rounds.specs.Rounds.{AreStarters, end_in, phase_work, work_by, work_in}
 use Rattle.group_rounds.specs.Rounds.{rest_of_round}
 
 -- ---- the serial phase, and the round counted behind it
@@ -105,6 +105,15 @@ module _ (quantum : ℕ) (start opening halfway : State) (starters : List ℕ)
       (ap ready_threads (sym (sets o e))
       ∙ ready_kept (sent o e (world_of quantum start)) starters ∙ sym ready) ∙ runs quantum o e
 
+  -- what it ran
+  pub phase_ran : (o e : List ℕ) → phase_work (sent o e (world_of quantum start)) ≡ work
+  phase_ran o e =
+      ap (λ ts. budgets (with_budgets (sent o e (world_of quantum start)) ts) ts
+      - budgets (parallel (with_budgets (sent o e (world_of quantum start)) ts)) ts) (sym ready)
+      ∙ ap (λ w. budgets w starters - budgets (parallel w) starters) (sets o e)
+      ∙ ap (λ w. budgets (sent o e (world_of quantum opening)) starters - budgets w starters)
+      (parallel_is o e)
+
   phases_are : (o e : List ℕ)
       → phases (sent o e (world_of quantum start)) starters
       ≡ (serial_of (sent o e (world_of quantum halfway)) starters >>= at_last)
@@ -131,13 +140,13 @@ module _ (quantum : ℕ) (start opening halfway : State) (starters : List ℕ)
       (plays_still quantum (λ w. phases w starters) (λ w. rest_of_round work w starters) start
       halfway before phases_are) k
 
--- the tally grew so, where the phases were run
+-- the tally grew so where the phases were run, and where the run stopped in them
 pub grew_so : (result : Result RoundEnd RunStop) (tally tally_after amount : ℕ)
     → IfOk result (λ end. end ≡ Went) → GrewBy tally tally_after amount
-    → IfOk result (λ end. GrewBy tally tally_after (work_in end amount))
+    → GrewBy tally tally_after (work_by result amount)
 grew_so (Ok end) tally tally_after amount is grew =
     subst (λ end. GrewBy tally tally_after (work_in end amount)) (sym is) grew
-grew_so (Err stop) tally tally_after amount is grew = tt
+grew_so (Err stop) tally tally_after amount is grew = grew
 
 -- ---- what follows the signal point
 

@@ -1,9 +1,10 @@
 -- What it means that a round was run over the kernel's state, or that it has stopped. This
 -- project's own rules.
-use Rattle.std.specs.Prelude.{ℕ, ◌≡◌, ◌+◌, List, [], ◌∷◌, ◌++◌, Some, Result, IfOk, OnErr, OnOk}
+use Rattle.std.specs.Prelude.{ℕ, ◌≡◌, ◌+◌, ◌-◌, List, [], ◌∷◌, ◌++◌, drop, length, map, Some}
+use Rattle.std.specs.Prelude.{Result, Ok, Err, IfOk, OnErr, OnOk}
 use Rattle.dos_world.specs.World.{World, ready_threads}
 use Rattle.dos_world.specs.Signals.{signalled, ripen}
-use Rattle.dos_world.specs.Play.{Play, done, ◌>>=◌, posts_of}
+use Rattle.dos_world.specs.Play.{Answer, Play, done, ◌>>=◌, posts_of}
 use Rattle.dos_world.specs.declared.Post.{Post}
 use Rattle.dos_world.specs.declared.Question.{Question}
 use Rattle.dos_io.specs.Borders.{BorderState, Crosses, StopsAt, exchanged}
@@ -14,7 +15,7 @@ use Rattle.dos_io.specs.Exchanges.{answer_of}
 use Rattle.dos_laws.specs.Plays.{world_ended}
 use Rattle.flat_machine.specs.Rest.{serial_of}
 use Rattle.flat_machine.specs.Round.{RoundEnd as FlatEnd, went, finished, stalled, counted}
-use Rattle.flat_machine.specs.Round.{round_of}
+use Rattle.flat_machine.specs.Round.{budgets, parallel, round_of, with_budgets}
 use Rattle.worker_pool.specs.Ran.{GrewBy}
 use Rattle.kernel_calls.specs.Plays.{Plays}
 use Rattle.kernel_calls.specs.StateWorld.{IsSound, sent, shim_stop, world_of}
@@ -81,15 +82,43 @@ pub record AreStarters (old : State) (told told_after : List Exchange) (kept sta
   pub told_is : told_after ≡ told ++ exchanges
   pub are : (q : ℕ) → starters ≡ starters_after (world_of q old) exchanges kept
 
+-- ---- work
+
+-- how many instructions the parallel phase of the ready threads runs
+abbrev pub phase_work : World → ℕ
+phase_work w =
+    let opening : World = with_budgets w (ready_threads w) in
+    budgets opening (ready_threads w) - budgets (parallel opening) (ready_threads w)
+
+-- How many a round runs that goes over these answers and not to its end. The first answer is its
+-- signals.
+abbrev pub begun_work : World → List Answer → ℕ
+begun_work w [] = 0
+begun_work w (signals ∷ answers) = phase_work (ripen (signalled w (posts_of signals)))
+
+-- the answers that are told more
+abbrev pub answers_since : (told told_after : List Exchange) → List Answer
+answers_since told told_after = map answer_of (drop (length told) told_after)
+
+-- by how much the tally grew in a round that came to this, whose parallel phase ran so much
+abbrev pub work_by : Result RoundEnd RunStop → ℕ → ℕ
+work_by (Ok end) work = work_in end work
+work_by (Err stop) work = work
+
 -- The call plays this play of a round to an end, after so many instructions of its parallel phase,
--- by which the tally grew.
-pub record PlaysRound (quantum : ℕ) (play : World → Play FlatEnd) (result : Result RoundEnd RunStop)
-    (old : State) (before : BorderState) (new : State) (after : BorderState)
-    (tally tally_after : ℕ) : Type 0 where
-  pub work : ℕ
-  pub plays : Plays quantum world_ended play (λ end w. done (end_in end work w)) result old before
-      new after
-  pub grew : IfOk result (λ end. GrewBy tally tally_after (work_in end work))
+-- by which the tally grew. Where it stops, they are those that were begun over the answers that are
+-- told more.
+pub record PlaysRound (quantum : ℕ) (play : World → Play FlatEnd)
+    (begun : World → List Answer → ℕ) (result : Result RoundEnd RunStop) (old : State)
+    (before : BorderState) (new : State) (after : BorderState) (tally tally_after : ℕ) : Type 0
+  where
+    pub work : ℕ
+    pub plays : Plays quantum world_ended play (λ end w. done (end_in end work w)) result old before
+        new after
+    pub until : OnErr result ((o e : List ℕ)
+        → begun (sent o e (world_of quantum old)) (answers_since before.shim.told after.shim.told)
+        ≡ work)
+    pub grew : GrewBy tally tally_after (work_by result work)
 
 -- What it keeps, however it ends: a sound state of as many frames where it answers, with the number
 -- of the next round, and where it stops a round that isn't counted.

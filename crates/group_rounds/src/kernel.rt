@@ -11,7 +11,8 @@ ghost use Rattle.proc_table.specs.Tables.{last_status};
 ghost use Rattle.kernel_calls.specs.Plays.{Plays};
 ghost use Rattle.group_rounds.specs.Kernels.{IsBetweenRounds};
 ghost use Rattle.group_rounds.specs.Phases.{ready_in};
-ghost use Rattle.group_rounds.specs.Rounds.{AreStarters, PlaysRound, next_round};
+ghost use Rattle.group_rounds.specs.Rounds.{AreStarters, PlaysRound, begun_work};
+ghost use Rattle.group_rounds.specs.Rounds.{next_round};
 
 use crate::RoundEnd;
 use crate::packs::Packs;
@@ -140,7 +141,7 @@ impl Kernel {
 }
 
 /// Runs one round: the workers run its parallel phase, and their tally grows by the instructions of
-/// it. After an `Err` the kernel has failed, the round isn't counted, and nothing more is said of
+/// it, also where the round then stops. After an `Err` the kernel has failed, the round isn't counted, and nothing more is said of
 /// its state.
 pub fn run_round<B: Border, W: Workers>(
     kernel: &mut Kernel,
@@ -150,7 +151,8 @@ pub fn run_round<B: Border, W: Workers>(
     requires running { kernel.old.failed ≡ false }
     requires limit { kernel.old.state.round ≤ kernel.old.config.rounds }
     requires told { HasNoEnd (B.state border.old).shim.told }
-    ensures plays { PlaysRound kernel.old.config.quantum (λ w. round_of w) result
+    ensures plays { PlaysRound kernel.old.config.quantum (λ w. round_of w)
+        (λ w answers. begun_work w answers) result
         kernel.old.state (B.state border.old) kernel.new.state (B.state border.new)
         (W.tally workers.old) (W.tally workers.new) }
     ensures round { IfOk result

@@ -8,13 +8,14 @@ ghost use Rattle.dos_io.specs.Borders.{Crosses, exchanged};
 ghost use Rattle.dos_io.specs.Shims.{HasNoEnd};
 ghost use Rattle.dos_io.specs.declared.exchange.Exchange.TheVariants.{Signals as signals_exchange};
 ghost use Rattle.dos_laws.specs.Plays.{world_ended};
-ghost use Rattle.flat_machine.specs.Round.{begun, phases, round_of};
+ghost use Rattle.flat_machine.specs.Round.{begun, round_of};
 ghost use Rattle.kernel_calls.specs.Plays.{Plays};
 ghost use Rattle.kernel_calls.specs.StateWorld.{HaveParts, IsSound, sent, world_of};
 ghost use Rattle.group_rounds.specs.Parts.{KeepsCount};
 ghost use Rattle.group_rounds.specs.Phases.{ready_in};
 ghost use Rattle.group_rounds.specs.Rounds.{AreStarters, HasOpened, KeepsRound, PlaysRound};
-ghost use Rattle.group_rounds.specs.Rounds.{StopsRun, end_in, rest_of_round};
+ghost use Rattle.group_rounds.specs.Rounds.{StopsRun, begun_work, end_in, phase_work};
+ghost use Rattle.group_rounds.specs.Rounds.{rest_of_round};
 ghost use Rattle.group_rounds.specs.declared.round.RoundEnd.TheVariants.{Went};
 
 use crate::packs::Packs;
@@ -130,35 +131,7 @@ fn finish_round<B: Border>(
     }
 }
 
-// the phases of a round with these starters, and the round counted
-fn run_phases<B: Border, W: Workers>(
-    state: &mut State,
-    starters: &[u32],
-    packs: &mut Packs,
-    quantum: u32,
-    border: &mut B,
-    workers: &mut W,
-) -> Result<RoundEnd, RunStop>
-    requires sound { IsSound state.old }
-    requires level { packs.old ≡ length state.old.frames.owners }
-    requires few { length starters.now ≤ 64 }
-    requires ready { starters.now ≡ ready_in state.old.table.threads }
-    requires limit { state.old.round ≤ 1000000 }
-    requires told { HasNoEnd (B.state border.old).shim.told }
-    ensures plays { PlaysRound quantum (λ w. phases w starters.now) result
-        state.old (B.state border.old) state.new (B.state border.new)
-        (W.tally workers.old) (W.tally workers.new) }
-    ensures packs { packs.new ≡ packs.old }
-    ensures keeps { KeepsRound result state.old state.new }
-    ensures follows { B.follows border.old border.new }
-    ensures fixed { W.fixed workers.new ≡ W.fixed workers.old }
-{
-    set_budgets(state, starters, quantum);
-    packs.run(state, starters, workers);
-    finish_round(state, starters, border)
-}
-
-// what follows the signal point, with these starters
+// what follows the signal point, with these starters: the phases, and the round counted
 fn play_begun<B: Border, W: Workers>(
     state: &mut State,
     starters: &[u32],
@@ -173,7 +146,7 @@ fn play_begun<B: Border, W: Workers>(
     requires ready { starters.now ≡ ready_in state.old.table.threads }
     requires limit { state.old.round ≤ 1000000 }
     requires told { HasNoEnd (B.state border.old).shim.told }
-    ensures plays { PlaysRound quantum (λ w. begun w) result
+    ensures plays { PlaysRound quantum (λ w. begun w) (λ w answers. phase_work w) result
         state.old (B.state border.old) state.new (B.state border.new)
         (W.tally workers.old) (W.tally workers.new) }
     ensures packs { packs.new ≡ packs.old }
@@ -187,7 +160,9 @@ fn play_begun<B: Border, W: Workers>(
     if starters.is_empty() {
         return Ok(RoundEnd::Stalled);
     }
-    run_phases(state, starters, packs, quantum, border, workers)
+    set_budgets(state, starters, quantum);
+    packs.run(state, starters, workers);
+    finish_round(state, starters, border)
 }
 
 /// One round over the state under a quantum, its starters gathered into `starters`.
@@ -206,7 +181,7 @@ pub(crate) fn play_round<B: Border, W: Workers>(
     requires room { 64 ≤ vec_capacity starters.old }
     requires limit { state.old.round ≤ 1000000 }
     requires told { HasNoEnd (B.state border.old).shim.told }
-    ensures plays { PlaysRound quantum (λ w. round_of w) result
+    ensures plays { PlaysRound quantum (λ w. round_of w) (λ w answers. begun_work w answers) result
         state.old (B.state border.old) state.new (B.state border.new)
         (W.tally workers.old) (W.tally workers.new) }
     ensures starters { OnOk result

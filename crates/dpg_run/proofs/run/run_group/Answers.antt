@@ -43,6 +43,7 @@ returns g c =
       limit = e.limit;
       asks = runs.asks;
       cut = runs.cut;
+      grew = runs.grew;
       told_end = runs.told_end;
       config = e.config;
       failed = runs.failed;

@@ -66,7 +66,7 @@ returns-in-Err g c =
           c.state-state.ensures.state
           (c.state-state.ensures.sound c.requires.running)).sound.counted.round
           c.requires.limit
-          c.in-Err.stop round.work round.plays;
+          c.in-Err.stop round.work round.plays round.until round.grew;
       round = tt;
       uncounted = c.in-Err.ensures.uncounted;
       told = tt;

@@ -1,43 +1,36 @@
-use Rattle.std.proofs.Common.{◌∙◌, ap}
+use Rattle.std.proofs.Common.{◌≡◌, ◌≤◌, ◌-◌, ◌∙◌, ap, arith, subst, ℕ, None, Ok, Option, Some}
 use Rattle.std.specs.Prelude.{is_err}
-use Rattle.dpg_run.proofs.RoundsRun.{runs_stopped, within_limit}
+use Rattle.dos_world.specs.declared.Config.{Config}
+use Rattle.dos_world.specs.declared.Ending.{Ending}
+use Rattle.dpg_run.specs.GroupRuns.{IsCountedIn}
+use Rattle.dpg_run.proofs.RoundsRun.{all_err, all_ok, between_here, runs_stopped, some_over}
+use Rattle.dpg_run.proofs.RoundsRun.{some_then, within_limit}
 use Rattle.dpg_run.proofs.run.run_over.Goals as goal
 
-pub run_rounds-requires-clause-running : goal.run_rounds-requires-clause-running
-run_rounds-requires-clause-running g c = λ κs alive. c.requires.running
+-- as many rounds as there may be leave none
+none_left : (config here read : Config) (start now : ℕ) → read ≡ config → here ≡ config
+    → 1 ≤ start → now ≡ start + read.rounds → here.rounds ≤ now - 1
+none_left config here read start now same kept first counted =
+    let r = ap (λ (c : Config). c.rounds) same in
+    let h = ap (λ (c : Config). c.rounds) kept in
+    omega (arith, r, h, first, counted)
 
-pub run_rounds-requires-clause-told : goal.run_rounds-requires-clause-told
-run_rounds-requires-clause-told g c = λ κs alive. c.requires.told
+pub run_some-requires-clause-running : goal.run_some-requires-clause-running
+run_some-requires-clause-running g c = λ κs alive. c.requires.running
 
-pub tell_end-requires : goal.tell_end-requires
-tell_end-requires g c = c.in-Ok.ensures.told
-
-pub returns-in-Ok : goal.returns-in-Ok
-returns-in-Ok g c =
-    let running = c.run_rounds.ensures.failed ∙ ap is_err c.in-Ok.is in
-    let runs = c.tell_end.ensures.runs c.args.kernel.now.config c.args.kernel.now.state
-    (g.B.Border.state c.args.border.now) (g.W.Workers.tally c.args.workers.now)
-    (g.W.Workers.tally c.run_rounds.new.workers) running c.in-Ok.ensures.plays in
-    record {
-      runs = runs;
-      sound = c.run_rounds.ensures.sound;
-      limit = within_limit c.tell_end.result _ c.run_rounds.new.kernel.failed
-          c.run_rounds.new.kernel.state c.run_rounds.new.kernel.config c.args.kernel.now.config
-          runs.failed c.run_rounds.ensures.sound c.run_rounds.ensures.config;
-      config = c.run_rounds.ensures.config;
-      follows = g.met.B.Border.transitive _ _ _ c.run_rounds.ensures.follows
-          c.tell_end.ensures.follows;
-      fixed = c.run_rounds.ensures.fixed;
-    }
+pub run_some-requires-clause-told : goal.run_some-requires-clause-told
+run_some-requires-clause-told g c = λ κs alive. c.requires.told
 
 pub returns-in-Err : goal.returns-in-Err
 returns-in-Err g c = record {
   runs = runs_stopped c.args.kernel.now.config c.args.kernel.now.state
-      c.run_rounds.new.kernel.state _ _ c.in-Err.stop c.run_rounds.new.kernel.failed _ _
-      (c.run_rounds.ensures.failed ∙ ap is_err c.in-Err.is) c.in-Err.ensures.plays;
-  sound = c.run_rounds.ensures.sound;
+      c.run_some.new.kernel.state _ _ c.in-Err.stop c.run_some.new.kernel.failed _ _
+      (c.run_some.ensures.failed ∙ ap is_err c.in-Err.is)
+      (all_err c.args.kernel.now.config _ c.args.kernel.now.state c.run_some.new.kernel.state _ _
+      _ _ c.in-Err.ensures.some);
+  sound = c.run_some.ensures.sound;
   limit = tt;
-  config = c.run_rounds.ensures.config;
-  follows = c.run_rounds.ensures.follows;
-  fixed = c.run_rounds.ensures.fixed;
+  config = c.run_some.ensures.config;
+  follows = c.run_some.ensures.follows;
+  fixed = c.run_some.ensures.fixed;
 }

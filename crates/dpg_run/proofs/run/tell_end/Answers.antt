@@ -6,7 +6,11 @@ use Rattle.dos_io.proofs.OutsideLaws.{grown-nothing}
 use Rattle.kernel_calls.proofs.ServicePlays.{stopped_by}
 use Rattle.kernel_calls.proofs.Playing.{shim_fails_then, stands_then}
 use Rattle.group_rounds.proofs.PlayCauses.{Fails, causes_err, causes_ok}
-use Rattle.dpg_run.proofs.RoundsRun.{end_told, end_stops, end_cut, ran_rounds, stands_at_end}
+use Rattle.kernel_calls.specs.StateWorld.{world_of}
+use Rattle.group_rounds.specs.Rounds.{answers_since}
+use Rattle.dpg_run.specs.Work.{work_from}
+use Rattle.dpg_run.proofs.RoundsRun.{end_told, end_stops, end_cut, grew_by, ran_rounds}
+use Rattle.dpg_run.proofs.RoundsRun.{stands_at_end}
 use Rattle.dpg_run.proofs.SteadySinks.{err_stands, out_stands}
 use Rattle.dpg_run.proofs.run.tell_end.Goals as goal
 
@@ -35,6 +39,7 @@ returns-in-Ok g c =
             );
             asks = tt;
             cut = tt;
+            grew = tt;
             told_end = record {
               before = (g.B.Border.state c.args.border.now).shim.told;
               told_is = told_is;
@@ -72,6 +77,11 @@ returns-in-Err g c =
                 c.rounds.ensures));
             cut = end_cut config start s _ _ c.args.ending rounds.work ran _ stop.shim.told
                 (stop.told Output) (stop.told Error);
+            grew = grew_by config start before (g.B.Border.state c.end.new.self) tally tally_after
+                rounds.work
+                (ap (λ told. work_from (world_of config.quantum start) config
+                (answers_since before.shim.told told)) stop.shim.told ∙ rounds.worked)
+                rounds.grew;
             told_end = tt;
             failed = stands_at_end _ c.in-Err.stop _ _ _ _ running c.run_stop.ensures
                 stop.shim.asked;

@@ -2,7 +2,7 @@ use Rattle.std.proofs.Common.{◌≡◌, ◌≤◌, ◌∙◌, ap, sym, subst}
 use Rattle.std.specs.Prelude.{IfOk, OnErr, OnOk}
 use Rattle.flat_machine.specs.Round.{round_of}
 use Rattle.group_rounds.specs.Kernels.{Held}
-use Rattle.group_rounds.specs.Rounds.{AreStarters, PlaysRound, next_round}
+use Rattle.group_rounds.specs.Rounds.{AreStarters, PlaysRound, begun_work, next_round}
 use Rattle.group_rounds.proofs.ServesLaws.{keeps_between, round_follows}
 use Rattle.group_rounds.proofs.kernel.run_round.Goals as goal
 
@@ -34,8 +34,8 @@ returns g c =
     let between = c.kernel.invariant.3 (ap (λ (k : Held). k.failed) view ∙ c.requires.running) in
     let limit = subst (λ (k : Held). k.state.round ≤ k.config.rounds) (sym view) c.requires.limit in
     record {
-      plays = subst (λ (k : Held). PlaysRound k.config.quantum (λ w. round_of w) result k.state
-          before new after (g.W.Workers.tally c.args.workers.now)
+      plays = subst (λ (k : Held). PlaysRound k.config.quantum (λ w. round_of w)
+          (λ w answers. begun_work w answers) result k.state before new after (g.W.Workers.tally c.args.workers.now)
           (g.W.Workers.tally c.play_round-result.new.workers)) view e.plays;
       round = subst (λ (k : Held). IfOk result (λ end. new.round ≡ next_round end k.state.round))
           view e.keeps.round;

@@ -1,4 +1,4 @@
-use Rattle.std.proofs.Common.{ℕ, ◌≢◌, is_some, ◌≤◌, refl, sym, ◌∙◌, subst, length}
+use Rattle.std.proofs.Common.{ℕ, ◌≢◌, is_some, ◌≤◌, refl, sym, ap, ◌∙◌, subst, length}
 use Rattle.std.specs.Prelude.{Result, Ok, Err, IfOk, OnOk}
 use Rattle.dos_world.specs.Numbered.{numbers_of}
 use Rattle.dos_world.specs.Play.{done}
@@ -7,11 +7,13 @@ use Rattle.dos_laws.specs.Plays.{world_ended}
 use Rattle.flat_machine.specs.Round.{begun, round_of}
 use Rattle.worker_pool.proofs.Growing.{grew-nothing}
 use Rattle.kernel_calls.proofs.Playing.{no_end_then, plays_after}
-use Rattle.group_rounds.specs.Rounds.{end_in}
+use Rattle.kernel_calls.specs.StateWorld.{sent, world_of}
+use Rattle.group_rounds.specs.Rounds.{begun_work, end_in}
 use Rattle.group_rounds.specs.declared.round.RoundEnd.TheVariants.{Done}
 use Rattle.group_rounds.proofs.RoundLaws.{nobody_starts, round_began, round_begins, round_done}
 use Rattle.group_rounds.proofs.RoundLaws.{round_stops}
 use Rattle.group_rounds.proofs.ServesLaws.{keeps_still, keeps_then}
+use Rattle.group_rounds.proofs.WorkLaws.{round_until, since_nothing}
 use Rattle.group_rounds.proofs.round.play_round.Goals as goal
 
 pub returns-then-live_threads-eq0 : goal.returns-then-live_threads-eq0
@@ -23,6 +25,7 @@ returns-then-live_threads-eq0 g c = record {
           (sym c.live_threads.ensures ∙ c.if-live_threads-eq0.true);
       stops = tt;
     };
+    until = tt;
     grew = grew-nothing (g.W.Workers.tally c.args.workers.now);
   };
   starters = nobody_starts c.args.state.now (g.B.Border.state c.args.border.now).shim.told
@@ -49,7 +52,9 @@ returns-in-Err g c =
           stops = round_stops c.args.quantum s c.requires.sound live c.in-Err.stop stopped.reason
               _ _ stopped.is stopped.stopped;
         };
-        grew = tt;
+        until = λ o e. ap (begun_work (sent o e (world_of c.args.quantum s)))
+            (since_nothing _ _ stopped.stopped.shim.told);
+        grew = grew-nothing (g.W.Workers.tally c.args.workers.now);
       };
       starters = tt;
       room = c.open_round.ensures.room;
@@ -115,6 +120,8 @@ returns-in-Ok g c =
         plays = plays_after q world_ended (λ w. round_of w) (λ w. begun w)
             (λ end w. done (end_in end k.work w)) result s s' last _ _ _
             (round_begins q s sound live opened.list s' opened.begins _ _ opened.crosses) k.plays;
+        until = round_until q s s' last opened.list opened.begins (λ w. begun w) _ _ _
+            opened.crosses result k.work k.plays.stops k.until;
         grew = k.grew;
       };
       starters = on_ok result _ _
