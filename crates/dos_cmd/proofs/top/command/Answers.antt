@@ -14,6 +14,7 @@ returns-in_err-request g c =
           (says_nothing _ refl refl (λ n. refl) refl refl);
       files_later = le_refl _;
       host_later = le_refl _;
+      host_steady = λ _. refl;
       out_later = le_refl _;
       err_later = le_refl _;
       out_steady = λ _. refl;
@@ -34,6 +35,7 @@ returns g c =
           (leaves_hired _ _ _ _ _ ended.leaves c.hire.ensures.tally);
       files_later = ended.files_later;
       host_later = ended.host_later;
+      host_steady = ended.host_steady;
       out_later = ended.out_later;
       err_later = ended.err_later;
       out_steady = ended.out_steady;
