@@ -7,7 +7,7 @@ use Rattle.dos_world.specs.World.{World}
 use Rattle.dos_world.specs.declared.Config.{Config}
 use Rattle.dos_world.specs.declared.Ending.{Ending}
 use Rattle.dos_io.specs.Exchanges.{question_of, answer_of}
-use Rattle.dos_io.specs.Hosts.{Told}
+use Rattle.logged_runs.specs.Recording.{HostSeen}
 use Rattle.dos_io.specs.Outside.{grown, GrewByFront, Rose}
 use Rattle.dos_io.specs.Quiet.{Quietness, shown_by, FollowsQuietly}
 use Rattle.dos_io.specs.Shims.{ShimState}
@@ -188,7 +188,7 @@ never_without_room number threads images config why these this few h =
 
 -- It ran out of memory, and nothing was put.
 pub leaves_memory : (number threads n : ℕ) (tells : Bool) (f : Text → Option (List ℕ))
-    (h : Option Told) (out e : Option (List ℕ)) (tally : ℕ) (counts : Faults) (why : Refusal)
+    (h : HostSeen) (out e : Option (List ℕ)) (tally : ℕ) (counts : Faults) (why : Refusal)
     → why ≡ refusals.Memory
     → Leaves (requests.Gen number threads n) (outside tells f f h h out out e e tally tally)
     counts why []
@@ -200,7 +200,7 @@ leaves_memory number threads n tells f h out e tally counts why is =
 
 -- It ran out of memory in its run, and nothing was put.
 pub leaves_stopped : (number threads n : ℕ) (tells : Bool) (f : Text → Option (List ℕ))
-    (h : Option Told) (out e : Option (List ℕ)) (tally tally' : ℕ) (counts : Faults)
+    (h : HostSeen) (out e : Option (List ℕ)) (tally tally' : ℕ) (counts : Faults)
     (why : Refusal) → why ≡ refusals.Memory
     → Leaves (requests.Gen number threads n) (outside tells f f h h out out e e tally tally')
     counts why []
@@ -233,7 +233,7 @@ module _ (number threads : ℕ) (kernel' : Held) (ending : Ending) (count : ℕ)
     tally') where
   pub gen_did : out' ≡ grown out (summary_of (map status_in kernel'.state.table.processes)
       (kernel'.state.round - 1) ending count digest)
-      → (n : ℕ) (tells : Bool) (f : Text → Option (List ℕ)) (h : Option Told)
+      → (n : ℕ) (tells : Bool) (f : Text → Option (List ℕ)) (h : HostSeen)
       (e : Option (List ℕ)) → Begun (requests.Gen number threads n)
       (outside tells f f h h out out' e e tally tally')
       (λ taken. Did (requests.Gen number threads n) taken (ending_status ending)
@@ -258,7 +258,7 @@ module _ (number threads : ℕ) (kernel' : Held) (ending : Ending) (count : ℕ)
   pub gen_cut : (oc oc' : ℕ) → Rose oc oc'
       → GrewByFront out out' (summary_of (map status_in kernel'.state.table.processes)
       (kernel'.state.round - 1) ending count digest)
-      → (n : ℕ) (tells : Bool) (f : Text → Option (List ℕ)) (h : Option Told)
+      → (n : ℕ) (tells : Bool) (f : Text → Option (List ℕ)) (h : HostSeen)
       (e : Option (List ℕ)) (k l m : ℕ) → Leaves (requests.Gen number threads n)
       (outside tells f f h h out out' e e tally tally') (faults k k l l oc oc' m m) refusals.Sink []
   gen_cut oc oc' rose front = λ n tells f h e k l m. (

@@ -5,7 +5,7 @@ use Rattle.std.proofs.Common.{arith}
 use Rattle.std.specs.Prelude.{IfOk, IfErr, IfSome, IsTrue, OnOk, nat_lt, option_map}
 use Rattle.std.proofs.lemmas.Bool.{le-ltb}
 use Rattle.std.proofs.lemmas.Bool.Decides.{nat_tests}
-use Rattle.dos_io.specs.Hosts.{Told}
+use Rattle.logged_runs.specs.Recording.{HostSeen}
 use Rattle.dos_io.specs.Outside.{GrewByFront, Rose}
 use Rattle.dos_io.proofs.OutsideLaws.{grown-nothing}
 use Rattle.dos_world.specs.declared.Ending.{Ending}
@@ -157,10 +157,10 @@ module _ (name to : Text) (log : Log) (tells read_tells : Bool)
     (stays : (n : Text) → read n ≡ files n) (same : read_tells ≡ tells)
     (accepted : IfSome (files name) (λ file. log_verdict file ≡ Ok log))
     (r : Result Ending Refusal) where
-  abbrev seen : (h : Option Told) (e : Option (List ℕ)) (t : ℕ) → Outside
+  abbrev seen : (h : HostSeen) (e : Option (List ℕ)) (t : ℕ) → Outside
   seen h e t = outside tells files after h h out out' e e t t
 
-  begun : (h : Option Told) (e : Option (List ℕ)) (t : ℕ) (P : Taken → Type 0)
+  begun : (h : HostSeen) (e : Option (List ℕ)) (t : ℕ) (P : Taken → Type 0)
       → length (migrated_text log) ≤ most_bytes → P (taken_log log)
       → Begun (Migrate name to) (seen h e t) P
   begun h e t P fits so = record {
@@ -171,7 +171,7 @@ module _ (name to : Text) (log : Log) (tells read_tells : Bool)
 
   pub migrate_did : IfOk r (λ ending. ending ≡ Done)
       → OnOk r (DoesMigrate log to read_tells read after out out')
-      → (h : Option Told) (e : Option (List ℕ)) (t : ℕ) → IfOk r (λ ending.
+      → (h : HostSeen) (e : Option (List ℕ)) (t : ℕ) → IfOk r (λ ending.
       Begun (Migrate name to) (seen h e t)
       (λ taken. Did (Migrate name to) taken (ending_status ending) (seen h e t)))
   migrate_did ends does h e t = by_result r ends does
@@ -200,7 +200,7 @@ module _ (name to : Text) (log : Log) (tells read_tells : Bool)
 
   pub migrate_leaves : (k k' k'' n n' : ℕ) → k ≤ k'
       → IfErr r (λ why. LeavesMigration log to why read_tells read after out out' k' k'' n n')
-      → (h : Option Told) (e : Option (List ℕ)) (t l m : ℕ) → IfErr r (λ why.
+      → (h : HostSeen) (e : Option (List ℕ)) (t l m : ℕ) → IfErr r (λ why.
       Leaves (Migrate name to) (seen h e t) (faults k k'' l l n n' m m) why [])
   migrate_leaves k k' k'' n n' later leaves h e t l m = by_result r leaves
     where

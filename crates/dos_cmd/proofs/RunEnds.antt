@@ -63,9 +63,9 @@ Until plan o stop = (output : List ℕ) × (error : List ℕ)
     × Put o.out o.err o.out_after o.err_after output error
 
 -- so where an output failed
-abbrev pub Ahead : Plan → Outside → Type 0
-Ahead plan o = (output : List ℕ) × (error : List ℕ)
-    × RecordedAhead plan o.host o.host_after output error
+abbrev pub Ahead : Plan → Outside → RunStop → Type 0
+Ahead plan o stop = (output : List ℕ) × (error : List ℕ)
+    × RecordedAhead plan o.host o.host_after stop output error
     × Put o.out o.err o.out_after o.err_after output error
 
 stopped_run : (asked : RunAsked) (images : List Image) (o : Outside) (plan : Plan)
@@ -84,11 +84,14 @@ stopped_run asked images o plan stop planned stay until = record {
   files_stay = stay;
 }
 
-cut_run : (asked : RunAsked) (images : List Image) (o : Outside) (plan : Plan)
-    → IsPlanned asked images o plan → FilesStay o → Ahead plan o → CutRun asked images o
-cut_run asked images o plan planned stay ahead = record {
+cut_run : (asked : RunAsked) (images : List Image) (o : Outside) (plan : Plan) (stop : RunStop)
+    → shim_stop stop ≡ None → IsPlanned asked images o plan → FilesStay o → Ahead plan o stop
+    → CutRun asked images o
+cut_run asked images o plan stop output planned stay ahead = record {
   plan = plan;
   planned = planned;
+  stop = stop;
+  by_output = output;
   output = ahead.0;
   error = ahead.1;
   recorded = ahead.2;
@@ -97,14 +100,14 @@ cut_run asked images o plan planned stay ahead = record {
 }
 
 stopped_so : (asked : RunAsked) (images : List Image) (o : Outside) (f : Faults) (plan : Plan)
-    (stop : RunStop) → IfSome (shim_stop stop) (Until plan o) → Ahead plan o
+    (stop : RunStop) → IfSome (shim_stop stop) (Until plan o) → Ahead plan o stop
     → (stop ≡ stops.HostFault → Rose f.host f.host_after)
     → HasSinkCause stop f.out f.out_after f.err f.err_after → IsPlanned asked images o plan
     → FilesStay o → LeavesRun asked images o f (refusal_by stop)
 stopped_so asked images o f plan stops.OutFault until ahead host sink planned stay =
-    (inl sink, inl (cut_run asked images o plan planned stay ahead))
+    (inl sink, inl (cut_run asked images o plan stops.OutFault refl planned stay ahead))
 stopped_so asked images o f plan stops.ErrFault until ahead host sink planned stay =
-    (inr sink, inl (cut_run asked images o plan planned stay ahead))
+    (inr sink, inl (cut_run asked images o plan stops.ErrFault refl planned stay ahead))
 stopped_so asked images o f plan stops.HostFault until ahead host sink planned stay =
     (host refl, stopped_run asked images o plan shims.HostFault planned stay until)
 stopped_so asked images o f plan stops.LogFull until ahead host sink planned stay =
@@ -126,7 +129,8 @@ pub run_stopped : (o : Outside) (f : Faults) (kernel : Held) (ledger : LedgerSta
     (stop : RunStop) (why : Refusal) → why ≡ refusal_by stop
     → IfSome (shim_stop stop) (λ s. (i : List Image) (c : Config) → IsOpenedWith kernel i c
     → Until (plan_of i c ledger) o s)
-    → ((i : List Image) (c : Config) → IsOpenedWith kernel i c → Ahead (plan_of i c ledger) o)
+    → ((i : List Image) (c : Config) → IsOpenedWith kernel i c
+    → Ahead (plan_of i c ledger) o stop)
     → (stop ≡ stops.HostFault → Rose f.host f.host_after)
     → HasSinkCause stop f.out f.out_after f.err f.err_after → FilesStay o → (asked : RunAsked)
     (images : List Image) → IsPrepared asked images kernel ledger name o

@@ -1,4 +1,5 @@
--- The outputs' counts of faults stand, unless an output's fault is why a call comes to no report.
+-- The outputs' counts of faults and the host's stand, unless such a fault is why a call comes to no
+-- report.
 use Rattle.std.proofs.Common.{◌≡◌, refl, ap, ◌∙◌, ℕ, Result, Ok, Err}
 use Rattle.std.specs.Prelude.{IfErr, OnOk}
 use Rattle.dos_world.specs.declared.Ending.{Ending}
@@ -37,6 +38,27 @@ outputs_steady {T} stop why out out_after err err_after is outs errs other =
     by_stop stops.OutFault outs errs other = absurd (other refl)
     by_stop stops.ErrFault outs errs other = absurd (other refl)
     by_stop stop outs errs other = (outs (λ is. cc), errs (λ is. cc))
+
+-- where it isn't the host's fault, the host's count stands
+pub no_host : (T : Type 0) (why : Refusal) → (why ≡ refusals.Host → ⊥)
+    → ◌≡◌ {A = Result T Refusal} (Err why) (Err refusals.Host) → ⊥
+no_host T why other is = let same : why ≡ refusals.Host = cc in other same
+
+pub host_steady : {T : Type 0} (stop : RunStop) (why : Refusal) (host host_after : ℕ)
+    → why ≡ refusal_by stop
+    → ((◌≡◌ {A = Result T RunStop} (Err stop) (Err stops.HostFault) → ⊥) → host_after ≡ host)
+    → (◌≡◌ {A = Result Ending Refusal} (Err why) (Err refusals.Host) → ⊥) → host_after ≡ host
+host_steady {T} stop why host host_after is steady other =
+    by_stop stop steady (λ fault. other (ap wrapped (is ∙ fault)))
+  where
+    wrapped : Refusal → Result Ending Refusal
+    wrapped r = Err r
+
+    by_stop : (stop : RunStop)
+        → ((◌≡◌ {A = Result T RunStop} (Err stop) (Err stops.HostFault) → ⊥) → host_after ≡ host)
+        → (refusal_by stop ≡ refusals.Host → ⊥) → host_after ≡ host
+    by_stop stops.HostFault steady other = absurd (other refl)
+    by_stop stop steady other = steady (λ is. cc)
 
 -- a report that was put
 pub report_steady : (r : Result Ending Refusal) (err err_after : ℕ)

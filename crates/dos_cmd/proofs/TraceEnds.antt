@@ -2,7 +2,7 @@
 use Rattle.std.proofs.Common.{◌≡◌, ◌≤◌, inl, inr, ℕ, Bool, List, [], map, Option, Some, None}
 use Rattle.std.proofs.Common.{Result, Ok, Err, sym, ap, ◌∙◌, subst, refl, true}
 use Rattle.std.specs.Prelude.{IfSome, IfOk, IfErr, OnOk, OnErr}
-use Rattle.dos_io.specs.Hosts.{Told}
+use Rattle.logged_runs.specs.Recording.{HostSeen}
 use Rattle.dos_io.specs.Outside.{grown, GrewByFront, HasCause}
 use Rattle.dos_io.proofs.OutsideLaws.{grown-nothing}
 use Rattle.dos_world.specs.declared.Config.{Config}
@@ -106,7 +106,7 @@ module _ (log : Log) (images : List Image) (kernel after : Held) (ending : Endin
     → TracedWhole i log after ending out out1 tally tally1) where
   pub trace_did : (r : Result Ending Refusal) → IfOk r (λ ended. ended ≡ ending)
       → OnOk r (err1 ≡ grown err (report_in (kernel_world after) ending))
-      → IfOk r (λ ended. (tells : Bool) (f f' : Text → Option (List ℕ)) (h : Option Told)
+      → IfOk r (λ ended. (tells : Bool) (f f' : Text → Option (List ℕ)) (h : HostSeen)
       → ((n : Text) → f' n ≡ f n) → DidTrace log images (ending_status ended)
       (outside tells f f' h h out out1 err err1 tally tally1))
   trace_did (Err why) same told = tt
@@ -128,7 +128,7 @@ module _ (log : Log) (images : List Image) (kernel after : Held) (ending : Endin
       → needed images ≤ log.header.frames → IfErr r (λ why. why ≡ refusals.Sink)
       → HasCause ec ec1 r
       → OnErr r (GrewByFront err err1 (report_in (kernel_world after) ending))
-      → IfErr r (λ why. (tells : Bool) (f f' : Text → Option (List ℕ)) (h : Option Told)
+      → IfErr r (λ why. (tells : Bool) (f f' : Text → Option (List ℕ)) (h : HostSeen)
       (k k' m : ℕ) → ((n : Text) → f' n ≡ f n) → LeavesTrace log images
       (outside tells f f' h h out out1 err err1 tally tally1) (faults k k' m m oc oc1 ec ec1) why)
   trace_cut oc oc1 ec ec1 (Ok ended) fits sink cause front = tt
@@ -156,10 +156,10 @@ pub trace_begun : (log : Log) (images : List Image) (name : Text) (names : List 
     (tally tally1 : ℕ) (r : Result Ending Refusal)
     → IfSome (replay_judgement (f name) (map f names)) (λ j. j ≡ agreed log images None)
     → OnOk r (needed images ≤ log.header.frames) → ((n : Text) → f' n ≡ f n)
-    → IfOk r (λ ended. (tells : Bool) (f f' : Text → Option (List ℕ)) (h : Option Told)
+    → IfOk r (λ ended. (tells : Bool) (f f' : Text → Option (List ℕ)) (h : HostSeen)
     → ((n : Text) → f' n ≡ f n) → DidTrace log images (ending_status ended)
     (outside tells f f' h h out out1 err err1 tally tally1))
-    → (n : ℕ) (h : Option Told) → IfOk r (λ ended. Begun (requests.Trace n name names)
+    → (n : ℕ) (h : HostSeen) → IfOk r (λ ended. Begun (requests.Trace n name names)
     (outside tells f f' h h out out1 err err1 tally tally1)
     (λ taken. Did (requests.Trace n name names) taken (ending_status ended)
     (outside tells f f' h h out out1 err err1 tally tally1)))
@@ -205,10 +205,10 @@ pub trace_leaves : (log : Log) (images : List Image) (name : Text) (names : List
     (tally tally1 k k' oc oc1 ec ec1 : ℕ) (r : Result Ending Refusal)
     → IfSome (replay_judgement (f name) (map f names)) (λ j. j ≡ agreed log images None)
     → ((n : Text) → f' n ≡ f n)
-    → IfErr r (λ why. (tells : Bool) (f f' : Text → Option (List ℕ)) (h : Option Told)
+    → IfErr r (λ why. (tells : Bool) (f f' : Text → Option (List ℕ)) (h : HostSeen)
     (k k' m : ℕ) → ((n : Text) → f' n ≡ f n) → LeavesTrace log images
     (outside tells f f' h h out out1 err err1 tally tally1) (faults k k' m m oc oc1 ec ec1) why)
-    → (n : ℕ) (h : Option Told) (m : ℕ) → IfErr r (λ why. Leaves (requests.Trace n name names)
+    → (n : ℕ) (h : HostSeen) (m : ℕ) → IfErr r (λ why. Leaves (requests.Trace n name names)
     (outside tells f f' h h out out1 err err1 tally tally1) (faults k k' m m oc oc1 ec ec1) why [])
 trace_leaves log images name names tells f f' out err out1 err1 tally tally1 k k' oc oc1 ec ec1
     (Ok ended) told stay leaves = λ n h m. tt

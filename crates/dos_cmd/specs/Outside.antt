@@ -1,6 +1,6 @@
 -- What a call is seen by from outside, before it and after it. This project's own rules.
 use Rattle.std.specs.Prelude.{◌≡◌, ◌≢◌, ◌⊎◌, ℕ, Bool, List, Option, Some, IsTrue, IfSome}
-use Rattle.dos_io.specs.Hosts.{Told}
+use Rattle.logged_runs.specs.Recording.{HostSeen}
 use Rattle.dos_io.specs.Outside.{grown, GrewByFront, Rose}
 use Rattle.worker_pool.specs.Ran.{GrewBy}
 use Rattle.dos_words.specs.Numbers.{Text}
@@ -10,8 +10,8 @@ pub record Outside : Type 0 where
   pub files_tell : Bool
   pub files : Text → Option (List ℕ)
   pub files_after : Text → Option (List ℕ)
-  pub host : Option Told
-  pub host_after : Option Told
+  pub host : HostSeen
+  pub host_after : HostSeen
   pub out : Option (List ℕ)
   pub out_after : Option (List ℕ)
   pub err : Option (List ℕ)
@@ -21,7 +21,7 @@ pub record Outside : Type 0 where
 
 -- in this order
 abbrev pub outside : Bool → (files files_after : Text → Option (List ℕ))
-    → (host host_after : Option Told) → (out out_after err err_after : Option (List ℕ))
+    → (host host_after : HostSeen) → (out out_after err err_after : Option (List ℕ))
     → (tally tally_after : ℕ) → Outside
 outside files_tell files files_after host host_after out out_after err err_after tally tally_after =
     record {
@@ -93,7 +93,7 @@ pub record FileHolds (o : Outside) (name : Text) (bytes : List ℕ) : Type 0 whe
   pub where_told : IfSome (o.files name) (λ before. o.files_after name ≡ Some bytes)
   pub where_all_tell : IsTrue o.files_tell → o.files_after name ≡ Some bytes
 
--- The host was asked nothing.
+-- The host was asked nothing, and what it tells stays.
 abbrev pub HostStays : Outside → Type 0
 HostStays o = o.host_after ≡ o.host
 

@@ -1,6 +1,6 @@
 -- The code's own values of a request, as what the words ask for, and what is made ready for it.
 use Rattle.std.specs.Prelude.{◌≡◌, ℕ, Bool, List, [], Option, None, IfSome, Ok}
-use Rattle.dos_io.specs.Hosts.{Told}
+use Rattle.logged_runs.specs.Recording.{HostSeen}
 use Rattle.dos_texts.specs.declared.refusal.Refusal.{Refusal}
 use Rattle.dos_words.specs.Numbers.{Text}
 use Rattle.dos_words.specs.declared.request.Request.{Request}
@@ -51,7 +51,7 @@ pub record IsReadyToRun (r : RunRequest) (contents : Text → Option (List ℕ))
 -- however often they failed.
 abbrev pub IsNotBegun : RunRequest → (tells : Bool) → (files files_after : Text → Option (List ℕ))
     → (faults_before faults_after : ℕ) → Refusal → Type 0
-IsNotBegun r tells files files_after faults_before faults_after why = (n : ℕ) (host : Option Told)
+IsNotBegun r tells files files_after faults_before faults_after why = (n : ℕ) (host : HostSeen)
     (out err : Option (List ℕ)) (tally k l m : ℕ) → Leaves (run_request r n)
     (outside tells files files_after host host out out err err tally tally)
     (faults faults_before faults_after k k l l m m) why []

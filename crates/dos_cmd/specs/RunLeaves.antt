@@ -7,6 +7,8 @@ use Rattle.dos_io.specs.declared.exchange.ClockRule.TheVariants as clocks
 use Rattle.dos_io.specs.declared.shim.ShimStop.{ShimStop}
 use Rattle.elf_image.specs.Image.{Image}
 use Rattle.flat_machine.specs.Machine.{Seen}
+use Rattle.kernel_calls.specs.StateWorld.{shim_stop}
+use Rattle.kernel_calls.specs.declared.state.RunStop.{RunStop}
 use Rattle.dpg_run.specs.Report.{report}
 use Rattle.shim_log.specs.LogText.{Log, logtext}
 use Rattle.shim_log.specs.declared.header.LogHeader.{LogHeader}
@@ -104,14 +106,16 @@ pub record UnwrittenRun (asked : RunAsked) (images : List Image) (last : List �
   pub grew : Grew o seen.output (seen.error ++ last)
   pub others : OthersStay o asked.log
 
--- An output failed in the run. Each holds a front of what the run would have given it until its
--- next question, or its end; no file changed.
+-- An output failed in the run, which stopped so. Each holds a front of what the run would have
+-- given it until its next question, or its end; no file changed.
 pub record CutRun (asked : RunAsked) (images : List Image) (o : Outside) : Type 0 where
   pub plan : Plan
   pub planned : IsPlanned asked images o plan
+  pub stop : RunStop
+  pub by_output : shim_stop stop ≡ None
   pub output : List ℕ
   pub error : List ℕ
-  pub recorded : RecordedAhead plan o.host o.host_after output error
+  pub recorded : RecordedAhead plan o.host o.host_after stop output error
   pub grew : Grew o output error
   pub files_stay : FilesStay o
 

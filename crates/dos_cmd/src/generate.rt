@@ -2,7 +2,7 @@
 ghost use Rattle.std.specs.Prelude.{◌≡◌, ◌≢◌, ◌≤◌, ◌-◌, ◌++◌, ℕ, Bool, List, Option, [], map};
 ghost use Rattle.std.specs.Prelude.{false, Err, IfOk, IfErr, OnOk, OnErr};
 ghost use Rattle.dos_world.specs.declared.Config.{Config};
-ghost use Rattle.dos_io.specs.Hosts.{Told};
+ghost use Rattle.logged_runs.specs.Recording.{HostSeen};
 ghost use Rattle.dos_io.specs.Outside.{grown, GrewByFront, HasCause};
 ghost use Rattle.elf_image.specs.Image.{Image};
 ghost use Rattle.flat_machine.specs.Machine.{status_in};
@@ -115,14 +115,14 @@ pub(crate) fn generate<O: Sink, W: Workers>(
     requires some { 1 ≤ threads }
     requires few { threads ≤ 32 }
     // whatever files, a host and error tell, and however often they failed
-    ensures did { (n : ℕ) (tells : Bool) (f : List ℕ → Option (List ℕ)) (h : Option Told)
+    ensures did { (n : ℕ) (tells : Bool) (f : List ℕ → Option (List ℕ)) (h : HostSeen)
         (e : Option (List ℕ)) → IfOk result (λ ending. Begun (requests.Gen number threads n)
         (outside tells f f h h (O.told out.old) (O.told out.new) e e
         (W.tally workers.old) (W.tally workers.new))
         (λ taken. Did (requests.Gen number threads n) taken (ending_status ending)
         (outside tells f f h h (O.told out.old) (O.told out.new) e e
         (W.tally workers.old) (W.tally workers.new)))) }
-    ensures leaves { (n : ℕ) (tells : Bool) (f : List ℕ → Option (List ℕ)) (h : Option Told)
+    ensures leaves { (n : ℕ) (tells : Bool) (f : List ℕ → Option (List ℕ)) (h : HostSeen)
         (e : Option (List ℕ)) (k l m : ℕ) → IfErr result (λ why.
         Leaves (requests.Gen number threads n)
         (outside tells f f h h (O.told out.old) (O.told out.new) e e

@@ -1,6 +1,6 @@
 // The command `inspect`.
 ghost use Rattle.std.specs.Prelude.{◌≡◌, ◌≢◌, ◌≤◌, ℕ, List, Option, [], Err, IfOk, IfErr};
-ghost use Rattle.dos_io.specs.Hosts.{Told};
+ghost use Rattle.logged_runs.specs.Recording.{HostSeen};
 ghost use Rattle.dos_texts.specs.Exit.{ending_status};
 ghost use Rattle.dos_words.specs.declared.request.Request.TheVariants as requests;
 ghost use Rattle.dos_cmd.specs.Asking.{Asks, named_by};
@@ -21,14 +21,14 @@ pub(crate) fn inspect<F: Files, O: Sink>(
     out: &mut O,
 ) -> Result<Ending, Refusal>
     // whatever a host and error tell, and however often they failed
-    ensures did { (h : Option Told) (e : Option (List ℕ)) (t : ℕ) → IfOk result (λ ending.
+    ensures did { (h : HostSeen) (e : Option (List ℕ)) (t : ℕ) → IfOk result (λ ending.
         Begun (requests.Inspect name.now)
         (outside (F.tells files.old) (F.content files.old) (F.content files.new) h h
         (O.told out.old) (O.told out.new) e e t t)
         (λ taken. Did (requests.Inspect name.now) taken (ending_status ending)
         (outside (F.tells files.old) (F.content files.old) (F.content files.new) h h
         (O.told out.old) (O.told out.new) e e t t))) }
-    ensures leaves { (h : Option Told) (e : Option (List ℕ)) (t m n : ℕ) → IfErr result (λ why.
+    ensures leaves { (h : HostSeen) (e : Option (List ℕ)) (t m n : ℕ) → IfErr result (λ why.
         Leaves (requests.Inspect name.now)
         (outside (F.tells files.old) (F.content files.old) (F.content files.new) h h
         (O.told out.old) (O.told out.new) e e t t)

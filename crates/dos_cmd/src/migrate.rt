@@ -2,6 +2,7 @@
 ghost use Rattle.std.specs.Prelude.{◌≡◌, ◌≢◌, ◌≤◌, ◌<◌, ◌⊎◌, ℕ, List, Option, [], length};
 ghost use Rattle.std.specs.Prelude.{Err, IfOk, IfErr, IfSome, IsErrOf, IsTrue, OnOk, Some, ◌∷◌};
 ghost use Rattle.dos_io.specs.Hosts.{Told};
+ghost use Rattle.logged_runs.specs.Recording.{HostSeen};
 ghost use Rattle.dos_io.specs.Outside.{Rose};
 ghost use Rattle.shim_log.specs.Room.{most_bytes};
 ghost use Rattle.dos_texts.specs.Exit.{ending_status};
@@ -102,14 +103,14 @@ pub(crate) fn migrate<F: Files, O: Sink>(
     out: &mut O,
 ) -> Result<Ending, Refusal>
     // whatever a host and error tell, and however often they failed
-    ensures did { (h : Option Told) (e : Option (List ℕ)) (t : ℕ) → IfOk result (λ ending.
+    ensures did { (h : HostSeen) (e : Option (List ℕ)) (t : ℕ) → IfOk result (λ ending.
         Begun (requests.Migrate log.now to.now)
         (outside (F.tells files.old) (F.content files.old) (F.content files.new) h h
         (O.told out.old) (O.told out.new) e e t t)
         (λ taken. Did (requests.Migrate log.now to.now) taken (ending_status ending)
         (outside (F.tells files.old) (F.content files.old) (F.content files.new) h h
         (O.told out.old) (O.told out.new) e e t t))) }
-    ensures leaves { (h : Option Told) (e : Option (List ℕ)) (t m n : ℕ) → IfErr result (λ why.
+    ensures leaves { (h : HostSeen) (e : Option (List ℕ)) (t m n : ℕ) → IfErr result (λ why.
         Leaves (requests.Migrate log.now to.now)
         (outside (F.tells files.old) (F.content files.old) (F.content files.new) h h
         (O.told out.old) (O.told out.new) e e t t)

@@ -3,7 +3,7 @@ ghost use Rattle.std.specs.Prelude.{◌≡◌, ◌≢◌, ◌≤◌, ℕ, Bool, 
 ghost use Rattle.std.specs.Prelude.{IfErr, IfSome, IsErrOf, OnOk, Ok, Err, None, ◌∷◌, ◌++◌};
 ghost use Rattle.dos_io.specs.FileCalls.{getting};
 ghost use Rattle.dos_world.specs.Lawful.{IsConfig};
-ghost use Rattle.dos_io.specs.Hosts.{Told};
+ghost use Rattle.logged_runs.specs.Recording.{HostSeen};
 ghost use Rattle.dos_io.specs.Outside.{Rose};
 ghost use Rattle.flat_machine.specs.Opening.{needed};
 ghost use Rattle.log_files.specs.Judging.{IsOfFile, log_verdict};
@@ -108,13 +108,13 @@ fn replay_taken<O: Sink, E: Sink, W: Workers>(
     requires few { length images.now ≤ 8 }
     // whatever files and a host tell, where they stay
     ensures did { IfOk result (λ ending. (tells : Bool) (f f' : List ℕ → Option (List ℕ))
-        (h : Option Told) → ((n : List ℕ) → f' n ≡ f n)
+        (h : HostSeen) → ((n : List ℕ) → f' n ≡ f n)
         → DidReplay log images.now (ending_status ending)
         (outside tells f f' h h (O.told out.old) (O.told out.new) (E.told err.old) (E.told err.new)
         (W.tally workers.old) (W.tally workers.new))) }
     ensures room { OnOk result (needed images.now ≤ log.header.frames) }
     ensures leaves { IfErr result (λ why. (tells : Bool) (f f' : List ℕ → Option (List ℕ))
-        (h : Option Told) (k k' m : ℕ) → ((n : List ℕ) → f' n ≡ f n)
+        (h : HostSeen) (k k' m : ℕ) → ((n : List ℕ) → f' n ≡ f n)
         → LeavesTaken log images.now
         (outside tells f f' h h (O.told out.old) (O.told out.new) (E.told err.old) (E.told err.new)
         (W.tally workers.old) (W.tally workers.new))
@@ -152,7 +152,7 @@ pub(crate) fn replay<F: Files, O: Sink, E: Sink, W: Workers>(
 ) -> Result<Ending, Refusal>
     requires { length names.now ≤ 8 }
     // whatever a host tells, and however often it failed
-    ensures did { (n : ℕ) (h : Option Told) → IfOk result (λ ending.
+    ensures did { (n : ℕ) (h : HostSeen) → IfOk result (λ ending.
         Begun (requests.Replay n log.now names.now)
         (outside (F.tells files.old) (F.content files.old) (F.content files.new) h h
         (O.told out.old) (O.told out.new) (E.told err.old) (E.told err.new)
@@ -161,7 +161,7 @@ pub(crate) fn replay<F: Files, O: Sink, E: Sink, W: Workers>(
         (outside (F.tells files.old) (F.content files.old) (F.content files.new) h h
         (O.told out.old) (O.told out.new) (E.told err.old) (E.told err.new)
         (W.tally workers.old) (W.tally workers.new)))) }
-    ensures leaves { (n : ℕ) (h : Option Told) (m : ℕ) → IfErr result (λ why.
+    ensures leaves { (n : ℕ) (h : HostSeen) (m : ℕ) → IfErr result (λ why.
         Leaves (requests.Replay n log.now names.now)
         (outside (F.tells files.old) (F.content files.old) (F.content files.new) h h
         (O.told out.old) (O.told out.new) (E.told err.old) (E.told err.new)

@@ -10,6 +10,7 @@ ghost use Rattle.shim_log.specs.LogText.{logtext};
 ghost use Rattle.elf_image.specs.Image.{Image as Parsed};
 ghost use Rattle.flat_machine.specs.Opening.{needed};
 ghost use Rattle.logged_runs.specs.Opened.{IsOpenedWith};
+ghost use Rattle.logged_runs.specs.Recording.{host_seen};
 ghost use Rattle.shim_log.specs.Ledger.{ArePlanned, empty_ledger};
 ghost use Rattle.dos_texts.specs.Exit.{ending_status};
 ghost use Rattle.dos_cmd.specs.Asking.{Asks, files_named, named_by};
@@ -210,21 +211,29 @@ fn run_opened<F: Files, H: Host, O: Sink, E: Sink, W: Workers>(
         ≡ empty_ledger ledger.posts ledger.clock ledger.header ledger.room }
     ensures did { IfOk result (λ ending. (asked : RunAsked) (images : List Parsed)
         → IsPrepared asked images kernel.old ledger name.now
-        (outside (F.tells files.old) (F.content files.old) (F.content files.new) (H.told host.old)
-        (H.told host.new) (O.told out.old) (O.told out.new) (E.told err.old) (E.told err.new)
+        (outside (F.tells files.old) (F.content files.old) (F.content files.new)
+        (host_seen (H.told host.old) (H.asked host.old))
+        (host_seen (H.told host.new) (H.asked host.new)) (O.told out.old) (O.told out.new)
+        (E.told err.old) (E.told err.new)
         (W.tally workers.old) (W.tally workers.new))
         → DidRun asked images (ending_status ending)
-        (outside (F.tells files.old) (F.content files.old) (F.content files.new) (H.told host.old)
-        (H.told host.new) (O.told out.old) (O.told out.new) (E.told err.old) (E.told err.new)
+        (outside (F.tells files.old) (F.content files.old) (F.content files.new)
+        (host_seen (H.told host.old) (H.asked host.old))
+        (host_seen (H.told host.new) (H.asked host.new)) (O.told out.old) (O.told out.new)
+        (E.told err.old) (E.told err.new)
         (W.tally workers.old) (W.tally workers.new))) }
     ensures leaves { IfErr result (λ why. (asked : RunAsked) (images : List Parsed)
         → IsPrepared asked images kernel.old ledger name.now
-        (outside (F.tells files.old) (F.content files.old) (F.content files.new) (H.told host.old)
-        (H.told host.new) (O.told out.old) (O.told out.new) (E.told err.old) (E.told err.new)
+        (outside (F.tells files.old) (F.content files.old) (F.content files.new)
+        (host_seen (H.told host.old) (H.asked host.old))
+        (host_seen (H.told host.new) (H.asked host.new)) (O.told out.old) (O.told out.new)
+        (E.told err.old) (E.told err.new)
         (W.tally workers.old) (W.tally workers.new))
         → LeavesRun asked images
-        (outside (F.tells files.old) (F.content files.old) (F.content files.new) (H.told host.old)
-        (H.told host.new) (O.told out.old) (O.told out.new) (E.told err.old) (E.told err.new)
+        (outside (F.tells files.old) (F.content files.old) (F.content files.new)
+        (host_seen (H.told host.old) (H.asked host.old))
+        (host_seen (H.told host.new) (H.asked host.new)) (O.told out.old) (O.told out.new)
+        (E.told err.old) (E.told err.new)
         (W.tally workers.old) (W.tally workers.new))
         (faults (F.faults files.old) (F.faults files.new) (H.faults host.old) (H.faults host.new)
         (O.faults out.old) (O.faults out.new) (E.faults err.old) (E.faults err.new)) why) }
@@ -232,6 +241,7 @@ fn run_opened<F: Files, H: Host, O: Sink, E: Sink, W: Workers>(
         (F.asked files.new) }
     ensures files_later { F.faults files.old ≤ F.faults files.new }
     ensures host_later { H.faults host.old ≤ H.faults host.new }
+    ensures host_steady { result ≢ Err Refusal.Host → H.faults host.new ≡ H.faults host.old }
     ensures out_later { O.faults out.old ≤ O.faults out.new }
     ensures err_later { E.faults err.old ≤ E.faults err.new }
     ensures out_steady { result ≢ Err Refusal.Sink → O.faults out.new ≡ O.faults out.old }
@@ -323,16 +333,22 @@ pub(crate) fn run<F: Files, H: Host, O: Sink, E: Sink, W: Workers>(
     requires few_posts { length request.now.posts.now ≤ 32 }
     requires planned { ArePlanned request.now.posts.now }
     ensures did { (n : ℕ) → IfOk result (λ ending. Begun (run_request request.now n)
-        (outside (F.tells files.old) (F.content files.old) (F.content files.new) (H.told host.old)
-        (H.told host.new) (O.told out.old) (O.told out.new) (E.told err.old) (E.told err.new)
+        (outside (F.tells files.old) (F.content files.old) (F.content files.new)
+        (host_seen (H.told host.old) (H.asked host.old))
+        (host_seen (H.told host.new) (H.asked host.new)) (O.told out.old) (O.told out.new)
+        (E.told err.old) (E.told err.new)
         (W.tally workers.old) (W.tally workers.new))
         (λ taken. Did (run_request request.now n) taken (ending_status ending)
-        (outside (F.tells files.old) (F.content files.old) (F.content files.new) (H.told host.old)
-        (H.told host.new) (O.told out.old) (O.told out.new) (E.told err.old) (E.told err.new)
+        (outside (F.tells files.old) (F.content files.old) (F.content files.new)
+        (host_seen (H.told host.old) (H.asked host.old))
+        (host_seen (H.told host.new) (H.asked host.new)) (O.told out.old) (O.told out.new)
+        (E.told err.old) (E.told err.new)
         (W.tally workers.old) (W.tally workers.new)))) }
     ensures leaves { (n : ℕ) → IfErr result (λ why. Leaves (run_request request.now n)
-        (outside (F.tells files.old) (F.content files.old) (F.content files.new) (H.told host.old)
-        (H.told host.new) (O.told out.old) (O.told out.new) (E.told err.old) (E.told err.new)
+        (outside (F.tells files.old) (F.content files.old) (F.content files.new)
+        (host_seen (H.told host.old) (H.asked host.old))
+        (host_seen (H.told host.new) (H.asked host.new)) (O.told out.old) (O.told out.new)
+        (E.told err.old) (E.told err.new)
         (W.tally workers.old) (W.tally workers.new))
         (faults (F.faults files.old) (F.faults files.new) (H.faults host.old) (H.faults host.new)
         (O.faults out.old) (O.faults out.new) (E.faults err.old) (E.faults err.new)) why []) }
@@ -340,6 +356,7 @@ pub(crate) fn run<F: Files, H: Host, O: Sink, E: Sink, W: Workers>(
         (F.asked files.old) (F.asked files.new) }
     ensures files_later { F.faults files.old ≤ F.faults files.new }
     ensures host_later { H.faults host.old ≤ H.faults host.new }
+    ensures host_steady { result ≢ Err Refusal.Host → H.faults host.new ≡ H.faults host.old }
     ensures out_later { O.faults out.old ≤ O.faults out.new }
     ensures err_later { E.faults err.old ≤ E.faults err.new }
     ensures out_steady { result ≢ Err Refusal.Sink → O.faults out.new ≡ O.faults out.old }

@@ -1,6 +1,7 @@
 //! The top call: from the words to the exit status.
 ghost use Rattle.std.specs.Prelude.{◌≡◌, ◌≢◌, ◌≤◌, ◌⊎◌, [], None, Some, Ok, Err, IfOk, IfErr};
 ghost use Rattle.std.specs.Prelude.{ℕ, List, map, string_bytes, ◌++◌};
+ghost use Rattle.logged_runs.specs.Recording.{host_seen};
 ghost use Rattle.dos_words.specs.declared.request.Request.{Request as Asked};
 ghost use Rattle.dos_words.specs.Ranges.{FitsRequest};
 ghost use Rattle.dos_words.specs.Numbers.{Text};
@@ -55,22 +56,29 @@ fn execute<F: Files, H: Host, O: Sink, E: Sink, W: Workers>(
 ) -> Result<Ending, Refusal>
     requires { FitsRequest request.now }
     ensures did { IfOk result (λ ending. Begun request.now
-        (outside (F.tells files.old) (F.content files.old) (F.content files.new) (H.told host.old)
-        (H.told host.new) (O.told out.old) (O.told out.new) (E.told err.old) (E.told err.new)
+        (outside (F.tells files.old) (F.content files.old) (F.content files.new)
+        (host_seen (H.told host.old) (H.asked host.old))
+        (host_seen (H.told host.new) (H.asked host.new)) (O.told out.old) (O.told out.new)
+        (E.told err.old) (E.told err.new)
         (W.tally workers.old) (W.tally workers.new))
         (λ taken. Did request.now taken (ending_status ending)
-        (outside (F.tells files.old) (F.content files.old) (F.content files.new) (H.told host.old)
-        (H.told host.new) (O.told out.old) (O.told out.new) (E.told err.old) (E.told err.new)
+        (outside (F.tells files.old) (F.content files.old) (F.content files.new)
+        (host_seen (H.told host.old) (H.asked host.old))
+        (host_seen (H.told host.new) (H.asked host.new)) (O.told out.old) (O.told out.new)
+        (E.told err.old) (E.told err.new)
         (W.tally workers.old) (W.tally workers.new)))) }
     ensures leaves { IfErr result (λ why. Leaves request.now
-        (outside (F.tells files.old) (F.content files.old) (F.content files.new) (H.told host.old)
-        (H.told host.new) (O.told out.old) (O.told out.new) (E.told err.old) (E.told err.new)
+        (outside (F.tells files.old) (F.content files.old) (F.content files.new)
+        (host_seen (H.told host.old) (H.asked host.old))
+        (host_seen (H.told host.new) (H.asked host.new)) (O.told out.old) (O.told out.new)
+        (E.told err.old) (E.told err.new)
         (W.tally workers.old) (W.tally workers.new))
         (faults (F.faults files.old) (F.faults files.new) (H.faults host.old) (H.faults host.new)
         (O.faults out.old) (O.faults out.new) (E.faults err.old) (E.faults err.new)) why []) }
     ensures asked { Asks (named_by request.now) result (F.asked files.old) (F.asked files.new) }
     ensures files_later { F.faults files.old ≤ F.faults files.new }
     ensures host_later { H.faults host.old ≤ H.faults host.new }
+    ensures host_steady { result ≢ Err Refusal.Host → H.faults host.new ≡ H.faults host.old }
     ensures out_later { O.faults out.old ≤ O.faults out.new }
     ensures err_later { E.faults err.old ≤ E.faults err.new }
     ensures out_steady { result ≢ Err Refusal.Sink → O.faults out.new ≡ O.faults out.old }
@@ -129,12 +137,16 @@ fn command<F: Files, H: Host, O: Sink, E: Sink, W: Workers>(
 ) -> Result<Ending, Refusal>
     ensures finished { IfOk result (λ ending. WasDone (map string_bytes words.now)
         (ending_status ending)
-        (outside (F.tells files.old) (F.content files.old) (F.content files.new) (H.told host.old)
-        (H.told host.new) (O.told out.old) (O.told out.new) (E.told err.old) (E.told err.new)
+        (outside (F.tells files.old) (F.content files.old) (F.content files.new)
+        (host_seen (H.told host.old) (H.asked host.old))
+        (host_seen (H.told host.new) (H.asked host.new)) (O.told out.old) (O.told out.new)
+        (E.told err.old) (E.told err.new)
         (W.tally workers.old) (W.tally workers.new))) }
     ensures fails { IfErr result (λ why. Fails (map string_bytes words.now)
-        (outside (F.tells files.old) (F.content files.old) (F.content files.new) (H.told host.old)
-        (H.told host.new) (O.told out.old) (O.told out.new) (E.told err.old) (E.told err.new)
+        (outside (F.tells files.old) (F.content files.old) (F.content files.new)
+        (host_seen (H.told host.old) (H.asked host.old))
+        (host_seen (H.told host.new) (H.asked host.new)) (O.told out.old) (O.told out.new)
+        (E.told err.old) (E.told err.new)
         (W.tally workers.old) (W.tally workers.new))
         (faults (F.faults files.old) (F.faults files.new) (H.faults host.old) (H.faults host.new)
         (O.faults out.old) (O.faults out.new) (E.faults err.old) (E.faults err.new)) why []) }
@@ -142,6 +154,7 @@ fn command<F: Files, H: Host, O: Sink, E: Sink, W: Workers>(
         (F.asked files.old) (F.asked files.new) }
     ensures files_later { F.faults files.old ≤ F.faults files.new }
     ensures host_later { H.faults host.old ≤ H.faults host.new }
+    ensures host_steady { result ≢ Err Refusal.Host → H.faults host.new ≡ H.faults host.old }
     ensures out_later { O.faults out.old ≤ O.faults out.new }
     ensures err_later { E.faults err.old ≤ E.faults err.new }
     ensures out_steady { result ≢ Err Refusal.Sink → O.faults out.new ≡ O.faults out.old }
@@ -211,8 +224,10 @@ pub fn dos_main<F: Files, H: Host, O: Sink, E: Sink, W: Workers>(
     // What the words ask for is done, with images, and a log, that the files are.
     ensures finished { (result ≡ 0) ⊎ (result ≡ 7) ⊎ (result ≡ 8)
         → WasDone (map string_bytes words.now) result
-        (outside (F.tells files.old) (F.content files.old) (F.content files.new) (H.told host.old)
-        (H.told host.new) (O.told out.old) (O.told out.new) (E.told err.old) (E.told err.new)
+        (outside (F.tells files.old) (F.content files.old) (F.content files.new)
+        (host_seen (H.told host.old) (H.asked host.old))
+        (host_seen (H.told host.new) (H.asked host.new)) (O.told out.old) (O.told out.new)
+        (E.told err.old) (E.told err.new)
         (W.tally workers.old) (W.tally workers.new)) }
 
     // Each file that they name is asked for once then, in order, and none besides.
@@ -222,8 +237,10 @@ pub fn dos_main<F: Files, H: Host, O: Sink, E: Sink, W: Workers>(
     // It isn't, for a reason that the status and the one line tell.
     ensures refused { result ≢ 0 → result ≢ 6 → result ≢ 7 → result ≢ 8
         → Refused (map string_bytes words.now) result
-        (outside (F.tells files.old) (F.content files.old) (F.content files.new) (H.told host.old)
-        (H.told host.new) (O.told out.old) (O.told out.new) (E.told err.old) (E.told err.new)
+        (outside (F.tells files.old) (F.content files.old) (F.content files.new)
+        (host_seen (H.told host.old) (H.asked host.old))
+        (host_seen (H.told host.new) (H.asked host.new)) (O.told out.old) (O.told out.new)
+        (E.told err.old) (E.told err.new)
         (W.tally workers.old) (W.tally workers.new))
         (faults (F.faults files.old) (F.faults files.new) (H.faults host.old) (H.faults host.new)
         (O.faults out.old) (O.faults out.new) (E.faults err.old) (E.faults err.new))
@@ -231,8 +248,10 @@ pub fn dos_main<F: Files, H: Host, O: Sink, E: Sink, W: Workers>(
 
     // An output failed.
     ensures six { result ≡ 6 → CutShort (map string_bytes words.now)
-        (outside (F.tells files.old) (F.content files.old) (F.content files.new) (H.told host.old)
-        (H.told host.new) (O.told out.old) (O.told out.new) (E.told err.old) (E.told err.new)
+        (outside (F.tells files.old) (F.content files.old) (F.content files.new)
+        (host_seen (H.told host.old) (H.asked host.old))
+        (host_seen (H.told host.new) (H.asked host.new)) (O.told out.old) (O.told out.new)
+        (E.told err.old) (E.told err.new)
         (W.tally workers.old) (W.tally workers.new))
         (faults (F.faults files.old) (F.faults files.new) (H.faults host.old) (H.faults host.new)
         (O.faults out.old) (O.faults out.new) (E.faults err.old) (E.faults err.new))
@@ -250,24 +269,31 @@ pub fn dos_main<F: Files, H: Host, O: Sink, E: Sink, W: Workers>(
         → judgement (F.content files.old) asked ≡ Some (Ok taken)
         → result ≢ 5 → result ≢ 6 → result ≢ 9
         → MustDo asked taken result
-        (outside (F.tells files.old) (F.content files.old) (F.content files.new) (H.told host.old)
-        (H.told host.new) (O.told out.old) (O.told out.new) (E.told err.old) (E.told err.new)
+        (outside (F.tells files.old) (F.content files.old) (F.content files.new)
+        (host_seen (H.told host.old) (H.asked host.old))
+        (host_seen (H.told host.new) (H.asked host.new)) (O.told out.old) (O.told out.new)
+        (E.told err.old) (E.told err.new)
         (W.tally workers.old) (W.tally workers.new)) }
 
     // A replay of a run that was done shows what the run showed.
     ensures replays { (earlier : List Text) (status : ℕ) (run : Outside)
         → WasDone earlier status run → IsReplayOf earlier run (map string_bytes words.now)
-        (outside (F.tells files.old) (F.content files.old) (F.content files.new) (H.told host.old)
-        (H.told host.new) (O.told out.old) (O.told out.new) (E.told err.old) (E.told err.new)
+        (outside (F.tells files.old) (F.content files.old) (F.content files.new)
+        (host_seen (H.told host.old) (H.asked host.old))
+        (host_seen (H.told host.new) (H.asked host.new)) (O.told out.old) (O.told out.new)
+        (E.told err.old) (E.told err.new)
         (W.tally workers.old) (W.tally workers.new))
         → result ≢ 5 → result ≢ 6 → result ≢ 9
         → ShowTheSame status run result
-        (outside (F.tells files.old) (F.content files.old) (F.content files.new) (H.told host.old)
-        (H.told host.new) (O.told out.old) (O.told out.new) (E.told err.old) (E.told err.new)
+        (outside (F.tells files.old) (F.content files.old) (F.content files.new)
+        (host_seen (H.told host.old) (H.asked host.old))
+        (host_seen (H.told host.new) (H.asked host.new)) (O.told out.old) (O.told out.new)
+        (E.told err.old) (E.told err.new)
         (W.tally workers.old) (W.tally workers.new)) }
 
     ensures files_later { F.faults files.old ≤ F.faults files.new }
     ensures host_later { H.faults host.old ≤ H.faults host.new }
+    ensures host_steady { result ≢ 5 → result ≢ 6 → H.faults host.new ≡ H.faults host.old }
     ensures out_later { O.faults out.old ≤ O.faults out.new }
     ensures err_later { E.faults err.old ≤ E.faults err.new }
     ensures out_steady { result ≢ 6 → O.faults out.new ≡ O.faults out.old }

@@ -1,7 +1,7 @@
 // The command `trace`. It is lent no host, and the guests' bytes are dropped.
 ghost use Rattle.std.specs.Prelude.{◌≡◌, ◌≢◌, ◌≤◌, ℕ, Bool, List, Option, [], length, IfOk};
 ghost use Rattle.std.specs.Prelude.{IfErr, OnOk, Err};
-ghost use Rattle.dos_io.specs.Hosts.{Told};
+ghost use Rattle.logged_runs.specs.Recording.{HostSeen};
 ghost use Rattle.flat_machine.specs.Opening.{needed};
 ghost use Rattle.dos_texts.specs.Exit.{ending_status};
 ghost use Rattle.dos_words.specs.declared.request.Request.TheVariants as requests;
@@ -48,13 +48,13 @@ fn trace_taken<O: Sink, E: Sink, W: Workers>(
     requires few { length images.now ≤ 8 }
     // whatever files and a host tell, where they stay
     ensures did { IfOk result (λ ending. (tells : Bool) (f f' : List ℕ → Option (List ℕ))
-        (h : Option Told) → ((n : List ℕ) → f' n ≡ f n)
+        (h : HostSeen) → ((n : List ℕ) → f' n ≡ f n)
         → DidTrace log images.now (ending_status ending)
         (outside tells f f' h h (O.told out.old) (O.told out.new) (E.told err.old) (E.told err.new)
         (W.tally workers.old) (W.tally workers.new))) }
     ensures room { OnOk result (needed images.now ≤ log.header.frames) }
     ensures leaves { IfErr result (λ why. (tells : Bool) (f f' : List ℕ → Option (List ℕ))
-        (h : Option Told) (k k' m : ℕ) → ((n : List ℕ) → f' n ≡ f n)
+        (h : HostSeen) (k k' m : ℕ) → ((n : List ℕ) → f' n ≡ f n)
         → LeavesTrace log images.now
         (outside tells f f' h h (O.told out.old) (O.told out.new) (E.told err.old) (E.told err.new)
         (W.tally workers.old) (W.tally workers.new))
@@ -92,7 +92,7 @@ pub(crate) fn trace<F: Files, O: Sink, E: Sink, W: Workers>(
 ) -> Result<Ending, Refusal>
     requires { length names.now ≤ 8 }
     // whatever a host tells, and however often it failed
-    ensures did { (n : ℕ) (h : Option Told) → IfOk result (λ ending.
+    ensures did { (n : ℕ) (h : HostSeen) → IfOk result (λ ending.
         Begun (requests.Trace n log.now names.now)
         (outside (F.tells files.old) (F.content files.old) (F.content files.new) h h
         (O.told out.old) (O.told out.new) (E.told err.old) (E.told err.new)
@@ -101,7 +101,7 @@ pub(crate) fn trace<F: Files, O: Sink, E: Sink, W: Workers>(
         (outside (F.tells files.old) (F.content files.old) (F.content files.new) h h
         (O.told out.old) (O.told out.new) (E.told err.old) (E.told err.new)
         (W.tally workers.old) (W.tally workers.new)))) }
-    ensures leaves { (n : ℕ) (h : Option Told) (m : ℕ) → IfErr result (λ why.
+    ensures leaves { (n : ℕ) (h : HostSeen) (m : ℕ) → IfErr result (λ why.
         Leaves (requests.Trace n log.now names.now)
         (outside (F.tells files.old) (F.content files.old) (F.content files.new) h h
         (O.told out.old) (O.told out.new) (E.told err.old) (E.told err.new)

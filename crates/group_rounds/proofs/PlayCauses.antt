@@ -6,7 +6,6 @@ use Rattle.dos_world.specs.Play.{Play}
 use Rattle.dos_world.specs.declared.Question.{Question}
 use Rattle.dos_world.specs.declared.Question.TheVariants.{Signals, Input, Clock, End}
 use Rattle.dos_io.specs.Borders.{BorderState, BorderStands, ShimFails, SinkFails}
-use Rattle.dos_io.specs.Outside.{Rose, counted_to_limit}
 use Rattle.dos_io.specs.declared.border.Stream.TheVariants.{Output, Error}
 use Rattle.dos_io.specs.declared.shim.ShimStop.{ShimStop}
 use Rattle.kernel_calls.specs.Plays.{IsBeforeEnd, StopsAsking, Stopper, StopsIn, by_shim, by_sink}
@@ -32,11 +31,6 @@ pub fails_of : {A : Type 0} (q : ℕ) (world : A → World) (play : World → Pl
 fails_of q world play (by_shim why) s before after h = h.fails
 fails_of q world play (by_sink stream) s before after h = h.fails
 
-rose : (before after : BorderState) (why : ShimStop) → ShimFails before why after
-    → Rose before.shim.stops after.shim.stops
-rose before after why h =
-    subst (λ n. counted_to_limit before.shim.stops ≤ n) (sym h.stops) (le_refl _)
-
 module _ {T : Type 0} (before after : BorderState) where
   pub causes_ok : (value : T) → BorderStands before after
       → HaveCauses {T = T} (Ok value) before.shim after.shim before.out_faults after.out_faults
@@ -55,28 +49,28 @@ module _ {T : Type 0} (before after : BorderState) where
   causes_err HostFault h = record {
     out_later = no_less _ _ (h.faults Output);
     err_later = no_less _ _ (h.faults Error);
-    shim = (rose before after _ h, h.last);
+    shim = (h.stops, h.last);
     stands = tt;
     sinks = tt;
   }
   causes_err LogFull h = record {
     out_later = no_less _ _ (h.faults Output);
     err_later = no_less _ _ (h.faults Error);
-    shim = (rose before after _ h, h.last);
+    shim = (h.stops, h.last);
     stands = tt;
     sinks = tt;
   }
   causes_err (Misfit m) h = record {
     out_later = no_less _ _ (h.faults Output);
     err_later = no_less _ _ (h.faults Error);
-    shim = (rose before after _ h, h.last);
+    shim = (h.stops, h.last);
     stands = tt;
     sinks = tt;
   }
   causes_err Memory h = record {
     out_later = no_less _ _ (h.faults Output);
     err_later = no_less _ _ (h.faults Error);
-    shim = (rose before after _ h, h.last);
+    shim = (h.stops, h.last);
     stands = tt;
     sinks = tt;
   }

@@ -3,7 +3,7 @@ use Rattle.std.specs.Prelude.{ℕ, ◌≡◌, ◌≤◌, Bool, true, false, Opti
 use Rattle.std.specs.Prelude.{OnOk}
 use Rattle.dos_world.specs.declared.Question.{Question}
 use Rattle.dos_world.specs.declared.Question.TheVariants.{Signals, Input, Clock, End}
-use Rattle.dos_io.specs.Outside.{Rose}
+use Rattle.dos_io.specs.Outside.{counted_to_limit}
 use Rattle.dos_io.specs.Shims.{ShimState}
 use Rattle.kernel_calls.specs.StateWorld.{HasSinkCause, shim_stop}
 use Rattle.kernel_calls.specs.declared.state.RunStop.{RunStop}
@@ -15,12 +15,12 @@ pub record HasNotStopped (before after : ShimState) : Type 0 where
   pub stops : after.stops ≡ before.stops
   pub last : after.last ≡ before.last
 
--- The shim stopped so, if the stop is a shim's; else it hasn't stopped.
+-- The shim stopped so, once, if the stop is a shim's; else it hasn't stopped.
 abbrev pub HasShimCause : RunStop → ShimState → ShimState → Type 0
 HasShimCause stop before after =
     elim (shim_stop stop) [
       | None ↦ HasNotStopped before after
-      | Some s ↦ Rose before.stops after.stops × (after.last ≡ Some s)
+      | Some s ↦ (after.stops ≡ counted_to_limit before.stops) × (after.last ≡ Some s)
     ]
 
 -- whether what was asked is the run's end

@@ -160,9 +160,10 @@ one_log a b version header same =
     ∙ ap (λ (n : ℕ). log_of b.version b.header b.entries b.ending n) rounds
 
 pub recorded_once : RecordedRunsAreOne
-recorded_once plan host after other_after log other seen other_seen a b =
-    let same = one_run (BothGiven plan.posts plan.clock host after other_after)
-    (given_determines plan.posts plan.clock host after other_after) plan.images plan.config
+recorded_once plan host asked other_asked after other_after log other seen other_seen a b =
+    let same = one_run (BothGiven plan.posts plan.clock host after.told other_after.told)
+    (given_determines plan.posts plan.clock host after.told other_after.told) plan.images
+    plan.config
     (exchanges log) (exchanges other) seen other_seen ([], a.given, b.given) a.ran.fits b.ran.fits
     a.ran.is b.ran.is in
     (one_log log other (a.version ∙ sym b.version) (a.header ∙ sym b.header) same.0, same.1)
@@ -199,9 +200,10 @@ room_at header posts seen (e ∷ es) (f ∷ fs) next rest ending rounds is had n
     (ap (λ x. seen ++ x ∷ fs) (sym first) ∙ sym (append_assoc seen (e ∷ []) fs)) none)
 
 pub full_never_ends : FullRunsNeverEnd
-full_never_ends plan host after other_after log seen output error whole full =
-    let parts = next_asked (BothGiven plan.posts plan.clock host after other_after)
-    (given_determines plan.posts plan.clock host after other_after) (exchanges log) full.before
+full_never_ends plan host asked other_asked after other_after log seen output error whole full =
+    let parts = next_asked (BothGiven plan.posts plan.clock host after.told other_after.told)
+    (given_determines plan.posts plan.clock host after.told other_after.told) (exchanges log)
+    full.before
     full.question (group plan.images plan.config) ([], whole.given, full.given) whole.ran.fits
     full.ran.asked in
     room_at plan.header plan.posts [] log.entries full.before parts.next parts.rest log.ending

@@ -8,11 +8,12 @@ use Rattle.dos_world.specs.declared.Post.{Post}
 use Rattle.dos_world.specs.declared.Question.{Question}
 use Rattle.dos_io.specs.Given.{Given}
 use Rattle.dos_io.specs.Hosts.{Told}
-use Rattle.dos_io.specs.Outside.{Rose}
+use Rattle.dos_io.specs.Outside.{Rose, counted_to_limit}
 use Rattle.dos_io.specs.Shims.{HasNoEnd}
 use Rattle.dos_io.specs.declared.exchange.ClockRule.{ClockRule}
 use Rattle.dos_io.specs.declared.exchange.Exchange.{Exchange}
 use Rattle.dos_io.specs.declared.exchange.Exchange.TheVariants.{End}
+use Rattle.dos_io.specs.declared.host_question.HostQuestion.{HostQuestion}
 use Rattle.dos_io.specs.declared.shim.ShimStop.{ShimStop}
 use Rattle.dos_io.specs.declared.shim.ShimStop.TheVariants as stops
 use Rattle.elf_image.specs.Image.{Image}
@@ -26,18 +27,21 @@ use Rattle.kernel_calls.specs.declared.state.RunStop.TheVariants.{OutFault, ErrF
 use Rattle.worker_pool.specs.Ran.{GrewBy}
 use Rattle.shim_log.specs.declared.header.LogHeader.{LogHeader}
 use Rattle.shim_log.specs.declared.version.LogVersion.TheVariants.{Two}
+use Rattle.shim_log.specs.Asking.{RecorderAsks, host_questions, stop_questions}
 use Rattle.shim_log.specs.Ledger.{RecorderFollows, IsLedger, LedgerState, MayStop, empty_ledger}
 use Rattle.shim_log.specs.Ledger.{end_of_ledger}
 use Rattle.shim_log.specs.Ledger.{recorder_state}
 use Rattle.shim_log.specs.LogText.{Log, exchanges, logtext}
 use Rattle.shim_log.specs.Ranges.{AreEntries, FitsLog}
 use Rattle.shim_log.specs.Room.{HadRoom, most_bytes}
+use Rattle.shim_log.proofs.AskingCalls.{asked_until, asked_whole}
 use Rattle.shim_log.proofs.RecorderLaws.{no_end, recording_given}
 use Rattle.flat_machine.specs.Machine.{Seen}
 use Rattle.dpg_run.specs.GroupRuns.{CutGroup, RanGroup, StoppedGroup}
 use Rattle.logged_runs.specs.Opened.{IsOpenedWith}
 use Rattle.logged_runs.specs.Runs.{Ended, Put, RanUntil, RanWhole}
-use Rattle.logged_runs.specs.Recording.{Recorded, RecordedAhead, RecordedUntil, plan_of}
+use Rattle.logged_runs.specs.Recording.{HostSeen, Recorded, RecordedAhead, RecordedUntil}
+use Rattle.logged_runs.specs.Recording.{host_seen, plan_of}
 use Rattle.logged_runs.proofs.FromOpening.{ran_ahead, ran_until, ran_whole, put_ahead, put_until}
 use Rattle.logged_runs.proofs.FromOpening.{until_no_end}
 use Rattle.logged_runs.proofs.Stops.{stops_so}
@@ -106,6 +110,15 @@ followed told faults start after h h' i i' before left follows =
     (subst (λ x. RecorderFollows start after (told h) (told x) (faults h) (faults x)) (sym left)
     follows)
 
+pub asked_followed : {H : Type 0} (asked : H → List HostQuestion) (faults : H → ℕ)
+    (start after : LedgerState) (h h' i i' : H) → h ≡ h' → i' ≡ i
+    → RecorderAsks start after (asked h) (asked i) (faults h) (faults i)
+    → RecorderAsks start after (asked h') (asked i') (faults h') (faults i')
+asked_followed asked faults start after h h' i i' before left asks =
+    subst (λ x. RecorderAsks start after (asked x) (asked i') (faults x) (faults i')) before
+    (subst (λ x. RecorderAsks start after (asked h) (asked x) (faults h) (faults x)) (sym left)
+    asks)
+
 pub no_end_told : (start start' : LedgerState) → start ≡ start'
     → start' ≡ empty_ledger start'.posts start'.clock start'.header start'.room
     → HasNoEnd (recorder_state start).told
@@ -114,8 +127,9 @@ no_end_told start start' same begins =
 
 -- ---- the run
 
-module _ (k : Held) (start after : LedgerState) (a b : Option Told) (m n : ℕ)
-    (o e o1 e1 : Option (List ℕ)) (follows : RecorderFollows start after a b m n)
+module _ (k : Held) (start after : LedgerState) (a b : HostSeen) (m n : ℕ)
+    (o e o1 e1 : Option (List ℕ)) (follows : RecorderFollows start after a.told b.told m n)
+    (asks : RecorderAsks start after a.asked b.asked m n)
     (begins : start ≡ empty_ledger start.posts start.clock start.header start.room) where
   abbrev told : List Exchange
   told = (recorder_state after).told
@@ -123,10 +137,33 @@ module _ (k : Held) (start after : LedgerState) (a b : Option Told) (m n : ℕ)
   nothing_told : (recorder_state start).told ≡ []
   nothing_told = ap (λ (s : LedgerState). (recorder_state s).told) begins
 
-  all_given : Given start.posts start.clock 0 a b told
+  all_given : Given start.posts start.clock 0 a.told b.told told
   all_given =
-      recording_given start.posts start.clock start.header start.room after a b m n
-      (subst (λ (s : LedgerState). RecorderFollows s after a b m n) begins follows)
+      recording_given start.posts start.clock start.header start.room after a.told b.told m n
+      (subst (λ (s : LedgerState). RecorderFollows s after a.told b.told m n) begins follows)
+
+  all_asked : RecorderAsks (empty_ledger start.posts start.clock start.header start.room) after
+      a.asked b.asked m n
+  all_asked = subst (λ (s : LedgerState). RecorderAsks s after a.asked b.asked m n) begins asks
+
+  -- where it never stopped
+  none_stopped : after.last ≡ start.last
+      → (b.asked ≡ a.asked ++ host_questions start.clock told) × (n ≡ m)
+  none_stopped stands =
+      asked_whole start.posts start.clock start.header start.room after a.asked b.asked m n
+      all_asked (stands ∙ ap (λ (s : LedgerState). s.last) begins)
+
+  -- where it stopped once
+  once_stopped : (question : Question) (stop : ShimStop)
+      → after.stops ≡ counted_to_limit start.stops → after.asked ≡ Some question
+      → after.last ≡ Some stop
+      → (b.asked ≡ a.asked ++ (host_questions start.clock told
+      ++ stop_questions start.clock question stop))
+      × ((stop ≡ stops.HostFault → ⊥) → n ≡ m)
+  once_stopped question stop count at so =
+      asked_until start.posts start.clock start.header start.room after a.asked b.asked m n
+      all_asked question stop
+      (count ∙ ap (λ (s : LedgerState). counted_to_limit s.stops) begins) at so
 
   had_room : IsLedger after → HadRoom start.header start.posts [] after.entries
   had_room kept =
@@ -137,14 +174,15 @@ module _ (k : Held) (start after : LedgerState) (a b : Option Told) (m n : ℕ)
   -- it came to its end, and made this log
   of_start : (log : Log) (k' : Held) (ending : Ending) (tally tally' work : ℕ)
       → RanGroup k.config k.state (telling (recorder_state start).told o e) ending k'.state
-      (telling told o1 e1) work → GrewBy tally tally' work → IsLedger after
+      (telling told o1 e1) work → GrewBy tally tally' work → after.last ≡ start.last
+      → IsLedger after
       → exchanges log ≡ told → log.version ≡ Two → log.header ≡ after.header → FitsLog log
       → length (logtext log) ≤ most_bytes → (images : List Image) (config : Config)
       → IsOpenedWith k images config
       → (seen : Seen) × Recorded (plan_of images config start) a b log seen
       × Ended k' ending seen o e o1 e1 tally tally'
-  of_start log k' ending tally tally' work run grew kept is version header fits small images config
-      opened =
+  of_start log k' ending tally tally' work run grew stands kept is version header fits small images
+      config opened =
       let ran = ran_whole k (recorder_state start).told told o e o1 e1 nothing_told images config
       opened k' ending tally tally' work run grew in
       let entries : log.entries ≡ after.entries =
@@ -152,7 +190,10 @@ module _ (k : Held) (start after : LedgerState) (a b : Option Told) (m n : ℕ)
         ran.0,
         record {
           ran = subst (λ es. RanWhole images config es ran.0) (sym is) ran.1;
-          given = subst (λ es. Given start.posts start.clock 0 a b es) (sym is) all_given;
+          given = subst (λ es. Given start.posts start.clock 0 a.told b.told es) (sym is)
+              all_given;
+          asked = subst (λ es. b.asked ≡ a.asked ++ host_questions start.clock es) (sym is)
+              (none_stopped stands).0;
           version = version;
           header = header ∙ follows.header_same;
           ranges = fits;
@@ -166,12 +207,13 @@ module _ (k : Held) (start after : LedgerState) (a b : Option Told) (m n : ℕ)
   -- it came to a question, at which the recorder stopped so
   until : (stop : ShimStop)
       → StoppedGroup k.config k.state (telling (recorder_state start).told o e)
-      (telling told o1 e1) after.asked → after.last ≡ Some stop → IsLedger after
+      (telling told o1 e1) after.asked → after.stops ≡ counted_to_limit start.stops
+      → after.last ≡ Some stop → IsLedger after
       → (images : List Image) (config : Config) → IsOpenedWith k images config
       → (output : List ℕ) × (error : List ℕ)
       × RecordedUntil (plan_of images config start) a b stop output error
       × Put o e o1 e1 output error
-  until stop run last kept images config opened =
+  until stop run count last kept images config opened =
       let ran = ran_until k (recorder_state start).told told o e o1 e1 nothing_told images config
       opened after.asked run in
       let none : HasNoEnd told =
@@ -188,7 +230,11 @@ module _ (k : Held) (start after : LedgerState) (a b : Option Told) (m n : ℕ)
           ran = subst
               (λ es. RanUntil images config es run.question run.more.output run.more.error) entries
               ran;
-          given = subst (λ es. Given start.posts start.clock 0 a b es) entries all_given;
+          given = subst (λ es. Given start.posts start.clock 0 a.told b.told es) entries
+              all_given;
+          asked = subst (λ es. b.asked ≡ a.asked ++ (host_questions start.clock es
+              ++ stop_questions start.clock run.question stop)) entries
+              (once_stopped run.question stop count run.asked_is last).0;
           room = had_room kept;
           stops = may_stop start after run.question stop follows.header_same follows.posts_same
               follows.clock_same
@@ -207,20 +253,22 @@ module _ (k : Held) (start after : LedgerState) (a b : Option Told) (m n : ℕ)
       → IsOpenedWith k images config → (output : List ℕ) × (error : List ℕ)
       × RecordedUntil (plan_of images config start) a b why output error
       × Put o e o1 e1 output error)
-  stopped_start HostFault run cause kept = until stops.HostFault run cause.1 kept
-  stopped_start LogFull run cause kept = until stops.LogFull run cause.1 kept
-  stopped_start (Misfit x) run cause kept = until (stops.Misfit x) run cause.1 kept
+  stopped_start HostFault run cause kept = until stops.HostFault run cause.0 cause.1 kept
+  stopped_start LogFull run cause kept = until stops.LogFull run cause.0 cause.1 kept
+  stopped_start (Misfit x) run cause kept = until (stops.Misfit x) run cause.0 cause.1 kept
   stopped_start OutFault run cause kept = tt
   stopped_start ErrFault run cause kept = tt
-  stopped_start Memory run cause kept = until stops.Memory run cause.1 kept
+  stopped_start Memory run cause kept = until stops.Memory run cause.0 cause.1 kept
 
   -- it was cut off
-  ahead_start : CutGroup k.config k.state (telling (recorder_state start).told o e)
+  ahead_start : (stop : RunStop)
+      → HasShimCause stop (recorder_state start) (recorder_state after)
+      → CutGroup k.config k.state (telling (recorder_state start).told o e)
       (telling told o1 e1) → (images : List Image) (config : Config) → IsOpenedWith k images config
       → (output : List ℕ) × (error : List ℕ)
-      × RecordedAhead (plan_of images config start) a b output error
+      × RecordedAhead (plan_of images config start) a b stop output error
       × Put o e o1 e1 output error
-  ahead_start cut images config opened = (
+  ahead_start stop cause cut images config opened = (
     cut.more.output,
     cut.more.error,
     record {
@@ -228,9 +276,35 @@ module _ (k : Held) (start after : LedgerState) (a b : Option Told) (m n : ℕ)
       ran = ran_ahead k (recorder_state start).told told o e o1 e1 nothing_told images config
           opened cut;
       given = all_given;
+      asked = asked_by stop cause;
     },
     put_ahead k (recorder_state start).told told o e o1 e1 nothing_told images config opened cut,
   )
+    where
+      asked_by : (stop : RunStop) → HasShimCause stop (recorder_state start) (recorder_state after)
+          → shim_stop stop ≡ None → b.asked ≡ a.asked ++ host_questions start.clock told
+      asked_by OutFault cause none = (none_stopped cause.last).0
+      asked_by ErrFault cause none = (none_stopped cause.last).0
+      asked_by HostFault cause none = absurd cc
+      asked_by LogFull cause none = absurd cc
+      asked_by (Misfit x) cause none = absurd cc
+      asked_by Memory cause none = absurd cc
+
+  -- its host didn't fail
+  steady_start : (stop : RunStop)
+      → OnSome (shim_stop stop) (StoppedGroup k.config k.state
+      (telling (recorder_state start).told o e) (telling told o1 e1) after.asked)
+      → HasShimCause stop (recorder_state start) (recorder_state after)
+      → (stop ≡ HostFault → ⊥) → n ≡ m
+  steady_start HostFault run cause other = absurd (other refl)
+  steady_start LogFull run cause other =
+      (once_stopped run.question stops.LogFull cause.0 run.asked_is cause.1).1 (λ is. cc)
+  steady_start (Misfit x) run cause other =
+      (once_stopped run.question (stops.Misfit x) cause.0 run.asked_is cause.1).1 (λ is. cc)
+  steady_start Memory run cause other =
+      (once_stopped run.question stops.Memory cause.0 run.asked_is cause.1).1 (λ is. cc)
+  steady_start OutFault run cause other = (none_stopped cause.last).1
+  steady_start ErrFault run cause other = (none_stopped cause.last).1
 
   -- its host failed
   rose_start : (stop : RunStop) → HasShimCause stop (recorder_state start) (recorder_state after)
@@ -252,10 +326,11 @@ module _ (k : Held) (start after : LedgerState) (a b : Option Told) (m n : ℕ)
 
 -- ---- the same, of the ledger that the recorder was made of
 
-module _ (k : Held) (ledger start after : LedgerState) (a b : Option Told) (m n : ℕ)
+module _ (k : Held) (ledger start after : LedgerState) (a b : HostSeen) (m n : ℕ)
     (o e o1 e1 : Option (List ℕ)) (same : start ≡ ledger)
     (begins : ledger ≡ empty_ledger ledger.posts ledger.clock ledger.header ledger.room)
-    (follows : RecorderFollows start after a b m n) where
+    (follows : RecorderFollows start after a.told b.told m n)
+    (asks : RecorderAsks start after a.asked b.asked m n) where
   begun : start ≡ empty_ledger start.posts start.clock start.header start.room
   begun = subst (λ (s : LedgerState). s ≡ empty_ledger s.posts s.clock s.header s.room) (sym same)
       begins
@@ -263,18 +338,19 @@ module _ (k : Held) (ledger start after : LedgerState) (a b : Option Told) (m n 
   pub recorded : (log : Log) (k' : Held) (ending : Ending) (tally tally' work : ℕ)
       → RanGroup k.config k.state (telling (recorder_state start).told o e) ending k'.state
       (telling (recorder_state after).told o1 e1) work → GrewBy tally tally' work
-      → IsLedger after → exchanges log ≡ (recorder_state after).told → log.version ≡ Two
+      → after.last ≡ start.last → IsLedger after
+      → exchanges log ≡ (recorder_state after).told → log.version ≡ Two
       → log.header ≡ after.header
       → FitsLog log → length (logtext log) ≤ most_bytes → (images : List Image)
       (config : Config) → IsOpenedWith k images config
       → (seen : Seen) × Recorded (plan_of images config ledger) a b log seen
       × Ended k' ending seen o e o1 e1 tally tally'
-  recorded log k' ending tally tally' work run grew kept is version header fits small images config
-      opened =
+  recorded log k' ending tally tally' work run grew stands kept is version header fits small images
+      config opened =
       subst (λ (s : LedgerState). (seen : Seen) × Recorded (plan_of images config s) a b log seen
       × Ended k' ending seen o e o1 e1 tally tally') same
-      (of_start k start after a b m n o e o1 e1 follows begun log k' ending tally tally' work run
-      grew kept is version header fits small images config opened)
+      (of_start k start after a b m n o e o1 e1 follows asks begun log k' ending tally tally' work
+      run grew stands kept is version header fits small images config opened)
 
   pub stopped : (stop : RunStop)
       → OnSome (shim_stop stop) (StoppedGroup k.config k.state
@@ -289,19 +365,33 @@ module _ (k : Held) (ledger start after : LedgerState) (a b : Option Told) (m n 
       (config : Config) → IsOpenedWith k images config → (output : List ℕ) × (error : List ℕ)
       × RecordedUntil (plan_of images config s) a b why output error
       × Put o e o1 e1 output error)) same
-      (stopped_start k start after a b m n o e o1 e1 follows begun stop run cause kept)
+      (stopped_start k start after a b m n o e o1 e1 follows asks begun stop run cause kept)
 
-  pub recorded_ahead : CutGroup k.config k.state (telling (recorder_state start).told o e)
+  pub recorded_ahead : (stop : RunStop)
+      → HasShimCause stop (recorder_state start) (recorder_state after)
+      → CutGroup k.config k.state (telling (recorder_state start).told o e)
       (telling (recorder_state after).told o1 e1) → (images : List Image) (config : Config)
       → IsOpenedWith k images config → (output : List ℕ) × (error : List ℕ)
-      × RecordedAhead (plan_of images config ledger) a b output error
+      × RecordedAhead (plan_of images config ledger) a b stop output error
       × Put o e o1 e1 output error
-  recorded_ahead cut images config opened =
+  recorded_ahead stop cause cut images config opened =
       subst (λ (s : LedgerState). (output : List ℕ) × (error : List ℕ)
-      × RecordedAhead (plan_of images config s) a b output error
+      × RecordedAhead (plan_of images config s) a b stop output error
       × Put o e o1 e1 output error) same
-      (ahead_start k start after a b m n o e o1 e1 follows begun cut images config opened)
+      (ahead_start k start after a b m n o e o1 e1 follows asks begun stop cause cut images config
+      opened)
 
   pub host_rose : (stop : RunStop) → HasShimCause stop (recorder_state start) (recorder_state after)
       → stop ≡ HostFault → Rose m n
-  host_rose = rose_start k start after a b m n o e o1 e1 follows begun
+  host_rose = rose_start k start after a b m n o e o1 e1 follows asks begun
+
+  pub host_stands : (stop : RunStop)
+      → OnSome (shim_stop stop) (StoppedGroup k.config k.state
+      (telling (recorder_state start).told o e) (telling (recorder_state after).told o1 e1)
+      after.asked)
+      → HasShimCause stop (recorder_state start) (recorder_state after)
+      → (stop ≡ HostFault → ⊥) → n ≡ m
+  host_stands = steady_start k start after a b m n o e o1 e1 follows asks begun
+
+  pub host_never : after.last ≡ start.last → n ≡ m
+  host_never stands = (none_stopped k start after a b m n o e o1 e1 follows asks begun stands).1

@@ -14,6 +14,10 @@ pub this_stop : (T : Type 0) (stop other : RunStop) → IsErrOf {T = T} (Err sto
     → stop ≡ other
 this_stop T stop other is = cc
 
+pub stop_is : (T : Type 0) (stop other : RunStop) → stop ≡ other
+    → ◌≡◌ {A = Result T RunStop} (Err stop) (Err other)
+stop_is T stop other is = ap (λ (s : RunStop). (let result : Result T RunStop = Err s in result)) is
+
 -- what isn't that stop isn't it in a result of another type
 pub other_stop : (T U : Type 0) (stop other : RunStop)
     → (◌≡◌ {A = Result T RunStop} (Err stop) (Err other) → ⊥)

@@ -1,31 +1,34 @@
 -- Laws of recorded and replayed runs; the functions of the module laws promise them.
-use Rattle.std.specs.Prelude.{◌≡◌, ℕ, List, Option, Some, None}
+use Rattle.std.specs.Prelude.{◌≡◌, ℕ, List, Some, None}
 use Rattle.dos_io.specs.Hosts.{Told}
+use Rattle.dos_io.specs.declared.host_question.HostQuestion.{HostQuestion}
 use Rattle.dos_io.specs.declared.shim.ShimStop.TheVariants.{LogFull}
 use Rattle.shim_log.specs.LogText.{Log, exchanges}
 use Rattle.dpg_run.specs.Fits.{misfit}
 use Rattle.flat_machine.specs.Machine.{Seen}
-use Rattle.logged_runs.specs.Recording.{Plan, Recorded, RecordedUntil}
+use Rattle.logged_runs.specs.Recording.{HostSeen, Plan, Recorded, RecordedUntil, host_seen}
 use Rattle.logged_runs.specs.Replaying.{Replayed, config_of}
 
 -- Where the header has the configuration, a replay asks exactly what was recorded, shows the same,
 -- and finds no misfit.
 abbrev pub RecordingsReplay : Type 0
-RecordingsReplay = (plan : Plan) (host host_after : Option Told) (log : Log) (seen : Seen)
+RecordingsReplay = (plan : Plan) (host host_after : HostSeen) (log : Log) (seen : Seen)
     → Recorded plan host host_after log seen → plan.config ≡ config_of plan.header
     → Replayed plan.images log seen
     × (misfit plan.images (config_of log.header) (exchanges log) ≡ None)
 
 -- Two recordings of one plan, over hosts that tell the same before, are one.
 abbrev pub RecordedRunsAreOne : Type 0
-RecordedRunsAreOne = (plan : Plan) (host : Told) (after other_after : Option Told)
-    (log other : Log) (seen other_seen : Seen) → Recorded plan (Some host) after log seen
-    → Recorded plan (Some host) other_after other other_seen
+RecordedRunsAreOne = (plan : Plan) (host : Told) (asked other_asked : List HostQuestion)
+    (after other_after : HostSeen) (log other : Log) (seen other_seen : Seen)
+    → Recorded plan (host_seen (Some host) asked) after log seen
+    → Recorded plan (host_seen (Some host) other_asked) other_after other other_seen
     → (log ≡ other) × (seen ≡ other_seen)
 
 -- A run that has no room for its log comes to no end: over a host that tells the same before, the
 -- same plan has no whole log.
 abbrev pub FullRunsNeverEnd : Type 0
-FullRunsNeverEnd = (plan : Plan) (host : Told) (after other_after : Option Told) (log : Log)
-    (seen : Seen) (output error : List ℕ) → Recorded plan (Some host) after log seen
-    → RecordedUntil plan (Some host) other_after LogFull output error → ⊥
+FullRunsNeverEnd = (plan : Plan) (host : Told) (asked other_asked : List HostQuestion)
+    (after other_after : HostSeen) (log : Log) (seen : Seen) (output error : List ℕ)
+    → Recorded plan (host_seen (Some host) asked) after log seen
+    → RecordedUntil plan (host_seen (Some host) other_asked) other_after LogFull output error → ⊥

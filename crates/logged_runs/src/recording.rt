@@ -1,6 +1,6 @@
 // A run that is recorded.
 ghost use Rattle.std.specs.Prelude.{◌≡◌, ◌≢◌, ◌≤◌, ℕ, List, Err, false, IfOk, IfErr, IfSome};
-ghost use Rattle.std.specs.Prelude.{IsErrOf, OnErr};
+ghost use Rattle.std.specs.Prelude.{IsErrOf};
 ghost use Rattle.dos_world.specs.declared.Config.{Config};
 ghost use Rattle.dos_io.specs.Outside.{Rose};
 ghost use Rattle.elf_image.specs.Image.{Image};
@@ -9,7 +9,8 @@ ghost use Rattle.kernel_calls.specs.StateWorld.{HasSinkCause, shim_stop};
 ghost use Rattle.shim_log.specs.Ledger.{empty_ledger};
 ghost use Rattle.logged_runs.specs.Opened.{IsOpenedWith};
 ghost use Rattle.logged_runs.specs.Runs.{Ended, Put};
-ghost use Rattle.logged_runs.specs.Recording.{Recorded, RecordedAhead, RecordedUntil, plan_of};
+ghost use Rattle.logged_runs.specs.Recording.{Recorded, RecordedAhead, RecordedUntil, host_seen};
+ghost use Rattle.logged_runs.specs.Recording.{plan_of};
 
 use dos_io::{Host, Sink};
 use dos_world::Ending;
@@ -45,24 +46,29 @@ pub fn record_group<H: Host, O: Sink, E: Sink, W: Workers>(
         ≡ empty_ledger ledger.posts ledger.clock ledger.header ledger.room }
     ensures ran { IfOk result (λ x. (images : List Image) (config : Config)
         → IsOpenedWith kernel.old images config
-        → (seen : Seen) × Recorded (plan_of images config ledger) (H.told host.old)
-        (H.told host.new) x.1 seen
+        → (seen : Seen) × Recorded (plan_of images config ledger)
+        (host_seen (H.told host.old) (H.asked host.old))
+        (host_seen (H.told host.new) (H.asked host.new)) x.1 seen
         × Ended kernel.new x.0 seen (O.told out.old) (E.told err.old) (O.told out.new)
         (E.told err.new) (W.tally workers.old) (W.tally workers.new)) }
     ensures stopped { IfErr result (λ stop. IfSome (shim_stop stop) (λ why. (images : List Image)
         (config : Config) → IsOpenedWith kernel.old images config
         → (output : List ℕ) × (error : List ℕ)
-        × RecordedUntil (plan_of images config ledger) (H.told host.old) (H.told host.new) why
-        output error
+        × RecordedUntil (plan_of images config ledger)
+        (host_seen (H.told host.old) (H.asked host.old))
+        (host_seen (H.told host.new) (H.asked host.new)) why output error
         × Put (O.told out.old) (E.told err.old) (O.told out.new) (E.told err.new) output error)) }
-    ensures cut { OnErr result ((images : List Image) (config : Config)
+    ensures cut { IfErr result (λ stop. (images : List Image) (config : Config)
         → IsOpenedWith kernel.old images config
         → (output : List ℕ) × (error : List ℕ)
-        × RecordedAhead (plan_of images config ledger) (H.told host.old) (H.told host.new)
-        output error
+        × RecordedAhead (plan_of images config ledger)
+        (host_seen (H.told host.old) (H.asked host.old))
+        (host_seen (H.told host.new) (H.asked host.new)) stop output error
         × Put (O.told out.old) (E.told err.old) (O.told out.new) (E.told err.new) output error) }
     ensures host_cause { IsErrOf result RunStop.HostFault
         → Rose (H.faults host.old) (H.faults host.new) }
+    ensures host_steady { result ≢ Err RunStop.HostFault
+        → H.faults host.new ≡ H.faults host.old }
     ensures sinks { IfErr result (λ stop. HasSinkCause stop (O.faults out.old) (O.faults out.new)
         (E.faults err.old) (E.faults err.new)) }
     ensures out_steady { result ≢ Err RunStop.OutFault → O.faults out.new ≡ O.faults out.old }

@@ -1,5 +1,6 @@
 use Rattle.std.proofs.Common.{le_refl, le_trans, refl, [], ◌∷◌}
 use Rattle.std.proofs.lemmas.Result.{err_from_is_err_and}
+use Rattle.logged_runs.specs.Recording.{host_seen}
 use Rattle.dos_cmd.specs.Outside.{Outside, Faults, outside, faults}
 use Rattle.dos_cmd.specs.Requests.{request_asked}
 use Rattle.dos_cmd.proofs.Asked.{stopped_in_reads, written_then}
@@ -11,7 +12,8 @@ returns-in_err-kernel g c =
     let p = err_from_is_err_and c.from_residual.result c.from_residual.ensures.1 in
     rw (p.1, p.2) (record {
       did = λ n. tt;
-      leaves = (λ n. c.in_err-kernel.ensures.leaves n (g.H.Host.told c.args.host.now)
+      leaves = (λ n. c.in_err-kernel.ensures.leaves n
+          (host_seen (g.H.Host.told c.args.host.now) (g.H.Host.asked c.args.host.now))
           (g.O.Sink.told c.args.out.now) (g.E.Sink.told c.args.err.now)
           (g.W.Workers.tally c.args.workers.now) (g.H.Host.faults c.args.host.now)
           (g.O.Sink.faults c.args.out.now) (g.E.Sink.faults c.args.err.now));
@@ -19,6 +21,7 @@ returns-in_err-kernel g c =
           (c.args.request.now.log.now ∷ []) _ _ _ c.in_err-kernel.ensures.asked;
       files_later = c.prepare.ensures.later;
       host_later = le_refl _;
+      host_steady = λ _. refl;
       out_later = le_refl _;
       err_later = le_refl _;
       out_steady = λ _. refl;
@@ -32,7 +35,9 @@ returns g c =
     let ready = at.ready in
     let o : Outside = outside (g.F.Files.tells c.args.files.now)
     (g.F.Files.content c.args.files.now) (g.F.Files.content c.run_opened-ended.new.files)
-    (g.H.Host.told c.args.host.now) (g.H.Host.told c.run_opened-ended.new.host)
+    (host_seen (g.H.Host.told c.args.host.now) (g.H.Host.asked c.args.host.now))
+    (host_seen (g.H.Host.told c.run_opened-ended.new.host)
+    (g.H.Host.asked c.run_opened-ended.new.host))
     (g.O.Sink.told c.args.out.now) (g.O.Sink.told c.run_opened-ended.new.out)
     (g.E.Sink.told c.args.err.now) (g.E.Sink.told c.run_opened-ended.new.err)
     (g.W.Workers.tally c.args.workers.now) (g.W.Workers.tally c.run_opened-ended.new.workers) in
@@ -62,6 +67,7 @@ returns g c =
           (ready.prepared o)) c.run_opened-ended.ensures.asked;
       files_later = le_trans c.prepare.ensures.later c.run_opened-ended.ensures.files_later;
       host_later = c.run_opened-ended.ensures.host_later;
+      host_steady = c.run_opened-ended.ensures.host_steady;
       out_later = c.run_opened-ended.ensures.out_later;
       err_later = c.run_opened-ended.ensures.err_later;
       out_steady = c.run_opened-ended.ensures.out_steady;

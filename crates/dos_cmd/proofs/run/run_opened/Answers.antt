@@ -1,8 +1,9 @@
 use Rattle.std.proofs.Common.{le_refl, le_trans, refl, ◌∙◌}
+use Rattle.logged_runs.specs.Recording.{host_seen}
 use Rattle.dos_cmd.specs.Outside.{Outside, Faults, outside, faults}
 use Rattle.dos_cmd.proofs.Asked.{later_stop, not_asked}
 use Rattle.dos_cmd.proofs.RunEnds.{is_err_of, run_stopped, run_unended, run_did}
-use Rattle.dos_cmd.proofs.Steady.{no_stop, outputs_steady}
+use Rattle.dos_cmd.proofs.Steady.{host_steady, no_stop, outputs_steady}
 use Rattle.dos_cmd.proofs.run.run_opened.Goals as goal
 
 pub returns-in-Err : goal.returns-in-Err
@@ -11,7 +12,9 @@ returns-in-Err g c = record {
   leaves = let run = c.in-Err.ensures in
       let o : Outside = outside (g.F.Files.tells c.args.files.now)
       (g.F.Files.content c.args.files.now) (g.F.Files.content c.args.files.now)
-      (g.H.Host.told c.args.host.now) (g.H.Host.told c.record_group.new.host)
+      (host_seen (g.H.Host.told c.args.host.now) (g.H.Host.asked c.args.host.now))
+      (host_seen (g.H.Host.told c.record_group.new.host)
+      (g.H.Host.asked c.record_group.new.host))
       (g.O.Sink.told c.args.out.now) (g.O.Sink.told c.record_group.new.out)
       (g.E.Sink.told c.args.err.now) (g.E.Sink.told c.record_group.new.err)
       (g.W.Workers.tally c.args.workers.now) (g.W.Workers.tally c.record_group.new.workers) in
@@ -26,6 +29,7 @@ returns-in-Err g c = record {
   asked = not_asked c.args.name.now _ _ (later_stop c.in-Err.stop _ c.refusal_by.ensures);
   files_later = le_refl _;
   host_later = c.in-Err.ensures.host_later;
+  host_steady = host_steady c.in-Err.stop _ _ _ c.refusal_by.ensures c.in-Err.ensures.host_steady;
   out_later = c.in-Err.ensures.out_later;
   err_later = c.in-Err.ensures.err_later;
   out_steady = λ other. (outputs_steady c.in-Err.stop _ _ _ _ _ c.refusal_by.ensures
@@ -40,7 +44,9 @@ returns-in-Ok g c =
     let run = c.in-Ok.ensures in
     let o : Outside = outside (g.F.Files.tells c.args.files.now)
     (g.F.Files.content c.args.files.now) (g.F.Files.content c.conclude.new.files)
-    (g.H.Host.told c.args.host.now) (g.H.Host.told c.record_group.new.host)
+    (host_seen (g.H.Host.told c.args.host.now) (g.H.Host.asked c.args.host.now))
+    (host_seen (g.H.Host.told c.record_group.new.host)
+    (g.H.Host.asked c.record_group.new.host))
     (g.O.Sink.told c.args.out.now) (g.O.Sink.told c.record_group.new.out)
     (g.E.Sink.told c.args.err.now) (g.E.Sink.told c.conclude.new.err)
     (g.W.Workers.tally c.args.workers.now) (g.W.Workers.tally c.record_group.new.workers) in
@@ -63,6 +69,7 @@ returns-in-Ok g c =
       asked = c.conclude.ensures.asked;
       files_later = c.conclude.ensures.files_later;
       host_later = c.in-Ok.ensures.host_later;
+      host_steady = λ _. run.host_steady (no_stop _ _);
       out_later = c.in-Ok.ensures.out_later;
       err_later = le_trans c.in-Ok.ensures.err_later c.conclude.ensures.err_later;
       out_steady = λ _. run.out_steady (no_stop _ _);

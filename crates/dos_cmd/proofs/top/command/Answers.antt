@@ -18,6 +18,7 @@ returns-in_err-request g c =
           read.only;
       files_later = le_refl _;
       host_later = le_refl _;
+      host_steady = λ _. refl;
       out_later = le_refl _;
       err_later = le_refl _;
       out_steady = λ _. refl;
@@ -39,6 +40,7 @@ returns g c =
       asked = asks_in c.execute-ended.result _ _ _ _ asked ended.asked;
       files_later = ended.files_later;
       host_later = ended.host_later;
+      host_steady = ended.host_steady;
       out_later = ended.out_later;
       err_later = ended.err_later;
       out_steady = ended.out_steady;

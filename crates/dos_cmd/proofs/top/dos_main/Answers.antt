@@ -1,10 +1,11 @@
-use Rattle.std.proofs.Common.{inl, le_trans, map, string_bytes, ◌∙◌}
+use Rattle.std.proofs.Common.{ap, inl, le_trans, map, string_bytes, ◌∙◌}
+use Rattle.dos_texts.specs.Exit.{refusal_status}
 use Rattle.dos_texts.proofs.Statuses.{refusal_ends_not}
 use Rattle.dos_cmd.proofs.Calls.{status_ends, ends_not_six, ends_or_not, finished_as}
 use Rattle.dos_cmd.proofs.Calls.{finished_not_none, finished_not_refused, finished_must, fails_none}
 use Rattle.dos_cmd.proofs.Calls.{fails_refused, fails_must, refused_as, cut_short}
 use Rattle.dos_cmd.proofs.Repeats.{repeats}
-use Rattle.dos_cmd.proofs.Steady.{no_sink, no_stop}
+use Rattle.dos_cmd.proofs.Steady.{no_host, no_sink, no_stop}
 use Rattle.dos_cmd.proofs.top.dos_main.Goals as goal
 
 -- ---- it did what it was asked for
@@ -27,6 +28,7 @@ returns-in-Ok g c = record {
       taken (finished_as _ _ _ _ c.ending_status.ensures c.in-Ok.ensures.finished) ask told);
   files_later = c.command.ensures.files_later;
   host_later = c.command.ensures.host_later;
+  host_steady = λ _ _. c.in-Ok.ensures.host_steady (no_stop _ _);
   out_later = c.command.ensures.out_later;
   err_later = c.command.ensures.err_later;
   out_steady = λ _. c.in-Ok.ensures.out_steady (no_stop _ _);
@@ -65,6 +67,8 @@ returns-in-Err g c = record {
       r.status_is r.fails ask told a b d);
   files_later = c.command.ensures.files_later;
   host_later = c.command.ensures.host_later;
+  host_steady = λ five six. c.in-Err.ensures.host_steady (no_host _ _
+      (λ is. five ((c.put_refusal.ensures.told six).1 ∙ ap refusal_status is)));
   out_later = c.command.ensures.out_later;
   err_later = le_trans c.command.ensures.err_later c.put_refusal.ensures.later;
   out_steady = λ other. c.in-Err.ensures.out_steady (no_sink _ _

@@ -1,6 +1,7 @@
 use Rattle.std.proofs.Common.{le_refl, refl, sym, ap, ◌∙◌}
 use Rattle.dos_words.specs.declared.request.Request.TheVariants.{Inspect}
 use Rattle.dos_cmd.proofs.Asked.{asks_as, none_named}
+use Rattle.logged_runs.specs.Recording.{host_seen}
 use Rattle.dos_cmd.proofs.Calls.{are_planned, did_as, fits_gen, fits_run, leaves_as}
 use Rattle.dos_cmd.proofs.top.execute.Goals as goal
 
@@ -44,6 +45,7 @@ returns-in-Run g c =
       asked = asks_as c.run.result _ _ _ _ c.in-Run.is (c.run.ensures.asked workers);
       files_later = c.run.ensures.files_later;
       host_later = c.run.ensures.host_later;
+      host_steady = c.run.ensures.host_steady;
       out_later = c.run.ensures.out_later;
       err_later = c.run.ensures.err_later;
       out_steady = c.run.ensures.out_steady;
@@ -56,7 +58,7 @@ returns-in-Run g c =
 pub returns-in-Replay : goal.returns-in-Replay
 returns-in-Replay g c =
     let workers = c.in-Replay.workers in
-    let host = g.H.Host.told c.args.host.now in
+    let host = host_seen (g.H.Host.told c.args.host.now) (g.H.Host.asked c.args.host.now) in
     record {
       did = did_as _ _ _ _ (c.replay.ensures.did workers host) c.in-Replay.is;
       leaves = leaves_as _ _ _ _ _ (c.replay.ensures.leaves workers host
@@ -64,6 +66,7 @@ returns-in-Replay g c =
       asked = asks_as c.replay.result _ _ _ _ c.in-Replay.is (c.replay.ensures.asked workers);
       files_later = c.replay.ensures.files_later;
       host_later = le_refl _;
+      host_steady = λ _. refl;
       out_later = c.replay.ensures.out_later;
       err_later = c.replay.ensures.err_later;
       out_steady = c.replay.ensures.out_steady;
@@ -76,7 +79,7 @@ returns-in-Replay g c =
 pub returns-in-Inspect : goal.returns-in-Inspect
 returns-in-Inspect g c =
     let same = c.in-Inspect.is ∙ ap Inspect (sym c.as_str.ensures) in
-    let host = g.H.Host.told c.args.host.now in
+    let host = host_seen (g.H.Host.told c.args.host.now) (g.H.Host.asked c.args.host.now) in
     let err = g.E.Sink.told c.args.err.now in
     let tally = g.W.Workers.tally c.args.workers.now in
     record {
@@ -86,6 +89,7 @@ returns-in-Inspect g c =
       asked = asks_as c.inspect.result _ _ _ _ same c.inspect.ensures.asked;
       files_later = c.inspect.ensures.files_later;
       host_later = le_refl _;
+      host_steady = λ _. refl;
       out_later = c.inspect.ensures.out_later;
       err_later = le_refl _;
       out_steady = c.inspect.ensures.out_steady;
@@ -110,7 +114,7 @@ returns-in-Gen g c =
     let workers = c.in-Gen.workers in
     let tells = g.F.Files.tells c.args.files.now in
     let files = g.F.Files.content c.args.files.now in
-    let host = g.H.Host.told c.args.host.now in
+    let host = host_seen (g.H.Host.told c.args.host.now) (g.H.Host.asked c.args.host.now) in
     let err = g.E.Sink.told c.args.err.now in
     record {
       did = did_as _ _ _ _ (c.generate.ensures.did workers tells files host err) c.in-Gen.is;
@@ -120,6 +124,7 @@ returns-in-Gen g c =
       asked = asks_as c.generate.result _ _ _ _ c.in-Gen.is (none_named c.generate.result _);
       files_later = le_refl _;
       host_later = le_refl _;
+      host_steady = λ _. refl;
       out_later = c.generate.ensures.out_later;
       err_later = le_refl _;
       out_steady = c.generate.ensures.out_steady;
@@ -131,7 +136,7 @@ returns-in-Gen g c =
 
 pub returns-in-Migrate : goal.returns-in-Migrate
 returns-in-Migrate g c =
-    let host = g.H.Host.told c.args.host.now in
+    let host = host_seen (g.H.Host.told c.args.host.now) (g.H.Host.asked c.args.host.now) in
     let err = g.E.Sink.told c.args.err.now in
     let tally = g.W.Workers.tally c.args.workers.now in
     record {
@@ -141,6 +146,7 @@ returns-in-Migrate g c =
       asked = asks_as c.migrate.result _ _ _ _ c.in-Migrate.is c.migrate.ensures.asked;
       files_later = c.migrate.ensures.files_later;
       host_later = le_refl _;
+      host_steady = λ _. refl;
       out_later = c.migrate.ensures.out_later;
       err_later = le_refl _;
       out_steady = c.migrate.ensures.out_steady;
@@ -153,7 +159,7 @@ returns-in-Migrate g c =
 pub returns-in-Trace : goal.returns-in-Trace
 returns-in-Trace g c =
     let workers = c.in-Trace.workers in
-    let host = g.H.Host.told c.args.host.now in
+    let host = host_seen (g.H.Host.told c.args.host.now) (g.H.Host.asked c.args.host.now) in
     record {
       did = did_as _ _ _ _ (c.trace.ensures.did workers host) c.in-Trace.is;
       leaves = leaves_as _ _ _ _ _ (c.trace.ensures.leaves workers host
@@ -161,6 +167,7 @@ returns-in-Trace g c =
       asked = asks_as c.trace.result _ _ _ _ c.in-Trace.is (c.trace.ensures.asked workers);
       files_later = c.trace.ensures.files_later;
       host_later = le_refl _;
+      host_steady = λ _. refl;
       out_later = c.trace.ensures.out_later;
       err_later = c.trace.ensures.err_later;
       out_steady = c.trace.ensures.out_steady;

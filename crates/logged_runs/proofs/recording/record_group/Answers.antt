@@ -1,7 +1,9 @@
 use Rattle.std.proofs.Common.{sym, ◌∙◌}
-use Rattle.logged_runs.proofs.Stops.{not_stopped, other_stop, this_stop}
+use Rattle.logged_runs.proofs.Stops.{not_stopped, other_stop, stop_is, this_stop}
 use Rattle.logged_runs.proofs.FromOpening.{is_told}
-use Rattle.logged_runs.proofs.Recordings.{followed, host_rose, no_end_told, recorded}
+use Rattle.logged_runs.specs.Recording.{HostSeen, host_seen}
+use Rattle.logged_runs.proofs.Recordings.{asked_followed, followed, host_never, host_rose}
+use Rattle.logged_runs.proofs.Recordings.{host_stands, no_end_told, recorded}
 use Rattle.logged_runs.proofs.Recordings.{recorded_ahead, stopped}
 use Rattle.logged_runs.proofs.recording.record_group.Goals as goal
 
@@ -28,15 +30,26 @@ returns-in-Ok g c =
     ∙ c.hand_back.ensures ∙ parts.value in
     let follows = followed g.H.Host.told g.H.Host.faults _ _ _ _ _ _ c.of-shim.ensures.value left
     run.follows.1 in
+    let asks = asked_followed g.H.Host.asked g.H.Host.faults _ _ _ _ _ _
+    c.of-shim.ensures.value left run.follows.2 in
+    let before : HostSeen = host_seen (g.H.Host.told c.args.host.now)
+    (g.H.Host.asked c.args.host.now) in
+    let after : HostSeen = host_seen (g.H.Host.told c.host-1.given.0)
+    (g.H.Host.asked c.host-1.given.0) in
     record {
       ran = recorded c.args.kernel.now c.args.ledger c.of-shim.result.ledger
-          c.run_group.new.shim.ledger _ _ _ _ _ _ _ _ c.of-shim.ensures.ledger c.requires.begins
-          follows c.into_parts-host.result.1
-          c.run_group.new.kernel c.in-Ok.ending _ _ run.runs.0 run.runs.1 run.runs.2 c.look.ensures
+          c.run_group.new.shim.ledger before after _ _ _ _ _ _ c.of-shim.ensures.ledger
+          c.requires.begins follows asks c.into_parts-host.result.1 c.run_group.new.kernel
+          c.in-Ok.ending _ _ run.runs.0 run.runs.1 run.runs.2 run.causes.stands.last c.look.ensures
           parts.log parts.version parts.header c.len-exchanges.ensures.fits parts.small;
       stopped = tt;
       cut = tt;
       host_cause = λ is. absurd (not_stopped _ _ is);
+      host_steady = λ _. host_never c.args.kernel.now c.args.ledger c.of-shim.result.ledger
+          c.run_group.new.shim.ledger before after _ _ (g.O.Sink.told c.args.out.now)
+          (g.E.Sink.told c.args.err.now) (g.O.Sink.told c.args.out.now)
+          (g.E.Sink.told c.args.err.now) c.of-shim.ensures.ledger c.requires.begins follows asks
+          run.causes.stands.last;
       sinks = tt;
       host_later = follows.grows;
       out_later = run.causes.out_later;
@@ -54,19 +67,30 @@ returns-in-Err g c =
     ∙ c.hand_back-in-Err.ensures ∙ host.value in
     let follows = followed g.H.Host.told g.H.Host.faults _ _ _ _ _ _ c.of-shim.ensures.value left
     run.follows.1 in
+    let asks = asked_followed g.H.Host.asked g.H.Host.faults _ _ _ _ _ _
+    c.of-shim.ensures.value left run.follows.2 in
+    let before : HostSeen = host_seen (g.H.Host.told c.args.host.now)
+    (g.H.Host.asked c.args.host.now) in
+    let after : HostSeen = host_seen (g.H.Host.told c.host-in-Err-1.given.0)
+    (g.H.Host.asked c.host-in-Err-1.given.0) in
     record {
       ran = tt;
       stopped = stopped c.args.kernel.now c.args.ledger c.of-shim.result.ledger
-          c.run_group.new.shim.ledger _ _ _ _ _ _ _ _ c.of-shim.ensures.ledger c.requires.begins
-          follows c.in-Err.stop run.asks run.causes.shim c.look-in-Err.ensures;
+          c.run_group.new.shim.ledger before after _ _ _ _ _ _ c.of-shim.ensures.ledger
+          c.requires.begins follows asks c.in-Err.stop run.asks run.causes.shim
+          c.look-in-Err.ensures;
       cut = recorded_ahead c.args.kernel.now c.args.ledger c.of-shim.result.ledger
-          c.run_group.new.shim.ledger _ _ _ _ _ _ _ _ c.of-shim.ensures.ledger c.requires.begins
-          follows run.cut;
+          c.run_group.new.shim.ledger before after _ _ _ _ _ _ c.of-shim.ensures.ledger
+          c.requires.begins follows asks c.in-Err.stop run.causes.shim run.cut;
       host_cause = λ is. host_rose c.args.kernel.now c.args.ledger c.of-shim.result.ledger
-          c.run_group.new.shim.ledger _ _ _ _ (g.O.Sink.told c.args.out.now) (g.E.Sink.told
-          c.args.err.now) (g.O.Sink.told c.args.out.now)
-          (g.E.Sink.told c.args.err.now) c.of-shim.ensures.ledger c.requires.begins follows
+          c.run_group.new.shim.ledger before after _ _ (g.O.Sink.told c.args.out.now)
+          (g.E.Sink.told c.args.err.now) (g.O.Sink.told c.args.out.now)
+          (g.E.Sink.told c.args.err.now) c.of-shim.ensures.ledger c.requires.begins follows asks
           c.in-Err.stop run.causes.shim (this_stop _ _ _ is);
+      host_steady = λ other. host_stands c.args.kernel.now c.args.ledger c.of-shim.result.ledger
+          c.run_group.new.shim.ledger before after _ _ _ _ _ _ c.of-shim.ensures.ledger
+          c.requires.begins follows asks c.in-Err.stop run.asks run.causes.shim
+          (λ is. other (stop_is _ _ _ is));
       sinks = run.causes.sinks;
       host_later = follows.grows;
       out_later = run.causes.out_later;
