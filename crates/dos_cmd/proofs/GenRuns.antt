@@ -1,8 +1,9 @@
 -- What `gen` leaves, from part to whole.
 use Rattle.std.proofs.Common.{◌≡◌, ◌≤◌, ◌-◌, ◌++◌, inl, inr, ℕ, Bool, List, [], ◌∷◌, map, Option}
 use Rattle.std.proofs.Common.{Some, None, Result, sym, ap, ◌∙◌, subst, refl, append_assoc, arith}
-use Rattle.std.specs.Prelude.{IfSome, OnOk, OnErr}
+use Rattle.std.specs.Prelude.{IfSome, OnOk, OnErr, OnSome}
 use Rattle.sha2.specs.Sha256.{sha256}
+use Rattle.dos_world.specs.Play.{asks as asks_for, over, questions}
 use Rattle.dos_world.specs.World.{World}
 use Rattle.dos_world.specs.declared.Config.{Config}
 use Rattle.dos_world.specs.declared.Ending.{Ending}
@@ -21,14 +22,17 @@ use Rattle.flat_machine.specs.Opening.{opening}
 use Rattle.group_rounds.specs.StatePlays.{telling}
 use Rattle.group_rounds.specs.Kernels.{Held, kernel_world}
 use Rattle.group_rounds.specs.Outside.{HasShimCause}
-use Rattle.kernel_calls.specs.StateWorld.{HasSinkCause}
+use Rattle.group_rounds.specs.Rounds.{answers_since}
+use Rattle.group_rounds.proofs.WorkLaws.{since_more}
+use Rattle.kernel_calls.specs.StateWorld.{HasSinkCause, shim_stop}
 use Rattle.kernel_calls.specs.declared.state.RunStop.{RunStop}
 use Rattle.kernel_calls.specs.declared.state.State.{State}
 use Rattle.kernel_calls.specs.declared.state.RunStop.TheVariants as stops
 use Rattle.worker_pool.specs.Ran.{GrewBy}
 use Rattle.dpg_run.specs.Fits.{FitsFrom}
-use Rattle.flat_machine.specs.Machine.{Seen, ends, machine_from, status_in}
-use Rattle.dpg_run.specs.GroupRuns.{RanGroup}
+use Rattle.flat_machine.specs.Machine.{Seen, ends, machine_from, run_from, status_in}
+use Rattle.dpg_run.specs.GroupRuns.{RanGroup, StoppedGroup}
+use Rattle.dpg_run.specs.Work.{work_from}
 use Rattle.generated_group.specs.Generated.{generated}
 use Rattle.generated_group.proofs.RoomLaws.{needed-generated}
 use Rattle.logged_runs.specs.Opened.{IsOpenedWith}
@@ -42,7 +46,7 @@ use Rattle.dos_words.specs.Numbers.{Text}
 use Rattle.dos_words.specs.declared.request.Request.TheVariants as requests
 use Rattle.dos_cmd.specs.Judging.{gen_config}
 use Rattle.dos_cmd.specs.Outside.{Faults, outside, faults}
-use Rattle.dos_cmd.specs.Printing.{RanQuietly, byte_count}
+use Rattle.dos_cmd.specs.Printing.{HaltedQuietly, RanQuietly, byte_count}
 use Rattle.dos_cmd.specs.Results.{Begun, Did, Leaves}
 use Rattle.dos_cmd.specs.Stops.{IsNotOpened, refusal_by}
 use Rattle.dos_cmd.proofs.NotBegun.{not_opened_as, says_nothing}
@@ -50,17 +54,16 @@ use Rattle.dos_cmd.proofs.NotBegun.{not_opened_as, says_nothing}
 -- ---- a run over a quiet shim, and sinks that never fail
 
 -- It stops for want of memory alone.
-pub memory_alone : (stop : RunStop) (before : ShimState) (shim : Quietness)
-    → HasShimCause stop before (shown_by shim) → HasSinkCause stop 0 0 0 0
-    → refusal_by stop ≡ refusals.Memory
-memory_alone stop before shim h k = by_stop stop h k
+memory_stop : (stop : RunStop) (before : ShimState) (shim : Quietness)
+    → HasShimCause stop before (shown_by shim) → HasSinkCause stop 0 0 0 0 → stop ≡ stops.Memory
+memory_stop stop before shim h k = by_stop stop h k
   where
     of_memory : (s : ShimStop) → (shown_by shim).last ≡ Some s → s ≡ shims.Memory
     of_memory s e = subst (λ (o : Option ShimStop). IfSome o (λ x. x ≡ shims.Memory)) e
         (last_is_memory shim)
 
     by_stop : (stop : RunStop) → HasShimCause stop before (shown_by shim)
-        → HasSinkCause stop 0 0 0 0 → refusal_by stop ≡ refusals.Memory
+        → HasSinkCause stop 0 0 0 0 → stop ≡ stops.Memory
     by_stop stops.HostFault h k = let same = of_memory shims.HostFault h.1 in cc
     by_stop stops.LogFull h k = let same = of_memory shims.LogFull h.1 in cc
     by_stop (stops.Misfit m) h k = let same = of_memory (shims.Misfit m) h.1 in cc
@@ -68,8 +71,18 @@ memory_alone stop before shim h k = by_stop stop h k
     by_stop stops.ErrFault h k = absurd (omega (arith, k))
     by_stop stops.Memory h k = refl
 
+pub memory_alone : (stop : RunStop) (before : ShimState) (shim : Quietness)
+    → HasShimCause stop before (shown_by shim) → HasSinkCause stop 0 0 0 0
+    → refusal_by stop ≡ refusals.Memory
+memory_alone stop before shim h k = ap refusal_by (memory_stop stop before shim h k)
+
 told_is : (a b : List ℕ) → ◌≡◌ {A = Option (List ℕ)} (Some a) (Some b) → a ≡ b
 told_is a b q = cc
+
+from_opening : (k : Held) (images : List Image) (config : Config) → IsOpenedWith k images config
+    → (P : World → Config → Type 0) → P (kernel_world k) k.config → P (opening images config) config
+from_opening k images config opened P h = subst (λ (w : World). P w config) opened.world
+    (subst (λ (c : Config). P (kernel_world k) c) opened.config_is h)
 
 pub quiet_run : (k k' : Held) (before after : Quietness) (begun bytes : List ℕ) (ending : Ending)
     (work count : ℕ) (digest : List ℕ) (tally tally' : ℕ)
@@ -103,8 +116,9 @@ quiet_run k k' before after begun bytes ending work count digest tally tally' fo
         exchanges = es;
         quiet = quiet_more (shown_by before) (shown_by after) es follows
             run.more.exchanges_are;
-        fits = from_opening (λ w c. FitsFrom w c es) run.fits;
-        is = from_opening (λ w c. machine_from w c (map answer_of es) ≡ ends seen) run.ends;
+        fits = from_opening k images config opened (λ w c. FitsFrom w c es) run.fits;
+        is = from_opening k images config opened (λ w c. machine_from w c (map answer_of es)
+            ≡ ends seen) run.ends;
       };
       ending_is = refl;
       summary_is =
@@ -114,11 +128,42 @@ quiet_run k k' before after begun bytes ending work count digest tally tally' fo
           (digest_is ∙ ap sha256 same);
       counted = grew;
     }
-  where
-    from_opening : (P : World → Config → Type 0) → P (kernel_world k) k.config
-        → P (opening images config) config
-    from_opening P h = subst (λ (w : World). P w config) opened.world
-        (subst (λ (c : Config). P (kernel_world k) c) opened.config_is h)
+
+-- It came to a question at which memory was wanting.
+pub quiet_halt : (k : Held) (before after : Quietness) (o o1 e e1 : Option (List ℕ))
+    (stop : RunStop) (tally tally' : ℕ) → FollowsQuietly (shown_by before) (shown_by after)
+    → HasShimCause stop (shown_by before) (shown_by after) → HasSinkCause stop 0 0 0 0
+    → OnSome (shim_stop stop) (StoppedGroup k.config k.state (telling (shown_by before).told o e)
+    (telling (shown_by after).told o1 e1) (shown_by after).asked)
+    → GrewBy tally tally' (work_from (kernel_world k) k.config
+    (answers_since (shown_by before).told (shown_by after).told))
+    → (images : List Image) (config : Config) → IsOpenedWith k images config
+    → HaltedQuietly images config tally tally'
+quiet_halt k before after o o1 e e1 stop tally tally' follows cause sinks asks grew images config
+    opened =
+    let run : StoppedGroup k.config k.state (telling (shown_by before).told o e)
+    (telling (shown_by after).told o1 e1) (shown_by after).asked =
+    subst (λ (s : RunStop). OnSome (shim_stop s) (StoppedGroup k.config k.state
+    (telling (shown_by before).told o e) (telling (shown_by after).told o1 e1)
+    (shown_by after).asked)) (memory_stop stop (shown_by before) after cause sinks) asks in
+    let es : List Exchange = run.more.exchanges in
+    record {
+      exchanges = es;
+      quiet = quiet_more (shown_by before) (shown_by after) es follows run.more.exchanges_are;
+      question = run.question;
+      output = run.more.output;
+      error = run.more.error;
+      ran = record {
+        asks = from_opening k images config opened (λ w c. over (map answer_of es) (run_from w c)
+            ≡ asks_for run.question run.more.output run.more.error) run.asks;
+        asked = from_opening k images config opened (λ w c. questions (map answer_of es)
+            (run_from w c) ≡ map question_of es ++ run.question ∷ []) run.asked_so;
+      };
+      counted = from_opening k images config opened (λ w c. GrewBy tally tally'
+          (work_from w c (map answer_of es)))
+          (subst (λ answers. GrewBy tally tally' (work_from (kernel_world k) k.config answers))
+          (since_more (shown_by before).told (shown_by after).told es run.more.exchanges_are) grew);
+    }
 
 -- ---- the summary
 
@@ -202,15 +247,17 @@ leaves_memory number threads n tells f h out e tally counts why is =
 pub leaves_stopped : (number threads n : ℕ) (tells : Bool) (f : Text → Option (List ℕ))
     (h : HostSeen) (out e : Option (List ℕ)) (tally tally' : ℕ) (counts : Faults)
     (why : Refusal) → why ≡ refusals.Memory
+    → HaltedQuietly (generated number threads ∷ []) gen_config tally tally'
     → Leaves (requests.Gen number threads n) (outside tells f f h h out out e e tally tally')
     counts why []
-leaves_stopped number threads n tells f h out e tally tally' counts why is =
+leaves_stopped number threads n tells f h out e tally tally' counts why is halted =
     subst (λ (w : Refusal). Leaves (requests.Gen number threads n)
     (outside tells f f h h out out e e tally tally') counts w []) (sym is)
     (inr (inl (record {
       taken = record { log = None; images = generated number threads ∷ [] };
       is = refl;
       so = record {
+        halted = halted;
         grew = record { out_is = grown-nothing out; err_is = grown-nothing e };
         stays = record { files_stay = λ name. refl; host_stays = refl };
       };

@@ -20,7 +20,7 @@ use Rattle.shim_log.specs.LogText.{Log}
 use Rattle.logged_runs.specs.Opened.{IsOpenedWith}
 use Rattle.logged_runs.specs.Replaying.{Replayed, ReplayedAhead, ReplayedUntil, StopsReplay}
 use Rattle.logged_runs.specs.Replaying.{config_of}
-use Rattle.logged_runs.specs.Runs.{Ended, Put}
+use Rattle.logged_runs.specs.Runs.{Ended, Halted}
 use Rattle.dos_texts.specs.Exit.{ending_status}
 use Rattle.dos_texts.specs.declared.refusal.Refusal.{Refusal}
 use Rattle.dos_texts.specs.declared.refusal.Refusal.TheVariants as refusals
@@ -63,13 +63,18 @@ on_ok (Err e) P p = tt
 
 -- ---- a run that stopped
 
+-- it came to the log's misfit, and this was left by then
+abbrev pub Until : Log → List Image → Outside → Misfit → Type 0
+Until log images o found = (output : List ℕ) × (error : List ℕ) × (work : ℕ)
+    × ReplayedUntil images log found output error work
+    × Halted o.out o.err o.out_after o.err_after o.tally o.tally_after output error work
+
 pub replay_stopped : (log : Log) (images : List Image) (o : Outside) (f : Faults) (stop : RunStop)
     (why : Refusal) → why ≡ refusal_by stop → needed images ≤ log.header.frames → StopsReplay stop
-    → ((found : Misfit) → stop ≡ stops.Misfit found → (output : List ℕ) × (error : List ℕ)
-    × ReplayedUntil images log found output error
-    × Put o.out o.err o.out_after o.err_after output error)
-    → ((output : List ℕ) × (error : List ℕ) × ReplayedAhead images log output error
-    × Put o.out o.err o.out_after o.err_after output error)
+    → ((found : Misfit) → stop ≡ stops.Misfit found → Until log images o found)
+    → ((output : List ℕ) × (error : List ℕ) × (work : ℕ)
+    × ReplayedAhead images log output error work
+    × Halted o.out o.err o.out_after o.err_after o.tally o.tally_after output error work)
     → HasSinkCause stop f.out f.out_after f.err f.err_after → StaysAll o
     → LeavesTaken log images o f why
 replay_stopped log images o f stop why is fits only until ahead sink stay =
@@ -79,15 +84,15 @@ replay_stopped log images o f stop why is fits only until ahead sink stay =
     cut = record {
       output = ahead.0;
       error = ahead.1;
-      replayed = ahead.2;
-      grew = record { out_is = ahead.3.out_is; err_is = ahead.3.err_is };
+      work = ahead.2;
+      replayed = ahead.3;
+      counted = ahead.4.counted;
+      grew = record { out_is = ahead.4.put.out_is; err_is = ahead.4.put.err_is };
       stays = stay;
     }
 
     by_stop : (stop : RunStop) → StopsReplay stop
-        → ((found : Misfit) → stop ≡ stops.Misfit found → (output : List ℕ) × (error : List ℕ)
-        × ReplayedUntil images log found output error
-        × Put o.out o.err o.out_after o.err_after output error)
+        → ((found : Misfit) → stop ≡ stops.Misfit found → Until log images o found)
         → HasSinkCause stop f.out f.out_after f.err f.err_after
         → LeavesTaken log images o f (refusal_by stop)
     by_stop stops.OutFault only until sink = (fits, inl sink, inl cut)
@@ -98,10 +103,12 @@ replay_stopped log images o f stop why is fits only until ahead sink stay =
           record {
             output = run.0;
             error = run.1;
-            replayed = run.2;
+            work = run.2;
+            replayed = run.3;
+            counted = run.4.counted;
             grew = record {
-              out_is = run.3.out_is;
-              err_is = run.3.err_is ∙ ap (grown o.err) (sym (append-nil run.1));
+              out_is = run.4.put.out_is;
+              err_is = run.4.put.err_is ∙ ap (grown o.err) (sym (append-nil run.1));
             };
             stays = stay;
           },

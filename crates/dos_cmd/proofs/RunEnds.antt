@@ -21,7 +21,7 @@ use Rattle.dpg_run.specs.Report.{report, report_in}
 use Rattle.shim_log.specs.Ledger.{LedgerState}
 use Rattle.shim_log.specs.LogText.{Log, logtext}
 use Rattle.logged_runs.specs.Opened.{IsOpenedWith}
-use Rattle.logged_runs.specs.Runs.{Ended, Put}
+use Rattle.logged_runs.specs.Runs.{Ended, Halted}
 use Rattle.logged_runs.specs.Recording.{Plan, Recorded, RecordedAhead, RecordedUntil, plan_of}
 use Rattle.dos_texts.specs.Exit.{ending_status}
 use Rattle.dos_texts.specs.declared.refusal.Refusal.{Refusal}
@@ -58,15 +58,15 @@ put_nothing told after bytes e = e ∙ ap (grown told) (sym (append-nil bytes))
 
 -- the run until there, and what was put by then
 abbrev pub Until : Plan → Outside → ShimStop → Type 0
-Until plan o stop = (output : List ℕ) × (error : List ℕ)
-    × RecordedUntil plan o.host o.host_after stop output error
-    × Put o.out o.err o.out_after o.err_after output error
+Until plan o stop = (output : List ℕ) × (error : List ℕ) × (work : ℕ)
+    × RecordedUntil plan o.host o.host_after stop output error work
+    × Halted o.out o.err o.out_after o.err_after o.tally o.tally_after output error work
 
 -- so where an output failed
 abbrev pub Ahead : Plan → Outside → RunStop → Type 0
-Ahead plan o stop = (output : List ℕ) × (error : List ℕ)
-    × RecordedAhead plan o.host o.host_after stop output error
-    × Put o.out o.err o.out_after o.err_after output error
+Ahead plan o stop = (output : List ℕ) × (error : List ℕ) × (work : ℕ)
+    × RecordedAhead plan o.host o.host_after stop output error work
+    × Halted o.out o.err o.out_after o.err_after o.tally o.tally_after output error work
 
 stopped_run : (asked : RunAsked) (images : List Image) (o : Outside) (plan : Plan)
     (stop : ShimStop) → IsPlanned asked images o plan → FilesStay o → Until plan o stop
@@ -76,10 +76,12 @@ stopped_run asked images o plan stop planned stay until = record {
   planned = planned;
   output = until.0;
   error = until.1;
-  recorded = until.2;
+  work = until.2;
+  recorded = until.3;
+  counted = until.4.counted;
   grew = record {
-    out_is = until.3.out_is;
-    err_is = put_nothing o.err o.err_after until.1 until.3.err_is;
+    out_is = until.4.put.out_is;
+    err_is = put_nothing o.err o.err_after until.1 until.4.put.err_is;
   };
   files_stay = stay;
 }
@@ -94,8 +96,10 @@ cut_run asked images o plan stop output planned stay ahead = record {
   by_output = output;
   output = ahead.0;
   error = ahead.1;
-  recorded = ahead.2;
-  grew = record { out_is = ahead.3.out_is; err_is = ahead.3.err_is };
+  work = ahead.2;
+  recorded = ahead.3;
+  counted = ahead.4.counted;
+  grew = record { out_is = ahead.4.put.out_is; err_is = ahead.4.put.err_is };
   files_stay = stay;
 }
 
@@ -113,7 +117,7 @@ stopped_so asked images o f plan stops.HostFault until ahead host sink planned s
 stopped_so asked images o f plan stops.LogFull until ahead host sink planned stay =
     stopped_run asked images o plan shims.LogFull planned stay until
 stopped_so asked images o f plan (stops.Misfit found) until ahead host sink planned stay =
-    absurd until.2.stops
+    absurd until.3.stops
 stopped_so asked images o f plan stops.Memory until ahead host sink planned stay =
     inl (stopped_run asked images o plan shims.Memory planned stay until)
 

@@ -66,11 +66,22 @@ module _ (o : Outside) (e : Option (List ℕ)) (last : List ℕ) (more : e ≡ g
       };
       output = h.output;
       error = h.error;
+      work = h.work;
       recorded = h.recorded;
+      counted = h.counted;
       grew = grew_more h.output h.error h.grew;
       files_stay = h.files_stay;
     }
     stopped_more (Gen number threads w) taken stops.Memory h = record {
+      halted = record {
+        exchanges = h.halted.exchanges;
+        quiet = h.halted.quiet;
+        question = h.halted.question;
+        output = h.halted.output;
+        error = h.halted.error;
+        ran = h.halted.ran;
+        counted = h.halted.counted;
+      };
       grew = grew_more [] [] h.grew;
       stays = record { files_stay = h.stays.files_stay; host_stays = h.stays.host_stays };
     }
@@ -116,7 +127,9 @@ module _ (o : Outside) (e : Option (List ℕ)) (last : List ℕ) (more : e ≡ g
         of_log (Some l) h = record {
           output = h.output;
           error = h.error;
+          work = h.work;
           replayed = h.replayed;
+          counted = h.counted;
           grew = grew_more h.output h.error h.grew;
           stays = record { files_stay = h.stays.files_stay; host_stays = h.stays.host_stays };
         }
@@ -128,7 +141,9 @@ module _ (o : Outside) (e : Option (List ℕ)) (last : List ℕ) (more : e ≡ g
         of_log (Some l) h = record {
           output = h.output;
           error = h.error;
+          work = h.work;
           replayed = h.replayed;
+          counted = h.counted;
           grew = grew_more (first_log_lines found.entry taken.images l) [] h.grew;
           stays = record { files_stay = h.stays.files_stay; host_stays = h.stays.host_stays };
         }

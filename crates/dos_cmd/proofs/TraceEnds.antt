@@ -53,8 +53,9 @@ pub trace_stopped : (log : Log) (images : List Image) (o : Outside) (f : Faults)
     (why : Refusal) → why ≡ trace_refusal stop → needed images ≤ log.header.frames
     → StopsTrace stop
     → ((found : Misfit) → stopped_so stop ≡ Err (traces.Run (stops.Misfit found))
-    → TracedUntil images log found o.out o.out_after)
-    → (stopped_so stop ≡ Err traces.LineFault → TracedAhead images log o.out o.out_after)
+    → TracedUntil images log found o.out o.out_after o.tally o.tally_after)
+    → (stopped_so stop ≡ Err traces.LineFault → TracedAhead images log o.out o.out_after o.tally
+    o.tally_after)
     → (stopped_so stop ≡ Err traces.Memory → o.out_after ≡ o.out)
     → (stopped_so stop ≡ Err traces.Memory → o.tally_after ≡ o.tally)
     → HasLineCause stop f.out f.out_after → o.err_after ≡ o.err → StaysAll o
@@ -65,8 +66,9 @@ trace_stopped log images o f stop why is fits only until ahead memory rested cau
   where
     by_stop : (stop : TraceStop) → StopsTrace stop
         → ((found : Misfit) → stopped_so stop ≡ Err (traces.Run (stops.Misfit found))
-        → TracedUntil images log found o.out o.out_after)
-        → (stopped_so stop ≡ Err traces.LineFault → TracedAhead images log o.out o.out_after)
+        → TracedUntil images log found o.out o.out_after o.tally o.tally_after)
+        → (stopped_so stop ≡ Err traces.LineFault → TracedAhead images log o.out o.out_after o.tally
+    o.tally_after)
         → (stopped_so stop ≡ Err traces.Memory → o.out_after ≡ o.out)
         → (stopped_so stop ≡ Err traces.Memory → o.tally_after ≡ o.tally)
         → HasLineCause stop f.out f.out_after
@@ -77,7 +79,9 @@ trace_stopped log images o f stop why is fits only until ahead memory rested cau
           record {
             output = run.output;
             error = run.error;
+            work = run.work;
             replayed = run.replayed;
+            counted = run.counted;
             grew = record { out_is = run.lines_are; err_is = quiet ∙ grown-nothing o.err };
             stays = stay;
           },
@@ -89,6 +93,7 @@ trace_stopped log images o f stop why is fits only until ahead memory rested cau
           inl cause,
           inl (record {
             answered = run.answered;
+            counted = run.counted;
             out_is = run.front;
             err_stays = quiet;
             stays = stay;

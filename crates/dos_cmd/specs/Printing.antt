@@ -2,11 +2,17 @@
 use Rattle.std.specs.Prelude.{◌≡◌, ℕ, List, [], ◌∷◌, ◌^◌, ◌-◌, min, map, length}
 use Rattle.dos_world.specs.declared.Config.{Config}
 use Rattle.dos_world.specs.declared.Ending.{Ending}
+use Rattle.dos_world.specs.declared.Question.{Question}
+use Rattle.dos_io.specs.Exchanges.{answer_of}
 use Rattle.dos_io.specs.Outside.{GrewByFront}
+use Rattle.dos_io.specs.Quiet.{AreQuiet}
+use Rattle.dos_io.specs.declared.exchange.Exchange.{Exchange}
 use Rattle.elf_image.specs.Image.{Image}
 use Rattle.group_rounds.specs.Kernels.{Held}
 use Rattle.flat_machine.specs.Machine.{Seen, status_in}
 use Rattle.dpg_run.specs.QuietRuns.{RunsQuietly}
+use Rattle.dpg_run.specs.Work.{group_work}
+use Rattle.logged_runs.specs.Runs.{RanUntil}
 use Rattle.sha2.specs.Sha256.{sha256}
 use Rattle.worker_pool.specs.Ran.{GrewBy}
 use Rattle.dos_texts.specs.Exit.{ending_status}
@@ -66,8 +72,21 @@ pub record CutSummary (images : List Image) (o : Outside) : Type 0 where
   pub counted : Counted o seen.work
   pub cut : CutLines (summary seen) o
 
+-- A run that nothing reaches from outside came to a question at which memory was wanting; the
+-- tally grew by its work until there.
+pub record HaltedQuietly (images : List Image) (config : Config) (tally tally_after : ℕ) : Type 0
+  where
+  pub exchanges : List Exchange
+  pub quiet : AreQuiet exchanges
+  pub question : Question
+  pub output : List ℕ
+  pub error : List ℕ
+  pub ran : RanUntil images config exchanges question output error
+  pub counted : GrewBy tally tally_after (group_work images config (map answer_of exchanges))
+
 -- The generated group's run took all memory. Error grew by these bytes alone.
-pub record QuietlyStopped (last : List ℕ) (o : Outside) : Type 0 where
+pub record QuietlyStopped (images : List Image) (last : List ℕ) (o : Outside) : Type 0 where
+  pub halted : HaltedQuietly images gen_config o.tally o.tally_after
   pub grew : Grew o [] last
   pub stays : StaysAll o
 

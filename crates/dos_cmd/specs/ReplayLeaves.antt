@@ -30,12 +30,14 @@ pub record DidReplay (log : Log) (images : List Image) (status : ℕ) (o : Outsi
   pub stays : StaysAll o
 
 -- The run came to the log's misfit. The outputs grew by its bytes until there, and then error by
--- the last ones.
+-- the last ones, and the tally by its work.
 pub record Misfitted (log : Log) (images : List Image) (found : Misfit) (last : List ℕ)
     (o : Outside) : Type 0 where
   pub output : List ℕ
   pub error : List ℕ
-  pub replayed : ReplayedUntil images log found output error
+  pub work : ℕ
+  pub replayed : ReplayedUntil images log found output error work
+  pub counted : Counted o work
   pub grew : Grew o output (error ++ last)
   pub stays : StaysAll o
 
@@ -43,7 +45,9 @@ pub record Misfitted (log : Log) (images : List Image) (found : Misfit) (last : 
 pub record CutReplay (log : Log) (images : List Image) (o : Outside) : Type 0 where
   pub output : List ℕ
   pub error : List ℕ
-  pub replayed : ReplayedAhead images log output error
+  pub work : ℕ
+  pub replayed : ReplayedAhead images log output error work
+  pub counted : Counted o work
   pub grew : Grew o output error
   pub stays : StaysAll o
 

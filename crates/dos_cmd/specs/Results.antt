@@ -67,7 +67,8 @@ abbrev pub WasStopped : Request → Taken → ShimStop → (last : List ℕ) →
 WasStopped (Run quantum rounds frames workers posts clock_from clock_step log names) taken stop last
     o = StoppedRun (run_request_asked quantum rounds frames posts clock_from clock_step log names)
     taken.images stop last o
-WasStopped (Gen number threads workers) taken stops.Memory last o = QuietlyStopped last o
+WasStopped (Gen number threads workers) taken stops.Memory last o =
+    QuietlyStopped taken.images last o
 WasStopped _ taken stop last o = ⊥
 
 -- A recorded run's log couldn't be written, or a log anew.

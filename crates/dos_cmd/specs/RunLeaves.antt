@@ -84,14 +84,16 @@ pub record DidRun (asked : RunAsked) (images : List Image) (status : ℕ) (o : O
   pub grew : Grew o seen.output (seen.error ++ report seen)
 
 -- The recorder stopped it at a question. The outputs grew by the run's bytes until there, and then
--- error by the last ones; no file changed.
+-- error by the last ones, and the tally by its work; no file changed.
 pub record StoppedRun (asked : RunAsked) (images : List Image) (stop : ShimStop) (last : List ℕ)
     (o : Outside) : Type 0 where
   pub plan : Plan
   pub planned : IsPlanned asked images o plan
   pub output : List ℕ
   pub error : List ℕ
-  pub recorded : RecordedUntil plan o.host o.host_after stop output error
+  pub work : ℕ
+  pub recorded : RecordedUntil plan o.host o.host_after stop output error work
+  pub counted : Counted o work
   pub grew : Grew o output (error ++ last)
   pub files_stay : FilesStay o
 
@@ -107,7 +109,8 @@ pub record UnwrittenRun (asked : RunAsked) (images : List Image) (last : List �
   pub others : OthersStay o asked.log
 
 -- An output failed in the run, which stopped so. Each holds a front of what the run would have
--- given it until its next question, or its end; no file changed.
+-- given it until its next question, or its end, and the tally grew by the run's work; no file
+-- changed.
 pub record CutRun (asked : RunAsked) (images : List Image) (o : Outside) : Type 0 where
   pub plan : Plan
   pub planned : IsPlanned asked images o plan
@@ -115,7 +118,9 @@ pub record CutRun (asked : RunAsked) (images : List Image) (o : Outside) : Type 
   pub by_output : shim_stop stop ≡ None
   pub output : List ℕ
   pub error : List ℕ
-  pub recorded : RecordedAhead plan o.host o.host_after stop output error
+  pub work : ℕ
+  pub recorded : RecordedAhead plan o.host o.host_after stop output error work
+  pub counted : Counted o work
   pub grew : Grew o output error
   pub files_stay : FilesStay o
 

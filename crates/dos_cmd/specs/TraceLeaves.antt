@@ -8,7 +8,7 @@ use Rattle.flat_machine.specs.Machine.{Seen}
 use Rattle.flat_machine.specs.Opening.{needed}
 use Rattle.dpg_run.specs.Report.{report}
 use Rattle.shim_log.specs.LogText.{Log}
-use Rattle.logged_runs.specs.Replaying.{Replayed, ReplayedUntil}
+use Rattle.logged_runs.specs.Replaying.{Replayed, ReplayedUntil, first_work}
 use Rattle.page_trace.specs.declared.stop.TraceStop.{TraceStop}
 use Rattle.page_trace.specs.declared.stop.TraceStop.TheVariants as traces
 use Rattle.traced_logs.specs.TracedLogs.{first_log_lines, log_lines}
@@ -35,19 +35,23 @@ pub record DidTrace (log : Log) (images : List Image) (status : ℕ) (o : Outsid
   pub grew : Grew o (log_lines images log) (report seen)
   pub stays : StaysAll o
 
--- The run came to the log's misfit. Output grew by the lines until there, and error by the last
--- bytes.
+-- The run came to the log's misfit. Output grew by the lines until there, error by the last bytes,
+-- and the tally by the run's work.
 pub record MisfittedTrace (log : Log) (images : List Image) (found : Misfit) (last : List ℕ)
     (o : Outside) : Type 0 where
   pub output : List ℕ
   pub error : List ℕ
-  pub replayed : ReplayedUntil images log found output error
+  pub work : ℕ
+  pub replayed : ReplayedUntil images log found output error work
+  pub counted : Counted o work
   pub grew : Grew o (first_log_lines found.entry images log) last
   pub stays : StaysAll o
 
--- Output failed in a line, behind a front of those over so many first exchanges.
+-- Output failed in a line, behind a front of those over so many first exchanges, by whose work the
+-- tally grew.
 pub record CutTrace (log : Log) (images : List Image) (o : Outside) : Type 0 where
   pub answered : ℕ
+  pub counted : Counted o (first_work answered images log)
   pub out_is : GrewByFront o.out o.out_after (first_log_lines answered images log)
   pub err_stays : o.err_after ≡ o.err
   pub stays : StaysAll o

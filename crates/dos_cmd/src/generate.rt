@@ -12,7 +12,7 @@ ghost use Rattle.dos_texts.specs.Printed.{summary_of};
 ghost use Rattle.dos_texts.specs.Report.{process_lines, rounds_line};
 ghost use Rattle.dos_words.specs.declared.request.Request.TheVariants as requests;
 ghost use Rattle.dos_cmd.specs.Outside.{outside, faults};
-ghost use Rattle.dos_cmd.specs.Printing.{RanQuietly};
+ghost use Rattle.dos_cmd.specs.Printing.{HaltedQuietly, RanQuietly};
 ghost use Rattle.dos_cmd.specs.Results.{Begun, Did, Leaves};
 
 use crate::run::open;
@@ -56,6 +56,9 @@ fn run_quietly<W: Workers>(
         → RanQuietly images config kernel.new ran.ending ran.count ran.digest
         (W.tally workers.old) (W.tally workers.new)) }
     ensures refused { IfErr result (λ why. why ≡ Refusal.Memory) }
+    ensures halted { OnErr result ((images : List Image) (config : Config)
+        → IsOpenedWith kernel.old images config
+        → HaltedQuietly images config (W.tally workers.old) (W.tally workers.new)) }
     ensures fixed { W.fixed workers.new ≡ W.fixed workers.old }
 {
     let mut shim = Quiet::new(alloc);

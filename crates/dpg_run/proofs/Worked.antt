@@ -178,3 +178,14 @@ both_worked config (Ok (Some ending)) s' s'' first then w work more h k =
     h.2 then ∙ ap (λ n. work + n) (k h.0 h.1)
 both_worked config (Err stop) s' s'' first then w work more h k =
     h.2 then ∙ ap (λ n. work + n) (k h.0 h.1)
+
+-- a call that hasn't stopped ran all that its answers have
+pub worked_so_far : (config : Config) (ended : Option Ending) (answers : List Answer) (w : World)
+    (s' : State) (work : ℕ) → HasWorked config (Ok ended) answers w s' work
+    → work_from w config answers ≡ work
+worked_so_far config None answers w s' work h =
+    ap (work_from w config) (sym (append-nil answers)) ∙ h.2 []
+    ∙ ap (λ n. work + n) (nothing_worked (config.rounds
+    - (sent h.0 h.1 (world_of config.quantum s')).rounds) (sent h.0 h.1 (world_of config.quantum s')))
+    ∙ (let n : work + 0 ≡ work = omega arith in n)
+worked_so_far config (Some ending) answers w s' work h = h

@@ -11,8 +11,7 @@ ghost use Rattle.proc_table.specs.Tables.{last_status};
 ghost use Rattle.kernel_calls.specs.Plays.{Plays};
 ghost use Rattle.group_rounds.specs.Kernels.{IsBetweenRounds};
 ghost use Rattle.group_rounds.specs.Phases.{ready_in};
-ghost use Rattle.group_rounds.specs.Rounds.{AreStarters, PlaysRound, begun_work};
-ghost use Rattle.group_rounds.specs.Rounds.{next_round};
+ghost use Rattle.group_rounds.specs.Rounds.{AreStarters, PlaysRound, begun_work, next_round};
 
 use crate::RoundEnd;
 use crate::packs::Packs;
@@ -141,8 +140,8 @@ impl Kernel {
 }
 
 /// Runs one round: the workers run its parallel phase, and their tally grows by the instructions of
-/// it, also where the round then stops. After an `Err` the kernel has failed, the round isn't counted, and nothing more is said of
-/// its state.
+/// it, also where the round then stops. After an `Err` the kernel has failed, the round isn't
+/// counted, and nothing more is said of its state.
 pub fn run_round<B: Border, W: Workers>(
     kernel: &mut Kernel,
     border: &mut B,

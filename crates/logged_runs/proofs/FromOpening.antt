@@ -13,15 +13,17 @@ use Rattle.dos_io.specs.declared.exchange.Exchange.TheVariants.{End}
 use Rattle.elf_image.specs.Image.{Image}
 use Rattle.flat_machine.specs.Opening.{opening}
 use Rattle.group_rounds.specs.Plays.{GoesOn}
+use Rattle.group_rounds.specs.Rounds.{answers_since}
 use Rattle.group_rounds.specs.StatePlays.{telling, ToldMore}
 use Rattle.group_rounds.specs.Kernels.{Held, kernel_world}
 use Rattle.worker_pool.specs.Ran.{GrewBy}
 use Rattle.dpg_run.specs.Fits.{FitsFrom}
+use Rattle.dpg_run.specs.Work.{group_work, work_from}
 use Rattle.flat_machine.specs.Machine.{Finish, Seen, ends, machine_from, rounds_from, run_from}
 use Rattle.flat_machine.specs.Machine.{status_in}
 use Rattle.dpg_run.specs.GroupRuns.{AreEnded, AreFronts, CutGroup, RanGroup, StoppedGroup}
 use Rattle.logged_runs.specs.Opened.{IsOpenedWith}
-use Rattle.logged_runs.specs.Runs.{Ended, Put, RanAhead, RanUntil, RanWhole}
+use Rattle.logged_runs.specs.Runs.{Ended, Halted, RanAhead, RanUntil, RanWhole}
 use Rattle.logged_runs.proofs.RoundsAsk.{no_end_before, rounds_never}
 
 -- ---- what is told has its end
@@ -95,10 +97,28 @@ module _ (k : Held) (before told : List Exchange) (o e o1 e1 : Option (List ℕ)
         ≡ map question_of es ++ run.question ∷ []) run.more run.asked_so;
   }
 
-  pub put_until : (asked : Option Question)
+  -- after so much work
+  pub counted_since : (tally tally' : ℕ) → GrewBy tally tally' (work_from (kernel_world k) k.config
+      (answers_since before told)) → GrewBy tally tally' (group_work images config
+      (map answer_of told))
+  counted_since tally tally' grew =
+      subst (λ (w : World). GrewBy tally tally' (work_from w config (map answer_of told)))
+      opened.world
+      (subst (λ (c : Config). GrewBy tally tally' (work_from (kernel_world k) c
+      (map answer_of told))) opened.config_is
+      (subst (λ (es : List Exchange). GrewBy tally tally' (work_from (kernel_world k) k.config
+      (answers_since es told))) fresh grew))
+
+  pub halted_until : (asked : Option Question)
       (run : StoppedGroup k.config k.state (telling before o e) (telling told o1 e1) asked)
-      → Put o e o1 e1 run.more.output run.more.error
-  put_until asked run = record { out_is = run.more.output_is; err_is = run.more.error_is }
+      (tally tally' : ℕ) → GrewBy tally tally' (work_from (kernel_world k) k.config
+      (answers_since before told))
+      → Halted o e o1 e1 tally tally' run.more.output run.more.error (group_work images config
+      (map answer_of told))
+  halted_until asked run tally tally' grew = record {
+    put = record { out_is = run.more.output_is; err_is = run.more.error_is };
+    counted = counted_since tally tally' grew;
+  }
 
   -- and was told no end by then
   pub until_no_end : (question : Question) (output error : List ℕ)
@@ -119,6 +139,12 @@ module _ (k : Held) (before told : List Exchange) (o e o1 e1 : Option (List ℕ)
         (machine_from w c (map answer_of es))) cut.more cut.fronts;
   }
 
-  pub put_ahead : (cut : CutGroup k.config k.state (telling before o e) (telling told o1 e1))
-      → Put o e o1 e1 cut.more.output cut.more.error
-  put_ahead cut = record { out_is = cut.more.output_is; err_is = cut.more.error_is }
+  pub halted_ahead : (cut : CutGroup k.config k.state (telling before o e) (telling told o1 e1))
+      (tally tally' : ℕ) → GrewBy tally tally' (work_from (kernel_world k) k.config
+      (answers_since before told))
+      → Halted o e o1 e1 tally tally' cut.more.output cut.more.error (group_work images config
+      (map answer_of told))
+  halted_ahead cut tally tally' grew = record {
+    put = record { out_is = cut.more.output_is; err_is = cut.more.error_is };
+    counted = counted_since tally tally' grew;
+  }

@@ -200,7 +200,8 @@ room_at header posts seen (e ∷ es) (f ∷ fs) next rest ending rounds is had n
     (ap (λ x. seen ++ x ∷ fs) (sym first) ∙ sym (append_assoc seen (e ∷ []) fs)) none)
 
 pub full_never_ends : FullRunsNeverEnd
-full_never_ends plan host asked other_asked after other_after log seen output error whole full =
+full_never_ends plan host asked other_asked after other_after log seen output error work whole
+    full =
     let parts = next_asked (BothGiven plan.posts plan.clock host after.told other_after.told)
     (given_determines plan.posts plan.clock host after.told other_after.told) (exchanges log)
     full.before

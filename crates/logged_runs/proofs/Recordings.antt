@@ -1,11 +1,12 @@
 -- A run over a recorder that was asked nothing before.
 use Rattle.std.proofs.Common.{ℕ, ◌≡◌, ◌⊎◌, inl, inr, refl, sym, ap, ◌∙◌, subst, List, [], ◌∷◌, ◌++◌}
-use Rattle.std.proofs.Common.{append-nil, Option, Some, None}
+use Rattle.std.proofs.Common.{append-nil, map, Option, Some, None}
 use Rattle.std.specs.Prelude.{IfSome, OnSome}
 use Rattle.dos_world.specs.declared.Config.{Config}
 use Rattle.dos_world.specs.declared.Ending.{Ending}
 use Rattle.dos_world.specs.declared.Post.{Post}
 use Rattle.dos_world.specs.declared.Question.{Question}
+use Rattle.dos_io.specs.Exchanges.{answer_of}
 use Rattle.dos_io.specs.Given.{Given}
 use Rattle.dos_io.specs.Hosts.{Told}
 use Rattle.dos_io.specs.Outside.{Rose, counted_to_limit}
@@ -18,7 +19,8 @@ use Rattle.dos_io.specs.declared.shim.ShimStop.{ShimStop}
 use Rattle.dos_io.specs.declared.shim.ShimStop.TheVariants as stops
 use Rattle.elf_image.specs.Image.{Image}
 use Rattle.group_rounds.specs.StatePlays.{telling}
-use Rattle.group_rounds.specs.Kernels.{Held}
+use Rattle.group_rounds.specs.Kernels.{Held, kernel_world}
+use Rattle.group_rounds.specs.Rounds.{answers_since}
 use Rattle.group_rounds.specs.Outside.{HasShimCause}
 use Rattle.kernel_calls.specs.StateWorld.{shim_stop}
 use Rattle.kernel_calls.specs.declared.state.RunStop.{RunStop}
@@ -38,12 +40,13 @@ use Rattle.shim_log.proofs.AskingCalls.{asked_until, asked_whole}
 use Rattle.shim_log.proofs.RecorderLaws.{no_end, recording_given}
 use Rattle.flat_machine.specs.Machine.{Seen}
 use Rattle.dpg_run.specs.GroupRuns.{CutGroup, RanGroup, StoppedGroup}
+use Rattle.dpg_run.specs.Work.{group_work, work_from}
 use Rattle.logged_runs.specs.Opened.{IsOpenedWith}
-use Rattle.logged_runs.specs.Runs.{Ended, Put, RanUntil, RanWhole}
+use Rattle.logged_runs.specs.Runs.{Ended, Halted, RanUntil, RanWhole}
 use Rattle.logged_runs.specs.Recording.{HostSeen, Recorded, RecordedAhead, RecordedUntil}
 use Rattle.logged_runs.specs.Recording.{host_seen, plan_of}
-use Rattle.logged_runs.proofs.FromOpening.{ran_ahead, ran_until, ran_whole, put_ahead, put_until}
-use Rattle.logged_runs.proofs.FromOpening.{until_no_end}
+use Rattle.logged_runs.proofs.FromOpening.{halted_ahead, halted_until, ran_ahead, ran_until}
+use Rattle.logged_runs.proofs.FromOpening.{ran_whole, until_no_end}
 use Rattle.logged_runs.proofs.Stops.{stops_so}
 use Rattle.std.proofs.Common.{◌≤◌, length}
 
@@ -127,6 +130,11 @@ no_end_told start start' same begins =
 
 -- ---- the run
 
+-- what its parallel phases have run
+abbrev work_since : (k : Held) (start after : LedgerState) → ℕ
+work_since k start after = work_from (kernel_world k) k.config
+    (answers_since (recorder_state start).told (recorder_state after).told)
+
 module _ (k : Held) (start after : LedgerState) (a b : HostSeen) (m n : ℕ)
     (o e o1 e1 : Option (List ℕ)) (follows : RecorderFollows start after a.told b.told m n)
     (asks : RecorderAsks start after a.asked b.asked m n)
@@ -209,11 +217,12 @@ module _ (k : Held) (start after : LedgerState) (a b : HostSeen) (m n : ℕ)
       → StoppedGroup k.config k.state (telling (recorder_state start).told o e)
       (telling told o1 e1) after.asked → after.stops ≡ counted_to_limit start.stops
       → after.last ≡ Some stop → IsLedger after
+      → (tally tally' : ℕ) → GrewBy tally tally' (work_since k start after)
       → (images : List Image) (config : Config) → IsOpenedWith k images config
-      → (output : List ℕ) × (error : List ℕ)
-      × RecordedUntil (plan_of images config start) a b stop output error
-      × Put o e o1 e1 output error
-  until stop run count last kept images config opened =
+      → (output : List ℕ) × (error : List ℕ) × (work : ℕ)
+      × RecordedUntil (plan_of images config start) a b stop output error work
+      × Halted o e o1 e1 tally tally' output error work
+  until stop run count last kept tally tally' grew images config opened =
       let ran = ran_until k (recorder_state start).told told o e o1 e1 nothing_told images config
       opened after.asked run in
       let none : HasNoEnd told =
@@ -224,12 +233,14 @@ module _ (k : Held) (start after : LedgerState) (a b : HostSeen) (m n : ℕ)
       ∙ append-nil after.entries in (
         run.more.output,
         run.more.error,
+        group_work images config (map answer_of told),
         record {
           before = after.entries;
           question = run.question;
           ran = subst
               (λ es. RanUntil images config es run.question run.more.output run.more.error) entries
               ran;
+          worked = ap (λ es. group_work images config (map answer_of es)) (sym entries);
           given = subst (λ es. Given start.posts start.clock 0 a.told b.told es) entries
               all_given;
           asked = subst (λ es. b.asked ≡ a.asked ++ (host_questions start.clock es
@@ -241,44 +252,53 @@ module _ (k : Held) (start after : LedgerState) (a b : HostSeen) (m n : ℕ)
               (stops_so after.asked after.last run.question stop (MayStop after) run.asked_is last
               kept.stop);
         },
-        put_until k (recorder_state start).told told o e o1 e1 nothing_told images config opened
-            after.asked run,
+        halted_until k (recorder_state start).told told o e o1 e1 nothing_told images config
+            opened after.asked run tally tally' grew,
       )
 
   stopped_start : (stop : RunStop)
       → OnSome (shim_stop stop) (StoppedGroup k.config k.state
       (telling (recorder_state start).told o e) (telling told o1 e1) after.asked)
       → HasShimCause stop (recorder_state start) (recorder_state after) → IsLedger after
+      → (tally tally' : ℕ) → GrewBy tally tally' (work_since k start after)
       → IfSome (shim_stop stop) (λ why. (images : List Image) (config : Config)
-      → IsOpenedWith k images config → (output : List ℕ) × (error : List ℕ)
-      × RecordedUntil (plan_of images config start) a b why output error
-      × Put o e o1 e1 output error)
-  stopped_start HostFault run cause kept = until stops.HostFault run cause.0 cause.1 kept
-  stopped_start LogFull run cause kept = until stops.LogFull run cause.0 cause.1 kept
-  stopped_start (Misfit x) run cause kept = until (stops.Misfit x) run cause.0 cause.1 kept
-  stopped_start OutFault run cause kept = tt
-  stopped_start ErrFault run cause kept = tt
-  stopped_start Memory run cause kept = until stops.Memory run cause.0 cause.1 kept
+      → IsOpenedWith k images config → (output : List ℕ) × (error : List ℕ) × (work : ℕ)
+      × RecordedUntil (plan_of images config start) a b why output error work
+      × Halted o e o1 e1 tally tally' output error work)
+  stopped_start HostFault run cause kept tally tally' grew =
+      until stops.HostFault run cause.0 cause.1 kept tally tally' grew
+  stopped_start LogFull run cause kept tally tally' grew =
+      until stops.LogFull run cause.0 cause.1 kept tally tally' grew
+  stopped_start (Misfit x) run cause kept tally tally' grew =
+      until (stops.Misfit x) run cause.0 cause.1 kept tally tally' grew
+  stopped_start OutFault run cause kept tally tally' grew = tt
+  stopped_start ErrFault run cause kept tally tally' grew = tt
+  stopped_start Memory run cause kept tally tally' grew =
+      until stops.Memory run cause.0 cause.1 kept tally tally' grew
 
   -- it was cut off
   ahead_start : (stop : RunStop)
       → HasShimCause stop (recorder_state start) (recorder_state after)
       → CutGroup k.config k.state (telling (recorder_state start).told o e)
-      (telling told o1 e1) → (images : List Image) (config : Config) → IsOpenedWith k images config
-      → (output : List ℕ) × (error : List ℕ)
-      × RecordedAhead (plan_of images config start) a b stop output error
-      × Put o e o1 e1 output error
-  ahead_start stop cause cut images config opened = (
+      (telling told o1 e1) → (tally tally' : ℕ) → GrewBy tally tally' (work_since k start after)
+      → (images : List Image) (config : Config) → IsOpenedWith k images config
+      → (output : List ℕ) × (error : List ℕ) × (work : ℕ)
+      × RecordedAhead (plan_of images config start) a b stop output error work
+      × Halted o e o1 e1 tally tally' output error work
+  ahead_start stop cause cut tally tally' grew images config opened = (
     cut.more.output,
     cut.more.error,
+    group_work images config (map answer_of told),
     record {
       before = told;
       ran = ran_ahead k (recorder_state start).told told o e o1 e1 nothing_told images config
           opened cut;
+      worked = refl;
       given = all_given;
       asked = asked_by stop cause;
     },
-    put_ahead k (recorder_state start).told told o e o1 e1 nothing_told images config opened cut,
+    halted_ahead k (recorder_state start).told told o e o1 e1 nothing_told images config opened
+        cut tally tally' grew,
   )
     where
       asked_by : (stop : RunStop) → HasShimCause stop (recorder_state start) (recorder_state after)
@@ -356,30 +376,35 @@ module _ (k : Held) (ledger start after : LedgerState) (a b : HostSeen) (m n : �
       → OnSome (shim_stop stop) (StoppedGroup k.config k.state
       (telling (recorder_state start).told o e) (telling (recorder_state after).told o1 e1)
       after.asked) → HasShimCause stop (recorder_state start) (recorder_state after)
-      → IsLedger after → IfSome (shim_stop stop) (λ why. (images : List Image) (config : Config)
-      → IsOpenedWith k images config → (output : List ℕ) × (error : List ℕ)
-      × RecordedUntil (plan_of images config ledger) a b why output error
-      × Put o e o1 e1 output error)
-  stopped stop run cause kept =
+      → IsLedger after → (tally tally' : ℕ)
+      → GrewBy tally tally' (work_since k start after)
+      → IfSome (shim_stop stop) (λ why. (images : List Image) (config : Config)
+      → IsOpenedWith k images config → (output : List ℕ) × (error : List ℕ) × (work : ℕ)
+      × RecordedUntil (plan_of images config ledger) a b why output error work
+      × Halted o e o1 e1 tally tally' output error work)
+  stopped stop run cause kept tally tally' grew =
       subst (λ (s : LedgerState). IfSome (shim_stop stop) (λ why. (images : List Image)
-      (config : Config) → IsOpenedWith k images config → (output : List ℕ) × (error : List ℕ)
-      × RecordedUntil (plan_of images config s) a b why output error
-      × Put o e o1 e1 output error)) same
-      (stopped_start k start after a b m n o e o1 e1 follows asks begun stop run cause kept)
+      (config : Config) → IsOpenedWith k images config
+      → (output : List ℕ) × (error : List ℕ) × (work : ℕ)
+      × RecordedUntil (plan_of images config s) a b why output error work
+      × Halted o e o1 e1 tally tally' output error work)) same
+      (stopped_start k start after a b m n o e o1 e1 follows asks begun stop run cause kept tally
+      tally' grew)
 
   pub recorded_ahead : (stop : RunStop)
       → HasShimCause stop (recorder_state start) (recorder_state after)
       → CutGroup k.config k.state (telling (recorder_state start).told o e)
-      (telling (recorder_state after).told o1 e1) → (images : List Image) (config : Config)
-      → IsOpenedWith k images config → (output : List ℕ) × (error : List ℕ)
-      × RecordedAhead (plan_of images config ledger) a b stop output error
-      × Put o e o1 e1 output error
-  recorded_ahead stop cause cut images config opened =
-      subst (λ (s : LedgerState). (output : List ℕ) × (error : List ℕ)
-      × RecordedAhead (plan_of images config s) a b stop output error
-      × Put o e o1 e1 output error) same
-      (ahead_start k start after a b m n o e o1 e1 follows asks begun stop cause cut images config
-      opened)
+      (telling (recorder_state after).told o1 e1) → (tally tally' : ℕ)
+      → GrewBy tally tally' (work_since k start after) → (images : List Image) (config : Config)
+      → IsOpenedWith k images config → (output : List ℕ) × (error : List ℕ) × (work : ℕ)
+      × RecordedAhead (plan_of images config ledger) a b stop output error work
+      × Halted o e o1 e1 tally tally' output error work
+  recorded_ahead stop cause cut tally tally' grew images config opened =
+      subst (λ (s : LedgerState). (output : List ℕ) × (error : List ℕ) × (work : ℕ)
+      × RecordedAhead (plan_of images config s) a b stop output error work
+      × Halted o e o1 e1 tally tally' output error work) same
+      (ahead_start k start after a b m n o e o1 e1 follows asks begun stop cause cut tally tally'
+      grew images config opened)
 
   pub host_rose : (stop : RunStop) → HasShimCause stop (recorder_state start) (recorder_state after)
       → stop ≡ HostFault → Rose m n

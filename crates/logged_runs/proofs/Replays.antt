@@ -1,6 +1,6 @@
 -- A run over a replayer that was asked nothing before.
 use Rattle.std.proofs.Common.{ℕ, ◌≡◌, sym, ap, ◌∙◌, subst, List, [], length, Option, Some, None}
-use Rattle.std.proofs.Common.{arith}
+use Rattle.std.proofs.Common.{arith, refl}
 use Rattle.std.specs.Prelude.{OnSome}
 use Rattle.dos_world.specs.declared.Ending.{Ending}
 use Rattle.dos_world.specs.declared.Misfit.{Misfit}
@@ -12,7 +12,8 @@ use Rattle.dos_io.specs.declared.shim.ShimStop.{ShimStop}
 use Rattle.dos_io.specs.declared.shim.ShimStop.TheVariants as stops
 use Rattle.elf_image.specs.Image.{Image}
 use Rattle.group_rounds.specs.StatePlays.{telling}
-use Rattle.group_rounds.specs.Kernels.{Held}
+use Rattle.group_rounds.specs.Kernels.{Held, kernel_world}
+use Rattle.group_rounds.specs.Rounds.{answers_since}
 use Rattle.group_rounds.specs.Outside.{HasShimCause}
 use Rattle.kernel_calls.specs.StateWorld.{shim_stop}
 use Rattle.kernel_calls.specs.declared.state.RunStop.{RunStop}
@@ -28,13 +29,15 @@ use Rattle.shim_log.proofs.ReplayLaws.{ends_whole, stands_next}
 use Rattle.dpg_run.specs.Fits.{misfit}
 use Rattle.flat_machine.specs.Machine.{Seen, group}
 use Rattle.dpg_run.specs.GroupRuns.{CutGroup, RanGroup, StoppedGroup}
+use Rattle.dpg_run.specs.Work.{work_from}
 use Rattle.dpg_run.proofs.MisfitLaws.{misfit_at}
 use Rattle.logged_runs.specs.Opened.{IsOpenedWith}
-use Rattle.logged_runs.specs.Runs.{Ended, Put, RanWhole}
+use Rattle.logged_runs.specs.Runs.{Ended, Halted, RanWhole}
 use Rattle.logged_runs.specs.Replaying.{Replayed, ReplayedAhead, ReplayedUntil, StopsReplay}
-use Rattle.logged_runs.specs.Replaying.{config_of}
+use Rattle.logged_runs.specs.Replaying.{config_of, first_work}
 use Rattle.logged_runs.proofs.Stops.{stops_so}
-use Rattle.logged_runs.proofs.FromOpening.{ran_ahead, ran_until, ran_whole, put_ahead, put_until}
+use Rattle.logged_runs.proofs.FromOpening.{halted_ahead, halted_until, ran_ahead, ran_until}
+use Rattle.logged_runs.proofs.FromOpening.{ran_whole}
 
 abbrev some_misfit : Misfit → ShimStop
 some_misfit m = stops.Misfit m
@@ -58,6 +61,10 @@ module _ (k : Held) (before : List Exchange) (p : ReplayState) (o e o1 e1 : Opti
     (fresh : before ≡ []) where
   abbrev told : List Exchange
   told = (replayer_state p).told
+
+  -- what the parallel phases have run
+  abbrev work_told : ℕ
+  work_told = work_from (kernel_world k) k.config (answers_since before told)
 
   abbrev Stopped : Type 0
   Stopped =
@@ -100,9 +107,11 @@ module _ (k : Held) (before : List Exchange) (p : ReplayState) (o e o1 e1 : Opti
 
     -- it came to the misfit of the log
     until : (found : Misfit) → Stopped → p.last ≡ Some (stops.Misfit found) → IsReplay p
-        → (output : List ℕ) × (error : List ℕ)
-        × ReplayedUntil images p.log found output error × Put o e o1 e1 output error
-    until found run last kept =
+        → (tally tally' : ℕ) → GrewBy tally tally' work_told
+        → (output : List ℕ) × (error : List ℕ) × (work : ℕ)
+        × ReplayedUntil images p.log found output error work
+        × Halted o e o1 e1 tally tally' output error work
+    until found run last kept tally tally' grew =
         let is = stops_so p.asked p.last run.question (stops.Misfit found) (IsMisfitOf p)
         run.asked_is last kept.stop in
         let next : StandsNext p is.kept = stands_next p run.question (stops.Misfit found) is in
@@ -122,24 +131,31 @@ module _ (k : Held) (before : List Exchange) (p : ReplayState) (o e o1 e1 : Opti
         Some (record { entry = p.answered; kept = q; asked = run.question })) next.question in (
           run.more.output,
           run.more.error,
-          subst (λ (x : Misfit). ReplayedUntil images p.log x run.more.output run.more.error)
-              (sym same) (record { is = at; ran = ran }),
-          put_until k before told o e o1 e1 fresh images (config_of p.log.header) opened
-              p.asked run,
+          first_work p.answered images p.log,
+          subst (λ (x : Misfit). ReplayedUntil images p.log x run.more.output run.more.error
+              (first_work p.answered images p.log)) (sym same)
+              (record { is = at; ran = ran; worked = refl }),
+          halted_until k before told o e o1 e1 fresh images (config_of p.log.header) opened
+              p.asked run tally tally' grew,
         )
 
     -- it was cut off
     ahead : CutGroup k.config k.state (telling before o e) (telling told o1 e1)
-        → (output : List ℕ) × (error : List ℕ) × ReplayedAhead images p.log output error
-        × Put o e o1 e1 output error
-    ahead cut = (
+        → (tally tally' : ℕ) → GrewBy tally tally' work_told
+        → (output : List ℕ) × (error : List ℕ) × (work : ℕ)
+        × ReplayedAhead images p.log output error work
+        × Halted o e o1 e1 tally tally' output error work
+    ahead cut tally tally' grew = (
       cut.more.output,
       cut.more.error,
+      first_work p.answered images p.log,
       record {
         answered = p.answered;
         ran = ran_ahead k before told o e o1 e1 fresh images (config_of p.log.header) opened cut;
+        worked = refl;
       },
-      put_ahead k before told o e o1 e1 fresh images (config_of p.log.header) opened cut,
+      halted_ahead k before told o e o1 e1 fresh images (config_of p.log.header) opened cut tally
+          tally' grew,
     )
 
   -- ---- the log that the replayer was made of
@@ -163,20 +179,26 @@ module _ (k : Held) (before : List Exchange) (p : ReplayState) (o e o1 e1 : Opti
     pub replayed_until : (stop : RunStop) (found : Misfit) (was : ReplayState)
         → stop ≡ MisfitFound found → OnSome (shim_stop stop) Stopped
         → HasShimCause stop (replayer_state was) (replayer_state p) → IsReplay p
-        → (output : List ℕ) × (error : List ℕ) × ReplayedUntil images log found output error
-        × Put o e o1 e1 output error
-    replayed_until stop found was is run cause kept =
-        subst (λ (l : Log). (output : List ℕ) × (error : List ℕ)
-        × ReplayedUntil images l found output error × Put o e o1 e1 output error) same
+        → (tally tally' : ℕ) → GrewBy tally tally' work_told
+        → (output : List ℕ) × (error : List ℕ) × (work : ℕ)
+        × ReplayedUntil images log found output error work
+        × Halted o e o1 e1 tally tally' output error work
+    replayed_until stop found was is run cause kept tally tally' grew =
+        subst (λ (l : Log). (output : List ℕ) × (error : List ℕ) × (work : ℕ)
+        × ReplayedUntil images l found output error work
+        × Halted o e o1 e1 tally tally' output error work) same
         (until images here found
         (subst (λ (s : RunStop). OnSome (shim_stop s) Stopped) is run)
         (subst (λ (s : RunStop). HasShimCause s (replayer_state was) (replayer_state p)) is cause).1
-        kept)
+        kept tally tally' grew)
 
     pub replayed_ahead : CutGroup k.config k.state (telling before o e) (telling told o1 e1)
-        → (output : List ℕ) × (error : List ℕ) × ReplayedAhead images log output error
-        × Put o e o1 e1 output error
-    replayed_ahead cut =
-        subst (λ (l : Log). (output : List ℕ) × (error : List ℕ)
-        × ReplayedAhead images l output error × Put o e o1 e1 output error) same
-        (ahead images here cut)
+        → (tally tally' : ℕ) → GrewBy tally tally' work_told
+        → (output : List ℕ) × (error : List ℕ) × (work : ℕ)
+        × ReplayedAhead images log output error work
+        × Halted o e o1 e1 tally tally' output error work
+    replayed_ahead cut tally tally' grew =
+        subst (λ (l : Log). (output : List ℕ) × (error : List ℕ) × (work : ℕ)
+        × ReplayedAhead images l output error work
+        × Halted o e o1 e1 tally tally' output error work) same
+        (ahead images here cut tally tally' grew)

@@ -29,6 +29,7 @@ RecordedRunsAreOne = (plan : Plan) (host : Told) (asked other_asked : List HostQ
 -- same plan has no whole log.
 abbrev pub FullRunsNeverEnd : Type 0
 FullRunsNeverEnd = (plan : Plan) (host : Told) (asked other_asked : List HostQuestion)
-    (after other_after : HostSeen) (log : Log) (seen : Seen) (output error : List ℕ)
+    (after other_after : HostSeen) (log : Log) (seen : Seen) (output error : List ℕ) (work : ℕ)
     → Recorded plan (host_seen (Some host) asked) after log seen
-    → RecordedUntil plan (host_seen (Some host) other_asked) other_after LogFull output error → ⊥
+    → RecordedUntil plan (host_seen (Some host) other_asked) other_after LogFull output error work
+    → ⊥

@@ -1,8 +1,9 @@
 -- A run that is recorded. This project's own rules.
-use Rattle.std.specs.Prelude.{◌≡◌, ◌≤◌, ◌++◌, ℕ, List, [], length, Option, None}
+use Rattle.std.specs.Prelude.{◌≡◌, ◌≤◌, ◌++◌, ℕ, List, [], length, map, Option, None}
 use Rattle.dos_world.specs.declared.Config.{Config}
 use Rattle.dos_world.specs.declared.Post.{Post}
 use Rattle.dos_world.specs.declared.Question.{Question}
+use Rattle.dos_io.specs.Exchanges.{answer_of}
 use Rattle.dos_io.specs.Given.{Given}
 use Rattle.dos_io.specs.Hosts.{Told}
 use Rattle.dos_io.specs.declared.exchange.ClockRule.{ClockRule}
@@ -20,6 +21,7 @@ use Rattle.shim_log.specs.LogText.{Log, exchanges, logtext}
 use Rattle.shim_log.specs.Ranges.{FitsLog}
 use Rattle.shim_log.specs.Room.{HadRoom, most_bytes}
 use Rattle.flat_machine.specs.Machine.{Seen}
+use Rattle.dpg_run.specs.Work.{group_work}
 use Rattle.logged_runs.specs.Runs.{RanWhole, RanUntil, RanAhead}
 
 -- what a recorded run is given beside its host
@@ -72,13 +74,14 @@ pub record Recorded (plan : Plan) (host host_after : HostSeen) (log : Log) (seen
   pub small : length (logtext log) ≤ most_bytes
 
 -- The run was recorded until a question at which the recorder stopped so, which it may; by then it
--- had sent these bytes. The host was asked for the exchanges before, and then, where it failed,
--- that question once.
+-- had sent these bytes, and its parallel phases had run so much. The host was asked for the
+-- exchanges before, and then, where it failed, that question once.
 pub record RecordedUntil (plan : Plan) (host host_after : HostSeen) (stop : ShimStop)
-    (output error : List ℕ) : Type 0 where
+    (output error : List ℕ) (work : ℕ) : Type 0 where
   pub before : List Exchange
   pub question : Question
   pub ran : RanUntil plan.images plan.config before question output error
+  pub worked : group_work plan.images plan.config (map answer_of before) ≡ work
   pub given : Given plan.posts plan.clock 0 host.told host_after.told before
   pub asked : HostWasAsked host host_after
       (host_questions plan.clock before ++ stop_questions plan.clock question stop)
@@ -86,12 +89,13 @@ pub record RecordedUntil (plan : Plan) (host host_after : HostSeen) (stop : Shim
   pub stops : MayStop (ledger_after plan before) question stop
 
 -- The run was recorded until it stopped so; these are fronts of what it sends until its next
--- question, or its end. Where an output failed, the host was asked for the exchanges before, and
--- nothing else.
+-- question, or its end, and its parallel phases had run so much. Where an output failed, the host
+-- was asked for the exchanges before, and nothing else.
 pub record RecordedAhead (plan : Plan) (host host_after : HostSeen) (stop : RunStop)
-    (output error : List ℕ) : Type 0 where
+    (output error : List ℕ) (work : ℕ) : Type 0 where
   pub before : List Exchange
   pub ran : RanAhead plan.images plan.config before output error
+  pub worked : group_work plan.images plan.config (map answer_of before) ≡ work
   pub given : Given plan.posts plan.clock 0 host.told host_after.told before
   pub asked : shim_stop stop ≡ None
       → HostWasAsked host host_after (host_questions plan.clock before)

@@ -56,3 +56,9 @@ pub record Ended (kernel : Held) (ending : Ending) (seen : Seen)
   pub shows : ReportsRun kernel ending seen
   pub put : Put out err out_after err_after seen.output seen.error
   pub counted : GrewBy tally tally_after seen.work
+
+-- All of a run that stopped: what the outputs tell more, and what the workers' tally grew by.
+pub record Halted (out err out_after err_after : Option (List ℕ)) (tally tally_after : ℕ)
+    (output error : List ℕ) (work : ℕ) : Type 0 where
+  pub put : Put out err out_after err_after output error
+  pub counted : GrewBy tally tally_after work

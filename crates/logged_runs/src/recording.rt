@@ -8,7 +8,7 @@ ghost use Rattle.flat_machine.specs.Machine.{Seen};
 ghost use Rattle.kernel_calls.specs.StateWorld.{HasSinkCause, shim_stop};
 ghost use Rattle.shim_log.specs.Ledger.{empty_ledger};
 ghost use Rattle.logged_runs.specs.Opened.{IsOpenedWith};
-ghost use Rattle.logged_runs.specs.Runs.{Ended, Put};
+ghost use Rattle.logged_runs.specs.Runs.{Ended, Halted};
 ghost use Rattle.logged_runs.specs.Recording.{Recorded, RecordedAhead, RecordedUntil, host_seen};
 ghost use Rattle.logged_runs.specs.Recording.{plan_of};
 
@@ -53,18 +53,20 @@ pub fn record_group<H: Host, O: Sink, E: Sink, W: Workers>(
         (E.told err.new) (W.tally workers.old) (W.tally workers.new)) }
     ensures stopped { IfErr result (λ stop. IfSome (shim_stop stop) (λ why. (images : List Image)
         (config : Config) → IsOpenedWith kernel.old images config
-        → (output : List ℕ) × (error : List ℕ)
+        → (output : List ℕ) × (error : List ℕ) × (work : ℕ)
         × RecordedUntil (plan_of images config ledger)
         (host_seen (H.told host.old) (H.asked host.old))
-        (host_seen (H.told host.new) (H.asked host.new)) why output error
-        × Put (O.told out.old) (E.told err.old) (O.told out.new) (E.told err.new) output error)) }
+        (host_seen (H.told host.new) (H.asked host.new)) why output error work
+        × Halted (O.told out.old) (E.told err.old) (O.told out.new) (E.told err.new)
+        (W.tally workers.old) (W.tally workers.new) output error work)) }
     ensures cut { IfErr result (λ stop. (images : List Image) (config : Config)
         → IsOpenedWith kernel.old images config
-        → (output : List ℕ) × (error : List ℕ)
+        → (output : List ℕ) × (error : List ℕ) × (work : ℕ)
         × RecordedAhead (plan_of images config ledger)
         (host_seen (H.told host.old) (H.asked host.old))
-        (host_seen (H.told host.new) (H.asked host.new)) stop output error
-        × Put (O.told out.old) (E.told err.old) (O.told out.new) (E.told err.new) output error) }
+        (host_seen (H.told host.new) (H.asked host.new)) stop output error work
+        × Halted (O.told out.old) (E.told err.old) (O.told out.new) (E.told err.new)
+        (W.tally workers.old) (W.tally workers.new) output error work) }
     ensures host_cause { IsErrOf result RunStop.HostFault
         → Rose (H.faults host.old) (H.faults host.new) }
     ensures host_steady { result ≢ Err RunStop.HostFault

@@ -7,7 +7,7 @@ ghost use Rattle.flat_machine.specs.Machine.{Seen};
 ghost use Rattle.kernel_calls.specs.StateWorld.{HasSinkCause};
 ghost use Rattle.kernel_calls.specs.declared.state.RunStop.TheVariants as stops;
 ghost use Rattle.logged_runs.specs.Opened.{IsOpenedWith};
-ghost use Rattle.logged_runs.specs.Runs.{Ended, Put};
+ghost use Rattle.logged_runs.specs.Runs.{Ended, Halted};
 ghost use Rattle.logged_runs.specs.Replaying.{Replayed, ReplayedAhead, ReplayedUntil, StopsReplay};
 ghost use Rattle.logged_runs.specs.Replaying.{config_of};
 
@@ -22,7 +22,8 @@ use worker_pool::Workers;
 /// Runs a group that was opened by the answers of a log, of which it asks nothing else.
 ///
 /// It stops where the log has an exchange of another question than the run asks, by that misfit, or
-/// where an output fails, and by nothing else: it takes no memory.
+/// where an output fails, and by nothing else: it takes no memory. The workers' tally grows by the
+/// instructions of the parallel phases, however it ends.
 pub fn replay_group<O: Sink, E: Sink, W: Workers>(
     kernel: &mut Kernel,
     log: Log,
@@ -39,12 +40,16 @@ pub fn replay_group<O: Sink, E: Sink, W: Workers>(
         (E.told err.new) (W.tally workers.old) (W.tally workers.new)) }
     ensures misfit { (found : Misfit) → IsErrOf result (stops.Misfit found) → (images : List Image)
         → IsOpenedWith kernel.old images (config_of log.header)
-        → (output : List ℕ) × (error : List ℕ) × ReplayedUntil images log found output error
-        × Put (O.told out.old) (E.told err.old) (O.told out.new) (E.told err.new) output error }
+        → (output : List ℕ) × (error : List ℕ) × (work : ℕ)
+        × ReplayedUntil images log found output error work
+        × Halted (O.told out.old) (E.told err.old) (O.told out.new) (E.told err.new)
+        (W.tally workers.old) (W.tally workers.new) output error work }
     ensures cut { OnErr result ((images : List Image)
         → IsOpenedWith kernel.old images (config_of log.header)
-        → (output : List ℕ) × (error : List ℕ) × ReplayedAhead images log output error
-        × Put (O.told out.old) (E.told err.old) (O.told out.new) (E.told err.new) output error) }
+        → (output : List ℕ) × (error : List ℕ) × (work : ℕ)
+        × ReplayedAhead images log output error work
+        × Halted (O.told out.old) (E.told err.old) (O.told out.new) (E.told err.new)
+        (W.tally workers.old) (W.tally workers.new) output error work) }
     ensures only { IfErr result StopsReplay }
     ensures sinks { IfErr result (λ stop. HasSinkCause stop (O.faults out.old) (O.faults out.new)
         (E.faults err.old) (E.faults err.new)) }

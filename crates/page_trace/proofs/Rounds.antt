@@ -9,18 +9,20 @@ use Rattle.dos_io.specs.Borders.{BorderState}
 use Rattle.dos_io.specs.Outside.{GrewByFront, HasCause, grown}
 use Rattle.dos_io.specs.Shims.{HasNoEnd}
 use Rattle.dos_world.specs.declared.Question.{Question}
-use Rattle.kernel_calls.specs.StateWorld.{shim_stop}
+use Rattle.kernel_calls.specs.StateWorld.{shim_stop, world_of}
 use Rattle.kernel_calls.specs.declared.state.RunStop.{RunStop}
 use Rattle.kernel_calls.specs.declared.state.RunStop.TheVariants.{HostFault, LogFull, Misfit}
 use Rattle.kernel_calls.specs.declared.state.RunStop.TheVariants.{OutFault, ErrFault}
 use Rattle.kernel_calls.specs.declared.state.RunStop.TheVariants.{Memory as RunMemory}
 use Rattle.kernel_calls.specs.declared.state.State.{State}
-use Rattle.group_rounds.specs.Rounds.{next_round}
+use Rattle.group_rounds.specs.Rounds.{answers_since, next_round}
 use Rattle.dpg_run.specs.GroupRuns.{PlaysNext, PlaysSome, RunsGroup, end_by, has_failed}
-use Rattle.dpg_run.proofs.RoundsRun.{all_err, all_ok, runs_stopped, some_then}
+use Rattle.dpg_run.proofs.RoundsRun.{all_err, all_ok, grew_by, runs_stopped, some_then}
+use Rattle.dpg_run.proofs.Worked.{worked_so_far}
 use Rattle.page_trace.specs.Lines.{change_lines}
 use Rattle.page_trace.specs.Trace.{changes}
-use Rattle.page_trace.specs.Tracing.{HasLineCause, IsOfRun, OfRun, RoundTraces, RoundsTrace}
+use Rattle.page_trace.specs.Tracing.{Counts, HasLineCause, IsOfRun, OfRun, RoundTraces}
+use Rattle.page_trace.specs.Tracing.{RoundsTrace}
 use Rattle.page_trace.specs.Tracing.{StopTraces, Traced, TracedRound, Traces, TracesBy}
 use Rattle.page_trace.specs.Tracing.{lines_between, trace_lines, traced_at}
 use Rattle.page_trace.specs.declared.stop.TraceStop.{TraceStop}
@@ -62,6 +64,7 @@ round_put config ended (Err LineFault) s s' b b' lines lines' t t' same only n k
     err plays some round running = record {
       ended = ended;
       plays = plays;
+      some = some;
       front = subst (λ xs. GrewByFront lines lines' xs) (are_between n kept s s' number owners) err;
     }
 round_put config ended (Err (Run stop)) s s' b b' lines lines' t t' same only n kept number owners
@@ -136,9 +139,14 @@ module _ (config here : Config) (old s s' : State) (b0 b b' : BorderState)
     }
     rounds_stop LineFault h =
         let k = next_as (Ok h.ended) h.plays in
-        traced_fault config old s s' b b' (traced_at b0 l0) (traced_at b l) (traced_at b' l')
-        traced first later begun (end_by h.ended) k.work k.plays.goes allowed
-        k.plays.goes.tells.exchanges h.front
+        let all = some_then config here (Ok h.ended) old s s' b0 b b' t0 t t' same some h.some in (
+          traced_fault config old s s' b b' (traced_at b0 l0) (traced_at b l) (traced_at b' l')
+              traced first later begun (end_by h.ended) k.work k.plays.goes allowed
+              k.plays.goes.tells.exchanges h.front,
+          grew_by config old b0 b' t0 t' all.work
+              (worked_so_far config h.ended (answers_since b0.shim.told b'.shim.told)
+              (world_of config.quantum old) s' all.work (all.worked [] [])) all.grew,
+        )
     rounds_stop Memory h = absurd h
 
     some_as : (ended is : Option Ending) → ended ≡ is
@@ -234,8 +242,15 @@ module _ (config : Config) (old s : State) (b0 b : BorderState) (l0 l : Option (
   pub over_traces : (stop : TraceStop) → RoundsTrace config (Err stop) old b0 s b l0 l t t'
       → Traces config (Err stop) old s (traced_at b0 l0) (traced_at b l)
   over_traces (Run stop) h = h.lines
-  over_traces LineFault h = h
+  over_traces LineFault h = h.0
   over_traces Memory h = absurd h
+
+  pub over_counts : (stop : TraceStop) → RoundsTrace config (Err stop) old b0 s b l0 l t t'
+      → IsErrOf {T = Ending} (Err stop) LineFault
+      → Counts config old b0.shim.told b.shim.told t t'
+  over_counts (Run stop) h is = absurd cc
+  over_counts LineFault h is = h.1
+  over_counts Memory h is = absurd h
 
   pub over_only : (stop : TraceStop) → RoundsTrace config (Err stop) old b0 s b l0 l t t'
       → stop ≢ Memory
@@ -248,6 +263,13 @@ of_run_only (Ok ending) h = tt
 of_run_only (Err (Run stop)) h = λ is. absurd cc
 of_run_only (Err LineFault) h = absurd h
 of_run_only (Err Memory) h = absurd h
+
+pub never_fault : (r : Result Ending TraceStop) (P : Type 0) → IfErr r IsOfRun
+    → IsErrOf r LineFault → P
+never_fault (Ok ending) P h is = absurd cc
+never_fault (Err (Run stop)) P h is = absurd cc
+never_fault (Err LineFault) P h is = absurd h
+never_fault (Err Memory) P h is = absurd h
 
 pub of_run_cause : (r : Result Ending TraceStop) (faults faults' : ℕ) → IfErr r IsOfRun
     → IfErr r (λ stop. HasLineCause stop faults faults')

@@ -14,9 +14,11 @@ use Rattle.kernel_calls.specs.StateWorld.{shim_stop, world_of}
 use Rattle.kernel_calls.specs.declared.state.RunStop.{RunStop}
 use Rattle.kernel_calls.specs.declared.state.State.{State}
 use Rattle.group_rounds.specs.Kernels.{Held}
-use Rattle.group_rounds.specs.Rounds.{next_round}
+use Rattle.group_rounds.specs.Rounds.{answers_since, next_round}
 use Rattle.dpg_run.specs.GroupRuns.{PlaysNext, PlaysRounds, PlaysSome, RunsGroup}
 use Rattle.dpg_run.specs.GroupRuns.{end_by}
+use Rattle.dpg_run.specs.Work.{work_from}
+use Rattle.worker_pool.specs.Ran.{GrewBy}
 use Rattle.page_trace.specs.Lines.{change_lines}
 use Rattle.page_trace.specs.Trace.{changes, trace, trace_rounds}
 use Rattle.page_trace.specs.declared.stop.TraceStop.{TraceStop}
@@ -104,6 +106,13 @@ abbrev pub lines_between : State → State → List ℕ
 lines_between old new =
     change_lines (changes old.round old.frames.owners new.frames.owners)
 
+-- The tally grew by the work of the rounds over the answers that are told more.
+abbrev pub Counts : Config → State → (told told_after : List Exchange) → (tally tally_after : ℕ)
+    → Type 0
+Counts config old told told_after tally tally_after =
+    GrewBy tally tally_after (work_from (world_of config.quantum old) config
+    (answers_since told told_after))
+
 -- A round was run, and its lines were put.
 pub record TracedRound (config : Config) (ended : Option Ending) (old : State)
     (before : BorderState) (new : State) (after : BorderState) (lines lines_after : Option (List ℕ))
@@ -125,9 +134,11 @@ pub record UntracedRound (config : Config) (stop : RunStop) (old : State) (befor
 
 -- It was run, and a line failed behind a front of them.
 pub record CutLinesOfRound (config : Config) (old : State) (before : BorderState) (new : State)
-    (after : BorderState) (lines lines_after : Option (List ℕ)) : Type 0 where
+    (after : BorderState) (lines lines_after : Option (List ℕ)) (tally tally_after : ℕ) : Type 0
+  where
   pub ended : Option Ending
   pub plays : PlaysNext config.quantum (Ok ended) old before new after
+  pub some : PlaysSome config (Ok ended) old before new after tally tally_after
   pub front : GrewByFront lines lines_after (lines_between old new)
 
 abbrev pub RoundTraces : Config → Result (Option Ending) TraceStop → State → BorderState → State
@@ -137,7 +148,7 @@ RoundTraces config (Ok ended) old before new after lines lines_after tally tally
 RoundTraces config (Err (Run stop)) old before new after lines lines_after tally tally_after =
     UntracedRound config stop old before new after lines lines_after tally tally_after
 RoundTraces config (Err LineFault) old before new after lines lines_after tally tally_after =
-    CutLinesOfRound config old before new after lines lines_after
+    CutLinesOfRound config old before new after lines lines_after tally tally_after
 RoundTraces config (Err Memory) old before new after lines lines_after tally tally_after = ⊥
 
 -- what is told of a border and of the lines
@@ -162,6 +173,7 @@ RoundsTrace config (Err (Run stop)) old before new after lines lines_after tally
     (traced_at after lines_after))
 RoundsTrace config (Err LineFault) old before new after lines lines_after tally tally_after =
     Traces config (Err LineFault) old new (traced_at before lines) (traced_at after lines_after)
+    × Counts config old before.shim.told after.shim.told tally tally_after
 RoundsTrace config (Err Memory) old before new after lines lines_after tally tally_after = ⊥
 
 -- The shim was told the end of a traced run, or stopped at it, whatever rounds came before; and

@@ -7,7 +7,7 @@ ghost use Rattle.group_rounds.specs.Kernels.{IsBetweenRounds};
 ghost use Rattle.dpg_run.specs.GroupRuns.{RunsGroup};
 ghost use Rattle.page_trace.specs.Lines.{change_lines};
 ghost use Rattle.page_trace.specs.Trace.{changes};
-ghost use Rattle.page_trace.specs.Tracing.{EndsTraced, HasLineCause, OfRun, RoundTraces};
+ghost use Rattle.page_trace.specs.Tracing.{Counts, EndsTraced, HasLineCause, OfRun, RoundTraces};
 ghost use Rattle.page_trace.specs.Tracing.{RoundsTrace, Traces, border_of, traced, traced_at};
 
 use crate::owners::Owners;
@@ -149,6 +149,9 @@ fn trace_over<B: Border, T: Sink, W: Workers>(
     ensures traces { Traces kernel.old.config result kernel.old.state kernel.new.state
         (traced_at (B.state border.old) (T.told lines.old))
         (traced_at (B.state border.new) (T.told lines.new)) }
+    ensures counted { IsErrOf result TraceStop.LineFault → Counts kernel.old.config kernel.old.state
+        (B.state border.old).shim.told (B.state border.new).shim.told
+        (W.tally workers.old) (W.tally workers.new) }
     ensures only { IfErr result (λ stop. stop ≢ TraceStop.Memory) }
     ensures cause { IfErr result
         (λ stop. HasLineCause stop (T.faults lines.old) (T.faults lines.new)) }
@@ -186,6 +189,9 @@ fn trace_owned<S: Shim, O: Sink, E: Sink, T: Sink, W: Workers>(
     ensures traces { Traces kernel.old.config result kernel.old.state kernel.new.state
         (traced (S.state shim.old).told (T.told lines.old))
         (traced (S.state shim.new).told (T.told lines.new)) }
+    ensures counted { IsErrOf result TraceStop.LineFault → Counts kernel.old.config kernel.old.state
+        (S.state shim.old).told (S.state shim.new).told
+        (W.tally workers.old) (W.tally workers.new) }
     ensures only { IfErr result (λ stop. stop ≢ TraceStop.Memory) }
     ensures cause { IfErr result
         (λ stop. HasLineCause stop (T.faults lines.old) (T.faults lines.new)) }
@@ -204,7 +210,8 @@ fn trace_owned<S: Shim, O: Sink, E: Sink, T: Sink, W: Workers>(
 /// has changed in it, in rising order.
 ///
 /// The lines are those of the trace over the answers of the shim; after a fault of a line a front
-/// of them; and after a fault of the guests' sinks those of the rounds before it. `Memory` comes
+/// of them; and after a fault of the guests' sinks those of the rounds before it. The workers' tally
+/// grows as `run_group` has it, and where a line fails by the rounds until then. `Memory` comes
 /// before the first round, when nothing was put or asked, and never after it.
 pub fn run_traced<S: Shim, O: Sink, E: Sink, T: Sink, W: Workers>(
     alloc: Global,
@@ -225,6 +232,9 @@ pub fn run_traced<S: Shim, O: Sink, E: Sink, T: Sink, W: Workers>(
     ensures traces { Traces kernel.old.config result kernel.old.state kernel.new.state
         (traced (S.state shim.old).told (T.told lines.old))
         (traced (S.state shim.new).told (T.told lines.new)) }
+    ensures counted { IsErrOf result TraceStop.LineFault → Counts kernel.old.config kernel.old.state
+        (S.state shim.old).told (S.state shim.new).told
+        (W.tally workers.old) (W.tally workers.new) }
     ensures memory { IsErrOf result TraceStop.Memory → kernel.new ≡ kernel.old }
     ensures rested { IsErrOf result TraceStop.Memory → W.tally workers.new ≡ W.tally workers.old }
     ensures cause { IfErr result

@@ -1,6 +1,6 @@
 -- The lines of a run over a replayer that was asked nothing before.
 use Rattle.std.proofs.Common.{◌≡◌, ℕ, sym, ap, ◌∙◌, subst, List, [], ◌++◌, map, Option}
-use Rattle.std.proofs.Common.{take}
+use Rattle.std.proofs.Common.{None, take}
 use Rattle.dos_world.specs.World.{World}
 use Rattle.dos_world.specs.declared.Config.{Config}
 use Rattle.dos_io.specs.Exchanges.{answer_of}
@@ -9,12 +9,15 @@ use Rattle.dos_io.specs.Shims.{HasNoEnd}
 use Rattle.dos_io.specs.declared.exchange.Exchange.{Exchange}
 use Rattle.elf_image.specs.Image.{Image}
 use Rattle.flat_machine.specs.Opening.{opening}
+use Rattle.dpg_run.specs.Work.{group_work}
 use Rattle.group_rounds.specs.Kernels.{Held, kernel_world}
+use Rattle.worker_pool.specs.Ran.{GrewBy}
 use Rattle.logged_runs.specs.Opened.{IsOpenedWith}
 use Rattle.logged_runs.specs.Replaying.{config_of}
+use Rattle.logged_runs.proofs.FromOpening.{counted_since}
 use Rattle.page_trace.specs.Lines.{change_lines}
 use Rattle.page_trace.specs.Trace.{trace}
-use Rattle.page_trace.specs.Tracing.{TracesBy, TracesFront, trace_lines, traced}
+use Rattle.page_trace.specs.Tracing.{Counts, TracesBy, TracesFront, trace_lines, traced}
 use Rattle.shim_log.specs.LogText.{Log, exchanges}
 use Rattle.shim_log.specs.Ranges.{FitsLog}
 use Rattle.shim_log.specs.Replay.{ReplayState, replayer_state}
@@ -74,10 +77,15 @@ module _ (k : Held) (before : List Exchange) (fresh : before ≡ []) (p : Replay
       ∙ ap (λ (read : Log). grown l (lines_over read)) same
       ∙ ap (λ (n : ℕ). grown l (first_log_lines n images log)) (sym at)
 
-  pub ahead_lines : TracesFront (trace_lines k.config k.state) (traced before l) (traced told l')
-      → TracedAhead images log l l'
-  ahead_lines h = record {
+  pub ahead_lines : (t t' : ℕ) → Counts k.config k.state before told t t'
+      → TracesFront (trace_lines k.config k.state) (traced before l) (traced told l')
+      → TracedAhead images log l l' t t'
+  ahead_lines t t' counted h = record {
     answered = p.answered;
+    counted = subst (λ (read : Log). GrewBy t t' (group_work images (config_of log.header)
+        (map answer_of (take p.answered (exchanges read))))) same
+        (counted_since k before told None None None None fresh images (config_of log.header) opened
+        t t' counted);
     front = subst (λ (read : Log). GrewByFront l l' (lines_over read)) same
         (lines_front k images (config_of log.header) opened before told l l' fresh h);
   }

@@ -1,7 +1,7 @@
 -- How a traced replay ends, from part to whole.
 use Rattle.std.proofs.Common.{◌≡◌, ℕ, Bool, refl, ap, subst, List, [], Option, Some, None, Ok}
 use Rattle.std.proofs.Common.{Err, Result, arith}
-use Rattle.std.specs.Prelude.{IfSome}
+use Rattle.std.specs.Prelude.{IfSome, IsErrOf}
 use Rattle.dos_world.specs.declared.Ending.{Ending}
 use Rattle.dos_world.specs.declared.Misfit.{Misfit}
 use Rattle.dos_world.specs.declared.Question.{Question}
@@ -18,7 +18,7 @@ use Rattle.logged_runs.specs.Opened.{IsOpenedWith}
 use Rattle.logged_runs.specs.Replaying.{config_of}
 use Rattle.logged_runs.proofs.FromOpening.{is_told}
 use Rattle.logged_runs.proofs.Replays.{only, replayed, replayed_until}
-use Rattle.page_trace.specs.Tracing.{OfRun, TracesBy, Traces, border_of, trace_lines}
+use Rattle.page_trace.specs.Tracing.{Counts, OfRun, TracesBy, Traces, border_of, trace_lines}
 use Rattle.page_trace.specs.Tracing.{Traced, traced}
 use Rattle.page_trace.specs.declared.stop.TraceStop.{TraceStop}
 use Rattle.page_trace.specs.declared.stop.TraceStop.TheVariants as traces
@@ -78,7 +78,7 @@ module _ (k k' : Held) (s p : ReplayState) (log : Log) (fresh : (replayer_state 
         → IsReplay p → OfRun {T = Ending} (Err stop) Runs
         → Traces k.config (Err stop) k.state k'.state (traced (replayer_state s).told l)
         (traced (replayer_state p).told l')
-        → TracedUntil images log found l l'
+        → TracedUntil images log found l l' t t'
     traced_until stop found is kept run lines =
         let run : Runs (Err (stops.Misfit found)) =
         subst (λ (x : TraceStop). OfRun {T = Ending} (Err x) Runs) is run in
@@ -87,21 +87,31 @@ module _ (k k' : Held) (s p : ReplayState) (log : Log) (fresh : (replayer_state 
         subst (λ (x : TraceStop). Traces k.config (Err x) k.state k'.state
         (traced (replayer_state s).told l) (traced (replayer_state p).told l')) is lines in
         let until = replayed_until k (replayer_state s).told p None None None None fresh log same
-        images opened (stops.Misfit found) found s refl run.asks run.causes.shim kept in
+        images opened (stops.Misfit found) found s refl run.asks run.causes.shim kept t t' run.grew
+        in
         record {
           output = until.0;
           error = until.1;
-          replayed = until.2;
+          work = until.2;
+          replayed = until.3;
+          counted = until.4.counted;
           lines_are = until_lines k (replayer_state s).told fresh p log same images opened l l'
               found.entry (entry_is found run kept) lines;
         }
 
+    fault_is : (stop : TraceStop) → stop ≡ traces.LineFault
+        → IsErrOf {T = Ending} (Err stop) traces.LineFault
+    fault_is stop is = cc
+
     pub traced_ahead : (stop : TraceStop) → stop ≡ traces.LineFault
         → Traces k.config (Err stop) k.state k'.state (traced (replayer_state s).told l)
         (traced (replayer_state p).told l')
-        → TracedAhead images log l l'
-    traced_ahead stop is lines =
-        ahead_lines k (replayer_state s).told fresh p log same images opened l l'
+        → (IsErrOf {T = Ending} (Err stop) traces.LineFault → Counts k.config k.state
+        (replayer_state s).told (replayer_state p).told t t')
+        → TracedAhead images log l l' t t'
+    traced_ahead stop is lines counted =
+        ahead_lines k (replayer_state s).told fresh p log same images opened l l' t t'
+        (counted (fault_is stop is))
         (subst (λ (x : TraceStop). Traces k.config (Err x) k.state k'.state
         (traced (replayer_state s).told l) (traced (replayer_state p).told l')) is lines)
 

@@ -11,7 +11,7 @@ use Rattle.flat_machine.specs.Machine.{Seen}
 use Rattle.flat_machine.specs.Opening.{opening}
 use Rattle.group_rounds.specs.Kernels.{Held}
 use Rattle.kernel_calls.specs.declared.state.RunStop.TheVariants.{Misfit as FoundMisfit}
-use Rattle.logged_runs.specs.Replaying.{Replayed, ReplayedUntil, config_of}
+use Rattle.logged_runs.specs.Replaying.{Replayed, ReplayedUntil, config_of, first_work}
 use Rattle.logged_runs.specs.Runs.{ReportsRun}
 use Rattle.page_trace.specs.Lines.{change_lines}
 use Rattle.page_trace.specs.Trace.{trace}
@@ -44,18 +44,23 @@ pub record TracedWhole (images : List Image) (log : Log) (kernel : Held) (ending
   pub counted : GrewBy tally tally_after seen.work
   pub lines_are : lines_after ≡ grown lines (log_lines images log)
 
--- It came to the log's misfit. The lines grew by those over the exchanges before it.
+-- It came to the log's misfit, and the tally grew by its work until there. The lines grew by those
+-- over the exchanges before it.
 pub record TracedUntil (images : List Image) (log : Log) (found : Misfit)
-    (lines lines_after : Option (List ℕ)) : Type 0 where
+    (lines lines_after : Option (List ℕ)) (tally tally_after : ℕ) : Type 0 where
   pub output : List ℕ
   pub error : List ℕ
-  pub replayed : ReplayedUntil images log found output error
+  pub work : ℕ
+  pub replayed : ReplayedUntil images log found output error work
+  pub counted : GrewBy tally tally_after work
   pub lines_are : lines_after ≡ grown lines (first_log_lines found.entry images log)
 
--- A line failed. The lines grew by a front of those over so many first exchanges.
-pub record TracedAhead (images : List Image) (log : Log) (lines lines_after : Option (List ℕ)) :
-    Type 0 where
+-- A line failed. The lines grew by a front of those over so many first exchanges, and the tally by
+-- the work over them.
+pub record TracedAhead (images : List Image) (log : Log) (lines lines_after : Option (List ℕ))
+    (tally tally_after : ℕ) : Type 0 where
   pub answered : ℕ
+  pub counted : GrewBy tally tally_after (first_work answered images log)
   pub front : GrewByFront lines lines_after (first_log_lines answered images log)
 
 -- It stops at a misfit, where a line fails, or for want of memory before the first round.

@@ -37,10 +37,12 @@ pub fn trace_log<T: Sink, W: Workers>(
         (W.tally workers.old) (W.tally workers.new)) }
     ensures misfit { (found : Misfit) → IsErrOf result (traces.Run (stops.Misfit found))
         → (images : List Image) → IsOpenedWith kernel.old images (config_of log.header)
-        → TracedUntil images log found (T.told lines.old) (T.told lines.new) }
+        → TracedUntil images log found (T.told lines.old) (T.told lines.new)
+        (W.tally workers.old) (W.tally workers.new) }
     ensures cut { IsErrOf result traces.LineFault → (images : List Image)
         → IsOpenedWith kernel.old images (config_of log.header)
-        → TracedAhead images log (T.told lines.old) (T.told lines.new) }
+        → TracedAhead images log (T.told lines.old) (T.told lines.new)
+        (W.tally workers.old) (W.tally workers.new) }
     ensures memory { IsErrOf result traces.Memory → T.told lines.new ≡ T.told lines.old }
     ensures rested { IsErrOf result traces.Memory → W.tally workers.new ≡ W.tally workers.old }
     ensures only { IfErr result StopsTrace }

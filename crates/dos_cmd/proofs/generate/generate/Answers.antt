@@ -28,7 +28,11 @@ pub returns-in-Err : goal.returns-in-Err
 returns-in-Err g c = record {
   did = λ n tells f h e. tt;
   leaves = λ n tells f h e k l m.
-      leaves_stopped c.args.number c.args.threads n tells f h _ e _ _ _ _ c.in-Err.ensures.refused;
+      leaves_stopped c.args.number c.args.threads n tells f h _ e _ _ _ _ c.in-Err.ensures.refused
+      (c.in-Err.ensures.halted (generated c.args.number c.args.threads ∷ []) gen_config
+      (opened_with c.args.number c.args.threads c.in_ok-kernel.kernel
+      c.from_ref.result.now (one_image c.args.number c.args.threads c.from_ref.result.now
+      c.in-Ok.image c.from_ref.ensures.value c.in-Ok.ensures) c.in_ok-kernel.ensures.opened));
   out_later = le_refl _;
   out_steady = λ _. refl;
   fixed = c.run_quietly.ensures.fixed;

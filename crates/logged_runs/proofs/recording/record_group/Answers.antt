@@ -78,10 +78,10 @@ returns-in-Err g c =
       stopped = stopped c.args.kernel.now c.args.ledger c.of-shim.result.ledger
           c.run_group.new.shim.ledger before after _ _ _ _ _ _ c.of-shim.ensures.ledger
           c.requires.begins follows asks c.in-Err.stop run.asks run.causes.shim
-          c.look-in-Err.ensures;
+          c.look-in-Err.ensures _ _ run.grew;
       cut = recorded_ahead c.args.kernel.now c.args.ledger c.of-shim.result.ledger
           c.run_group.new.shim.ledger before after _ _ _ _ _ _ c.of-shim.ensures.ledger
-          c.requires.begins follows asks c.in-Err.stop run.causes.shim run.cut;
+          c.requires.begins follows asks c.in-Err.stop run.causes.shim run.cut _ _ run.grew;
       host_cause = λ is. host_rose c.args.kernel.now c.args.ledger c.of-shim.result.ledger
           c.run_group.new.shim.ledger before after _ _ (g.O.Sink.told c.args.out.now)
           (g.E.Sink.told c.args.err.now) (g.O.Sink.told c.args.out.now)

@@ -47,10 +47,10 @@ returns g c =
       misfit = λ found is images opened. replayed_until c.args.kernel.now
           (replayer_state c.new-shim.result).told c.run_group.new.shim _ _ _ _ told c.args.log log
           images opened c.in-Err.stop found c.new-shim.result (this_stop _ _ _ is) run.asks
-          run.causes.shim c.look.ensures;
+          run.causes.shim c.look.ensures _ _ run.grew;
       cut = λ images opened. replayed_ahead c.args.kernel.now
           (replayer_state c.new-shim.result).told c.run_group.new.shim _ _ _ _ told c.args.log log
-          images opened run.cut;
+          images opened run.cut _ _ run.grew;
       only = only c.args.kernel.now (replayer_state c.new-shim.result).told c.run_group.new.shim
           _ _ _ _ told c.in-Err.stop run.asks c.new-shim.result run.causes.shim c.look.ensures;
       sinks = run.causes.sinks;

@@ -1,6 +1,6 @@
 use Rattle.page_trace.specs.Tracing.{traced_at}
-use Rattle.page_trace.proofs.Rounds.{no_fault, of_run_cause, of_run_only, over_only, over_runs}
-use Rattle.page_trace.proofs.Rounds.{over_traces}
+use Rattle.page_trace.proofs.Rounds.{never_fault, no_fault, of_run_cause, of_run_only, over_counts}
+use Rattle.page_trace.proofs.Rounds.{over_only, over_runs, over_traces}
 use Rattle.page_trace.proofs.tracing.trace_over.Goals as goal
 
 pub trace_rounds-requires-clause-running : goal.trace_rounds-requires-clause-running
@@ -28,6 +28,7 @@ returns-in-Ok g c =
           (g.W.Workers.tally c.args.workers.now) (g.W.Workers.tally c.trace_rounds.new.workers)
           rounds.failed rounds.traces.plays (traced_at b (g.T.Sink.told c.args.lines.now))
           (g.T.Sink.told c.trace_rounds.new.lines) rounds.traces.lines;
+      counted = never_fault c.end_run.result _ ended.stops;
       only = of_run_only c.end_run.result ended.stops;
       cause = of_run_cause c.end_run.result _ _ ended.stops;
       later = c.trace_rounds.ensures.later;
@@ -47,6 +48,9 @@ returns-in-Err g c =
           c.trace_rounds.new.kernel.state _ _ _ _ _ _ c.trace_rounds.new.kernel.failed
           c.in-Err.stop rounds.failed rounds.traces;
       traces = over_traces c.args.kernel.now.config c.args.kernel.now.state
+          c.trace_rounds.new.kernel.state _ _ _ _ _ _ c.trace_rounds.new.kernel.failed
+          c.in-Err.stop rounds.traces;
+      counted = over_counts c.args.kernel.now.config c.args.kernel.now.state
           c.trace_rounds.new.kernel.state _ _ _ _ _ _ c.trace_rounds.new.kernel.failed
           c.in-Err.stop rounds.traces;
       only = over_only c.args.kernel.now.config c.args.kernel.now.state

@@ -1,7 +1,7 @@
 use Rattle.std.proofs.Common.{sym, ap, subst, ◌∙◌}
 use Rattle.dos_io.specs.Borders.{BorderState}
 use Rattle.dpg_run.specs.GroupRuns.{RunsGroup}
-use Rattle.page_trace.specs.Tracing.{OfRun, Traces, border_of, traced}
+use Rattle.page_trace.specs.Tracing.{Counts, OfRun, Traces, border_of, traced}
 use Rattle.page_trace.proofs.tracing.trace_owned.Goals as goal
 
 pub returns : goal.returns
@@ -32,6 +32,9 @@ returns g c =
           c.args.kernel.now.state c.trace_over.new.kernel.state
           (traced (state c.args.shim.now).told (g.T.Sink.told c.args.lines.now))
           (traced (state x).told (g.T.Sink.told c.trace_over.new.lines))) (sym shim_is) e.traces;
+      counted = λ is. subst (λ x. Counts c.args.kernel.now.config c.args.kernel.now.state
+          (state c.args.shim.now).told (state x).told (g.W.Workers.tally c.args.workers.now)
+          (g.W.Workers.tally c.trace_over.new.workers)) (sym shim_is) (e.counted is);
       only = e.only;
       cause = e.cause;
       later = e.later;

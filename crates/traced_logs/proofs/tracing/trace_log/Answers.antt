@@ -50,7 +50,7 @@ returns g c =
           k'.failed t t' images opened c.in-Err.stop found (this_trace_stop _ _ is)
           c.look.ensures run.runs run.traces;
       cut = λ is images opened. traced_ahead k k' s p c.args.log told log l l' k'.failed t t'
-          images opened c.in-Err.stop (this_trace_stop _ _ is) run.traces;
+          images opened c.in-Err.stop (this_trace_stop _ _ is) run.traces run.counted;
       memory = λ is. lines_stay k k' _ _ _ _ c.in-Err.stop (this_trace_stop _ _ is) run.traces;
       rested = run.rested;
       only = traced_only k k' s p c.args.log told log l l' k'.failed t t' c.in-Err.stop
