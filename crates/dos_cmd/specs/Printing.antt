@@ -76,13 +76,13 @@ pub record CutSummary (images : List Image) (o : Outside) : Type 0 where
 -- tally grew by its work until there.
 pub record HaltedQuietly (images : List Image) (config : Config) (tally tally_after : ℕ) : Type 0
   where
-  pub exchanges : List Exchange
-  pub quiet : AreQuiet exchanges
-  pub question : Question
-  pub output : List ℕ
-  pub error : List ℕ
-  pub ran : RanUntil images config exchanges question output error
-  pub counted : GrewBy tally tally_after (group_work images config (map answer_of exchanges))
+    pub exchanges : List Exchange
+    pub quiet : AreQuiet exchanges
+    pub question : Question
+    pub output : List ℕ
+    pub error : List ℕ
+    pub ran : RanUntil images config exchanges question output error
+    pub counted : GrewBy tally tally_after (group_work images config (map answer_of exchanges))
 
 -- The generated group's run took all memory. Error grew by these bytes alone.
 pub record QuietlyStopped (images : List Image) (last : List ℕ) (o : Outside) : Type 0 where

@@ -65,98 +65,98 @@ cut_worked n w answers (ask question output error next) is =
     ap (by_round n (begun_work w answers)) is
 
 module _ (config : Config) (s : State) (first : 1 ≤ s.round) (allowed : s.round ≤ config.rounds)
-    where
-  -- the world with these bytes sent
-  abbrev here : (o e : List ℕ) → World
-  here o e = sent o e (world_of config.quantum s)
+  where
+    -- the world with these bytes sent
+    abbrev here : (o e : List ℕ) → World
+    here o e = sent o e (world_of config.quantum s)
 
-  -- a round is left
-  one_left : (o e : List ℕ) (answers : List Answer) → work_from (here o e) config answers
-      ≡ by_round (config.rounds - s.round) (begun_work (here o e) answers)
-      (over answers (round_of (here o e)))
-  one_left o e answers =
-      ap (λ n. rounds_work n (here o e) answers)
-      (let n : config.rounds - (s.round - 1) ≡ suc (config.rounds - s.round) =
-      omega (arith, first, allowed) in n)
+    -- a round is left
+    one_left : (o e : List ℕ) (answers : List Answer) → work_from (here o e) config answers
+        ≡ by_round (config.rounds - s.round) (begun_work (here o e) answers)
+        (over answers (round_of (here o e)))
+    one_left o e answers =
+        ap (λ n. rounds_work n (here o e) answers)
+        (let n : config.rounds - (s.round - 1) ≡ suc (config.rounds - s.round) =
+        omega (arith, first, allowed) in n)
 
-  module _ (s' : State) (told after : BorderState) where
-    -- the round came to its end
-    pub round_worked : (so : RoundEnd) (ended : Option Ending) (more : ℕ) → ending_by so ≡ ended
-        → s'.round ≡ next_round so s.round
-        → PlaysOn config.quantum (λ w. round_of w) s told (λ w. done (end_in so more w)) s' after
-        → (o e : List ℕ)
-        → HasWorked config (Ok ended) (answers_since told.shim.told after.shim.told) (here o e) s'
-        (work_in so more)
-    round_worked so ended more is round h o e =
-        subst (λ x. HasWorked config (Ok x) (answers_since told.shim.told after.shim.told)
-        (here o e) s' (work_in so more)) is (by_end so round h)
-      where
-        over_is : (k : RoundEnd) (h : PlaysOn config.quantum (λ w. round_of w) s told
-            (λ w. done (end_in k more w)) s' after) (rest : List Answer)
-            → over (answers_since told.shim.told after.shim.told ++ rest) (round_of (here o e))
-            ≡ gives (end_in k more (sent (o ++ bytes_to Output h.crossings)
-            (e ++ bytes_to Error h.crossings) (world_of config.quantum s'))) rest
-        over_is k h rest =
-            ap (λ answers. over (answers ++ rest) (round_of (here o e)))
-            (since_more told.shim.told after.shim.told (exchanges_of h.crossings) h.tells.exchanges)
-            ∙ goes-over_more (exchanges_of h.crossings) rest (round_of (here o e)) _
-            (goes-exchanges o e h.crossings (round_of (here o e)) _ (h.goes o e))
+    module _ (s' : State) (told after : BorderState) where
+      -- the round came to its end
+      pub round_worked : (so : RoundEnd) (ended : Option Ending) (more : ℕ) → ending_by so ≡ ended
+          → s'.round ≡ next_round so s.round
+          → PlaysOn config.quantum (λ w. round_of w) s told (λ w. done (end_in so more w)) s' after
+          → (o e : List ℕ)
+          → HasWorked config (Ok ended) (answers_since told.shim.told after.shim.told) (here o e) s'
+          (work_in so more)
+      round_worked so ended more is round h o e =
+          subst (λ x. HasWorked config (Ok x) (answers_since told.shim.told after.shim.told)
+          (here o e) s' (work_in so more)) is (by_end so round h)
+        where
+          over_is : (k : RoundEnd) (h : PlaysOn config.quantum (λ w. round_of w) s told
+              (λ w. done (end_in k more w)) s' after) (rest : List Answer)
+              → over (answers_since told.shim.told after.shim.told ++ rest) (round_of (here o e))
+              ≡ gives (end_in k more (sent (o ++ bytes_to Output h.crossings)
+              (e ++ bytes_to Error h.crossings) (world_of config.quantum s'))) rest
+          over_is k h rest =
+              ap (λ answers. over (answers ++ rest) (round_of (here o e)))
+              (since_more told.shim.told after.shim.told (exchanges_of h.crossings) h.tells.exchanges)
+              ∙ goes-over_more (exchanges_of h.crossings) rest (round_of (here o e)) _
+              (goes-exchanges o e h.crossings (round_of (here o e)) _ (h.goes o e))
 
-        ends : (k : RoundEnd) (h : PlaysOn config.quantum (λ w. round_of w) s told
-            (λ w. done (end_in k more w)) s' after)
-            → over (answers_since told.shim.told after.shim.told) (round_of (here o e))
-            ≡ gives (end_in k more (sent (o ++ bytes_to Output h.crossings)
-            (e ++ bytes_to Error h.crossings) (world_of config.quantum s'))) []
-        ends k h =
-            ap (λ answers. over answers (round_of (here o e)))
-            (sym (append-nil (answers_since told.shim.told after.shim.told))) ∙ over_is k h []
+          ends : (k : RoundEnd) (h : PlaysOn config.quantum (λ w. round_of w) s told
+              (λ w. done (end_in k more w)) s' after)
+              → over (answers_since told.shim.told after.shim.told) (round_of (here o e))
+              ≡ gives (end_in k more (sent (o ++ bytes_to Output h.crossings)
+              (e ++ bytes_to Error h.crossings) (world_of config.quantum s'))) []
+          ends k h =
+              ap (λ answers. over answers (round_of (here o e)))
+              (sym (append-nil (answers_since told.shim.told after.shim.told))) ∙ over_is k h []
 
-        by_end : (k : RoundEnd) → s'.round ≡ next_round k s.round
-            → PlaysOn config.quantum (λ w. round_of w) s told (λ w. done (end_in k more w)) s' after
-            → HasWorked config (Ok (ending_by k)) (answers_since told.shim.told after.shim.told)
-            (here o e) s' (work_in k more)
-        by_end Went round h = (
-          o ++ bytes_to Output h.crossings,
-          e ++ bytes_to Error h.crossings,
-          λ rest. one_left o e (answers_since told.shim.told after.shim.told ++ rest)
-              ∙ ap (by_round (config.rounds - s.round) _) (over_is Went h rest)
-              ∙ ap (λ n. more + rounds_work n (sent (o ++ bytes_to Output h.crossings)
-              (e ++ bytes_to Error h.crossings) (world_of config.quantum s')) rest)
-              (let n : config.rounds - s.round ≡ config.rounds - (s'.round - 1) =
-              omega (arith, round) in n),
-        )
-        by_end Done round h =
-            one_left o e (answers_since told.shim.told after.shim.told)
-            ∙ ap (by_round (config.rounds - s.round) _) (ends Done h)
-        by_end Stalled round h =
-            one_left o e (answers_since told.shim.told after.shim.told)
-            ∙ ap (by_round (config.rounds - s.round) _) (ends Stalled h)
+          by_end : (k : RoundEnd) → s'.round ≡ next_round k s.round
+              → PlaysOn config.quantum (λ w. round_of w) s told (λ w. done (end_in k more w)) s' after
+              → HasWorked config (Ok (ending_by k)) (answers_since told.shim.told after.shim.told)
+              (here o e) s' (work_in k more)
+          by_end Went round h = (
+            o ++ bytes_to Output h.crossings,
+            e ++ bytes_to Error h.crossings,
+            λ rest. one_left o e (answers_since told.shim.told after.shim.told ++ rest)
+                ∙ ap (by_round (config.rounds - s.round) _) (over_is Went h rest)
+                ∙ ap (λ n. more + rounds_work n (sent (o ++ bytes_to Output h.crossings)
+                (e ++ bytes_to Error h.crossings) (world_of config.quantum s')) rest)
+                (let n : config.rounds - s.round ≡ config.rounds - (s'.round - 1) =
+                omega (arith, round) in n),
+          )
+          by_end Done round h =
+              one_left o e (answers_since told.shim.told after.shim.told)
+              ∙ ap (by_round (config.rounds - s.round) _) (ends Done h)
+          by_end Stalled round h =
+              one_left o e (answers_since told.shim.told after.shim.told)
+              ∙ ap (by_round (config.rounds - s.round) _) (ends Stalled h)
 
-    -- or stopped
-    pub stop_worked : (by : Stopper) (work : ℕ)
-        → StopsIn config.quantum world_ended (λ w. round_of w) by s told after
-        → ((o e : List ℕ)
-        → begun_work (here o e) (answers_since told.shim.told after.shim.told) ≡ work)
-        → (o e : List ℕ)
-        → work_from (here o e) config (answers_since told.shim.told after.shim.told) ≡ work
-    stop_worked (by_shim why) work h ran o e =
-        one_left o e (answers_since told.shim.told after.shim.told)
-        ∙ ap (by_round (config.rounds - s.round)
-        (begun_work (here o e) (answers_since told.shim.told after.shim.told)))
-        (ap (λ answers. over answers (round_of (here o e)))
-        (since_more told.shim.told after.shim.told (exchanges_of h.crossings) h.tells.exchanges)
-        ∙ goes-over (exchanges_of h.crossings) (round_of (here o e)) _
-        (goes-exchanges o e h.crossings (round_of (here o e)) _ (h.goes o e).1))
-        ∙ ran o e
-    stop_worked (by_sink stream) work h ran o e =
-        one_left o e (answers_since told.shim.told after.shim.told)
-        ∙ cut_worked (config.rounds - s.round) (here o e)
-        (answers_since told.shim.told after.shim.told) (h.goes o e).0
-        (ap (λ answers. over answers (round_of (here o e)))
-        (since_more told.shim.told after.shim.told (exchanges_of h.crossings) h.tells.exchanges)
-        ∙ goes-over (exchanges_of h.crossings) (round_of (here o e)) _
-        (goes-exchanges o e h.crossings (round_of (here o e)) _ (h.goes o e).1))
-        ∙ ran o e
+      -- or stopped
+      pub stop_worked : (by : Stopper) (work : ℕ)
+          → StopsIn config.quantum world_ended (λ w. round_of w) by s told after
+          → ((o e : List ℕ)
+          → begun_work (here o e) (answers_since told.shim.told after.shim.told) ≡ work)
+          → (o e : List ℕ)
+          → work_from (here o e) config (answers_since told.shim.told after.shim.told) ≡ work
+      stop_worked (by_shim why) work h ran o e =
+          one_left o e (answers_since told.shim.told after.shim.told)
+          ∙ ap (by_round (config.rounds - s.round)
+          (begun_work (here o e) (answers_since told.shim.told after.shim.told)))
+          (ap (λ answers. over answers (round_of (here o e)))
+          (since_more told.shim.told after.shim.told (exchanges_of h.crossings) h.tells.exchanges)
+          ∙ goes-over (exchanges_of h.crossings) (round_of (here o e)) _
+          (goes-exchanges o e h.crossings (round_of (here o e)) _ (h.goes o e).1))
+          ∙ ran o e
+      stop_worked (by_sink stream) work h ran o e =
+          one_left o e (answers_since told.shim.told after.shim.told)
+          ∙ cut_worked (config.rounds - s.round) (here o e)
+          (answers_since told.shim.told after.shim.told) (h.goes o e).0
+          (ap (λ answers. over answers (round_of (here o e)))
+          (since_more told.shim.told after.shim.told (exchanges_of h.crossings) h.tells.exchanges)
+          ∙ goes-over (exchanges_of h.crossings) (round_of (here o e)) _
+          (goes-exchanges o e h.crossings (round_of (here o e)) _ (h.goes o e).1))
+          ∙ ran o e
 
 -- ---- first so, then so
 

@@ -136,10 +136,10 @@ pub record UntracedRound (config : Config) (stop : RunStop) (old : State) (befor
 pub record CutLinesOfRound (config : Config) (old : State) (before : BorderState) (new : State)
     (after : BorderState) (lines lines_after : Option (List ℕ)) (tally tally_after : ℕ) : Type 0
   where
-  pub ended : Option Ending
-  pub plays : PlaysNext config.quantum (Ok ended) old before new after
-  pub some : PlaysSome config (Ok ended) old before new after tally tally_after
-  pub front : GrewByFront lines lines_after (lines_between old new)
+    pub ended : Option Ending
+    pub plays : PlaysNext config.quantum (Ok ended) old before new after
+    pub some : PlaysSome config (Ok ended) old before new after tally tally_after
+    pub front : GrewByFront lines lines_after (lines_between old new)
 
 abbrev pub RoundTraces : Config → Result (Option Ending) TraceStop → State → BorderState → State
     → BorderState → (lines lines_after : Option (List ℕ)) → (tally tally_after : ℕ) → Type 0
