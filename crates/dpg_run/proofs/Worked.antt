@@ -1,14 +1,13 @@
 -- What rounds one after another have worked, by the answers that they had.
 use Rattle.std.proofs.Common.{ℕ, zero, suc, ◌+◌, ◌-◌, ◌≡◌, ◌≤◌, refl, sym, ap, ◌∙◌, subst, arith}
-use Rattle.std.proofs.Common.{List, [], ◌∷◌, ◌++◌, append-nil, append_assoc, Option, None, Some}
-use Rattle.std.specs.Prelude.{Bool, true, false, cond, map, Result, Ok, Err}
+use Rattle.std.proofs.Common.{List, [], ◌++◌, append-nil, append_assoc, Option, None, Some}
+use Rattle.std.specs.Prelude.{Bool, true, false, cond, Result, Ok, Err}
 use Rattle.dos_world.specs.Signals.{signalled, ripen}
 use Rattle.dos_world.specs.World.{World, live_threads}
 use Rattle.dos_world.specs.Play.{Answer, Outcome, Play, done, ask, asks, gives, over, posts_of}
 use Rattle.dos_world.specs.declared.Config.{Config}
 use Rattle.dos_world.specs.declared.Ending.{Ending}
 use Rattle.dos_world.specs.declared.Question.TheVariants.{Signals as signals_question}
-use Rattle.dos_io.specs.Exchanges.{answer_of}
 use Rattle.dos_io.specs.Borders.{BorderState, bytes_to, exchanges_of}
 use Rattle.dos_io.specs.declared.border.Stream.TheVariants.{Output, Error}
 use Rattle.dos_laws.specs.Plays.{world_ended}
