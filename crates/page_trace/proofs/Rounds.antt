@@ -1,6 +1,6 @@
 -- Traced rounds, from part to whole.
 use Rattle.std.proofs.Common.{◌≡◌, ◌≢◌, ℕ, ◌+◌, ◌-◌, ◌≤◌, ◌∙◌, sym, ap, subst, List, Option}
-use Rattle.std.proofs.Common.{None, Some, Err, Ok, Result, arith, false, true, refl, ◌<◌, Bool}
+use Rattle.std.proofs.Common.{None, Some, Err, Ok, Result, arith, false, true, refl, ◌<◌, Bool, []}
 use Rattle.std.specs.Prelude.{IfErr, IfOk, IsErrOf, OnErr, OnOk, is_err}
 use Rattle.dos_world.specs.declared.Config.{Config}
 use Rattle.dos_world.specs.declared.Ending.{Ending}
