@@ -54,8 +54,8 @@ pub trace_stopped : (log : Log) (images : List Image) (o : Outside) (f : Faults)
     → StopsTrace stop
     → ((found : Misfit) → stopped_so stop ≡ Err (traces.Run (stops.Misfit found))
     → TracedUntil images log found o.out o.out_after o.tally o.tally_after)
-    → (stopped_so stop ≡ Err traces.LineFault → TracedAhead images log o.out o.out_after o.tally
-    o.tally_after)
+    → (stopped_so stop ≡ Err traces.LineFault
+    → TracedAhead images log o.out o.out_after o.tally o.tally_after)
     → (stopped_so stop ≡ Err traces.Memory → o.out_after ≡ o.out)
     → (stopped_so stop ≡ Err traces.Memory → o.tally_after ≡ o.tally)
     → HasLineCause stop f.out f.out_after → o.err_after ≡ o.err → StaysAll o
@@ -67,8 +67,8 @@ trace_stopped log images o f stop why is fits only until ahead memory rested cau
     by_stop : (stop : TraceStop) → StopsTrace stop
         → ((found : Misfit) → stopped_so stop ≡ Err (traces.Run (stops.Misfit found))
         → TracedUntil images log found o.out o.out_after o.tally o.tally_after)
-        → (stopped_so stop ≡ Err traces.LineFault → TracedAhead images log o.out o.out_after o.tally
-    o.tally_after)
+        → (stopped_so stop ≡ Err traces.LineFault
+        → TracedAhead images log o.out o.out_after o.tally o.tally_after)
         → (stopped_so stop ≡ Err traces.Memory → o.out_after ≡ o.out)
         → (stopped_so stop ≡ Err traces.Memory → o.tally_after ≡ o.tally)
         → HasLineCause stop f.out f.out_after
