@@ -21,7 +21,7 @@ use Rattle.kernel_calls.specs.declared.state.RunStop.TheVariants.{OutFault, ErrF
 use Rattle.worker_pool.specs.Ran.{GrewBy}
 use Rattle.dpg_run.specs.GroupRuns.{CutGroup, RanGroup, StoppedGroup}
 use Rattle.logged_runs.specs.Opened.{IsOpenedWith}
-use Rattle.logged_runs.proofs.FromOpening.{ran_ahead, ran_until, ran_whole, put_ahead, put_until}
+use Rattle.logged_runs.proofs.FromOpening.{ran_ahead, ran_until, ran_whole}
 use Rattle.twin_shims.specs.declared.note.Note.{Note}
 use Rattle.twin_shims.specs.declared.note.Note.TheVariants.{Stopped as stopped_note}
 use Rattle.twin_shims.specs.Follower.{ReaderState, IsFollowerStop, StopsReader, IsNextMisfit}
@@ -142,9 +142,7 @@ module _ (k k' : Held) (start r : ReaderState) (o e o1 e1 : Option (List ℕ)) (
       ran = ran_until k (reader_told start) (reader_told r) o e o1 e1 fresh images config
           opened r.asked
           asks;
-      put = put_until k (reader_told start) (reader_told r) o e o1 e1 fresh images config
-          opened r.asked
-          asks;
+      put = record { out_is = asks.more.output_is; err_is = asks.more.error_is };
     }
 
     follower_came : (result : Result Ending RunStop)
@@ -168,16 +166,14 @@ module _ (k k' : Held) (start r : ReaderState) (o e o1 e1 : Option (List ℕ)) (
       error = cut.more.error;
       ran = ran_ahead k (reader_told start) (reader_told r) o e o1 e1 fresh images config
           opened cut;
-      put = put_ahead k (reader_told start) (reader_told r) o e o1 e1 fresh images config
-          opened cut;
+      put = record { out_is = cut.more.output_is; err_is = cut.more.error_is };
     }
     follower_came (Err ErrFault) runs asks cut cause = record {
       output = cut.more.output;
       error = cut.more.error;
       ran = ran_ahead k (reader_told start) (reader_told r) o e o1 e1 fresh images config
           opened cut;
-      put = put_ahead k (reader_told start) (reader_told r) o e o1 e1 fresh images config
-          opened cut;
+      put = record { out_is = cut.more.output_is; err_is = cut.more.error_is };
     }
     follower_came (Err LogFull) runs asks cut cause = not_so stops.LogFull cause.1
     follower_came (Err Memory) runs asks cut cause = not_so stops.Memory cause.1

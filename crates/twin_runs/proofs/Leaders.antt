@@ -23,7 +23,7 @@ use Rattle.kernel_calls.specs.declared.state.RunStop.TheVariants.{OutFault, ErrF
 use Rattle.worker_pool.specs.Ran.{GrewBy}
 use Rattle.dpg_run.specs.GroupRuns.{CutGroup, RanGroup, StoppedGroup}
 use Rattle.logged_runs.specs.Opened.{IsOpenedWith}
-use Rattle.logged_runs.proofs.FromOpening.{ran_ahead, ran_until, ran_whole, put_ahead, put_until}
+use Rattle.logged_runs.proofs.FromOpening.{ran_ahead, ran_until, ran_whole}
 use Rattle.twin_shims.specs.Leader.{TellerState, FollowsLeader, IsLeaderStop, leader_state}
 use Rattle.twin_runs.specs.Twins.{LeaderCame}
 
@@ -79,8 +79,7 @@ module _ (k k' : Held) (start after : TellerState) (o e o1 e1 : Option (List ℕ
       error = asks.more.error;
       ran = ran_until k start.told after.told o e o1 e1 fresh images config opened after.asked
           asks;
-      put = put_until k start.told after.told o e o1 e1 fresh images config opened after.asked
-          asks;
+      put = record { out_is = asks.more.output_is; err_is = asks.more.error_is };
     },
   )
   leader_came (Err Memory) runs asks cut cause never = (
@@ -90,21 +89,20 @@ module _ (k k' : Held) (start after : TellerState) (o e o1 e1 : Option (List ℕ
       error = asks.more.error;
       ran = ran_until k start.told after.told o e o1 e1 fresh images config opened after.asked
           asks;
-      put = put_until k start.told after.told o e o1 e1 fresh images config opened after.asked
-          asks;
+      put = record { out_is = asks.more.output_is; err_is = asks.more.error_is };
     },
   )
   leader_came (Err OutFault) runs asks cut cause never = record {
     output = cut.more.output;
     error = cut.more.error;
     ran = ran_ahead k start.told after.told o e o1 e1 fresh images config opened cut;
-    put = put_ahead k start.told after.told o e o1 e1 fresh images config opened cut;
+    put = record { out_is = cut.more.output_is; err_is = cut.more.error_is };
   }
   leader_came (Err ErrFault) runs asks cut cause never = record {
     output = cut.more.output;
     error = cut.more.error;
     ran = ran_ahead k start.told after.told o e o1 e1 fresh images config opened cut;
-    put = put_ahead k start.told after.told o e o1 e1 fresh images config opened cut;
+    put = record { out_is = cut.more.output_is; err_is = cut.more.error_is };
   }
   leader_came (Err LogFull) runs asks cut cause never = not_so _ cause.1 never
   leader_came (Err (Misfit m)) runs asks cut cause never = not_so _ cause.1 never
