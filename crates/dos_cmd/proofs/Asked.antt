@@ -8,7 +8,6 @@ use Rattle.std.proofs.lemmas.List.{append-nil, map-append, take-append-drop, tak
 use Rattle.dos_io.specs.FileCalls.{FileCall, getting, setting}
 use Rattle.dos_io.specs.declared.files.FileError.{FileError}
 use Rattle.dos_io.specs.declared.files.FileError.TheVariants as files
-use Rattle.dos_world.specs.declared.Ending.{Ending}
 use Rattle.elf_image.specs.Image.{Image}
 use Rattle.kernel_calls.specs.declared.state.RunStop.{RunStop}
 use Rattle.kernel_calls.specs.declared.state.RunStop.TheVariants as stops

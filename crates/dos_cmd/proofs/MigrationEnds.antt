@@ -5,7 +5,7 @@ use Rattle.std.proofs.Common.{arith}
 use Rattle.std.specs.Prelude.{IfOk, IfErr, IfSome, IsTrue, OnOk, nat_lt, option_map}
 use Rattle.std.proofs.lemmas.Bool.{le-ltb}
 use Rattle.std.proofs.lemmas.Bool.Decides.{nat_tests}
-use Rattle.logged_runs.specs.Recording.{HostSeen}
+use Rattle.logged_runs.specs.Recording.{HostSeen, host_seen}
 use Rattle.dos_io.specs.Outside.{GrewByFront, Rose}
 use Rattle.dos_io.proofs.OutsideLaws.{grown-nothing}
 use Rattle.dos_world.specs.declared.Ending.{Ending}
@@ -108,7 +108,8 @@ not_stored log to why tells files after out k k' n fits (inr is) rose others =
     subst (λ (w : Refusal). LeavesMigration log to w tells files after out out k k' n n) (sym is.0)
     (record {
       files_stay = all_stay
-          (outside tells files after None None None None None None 0 0) to is.1 others;
+          (outside tells files after (host_seen None []) (host_seen None []) None None None None 0 0)
+          to is.1 others;
       out_stays = refl;
     })
 

@@ -2,7 +2,7 @@
 use Rattle.std.proofs.Common.{◌≡◌, ◌≤◌, inl, inr, ℕ, Bool, List, [], map, append-nil, Option, Some}
 use Rattle.std.proofs.Common.{None, Result, Ok, Err, sym, ap, ◌∙◌, subst, refl, true}
 use Rattle.std.specs.Prelude.{IfSome, IfOk, IfErr, OnOk, OnErr}
-use Rattle.logged_runs.specs.Recording.{HostSeen}
+use Rattle.logged_runs.specs.Recording.{HostSeen, host_seen}
 use Rattle.dos_io.specs.Outside.{grown, GrewByFront, HasCause}
 use Rattle.dos_io.proofs.OutsideLaws.{grown_more}
 use Rattle.dos_world.specs.declared.Config.{Config}
@@ -256,12 +256,16 @@ replay_leaves log images name names tells f f' out err out1 err1 tally tally1 k 
 -- All files were read before.
 pub replay_later : (log : Log) (images : List Image) (out err out1 err1 : Option (List ℕ))
     (tally tally1 oc oc1 ec ec1 : ℕ) (r : Result Ending Refusal)
-    → IfErr r (λ why. (tells : Bool) (f f' : Text → Option (List ℕ)) (h : Option Told)
+    → IfErr r (λ why. (tells : Bool) (f f' : Text → Option (List ℕ)) (h : HostSeen)
     (k k' m : ℕ) → ((n : Text) → f' n ≡ f n) → LeavesTaken log images
     (outside tells f f' h h out out1 err err1 tally tally1) (faults k k' m m oc oc1 ec ec1) why)
     → IfErr r IsLater
 replay_later log images out err out1 err1 tally tally1 oc oc1 ec ec1 (Ok ended) leaves = tt
 replay_later log images out err out1 err1 tally tally1 oc oc1 ec ec1 (Err why) leaves =
     later_replay log images
-    (outside true (λ n. None) (λ n. None) None None out out1 err err1 tally tally1)
-    (faults 0 0 0 0 oc oc1 ec ec1) why (leaves true (λ n. None) (λ n. None) None 0 0 0 (λ n. refl))
+    (outside true (λ n. None) (λ n. None) unasked unasked out out1 err err1 tally tally1)
+    (faults 0 0 0 0 oc oc1 ec ec1) why
+    (leaves true (λ n. None) (λ n. None) unasked 0 0 0 (λ n. refl))
+  where
+    unasked : HostSeen
+    unasked = host_seen None []

@@ -39,6 +39,7 @@ returns-in-Ok g c = record {
 -- ---- it came to no report
 
 pub returns-in-Err : goal.returns-in-Err
+unfolding refusal_status
 returns-in-Err g c = record {
   statuses = c.put_refusal.ensures.statuses;
   finished = λ ends. absurd (refusal_ends_not _ _ (c.put_refusal.ensures.told (ends_not_six _
