@@ -93,7 +93,7 @@ fn load_next<F: Files>(
 }
 
 /// Reads the files of these names as images, one after another; beside them the files' digests.
-pub(crate) fn load_all<F: Files>(
+pub fn load_all<F: Files>(
     alloc: Global,
     files: &mut F,
     names: &Names,

@@ -18,4 +18,6 @@ mod top;
 mod trace;
 mod words;
 
+pub use images::load_all;
+pub use run::{open, report};
 pub use top::dos_main;

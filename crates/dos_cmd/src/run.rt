@@ -97,7 +97,7 @@ impl RunRequest<'_> {
 }
 
 /// Opens the group of these images.
-pub(crate) fn open(alloc: Global, images: &[Image], config: Config) -> Result<Kernel, Refusal>
+pub fn open(alloc: Global, images: &[Image], config: Config) -> Result<Kernel, Refusal>
     requires some { 1 ≤ length images.now }
     requires few { length images.now ≤ 8 }
     requires config { IsConfig config }
@@ -140,7 +140,7 @@ fn store<F: Files>(alloc: Global, files: &mut F, name: &Text, log: &Log) -> Resu
 }
 
 /// Puts the report of a run that ended so.
-pub(crate) fn report<E: Sink>(
+pub fn report<E: Sink>(
     kernel: &Kernel,
     ending: Ending,
     err: &mut E,

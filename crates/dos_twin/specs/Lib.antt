@@ -1,0 +1,3 @@
+pub mod TwinOutside
+pub mod TwinImages
+pub mod TwinLeaves
