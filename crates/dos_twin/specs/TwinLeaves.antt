@@ -1,7 +1,5 @@
 -- What a twin's call leaves, by how it ends. This project's own rules.
-use Rattle.std.specs.Prelude.{◌≡◌, ◌++◌, ◌⊎◌, [], ℕ, Bool, true, false, if◌then◌else◌, List}
-use Rattle.std.specs.Prelude.{Option, Some, None, Result, Ok, Err, map}
-use Rattle.dos_world.specs.declared.Ending.{Ending}
+use Rattle.std.specs.Prelude.{◌≡◌, ◌++◌, ◌⊎◌, [], ℕ, List, map, Option, Some, None}
 use Rattle.dos_world.specs.declared.Question.{Question}
 use Rattle.dos_io.specs.Exchanges.{answer_of}
 use Rattle.dos_io.specs.Given.{Given}
@@ -12,8 +10,6 @@ use Rattle.dpg_run.specs.GroupRuns.{AreFronts}
 use Rattle.dpg_run.specs.Report.{report}
 use Rattle.elf_image.specs.Image.{Image}
 use Rattle.flat_machine.specs.Machine.{Seen, machine}
-use Rattle.kernel_calls.specs.declared.state.RunStop.{RunStop}
-use Rattle.kernel_calls.specs.declared.state.RunStop.TheVariants.{OutFault, ErrFault}
 use Rattle.logged_runs.specs.Runs.{Put, RanUntil, RanWhole}
 use Rattle.worker_pool.specs.Ran.{GrewBy}
 use Rattle.dos_texts.specs.Exit.{ending_status, line_of, refusal_status}
@@ -21,28 +17,9 @@ use Rattle.dos_texts.specs.declared.refusal.Refusal.{Refusal}
 use Rattle.dos_texts.specs.declared.refusal.Refusal.TheVariants as refusals
 use Rattle.dos_words.specs.Canonical.{names_alone}
 use Rattle.dos_words.specs.Numbers.{Text}
-use Rattle.dos_cmd.specs.Stops.{refusal_by}
 use Rattle.dos_twin.specs.TwinImages.{TwinBegun, TwinNotBegun, twin_config}
 use Rattle.dos_twin.specs.TwinOutside.{TwinFaults, TwinFilesStay, TwinOutputFailed, TwinOutside}
 use Rattle.dos_twin.specs.TwinOutside.{TwinSays}
-
--- ---- what both runs come to
-
--- a put of this run failed
-abbrev pub has_cut : Result Ending RunStop → Bool
-has_cut (Err OutFault) = true
-has_cut (Err ErrFault) = true
-has_cut _ = false
-
--- the leader's ending, or why there is no report
-abbrev pub leader_ending : Result Ending RunStop → Result Ending Refusal
-leader_ending (Ok ending) = Ok ending
-leader_ending (Err stop) = Err (refusal_by stop)
-
--- The leader's ending, or why there is no report: a put of either side failed, and else what
--- stopped the leader.
-abbrev pub twin_ending : (leader follower : Result Ending RunStop) → Result Ending Refusal
-twin_ending leader follower = if has_cut follower then Err refusals.Sink else leader_ending leader
 
 -- ---- the outputs
 

@@ -4,6 +4,7 @@ ghost use Rattle.std.specs.Prelude.{false, length, map, string_bytes};
 ghost use Rattle.dos_io.specs.Outside.{Rose};
 ghost use Rattle.dos_world.specs.Lawful.{IsConfig};
 ghost use Rattle.dos_words.specs.Canonical.{names_alone};
+ghost use Rattle.flat_machine.specs.Opening.{needed};
 ghost use Rattle.elf_image.specs.Image.{Image as Parsed};
 ghost use Rattle.logged_runs.specs.Opened.{IsOpenedWith};
 ghost use Rattle.dos_cmd.specs.Stops.{IsNotOpened};
@@ -34,6 +35,7 @@ fn config() -> Config
 pub(crate) fn read(alloc: Global, words: &[String]) -> Result<Names, Refusal>
     ensures names { IfOk result (λ names.
         names_alone (map string_bytes words.now) ≡ Some names) }
+    ensures count { IfOk result (λ names. (1 ≤ length names) × (length names ≤ 8)) }
     ensures refused { IsErrOf result Refusal.Words
         → names_alone (map string_bytes words.now) ≡ None }
     ensures only { IfErr result (λ why. (why ≡ Refusal.Words) ⊎ (why ≡ Refusal.Memory)) }

@@ -1,12 +1,16 @@
 // Both runs, and the report.
-ghost use Rattle.std.specs.Prelude.{◌≡◌, ◌≢◌, ◌≤◌, ℕ, List, [], Err, IfErr, IfOk, false};
+ghost use Rattle.std.specs.Prelude.{◌≡◌, ◌≢◌, ◌≤◌, ◌⊎◌, ℕ, List, [], Option, Ok, Err, IfErr, IfOk};
+ghost use Rattle.std.specs.Prelude.{OnOk, false};
+ghost use Rattle.dos_io.specs.Outside.{grown};
+ghost use Rattle.dpg_run.specs.Report.{report_in};
+ghost use Rattle.group_rounds.specs.Kernels.{kernel_world};
 ghost use Rattle.dos_texts.specs.Exit.{ending_status};
 ghost use Rattle.dos_words.specs.Numbers.{Text};
 ghost use Rattle.dos_cmd.specs.Stops.{refusal_by};
 ghost use Rattle.dos_twin.specs.TwinImages.{AreBothOpened, TwinBegun};
-ghost use Rattle.dos_twin.specs.TwinLeaves.{DidTwin, TwinLeaves, has_cut, twin_ending};
+ghost use Rattle.dos_twin.specs.TwinLeaves.{DidTwin, TwinLeaves};
+ghost use Rattle.dos_twin.specs.TwinReports.{EndedWithout, ReportFailed, has_cut, twin_ending};
 ghost use Rattle.dos_twin.specs.TwinOutside.{twin_faults, twin_outside};
-ghost use Rattle.std.specs.Prelude.{Option};
 
 use dos_cmd::report;
 use dos_io::{Host, Sink};
@@ -35,6 +39,17 @@ fn looks<R: Threads>(rt: &R) -> u32 {
             }
         }
         Err(_) => 0,
+    }
+}
+
+// Whether a thread can be started now: one is, which does nothing, and it is waited for.
+fn can_start<R: Threads>(rt: &R) -> bool {
+    match thread::spawn(rt, || {}) {
+        Ok(handle) => {
+            handle.join(rt);
+            true
+        }
+        Err(_) => false,
     }
 }
 
@@ -92,9 +107,21 @@ fn conclude<E: Sink>(
     leader: &Result<Ending, RunStop>,
     follower: &Result<Ending, RunStop>,
     err: &mut E,
-) -> Result<Ending, Refusal> {
-    let ending = ending_of(leader, follower)?;
-    report(kernel, ending, err)
+) -> Result<Ending, Refusal>
+    ensures ended { IfOk result (λ ending. twin_ending leader.now follower.now ≡ Ok ending) }
+    ensures told { IfOk result (λ ending. E.told err.new
+        ≡ grown (E.told err.old) (report_in (kernel_world kernel.now) ending)) }
+    ensures fails { IfErr result (λ why. EndedWithout leader.now follower.now why
+        (E.faults err.old) (E.faults err.new) (E.told err.old) (E.told err.new)
+        ⊎ ReportFailed leader.now follower.now why (kernel_world kernel.now)
+        (E.faults err.old) (E.faults err.new) (E.told err.old) (E.told err.new)) }
+    ensures steady { OnOk result (E.faults err.new ≡ E.faults err.old) }
+    ensures later { E.faults err.old ≤ E.faults err.new }
+{
+    match ending_of(leader, follower) {
+        Ok(ending) => report(kernel, ending, err),
+        Err(why) => Err(why),
+    }
 }
 
 /// Runs two groups, of which the second follows the first, and puts the first one's report.
@@ -123,21 +150,22 @@ pub(crate) fn run_opened<
     requires second_running { second.failed ≡ false }
     requires second_fresh { second.state.round ≡ 1 }
     ensures did { IfOk result (λ ending. (names : List Text)
-        (contents : Text → Option (List ℕ)) → AreBothOpened names contents first second
-        → TwinBegun names
-        (twin_outside contents contents (H.told host.old) (H.told host.new)
+        (contents after : Text → Option (List ℕ)) → ((name : Text) → after name ≡ contents name)
+        → AreBothOpened names contents first second → TwinBegun names
+        (twin_outside contents after (H.told host.old) (H.told host.new)
         (O.told out.old) (O.told out.new) (E.told err.old) (E.told err.new)
         (P.told second_out.old) (P.told second_out.new) (Q.told second_err.old)
         (Q.told second_err.new) (W.tally workers.old) (W.tally workers.new))
         (λ images. DidTwin images (ending_status ending)
-        (twin_outside contents contents (H.told host.old) (H.told host.new)
+        (twin_outside contents after (H.told host.old) (H.told host.new)
         (O.told out.old) (O.told out.new) (E.told err.old) (E.told err.new)
         (P.told second_out.old) (P.told second_out.new) (Q.told second_err.old)
         (Q.told second_err.new) (W.tally workers.old) (W.tally workers.new)))) }
     ensures leaves { IfErr result (λ why. (names : List Text)
-        (contents : Text → Option (List ℕ)) (failed failed_after : ℕ)
+        (contents after : Text → Option (List ℕ)) (failed failed_after : ℕ)
+        → ((name : Text) → after name ≡ contents name)
         → AreBothOpened names contents first second → TwinLeaves names
-        (twin_outside contents contents (H.told host.old) (H.told host.new)
+        (twin_outside contents after (H.told host.old) (H.told host.new)
         (O.told out.old) (O.told out.new) (E.told err.old) (E.told err.new)
         (P.told second_out.old) (P.told second_out.new) (Q.told second_err.old)
         (Q.told second_err.new) (W.tally workers.old) (W.tally workers.new))
@@ -156,6 +184,11 @@ pub(crate) fn run_opened<
     ensures second_err_later { Q.faults second_err.old ≤ Q.faults second_err.new }
     ensures fixed { W.fixed workers.new ≡ W.fixed workers.old }
 {
+    if !can_start(rt) {
+        drop(first);
+        drop(second);
+        return Err(Refusal::Memory);
+    }
     let Ok(both) = run_both(
         rt,
         alloc,
