@@ -7,6 +7,7 @@ use Rattle.std.specs.Prelude.{IfOk, IfErr, IsErrOf}
 use Rattle.dos_io.specs.Outside.{grown, GrewByFront, IsFront, Rose}
 use Rattle.dos_world.specs.declared.Ending.{Ending}
 use Rattle.elf_image.specs.Image.{Image}
+use Rattle.group_rounds.specs.Kernels.{Held}
 use Rattle.dos_cmd.specs.Judging.{Images}
 use Rattle.dos_texts.specs.Exit.{ending_status, refusal_status, line_of}
 use Rattle.dos_texts.proofs.Statuses.{EndsAs, ending_ends}
@@ -14,10 +15,13 @@ use Rattle.dos_texts.specs.declared.refusal.Refusal.{Refusal}
 use Rattle.dos_texts.specs.declared.refusal.Refusal.TheVariants as refusals
 use Rattle.dos_words.specs.Canonical.{names_alone}
 use Rattle.dos_words.specs.Numbers.{Text}
-use Rattle.dos_twin.specs.TwinImages.{IsNotRead, TwinBegun, TwinNotBegun, twin_images}
+use Rattle.dos_twin.specs.TwinImages.{AreBothOpened, IsNotRead, TwinBegun, TwinNotBegun}
+use Rattle.dos_twin.specs.TwinImages.{twin_images}
 use Rattle.dos_twin.specs.TwinLeaves.{DidTwin, TwinCutShort, TwinDone, TwinFails, TwinLeaves}
 use Rattle.dos_twin.specs.TwinLeaves.{TwinRefused}
-use Rattle.dos_twin.specs.TwinOutside.{TwinFaults, TwinOutputFailed, TwinOutside, TwinSays}
+use Rattle.dos_twin.specs.TwinOutside.{TwinFaults, TwinFilesStay, TwinOutputFailed, TwinOutside}
+use Rattle.dos_twin.specs.TwinOutside.{TwinSays}
+use Rattle.dos_twin.proofs.TwinEnds.{with_file_faults, with_files}
 use Rattle.dos_twin.proofs.TwinSaying.{fails_more, output_failed, with_error, with_faults}
 
 -- ---- statuses
@@ -224,6 +228,15 @@ fails_never words o f why n last is (inr (inl h)) =
     let nine = memory_status n why is h.0 in (λ four. omega arith, λ ten. omega arith)
 fails_never words o f why n last is (inr (inr h)) = leaves_never h.0 o f why n last is h.2
 
+-- nor where an output failed
+pub fails_never_of : (words : List Text) (o : TwinOutside) (f : TwinFaults) (why : Refusal) (n : ℕ)
+    (last : List ℕ) → (n ≢ 6 → n ≡ refusal_status why) → TwinFails words o f why last
+    → (n ≢ 4) × (n ≢ 10)
+fails_never_of words o f why n last is h = (
+  λ four. (fails_never words o f why n last (is (λ six. omega arith)) h).0 four,
+  λ ten. (fails_never words o f why n last (is (λ six. omega arith)) h).1 ten,
+)
+
 -- its line was put
 pub refused_as : (words : List Text) (o : TwinOutside) (f : TwinFaults) (n faults : ℕ)
     (e : Option (List ℕ)) (why : Refusal) → f.err_after ≤ faults
@@ -283,12 +296,12 @@ cut_short words o f n e why later grows fails failed front = record {
 
 -- the names weren't read
 pub words_not_read : (words : List Text) (o : TwinOutside) (f : TwinFaults) (why : Refusal)
-    → (IsErrOf {T = Unit {0}} (Err why) refusals.Words → names_alone words ≡ None)
+    → (IsErrOf {T = List Text} (Err why) refusals.Words → names_alone words ≡ None)
     → (why ≡ refusals.Words) ⊎ (why ≡ refusals.Memory) → TwinSays o []
     → TwinFails words o f why []
 words_not_read words o f why none (inl is) says = inl (none (err_is why is), is, says)
   where
-    err_is : (w : Refusal) → w ≡ refusals.Words → IsErrOf {T = Unit {0}} (Err w) refusals.Words
+    err_is : (w : Refusal) → w ≡ refusals.Words → IsErrOf {T = List Text} (Err w) refusals.Words
     err_is w e = cc
 words_not_read words o f why none (inr is) says = inr (inl (is, says))
 
@@ -313,21 +326,34 @@ with_tally o tally = record o { tally = tally }
 same_outside : (o : TwinOutside) (tally : ℕ) → o.tally ≡ tally → with_tally o tally ≡ o
 same_outside o tally kept = ap (with_tally o) (sym kept)
 
--- Workers were hired before, which has kept the tally.
+-- Both groups were opened, and workers were hired, which has kept the tally.
 pub done_by : (r : Result Ending Refusal) (words names : List Text) (o : TwinOutside) (tally : ℕ)
-    → names_alone words ≡ Some names → o.tally ≡ tally
-    → IfOk r (λ ending. TwinBegun names o (λ images. DidTwin images (ending_status ending) o))
+    (first second : Held) → names_alone words ≡ Some names → o.tally ≡ tally → TwinFilesStay o
+    → AreBothOpened names o.files first second
+    → IfOk r (λ ending. (n : List Text) (contents after : Text → Option (List ℕ))
+    → ((name : Text) → after name ≡ contents name) → AreBothOpened n contents first second
+    → TwinBegun n (with_files o contents after)
+    (λ images. DidTwin images (ending_status ending) (with_files o contents after)))
     → IfOk r (λ ending. TwinDone words (ending_status ending) (with_tally o tally))
-done_by (Ok ending) words names o tally are kept h =
+done_by (Ok ending) words names o tally first second are kept stay opened h =
     subst (λ (x : TwinOutside). TwinDone words (ending_status ending) x)
-    (sym (same_outside o tally kept)) (record { names = names; names_are = are; begun = h })
-done_by (Err why) words names o tally are kept h = tt
+    (sym (same_outside o tally kept))
+    (record { names = names; names_are = are; begun = h names o.files o.files_after stay opened })
+done_by (Err why) words names o tally first second are kept stay opened h = tt
 
 pub fails_by : (r : Result Ending Refusal) (words names : List Text) (o : TwinOutside)
-    (f : TwinFaults) (tally : ℕ) → names_alone words ≡ Some names → o.tally ≡ tally
-    → IfErr r (λ why. TwinLeaves names o f why [])
+    (f : TwinFaults) (tally : ℕ) (first second : Held) → names_alone words ≡ Some names
+    → o.tally ≡ tally → TwinFilesStay o → AreBothOpened names o.files first second
+    → IfErr r (λ why. (n : List Text) (contents after : Text → Option (List ℕ))
+    (failed failed_after : ℕ) → ((name : Text) → after name ≡ contents name)
+    → AreBothOpened n contents first second
+    → TwinLeaves n (with_files o contents after) (with_file_faults f failed failed_after) why [])
     → IfErr r (λ why. TwinFails words (with_tally o tally) f why [])
-fails_by (Ok ending) words names o f tally are kept h = tt
-fails_by (Err why) words names o f tally are kept h =
+fails_by (Ok ending) words names o f tally first second are kept stay opened h = tt
+fails_by (Err why) words names o f tally first second are kept stay opened h =
     subst (λ (x : TwinOutside). TwinFails words x f why []) (sym (same_outside o tally kept))
-    (inr (inr (names, are, h)))
+    (inr (inr (
+      names,
+      are,
+      h names o.files o.files_after f.files f.files_after stay opened,
+    )))

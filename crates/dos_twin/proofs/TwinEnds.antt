@@ -332,7 +332,7 @@ abbrev pub with_file_faults : TwinFaults → (failed failed_after : ℕ) → Twi
 with_file_faults f failed failed_after =
     record f { files = failed; files_after = failed_after }
 
-is_err_of : {T E : Type 0} (x y : E) → x ≡ y → IsErrOf {T = T} {E = E} (Err x) y
+pub is_err_of : {T E : Type 0} (x y : E) → x ≡ y → IsErrOf {T = T} {E = E} (Err x) y
 is_err_of x y e = cc
 
 host_err : (leader : Result Ending RunStop) → leader ≡ Err stops.HostFault

@@ -28,21 +28,21 @@ abbrev pub twin_outside : (files files_after : Text → Option (List ℕ))
     → (tally tally_after : ℕ) → TwinOutside
 twin_outside files files_after host host_after out out_after err err_after second_out
     second_out_after second_err second_err_after tally tally_after = record {
-  files = files;
-  files_after = files_after;
-  host = host;
-  host_after = host_after;
-  out = out;
-  out_after = out_after;
-  err = err;
-  err_after = err_after;
-  second_out = second_out;
-  second_out_after = second_out_after;
-  second_err = second_err;
-  second_err_after = second_err_after;
-  tally = tally;
-  tally_after = tally_after;
-}
+      files = files;
+      files_after = files_after;
+      host = host;
+      host_after = host_after;
+      out = out;
+      out_after = out_after;
+      err = err;
+      err_after = err_after;
+      second_out = second_out;
+      second_out_after = second_out_after;
+      second_err = second_err;
+      second_err_after = second_err_after;
+      tally = tally;
+      tally_after = tally_after;
+    }
 
 -- How often the files, the host and the four outputs have failed.
 pub record TwinFaults : Type 0 where
@@ -64,19 +64,19 @@ abbrev pub twin_faults : (files files_after host host_after out out_after err er
     → (second_out second_out_after second_err second_err_after : ℕ) → TwinFaults
 twin_faults files files_after host host_after out out_after err err_after second_out
     second_out_after second_err second_err_after = record {
-  files = files;
-  files_after = files_after;
-  host = host;
-  host_after = host_after;
-  out = out;
-  out_after = out_after;
-  err = err;
-  err_after = err_after;
-  second_out = second_out;
-  second_out_after = second_out_after;
-  second_err = second_err;
-  second_err_after = second_err_after;
-}
+      files = files;
+      files_after = files_after;
+      host = host;
+      host_after = host_after;
+      out = out;
+      out_after = out_after;
+      err = err;
+      err_after = err_after;
+      second_out = second_out;
+      second_out_after = second_out_after;
+      second_err = second_err;
+      second_err_after = second_err_after;
+    }
 
 -- one of the four outputs failed
 abbrev pub TwinOutputFailed : TwinFaults → Type 0

@@ -31,13 +31,7 @@ const LOOKS: u32 = 16_000;
 // Who looks takes time from who runs, where there is no other processor.
 fn looks<R: Threads>(rt: &R) -> u32 {
     match thread::available_parallelism(rt) {
-        Ok(count) => {
-            if count.get() > 1 {
-                LOOKS
-            } else {
-                0
-            }
-        }
+        Ok(count) => { if count.get() > 1 { LOOKS } else { 0 } }
         Err(_) => 0,
     }
 }

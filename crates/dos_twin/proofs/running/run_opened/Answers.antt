@@ -46,8 +46,7 @@ returns g c =
           let sink = not_sink both.leader both.follower c.conclude-ended.result
           (kernel_world both.kernel) _ _ _ _ end.ended end.fails other in
           let still = twin_steady both.leader both.follower _ _ _ _ _ _ _ _ sink run.out_steady
-          run.err_steady run.second_out_steady run.second_err_steady in
-          (
+          run.err_steady run.second_out_steady run.second_err_steady in (
             still.0,
             put_still both.leader both.follower c.conclude-ended.result
                 (kernel_world both.kernel) _ _ _ _ end.steady end.fails other ∙ still.1,
