@@ -1,6 +1,6 @@
 -- What follows for a twin's call from how it ended.
 use Rattle.std.proofs.Common.{ℕ, zero, suc, ◌≡◌, ◌≢◌, ◌≤◌, ◌⊎◌, refl, sym, ap, ◌∙◌, subst, inl, inr}
-use Rattle.std.proofs.Common.{arith, List, [], ◌∷◌, take, drop, Option, Some, None, IfSome}
+use Rattle.std.proofs.Common.{arith, List, [], take, drop, Option, Some, None, IfSome}
 use Rattle.std.proofs.Common.{Result, Ok, Err}
 use Rattle.std.proofs.lemmas.List.{take-append-drop}
 use Rattle.std.specs.Prelude.{IfOk, IfErr, IsErrOf}

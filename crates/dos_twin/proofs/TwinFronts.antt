@@ -11,7 +11,7 @@ use Rattle.dos_io.specs.declared.exchange.Exchange.{Exchange}
 use Rattle.dos_io.proofs.OutsideLaws.{front-whole}
 use Rattle.dpg_run.specs.GroupRuns.{AreFronts}
 use Rattle.elf_image.specs.Image.{Image}
-use Rattle.flat_machine.specs.Machine.{Finish, Ran, Seen, all_rounds_by, group, machine, result_of}
+use Rattle.flat_machine.specs.Machine.{Finish, Ran, Seen, group, machine, result_of}
 use Rattle.flat_machine.specs.Machine.{rounds_from, told_end}
 use Rattle.flat_machine.specs.Opening.{opening}
 use Rattle.group_rounds.specs.Kernels.{Held}

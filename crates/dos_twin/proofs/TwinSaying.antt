@@ -1,6 +1,6 @@
 -- What a twin leaves after its last line: the leader's error has grown by these bytes more.
 use Rattle.std.proofs.Common.{ℕ, ◌≡◌, ◌≤◌, refl, sym, ap, ◌∙◌, subst, inl, inr, arith, List, []}
-use Rattle.std.proofs.Common.{◌++◌, ◌⊎◌, append-nil, Option}
+use Rattle.std.proofs.Common.{◌⊎◌, append-nil, Option}
 use Rattle.dos_io.specs.Outside.{grown}
 use Rattle.dos_io.proofs.OutsideLaws.{grown-nothing, grown-twice}
 use Rattle.elf_image.specs.Image.{Image}

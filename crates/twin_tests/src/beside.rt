@@ -1,11 +1,10 @@
 //! The follower runs beside its leader: the host's second call waits until the follower has put a
 //! byte.
-ghost use Rattle.std.specs.Prelude.{◌≡◌, ◌≤◌, ◌<◌, ℕ, length, take, drop, None, IfOk, OnOk, OnErr};
-ghost use Rattle.std.specs.Prelude.{IfSome};
+ghost use Rattle.std.specs.Prelude.{◌≡◌, ◌<◌, ◌≤◌, ◌++◌, ◌∷◌, [], length, drop, None, IfOk, OnOk};
 ghost use Rattle.dos_io.specs.Outside.{HasCause};
 
-use crate::guests::{COPIES, files_with, words};
-use dos_io::{Host, HostFault, MemoryHost, MemorySink, Sink, SinkFault};
+use crate::guests::{COPIES, files_with, words_of};
+use dos_io::{Host, HostFault, HostQuestion, MemoryHost, MemorySink, Sink, SinkFault};
 use dos_twin::twin_main;
 use std::hint;
 use std::sync::atomic::{AtomicU64, Ordering};
@@ -22,9 +21,7 @@ struct Noting<'a> {
 }
 
 impl<'a> Sink for Noting<'a> {
-    ghost use Rattle.std.specs.Prelude.{None};
-
-    ghost told = { λ s. None };
+    ghost told = { λ _. None };
 
     ghost faults = { λ s. s.sink.calls.faults };
 
@@ -37,7 +34,7 @@ impl<'a> Sink for Noting<'a> {
     }
 }
 
-// A host whose calls but the first wait until a byte was put, or so many turns.
+// A host whose second call waits until a byte was put, for so many turns at most.
 #[derive(Drop)]
 struct Holding<'a> {
     host: MemoryHost,
@@ -47,7 +44,9 @@ struct Holding<'a> {
 }
 
 impl<'a> Holding<'a> {
-    fn hold(&mut self) {
+    fn hold(&mut self)
+        ensures { self.new.host ≡ self.old.host }
+    {
         if self.calls == 1 {
             let mut seen = false;
             for _ in 0..TURNS {
@@ -64,13 +63,22 @@ impl<'a> Holding<'a> {
 }
 
 impl<'a> Host for Holding<'a> {
-    ghost use Rattle.std.specs.Prelude.{None};
+    ghost told = { λ _. None };
 
-    ghost told = { λ h. None };
+    ghost asked = { λ s. s.host.asked };
 
-    ghost faults = { λ h. h.host.calls.faults };
+    ghost faults = { λ s. s.host.calls.faults };
 
-    fn input(&mut self, buf: &mut [u8]) -> Result<usize, HostFault> {
+    fn input(&mut self, buf: &mut [u8]) -> Result<usize, HostFault>
+        requires { 0 < length buf.old }
+        ensures short { IfOk result (λ k. k ≤ length buf.old) }
+        ensures rest { IfOk result (λ k. drop k buf.new ≡ drop k buf.old) }
+        ensures asked { self.new.host.asked
+            ≡ self.old.host.asked ++ HostQuestion.Bytes (length buf.old) ∷ [] }
+        ensures cause { HasCause self.old.host.calls.faults self.new.host.calls.faults result }
+        ensures steady { OnOk result (self.new.host.calls.faults
+            ≡ self.old.host.calls.faults) }
+    {
         self.hold();
         self.host.input(buf)
     }
@@ -80,15 +88,15 @@ impl<'a> Host for Holding<'a> {
         self.host.clock()
     }
 
-    ghost filled = { λ h. tt };
+    ghost filled = { λ _. tt };
 }
 
 #[test]
 fn follower_runs_beside(rt: HostRuntime) {
     let alloc = rt.alloc();
     let seen = AtomicU64::new(0);
-    let mut files = files_with(&rt, alloc, &COPIES);
-    let words = words(&rt, alloc);
+    let mut files = files_with(&rt, alloc, &COPIES, b"", &[]);
+    let words = words_of(&rt, alloc, &["a"]);
     let mut host = Holding {
         host: MemoryHost::new(alloc, b"0123456789", 64, &[], &[]).expect(&rt, "memory"),
         calls: 0,

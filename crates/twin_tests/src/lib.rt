@@ -4,6 +4,10 @@
 #[cfg(test)]
 mod beside;
 #[cfg(test)]
+mod calls;
+#[cfg(test)]
+mod failing;
+#[cfg(test)]
 mod guests;
 #[cfg(test)]
 mod rows;

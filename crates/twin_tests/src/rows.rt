@@ -1,75 +1,105 @@
-//! A guest that copies its input, on both sides.
+//! Guests on both sides, where nothing fails but the host; words and images that are refused.
 
-use crate::guests::{COPIES, files_with, words};
-use dos_io::{MemoryHost, MemorySink};
-use dos_twin::twin_main;
-use std::alloc::Global;
-use std::process::Abort;
-use std::sync::Wait;
-use std::thread::Threads;
-use worker_pool::{OpenGate, Stealing, Tally};
+use crate::calls::{COPY, Call, both};
+use crate::guests::{COPIES_TO_BOTH, LOOPS, PROMPTS, STORES_AT_ZERO, WRITES_TO_BOTH};
 
-fn sink(rt: &impl Abort, alloc: Global, failing: &[u32]) -> MemorySink {
-    MemorySink::new(alloc, 40000, failing).expect(rt, "memory")
-}
-
-// The status and what the four sinks hold, of a call whose host and sinks fail so.
-fn check<R: Threads + Wait + Sync + Abort>(
-    rt: &R,
-    alloc: Global,
-    host_failing: &[u32],
-    second_failing: &[u32],
-    status: u8,
-    out: &[u8],
-    err: &[u8],
-    second: &[u8],
-) {
-    let mut files = files_with(rt, alloc, &COPIES);
-    let words = words(rt, alloc);
-    let mut host =
-        MemoryHost::new(alloc, b"0123456789", 64, &[], host_failing).expect(rt, "memory");
-    let mut first_out = sink(rt, alloc, &[]);
-    let mut first_err = sink(rt, alloc, &[]);
-    let mut second_out = sink(rt, alloc, second_failing);
-    let mut second_err = sink(rt, alloc, &[]);
-    let gate = OpenGate::new();
-    let mut tally = Tally::new();
-    let mut workers = Stealing::new(rt, alloc, 2, &gate, &mut tally);
-    let seen = twin_main(
-        rt,
-        alloc,
-        &words,
-        &mut files,
-        &mut host,
-        &mut first_out,
-        &mut first_err,
-        &mut second_out,
-        &mut second_err,
-        &mut workers,
-    );
-    assert!(rt; seen == status, "status {seen} and not {status}");
-    assert!(rt; first_out.bytes() == out, "the output differs");
-    assert!(rt; first_err.bytes() == err, "the error output differs");
-    assert!(rt; second_out.bytes() == second, "the second output differs");
-    assert!(rt; second_err.bytes().is_empty(), "the second error output isn't empty");
-}
+const DONE: &str = "process 1 status 0\nrounds 1 done\n";
 
 #[test]
-fn both_copy(rt: HostRuntime) {
-    let report = b"process 1 status 0\nrounds 1 done\n".as_slice();
-    let bytes = b"0123456789".as_slice();
-    check(&rt, rt.alloc(), &[], &[], 0, bytes, report, bytes);
+fn a_guest_copies_its_input(rt: HostRuntime) {
+    both(&rt, rt.alloc(), &COPY, (0, "0123456789", "", DONE));
 }
 
 #[test]
 fn a_host_fails_at_its_second_call(rt: HostRuntime) {
-    let bytes = b"0123456789".as_slice();
-    let line = b"dos: host fault\n".as_slice();
-    check(&rt, rt.alloc(), &[2], &[], 5, bytes, line, bytes);
+    let call = Call {
+        host_failing: 2,
+        ..COPY
+    };
+    both(&rt, rt.alloc(), &call, (5, "0123456789", "", "dos: host fault\n"));
 }
 
 #[test]
-fn a_second_output_fails(rt: HostRuntime) {
-    let bytes = b"0123456789".as_slice();
-    check(&rt, rt.alloc(), &[], &[1], 6, bytes, b"".as_slice(), b"".as_slice());
+fn both_put_the_same_bytes(rt: HostRuntime) {
+    let alloc = rt.alloc();
+    let prompts = Call {
+        code: &PROMPTS,
+        text: b"? ",
+        input: b"yes",
+        clocks: &[7],
+        ..COPY
+    };
+    let err = "yesprocess 1 status 0\nrounds 1 done\n";
+    both(&rt, alloc, &prompts, (0, "? ", "yes", err));
+    let writes = Call {
+        code: &WRITES_TO_BOTH,
+        text: b"aAbBcCdD",
+        ..COPY
+    };
+    let err = "bBdDprocess 1 status 0\nrounds 1 done\n";
+    both(&rt, alloc, &writes, (0, "aAcC", "bBdD", err));
+    let copies = Call {
+        code: &COPIES_TO_BOTH,
+        piece: 1,
+        ..COPY
+    };
+    let err = "0123456789process 1 status 0\nrounds 1 done\n";
+    both(&rt, alloc, &copies, (0, "0123456789", "0123456789", err));
+    let faults = Call {
+        code: &STORES_AT_ZERO,
+        ..COPY
+    };
+    both(&rt, alloc, &faults, (0, "", "", "process 1 status 139\nrounds 1 done\n"));
+}
+
+#[test]
+fn a_guest_runs_on_to_the_limit(rt: HostRuntime) {
+    let call = Call {
+        code: &LOOPS,
+        ..COPY
+    };
+    let err = "process 1 live\nrounds 100000 limit\n";
+    both(&rt, rt.alloc(), &call, (7, "", "", err));
+}
+
+#[test]
+fn words_that_are_no_names_are_refused(rt: HostRuntime) {
+    let alloc = rt.alloc();
+    let refused = (2, "", "", "dos: words refused\n");
+    let none = Call {
+        words: &[],
+        ..COPY
+    };
+    both(&rt, alloc, &none, refused);
+    let empty = Call {
+        words: &["a", ""],
+        ..COPY
+    };
+    both(&rt, alloc, &empty, refused);
+    let option = Call {
+        words: &["--log"],
+        ..COPY
+    };
+    both(&rt, alloc, &option, refused);
+    let nine = Call {
+        words: &["a", "a", "a", "a", "a", "a", "a", "a", "a"],
+        ..COPY
+    };
+    both(&rt, alloc, &nine, refused);
+}
+
+#[test]
+fn a_file_that_is_not_there_is_a_fault(rt: HostRuntime) {
+    let alloc = rt.alloc();
+    let fault = (5, "", "", "dos: file fault\n");
+    let other = Call {
+        words: &["a", "b"],
+        ..COPY
+    };
+    both(&rt, alloc, &other, fault);
+    let failing = Call {
+        files_failing: 1,
+        ..COPY
+    };
+    both(&rt, alloc, &failing, fault);
 }
