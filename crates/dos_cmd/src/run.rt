@@ -140,11 +140,7 @@ fn store<F: Files>(alloc: Global, files: &mut F, name: &Text, log: &Log) -> Resu
 }
 
 /// Puts the report of a run that ended so.
-pub fn report<E: Sink>(
-    kernel: &Kernel,
-    ending: Ending,
-    err: &mut E,
-) -> Result<Ending, Refusal>
+pub fn report<E: Sink>(kernel: &Kernel, ending: Ending, err: &mut E) -> Result<Ending, Refusal>
     ensures same { IfOk result (λ ended. ended ≡ ending) }
     ensures told { OnOk result (E.told err.new
         ≡ grown (E.told err.old) (report_in (kernel_world kernel.now) ending)) }
