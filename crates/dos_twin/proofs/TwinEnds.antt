@@ -149,8 +149,8 @@ module _ (leader follower : Result Ending RunStop) (images : List Image) (o : Tw
   }
 
   stopped : IsUncut leader → IsUncut follower
-      → ((told : List Exchange) (output error : List ℕ) → SeenOf leader images twin_config told kernel
-      output error o.tally o.tally_after
+      → ((told : List Exchange) (output error : List ℕ)
+      → SeenOf leader images twin_config told kernel output error o.tally o.tally_after
       → (question : Question) × RanUntil images twin_config told question output error)
       → StoppedTwin images [] o
   stopped un ux until =

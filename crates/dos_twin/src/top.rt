@@ -6,7 +6,8 @@ ghost use Rattle.dos_words.specs.Canonical.{names_alone};
 ghost use Rattle.dos_words.specs.Numbers.{Text};
 ghost use Rattle.elf_image.specs.Image.{Image};
 ghost use Rattle.dos_twin.specs.TwinImages.{twin_images};
-ghost use Rattle.dos_twin.specs.TwinLeaves.{DidTwin, TwinCutShort, TwinDone, TwinFails, TwinRefused};
+ghost use Rattle.dos_twin.specs.TwinLeaves.{DidTwin, TwinCutShort, TwinDone, TwinFails};
+ghost use Rattle.dos_twin.specs.TwinLeaves.{TwinRefused};
 ghost use Rattle.dos_twin.specs.TwinOutside.{twin_faults, twin_outside};
 
 use crate::opening::{open_named, read};
@@ -88,7 +89,8 @@ fn twin<
 /// status.
 ///
 /// The words are the names alone. Both sides run with a quantum of 1000, 100000 rounds, 4096
-/// frames, no signals and the host's clock; each has two workers.
+/// frames, no signals and the host's clock; each has two workers. Before they start it is tried
+/// whether a thread can be had: without one the leader would wait for ever.
 ///
 /// | Status | Comes |
 /// |---|---|
@@ -97,7 +99,11 @@ fn twin<
 /// | 3 | exactly where an image is longer than 4194304 bytes or refused, or there is no room |
 /// | 5 | only where the count of `files` or of `host` rose |
 /// | 6 | exactly where a put to one of the four outputs failed |
-/// | 9 | only for want of memory |
+/// | 9 | only for want of memory, or where no thread can be started |
+///
+/// A put that fails gives 6 in place of any other status. Each "exactly" yields to 5, 6 and 9. With 2,
+/// 3, 5 and 9 `err` grows by one line behind what the run has put by then, and there is no report.
+/// Each side waits for the other, so the clauses say what holds where the call returns.
 pub fn twin_main<
     R: Threads + Wait + Sync,
     F: Files,
@@ -154,8 +160,8 @@ pub fn twin_main<
         (Q.faults second_err.old) (Q.faults second_err.new)) }
 
     // What must come, where nothing fails and memory is there.
-    ensures words_refused { names_alone (map string_bytes words.now) ≡ None → result ≢ 6 → result ≢ 9
-        → result ≡ 2 }
+    ensures words_refused { names_alone (map string_bytes words.now) ≡ None → result ≢ 6
+        → result ≢ 9 → result ≡ 2 }
     ensures files_refused { (names : List Text) (why : Refusal)
         → names_alone (map string_bytes words.now) ≡ Some names
         → twin_images (F.content files.old) names ≡ Some (Err why)

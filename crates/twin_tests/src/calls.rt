@@ -17,7 +17,7 @@ pub struct Call {
     pub code: &'static [u32],
     pub text: &'static [u8],
     pub input: &'static [u8],
-    pub piece: u16,
+    pub piece: u32,
     pub clocks: &'static [u64],
     pub files_failing: u32,
     pub host_failing: u32,
@@ -99,7 +99,11 @@ pub fn leaves<R: Threads + Wait + Sync + Abort>(
         &mut second_err,
         &mut workers,
     );
-    assert!(rt; status == wanted.status, "status {status} and not {}", wanted.status);
+    assert!(rt;
+        status == wanted.status,
+        "status {status} and not {}",
+        wanted.status
+    );
     holds(rt, "output", &out, wanted.out);
     holds(rt, "error", &err, wanted.err);
     holds(rt, "the second output", &second_out, wanted.second_out);

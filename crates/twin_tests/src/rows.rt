@@ -16,7 +16,12 @@ fn a_host_fails_at_its_second_call(rt: HostRuntime) {
         host_failing: 2,
         ..COPY
     };
-    both(&rt, rt.alloc(), &call, (5, "0123456789", "", "dos: host fault\n"));
+    both(
+        &rt,
+        rt.alloc(),
+        &call,
+        (5, "0123456789", "", "dos: host fault\n"),
+    );
 }
 
 #[test]
@@ -49,7 +54,12 @@ fn both_put_the_same_bytes(rt: HostRuntime) {
         code: &STORES_AT_ZERO,
         ..COPY
     };
-    both(&rt, alloc, &faults, (0, "", "", "process 1 status 139\nrounds 1 done\n"));
+    both(
+        &rt,
+        alloc,
+        &faults,
+        (0, "", "", "process 1 status 139\nrounds 1 done\n"),
+    );
 }
 
 #[test]
@@ -66,10 +76,7 @@ fn a_guest_runs_on_to_the_limit(rt: HostRuntime) {
 fn words_that_are_no_names_are_refused(rt: HostRuntime) {
     let alloc = rt.alloc();
     let refused = (2, "", "", "dos: words refused\n");
-    let none = Call {
-        words: &[],
-        ..COPY
-    };
+    let none = Call { words: &[], ..COPY };
     both(&rt, alloc, &none, refused);
     let empty = Call {
         words: &["a", ""],
