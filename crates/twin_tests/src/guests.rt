@@ -100,8 +100,8 @@ pub const WRITES_TO_BOTH: [u32; 22] = [
     0x0000_0073,
 ];
 
-/// Jumps on the spot.
-pub const LOOPS: [u32; 1] = [0x0000_006f];
+/// Yields again and again, which is a round each time.
+pub const YIELDS: [u32; 3] = [0x0170_0893, 0x0000_0073, 0xffdf_f06f];
 
 /// Stores at address 0, which ends it by a fault.
 pub const STORES_AT_ZERO: [u32; 1] = [0x0000_2023];

@@ -1,7 +1,7 @@
 //! Guests on both sides, where nothing fails but the host; words and images that are refused.
 
 use crate::calls::{COPY, Call, both};
-use crate::guests::{COPIES_TO_BOTH, LOOPS, PROMPTS, STORES_AT_ZERO, WRITES_TO_BOTH};
+use crate::guests::{COPIES_TO_BOTH, PROMPTS, STORES_AT_ZERO, WRITES_TO_BOTH, YIELDS};
 
 const DONE: &str = "process 1 status 0\nrounds 1 done\n";
 
@@ -65,7 +65,7 @@ fn both_put_the_same_bytes(rt: HostRuntime) {
 #[test]
 fn a_guest_runs_on_to_the_limit(rt: HostRuntime) {
     let call = Call {
-        code: &LOOPS,
+        code: &YIELDS,
         ..COPY
     };
     let err = "process 1 live\nrounds 100000 limit\n";
