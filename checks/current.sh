@@ -1,5 +1,6 @@
-# Sourced with `top` set: whether out/dos is the program that was proved and built of the sources as
-# they are. out/dos.stamp is as old as the look at these sources, and has their digest, or nothing.
+# Sourced with `top` set: whether out/dos and out/dos-twin are the programs that were proved and built
+# of the sources as they are. out/dos.stamp is as old as the look at these sources, and has their
+# digest, or nothing.
 
 # Sets `sources` to the folders and the file that the sources lie in.
 find_sources() {
@@ -18,7 +19,7 @@ digest_of_sources() {
 # By times, and where these don't say so by the digest: after a branch and back all files are new.
 is_current() {
   local sources stamp=$top/out/dos.stamp looked_at
-  [ -x "$top/out/dos" ] && [ -f "$stamp" ] || return 1
+  [ -x "$top/out/dos" ] && [ -x "$top/out/dos-twin" ] && [ -f "$stamp" ] || return 1
   find_sources
   [ "$(find "${sources[@]}" -newer "$stamp" -print -quit)" ] || return 0
   [ -s "$stamp" ] && looked_at=$(mktemp) || return 1
@@ -37,10 +38,11 @@ begin_stamp() {
     touch -r "$top/out/dos.begun" "$top/out/dos.start" && rm "$top/out/dos.begun"
 }
 
-# Leaves the program $1, which was proved and built since, where the launcher finds it. Where the
-# sources are others by now, their digest isn't kept.
-keep_program() {
+# Leaves the programs $1 and $2, which were proved and built since, where the launchers find them.
+# Where the sources are others by now, their digest isn't kept.
+keep_programs() {
   local start=$top/out/dos.start
+  cp "$2" "$top/out/dos.new" && mv "$top/out/dos.new" "$top/out/dos-twin" || return 1
   cp "$1" "$top/out/dos.new" && mv "$top/out/dos.new" "$top/out/dos" || return 1
   if [ "$(cat "$start")" != "$(digest_of_sources)" ]; then
     : > "$top/out/dos.start.empty" && touch -r "$start" "$top/out/dos.start.empty" || return 1

@@ -7,7 +7,7 @@ use Rattle.std.specs.List.{list_any, list_all}
 use Rattle.std.specs.Map.{lookup}
 use Rattle.dos_words.specs.Numbers.{Text, ◌>>=◌}
 use Rattle.dos_words.specs.declared.request.Request.{Request}
-use Rattle.dos_words.specs.Asked.{Values}
+use Rattle.dos_words.specs.Asked.{Values, images_of}
 use Rattle.dos_words.specs.Commands.{command_named}
 
 -- a word that may be a value or a name
@@ -31,6 +31,10 @@ pairs_and_names (word ∷ value ∷ words) =
     let names : List Text = word ∷ value ∷ words in
     if is_plain word then (if list_all is_plain names then Some ([], names) else None)
     else (if is_plain value then pairs_and_names words >>= with_pair word value else None)
+
+-- words that are one to eight names, and nothing else
+abbrev pub names_alone : List Text → Option (List Text)
+names_alone words = if list_all is_plain words then images_of words else None
 
 -- ---- the options
 

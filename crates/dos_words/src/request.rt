@@ -1,5 +1,6 @@
 // What the words ask for.
 ghost use Rattle.std.specs.Prelude.{◌≡◌, ◌<◌, [], length, map, slice_get, Some, IfOk};
+ghost use Rattle.std.specs.Prelude.{string_bytes};
 
 use dos_world::Post;
 use std::alloc::{AllocError, Global};
@@ -58,6 +59,17 @@ impl Names {
         let mut names = Vec::new(alloc);
         for text in texts {
             names.push(String::from_str(alloc, text)?)?;
+        }
+        Ok(Names { names })
+    }
+
+    /// An owned copy of these words.
+    pub(crate) fn of_words(alloc: Global, words: &[String]) -> Result<Names, AllocError>
+        ensures { IfOk result (λ t. t ≡ map string_bytes words.now) }
+    {
+        let mut names = Vec::new(alloc);
+        for word in words {
+            names.push(String::from_str(alloc, word.as_str())?)?;
         }
         Ok(Names { names })
     }

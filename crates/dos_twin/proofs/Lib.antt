@@ -1,0 +1,5 @@
+mod TwinOpenings
+mod TwinFronts
+mod TwinEnds
+mod TwinSaying
+mod TwinCalls

@@ -1,0 +1,4 @@
+pub mod TwinOutside
+pub mod TwinImages
+pub mod TwinReports
+pub mod TwinLeaves
