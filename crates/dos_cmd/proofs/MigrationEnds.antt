@@ -108,8 +108,8 @@ not_stored log to why tells files after out k k' n fits (inr is) rose others =
     subst (λ (w : Refusal). LeavesMigration log to w tells files after out out k k' n n) (sym is.0)
     (record {
       files_stay = all_stay
-          (outside tells files after (host_seen None []) (host_seen None []) None None None None 0 0)
-          to is.1 others;
+          (outside tells files after (host_seen None []) (host_seen None []) None None None None
+          0 0) to is.1 others;
       out_stays = refl;
     })
 

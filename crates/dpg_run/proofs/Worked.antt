@@ -185,6 +185,7 @@ pub worked_so_far : (config : Config) (ended : Option Ending) (answers : List An
 worked_so_far config None answers w s' work h =
     ap (work_from w config) (sym (append-nil answers)) ∙ h.2 []
     ∙ ap (λ n. work + n) (nothing_worked (config.rounds
-    - (sent h.0 h.1 (world_of config.quantum s')).rounds) (sent h.0 h.1 (world_of config.quantum s')))
+    - (sent h.0 h.1 (world_of config.quantum s')).rounds)
+    (sent h.0 h.1 (world_of config.quantum s')))
     ∙ (let n : work + 0 ≡ work = omega arith in n)
 worked_so_far config (Some ending) answers w s' work h = h
