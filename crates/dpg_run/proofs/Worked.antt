@@ -97,7 +97,8 @@ module _ (config : Config) (s : State) (first : 1 ≤ s.round) (allowed : s.roun
               (e ++ bytes_to Error h.crossings) (world_of config.quantum s'))) rest
           over_is k h rest =
               ap (λ answers. over (answers ++ rest) (round_of (here o e)))
-              (since_more told.shim.told after.shim.told (exchanges_of h.crossings) h.tells.exchanges)
+              (since_more told.shim.told after.shim.told (exchanges_of h.crossings)
+              h.tells.exchanges)
               ∙ goes-over_more (exchanges_of h.crossings) rest (round_of (here o e)) _
               (goes-exchanges o e h.crossings (round_of (here o e)) _ (h.goes o e))
 
@@ -111,7 +112,8 @@ module _ (config : Config) (s : State) (first : 1 ≤ s.round) (allowed : s.roun
               (sym (append-nil (answers_since told.shim.told after.shim.told))) ∙ over_is k h []
 
           by_end : (k : RoundEnd) → s'.round ≡ next_round k s.round
-              → PlaysOn config.quantum (λ w. round_of w) s told (λ w. done (end_in k more w)) s' after
+              → PlaysOn config.quantum (λ w. round_of w) s told (λ w. done (end_in k more w)) s'
+              after
               → HasWorked config (Ok (ending_by k)) (answers_since told.shim.told after.shim.told)
               (here o e) s' (work_in k more)
           by_end Went round h = (

@@ -210,9 +210,9 @@ fn trace_owned<S: Shim, O: Sink, E: Sink, T: Sink, W: Workers>(
 /// has changed in it, in rising order.
 ///
 /// The lines are those of the trace over the answers of the shim; after a fault of a line a front
-/// of them; and after a fault of the guests' sinks those of the rounds before it. The workers' tally
-/// grows as `run_group` has it, and where a line fails by the rounds until then. `Memory` comes
-/// before the first round, when nothing was put or asked, and never after it.
+/// of them; and after a fault of the guests' sinks those of the rounds before it. The workers'
+/// tally grows as `run_group` has it, and where a line fails by the rounds until then. `Memory`
+/// comes before the first round, when nothing was put or asked, and never after it.
 pub fn run_traced<S: Shim, O: Sink, E: Sink, T: Sink, W: Workers>(
     alloc: Global,
     kernel: &mut Kernel,

@@ -35,7 +35,8 @@ returns g c =
     let limit = subst (λ (k : Held). k.state.round ≤ k.config.rounds) (sym view) c.requires.limit in
     record {
       plays = subst (λ (k : Held). PlaysRound k.config.quantum (λ w. round_of w)
-          (λ w answers. begun_work w answers) result k.state before new after (g.W.Workers.tally c.args.workers.now)
+          (λ w answers. begun_work w answers) result k.state before new after
+          (g.W.Workers.tally c.args.workers.now)
           (g.W.Workers.tally c.play_round-result.new.workers)) view e.plays;
       round = subst (λ (k : Held). IfOk result (λ end. new.round ≡ next_round end k.state.round))
           view e.keeps.round;
