@@ -1,15 +1,18 @@
--- What a side's outputs hold, of what its run sends to them.
-use Rattle.std.proofs.Common.{◌≡◌, ℕ, List, [], ◌∷◌, map, Option, Ok, Err, sym, subst}
+-- However a side's run came out, its outputs hold fronts of what it sends to them.
+use Rattle.std.proofs.Common.{◌≡◌, ◌∙◌, ◌++◌, ℕ, List, [], ◌∷◌, append-nil, map, Option, Ok, Err}
+use Rattle.std.proofs.Common.{refl, subst, sym}
 use Rattle.std.specs.Prelude.{Result}
 use Rattle.dos_world.specs.Play.{Answer, Outcome, Play, asks, ask, done, over, questions}
 use Rattle.dos_world.specs.Play.{◌>>=◌}
 use Rattle.dos_world.specs.declared.Ending.{Ending}
 use Rattle.dos_world.specs.declared.Question.{Question}
-use Rattle.dos_io.specs.Exchanges.{answer_of}
+use Rattle.dos_io.specs.Exchanges.{answer_of, question_of}
 use Rattle.dos_io.specs.Outside.{IsFront}
 use Rattle.dos_io.specs.declared.exchange.Exchange.{Exchange}
 use Rattle.dos_io.proofs.OutsideLaws.{front-whole}
 use Rattle.dpg_run.specs.GroupRuns.{AreFronts}
+use Rattle.dpg_run.proofs.Asked.{heads}
+use Rattle.group_rounds.specs.Plays.{GoesOn}
 use Rattle.elf_image.specs.Image.{Image}
 use Rattle.flat_machine.specs.Machine.{Finish, Ran, Seen, group, machine, result_of}
 use Rattle.flat_machine.specs.Machine.{rounds_from, told_end}
@@ -21,7 +24,6 @@ use Rattle.kernel_calls.specs.declared.state.RunStop.TheVariants.{OutFault, ErrF
 use Rattle.logged_runs.specs.Runs.{RanUntil, RanWhole}
 use Rattle.twin_runs.specs.Twins.{CutAt, EndedAt, FollowerCame, LeaderCame, StoppedAt}
 use Rattle.dos_twin.specs.TwinImages.{twin_config}
-use Rattle.dos_twin.specs.TwinLeaves.{PutFronts}
 
 -- ---- all bytes until a question are fronts of what is sent until there
 
@@ -51,6 +53,18 @@ fronts_over [] asked (ask first o e next) question output error is =
 fronts_over (a ∷ answers) asked (ask first o e next) question output error is =
     fronts_over answers asked (next a) question output error is
 
+-- ---- a play that has asked the questions of some exchanges goes on by their answers
+
+goes_on : {A : Type 0} (told : List Exchange) (more : List Question) (play : Play A)
+    → questions (map answer_of told) play ≡ map question_of told ++ more
+    → (left : Play A) × GoesOn told play left
+goes_on [] more play is = (play, refl)
+goes_on (e ∷ told) more (done a) is = absurd cc
+goes_on (e ∷ told) more (ask question o n next) is =
+    let at = heads question (question_of e) (questions (map answer_of told) (next (answer_of e)))
+    (map question_of told ++ more) is in
+    let rest = goes_on told more (next (answer_of e)) at.1 in (rest.0, (at.0, rest.1))
+
 module _ (images : List Image) (told : List Exchange) where
   until_fronts : (question : Question) (output error : List ℕ)
       → RanUntil images twin_config told question output error
@@ -68,51 +82,49 @@ module _ (images : List Image) (told : List Exchange) where
   module _ (kernel : Held) (out err out_after err_after : Option (List ℕ))
       (tally tally_after : ℕ) where
     ended : (ending : Ending) → EndedAt images twin_config told kernel ending out err out_after
-        err_after tally tally_after → PutFronts images told out err out_after err_after
+        err_after tally tally_after → CutAt images twin_config told out err out_after err_after
     ended ending at = record {
       output = at.seen.output;
       error = at.seen.error;
-      fronts = whole_fronts at.seen at.ran;
+      ran = record {
+        goes = goes_on told [] (group images twin_config)
+            (at.ran.fits ∙ sym (append-nil (map question_of told)));
+        fronts = whole_fronts at.seen at.ran;
+      };
       put = at.ended.put;
     }
 
     stopped : (question : Question)
         → StoppedAt images twin_config told question out err out_after err_after
-        → PutFronts images told out err out_after err_after
+        → CutAt images twin_config told out err out_after err_after
     stopped question at = record {
       output = at.output;
       error = at.error;
-      fronts = until_fronts question at.output at.error at.ran;
-      put = at.put;
-    }
-
-    cut : CutAt images twin_config told out err out_after err_after
-        → PutFronts images told out err out_after err_after
-    cut at = record {
-      output = at.output;
-      error = at.error;
-      fronts = at.ran.fronts;
+      ran = record {
+        goes = goes_on told (question ∷ []) (group images twin_config) at.ran.asked;
+        fronts = until_fronts question at.output at.error at.ran;
+      };
       put = at.put;
     }
 
     pub led : (leader : Result Ending RunStop) → LeaderCame leader images twin_config told kernel
         out err out_after err_after tally tally_after
-        → PutFronts images told out err out_after err_after
+        → CutAt images twin_config told out err out_after err_after
     led (Ok ending) came = ended ending came
     led (Err HostFault) came = stopped came.0 came.1
     led (Err Memory) came = stopped came.0 came.1
-    led (Err OutFault) came = cut came
-    led (Err ErrFault) came = cut came
+    led (Err OutFault) came = came
+    led (Err ErrFault) came = came
     led (Err LogFull) came = absurd came
     led (Err (Misfit m)) came = absurd came
 
     pub followed : (follower : Result Ending RunStop) (rest : List Exchange)
         → FollowerCame follower images twin_config told rest kernel out err out_after err_after
-        tally tally_after → PutFronts images told out err out_after err_after
+        tally tally_after → CutAt images twin_config told out err out_after err_after
     followed (Ok ending) rest came = ended ending came
     followed (Err HostFault) rest came = stopped came.0 came.1
     followed (Err (Misfit m)) rest came = stopped m.asked came
-    followed (Err OutFault) rest came = cut came
-    followed (Err ErrFault) rest came = cut came
+    followed (Err OutFault) rest came = came
+    followed (Err ErrFault) rest came = came
     followed (Err LogFull) rest came = absurd came
     followed (Err Memory) rest came = absurd came

@@ -1,16 +1,15 @@
 -- What a twin's call leaves, by how it ends. This project's own rules.
-use Rattle.std.specs.Prelude.{◌≡◌, ◌++◌, ◌⊎◌, [], ℕ, List, map, Option, Some, None}
+use Rattle.std.specs.Prelude.{◌≡◌, ◌++◌, ◌⊎◌, [], ℕ, List, Some, None}
 use Rattle.dos_world.specs.declared.Question.{Question}
-use Rattle.dos_io.specs.Exchanges.{answer_of}
 use Rattle.dos_io.specs.Given.{Given}
 use Rattle.dos_io.specs.Outside.{grown, GrewByFront, IsFront, Rose}
 use Rattle.dos_io.specs.declared.exchange.ClockRule.TheVariants.{FromHost}
 use Rattle.dos_io.specs.declared.exchange.Exchange.{Exchange}
-use Rattle.dpg_run.specs.GroupRuns.{AreFronts}
 use Rattle.dpg_run.specs.Report.{report}
 use Rattle.elf_image.specs.Image.{Image}
-use Rattle.flat_machine.specs.Machine.{Seen, machine}
+use Rattle.flat_machine.specs.Machine.{Seen}
 use Rattle.logged_runs.specs.Runs.{Put, RanUntil, RanWhole}
+use Rattle.twin_runs.specs.Twins.{CutAt}
 use Rattle.worker_pool.specs.Ran.{GrewBy}
 use Rattle.dos_texts.specs.Exit.{ending_status, line_of, refusal_status}
 use Rattle.dos_texts.specs.declared.refusal.Refusal.{Refusal}
@@ -64,24 +63,17 @@ pub record StoppedTwin (images : List Image) (last : List ℕ) (o : TwinOutside)
   pub grew : BothGrew o output error last
   pub files_stay : TwinFilesStay o
 
--- Two outputs hold fronts of what a run sends to them over these exchanges.
-pub record PutFronts (images : List Image) (told : List Exchange)
-    (out err out_after err_after : Option (List ℕ)) : Type 0 where
-  pub output : List ℕ
-  pub error : List ℕ
-  pub fronts : AreFronts output error (machine images twin_config (map answer_of told))
-  pub put : Put out err out_after err_after output error
-
--- An output failed in the run. Each holds a front of what the run sends to it, over what its side
--- was told: the leader what the host gave, and the follower a front of that.
+-- An output failed in the run. Each holds a front of what the run sends to it until its next
+-- question, or its end, over what its side was told: the leader what the host gave, and the
+-- follower a front of that.
 pub record CutTwin (images : List Image) (o : TwinOutside) : Type 0 where
   pub told : List Exchange
   pub followed : List Exchange
   pub rest : List Exchange
   pub front : told ≡ followed ++ rest
   pub given : Given [] FromHost 0 o.host o.host_after told
-  pub led : PutFronts images told o.out o.err o.out_after o.err_after
-  pub second : PutFronts images followed o.second_out o.second_err o.second_out_after
+  pub led : CutAt images twin_config told o.out o.err o.out_after o.err_after
+  pub second : CutAt images twin_config followed o.second_out o.second_err o.second_out_after
       o.second_err_after
   pub files_stay : TwinFilesStay o
 

@@ -101,8 +101,8 @@ fn twin<
 /// | 6 | exactly where a put to one of the four outputs failed |
 /// | 9 | only for want of memory, or where no thread can be started |
 ///
-/// A put that fails gives 6 in place of any other status. Each "exactly" yields to 5, 6 and 9. With 2,
-/// 3, 5 and 9 `err` grows by one line behind what the run has put by then, and there is no report.
+/// A put that fails gives 6 in place of any other status. Each "exactly" yields to 5, 6 and 9. With
+/// 2, 3, 5 and 9 `err` grows by one line behind what the run has put by then, without a report.
 /// Each side waits for the other, so the clauses say what holds where the call returns.
 pub fn twin_main<
     R: Threads + Wait + Sync,
