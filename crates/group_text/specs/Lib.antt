@@ -1,0 +1,5 @@
+pub mod Groups
+pub mod Ranges
+pub mod GroupText
+pub mod Reading
+pub mod Records
