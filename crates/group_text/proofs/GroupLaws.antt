@@ -1,7 +1,6 @@
 -- A saved group_row that is read is the one that was written, and what was written is read again.
-use Rattle.std.proofs.Common.{◌≡◌, ℕ, zero, suc, ◌<◌, eqb, Bool, true, false, cond, List, [], ◌∷◌}
-use Rattle.std.proofs.Common.{◌++◌, length, Result, Ok, Err, refl, sym, ap, subst, ◌∙◌}
-use Rattle.std.proofs.Common.{append_assoc}
+use Rattle.std.proofs.Common.{◌≡◌, ℕ, zero, suc, ◌<◌, eqb, Bool, true, false, cond, List, []}
+use Rattle.std.proofs.Common.{◌++◌, length, Result, Ok, Err, refl, ap, subst, ◌∙◌}
 use Rattle.std.proofs.Common.{arith}
 use Rattle.std.specs.Prelude.{slice_index}
 use Rattle.std.specs.Int.{w16, to_le_bytes}
@@ -11,14 +10,14 @@ use Rattle.std.proofs.lemmas.List.{append-nil, nil_from_length}
 use Rattle.std.proofs.lemmas.Slice.Eq.{bytes_eq-Decides}
 use Rattle.text_fields.specs.declared.refusal.FieldError.{FieldError}
 use Rattle.text_fields.specs.Reading.{field_place, ◌>>=◌, first_bytes, first_number, passing}
-use Rattle.text_fields.specs.Formats.{Format, AreBytes, number_in, bytes, any}
-use Rattle.text_fields.specs.Laws.{Spells, IsFormat}
+use Rattle.text_fields.specs.Formats.{AreBytes, any}
 use Rattle.text_fields.proofs.FormatLaws.{bind_ok, bytes_format, number_format, wide16}
 use Rattle.group_text.specs.declared.refusal.GroupRefusal.{GroupRefusal}
 use Rattle.group_text.specs.declared.refusal.GroupRefusal.TheVariants as refusal
 use Rattle.group_text.specs.Groups.{SavedGroup}
 use Rattle.group_text.specs.GroupText.{group_magic, group_version, group_row, grouptext}
-use Rattle.group_text.specs.Reading.{from_field, past_magic, past_version, group_in_text, GroupsAreSpelled}
+use Rattle.group_text.specs.Reading.{from_field, past_magic, past_version, group_in_text}
+use Rattle.group_text.specs.Reading.{GroupsAreSpelled}
 use Rattle.group_text.proofs.RowLaws.{group_format}
 
 abbrev done : {A : Type 0} → A → Result A GroupRefusal
@@ -84,11 +83,14 @@ found text g fits e =
     let b = bind_ok (past_version end a.0) _ g a.2 in
     let v = version_takes end a.0 b.0 m.rest_fits b.1 in
     let c = bind_ok (from_field (group_row.read end b.0)) _ g b.2 in
-    let s = group_format.spells end b.0 c.0 v.rest_fits (field_ok (group_row.read end b.0) c.0 c.1) in
-    let k = guard_true (eqb (length c.0.1) 0) (refusal.AfterEnd (field_place end c.0.1)) c.0.0 g c.2 in
+    let s = group_format.spells end b.0 c.0 v.rest_fits
+    (field_ok (group_row.read end b.0) c.0 c.1) in
+    let k = guard_true (eqb (length c.0.1) 0) (refusal.AfterEnd (field_place end c.0.1)) c.0.0 g
+    c.2 in
     let none : c.0.1 ≡ [] = nil_from_length c.0.1 (eqb-true _ _ k.0) in
     let last : b.0 ≡ group_row.text c.0.0 =
-    s.parts ∙ ap (λ (x : List ℕ). group_row.text c.0.0 ++ x) none ∙ append-nil (group_row.text c.0.0) in
+    s.parts ∙ ap (λ (x : List ℕ). group_row.text c.0.0 ++ x) none
+    ∙ append-nil (group_row.text c.0.0) in
     subst (λ (h : SavedGroup). (text ≡ grouptext h) × group_row.Fits h) k.1 (
       m.parts ∙ ap (λ (x : List ℕ). group_magic ++ x) (v.parts
           ∙ ap (λ (x : List ℕ). to_le_bytes w16 group_version ++ x) last),
@@ -131,7 +133,8 @@ again g fits =
     (group_format.again end g [] fits) in
     goes (past_magic end (grouptext g)) _ (to_le_bytes w16 group_version ++ group_row.text g)
     (magic_again end (to_le_bytes w16 group_version ++ group_row.text g))
-    ∙ goes (past_version end (to_le_bytes w16 group_version ++ group_row.text g)) _ (group_row.text g)
+    ∙ goes (past_version end (to_le_bytes w16 group_version ++ group_row.text g)) _
+    (group_row.text g)
     (version_again end (group_row.text g))
     ∙ goes (from_field (group_row.read end (group_row.text g))) _ (g, [])
     (ap (λ (r : Result (SavedGroup × List ℕ) FieldError). from_field r) rest)

@@ -1,28 +1,25 @@
 -- Each row of a saved group's text is a format: what is read was written so, and what is written is
 -- read again.
-use Rattle.std.proofs.Common.{◌≡◌, ℕ, zero, suc, ◌+◌, ◌-◌, ◌*◌, ◌/◌, ◌%◌, ◌<◌, ◌≤◌, Bool, true}
+use Rattle.std.proofs.Common.{◌≡◌, ℕ, zero, suc, ◌+◌, ◌/◌, ◌%◌, ◌≤◌, Bool, true}
 use Rattle.std.proofs.Common.{false}
-use Rattle.std.proofs.Common.{cond, List, [], ◌∷◌, ◌++◌, length, drop, refl, sym, ap, subst, ◌∙◌}
+use Rattle.std.proofs.Common.{List, [], length, refl, sym, ap, ◌∙◌}
 use Rattle.std.proofs.Common.{arith}
-use Rattle.std.proofs.Common.{Option, Some, None, leb, eqb, ◌&&◌}
+use Rattle.std.proofs.Common.{Option, Some, None, leb}
 use Rattle.std.specs.Prelude.{reverse, ◌==◌, if◌then◌else◌}
 use Rattle.std.specs.Int.{w16, w32}
 use Rattle.std.proofs.lemmas.Bool.{eqb-true, leb-true, and_parts}
-use Rattle.std.proofs.lemmas.List.{length-reverse, reverse-reverse}
-use Rattle.dos_world.specs.World.{Process, Life, live, ended, Holdings, Thread, Registers, Sleeper}
-use Rattle.dos_world.specs.declared.Entry.{Entry}
+use Rattle.std.proofs.lemmas.List.{reverse-reverse}
+use Rattle.dos_world.specs.World.{Life, live, ended}
 use Rattle.dos_world.specs.declared.Owner.{Owner}
 use Rattle.dos_world.specs.declared.Owner.TheVariants.{Free, Shared, Of}
 use Rattle.dos_world.specs.declared.End.{End}
-use Rattle.dos_world.specs.declared.ThreadState.{ThreadState}
 use Rattle.text_fields.specs.Formats.{Format, bytes, u8_in, u16_in, u32_in, ◌then◌, seen_as}
-use Rattle.text_fields.specs.Formats.{tagged, many, ascending, from_to, just, any}
+use Rattle.text_fields.specs.Formats.{many, ascending, from_to, just, any}
 use Rattle.text_fields.specs.Laws.{IsFormat}
 use Rattle.text_fields.proofs.FormatLaws.{bytes_format, number_format, u8_format, then_format}
 use Rattle.text_fields.proofs.FormatLaws.{as_format, tagged_format, many_format, ascending_format}
 use Rattle.text_fields.proofs.FormatLaws.{with_count_format, listed_length, wide16, wide32}
 use Rattle.group_text.specs.GroupText as row
-use Rattle.group_text.specs.Groups.{SavedGroup}
 
 -- ---- fields
 
@@ -41,15 +38,17 @@ range_is low high n e =
 
 -- ---- the header
 
+config_format : IsFormat row.config_row
+config_format = as_format row.to_config row.of_config row.config_fields
+    (then_format _ _ (n32 _) (λ _ _. then_format _ _ (n32 _) (λ _ _. n32 _))) (λ a fits. refl)
+
 pub header_format : IsFormat row.header_row
 header_format = as_format row.to_header row.of_header row.header_fields
     (then_format _ _ (bytes_format 32) (λ _ _.
     then_format _ _ (n32 _) (λ _ _.
+    then_format _ _ config_format (λ _ _.
     then_format _ _ (n32 _) (λ _ _.
-    then_format _ _ (n32 _) (λ _ _.
-    then_format _ _ (n32 _) (λ _ _.
-    then_format _ _ (n32 _) (λ _ _.
-    then_format _ _ (n32 _) (λ _ _. n32 _))))))))
+    then_format _ _ (n32 _) (λ _ _. n32 _))))))
     (λ a fits. refl)
 
 -- ---- a thread
@@ -94,16 +93,10 @@ saved_one_format : IsFormat row.saved_row
 saved_one_format = then_format _ _ registers_format (λ _ _. n32 _)
 
 pub saved_format : IsFormat row.saved_rows
-saved_format = as_format row.to_saved row.of_saved row.saved_fields
-    (then_format _ _ (u8_format _) (λ n _. many_format n _ saved_one_format)) back
-  where
-    back : (a : ℕ × List (Registers × ℕ))
-        → row.saved_fields.Fits a
-        → row.of_saved (row.to_saved a) ≡ a
-    back a f =
-        let n = many_length a.0 row.saved_row a.1 f.1 in
-        let l : length (reverse a.1) ≡ a.0 = length-reverse a.1 ∙ n in
-        rw (l, reverse-reverse a.1) refl
+saved_format = as_format reverse reverse row.saved_in_order
+    (with_count_format (u8_in (from_to 0 4)) (λ n. many n row.saved_row) (u8_format _)
+    (λ n. many_format n _ saved_one_format) (λ n xs fits. many_length n row.saved_row xs fits))
+    (λ a fits. reverse-reverse a)
 
 pub thread_format : (given processes least : ℕ) → IsFormat (row.thread_row given processes least)
 thread_format given processes least =
@@ -189,8 +182,8 @@ holdings_format frames = as_format row.to_holdings row.of_holdings (row.holding_
 
 module _ (frames : ℕ) where
   life_is : (n : ℕ) → (u8_in (from_to 0 2)).Fits n → IsFormat (row.life_by_code frames n)
-  life_is zero f = as_format (λ x. live x.1) (λ life. (0, row.holdings_of_life life)) (row.live_fields
-      frames)
+  life_is zero f =
+      as_format (λ x. live x.1) (λ life. (0, row.holdings_of_life life)) (row.live_fields frames)
       (then_format _ _ (u8_format _) (λ _ _. holdings_format frames))
       (λ a g. ap (λ n. (n, a.1)) (sym (just_is 0 a.0 g.0.1)))
   life_is (suc zero) f =
@@ -252,7 +245,8 @@ module _ (given : ℕ) where
       let r = range_is 0 2 (suc (suc (suc n))) f.1 in absurd (omega arith)
 
   pub frame_format : IsFormat (row.frame_row given)
-  frame_format = tagged_format row.owner_code (from_to 0 2) (row.frame_by_code given) frame_is frame_tags
+  frame_format =
+      tagged_format row.owner_code (from_to 0 2) (row.frame_by_code given) frame_is frame_tags
 
 -- ---- all of it
 

@@ -1,9 +1,9 @@
 -- The one text of a saved group, its fields' ranges, and how it is read: one format of each row.
 -- This project's own, version 1. All numbers are little-endian.
-use Rattle.std.specs.Prelude.{ℕ, zero, suc, ◌+◌, ◌-◌, ◌*◌, ◌/◌, ◌%◌, Bool, true, false, List, []}
+use Rattle.std.specs.Prelude.{ℕ, zero, suc, ◌+◌, ◌-◌, ◌/◌, ◌%◌, Bool, true, false, List, []}
 use Rattle.std.specs.Prelude.{◌∷◌, ◌++◌}
 use Rattle.std.specs.Prelude.{length, drop, reverse, Option, Some, None, ◌==◌, if◌then◌else◌}
-use Rattle.std.specs.Int.{w16, w32, to_le_bytes}
+use Rattle.std.specs.Int.{w16, to_le_bytes}
 use Rattle.dos_world.specs.World.{Process, Life, live, ended, Holdings, Thread, Registers, Sleeper}
 use Rattle.dos_world.specs.SignalCalls.{is_action}
 use Rattle.dos_world.specs.declared.Config.{Config}
@@ -31,52 +31,48 @@ pub record Header : Type 0 where
   pub threads : ℕ
   pub processes : ℕ
 
--- these numbers in their order
+abbrev pub ConfigFields : Type 0
+ConfigFields = ℕ × (ℕ × ℕ)
+
+abbrev pub to_config : ConfigFields → Config
+to_config (quantum, (rounds, frames)) =
+    record { quantum = quantum; rounds = rounds; frames = frames }
+
+abbrev pub of_config : Config → ConfigFields
+of_config c = (c.quantum, (c.rounds, c.frames))
+
+-- the quantum, the round limit and the frames
+abbrev pub config_fields : Format ConfigFields
+config_fields =
+    u32_in (from_to 16 65536) then λ quantum.
+    u32_in (from_to 1 1000000) then λ rounds.
+    u32_in (from_to 16 16384)
+
+abbrev pub config_row : Format Config
+config_row = seen_as to_config of_config config_fields
+
 abbrev pub HeaderFields : Type 0
-HeaderFields = List ℕ × (ℕ × (ℕ × (ℕ × (ℕ × (ℕ × (ℕ × ℕ))))))
+HeaderFields = List ℕ × (ℕ × (Config × (ℕ × (ℕ × ℕ))))
 
 abbrev pub to_header : HeaderFields → Header
-to_header (digest, (used, (quantum, (limit, (frames, (rounds, (threads, processes))))))) = record {
+to_header (digest, (used, (config, (rounds, (threads, processes))))) = record {
   digest = digest;
   used = used;
-  config = record { quantum = quantum; rounds = limit; frames = frames };
+  config = config;
   rounds = rounds;
   threads = threads;
   processes = processes;
 }
 
 abbrev pub of_header : Header → HeaderFields
-of_header h = (
-  h.digest,
-  (
-    h.used,
-    (
-      h.config.quantum,
-      (
-        h.config.rounds,
-        (
-          h.config.frames,
-          (
-            h.rounds,
-            (
-              h.threads,
-              h.processes,
-            ),
-          ),
-        ),
-      ),
-    ),
-  ),
-)
+of_header h = (h.digest, (h.used, (h.config, (h.rounds, (h.threads, h.processes)))))
 
 abbrev pub header_fields : Format HeaderFields
 header_fields =
     bytes 32 then λ digest.
     u32_in any then λ used.
-    u32_in (from_to 16 65536) then λ quantum.
-    u32_in (from_to 1 1000000) then λ limit.
-    u32_in (from_to 16 16384) then λ frames.
-    u32_in (from_to 0 limit) then λ rounds.
+    config_row then λ config.
+    u32_in (from_to 0 config.rounds) then λ rounds.
     u32_in (from_to 1 65535) then λ threads.
     -- processes
     u32_in (from_to 1 65535)
@@ -135,18 +131,12 @@ state_row = seen_as state_by_code state_code (u8_in (from_to 0 2))
 abbrev pub saved_row : Format (Registers × ℕ)
 saved_row = registers_row then λ registers. u32_in may_mask
 
--- how many are saved, in one byte, and these, the first saved first
-abbrev pub to_saved : ℕ × List (Registers × ℕ) → List (Registers × ℕ)
-to_saved (depth, list) = reverse list
-
-abbrev pub of_saved : List (Registers × ℕ) → ℕ × List (Registers × ℕ)
-of_saved list = (length list, reverse list)
-
-abbrev pub saved_fields : Format (ℕ × List (Registers × ℕ))
-saved_fields = u8_in (from_to 0 4) then λ depth. many depth saved_row
+-- how many are saved, and these, the first saved first
+abbrev pub saved_in_order : Format (List (Registers × ℕ))
+saved_in_order = with_count (u8_in (from_to 0 4)) (λ depth. many depth saved_row)
 
 abbrev pub saved_rows : Format (List (Registers × ℕ))
-saved_rows = seen_as to_saved of_saved saved_fields
+saved_rows = seen_as reverse reverse saved_in_order
 
 abbrev pub ThreadFields : Type 0
 ThreadFields = ℕ × (ℕ × (ThreadState × (Registers × (ℕ × (ℕ × (ℕ × List (Registers × ℕ)))))))
@@ -301,16 +291,24 @@ holdings_of_life (ended status collected) = record { actions = []; descriptors =
 abbrev pub live_fields : ℕ → Format (ℕ × Holdings)
 live_fields frames = u8_in (just 0) then λ status. holdings_row frames
 
-abbrev pub life_by_code : ℕ → ℕ → Format Life
-life_by_code frames zero = seen_as (λ x. live x.1) (λ life. (0, holdings_of_life life)) (live_fields frames)
-life_by_code frames (suc zero) = seen_as (λ status. ended status false) status_of_life (u8_in any)
-life_by_code frames (suc (suc n)) = seen_as (λ status. ended status true) status_of_life (u8_in any)
+abbrev pub live_row : ℕ → Format Life
+live_row frames = seen_as (λ x. live x.1) (λ life. (0, holdings_of_life life)) (live_fields frames)
 
--- a parent, how it is with the process, its status, and what it has
+abbrev pub ended_row : Bool → Format Life
+ended_row collected = seen_as (λ status. ended status collected) status_of_life (u8_in any)
+
+abbrev pub life_by_code : ℕ → ℕ → Format Life
+life_by_code frames zero = live_row frames
+life_by_code frames (suc zero) = ended_row false
+life_by_code frames (suc (suc n)) = ended_row true
+
+-- how it is with a process, its status, and what it has
+abbrev pub life_row : ℕ → Format Life
+life_row frames = tagged life_code (from_to 0 2) (life_by_code frames)
+
+-- a parent, and how it is with the process
 abbrev pub process_fields : (frames processes : ℕ) → Format (ℕ × Life)
-process_fields frames processes =
-    u32_in (from_to 0 processes) then λ parent.
-    tagged life_code (from_to 0 2) (life_by_code frames)
+process_fields frames processes = u32_in (from_to 0 processes) then λ parent. life_row frames
 
 abbrev pub process_row : (frames processes : ℕ) → Format Process
 process_row frames processes =
@@ -357,11 +355,19 @@ shared_fields = u32_in (just 0) then λ thread. bytes 4096
 abbrev pub owned_fields : ℕ → Format (ℕ × List ℕ)
 owned_fields given = u32_in (from_to 1 given) then λ thread. bytes 4096
 
+abbrev pub free_row : Format (Owner × List ℕ)
+free_row = seen_as (λ _. (Free, [])) owner_thread (u32_in (just 0))
+
+abbrev pub shared_row : Format (Owner × List ℕ)
+shared_row = seen_as (λ x. (Shared, x.1)) (λ f. (owner_thread f, f.1)) shared_fields
+
+abbrev pub owned_row : ℕ → Format (Owner × List ℕ)
+owned_row given = seen_as (λ x. (Of x.0, x.1)) (λ f. (owner_thread f, f.1)) (owned_fields given)
+
 abbrev pub frame_by_code : (given : ℕ) → ℕ → Format (Owner × List ℕ)
-frame_by_code given zero = seen_as (λ _. (Free, [])) owner_thread (u32_in (just 0))
-frame_by_code given (suc zero) = seen_as (λ x. (Shared, x.1)) (λ f. (owner_thread f, f.1)) shared_fields
-frame_by_code given (suc (suc n)) = seen_as (λ x. (Of x.0, x.1)) (λ f. (owner_thread f, f.1))
-    (owned_fields given)
+frame_by_code given zero = free_row
+frame_by_code given (suc zero) = shared_row
+frame_by_code given (suc (suc n)) = owned_row given
 
 abbrev pub frame_row : ℕ → Format (Owner × List ℕ)
 frame_row given = tagged owner_code (from_to 0 2) (frame_by_code given)
@@ -408,6 +414,10 @@ to_group (h, (processes, (threads, (pipes, (sleepers, frames))))) = record {
 
 abbrev pub of_group : SavedGroup → Header × BodyFields
 of_group g = (header_in g, (g.processes, (g.threads, (g.pipes, (g.sleepers, g.frames)))))
+
+-- the whole group, of what stands behind its header
+abbrev pub body_row : Header → Format SavedGroup
+body_row h = seen_as (λ parts. to_group (h, parts)) (λ g. (of_group g).1) (group_body h)
 
 abbrev pub group_fields : Format (Header × BodyFields)
 group_fields = header_row then group_body

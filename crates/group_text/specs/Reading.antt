@@ -4,18 +4,15 @@ use Rattle.std.specs.Prelude.{◌≡◌, ℕ, List, length, Result, Ok, Err, ◌
 use Rattle.std.specs.Int.{w16}
 use Rattle.std.specs.Str.{bytes_eq}
 use Rattle.text_fields.specs.declared.refusal.FieldError.{FieldError}
-use Rattle.text_fields.specs.declared.refusal.FieldError.TheVariants as field
 use Rattle.text_fields.specs.Formats.{AreBytes}
 use Rattle.text_fields.specs.Reading.{field_place, ◌>>=◌, first_bytes, first_number}
 use Rattle.group_text.specs.declared.refusal.GroupRefusal.{GroupRefusal}
 use Rattle.group_text.specs.declared.refusal.GroupRefusal.TheVariants as refusal
+use Rattle.group_text.specs.declared.refusal.GroupError.{GroupError}
+use Rattle.group_text.specs.declared.refusal.GroupError.TheVariants.{Refused, Memory}
 use Rattle.group_text.specs.Groups.{SavedGroup}
+use Rattle.group_text.specs.Refusals.{field_refusal}
 use Rattle.group_text.specs.GroupText.{group_magic, group_version, group_row, grouptext}
-
--- what a field's refusal is called
-abbrev pub field_refusal : FieldError → GroupRefusal
-field_refusal (field.Short place) = refusal.Short place
-field_refusal (field.Range place) = refusal.Field place
 
 abbrev pub from_field : {A : Type 0} → Result A FieldError → Result A GroupRefusal
 from_field (Ok x) = Ok x
@@ -42,6 +39,19 @@ group_in_text bytes = do
   if length g.1 == 0 then Ok g.0 else Err (refusal.AfterEnd (field_place (length bytes) g.1))
 
 -- ---- what is promised of reading
+
+-- What a function returned, seen by view, is what reading gives.
+abbrev pub GivesPart : {X Y : Type 0} → (X → Y) → Result X GroupRefusal → Result Y GroupRefusal
+    → Type 0
+GivesPart view (Ok x) read = read ≡ Ok (view x)
+GivesPart view (Err e) read = read ≡ Err e
+
+-- The same of a whole group, for which memory may have run out before.
+abbrev pub GivesGroup : {X : Type 0} → (X → SavedGroup) → Result X GroupError
+    → Result SavedGroup GroupRefusal → Type 0
+GivesGroup view (Ok x) read = read ≡ Ok (view x)
+GivesGroup view (Err (Refused e)) read = read ≡ Err e
+GivesGroup view (Err Memory) read = ⊤
 
 -- What was read was written so, and in its ranges; what was written is read again.
 pub record GroupsAreSpelled : Type 0 where

@@ -1,5 +1,5 @@
 -- What the records of a saved group are in the flat world. This project's own rules.
-use Rattle.std.specs.Prelude.{ℕ, List, map, Option, Some, None}
+use Rattle.std.specs.Prelude.{ℕ, List, map, Some, None}
 use Rattle.dos_world.specs.World.{Process, Life, Thread, Sleeper, Holdings, live, ended}
 use Rattle.dos_world.specs.declared.Owner.{Owner}
 use Rattle.group_text.specs.declared.records.ProcessRecord.{ProcessRecord}
@@ -7,7 +7,9 @@ use Rattle.group_text.specs.declared.records.ThreadRecord.{ThreadRecord}
 use Rattle.group_text.specs.declared.records.SleeperRecord.{SleeperRecord}
 use Rattle.group_text.specs.declared.records.FrameRecord.{FrameRecord}
 use Rattle.group_text.specs.declared.records.GroupRecord.{GroupRecord}
+use Rattle.group_text.specs.declared.header.HeaderRecord.{HeaderRecord}
 use Rattle.group_text.specs.Groups.{SavedGroup}
+use Rattle.group_text.specs.GroupText.{Header}
 
 -- what a process that lives has
 abbrev pub recorded_holdings : ProcessRecord → Holdings
@@ -58,4 +60,14 @@ group_of_record r = record {
   pipes = map (λ p. p.items) r.pipes.items;
   sleepers = map sleeper_of_record r.sleepers.items;
   frames = map frame_of_record r.frames.items;
+}
+
+abbrev pub header_of_record : HeaderRecord → Header
+header_of_record r = record {
+  digest = r.digest;
+  used = r.used;
+  config = r.config;
+  rounds = r.rounds;
+  threads = r.threads;
+  processes = r.processes;
 }

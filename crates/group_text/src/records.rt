@@ -52,7 +52,7 @@ pub struct GroupRecord {
     pub used: u32,
     pub config: Config,
     pub rounds: u32,
-    pub given: u32,
+    pub given: u16,
     pub processes: Vec<ProcessRecord>,
     pub threads: Vec<ThreadRecord>,
     pub pipes: Vec<Vec<u8>>,

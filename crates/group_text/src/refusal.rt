@@ -1,8 +1,9 @@
 // Why bytes are no saved group.
 ghost use Rattle.std.specs.Prelude.{◌≡◌};
-ghost use Rattle.group_text.specs.declared.refusal.GroupError.TheVariants.{Refused, Memory};
+ghost use Rattle.group_text.specs.Refusals.{field_refusal, row_error};
+ghost use Rattle.group_text.specs.declared.refusal.GroupError.TheVariants.{Refused};
 
-use std::alloc::{AllocError, AllocFailed};
+use text_fields::{FieldError, RowError};
 
 /// Why bytes are no saved group: the first thing that is wrong, from left to right, with its place,
 /// counted in bytes from 0.
@@ -20,6 +21,17 @@ pub enum GroupRefusal {
     AfterEnd(u64),
 }
 
+impl From<FieldError> for GroupRefusal {
+    ghost from_gives = { λ error refusal. refusal ≡ field_refusal error };
+
+    fn from(error: FieldError) -> GroupRefusal {
+        match error {
+            FieldError::Short(place) => GroupRefusal::Short(place),
+            FieldError::Range(place) => GroupRefusal::Field(place),
+        }
+    }
+}
+
 /// Why a saved group isn't read.
 #[derive(Clone, Copy, Debug, PartialEq, Eq)]
 pub enum GroupError {
@@ -34,5 +46,18 @@ impl From<GroupRefusal> for GroupError {
 
     fn from(refusal: GroupRefusal) -> GroupError {
         GroupError::Refused(refusal)
+    }
+}
+
+impl From<RowError> for GroupError {
+    ghost from_gives = { λ error e. e ≡ row_error error };
+
+    fn from(error: RowError) -> GroupError
+        ensures { result ≡ row_error error }
+    {
+        match error {
+            RowError::Refused(field) => GroupError::Refused(GroupRefusal::from(field)),
+            RowError::Memory => GroupError::Memory,
+        }
     }
 }

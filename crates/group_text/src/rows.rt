@@ -5,7 +5,8 @@ ghost use Rattle.text_fields.specs.Formats.{u16_in, u32_in};
 ghost use Rattle.text_fields.specs.Reading.{GivesField};
 ghost use Rattle.group_text.specs.Ranges.{may_mask, may_pend, is_word_in_page};
 ghost use Rattle.group_text.specs.GroupText.{is_pipe_of};
-ghost use Rattle.group_text.specs.GroupText.{descriptor_row, held_row, page_row, state_row, state_by_code};
+ghost use Rattle.group_text.specs.GroupText.{descriptor_row, held_row, page_row, state_row};
+ghost use Rattle.group_text.specs.GroupText.{state_by_code};
 ghost use Rattle.group_text.specs.GroupText.{end_by_code};
 
 use dos_world::{End, Entry, ThreadState};
@@ -14,19 +15,18 @@ use text_fields::{
 };
 
 /// A page from `least` on, its frame, its rights, and whether it is shared.
-pub fn read_page(
+pub(crate) fn read_page(
     frames: u32,
     least: u32,
     end: usize,
     bytes: &[u8],
 ) -> Result<((u32, Entry), &[u8]), FieldError>
-    requires { 0 < frames }
-    ensures value { GivesField (λ x. (x.0, x.1.now)) result ((page_row frames least).read end bytes.now) }
-    ensures low { IfOk result (λ x. (least ≤ x.0.0) × (x.0.0 ≤ 0xEFFFF)) }
-    ensures frame { IfOk result (λ x. x.0.1.frame < frames) }
+    ensures value { GivesField (λ x. (x.0, x.1.now)) result
+        ((page_row frames least).read end bytes.now) }
+    ensures range { IfOk result (λ x. (least ≤ x.0.0) × (x.0.0 ≤ 0xEFFFF)) }
 {
     let (page, rest) = read_u32_within(least, 0xef_fff, end, bytes)?;
-    let (frame, rest) = read_u32_within(0, frames - 1, end, rest)?;
+    let (frame, rest) = read_u32_within(0, frames.saturating_sub(1), end, rest)?;
     let (rights, rest) = read_byte_within(0, 3, end, rest)?;
     let (shared, rest) = read_byte_within(0, 1, end, rest)?;
     let entry = Entry {
@@ -45,7 +45,7 @@ fn is_action(action: u32) -> bool
 }
 
 /// A signal's action.
-pub fn read_action(end: usize, bytes: &[u8]) -> Result<(u32, &[u8]), FieldError>
+pub(crate) fn read_action(end: usize, bytes: &[u8]) -> Result<(u32, &[u8]), FieldError>
     ensures { GivesField (λ x. (x.0, x.1.now)) result ((u32_in is_action).read end bytes.now) }
 {
     let (action, rest) = read_u32(end, bytes)?;
@@ -62,7 +62,7 @@ fn may_pend(set: u32) -> bool
 }
 
 /// The signals that are pending.
-pub fn read_pending(end: usize, bytes: &[u8]) -> Result<(u32, &[u8]), FieldError>
+pub(crate) fn read_pending(end: usize, bytes: &[u8]) -> Result<(u32, &[u8]), FieldError>
     ensures { GivesField (λ x. (x.0, x.1.now)) result ((u32_in may_pend).read end bytes.now) }
 {
     let (set, rest) = read_u32(end, bytes)?;
@@ -79,7 +79,7 @@ fn may_mask(set: u32) -> bool
 }
 
 /// A mask of signals.
-pub fn read_mask(end: usize, bytes: &[u8]) -> Result<(u32, &[u8]), FieldError>
+pub(crate) fn read_mask(end: usize, bytes: &[u8]) -> Result<(u32, &[u8]), FieldError>
     ensures { GivesField (λ x. (x.0, x.1.now)) result ((u32_in may_mask).read end bytes.now) }
 {
     let (set, rest) = read_u32(end, bytes)?;
@@ -90,8 +90,9 @@ pub fn read_mask(end: usize, bytes: &[u8]) -> Result<(u32, &[u8]), FieldError>
 }
 
 /// The offset of a word in a page.
-pub fn read_offset(end: usize, bytes: &[u8]) -> Result<(u16, &[u8]), FieldError>
-    ensures { GivesField (λ x. (x.0, x.1.now)) result ((u16_in is_word_in_page).read end bytes.now) }
+pub(crate) fn read_offset(end: usize, bytes: &[u8]) -> Result<(u16, &[u8]), FieldError>
+    ensures { GivesField (λ x. (x.0, x.1.now)) result
+        ((u16_in is_word_in_page).read end bytes.now) }
 {
     let (offset, rest) = read_u16(end, bytes)?;
     if offset % 4 == 0 {
@@ -103,7 +104,7 @@ pub fn read_offset(end: usize, bytes: &[u8]) -> Result<(u16, &[u8]), FieldError>
 }
 
 /// Whether a thread runs or waits.
-pub fn read_state(end: usize, bytes: &[u8]) -> Result<(ThreadState, &[u8]), FieldError>
+pub(crate) fn read_state(end: usize, bytes: &[u8]) -> Result<(ThreadState, &[u8]), FieldError>
     ensures { GivesField (λ x. (x.0, x.1.now)) result (state_row.read end bytes.now) }
 {
     let (code, rest) = read_byte_within(0, 2, end, bytes)?;
@@ -121,7 +122,7 @@ fn state_of(code: u8) -> ThreadState
 }
 
 /// The address that lr.w reserved.
-pub fn read_held(end: usize, bytes: &[u8]) -> Result<(Option<u32>, &[u8]), FieldError>
+pub(crate) fn read_held(end: usize, bytes: &[u8]) -> Result<(Option<u32>, &[u8]), FieldError>
     ensures { GivesField (λ x. (x.0, x.1.now)) result (held_row.read end bytes.now) }
 {
     let (code, rest) = read_byte_within(0, 1, end, bytes)?;
@@ -156,7 +157,7 @@ fn is_pipe_of(kind: u8, pipe: u8) -> bool
 }
 
 /// A descriptor: what it names, and its pipe.
-pub fn read_descriptor(end: usize, bytes: &[u8]) -> Result<(Option<End>, &[u8]), FieldError>
+pub(crate) fn read_descriptor(end: usize, bytes: &[u8]) -> Result<(Option<End>, &[u8]), FieldError>
     ensures { GivesField (λ x. (x.0, x.1.now)) result (descriptor_row.read end bytes.now) }
 {
     let (kind, rest) = read_byte_within(0, 5, end, bytes)?;
