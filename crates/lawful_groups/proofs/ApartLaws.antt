@@ -154,7 +154,7 @@ all_apart_yes last p (r ∷ rs) all below h =
         let t : Test None ≡ true = subst (λ s. Test s ≡ true) e h in
         let a = and_parts (are_apart last p r.pages.items)
         (are_all_apart (marked_space last p r.pages.items) (suc p) rs) t in
-        let here = apart_yes p last r.pages.items (All-head (HaveFrames (length last)) r rs all)
+        let here = apart_yes p last r.pages.items (All-head (HaveFrames (length last)) r rs all e)
         a.0 in
         rw e (All-cons Apart (held_of r) (all_holdings (map process_of rs)) here.0
         (rest (marked_space last p r.pages.items) (suc p) (marked_length p last r.pages.items)
@@ -188,7 +188,7 @@ all_apart_no last p (r ∷ rs) all below h =
         let t : All Apart (held_of r ∷ all_holdings (map process_of rs)) =
         subst (All Apart) (held None e) h in
         let hs : List Holdings = all_holdings (map process_of rs) in
-        let here = apart_no p last r.pages.items (All-head (HaveFrames (length last)) r rs all)
+        let here = apart_no p last r.pages.items (All-head (HaveFrames (length last)) r rs all e)
         (All-head Apart (held_of r) hs t)
         (all_new last p r.pages.items below) in
         let rest = more (marked_space last p r.pages.items) (suc p)

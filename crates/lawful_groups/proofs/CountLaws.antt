@@ -99,7 +99,7 @@ all_at uses (r ∷ rs) f le all =
         ≡ min (slice_index uses f + all_uses (r ∷ rs) f) most
     go step None e =
         let u : List ℕ = counted_space uses r.pages.items in
-        let here = space_at uses r.pages.items f le (All-head (HaveFrames (length uses)) r rs all)
+        let here = space_at uses r.pages.items f le (All-head (HaveFrames (length uses)) r rs all e)
         in
         let there = step u (space_length uses r.pages.items) (omega (arith, here)) in
         let sums = sum_by-cons (λ (h : Holdings). entries_of h.space f) (held_of r)

@@ -217,7 +217,8 @@ module _ (w : World) (uses : List ℕ) (are : AreUses w uses) where
           let t : list_all (is_alone_by uses) r.pages.items ≡ true =
           subst (λ s. (is_some s || list_all (is_alone_by uses) r.pages.items) ≡ true) e parts.0 in
           rw e (All-cons SpaceAlone (held_of r) (all_holdings (map process_of rs))
-          (space_alone_yes r.pages.items (All-head (HaveFrames (length w.owners)) r rs all) t) rest)
+          (space_alone_yes r.pages.items (All-head (HaveFrames (length w.owners)) r rs all e) t)
+          rest)
       go rest (Some x) e = rw e rest
 
   pub private_no : (rs : List ProcessRecord) → All (HaveFrames (length w.owners)) rs
@@ -244,7 +245,7 @@ module _ (w : World) (uses : List ℕ) (are : AreUses w uses) where
           let hs : List Holdings = all_holdings (map process_of rs) in
           rw (
             e,
-            space_alone_no r.pages.items (All-head (HaveFrames (length w.owners)) r rs all)
+            space_alone_no r.pages.items (All-head (HaveFrames (length w.owners)) r rs all e)
                 (All-head SpaceAlone (held_of r) hs t),
             rest (All-tail SpaceAlone (held_of r) hs t),
           ) refl

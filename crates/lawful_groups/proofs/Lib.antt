@@ -4,3 +4,6 @@ pub mod FrameLaws
 pub mod ThreadLaws
 pub mod ProcessLaws
 pub mod AgreeLaws
+pub mod RangeLaws
+pub mod LawfulLaws
+pub mod GroupFacts

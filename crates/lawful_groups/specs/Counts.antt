@@ -1,5 +1,5 @@
 -- How many entries have each frame, counted entry by entry. This project's own rules.
-use Rattle.std.specs.Prelude.{ℕ, ◌+◌, ◌-◌, ◌^◌, ◌<◌, min, List, [], ◌∷◌, All, None, Some}
+use Rattle.std.specs.Prelude.{ℕ, ◌≡◌, ◌+◌, ◌-◌, ◌^◌, ◌<◌, min, List, [], ◌∷◌, All, None, Some}
 use Rattle.std.specs.Prelude.{slice_index, slice_set}
 use Rattle.dos_world.specs.declared.Entry.{Entry}
 use Rattle.group_text.specs.declared.records.ProcessRecord.{ProcessRecord}
@@ -12,8 +12,9 @@ most = 2 ^ 32 - 1
 abbrev pub HasFrameBelow : ℕ → ℕ × Entry → Type 0
 HasFrameBelow frames e = e.1.frame < frames
 
+-- and so each entry of a process that lives
 abbrev pub HaveFrames : ℕ → ProcessRecord → Type 0
-HaveFrames frames r = All (HasFrameBelow frames) r.pages.items
+HaveFrames frames r = r.status ≡ None → All (HasFrameBelow frames) r.pages.items
 
 -- one more for a frame
 abbrev pub with_use : List ℕ → ℕ → List ℕ
