@@ -1,0 +1,9 @@
+pub mod CountLaws
+pub mod ApartLaws
+pub mod FrameLaws
+pub mod ThreadLaws
+pub mod ProcessLaws
+pub mod AgreeLaws
+pub mod RangeLaws
+pub mod LawfulLaws
+pub mod GroupFacts

@@ -1,0 +1,4 @@
+pub mod Counts
+pub mod Apart
+pub mod Agreeing
+pub mod Lawfulness
