@@ -1,0 +1,11 @@
+//! Packets of gdb's remote serial protocol: framing, numbers, ids, and what each packet asks.
+#![tactic(auto)]
+
+mod around;
+pub mod framing;
+pub mod hexadecimal;
+pub mod ids;
+pub mod openings;
+pub mod commands;
+pub mod packets;
+pub mod resumptions;
