@@ -1,2 +1,5 @@
 pub mod Digits
 pub mod Parts
+pub mod ReadBackLaws
+pub mod EscapeLaws
+pub mod StreamLaws

@@ -77,3 +77,37 @@ framing_step_at (WithinSum digit) f byte =
 
 abbrev pub framing_step : Framing → ℕ → Framing × Option Event
 framing_step f byte = framing_step_at f.place f byte
+
+-- ---- over many bytes
+
+-- an event, with the bytes of its packet
+abbrev pub told_event : Option Event → List ℕ → List (Event × List ℕ)
+told_event None body = []
+told_event (Some event) body = (event, body) ∷ []
+
+-- where the reading stands behind the bytes
+abbrev pub framing_behind : Framing → List ℕ → Framing
+framing_behind f [] = f
+framing_behind f (byte ∷ bytes) = framing_behind (framing_step f byte).0 bytes
+
+-- the events of the bytes
+abbrev pub events_from : Framing → List ℕ → List (Event × List ℕ)
+events_from f [] = []
+events_from f (byte ∷ bytes) =
+    told_event (framing_step f byte).1 (framing_step f byte).0.body
+    ++ events_from (framing_step f byte).0 bytes
+
+-- ---- a whole packet
+
+-- outside, whatever was read before
+abbrev pub outside_with : List ℕ → ℕ → Framing
+outside_with body running = record { place = Outside; body = body; running = running }
+
+-- what is kept of the bytes of a packet, behind what is kept
+abbrev pub kept_bytes : (kept body : List ℕ) → List ℕ
+kept_bytes kept [] = kept
+kept_bytes kept (byte ∷ bytes) = kept_bytes (with_body_byte kept byte) bytes
+
+-- a packet with these two digits, and what follows it
+abbrev pub packet_then : List ℕ → (first second : ℕ) → List ℕ → List ℕ
+packet_then body first second rest = 36 ∷ body ++ 35 ∷ first ∷ second ∷ rest

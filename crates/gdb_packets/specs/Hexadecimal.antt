@@ -41,7 +41,7 @@ nibbles (suc more) n =
     if nat_lt n 16 then nibble_text n ∷ [] else nibbles more (n / 16) ++ nibble_text (n % 16) ∷ []
 
 -- a number of 32 bits
-abbrev pub number_digits : ℕ → List ℕ
+unfoldable pub number_digits : ℕ → List ℕ
 number_digits n = nibbles 7 n
 
 -- ---- bytes, two digits each

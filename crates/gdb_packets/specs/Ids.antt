@@ -47,7 +47,6 @@ id_from (c ∷ cs) =
 
 -- as it is sent
 abbrev pub id_text : ThreadId → List ℕ
-id_text (Both process thread) =
-    codes "p" ++ which_text process ++ codes "." ++ which_text thread
-id_text (ProcessAlone process) = codes "p" ++ which_text process
+id_text (Both process thread) = 112 ∷ which_text process ++ 46 ∷ which_text thread
+id_text (ProcessAlone process) = 112 ∷ which_text process
 id_text (ThreadAlone thread) = which_text thread

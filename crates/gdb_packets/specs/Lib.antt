@@ -7,3 +7,6 @@ pub mod Openings
 pub mod Resumptions
 pub mod Commands
 pub mod Packets
+pub mod Escapes
+pub mod ReadBack
+pub mod Streams

@@ -81,6 +81,7 @@ fn push_nibbles<const N: usize>(to: &mut ArrayVec<u8, N>, more: usize, value: u3
 }
 
 /// Writes a number, without zeros in front. There must be room for eight digits.
+#[tactic(auto, unfolding(crate::specs::Hexadecimal::number_digits))]
 pub fn push_number<const N: usize>(to: &mut ArrayVec<u8, N>, value: u32)
     requires { array_vec_len to.old + 8 ≤ N }
     ensures items { to.new.items ≡ to.old.items ++ number_digits value }

@@ -2,10 +2,12 @@
 #![tactic(auto)]
 
 mod around;
+pub mod commands;
+pub mod escapes;
 pub mod framing;
 pub mod hexadecimal;
 pub mod ids;
+pub mod laws;
 pub mod openings;
-pub mod commands;
 pub mod packets;
 pub mod resumptions;
