@@ -1,5 +1,5 @@
 -- Bytes with escapes are read back.
-use Rattle.std.proofs.Common.{◌≡◌, ℕ, List, [], ◌∷◌, ◌++◌, Option, Some, None, Bool, true, false, cond, eqb}
+use Rattle.std.proofs.Common.{◌≡◌, ℕ, List, [], ◌∷◌, ◌++◌, Bool, true, false, cond, eqb}
 use Rattle.std.proofs.Common.{refl, ap, sym, ◌∙◌}
 use Rattle.std.proofs.lemmas.Bool.{eqb-true}
 use Rattle.std.specs.Prelude.{◌||◌, bit_xor}
@@ -15,16 +15,20 @@ twice b h = first (eqb b 35) refl h
     at c e t =
         let same : b ≡ c = eqb-true b c t in
         ap (λ v. bit_xor (bit_xor v 32) 32) same ∙ e ∙ sym same
+
     fourth : (v : Bool) → eqb b 125 ≡ v → v ≡ true → bit_xor (bit_xor b 32) 32 ≡ b
     fourth true e t = at 125 refl e
     fourth false e t = absurd cc
+
     third : (v : Bool) → eqb b 42 ≡ v → v || eqb b 125 ≡ true → bit_xor (bit_xor b 32) 32 ≡ b
     third true e t = at 42 refl e
     third false e t = fourth (eqb b 125) refl t
+
     second : (v : Bool) → eqb b 36 ≡ v → v || (eqb b 42 || eqb b 125) ≡ true
         → bit_xor (bit_xor b 32) 32 ≡ b
     second true e t = at 36 refl e
     second false e t = third (eqb b 42) refl t
+
     first : (v : Bool) → eqb b 35 ≡ v → v || (eqb b 36 || (eqb b 42 || eqb b 125)) ≡ true
         → bit_xor (bit_xor b 32) 32 ≡ b
     first true e t = at 35 refl e

@@ -3,3 +3,4 @@ pub mod Parts
 pub mod ReadBackLaws
 pub mod EscapeLaws
 pub mod StreamLaws
+pub mod PacketLaws

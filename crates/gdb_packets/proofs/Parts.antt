@@ -1,15 +1,15 @@
 -- A text cut at its marks, one part after the other.
-use Rattle.std.proofs.Common.{◌≡◌, ◌+◌, ◌-◌, ◌<◌, ◌≤◌, ℕ, zero, suc, List, [], ◌∷◌, ◌++◌, Option, Some, None, Bor}
+use Rattle.std.proofs.Common.{◌≡◌, ◌+◌, ◌<◌, ◌≤◌, ℕ, zero, suc, List, [], ◌∷◌, ◌++◌, Option, Some, None, Bor}
 use Rattle.std.proofs.Common.{length, take, drop, arith, refl, sym, ap, ◌∙◌, Bool, true, false, cond, ltb, filter}
-use Rattle.std.proofs.Common.{eqb, not, append_assoc, length-drop, add-one}
+use Rattle.std.proofs.Common.{eqb, not, length-drop}
 use Rattle.std.proofs.lemmas.Bool.{ltb-true, ltb-false}
-use Rattle.std.specs.Prelude.{option_map, is_some}
+use Rattle.std.specs.Prelude.{option_map}
 use Rattle.std.specs.Option.{option_map_or}
 use Rattle.std.specs.List.{position_or_len, onto_first}
 use Rattle.std.proofs.lemmas.List.Splits.{slice_split_first}
 use Rattle.gdb_packets.specs.Around.{between_marks, around, is_mark, sides}
 use Rattle.gdb_packets.specs.Commands.{words_between, is_some_text}
-use Rattle.gdb_packets.specs.Resumptions.{resumptions_in, resumption_from}
+use Rattle.gdb_packets.specs.Resumptions.{resumptions_in}
 use Rattle.gdb_packets.specs.declared.resumptions.Resumption.{Resumption}
 
 -- ---- one cut

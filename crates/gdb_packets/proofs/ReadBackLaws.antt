@@ -1,10 +1,9 @@
 -- What is written is read back.
-use Rattle.std.proofs.Common.{◌≡◌, ◌+◌, ◌-◌, ◌*◌, ◌/◌, ◌%◌, ◌^◌, ◌<◌, ◌≤◌, ℕ, suc, zero, List, [], ◌∷◌, ◌++◌}
+use Rattle.std.proofs.Common.{◌≡◌, ◌+◌, ◌*◌, ◌/◌, ◌%◌, ◌^◌, ◌<◌, ◌≤◌, ℕ, suc, zero, List, [], ◌∷◌, ◌++◌}
 use Rattle.std.proofs.Common.{Option, Some, None, Bool, true, false, cond, ltb, eqb, arith, refl, ap, sym}
-use Rattle.std.proofs.Common.{◌∙◌, append_assoc, length, length-append, subst, option_map, take, drop, bytes_eq}
+use Rattle.std.proofs.Common.{◌∙◌, append_assoc, length, length-append, option_map, drop, bytes_eq}
 use Rattle.std.proofs.Math.Nat.{pow-suc}
-use Rattle.std.proofs.lemmas.Bool.{ltb-true, ltb-false, lt-ltb, le-ltb, le-leb, eqb-true, eq-eqb}
-use Rattle.std.proofs.lemmas.Bool.Decides.{nat_tests}
+use Rattle.std.proofs.lemmas.Bool.{ltb-true, lt-ltb, le-ltb, le-leb, eqb-true, eq-eqb}
 use Rattle.std.proofs.lemmas.List.{take_at, drop_at}
 use Rattle.std.specs.List.{AllByRecursion, position_or_len}
 use Rattle.gdb_packets.specs.Hexadecimal.{◌>>=◌, nibble_of, nibble_text, nibbles, nibbles_behind}
@@ -70,8 +69,10 @@ digits_again (suc more) n h = go (ltb n 16) refl (digits_again more (n / 16) bel
   where
     whole : n / 16 * 16 + n % 16 ≡ n
     whole = omega arith
+
     below : n / 16 < 16 ^ suc more
     below = quotient_below n (16 ^ suc more) (rw pow-suc at h)
+
     go : (b : Bool) → ltb n 16 ≡ b
         → nibbles_behind 0 (nibbles more (n / 16)) ≡ Some (n / 16)
         → nibbles_behind 0
@@ -196,8 +197,11 @@ pub which_again : (w : Which) → IsWhich w → which_from (which_text w) ≡ So
 which_again All h = refl
 which_again Any h = refl
 which_again (Only n) h =
-    rw (not_all (number_digits n) (number_some n) (number_apart 45 n refl), number_again n h.1,
-    not_zero n h.0) refl
+    rw (
+      not_all (number_digits n) (number_some n) (number_apart 45 n refl),
+      number_again n h.1,
+      not_zero n h.0,
+    ) refl
 
 pub which_apart : (mark : ℕ) (w : Which) → nibble_of mark ≡ None → is_mark mark 45 ≡ false
     → IsApart mark (which_text w)
@@ -239,8 +243,10 @@ id_again (Both process thread) h =
     (around_again 46 (which_text process) (which_text thread) (which_apart 46 process refl refl))
     ∙ rw (which_again process h.0, which_again thread h.1) refl
 id_again (ProcessAlone process) h =
-    rw (around_apart 46 (which_text process) (which_apart 46 process refl refl),
-    which_again process h) refl
+    rw (
+      around_apart 46 (which_text process) (which_apart 46 process refl refl),
+      which_again process h,
+    ) refl
 id_again (ThreadAlone thread) h =
     thread_alone (which_text thread) (which_some thread) (which_apart 112 thread refl refl)
     ∙ ap (λ w. option_map ThreadAlone w) (which_again thread h)

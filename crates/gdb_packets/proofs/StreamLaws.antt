@@ -1,8 +1,8 @@
 -- Whole streams of bytes.
-use Rattle.std.proofs.Common.{◌≡◌, ◌+◌, ◌*◌, ◌/◌, ◌%◌, ◌<◌, ◌≤◌, ℕ, zero, suc, List, [], ◌∷◌, ◌++◌, length, Bool, true}
-use Rattle.std.proofs.Common.{false, cond, arith, refl, ap, sym, ◌∙◌, append_assoc, append-nil, sum, eqb, zero-add}
+use Rattle.std.proofs.Common.{◌≡◌, ◌+◌, ◌*◌, ◌/◌, ◌%◌, ◌<◌, ◌≤◌, ℕ, List, [], ◌∷◌, ◌++◌, length, Bool, true}
+use Rattle.std.proofs.Common.{false, cond, arith, refl, ap, sym, ◌∙◌, append_assoc, append-nil, sum, zero-add}
 use Rattle.std.proofs.Common.{length-append}
-use Rattle.std.proofs.Common.{Option, Some, None}
+use Rattle.std.proofs.Common.{Some}
 use Rattle.std.proofs.lemmas.Bool.{le-leb, leb-true, leb-false, eq-eqb}
 use Rattle.std.proofs.lemmas.List.Sums.{sum_by-cons}
 use Rattle.std.proofs.Math.Dec.{leb}
@@ -14,7 +14,6 @@ use Rattle.gdb_packets.specs.ReadBack.{AreWithin}
 use Rattle.gdb_packets.specs.Streams.{PacketsAreTold, LongPacketsAreTold, FramesAreReadBack}
 use Rattle.gdb_packets.specs.Streams.{BytesBetweenAreNone, UnendedPacketsAreNone, PiecesAreOne}
 use Rattle.gdb_packets.specs.declared.framing.Place.TheVariants.{Inside}
-use Rattle.gdb_packets.specs.declared.framing.Event.{Event}
 use Rattle.gdb_packets.specs.declared.framing.Event.TheVariants.{Packet, TooLong}
 use Rattle.gdb_packets.proofs.ReadBackLaws.{nibble_again}
 
@@ -89,9 +88,12 @@ unended_packets body before running h =
 
 whole : (body rest before : List ℕ) (running first second : ℕ) → AreWithin body
     → events_from (outside_with before running) (packet_then body first second rest)
-    ≡ (cond (leb (length (kept_bytes [] body)) packet_limit)
-    (Packet (is_checked (checksum body) (first ∷ second ∷ [])))
-    (TooLong (is_checked (checksum body) (first ∷ second ∷ []))), kept_bytes [] body)
+    ≡ (
+      cond (leb (length (kept_bytes [] body)) packet_limit)
+          (Packet (is_checked (checksum body) (first ∷ second ∷ [])))
+          (TooLong (is_checked (checksum body) (first ∷ second ∷ []))),
+      kept_bytes [] body,
+    )
     ∷ events_from (outside_with (kept_bytes [] body) (checksum body)) rest
 whole body rest before running first second h =
     within_all body (35 ∷ first ∷ second ∷ rest) [] 0 h ∙ rw (running_sum body) refl

@@ -1,5 +1,5 @@
 -- What a person asks by gdb's command `monitor`. This project's own rule.
-use Rattle.std.specs.Prelude.{ℕ, zero, suc, ◌+◌, ◌-◌, ◌*◌, ◌==◌, Bool, true, false, List, [], ◌∷◌}
+use Rattle.std.specs.Prelude.{ℕ, ◌+◌, ◌-◌, ◌*◌, Bool, true, false, List, [], ◌∷◌}
 use Rattle.std.specs.Prelude.{length, drop, filter, find, Option, Some, None, codes, bytes_eq}
 use Rattle.std.specs.Prelude.{nat_eq, option_map, if◌then◌else◌, unwrap_or}
 use Rattle.std.specs.Int.{is_in_range}

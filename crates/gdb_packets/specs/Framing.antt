@@ -1,7 +1,7 @@
 -- Packets on the wire. GDB remote protocol, gdb's manual, appendix E, sections "Overview" and
 -- "Packet Acknowledgment".
 use Rattle.std.specs.Prelude.{ℕ, ◌+◌, ◌%◌, ◌==◌, Bool, false, List, [], ◌∷◌, ◌++◌, length, sum}
-use Rattle.std.specs.Prelude.{nat_le, Option, Some, None, codes, if◌then◌else◌}
+use Rattle.std.specs.Prelude.{nat_le, Option, Some, None, if◌then◌else◌}
 use Rattle.std.specs.Option.{option_map_or}
 use Rattle.gdb_packets.specs.Hexadecimal.{nibbles_behind, byte_digits}
 use Rattle.gdb_packets.specs.declared.framing.Place.{Place}
@@ -62,10 +62,13 @@ outside_step f byte =
 abbrev pub inside_step : Framing → ℕ → Framing × Option Event
 inside_step f byte =
     if byte == 35 then (record f { place = BeforeSum }, None)
-    else (record f {
-      body = with_body_byte f.body byte;
-      running = (f.running + byte) % 256;
-    }, None)
+    else (
+      record f {
+        body = with_body_byte f.body byte;
+        running = (f.running + byte) % 256;
+      },
+      None,
+    )
 
 -- one byte more
 abbrev pub framing_step_at : Place → Framing → ℕ → Framing × Option Event

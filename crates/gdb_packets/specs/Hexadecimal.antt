@@ -1,6 +1,6 @@
 -- Numbers and bytes in hexadecimal digits. GDB remote protocol, gdb's manual, appendix E, section
 -- "Overview". That a number has one to eight digits is this project's own rule.
-use Rattle.std.specs.Prelude.{ℕ, zero, suc, ◌+◌, ◌-◌, ◌*◌, ◌/◌, ◌%◌, ◌<◌, ◌^◌, List, [], ◌∷◌, ◌++◌}
+use Rattle.std.specs.Prelude.{ℕ, zero, suc, ◌+◌, ◌-◌, ◌*◌, ◌/◌, ◌%◌, List, [], ◌∷◌, ◌++◌}
 use Rattle.std.specs.Prelude.{length, flat_map, nat_lt, if◌then◌else◌, Option, Some, None}
 use Rattle.std.specs.Prelude.{option_and_then}
 use Rattle.std.specs.Int.{is_in_range, to_le_bytes, w32}

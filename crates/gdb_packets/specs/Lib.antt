@@ -10,3 +10,5 @@ pub mod Packets
 pub mod Escapes
 pub mod ReadBack
 pub mod Streams
+pub mod Texts
+pub mod Duties

@@ -1,6 +1,7 @@
 -- How packets begin. GDB remote protocol, gdb's manual, appendix E, sections "Packets", "General
--- Query Packets" and "Host I/O Packets". No opening begins another.
-use Rattle.std.specs.Prelude.{ℕ, Bool, List, [], ◌∷◌, length, drop, Option, find, codes, nat_eq}
+-- Query Packets" and "Host I/O Packets". No opening begins another, as far as names go.
+use Rattle.std.specs.Prelude.{ℕ, ◌==◌, Bool, true, false, not, ◌&&◌, ◌||◌, List}
+use Rattle.std.specs.Prelude.{[], ◌∷◌, length, drop, Option, find, codes, nat_eq}
 use Rattle.std.specs.List.{starts_with}
 use Rattle.gdb_packets.specs.declared.openings.Plain.{Plain}
 use Rattle.gdb_packets.specs.declared.openings.Plain.TheVariants.{NoAcknowledgement, StopReason}
@@ -81,20 +82,42 @@ openings =
 
 -- ---- which a packet begins as
 
+-- A name of `q`, `Q` or `v` is known by all its letters, up to a separator.
+abbrev pub ends_name : List ℕ → Bool
+ends_name [] = true
+ends_name (c ∷ cs) = c == 58 || (c == 44 || (c == 59 || c == 63))
+
 -- whether a packet begins so
-abbrev pub begins_as : List ℕ → List ℕ → Bool
-begins_as text opening = starts_with nat_eq text opening
+abbrev pub begins_as : List ℕ → List ℕ → (is_name : Bool) → Bool
+begins_as text opening is_name =
+    starts_with nat_eq text opening && (not is_name || ends_name (drop (length opening) text))
+
+-- which are such names
+abbrev pub plain_is_name : Plain → Bool
+plain_is_name NoAcknowledgement = true
+plain_is_name CurrentThread = true
+plain_is_name FirstThreads = true
+plain_is_name NextThreads = true
+plain_is_name _ = false
+
+abbrev pub opening_is_name : Opening → Bool
+opening_is_name Supported = true
+opening_is_name Attached = true
+opening_is_name Resume = true
+opening_is_name _ = false
 
 -- the first name of a table that it begins with
 abbrev pub plain_in : List Plain → List ℕ → Option Plain
-plain_in table text = find (λ plain. begins_as text (plain_text plain)) table
+plain_in table text =
+    find (λ plain. begins_as text (plain_text plain) (plain_is_name plain)) table
 
 abbrev pub plain_opening : List ℕ → Option Plain
 plain_opening text = plain_in plains text
 
 -- the first opening of a table that it begins with
 abbrev pub opening_in : List Opening → List ℕ → Option Opening
-opening_in table text = find (λ opening. begins_as text (opening_text opening)) table
+opening_in table text =
+    find (λ opening. begins_as text (opening_text opening) (opening_is_name opening)) table
 
 abbrev pub opening_among : List ℕ → Option Opening
 opening_among text = opening_in openings text

@@ -2,7 +2,7 @@
 -- Query Packets", "Stop Reply Packets" and "Host I/O Packets"; which are known, and that another
 -- point and a packet that isn't known are alike, is this project's own rule.
 use Rattle.std.specs.Prelude.{ℕ, ◌==◌, Bool, true, false, List, [], ◌∷◌, length, drop, Option, Some}
-use Rattle.std.specs.Prelude.{None, codes, bytes_eq, option_map, is_some, if◌then◌else◌, unwrap_or}
+use Rattle.std.specs.Prelude.{None, codes, bytes_eq, option_map, if◌then◌else◌, unwrap_or}
 use Rattle.std.specs.List.{list_any}
 use Rattle.gdb_packets.specs.Hexadecimal.{◌>>=◌, number_from, bytes_from}
 use Rattle.gdb_packets.specs.Around.{around, between_marks}
@@ -76,25 +76,37 @@ point_kind n =
     else if n == 4 then Some AccessWatchpoint
     else None
 
--- the number of a kind, and where it is, of what stands before the first comma and behind it
-abbrev pub numbered_point_in : List ℕ × List ℕ → Option (ℕ × Stretch)
-numbered_point_in parts = do
-  n ← number_from parts.0
-  where_at ← stretch_from parts.1
-  Some (n, where_at)
+-- is set or is gone
+abbrev pub point_packet : Bool → Point → Packet
+point_packet true point = Insert point
+point_packet false point = Remove point
 
--- `K,A,N`
-abbrev pub numbered_point_from : List ℕ → Option (ℕ × Stretch)
-numbered_point_from text = around 44 text >>= numbered_point_in
+-- `K`, by its text
+abbrev pub point_kind_from : List ℕ → Option PointKind
+point_kind_from text = number_from text >>= point_kind
 
--- the packet at a point; another number's is unknown
-abbrev pub point_packet : (Point → Packet) → Option PointKind → Stretch → Packet
-point_packet packet (Some which) where_at = packet (record { kind = which; at = where_at })
-point_packet packet None where_at = Unknown
+-- a point of this kind, `A,N`
+abbrev pub point_at : PointKind → Stretch → Point
+point_at which where_at = record { kind = which; at = where_at }
 
+-- of the kind and what stands behind the comma
+abbrev pub point_of : (Point → Packet) → Option PointKind → List ℕ → Option Packet
+point_of packet (Some which) text =
+    option_map (λ where_at. packet (point_at which where_at)) (stretch_from text)
+point_of packet None text = Some Unknown
+
+-- where no comma stands, there is no `A,N`
+abbrev pub point_alone : Option PointKind → Option Packet
+point_alone (Some which) = None
+point_alone None = Some Unknown
+
+abbrev pub point_in : (Point → Packet) → Option (List ℕ × List ℕ) → List ℕ → Option Packet
+point_in packet (Some parts) text = point_of packet (point_kind_from parts.0) parts.1
+point_in packet None text = point_alone (point_kind_from text)
+
+-- `K,A,N`; what has another K is unknown
 abbrev pub point_from : (Point → Packet) → List ℕ → Option Packet
-point_from packet text =
-    option_map (λ x. point_packet packet (point_kind x.0) x.1) (numbered_point_from text)
+point_from packet text = point_in packet (around 44 text) text
 
 -- ---- files
 
@@ -152,8 +164,8 @@ packet_behind opening.Memory text = option_map Memory (stretch_from text)
 packet_behind opening.WriteRegisters text = Some Write
 packet_behind opening.WriteRegister text = Some Write
 packet_behind opening.WriteMemory text = Some Write
-packet_behind opening.Insert text = point_from Insert text
-packet_behind opening.Remove text = point_from Remove text
+packet_behind opening.Insert text = point_from (point_packet true) text
+packet_behind opening.Remove text = point_from (point_packet false) text
 packet_behind opening.Resume text = resume_from text
 packet_behind opening.Detach text = option_map Detach (number_behind 59 text)
 packet_behind opening.KillProcess text = option_map KillProcess (number_from text)

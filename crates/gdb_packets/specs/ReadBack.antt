@@ -1,8 +1,8 @@
 -- What is written is read back.
-use Rattle.std.specs.Prelude.{◌≡◌, ◌<◌, ◌^◌, ℕ, List, Option, Some, Bool, false, ◌==◌}
+use Rattle.std.specs.Prelude.{◌≡◌, ◌<◌, ◌^◌, ℕ, List, Option, Some, false, ◌==◌}
 use Rattle.std.specs.List.{AllByRecursion}
 use Rattle.gdb_packets.specs.declared.ids.Which.{Which}
-use Rattle.gdb_packets.specs.declared.ids.Which.TheVariants.{All, Any, Only}
+use Rattle.gdb_packets.specs.declared.ids.Which.TheVariants.{Only}
 use Rattle.gdb_packets.specs.declared.ids.ThreadId.{ThreadId}
 use Rattle.gdb_packets.specs.declared.ids.ThreadId.TheVariants.{Both, ProcessAlone, ThreadAlone}
 

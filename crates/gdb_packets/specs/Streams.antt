@@ -1,12 +1,10 @@
 -- Laws of the framing, in whole streams of bytes.
-use Rattle.std.specs.Prelude.{ℕ, ◌≡◌, ◌≤◌, ◌<◌, ◌==◌, List, [], ◌∷◌, ◌++◌, length, Bool, true, false}
+use Rattle.std.specs.Prelude.{ℕ, ◌≡◌, ◌≤◌, ◌<◌, ◌==◌, List, [], ◌∷◌, ◌++◌, length, true, false}
 use Rattle.std.specs.List.{AllByRecursion}
-use Rattle.gdb_packets.specs.Hexadecimal.{byte_digits}
 use Rattle.gdb_packets.specs.Framing.{Framing, packet_limit, checksum, frame, is_checked}
 use Rattle.gdb_packets.specs.Framing.{framing_behind, events_from, outside_with, kept_bytes}
 use Rattle.gdb_packets.specs.Framing.{packet_then}
 use Rattle.gdb_packets.specs.ReadBack.{AreWithin}
-use Rattle.gdb_packets.specs.declared.framing.Event.{Event}
 use Rattle.gdb_packets.specs.declared.framing.Event.TheVariants.{Packet, TooLong}
 
 -- A packet within the limit is told with its bytes, and whether the two digits are its sum.

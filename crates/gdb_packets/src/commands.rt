@@ -135,13 +135,7 @@ fn word_in(table: &[Word], text: &[u8]) -> Option<Word>
 }
 
 /// The first word that isn't empty, and what stands behind it.
-#[tactic(auto, using(
-    crate::proofs::Parts::word_here,
-    crate::proofs::Parts::word_passed,
-    crate::proofs::Parts::word_shorter,
-    crate::proofs::Parts::last_word,
-    crate::proofs::Parts::no_word
-))]
+#[tactic(auto, using(crate::proofs::Parts::word_here, crate::proofs::Parts::word_passed, crate::proofs::Parts::word_shorter, crate::proofs::Parts::last_word, crate::proofs::Parts::no_word))]
 fn next_word(text: &[u8]) -> Option<(&[u8], &[u8])>
     ensures { MatchOption result (words_between text.now ≡ [])
         (λ x. words_between text.now ≡ x.0.now ∷ words_between x.1.now) }

@@ -113,7 +113,8 @@ impl Framer {
     /// Keeps a byte of the packet, up to one over the limit.
     fn keep(&mut self, byte: u8)
         ensures { framing_of self.new ≡ record (framing_of self.old) {
-            body = with_body_byte (framing_of self.old).body byte } }
+          body = with_body_byte (framing_of self.old).body byte;
+        } }
     {
         if self.body.len() <= PACKET_LIMIT {
             self.body.push(byte);

@@ -1,4 +1,8 @@
 //! Laws of the packets. The functions do nothing; their contracts are the laws.
+ghost use Rattle.std.specs.Prelude.{◌≡◌};
+ghost use Rattle.gdb_packets.specs.declared.packets.Packet.{Packet as Asked};
+ghost use Rattle.gdb_packets.specs.Packets.{packet_from};
+ghost use Rattle.gdb_packets.specs.Texts.{packet_text, IsSpelled};
 ghost use Rattle.gdb_packets.specs.ReadBack.{AreReadBack, IsNumber, AreBytes, IsThreadId};
 ghost use Rattle.gdb_packets.specs.Hexadecimal.{number_digits, number_from, bytes_digits};
 ghost use Rattle.gdb_packets.specs.Hexadecimal.{bytes_from};
@@ -56,4 +60,9 @@ pub fn unended_packets_are_none()
 /// It doesn't matter into which pieces the bytes are cut.
 pub fn pieces_are_one()
     ensures { PiecesAreOne }
+{}
+
+/// Packets, by what they ask.
+pub fn packets_are_read_back()
+    ensures { (packet : Asked) → IsSpelled packet → packet_from (packet_text packet) ≡ packet }
 {}

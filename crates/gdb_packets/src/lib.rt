@@ -3,6 +3,7 @@
 
 mod around;
 pub mod commands;
+pub mod duties;
 pub mod escapes;
 pub mod framing;
 pub mod hexadecimal;

@@ -1,6 +1,7 @@
 //! How packets begin.
 ghost use Rattle.std.specs.Prelude.{◌≡◌, ◌≤◌, length, IfSome, IsTrue};
-ghost use Rattle.gdb_packets.specs.Openings.{plain_text, opening_text, begins_as};
+ghost use Rattle.gdb_packets.specs.Openings.{plain_text, opening_text, begins_as, ends_name};
+ghost use Rattle.gdb_packets.specs.Openings.{plain_is_name, opening_is_name};
 ghost use Rattle.gdb_packets.specs.Openings.{plain_in, plain_opening, opening_in, opening_among};
 
 /// The packets that are their name alone.
@@ -140,11 +141,46 @@ pub(crate) fn opening_text(opening: Opening) -> &'static str
     }
 }
 
-fn begins_as(text: &[u8], opening: &str) -> bool
-    ensures value { result ≡ begins_as text.now opening.now }
+/// Whether a name ends here.
+fn ends_name(rest: &[u8]) -> bool
+    ensures { result ≡ ends_name rest.now }
+{
+    match rest {
+        [] => true,
+        [c, ..] => matches!(*c, b':' | b',' | b';' | b'?'),
+    }
+}
+
+fn begins_as(text: &[u8], opening: &str, is_name: bool) -> bool
+    ensures value { result ≡ begins_as text.now opening.now is_name }
     ensures bound { IsTrue result → length opening.now ≤ length text.now }
 {
-    text.starts_with(opening.as_bytes())
+    if !text.starts_with(opening.as_bytes()) {
+        return false;
+    }
+    if !is_name {
+        return true;
+    }
+    let (_, rest) = text.split_at(opening.len());
+    ends_name(rest)
+}
+
+fn plain_is_name(plain: Plain) -> bool
+    ensures { result ≡ plain_is_name plain }
+{
+    matches!(
+        plain,
+        Plain::NoAcknowledgement | Plain::CurrentThread | Plain::FirstThreads | Plain::NextThreads
+    )
+}
+
+fn opening_is_name(opening: Opening) -> bool
+    ensures { result ≡ opening_is_name opening }
+{
+    matches!(
+        opening,
+        Opening::Supported | Opening::Attached | Opening::Resume
+    )
 }
 
 /// The first of the table that a packet begins with.
@@ -153,7 +189,7 @@ fn plain_in(table: &[Plain], text: &[u8]) -> Option<Plain>
     ensures bound { IfSome result (λ plain. length (plain_text plain) ≤ length text.now) }
 {
     for plain in table {
-        if begins_as(text, plain_text(*plain)) {
+        if begins_as(text, plain_text(*plain), plain_is_name(*plain)) {
             return Some(*plain);
         }
     }
@@ -174,7 +210,7 @@ fn opening_in(table: &[Opening], text: &[u8]) -> Option<Opening>
     ensures bound { IfSome result (λ opening. length (opening_text opening) ≤ length text.now) }
 {
     for opening in table {
-        if begins_as(text, opening_text(*opening)) {
+        if begins_as(text, opening_text(*opening), opening_is_name(*opening)) {
             return Some(*opening);
         }
     }

@@ -2,12 +2,12 @@
 ghost use Rattle.std.specs.Prelude.{◌≡◌, ◌≤◌, length, Some, None, option_map};
 ghost use Rattle.gdb_packets.specs.Around.{between_marks};
 ghost use Rattle.gdb_packets.specs.Packets.{stretch_from, number_behind, number_or_none, has_forks};
-ghost use Rattle.gdb_packets.specs.Packets.{point_kind, point_from, point_packet, exec_file_from};
-ghost use Rattle.gdb_packets.specs.Packets.{open_file_from, read_file_from, resume_from};
+ghost use Rattle.gdb_packets.specs.Packets.{point_kind, point_kind_from, point_of, point_from};
+ghost use Rattle.gdb_packets.specs.Packets.{point_packet, exec_file_from, open_file_from};
+ghost use Rattle.gdb_packets.specs.Packets.{read_file_from, resume_from};
 ghost use Rattle.gdb_packets.specs.Packets.{monitor_from, packet_behind, packet_opened};
-ghost use Rattle.gdb_packets.specs.Packets.{packet_alone, packet_from, has_item, numbered_point_from};
+ghost use Rattle.gdb_packets.specs.Packets.{packet_alone, packet_from, has_item};
 ghost use Rattle.gdb_packets.specs.Openings.{opening_among};
-ghost use Rattle.gdb_packets.specs.declared.packets.Packet.TheVariants.{Insert, Remove};
 
 use crate::around::{around, first_part};
 use crate::commands::{Command, read_command};
@@ -163,44 +163,50 @@ fn point_kind(number: u32) -> Option<PointKind>
     }
 }
 
-/// `K,A,N`: the number of the kind, and where it is.
-fn read_point(text: &[u8]) -> Option<(u32, Stretch)>
-    ensures { result ≡ numbered_point_from text.now }
+/// `K`, by its text.
+fn read_kind(text: &[u8]) -> Option<PointKind>
+    ensures { result ≡ point_kind_from text.now }
 {
-    let Some((number, at)) = around(text, b',') else {
-        return None;
-    };
-    let Some(number) = read_number(number) else {
-        return None;
-    };
-    let Some(at) = read_stretch(at) else {
-        return None;
-    };
-    Some((number, at))
-}
-
-fn read_insert(text: &[u8]) -> Option<Packet>
-    ensures { result ≡ point_from Insert text.now }
-{
-    let Some((number, at)) = read_point(text) else {
-        return None;
-    };
-    match point_kind(number) {
-        None => Some(Packet::Unknown),
-        Some(kind) => Some(Packet::Insert(Point { kind, at })),
+    match read_number(text) {
+        None => None,
+        Some(number) => point_kind(number),
     }
 }
 
-fn read_remove(text: &[u8]) -> Option<Packet>
-    ensures { result ≡ point_from Remove text.now }
+/// The packet at a point.
+fn point_packet(is_insert: bool, point: Point) -> Packet
+    ensures { result ≡ point_packet is_insert point }
 {
-    let Some((number, at)) = read_point(text) else {
-        return None;
-    };
-    match point_kind(number) {
-        None => Some(Packet::Unknown),
-        Some(kind) => Some(Packet::Remove(Point { kind, at })),
+    if is_insert {
+        Packet::Insert(point)
+    } else {
+        Packet::Remove(point)
     }
+}
+
+fn read_point_of(is_insert: bool, kind: &[u8], at: &[u8]) -> Option<Packet>
+    ensures { result ≡ point_of (point_packet is_insert) (point_kind_from kind.now) at.now }
+{
+    let Some(kind) = read_kind(kind) else {
+        return Some(Packet::Unknown);
+    };
+    match read_stretch(at) {
+        None => None,
+        Some(at) => Some(point_packet(is_insert, Point { kind, at })),
+    }
+}
+
+/// `K,A,N`; what has another K is unknown.
+fn read_point(is_insert: bool, text: &[u8]) -> Option<Packet>
+    ensures { result ≡ point_from (point_packet is_insert) text.now }
+{
+    let Some((kind, at)) = around(text, b',') else {
+        return match read_kind(text) {
+            None => Some(Packet::Unknown),
+            Some(_) => None,
+        };
+    };
+    read_point_of(is_insert, kind, at)
 }
 
 /// `P:O,N`.
@@ -296,8 +302,8 @@ fn packet_behind(opening: Opening, text: &[u8]) -> Option<Packet>
         Opening::WriteRegisters => Some(Packet::Write),
         Opening::WriteRegister => Some(Packet::Write),
         Opening::WriteMemory => Some(Packet::Write),
-        Opening::Insert => read_insert(text),
-        Opening::Remove => read_remove(text),
+        Opening::Insert => read_point(true, text),
+        Opening::Remove => read_point(false, text),
         Opening::Resume => read_resume(text),
         Opening::Detach => number_behind(b';', text).map(Packet::Detach),
         Opening::KillProcess => read_number(text).map(Packet::KillProcess),
