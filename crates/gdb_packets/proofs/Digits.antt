@@ -1,6 +1,8 @@
 -- Digits, one after another.
-use Rattle.std.proofs.Common.{◌≡◌, ◌+◌, ◌-◌, ◌*◌, ◌/◌, ◌%◌, ◌^◌, ◌<◌, ◌≤◌, ℕ, suc, List, [], ◌∷◌, ◌++◌}
-use Rattle.std.proofs.Common.{Option, Some, None, Bool, true, false, cond, ltb, arith, refl, ap, sym, ◌∙◌}
+use Rattle.std.proofs.Common.{◌≡◌, ◌+◌, ◌-◌, ◌*◌, ◌/◌, ◌%◌, ◌^◌, ◌<◌, ◌≤◌, ℕ, suc, List, [], ◌∷◌}
+use Rattle.std.proofs.Common.{◌++◌}
+use Rattle.std.proofs.Common.{Option, Some, None, Bool, true, false, cond, ltb, arith, refl, ap}
+use Rattle.std.proofs.Common.{sym, ◌∙◌}
 use Rattle.std.proofs.Common.{append_assoc, get_or, drop, length}
 use Rattle.std.proofs.Math.Nat.{pow-le-pow_right}
 use Rattle.std.specs.Prelude.{option_map}
@@ -65,6 +67,9 @@ pub no_low : (front text : List ℕ) (high : ℕ) → 2 ≤ length text
 no_low front [] high two e f = absurd (omega (arith, two))
 no_low front (h ∷ []) high two e f = absurd (omega (arith, two))
 no_low front (h ∷ l ∷ rest) high two e f = rw (← e, ← f) refl
+
+-- what a pair of digits is
+pub ruleset pairs = (pair_ahead, no_high, no_low)
 
 pub tens_fit : (v i : ℕ) → v < 10 ^ i → i < 19 → v < 1000000000000000000
 tens_fit v i h lt = omega

@@ -4,3 +4,4 @@ pub mod ReadBackLaws
 pub mod EscapeLaws
 pub mod StreamLaws
 pub mod PacketLaws
+pub mod ResumptionLaws

@@ -105,7 +105,8 @@ read_again : (file : ℕ) (s : Stretch) → IsNumber file → IsStretch s
 read_again file s h k =
     let turned : Stretch = record { from = s.length; length = s.from } in
     ap (λ v. v >>= read_file_in)
-    (around_again 44 (number_digits file) (numbers_text s.length s.from) (number_apart 44 file refl))
+    (around_again 44 (number_digits file) (numbers_text s.length s.from)
+    (number_apart 44 file refl))
     ∙ rw (number_again file h, stretch_again turned (k.1, k.0)) refl
 
 -- ---- packets

@@ -1,6 +1,8 @@
 -- A text cut at its marks, one part after the other.
-use Rattle.std.proofs.Common.{◌≡◌, ◌+◌, ◌<◌, ◌≤◌, ℕ, zero, suc, List, [], ◌∷◌, ◌++◌, Option, Some, None, Bor}
-use Rattle.std.proofs.Common.{length, take, drop, arith, refl, sym, ap, ◌∙◌, Bool, true, false, cond, ltb, filter}
+use Rattle.std.proofs.Common.{◌≡◌, ◌+◌, ◌<◌, ◌≤◌, ℕ, zero, suc, List, [], ◌∷◌, ◌++◌, Option, Some}
+use Rattle.std.proofs.Common.{None, Bor}
+use Rattle.std.proofs.Common.{length, take, drop, arith, refl, sym, ap, ◌∙◌, Bool, true, false}
+use Rattle.std.proofs.Common.{cond, ltb, filter}
 use Rattle.std.proofs.Common.{eqb, not, length-drop}
 use Rattle.std.proofs.lemmas.Bool.{ltb-true, ltb-false}
 use Rattle.std.specs.Prelude.{option_map}
@@ -122,6 +124,9 @@ last_word text end e some none =
 
 pub no_word : (text : List ℕ) → length text ≡ 0 → words_between text ≡ []
 no_word text none = ap words_between (no_text text none)
+
+-- what the next word is
+pub ruleset words = (word_here, word_passed, word_shorter, last_word, no_word)
 
 -- ---- the parts of a loop
 

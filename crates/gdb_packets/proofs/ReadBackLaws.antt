@@ -1,6 +1,8 @@
 -- What is written is read back.
-use Rattle.std.proofs.Common.{◌≡◌, ◌+◌, ◌*◌, ◌/◌, ◌%◌, ◌^◌, ◌<◌, ◌≤◌, ℕ, suc, zero, List, [], ◌∷◌, ◌++◌}
-use Rattle.std.proofs.Common.{Option, Some, None, Bool, true, false, cond, ltb, eqb, arith, refl, ap, sym}
+use Rattle.std.proofs.Common.{◌≡◌, ◌+◌, ◌*◌, ◌/◌, ◌%◌, ◌^◌, ◌<◌, ◌≤◌, ℕ, suc, zero, List, [], ◌∷◌}
+use Rattle.std.proofs.Common.{◌++◌}
+use Rattle.std.proofs.Common.{Option, Some, None, Bool, true, false, cond, ltb, eqb, arith, refl}
+use Rattle.std.proofs.Common.{ap, sym}
 use Rattle.std.proofs.Common.{◌∙◌, append_assoc, length, length-append, option_map, drop, bytes_eq}
 use Rattle.std.proofs.Math.Nat.{pow-suc}
 use Rattle.std.proofs.lemmas.Bool.{ltb-true, lt-ltb, le-ltb, le-leb, eqb-true, eq-eqb}
@@ -19,6 +21,20 @@ use Rattle.gdb_packets.specs.ReadBack.{AreReadBack, IsNumber, AreBytes, IsWhich,
 
 -- ---- digits
 
+-- a digit from 8 on
+upper_again : (d : ℕ) → d < 8
+    → nibble_of (nibble_text (suc (suc (suc (suc (suc (suc (suc (suc d)))))))))
+    ≡ Some (suc (suc (suc (suc (suc (suc (suc (suc d))))))))
+upper_again zero h = refl
+upper_again (suc zero) h = refl
+upper_again (suc (suc zero)) h = refl
+upper_again (suc (suc (suc zero))) h = refl
+upper_again (suc (suc (suc (suc zero)))) h = refl
+upper_again (suc (suc (suc (suc (suc zero))))) h = refl
+upper_again (suc (suc (suc (suc (suc (suc zero)))))) h = refl
+upper_again (suc (suc (suc (suc (suc (suc (suc zero))))))) h = refl
+upper_again (suc (suc (suc (suc (suc (suc (suc (suc d)))))))) h = absurd (omega (arith, h))
+
 pub nibble_again : (d : ℕ) → d < 16 → nibble_of (nibble_text d) ≡ Some d
 nibble_again zero h = refl
 nibble_again (suc zero) h = refl
@@ -28,15 +44,8 @@ nibble_again (suc (suc (suc (suc zero)))) h = refl
 nibble_again (suc (suc (suc (suc (suc zero))))) h = refl
 nibble_again (suc (suc (suc (suc (suc (suc zero)))))) h = refl
 nibble_again (suc (suc (suc (suc (suc (suc (suc zero))))))) h = refl
-nibble_again (suc (suc (suc (suc (suc (suc (suc (suc zero)))))))) h = refl
-nibble_again (suc (suc (suc (suc (suc (suc (suc (suc (suc zero))))))))) h = refl
-nibble_again (suc (suc (suc (suc (suc (suc (suc (suc (suc (suc zero)))))))))) h = refl
-nibble_again (suc (suc (suc (suc (suc (suc (suc (suc (suc (suc (suc zero))))))))))) h = refl
-nibble_again (suc (suc (suc (suc (suc (suc (suc (suc (suc (suc (suc (suc zero)))))))))))) h = refl
-nibble_again (suc (suc (suc (suc (suc (suc (suc (suc (suc (suc (suc (suc (suc zero))))))))))))) h = refl
-nibble_again (suc (suc (suc (suc (suc (suc (suc (suc (suc (suc (suc (suc (suc (suc zero)))))))))))))) h = refl
-nibble_again (suc (suc (suc (suc (suc (suc (suc (suc (suc (suc (suc (suc (suc (suc (suc zero))))))))))))))) h = refl
-nibble_again (suc (suc (suc (suc (suc (suc (suc (suc (suc (suc (suc (suc (suc (suc (suc (suc d)))))))))))))))) h = absurd (omega (arith, h))
+nibble_again (suc (suc (suc (suc (suc (suc (suc (suc d)))))))) h =
+    upper_again d (omega (arith, h))
 
 -- one list of digits behind another
 behind_both : (n : ℕ) (xs ys : List ℕ)
@@ -123,7 +132,8 @@ pub apart_both : (mark : ℕ) (xs ys : List ℕ) → IsApart mark xs → IsApart
 apart_both mark [] ys h k = k
 apart_both mark (x ∷ xs) ys h k = (h.0, apart_both mark xs ys h.1 k)
 
-digit_apart : (mark d : ℕ) → nibble_of mark ≡ None → d < 16 → is_mark mark (nibble_text d) ≡ false
+pub digit_apart : (mark d : ℕ) → nibble_of mark ≡ None → d < 16
+    → is_mark mark (nibble_text d) ≡ false
 digit_apart mark d none h = go (eqb (nibble_text d) mark) refl
   where
     go : (b : Bool) → eqb (nibble_text d) mark ≡ b → b ≡ false

@@ -1,6 +1,8 @@
 -- Whole streams of bytes.
-use Rattle.std.proofs.Common.{◌≡◌, ◌+◌, ◌*◌, ◌/◌, ◌%◌, ◌<◌, ◌≤◌, ℕ, List, [], ◌∷◌, ◌++◌, length, Bool, true}
-use Rattle.std.proofs.Common.{false, cond, arith, refl, ap, sym, ◌∙◌, append_assoc, append-nil, sum, zero-add}
+use Rattle.std.proofs.Common.{◌≡◌, ◌+◌, ◌*◌, ◌/◌, ◌%◌, ◌<◌, ◌≤◌, ℕ, List, [], ◌∷◌, ◌++◌, length}
+use Rattle.std.proofs.Common.{Bool, true}
+use Rattle.std.proofs.Common.{false, cond, arith, refl, ap, sym, ◌∙◌, append_assoc, append-nil, sum}
+use Rattle.std.proofs.Common.{zero-add}
 use Rattle.std.proofs.Common.{length-append}
 use Rattle.std.proofs.Common.{Some}
 use Rattle.std.proofs.lemmas.Bool.{le-leb, leb-true, leb-false, eq-eqb}
@@ -10,7 +12,7 @@ use Rattle.gdb_packets.specs.Hexadecimal.{nibble_of, byte_digits, nibble_text}
 use Rattle.gdb_packets.specs.Framing.{Framing, packet_limit, checksum, is_checked, told_event}
 use Rattle.gdb_packets.specs.Framing.{framing_behind, framing_step, events_from, outside_with}
 use Rattle.gdb_packets.specs.Framing.{kept_bytes, packet_then, with_body_byte}
-use Rattle.gdb_packets.specs.ReadBack.{AreWithin}
+use Rattle.gdb_packets.specs.ReadBack.{AreBodyBytes}
 use Rattle.gdb_packets.specs.Streams.{PacketsAreTold, LongPacketsAreTold, FramesAreReadBack}
 use Rattle.gdb_packets.specs.Streams.{BytesBetweenAreNone, UnendedPacketsAreNone, PiecesAreOne}
 use Rattle.gdb_packets.specs.declared.framing.Place.TheVariants.{Inside}
@@ -59,7 +61,7 @@ running_is r (b ∷ bs) h =
 running_sum : (body : List ℕ) → running_behind 0 body ≡ checksum body
 running_sum body = running_is 0 body (omega arith) ∙ ap (λ v. v % 256) (zero-add (sum body))
 
-within_all : (body rest kept : List ℕ) (r : ℕ) → AreWithin body
+within_all : (body rest kept : List ℕ) (r : ℕ) → AreBodyBytes body
     → events_from (inside_with kept r) (body ++ rest)
     ≡ events_from (inside_with (kept_bytes kept body) (running_behind r body)) rest
 within_all [] rest kept r h = refl
@@ -69,7 +71,8 @@ within_all (b ∷ bs) rest kept r h =
 kept_whole : (kept body : List ℕ) → length kept + length body ≤ packet_limit
     → kept_bytes kept body ≡ kept ++ body
 kept_whole kept [] h = sym (append-nil kept)
-kept_whole kept (b ∷ bs) h = go (leb (length kept) packet_limit) refl (kept_whole (kept ++ b ∷ []) bs)
+kept_whole kept (b ∷ bs) h =
+    go (leb (length kept) packet_limit) refl (kept_whole (kept ++ b ∷ []) bs)
   where
     go : (v : Bool) → leb (length kept) packet_limit ≡ v
         → (length (kept ++ b ∷ []) + length bs ≤ packet_limit
@@ -86,7 +89,7 @@ unended_packets body before running h =
     ap (λ v. events_from (inside_with [] 0) v) (sym (append-nil body))
     ∙ within_all body [] [] 0 h
 
-whole : (body rest before : List ℕ) (running first second : ℕ) → AreWithin body
+whole : (body rest before : List ℕ) (running first second : ℕ) → AreBodyBytes body
     → events_from (outside_with before running) (packet_then body first second rest)
     ≡ (
       cond (leb (length (kept_bytes [] body)) packet_limit)

@@ -43,7 +43,8 @@ process_from None text = option_map ProcessAlone (which_from text)
 abbrev pub id_from : List ℕ → Option ThreadId
 id_from [] = None
 id_from (c ∷ cs) =
-    if c == 112 then process_from (around 46 cs) cs else option_map ThreadAlone (which_from (c ∷ cs))
+    if c == 112 then process_from (around 46 cs) cs
+    else option_map ThreadAlone (which_from (c ∷ cs))
 
 -- as it is sent
 abbrev pub id_text : ThreadId → List ℕ

@@ -1,10 +1,15 @@
 -- What is written is read back.
 use Rattle.std.specs.Prelude.{◌≡◌, ◌<◌, ◌^◌, ℕ, List, Option, Some, false, ◌==◌}
+use Rattle.std.specs.Prelude.{length}
 use Rattle.std.specs.List.{AllByRecursion}
 use Rattle.gdb_packets.specs.declared.ids.Which.{Which}
 use Rattle.gdb_packets.specs.declared.ids.Which.TheVariants.{Only}
 use Rattle.gdb_packets.specs.declared.ids.ThreadId.{ThreadId}
 use Rattle.gdb_packets.specs.declared.ids.ThreadId.TheVariants.{Both, ProcessAlone, ThreadAlone}
+use Rattle.gdb_packets.specs.declared.resumptions.Action.{Action}
+use Rattle.gdb_packets.specs.declared.resumptions.Action.TheVariants.{ContinueSignal, StepSignal}
+use Rattle.gdb_packets.specs.declared.resumptions.Action.TheVariants.{Range}
+use Rattle.gdb_packets.specs.declared.resumptions.Resumption.{Resumption}
 
 -- of each value that fits, by its text and a reading of texts
 abbrev pub AreReadBack : {A : Type 0} → (A → Type 0) → (A → List ℕ) → (List ℕ → Option A) → Type 0
@@ -29,5 +34,19 @@ IsThreadId (ProcessAlone process) = IsWhich process
 IsThreadId (ThreadAlone thread) = IsWhich thread
 
 -- bytes without the one that ends a packet
-abbrev pub AreWithin : List ℕ → Type 0
-AreWithin body = AllByRecursion (λ b. (b == 35) ≡ false) body
+abbrev pub AreBodyBytes : List ℕ → Type 0
+AreBodyBytes body = AllByRecursion (λ b. (b == 35) ≡ false) body
+
+-- signals have two digits
+abbrev pub IsResumedAction : Action → Type 0
+IsResumedAction (ContinueSignal signal) = signal < 256
+IsResumedAction (StepSignal signal) = signal < 256
+IsResumedAction (Range low high) = IsNumber low × IsNumber high
+IsResumedAction _ = Unit {0}
+
+abbrev pub IsResumption : Resumption → Type 0
+IsResumption r = IsResumedAction r.action × IsThreadId r.threads
+
+-- one at least
+abbrev pub AreResumptions : List Resumption → Type 0
+AreResumptions rs = (0 < length rs) × AllByRecursion IsResumption rs

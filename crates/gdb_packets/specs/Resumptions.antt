@@ -48,10 +48,10 @@ action_from (c ∷ cs) =
 -- as it is sent
 abbrev pub action_text : Action → List ℕ
 action_text Continue = codes "c"
-action_text (ContinueSignal signal) = codes "C" ++ byte_digits signal
+action_text (ContinueSignal signal) = 67 ∷ byte_digits signal
 action_text Step = codes "s"
-action_text (StepSignal signal) = codes "S" ++ byte_digits signal
-action_text (Range low high) = codes "r" ++ number_digits low ++ codes "," ++ number_digits high
+action_text (StepSignal signal) = 83 ∷ byte_digits signal
+action_text (Range low high) = 114 ∷ number_digits low ++ 44 ∷ number_digits high
 
 -- ---- an action and its threads, which are all where none are named
 
@@ -74,7 +74,7 @@ resumption_from text = resumption_in (around 58 text) text
 
 -- as it is sent
 abbrev pub resumption_text : Resumption → List ℕ
-resumption_text r = action_text r.action ++ codes ":" ++ id_text r.threads
+resumption_text r = action_text r.action ++ 58 ∷ id_text r.threads
 
 -- ---- all of them
 

@@ -4,12 +4,12 @@ use Rattle.std.specs.List.{AllByRecursion}
 use Rattle.gdb_packets.specs.Framing.{Framing, packet_limit, checksum, frame, is_checked}
 use Rattle.gdb_packets.specs.Framing.{framing_behind, events_from, outside_with, kept_bytes}
 use Rattle.gdb_packets.specs.Framing.{packet_then}
-use Rattle.gdb_packets.specs.ReadBack.{AreWithin}
+use Rattle.gdb_packets.specs.ReadBack.{AreBodyBytes}
 use Rattle.gdb_packets.specs.declared.framing.Event.TheVariants.{Packet, TooLong}
 
 -- A packet within the limit is told with its bytes, and whether the two digits are its sum.
 abbrev pub PacketsAreTold : Type 0
-PacketsAreTold = (body rest before : List ℕ) (running first second : ℕ) → AreWithin body
+PacketsAreTold = (body rest before : List ℕ) (running first second : ℕ) → AreBodyBytes body
     → length body ≤ packet_limit
     → events_from (outside_with before running) (packet_then body first second rest)
     ≡ (Packet (is_checked (checksum body) (first ∷ second ∷ [])), body)
@@ -17,7 +17,7 @@ PacketsAreTold = (body rest before : List ℕ) (running first second : ℕ) → 
 
 -- A longer one is told as that.
 abbrev pub LongPacketsAreTold : Type 0
-LongPacketsAreTold = (body rest before : List ℕ) (running first second : ℕ) → AreWithin body
+LongPacketsAreTold = (body rest before : List ℕ) (running first second : ℕ) → AreBodyBytes body
     → packet_limit < length body
     → events_from (outside_with before running) (packet_then body first second rest)
     ≡ (TooLong (is_checked (checksum body) (first ∷ second ∷ [])), kept_bytes [] body)
@@ -25,7 +25,7 @@ LongPacketsAreTold = (body rest before : List ℕ) (running first second : ℕ) 
 
 -- A packet as it is sent is read back.
 abbrev pub FramesAreReadBack : Type 0
-FramesAreReadBack = (body rest before : List ℕ) (running : ℕ) → AreWithin body
+FramesAreReadBack = (body rest before : List ℕ) (running : ℕ) → AreBodyBytes body
     → length body ≤ packet_limit
     → events_from (outside_with before running) (frame body ++ rest)
     ≡ (Packet true, body) ∷ events_from (outside_with body (checksum body)) rest
@@ -43,7 +43,7 @@ BytesBetweenAreNone = (bytes rest before : List ℕ) (running : ℕ) → AreBetw
 
 -- A packet that doesn't end is no event.
 abbrev pub UnendedPacketsAreNone : Type 0
-UnendedPacketsAreNone = (body before : List ℕ) (running : ℕ) → AreWithin body
+UnendedPacketsAreNone = (body before : List ℕ) (running : ℕ) → AreBodyBytes body
     → events_from (outside_with before running) (36 ∷ body) ≡ []
 
 -- It doesn't matter into which pieces the bytes are cut.

@@ -1,5 +1,5 @@
 //! What stands around a separator.
-ghost use Rattle.std.specs.Prelude.{◌≡◌, ◌<◌, length, position, IfSome, MatchOption, Some, None, [], ◌∷◌};
+ghost use Rattle.std.specs.Prelude.{◌≡◌, position, MatchOption, Some, None, [], ◌∷◌};
 ghost use Rattle.gdb_packets.specs.Around.{around, is_mark, between_marks};
 ghost use Rattle.std.specs.Option.{option_map_or};
 

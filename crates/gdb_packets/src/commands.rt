@@ -1,5 +1,6 @@
 //! What a person asks by gdb's command `monitor`.
-ghost use Rattle.std.specs.Prelude.{◌≡◌, ◌∷◌, [], ◌<◌, ◌≤◌, length, IfSome, option_map, Some, None, MatchOption};
+ghost use Rattle.std.specs.Prelude.{◌≡◌, ◌∷◌, [], ◌<◌, ◌≤◌, length, IfSome, option_map};
+ghost use Rattle.std.specs.Prelude.{Some, None, MatchOption};
 ghost use Rattle.gdb_packets.specs.Commands.{decimal_from, address_from, words_between, word_text};
 ghost use Rattle.gdb_packets.specs.Commands.{word_among, command_words, if_alone, goto_numbers};
 ghost use Rattle.gdb_packets.specs.Commands.{goto_from, page_numbers, page_from};
@@ -135,7 +136,7 @@ fn word_in(table: &[Word], text: &[u8]) -> Option<Word>
 }
 
 /// The first word that isn't empty, and what stands behind it.
-#[tactic(auto, using(crate::proofs::Parts::word_here, crate::proofs::Parts::word_passed, crate::proofs::Parts::word_shorter, crate::proofs::Parts::last_word, crate::proofs::Parts::no_word))]
+#[tactic(auto, using(crate::proofs::Parts::words))]
 fn next_word(text: &[u8]) -> Option<(&[u8], &[u8])>
     ensures { MatchOption result (words_between text.now ≡ [])
         (λ x. words_between text.now ≡ x.0.now ∷ words_between x.1.now) }

@@ -55,7 +55,8 @@ fn unescape_first(first: u8, rest: &[u8]) -> Option<(u8, &[u8])>
 /// The bytes that are sent with escapes. There must be room for all of them.
 pub fn read_escaped<const N: usize>(text: &[u8]) -> Option<ArrayVec<u8, N>>
     requires { length text.now ≤ N }
-    ensures { MatchOption result (unescaped text.now ≡ None) (λ v. unescaped text.now ≡ Some v.items) }
+    ensures { MatchOption result (unescaped text.now ≡ None)
+        (λ v. unescaped text.now ≡ Some v.items) }
 {
     let mut bytes = ArrayVec::new();
     let mut text = text;

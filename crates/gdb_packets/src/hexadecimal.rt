@@ -112,10 +112,11 @@ pub fn push_bytes<const N: usize>(to: &mut ArrayVec<u8, N>, bytes: &[u8])
 }
 
 /// The bytes that digits stand for.
-#[tactic(auto, using(crate::proofs::Digits::pair_ahead, crate::proofs::Digits::no_high, crate::proofs::Digits::no_low))]
+#[tactic(auto, using(crate::proofs::Digits::pairs))]
 pub fn read_bytes<const N: usize>(text: &[u8]) -> Option<ArrayVec<u8, N>>
     requires { length text.now ≤ 2 * N }
-    ensures { MatchOption result (bytes_from text.now ≡ None) (λ v. bytes_from text.now ≡ Some v.items) }
+    ensures { MatchOption result (bytes_from text.now ≡ None)
+        (λ v. bytes_from text.now ≡ Some v.items) }
 {
     let mut bytes = ArrayVec::new();
     let mut rest = text;

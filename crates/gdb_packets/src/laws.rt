@@ -4,6 +4,8 @@ ghost use Rattle.gdb_packets.specs.declared.packets.Packet.{Packet as Asked};
 ghost use Rattle.gdb_packets.specs.Packets.{packet_from};
 ghost use Rattle.gdb_packets.specs.Texts.{packet_text, IsSpelled};
 ghost use Rattle.gdb_packets.specs.ReadBack.{AreReadBack, IsNumber, AreBytes, IsThreadId};
+ghost use Rattle.gdb_packets.specs.ReadBack.{AreResumptions};
+ghost use Rattle.gdb_packets.specs.Resumptions.{resumptions_text, resumptions_from};
 ghost use Rattle.gdb_packets.specs.Hexadecimal.{number_digits, number_from, bytes_digits};
 ghost use Rattle.gdb_packets.specs.Hexadecimal.{bytes_from};
 ghost use Rattle.gdb_packets.specs.Ids.{id_text, id_from};
@@ -60,6 +62,11 @@ pub fn unended_packets_are_none()
 /// It doesn't matter into which pieces the bytes are cut.
 pub fn pieces_are_one()
     ensures { PiecesAreOne }
+{}
+
+/// What `vCont` resumes.
+pub fn resumptions_are_read_back()
+    ensures { AreReadBack AreResumptions resumptions_text resumptions_from }
 {}
 
 /// Packets, by what they ask.
