@@ -1,0 +1,14 @@
+pub mod Hexadecimal
+pub mod Around
+pub mod Ids
+pub mod Framing
+pub mod Framer
+pub mod Openings
+pub mod Resumptions
+pub mod Commands
+pub mod Packets
+pub mod Escapes
+pub mod ReadBack
+pub mod Streams
+pub mod Texts
+pub mod Duties
