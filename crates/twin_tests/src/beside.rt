@@ -20,7 +20,7 @@ struct Noting<'a> {
     seen: &'a AtomicU64,
 }
 
-impl<'a> Sink for Noting<'a> {
+impl Sink for Noting<'_> {
     ghost told = { λ _. None };
 
     ghost faults = { λ s. s.sink.calls.faults };
@@ -34,19 +34,16 @@ impl<'a> Sink for Noting<'a> {
     }
 }
 
-// A host whose second call waits until a byte was put, for so many turns at most.
+// Calls of which the second waits until a byte was put, for so many turns at most.
 #[derive(Drop)]
-struct Holding<'a> {
-    host: MemoryHost,
+struct Turns<'a> {
     calls: u64,
     missed: bool,
     seen: &'a AtomicU64,
 }
 
-impl<'a> Holding<'a> {
-    fn hold(&mut self)
-        ensures { self.new.host ≡ self.old.host }
-    {
+impl Turns<'_> {
+    fn hold(&mut self) {
         if self.calls == 1 {
             let mut seen = false;
             for _ in 0..TURNS {
@@ -62,7 +59,14 @@ impl<'a> Holding<'a> {
     }
 }
 
-impl<'a> Host for Holding<'a> {
+// A host whose calls are these.
+#[derive(Drop)]
+struct Holding<'a> {
+    host: MemoryHost,
+    turns: Turns<'a>,
+}
+
+impl Host for Holding<'_> {
     ghost told = { λ _. None };
 
     ghost asked = { λ s. s.host.asked };
@@ -79,12 +83,12 @@ impl<'a> Host for Holding<'a> {
         ensures steady { OnOk result (self.new.host.calls.faults
             ≡ self.old.host.calls.faults) }
     {
-        self.hold();
+        self.turns.hold();
         self.host.input(buf)
     }
 
     fn clock(&mut self) -> Result<u64, HostFault> {
-        self.hold();
+        self.turns.hold();
         self.host.clock()
     }
 
@@ -99,9 +103,11 @@ fn follower_runs_beside(rt: HostRuntime) {
     let words = words_of(&rt, alloc, &["a"]);
     let mut host = Holding {
         host: MemoryHost::new(alloc, b"0123456789", 64, &[], &[]).expect(&rt, "memory"),
-        calls: 0,
-        missed: false,
-        seen: &seen,
+        turns: Turns {
+            calls: 0,
+            missed: false,
+            seen: &seen,
+        },
     };
     let mut out = MemorySink::new(alloc, 100, &[]).expect(&rt, "memory");
     let mut err = MemorySink::new(alloc, 100, &[]).expect(&rt, "memory");
@@ -126,5 +132,5 @@ fn follower_runs_beside(rt: HostRuntime) {
         &mut workers,
     );
     assert!(rt; status == 0, "status {status} and not 0");
-    assert!(rt; !host.missed, "the follower ran behind its leader");
+    assert!(rt; !host.turns.missed, "the follower ran behind its leader");
 }

@@ -75,7 +75,7 @@ pub fn leaves<R: Threads + Wait + Sync + Abort>(
     let mut host = MemoryHost::new(
         alloc,
         call.input,
-        call.piece,
+        call.piece.max(1),
         call.clocks,
         &[call.host_failing],
     )
