@@ -1,1 +1,4 @@
+mod Leading
+mod Parts
+mod Rests
 mod WorkedHistories

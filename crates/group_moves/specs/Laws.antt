@@ -1,0 +1,103 @@
+-- Laws of moves: one after another they are the machine's phases, its rounds and its run. The
+-- functions of `laws` promise them. This project's own.
+use Rattle.std.specs.Prelude.{ℕ, ◌+◌, ◌≡◌, Bool, false, List, [], ◌∷◌, Option, Some, None, nat_le}
+use Rattle.dos_world.specs.World.{World, live_threads}
+use Rattle.dos_world.specs.Play.{Play, Answer, Outcome, gives, asks, done, ◌>>=◌, over}
+use Rattle.dos_world.specs.declared.Config.{Config}
+use Rattle.dos_world.specs.declared.Ending.TheVariants.{Done, Stalled}
+use Rattle.elf_image.specs.Image.{Image}
+use Rattle.flat_machine.specs.Alone.{steps}
+use Rattle.flat_machine.specs.Rest.{turns, serial_of}
+use Rattle.flat_machine.specs.Round.{RoundEnd, went, finished, stalled, all_alone, counted, round_of}
+use Rattle.flat_machine.specs.Machine.{Finish, Ran, result_of, group, machine}
+use Rattle.flat_machine.specs.Opening.{opening}
+use Rattle.group_moves.specs.Places.{between_rounds, within_part, within_rest, at_end, Scene}
+use Rattle.group_moves.specs.Places.{to_parts, to_rests, passed_on}
+use Rattle.group_moves.specs.Moves.{MoveKind, begins, move_of}
+use Rattle.group_moves.specs.Moments.{Moment, moment_at, first_moment, kind_at, moves_from, walk}
+use Rattle.group_moves.specs.Moments.{ending_at}
+
+-- ---- where moves lead
+
+-- so many moves more from the scene that was given, or the question that was asked
+abbrev pub walk_from : (more limit begun made : ℕ) → Outcome Scene → Outcome Moment
+walk_from more limit begun made (gives scene rest) =
+    walk more limit rest (moment_at begun made scene)
+walk_from more limit begun made (asks question output error) = asks question output error
+
+-- Over these answers some number of moves from a moment leads to the scene that a play gives, with
+-- the answers that it leaves, whatever comes behind; or it asks what the play asks, where the play
+-- does.
+pub record Leads (limit : ℕ) (answers : List Answer) (from : Moment) (begun : ℕ)
+    (play : Play Scene) : Type 0 where
+  pub moves : ℕ
+  pub made : ℕ
+  pub is : (more : ℕ)
+      → walk (moves + more) limit answers from
+      ≡ walk_from more limit begun made (over answers play)
+
+-- ---- the phases
+
+-- The moves of a thread's part of the parallel phase are its instructions.
+abbrev pub PartsAreInstructions : Type 0
+PartsAreInstructions = (limit begun made left t : ℕ) (starters ts : List ℕ) (w : World)
+    (answers : List Answer)
+    → Leads limit answers (moment_at begun made (passed_on w (within_part starters t left ts))) begun
+    (done (to_parts (steps left w t) starters ts))
+
+-- The moves of the parallel phase are all its threads' parts, one after another; the serial phase
+-- comes behind them.
+abbrev pub PartsAreTheParallelPhase : Type 0
+PartsAreTheParallelPhase = (limit begun made : ℕ) (starters ts : List ℕ) (w : World)
+    (answers : List Answer)
+    → Leads limit answers (moment_at begun made (to_parts w starters ts)) begun
+    (done (to_rests (all_alone w ts) starters starters))
+
+-- The moves of a thread's part of the serial phase are its turns.
+abbrev pub RestsAreTurns : Type 0
+RestsAreTurns = (limit begun made left t : ℕ) (starters ts : List ℕ) (w : World)
+    (answers : List Answer)
+    → Leads limit answers (moment_at begun made (passed_on w (within_rest starters t left ts))) begun
+    (turns left w t >>= λ last. done (to_rests last starters ts))
+
+-- The moves of the serial phase are that phase, and the round is counted behind them.
+abbrev pub RestsAreTheSerialPhase : Type 0
+RestsAreTheSerialPhase = (limit begun made : ℕ) (starters ts : List ℕ) (w : World)
+    (answers : List Answer)
+    → Leads limit answers (moment_at begun made (to_rests w starters ts)) begun
+    (serial_of w ts >>= λ last. done (counted last, between_rounds))
+
+-- ---- a round
+
+-- where a round leads that ended so
+abbrev pub scene_of : RoundEnd → Scene
+scene_of (went last work) = (last, between_rounds)
+scene_of (finished last) = (last, at_end Done)
+scene_of (stalled last) = (last, at_end Stalled)
+
+-- Where a round begins next, its moves lead to where the machine's round does.
+abbrev pub RoundsAreTheirMoves : Type 0
+RoundsAreTheirMoves = (limit begun made : ℕ) (w : World) (answers : List Answer)
+    → kind_at limit (moment_at begun made (w, between_rounds)) ≡ Some begins
+    → Leads limit answers (moment_at begun made (w, between_rounds)) (begun + 1)
+    (round_of w >>= λ end. done (scene_of end))
+
+-- ---- a run
+
+-- a run that did so much work, by where its history leads
+abbrev pub finish_by : (work : ℕ) → Outcome Moment → Outcome Finish
+finish_by work (gives m rest) =
+    gives (record { ending = ending_at m.world m.place; world = m.world; work = work }) rest
+finish_by work (asks question output error) = asks question output error
+
+-- Over these answers the machine's run of these images is, after some number of moves and whatever
+-- number behind them, what the walk along their history leads to: the same world and so the same
+-- bytes sent and the same statuses, and the same ending; or the same question.
+pub record EndsAs (images : List Image) (config : Config) (answers : List Answer)
+    (asked : Outcome Finish → Ran) : Type 0 where
+  pub moves : ℕ
+  pub work : ℕ
+  pub is : (more : ℕ)
+      → machine images config answers
+      ≡ asked (finish_by work (walk (moves + more) config.rounds answers
+      (first_moment (opening images config))))
