@@ -1,4 +1,5 @@
 mod Leading
 mod Parts
 mod Rests
+mod Rounds
 mod WorkedHistories
