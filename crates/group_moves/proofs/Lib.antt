@@ -2,4 +2,5 @@ mod Leading
 mod Parts
 mod Rests
 mod Rounds
+mod Runs
 mod WorkedHistories

@@ -1,16 +1,15 @@
 -- Laws of moves: one after another they are the machine's phases, its rounds and its run. The
 -- functions of `laws` promise them. This project's own.
-use Rattle.std.specs.Prelude.{ℕ, ◌+◌, ◌≡◌, Bool, false, List, [], ◌∷◌, Option, Some, None, nat_le}
-use Rattle.dos_world.specs.World.{World, live_threads}
-use Rattle.dos_world.specs.Play.{Play, Answer, Outcome, gives, asks, done, ◌>>=◌, over}
+use Rattle.std.specs.Prelude.{ℕ, ◌+◌, ◌≡◌, List, [], ◌∷◌, Some}
+use Rattle.dos_world.specs.World.{World}
+use Rattle.dos_world.specs.Play.{Play, Answer, Outcome, gives, asks, done, ◌>>=◌, over, questions}
 use Rattle.dos_world.specs.declared.Config.{Config}
+use Rattle.dos_world.specs.declared.Question.{Question}
 use Rattle.dos_world.specs.declared.Ending.TheVariants.{Done, Stalled}
-use Rattle.elf_image.specs.Image.{Image}
 use Rattle.flat_machine.specs.Alone.{steps}
 use Rattle.flat_machine.specs.Rest.{turns, serial_of}
 use Rattle.flat_machine.specs.Round.{RoundEnd, went, finished, stalled, all_alone, counted, round_of}
-use Rattle.flat_machine.specs.Machine.{Finish, Ran, result_of, group, machine}
-use Rattle.flat_machine.specs.Opening.{opening}
+use Rattle.flat_machine.specs.Machine.{Finish, result_of, run_from, machine_from}
 use Rattle.group_moves.specs.Places.{between_rounds, within_part, within_rest, at_end, Scene}
 use Rattle.group_moves.specs.Places.{to_parts, to_rests, passed_on}
 use Rattle.group_moves.specs.Moves.{MoveKind, begins, move_of}
@@ -90,14 +89,43 @@ finish_by work (gives m rest) =
     gives (record { ending = ending_at m.world m.place; world = m.world; work = work }) rest
 finish_by work (asks question output error) = asks question output error
 
--- Over these answers the machine's run of these images is, after some number of moves and whatever
--- number behind them, what the walk along their history leads to: the same world and so the same
--- bytes sent and the same statuses, and the same ending; or the same question.
-pub record EndsAs (images : List Image) (config : Config) (answers : List Answer)
-    (asked : Outcome Finish → Ran) : Type 0 where
+-- Over these answers a run from a world is, after some number of moves and whatever number behind
+-- them, what the walk along its history leads to: it has ended in the same world, and so with the
+-- same bytes sent and the same statuses, and in the same way; or it asks the same question.
+pub record EndsAs (w : World) (config : Config) (answers : List Answer) : Type 0 where
   pub moves : ℕ
   pub work : ℕ
   pub is : (more : ℕ)
-      → machine images config answers
-      ≡ asked (finish_by work (walk (moves + more) config.rounds answers
-      (first_moment (opening images config))))
+      → machine_from w config answers
+      ≡ result_of (questions answers (run_from w config))
+      (finish_by work (walk (moves + more) config.rounds answers (first_moment w)))
+
+-- The moves of a run are the machine's run.
+abbrev pub RunsAreTheirMoves : Type 0
+RunsAreTheirMoves = (w : World) (config : Config) (answers : List Answer) → EndsAs w config answers
+
+-- ---- histories
+
+-- the moment behind the last of these moves
+abbrev pub last_moment : Moment → List (MoveKind × Moment) → Moment
+last_moment m [] = m
+last_moment m (move ∷ moves) = last_moment move.1 moves
+
+-- the move of this moment asks so, over what is left of the answers
+pub record AsksAt (limit : ℕ) (m : Moment) (question : Question) (output error : List ℕ)
+    : Type 0 where
+  pub kind : MoveKind
+  pub left : List Answer
+  pub next : kind_at limit m ≡ Some kind
+  pub asking : over left (move_of m.world m.place) ≡ asks question output error
+
+-- what a walk comes to, by the last moment of a history
+abbrev pub EndsAt : (limit : ℕ) → Moment → Outcome Moment → Type 0
+EndsAt limit m (gives reached rest) = m ≡ reached
+EndsAt limit m (asks question output error) = AsksAt limit m question output error
+
+-- A walk leads to the last moment of the history of as many moves; where a question has no answer,
+-- it is that which the last moment's move would ask.
+abbrev pub WalksEndHistories : Type 0
+WalksEndHistories = (moves limit : ℕ) (answers : List Answer) (m : Moment)
+    → EndsAt limit (last_moment m (moves_from moves limit answers m)) (walk moves limit answers m)

@@ -1,0 +1,45 @@
+// Laws of the definitions, as contracts of functions that do nothing.
+ghost use Rattle.group_moves.specs.Laws.{PartsAreInstructions, PartsAreTheParallelPhase};
+ghost use Rattle.group_moves.specs.Laws.{RestsAreTheSerialPhase, RestsAreTurns};
+ghost use Rattle.group_moves.specs.Laws.{RoundsAreTheirMoves, RunsAreTheirMoves};
+ghost use Rattle.group_moves.specs.Laws.{WalksEndHistories};
+
+// ---- the phases
+
+/// The moves of a thread's part of the parallel phase are its instructions.
+pub fn parts_are_instructions()
+    ensures { PartsAreInstructions }
+{}
+
+/// The moves of the parallel phase are all its threads' parts, one after another.
+pub fn parts_are_the_parallel_phase()
+    ensures { PartsAreTheParallelPhase }
+{}
+
+/// The moves of a thread's part of the serial phase are its turns.
+pub fn rests_are_turns()
+    ensures { RestsAreTurns }
+{}
+
+/// The moves of the serial phase are that phase, over all answers.
+pub fn rests_are_the_serial_phase()
+    ensures { RestsAreTheSerialPhase }
+{}
+
+// ---- rounds and runs
+
+/// Where a round begins next, its moves lead to where the machine's round does, over all answers.
+pub fn rounds_are_their_moves()
+    ensures { RoundsAreTheirMoves }
+{}
+
+/// The moves of a run are the machine's run, over all answers.
+pub fn runs_are_their_moves()
+    ensures { RunsAreTheirMoves }
+{}
+
+/// A walk leads to the last moment of the history of as many moves, or to the question that this
+/// moment's move would ask.
+pub fn walks_end_histories()
+    ensures { WalksEndHistories }
+{}
