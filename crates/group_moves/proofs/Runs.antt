@@ -7,6 +7,7 @@ use Rattle.dos_world.specs.World.{World, live_threads}
 use Rattle.dos_world.specs.Play.{Play, Answer, Outcome, gives, asks, done, ◌>>=◌, over}
 use Rattle.dos_world.specs.Play.{ask, questions, posts_of}
 use Rattle.dos_world.specs.Signals.{signalled, ripen}
+use Rattle.dos_world.specs.declared.Question.{Question}
 use Rattle.dos_world.specs.declared.Question.TheVariants.{Signals}
 use Rattle.dos_world.specs.Laws.{over_then}
 use Rattle.dos_world.specs.declared.Config.{Config}
@@ -15,12 +16,15 @@ use Rattle.dos_world.specs.declared.Ending.TheVariants.{Done, Limit, Stalled}
 use Rattle.dos_world.proofs.PlayLaws.{over-then}
 use Rattle.flat_machine.specs.Round.{RoundEnd, went, finished, stalled, parallel, round_of, is_none_of}
 use Rattle.flat_machine.specs.Round.{begun_by}
-use Rattle.flat_machine.specs.Machine.{Finish, rounds_by, result_of, run_from, at_limit}
+use Rattle.flat_machine.specs.Machine.{Finish, Ran, rounds_by, result_of, run_from, at_limit, group, seen}
+use Rattle.flat_machine.specs.Opening.{opening}
+use Rattle.elf_image.specs.Image.{Image}
 use Rattle.group_moves.specs.Places.{Scene, between_rounds, at_end}
 use Rattle.group_moves.specs.Moves.{MoveKind, begins, move_of}
 use Rattle.group_moves.specs.Moments.{Moment, moment_at, moment_behind, settled_scene, kind_at, walk}
-use Rattle.group_moves.specs.Moments.{first_moment, moves_from}
+use Rattle.group_moves.specs.Moments.{first_moment, moves_from, history, ending_at}
 use Rattle.group_moves.specs.Laws.{walk_from, scene_of, finish_by, EndsAs, last_moment, AsksAt, EndsAt}
+use Rattle.group_moves.specs.Laws.{IsOver, FoldsAt, FoldsTo}
 use Rattle.group_moves.proofs.Leading.{then_more, then_more-assoc, then_more_sum, Led}
 use Rattle.group_moves.proofs.Rounds.{round_led}
 
@@ -40,6 +44,10 @@ stays limit answers m none (suc c) = ap by_kind none
           ]
         ]
 
+over_at : (limit : ℕ) (answers : List Answer) (m : Moment) → kind_at limit m ≡ None → (c : ℕ)
+    → IsOver limit (walk c limit answers m)
+over_at limit answers m none c = subst (IsOver limit) (sym (stays limit answers m none c)) none
+
 -- ---- rounds one after another
 
 -- as `EndsAs`, over numbers that compute
@@ -47,6 +55,7 @@ record Ended (limit : ℕ) (answers : List Answer) (m : Moment) (run : Outcome F
   moves : ℕ
   work : ℕ
   is : (c : ℕ) → run ≡ finish_by work (walk (then_more moves c) limit answers m)
+  over_there : (c : ℕ) → IsOver limit (walk (then_more moves c) limit answers m)
 
 -- what follows a round
 abbrev next_rounds : ℕ → ℕ → RoundEnd → Play Finish
@@ -93,6 +102,15 @@ module _ (limit : ℕ) where
             ∙ sym (ap (finish_by second.1) (l.is (then_more second.0 c)))
             ∙ sym (ap (λ k. finish_by second.1 (walk k limit answers (between begun made w)))
             (then_more-assoc l.moves second.0 c));
+        over_there = λ c.
+            subst (IsOver limit)
+            (sym
+            (ap (λ k. walk k limit answers (between begun made w))
+            (then_more-assoc l.moves second.0 c)
+            ∙ l.is (then_more second.0 c)
+            ∙ ap (walk_from (then_more second.0 c) limit (begun + 1) l.made)
+            (over-then answers (round_of w) ended)))
+            (second.3 c);
       }
     where
       by_outcome : (o : Outcome RoundEnd)
@@ -100,16 +118,21 @@ module _ (limit : ℕ) where
           → over_then o (next_rounds n work)
           ≡ finish_by all
           (walk_from (then_more moves c) limit (begun + 1) l.made (over_then o ended)))
+          × ((c : ℕ)
+          → IsOver limit
+          (walk_from (then_more moves c) limit (begun + 1) l.made (over_then o ended)))
       by_outcome (gives (went last more) rest) =
           let e = again (begun + 1) l.made last rest (work + more) (omega (arith, left)) in
-          (e.moves, e.work, e.is)
+          (e.moves, e.work, e.is, e.over_there)
       by_outcome (gives (finished last) rest) =
           (zero, work, λ c. sym (ap (finish_by work)
-          (stays limit rest (moment_at (begun + 1) l.made (last, at_end Done)) refl c)))
+          (stays limit rest (moment_at (begun + 1) l.made (last, at_end Done)) refl c)),
+          over_at limit rest (moment_at (begun + 1) l.made (last, at_end Done)) refl)
       by_outcome (gives (stalled last) rest) =
           (zero, work, λ c. sym (ap (finish_by work)
-          (stays limit rest (moment_at (begun + 1) l.made (last, at_end Stalled)) refl c)))
-      by_outcome (asks question output error) = (zero, work, λ c. refl)
+          (stays limit rest (moment_at (begun + 1) l.made (last, at_end Stalled)) refl c)),
+          over_at limit rest (moment_at (begun + 1) l.made (last, at_end Stalled)) refl)
+      by_outcome (asks question output error) = (zero, work, λ c. refl, λ c. tt)
 
   -- nobody lives
   nobody_ends : (n begun made : ℕ) (w : World) (answers : List Answer) (work : ℕ)
@@ -124,6 +147,9 @@ module _ (limit : ℕ) where
             ∙ sym (ap finish none)
             ∙ sym (ap (finish_by work) (stays limit answers (between begun made w)
             (ap (λ x. begin_if (x || nat_le limit begun)) none) c));
+        over_there =
+            over_at limit answers (between begun made w)
+            (ap (λ x. begin_if (x || nat_le limit begun)) none);
       }
     where
       first : Bool → Play RoundEnd
@@ -143,6 +169,10 @@ module _ (limit : ℕ) where
         is = λ c. sym (ap (finish_by work) (stays limit answers (between begun made w)
             (ap begin_if (or_right (is_none_of (live_threads w)) (nat_le limit begun)
             (le-leb limit begun (omega (arith, left))))) c));
+        over_there =
+            over_at limit answers (between begun made w)
+            (ap begin_if (or_right (is_none_of (live_threads w)) (nat_le limit begun)
+            (le-leb limit begun (omega (arith, left)))));
       }
   rounds_end (suc n) begun made w answers work left =
       by_live (rounds_end n) (is_none_of (live_threads w)) refl
@@ -171,6 +201,9 @@ run_ends w config answers =
           (e.is more
           ∙ ap (λ k. finish_by e.work (walk k config.rounds answers (first_moment w)))
           (sym (then_more_sum e.moves more)));
+      over_there = λ more.
+          subst (λ k. IsOver config.rounds (walk k config.rounds answers (first_moment w)))
+          (sym (then_more_sum e.moves more)) (e.over_there more);
     }
 
 -- ---- histories
@@ -226,3 +259,39 @@ walk_ends (suc moves) limit answers m =
     by_kind again None none = refl
     by_kind again (Some kind) next =
         by_outcome again kind next (over answers (move_of m.world m.place)) refl
+
+-- ---- the history of images
+
+pub history_folds : (images : List Image) (config : Config) (answers : List Answer)
+    → FoldsTo images config answers
+history_folds images config answers =
+    record {
+      moves = e.moves;
+      work = e.work;
+      is = λ more.
+          subst (FoldsAt asked e.work config.rounds (reached (e.moves + more))) (sym (e.is more))
+          (by_outcome (reached (e.moves + more))
+          (walk (e.moves + more) config.rounds answers start)
+          (walk_ends (e.moves + more) config.rounds answers start) (e.over_there more));
+    }
+  where
+    e : EndsAs (opening images config) config answers
+    e = run_ends (opening images config) config answers
+
+    asked : List Question
+    asked = questions answers (group images config)
+
+    start : Moment
+    start = first_moment (opening images config)
+
+    reached : ℕ → Moment
+    reached moves = last_moment start (history moves images config answers)
+
+    by_outcome : (m : Moment) (o : Outcome Moment)
+        → EndsAt config.rounds m o → IsOver config.rounds o
+        → FoldsAt asked e.work config.rounds m (result_of asked (finish_by e.work o))
+    by_outcome m (gives there rest) same none =
+        (subst (λ x. kind_at config.rounds x ≡ None) (sym same) none,
+        ap (λ x. seen asked
+        (record { ending = ending_at x.world x.place; world = x.world; work = e.work })) (sym same))
+    by_outcome m (asks question output error) asking none = asking

@@ -1,20 +1,23 @@
 -- Laws of moves: one after another they are the machine's phases, its rounds and its run. The
 -- functions of `laws` promise them. This project's own.
-use Rattle.std.specs.Prelude.{ℕ, ◌+◌, ◌≡◌, List, [], ◌∷◌, Some}
+use Rattle.std.specs.Prelude.{ℕ, ◌+◌, ◌≡◌, List, [], ◌∷◌, Some, None, ⊤}
 use Rattle.dos_world.specs.World.{World}
 use Rattle.dos_world.specs.Play.{Play, Answer, Outcome, gives, asks, done, ◌>>=◌, over, questions}
 use Rattle.dos_world.specs.declared.Config.{Config}
 use Rattle.dos_world.specs.declared.Question.{Question}
 use Rattle.dos_world.specs.declared.Ending.TheVariants.{Done, Stalled}
+use Rattle.elf_image.specs.Image.{Image}
 use Rattle.flat_machine.specs.Alone.{steps}
 use Rattle.flat_machine.specs.Rest.{turns, serial_of}
 use Rattle.flat_machine.specs.Round.{RoundEnd, went, finished, stalled, all_alone, counted, round_of}
-use Rattle.flat_machine.specs.Machine.{Finish, result_of, run_from, machine_from}
+use Rattle.flat_machine.specs.Machine.{Finish, Ran, ends, needs, seen, result_of, run_from, machine_from}
+use Rattle.flat_machine.specs.Machine.{group, machine}
+use Rattle.flat_machine.specs.Opening.{opening}
 use Rattle.group_moves.specs.Places.{between_rounds, within_part, within_rest, at_end, Scene}
 use Rattle.group_moves.specs.Places.{to_parts, to_rests, passed_on}
 use Rattle.group_moves.specs.Moves.{MoveKind, begins, move_of}
 use Rattle.group_moves.specs.Moments.{Moment, moment_at, first_moment, kind_at, moves_from, walk}
-use Rattle.group_moves.specs.Moments.{ending_at}
+use Rattle.group_moves.specs.Moments.{ending_at, history}
 
 -- ---- where moves lead
 
@@ -89,6 +92,11 @@ finish_by work (gives m rest) =
     gives (record { ending = ending_at m.world m.place; world = m.world; work = work }) rest
 finish_by work (asks question output error) = asks question output error
 
+-- A walk that has come to a moment has come to the end: no move is next there.
+abbrev pub IsOver : (limit : ℕ) → Outcome Moment → Type 0
+IsOver limit (gives m rest) = kind_at limit m ≡ None
+IsOver limit (asks question output error) = ⊤
+
 -- Over these answers a run from a world is, after some number of moves and whatever number behind
 -- them, what the walk along its history leads to: it has ended in the same world, and so with the
 -- same bytes sent and the same statuses, and in the same way; or it asks the same question.
@@ -99,6 +107,8 @@ pub record EndsAs (w : World) (config : Config) (answers : List Answer) : Type 0
       → machine_from w config answers
       ≡ result_of (questions answers (run_from w config))
       (finish_by work (walk (moves + more) config.rounds answers (first_moment w)))
+  pub over_there : (more : ℕ)
+      → IsOver config.rounds (walk (moves + more) config.rounds answers (first_moment w))
 
 -- The moves of a run are the machine's run.
 abbrev pub RunsAreTheirMoves : Type 0
@@ -129,3 +139,29 @@ EndsAt limit m (asks question output error) = AsksAt limit m question output err
 abbrev pub WalksEndHistories : Type 0
 WalksEndHistories = (moves limit : ℕ) (answers : List Answer) (m : Moment)
     → EndsAt limit (last_moment m (moves_from moves limit answers m)) (walk moves limit answers m)
+
+-- ---- the history of images
+
+-- What is seen of a run, by the last moment of its history: no move is next there, and its world is
+-- the one in which the run has ended; or its move would ask what the run needs.
+abbrev pub FoldsAt : List Question → (work limit : ℕ) → Moment → Ran → Type 0
+FoldsAt asked work limit m (ends all) =
+    (kind_at limit m ≡ None)
+    × (all
+    ≡ seen asked (record { ending = ending_at m.world m.place; world = m.world; work = work }))
+FoldsAt asked work limit m (needs question output error) = AsksAt limit m question output error
+
+-- the history of so many moves or more folds to what the machine gives
+pub record FoldsTo (images : List Image) (config : Config) (answers : List Answer) : Type 0 where
+  pub moves : ℕ
+  pub work : ℕ
+  pub is : (more : ℕ)
+      → FoldsAt (questions answers (group images config)) work config.rounds
+      (last_moment (first_moment (opening images config))
+      (history (moves + more) images config answers))
+      (machine images config answers)
+
+-- The history of images folds to the machine.
+abbrev pub HistoriesFoldToTheMachine : Type 0
+HistoriesFoldToTheMachine = (images : List Image) (config : Config) (answers : List Answer)
+    → FoldsTo images config answers

@@ -1,4 +1,5 @@
 // Laws of the definitions, as contracts of functions that do nothing.
+ghost use Rattle.group_moves.specs.Laws.{HistoriesFoldToTheMachine};
 ghost use Rattle.group_moves.specs.Laws.{PartsAreInstructions, PartsAreTheParallelPhase};
 ghost use Rattle.group_moves.specs.Laws.{RestsAreTheSerialPhase, RestsAreTurns};
 ghost use Rattle.group_moves.specs.Laws.{RoundsAreTheirMoves, RunsAreTheirMoves};
@@ -42,4 +43,11 @@ pub fn runs_are_their_moves()
 /// moment's move would ask.
 pub fn walks_end_histories()
     ensures { WalksEndHistories }
+{}
+
+/// The history of images folds to the machine: behind some number of moves no move is left where
+/// the machine ends, and the last moment's world is the one in which it has ended; where it needs
+/// an answer that isn't there, the last moment's move would ask for it.
+pub fn histories_fold_to_the_machine()
+    ensures { HistoriesFoldToTheMachine }
 {}
