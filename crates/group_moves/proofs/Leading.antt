@@ -1,12 +1,13 @@
 -- One move, and moves behind others.
-use Rattle.std.proofs.Common.{ℕ, zero, suc, ◌+◌, ◌≡◌, refl, sym, ap, ◌∙◌, subst, List, [], ◌∷◌}
+use Rattle.std.proofs.Common.{ℕ, zero, suc, ◌+◌, ◌≡◌, refl, sym, ap, ◌∙◌, List}
 use Rattle.std.proofs.Common.{Option, Some, None, arith}
 use Rattle.dos_world.specs.Play.{Play, Answer, Outcome, gives, asks, done, ◌>>=◌, over}
 use Rattle.dos_world.specs.Laws.{over_then}
 use Rattle.dos_world.proofs.PlayLaws.{over-then}
 use Rattle.group_moves.specs.Places.{Scene}
 use Rattle.group_moves.specs.Moves.{MoveKind, move_of}
-use Rattle.group_moves.specs.Moments.{Moment, moment_at, moment_behind, settled_scene, kind_at, walk}
+use Rattle.group_moves.specs.Moments.{Moment, moment_at, moment_behind, settled_scene, kind_at}
+use Rattle.group_moves.specs.Moments.{walk}
 use Rattle.group_moves.specs.Laws.{walk_from, Leads}
 
 -- ---- so many, and then more
@@ -88,7 +89,7 @@ pub then_led : {A : Type 0} (limit : ℕ) (answers : List Answer) (m : Moment) (
     (p : Play A) (front : A → Scene) (g : A → Play Scene)
     → Led limit answers m begun (p >>= λ a. done (front a))
     → ((a : A) (rest : List Answer) (made : ℕ)
-        → Led limit rest (moment_at begun made (front a)) begun (g a))
+    → Led limit rest (moment_at begun made (front a)) begun (g a))
     → Led limit answers m begun (p >>= g)
 then_led {A} limit answers m begun p front g first next =
     let second = by_outcome (over answers p) in

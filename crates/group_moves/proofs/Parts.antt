@@ -1,13 +1,13 @@
 -- The moves of the parallel phase.
-use Rattle.std.proofs.Common.{ℕ, zero, suc, ◌≡◌, refl, sym, ap, subst, List, [], ◌∷◌, Some}
-use Rattle.std.proofs.Common.{Result, Ok, Err, is_err, if◌then◌else◌, ◌||◌}
+use Rattle.std.proofs.Common.{ℕ, zero, suc, ◌≡◌, refl, subst, List, [], ◌∷◌}
+use Rattle.std.proofs.Common.{Result, Ok, Err, is_err, if◌then◌else◌}
 use Rattle.dos_world.specs.World.{World}
 use Rattle.dos_world.specs.Play.{Answer, done}
 use Rattle.dos_world.specs.declared.Reason.{Reason}
 use Rattle.flat_machine.specs.Step.{step}
 use Rattle.flat_machine.specs.Alone.{budget_of, emptied, steps}
 use Rattle.flat_machine.specs.Round.{all_alone}
-use Rattle.group_moves.specs.Places.{Scene, within_part, to_parts, to_rests, passed_on}
+use Rattle.group_moves.specs.Places.{within_part, to_parts, to_rests, passed_on}
 use Rattle.group_moves.specs.Moves.{runs, part_step}
 use Rattle.group_moves.specs.Moments.{Moment, moment_at, settled_scene}
 use Rattle.group_moves.proofs.Leading.{Led, nowhere, move_led, then_led}
@@ -15,7 +15,9 @@ use Rattle.group_moves.proofs.Leading.{Led, nowhere, move_led, then_led}
 module _ (limit begun : ℕ) (starters : List ℕ) where
   -- one thread's part
   pub part_led : (left t : ℕ) (ts : List ℕ) (w : World) (answers : List Answer)
-      (made : ℕ) → Led limit answers (moment_at begun made (passed_on w (within_part starters t left ts))) begun
+      (made : ℕ)
+      → Led limit answers (moment_at begun made (passed_on w (within_part starters t left ts)))
+      begun
       (done (to_parts (steps left w t) starters ts))
   part_led zero t ts w answers made = nowhere limit answers begun made (to_parts w starters ts)
   part_led (suc left) t ts w answers made =
@@ -38,7 +40,8 @@ module _ (limit begun : ℕ) (starters : List ℕ) where
           (λ v. passed_on v (within_part starters t left ts))
           (λ v. done (to_parts (steps left v t) starters ts))
           (subst
-          (λ r. Led limit answers here begun (done (settled_scene (part_step starters t left ts w r))))
+          (λ r. Led limit answers here begun
+          (done (settled_scene (part_step starters t left ts w r))))
           is
           (move_led limit answers here (runs t) begun (suc made) refl (λ scene. refl)))
           again

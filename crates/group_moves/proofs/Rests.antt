@@ -3,14 +3,14 @@ use Rattle.std.proofs.Common.{ℕ, zero, suc, ◌≡◌, refl, sym, ap, ◌∙�
 use Rattle.std.proofs.Common.{Option, Some, None, is_some, is_none, Result, Ok, Err, if◌then◌else◌}
 use Rattle.dos_world.specs.World.{World, Thread, thread_at}
 use Rattle.dos_world.specs.Play.{Play, Answer, done, ◌>>=◌}
-use Rattle.dos_world.specs.Services.{service, service_for}
+use Rattle.dos_world.specs.Services.{service_for}
 use Rattle.dos_world.specs.declared.Reason.{Reason}
 use Rattle.dos_world.specs.declared.Reason.TheVariants.{Page, Fault, Service}
 use Rattle.dos_world.proofs.PlayLaws.{then_assoc}
 use Rattle.flat_machine.specs.Step.{step, step_of}
 use Rattle.flat_machine.specs.Alone.{budget_of, emptied}
 use Rattle.flat_machine.specs.Rest.{Turn, on, over_with, settled, page_granted, after_step, turn}
-use Rattle.flat_machine.specs.Rest.{turns, service_done, rest_of, rest_if_live, serial_of}
+use Rattle.flat_machine.specs.Rest.{turns, service_done, rest_of, serial_of}
 use Rattle.flat_machine.specs.Round.{counted}
 use Rattle.group_moves.specs.Places.{Scene, between_rounds, within_rest, to_rests, passed_on}
 use Rattle.group_moves.specs.Moves.{kind_by, rest_turn}
@@ -54,17 +54,21 @@ rest_behind t begun made start scene (Err Service) = refl
 module _ (limit begun : ℕ) (starters : List ℕ) where
   -- ---- one thread's part
 
+  -- the turns behind one
+  abbrev goes_on : ℕ → ℕ → Turn → Play World
+  goes_on left t taken =
+      elim taken [ on next ↦ turns left next t | over_with last ↦ done last ]
+
   -- what is left to do after a turn
   abbrev after_turn : ℕ → ℕ → List ℕ → Turn → Play Scene
   after_turn left t ts taken =
-      elim taken [ on next ↦ turns left next t | over_with last ↦ done last ]
-      >>= λ last. done (to_rests last starters ts)
+      goes_on left t taken >>= λ last. done (to_rests last starters ts)
 
   abbrev RestLed : ℕ → ℕ → List ℕ → Type 0
   RestLed left t ts =
       (w : World) (answers : List Answer) (made : ℕ)
-      → Led limit answers (moment_at begun made (passed_on w (within_rest starters t left ts))) begun
-      (turns left w t >>= λ last. done (to_rests last starters ts))
+      → Led limit answers (moment_at begun made (passed_on w (within_rest starters t left ts)))
+      begun (turns left w t >>= λ last. done (to_rests last starters ts))
 
   turn_led : (left t : ℕ) (ts : List ℕ) → RestLed left t ts
       → (w : World) (answers : List Answer) (made : ℕ)
@@ -72,7 +76,7 @@ module _ (limit begun : ℕ) (starters : List ℕ) where
       (turns (suc left) w t >>= λ last. done (to_rests last starters ts))
   turn_led left t ts again w answers made =
       subst (Led limit answers here begun)
-      (sym (then_assoc (turn w t) (λ taken. elim taken [ on next ↦ turns left next t | over_with last ↦ done last ])
+      (sym (then_assoc (turn w t) (goes_on left t)
       (λ last. done (to_rests last starters ts))))
       (then_led limit answers here begun (turn w t)
       (λ taken. settled_scene (rest_turn starters t left ts taken)) (after_turn left t ts)
@@ -108,13 +112,17 @@ module _ (limit begun : ℕ) (starters : List ℕ) where
       by_thread again None gone =
           subst
           (λ taken. Led limit answers (moment_at begun made (to_rests w starters ts)) begun
-          ((taken >>= λ taken. elim taken [ on next ↦ turns left next t | over_with last ↦ done last ])
+          ((taken >>= goes_on left t)
           >>= λ last. done (to_rests last starters ts)))
           (sym (gone_turn w t gone))
           (nowhere limit answers begun made (to_rests w starters ts))
       by_thread again (Some thread) lives = turn_led left t ts again w answers made
 
   -- ---- the phase
+
+  -- where a thread comes to the front
+  abbrev rest_start : World → ℕ → List ℕ → Scene
+  rest_start w t ts = passed_on (emptied w t) (within_rest starters t (budget_of w t) ts)
 
   pub rests_led : (ts : List ℕ) (w : World) (answers : List Answer) (made : ℕ)
       → Led limit answers (moment_at begun made (to_rests w starters ts)) begun
@@ -130,7 +138,7 @@ module _ (limit begun : ℕ) (starters : List ℕ) where
           → Led limit answers
           (moment_at begun made
           (if is_none x then to_rests w starters ts else
-          passed_on (emptied w t) (within_rest starters t (budget_of w t) ts)))
+          rest_start w t ts))
           begun
           (((if is_some x then rest_of w t else done w) >>= λ next. serial_of next ts)
           >>= λ last. done (counted last, between_rounds))
@@ -138,12 +146,12 @@ module _ (limit begun : ℕ) (starters : List ℕ) where
       by_thread again (Some thread) =
           subst
           (Led limit answers
-          (moment_at begun made (passed_on (emptied w t) (within_rest starters t (budget_of w t) ts)))
+          (moment_at begun made (rest_start w t ts))
           begun)
           (sym (then_assoc (rest_of w t) (λ next. serial_of next ts)
           (λ last. done (counted last, between_rounds))))
           (then_led limit answers
-          (moment_at begun made (passed_on (emptied w t) (within_rest starters t (budget_of w t) ts)))
+          (moment_at begun made (rest_start w t ts))
           begun (rest_of w t) (λ v. to_rests v starters ts)
           (λ v. serial_of v ts >>= λ last. done (counted last, between_rounds))
           (rest_led (budget_of w t) t ts (emptied w t) answers made)

@@ -1,6 +1,7 @@
 -- The moves of a round.
 use Rattle.std.proofs.Common.{ℕ, zero, suc, ◌+◌, ◌-◌, ◌≡◌, refl, sym, ap, ◌∙◌, subst, Bool, true}
-use Rattle.std.proofs.Common.{false, cond, List, [], ◌∷◌, Option, Some, None, if◌then◌else◌, ◌||◌, nat_le}
+use Rattle.std.proofs.Common.{false, cond, List, [], ◌∷◌, Option, Some, None, if◌then◌else◌, ◌||◌}
+use Rattle.std.proofs.Common.{nat_le}
 use Rattle.std.proofs.Common.{option_map}
 use Rattle.dos_world.specs.Numbered.{changed, changed_at, places_from, numbers_of}
 use Rattle.dos_world.specs.World.{World, Thread, live_threads, ready_threads, is_state}
@@ -11,10 +12,12 @@ use Rattle.dos_world.specs.declared.Question.TheVariants.{Signals}
 use Rattle.dos_world.specs.declared.ThreadState.TheVariants.{Ready}
 use Rattle.dos_world.proofs.PlayLaws.{then_assoc}
 use Rattle.flat_machine.specs.Rest.{serial_of}
-use Rattle.flat_machine.specs.Round.{RoundEnd, went, finished, stalled, all_alone, parallel, counted}
+use Rattle.flat_machine.specs.Round.{RoundEnd, went, finished, stalled, all_alone, parallel}
+use Rattle.flat_machine.specs.Round.{counted}
 use Rattle.flat_machine.specs.Round.{with_budgets, with_budget, budgets, is_none_of, phases, begun}
 use Rattle.flat_machine.specs.Round.{round_of}
-use Rattle.group_moves.specs.Places.{Scene, between_rounds, at_end, before_parts, to_parts, to_rests}
+use Rattle.group_moves.specs.Places.{Scene, between_rounds, at_end, before_parts, to_parts}
+use Rattle.group_moves.specs.Places.{to_rests}
 use Rattle.group_moves.specs.Moves.{MoveKind, begins, begun_scene, answered_scene}
 use Rattle.group_moves.specs.Moments.{Moment, moment_at, settled_scene, kind_at}
 use Rattle.group_moves.specs.Laws.{scene_of}
@@ -126,7 +129,8 @@ round_led limit begun_now made w answers next = by_live (is_none_of (live_thread
     here = moment_at begun_now made (w, between_rounds)
 
     by_live : (x : Bool)
-        → ◌≡◌ {A = Option MoveKind} (if x || nat_le limit begun_now then None else Some begins) (Some begins)
+        → ◌≡◌ {A = Option MoveKind} (if x || nat_le limit begun_now then None else Some begins)
+        (Some begins)
         → Led limit answers here (begun_now + 1)
         ((if x then done (finished w) else
         ask (Signals (w.rounds + 1)) w.output w.error
@@ -142,4 +146,4 @@ round_led limit begun_now made w answers next = by_live (is_none_of (live_thread
         (λ answer. begun (ripen (signalled w (posts_of answer))) >>= ended)
         (move_led limit answers here begins (begun_now + 1) 0 next (λ scene. refl))
         (λ answer rest made.
-            begun_led limit (begun_now + 1) (ripen (signalled w (posts_of answer))) rest made)
+        begun_led limit (begun_now + 1) (ripen (signalled w (posts_of answer))) rest made)

@@ -1,5 +1,5 @@
 -- The moves of a run, and its history.
-use Rattle.std.proofs.Common.{ℕ, zero, suc, ◌+◌, ◌-◌, ◌<◌, ◌≤◌, ◌≡◌, refl, sym, ap, ◌∙◌, subst, Bool}
+use Rattle.std.proofs.Common.{ℕ, zero, suc, ◌+◌, ◌-◌, ◌≡◌, refl, sym, ap, ◌∙◌, subst, Bool}
 use Rattle.std.proofs.Common.{true, false, List, [], ◌∷◌, Option, Some, None, if◌then◌else◌, ◌||◌}
 use Rattle.std.proofs.Common.{nat_le, arith}
 use Rattle.std.proofs.lemmas.Bool.{le-leb, lt-leb, or_right, or_from}
@@ -11,20 +11,20 @@ use Rattle.dos_world.specs.declared.Question.{Question}
 use Rattle.dos_world.specs.declared.Question.TheVariants.{Signals}
 use Rattle.dos_world.specs.Laws.{over_then}
 use Rattle.dos_world.specs.declared.Config.{Config}
-use Rattle.dos_world.specs.declared.Ending.{Ending}
 use Rattle.dos_world.specs.declared.Ending.TheVariants.{Done, Limit, Stalled}
 use Rattle.dos_world.proofs.PlayLaws.{over-then}
-use Rattle.flat_machine.specs.Round.{RoundEnd, went, finished, stalled, parallel, round_of, is_none_of}
-use Rattle.flat_machine.specs.Round.{begun_by}
-use Rattle.flat_machine.specs.Machine.{Finish, Ran, rounds_by, result_of, run_from, at_limit, group, seen}
+use Rattle.flat_machine.specs.Round.{RoundEnd, went, finished, stalled, parallel, round_of}
+use Rattle.flat_machine.specs.Round.{begun_by, is_none_of}
+use Rattle.flat_machine.specs.Machine.{Finish, rounds_by, result_of, run_from, group, seen}
 use Rattle.flat_machine.specs.Opening.{opening}
 use Rattle.elf_image.specs.Image.{Image}
 use Rattle.group_moves.specs.Places.{Scene, between_rounds, at_end}
 use Rattle.group_moves.specs.Moves.{MoveKind, begins, move_of}
-use Rattle.group_moves.specs.Moments.{Moment, moment_at, moment_behind, settled_scene, kind_at, walk}
+use Rattle.group_moves.specs.Moments.{Moment, moment_at, moment_behind, settled_scene, kind_at}
+use Rattle.group_moves.specs.Moments.{walk}
 use Rattle.group_moves.specs.Moments.{first_moment, moves_from, history, ending_at}
-use Rattle.group_moves.specs.Laws.{walk_from, scene_of, finish_by, EndsAs, last_moment, AsksAt, EndsAt}
-use Rattle.group_moves.specs.Laws.{IsOver, FoldsAt, FoldsTo}
+use Rattle.group_moves.specs.Laws.{walk_from, scene_of, finish_by, EndsAs, last_moment, EndsAt}
+use Rattle.group_moves.specs.Laws.{IsHistoryOver, FoldsAt, FoldsTo}
 use Rattle.group_moves.proofs.Leading.{then_more, then_more-assoc, then_more_sum, Led}
 use Rattle.group_moves.proofs.Rounds.{round_led}
 
@@ -45,8 +45,9 @@ stays limit answers m none (suc c) = ap by_kind none
         ]
 
 over_at : (limit : ℕ) (answers : List Answer) (m : Moment) → kind_at limit m ≡ None → (c : ℕ)
-    → IsOver limit (walk c limit answers m)
-over_at limit answers m none c = subst (IsOver limit) (sym (stays limit answers m none c)) none
+    → IsHistoryOver limit (walk c limit answers m)
+over_at limit answers m none c =
+    subst (IsHistoryOver limit) (sym (stays limit answers m none c)) none
 
 -- ---- rounds one after another
 
@@ -55,7 +56,7 @@ record Ended (limit : ℕ) (answers : List Answer) (m : Moment) (run : Outcome F
   moves : ℕ
   work : ℕ
   is : (c : ℕ) → run ≡ finish_by work (walk (then_more moves c) limit answers m)
-  over_there : (c : ℕ) → IsOver limit (walk (then_more moves c) limit answers m)
+  over_there : (c : ℕ) → IsHistoryOver limit (walk (then_more moves c) limit answers m)
 
 -- what follows a round
 abbrev next_rounds : ℕ → ℕ → RoundEnd → Play Finish
@@ -87,7 +88,8 @@ module _ (limit : ℕ) where
   round_ends : (n : ℕ) → RoundsEnd n → (begun made : ℕ) (w : World) (answers : List Answer)
       (work : ℕ) → suc n ≡ limit - begun
       → Led limit answers (between begun made w) (begun + 1) (round_of w >>= ended)
-      → Ended limit answers (between begun made w) (over answers (rounds_by parallel (suc n) w work))
+      → Ended limit answers (between begun made w)
+      (over answers (rounds_by parallel (suc n) w work))
   round_ends n again begun made w answers work left l =
       let second = by_outcome (over answers (round_of w)) in
       record {
@@ -103,7 +105,7 @@ module _ (limit : ℕ) where
             ∙ sym (ap (λ k. finish_by second.1 (walk k limit answers (between begun made w)))
             (then_more-assoc l.moves second.0 c));
         over_there = λ c.
-            subst (IsOver limit)
+            subst (IsHistoryOver limit)
             (sym
             (ap (λ k. walk k limit answers (between begun made w))
             (then_more-assoc l.moves second.0 c)
@@ -119,25 +121,32 @@ module _ (limit : ℕ) where
           ≡ finish_by all
           (walk_from (then_more moves c) limit (begun + 1) l.made (over_then o ended)))
           × ((c : ℕ)
-          → IsOver limit
+          → IsHistoryOver limit
           (walk_from (then_more moves c) limit (begun + 1) l.made (over_then o ended)))
       by_outcome (gives (went last more) rest) =
           let e = again (begun + 1) l.made last rest (work + more) (omega (arith, left)) in
           (e.moves, e.work, e.is, e.over_there)
-      by_outcome (gives (finished last) rest) =
-          (zero, work, λ c. sym (ap (finish_by work)
-          (stays limit rest (moment_at (begun + 1) l.made (last, at_end Done)) refl c)),
-          over_at limit rest (moment_at (begun + 1) l.made (last, at_end Done)) refl)
-      by_outcome (gives (stalled last) rest) =
-          (zero, work, λ c. sym (ap (finish_by work)
-          (stays limit rest (moment_at (begun + 1) l.made (last, at_end Stalled)) refl c)),
-          over_at limit rest (moment_at (begun + 1) l.made (last, at_end Stalled)) refl)
+      by_outcome (gives (finished last) rest) = (
+        zero,
+        work,
+        λ c. sym (ap (finish_by work)
+            (stays limit rest (moment_at (begun + 1) l.made (last, at_end Done)) refl c)),
+        over_at limit rest (moment_at (begun + 1) l.made (last, at_end Done)) refl,
+      )
+      by_outcome (gives (stalled last) rest) = (
+        zero,
+        work,
+        λ c. sym (ap (finish_by work)
+            (stays limit rest (moment_at (begun + 1) l.made (last, at_end Stalled)) refl c)),
+        over_at limit rest (moment_at (begun + 1) l.made (last, at_end Stalled)) refl,
+      )
       by_outcome (asks question output error) = (zero, work, λ c. refl, λ c. tt)
 
   -- nobody lives
   nobody_ends : (n begun made : ℕ) (w : World) (answers : List Answer) (work : ℕ)
       → is_none_of (live_threads w) ≡ true
-      → Ended limit answers (between begun made w) (over answers (rounds_by parallel (suc n) w work))
+      → Ended limit answers (between begun made w)
+      (over answers (rounds_by parallel (suc n) w work))
   nobody_ends n begun made w answers work none =
       record {
         moves = zero;
@@ -202,7 +211,7 @@ run_ends w config answers =
           ∙ ap (λ k. finish_by e.work (walk k config.rounds answers (first_moment w)))
           (sym (then_more_sum e.moves more)));
       over_there = λ more.
-          subst (λ k. IsOver config.rounds (walk k config.rounds answers (first_moment w)))
+          subst (λ k. IsHistoryOver config.rounds (walk k config.rounds answers (first_moment w)))
           (sym (then_more_sum e.moves more)) (e.over_there more);
     }
 
@@ -250,7 +259,8 @@ walk_ends (suc moves) limit answers m =
         → EndsAt limit
         (last_moment m
         (elim k as (λ _. List (MoveKind × Moment)) [
-          | None ↦ [] | Some kind ↦ moved kind (over answers (move_of m.world m.place))
+          | None ↦ []
+          | Some kind ↦ moved kind (over answers (move_of m.world m.place))
         ]))
         (elim k as (λ _. Outcome Moment) [
           | None ↦ gives m answers
@@ -288,10 +298,12 @@ history_folds images config answers =
     reached moves = last_moment start (history moves images config answers)
 
     by_outcome : (m : Moment) (o : Outcome Moment)
-        → EndsAt config.rounds m o → IsOver config.rounds o
+        → EndsAt config.rounds m o → IsHistoryOver config.rounds o
         → FoldsAt asked e.work config.rounds m (result_of asked (finish_by e.work o))
-    by_outcome m (gives there rest) same none =
-        (subst (λ x. kind_at config.rounds x ≡ None) (sym same) none,
-        ap (λ x. seen asked
-        (record { ending = ending_at x.world x.place; world = x.world; work = e.work })) (sym same))
+    by_outcome m (gives there rest) same none = (
+      subst (λ x. kind_at config.rounds x ≡ None) (sym same) none,
+      ap (λ x. seen asked
+          (record { ending = ending_at x.world x.place; world = x.world; work = e.work }))
+          (sym same),
+    )
     by_outcome m (asks question output error) asking none = asking

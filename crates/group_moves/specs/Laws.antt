@@ -9,9 +9,10 @@ use Rattle.dos_world.specs.declared.Ending.TheVariants.{Done, Stalled}
 use Rattle.elf_image.specs.Image.{Image}
 use Rattle.flat_machine.specs.Alone.{steps}
 use Rattle.flat_machine.specs.Rest.{turns, serial_of}
-use Rattle.flat_machine.specs.Round.{RoundEnd, went, finished, stalled, all_alone, counted, round_of}
-use Rattle.flat_machine.specs.Machine.{Finish, Ran, ends, needs, seen, result_of, run_from, machine_from}
-use Rattle.flat_machine.specs.Machine.{group, machine}
+use Rattle.flat_machine.specs.Round.{RoundEnd, went, finished, stalled, all_alone, counted}
+use Rattle.flat_machine.specs.Round.{round_of}
+use Rattle.flat_machine.specs.Machine.{Finish, Ran, ends, needs, seen, result_of, group, machine}
+use Rattle.flat_machine.specs.Machine.{run_from, machine_from}
 use Rattle.flat_machine.specs.Opening.{opening}
 use Rattle.group_moves.specs.Places.{between_rounds, within_part, within_rest, at_end, Scene}
 use Rattle.group_moves.specs.Places.{to_parts, to_rests, passed_on}
@@ -44,8 +45,8 @@ pub record Leads (limit : ℕ) (answers : List Answer) (from : Moment) (begun : 
 abbrev pub PartsAreInstructions : Type 0
 PartsAreInstructions = (limit begun made left t : ℕ) (starters ts : List ℕ) (w : World)
     (answers : List Answer)
-    → Leads limit answers (moment_at begun made (passed_on w (within_part starters t left ts))) begun
-    (done (to_parts (steps left w t) starters ts))
+    → Leads limit answers (moment_at begun made (passed_on w (within_part starters t left ts)))
+    begun (done (to_parts (steps left w t) starters ts))
 
 -- The moves of the parallel phase are all its threads' parts, one after another; the serial phase
 -- comes behind them.
@@ -59,8 +60,8 @@ PartsAreTheParallelPhase = (limit begun made : ℕ) (starters ts : List ℕ) (w 
 abbrev pub RestsAreTurns : Type 0
 RestsAreTurns = (limit begun made left t : ℕ) (starters ts : List ℕ) (w : World)
     (answers : List Answer)
-    → Leads limit answers (moment_at begun made (passed_on w (within_rest starters t left ts))) begun
-    (turns left w t >>= λ last. done (to_rests last starters ts))
+    → Leads limit answers (moment_at begun made (passed_on w (within_rest starters t left ts)))
+    begun (turns left w t >>= λ last. done (to_rests last starters ts))
 
 -- The moves of the serial phase are that phase, and the round is counted behind them.
 abbrev pub RestsAreTheSerialPhase : Type 0
@@ -93,9 +94,9 @@ finish_by work (gives m rest) =
 finish_by work (asks question output error) = asks question output error
 
 -- A walk that has come to a moment has come to the end: no move is next there.
-abbrev pub IsOver : (limit : ℕ) → Outcome Moment → Type 0
-IsOver limit (gives m rest) = kind_at limit m ≡ None
-IsOver limit (asks question output error) = ⊤
+abbrev pub IsHistoryOver : (limit : ℕ) → Outcome Moment → Type 0
+IsHistoryOver limit (gives m rest) = kind_at limit m ≡ None
+IsHistoryOver limit (asks question output error) = ⊤
 
 -- Over these answers a run from a world is, after some number of moves and whatever number behind
 -- them, what the walk along its history leads to: it has ended in the same world, and so with the
@@ -108,7 +109,7 @@ pub record EndsAs (w : World) (config : Config) (answers : List Answer) : Type 0
       ≡ result_of (questions answers (run_from w config))
       (finish_by work (walk (moves + more) config.rounds answers (first_moment w)))
   pub over_there : (more : ℕ)
-      → IsOver config.rounds (walk (moves + more) config.rounds answers (first_moment w))
+      → IsHistoryOver config.rounds (walk (moves + more) config.rounds answers (first_moment w))
 
 -- The moves of a run are the machine's run.
 abbrev pub RunsAreTheirMoves : Type 0

@@ -10,7 +10,7 @@ use Rattle.elf_image.specs.Image.{Image}
 use Rattle.flat_machine.specs.Opening.{opening}
 use Rattle.flat_machine.specs.Round.{is_none_of}
 use Rattle.group_moves.specs.Places.{Place, between_rounds, at_end, Scene, passed_on}
-use Rattle.group_moves.specs.Moves.{MoveKind, begins, runs, is_served, faults, next_kind, move_of}
+use Rattle.group_moves.specs.Moves.{MoveKind, begins, next_kind, move_of}
 
 -- how many rounds have begun, how many moves were made since the last of them did, and the scene
 pub record Moment : Type 0 where

@@ -1,6 +1,6 @@
 -- The moves of a run: the begin of a round, an instruction, a service, a fault. This project's own
 -- rule.
-use Rattle.std.specs.Prelude.{ℕ, ◌+◌, List, [], ◌∷◌, Option, Some, None, Result, Ok, Err, ◌||◌}
+use Rattle.std.specs.Prelude.{ℕ, ◌+◌, List, Option, Some, None, Result, Ok, Err, ◌||◌}
 use Rattle.std.specs.Prelude.{nat_le, pred, if◌then◌else◌}
 use Rattle.dos_world.specs.World.{World, live_threads, ready_threads}
 use Rattle.dos_world.specs.Signals.{signalled, ripen}
