@@ -88,11 +88,11 @@ move_led limit answers m kind begun made next behind =
 pub then_led : {A : Type 0} (limit : ℕ) (answers : List Answer) (m : Moment) (begun : ℕ)
     (p : Play A) (front : A → Scene) (g : A → Play Scene)
     → Led limit answers m begun (p >>= λ a. done (front a))
-    → ((a : A) (rest : List Answer) (made : ℕ)
+    → ((a : A) (rest : List Answer) (made : ℕ) → over answers p ≡ gives a rest
     → Led limit rest (moment_at begun made (front a)) begun (g a))
     → Led limit answers m begun (p >>= g)
 then_led {A} limit answers m begun p front g first next =
-    let second = by_outcome (over answers p) in
+    let second = by_outcome (over answers p) refl in
     record {
       moves = then_more first.moves second.0;
       made = second.1;
@@ -105,10 +105,10 @@ then_led {A} limit answers m begun p front g first next =
           ∙ sym (ap (walk_from c limit begun second.1) (over-then answers p g));
     }
   where
-    by_outcome : (o : Outcome A)
+    by_outcome : (o : Outcome A) → over answers p ≡ o
         → (moves : ℕ) × (made : ℕ) × ((c : ℕ)
         → walk_from (then_more moves c) limit begun first.made (over_then o (λ a. done (front a)))
         ≡ walk_from c limit begun made (over_then o g))
-    by_outcome (gives a rest) =
-        let l = next a rest first.made in (l.moves, l.made, l.is)
-    by_outcome (asks question output error) = (zero, zero, λ c. refl)
+    by_outcome (gives a rest) is =
+        let l = next a rest first.made is in (l.moves, l.made, l.is)
+    by_outcome (asks question output error) is = (zero, zero, λ c. refl)

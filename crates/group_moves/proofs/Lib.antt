@@ -1,3 +1,4 @@
+mod Budgets
 mod Leading
 mod Parts
 mod Rests

@@ -1,8 +1,10 @@
 -- The moves of the serial phase.
 use Rattle.std.proofs.Common.{ℕ, zero, suc, ◌≡◌, refl, sym, ap, ◌∙◌, subst, List, [], ◌∷◌}
-use Rattle.std.proofs.Common.{Option, Some, None, is_some, is_none, Result, Ok, Err, if◌then◌else◌}
+use Rattle.std.proofs.Common.{Bool, false, Option, Some, None, is_some, is_none, Result, Ok, Err}
+use Rattle.std.proofs.Common.{if◌then◌else◌, ◌==◌, ◌||◌, arith}
+use Rattle.std.proofs.lemmas.Bool.{ne_eqb, or_right}
 use Rattle.dos_world.specs.World.{World, Thread, thread_at}
-use Rattle.dos_world.specs.Play.{Play, Answer, done, ◌>>=◌}
+use Rattle.dos_world.specs.Play.{Play, Answer, done, ◌>>=◌, gives, over}
 use Rattle.dos_world.specs.Services.{service_for}
 use Rattle.dos_world.specs.declared.Reason.{Reason}
 use Rattle.dos_world.specs.declared.Reason.TheVariants.{Page, Fault, Service}
@@ -15,6 +17,7 @@ use Rattle.flat_machine.specs.Round.{counted}
 use Rattle.group_moves.specs.Places.{Scene, between_rounds, within_rest, to_rests, passed_on}
 use Rattle.group_moves.specs.Moves.{kind_by, rest_turn}
 use Rattle.group_moves.specs.Moments.{Moment, moment_at, moment_behind, settled_scene}
+use Rattle.group_moves.proofs.Budgets.{budget_is, has_left, emptied_keeps, turn_costs}
 use Rattle.group_moves.proofs.Leading.{Led, nowhere, move_led, then_led}
 
 -- ---- who is gone has no turn
@@ -66,63 +69,79 @@ module _ (limit begun : ℕ) (starters : List ℕ) where
 
   abbrev RestLed : ℕ → ℕ → List ℕ → Type 0
   RestLed left t ts =
-      (w : World) (answers : List Answer) (made : ℕ)
-      → Led limit answers (moment_at begun made (passed_on w (within_rest starters t left ts)))
-      begun (turns left w t >>= λ last. done (to_rests last starters ts))
+      (w : World) (answers : List Answer) (made : ℕ) → budget_of w t ≡ left
+      → Led limit answers (moment_at begun made (passed_on w (within_rest starters t ts))) begun
+      (turns left w t >>= λ last. done (to_rests last starters ts))
 
   turn_led : (left t : ℕ) (ts : List ℕ) → RestLed left t ts
-      → (w : World) (answers : List Answer) (made : ℕ)
-      → Led limit answers (moment_at begun made (w, within_rest starters t (suc left) ts)) begun
+      → (w : World) (answers : List Answer) (made : ℕ) → budget_of w t ≡ suc left
+      → Led limit answers (moment_at begun made (w, within_rest starters t ts)) begun
       (turns (suc left) w t >>= λ last. done (to_rests last starters ts))
-  turn_led left t ts again w answers made =
+  turn_led left t ts again w answers made budget =
       subst (Led limit answers here begun)
-      (sym (then_assoc (turn w t) (goes_on left t)
-      (λ last. done (to_rests last starters ts))))
+      (sym (then_assoc (turn w t) (goes_on left t) (λ last. done (to_rests last starters ts))))
       (then_led limit answers here begun (turn w t)
-      (λ taken. settled_scene (rest_turn starters t left ts taken)) (after_turn left t ts)
+      (λ taken. settled_scene (rest_turn starters t ts taken)) (after_turn left t ts)
       (subst (Led limit answers here begun)
-      (then_assoc (turn w t) (λ taken. done (rest_turn starters t left ts taken))
+      (then_assoc (turn w t) (λ taken. done (rest_turn starters t ts taken))
       (λ s. done (settled_scene s)))
       (move_led limit answers here (kind_by t (settled 3 w t).1) begun (suc made) refl
-      (λ scene. rest_behind t begun made (w, within_rest starters t (suc left) ts) scene
-      (settled 3 w t).1)))
+      (λ scene. rest_behind t begun made (w, within_rest starters t ts) scene (settled 3 w t).1)))
       by_turn)
     where
       here : Moment
-      here = moment_at begun made (w, within_rest starters t (suc left) ts)
+      here = moment_at begun made (w, within_rest starters t ts)
 
       by_turn : (taken : Turn) (rest : List Answer) (made : ℕ)
+          → over answers (turn w t) ≡ gives taken rest
           → Led limit rest
-          (moment_at begun made (settled_scene (rest_turn starters t left ts taken))) begun
+          (moment_at begun made (settled_scene (rest_turn starters t ts taken))) begun
           (after_turn left t ts taken)
-      by_turn (on next) rest made = again next rest made
-      by_turn (over_with last) rest made =
+      by_turn (on next) rest made given =
+          again next rest made
+          (budget_is next t left
+          (turn_costs w next t left answers rest (has_left w t left budget) given))
+      by_turn (over_with last) rest made given =
           nowhere limit rest begun made (to_rests last starters ts)
 
+  -- where it stands, by whether it is gone and by the test of its budget
+  abbrev rest_at : World → ℕ → List ℕ → ℕ → Bool → Bool → Moment
+  rest_at w t ts made gone spent =
+      moment_at begun made
+      (if gone || spent then to_rests w starters ts else (w, within_rest starters t ts))
+
   pub rest_led : (left t : ℕ) (ts : List ℕ) → RestLed left t ts
-  rest_led zero t ts w answers made = nowhere limit answers begun made (to_rests w starters ts)
-  rest_led (suc left) t ts w answers made =
-      by_thread (rest_led left t ts) (thread_at w t) refl
+  rest_led zero t ts w answers made budget =
+      subst
+      (λ over_now. Led limit answers
+      (moment_at begun made
+      (if over_now then to_rests w starters ts else (w, within_rest starters t ts))) begun
+      (done (to_rests w starters ts)))
+      (sym (or_right (is_none (thread_at w t)) (budget_of w t == 0) (ap (λ b. b == 0) budget)))
+      (nowhere limit answers begun made (to_rests w starters ts))
+  rest_led (suc left) t ts w answers made budget =
+      subst
+      (λ spent. Led limit answers (rest_at w t ts made (is_none (thread_at w t)) spent) begun
+      (turns (suc left) w t >>= λ last. done (to_rests last starters ts)))
+      (sym (ne_eqb (budget_of w t) 0 (λ e. omega (arith, budget, e))))
+      (by_thread (rest_led left t ts) (thread_at w t) refl)
     where
       by_thread : RestLed left t ts → (x : Option Thread) → thread_at w t ≡ x
-          → Led limit answers
-          (moment_at begun made
-          (if is_none x then to_rests w starters ts else (w, within_rest starters t (suc left) ts)))
+          → Led limit answers (rest_at w t ts made (is_none x) false)
           begun (turns (suc left) w t >>= λ last. done (to_rests last starters ts))
       by_thread again None gone =
           subst
           (λ taken. Led limit answers (moment_at begun made (to_rests w starters ts)) begun
-          ((taken >>= goes_on left t)
-          >>= λ last. done (to_rests last starters ts)))
+          ((taken >>= goes_on left t) >>= λ last. done (to_rests last starters ts)))
           (sym (gone_turn w t gone))
           (nowhere limit answers begun made (to_rests w starters ts))
-      by_thread again (Some thread) lives = turn_led left t ts again w answers made
+      by_thread again (Some thread) lives = turn_led left t ts again w answers made budget
 
   -- ---- the phase
 
   -- where a thread comes to the front
   abbrev rest_start : World → ℕ → List ℕ → Scene
-  rest_start w t ts = passed_on (emptied w t) (within_rest starters t (budget_of w t) ts)
+  rest_start w t ts = passed_on (emptied w t) (within_rest starters t ts)
 
   pub rests_led : (ts : List ℕ) (w : World) (answers : List Answer) (made : ℕ)
       → Led limit answers (moment_at begun made (to_rests w starters ts)) begun
@@ -154,5 +173,5 @@ module _ (limit begun : ℕ) (starters : List ℕ) where
           (moment_at begun made (rest_start w t ts))
           begun (rest_of w t) (λ v. to_rests v starters ts)
           (λ v. serial_of v ts >>= λ last. done (counted last, between_rounds))
-          (rest_led (budget_of w t) t ts (emptied w t) answers made)
-          again)
+          (rest_led (budget_of w t) t ts (emptied w t) answers made (emptied_keeps w t))
+          (λ v rest made given. again v rest made))

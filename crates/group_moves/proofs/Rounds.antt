@@ -73,7 +73,7 @@ module _ (limit begun_now : ℕ) where
       (λ v. to_rests v starters starters)
       (λ v. serial_of v starters >>= λ last. done (counted last, between_rounds))
       (parts_led limit begun_now starters starters opened answers made)
-      (λ v rest made. rests_led limit begun_now starters starters v rest made)))
+      (λ v rest made given. rests_led limit begun_now starters starters v rest made)))
     where
       starters : List ℕ
       starters = ready_threads w
@@ -145,5 +145,5 @@ round_led limit begun_now made w answers next = by_live (is_none_of (live_thread
         (λ answer. settled_scene (answered_scene w answer))
         (λ answer. begun (ripen (signalled w (posts_of answer))) >>= ended)
         (move_led limit answers here begins (begun_now + 1) 0 next (λ scene. refl))
-        (λ answer rest made.
+        (λ answer rest made given.
         begun_led limit (begun_now + 1) (ripen (signalled w (posts_of answer))) rest made)

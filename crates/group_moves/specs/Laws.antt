@@ -7,7 +7,7 @@ use Rattle.dos_world.specs.declared.Config.{Config}
 use Rattle.dos_world.specs.declared.Question.{Question}
 use Rattle.dos_world.specs.declared.Ending.TheVariants.{Done, Stalled}
 use Rattle.elf_image.specs.Image.{Image}
-use Rattle.flat_machine.specs.Alone.{steps}
+use Rattle.flat_machine.specs.Alone.{budget_of, steps}
 use Rattle.flat_machine.specs.Rest.{turns, serial_of}
 use Rattle.flat_machine.specs.Round.{RoundEnd, went, finished, stalled, all_alone, counted}
 use Rattle.flat_machine.specs.Round.{round_of}
@@ -41,12 +41,13 @@ pub record Leads (limit : ℕ) (answers : List Answer) (from : Moment) (begun : 
 
 -- ---- the phases
 
--- The moves of a thread's part of the parallel phase are its instructions.
+-- The moves of a thread's part of the parallel phase are its instructions, until its budget is 0 or
+-- it stops.
 abbrev pub PartsAreInstructions : Type 0
-PartsAreInstructions = (limit begun made left t : ℕ) (starters ts : List ℕ) (w : World)
+PartsAreInstructions = (limit begun made t : ℕ) (starters ts : List ℕ) (w : World)
     (answers : List Answer)
-    → Leads limit answers (moment_at begun made (passed_on w (within_part starters t left ts)))
-    begun (done (to_parts (steps left w t) starters ts))
+    → Leads limit answers (moment_at begun made (passed_on w (within_part starters t ts))) begun
+    (done (to_parts (steps (budget_of w t) w t) starters ts))
 
 -- The moves of the parallel phase are all its threads' parts, one after another; the serial phase
 -- comes behind them.
@@ -56,12 +57,13 @@ PartsAreTheParallelPhase = (limit begun made : ℕ) (starters ts : List ℕ) (w 
     → Leads limit answers (moment_at begun made (to_parts w starters ts)) begun
     (done (to_rests (all_alone w ts) starters starters))
 
--- The moves of a thread's part of the serial phase are its turns.
+-- The moves of a thread's part of the serial phase are its turns, until its budget is 0 or it
+-- waits, yields or is gone.
 abbrev pub RestsAreTurns : Type 0
-RestsAreTurns = (limit begun made left t : ℕ) (starters ts : List ℕ) (w : World)
+RestsAreTurns = (limit begun made t : ℕ) (starters ts : List ℕ) (w : World)
     (answers : List Answer)
-    → Leads limit answers (moment_at begun made (passed_on w (within_rest starters t left ts)))
-    begun (turns left w t >>= λ last. done (to_rests last starters ts))
+    → Leads limit answers (moment_at begun made (passed_on w (within_rest starters t ts))) begun
+    (turns (budget_of w t) w t >>= λ last. done (to_rests last starters ts))
 
 -- The moves of the serial phase are that phase, and the round is counted behind them.
 abbrev pub RestsAreTheSerialPhase : Type 0

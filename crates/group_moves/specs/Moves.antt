@@ -1,7 +1,7 @@
 -- The moves of a run: the begin of a round, an instruction, a service, a fault. This project's own
 -- rule.
 use Rattle.std.specs.Prelude.{ℕ, ◌+◌, List, Option, Some, None, Result, Ok, Err, ◌||◌}
-use Rattle.std.specs.Prelude.{nat_le, pred, if◌then◌else◌}
+use Rattle.std.specs.Prelude.{nat_le, if◌then◌else◌}
 use Rattle.dos_world.specs.World.{World, live_threads, ready_threads}
 use Rattle.dos_world.specs.Signals.{signalled, ripen}
 use Rattle.dos_world.specs.Play.{Play, Answer, done, ask, ◌>>=◌, posts_of}
@@ -36,8 +36,8 @@ kind_by t (Err Service) = is_served t
 abbrev pub next_kind : (limit begun : ℕ) → World → Place → Option MoveKind
 next_kind limit begun w between_rounds =
     if is_none_of (live_threads w) || nat_le limit begun then None else Some begins
-next_kind limit begun w (within_part starters t left ts) = Some (runs t)
-next_kind limit begun w (within_rest starters t left ts) = Some (kind_by t (settled 3 w t).1)
+next_kind limit begun w (within_part starters t ts) = Some (runs t)
+next_kind limit begun w (within_rest starters t ts) = Some (kind_by t (settled 3 w t).1)
 next_kind limit begun w _ = None
 
 -- ---- what it does
@@ -58,21 +58,21 @@ begin_of w = ask (Signals (w.rounds + 1)) w.output w.error
     (λ answer. done (answered_scene w answer))
 
 -- An instruction of the parallel phase. Where it stops, nothing is done.
-abbrev pub part_step : List ℕ → ℕ → (left : ℕ) → List ℕ → World → Result World Reason → Scene
-part_step starters t left ts w (Ok next) = (next, within_part starters t left ts)
-part_step starters t left ts w (Err reason) = (w, within_part starters t left ts)
+abbrev pub part_step : List ℕ → ℕ → List ℕ → World → Result World Reason → Scene
+part_step starters t ts w (Ok next) = (next, within_part starters t ts)
+part_step starters t ts w (Err reason) = (w, within_part starters t ts)
 
 -- A turn of the serial phase, with the grants before it. Where the part is over in it, the next
 -- thread comes.
-abbrev pub rest_turn : List ℕ → ℕ → (left : ℕ) → List ℕ → Turn → Scene
-rest_turn starters t left ts (on next) = (next, within_rest starters t left ts)
-rest_turn starters t left ts (over_with last) = (last, before_rests starters ts)
+abbrev pub rest_turn : List ℕ → ℕ → List ℕ → Turn → Scene
+rest_turn starters t ts (on next) = (next, within_rest starters t ts)
+rest_turn starters t ts (over_with last) = (last, before_rests starters ts)
 
--- the move that is next; it is one of those left to its thread
+-- the move that is next
 abbrev pub move_of : World → Place → Play Scene
 move_of w between_rounds = begin_of w
-move_of w (within_part starters t left ts) =
-    done (part_step starters t (pred left) ts w (step w t))
-move_of w (within_rest starters t left ts) =
-    turn w t >>= λ taken. done (rest_turn starters t (pred left) ts taken)
+move_of w (within_part starters t ts) =
+    done (part_step starters t ts w (step w t))
+move_of w (within_rest starters t ts) =
+    turn w t >>= λ taken. done (rest_turn starters t ts taken)
 move_of w place = done (w, place)
