@@ -24,7 +24,7 @@ use Rattle.group_moves.specs.Moments.{Moment, moment_at, moment_behind, settled_
 use Rattle.group_moves.specs.Moments.{walk}
 use Rattle.group_moves.specs.Moments.{first_moment, moves_from, history, ending_at}
 use Rattle.group_moves.specs.Laws.{walk_from, scene_of, finish_by, EndsAs, last_moment, EndsAt}
-use Rattle.group_moves.specs.Laws.{IsHistoryOver, FoldsAt, FoldsTo}
+use Rattle.group_moves.specs.Laws.{walk_on, IsHistoryOver, FoldsAt, FoldsTo}
 use Rattle.group_moves.proofs.Leading.{then_more, then_more-assoc, then_more_sum, Led}
 use Rattle.group_moves.proofs.Rounds.{round_led}
 
@@ -269,6 +269,54 @@ walk_ends (suc moves) limit answers m =
     by_kind again None none = refl
     by_kind again (Some kind) next =
         by_outcome again kind next (over answers (move_of m.world m.place)) refl
+
+-- ---- walks one behind the other
+
+walk_more : (moves more limit : ℕ) (answers : List Answer) (m : Moment)
+    → walk (then_more moves more) limit answers m ≡ walk_on more limit (walk moves limit answers m)
+walk_more zero more limit answers m = refl
+walk_more (suc moves) more limit answers m =
+    by_kind (λ rest next. walk_more moves more limit rest next) (kind_at limit m) refl
+  where
+    behind : MoveKind → Scene → Moment
+    behind kind scene = moment_behind kind m (settled_scene scene)
+
+    walked : ℕ → MoveKind → Outcome Scene → Outcome Moment
+    walked n kind o =
+        elim o [
+          | asks question output error ↦ asks question output error
+          | gives scene rest ↦ walk n limit rest (moment_behind kind m (settled_scene scene))
+        ]
+
+    by_outcome : ((rest : List Answer) (next : Moment)
+        → walk (then_more moves more) limit rest next
+        ≡ walk_on more limit (walk moves limit rest next))
+        → (kind : MoveKind) (o : Outcome Scene)
+        → walked (then_more moves more) kind o ≡ walk_on more limit (walked moves kind o)
+    by_outcome again kind (gives scene rest) = again rest (behind kind scene)
+    by_outcome again kind (asks question output error) = refl
+
+    by_kind : ((rest : List Answer) (next : Moment)
+        → walk (then_more moves more) limit rest next
+        ≡ walk_on more limit (walk moves limit rest next))
+        → (k : Option MoveKind) → kind_at limit m ≡ k
+        → elim k as (λ _. Outcome Moment) [
+          | None ↦ gives m answers
+          | Some kind ↦ walked (then_more moves more) kind (over answers (move_of m.world m.place))
+        ]
+        ≡ walk_on more limit
+        (elim k as (λ _. Outcome Moment) [
+          | None ↦ gives m answers
+          | Some kind ↦ walked moves kind (over answers (move_of m.world m.place))
+        ])
+    by_kind again None none = sym (stays limit answers m none more)
+    by_kind again (Some kind) next = by_outcome again kind (over answers (move_of m.world m.place))
+
+pub walks_on : (moves more limit : ℕ) (answers : List Answer) (m : Moment)
+    → walk (moves + more) limit answers m ≡ walk_on more limit (walk moves limit answers m)
+walks_on moves more limit answers m =
+    ap (λ n. walk n limit answers m) (then_more_sum moves more)
+    ∙ walk_more moves more limit answers m
 
 -- ---- the history of images
 

@@ -143,6 +143,16 @@ abbrev pub WalksEndHistories : Type 0
 WalksEndHistories = (moves limit : ℕ) (answers : List Answer) (m : Moment)
     → EndsAt limit (last_moment m (moves_from moves limit answers m)) (walk moves limit answers m)
 
+-- what a walk comes to, and from there so many moves more
+abbrev pub walk_on : (more limit : ℕ) → Outcome Moment → Outcome Moment
+walk_on more limit (gives m rest) = walk more limit rest m
+walk_on more limit (asks question output error) = asks question output error
+
+-- So many moves and then more are one walk.
+abbrev pub WalksGoOn : Type 0
+WalksGoOn = (moves more limit : ℕ) (answers : List Answer) (m : Moment)
+    → walk (moves + more) limit answers m ≡ walk_on more limit (walk moves limit answers m)
+
 -- ---- the history of images
 
 -- What is seen of a run, by the last moment of its history: no move is next there, and its world is

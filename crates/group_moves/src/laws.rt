@@ -3,7 +3,7 @@ ghost use Rattle.group_moves.specs.Laws.{HistoriesFoldToTheMachine};
 ghost use Rattle.group_moves.specs.Laws.{PartsAreInstructions, PartsAreTheParallelPhase};
 ghost use Rattle.group_moves.specs.Laws.{RestsAreTheSerialPhase, RestsAreTurns};
 ghost use Rattle.group_moves.specs.Laws.{RoundsAreTheirMoves, RunsAreTheirMoves};
-ghost use Rattle.group_moves.specs.Laws.{WalksEndHistories};
+ghost use Rattle.group_moves.specs.Laws.{WalksEndHistories, WalksGoOn};
 
 // ---- the phases
 
@@ -43,6 +43,11 @@ pub fn runs_are_their_moves()
 /// moment's move would ask.
 pub fn walks_end_histories()
     ensures { WalksEndHistories }
+{}
+
+/// So many moves and then more are one walk.
+pub fn walks_go_on()
+    ensures { WalksGoOn }
 {}
 
 /// The history of images folds to the machine: behind some number of moves no move is left where
