@@ -19,6 +19,7 @@ use Rattle.flat_machine.specs.Rest.{Turn, on, over_with, settled, page_granted, 
 use Rattle.flat_machine.specs.Rest.{after_step, service_done}
 use Rattle.flat_machine.proofs.Threads.{seen-changed}
 use Rattle.flat_machine.proofs.Stays.{step-form}
+use Rattle.group_moves.specs.Laws.{HasLeft}
 use Rattle.round_core.specs.Protocol.{any_protocol, Allows}
 use Rattle.round_core.proofs.Allowed.{over_allows}
 use Rattle.round_core.proofs.Services.{Said, Stands, service_left}
@@ -27,10 +28,6 @@ use Rattle.round_core.proofs.Services.{Said, Stands, service_left}
 
 abbrev budget_seen : Option Thread → Option ℕ
 budget_seen o = option_map (λ (x : Thread). x.budget) o
-
--- t lives and has this budget
-abbrev pub HasLeft : World → ℕ → ℕ → Type 0
-HasLeft w t b = budget_seen (thread_at w t) ≡ Some b
 
 abbrev budget_in : Option Thread → ℕ
 budget_in o = elim o as (λ _. ℕ) [ None ↦ 0 | Some thread ↦ thread.budget ]

@@ -4,4 +4,5 @@ mod Parts
 mod Rests
 mod Rounds
 mod Runs
+mod Settled
 mod WorkedHistories

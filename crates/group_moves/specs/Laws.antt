@@ -1,23 +1,26 @@
 -- Laws of moves: one after another they are the machine's phases, its rounds and its run. The
 -- functions of `laws` promise them. This project's own.
-use Rattle.std.specs.Prelude.{ℕ, ◌+◌, ◌≡◌, List, [], ◌∷◌, Some, None, ⊤}
-use Rattle.dos_world.specs.World.{World}
+use Rattle.std.specs.Prelude.{ℕ, ◌+◌, ◌≡◌, List, [], ◌∷◌, Some, None, Ok, ⊤}
+use Rattle.std.specs.Prelude.{option_map}
+use Rattle.dos_world.specs.World.{World, Thread, thread_at}
 use Rattle.dos_world.specs.Play.{Play, Answer, Outcome, gives, asks, done, ◌>>=◌, over, questions}
 use Rattle.dos_world.specs.declared.Config.{Config}
 use Rattle.dos_world.specs.declared.Question.{Question}
 use Rattle.dos_world.specs.declared.Ending.TheVariants.{Done, Stalled}
 use Rattle.elf_image.specs.Image.{Image}
 use Rattle.flat_machine.specs.Alone.{budget_of, steps}
-use Rattle.flat_machine.specs.Rest.{turns, serial_of}
+use Rattle.flat_machine.specs.Step.{step}
+use Rattle.flat_machine.specs.Rest.{on, turn, turns, serial_of}
 use Rattle.flat_machine.specs.Round.{RoundEnd, went, finished, stalled, all_alone, counted}
 use Rattle.flat_machine.specs.Round.{round_of}
 use Rattle.flat_machine.specs.Machine.{Finish, Ran, ends, needs, seen, result_of, group, machine}
 use Rattle.flat_machine.specs.Machine.{run_from, machine_from}
 use Rattle.flat_machine.specs.Opening.{opening}
-use Rattle.group_moves.specs.Places.{between_rounds, within_part, within_rest, at_end, Scene}
+use Rattle.group_moves.specs.Places.{Place, between_rounds, within_part, within_rest, at_end, Scene}
 use Rattle.group_moves.specs.Places.{to_parts, to_rests, passed_on}
 use Rattle.group_moves.specs.Moves.{MoveKind, begins, move_of}
 use Rattle.group_moves.specs.Moments.{Moment, moment_at, first_moment, kind_at, moves_from, walk}
+use Rattle.group_moves.specs.Moments.{settled_scene}
 use Rattle.group_moves.specs.Moments.{ending_at, history}
 
 -- ---- where moves lead
@@ -38,6 +41,28 @@ pub record Leads (limit : ℕ) (answers : List Answer) (from : Moment) (begun : 
   pub is : (more : ℕ)
       → walk (moves + more) limit answers from
       ≡ walk_from more limit begun made (over answers play)
+
+-- ---- moves
+
+-- What happens without a move happens at once: nothing of it is left to happen.
+abbrev pub PlacesAreSettled : Type 0
+PlacesAreSettled = (w : World) (place : Place)
+    → settled_scene (passed_on w place) ≡ passed_on w place
+
+-- t lives and has this budget
+abbrev pub HasLeft : World → ℕ → (budget : ℕ) → Type 0
+HasLeft w t budget = option_map (λ (thread : Thread). thread.budget) (thread_at w t) ≡ Some budget
+
+-- An instruction costs its thread one of its budget.
+abbrev pub InstructionsCostOne : Type 0
+InstructionsCostOne = (w next : World) (t left : ℕ) → step w t ≡ Ok next → HasLeft w t (left + 1)
+    → HasLeft next t left
+
+-- So does a turn of the serial phase behind which the part goes on.
+abbrev pub TurnsCostOne : Type 0
+TurnsCostOne = (w next : World) (t left : ℕ) (answers rest : List Answer)
+    → HasLeft w t (left + 1) → over answers (turn w t) ≡ gives (on next) rest
+    → HasLeft next t left
 
 -- ---- the phases
 

@@ -1,9 +1,26 @@
 // Laws of the definitions, as contracts of functions that do nothing.
-ghost use Rattle.group_moves.specs.Laws.{HistoriesFoldToTheMachine};
+ghost use Rattle.group_moves.specs.Laws.{HistoriesFoldToTheMachine, InstructionsCostOne};
 ghost use Rattle.group_moves.specs.Laws.{PartsAreInstructions, PartsAreTheParallelPhase};
-ghost use Rattle.group_moves.specs.Laws.{RestsAreTheSerialPhase, RestsAreTurns};
+ghost use Rattle.group_moves.specs.Laws.{PlacesAreSettled, RestsAreTheSerialPhase, RestsAreTurns};
 ghost use Rattle.group_moves.specs.Laws.{RoundsAreTheirMoves, RunsAreTheirMoves};
-ghost use Rattle.group_moves.specs.Laws.{WalksEndHistories, WalksGoOn};
+ghost use Rattle.group_moves.specs.Laws.{TurnsCostOne, WalksEndHistories, WalksGoOn};
+
+// ---- moves
+
+/// What happens without a move happens at once: nothing of it is left to happen.
+pub fn places_are_settled()
+    ensures { PlacesAreSettled }
+{}
+
+/// An instruction costs its thread one of its budget.
+pub fn instructions_cost_one()
+    ensures { InstructionsCostOne }
+{}
+
+/// A turn of the serial phase behind which the part goes on costs its thread one of its budget.
+pub fn turns_cost_one()
+    ensures { TurnsCostOne }
+{}
 
 // ---- the phases
 
