@@ -1,1 +1,8 @@
+mod Budgets
+mod Leading
+mod Parts
+mod Rests
+mod Rounds
+mod Runs
+mod Settled
 mod WorkedHistories

@@ -6,7 +6,7 @@ use Rattle.dos_world.specs.declared.Config.{Config}
 use Rattle.elf_image.specs.Image.{Image}
 use Rattle.flat_machine.specs.Computing.{computing}
 use Rattle.group_moves.specs.Moves.{MoveKind, begins, runs, is_served, faults}
-use Rattle.group_moves.specs.Moments.{Moment, history}
+use Rattle.group_moves.specs.Moments.{history}
 
 -- an image of these instruction words at 0x10000, entered at the first
 abbrev program : List ℕ → Image

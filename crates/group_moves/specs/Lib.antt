@@ -1,3 +1,4 @@
 pub mod Places
 pub mod Moves
 pub mod Moments
+pub mod Laws

@@ -1,10 +1,10 @@
 -- The moves of a run: the begin of a round, an instruction, a service, a fault. This project's own
 -- rule.
-use Rattle.std.specs.Prelude.{ℕ, ◌+◌, List, [], ◌∷◌, Option, Some, None, Result, Ok, Err, ◌||◌}
+use Rattle.std.specs.Prelude.{ℕ, ◌+◌, List, Option, Some, None, Result, Ok, Err, ◌||◌}
 use Rattle.std.specs.Prelude.{nat_le, if◌then◌else◌}
 use Rattle.dos_world.specs.World.{World, live_threads, ready_threads}
 use Rattle.dos_world.specs.Signals.{signalled, ripen}
-use Rattle.dos_world.specs.Play.{Play, done, ask, ◌>>=◌, posts_of}
+use Rattle.dos_world.specs.Play.{Play, Answer, done, ask, ◌>>=◌, posts_of}
 use Rattle.dos_world.specs.declared.Ending.TheVariants.{Done, Stalled}
 use Rattle.dos_world.specs.declared.Question.TheVariants.{Signals}
 use Rattle.dos_world.specs.declared.Reason.{Reason}
@@ -23,20 +23,22 @@ pub data MoveKind : Type 0 where
   runs is_served : (thread : ℕ) → MoveKind
   faults : (thread number : ℕ) → MoveKind
 
--- what a thread does in the serial phase; a stop at a page can't be left over
-abbrev pub kind_by : ℕ → Result World Reason → Option MoveKind
-kind_by t (Ok next) = Some (runs t)
-kind_by t (Err (Page address access)) = None
-kind_by t (Err (Fault number)) = Some (faults t number)
-kind_by t (Err Service) = Some (is_served t)
+-- What a thread does in the serial phase. A stop at a page can't be left over; it would end the
+-- part, as a service that waits does.
+abbrev pub kind_by : ℕ → Result World Reason → MoveKind
+kind_by t (Ok next) = runs t
+kind_by t (Err (Page address access)) = is_served t
+kind_by t (Err (Fault number)) = faults t number
+kind_by t (Err Service) = is_served t
 
--- the move that is next, where nothing happens without one; none behind the last round
-abbrev pub next_kind : (limit : ℕ) → World → Place → Option MoveKind
-next_kind limit w between_rounds =
-    if is_none_of (live_threads w) || nat_le limit w.rounds then None else Some begins
-next_kind limit w (within_part starters t ts) = Some (runs t)
-next_kind limit w (within_rest starters t ts) = kind_by t (settled 3 w t).1
-next_kind limit w _ = None
+-- The move that is next after so many rounds have begun, where nothing happens without one; none
+-- behind the last round.
+abbrev pub next_kind : (limit begun : ℕ) → World → Place → Option MoveKind
+next_kind limit begun w between_rounds =
+    if is_none_of (live_threads w) || nat_le limit begun then None else Some begins
+next_kind limit begun w (within_part starters t ts) = Some (runs t)
+next_kind limit begun w (within_rest starters t ts) = Some (kind_by t (settled 3 w t).1)
+next_kind limit begun w _ = None
 
 -- ---- what it does
 
@@ -47,9 +49,13 @@ begun_scene w =
     else if is_none_of (ready_threads w) then (w, at_end Stalled)
     else (with_budgets w (ready_threads w), before_parts (ready_threads w) (ready_threads w))
 
+-- the same behind the shim's answer
+abbrev pub answered_scene : World → Answer → Scene
+answered_scene w answer = begun_scene (ripen (signalled w (posts_of answer)))
+
 abbrev pub begin_of : World → Play Scene
 begin_of w = ask (Signals (w.rounds + 1)) w.output w.error
-    (λ answer. done (begun_scene (ripen (signalled w (posts_of answer)))))
+    (λ answer. done (answered_scene w answer))
 
 -- An instruction of the parallel phase. Where it stops, nothing is done.
 abbrev pub part_step : List ℕ → ℕ → List ℕ → World → Result World Reason → Scene
@@ -65,7 +71,8 @@ rest_turn starters t ts (over_with last) = (last, before_rests starters ts)
 -- the move that is next
 abbrev pub move_of : World → Place → Play Scene
 move_of w between_rounds = begin_of w
-move_of w (within_part starters t ts) = done (part_step starters t ts w (step w t))
+move_of w (within_part starters t ts) =
+    done (part_step starters t ts w (step w t))
 move_of w (within_rest starters t ts) =
     turn w t >>= λ taken. done (rest_turn starters t ts taken)
 move_of w place = done (w, place)

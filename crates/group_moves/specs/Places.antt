@@ -1,6 +1,5 @@
 -- Whose turn it is within a round, and what happens there without a move. This project's own rule.
-use Rattle.std.specs.Prelude.{ℕ, Bool, List, [], ◌∷◌, Option, Some, None, ◌==◌, ◌||◌, is_none}
-use Rattle.std.specs.Prelude.{is_err, if◌then◌else◌}
+use Rattle.std.specs.Prelude.{ℕ, Bool, List, [], ◌∷◌, is_none, is_err, ◌==◌, ◌||◌, if◌then◌else◌}
 use Rattle.dos_world.specs.World.{World, thread_at}
 use Rattle.dos_world.specs.declared.Ending.{Ending}
 use Rattle.flat_machine.specs.Step.{step}
@@ -26,10 +25,12 @@ Scene = World × Place
 abbrev pub is_rest_over : World → ℕ → Bool
 is_rest_over w t = is_none (thread_at w t) || budget_of w t == 0
 
--- Who comes to the front begins with no reservation. Behind the last the round is counted.
+-- Who lives and comes to the front begins with no reservation. Behind the last the round is
+-- counted.
 abbrev pub to_rests : World → List ℕ → List ℕ → Scene
 to_rests w starters [] = (counted w, between_rounds)
 to_rests w starters (t ∷ ts) =
+    if is_none (thread_at w t) then to_rests w starters ts else
     if is_rest_over (emptied w t) t then to_rests (emptied w t) starters ts
     else (emptied w t, within_rest starters t ts)
 
