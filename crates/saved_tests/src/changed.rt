@@ -33,12 +33,14 @@ fn changed(rt: &impl Abort, alloc: Global, mut spelled: Spelled) -> u32 {
     groups
 }
 
+// Each byte of its digest may be any.
 #[test]
 fn a_smallest_group_with_a_changed_byte(rt: HostRuntime) {
     let spelled = smallest(&rt, rt.alloc());
     assert!(&rt; changed(&rt, rt.alloc(), spelled) > 96);
 }
 
+// Each byte of its two pages may be any.
 #[test]
 fn a_worked_group_with_a_changed_byte(rt: HostRuntime) {
     let spelled = worked(&rt, rt.alloc());

@@ -26,11 +26,12 @@ fn rewritten(alloc: Global, text: &[u8]) -> Result<Option<Vec<u8>>, AllocError> 
     }
 }
 
-/// Whether the text is a group's, which is written as this text again.
+/// Whether the text is a group's, which is written as this text again, into no more room.
 pub fn is_written_again(rt: &impl Abort, alloc: Global, text: &[u8]) -> bool {
     match rewritten(alloc, text).expect(rt, "memory") {
         Some(written) => {
             assert_eq!(rt; written.as_slice(), text);
+            assert_eq!(rt; written.capacity(), text.len());
             true
         }
         None => false,
