@@ -6,3 +6,11 @@ pub mod Told
 pub mod Accesses
 pub mod Sessions
 pub mod Hits
+pub mod Stops
+pub mod Halts
+pub mod Forwards
+pub mod Backwards
+pub mod Waits
+pub mod Lists
+pub mod Where
+pub mod Goals
