@@ -14,3 +14,7 @@ pub mod Waits
 pub mod Lists
 pub mod Where
 pub mod Goals
+pub mod Resuming
+pub mod Current
+pub mod Setting
+pub mod Answers
