@@ -1,2 +1,4 @@
 mod Conversations
 mod OneThread
+mod Processes
+mod Races
