@@ -11,8 +11,8 @@ use Rattle.gdb_packets.specs.Hexadecimal.{bytes_digits}
 use Rattle.debug_session.specs.Positions.{at_start}
 use Rattle.debug_session.specs.Where.{where_lines}
 use Rattle.debug_session.specs.Sessions.{Session, opening_session}
-use Rattle.debug_session.specs.Resuming.{Reply, packet, console, Answered}
-use Rattle.debug_session.specs.Answers.{answered}
+use Rattle.debug_session.specs.Resuming.{Reply, packet, console}
+use Rattle.debug_session.specs.Answers.{answer_to}
 
 -- ---- programs
 
@@ -101,7 +101,7 @@ abbrev pub conversation : Session → List Said → List (List ℕ)
 conversation s [] = []
 conversation s (looked n ∷ asked) =
     without_ends (unwrap_or (slice_get (where_lines s.position) n) []) ∷ conversation s asked
-conversation s (sent text ∷ asked) = elim (answered s text) [
+conversation s (sent text ∷ asked) = elim (answer_to s text) [
   | None ↦ []
   | Some said ↦ map heard_of said.1 ++ conversation said.0 asked
 ]

@@ -1,13 +1,13 @@
 -- Sessions over several processes, computed by the checker. What is heard was worked out by hand.
-use Rattle.std.specs.Prelude.{List, [], ◌∷◌, ◌++◌, refl, codes, replicate}
+use Rattle.std.specs.Prelude.{[], ◌∷◌, ◌++◌, refl, codes, replicate}
 use Rattle.std.specs.Fmt.{digits}
-use Rattle.dos_world.specs.Play.{Answer, posts, input}
-use Rattle.elf_image.specs.Image.{Image}
+use Rattle.dos_world.specs.Play.{posts}
 use Rattle.flat_machine.specs.Computing.{computing}
 use Rattle.gdb_packets.specs.Hexadecimal.{number_digits}
 use Rattle.debug_session.specs.Sessions.{Session}
-use Rattle.debug_session.proofs.Conversations.{Runs, program, with_frames, with_quantum, session_of, session_of_two}
-use Rattle.debug_session.proofs.Conversations.{says, says_more, monitors, looks, exits_with_7, told_forks}
+use Rattle.debug_session.proofs.Conversations.{Runs, program, with_frames, session_of}
+use Rattle.debug_session.proofs.Conversations.{session_of_two}
+use Rattle.debug_session.proofs.Conversations.{says, says_more, looks, exits_with_7, told_forks}
 
 -- fork; the parent waits and exits with the child's status, the child exits with 5
 abbrev forks : Session
@@ -27,7 +27,9 @@ a_fork_is_told : Runs
     ∷ looks 0 (codes "round 2 move 1, parallel phase") ∷ says (codes "p20") (codes "24000100")
     ∷ says (codes "vCont;c") (codes "T05thread:p1.1;replaylog:end;")
     ∷ looks 0 (codes "round 3 move 3, serial phase")
-    ∷ says (codes "qXfer:threads:read::0,400") (codes "l<threads><thread id=\"p1.1\">ready, 997 left</thread><thread id=\"p2.2\">ended, status 5</thread></threads>")
+    ∷ says (codes "qXfer:threads:read::0,400") (codes "l<threads>"
+    ++ codes "<thread id=\"p1.1\">ready, 997 left</thread>"
+    ++ codes "<thread id=\"p2.2\">ended, status 5</thread></threads>")
     ∷ says (codes "bc") (codes "T05thread:p2.2;swbreak:;")
     ∷ says (codes "bc") (codes "T05thread:p1.1;replaylog:begin;") ∷ [])
 unfolding computing number_digits digits

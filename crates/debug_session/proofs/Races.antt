@@ -1,13 +1,13 @@
 -- A race in a debugger, computed by the checker. What is heard was worked out by hand.
-use Rattle.std.specs.Prelude.{List, [], ◌∷◌, refl, codes}
+use Rattle.std.specs.Prelude.{[], ◌∷◌, refl, codes}
 use Rattle.std.specs.Fmt.{digits}
-use Rattle.dos_world.specs.Play.{Answer, posts, input}
+use Rattle.dos_world.specs.Play.{posts}
 use Rattle.elf_image.specs.Image.{Image}
 use Rattle.flat_machine.specs.Computing.{computing}
 use Rattle.gdb_packets.specs.Hexadecimal.{number_digits}
 use Rattle.debug_session.specs.Sessions.{Session}
-use Rattle.debug_session.proofs.Conversations.{Runs, program, with_frames, with_quantum, session_of}
-use Rattle.debug_session.proofs.Conversations.{says, says_more, monitors, looks, exits_with_7}
+use Rattle.debug_session.proofs.Conversations.{Runs, program, with_frames, session_of}
+use Rattle.debug_session.proofs.Conversations.{says, says_more, looks}
 
 -- Two threads load one word, at 0x10050, yield, add 1 and store.
 abbrev race : Image
@@ -29,7 +29,8 @@ who_wrote_it_last : Runs
     ∷ looks 0 (codes "round 3 move 2, serial phase") ∷ says (codes "z2,10050,4") (codes "OK")
     ∷ says (codes "vCont;s:p1.1") (codes "T05thread:p1.1;")
     ∷ says (codes "m10050,4") (codes "31000000") ∷ says (codes "Z2,10050,4") (codes "OK")
-    ∷ says_more (codes "vCont;c:p1.-1") (codes "\"1\"" ∷ codes "\"1\"" ∷ codes "T05thread:p1.2;replaylog:end;" ∷ [])
+    ∷ says_more (codes "vCont;c:p1.-1") (codes "\"1\"" ∷ codes "\"1\""
+    ∷ codes "T05thread:p1.2;replaylog:end;" ∷ [])
     ∷ looks 0 (codes "round 4 move 13, serial phase")
     ∷ says (codes "bc") (codes "T05thread:p1.1;watch:10050;")
     ∷ looks 0 (codes "round 3 move 3, serial phase") ∷ says (codes "z2,10050,4") (codes "OK")
@@ -46,7 +47,8 @@ who_comes_to_the_store : Runs
     ∷ looks 0 (codes "round 3 move 2, serial phase")
     ∷ says (codes "vCont;c") (codes "T05thread:p1.2;swbreak:;")
     ∷ looks 0 (codes "round 3 move 4, serial phase")
-    ∷ says_more (codes "vCont;c") (codes "\"1\"" ∷ codes "\"1\"" ∷ codes "T05thread:p1.2;replaylog:end;" ∷ [])
+    ∷ says_more (codes "vCont;c") (codes "\"1\"" ∷ codes "\"1\""
+    ∷ codes "T05thread:p1.2;replaylog:end;" ∷ [])
     ∷ says (codes "bc") (codes "T05thread:p1.2;swbreak:;")
     ∷ looks 0 (codes "round 3 move 4, serial phase") ∷ [])
 unfolding computing number_digits digits
@@ -60,7 +62,8 @@ who_comes_to_the_addition : Runs
     ∷ looks 0 (codes "round 3 move 0, parallel phase")
     ∷ says (codes "vCont;c") (codes "T05thread:p1.2;swbreak:;")
     ∷ looks 0 (codes "round 3 move 1, parallel phase")
-    ∷ says_more (codes "vCont;c") (codes "\"1\"" ∷ codes "\"1\"" ∷ codes "T05thread:p1.2;replaylog:end;" ∷ [])
+    ∷ says_more (codes "vCont;c") (codes "\"1\"" ∷ codes "\"1\""
+    ∷ codes "T05thread:p1.2;replaylog:end;" ∷ [])
     ∷ says (codes "bc") (codes "T05thread:p1.2;swbreak:;")
     ∷ says (codes "bc") (codes "T05thread:p1.1;swbreak:;") ∷ [])
 unfolding computing number_digits digits

@@ -1,16 +1,15 @@
 -- Which bytes an instruction loads from and stores to. RISC-V unprivileged manual, edition
 -- 20191213, chapter 8, for the atomic ones; that they are told apart so is this project's own rule.
-use Rattle.std.specs.Prelude.{ℕ, ◌+◌, ◌&&◌, Bool, true, false, List, [], ◌∷◌, Option, Some, None}
-use Rattle.std.specs.Prelude.{Result, Ok, Err, nat_le, nat_lt, is_some, if◌then◌else◌}
-use Rattle.std.specs.List.{list_any}
+use Rattle.std.specs.Prelude.{ℕ, ◌+◌, ◌&&◌, Bool, true, false, Option, Some, None}
+use Rattle.std.specs.Prelude.{Result, Ok, nat_le, nat_lt, is_some}
 use Rattle.dos_world.specs.World.{World, Thread, thread_at}
 use Rattle.dos_world.specs.Reach.{width, loaded}
 use Rattle.dos_world.specs.declared.Reason.{Reason}
 use Rattle.rv_isa.specs.declared.AmoOp.{AmoOp}
-use Rattle.rv_isa.specs.declared.AmoOp.TheVariants.{LrW, ScW}
+use Rattle.rv_isa.specs.declared.AmoOp.TheVariants.{ScW}
 use Rattle.rv_isa.specs.declared.Instr.{Instr}
 use Rattle.rv_isa.specs.declared.Instr.TheVariants.{Amo}
-use Rattle.flat_machine.specs.Effect.{Effect, goes, loads, stores, claims, stops, effect}
+use Rattle.flat_machine.specs.Effect.{Effect, loads, stores, claims, effect}
 use Rattle.flat_machine.specs.Step.{instruction_at}
 use Rattle.flat_machine.specs.Rest.{settled}
 use Rattle.debug_session.specs.Told.{place_of_address}

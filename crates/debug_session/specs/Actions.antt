@@ -1,6 +1,7 @@
 -- Which threads a resumption is for, and what each of them does. GDB remote protocol, gdb's manual,
 -- appendix E, section "Packets", `vCont`. That 0 is as good as all is this project's own rule.
-use Rattle.std.specs.Prelude.{ℕ, ◌==◌, ◌&&◌, ◌||◌, Bool, true, false, List, Option, Some, None, find}
+use Rattle.std.specs.Prelude.{ℕ, ◌==◌, ◌&&◌, ◌||◌, Bool, true, false, List, Option, Some, None}
+use Rattle.std.specs.Prelude.{find}
 use Rattle.std.specs.Prelude.{option_map, nat_lt, nat_le, unwrap_or}
 use Rattle.std.specs.List.{list_any}
 use Rattle.group_moves.specs.Moments.{Moment}
@@ -10,9 +11,9 @@ use Rattle.gdb_packets.specs.declared.ids.ThreadId.{ThreadId}
 use Rattle.gdb_packets.specs.declared.ids.ThreadId.TheVariants.{Both, ProcessAlone, ThreadAlone}
 use Rattle.gdb_packets.specs.declared.resumptions.Action.{Action}
 use Rattle.gdb_packets.specs.declared.resumptions.Action.TheVariants.{Continue, ContinueSignal}
-use Rattle.gdb_packets.specs.declared.resumptions.Action.TheVariants.{Step, StepSignal, Range}
+use Rattle.gdb_packets.specs.declared.resumptions.Action.TheVariants.{Range}
 use Rattle.gdb_packets.specs.declared.resumptions.Resumption.{Resumption}
-use Rattle.debug_session.specs.Homes.{is_number, home_of}
+use Rattle.debug_session.specs.Homes.{is_some_number, home_of}
 
 -- ---- ids
 
@@ -31,7 +32,7 @@ id_fits (ThreadAlone thread) p t = which_fits thread t
 abbrev pub which_is_of : List Moment → Which → ℕ → Bool
 which_is_of moments All p = true
 which_is_of moments Any p = true
-which_is_of moments (Only t) p = is_number p (home_of moments t)
+which_is_of moments (Only t) p = is_some_number p (home_of moments t)
 
 -- an id fits a process or a thread of it
 abbrev pub id_names : List Moment → ThreadId → ℕ → Bool
@@ -52,9 +53,9 @@ thread_named (ThreadAlone thread) = which_only thread
 
 -- ---- actions
 
-abbrev pub is_range : Action → Bool
-is_range (Range low high) = true
-is_range _ = false
+abbrev pub is_range_action : Action → Bool
+is_range_action (Range low high) = true
+is_range_action _ = false
 
 -- a step, or steps within a range
 abbrev pub is_stepping : Action → Bool
@@ -65,7 +66,7 @@ is_stepping _ = true
 -- Of several ranges the first counts for all.
 abbrev pub range_action : List Resumption → Action → Action
 range_action rs (Range low high) =
-    unwrap_or (option_map (λ (r : Resumption). r.action) (find (λ r. is_range r.action) rs))
+    unwrap_or (option_map (λ (r : Resumption). r.action) (find (λ r. is_range_action r.action) rs))
     (Range low high)
 range_action rs action = action
 

@@ -1,12 +1,11 @@
 -- What a session answers to a packet, by its bytes. GDB remote protocol, gdb's manual, appendix E;
--- what a packet may hold and which are answered is this project's own rule. Not here yet: files, the
--- description of the registers, and what a person asks beyond `where` and `goto`.
-use Rattle.std.specs.Prelude.{ℕ, ◌==◌, Bool, true, false, not, List, [], ◌∷◌, ◌++◌, map, filter, drop}
+-- which packets are answered is this project's own rule. Not here yet: files, the description of
+-- the registers, and of what a person asks `processes`, `page` and `pages`.
+use Rattle.std.specs.Prelude.{ℕ, ◌==◌, Bool, not, List, [], ◌∷◌, ◌++◌, map, filter, drop}
 use Rattle.std.specs.Prelude.{Option, Some, None, codes, unwrap_or, if◌then◌else◌}
 use Rattle.dos_world.specs.World.{World, thread_at}
 use Rattle.gdb_packets.specs.Packets.{packet_from}
 use Rattle.gdb_packets.specs.Resumptions.{resumptions_from}
-use Rattle.gdb_packets.specs.declared.ids.ThreadId.{ThreadId}
 use Rattle.gdb_packets.specs.declared.openings.Plain.{Plain}
 use Rattle.gdb_packets.specs.declared.openings.Plain.TheVariants as plain
 use Rattle.gdb_packets.specs.declared.commands.Command.{Command}
@@ -21,15 +20,18 @@ use Rattle.gdb_packets.specs.declared.packets.Packet.TheVariants.{Remove, Resume
 use Rattle.gdb_packets.specs.declared.packets.Packet.TheVariants.{Detach, KillProcess, Threads}
 use Rattle.gdb_packets.specs.declared.packets.Packet.TheVariants.{Monitor, Malformed, Unknown}
 use Rattle.debug_session.specs.Actions.{thread_named}
-use Rattle.debug_session.specs.Stops.{Stop, plainly, stop_text, pair_text, trap_signal}
+use Rattle.debug_session.specs.Stops.{plainly, stop_text, pair_text, trap_signal}
 use Rattle.debug_session.specs.Sessions.{Session, is_among, listed}
 use Rattle.debug_session.specs.Told.{registers_told, register_told, memory_told}
 use Rattle.debug_session.specs.Lists.{threads_told, threads_text, part_told}
-use Rattle.debug_session.specs.Where.{where_lines, goal_line, goal_form}
+use Rattle.debug_session.specs.Where.{where_lines, goal_line, goal_form, console_line}
+use Rattle.debug_session.specs.Goals.{rewound}
+use Rattle.debug_session.specs.Halts.{puts_from}
+use Rattle.debug_session.specs.Tables.{thread_lines, pipe_lines, end_lines, sleeper_lines}
 use Rattle.debug_session.specs.Current.{named_current}
 use Rattle.debug_session.specs.Setting.{inserts, removes}
-use Rattle.debug_session.specs.Resuming.{Reply, packet, console, Answered, replies_one, resumes}
-use Rattle.debug_session.specs.Resuming.{continued, stepped, continues_back, steps_back}
+use Rattle.debug_session.specs.Resuming.{packet, console, Answered, replies_one, resumes}
+use Rattle.debug_session.specs.Resuming.{continue_actions, step_actions, continues_back, steps_back}
 
 -- ---- the current thread
 
@@ -66,9 +68,9 @@ means s (Some t) =
 
 -- ---- processes that are let go
 
-abbrev pub without_process : Session → Option ℕ → Session
-without_process s None = s
-without_process s (Some p) =
+abbrev pub process_let_go : Session → Option ℕ → Session
+process_let_go s None = s
+process_let_go s (Some p) =
     record s { told = filter (λ k. not (k == p)) s.told; let_go = p ∷ s.let_go }
 
 -- ---- what the server can
@@ -90,13 +92,19 @@ answered_plain s plain.CurrentThread =
 answered_plain s plain.FirstThreads = replies_one s (threads_told s)
 answered_plain s plain.NextThreads = replies_one s (codes "l")
 answered_plain s plain.Registers = replies_one s (all_registers_told s)
-answered_plain s plain.Continue = resumes s (continued s)
-answered_plain s plain.Step = resumes s (stepped s)
+answered_plain s plain.Continue = resumes s (continue_actions s)
+answered_plain s plain.Step = resumes s (step_actions s)
 answered_plain s plain.BackContinue = continues_back s
 answered_plain s plain.BackStep = steps_back s
 answered_plain s plain.Kill = (s, [])
 
 -- ---- what a person asks
+
+-- what may be asked
+abbrev pub command_forms : List ℕ
+command_forms =
+    codes "where, goto ROUND [MOVE], threads, processes, page ADDRESS [PROCESS], "
+    ++ codes "pages [PROCESS], pipes, ends [PROCESS], sleepers, output"
 
 abbrev pub prints : Session → List (List ℕ) → Answered
 prints s lines = (s, map console lines ++ packet (codes "OK") ∷ [])
@@ -106,6 +114,13 @@ answered_command s command.Where = Some (prints s (where_lines s.position))
 answered_command s (command.Goto round made) =
     Some (prints (record s { goal = Some (round, made) }) (goal_line round made ∷ []))
 answered_command s command.GotoForm = Some (prints s (goal_form ∷ []))
+answered_command s command.Threads = Some (prints s (thread_lines (current_world s)))
+answered_command s command.Pipes = Some (prints s (pipe_lines (current_world s)))
+answered_command s (command.Ends p) = Some (prints s (end_lines s p))
+answered_command s command.Sleepers = Some (prints s (sleeper_lines (current_world s)))
+answered_command s command.Output =
+    Some (prints s (puts_from (rewound s.position) s.position))
+answered_command s command.Other = Some (prints s (console_line command_forms ∷ []))
 answered_command s _ = None
 
 -- ---- all of them
@@ -133,14 +148,14 @@ answered_packet s text (Remove point) = Some (removes s point)
 answered_packet s text ResumeForms = Some (replies_one s (codes "vCont;c;C;s;S;r"))
 answered_packet s text Resume = Some (resumes s (actions_in text))
 answered_packet s text (Detach process) =
-    Some (replies_one (without_process s process) (codes "OK"))
+    Some (replies_one (process_let_go s process) (codes "OK"))
 answered_packet s text (KillProcess process) =
-    Some (replies_one (without_process s (Some process)) (codes "OK"))
+    Some (replies_one (process_let_go s (Some process)) (codes "OK"))
 answered_packet s text (Threads part) = Some (replies_one s (part_told (threads_text s) part))
 answered_packet s text (Monitor asked) = answered_command s asked
 answered_packet s text Malformed = Some (replies_one s (codes "E01"))
 answered_packet s text Unknown = Some (replies_one s [])
 answered_packet s text _ = None
 
-abbrev pub answered : Session → List ℕ → Option Answered
-answered s text = answered_packet s text (packet_from text)
+abbrev pub answer_to : Session → List ℕ → Option Answered
+answer_to s text = answered_packet s text (packet_from text)

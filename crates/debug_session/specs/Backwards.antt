@@ -1,5 +1,5 @@
 -- Where a resumption backwards stops. This project's own rule.
-use Rattle.std.specs.Prelude.{ℕ, ◌==◌, ◌&&◌, ◌||◌, Bool, true, false, not, List, [], ◌∷◌, Option}
+use Rattle.std.specs.Prelude.{ℕ, Bool, List, [], ◌∷◌, Option}
 use Rattle.std.specs.Prelude.{Some, None, is_some, if◌then◌else◌}
 use Rattle.std.specs.List.{list_any}
 use Rattle.dos_world.specs.World.{World, thread_at}
@@ -7,9 +7,9 @@ use Rattle.group_moves.specs.Moves.{MoveKind}
 use Rattle.group_moves.specs.Moments.{Moment}
 use Rattle.gdb_packets.specs.declared.resumptions.Resumption.{Resumption}
 use Rattle.debug_session.specs.Positions.{Position, position_at, mover_of}
-use Rattle.debug_session.specs.Homes.{is_number}
+use Rattle.debug_session.specs.Homes.{is_some_number}
 use Rattle.debug_session.specs.Stops.{reached_start, plainly}
-use Rattle.debug_session.specs.Sessions.{Session, is_anybody_there, chosen_at, with_home, Pair}
+use Rattle.debug_session.specs.Sessions.{Session, is_anybody_there, chosen_at, home_pair}
 use Rattle.debug_session.specs.Hits.{broken_by, hit_by}
 use Rattle.debug_session.specs.Halts.{Halt, halt_at}
 use Rattle.debug_session.specs.Forwards.{or_else, halt_broken, halt_watched, pair_or}
@@ -26,7 +26,7 @@ halt_broken_back s rs before mover =
 abbrev pub halt_stepped_back : Session → Position → (stepped mover : Option ℕ) → Option Halt
 halt_stepped_back s before None mover = None
 halt_stepped_back s before (Some t) mover =
-    if is_number t mover then Some (halt_at before (with_home s t) plainly) else None
+    if is_some_number t mover then Some (halt_at before (home_pair s t) plainly) else None
 
 -- A watchpoint; here the position that comes first is the one behind the move.
 abbrev pub halt_back : Session → List Resumption → (stepped : Option ℕ) → (here : Position)

@@ -1,14 +1,14 @@
 -- How the current process and thread are named by a client. GDB remote protocol, gdb's manual,
--- appendix E, section "Packets", `H`; whom an id names that leaves the thread open is this project's
--- own rule.
-use Rattle.std.specs.Prelude.{ℕ, ◌||◌, Bool, Option, Some, None, is_some, unwrap_or, if◌then◌else◌}
+-- appendix E, section "Packets", `H`; whom an id names that leaves the thread open is this
+-- project's own rule.
+use Rattle.std.specs.Prelude.{ℕ, ◌||◌, is_some, unwrap_or, if◌then◌else◌}
 use Rattle.dos_world.specs.World.{World, process_at, first_thread}
 use Rattle.gdb_packets.specs.declared.ids.Which.{Which}
-use Rattle.gdb_packets.specs.declared.ids.Which.TheVariants.{All, Any, Only}
+use Rattle.gdb_packets.specs.declared.ids.Which.TheVariants.{Only}
 use Rattle.gdb_packets.specs.declared.ids.ThreadId.{ThreadId}
 use Rattle.gdb_packets.specs.declared.ids.ThreadId.TheVariants.{Both, ProcessAlone, ThreadAlone}
 use Rattle.debug_session.specs.Positions.{all_moments}
-use Rattle.debug_session.specs.Homes.{is_number, birth_thread}
+use Rattle.debug_session.specs.Homes.{is_some_number, birth_thread}
 use Rattle.debug_session.specs.Sessions.{Session, is_shown, home_in}
 
 -- ---- a thread that stands for its process
@@ -28,7 +28,7 @@ standing_thread s p =
 -- The current thread stays where it is the process's.
 abbrev pub with_process : Session → ℕ → Session
 with_process s p =
-    if is_number p (home_in s s.thread) then record s { process = p }
+    if is_some_number p (home_in s s.thread) then record s { process = p }
     else record s { process = p; thread = standing_thread s p }
 
 -- ---- by an id

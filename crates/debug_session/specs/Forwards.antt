@@ -1,8 +1,7 @@
 -- Where a resumption forwards stops: at the first moment at which something holds that is told.
 -- This project's own rule.
-use Rattle.std.specs.Prelude.{ℕ, suc, ◌==◌, ◌&&◌, ◌||◌, Bool, true, false, not, List, [], ◌∷◌, length}
-use Rattle.std.specs.Prelude.{filter, Option, Some, None, is_none, is_some, if◌then◌else◌, nat_lt}
-use Rattle.std.specs.Prelude.{option_map, option_and_then}
+use Rattle.std.specs.Prelude.{ℕ, ◌&&◌, ◌||◌, Bool, true, false, not, List, [], ◌∷◌, length}
+use Rattle.std.specs.Prelude.{Option, Some, None, is_none, is_some, if◌then◌else◌, nat_lt}
 use Rattle.std.specs.List.{list_any, list_all}
 use Rattle.dos_world.specs.World.{World, Thread, thread_at, first_thread}
 use Rattle.group_moves.specs.Moves.{MoveKind}
@@ -11,10 +10,10 @@ use Rattle.gdb_packets.specs.declared.resumptions.Resumption.{Resumption}
 use Rattle.debug_session.specs.Positions.{Position, position_at, mover_of, mover_at, first_kind}
 use Rattle.debug_session.specs.Actions.{is_stepping, is_stopping, action_of_thread, thread_named}
 use Rattle.debug_session.specs.Points.{Watchpoint}
-use Rattle.debug_session.specs.Stops.{Cause, broke, watched, bore, reached_end, plainly}
+use Rattle.debug_session.specs.Stops.{broke, watched, bore, reached_end, plainly}
 use Rattle.debug_session.specs.Stops.{fault_signal}
 use Rattle.debug_session.specs.Sessions.{Session, is_told_of, is_anybody_there, is_among}
-use Rattle.debug_session.specs.Sessions.{chosen_at, with_home, Pair}
+use Rattle.debug_session.specs.Sessions.{chosen_at, home_pair, Pair}
 use Rattle.debug_session.specs.Hits.{broken_by, fault_by, hit_by, watching_mover, lowest_watcher}
 use Rattle.debug_session.specs.Halts.{Halt, halt_at, halt_by}
 
@@ -22,12 +21,12 @@ use Rattle.debug_session.specs.Halts.{Halt, halt_at, halt_by}
 
 abbrev pub halt_broken : Session → Position → Option ℕ → Option Halt
 halt_broken s at None = None
-halt_broken s at (Some t) = Some (halt_at at (with_home s t) broke)
+halt_broken s at (Some t) = Some (halt_at at (home_pair s t) broke)
 
 abbrev pub halt_faulted : Session → Position → Option (ℕ × ℕ) → Option Halt
 halt_faulted s at None = None
 halt_faulted s at (Some (t, number)) =
-    Some (halt_by (fault_signal number) at (with_home s t) plainly)
+    Some (halt_by (fault_signal number) at (home_pair s t) plainly)
 
 -- the first that there is
 abbrev pub or_else : Option Halt → Option Halt → Option Halt
@@ -48,7 +47,7 @@ halt_owing at whose point = record (halt_at at whose (watched point)) { owed = S
 
 abbrev pub pair_or : Session → Option ℕ → Pair → Pair
 pair_or s None other = other
-pair_or s (Some t) other = with_home s t
+pair_or s (Some t) other = home_pair s t
 
 -- Told at one position where the mover itself watches; else at the other.
 abbrev pub halt_watched : Session → List Resumption → MoveKind → (behind : World)
@@ -56,7 +55,7 @@ abbrev pub halt_watched : Session → List Resumption → MoveKind → (behind :
 halt_watched s rs kind behind before after None = None
 halt_watched s rs kind behind before after (Some point) =
     elim (watching_mover s rs kind behind point) [
-      | Some t ↦ Some (halt_at before (with_home s t) (watched point))
+      | Some t ↦ Some (halt_at before (home_pair s t) (watched point))
       | None ↦ Some (halt_owing after
           (pair_or s (lowest_watcher s rs behind point) (chosen_at s rs after)) point)
     ]
@@ -87,7 +86,7 @@ is_birth_told s rs before (Some t) child =
 abbrev pub halt_bearing : Session → Position → (parent child : ℕ) → (first : Option ℕ) → Option Halt
 halt_bearing s after t p None = None
 halt_bearing s after t p (Some first) =
-    Some (record (halt_at after (with_home s t) (bore p first)) { born = p ∷ [] })
+    Some (record (halt_at after (home_pair s t) (bore p first)) { born = p ∷ [] })
 
 abbrev pub halt_born : Session → List Resumption → World → (mover : Option ℕ) → Position
     → Option ℕ → Option Halt
@@ -111,7 +110,7 @@ is_step_over rs (Some thread) behind t =
 
 abbrev pub step_pair : Session → List Resumption → Position → ℕ → Pair
 step_pair s rs after t =
-    if is_some (thread_at after.moment.world t) then with_home s t else chosen_at s rs after
+    if is_some (thread_at after.moment.world t) then home_pair s t else chosen_at s rs after
 
 abbrev pub halt_stepped : Session → List Resumption → World → (mover : Option ℕ) → Position
     → Option Halt

@@ -1,5 +1,5 @@
 -- A moment that a person wants to go to. This project's own rule.
-use Rattle.std.specs.Prelude.{ℕ, ◌==◌, ◌&&◌, ◌||◌, Bool, List, [], ◌∷◌, ◌++◌, length, nat_lt, nat_le}
+use Rattle.std.specs.Prelude.{ℕ, ◌==◌, ◌&&◌, ◌||◌, Bool, List, [], ◌∷◌, length, nat_lt, nat_le}
 use Rattle.std.specs.Prelude.{if◌then◌else◌}
 use Rattle.std.specs.List.{list_any}
 use Rattle.dos_world.specs.Numbered.{run_of}
@@ -13,8 +13,8 @@ use Rattle.debug_session.specs.Sessions.{Session, is_process_live, is_shown, cho
 use Rattle.debug_session.specs.Halts.{Halt, halt_by}
 
 -- the moment isn't before this round and move
-abbrev pub is_reached : (round made : ℕ) → Moment → Bool
-is_reached round made m =
+abbrev pub is_moment_reached : (round made : ℕ) → Moment → Bool
+is_moment_reached round made m =
     nat_lt round m.begun_rounds || (round == m.begun_rounds && nat_le made m.made)
 
 -- the first position from here on that isn't before it, or the last one
@@ -22,7 +22,7 @@ abbrev pub reached_from : (round made : ℕ) → (past : List (MoveKind × Momen
     → (future : List (MoveKind × Moment)) → Position
 reached_from round made past m [] = position_at past m []
 reached_from round made past m (move ∷ future) =
-    if is_reached round made m then position_at past m (move ∷ future)
+    if is_moment_reached round made m then position_at past m (move ∷ future)
     else reached_from round made ((move.0, m) ∷ past) move.1 future
 
 -- the same position at the first moment of its history

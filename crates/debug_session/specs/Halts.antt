@@ -1,5 +1,5 @@
 -- Where a resumption halts, and what the session is then. This project's own rule.
-use Rattle.std.specs.Prelude.{ℕ, ◌-◌, List, [], ◌∷◌, ◌++◌, length, take, drop, Option, Some, None}
+use Rattle.std.specs.Prelude.{ℕ, ◌-◌, List, [], ◌∷◌, ◌++◌, length, take, drop, Option, None}
 use Rattle.dos_world.specs.World.{World}
 use Rattle.group_moves.specs.Moves.{MoveKind}
 use Rattle.group_moves.specs.Moments.{Moment}

@@ -1,15 +1,14 @@
 -- Which moments and moves hit what is set. GDB remote protocol, gdb's manual, appendix E, section
 -- "Stop Reply Packets"; what hits, and who is told as the thread of it, is this project's own rule.
-use Rattle.std.specs.Prelude.{ℕ, zero, suc, ◌+◌, ◌==◌, ◌&&◌, ◌||◌, Bool, true, false, not, List, []}
-use Rattle.std.specs.Prelude.{◌∷◌, find, filter, Option, Some, None, if◌then◌else◌}
+use Rattle.std.specs.Prelude.{ℕ, ◌==◌, ◌&&◌, ◌||◌, Bool, true, false, not, List}
+use Rattle.std.specs.Prelude.{find, filter, Option, Some, None, if◌then◌else◌}
 use Rattle.std.specs.List.{list_any}
 use Rattle.dos_world.specs.Numbered.{run_of}
-use Rattle.dos_world.specs.World.{World, Thread, thread_at, live_threads, threads_of, first_of}
+use Rattle.dos_world.specs.World.{World, Thread, thread_at, live_threads, first_of}
 use Rattle.flat_machine.specs.Rest.{process_of}
-use Rattle.group_moves.specs.Moves.{MoveKind, begins, runs, is_served, faults}
+use Rattle.group_moves.specs.Moves.{MoveKind, runs, faults}
 use Rattle.gdb_packets.specs.declared.resumptions.Resumption.{Resumption}
-use Rattle.debug_session.specs.Positions.{Position, mover_of, mover_at}
-use Rattle.debug_session.specs.Homes.{is_number}
+use Rattle.debug_session.specs.Positions.{mover_of}
 use Rattle.debug_session.specs.Points.{WatchKind, changes, reads, accesses, Watchpoint}
 use Rattle.debug_session.specs.Points.{is_broken_at}
 use Rattle.debug_session.specs.Told.{place_of_address, byte_told}

@@ -14,6 +14,7 @@ pub mod Waits
 pub mod Lists
 pub mod Where
 pub mod Goals
+pub mod Tables
 pub mod Resuming
 pub mod Current
 pub mod Setting

@@ -1,15 +1,15 @@
 -- The list of threads, as numbers and as a text. GDB remote protocol, gdb's manual, appendix E,
 -- sections "General Query Packets" and "Thread List Format".
-use Rattle.std.specs.Prelude.{ℕ, ◌==◌, List, [], ◌∷◌, ◌++◌, flat_map, map, codes, take, drop, length}
+use Rattle.std.specs.Prelude.{ℕ, List, [], ◌∷◌, ◌++◌, flat_map, map, codes, take, drop, length}
 use Rattle.std.specs.Prelude.{nat_le, min, if◌then◌else◌}
 use Rattle.gdb_packets.specs.declared.packets.Stretch.{Stretch}
 use Rattle.debug_session.specs.Stops.{pair_text}
-use Rattle.debug_session.specs.Sessions.{Session, Pair, listed, with_home}
+use Rattle.debug_session.specs.Sessions.{Session, Pair, listed, home_pair}
 use Rattle.debug_session.specs.Waits.{what_text}
 
 -- the listed threads with their processes, by rising thread
 abbrev pub listed_pairs : Session → List Pair
-listed_pairs s = map (with_home s) (listed s)
+listed_pairs s = map (home_pair s) (listed s)
 
 -- ---- `m` and their ids, joined by commas; `l` where there are none
 

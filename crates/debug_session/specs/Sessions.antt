@@ -1,8 +1,8 @@
 -- What a session is between two packets, and what it tells of: processes and threads. This
 -- project's own rule.
-use Rattle.std.specs.Prelude.{ℕ, ◌==◌, ◌&&◌, ◌||◌, Bool, true, false, not, List, [], ◌∷◌, ◌++◌}
+use Rattle.std.specs.Prelude.{ℕ, ◌==◌, ◌&&◌, ◌||◌, Bool, false, not, List, [], ◌∷◌, ◌++◌}
 use Rattle.std.specs.Prelude.{length, filter, filter_map, is_some, is_none, Option, Some, None}
-use Rattle.std.specs.Prelude.{option_to_list, if◌then◌else◌}
+use Rattle.std.specs.Prelude.{option_to_list}
 use Rattle.std.specs.List.{list_any}
 use Rattle.dos_world.specs.Numbered.{run_of}
 use Rattle.dos_world.specs.World.{World, Thread, thread_at, live_process, live_threads, first_of}
@@ -12,7 +12,7 @@ use Rattle.gdb_packets.specs.declared.ids.ThreadId.TheVariants.{ThreadAlone}
 use Rattle.gdb_packets.specs.declared.ids.Which.TheVariants.{All}
 use Rattle.gdb_packets.specs.declared.resumptions.Resumption.{Resumption}
 use Rattle.debug_session.specs.Positions.{Position, mover_at, all_moments}
-use Rattle.debug_session.specs.Homes.{is_number, birth_thread, home_of}
+use Rattle.debug_session.specs.Homes.{is_some_number, birth_thread, home_of}
 use Rattle.debug_session.specs.Actions.{action_of_thread, are_for}
 use Rattle.debug_session.specs.Points.{Breakpoint, Watchpoint}
 
@@ -101,7 +101,8 @@ is_acting s rs w t thread =
 
 -- t lives, its process is shown, and it has an action
 abbrev pub is_told_of : Session → List Resumption → World → ℕ → Bool
-is_told_of s rs w t = elim (thread_at w t) [ None ↦ false | Some thread ↦ is_acting s rs w t thread ]
+is_told_of s rs w t =
+    elim (thread_at w t) [ None ↦ false | Some thread ↦ is_acting s rs w t thread ]
 
 -- A process belongs that is shown, where an action is for it or for a thread of it.
 abbrev pub is_belonging : Session → List Resumption → World → ℕ → Bool
@@ -120,19 +121,19 @@ abbrev pub candidates : Session → List Resumption → World → (mover : Optio
 candidates s rs w mover =
     filter (is_told_of s rs w) (option_to_list mover ++ s.thread ∷ live_threads w)
     ++ filter (λ t. is_among t (listed_at s w)) (s.thread ∷ [])
-    ++ filter (λ t. is_number s.process (home_in s t)) (listed_at s w)
+    ++ filter (λ t. is_some_number s.process (home_in s t)) (listed_at s w)
     ++ listed_at s w
 
 -- a process and a thread of it
 abbrev pub Pair : Type 0
 Pair = ℕ × ℕ
 
-abbrev pub with_home : Session → ℕ → Pair
-with_home s t = elim (home_in s t) [ None ↦ (s.process, t) | Some p ↦ (p, t) ]
+abbrev pub home_pair : Session → ℕ → Pair
+home_pair s t = elim (home_in s t) [ None ↦ (s.process, t) | Some p ↦ (p, t) ]
 
 abbrev pub chosen_among : Session → Option ℕ → Pair
 chosen_among s None = (s.process, s.thread)
-chosen_among s (Some t) = with_home s t
+chosen_among s (Some t) = home_pair s t
 
 -- The thread that a stop names which is nobody's in particular.
 abbrev pub chosen_at : Session → List Resumption → Position → Pair

@@ -1,6 +1,6 @@
 -- Why a client is told that the run stopped, and how. GDB remote protocol, gdb's manual, appendix
 -- E, section "Stop Reply Packets"; the numbers of faults are this project's own rule.
-use Rattle.std.specs.Prelude.{ℕ, ◌==◌, List, [], ◌∷◌, ◌++◌, codes, if◌then◌else◌}
+use Rattle.std.specs.Prelude.{ℕ, ◌==◌, List, [], ◌++◌, codes, if◌then◌else◌}
 use Rattle.gdb_packets.specs.Hexadecimal.{byte_digits, bytes_digits, number_digits}
 use Rattle.gdb_packets.specs.Ids.{id_text}
 use Rattle.gdb_packets.specs.declared.ids.Which.TheVariants.{Only}

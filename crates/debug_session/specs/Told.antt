@@ -2,8 +2,8 @@
 -- "Packets", `g`, `p`, `m`; who is told as unknown is this project's own rule.
 use Rattle.std.specs.Prelude.{ℕ, zero, suc, ◌+◌, ◌*◌, ◌/◌, ◌%◌, ◌==◌, Bool, List, [], ◌∷◌, ◌++◌}
 use Rattle.std.specs.Prelude.{Option, Some, None, min, replicate, codes, flat_map, slice_get}
-use Rattle.std.specs.Prelude.{option_map, option_and_then, option_map, if◌then◌else◌}
-use Rattle.dos_world.specs.World.{World, Thread, Registers, thread_at, look, space_of}
+use Rattle.std.specs.Prelude.{option_map, option_and_then, if◌then◌else◌}
+use Rattle.dos_world.specs.World.{World, Thread, Registers, look, space_of}
 use Rattle.dos_world.specs.World.{page_size}
 use Rattle.dos_world.specs.declared.Entry.{Entry}
 use Rattle.gdb_packets.specs.Hexadecimal.{register_digits, bytes_digits}

@@ -1,6 +1,7 @@
 -- What a thread is about, in words: it is ready, waits in a service, sleeps, or is gone. This
 -- project's own texts; numbers are decimal.
-use Rattle.std.specs.Prelude.{ℕ, ◌/◌, ◌%◌, ◌^◌, ◌==◌, List, [], ◌++◌, find, Option, Some, None, codes}
+use Rattle.std.specs.Prelude.{ℕ, ◌/◌, ◌%◌, ◌^◌, ◌==◌, List, [], ◌++◌, find, Option, Some, None}
+use Rattle.std.specs.Prelude.{codes}
 use Rattle.std.specs.Prelude.{decimal, if◌then◌else◌}
 use Rattle.dos_world.specs.World.{World, Thread, Process, Sleeper, live, ended, get, process_at}
 use Rattle.dos_world.specs.World.{thread_at}

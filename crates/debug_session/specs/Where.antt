@@ -1,17 +1,16 @@
 -- Where a session stands, in words for a person. This project's own texts; numbers are decimal.
-use Rattle.std.specs.Prelude.{ℕ, ◌-◌, List, [], ◌∷◌, ◌++◌, length, Option, Some, None, codes}
+use Rattle.std.specs.Prelude.{ℕ, List, [], ◌∷◌, ◌++◌, Option, Some, None, codes}
 use Rattle.std.specs.Prelude.{decimal}
-use Rattle.dos_world.specs.World.{World}
 use Rattle.dos_world.specs.declared.Ending.{Ending}
 use Rattle.dos_world.specs.declared.Ending.TheVariants.{Done, Limit, Stalled}
-use Rattle.group_moves.specs.Places.{Place, between_rounds, before_parts, before_rests, within_part}
-use Rattle.group_moves.specs.Places.{within_rest, at_end}
+use Rattle.group_moves.specs.Places.{Place, before_parts, before_rests, within_part}
+use Rattle.group_moves.specs.Places.{within_rest}
 use Rattle.group_moves.specs.Moves.{MoveKind, begins, runs, is_served, faults}
 use Rattle.group_moves.specs.Moments.{Moment, ending_at}
 use Rattle.debug_session.specs.Positions.{Position, first_kind}
 
-abbrev pub line : List ℕ → List ℕ
-line text = text ++ 10 ∷ []
+abbrev pub console_line : List ℕ → List ℕ
+console_line text = text ++ 10 ∷ []
 
 -- the phase in which the next move is made
 abbrev pub phase_word : Place → List ℕ
@@ -23,7 +22,7 @@ phase_word _ = codes "between rounds"
 
 abbrev pub moment_line : Moment → List ℕ
 moment_line m =
-    line (codes "round " ++ decimal m.begun_rounds ++ codes " move " ++ decimal m.made
+    console_line (codes "round " ++ decimal m.begun_rounds ++ codes " move " ++ decimal m.made
     ++ codes ", " ++ phase_word m.place)
 
 -- ---- moves
@@ -56,15 +55,15 @@ next_text m (Some kind) = move_text kind
 abbrev pub where_lines : Position → List (List ℕ)
 where_lines at =
     moment_line at.moment
-    ∷ line (codes "last: " ++ last_text (first_kind at.past))
-    ∷ line (codes "next: " ++ next_text at.moment (first_kind at.future)) ∷ []
+    ∷ console_line (codes "last: " ++ last_text (first_kind at.past))
+    ∷ console_line (codes "next: " ++ next_text at.moment (first_kind at.future)) ∷ []
 
 -- ---- where the next resumption goes
 
 abbrev pub goal_line : (round made : ℕ) → List ℕ
 goal_line round made =
-    line (codes "the next continue goes to round " ++ decimal round ++ codes " move "
+    console_line (codes "the next continue goes to round " ++ decimal round ++ codes " move "
     ++ decimal made)
 
 abbrev pub goal_form : List ℕ
-goal_form = line (codes "goto ROUND [MOVE]")
+goal_form = console_line (codes "goto ROUND [MOVE]")
