@@ -87,3 +87,21 @@ input_is_copied : Runs
     ∷ looks 0 (codes "round 1 move 2, parallel phase") ∷ [])
 unfolding computing number_digits digits
 input_is_copied = refl
+
+-- what the server can, and the first and last part of what its registers are
+the_server_is_described : Runs
+    (session_of 0 (exits_with_7 ∷ []) (with_frames 17) [])
+    (says (codes "qSupported:multiprocess+;fork-events+")
+    (codes "PacketSize=4000;QStartNoAckMode+;multiprocess+;swbreak+;ReverseStep+;"
+    ++ codes "ReverseContinue+;vContSupported+;qXfer:features:read+;qXfer:exec-file:read+;"
+    ++ codes "qXfer:threads:read+;fork-events+")
+    ∷ says (codes "Hgp0.0") (codes "OK") ∷ says (codes "qC") (codes "QCp1.1")
+    ∷ says (codes "qXfer:features:read:target.xml:0,20")
+    (codes "m<target><architecture>riscv:rv32")
+    ∷ says (codes "qXfer:features:read:target.xml:40d,100")
+    (codes "lreg name=\"pc\" bitsize=\"32\"/></feature></target>")
+    ∷ says (codes "qfThreadInfo") (codes "mp1.1") ∷ says (codes "qsThreadInfo") (codes "l")
+    ∷ says (codes "vCont?") (codes "vCont;c;C;s;S;r") ∷ says (codes "Tp1.2") (codes "E01")
+    ∷ says (codes "p21") (codes "E01") ∷ [])
+unfolding computing number_digits digits
+the_server_is_described = refl

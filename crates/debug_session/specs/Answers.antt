@@ -1,6 +1,6 @@
 -- What a session answers to a packet, by its bytes. GDB remote protocol, gdb's manual, appendix E;
--- which packets are answered is this project's own rule. Not here yet: files, the description of
--- the registers, and of what a person asks `processes`, `page` and `pages`.
+-- which packets are answered is this project's own rule. Not here yet: the images'
+-- names and files, and of what a person asks `processes`, `page` and `pages`.
 use Rattle.std.specs.Prelude.{ℕ, ◌==◌, Bool, not, List, [], ◌∷◌, ◌++◌, map, filter, drop}
 use Rattle.std.specs.Prelude.{Option, Some, None, codes, unwrap_or, if◌then◌else◌}
 use Rattle.dos_world.specs.World.{World, thread_at}
@@ -19,6 +19,9 @@ use Rattle.gdb_packets.specs.declared.packets.Packet.TheVariants.{Register, Memo
 use Rattle.gdb_packets.specs.declared.packets.Packet.TheVariants.{Remove, ResumeForms, Resume}
 use Rattle.gdb_packets.specs.declared.packets.Packet.TheVariants.{Detach, KillProcess, Threads}
 use Rattle.gdb_packets.specs.declared.packets.Packet.TheVariants.{Monitor, Malformed, Unknown}
+use Rattle.gdb_packets.specs.declared.packets.Packet.TheVariants.{Description, SetFileSystem}
+use Rattle.gdb_packets.specs.declared.packets.Packet.TheVariants.{CloseFile}
+use Rattle.debug_session.specs.Description.{description_text}
 use Rattle.debug_session.specs.Actions.{thread_named}
 use Rattle.debug_session.specs.Stops.{plainly, stop_text, pair_text, trap_signal}
 use Rattle.debug_session.specs.Sessions.{Session, is_among, listed}
@@ -151,6 +154,10 @@ answered_packet s text (Detach process) =
     Some (replies_one (process_let_go s process) (codes "OK"))
 answered_packet s text (KillProcess process) =
     Some (replies_one (process_let_go s (Some process)) (codes "OK"))
+answered_packet s text (Description part) =
+    Some (replies_one s (part_told description_text part))
+answered_packet s text (SetFileSystem number) = Some (replies_one s (codes "F0"))
+answered_packet s text (CloseFile number) = Some (replies_one s (codes "F0"))
 answered_packet s text (Threads part) = Some (replies_one s (part_told (threads_text s) part))
 answered_packet s text (Monitor asked) = answered_command s asked
 answered_packet s text Malformed = Some (replies_one s (codes "E01"))

@@ -15,6 +15,7 @@ pub mod Lists
 pub mod Where
 pub mod Goals
 pub mod Tables
+pub mod Description
 pub mod Resuming
 pub mod Current
 pub mod Setting

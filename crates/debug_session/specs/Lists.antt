@@ -2,6 +2,7 @@
 -- sections "General Query Packets" and "Thread List Format".
 use Rattle.std.specs.Prelude.{ℕ, List, [], ◌∷◌, ◌++◌, flat_map, map, codes, take, drop, length}
 use Rattle.std.specs.Prelude.{nat_le, min, if◌then◌else◌}
+use Rattle.gdb_packets.specs.Escapes.{escaped}
 use Rattle.gdb_packets.specs.declared.packets.Stretch.{Stretch}
 use Rattle.debug_session.specs.Stops.{pair_text}
 use Rattle.debug_session.specs.Sessions.{Session, Pair, listed, home_pair}
@@ -37,9 +38,10 @@ threads_text s =
 
 -- ---- a part of a text
 
--- At most 4096 bytes: behind `l` the last of them, behind `m` others.
+-- At most 4096 bytes, escaped where they must be: behind `l` the last of them, behind `m` others.
 abbrev pub part_told : (text : List ℕ) → Stretch → List ℕ
 part_told text part =
     let rest : List ℕ = drop part.from text in
     let most : ℕ = min part.length 4096 in
-    if nat_le (length rest) most then codes "l" ++ rest else codes "m" ++ take most rest
+    if nat_le (length rest) most then codes "l" ++ escaped rest
+    else codes "m" ++ escaped (take most rest)

@@ -1,11 +1,12 @@
 -- Threads, pipes, descriptors and sleepers in lines for a person. This project's own texts; numbers
 -- are decimal.
-use Rattle.std.specs.Prelude.{ℕ, ◌+◌, ◌==◌, Bool, false, List, [], ◌∷◌, ◌++◌, length, map}
-use Rattle.std.specs.Prelude.{flat_map, filter_map, Option, Some, None, codes, decimal}
-use Rattle.std.specs.Prelude.{count_by, unwrap_or, if◌then◌else◌}
+use Rattle.std.specs.Prelude.{ℕ, ◌+◌, ◌==◌, Bool, List, [], ◌∷◌, ◌++◌, length, map}
+use Rattle.std.specs.Prelude.{flat_map, Option, Some, None, codes, decimal}
+use Rattle.std.specs.Prelude.{count_by, sum_by, unwrap_or, if◌then◌else◌}
 use Rattle.dos_world.specs.Numbered.{map_from}
 use Rattle.dos_world.specs.World.{World, Holdings, Thread, Sleeper, thread_at, live_process}
 use Rattle.dos_world.specs.World.{live_threads, all_holdings}
+use Rattle.dos_world.specs.Counts.{reads_pipe, writes_pipe}
 use Rattle.dos_world.specs.declared.End.{End}
 use Rattle.dos_world.specs.declared.End.TheVariants.{Input, Output, Error, PipeRead, PipeWrite}
 use Rattle.debug_session.specs.Sessions.{Session, home_in}
@@ -60,18 +61,10 @@ end_lines s p = descriptor_lines (live_process s.position.moment.world (process_
 
 -- ---- pipes
 
-abbrev pub reads_pipe : ℕ → End → Bool
-reads_pipe n (PipeRead k) = k == n
-reads_pipe n _ = false
-
-abbrev pub writes_pipe : ℕ → End → Bool
-writes_pipe n (PipeWrite k) = k == n
-writes_pipe n _ = false
-
--- the open descriptors of all live processes
-abbrev pub open_ends : World → List End
-open_ends w =
-    flat_map (λ (h : Holdings). filter_map (λ x. x) h.descriptors) (all_holdings w.processes)
+-- how many descriptors of live processes pass a test
+abbrev pub descriptors_where : World → (Option End → Bool) → ℕ
+descriptors_where w test =
+    sum_by (λ (h : Holdings). count_by test h.descriptors) (all_holdings w.processes)
 
 abbrev pub counted_line : (n bytes readers writers : ℕ) → List (List ℕ)
 counted_line n bytes readers writers =
@@ -82,8 +75,8 @@ counted_line n bytes readers writers =
 -- A pipe is open that has an end.
 abbrev pub pipe_line : World → ℕ → (held : List ℕ) → List (List ℕ)
 pipe_line w n held =
-    counted_line n (length held) (count_by (reads_pipe n) (open_ends w))
-    (count_by (writes_pipe n) (open_ends w))
+    counted_line n (length held) (descriptors_where w (reads_pipe n))
+    (descriptors_where w (writes_pipe n))
 
 abbrev pub lines_or : (other : List ℕ) → List (List ℕ) → List (List ℕ)
 lines_or other [] = console_line other ∷ []
