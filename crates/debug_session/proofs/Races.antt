@@ -68,3 +68,29 @@ who_comes_to_the_addition : Runs
     ∷ says (codes "bc") (codes "T05thread:p1.1;swbreak:;") ∷ [])
 unfolding computing number_digits digits
 who_comes_to_the_addition = refl
+
+-- Thread 1, which isn't resumed, changes what is watched: the hit is told behind its move, to
+-- thread 2, whose next step is owed and makes no move.
+a_hit_by_another_thread : Runs races
+    (says (codes "Z2,10050,4") (codes "OK")
+    ∷ says (codes "vCont;c:p1.2") (codes "T05thread:p1.2;watch:10050;")
+    ∷ looks 0 (codes "round 3 move 3, serial phase")
+    ∷ says (codes "vCont;s:p1.2") (codes "T05thread:p1.2;")
+    ∷ looks 0 (codes "round 3 move 3, serial phase")
+    ∷ says (codes "vCont;s:p1.2") (codes "T05thread:p1.2;")
+    ∷ looks 0 (codes "round 3 move 5, serial phase") ∷ [])
+unfolding computing number_digits digits
+a_hit_by_another_thread = refl
+
+-- Each load is a read, of either thread; a load and a store are accesses.
+who_reads_it : Runs races
+    (says (codes "Z3,10050,4") (codes "OK")
+    ∷ says (codes "vCont;c") (codes "T05thread:p1.1;rwatch:10050;")
+    ∷ looks 0 (codes "round 2 move 1, parallel phase")
+    ∷ says (codes "z3,10050,4") (codes "OK")
+    ∷ says (codes "vCont;s:p1.1") (codes "T05thread:p1.1;")
+    ∷ says (codes "Z4,10050,4") (codes "OK")
+    ∷ says (codes "vCont;c") (codes "T05thread:p1.2;awatch:10050;")
+    ∷ looks 0 (codes "round 2 move 5, serial phase") ∷ [])
+unfolding computing number_digits digits
+who_reads_it = refl

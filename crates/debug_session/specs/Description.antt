@@ -1,6 +1,6 @@
 -- The registers as they are described to a client. GDB's manual, appendix G, section "Target
 -- Description Format"; their names are the RISC-V psABI's, in the order of their numbers.
-use Rattle.std.specs.Prelude.{ℕ, List, [], ◌∷◌, ◌++◌, flat_map, codes}
+use Rattle.std.specs.Prelude.{ℕ, List, ◌++◌, flat_map, codes}
 use Rattle.gdb_packets.specs.Around.{between_marks}
 
 -- with commas between them
