@@ -11,9 +11,9 @@ use Rattle.std.proofs.lemmas.Bool.Decides.{eqb_tells}
 use Rattle.std.proofs.lemmas.Grind.{get_or-set_at}
 use Rattle.std.proofs.lemmas.List.{get_or-replicate, get_or-set_other, get_or_append_left}
 use Rattle.std.proofs.lemmas.List.Elements.{All-append, All-cons, All-nil, All-set}
+use Rattle.std.proofs.lemmas.Nat.{or_lt}
 use Rattle.dos_world.specs.Bytes.{bytes_of}
 use Rattle.written_words.specs.declared.Written.{Written}
-use Rattle.std.proofs.lemmas.Nat.{or_lt}
 use Rattle.written_words.specs.Words.{is_at, with_word_changed, with_bytes_from}
 use Rattle.written_words.specs.Index.{IsIndexed, IsLast, IsAlignedWord, chain_of}
 
@@ -320,24 +320,24 @@ module _ (words : List Written) (before last : List ℕ) (word : Written)
 
 -- the same, as the code writes it
 pub pushed-by : (words : List Written) (before last : List ℕ) (word : Written)
-    (words' : List Written) (before' last' : List ℕ) (chain link count : ℕ)
+    (words' : List Written) (before' last' : List ℕ) (k link n : ℕ)
     → words' ≡ words ++ word ∷ [] → before' ≡ before ++ link ∷ []
-    → last' ≡ slice_set last chain count → chain ≡ chain_of word.frame word.offset
-    → link ≡ slice_index last chain → count ≡ length words + 1
+    → last' ≡ slice_set last k n → k ≡ chain_of word.frame word.offset
+    → link ≡ slice_index last k → n ≡ length words + 1
     → length words < 1024 → IsAlignedWord word
     → list_any (is_at word.frame word.offset) words ≡ false
     → IsIndexed words before last → IsIndexed words' before' last'
-pushed-by words before last word words' before' last' chain link count a b c d e f few is other h =
-    let c' : chain_of word.frame word.offset ≡ chain = sym d in
+pushed-by words before last word words' before' last' k link n a b c d e f few is other h =
+    let c' : chain_of word.frame word.offset ≡ k = sym d in
     subst (λ (x : List Written). IsIndexed x before' last') (sym a)
     (subst (λ (x : List ℕ). IsIndexed (words ++ word ∷ []) x last') (sym b)
     (subst (λ (x : List ℕ). IsIndexed (words ++ word ∷ []) (before ++ link ∷ []) x) (sym c)
-    (subst (λ n. IsIndexed (words ++ word ∷ []) (before ++ link ∷ []) (slice_set last chain n))
+    (subst (λ m. IsIndexed (words ++ word ∷ []) (before ++ link ∷ []) (slice_set last k m))
     (sym f)
-    (subst (λ n. IsIndexed (words ++ word ∷ []) (before ++ n ∷ [])
-    (slice_set last chain (length words + 1))) (sym e)
-    (subst (λ n. IsIndexed (words ++ word ∷ []) (before ++ slice_index last n ∷ [])
-    (slice_set last n (length words + 1))) c'
+    (subst (λ m. IsIndexed (words ++ word ∷ []) (before ++ m ∷ [])
+    (slice_set last k (length words + 1))) (sym e)
+    (subst (λ m. IsIndexed (words ++ word ∷ []) (before ++ slice_index last m ∷ [])
+    (slice_set last m (length words + 1))) c'
     (pushed words before last word few is other h))))))
 
 -- ---- a word changed
@@ -370,13 +370,13 @@ was (w ∷ words) (suc place) (suc i) x y z h a b g =
     let r = was words place i x y z h a b g in
     record { word = r.word; here = r.here; frame = r.frame; offset = r.offset }
 
-same-last : (words new : List Written) (n chain place : ℕ)
+same-last : (words new : List Written) (n k place : ℕ)
     → ((i : ℕ) (z : Written) → slice_get new i ≡ Some z → Was words i z)
-    → IsLast words n chain place → IsLast new n chain place
-same-last words new n chain place back h = record {
+    → IsLast words n k place → IsLast new n k place
+same-last words new n k place back h = record {
   within = h.within;
   own = λ i z at g. let r = back i z g in sym (chain-is r) ∙ h.own i r.word at r.here;
-  last = λ i z below g k. let r = back i z g in h.last i r.word below r.here (chain-is r ∙ k);
+  last = λ i z below g is. let r = back i z g in h.last i r.word below r.here (chain-is r ∙ is);
 }
   where
     chain-is : {i : ℕ} {z : Written} (r : Was words i z)

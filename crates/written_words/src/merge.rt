@@ -64,6 +64,10 @@ fn chosen(mask: u8, new: u8, old: u8) -> u8
 pub(crate) fn bytes_over(old: [u8; 4], word: Written) -> [u8; 4]
     ensures { result ≡ written_by word.mask old 0 (bytes_of 4 word.value) }
 {
+    // most words are written whole
+    if word.mask == 15 {
+        return word.value.to_le_bytes();
+    }
     let [e, f, g, h] = old;
     let [a, b, c, d] = word.value.to_le_bytes();
     let first = word.mask;
