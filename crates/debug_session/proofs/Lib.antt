@@ -1,0 +1,4 @@
+mod Conversations
+mod OneThread
+mod Processes
+mod Races
