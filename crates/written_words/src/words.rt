@@ -1,0 +1,181 @@
+// The words that a thread has written.
+ghost use Rattle.std.specs.Prelude.{◌≡◌, ◌+◌, ◌*◌, ◌≤◌, ◌<◌, ◌%◌, ◌++◌, ◌∷◌, ℕ, List, [], true};
+ghost use Rattle.std.specs.Prelude.{false, Some, None, IfOk, MatchOption, if◌then◌else◌, length};
+ghost use Rattle.std.specs.Prelude.{take, drop, replicate, slice_get, slice_set};
+ghost use Rattle.std.specs.List.{list_any};
+ghost use Rattle.dos_world.specs.Reach.{bytes_of, width, written};
+ghost use Rattle.written_words.specs.declared.Written.{Written as word_type};
+ghost use Rattle.written_words.specs.Words.{is_at, with_bytes_from, with_stored, words_put};
+ghost use Rattle.written_words.specs.Index.{IsFound, IsAlignedWord};
+
+use crate::Written;
+use crate::index::chain;
+use crate::merge::{bytes_over, with_value};
+use dos_world::Size;
+use std::alloc::{AllocError, Global};
+use std::marker::Model;
+
+/// How many words there may be.
+const MOST: usize = 1024;
+
+/// At most 1,024 words, each once. Contracts see the list of them, in the order in which each was
+/// first written.
+#[derive(Drop)]
+pub struct WrittenWords {
+    words: Vec<Written>,
+    // for each word the place, counted from 1, of the one before it in its chain; 0 for none
+    before: Vec<u16>,
+    // for each chain the place of its last word
+    last: Box<[u16; 1024]>,
+}
+
+impl Model for WrittenWords {
+    ghost use Rattle.std.specs.Prelude.{List, ◌≤◌};
+    ghost use Rattle.std.specs.Vec.{vec_capacity};
+    ghost use Rattle.written_words.specs.declared.Written.{Written as word_type};
+    ghost use Rattle.written_words.specs.Index.{IsIndexed};
+
+    ghost Value = { List word_type };
+
+    ghost view = { λ w. w.words.items };
+
+    ghost invariant = { λ w. IsIndexed w.words.items w.before.items w.last.value
+        × (1024 ≤ vec_capacity w.words) × (1024 ≤ vec_capacity w.before) };
+}
+
+// no chain has a word
+fn no_chains() -> [u16; 1024]
+    ensures { result ≡ replicate 1024 0 }
+{
+    [0; 1024]
+}
+
+// no chain has a word any more
+fn reset(last: &mut [u16; 1024])
+    ensures { last.new ≡ replicate 1024 0 }
+{
+    *last = no_chains();
+}
+
+impl WrittenWords {
+    /// No words, and room for all that there may be.
+    pub fn reserve(alloc: Global) -> Result<WrittenWords, AllocError>
+        ensures { IfOk result (λ w. w ≡ []) }
+    {
+        Ok(WrittenWords {
+            words: Vec::with_capacity(alloc, MOST)?,
+            before: Vec::with_capacity(alloc, MOST)?,
+            last: Box::new(alloc, no_chains())?,
+        })
+    }
+
+    /// No words any more. The room stays.
+    pub fn clear(&mut self)
+        ensures { self.new ≡ [] }
+    {
+        self.words.clear();
+        self.before.clear();
+        reset(&mut self.last);
+    }
+
+    /// The words, in the order in which each was first written.
+    pub fn as_slice(&self) -> &[Written]
+        ensures { result.now ≡ self.now }
+    {
+        self.words.as_slice()
+    }
+
+    /// Where the word of this frame and offset stands.
+    #[inline]
+    fn find(&self, frame: u32, offset: u32) -> Option<usize>
+        ensures { MatchOption result (list_any (is_at frame offset) self.now ≡ false)
+            (λ place. IsFound self.now frame offset place) }
+    {
+        let mut next = self.last[chain(frame, offset)] as usize;
+        while next > 0 {
+            let place = next - 1;
+            let word = self.words[place];
+            if word.frame == frame && word.offset == offset {
+                return Some(place);
+            }
+            next = self.before[place] as usize;
+        }
+        None
+    }
+
+    // one word more
+    fn add(&mut self, word: Written)
+        requires few { length self.old < 1024 }
+        requires word { IsAlignedWord word }
+        requires other { list_any (is_at word.frame word.offset) self.old ≡ false }
+        ensures { self.new ≡ self.old ++ word ∷ [] }
+    {
+        let chain = chain(word.frame, word.offset);
+        self.before.push_reserved(self.last[chain]);
+        self.words.push_reserved(word);
+        self.last[chain] = self.words.len() as u16;
+    }
+
+    // the low bytes of a value go into the word at this place, from this byte on
+    fn change(&mut self, place: usize, first: u32, size: Size, value: u32)
+        requires within { first + width size ≤ 4 }
+        requires place { place < length self.old }
+        ensures { (x : word_type) → slice_get self.old place ≡ Some x
+            → self.new ≡ slice_set self.old place
+            (with_bytes_from first (bytes_of (width size) value) x) }
+    {
+        self.words[place] = with_value(self.words[place], first, size, value);
+    }
+
+    /// Stores the low bytes of a value at an offset in a frame: into the word that has been written
+    /// there, or into a new one. False exactly where that would be the 1,025th, and nothing is
+    /// changed then. What the words make of memory afterwards is what they made of it before, with
+    /// these bytes stored.
+    #[inline]
+    pub fn store(&mut self, frame: u32, offset: u32, size: Size, value: u32) -> bool
+        requires within { offset < 4096 }
+        requires aligned { offset % width size ≡ 0 }
+        ensures words { with_stored self.old frame offset (bytes_of (width size) value)
+            ≡ (if result then Some self.new else None) }
+        ensures put { result ≡ true → (bytes : List ℕ) → words_put bytes self.new
+            ≡ written (words_put bytes self.old) (4096 * frame + offset)
+            (bytes_of (width size) value) }
+        ensures same { result ≡ false → self.new ≡ self.old }
+    {
+        let aligned = offset / 4 * 4;
+        match self.find(frame, aligned) {
+            Some(place) => {
+                self.change(place, offset % 4, size, value);
+                true
+            }
+            None => {
+                if self.words.len() == MOST {
+                    return false;
+                }
+                let word = Written {
+                    frame,
+                    offset: aligned,
+                    mask: 0,
+                    value: 0,
+                };
+                self.add(with_value(word, offset % 4, size, value));
+                true
+            }
+        }
+    }
+
+    /// The four bytes at an offset in a frame as the thread sees them: each that was written, and
+    /// else that of `old`, which memory has there.
+    #[inline]
+    pub fn over(&self, frame: u32, offset: u32, old: [u8; 4]) -> [u8; 4]
+        requires within { offset < 4096 }
+        requires aligned { offset % 4 ≡ 0 }
+        ensures { (bytes : List ℕ) → old ≡ take 4 (drop (4096 * frame + offset) bytes)
+            → result ≡ take 4 (drop (4096 * frame + offset) (words_put bytes self.now)) }
+    {
+        match self.find(frame, offset) {
+            Some(place) => bytes_over(old, self.words[place]),
+            None => old,
+        }
+    }
+}
