@@ -3,13 +3,18 @@ use Rattle.std.proofs.Common.{◌≡◌, ◌≢◌, ℕ, zero, suc, ◌+◌, ◌
 use Rattle.std.proofs.Common.{inl, inr, List, [], ◌∷◌, length, get_or, set, Option, Some, None}
 use Rattle.std.proofs.Common.{length-set, get_or-set_same, get_or-set_other, refl, sym, ap, subst}
 use Rattle.std.proofs.Common.{◌∙◌, arith}
-use Rattle.std.specs.Prelude.{◌==◌, ◌&&◌, not, find, replicate, All}
+use Rattle.std.specs.Prelude.{◌==◌, ◌&&◌, not, find, map, replicate, All}
 use Rattle.std.proofs.lemmas.Bool.{cases_eq}
 use Rattle.std.proofs.lemmas.Bool.Decides.{nat_tests}
 use Rattle.std.proofs.lemmas.List.{map-set, length-replicate}
 use Rattle.std.proofs.lemmas.List.Elements.{All-set, All-get_or, All-replicate}
 use Rattle.dos_world.specs.Numbered.{run_of}
 use Rattle.circular_buffer.specs.Buffer.{Buffer, buffer}
+use Rattle.std.specs.Global.{Vec}
+use Rattle.std.specs.List.{AllByRecursion}
+use Rattle.std.proofs.lemmas.List.Elements.{All-from_recursion}
+use Rattle.std.proofs.lemmas.List.{length-map}
+use Rattle.kernel_objects.specs.Pipework.{AreClosedEmpty, filled, vector_bytes}
 use Rattle.kernel_objects.specs.Pipework.{Pipework, AreKept, IsPipeBuffer, held_bytes, ends_at}
 use Rattle.kernel_objects.specs.Pipework.{is_open_at, lowest_closed, with_bytes, with_ends}
 use Rattle.kernel_objects.specs.Pipework.{with_dropped}
@@ -242,4 +247,24 @@ less-reader B R W s i false e w = record {
   readers = λ j other. get_or-set_other R i j (get_or R i 0 - 1) 0 other;
   writers = λ j other. refl;
   left = ap (λ (x : Pipework). with_ends x i false (ends_at x i false - 1)) e;
+}
+
+-- ---- pipes that hold what vectors do
+
+pub held-filled : (vs : List (Vec ℕ)) → held_bytes (map filled vs) ≡ vector_bytes vs
+held-filled [] = refl
+held-filled (v ∷ vs) = ap (λ xs. v.items ∷ xs) (held-filled vs)
+
+room-filled : (vs : List (Vec ℕ)) → AllByRecursion IsPipeBuffer (map filled vs)
+room-filled [] = tt
+room-filled (v ∷ vs) = (refl, room-filled vs)
+
+pub kept-filled : {B : List (Buffer ℕ)} (vs : List (Vec ℕ)) {R W : List ℕ} → B ≡ map filled vs
+    → length vs ≡ 64 → AreClosedEmpty (vector_bytes vs) R W → AreKept B R W
+kept-filled {B} vs {R} {W} e n closed = record {
+  count = ap length e ∙ length-map vs filled ∙ n;
+  rooms = subst (λ (xs : List (Buffer ℕ)). All IsPipeBuffer xs) (sym e)
+      (All-from_recursion IsPipeBuffer (map filled vs) (room-filled vs));
+  closed = λ j r w. ap (λ (xs : List (List ℕ)). get_or xs j [])
+      (ap held_bytes e ∙ held-filled vs) ∙ closed j r w;
 }

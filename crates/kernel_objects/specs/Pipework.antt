@@ -1,9 +1,11 @@
 -- What the pipes hold, and how many ends each has. This project's own rules.
-use Rattle.std.specs.Prelude.{◌≡◌, ℕ, ◌-◌, Bool, not, ◌&&◌, List, [], map, find, length, replicate}
-use Rattle.std.specs.Prelude.{Option, All, slice_index, slice_index_or, slice_set, ◌==◌, true}
+use Rattle.std.specs.Prelude.{◌≡◌, ◌≤◌, ℕ, ◌-◌, Bool, not, ◌&&◌, List, [], map, find, length}
+use Rattle.std.specs.Prelude.{replicate, Option, All, slice_index, slice_index_or, slice_set, ◌==◌}
+use Rattle.std.specs.Prelude.{true}
 use Rattle.std.specs.Prelude.{false, if◌then◌else◌}
 use Rattle.dos_world.specs.Numbered.{run_of}
-use Rattle.circular_buffer.specs.Buffer.{Buffer}
+use Rattle.circular_buffer.specs.Buffer.{Buffer, buffer}
+use Rattle.std.specs.Global.{Vec}
 
 -- For each of 64 pipes the bytes that it holds, and how many reading and writing ends it has. Pipes
 -- are numbered from 0.
@@ -59,6 +61,25 @@ abbrev pub with_dropped : Pipework → ℕ → Bool → Pipework
 with_dropped s pipe writer =
     let left : Pipework = with_ends s pipe writer (ends_at s pipe writer - 1) in
     if is_open_at left pipe then left else with_bytes left pipe []
+
+-- ---- as vectors
+
+-- the bytes of each vector
+abbrev pub vector_bytes : List (Vec ℕ) → List (List ℕ)
+vector_bytes vectors = map (λ v. v.items) vectors
+
+-- A pipe holds at most 4096 bytes.
+abbrev pub FitsPipe : Vec ℕ → Type 0
+FitsPipe v = length v.items ≤ 4096
+
+-- a buffer for 4096 bytes that holds those of a vector
+abbrev pub filled : Vec ℕ → Buffer ℕ
+filled v = buffer v.items 4096
+
+-- a pipe without ends is empty
+abbrev pub AreClosedEmpty : List (List ℕ) → List ℕ → List ℕ → Type 0
+AreClosedEmpty bytes readers writers = (pipe : ℕ) → slice_index readers pipe ≡ 0
+    → slice_index writers pipe ≡ 0 → slice_index_or bytes pipe [] ≡ []
 
 -- ---- what is kept
 

@@ -1,9 +1,9 @@
 // The threads that sleep on words, in the order in which they came.
-ghost use Rattle.std.specs.Prelude.{◌≡◌, ◌==◌, ◌<◌, [], ◌∷◌, ◌++◌, length, filter, find};
-ghost use Rattle.std.specs.Prelude.{option_map, not, None, IfOk, IfSome};
+ghost use Rattle.std.specs.Prelude.{◌≡◌, ◌==◌, ◌<◌, ◌≤◌, [], ◌∷◌, ◌++◌, length, filter, find};
+ghost use Rattle.std.specs.Prelude.{option_map, not, None, Some, IfOk, IfSome, slice_get};
 ghost use Rattle.std.specs.List.{list_any};
 ghost use Rattle.dos_world.specs.Kernel.{is_none_of_these, is_other};
-ghost use Rattle.kernel_objects.specs.Queue.{first_on, sleeps_on};
+ghost use Rattle.kernel_objects.specs.Queue.{first_on, sleeper_of, sleeps_on};
 
 use std::alloc::{AllocError, Global};
 use std::marker::Model;
@@ -55,6 +55,24 @@ impl FutexQueue {
         Ok(FutexQueue {
             sleepers: Vec::with_capacity(alloc, MOST_SLEEPERS)?,
         })
+    }
+
+    /// How many threads sleep, at most 64.
+    pub fn len(&self) -> u32
+        ensures count { result ≡ length self.now }
+        ensures few { result ≤ 64 }
+    {
+        self.sleepers.len() as u32
+    }
+
+    /// The sleeper at this place in the queue: its thread, and the frame and the offset of its
+    /// word.
+    pub fn at(&self, place: u32) -> (u32, u32, u32)
+        requires { place < length self.now }
+        ensures { slice_get self.now place ≡ Some (sleeper_of result) }
+    {
+        let sleeper = &self.sleepers[place as usize];
+        (sleeper.thread, sleeper.frame, sleeper.offset)
     }
 
     /// The thread sleeps on this word, last in the queue.

@@ -1,8 +1,10 @@
 // Pipes: the bytes that each holds, and how many ends it has.
-ghost use Rattle.std.specs.Prelude.{◌≡◌, ◌-◌, ◌+◌, ◌<◌, ◌≤◌, min, [], ◌++◌, length, take, drop};
-ghost use Rattle.std.specs.Prelude.{replicate, None, Some, true, false, IfOk, IfSome, All};
+ghost use Rattle.std.specs.Prelude.{◌≡◌, ◌-◌, ◌+◌, ◌<◌, ◌≤◌, min, [], ◌++◌, length, map, take};
+ghost use Rattle.std.specs.Prelude.{drop, replicate, None, Some, true, false, IfOk, IfSome, All};
 ghost use Rattle.std.specs.Prelude.{if◌then◌else◌};
 ghost use Rattle.circular_buffer.specs.Buffer.{buffer};
+ghost use Rattle.kernel_objects.specs.Pipework.{AreClosedEmpty, FitsPipe, filled, held_bytes};
+ghost use Rattle.kernel_objects.specs.Pipework.{vector_bytes};
 ghost use Rattle.kernel_objects.specs.Pipework.{bytes_at, ends_at, is_open_at, lowest_closed};
 ghost use Rattle.kernel_objects.specs.Pipework.{none_open, with_bytes, with_dropped, with_ends};
 ghost use Rattle.kernel_objects.specs.Pipework.{with_opened};
@@ -50,6 +52,34 @@ impl Pipes {
             readers: [0; 64],
             writers: [0; 64],
         })
+    }
+
+    /// The 64 pipes with these bytes and so many readers and writers each. All memory of the pipes
+    /// is taken here.
+    pub fn restore(
+        alloc: Global,
+        bytes: &[Vec<u8>],
+        readers: [u32; 64],
+        writers: [u32; 64],
+    ) -> Result<Pipes, AllocError>
+        requires count { length bytes.now ≡ 64 }
+        requires fits { All FitsPipe bytes.now }
+        requires closed { AreClosedEmpty (vector_bytes bytes.now) readers writers }
+        ensures { IfOk result (λ p. p
+            ≡ record { bytes = vector_bytes bytes.now; readers = readers; writers = writers }) }
+    {
+        Ok(Pipes {
+            buffers: filled_buffers(alloc, bytes)?,
+            readers,
+            writers,
+        })
+    }
+
+    /// The bytes of each pipe, by number.
+    pub fn copy_bytes(&self, alloc: Global) -> Result<Vec<Vec<u8>>, AllocError>
+        ensures { IfOk result (λ v. vector_bytes v.items ≡ self.now.bytes) }
+    {
+        copy_all(alloc, &self.buffers)
     }
 
     /// Opens the lowest pipe that isn't open, with one reader and one writer; it is empty. None
@@ -149,6 +179,40 @@ fn empty_buffers(alloc: Global) -> Result<Vec<HeapCircularBuffer<u8>>, AllocErro
         buffers.push(HeapCircularBuffer::with_capacity(alloc, ROOM)?)?;
     }
     Ok(buffers)
+}
+
+// a buffer of a pipe that holds these bytes
+fn filled_buffer(alloc: Global, bytes: &[u8]) -> Result<HeapCircularBuffer<u8>, AllocError>
+    requires { length bytes.now ≤ 4096 }
+    ensures { IfOk result (λ b. b ≡ buffer bytes.now 4096) }
+{
+    let mut filled = HeapCircularBuffer::with_capacity(alloc, ROOM)?;
+    filled.fill_from_slice(bytes);
+    Ok(filled)
+}
+
+fn filled_buffers(
+    alloc: Global,
+    bytes: &[Vec<u8>],
+) -> Result<Vec<HeapCircularBuffer<u8>>, AllocError>
+    requires { All FitsPipe bytes.now }
+    ensures { IfOk result (λ buffers. buffers.items ≡ map filled bytes.now) }
+{
+    let mut buffers = Vec::with_capacity(alloc, PIPES)?;
+    for held in bytes {
+        buffers.push(filled_buffer(alloc, held.as_slice())?)?;
+    }
+    Ok(buffers)
+}
+
+fn copy_all(alloc: Global, buffers: &[HeapCircularBuffer<u8>]) -> Result<Vec<Vec<u8>>, AllocError>
+    ensures { IfOk result (λ v. vector_bytes v.items ≡ held_bytes buffers.now) }
+{
+    let mut copies = Vec::with_capacity(alloc, PIPES)?;
+    for buffer in buffers {
+        copies.push(buffer.to_vec(alloc)?)?;
+    }
+    Ok(copies)
 }
 
 fn first_closed(readers: &[u32; 64], writers: &[u32; 64]) -> Option<u8>

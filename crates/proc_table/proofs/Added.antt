@@ -1,12 +1,14 @@
 -- A new record with its links: the last child of its parent.
-use Rattle.std.proofs.Common.{◌≡◌, ◌≢◌, ℕ, ◌+◌, ◌<◌, ◌≤◌, true, List, [], ◌∷◌, ◌++◌, length, inl}
+use Rattle.std.proofs.Common.{◌≡◌, ◌≢◌, ℕ, ◌+◌, ◌<◌, ◌≤◌, true, false, List, [], ◌∷◌, ◌++◌, length}
+use Rattle.std.proofs.Common.{inl}
 use Rattle.std.proofs.Common.{inr, refl, sym, ap, ◌∙◌, subst, arith, length-append}
-use Rattle.std.specs.Prelude.{◌&&◌}
+use Rattle.std.specs.Prelude.{◌&&◌, ◌==◌, not}
 use Rattle.std.proofs.lemmas.Bool.{cases_eq, cases_order}
 use Rattle.dos_world.specs.Numbered.{numbered}
-use Rattle.proc_table.specs.declared.record.Kept.TheVariants.{Live}
+use Rattle.proc_table.specs.declared.record.Kept.{Kept}
 use Rattle.proc_table.specs.declared.record.Links.{Links}
 use Rattle.proc_table.specs.declared.record.Record.{Record}
+use Rattle.proc_table.specs.Places.{is_collected}
 use Rattle.proc_table.specs.Links.{AreLinked, AreLinkedBy, IsLinkable, is_child_at, is_uncollected}
 use Rattle.proc_table.specs.Links.{links_at, next_in, no_links, passes, previous_in}
 use Rattle.proc_table.specs.Links.{with_child_linked}
@@ -75,10 +77,8 @@ module _ (L : List Links) (p c : ℕ) (number : c ≡ length L + 1) (within : p 
   new_links = ap links_of (at_last L no_links c number)
 
 module _ (R : List Record) (L : List Links) (few : length R ≤ 65535) (count : length L ≡ length R)
-    (linked : AreLinked R L) (p place : ℕ) (within : p ≤ length R) (room : length R < 65535) where
-  new_record : Record
-  new_record = record { parent = p; kept = Live place }
-
+    (linked : AreLinked R L) (p : ℕ) (kept : Kept) (uncollected : is_collected kept ≡ false)
+    (within : p ≤ length R) (room : length R < 65535) where
   pub last_within : previous_in L p 65536 ≤ length L
   last_within = elim (cases_eq p 0) [
     | inl e ↦ omega (arith, ap (λ k. (links_at L k).last) e)
@@ -89,10 +89,10 @@ module _ (R : List Record) (L : List Links) (few : length R ≤ 65535) (count : 
   ]
 
   pub added_linked : (c : ℕ) → c ≡ length L + 1
-      → AreLinked (R ++ (record { parent = p; kept = Live place }) ∷ []) (with_child_linked L p c)
+      → AreLinked (R ++ (record { parent = p; kept = kept }) ∷ []) (with_child_linked L p c)
   unfolding with_child_linked
   added_linked c number =
-      let r : Record = record { parent = p; kept = Live place } in
+      let r : Record = record { parent = p; kept = kept } in
       let new : List Record = R ++ r ∷ [] in
       let L1 : List Links = L ++ no_links ∷ [] in
       let L2 : List Links = with_link L1 p (previous_in L p 65536) c in
@@ -105,8 +105,9 @@ module _ (R : List Record) (L : List Links) (few : length R ≤ 65535) (count : 
       (λ q n apart. ap (passes (is_uncollected q))
       (same_but_last R r n (λ e. apart (omega arith))))
       (ap (passes (is_uncollected p)) (at_last R r c (omega arith))
-      ∙ ap (λ t. t && true) (is_at p p refl))
+      ∙ ap (λ k. (p == p) && not k) uncollected ∙ ap (λ t. t && true) (is_at p p refl))
       (λ q apart. ap (passes (is_uncollected q)) (at_last R r c (omega arith))
+      ∙ ap (λ k. (p == q) && not k) uncollected
       ∙ ap (λ t. t && true) (not_at p q (λ e. apart (sym e))))
       (λ q n qc nc. alike on L L1 q n
       (ap (λ (l : Links). l.first) (old_links L p c number low small last_within q qc))

@@ -6,7 +6,8 @@ use Rattle.std.specs.Prelude.{not, ◌&&◌, ◌==◌}
 use Rattle.std.proofs.lemmas.Bool.{and_parts}
 use Rattle.std.proofs.lemmas.List.{length-map}
 use Rattle.dos_world.specs.Numbered.{numbered, changed}
-use Rattle.proc_table.specs.declared.record.Kept.TheVariants.{Live, Ended}
+use Rattle.proc_table.specs.declared.record.Kept.{Kept}
+use Rattle.proc_table.specs.declared.record.Kept.TheVariants.{Ended}
 use Rattle.proc_table.specs.declared.record.Links.{Links}
 use Rattle.proc_table.specs.declared.record.Record.{Record}
 use Rattle.proc_table.specs.Places.{has_come, is_child_record, is_collected, kept_as, orphan_record}
@@ -16,7 +17,9 @@ use Rattle.proc_table.specs.Links.{is_child_at}
 use Rattle.proc_table.specs.Links.{is_uncollected, next_in, passes, passes_at, previous_in}
 use Rattle.proc_table.specs.Links.{with_child_linked, with_link}
 use Rattle.proc_table.proofs.Lengths.{changed_length}
-use Rattle.proc_table.proofs.Moved.{child_from, child_to, given_in, live_given}
+use Rattle.proc_table.proofs.Moved.{at_last, child_from, child_to, given_in, last_changed}
+use Rattle.proc_table.proofs.Moved.{live_given}
+use Rattle.proc_table.proofs.Ways.{is_at}
 use Rattle.proc_table.proofs.Family.{collected_linked, ended_linked, link_length, orphans_linked}
 use Rattle.proc_table.proofs.Family.{others_linkable}
 use Rattle.proc_table.proofs.Added.{added_linked, child_length, last_within}
@@ -47,8 +50,8 @@ module _ {R now : List Record} {L : List Links} {room links_room : ℕ}
 
   -- ---- a new record
 
-  module _ (p place : ℕ) {n : ℕ} (within : p ≤ length now) (left : length now < 65535)
-      (number : n ≡ length L + 1) where
+  module _ (p : ℕ) (k : Kept) {n : ℕ} (uncollected : is_collected k ≡ false)
+      (within : p ≤ length now) (left : length now < 65535) (number : n ≡ length L + 1) where
     low : p ≤ length R
     low = omega (arith, within, ap (λ (rs : List Record). length rs) shows)
 
@@ -56,17 +59,18 @@ module _ {R now : List Record} {L : List Links} {room links_room : ℕ}
     small = omega (arith, left, ap (λ (rs : List Record). length rs) shows)
 
     pub last_low : previous_in L p 65536 ≤ length L
-    last_low = last_within R L kept.few kept.count kept.linked p place low small
+    last_low = last_within R L kept.few kept.count kept.linked p k uncollected low small
 
     pub kept_added : {new : List Record} {M : List Links} {grown links_grown : ℕ}
-        → new ≡ R ++ record { parent = p; kept = Live place } ∷ [] → M ≡ with_child_linked L p n
+        → new ≡ R ++ record { parent = p; kept = k } ∷ [] → M ≡ with_child_linked L p n
         → room ≤ grown → links_room ≤ links_grown → AreStored new M grown links_grown
     kept_added {new} {M} {grown} {links_grown} is ms more links_more =
-        let r : Record = record { parent = p; kept = Live place } in
+        let r : Record = record { parent = p; kept = k } in
         record {
           linked = subst (λ K. AreLinked new K) (sym ms)
               (subst (λ rs. AreLinked rs (with_child_linked L p n)) (sym is)
-              (added_linked R L kept.few kept.count kept.linked p place low small n number));
+              (added_linked R L kept.few kept.count kept.linked p k uncollected low small n
+              number));
           count = omega (
             arith,
             kept.count,
@@ -167,3 +171,22 @@ module _ {R now : List Record} {L : List Links} {room links_room : ℕ}
           taken = omega (arith, kept.taken);
           links_taken = omega (arith, kept.links_taken);
         }
+
+-- ---- a process that was collected, more
+
+-- a new record, of a process that has ended, is a child that has come
+pub last_passes : (R : List Record) (p status n : ℕ) {new : List Record}
+    → new ≡ R ++ record { parent = p; kept = Ended status false } ∷ [] → n ≡ length R + 1
+    → passes_at (is_child_record true p) new n ≡ true
+last_passes R p status n e number =
+    ap (λ rs. passes_at (is_child_record true p) rs n) e
+    ∙ ap (passes (is_child_record true p)) (at_last R _ n number)
+    ∙ ap (λ t. t && true && true) (is_at p p refl)
+
+pub last_collected : (R : List Record) (p status n : ℕ) {ended new : List Record}
+    → ended ≡ R ++ record { parent = p; kept = Ended status false } ∷ [] → n ≡ length R + 1
+    → new ≡ changed (kept_as (Ended status true)) ended n
+    → new ≡ R ++ record { parent = p; kept = Ended status true } ∷ []
+last_collected R p status n e number is =
+    is ∙ ap (λ rs. changed (kept_as (Ended status true)) rs n) e
+    ∙ last_changed (kept_as (Ended status true)) R _ n number

@@ -15,3 +15,4 @@ pub mod Family
 pub mod Added
 pub mod Walked
 pub mod KeptRecords
+pub mod Slots

@@ -195,3 +195,16 @@ module _ (R : List Record) where
     within = child_to;
     few = omega arith;
   }
+
+-- ---- the last element
+
+pub last_changed : {A : Type 0} (f : A → A) (xs : List A) (x : A) (n : ℕ) → n ≡ length xs + 1
+    → changed f (xs ++ x ∷ []) n ≡ xs ++ f x ∷ []
+last_changed f xs x zero e = absurd (omega arith)
+last_changed {A} f xs x (suc i) e = by xs i (omega arith)
+  where
+    by : (xs : List A) (i : ℕ) → i ≡ length xs → changed_at f (xs ++ x ∷ []) i ≡ xs ++ f x ∷ []
+    by [] zero e = refl
+    by [] (suc i) e = absurd (omega arith)
+    by (y ∷ ys) zero e = absurd (omega arith)
+    by (y ∷ ys) (suc i) e = ap (λ zs. y ∷ zs) (by ys i (omega arith))

@@ -17,8 +17,8 @@ use Rattle.dos_world.specs.World.{on_holdings, live_changed}
 use Rattle.dos_world.specs.Kernel.{orphaned, ended_by}
 use Rattle.dos_world.specs.ProcessCalls.{collected_by}
 use Rattle.space_map.specs.Mapping.{Mapping, empty}
-use Rattle.proc_table.specs.Tables.{held_in, new_process}
-use Rattle.proc_table.specs.Places.{first_belongings, holdings_by, holdings_in, no_belongings}
+use Rattle.proc_table.specs.Tables.{ended_process, held_in, living_process}
+use Rattle.proc_table.specs.Places.{holdings_by, holdings_in, no_belongings}
 use Rattle.proc_table.specs.Places.{life_by, process_by, processes_shown, place_kept}
 use Rattle.proc_table.specs.Places.{place_of_record, place_in}
 use Rattle.proc_table.specs.Places.{is_placed, orphan_record, status_or_0, IsHeld, AreHeld}
@@ -359,40 +359,46 @@ shown_ended S D (suc i) status R x y read is n h =
     ∙ ap (λ n. changed_at (ended_by status) (map (process_by (holdings_in S D)) R) n) here)
 
 pub shown_added : (R : List Record) (holders : List (Option ℕ)) (S : List Mapping)
-    (D : List Belongings) (place parent : ℕ) (y : Mapping) → slice_get holders place ≡ Some None
-    → place < length S → place < length D → y.entries ≡ [] → AreHeld holders 1 R
-    → processes_shown (set S place y) (set D place first_belongings)
+    (D : List Belongings) (place parent : ℕ) (y : Mapping) (b : Belongings)
+    → slice_get holders place ≡ Some None → place < length S → place < length D
+    → AreHeld holders 1 R
+    → processes_shown (set S place y) (set D place b)
     (R ++ record { parent = parent; kept = Live place } ∷ []) ≡ processes_shown S D R
-    ++ new_process parent ∷ []
+    ++ living_process parent (holdings_by b y.entries) ∷ []
 unfolding processes_shown
-shown_added R holders S D place parent y free s d is held =
-    let new : ℕ → Holdings = holdings_in (set S place y) (set D place first_belongings) in
+shown_added R holders S D place parent y b free s d held =
+    let new : ℕ → Holdings = holdings_in (set S place y) (set D place b) in
     let r : Record = record { parent = parent; kept = Live place } in
     map-append (process_by new) R (r ∷ [])
     ∙ ap (λ ps. ps ++ process_by new r ∷ [])
     (same_processes (holdings_in S D) new holders place others 1 R (λ m le h. never m h) held)
-    ∙ ap (λ h. map (process_by (holdings_in S D)) R
-    ++ (let p : Process = record { parent = parent; life = live h } in p) ∷ []) here
+    ∙ ap (λ h. map (process_by (holdings_in S D)) R ++ living_process parent h ∷ []) here
   where
     others : (q : ℕ) → q ≢ place
-        → holdings_in (set S place y) (set D place first_belongings) q ≡ holdings_in S D q
+        → holdings_in (set S place y) (set D place b) q ≡ holdings_in S D q
     others q apart =
         ap (λ (k : Mapping). holdings_by
-        (slice_index_or (set D place first_belongings) q no_belongings) k.entries)
+        (slice_index_or (set D place b) q no_belongings) k.entries)
         (get_or-set_other S place q y (empty 0) apart)
-        ∙ ap (λ (b : Belongings). holdings_by b (slice_index_or S q (empty 0)).entries)
-        (get_or-set_other D place q first_belongings no_belongings apart)
+        ∙ ap (λ (c : Belongings). holdings_by c (slice_index_or S q (empty 0)).entries)
+        (get_or-set_other D place q b no_belongings apart)
 
-    here : holdings_in (set S place y) (set D place first_belongings) place
-        ≡ holdings_by first_belongings []
+    here : holdings_in (set S place y) (set D place b) place ≡ holdings_by b y.entries
     here =
         ap (λ (k : Mapping). holdings_by
-        (slice_index_or (set D place first_belongings) place no_belongings) k.entries)
+        (slice_index_or (set D place b) place no_belongings) k.entries)
         (get_or-set_same S place y (empty 0) s)
-        ∙ ap (λ es. holdings_by (slice_index_or (set D place first_belongings) place no_belongings)
-        es) is
-        ∙ ap (λ (b : Belongings). holdings_by b [])
-        (get_or-set_same D place first_belongings no_belongings d)
+        ∙ ap (λ (c : Belongings). holdings_by c y.entries)
+        (get_or-set_same D place b no_belongings d)
 
     never : (m : ℕ) → slice_get holders place ≡ Some (Some m) → ⊥
     never m h = let both : Some None ≡ Some (Some m) = sym free ∙ h in cc
+
+pub shown_ended_more : (S : List Mapping) (D : List Belongings) (R : List Record)
+    (parent status : ℕ) (collected : Bool)
+    → processes_shown S D (R ++ record { parent = parent; kept = Ended status collected } ∷ [])
+    ≡ processes_shown S D R ++ ended_process parent status collected ∷ []
+unfolding processes_shown
+shown_ended_more S D R parent status collected =
+    map-append (process_by (holdings_in S D)) R
+    (record { parent = parent; kept = Ended status collected } ∷ [])

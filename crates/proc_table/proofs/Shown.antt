@@ -8,6 +8,7 @@ use Rattle.std.specs.List.{remove}
 use Rattle.std.proofs.lemmas.List.{get_or_read, length-map}
 use Rattle.std.proofs.lemmas.List.Edits.{length-remove}
 use Rattle.std.proofs.lemmas.List.Sums.{length-filter, count_by-le-length}
+use Rattle.std.proofs.lemmas.Option.{slice_get-get_or}
 use Rattle.std.proofs.lemmas.Bool.Decides.{nat_tests}
 use Rattle.dos_world.specs.Numbered.{changed, numbers_of}
 use Rattle.dos_world.specs.World.{Thread, belongs_to, first_of, none_of}
@@ -15,7 +16,9 @@ use Rattle.dos_world.specs.Kernel.{unless_of}
 use Rattle.dos_world.specs.ThreadCalls.{are_threads_full}
 use Rattle.proc_table.specs.Tables.{thread_in, next_in}
 use Rattle.proc_table.specs.Spread.{live_in, spread, AreRising, IsSpreadKept, no_thread_entry}
+use Rattle.proc_table.specs.Spread.{living_from}
 use Rattle.proc_table.specs.Spread.{IsThreadAt, IsGapForThread, IsGapAbove}
+use Rattle.proc_table.proofs.Spread.{living_spread}
 use Rattle.proc_table.proofs.Spread.{from_low, rising_set, rising_push, rising_remove}
 use Rattle.proc_table.proofs.Spread.{rising_filter, spread_at, spread_length, spread_changed}
 use Rattle.proc_table.proofs.Spread.{spread_mapped, spread_pushed, numbers_spread, in_at, in_gap}
@@ -40,6 +43,18 @@ module _ {live : List (ℕ × Thread)} {given capacity : ℕ} {now : List (Optio
   shown_at : (t : ℕ) → thread_in now t ≡ live_in live t
   shown_at t = subst (λ ts. thread_in ts t ≡ live_in live t) shown
       (spread_at live given t kept.rising)
+
+  -- those that live, by their places
+  pub living_shown : living_from 1 now ≡ live
+  living_shown = ap (living_from 1) (sym shown) ∙ living_spread live given kept.rising
+
+  pub living_within : {place : ℕ} → place < length (living_from 1 now) → place < length live
+  living_within h = omega (arith, ap (λ (es : List (ℕ × Thread)). length es) living_shown, h)
+
+  pub living_at : {place : ℕ} {x : ℕ × Thread} → place < length (living_from 1 now)
+      → x ≡ get_or live place x → slice_get (living_from 1 now) place ≡ Some x
+  living_at {place} {x} h read = ap (λ (es : List (ℕ × Thread)). slice_get es place) living_shown
+      ∙ slice_get-get_or live place x (living_within h) ∙ ap (λ y. Some y) (sym read)
 
   pub lives : (t : ℕ) → IsSome (thread_in now t) → IsSome (live_in live t)
   lives t h = subst (λ (o : Option Thread). IsSome o) (shown_at t) h

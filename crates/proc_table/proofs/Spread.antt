@@ -3,19 +3,20 @@
 use Rattle.std.proofs.Common.{◌≡◌, ◌≢◌, ℕ, zero, suc, ◌+◌, ◌<◌, ◌≤◌, Bool, true, false, cond, List}
 use Rattle.std.proofs.Common.{[], ◌∷◌, ◌++◌, map, length, get_or, set, slice_get, Option, Some}
 use Rattle.std.proofs.Common.{None, option_map, Result, Ok, Err, IfOk, IfErr, refl, sym, ap, ◌∙◌}
-use Rattle.std.proofs.Common.{subst, arith}
+use Rattle.std.proofs.Common.{subst, arith, inl, inr}
 use Rattle.std.specs.Prelude.{◌==◌, nat_lt, not, find, filter, is_some}
 use Rattle.std.specs.List.{remove}
 use Rattle.std.specs.List.Sorted.{IsSearchInRange, IsBinarySearchResult, IsNonDecreasingBy}
 use Rattle.std.specs.Ordering.{nat_cmp, ordering_index}
 use Rattle.std.proofs.lemmas.Cmp.{ranked}
 use Rattle.std.proofs.lemmas.List.Sorted.{IsNonDecreasingBy-from_default}
+use Rattle.std.proofs.lemmas.Bool.{cases_order}
 use Rattle.std.proofs.lemmas.Bool.Decides.{nat_tests}
 use Rattle.dos_world.specs.Numbered.{numbered, changed, changed_at, places_from, numbers_of, run_of}
 use Rattle.dos_world.specs.World.{Thread, flat, first_of}
 use Rattle.dos_world.specs.Kernel.{unless_of}
 use Rattle.proc_table.specs.Spread.{live_in, spread, AreRising, AreInOrder, no_thread_entry}
-use Rattle.proc_table.specs.Spread.{thread_number_at}
+use Rattle.proc_table.specs.Spread.{living_from, thread_number_at}
 use Rattle.proc_table.specs.Spread.{IsThreadAt, IsGapForThread, IsGapAbove}
 
 -- ---- numbers that rise
@@ -469,3 +470,94 @@ above_at high live t place r at = record {
   );
   higher = λ i le within. omega (arith, at.is, rises 1 high live place i r (omega arith) within);
 }
+
+-- ---- those that live, of the list by number
+
+-- of the numbers from n on, where the live ones from n on are these
+living_run : (live es : List (ℕ × Thread)) (n count : ℕ) → AreRising n (n + count) es
+    → ((t : ℕ) → n ≤ t → live_in live t ≡ live_in es t)
+    → living_from n (map (live_in live) (run_of n count)) ≡ es
+living_run live [] n zero r same = refl
+living_run live (e ∷ es) n zero r same = absurd (omega (arith, r.0, r.1))
+living_run live [] n (suc count) r same =
+    ap (λ o. living_from n (o ∷ map (live_in live) (run_of (suc n) count))) (same n (omega arith))
+    ∙ living_run live [] (suc n) count tt (λ t h. same t (omega arith))
+living_run live (e ∷ es) n (suc count) r same =
+    elim (cases_order e.0 n) [
+      | inl is ↦
+          ap (λ o. living_from n (o ∷ rest)) (same n (omega arith) ∙ found is)
+          ∙ ap (λ m. (m, e.1) ∷ living_from (suc n) rest) (sym is)
+          ∙ ap (λ xs. e ∷ xs)
+          (living_run live es (suc n) count
+          (rising_wider (suc e.0) (n + suc count) (suc n) (suc n + count) es (omega arith)
+          (omega arith) r.2)
+          (λ t h. same t (omega arith) ∙ other t (omega arith)))
+      | inr (inl below) ↦ absurd (omega (arith, r.0))
+      | inr (inr above) ↦
+          ap (λ o. living_from n (o ∷ rest))
+          (same n (omega arith)
+          ∙ in_below (suc n) (suc n + count) n (e ∷ es) (later above) (omega arith))
+          ∙ living_run live (e ∷ es) (suc n) count (later above) (λ t h. same t (omega arith))
+    ]
+  where
+    rest : List (Option Thread)
+    rest = map (live_in live) (run_of (suc n) count)
+
+    found : e.0 ≡ n → live_in (e ∷ es) n ≡ Some e.1
+    found is = rw (same_test e.0 n is) refl
+
+    other : (t : ℕ) → e.0 < t → live_in (e ∷ es) t ≡ live_in es t
+    other t h = rw (other_test e.0 t (λ s. omega arith)) refl
+
+    later : n < e.0 → AreRising (suc n) (suc n + count) (e ∷ es)
+    later above = (
+      omega arith,
+      omega (arith, r.1),
+      rising_wider (suc e.0) (n + suc count) (suc e.0) (suc n + count) es (omega arith)
+          (omega arith) r.2,
+    )
+
+pub living_spread : (live : List (ℕ × Thread)) (given : ℕ) → AreRising 1 (given + 1) live
+    → living_from 1 (spread live given) ≡ live
+unfolding spread
+living_spread live given r =
+    living_run live live 1 given (rising_wider 1 (given + 1) 1 (1 + given) live (omega arith)
+    (omega arith) r) (λ t h. refl)
+
+-- those that live rise in number
+pub living_rises : (n : ℕ) (threads : List (Option Thread))
+    → AreRising n (n + length threads) (living_from n threads)
+living_rises n [] = tt
+living_rises n (None ∷ threads) =
+    rising_wider (suc n) (suc n + length threads) n (n + suc (length threads))
+    (living_from (suc n) threads) (omega arith) (omega arith) (living_rises (suc n) threads)
+living_rises n (Some thread ∷ threads) = (
+  omega arith,
+  omega arith,
+  rising_wider (suc n) (suc n + length threads) (suc n) (n + suc (length threads))
+      (living_from (suc n) threads) (omega arith) (omega arith) (living_rises (suc n) threads),
+)
+
+-- of the numbers from n on, where the live ones from n on are those of a list
+run_living : (live : List (ℕ × Thread)) (n : ℕ) (threads : List (Option Thread))
+    → ((t : ℕ) → n ≤ t → live_in live t ≡ live_in (living_from n threads) t)
+    → map (live_in live) (run_of n (length threads)) ≡ threads
+run_living live n [] same = refl
+run_living live n (None ∷ threads) same =
+    ap (λ o. o ∷ map (live_in live) (run_of (suc n) (length threads)))
+    (same n (omega arith)
+    ∙ in_below (suc n) (suc n + length threads) n (living_from (suc n) threads)
+    (living_rises (suc n) threads) (omega arith))
+    ∙ ap (λ os. None ∷ os) (run_living live (suc n) threads (λ t h. same t (omega arith)))
+run_living live n (Some thread ∷ threads) same =
+    ap (λ o. o ∷ map (live_in live) (run_of (suc n) (length threads)))
+    (same n (omega arith) ∙ rw (same_test n n refl) refl)
+    ∙ ap (λ os. Some thread ∷ os)
+    (run_living live (suc n) threads
+    (λ t h. same t (omega arith) ∙ rw (other_test n t (λ e. omega arith)) refl))
+
+-- a list by number is spread from those that live
+pub spread_living : (threads : List (Option Thread))
+    → spread (living_from 1 threads) (length threads) ≡ threads
+unfolding spread
+spread_living threads = run_living (living_from 1 threads) 1 threads (λ t h. refl)

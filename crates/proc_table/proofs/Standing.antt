@@ -17,7 +17,8 @@ use Rattle.dos_world.specs.ProcessCalls.{collected_by}
 use Rattle.dos_world.specs.declared.End.{End}
 use Rattle.dos_world.specs.declared.Entry.{Entry}
 use Rattle.space_map.specs.Mapping.{Mapping, empty}
-use Rattle.proc_table.specs.Tables.{held_as, held_in, IsParent, IsProcess, new_process}
+use Rattle.proc_table.specs.Tables.{held_as, held_in, IsParent, IsProcess, ended_process}
+use Rattle.proc_table.specs.Tables.{living_process, new_process}
 use Rattle.proc_table.specs.Places.{Group, group_shown, kept_as, first_belongings, holdings_by}
 use Rattle.proc_table.specs.Places.{holdings_in, no_belongings, process_by, processes_shown}
 use Rattle.proc_table.specs.Places.{place_of_record}
@@ -31,7 +32,7 @@ use Rattle.proc_table.proofs.Places.{collected_shown, marked_held, numbered_show
 use Rattle.proc_table.proofs.Places.{held_shown, held_at, changed_process, holdings_count}
 use Rattle.proc_table.proofs.Places.{orphans_count, ended_held, orphans_held, held_pushed, all_kept}
 use Rattle.proc_table.proofs.Places.{none_free, free_place, get_within, get_placed, get-set_same}
-use Rattle.proc_table.proofs.Places.{shown_ended, shown_added}
+use Rattle.proc_table.proofs.Places.{shown_ended, shown_ended_more, shown_added}
 
 abbrev pub spaced_by : (List (ℕ × Entry) → List (ℕ × Entry)) → Holdings → Holdings
 spaced_by f h = record h { space = f h.space }
@@ -59,7 +60,7 @@ module _ {R : List Record} {holders : List (Option ℕ)} {S : List Mapping} {D :
   pub processes_same : processes_shown S D R ≡ now.processes
   processes_same = ap (λ (g : Group). g.processes) shows
 
-  room_shown : room ≡ now.room
+  pub room_shown : room ≡ now.room
   room_shown = ap (λ (g : Group). g.room) shows
 
   pub given_shown : length now.processes ≡ length R
@@ -413,12 +414,15 @@ module _ {R : List Record} {holders : List (Option ℕ)} {S : List Mapping} {D :
     pub free_in_belongings : place < length D
     free_in_belongings = omega (arith, free_within, placed.belongings_count)
 
-    pub added_standing : (parent : ℕ) {n : ℕ} {x y : Mapping} {b : Belongings} {new : List Record}
-        → n ≡ length R → x ≡ get_or S place x → y ≡ record x { entries = [] }
-        → b ≡ first_belongings → new ≡ R ++ record { parent = parent; kept = Live place } ∷ []
+    pub restored_standing : (parent : ℕ) (y : Mapping) (b : Belongings) {n : ℕ} {new : List Record}
+        → n ≡ length R → y.room ≡ room
+        → new ≡ R ++ record { parent = parent; kept = Live place } ∷ []
         → Stands new (set holders place (Some (n + 1))) (set S place y) (set D place b) (count + 1)
-        room (record now { processes = now.processes ++ new_process parent ∷ [] })
-    added_standing parent {n} {x} {y} {b} {new} number read is begins e =
+        room (record now {
+          processes =
+              now.processes ++ living_process parent (holdings_by b y.entries) ∷ [];
+        })
+    restored_standing parent y b {n} {new} number same_room e =
         let r : Record = record { parent = parent; kept = Live place } in
         let H : List (Option ℕ) = set holders place (Some (n + 1)) in
         let in_holders : place < length holders =
@@ -428,17 +432,15 @@ module _ {R : List Record} {holders : List (Option ℕ)} {S : List Mapping} {D :
         ∙ ap (λ m. Some (Some m)) (omega (arith, number)) in
         let was : get_or holders place None ≡ None =
         get_or_from_slice_get holders place None None free in
-        let same_room : y.room ≡ room = ap (λ (s : Mapping). s.room) is
-        ∙ ap (λ (s : Mapping). s.room) read
-        ∙ All-get_or (λ (s : Mapping). s.room ≡ room) S place x free_in_spaces placed.rooms in
         record {
           shows = ap (λ ps. let g : Group = record { processes = ps; room = room } in g)
-              (ap (λ c. processes_shown (set S place y) (set D place c) new) begins
-              ∙ ap (processes_shown (set S place y) (set D place first_belongings)) e
-              ∙ shown_added R holders S D place parent y free free_in_spaces free_in_belongings
-              (ap (λ (s : Mapping). s.entries) is) placed.held)
-              ∙ ap (λ (g : Group). let h : Group =
-              record g { processes = g.processes ++ new_process parent ∷ [] } in h) shows;
+              (ap (processes_shown (set S place y) (set D place b)) e
+              ∙ shown_added R holders S D place parent y b free free_in_spaces free_in_belongings
+              placed.held)
+              ∙ ap (λ (g : Group). let h : Group = record g {
+                processes =
+                    g.processes ++ living_process parent (holdings_by b y.entries) ∷ [];
+              } in h) shows;
           placed = record {
             held = subst (AreHeld H 1) (sym e)
                 (held_pushed H 1 R r
@@ -465,6 +467,55 @@ module _ {R : List Record} {holders : List (Option ℕ)} {S : List Mapping} {D :
       where
         never : (m : ℕ) → slice_get holders place ≡ Some (Some m) → ⊥
         never m s = let both : Some None ≡ Some (Some m) = sym free ∙ s in cc
+
+    pub added_standing : (parent : ℕ) {n : ℕ} {x y : Mapping} {b : Belongings} {new : List Record}
+        → n ≡ length R → x ≡ get_or S place x → y ≡ record x { entries = [] }
+        → b ≡ first_belongings → new ≡ R ++ record { parent = parent; kept = Live place } ∷ []
+        → Stands new (set holders place (Some (n + 1))) (set S place y) (set D place b) (count + 1)
+        room (record now { processes = now.processes ++ new_process parent ∷ [] })
+    added_standing parent {n} {x} {y} {b} {new} number read is begins e =
+        let same_room : y.room ≡ room = ap (λ (s : Mapping). s.room) is
+        ∙ ap (λ (s : Mapping). s.room) read
+        ∙ All-get_or (λ (s : Mapping). s.room ≡ room) S place x free_in_spaces placed.rooms in
+        subst (λ (q : Process). Stands new (set holders place (Some (n + 1))) (set S place y)
+        (set D place b) (count + 1) room (record now { processes = now.processes ++ q ∷ [] }))
+        (ap (λ (c : Belongings). living_process parent (holdings_by c y.entries)) begins
+        ∙ ap (λ (s : Mapping). living_process parent (holdings_by first_belongings s.entries)) is)
+        (restored_standing parent y b number same_room e)
+
+-- ---- a process that has ended, more
+
+pub ended_added : {R : List Record} {holders : List (Option ℕ)} {S : List Mapping}
+    {D : List Belongings} {count room : ℕ} {now : Group} → group_shown S D R room ≡ now
+    → ArePlaced R holders S D count room → (parent status : ℕ) (collected : Bool)
+    {new : List Record}
+    → new ≡ R ++ record { parent = parent; kept = Ended status collected } ∷ []
+    → Stands new holders S D count room
+    (record now { processes = now.processes ++ ended_process parent status collected ∷ [] })
+ended_added {R} {holders} {S} {D} {count} {room} shows placed parent status collected {new} e =
+    let r : Record = record { parent = parent; kept = Ended status collected } in
+    record {
+      shows = ap (λ ps. let g : Group = record { processes = ps; room = room } in g)
+          (ap (processes_shown S D) e ∙ shown_ended_more S D R parent status collected)
+          ∙ ap (λ (g : Group). let h : Group = record g {
+            processes =
+                g.processes ++ ended_process parent status collected ∷ [];
+          } in h) shows;
+      placed = record {
+        held = subst (AreHeld holders 1) (sym e) (held_pushed holders 1 R r placed.held tt);
+        holding = placed.holding;
+        living = omega (
+          arith,
+          placed.living,
+          ap (count_by is_placed) e,
+          sum_by-append (λ (k : Record). counted (is_placed k)) R (r ∷ []),
+        );
+        holders_count = placed.holders_count;
+        spaces_count = placed.spaces_count;
+        belongings_count = placed.belongings_count;
+        rooms = placed.rooms;
+      };
+    }
 
 -- ---- no process
 

@@ -1,6 +1,6 @@
 -- The threads of a table by number, spread from those that live. This project's own rules.
 use Rattle.std.specs.Prelude.{◌≡◌, ◌<◌, ◌≤◌, ℕ, suc, ◌+◌, List, [], ◌∷◌, map, length, find, Option}
-use Rattle.std.specs.Prelude.{option_map, ◌==◌, slice_index_or}
+use Rattle.std.specs.Prelude.{Some, None, option_map, ◌==◌, slice_index_or}
 use Rattle.dos_world.specs.Numbered.{run_of}
 use Rattle.dos_world.specs.World.{Thread, blank}
 use Rattle.dos_world.specs.ThreadCalls.{ready_thread}
@@ -12,6 +12,12 @@ live_in live t = option_map (λ e. e.1) (find (λ e. e.0 == t) live)
 -- the threads of the numbers from 1 to given; a thread that doesn't live is None
 unfoldable pub spread : List (ℕ × Thread) → ℕ → List (Option Thread)
 spread live given = map (live_in live) (run_of 1 given)
+
+-- the live threads of a list with their numbers, the first of which is n
+abbrev pub living_from : ℕ → List (Option Thread) → List (ℕ × Thread)
+living_from n [] = []
+living_from n (None ∷ threads) = living_from (suc n) threads
+living_from n (Some thread ∷ threads) = (n, thread) ∷ living_from (suc n) threads
 
 -- each number is above the one before it; the first is at least low, and all are below high
 abbrev pub AreRising : ℕ → ℕ → List (ℕ × Thread) → Type 0

@@ -72,6 +72,19 @@ new_process parent = record {
   life = live (record { actions = replicate 31 0; descriptors = replicate 32 None; space = [] });
 }
 
+-- a process that lives and has this
+abbrev pub living_process : ℕ → Holdings → Process
+living_process parent h = record { parent = parent; life = live h }
+
+-- a process that has ended
+abbrev pub ended_process : (parent : ℕ) → (status : ℕ) → (collected : Bool) → Process
+ended_process parent status collected =
+    record { parent = parent; life = ended status collected }
+
+-- with one process more
+abbrev pub process_restored : Tables → Process → Tables
+process_restored t process = record t { processes = t.processes ++ process ∷ [] }
+
 -- with one thread more
 abbrev pub thread_added : Tables → Thread → Tables
 thread_added t thread = record t { threads = t.threads ++ Some thread ∷ [] }

@@ -13,3 +13,4 @@ mod threads;
 pub use collected::Collected;
 pub use signals::SignalState;
 pub use table::Table;
+pub use thread::Thread;

@@ -5,16 +5,17 @@ ghost use Rattle.std.specs.Prelude.{nat_le, position, slice_get, slice_index, sl
 ghost use Rattle.std.specs.Prelude.{replicate, IfOk, IsSome, IfSome};
 ghost use Rattle.std.specs.List.{list_any};
 ghost use Rattle.dos_world.specs.Numbered.{changed, numbered};
-ghost use Rattle.dos_world.specs.World.{all_holdings, look, on_holdings};
+ghost use Rattle.dos_world.specs.World.{all_holdings, look, on_holdings, was_collected};
 ghost use Rattle.dos_world.specs.Kernel.{ended_by, orphaned, with_entry, without_entries};
 ghost use Rattle.dos_world.specs.DescriptorCalls.{with_end};
 ghost use Rattle.dos_world.specs.SignalCalls.{is_signal, with_action};
 ghost use Rattle.space_map.specs.Mapping.{IsMapped, empty, in_run};
 ghost use Rattle.proc_table.specs.Tables.{IsParent, IsProcess, end_named, entry_replaced, held_as};
 ghost use Rattle.proc_table.specs.Tables.{held_in, last_status, new_process, run_put, run_shared};
+ghost use Rattle.proc_table.specs.Tables.{ended_process, living_process};
 ghost use Rattle.proc_table.specs.Tables.{run_unmapped, without_ends};
 ghost use Rattle.proc_table.specs.Children.{after_wait, outcome};
-ghost use Rattle.proc_table.specs.Places.{first_belongings, status_or_0};
+ghost use Rattle.proc_table.specs.Places.{first_belongings, holdings_by, status_or_0};
 
 use crate::collected::Collected;
 use crate::record::{Belongings, Kept};
@@ -103,8 +104,63 @@ impl Processes {
         self.spaces[place].clear();
         self.belongings[place] = first_belongings();
         self.live += 1;
-        self.records.add(parent, place as u32);
+        self.records.add(parent, Kept::Live(place as u32));
         number
+    }
+
+    // one process more, which lives and has these belongings and pages
+    pub(crate) fn restore_living(&mut self, parent: u32, belongings: Belongings, space: Space)
+        requires room { nat_le 32 (length (all_holdings self.old.processes)) ≡ false }
+        requires numbers { length self.old.processes < 65535 }
+        requires parent { parent ≤ length self.old.processes }
+        requires space { space.room ≡ self.old.room }
+        ensures { self.new
+            ≡ record self.old {
+              processes =
+                  self.old.processes ++ living_process parent (holdings_by belongings space.entries)
+                  ∷ [];
+            } }
+    {
+        let place = match first_none(&self.holders) {
+            Some(place) => place,
+            None => unreachable!(),
+        };
+        let number = self.records.len() + 1;
+        self.holders[place] = Some(number);
+        self.spaces[place] = space;
+        self.belongings[place] = belongings;
+        self.live += 1;
+        self.records.add(parent, Kept::Live(place as u32));
+    }
+
+    // one process more, which has ended with this status and wasn't collected
+    pub(crate) fn restore_ended(&mut self, parent: u32, status: u8)
+        requires numbers { length self.old.processes < 65535 }
+        requires parent { parent ≤ length self.old.processes }
+        ensures { self.new
+            ≡ record self.old {
+              processes =
+                  self.old.processes ++ ended_process parent status false ∷ [];
+            } }
+    {
+        let ended = Kept::Ended {
+            status,
+            collected: false,
+        };
+        self.records.add(parent, ended);
+    }
+
+    // one process more, which has ended with this status and was collected
+    pub(crate) fn restore_collected(&mut self, parent: u32, status: u8)
+        requires numbers { length self.old.processes < 65535 }
+        requires parent { parent ≤ length self.old.processes }
+        ensures { self.new
+            ≡ record self.old {
+              processes =
+                  self.old.processes ++ ended_process parent status true ∷ [];
+            } }
+    {
+        self.records.add_collected(parent, status);
     }
 
     // The process has ended, and its children have no parent.
@@ -136,6 +192,17 @@ impl Processes {
         match self.records.get(pid).kept {
             Kept::Live(_) => None,
             Kept::Ended { status, .. } => Some(status),
+        }
+    }
+
+    pub(crate) fn was_collected(&self, pid: u32) -> bool
+        requires { IsSome (numbered self.now.processes pid) }
+        ensures { IfSome (numbered self.now.processes pid)
+            (λ process. result ≡ was_collected process) }
+    {
+        match self.records.get(pid).kept {
+            Kept::Live(_) => false,
+            Kept::Ended { collected, .. } => collected,
         }
     }
 
@@ -270,6 +337,20 @@ impl Processes {
         self.spaces[place].share_run(page, count);
     }
 
+    pub(crate) fn descriptors(&self, pid: u32) -> &[Option<End>; 32]
+        requires { IsProcess self.now.processes pid }
+        ensures { IfSome (held_in self.now.processes pid) (λ h. result.now ≡ h.descriptors) }
+    {
+        &self.belongings[self.records.place_of(pid)].descriptors
+    }
+
+    pub(crate) fn actions(&self, pid: u32) -> &[u32; 31]
+        requires { IsProcess self.now.processes pid }
+        ensures { IfSome (held_in self.now.processes pid) (λ h. result.now ≡ h.actions) }
+    {
+        &self.belongings[self.records.place_of(pid)].actions
+    }
+
     pub(crate) fn descriptor(&self, pid: u32, number: u32) -> Option<End>
         requires { IsProcess self.now.processes pid }
         ensures { IfSome (held_in self.now.processes pid) (λ h. result ≡ end_named h number) }
@@ -378,6 +459,18 @@ fn first_belongings() -> Belongings
         descriptors: [None; 32],
         actions: [0; 31],
     }
+}
+
+// these actions and descriptors
+pub(crate) fn belongings_of(actions: &[u32], ends: &[Option<End>]) -> Belongings
+    requires actions { length actions.now ≡ 31 }
+    requires ends { length ends.now ≡ 32 }
+    ensures { result ≡ record { descriptors = ends.now; actions = actions.now } }
+{
+    let mut belongings = first_belongings();
+    belongings.actions.copy_from_slice(actions);
+    belongings.descriptors.copy_from_slice(ends);
+    belongings
 }
 
 // the place of the first that is None

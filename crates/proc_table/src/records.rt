@@ -87,22 +87,37 @@ impl Records {
         }
     }
 
-    // The record of the next number: the last child of its parent, where that isn't 0.
-    pub(crate) fn add(&mut self, parent: u32, place: u32)
+    // The record of the next number, which wasn't collected: the last child of its parent, where
+    // that isn't 0.
+    pub(crate) fn add(&mut self, parent: u32, kept: Kept)
         requires numbers { length self.old < 65535 }
         requires parent { parent ≤ length self.old }
-        ensures { self.new ≡ self.old ++ record { parent = parent; kept = Live place } ∷ [] }
+        requires uncollected { is_collected kept ≡ false }
+        ensures { self.new ≡ self.old ++ record { parent = parent; kept = kept } ∷ [] }
     {
         let number = self.records.len() as u32 + 1;
         add_links(&mut self.links, parent, number);
-        let record = Record {
-            parent,
-            kept: Kept::Live(place),
-        };
+        let record = Record { parent, kept };
         match self.records.push(record) {
             Ok(()) => (),
             Err(_) => unreachable!(),
         }
+    }
+
+    // The record of the next number, of a process that has ended and that its parent has collected.
+    pub(crate) fn add_collected(&mut self, parent: u32, status: u8)
+        requires numbers { length self.old < 65535 }
+        requires parent { parent ≤ length self.old }
+        ensures { self.new
+            ≡ self.old ++ record { parent = parent; kept = Ended status true } ∷ [] }
+    {
+        let number = self.len() + 1;
+        let ended = Kept::Ended {
+            status,
+            collected: false,
+        };
+        self.add(parent, ended);
+        self.collect(parent, number, status);
     }
 
     // The process has ended, and its children have no parent.

@@ -1,5 +1,7 @@
 // The signals of a thread.
-ghost use Rattle.std.specs.Prelude.{◌≡◌, ◌<◌, [], ◌∷◌, length, None, Some, IfNone, IfSome, find};
+ghost use Rattle.std.specs.Prelude.{◌≡◌, ◌<◌, ◌≤◌, [], ◌∷◌, length, None, Some, IfNone, IfSome};
+ghost use Rattle.std.specs.Prelude.{find, slice_get};
+ghost use Rattle.dos_world.specs.World.{flat};
 ghost use Rattle.dos_world.specs.SignalSet.{allowed_mask, has_bit, with_bit, without_bit};
 ghost use Rattle.proc_table.specs.Saved.{first_signal, handled, is_deliverable, lowest_open};
 
@@ -48,6 +50,43 @@ impl SignalState {
         ensures { result ≡ record { pending = 0; mask = allowed_mask mask; saved = [] } }
     {
         SignalState::masked(mask & MASKABLE)
+    }
+
+    /// These signals pending, this mask, and these registers and masks saved, the last saved
+    /// first.
+    pub fn from_parts(pending: u32, mask: u32, saved: &[(Regs, u32)]) -> SignalState
+        requires { length saved.now ≤ 4 }
+        ensures { result ≡ record { pending = pending; mask = mask; saved = saved.now } }
+    {
+        let slots = [
+            slot(saved, 0),
+            slot(saved, 1),
+            slot(saved, 2),
+            slot(saved, 3),
+        ];
+        SignalState {
+            pending,
+            mask,
+            saved: slots,
+        }
+    }
+
+    /// The signals that are pending, a set of bits.
+    pub fn pending(&self) -> u32
+        ensures { result ≡ self.now.pending }
+    {
+        self.pending
+    }
+
+    /// The registers and the mask that were saved at this place, where 0 is the last saved.
+    pub fn saved(&self, place: u32) -> (Regs, u32)
+        requires { place < length self.now.saved }
+        ensures { slice_get self.now.saved place ≡ Some result }
+    {
+        match slot_at(&self.saved, place) {
+            Some(saved) => saved,
+            None => unreachable!(),
+        }
     }
 
     /// The signal is pending.
@@ -156,6 +195,26 @@ impl SignalState {
         ensures { result ≡ record self { pending = 0 } }
     {
         SignalState { pending: 0, ..self }
+    }
+}
+
+// what is saved at this place, where anything is
+fn slot(saved: &[(Regs, u32)], place: usize) -> Option<(Regs, u32)>
+    ensures { result ≡ slice_get saved.now place }
+{
+    match saved.get(place) {
+        Some(saved) => Some(*saved),
+        None => None,
+    }
+}
+
+// what is in the slot of this place
+fn slot_at(slots: &[Option<(Regs, u32)>; 4], place: u32) -> Option<(Regs, u32)>
+    ensures { result ≡ flat (slice_get slots.now place) }
+{
+    match slots.get(place as usize) {
+        Some(slot) => *slot,
+        None => None,
     }
 }
 

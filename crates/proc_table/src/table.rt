@@ -1,11 +1,12 @@
 // The table of processes and threads.
 ghost use Rattle.std.specs.Prelude.{◌≡◌, ◌<◌, ◌≤◌, ◌+◌, ◌-◌, ◌^◌, length, slice_index, None, Some};
 ghost use Rattle.std.specs.Prelude.{[], IfOk, IfErr, IsSome, IfSome, is_some, is_none, position};
+ghost use Rattle.std.specs.Prelude.{slice_get};
 ghost use Rattle.std.specs.Prelude.{true, false};
 ghost use Rattle.std.specs.List.{list_any};
 ghost use Rattle.dos_world.specs.Numbered.{numbered, changed, numbers_of};
 ghost use Rattle.dos_world.specs.World.{all_holdings, belongs_to, first_of, in_state, look};
-ghost use Rattle.dos_world.specs.World.{none_of, registers_by};
+ghost use Rattle.dos_world.specs.World.{none_of, registers_by, was_collected};
 ghost use Rattle.dos_world.specs.Kernel.{awake, pending_with, with_entry, without_entries};
 ghost use Rattle.dos_world.specs.Calls.{charged};
 ghost use Rattle.dos_world.specs.ThreadCalls.{are_threads_full, ready_thread};
@@ -21,8 +22,11 @@ ghost use Rattle.proc_table.specs.Tables.{last_status, new_process, next_in, no_
 ghost use Rattle.proc_table.specs.Tables.{thread_by, thread_in, with_budget, with_ended};
 ghost use Rattle.proc_table.specs.Tables.{process_added, run_put, run_shared, run_unmapped};
 ghost use Rattle.proc_table.specs.Tables.{thread_added, without_ends};
+ghost use Rattle.proc_table.specs.Tables.{ended_process, living_process, process_restored};
+ghost use Rattle.proc_table.specs.Spread.{AreRising, living_from, spread};
+ghost use Rattle.std.specs.Vec.{vec_capacity};
 
-use crate::processes::Processes;
+use crate::processes::{Processes, belongings_of};
 use crate::thread::Thread;
 use crate::threads::Threads;
 use crate::{Collected, SignalState};
@@ -67,6 +71,70 @@ impl Table {
             processes: Processes::reserve(alloc, frames)?,
             threads: Threads::reserve(alloc)?,
         })
+    }
+
+    /// No process, and these threads with their numbers, where so many numbers were given; each
+    /// space will have room for `frames` entries. All memory of the table is taken here.
+    pub fn with_threads(
+        alloc: Global,
+        frames: u32,
+        live: Vec<(u32, Thread)>,
+        given: u32,
+    ) -> Result<Table, AllocError>
+        requires rising { AreRising 1 (given + 1) live.items }
+        requires few { length live.items ≤ 64 }
+        requires numbers { given ≤ 65535 }
+        requires taken { 64 ≤ vec_capacity live }
+        ensures { IfOk result (λ t. t
+            ≡ record { processes = []; threads = spread live.items given; room = frames }) }
+    {
+        let processes = Processes::reserve(alloc, frames)?;
+        Ok(Table {
+            processes,
+            threads: Threads::restore(live, given),
+        })
+    }
+
+    /// The process of the next number lives: it has this parent, these actions of the signals 1 to
+    /// 31, these 32 descriptors and these pages. Fewer processes than threads were given a number.
+    pub fn restore_living(
+        &mut self,
+        parent: u32,
+        actions: &[u32],
+        ends: &[Option<End>],
+        space: Space,
+    )
+        requires room { length (all_holdings self.old.processes) < 32 }
+        requires numbers { length self.old.processes < length self.old.threads }
+        requires given { length self.old.processes < 65535 }
+        requires parent { parent ≤ length self.old.processes }
+        requires actions { length actions.now ≡ 31 }
+        requires ends { length ends.now ≡ 32 }
+        requires space { space.room ≡ self.old.room }
+        ensures { self.new ≡ process_restored self.old (living_process parent (record {
+          actions = actions.now;
+          descriptors = ends.now;
+          space =
+              space.entries;
+        })) }
+    {
+        self.processes
+            .restore_living(parent, belongings_of(actions, ends), space);
+    }
+
+    /// The process of the next number has ended with this status, and was collected by its parent
+    /// or wasn't. Fewer processes than threads were given a number.
+    pub fn restore_ended(&mut self, parent: u32, status: u8, collected: bool)
+        requires numbers { length self.old.processes < length self.old.threads }
+        requires given { length self.old.processes < 65535 }
+        requires parent { parent ≤ length self.old.processes }
+        ensures { self.new ≡ process_restored self.old (ended_process parent status collected) }
+    {
+        if collected {
+            self.processes.restore_collected(parent, status);
+        } else {
+            self.processes.restore_ended(parent, status);
+        }
     }
 
     /// A new process with one ready thread: their numbers, or 11 exactly where 32 processes or 64
@@ -161,6 +229,22 @@ impl Table {
         self.processes.given()
     }
 
+    /// How many numbers of threads were given.
+    pub fn threads(&self) -> u32
+        ensures { result ≡ length self.now.threads }
+    {
+        self.threads.given()
+    }
+
+    /// The live thread at this place in rising number, with its number.
+    pub fn live_thread(&self, place: u32) -> (u32, &Thread)
+        requires { place < length (living_from 1 self.now.threads) }
+        ensures { slice_get (living_from 1 self.now.threads) place
+            ≡ Some (result.0, result.1.now) }
+    {
+        self.threads.at(place)
+    }
+
     /// How many threads live.
     pub fn live_threads(&self) -> u32
         ensures { result ≡ length (numbers_of is_some self.now.threads) }
@@ -189,6 +273,15 @@ impl Table {
             (λ process. result ≡ last_status process) }
     {
         self.processes.status(pid)
+    }
+
+    /// Whether a process whose number was given has ended and its parent has collected it.
+    pub fn was_collected(&self, pid: u32) -> bool
+        requires { IsSome (numbered self.now.processes pid) }
+        ensures { IfSome (numbered self.now.processes pid)
+            (λ process. result ≡ was_collected process) }
+    {
+        self.processes.was_collected(pid)
     }
 
     /// The number of the parent, 0 where there is none, of a process whose number was given.
@@ -530,6 +623,22 @@ impl Table {
         ensures { self.new ≡ held_by (run_shared page count) self.old pid }
     {
         self.processes.share_run(pid, page, count);
+    }
+
+    /// What each of the process's 32 descriptors names, None where it isn't open.
+    pub fn descriptors(&self, pid: u32) -> &[Option<End>; 32]
+        requires { IsProcess self.now.processes pid }
+        ensures { IfSome (held_in self.now.processes pid) (λ h. result.now ≡ h.descriptors) }
+    {
+        self.processes.descriptors(pid)
+    }
+
+    /// The process's actions of the signals 1 to 31.
+    pub fn actions(&self, pid: u32) -> &[u32; 31]
+        requires { IsProcess self.now.processes pid }
+        ensures { IfSome (held_in self.now.processes pid) (λ h. result.now ≡ h.actions) }
+    {
+        self.processes.actions(pid)
     }
 
     /// What the process's descriptor names. None exactly where it isn't open. Any number of a

@@ -3,14 +3,15 @@ use crate::SignalState;
 use dos_world::{Regs, ThreadState};
 use std::marker::Model;
 
-// Contracts see the thread of the flat world.
+/// A live thread: its process, its registers and budget, whether it runs or waits, and its signals.
+/// Contracts see the thread of the flat world.
 #[derive(Drop)]
-pub(crate) struct Thread {
-    pub(crate) process: u32,
-    pub(crate) regs: Regs,
-    pub(crate) budget: u32,
-    pub(crate) state: ThreadState,
-    pub(crate) signals: SignalState,
+pub struct Thread {
+    pub process: u32,
+    pub regs: Regs,
+    pub budget: u32,
+    pub state: ThreadState,
+    pub signals: SignalState,
 }
 
 impl Model for Thread {

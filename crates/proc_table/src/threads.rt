@@ -9,7 +9,8 @@ ghost use Rattle.dos_world.specs.Calls.{charged};
 ghost use Rattle.dos_world.specs.ThreadCalls.{are_threads_full};
 ghost use Rattle.proc_table.specs.Tables.{IsLiveThread, next_in, ran, thread_in, with_budget};
 ghost use Rattle.proc_table.specs.Spread.{AreInOrder, IsThreadAt, IsGapAbove, IsGapForThread};
-ghost use Rattle.proc_table.specs.Spread.{live_in};
+ghost use Rattle.proc_table.specs.Spread.{AreRising, live_in, living_from, spread};
+ghost use Rattle.std.specs.Vec.{vec_capacity};
 ghost use Rattle.std.specs.Borrow.{sem};
 ghost use Rattle.proc_table.specs.Lending.{LendsThread};
 
@@ -54,6 +55,26 @@ impl Threads {
             live: Vec::with_capacity(alloc, MOST_THREADS as usize)?,
             given: 0,
         })
+    }
+
+    // These threads with their numbers, where so many numbers were given.
+    pub(crate) fn restore(live: Vec<(u32, Thread)>, given: u32) -> Threads
+        requires rising { AreRising 1 (given + 1) live.items }
+        requires few { length live.items ≤ 64 }
+        requires numbers { given ≤ 65535 }
+        requires taken { 64 ≤ vec_capacity live }
+        ensures { result ≡ spread live.items given }
+    {
+        Threads { live, given }
+    }
+
+    // the live thread at this place in the rising order, and its number
+    pub(crate) fn at(&self, place: u32) -> (u32, &Thread)
+        requires { place < length (living_from 1 self.now) }
+        ensures { slice_get (living_from 1 self.now) place ≡ Some (result.0, result.1.now) }
+    {
+        let entry = &self.live[place as usize];
+        (entry.0, &entry.1)
     }
 
     // how many numbers were given
