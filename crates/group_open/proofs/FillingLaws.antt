@@ -163,6 +163,7 @@ module _ (s : Store) (t frame : ℕ) (page bytes : List ℕ) (owners : List Owne
         owners_are = next_owners n more ∙ ap (λ k. (owners ++ Of t ∷ []) ++ replicate k Free) e;
         uses_are = next_uses n more
             ∙ ap (λ k. replicate (length (owners ++ Of t ∷ [])) 1 ++ replicate k 0) e;
+        unmarked = f.unmarked;
       }
 
 -- where a frame is Free, another may be taken

@@ -251,6 +251,7 @@ nothing_opened count s t none no_process =
         bytes_are = joined-unused count ∙ ap (λ n. replicate (4096 * n) 0) (sym size ∙ omega arith);
         owners_are = ap (λ n. replicate n Free) (sym size ∙ omega arith);
         uses_are = ap (λ n. replicate n 0) (sym size ∙ omega arith);
+        unmarked = refl;
       };
       processes = refl;
       threads = refl;

@@ -1,7 +1,7 @@
 -- Frames that are taken one after another from the lowest on, each mapped as a page of one process.
 -- This project's own rule.
 use Rattle.std.specs.Prelude.{◌≡◌, ◌<◌, ◌≤◌, ℕ, ◌+◌, ◌-◌, ◌*◌, List, ◌++◌, length, replicate, Some}
-use Rattle.std.specs.Prelude.{false, All, IsSome, flat_map, position}
+use Rattle.std.specs.Prelude.{[], false, All, IsSome, flat_map, position}
 use Rattle.dos_world.specs.World.{Holdings, is_free}
 use Rattle.dos_world.specs.declared.Entry.{Entry}
 use Rattle.dos_world.specs.declared.Owner.{Owner}
@@ -18,6 +18,7 @@ abbrev pub IsOwnedBySome : Owner → Type 0
 IsOwnedBySome owner = is_free owner ≡ false
 
 -- The first frames have these owners, one use each, and these bytes. The others are Free and zero.
+-- No owner is marked.
 pub record IsFilled (s : Store) (bytes : List ℕ) (owners : List Owner) : Type 0 where
   pub home : All IsSome s.pages
   pub within : length owners ≤ length s.pages
@@ -27,6 +28,7 @@ pub record IsFilled (s : Store) (bytes : List ℕ) (owners : List Owner) : Type 
   pub owners_are : s.owners ≡ owners ++ replicate (length s.pages - length owners) Free
   pub uses_are : s.uses ≡ replicate (length owners) 1
       ++ replicate (length s.pages - length owners) 0
+  pub unmarked : s.marked ≡ []
 
 -- so many frames more may be taken
 pub record HasFrames (s : Store) (more : ℕ) : Type 0 where

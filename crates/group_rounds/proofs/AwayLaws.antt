@@ -130,5 +130,8 @@ is-parallel k a ran out have s2 put set round pipes futexes =
       config = ap (λ (x : Away). x.config) have.rest ∙ out.config;
       starters = ap (λ (x : Away). x.starters) have.rest ∙ out.starters;
       running = refl;
-      round = round2 ∙ out.out.round ∙ out.round;
+      round = record {
+        round = round2 ∙ out.out.round ∙ out.round.round;
+        marked = put2.marked ∙ out.out.hands.marked ∙ out.round.marked;
+      };
     }

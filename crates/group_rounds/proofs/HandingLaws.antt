@@ -97,6 +97,7 @@ pub put-none : (s : Store) → PutBack [] s s
 put-none s = record {
   owners = refl;
   uses = refl;
+  marked = refl;
   count = refl;
   back = λ f page h. absurd h;
   rest =
@@ -108,6 +109,7 @@ pub put-one : (s : Store) (f : ℕ) (page : List ℕ) → IsAway s f
 put-one s f page away = record {
   owners = refl;
   uses = refl;
+  marked = refl;
   count = length-set s.pages f (Some page);
   back = λ g bytes h. back g bytes h;
   rest = λ g out. set-other s.pages f (Some page) g
@@ -132,6 +134,7 @@ pub put-then : (xs ys : List (ℕ × List ℕ)) (old mid new : Store) → PutBac
 put-then xs ys old mid new first then both = record {
   owners = then.owners ∙ first.owners;
   uses = then.uses ∙ first.uses;
+  marked = then.marked ∙ first.marked;
   count = then.count ∙ first.count;
   back = λ f page h. back f page (in-either xs ys (f, page) h);
   rest = λ f out. then.rest f (λ page h. out page (in-left xs ys (f, page) h))

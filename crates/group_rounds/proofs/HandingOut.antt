@@ -164,6 +164,7 @@ module _ (ts : List ℕ) (begun : List Pack) (old : Store) (apart : AreOnce ts)
   handing-begins level = record {
     owners = refl;
     uses = refl;
+    marked = refl;
     count = refl;
     level = level;
     away = λ frame place t low is. absurd (omega (arith, low));
@@ -201,6 +202,7 @@ module _ (ts : List ℕ) (begun : List Pack) (old : Store) (apart : AreOnce ts)
         (subst (λ ps. Handing ts begun old new ps (n + 1)) (sym s.packs_are) (record {
           owners = h.owners;
           uses = h.uses;
+          marked = h.marked;
           count = h.count;
           level = h.level;
           away = λ frame place t below is. away_by none frame place t below is (cases_eq frame n);
@@ -231,6 +233,7 @@ module _ (ts : List ℕ) (begun : List Pack) (old : Store) (apart : AreOnce ts)
         (record {
           owners = h.owners;
           uses = h.uses;
+          marked = h.marked;
           count = length-set new.pages n None ∙ h.count;
           level = length-set packs g.place (with_own_page g.pack n g.page) ∙ h.level;
           away = λ frame place t below is. away_by frame place t below is (cases_eq frame n);
@@ -323,6 +326,7 @@ module _ (ts : List ℕ) (begun : List Pack) (old new : Store) (packs : List Pac
   handing-rest = record {
     owners = h.owners;
     uses = h.uses;
+    marked = h.marked;
     count = h.count;
     level = h.level;
     away = λ f place t low is. h.away f place t (below-high f t low is.1) is;

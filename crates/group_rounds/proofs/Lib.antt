@@ -21,3 +21,4 @@ pub mod InPlaceLaws
 pub mod AwayLaws
 pub mod ServesLaws
 pub mod PlayCauses
+pub mod Marked

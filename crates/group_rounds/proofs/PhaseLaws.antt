@@ -23,6 +23,8 @@ use Rattle.group_rounds.proofs.FrontLaws.{fronts_serial}
 use Rattle.group_rounds.proofs.Sound.{sound_then, parts_then, lives_by}
 use Rattle.std.specs.Prelude.{Err}
 use Rattle.kernel_calls.specs.declared.state.RunStop.{RunStop}
+use Rattle.kernel_calls.specs.StateWorld.{StaysInRound}
+use Rattle.kernel_calls.proofs.Staying.{stays-then}
 use Rattle.group_rounds.specs.Outcomes.{Serves}
 
 -- ---- the list of starters, from a place on
@@ -139,7 +141,7 @@ parts_at s xs i t lt is h =
 pub serial_stops : {T U : Type 0} (start s s' : State) (b₀ b₁ b₂ : BorderState) (t : ℕ)
     (xs : List ℕ) (i : ℕ) (stop : RunStop) → i < length xs → t ≡ get_or xs i 0
     → ((q : ℕ) → PlaysOn q (λ w. serial_of w xs) start b₀ (λ w. serial_of w (drop i xs)) s b₁)
-    → s.round ≡ start.round
+    → StaysInRound start s
     → Serves {T = T} (λ w. rest_if_live w t) (Err stop) s b₁ s' b₂
     → Serves {T = U} (λ w. serial_of w xs) (Err stop) start b₀ s' b₂
 serial_stops start s s' b₀ b₁ b₂ t xs i stop lt is goes round h = record {
@@ -149,7 +151,7 @@ serial_stops start s s' b₀ b₁ b₂ t xs i stop lt is goes round h = record {
         (h.plays q).stops;
   };
   sound = tt;
-  round = h.round ∙ round;
+  round = stays-then h.round round;
   count = tt;
 }
 

@@ -7,7 +7,7 @@ use Rattle.dos_world.specs.Play.{Play, done}
 use Rattle.dos_world.specs.declared.Config.{Config}
 use Rattle.dos_io.specs.Borders.{BorderState}
 use Rattle.kernel_calls.specs.Plays.{PlaysOn}
-use Rattle.kernel_calls.specs.StateWorld.{IsSound, sent, world_of}
+use Rattle.kernel_calls.specs.StateWorld.{IsSound, StaysInRound, sent, world_of}
 use Rattle.kernel_calls.specs.declared.state.RunStop.{RunStop}
 use Rattle.kernel_calls.specs.declared.state.State.{State}
 use Rattle.kernel_calls.proofs.Playing.{plays_from}
@@ -21,7 +21,7 @@ use Rattle.group_rounds.specs.declared.round.RoundEnd.TheVariants.{Went, Done, S
 -- it has come to the end
 pub serves_done : {T : Type 0} (value : T) (play : World → Play World) (old new : State)
     (before after : BorderState) → ((q : ℕ) → PlaysOn q play old before (λ w. done w) new after)
-    → IsSound new → new.round ≡ old.round → KeepsCount old new
+    → IsSound new → StaysInRound old new → KeepsCount old new
     → Serves {T = T} play (Ok value) old before new after
 serves_done value play old new before after goes sound round count = record {
   plays = λ q. record { goes = goes q; stops = tt };
@@ -57,7 +57,7 @@ pub serves_between : {T : Type 0} (play : World → Play World) (result : Result
 serves_between play result old new config before after between h ok = record {
   sound = of_ok result _ h.sound ok;
   range = between.range;
-  rounds = subst (λ (n : ℕ). n - 1 ≤ config.rounds) (sym h.round) between.rounds;
+  rounds = subst (λ (n : ℕ). n - 1 ≤ config.rounds) (sym h.round.round) between.rounds;
   frames = of_ok result _ h.count ok ∙ between.frames;
 }
 
@@ -71,17 +71,20 @@ keeps_still end s round sound = record {
   count = refl;
   round = round;
   uncounted = tt;
+  marked = refl;
 }
 
--- behind calls that kept the round, and as many frames
+-- behind calls that stayed in the round, and kept as many frames
 pub keeps_then : (result : Result RoundEnd RunStop) (old halfway new : State)
-    → halfway.round ≡ old.round → KeepsCount old halfway → KeepsRound result halfway new
+    → StaysInRound old halfway → KeepsCount old halfway → KeepsRound result halfway new
     → KeepsRound result old new
 keeps_then result old halfway new round count h = record {
   sound = h.sound;
   count = on_ok_weaker result (λ k. k ∙ count) h.count;
-  round = subst (λ (n : ℕ). IfOk result (λ end. new.round ≡ next_round end n)) round h.round;
-  uncounted = on_err_weaker result (λ k. k ∙ round) h.uncounted;
+  round = subst (λ (n : ℕ). IfOk result (λ end. new.round ≡ next_round end n)) round.round
+      h.round;
+  uncounted = on_err_weaker result (λ k. k ∙ round.round) h.uncounted;
+  marked = h.marked ∙ round.marked;
 }
 
 -- the first round's number is 1, and none is less

@@ -6,7 +6,7 @@ use Rattle.dos_world.specs.declared.Config.{Config}
 use Rattle.quantum_run.specs.Shows.{Pack}
 use Rattle.worker_pool.specs.Ran.{AllRan}
 use Rattle.flat_machine.specs.Round.{with_budgets, parallel, budgets as world_budgets}
-use Rattle.kernel_calls.specs.StateWorld.{sent, world_of}
+use Rattle.kernel_calls.specs.StateWorld.{StaysInRound, sent, world_of}
 use Rattle.kernel_calls.specs.declared.state.State.{State}
 use Rattle.group_rounds.specs.Handing.{Handing, pack_of, view_of, AreSpare}
 use Rattle.group_rounds.specs.Kernels.{Held, IsBetweenRounds}
@@ -46,7 +46,7 @@ pub record IsHandedOut (k : Held) (a : Away) : Type 0 where
   pub out : WentOut before a
   pub config : a.config ≡ k.config
   pub starters : a.starters ≡ ready_in k.state.table.threads
-  pub round : before.round ≡ k.state.round
+  pub round : StaysInRound k.state before
 
 -- Each pack has run; nothing else is another.
 pub record HaveRun (a after : Away) : Type 0 where
@@ -69,7 +69,7 @@ pub record IsParallelOf (k : Held) (work : ℕ) (after : Held) : Type 0 where
   pub config : after.config ≡ k.config
   pub starters : after.starters ≡ ready_in k.state.table.threads
   pub running : after.failed ≡ false
-  pub round : after.state.round ≡ k.state.round
+  pub round : StaysInRound k.state after.state
 
 -- room for the packs to come back, and for the next round
 pub record HasRoomToComeBack (frames : ℕ) (config : Config) (starters : ℕ) (spare out : List Pack)

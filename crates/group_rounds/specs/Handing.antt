@@ -41,6 +41,7 @@ AreOthers (p ∷ ps) = ((q : Pack) → In ps q → q.thread ≢ p.thread) × Are
 pub record PutBack (pages : List (ℕ × List ℕ)) (old new : Store) : Type 0 where
   pub owners : new.owners ≡ old.owners
   pub uses : new.uses ≡ old.uses
+  pub marked : new.marked ≡ old.marked
   pub count : length new.pages ≡ length old.pages
   pub back : (frame : ℕ) (page : List ℕ) → In pages (frame, page)
       → (x : List ℕ) × (slice_get new.pages frame ≡ Some (Some x)) × (whole x ≡ page)
@@ -116,6 +117,7 @@ pub record Handing (ts : List ℕ) (begun : List Pack) (old new : Store) (packs 
     (n : ℕ) : Type 0 where
   pub owners : new.owners ≡ old.owners
   pub uses : new.uses ≡ old.uses
+  pub marked : new.marked ≡ old.marked
   pub count : length new.pages ≡ length old.pages
   pub level : length packs ≡ length ts
   pub away : (frame place t : ℕ) → frame < n → IsFor ts old frame place t

@@ -3,6 +3,7 @@ use Rattle.std.specs.Prelude.{ℕ, ◌≡◌, ◌≤◌, ◌-◌, Bool, List, fa
 use Rattle.dos_world.specs.World.{World}
 use Rattle.dos_world.specs.Lawful.{IsConfig}
 use Rattle.dos_world.specs.declared.Config.{Config}
+use Rattle.dos_world.specs.declared.Owner.{Owner}
 use Rattle.kernel_calls.specs.StateWorld.{IsSound, world_of}
 use Rattle.kernel_calls.specs.declared.state.State.{State}
 
@@ -20,6 +21,13 @@ pub record IsBetweenRounds (state : State) (config : Config) : Type 0 where
   pub range : IsConfig config
   pub rounds : state.round - 1 ≤ config.rounds
   pub frames : length state.frames.owners ≡ config.frames
+
+-- the same state and kernel with these owners marked
+abbrev pub state_marked : State → List Owner → State
+state_marked s marked = record s { frames = record s.frames { marked = marked } }
+
+abbrev pub kernel_marked : Held → List Owner → Held
+kernel_marked k marked = record k { state = state_marked k.state marked }
 
 -- the kernel's flat world, with nothing sent
 abbrev pub kernel_world : Held → World

@@ -6,7 +6,7 @@ use Rattle.dos_world.specs.Signals.{would_wait}
 use Rattle.dos_world.specs.declared.ThreadState.TheVariants.{Ready, Retry}
 use Rattle.proc_table.specs.Tables.{IsLiveThread, thread_in}
 use Rattle.flat_machine.specs.Round.{all_alone}
-use Rattle.kernel_calls.specs.StateWorld.{IsSound, sent, world_of}
+use Rattle.kernel_calls.specs.StateWorld.{IsSound, sent, world_of, StaysInRound}
 use Rattle.kernel_calls.specs.declared.state.State.{State}
 use Rattle.group_rounds.specs.Parts.{KeepsCount}
 
@@ -35,5 +35,5 @@ pub record HaveRunAlone (starters : List ℕ) (old new : State) : Type 0 where
   pub runs : (q : ℕ) (o e : List ℕ)
       → all_alone (sent o e (world_of q old)) starters ≡ sent o e (world_of q new)
   pub sound : IsSound new
-  pub round : new.round ≡ old.round
+  pub round : StaysInRound old new
   pub count : KeepsCount old new

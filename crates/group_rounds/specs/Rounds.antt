@@ -121,9 +121,11 @@ pub record PlaysRound (quantum : ℕ) (play : World → Play FlatEnd)
     pub grew : GrewBy tally tally_after (work_by result work)
 
 -- What it keeps, however it ends: a sound state of as many frames where it answers, with the number
--- of the next round, and where it stops a round that isn't counted.
+-- of the next round, and where it stops a round that isn't counted. The owners are marked that
+-- were.
 pub record KeepsRound (result : Result RoundEnd RunStop) (old new : State) : Type 0 where
   pub sound : OnOk result (IsSound new)
   pub count : OnOk result (KeepsCount old new)
   pub round : IfOk result (λ end. new.round ≡ next_round end old.round)
   pub uncounted : OnErr result (new.round ≡ old.round)
+  pub marked : new.frames.marked ≡ old.frames.marked

@@ -1,15 +1,17 @@
 // The kernel: the state, what the run was given, and who starts a round.
-ghost use Rattle.std.specs.Prelude.{ℕ, ◌≡◌, ◌≤◌, ◌-◌, [], false, is_err, length, IfOk};
-ghost use Rattle.std.specs.Prelude.{IfSome, IsSome, OnErr, OnOk};
+ghost use Rattle.std.specs.Prelude.{ℕ, ◌≡◌, ◌<◌, ◌≤◌, ◌-◌, [], false, is_err, length, IfOk};
+ghost use Rattle.std.specs.Prelude.{IfSome, IsSome, OnErr, OnOk, slice_set};
 ghost use Rattle.std.specs.Vec.{vec_capacity};
 ghost use Rattle.dos_world.specs.Numbered.{numbered};
 ghost use Rattle.dos_world.specs.Play.{done};
 ghost use Rattle.dos_io.specs.Shims.{HasNoEnd};
 ghost use Rattle.flat_machine.specs.Rest.{serial_of};
 ghost use Rattle.flat_machine.specs.Round.{round_of};
+ghost use Rattle.page_store.specs.Store.{owner_at};
 ghost use Rattle.proc_table.specs.Tables.{last_status};
 ghost use Rattle.kernel_calls.specs.Plays.{Plays};
-ghost use Rattle.group_rounds.specs.Kernels.{IsBetweenRounds};
+ghost use Rattle.kernel_calls.specs.StateWorld.{StaysInRound};
+ghost use Rattle.group_rounds.specs.Kernels.{IsBetweenRounds, kernel_marked};
 ghost use Rattle.group_rounds.specs.Phases.{ready_in};
 ghost use Rattle.group_rounds.specs.Rounds.{AreStarters, PlaysRound, begun_work, next_round};
 
@@ -100,6 +102,23 @@ impl Kernel {
         self.failed
     }
 
+    /// The state, of which the kernel is no more.
+    pub fn into_state(self) -> State
+        ensures state { result ≡ self.state }
+        ensures sound { self.failed ≡ false → IsBetweenRounds result self.config }
+    {
+        let Kernel {
+            state,
+            config: _,
+            starters,
+            packs,
+            failed: _,
+        } = self;
+        drop(starters);
+        drop(packs);
+        state
+    }
+
     /// What the run was given.
     pub fn config(&self) -> Config
         ensures { result ≡ self.now.config }
@@ -131,6 +150,24 @@ impl Kernel {
         &self.state
     }
 
+    /// Marks the owners of all frames as they are. The memory for it is taken here.
+    pub fn mark(&mut self, alloc: Global) -> Result<(), AllocError>
+        ensures ok { OnOk result
+            (self.new ≡ kernel_marked self.old self.old.state.frames.owners) }
+        ensures err { OnErr result (self.new ≡ self.old) }
+    {
+        self.state.frames.mark(alloc)
+    }
+
+    /// Marks the owner of a frame anew.
+    pub fn settle(&mut self, frame: u32)
+        requires { frame < length self.old.state.frames.marked }
+        ensures { self.new ≡ kernel_marked self.old (slice_set self.old.state.frames.marked frame
+            (owner_at self.old.state.frames frame)) }
+    {
+        self.state.frames.settle(frame)
+    }
+
     /// How many rounds have been run. One that has failed isn't counted.
     pub fn rounds(&self) -> u32
         ensures { result ≡ self.now.state.round - 1 }
@@ -160,6 +197,7 @@ pub fn run_round<B: Border, W: Workers>(
         (AreStarters kernel.old.state (B.state border.old).shim.told (B.state border.new).shim.told
         kernel.old.starters kernel.new.starters) }
     ensures uncounted { OnErr result (kernel.new.state.round ≡ kernel.old.state.round) }
+    ensures marked { kernel.new.state.frames.marked ≡ kernel.old.state.frames.marked }
     ensures sound { kernel.new.failed ≡ false → IsBetweenRounds kernel.new.state kernel.new.config }
     ensures config { kernel.new.config ≡ kernel.old.config }
     ensures failed { kernel.new.failed ≡ is_err result }
@@ -191,7 +229,7 @@ pub fn serial_phase<B: Border>(kernel: &mut Kernel, border: &mut B) -> Result<()
         (λ w. serial_of w (ready_in kernel.old.state.table.threads)) (λ _ w. done w) result
         kernel.old.state (B.state border.old) kernel.new.state (B.state border.new) }
     ensures starters { kernel.new.starters ≡ ready_in kernel.old.state.table.threads }
-    ensures round { kernel.new.state.round ≡ kernel.old.state.round }
+    ensures round { StaysInRound kernel.old.state kernel.new.state }
     ensures sound { kernel.new.failed ≡ false → IsBetweenRounds kernel.new.state kernel.new.config }
     ensures config { kernel.new.config ≡ kernel.old.config }
     ensures failed { kernel.new.failed ≡ is_err result }

@@ -10,6 +10,7 @@ ghost use Rattle.flat_machine.specs.Alone.{alone, emptied};
 ghost use Rattle.flat_machine.specs.Rest.{page_granted, process_of, rest_of};
 ghost use Rattle.proc_table.specs.Tables.{IsLiveThread, thread_by};
 ghost use Rattle.kernel_calls.specs.StateWorld.{HaveParts, IsReady, IsSound, sent, world_of};
+ghost use Rattle.kernel_calls.specs.StateWorld.{StaysInRound};
 ghost use Rattle.kernel_calls.specs.Plays.{Plays};
 ghost use Rattle.group_rounds.specs.Parts.{KeepsCount, RanPart, budget_in, goes_on_after};
 ghost use Rattle.group_rounds.specs.Parts.{part_left, part_measure, turns_left};
@@ -40,7 +41,7 @@ pub(crate) fn begin(state: &mut State, tid: u32)
     ensures budget { budget_in state.new tid ≡ budget_in state.old tid }
     ensures sound { IsSound state.new }
     ensures parts { (ts : List ℕ) → HaveParts ts state.old → HaveParts ts state.new }
-    ensures round { state.new.round ≡ state.old.round }
+    ensures round { StaysInRound state.old state.new }
     ensures count { KeepsCount state.old state.new }
     ensures live { IsLiveThread state.new.table.threads tid }
 {
@@ -55,7 +56,7 @@ pub(crate) fn run(state: &mut State, tid: u32) -> Option<Reason>
     ensures ran { RanPart state.old tid state.new result }
     ensures sound { IsSound state.new }
     ensures parts { (ts : List ℕ) → HaveParts ts state.old → HaveParts ts state.new }
-    ensures round { state.new.round ≡ state.old.round }
+    ensures round { StaysInRound state.old state.new }
     ensures count { KeepsCount state.old state.new }
     ensures live { IsLiveThread state.new.table.threads tid }
 {
@@ -81,7 +82,7 @@ pub(crate) fn run_alone(state: &mut State, tid: u32) -> u32
         → alone (sent o e (world_of q state.old)) tid ≡ sent o e (world_of q state.new) }
     ensures paid { budget_in state.old tid ≡ result + budget_in state.new tid }
     ensures sound { IsSound state.new }
-    ensures round { state.new.round ≡ state.old.round }
+    ensures round { StaysInRound state.old state.new }
     ensures count { KeepsCount state.old state.new }
 {
     let budget = state.table.budget(tid);
@@ -100,7 +101,7 @@ fn grant(state: &mut State, tid: u32, address: u32, access: Access)
     ensures sound { IsSound state.new }
     ensures parts { (ts : List ℕ) → HaveParts ts state.old → HaveParts ts state.new }
     ensures table { state.new.table ≡ state.old.table }
-    ensures round { state.new.round ≡ state.old.round }
+    ensures round { StaysInRound state.old state.new }
     ensures count { KeepsCount state.old state.new }
 {
     let pid = state.table.process_of(tid);
@@ -120,7 +121,7 @@ fn end_by_fault(state: &mut State, tid: u32, number: u8)
         ≡ sent o e (world_of q state.new) }
     ensures sound { IsSound state.new }
     ensures parts { (ts : List ℕ) → HaveParts (tid ∷ ts) state.old → HaveParts ts state.new }
-    ensures round { state.new.round ≡ state.old.round }
+    ensures round { StaysInRound state.old state.new }
     ensures count { KeepsCount state.old state.new }
 {
     let pid = state.table.process_of(tid);
@@ -160,7 +161,7 @@ fn take_turn<B: Border>(
     ensures sound { OnOk result (IsSound state.new) }
     ensures parts { IfOk result (λ on. (ts : List ℕ) → HaveParts (tid ∷ ts) state.old
         → HaveParts (if on then tid ∷ ts else ts) state.new) }
-    ensures round { state.new.round ≡ state.old.round }
+    ensures round { StaysInRound state.old state.new }
     ensures count { OnOk result (KeepsCount state.old state.new) }
     ensures follows { B.follows border.old border.new }
 {

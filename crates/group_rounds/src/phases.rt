@@ -8,7 +8,7 @@ ghost use Rattle.dos_laws.specs.Standing.{IsAwake};
 ghost use Rattle.flat_machine.specs.Rest.{rest_if_live, serial_of};
 ghost use Rattle.flat_machine.specs.Round.{with_budgets};
 ghost use Rattle.proc_table.specs.Tables.{IsLiveThread};
-ghost use Rattle.kernel_calls.specs.StateWorld.{HaveParts, IsSound, sent, world_of};
+ghost use Rattle.kernel_calls.specs.StateWorld.{HaveParts, IsSound, sent, world_of, StaysInRound};
 ghost use Rattle.group_rounds.specs.Parts.{KeepsCount};
 ghost use Rattle.group_rounds.specs.Phases.{AreLive, is_ready, ready_in};
 ghost use Rattle.group_rounds.specs.Outcomes.{Serves};
@@ -85,7 +85,7 @@ pub(crate) fn set_budgets(state: &mut State, starters: &[u32], quantum: u32)
         ≡ sent o e (world_of quantum state.new) }
     ensures sound { IsSound state.new }
     ensures parts { (ts : List ℕ) → HaveParts ts state.old → HaveParts ts state.new }
-    ensures round { state.new.round ≡ state.old.round }
+    ensures round { StaysInRound state.old state.new }
     ensures count { KeepsCount state.old state.new }
     ensures live { AreLive state.new.table.threads starters.now }
 {

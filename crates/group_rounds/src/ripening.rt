@@ -3,7 +3,7 @@ ghost use Rattle.std.specs.Prelude.{◌≡◌, ◌≤◌, ◌+◌, ◌++◌, ◌
 ghost use Rattle.std.specs.Vec.{vec_capacity};
 ghost use Rattle.dos_world.specs.Signals.{made_ready, ripen};
 ghost use Rattle.proc_table.specs.Tables.{IsLiveThread};
-ghost use Rattle.kernel_calls.specs.StateWorld.{IsCounted, IsSound, sent, world_of};
+ghost use Rattle.kernel_calls.specs.StateWorld.{IsCounted, IsSound, sent, world_of, StaysInRound};
 ghost use Rattle.group_rounds.specs.Parts.{KeepsCount};
 ghost use Rattle.group_rounds.specs.Phases.{AreLive, is_ripe, ripe_in};
 
@@ -60,7 +60,7 @@ fn set_ready(state: &mut State, threads: &[u32])
         → made_ready (sent o e (world_of q state.old)) threads.now
         ≡ sent o e (world_of q state.new) }
     ensures counted { IsCounted state.old → IsCounted state.new }
-    ensures round { state.new.round ≡ state.old.round }
+    ensures round { StaysInRound state.old state.new }
     ensures count { KeepsCount state.old state.new }
 {
     for &tid in threads {
@@ -77,7 +77,7 @@ pub(crate) fn ripen(state: &mut State, scratch: &mut Vec<u32>)
         → ripen (sent o e (world_of q state.old)) ≡ sent o e (world_of q state.new) }
     ensures sound { IsSound state.new }
     ensures room { 64 ≤ vec_capacity scratch.new }
-    ensures round { state.new.round ≡ state.old.round }
+    ensures round { StaysInRound state.old state.new }
     ensures count { KeepsCount state.old state.new }
 {
     gather_ripe(state, scratch);

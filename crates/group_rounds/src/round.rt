@@ -10,7 +10,7 @@ ghost use Rattle.dos_io.specs.declared.exchange.Exchange.TheVariants.{Signals as
 ghost use Rattle.dos_laws.specs.Plays.{world_ended};
 ghost use Rattle.flat_machine.specs.Round.{begun, round_of};
 ghost use Rattle.kernel_calls.specs.Plays.{Plays};
-ghost use Rattle.kernel_calls.specs.StateWorld.{HaveParts, IsSound, sent, world_of};
+ghost use Rattle.kernel_calls.specs.StateWorld.{HaveParts, IsSound, sent, world_of, StaysInRound};
 ghost use Rattle.group_rounds.specs.Parts.{KeepsCount};
 ghost use Rattle.group_rounds.specs.Phases.{ready_in};
 ghost use Rattle.group_rounds.specs.Rounds.{AreStarters, HasOpened, KeepsRound, PlaysRound};
@@ -65,7 +65,7 @@ fn begin_round(state: &mut State, starters: &mut Vec<u32>, list: &SignalList)
     ensures starters { starters.new.items ≡ ready_in state.new.table.threads }
     ensures few { length starters.new.items ≤ 64 }
     ensures room { 64 ≤ vec_capacity starters.new }
-    ensures round { state.new.round ≡ state.old.round }
+    ensures round { StaysInRound state.old state.new }
     ensures count { KeepsCount state.old state.new }
 {
     signal_point(state, starters, list);
@@ -91,7 +91,7 @@ fn open_round<B: Border>(
     ensures starters { OnOk result (starters.new.items ≡ ready_in state.new.table.threads) }
     ensures few { OnOk result (length starters.new.items ≤ 64) }
     ensures room { 64 ≤ vec_capacity starters.new }
-    ensures round { state.new.round ≡ state.old.round }
+    ensures round { StaysInRound state.old state.new }
     ensures count { KeepsCount state.old state.new }
     ensures follows { B.follows border.old border.new }
 {

@@ -7,7 +7,7 @@ ghost use Rattle.dos_world.specs.Signals.{all_posted, default_action, delivered,
 ghost use Rattle.dos_world.specs.Signals.{interrupted, signal_turn, signal_turns, signalled};
 ghost use Rattle.proc_table.specs.Tables.{IsLiveThread, thread_in};
 ghost use Rattle.kernel_calls.specs.Ending.{posted_in};
-ghost use Rattle.kernel_calls.specs.StateWorld.{IsCounted, IsSound, sent, world_of};
+ghost use Rattle.kernel_calls.specs.StateWorld.{IsCounted, IsSound, sent, world_of, StaysInRound};
 ghost use Rattle.group_rounds.specs.Parts.{KeepsCount};
 
 use crate::phases::gather_live;
@@ -38,7 +38,7 @@ fn post_all(state: &mut State, list: &SignalList)
         → all_posted (sent o e (world_of q state.old)) list.now
         ≡ sent o e (world_of q state.new) }
     ensures sound { IsSound state.new }
-    ensures round { state.new.round ≡ state.old.round }
+    ensures round { StaysInRound state.old state.new }
     ensures count { KeepsCount state.old state.new }
 {
     for index in 0..list.len() {
@@ -57,7 +57,7 @@ fn act_by_default(state: &mut State, tid: u32, signal: u8)
         → default_action (sent o e (world_of q state.old)) tid thread signal
         ≡ sent o e (world_of q state.new)) }
     ensures counted { IsCounted state.new }
-    ensures round { state.new.round ≡ state.old.round }
+    ensures round { StaysInRound state.old state.new }
     ensures count { KeepsCount state.old state.new }
 {
     if signal == 17 {
@@ -80,7 +80,7 @@ fn interrupt(state: &mut State, tid: u32)
         → IfSome (thread_in state.new.table.threads tid) (λ thread. length thread.saved < 4) }
     ensures live { IsLiveThread state.new.table.threads tid }
     ensures counted { IsCounted state.old → IsCounted state.new }
-    ensures round { state.new.round ≡ state.old.round }
+    ensures round { StaysInRound state.old state.new }
     ensures count { KeepsCount state.old state.new }
 {
     if state.table.state(tid) == ThreadState::Ready {
@@ -100,7 +100,7 @@ fn act_by_handler(state: &mut State, tid: u32, signal: u8, handler: u32)
         → handler_action (sent o e (world_of q state.old)) tid thread signal handler
         ≡ sent o e (world_of q state.new)) }
     ensures counted { IsCounted state.new }
-    ensures round { state.new.round ≡ state.old.round }
+    ensures round { StaysInRound state.old state.new }
     ensures count { KeepsCount state.old state.new }
 {
     if state.table.depth(tid) >= MOST_SAVED {
@@ -127,7 +127,7 @@ fn deliver(state: &mut State, tid: u32, signal: u8)
         → delivered (sent o e (world_of q state.old)) tid thread signal
         ≡ sent o e (world_of q state.new)) }
     ensures counted { IsCounted state.new }
-    ensures round { state.new.round ≡ state.old.round }
+    ensures round { StaysInRound state.old state.new }
     ensures count { KeepsCount state.old state.new }
 {
     let pid = state.table.process_of(tid);
@@ -148,7 +148,7 @@ fn take_signal(state: &mut State, tid: u32)
         → signal_turn (sent o e (world_of q state.old)) tid
         ≡ sent o e (world_of q state.new) }
     ensures sound { IsSound state.new }
-    ensures round { state.new.round ≡ state.old.round }
+    ensures round { StaysInRound state.old state.new }
     ensures count { KeepsCount state.old state.new }
 {
     if !state.table.is_thread(tid) {
@@ -167,7 +167,7 @@ fn take_signals(state: &mut State, threads: &[u32])
         → signal_turns (sent o e (world_of q state.old)) threads.now
         ≡ sent o e (world_of q state.new) }
     ensures sound { IsSound state.new }
-    ensures round { state.new.round ≡ state.old.round }
+    ensures round { StaysInRound state.old state.new }
     ensures count { KeepsCount state.old state.new }
 {
     for &tid in threads {
@@ -185,7 +185,7 @@ pub(crate) fn signal_point(state: &mut State, scratch: &mut Vec<u32>, list: &Sig
         ≡ sent o e (world_of q state.new) }
     ensures sound { IsSound state.new }
     ensures room { 64 ≤ vec_capacity scratch.new }
-    ensures round { state.new.round ≡ state.old.round }
+    ensures round { StaysInRound state.old state.new }
     ensures count { KeepsCount state.old state.new }
 {
     post_all(state, list);

@@ -111,7 +111,7 @@ counted-thread_by s t f counted =
 pub home_kept : (old new : Store) → KeepsUses old new → HasAllHome old → HasAllHome new
 home_kept old new keeps home = record {
   home = subst (λ (ps : List (Option (List ℕ))). All IsSome ps) (sym keeps.pages) home.home;
-  owners = keeps.count ∙ home.owners ∙ ap length (sym keeps.pages);
+  owners = keeps.frames.count ∙ home.owners ∙ ap length (sym keeps.pages);
 }
 
 pub counted-frames : (s : State) (frames : Store) → KeepsUses s.frames frames → IsCounted s
@@ -121,7 +121,7 @@ counted-frames s frames keeps counted = counted_like s (record s { frames = fram
       home = home_kept s.frames frames keeps counted.home;
       round = refl;
       room = refl;
-      frames = keeps.count;
+      frames = keeps.frames.count;
       uses = keeps.uses;
       readers = refl;
       writers = refl;

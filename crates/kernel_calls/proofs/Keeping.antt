@@ -104,11 +104,11 @@ module _ (s new : State) (stood : StandsButOwners s new) (round : new.round ≡ 
     home = record {
       home = subst (λ (ps : List (Option (List ℕ))). All IsSome ps)
           (sym stood.frames.pages) counted.home.home;
-      owners = stood.frames.count ∙ counted.home.owners ∙ ap length (sym stood.frames.pages);
+      owners = stood.frames.frames.count ∙ counted.home.owners ∙ ap length (sym stood.frames.pages);
     };
     round = round;
     room = ap (λ (T : Tables). T.room) stood.table;
-    frames = stood.frames.count;
+    frames = stood.frames.frames.count;
     uses = stood.frames.uses;
     readers = ap (λ (x : Pipework). x.readers) stood.pipes;
     writers = ap (λ (x : Pipework). x.writers) stood.pipes;
@@ -123,7 +123,7 @@ module _ (s new : State) (stood : StandsButOwners s new) (round : new.round ≡ 
   owned : (q : ℕ) → Lawful (world_of q s)
       → AreOwned (world_of q s) new.frames.owners (joined new.frames.pages)
   owned q l = record {
-    places = stood.frames.count;
+    places = stood.frames.frames.count;
     count = ap (λ ps. length (joined ps)) stood.frames.pages;
     range = subst (λ (ps : List (Option (List ℕ))). All IsByte (joined ps))
         (sym stood.frames.pages) l.frames.bytes.1;

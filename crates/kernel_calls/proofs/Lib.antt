@@ -30,3 +30,4 @@ pub mod MemoryCalls
 pub mod Collecting
 pub mod PipeAdds
 pub mod Forks
+pub mod Staying

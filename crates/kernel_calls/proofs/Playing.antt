@@ -47,7 +47,7 @@ bytes-append s (put stream bytes ∷ cs) ds =
     ∙ sym (append_assoc (going_to s stream bytes) (bytes_to s cs) (bytes_to s ds))
 
 -- bytes before those of both
-bytes_behind : (s : Stream) (sent : List ℕ) (cs ds : List Crossing)
+pub bytes_behind : (s : Stream) (sent : List ℕ) (cs ds : List Crossing)
     → sent ++ bytes_to s (cs ++ ds) ≡ (sent ++ bytes_to s cs) ++ bytes_to s ds
 bytes_behind s sent cs ds = ap (λ xs. sent ++ xs) (bytes-append s cs ds)
     ∙ sym (append_assoc sent (bytes_to s cs) (bytes_to s ds))

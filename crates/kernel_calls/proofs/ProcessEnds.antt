@@ -368,10 +368,10 @@ module _ (s : State) (sound : IsSound s) (p status : ℕ) (live : IsProcess s.ta
         counted = record {
           home = record {
             home = home-dropped (space_in s.table p) s.frames frames dropped counted.home.home;
-            owners = dropped.count ∙ counted.home.owners ∙ sym dropped.page_count;
+            owners = dropped.frames.count ∙ counted.home.owners ∙ sym dropped.page_count;
           };
           round = counted.round;
-          room = omega (arith, dropped.count, counted.room, posted_room);
+          room = omega (arith, dropped.frames.count, counted.room, posted_room);
           uses = λ q frame. uses_new frame
               ∙ ap (λ ps. uses_of (record left { processes = ps }) frame)
               (sym (posted_processes ∙ processes_is));

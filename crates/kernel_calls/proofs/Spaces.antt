@@ -217,9 +217,9 @@ module _ (s : State) (a : Asked) (sound : IsSound s) (has : Has s a.process) (fr
       changes (record {
         home = home-dropped (filter (in_pages call) space) s.frames frames gone
             sound.counted.home.home;
-        owners = gone.count ∙ sound.counted.home.owners ∙ sym gone.page_count;
+        owners = gone.frames.count ∙ sound.counted.home.owners ∙ sym gone.page_count;
       })
-      gone.count (λ frame. omega (
+      gone.frames.count (λ frame. omega (
         arith,
         gone.uses frame,
         both frame,

@@ -99,5 +99,5 @@ counted_moved s frames pipes buffer home uses count readers writers counted =
 pub still_home : (old new : Store) → KeepsUses old new → HasAllHome old → HasAllHome new
 still_home old new keeps home = record {
   home = subst (λ (ps : List (Option (List ℕ))). All IsSome ps) (sym keeps.pages) home.home;
-  owners = keeps.count ∙ home.owners ∙ ap length (sym keeps.pages);
+  owners = keeps.frames.count ∙ home.owners ∙ ap length (sym keeps.pages);
 }

@@ -111,9 +111,9 @@ pub owners-dropped : (left : World) (gone : List (ℕ × Entry)) (old new : Stor
     → new.owners ≡ map_from 0 (owner_if_mapped left) old.owners
 owners-dropped left gone old new dropped uses free =
     ext_get_or Free new.owners (map_from 0 (owner_if_mapped left) old.owners)
-    (dropped.count ∙ sym (length-map_from 0 (owner_if_mapped left) old.owners))
+    (dropped.frames.count ∙ sym (length-map_from 0 (owner_if_mapped left) old.owners))
     (λ frame lt.
-    let within : frame < length old.owners = omega (arith, dropped.count) in
+    let within : frame < length old.owners = omega (arith, dropped.frames.count) in
     let here : 0 + frame ≡ frame = omega arith in
     dropped.owners frame
     ∙ left-used Free (owner_at old frame) (uses_at old frame) (entries_of gone frame)

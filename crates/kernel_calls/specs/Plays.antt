@@ -1,7 +1,7 @@
 -- What a call of a service does: which play it plays, over what crosses the border. This project's
 -- own words.
 use Rattle.std.specs.Prelude.{◌≡◌, ℕ, List, [], ◌∷◌, ◌++◌, map, Some, Result, All}
-use Rattle.std.specs.Prelude.{IfOk, IfErr, ⊤, length}
+use Rattle.std.specs.Prelude.{IfOk, IfErr, ⊤}
 use Rattle.dos_world.specs.World.{World}
 use Rattle.dos_world.specs.Play.{Answer, Outcome, Play, done, ask, over, gives, asks}
 use Rattle.dos_world.specs.Services.{Served as FlatServed, went}
@@ -20,6 +20,7 @@ use Rattle.dos_io.specs.declared.shim.ShimStop.TheVariants.{HostFault as host_fa
 use Rattle.dos_io.specs.declared.shim.ShimStop.TheVariants.{LogFull as log_full, Misfit as misfit}
 use Rattle.dos_io.specs.declared.shim.ShimStop.TheVariants.{Memory as memory}
 use Rattle.dos_laws.specs.Standing.{IsFit}
+use Rattle.page_store.specs.Store.{KeepsFrames}
 use Rattle.proc_table.specs.Tables.{Tables}
 use Rattle.kernel_calls.specs.StateWorld.{IsSound, sent, way_in, world_of}
 use Rattle.kernel_calls.specs.declared.state.State.{State}
@@ -133,12 +134,12 @@ pub record Plays {T A : Type 0} (q : ℕ) (world : A → World) (play : World �
   pub stops : IfErr result (λ stop. StopsIn q world play (stopper stop) old before after)
 
 -- What the old state's world becomes is the new one's, as f says, whatever bytes were sent; and it
--- stays sound, in its round, of as many frames.
+-- stays sound, in its round, of as many frames and marked as before.
 pub record Becomes (f : World → World) (old new : State) : Type 0 where
   pub becomes : (q : ℕ) (o e : List ℕ) → f (sent o e (world_of q old)) ≡ sent o e (world_of q new)
   pub sound : IsSound new
   pub round : new.round ≡ old.round
-  pub count : length new.frames.owners ≡ length old.frames.owners
+  pub frames : KeepsFrames old.frames new.frames
 
 -- ---- services
 

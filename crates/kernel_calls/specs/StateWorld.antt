@@ -122,6 +122,11 @@ shim_stop Memory = Some memory
 shim_stop OutFault = None
 shim_stop ErrFault = None
 
+-- It is in its round, and the owners are marked that were.
+pub record StaysInRound (old new : State) : Type 0 where
+  pub round : new.round ≡ old.round
+  pub marked : new.frames.marked ≡ old.frames.marked
+
 -- All stands but owners: each process and thread is as it was, its registers and budget too, and so
 -- are each frame's page and uses.
 -- Owners differ at most by the grants of what was read.

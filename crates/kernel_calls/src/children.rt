@@ -3,7 +3,7 @@ ghost use Rattle.std.specs.Prelude.{◌≡◌, length, IfSome};
 ghost use Rattle.dos_world.specs.Services.{fork, wait};
 ghost use Rattle.proc_table.specs.Tables.{IsProcess, held_in};
 ghost use Rattle.kernel_calls.specs.Children.{AreAdded, CanComeAgain, CanName, with_named};
-ghost use Rattle.kernel_calls.specs.StateWorld.{IsCounted, IsSound};
+ghost use Rattle.kernel_calls.specs.StateWorld.{IsCounted, IsSound, StaysInRound};
 ghost use Rattle.kernel_calls.specs.CallResults.{AreAsked, ActsQuietly};
 ghost use Rattle.kernel_calls.specs.declared.state.Served.TheVariants.{Went};
 
@@ -23,7 +23,7 @@ pub(crate) fn fork(state: &mut State, asked: &Asked)
     requires asked { AreAsked state.old asked.now }
     ensures goes_on { ActsQuietly fork state.old asked.now Went state.new }
     ensures counted { IsCounted state.new }
-    ensures round { state.new.round ≡ state.old.round }
+    ensures round { StaysInRound state.old state.new }
 {
     match copy_process(&mut state.frames, &mut state.table, asked.thread) {
         Ok(child) => {
@@ -66,7 +66,7 @@ pub(crate) fn wait(state: &mut State, asked: &Asked) -> Served
     requires asked { AreAsked state.old asked.now }
     ensures goes_on { ActsQuietly wait state.old asked.now result state.new }
     ensures counted { IsCounted state.new }
-    ensures round { state.new.round ≡ state.old.round }
+    ensures round { StaysInRound state.old state.new }
 {
     match state.table.collect(asked.process, asked.a0) {
         Collected::Got { pid, status } => {

@@ -2,7 +2,7 @@
 ghost use Rattle.std.specs.Prelude.{◌≡◌, OnErr, OnOk};
 ghost use Rattle.dos_world.specs.Services.{clock};
 ghost use Rattle.dos_io.specs.Shims.{HasNoEnd};
-ghost use Rattle.kernel_calls.specs.StateWorld.{IsCounted, IsSound, StandsButOwners};
+ghost use Rattle.kernel_calls.specs.StateWorld.{IsCounted, IsSound, StandsButOwners, StaysInRound};
 ghost use Rattle.kernel_calls.specs.Plays.{PlaysOnce};
 ghost use Rattle.kernel_calls.specs.CallResults.{AreAsked, call_in};
 
@@ -26,7 +26,7 @@ pub(crate) fn clock<B: Border>(
         state.old (B.state border.old) state.new (B.state border.new) }
     ensures counted { OnOk result (IsCounted state.new) }
     ensures stands { OnErr result (StandsButOwners state.old state.new) }
-    ensures round { state.new.round ≡ state.old.round }
+    ensures round { StaysInRound state.old state.new }
     ensures follows { B.follows border.old border.new }
 {
     match border.clock(state.round, asked.thread) {

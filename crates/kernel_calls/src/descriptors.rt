@@ -4,7 +4,7 @@ ghost use Rattle.std.specs.Prelude.{if◌then◌else◌};
 ghost use Rattle.dos_world.specs.DescriptorCalls.{close, dup, pipe, with_end};
 ghost use Rattle.proc_table.specs.Tables.{IsProcess, held_by, held_in};
 ghost use Rattle.kernel_calls.specs.Ends.{CanHave, with_end_more};
-ghost use Rattle.kernel_calls.specs.StateWorld.{IsCounted, IsSound};
+ghost use Rattle.kernel_calls.specs.StateWorld.{IsCounted, IsSound, StaysInRound};
 ghost use Rattle.kernel_calls.specs.CallResults.{AreAsked, ActsQuietly};
 ghost use Rattle.kernel_calls.specs.declared.state.Served.TheVariants.{Went};
 
@@ -23,7 +23,7 @@ pub(crate) fn pipe(state: &mut State, asked: &Asked)
     requires asked { AreAsked state.old asked.now }
     ensures goes_on { ActsQuietly pipe state.old asked.now Went state.new }
     ensures counted { IsCounted state.new }
-    ensures round { state.new.round ≡ state.old.round }
+    ensures round { StaysInRound state.old state.new }
 {
     if free_descriptors(&state.table, asked.process) < 2 {
         refuse_call(state, asked.thread, EMFILE);
@@ -84,7 +84,7 @@ pub(crate) fn dup(state: &mut State, asked: &Asked)
     requires asked { AreAsked state.old asked.now }
     ensures goes_on { ActsQuietly dup state.old asked.now Went state.new }
     ensures counted { IsCounted state.new }
-    ensures round { state.new.round ≡ state.old.round }
+    ensures round { StaysInRound state.old state.new }
 {
     match state.table.descriptor(asked.process, asked.a0) {
         Some(end) => match state.table.open_lowest(asked.process, end) {
@@ -116,7 +116,7 @@ pub(crate) fn close(state: &mut State, asked: &Asked)
     requires asked { AreAsked state.old asked.now }
     ensures goes_on { ActsQuietly close state.old asked.now Went state.new }
     ensures counted { IsCounted state.new }
-    ensures round { state.new.round ≡ state.old.round }
+    ensures round { StaysInRound state.old state.new }
 {
     match state.table.descriptor(asked.process, asked.a0) {
         Some(end) => {

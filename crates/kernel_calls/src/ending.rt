@@ -3,7 +3,7 @@ ghost use Rattle.std.specs.Prelude.{◌≡◌, ◌<◌, ℕ, List, length, IfSom
 ghost use Rattle.dos_world.specs.Kernel.{process_ended};
 ghost use Rattle.proc_table.specs.Tables.{IsProcess, held_in};
 ghost use Rattle.kernel_calls.specs.Ending.{AreDropped, AreNamed, IsNamed, posted_in, without_end};
-ghost use Rattle.kernel_calls.specs.StateWorld.{IsSound, sent, world_of};
+ghost use Rattle.kernel_calls.specs.StateWorld.{IsSound, sent, world_of, StaysInRound};
 
 use crate::signalling::post_to;
 use crate::state::State;
@@ -22,7 +22,7 @@ pub fn end_process(state: &mut State, pid: u32, status: u8)
         → process_ended (sent o e (world_of q state.old)) pid status
         ≡ sent o e (world_of q state.new) }
     ensures sound { IsSound state.new }
-    ensures round { state.new.round ≡ state.old.round }
+    ensures round { StaysInRound state.old state.new }
 {
     let parent = state.table.parent(pid);
     drop_ends(&mut state.pipes, &state.table, pid);

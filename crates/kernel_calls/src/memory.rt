@@ -5,7 +5,7 @@ ghost use Rattle.dos_world.specs.Kernel.{answered};
 ghost use Rattle.dos_world.specs.Services.{map_pages, share, unmap};
 ghost use Rattle.proc_table.specs.Tables.{IsLiveThread, thread_by};
 ghost use Rattle.kernel_calls.specs.Memory.{answer_by};
-ghost use Rattle.kernel_calls.specs.StateWorld.{IsCounted, IsSound};
+ghost use Rattle.kernel_calls.specs.StateWorld.{IsCounted, IsSound, StaysInRound};
 ghost use Rattle.kernel_calls.specs.CallResults.{AreAsked, ActsQuietly};
 ghost use Rattle.kernel_calls.specs.declared.state.Served.TheVariants.{Went};
 
@@ -20,7 +20,7 @@ pub(crate) fn map(state: &mut State, asked: &Asked)
     requires asked { AreAsked state.old asked.now }
     ensures goes_on { ActsQuietly map_pages state.old asked.now Went state.new }
     ensures counted { IsCounted state.new }
-    ensures round { state.new.round ≡ state.old.round }
+    ensures round { StaysInRound state.old state.new }
 {
     let mapped = map_pages(
         &mut state.frames,
@@ -40,7 +40,7 @@ pub(crate) fn unmap(state: &mut State, asked: &Asked)
     requires asked { AreAsked state.old asked.now }
     ensures goes_on { ActsQuietly unmap state.old asked.now Went state.new }
     ensures counted { IsCounted state.new }
-    ensures round { state.new.round ≡ state.old.round }
+    ensures round { StaysInRound state.old state.new }
 {
     let unmapped = unmap_pages(
         &mut state.frames,
@@ -59,7 +59,7 @@ pub(crate) fn share(state: &mut State, asked: &Asked)
     requires asked { AreAsked state.old asked.now }
     ensures goes_on { ActsQuietly share state.old asked.now Went state.new }
     ensures counted { IsCounted state.new }
-    ensures round { state.new.round ≡ state.old.round }
+    ensures round { StaysInRound state.old state.new }
 {
     let shared = share_pages(&mut state.table, asked.thread, asked.a0, asked.a1);
     conclude(state, asked.thread, shared);

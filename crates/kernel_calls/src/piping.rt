@@ -10,7 +10,7 @@ ghost use Rattle.kernel_mem.specs.MemoryWorld.{in_world, NamesUsedFrames, IsCall
 ghost use Rattle.kernel_mem.specs.MemoryWorld.{KeepsOthers};
 ghost use Rattle.kernel_objects.specs.Pipework.{bytes_at, ends_at, is_open_at, with_bytes};
 ghost use Rattle.page_store.specs.Store.{Store as Held};
-ghost use Rattle.kernel_calls.specs.StateWorld.{IsCounted, IsSound};
+ghost use Rattle.kernel_calls.specs.StateWorld.{IsCounted, IsSound, StaysInRound};
 ghost use Rattle.kernel_calls.specs.CallResults.{AreAsked, ActsQuietly, asked_count};
 
 use crate::answering::{refuse_call, reply};
@@ -38,7 +38,7 @@ pub(crate) fn read_pipe(state: &mut State, asked: &Asked, pipe: u8) -> Served
     ensures goes_on { ActsQuietly (read_by (Some (PipeRead pipe))) state.old asked.now result
         state.new }
     ensures counted { IsCounted state.new }
-    ensures round { state.new.round ≡ state.old.round }
+    ensures round { StaysInRound state.old state.new }
 {
     let count = asked.a2.min(TRANSFER_LIMIT);
     if count == 0 {
@@ -66,7 +66,7 @@ fn take_some(state: &mut State, asked: &Asked, pipe: u8, count: u32) -> Served
         ≡ true }
     ensures goes_on { ActsQuietly (read_pipe pipe) state.old asked.now result state.new }
     ensures counted { IsCounted state.new }
-    ensures round { state.new.round ≡ state.old.round }
+    ensures round { StaysInRound state.old state.new }
 {
     if state.pipes.len(pipe) == 0 {
         return read_empty(state, asked, pipe);
@@ -85,7 +85,7 @@ fn read_empty(state: &mut State, asked: &Asked, pipe: u8) -> Served
     requires empty { length (bytes_at state.old.pipes pipe) ≡ 0 }
     ensures goes_on { ActsQuietly (read_pipe pipe) state.old asked.now result state.new }
     ensures counted { IsCounted state.new }
-    ensures round { state.new.round ≡ state.old.round }
+    ensures round { StaysInRound state.old state.new }
 {
     if state.pipes.ends(pipe, true) == 0 {
         reply(state, asked.thread, 0);
@@ -143,7 +143,7 @@ pub(crate) fn write_pipe(state: &mut State, asked: &Asked, pipe: u8) -> Served
     ensures goes_on { ActsQuietly (write_by (Some (PipeWrite pipe))) state.old asked.now result
         state.new }
     ensures counted { IsCounted state.new }
-    ensures round { state.new.round ≡ state.old.round }
+    ensures round { StaysInRound state.old state.new }
 {
     let count = asked.a2.min(TRANSFER_LIMIT);
     if count == 0 {
@@ -171,7 +171,7 @@ fn give_some(state: &mut State, asked: &Asked, pipe: u8, count: u32) -> Served
         ≡ true }
     ensures goes_on { ActsQuietly (write_pipe pipe) state.old asked.now result state.new }
     ensures counted { IsCounted state.new }
-    ensures round { state.new.round ≡ state.old.round }
+    ensures round { StaysInRound state.old state.new }
 {
     if state.pipes.ends(pipe, false) == 0 {
         refuse_call(state, asked.thread, EPIPE);

@@ -13,7 +13,7 @@ ghost use Rattle.dos_io.specs.Borders.{Crosses, StopsAt, exchanged};
 ghost use Rattle.dos_io.specs.declared.exchange.Exchange.TheVariants.{Input as input_exchange};
 ghost use Rattle.kernel_mem.specs.MemoryWorld.{in_world};
 ghost use Rattle.page_store.specs.Store.{Store as Held};
-ghost use Rattle.kernel_calls.specs.StateWorld.{IsCounted, IsSound, StandsButOwners};
+ghost use Rattle.kernel_calls.specs.StateWorld.{IsCounted, IsSound, StandsButOwners, StaysInRound};
 ghost use Rattle.kernel_calls.specs.Plays.{PlaysOnce};
 ghost use Rattle.kernel_calls.specs.CallResults.{AreAsked, asked_count, call_in, source_of};
 
@@ -46,7 +46,7 @@ pub(crate) fn read<B: Border>(
         state.old (B.state border.old) state.new (B.state border.new) }
     ensures counted { OnOk result (IsCounted state.new) }
     ensures stands { OnErr result (StandsButOwners state.old state.new) }
-    ensures round { state.new.round ≡ state.old.round }
+    ensures round { StaysInRound state.old state.new }
     ensures follows { B.follows border.old border.new }
 {
     match source_of(state.table.descriptor(asked.process, asked.a0)) {
@@ -83,7 +83,7 @@ fn read_input<B: Border>(
         state.old (B.state border.old) state.new (B.state border.new) }
     ensures counted { OnOk result (IsCounted state.new) }
     ensures stands { OnErr result (StandsButOwners state.old state.new) }
-    ensures round { state.new.round ≡ state.old.round }
+    ensures round { StaysInRound state.old state.new }
     ensures follows { B.follows border.old border.new }
 {
     let count = asked.a2.min(4096);
@@ -119,7 +119,7 @@ fn ask_input<B: Border>(
         state.old (B.state border.old) state.new (B.state border.new) }
     ensures counted { OnOk result (IsCounted state.new) }
     ensures stands { OnErr result (StandsButOwners state.old state.new) }
-    ensures round { state.new.round ≡ state.old.round }
+    ensures round { StaysInRound state.old state.new }
     ensures follows { B.follows border.old border.new }
 {
     match input_into(border, state.round, asked.thread, &mut state.buffer, count) {

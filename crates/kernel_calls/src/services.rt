@@ -5,7 +5,7 @@ ghost use Rattle.dos_io.specs.Shims.{HasNoEnd};
 ghost use Rattle.proc_table.specs.Tables.{IsLiveThread, ran, thread_by, thread_in};
 ghost use Rattle.kernel_calls.specs.StateWorld.{HaveParts, IsCounted, IsReady, IsSound};
 ghost use Rattle.kernel_calls.specs.StateWorld.{StandsButOwners};
-ghost use Rattle.kernel_calls.specs.StateWorld.{left_after, sent, world_of};
+ghost use Rattle.kernel_calls.specs.StateWorld.{left_after, sent, world_of, StaysInRound};
 ghost use Rattle.kernel_calls.specs.Plays.{PlaysOnce};
 ghost use Rattle.kernel_calls.specs.Built.{definition_by, definition_of, quiet_definition_of};
 ghost use Rattle.kernel_calls.specs.CallResults.{AreAsked, ActsQuietly, call_in, paid_state};
@@ -46,7 +46,7 @@ pub fn serve<B: Border>(state: &mut State, tid: u32, border: &mut B) -> Result<S
         (λ way. (ts : List ℕ) → HaveParts (tid ∷ ts) state.old
         → HaveParts (left_after way tid ts) state.new) }
     ensures stands { OnErr result (StandsButOwners state.old state.new) }
-    ensures round { state.new.round ≡ state.old.round }
+    ensures round { StaysInRound state.old state.new }
     ensures follows { B.follows border.old border.new }
 {
     let regs = *state.table.regs(tid);
@@ -117,7 +117,7 @@ fn dispatch<B: Border>(
         state.old (B.state border.old) state.new (B.state border.new) }
     ensures counted { OnOk result (IsCounted state.new) }
     ensures stands { OnErr result (StandsButOwners state.old state.new) }
-    ensures round { state.new.round ≡ state.old.round }
+    ensures round { StaysInRound state.old state.new }
     ensures follows { B.follows border.old border.new }
 {
     match service {
@@ -142,7 +142,7 @@ fn perform<B: Border>(
         state.old (B.state border.old) state.new (B.state border.new) }
     ensures counted { OnOk result (IsCounted state.new) }
     ensures stands { OnErr result (StandsButOwners state.old state.new) }
-    ensures round { state.new.round ≡ state.old.round }
+    ensures round { StaysInRound state.old state.new }
     ensures follows { B.follows border.old border.new }
 {
     match service {
@@ -160,7 +160,7 @@ fn perform_quietly(state: &mut State, service: QuietService, asked: &Asked) -> S
     ensures goes_on { ActsQuietly (quiet_definition_of service) state.old asked.now result
         state.new }
     ensures counted { IsCounted state.new }
-    ensures round { state.new.round ≡ state.old.round }
+    ensures round { StaysInRound state.old state.new }
 {
     match service {
         QuietService::ThreadExit => {

@@ -5,7 +5,7 @@ ghost use Rattle.dos_world.specs.SignalCalls.{is_action, is_signal, kill, refuse
 ghost use Rattle.dos_world.specs.SignalCalls.{sig_handler, sig_mask, sig_return};
 ghost use Rattle.proc_table.specs.Tables.{IsLiveThread, thread_by};
 ghost use Rattle.kernel_calls.specs.Ending.{posted_in};
-ghost use Rattle.kernel_calls.specs.StateWorld.{IsCounted, IsSound};
+ghost use Rattle.kernel_calls.specs.StateWorld.{IsCounted, IsSound, StaysInRound};
 ghost use Rattle.kernel_calls.specs.CallResults.{AreAsked, ActsQuietly};
 ghost use Rattle.kernel_calls.specs.declared.state.Served.TheVariants.{Went};
 
@@ -34,7 +34,7 @@ pub(crate) fn sig_handler(state: &mut State, asked: &Asked)
     requires asked { AreAsked state.old asked.now }
     ensures goes_on { ActsQuietly sig_handler state.old asked.now Went state.new }
     ensures counted { IsCounted state.new }
-    ensures round { state.new.round ≡ state.old.round }
+    ensures round { StaysInRound state.old state.new }
 {
     if is_fixed(asked.a0, asked.a1) {
         refuse_call(state, asked.thread, EINVAL);
@@ -65,7 +65,7 @@ pub(crate) fn sig_mask(state: &mut State, asked: &Asked)
     requires asked { AreAsked state.old asked.now }
     ensures goes_on { ActsQuietly sig_mask state.old asked.now Went state.new }
     ensures counted { IsCounted state.new }
-    ensures round { state.new.round ≡ state.old.round }
+    ensures round { StaysInRound state.old state.new }
 {
     let former = state.table.mask(asked.thread);
     state.table.set_mask(asked.thread, asked.a0);
@@ -79,7 +79,7 @@ pub(crate) fn sig_return(state: &mut State, asked: &Asked)
     requires asked { AreAsked state.old asked.now }
     ensures goes_on { ActsQuietly sig_return state.old asked.now Went state.new }
     ensures counted { IsCounted state.new }
-    ensures round { state.new.round ≡ state.old.round }
+    ensures round { StaysInRound state.old state.new }
 {
     if !state.table.restore(asked.thread) {
         refuse_in_place(&mut state.table, asked.thread);
@@ -102,7 +102,7 @@ pub(crate) fn kill(state: &mut State, asked: &Asked)
     requires asked { AreAsked state.old asked.now }
     ensures goes_on { ActsQuietly kill state.old asked.now Went state.new }
     ensures counted { IsCounted state.new }
-    ensures round { state.new.round ≡ state.old.round }
+    ensures round { StaysInRound state.old state.new }
 {
     if asked.a1 > LAST_SIGNAL {
         refuse_call(state, asked.thread, EINVAL);

@@ -2,7 +2,7 @@
 ghost use Rattle.std.specs.Prelude.{◌≡◌, ◌%◌, Some};
 ghost use Rattle.dos_world.specs.FutexCalls.{futex_wait, futex_wait_at, futex_wake, futex_wake_at};
 ghost use Rattle.kernel_mem.specs.MemoryWorld.{entry_in};
-ghost use Rattle.kernel_calls.specs.StateWorld.{IsCounted, IsSound};
+ghost use Rattle.kernel_calls.specs.StateWorld.{IsCounted, IsSound, StaysInRound};
 ghost use Rattle.kernel_calls.specs.CallResults.{AreAsked, ActsQuietly};
 ghost use Rattle.kernel_calls.specs.Queued.{AreQueued, AreWoken};
 ghost use Rattle.kernel_calls.specs.declared.state.Served.TheVariants.{Went};
@@ -27,7 +27,7 @@ pub(crate) fn futex_wait(state: &mut State, asked: &Asked) -> Served
     requires asked { AreAsked state.old asked.now }
     ensures goes_on { ActsQuietly futex_wait state.old asked.now result state.new }
     ensures counted { IsCounted state.new }
-    ensures round { state.new.round ≡ state.old.round }
+    ensures round { StaysInRound state.old state.new }
 {
     if asked.a0 % WORD_SIZE != 0 {
         refuse_call(state, asked.thread, EINVAL);
@@ -50,7 +50,7 @@ fn wait_at(state: &mut State, asked: &Asked, entry: Entry) -> Served
     requires entry { entry_in state.old.table asked.now.thread asked.now.a0 ≡ Some entry }
     ensures goes_on { ActsQuietly (futex_wait_at entry) state.old asked.now result state.new }
     ensures counted { IsCounted state.new }
-    ensures round { state.new.round ≡ state.old.round }
+    ensures round { StaysInRound state.old state.new }
 {
     grant_load(&mut state.frames, &state.table, asked.thread, asked.a0);
     let offset = asked.a0 % PAGE_SIZE;
@@ -71,7 +71,7 @@ pub(crate) fn futex_wake(state: &mut State, asked: &Asked)
     requires asked { AreAsked state.old asked.now }
     ensures goes_on { ActsQuietly futex_wake state.old asked.now Went state.new }
     ensures counted { IsCounted state.new }
-    ensures round { state.new.round ≡ state.old.round }
+    ensures round { StaysInRound state.old state.new }
 {
     if asked.a0 % WORD_SIZE != 0 {
         refuse_call(state, asked.thread, EINVAL);
@@ -89,7 +89,7 @@ fn wake_at(state: &mut State, asked: &Asked, entry: Entry)
     requires asked { AreAsked state.old asked.now }
     ensures goes_on { ActsQuietly (futex_wake_at entry) state.old asked.now Went state.new }
     ensures counted { IsCounted state.new }
-    ensures round { state.new.round ≡ state.old.round }
+    ensures round { StaysInRound state.old state.new }
 {
     let offset = asked.a0 % PAGE_SIZE;
     let woken = wake_first(

@@ -4,7 +4,7 @@ ghost use Rattle.dos_world.specs.Numbered.{numbers_of};
 ghost use Rattle.dos_world.specs.World.{belongs_to};
 ghost use Rattle.dos_world.specs.Services.{new_registers, process_exit, round_number, thread_exit};
 ghost use Rattle.dos_world.specs.Services.{thread_new};
-ghost use Rattle.kernel_calls.specs.StateWorld.{IsCounted, IsSound};
+ghost use Rattle.kernel_calls.specs.StateWorld.{IsCounted, IsSound, StaysInRound};
 ghost use Rattle.kernel_calls.specs.CallResults.{AreAsked, ActsQuietly};
 ghost use Rattle.kernel_calls.specs.declared.state.Served.TheVariants.{Gone, Went};
 
@@ -25,7 +25,7 @@ pub(crate) fn thread_new(state: &mut State, asked: &Asked)
     requires asked { AreAsked state.old asked.now }
     ensures goes_on { ActsQuietly thread_new state.old asked.now Went state.new }
     ensures counted { IsCounted state.new }
-    ensures round { state.new.round ≡ state.old.round }
+    ensures round { StaysInRound state.old state.new }
 {
     if asked.a0 % CODE_UNIT != 0 {
         refuse_call(state, asked.thread, EINVAL);
@@ -55,7 +55,7 @@ pub(crate) fn thread_exit(state: &mut State, asked: &Asked)
     requires asked { AreAsked state.old asked.now }
     ensures goes_on { ActsQuietly thread_exit state.old asked.now Gone state.new }
     ensures counted { IsCounted state.new }
-    ensures round { state.new.round ≡ state.old.round }
+    ensures round { StaysInRound state.old state.new }
 {
     if has_one_thread(&state.table, asked.process) {
         end_process(state, asked.process, 0);
@@ -76,7 +76,7 @@ pub(crate) fn process_exit(state: &mut State, asked: &Asked)
     requires asked { AreAsked state.old asked.now }
     ensures goes_on { ActsQuietly process_exit state.old asked.now Gone state.new }
     ensures counted { IsCounted state.new }
-    ensures round { state.new.round ≡ state.old.round }
+    ensures round { StaysInRound state.old state.new }
 {
     end_process(state, asked.process, (asked.a0 % 256) as u8);
 }
@@ -87,7 +87,7 @@ pub(crate) fn round_number(state: &mut State, asked: &Asked)
     requires asked { AreAsked state.old asked.now }
     ensures goes_on { ActsQuietly round_number state.old asked.now Went state.new }
     ensures counted { IsCounted state.new }
-    ensures round { state.new.round ≡ state.old.round }
+    ensures round { StaysInRound state.old state.new }
 {
     let round = state.round;
     reply(state, asked.thread, round);

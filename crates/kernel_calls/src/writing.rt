@@ -7,7 +7,7 @@ ghost use Rattle.dos_world.specs.Services.{transfers, write};
 ghost use Rattle.kernel_mem.specs.MemoryWorld.{in_world, NamesUsedFrames, IsCaller, HasAllHome};
 ghost use Rattle.kernel_mem.specs.MemoryWorld.{KeepsUses};
 ghost use Rattle.page_store.specs.Store.{Store as Held};
-ghost use Rattle.kernel_calls.specs.StateWorld.{IsCounted, IsSound, StandsButOwners};
+ghost use Rattle.kernel_calls.specs.StateWorld.{IsCounted, IsSound, StandsButOwners, StaysInRound};
 ghost use Rattle.kernel_calls.specs.Plays.{PlaysOnce, by_sink, stopper};
 ghost use Rattle.kernel_calls.specs.CallResults.{AreAsked, are_readable, call_in, target_of};
 ghost use Rattle.kernel_calls.specs.CallResults.{write_to};
@@ -42,7 +42,7 @@ pub(crate) fn write<B: Border>(
         state.old (B.state border.old) state.new (B.state border.new) }
     ensures counted { OnOk result (IsCounted state.new) }
     ensures stands { OnErr result (StandsButOwners state.old state.new) }
-    ensures round { state.new.round ≡ state.old.round }
+    ensures round { StaysInRound state.old state.new }
     ensures follows { B.follows border.old border.new }
 {
     match target_of(state.table.descriptor(asked.process, asked.a0)) {
@@ -81,7 +81,7 @@ fn send<B: Border>(
         state.old (B.state border.old) state.new (B.state border.new) }
     ensures counted { OnOk result (IsCounted state.new) }
     ensures stands { OnErr result (StandsButOwners state.old state.new) }
-    ensures round { state.new.round ≡ state.old.round }
+    ensures round { StaysInRound state.old state.new }
     ensures follows { B.follows border.old border.new }
 {
     let count = asked.a2.min(4096);
@@ -130,7 +130,7 @@ fn take_in(state: &mut State, asked: &Asked, count: u32)
         count ≡ (in_world w state.new.frames state.new.table, take count state.new.buffer) }
     ensures counted { IsCounted state.new }
     ensures stands { StandsButOwners state.old state.new }
-    ensures round { state.new.round ≡ state.old.round }
+    ensures round { StaysInRound state.old state.new }
 {
     fill(
         &mut state.frames,

@@ -50,7 +50,7 @@ pub more-shared : (s : Store) (n : ℕ) → HasAllHome s → n < length s.uses
 more-shared s n home within =
     record {
       home = record { home = home.home; owners = home.owners };
-      count = refl;
+      frames = record { count = refl; marked = refl };
       uses =
           λ f. one_more s.uses n f within;
       taken = λ f h. h;
@@ -73,7 +73,10 @@ more-copied s new from n t home c = record {
     owners = ap length c.owners ∙ length-set s.owners n (Of t) ∙ home.owners
         ∙ sym (length-set s.pages n (Some c.pages.page)) ∙ ap length (sym c.pages.pages_are);
   };
-  count = ap length c.owners ∙ length-set s.owners n (Of t);
+  frames = record {
+    count = ap length c.owners ∙ length-set s.owners n (Of t);
+    marked = c.marked;
+  };
   uses = λ f. ap (λ us. get_or us f 0) c.uses ∙ first_use s.uses n f c.within c.unused;
   taken = λ f h. subst (λ (os : List Owner). is_free (get_or os f Free) ≡ false) (sym c.owners)
       (owned-stays s.owners n f t h);

@@ -17,6 +17,7 @@ use Rattle.dos_world.specs.declared.Owner.{Owner}
 use Rattle.dos_world.specs.declared.Owner.TheVariants.{Free}
 use Rattle.dos_world.specs.declared.Entry.{Entry}
 use Rattle.page_store.specs.Store.{Store, zeroed, with_less, owner_at, page_at, uses_at}
+use Rattle.page_store.proofs.Kept.{frames-same}
 use Rattle.page_store.proofs.Counts.{used-within}
 use Rattle.kernel_mem.specs.Memory.{entries_of, is_last, page_without, IsDropped, AreUsed}
 
@@ -232,8 +233,11 @@ dropped-more s t new gone more e used dropped one is within = record {
       (e.1.frame == f) few
       ∙ ap (λ n. cond (nat_lt 0 n && (uses_at s f == n)) (zeroed (page_at s f)) (page_at s f))
       (sym (one f));
-  count = ap (λ (x : Store). length x.owners) is ∙ lengths (uses_at t e.1.frame == 1)
-      ∙ dropped.count;
+  frames = record {
+    count = ap (λ (x : Store). length x.owners) is ∙ lengths (uses_at t e.1.frame == 1)
+        ∙ dropped.frames.count;
+    marked = ap (λ (x : Store). x.marked) is ∙ dropped.frames.marked;
+  };
   uses = λ f. ap (λ x. uses_at x f) is ∙ less-uses t e.1.frame f within
       ∙ ap (λ u. u - one_if (e.1.frame == f)) (dropped.uses f)
       ∙ omega (arith, one f);
@@ -302,7 +306,7 @@ pub none-dropped : (s : Store) → IsDropped [] s s
 none-dropped s = record {
   page_count = refl;
   pages = λ f. refl;
-  count = refl;
+  frames = frames-same s;
   uses = λ f. omega arith;
   owners = λ f. refl;
 }

@@ -8,6 +8,7 @@ use Rattle.dos_world.specs.declared.Access.TheVariants.{Load, Store}
 use Rattle.dos_world.specs.World.{is_free}
 use Rattle.dos_world.specs.Reach.{is_foreign}
 use Rattle.page_store.specs.Store.{Store as Held, owner_at, with_grant, with_home}
+use Rattle.page_store.proofs.Kept.{frames-same, frames-set, frames-then}
 use Rattle.kernel_mem.specs.MemoryWorld.{with_open, HasAllHome, KeepsUses, KeepsOthers}
 
 -- ---- one owner set
@@ -46,7 +47,7 @@ open-reads s u frame t used is =
     by false = record {
       pages = refl;
       uses = refl;
-      count = refl;
+      frames = frames-same s;
       used = λ k. refl;
       owned =
           λ k other h. h;
@@ -54,7 +55,7 @@ open-reads s u frame t used is =
     by true = record {
       pages = refl;
       uses = refl;
-      count = length-set s.owners frame Shared;
+      frames = frames-set s frame Shared;
       used = λ k. set_used s.owners frame k Shared refl used;
       owned = λ k other h. was other k (set_owner s.owners frame k Shared (Of other) h);
     }
@@ -63,7 +64,7 @@ pub same-others : (t : ℕ) (s : Held) → HasAllHome s → KeepsOthers t s s
 same-others t s home = record {
   home = home;
   uses = refl;
-  count = refl;
+  frames = frames-same s;
   used = λ k. refl;
   owned =
       λ k other h. inr h;
@@ -83,7 +84,7 @@ open-others s frame t home used = by (is_foreign t Store (owner_at s frame))
     by true = record {
       home = record { home = home.home; owners = length-set s.owners frame (Of t) ∙ home.owners };
       uses = refl;
-      count = length-set s.owners frame (Of t);
+      frames = frames-set s frame (Of t);
       used = λ k. set_used s.owners frame k (Of t) refl used;
       owned = λ k other h. was other k (set_owner s.owners frame k (Of t) (Of other) h);
     }
@@ -104,7 +105,7 @@ written-others s u frame t page home used is =
             k.home.owners ∙ sym (length-set u.pages frame (Some page));
       };
       uses = k.uses;
-      count = k.count;
+      frames = record { count = k.frames.count; marked = k.frames.marked };
       used = k.used;
       owned = k.owned;
     }
@@ -115,7 +116,7 @@ pub others-then : (t : ℕ) (s u v : Held) → KeepsOthers t s u → KeepsOthers
 others-then t s u v a b = record {
   home = b.home;
   uses = b.uses ∙ a.uses;
-  count = b.count ∙ a.count;
+  frames = frames-then b.frames a.frames;
   used = λ k. b.used k ∙ a.used k;
   owned = λ k other h. by k other (b.owned k other h);
 }

@@ -17,7 +17,8 @@ use Rattle.dos_world.specs.World.{World, Process, Holdings, Life, live, ended, h
 use Rattle.dos_world.specs.World.{on_holdings, live_changed, look, is_free}
 use Rattle.dos_world.specs.Kernel.{put, with_entry}
 use Rattle.dos_world.specs.ProcessCalls.{copied_space, private_entries}
-use Rattle.page_store.specs.Store.{Store, free_count, owner_at, uses_at}
+use Rattle.page_store.specs.Store.{KeepsFrames, Store, free_count, owner_at, uses_at}
+use Rattle.page_store.proofs.Kept.{frames-same, frames-then}
 use Rattle.space_map.specs.Mapping.{IsRising, page_of_entry, no_entry as no_page}
 use Rattle.proc_table.specs.Tables.{Tables, IsProcess, held_in, held_by}
 use Rattle.proc_table.proofs.Standing.{spaced_by}
@@ -213,7 +214,7 @@ pub record IsCopying (s0 : Store) (old_table : Tables) (pid child tid i : ℕ) (
       → copied_space (in_world w s0 U) tid (take i (space_in old_table pid))
       ≡ (in_world w s U, space_in T child)
   pub home : HasAllHome s
-  pub count : length s.owners ≡ length s0.owners
+  pub frames : KeepsFrames s0 s
   pub uses : (f : ℕ) → uses_at s f ≡ uses_at s0 f + entries_of (space_in T child) f
   pub taken : (f : ℕ) → is_free (owner_at s0 f) ≡ false → is_free (owner_at s f) ≡ false
   pub length_is : length (space_in T child) ≡ i
@@ -307,7 +308,7 @@ module _ {s0 s : Store} {old_table T : Tables} {pid child tid i : ℕ}
             (copied w U)
             ∙ ap (λ (es : List (ℕ × Entry)). pair (in_world w s1 U) es) (sym space-now);
         home = more.home;
-        count = more.count ∙ so_far.count;
+        frames = frames-then more.frames so_far.frames;
         uses = λ f. more.uses f
             ∙ omega (
               arith,
@@ -395,7 +396,7 @@ copying-none s T pid child tid home empty = record {
   table = own-space T child;
   copies = λ w U. ap (λ (es : List (ℕ × Entry)). pair (in_world w s U) es) (sym empty);
   home = home;
-  count = refl;
+  frames = frames-same s;
   uses = λ f. omega (arith, ap (λ (es : List (ℕ × Entry)). entries_of es f) empty);
   taken = λ f h. h;
   length_is = ap length empty;

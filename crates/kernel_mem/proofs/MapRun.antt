@@ -11,7 +11,8 @@ use Rattle.dos_world.specs.Calls.{Call}
 use Rattle.dos_world.specs.MemoryCalls.{mapped_fresh, page_mapped, private_entry}
 use Rattle.dos_world.specs.declared.Entry.{Entry}
 use Rattle.dos_world.specs.declared.Owner.TheVariants.{Free, Of}
-use Rattle.page_store.specs.Store.{IsUnused, Store, free_count, uses_at, with_owned}
+use Rattle.page_store.specs.Store.{IsUnused, KeepsFrames, Store, free_count, uses_at, with_owned}
+use Rattle.page_store.proofs.Kept.{frames-same}
 use Rattle.page_store.proofs.Counts.{count_by-taken}
 use Rattle.proc_table.specs.Tables.{IsProcess, Tables, entry_replaced, held_by, run_put}
 use Rattle.kernel_mem.specs.Memory.{HasUsesOf, entries_of}
@@ -80,7 +81,7 @@ pub record IsMapping (s0 : Store) (old_table : Tables) (t p page rights count i 
   pub live : IsProcess T.processes p
   pub fresh : (k : ℕ) → i ≤ k → k < count → look (space_in T p) (page + k) ≡ None
   pub room : T.room ≡ old_table.room
-  pub count_is : length s.owners ≡ length s0.owners
+  pub frames : KeepsFrames s0 s
   pub free : free_count s + i ≡ free_count s0
   pub uses : HasUsesOf (space_in old_table p) s0 (space_in T p) s
 
@@ -94,7 +95,7 @@ mapping-none s T t p page rights count home live none = record {
   live = live;
   fresh = λ k low h. none_mapped (space_in T p) page count k none h;
   room = refl;
-  count_is = refl;
+  frames = frames-same s;
   free = omega arith;
   uses = λ f. refl;
 }
@@ -128,8 +129,11 @@ mapping-more {s0} {s} {s1} {old_table} {T} {next_table} {t} {p} {page} {rights} 
           ∙ put-other (page + i) entry (space_in T p) (page + k) (λ e. absurd (omega arith))
           ∙ so_far.fresh k (omega arith) h;
       room = ap (λ (x : Tables). x.room) table ∙ so_far.room;
-      count_is = ap (λ (x : Store). length x.owners) frames ∙ length-set s.owners frame (Of t)
-          ∙ so_far.count_is;
+      frames = record {
+        count = ap (λ (x : Store). length x.owners) frames ∙ length-set s.owners frame (Of t)
+            ∙ so_far.frames.count;
+        marked = ap (λ (x : Store). x.marked) frames ∙ so_far.frames.marked;
+      };
       free = omega (
         arith,
         so_far.free,

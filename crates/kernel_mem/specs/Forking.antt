@@ -1,5 +1,5 @@
 -- What a fork does to frames and a table. This project's own rules.
-use Rattle.std.specs.Prelude.{◌≡◌, ◌+◌, ℕ, not, false, List, [], length, Some, Result, Ok, Err}
+use Rattle.std.specs.Prelude.{◌≡◌, ◌+◌, ℕ, not, false, List, [], Some, Result, Ok, Err}
 use Rattle.std.specs.Prelude.{slice_get, ◌==◌, if◌then◌else◌}
 use Rattle.dos_world.specs.World.{World, Process, Holdings, Thread, live, released, is_free}
 use Rattle.dos_world.specs.World.{page_of}
@@ -7,7 +7,7 @@ use Rattle.dos_world.specs.Kernel.{answered, lowest_free_frame, with_fresh}
 use Rattle.dos_world.specs.Calls.{Call}
 use Rattle.dos_world.specs.ThreadCalls.{ready_thread}
 use Rattle.dos_world.specs.declared.Entry.{Entry}
-use Rattle.page_store.specs.Store.{Store, owner_at, uses_at}
+use Rattle.page_store.specs.Store.{KeepsFrames, Store, owner_at, uses_at}
 use Rattle.kernel_mem.specs.MemoryWorld.{HasAllHome}
 
 -- what each entry of a space names isn't Free
@@ -27,7 +27,7 @@ entry_copied w t e = (
 -- One use more, of this frame; all pages are home, and what was in use still is.
 pub record IsUsedMore (old : Store) (frame : ℕ) (new : Store) : Type 0 where
   pub home : HasAllHome new
-  pub count : length new.owners ≡ length old.owners
+  pub frames : KeepsFrames old new
   pub uses : (f : ℕ) → uses_at new f ≡ uses_at old f + (if frame == f then 1 else 0)
   pub taken : (f : ℕ) → is_free (owner_at old f) ≡ false → is_free (owner_at new f) ≡ false
 

@@ -4,7 +4,7 @@ use Rattle.std.specs.Prelude.{count_by, if◌then◌else◌}
 use Rattle.dos_world.specs.declared.Entry.{Entry}
 use Rattle.dos_world.specs.declared.Owner.{Owner}
 use Rattle.dos_world.specs.declared.Owner.TheVariants.{Free}
-use Rattle.page_store.specs.Store.{Store, zeroed, owner_at, page_at, uses_at}
+use Rattle.page_store.specs.Store.{KeepsFrames, Store, zeroed, owner_at, page_at, uses_at}
 
 -- how many entries of a space have a frame
 abbrev pub entries_of : List (ℕ × Entry) → ℕ → ℕ
@@ -33,7 +33,7 @@ page_without space s frame =
 pub record IsDropped (space : List (ℕ × Entry)) (old new : Store) : Type 0 where
   pub page_count : length new.pages ≡ length old.pages
   pub pages : (frame : ℕ) → page_at new frame ≡ page_without space old frame
-  pub count : length new.owners ≡ length old.owners
+  pub frames : KeepsFrames old new
   pub uses : (frame : ℕ) → uses_at new frame ≡ uses_at old frame - entries_of space frame
   pub owners : (frame : ℕ) → owner_at new frame ≡ owner_without space old frame
 

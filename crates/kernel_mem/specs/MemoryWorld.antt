@@ -7,7 +7,7 @@ use Rattle.dos_world.specs.Reach.{has_right, is_foreign}
 use Rattle.dos_world.specs.declared.Access.{Access}
 use Rattle.dos_world.specs.declared.Entry.{Entry}
 use Rattle.dos_world.specs.declared.Owner.TheVariants.{Free, Of}
-use Rattle.page_store.specs.Store.{Store, joined, owner_at, with_grant}
+use Rattle.page_store.specs.Store.{KeepsFrames, Store, joined, owner_at, with_grant}
 use Rattle.proc_table.specs.Tables.{Tables, thread_in, held_in, IsLiveThread, IsProcess}
 
 -- the world with the bytes and owners of these frames, and the processes and threads of this table
@@ -75,11 +75,11 @@ pub record HasAllHome (s : Store) : Type 0 where
   pub home : All IsSome s.pages
   pub owners : length s.owners ≡ length s.pages
 
--- Only owners changed: none came or went, and none became a thread's.
+-- Only owners changed: none came or went, and none became a thread's. Nothing was marked.
 pub record KeepsUses (old new : Store) : Type 0 where
   pub pages : new.pages ≡ old.pages
   pub uses : new.uses ≡ old.uses
-  pub count : length new.owners ≡ length old.owners
+  pub frames : KeepsFrames old new
   pub used : (frame : ℕ) → is_free (slice_index_or new.owners frame Free)
       ≡ is_free (slice_index_or old.owners frame Free)
   pub owned : (frame t : ℕ) → slice_index_or new.owners frame Free ≡ Of t
@@ -90,7 +90,7 @@ pub record KeepsUses (old new : Store) : Type 0 where
 pub record KeepsOthers (t : ℕ) (old new : Store) : Type 0 where
   pub home : HasAllHome new
   pub uses : new.uses ≡ old.uses
-  pub count : length new.owners ≡ length old.owners
+  pub frames : KeepsFrames old new
   pub used : (frame : ℕ) → is_free (slice_index_or new.owners frame Free)
       ≡ is_free (slice_index_or old.owners frame Free)
   pub owned : (frame other : ℕ) → slice_index_or new.owners frame Free ≡ Of other

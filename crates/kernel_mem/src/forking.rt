@@ -6,7 +6,7 @@ ghost use Rattle.dos_world.specs.Kernel.{answered};
 ghost use Rattle.dos_world.specs.World.{released};
 ghost use Rattle.dos_world.specs.ProcessCalls.{are_processes_full, copied_space, forked};
 ghost use Rattle.dos_world.specs.ProcessCalls.{private_entries};
-ghost use Rattle.page_store.specs.Store.{free_count, owner_at, uses_at};
+ghost use Rattle.page_store.specs.Store.{KeepsFrames, free_count, owner_at, uses_at};
 ghost use Rattle.dos_world.specs.World.{is_free};
 ghost use Rattle.proc_table.specs.Tables.{IsProcess, Tables, held_by, held_in, process_added};
 ghost use Rattle.proc_table.specs.Tables.{thread_in};
@@ -38,7 +38,7 @@ pub fn fork(frames: &mut Frames, table: &mut Table, tid: u32) -> Result<u32, u8>
     ensures number { IfOk result (λ child. child ≡ length table.old.processes + 1) }
     ensures stays { OnErr result ((frames.new ≡ frames.old) × (table.new ≡ table.old)) }
     ensures home { HasAllHome frames.new }
-    ensures count { length frames.new.owners ≡ length frames.old.owners }
+    ensures frames { KeepsFrames frames.old frames.new }
     ensures room { table.new.room ≡ table.old.room }
     ensures uses { IfOk result (λ child. (frame : ℕ)
         → uses_at frames.new frame ≡ uses_at frames.old frame + entries_of
@@ -123,7 +123,7 @@ fn copy_space(frames: &mut Frames, table: &mut Table, pid: u32, child: u32, tid:
         ≡ (in_world w frames.new T, space_in table.new child) }
     ensures table { table.new ≡ held_by (with_space (space_in table.new child)) table.old child }
     ensures home { HasAllHome frames.new }
-    ensures count { length frames.new.owners ≡ length frames.old.owners }
+    ensures frames { KeepsFrames frames.old frames.new }
     ensures uses { (frame : ℕ)
         → uses_at frames.new frame ≡ uses_at frames.old frame + entries_of
         (space_in table.new child) frame }

@@ -4,7 +4,7 @@ ghost use Rattle.std.specs.Prelude.{IfSome, OnErr, OnOk, length, position};
 ghost use Rattle.dos_world.specs.Numbered.{run_of};
 ghost use Rattle.dos_world.specs.World.{World, is_free};
 ghost use Rattle.dos_world.specs.MemoryCalls.{mapped, mapped_fresh, private_entry};
-ghost use Rattle.page_store.specs.Store.{IsUnused, free_count, uses_at, with_owned};
+ghost use Rattle.page_store.specs.Store.{IsUnused, KeepsFrames, free_count, uses_at, with_owned};
 ghost use Rattle.proc_table.specs.Tables.{IsProcess, entry_replaced, held_by, thread_in};
 ghost use Rattle.space_map.specs.Mapping.{IsMapped};
 ghost use Rattle.kernel_mem.specs.MemoryWorld.{space_in, in_world, IsCaller, HasAllHome};
@@ -50,7 +50,7 @@ pub fn map_pages(
     ensures stays { OnErr result ((frames.new ≡ frames.old) × (table.new ≡ table.old)) }
     ensures home { HasAllHome frames.new }
     ensures room { table.new.room ≡ table.old.room }
-    ensures count { length frames.new.owners ≡ length frames.old.owners }
+    ensures frames { KeepsFrames frames.old frames.new }
 {
     if !is_range(address, pages) {
         return Err(EINVAL);
@@ -96,7 +96,7 @@ fn map_run(
     ensures table { table.new ≡ held_by (with_space (space_in table.new pid)) table.old pid }
     ensures home { HasAllHome frames.new }
     ensures room { table.new.room ≡ table.old.room }
-    ensures count { length frames.new.owners ≡ length frames.old.owners }
+    ensures frames { KeepsFrames frames.old frames.new }
 {
     table.put_run(pid, page, count, private_entry(0, rights));
     for index in 0..count {

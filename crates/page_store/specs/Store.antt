@@ -1,8 +1,8 @@
 -- What the frames hold, and the one list of bytes that their pages make. This project's own rules.
-use Rattle.std.specs.Prelude.{◌≡◌, ◌<◌, ◌≤◌, ℕ, ◌+◌, ◌-◌, ◌^◌, Bool, List, [], ◌∷◌, ◌++◌, map, take}
-use Rattle.std.specs.Prelude.{drop, replicate, length, Option, Some, None, false, true, IsSome, All}
-use Rattle.std.specs.Prelude.{count_by, slice_set, slice_get, slice_index, slice_index_or, ◌==◌}
-use Rattle.std.specs.Prelude.{if◌then◌else◌}
+use Rattle.std.specs.Prelude.{◌≡◌, ◌≢◌, ◌<◌, ◌≤◌, ℕ, ◌+◌, ◌-◌, ◌^◌, Bool, List, [], ◌∷◌, ◌++◌, map}
+use Rattle.std.specs.Prelude.{take, drop, replicate, length, Option, Some, None, false, true}
+use Rattle.std.specs.Prelude.{IsSome, All, count_by, slice_set, slice_get, slice_index}
+use Rattle.std.specs.Prelude.{slice_index_or, ◌==◌, if◌then◌else◌}
 use Rattle.dos_world.specs.declared.Owner.{Owner}
 use Rattle.dos_world.specs.declared.Owner.TheVariants.{Of, Free}
 use Rattle.dos_world.specs.declared.Access.{Access}
@@ -11,12 +11,13 @@ use Rattle.dos_world.specs.World.{is_free}
 use Rattle.dos_world.specs.Kernel.{zero_page}
 use Rattle.dos_world.specs.Reach.{granted, number_of, width}
 
--- Per frame a page, which is None while it is away, an owner and a number of uses. Frames are
--- numbered from 0.
+-- Per frame a page, which is None while it is away, an owner and a number of uses; and the owners
+-- as they were when marked, none where nothing is marked. Frames are numbered from 0.
 pub record Store : Type 0 where
   pub pages : List (Option (List ℕ))
   pub owners : List Owner
   pub uses : List ℕ
+  pub marked : List Owner
 
 -- ---- pages
 
@@ -92,6 +93,7 @@ unused_frames count = record {
   pages = replicate count (Some zero_page);
   owners = replicate count Free;
   uses = replicate count 0;
+  marked = [];
 }
 
 abbrev pub with_home : Store → ℕ → List ℕ → Store
@@ -129,7 +131,51 @@ with_less s frame = record {
       else s.pages;
   owners = if uses_at s frame == 1 then slice_set s.owners frame Free else s.owners;
   uses = slice_set s.uses frame (uses_at s frame - 1);
+  marked = s.marked;
 }
+
+-- ---- marking owners
+
+-- the owner that was marked
+abbrev pub marked_at : Store → ℕ → Owner
+marked_at s frame = slice_index_or s.marked frame Free
+
+-- as many frames as before, and marked as before
+pub record KeepsFrames (old new : Store) : Type 0 where
+  pub count : length new.owners ≡ length old.owners
+  pub marked : new.marked ≡ old.marked
+
+-- the owners of all frames are marked
+abbrev pub AreMarked : Store → Type 0
+AreMarked s = length s.marked ≡ length s.owners
+
+abbrev pub with_marks : Store → Store
+with_marks s = record s { marked = s.owners }
+
+-- the frame's owner is marked anew
+abbrev pub with_settled : Store → ℕ → Store
+with_settled s frame = record s { marked = slice_set s.marked frame (owner_at s frame) }
+
+-- the lowest frame whose owner isn't the one that was marked
+pub record IsFirstChanged (marked owners : List Owner) (frame : ℕ) : Type 0 where
+  pub within : frame < length owners
+  pub differs : slice_index_or marked frame Free ≢ slice_index_or owners frame Free
+  pub below : (other : ℕ) → other < frame
+      → slice_index_or marked other Free ≡ slice_index_or owners other Free
+
+-- ---- all parts
+
+-- for each frame an owner and a number of uses, and it is Free exactly where it has no use
+pub record AreParts (pages : List (Option (List ℕ))) (owners : List Owner) (uses : List ℕ) : Type 0
+  where
+    pub few : length pages < 2 ^ 32
+    pub each : length owners ≡ length pages
+    pub agree : map is_free owners ≡ map is_unused uses
+
+-- these, nothing marked
+abbrev pub store_from : List (Option (List ℕ)) → List Owner → List ℕ → Store
+store_from pages owners uses =
+    record { pages = pages; owners = owners; uses = uses; marked = [] }
 
 -- ---- copying a page
 
@@ -152,5 +198,6 @@ pub record IsCopied (s : Store) (from frame t : ℕ) (new : Store) : Type 0 wher
   pub pages : IsPageCopied s.pages from frame new.pages
   pub owners : new.owners ≡ slice_set s.owners frame (Of t)
   pub uses : new.uses ≡ slice_set s.uses frame 1
+  pub marked : new.marked ≡ s.marked
   pub unused : uses_at s frame ≡ 0
   pub within : frame < length s.uses

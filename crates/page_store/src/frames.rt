@@ -1,26 +1,30 @@
 // Frames, each with a page at home or away, an owner and a number of uses.
 ghost use Rattle.std.specs.Prelude.{◌≡◌, ◌≢◌, ◌+◌, ◌-◌, ◌^◌, ◌<◌, ◌≤◌, ℕ, List, length, slice_get};
 ghost use Rattle.std.specs.Prelude.{Some, None, IfOk, IfSome, IsSome, MatchBool, position};
-ghost use Rattle.std.specs.Prelude.{replicate, false};
+ghost use Rattle.std.specs.Prelude.{replicate, false, OnErr, OnOk};
 ghost use Rattle.std.specs.Borrow.{sem};
 ghost use Rattle.dos_world.specs.World.{is_free};
 ghost use Rattle.dos_world.specs.Kernel.{zero_page};
 ghost use Rattle.dos_world.specs.Reach.{granted};
 ghost use Rattle.page_store.specs.Store.{AreFreeFrom, AreHome, IsAway, IsCopied, IsHome, IsHomeIn};
+ghost use Rattle.page_store.specs.Store.{AreMarked, AreParts, IsFirstChanged, marked_at};
+ghost use Rattle.page_store.specs.Store.{store_from, with_marks, with_settled};
 ghost use Rattle.page_store.specs.Store.{IsOwned, IsPageCopied, IsUnused, free_count, owner_at};
 ghost use Rattle.page_store.specs.Store.{zeroed, unused_frames, uses_at, with_away, with_owned};
 ghost use Rattle.page_store.specs.Store.{with_grant, with_home, with_less, with_use_more};
 ghost use Rattle.page_store.specs.Lending.{LendsPage, LendsSlot};
 
 use crate::Page;
+use crate::changes::{Changes, first_changed, note};
+use crate::tally::{free_frames, free_in, high_of};
 use dos_world::{Access, Owner};
 use hierarchical_bitmap::Bitmap;
 use rv_form::Memo;
 use std::alloc::{AllocError, Global};
 use std::marker::Model;
 
-/// Frames, numbered from 0. Contracts see three lists, by frame: pages (None while away), owners
-/// and uses.
+/// Frames, numbered from 0. Contracts see four lists, by frame: pages (None while away), owners,
+/// uses, and the owners as they were when marked, which is empty where nothing is marked.
 #[derive(Drop)]
 pub struct Frames {
     pages: Vec<Option<Page>>,
@@ -32,10 +36,13 @@ pub struct Frames {
     high: u32,
     // what words stand for, for the thread that runs in place
     memo: Option<Box<Memo>>,
+    // the marked owners, in a run that is traced
+    changes: Option<Changes>,
 }
 
 impl Model for Frames {
     ghost use Rattle.std.specs.Prelude.{◌≤◌, length};
+    ghost use Rattle.page_store.specs.Marks.{AreNotedIn, marked_in};
     ghost use Rattle.page_store.specs.Store.{AreFreeFrom, AreTallied, Store};
 
     ghost Value = { Store };
@@ -43,13 +50,14 @@ impl Model for Frames {
     ghost view = { λ f. record {
       pages = f.pages.items;
       owners = f.owners.items;
-      uses =
-          f.uses.items;
+      uses = f.uses.items;
+      marked = marked_in f.changes;
     } };
 
     ghost invariant = { λ f.
         AreTallied (length f.pages.items) f.owners.items f.uses.items f.free f.free_frames
-        × AreFreeFrom f.owners.items f.high × (f.high ≤ length f.pages.items) };
+        × AreFreeFrom f.owners.items f.high × (f.high ≤ length f.pages.items)
+        × AreNotedIn f.owners.items f.changes };
 }
 
 impl Frames {
@@ -65,7 +73,41 @@ impl Frames {
             free_frames: Bitmap::full(alloc, count)?,
             high: 0,
             memo: Some(Box::new(alloc, Memo::new())?),
+            changes: None,
         })
+    }
+
+    /// Frames of these pages, owners and uses, nothing marked.
+    pub fn from_parts(
+        alloc: Global,
+        pages: Vec<Option<Page>>,
+        owners: Vec<Owner>,
+        uses: Vec<u32>,
+    ) -> Result<Frames, AllocError>
+        requires { AreParts pages.items owners.items uses.items }
+        ensures { IfOk result (λ f. f ≡ store_from pages.items owners.items uses.items) }
+    {
+        let free = free_in(&owners);
+        let free_frames = free_frames(alloc, &owners)?;
+        let high = high_of(&owners);
+        Ok(Frames {
+            pages,
+            owners,
+            uses,
+            free,
+            free_frames,
+            high,
+            memo: Some(Box::new(alloc, Memo::new())?),
+            changes: None,
+        })
+    }
+
+    /// The pages and the owners.
+    pub fn into_parts(self) -> (Vec<Option<Page>>, Vec<Owner>)
+        ensures pages { result.0.items ≡ self.pages }
+        ensures owners { result.1.items ≡ self.owners }
+    {
+        (self.pages, self.owners)
     }
 
     /// How many frames there are.
@@ -189,6 +231,7 @@ impl Frames {
     {
         let owner = granted(tid, access);
         self.owners[frame as usize] = owner;
+        note(&mut self.changes, frame, owner);
     }
 
     /// The lowest Free frame, which becomes `tid`'s, with one use. Its page stays as it is, zero
@@ -205,6 +248,7 @@ impl Frames {
             Some(frame) => {
                 let place = frame as usize;
                 self.owners[place] = Owner::Of(tid);
+                note(&mut self.changes, frame, Owner::Of(tid));
                 self.uses[place] = 1;
                 self.free -= 1;
                 self.free_frames.clear(frame);
@@ -250,12 +294,55 @@ impl Frames {
         let place = frame as usize;
         if self.uses[place] == 1 {
             self.owners[place] = Owner::Free;
+            note(&mut self.changes, frame, Owner::Free);
             self.uses[place] = 0;
             self.free += 1;
             self.free_frames.set(frame);
             clear_home(&mut self.pages[place]);
         } else {
             self.uses[place] -= 1;
+        }
+    }
+
+    /// Marks the owners as they are. The memory for it is taken here.
+    pub fn mark(&mut self, alloc: Global) -> Result<(), AllocError>
+        ensures ok { OnOk result (self.new ≡ with_marks self.old) }
+        ensures err { OnErr result (self.new ≡ self.old) }
+    {
+        let _count = self.count();
+        self.changes = Some(Changes::of(alloc, &self.owners)?);
+        Ok(())
+    }
+
+    /// The lowest frame whose owner isn't the one that was marked, found without looking at the
+    /// others. None exactly where all are as marked.
+    pub fn changed(&self) -> Option<u32>
+        requires { AreMarked self.now }
+        ensures none { result ≡ None → self.now.marked ≡ self.now.owners }
+        ensures some { IfSome result (IsFirstChanged self.now.marked self.now.owners) }
+    {
+        first_changed(&self.changes)
+    }
+
+    /// Whom the frame belonged to when it was marked.
+    pub fn marked_owner(&self, frame: u32) -> Owner
+        requires { frame < length self.now.marked }
+        ensures { result ≡ marked_at self.now frame }
+    {
+        match &self.changes {
+            Some(changes) => changes.owners[frame as usize],
+            None => unreachable!(),
+        }
+    }
+
+    /// Marks the frame's owner anew. Nothing else changes.
+    pub fn settle(&mut self, frame: u32)
+        requires { frame < length self.old.marked }
+        ensures { self.new ≡ with_settled self.old frame }
+    {
+        match &mut self.changes {
+            Some(changes) => changes.settle(frame, self.owners[frame as usize]),
+            None => unreachable!(),
         }
     }
 }

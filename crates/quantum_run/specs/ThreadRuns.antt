@@ -17,9 +17,9 @@ abbrev pub run_to : World → ℕ → List (Option (List ℕ)) → Registers →
 run_to w t pages registers budget =
     record (with_thread w t (ran registers budget)) { bytes = joined pages }
 
--- frames with these owners and pages, whatever their uses
+-- frames with these owners and pages, whatever their uses and marks
 abbrev pub store_of : List Owner → List (Option (List ℕ)) → Store
-store_of owners pages = record { pages = pages; owners = owners; uses = [] }
+store_of owners pages = record { pages = pages; owners = owners; uses = []; marked = [] }
 
 -- Each entry names a frame that there is, and that isn't Free.
 abbrev pub AreMapped : Store → List (ℕ × Entry) → Type 0

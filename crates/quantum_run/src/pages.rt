@@ -49,11 +49,17 @@ pub struct InPlace<'a> {
 impl<'a> Pages for InPlace<'a> {
     ghost use Rattle.std.specs.Prelude.{ℕ, Bool, List, map, is_some};
     ghost use Rattle.std.specs.Borrow.{GName};
+    ghost use Rattle.dos_world.specs.declared.Owner.{Owner};
     ghost use Rattle.quantum_run.specs.Pages.{is_here};
 
-    ghost Fixed = { GName × List ℕ × List Bool };
+    ghost Fixed = { GName × List ℕ × List Owner × List Bool };
 
-    ghost fixed = { λ p. (p.frames.ghost_name, p.frames.now.uses, map is_some p.frames.now.pages) };
+    ghost fixed = { λ p. (
+      p.frames.ghost_name,
+      p.frames.now.uses,
+      p.frames.now.marked,
+      map is_some p.frames.now.pages,
+    ) };
 
     ghost owners = { λ p. p.frames.now.owners };
 

@@ -233,6 +233,7 @@ fn run_in_place(
     ensures within { budget.new ≤ budget.old }
     ensures owners { frames.new.owners ≡ frames.old.owners }
     ensures uses { frames.new.uses ≡ frames.old.uses }
+    ensures marked { frames.new.marked ≡ frames.old.marked }
     ensures home { AreHome frames.new }
 {
     let mut memory = Running::new(InPlace { frames }, space, tid);
@@ -242,8 +243,8 @@ fn run_in_place(
 /// Runs instructions of thread `tid` in the frames, each for one of the budget, until one stops or
 /// the budget is 0: why it stops, with the budget above 0, or None where the budget is 0. The
 /// registers, the budget and the pages are then as the instructions left them that were done; the
-/// one that stops changes nothing. Owners and uses stay. Each page is home, and each entry of the
-/// space names a frame that isn't Free.
+/// one that stops changes nothing. Owners, uses and marks stay. Each page is home, and each entry
+/// of the space names a frame that isn't Free.
 ///
 /// `runs` and `stop` say it of every world whose bytes, owners, space and thread these are. A part
 /// begins without a reservation, which the caller empties: see `laws::runs_are_parts`.
@@ -266,6 +267,7 @@ pub fn run_until_stop(
     ensures within { budget.new ≤ budget.old }
     ensures owners { frames.new.owners ≡ frames.old.owners }
     ensures uses { frames.new.uses ≡ frames.old.uses }
+    ensures marked { frames.new.marked ≡ frames.old.marked }
     ensures home { AreHome frames.new }
 {
     match frames.take_memo() {

@@ -75,7 +75,7 @@ between-is c =
       sound = c.set_budgets.ensures.sound;
       range = between.range;
       rounds = subst (λ (n : ℕ). n - 1 ≤ c.kernel.inside.config.rounds)
-          (sym c.set_budgets.ensures.round) between.rounds;
+          (sym c.set_budgets.ensures.round.round) between.rounds;
       frames = c.set_budgets.ensures.count ∙ between.frames;
     }
 
@@ -84,7 +84,7 @@ went-out : (c : goal.After-hand_out) → WentOut c.set_budgets.new.state
     c.hand_out.new.packs.items)
 went-out c = record {
   between = between-is c;
-  begun = subst (λ (n : ℕ). 1 ≤ n) (sym c.set_budgets.ensures.round) c.kernel.invariant.1;
+  begun = subst (λ (n : ℕ). 1 ≤ n) (sym c.set_budgets.ensures.round.round) c.kernel.invariant.1;
   live = subst (AreLive c.set_budgets.new.state.table.threads) c.as_slice.ensures.value
       c.set_budgets.ensures.live;
   apart = ready-apart c.kernel.inside.state.table.threads c.gather.new.starters.items

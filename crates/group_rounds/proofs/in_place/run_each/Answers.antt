@@ -2,6 +2,7 @@ use Rattle.std.proofs.Common.{ap, ◌∙◌, refl, arith}
 use Rattle.std.proofs.lemmas.Option.{slice_get-get_or}
 use Rattle.flat_machine.specs.Round.{all_alone}
 use Rattle.kernel_calls.specs.StateWorld.{sent, world_of}
+use Rattle.kernel_calls.proofs.Staying.{stays-then}
 use Rattle.group_rounds.proofs.InPlaceLaws.{alone_next, alone_live, alone_paid}
 use Rattle.group_rounds.proofs.PhaseLaws.{drop_out}
 use Rattle.group_rounds.proofs.in_place.run_each.Goals as goal
@@ -24,7 +25,7 @@ loop-tid-preserved g c =
       runs = λ q o e. inv.runs q o e
           ∙ alone_next s s' _ runs xs i c.loop-tid-test.true refl q o e;
       sound = c.run_alone.ensures.sound;
-      round = c.run_alone.ensures.round ∙ inv.round;
+      round = stays-then c.run_alone.ensures.round inv.round;
       count = c.run_alone.ensures.count ∙ inv.count;
       live = alone_live s s' _ runs xs inv.live;
       paid = omega (arith, before, one, from);

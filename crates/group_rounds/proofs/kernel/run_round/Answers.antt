@@ -44,6 +44,7 @@ returns g c =
           after.shim.told k.starters c.play_round-result.new.starters.items)) view e.starters;
       uncounted = subst (λ (k : Held). OnErr result (new.round ≡ k.state.round)) view
           e.keeps.uncounted;
+      marked = e.keeps.marked ∙ ap (λ (k : Held). k.state.frames.marked) view;
       sound = λ ok. keeps_between result i.state new i.config between limit e.keeps
           (sym c.is_err-kernel-inside.ensures.value ∙ ok);
       config = ap (λ (k : Held). k.config) view;

@@ -23,7 +23,10 @@ returns g c =
           (served.plays c.kernel.inside.config.quantum);
       starters = c.run_ready-served.ensures.starters
           ∙ ap (λ (k : Held). ready_in k.state.table.threads) view;
-      round = served.round ∙ ap (λ (k : Held). k.state.round) view;
+      round = record {
+        round = served.round.round ∙ ap (λ (k : Held). k.state.round) view;
+        marked = served.round.marked ∙ ap (λ (k : Held). k.state.frames.marked) view;
+      };
       sound = λ ok. serves_between _ result c.kernel.inside.state new c.kernel.inside.config _ _
           between served (sym c.is_err-kernel-inside.ensures.value ∙ ok);
       config = ap (λ (k : Held). k.config) view;

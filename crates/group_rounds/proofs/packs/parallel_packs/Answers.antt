@@ -101,7 +101,7 @@ returns g c =
       parts = record {
         runs = all-runs s sound ts live apart new ps qs h ran s2 back set rest.0 rest.1 rest.2;
         sound = sound-again s sound ts live apart new ps qs h ran s2 back set rest.0 rest.1 rest.2;
-        round = rest.0;
+        round = record { round = rest.0; marked = back.marked ∙ h.marked };
         count = count-again s sound ts live apart new ps qs h ran s2 back set rest.0 rest.1 rest.2;
       };
       tally = subst (λ work. GrewBy (g.W.Workers.tally c.args.workers.now)

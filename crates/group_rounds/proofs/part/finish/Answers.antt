@@ -2,6 +2,7 @@ use Rattle.std.proofs.Common.{◌<◌, ◌≤◌, [], ◌∷◌, ◌∙◌, subs
 use Rattle.std.proofs.lemmas.Result.{err_from_is_err_and}
 use Rattle.kernel_calls.specs.Plays.{stopper}
 use Rattle.kernel_calls.proofs.Playing.{plays_told}
+use Rattle.kernel_calls.proofs.Staying.{stays-then}
 use Rattle.group_rounds.specs.Parts.{RanPart, part_left, part_measure, turns_left}
 use Rattle.group_rounds.proofs.Sound.{parts_passed, parts_on, parts_off, ready_then}
 use Rattle.group_rounds.proofs.ServesLaws.{serves_done}
@@ -37,7 +38,8 @@ pub loop-reason-preserved : goal.loop-reason-preserved
 loop-reason-preserved g c = record {
   sound = c.in_ok-take_turn.ensures.sound;
   live = c.in_ok-take_turn.ensures.live c.if-not-branch.false;
-  round = c.take_turn.ensures.round ∙ c.run.ensures.round ∙ c.loop-reason.invariant.round;
+  round = stays-then c.take_turn.ensures.round
+      (stays-then c.run.ensures.round c.loop-reason.invariant.round);
   count = c.in_ok-take_turn.ensures.count ∙ c.run.ensures.count ∙ c.loop-reason.invariant.count;
   goes = λ q.
       goes_further q c.args.tid c.args.state.now c.loop-reason.state c.run.new.state _ _
@@ -65,7 +67,7 @@ returns-then-not-branch-clause-serves g c =
     (λ q. goes_out q c.args.tid c.args.state.now c.loop-reason.state c.run.new.state _ _
     c.run.result (now.goes q) c.run.ensures.ran c.take_turn.new.state _
     c.in_ok-take_turn.field-0 c.if-not-branch.true (turn.plays q).goes) turn.sound
-    (c.take_turn.ensures.round ∙ c.run.ensures.round ∙ now.round)
+    (stays-then c.take_turn.ensures.round (stays-then c.run.ensures.round now.round))
     (turn.count ∙ c.run.ensures.count ∙ now.count)
 
 pub returns-in_default-clause-serves : goal.returns-in_default-clause-serves
@@ -75,7 +77,7 @@ returns-in_default-clause-serves g c =
     (λ q. goes_over_budget q c.args.tid c.args.state.now c.loop-reason.state c.run.new.state _ _
     (now.goes q)
     (subst (RanPart c.loop-reason.state c.args.tid c.run.new.state) c.in_default.is
-    c.run.ensures.ran)) c.run.ensures.sound (c.run.ensures.round ∙ now.round)
+    c.run.ensures.ran)) c.run.ensures.sound (stays-then c.run.ensures.round now.round)
     (c.run.ensures.count ∙ now.count)
 
 pub returns-in_err-take_turn-clause-serves : goal.returns-in_err-take_turn-clause-serves
@@ -91,7 +93,7 @@ returns-in_err-take_turn-clause-serves g c =
             (turn.plays q).stops;
       };
       sound = tt;
-      round = c.take_turn.ensures.round ∙ c.run.ensures.round ∙ now.round;
+      round = stays-then c.take_turn.ensures.round (stays-then c.run.ensures.round now.round);
       count = tt;
     })
 

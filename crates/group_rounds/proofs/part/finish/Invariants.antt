@@ -4,6 +4,7 @@ use Rattle.proc_table.specs.Tables.{IsLiveThread}
 use Rattle.kernel_calls.specs.StateWorld.{HaveParts, IsReady, IsSound}
 use Rattle.dos_io.specs.Shims.{HasNoEnd}
 use Rattle.kernel_calls.specs.Plays.{PlaysOn}
+use Rattle.kernel_calls.specs.StateWorld.{StaysInRound}
 use Rattle.group_rounds.specs.Parts.{KeepsCount, turns_left, part_measure}
 use Rattle.group_rounds.proofs.part.finish.Given as goal
 
@@ -11,7 +12,7 @@ abbrev pub invariant-loop-reason : goal.invariant-loop-reason
 invariant-loop-reason g l = record {
   sound : IsSound l.state;
   live : IsLiveThread l.state.table.threads l.fn.tid;
-  round : l.state.round ≡ l.fn.state.round;
+  round : StaysInRound l.fn.state l.state;
   count : KeepsCount l.fn.state l.state;
   goes : (q : ℕ) → PlaysOn q (λ w. rest_of w l.fn.tid) l.fn.state
       (g.B.Border.state l.fn.border) (turns_left l.fn.tid) l.state (g.B.Border.state l.border);

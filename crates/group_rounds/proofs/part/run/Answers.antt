@@ -67,7 +67,7 @@ returns c =
           (its_registers c) (its_budget c) (left c);
       parts = parts_after s t sound live entries regs budget _ _ _ _ _ (its_space c)
           (its_registers c) (its_budget c) (left c);
-      round = refl;
+      round = record { round = refl; marked = c.run_until_stop-reason.ensures.marked };
       count = ap length c.run_until_stop-reason.ensures.owners;
       live = live_after s t sound live entries regs budget _ _ _ _ _ (its_space c)
           (its_registers c) (its_budget c) (left c);

@@ -8,7 +8,8 @@ pub returns-then-not-is_thread-clause-serves : goal.returns-then-not-is_thread-c
 returns-then-not-is_thread-clause-serves g c =
     serves_done _ _ c.args.state.now c.args.state.now _ _
     (λ q. rest_of_gone q c.args.state.now (g.B.Border.state c.args.border.now) c.args.tid
-    (sym c.if-not-is_thread.true ∙ c.is_thread.ensures)) c.requires.sound refl refl
+    (sym c.if-not-is_thread.true ∙ c.is_thread.ensures)) c.requires.sound
+    (record { round = refl; marked = refl }) refl
 
 pub returns-clause-serves : goal.returns-clause-serves
 returns-clause-serves g c =

@@ -1,6 +1,7 @@
 use Rattle.std.proofs.Common.{◌∙◌, refl}
 use Rattle.dos_world.specs.Play.{done}
 use Rattle.kernel_calls.proofs.Playing.{plays_told}
+use Rattle.kernel_calls.proofs.Staying.{stays-same, stays-then}
 use Rattle.std.proofs.lemmas.Result.{err_from_is_err_and}
 use Rattle.group_rounds.proofs.PhaseLaws.{serial_starts, serial_next, serial_ends}
 use Rattle.group_rounds.proofs.PhaseLaws.{serial_stops, parts_at}
@@ -12,7 +13,7 @@ loop-tid-init g c = record {
   goes = λ q. serial_starts q c.args.state.now (g.B.Border.state c.args.border.now)
       c.args.starters.now;
   sound = c.requires.sound;
-  round = refl;
+  round = stays-same c.args.state.now;
   count = refl;
   parts = c.requires.parts;
   told = c.requires.told;
@@ -26,7 +27,7 @@ loop-tid-preserved g c = record {
       c.loop-tid.tid-index c.loop-tid-test.true refl (c.loop-tid.invariant.goes q)
       c.finish_if_live.new.state _ (c.in_ok-finish_if_live.ensures.serves.plays q).goes;
   sound = c.in_ok-finish_if_live.ensures.serves.sound;
-  round = c.finish_if_live.ensures.serves.round ∙ c.loop-tid.invariant.round;
+  round = stays-then c.finish_if_live.ensures.serves.round c.loop-tid.invariant.round;
   count = c.in_ok-finish_if_live.ensures.serves.count ∙ c.loop-tid.invariant.count;
   parts = c.in_ok-finish_if_live.ensures.parts _
       (parts_at c.loop-tid.state c.args.starters.now c.loop-tid.tid-index _ c.loop-tid-test.true

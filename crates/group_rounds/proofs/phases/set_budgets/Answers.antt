@@ -15,7 +15,10 @@ loop-tid-preserved c = record {
   parts = λ ts parts.
       budget_parts c.loop-tid.state c.set_budget.new.self c.args.quantum _ c.set_budget.ensures
       c.loop-tid.invariant.sound ts (c.loop-tid.invariant.parts ts parts);
-  round = c.loop-tid.invariant.round;
+  round = record {
+    round = c.loop-tid.invariant.round.round;
+    marked = c.loop-tid.invariant.round.marked;
+  };
   count = c.loop-tid.invariant.count;
   live = budget_live c.loop-tid.state c.set_budget.new.self c.args.quantum _ c.set_budget.ensures
       c.args.starters.now c.loop-tid.invariant.live;

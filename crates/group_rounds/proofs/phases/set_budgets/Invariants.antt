@@ -1,6 +1,7 @@
 use Rattle.std.proofs.Common.{◌≡◌, ℕ, List, drop}
 use Rattle.flat_machine.specs.Round.{with_budgets}
 use Rattle.kernel_calls.specs.StateWorld.{HaveParts, IsSound, sent, world_of}
+use Rattle.kernel_calls.specs.StateWorld.{StaysInRound}
 use Rattle.group_rounds.specs.Phases.{AreLive}
 use Rattle.group_rounds.specs.Parts.{KeepsCount}
 use Rattle.group_rounds.proofs.phases.set_budgets.Given as goal
@@ -11,7 +12,7 @@ invariant-loop-tid l = record {
       ≡ with_budgets (sent o e (world_of l.fn.quantum l.state)) (drop l.tid-index l.fn.starters);
   sound : IsSound l.state;
   parts : (ts : List ℕ) → HaveParts ts l.fn.state → HaveParts ts l.state;
-  round : l.state.round ≡ l.fn.state.round;
+  round : StaysInRound l.fn.state l.state;
   count : KeepsCount l.fn.state l.state;
   live : AreLive l.state.table.threads l.fn.starters;
 }

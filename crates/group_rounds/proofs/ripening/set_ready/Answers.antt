@@ -13,7 +13,10 @@ loop-tid-preserved c = record {
   counted = λ counted.
       thread_counted c.loop-tid.state c.loop-tid.state.futexes c.set_state.new.self _
       (in_state Ready) c.set_state.ensures (c.loop-tid.invariant.counted counted);
-  round = c.loop-tid.invariant.round;
+  round = record {
+    round = c.loop-tid.invariant.round.round;
+    marked = c.loop-tid.invariant.round.marked;
+  };
   count = c.loop-tid.invariant.count;
   live = ready_live c.loop-tid.state c.set_state.new.self _ c.set_state.ensures
       c.args.threads.now c.loop-tid.invariant.live;

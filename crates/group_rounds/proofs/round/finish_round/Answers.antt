@@ -7,7 +7,7 @@ use Rattle.group_rounds.proofs.round.finish_round.Goals as goal
 pub count_round-requires : goal.count_round-requires
 count_round-requires g c = record {
   sound = c.in-Ok.ensures.serves.sound;
-  limit = subst (λ (n : ℕ). n ≤ 1000000) (sym c.in-Ok.ensures.serves.round) c.requires.limit;
+  limit = subst (λ (n : ℕ). n ≤ 1000000) (sym c.in-Ok.ensures.serves.round.round) c.requires.limit;
 }
 
 pub returns-in-Ok : goal.returns-in-Ok
@@ -25,8 +25,9 @@ returns-in-Ok g c =
       keeps = record {
         sound = c.count_round.ensures.sound;
         count = ap (λ (s : State). length s.frames.owners) counted ∙ served.count;
-        round = ap (λ (s : State). s.round) counted ∙ ap (λ n. n + 1) served.round;
+        round = ap (λ (s : State). s.round) counted ∙ ap (λ n. n + 1) served.round.round;
         uncounted = tt;
+        marked = ap (λ (s : State). s.frames.marked) counted ∙ served.round.marked;
       };
       follows = c.run_serial.ensures.follows;
     }
@@ -41,6 +42,12 @@ returns-in-Err g c =
             (served.plays q).stops;
       };
       end = tt;
-      keeps = record { sound = tt; count = tt; round = tt; uncounted = served.round };
+      keeps = record {
+        sound = tt;
+        count = tt;
+        round = tt;
+        uncounted = served.round.round;
+        marked = served.round.marked;
+      };
       follows = c.run_serial.ensures.follows;
     }

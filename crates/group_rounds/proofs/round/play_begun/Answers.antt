@@ -7,6 +7,7 @@ use Rattle.flat_machine.specs.Round.{begun, phases}
 use Rattle.worker_pool.proofs.Growing.{grew-nothing}
 use Rattle.kernel_calls.proofs.Playing.{plays_from}
 use Rattle.kernel_calls.specs.StateWorld.{HaveParts}
+use Rattle.kernel_calls.proofs.Staying.{stays-then}
 use Rattle.group_rounds.specs.Parts.{work_between}
 use Rattle.group_rounds.specs.Phases.{AreLive}
 use Rattle.group_rounds.specs.Rounds.{end_in}
@@ -109,5 +110,5 @@ returns-clause-plays g c =
 pub returns-clause-keeps : goal.returns-clause-keeps
 returns-clause-keeps g c =
     keeps_then c.finish_round.result c.args.state.now c.run.new.state c.finish_round.new.state
-    (c.run.ensures.parts.round ∙ c.set_budgets.ensures.round)
+    (stays-then c.run.ensures.parts.round c.set_budgets.ensures.round)
     (c.run.ensures.parts.count ∙ c.set_budgets.ensures.count) c.finish_round.ensures.keeps

@@ -59,7 +59,13 @@ returns-in-Err g c =
       starters = tt;
       room = c.open_round.ensures.room;
       packs = refl;
-      keeps = record { sound = tt; count = tt; round = tt; uncounted = c.open_round.ensures.round };
+      keeps = record {
+        sound = tt;
+        count = tt;
+        round = tt;
+        uncounted = c.open_round.ensures.round.round;
+        marked = c.open_round.ensures.round.marked;
+      };
       follows = c.open_round.ensures.follows;
       fixed = refl;
     }
@@ -93,7 +99,7 @@ play_begun-requires-clause-ready g c = λ κs outlive.
 
 pub play_begun-requires-clause-limit : goal.play_begun-requires-clause-limit
 play_begun-requires-clause-limit g c = λ κs outlive.
-    subst (λ (n : ℕ). n ≤ 1000000) (sym c.open_round.ensures.round) c.requires.limit
+    subst (λ (n : ℕ). n ≤ 1000000) (sym c.open_round.ensures.round.round) c.requires.limit
 
 pub play_begun-requires-clause-told : goal.play_begun-requires-clause-told
 play_begun-requires-clause-told g c = λ κs outlive.

@@ -12,6 +12,9 @@ loop-index-preserved c =
           c.at-next.result c.at-next.ensures c.post.ensures q o e;
       sound = posted_sound c.loop-index.state c.post.new.table c.at-next.result.pid
           c.at-next.result.signal c.post.ensures fit.low fit.high c.loop-index.invariant.sound;
-      round = c.loop-index.invariant.round;
+      round = record {
+        round = c.loop-index.invariant.round.round;
+        marked = c.loop-index.invariant.round.marked;
+      };
       count = c.loop-index.invariant.count;
     }

@@ -53,7 +53,7 @@ returns-in-Ok-clause-counted c =
     counted-forked c.args.state.now c.args.asked.now c.requires.sound c.requires.asked
     c.fork.new.frames c.fork.new.table c.in-Ok.child c.in-Ok.ensures.forks
     c.in-Ok.ensures.number c.add_ends.new.pipes c.reply.new.state c.add_ends.ensures
-    c.reply.ensures.answers c.in-Ok.ensures.home c.in-Ok.ensures.count c.in-Ok.ensures.room
+    c.reply.ensures.answers c.in-Ok.ensures.home c.in-Ok.ensures.frames.count c.in-Ok.ensures.room
     c.in-Ok.ensures.uses
 
 pub returns-in-Err-clause-goes_on : goal.returns-in-Err-clause-goes_on

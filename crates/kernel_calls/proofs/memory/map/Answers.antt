@@ -43,4 +43,4 @@ returns-clause-counted c =
     c.map_pages-mapped.new.frames c.map_pages-mapped.new.table c.map_pages-mapped.result
     c.map_pages-mapped.ensures.table c.map_pages-mapped.ensures.uses
     c.map_pages-mapped.ensures.stays
-    c.map_pages-mapped.ensures.home c.map_pages-mapped.ensures.count)
+    c.map_pages-mapped.ensures.home c.map_pages-mapped.ensures.frames.count)

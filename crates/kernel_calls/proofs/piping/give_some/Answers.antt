@@ -56,6 +56,6 @@ returns-clause-counted c =
     c.reply.ensures.counted
     (counted_moved c.args.state.now c.fill.new.frames c.give_bytes.new.pipes c.fill.new.buffer
     (still_home c.args.state.now.frames c.fill.new.frames c.fill.ensures.stays
-    c.requires.sound.counted.home) c.fill.ensures.stays.uses c.fill.ensures.stays.count
+    c.requires.sound.counted.home) c.fill.ensures.stays.uses c.fill.ensures.stays.frames.count
     (ap (λ (P : Pipework). P.readers) c.give_bytes.ensures)
     (ap (λ (P : Pipework). P.writers) c.give_bytes.ensures) c.requires.sound.counted)

@@ -39,6 +39,6 @@ returns-clause-counted c =
     c.reply.ensures.counted
     (counted_moved c.args.state.now c.put_out.new.frames c.take_bytes-moved.new.pipes
     c.take_bytes-moved.new.buffer c.put_out.ensures.stays.home c.put_out.ensures.stays.uses
-    c.put_out.ensures.stays.count
+    c.put_out.ensures.stays.frames.count
     (ap (λ (P : Pipework). P.readers) c.take_bytes-moved.ensures.left)
     (ap (λ (P : Pipework). P.writers) c.take_bytes-moved.ensures.left) c.requires.sound.counted)

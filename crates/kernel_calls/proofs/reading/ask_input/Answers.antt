@@ -34,7 +34,7 @@ returns-in-Ok-clause-counted g c =
     c.reply.ensures.counted
     (counted_moved c.args.state.now c.put_out.new.frames c.args.state.now.pipes
     c.input_into.new.buffer c.put_out.ensures.stays.home c.put_out.ensures.stays.uses
-    c.put_out.ensures.stays.count refl refl c.requires.sound.counted)
+    c.put_out.ensures.stays.frames.count refl refl c.requires.sound.counted)
 
 pub returns-in-Err-clause-plays : goal.returns-in-Err-clause-plays
 returns-in-Err-clause-plays g c =

@@ -65,7 +65,7 @@ returns-in-Err-clause-stands g c = stands g c
 pub returns-in-Err-clause-sound : goal.returns-in-Err-clause-sound
 returns-in-Err-clause-sound g c =
     sound-stands c.args.state.now c.restore.new.state (stands g c)
-    (ap (λ (s : State). s.round) c.restore.ensures ∙ c.dispatch.ensures.round
+    (ap (λ (s : State). s.round) c.restore.ensures ∙ c.dispatch.ensures.round.round
     ∙ ap (λ (s : State). s.round) c.charge.ensures.charges)
     c.requires.sound
 

@@ -29,7 +29,7 @@ word_at-requires-clause-frame c =
     let taken = entry_taken (world_of 16 c.args.state.now) c.args.asked.now.thread
     c.args.asked.now.a0 c.args.entry
     (c.requires.sound.lawful 16 (omega arith) (omega arith)) c.requires.entry in
-    omega (arith, c.grant_load.ensures.stays.count, taken.within)
+    omega (arith, c.grant_load.ensures.stays.frames.count, taken.within)
 
 pub add-requires : goal.add-requires
 add-requires c = record {

@@ -31,7 +31,7 @@ returns-in-Ok-put-clause-plays g c =
     (reached_as Load c.args.state.now a true _ same c.in-Ok.ensures.reach)
     (λ w. ap (λ n. copied_in (in_world w c.args.state.now.frames c.args.state.now.table)
     a.thread a.a1 n) (sym same) ∙ c.take_in.ensures.copies w)
-    c.take_in.ensures.round c.take_in.ensures.stands
+    c.take_in.ensures.round.round c.take_in.ensures.stands
     (c.reply-in-Ok-put.ensures.answers ∙ ap (answering c.take_in.new.state a.thread) same))
     c.in-Ok-put.ensures.ok
 
@@ -48,7 +48,7 @@ returns-in-Err-put-clause-plays g c =
     (reached_as Load c.args.state.now a true _ same c.in-Ok.ensures.reach)
     (λ w. ap (λ n. copied_in (in_world w c.args.state.now.frames c.args.state.now.table)
     a.thread a.a1 n) (sym same) ∙ c.take_in.ensures.copies w)
-    c.take_in.ensures.round c.take_in.ensures.stands refl)
+    c.take_in.ensures.round.round c.take_in.ensures.stands refl)
     c.in-Err-put.ensures.err c.sink_stop.ensures
 
 pub returns-in-Err-clause-plays : goal.returns-in-Err-clause-plays

@@ -36,6 +36,7 @@ invariant_of-self c =
         c.self.invariant.2,
         c.self.invariant.0.each,
       ),
+      c.note.ensures.noted c.self.inside.owners.items c.self.invariant.3,
     )
 
 pub returns-in-None-clause-found : goal.returns-in-None-clause-found

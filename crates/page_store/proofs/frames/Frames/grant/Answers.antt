@@ -17,4 +17,5 @@ invariant_of-self c =
           (owned-low c.self.inside.owners.items c.self.inside.high c.args.frame
           c.self.invariant.1 owned),
       c.self.invariant.2,
+      c.note.ensures.noted c.self.inside.owners.items c.self.invariant.3,
     )

@@ -14,4 +14,5 @@ invariant_of-result c =
           (omega (arith, c.ranges.count)),
       free-all _ c.args.count c.in_ok-free_owners.ensures,
       omega arith,
+      tt,
     )

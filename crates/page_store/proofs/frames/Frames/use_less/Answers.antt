@@ -29,6 +29,7 @@ invariant_of-self c =
       free-freed c.self.inside.owners.items c.self.inside.high c.args.frame
           c.self.invariant.1,
       subst (λ n. c.self.inside.high ≤ n) (sym count) c.self.invariant.2,
+      c.note.ensures.noted c.self.inside.owners.items c.self.invariant.3,
     )
 
 pub invariant_of-self-else-index-eq1 : goal.invariant_of-self-else-index-eq1
@@ -46,4 +47,5 @@ invariant_of-self-else-index-eq1 c =
           (λ e. c.if-index-eq1.false (tested ∙ sym written ∙ e)),
       c.self.invariant.1,
       c.self.invariant.2,
+      c.self.invariant.3,
     )

@@ -13,4 +13,5 @@ invariant_of-self c =
       kept-more c.args.frame c.index_mut.result.now c.self.invariant.0 owned,
       c.self.invariant.1,
       c.self.invariant.2,
+      c.self.invariant.3,
     )
