@@ -9,4 +9,4 @@ mod storing;
 pub use agreeing::{agree, digest_of};
 pub use loading::load_log;
 pub use refusal::{LoadError, LogRefusal};
-pub use storing::store_log;
+pub use storing::{digest_of_log, store_log};

@@ -3,8 +3,10 @@ ghost use Rattle.std.specs.Prelude.{◌≡◌, ◌≢◌, ◌≤◌, ℕ, List, 
 ghost use Rattle.std.specs.Prelude.{Err, IfOk, ◌⊎◌, [], ◌∷◌, ◌++◌};
 ghost use Rattle.dos_io.specs.FileCalls.{setting};
 ghost use Rattle.dos_io.specs.Outside.{Rose};
+ghost use Rattle.sha2.specs.Sha256.{sha256};
 ghost use Rattle.shim_log.specs.LogText.{logtext};
 
+use crate::agreeing::digest_of;
 use dos_io::{FileError, Files};
 use shim_log::{Log, write_log};
 use std::alloc::{AllocError, Global};
@@ -14,6 +16,14 @@ fn text_of(alloc: Global, log: &Log) -> Result<Vec<u8>, AllocError>
     ensures { IfOk result (λ text. text.items ≡ logtext log.now) }
 {
     write_log(alloc, log, log.version())
+}
+
+/// The SHA-256 digest of the file that a log is written to, or was read from.
+pub fn digest_of_log(alloc: Global, log: &Log) -> Result<[u8; 32], AllocError>
+    ensures { IfOk result (λ digest. digest ≡ sha256 (logtext log.now)) }
+{
+    let text = text_of(alloc, log)?;
+    Ok(digest_of(&text))
 }
 
 /// Gives the file of this name the text of the log as its content. All other names stay. After a

@@ -4,7 +4,7 @@ use Rattle.std.proofs.Common.{subst}
 use Rattle.std.proofs.Common.{length, take, drop, Some, None, Ok, Err, refl, sym, ap, append_assoc}
 use Rattle.std.proofs.Common.{arith, Option, option_map}
 use Rattle.std.specs.List.{slice_get}
-use Rattle.std.proofs.lemmas.List.{take_more, take-append-drop, drop_at, length-append}
+use Rattle.std.proofs.lemmas.List.{take_more, take-append-drop, drop_at, drop-drop, length-append}
 use Rattle.std.proofs.lemmas.List.Concat.{flat_map-cons}
 use Rattle.std.proofs.lemmas.Option.{get_or_from_slice_get, slice_get_within}
 use Rattle.dos_world.specs.declared.Ending.{Ending}
@@ -26,11 +26,12 @@ use Rattle.shim_log.specs.declared.progress.Progress.{Progress}
 use Rattle.shim_log.specs.Items.{Item, quiet, kept, items_in, quiet_rounds, exchanges_of_item}
 use Rattle.shim_log.specs.Items.{exchanges_of_items}
 use Rattle.shim_log.specs.LogText.{Log, item_text, items_text, entries_text, exchanges}
+use Rattle.shim_log.specs.LogText.{exchanges_from}
 use Rattle.shim_log.specs.Ranges.{AreEntries, InRange, NotEnd, FitsLog}
 use Rattle.shim_log.specs.Reading.{item_at, after_item, nothing_read}
 use Rattle.shim_log.specs.Spelling.{FitsItem, FitsQuiet, AreSpelled}
 use Rattle.shim_log.specs.Replay.{ReplayState, StandsNext, IsMisfitOf, replayer_state}
-use Rattle.shim_log.specs.Replay.{replay_advanced, IsWithin, StandsAt}
+use Rattle.shim_log.specs.Replay.{replay_advanced, entries_used, IsWithin, StandsAt}
 use Rattle.shim_log.proofs.FieldLaws.{ok_is}
 use Rattle.shim_log.proofs.ItemReading.{item_again, fits_comes, comes_first}
 use Rattle.shim_log.proofs.SpellingLaws.{are_spelled, expanded_in}
@@ -44,9 +45,26 @@ end_is_last [] ending rounds (suc n) h = absurd h
 end_is_last (End e r ∷ es) ending rounds (suc n) h = absurd h
 end_is_last (e ∷ es) ending rounds (suc n) h = omega (arith, end_is_last es ending rounds n h)
 
-pub is_next : (p : ReplayState) → HasNoEnd (replayer_state p).told
-    → p.answered ≤ length p.log.entries
-is_next p h = end_is_last p.log.entries p.log.ending p.log.rounds p.answered h
+end_is_left : (es : List Exchange) (ending : Ending) (rounds start n : ℕ) → start ≤ length es
+    → HasNoEnd (take n (drop start (es ++ End ending rounds ∷ []))) → n + start ≤ length es
+end_is_left es ending rounds zero n le h = omega (arith, end_is_last es ending rounds n h)
+end_is_left [] ending rounds (suc start) n le h = absurd (omega (arith, le))
+end_is_left (e ∷ es) ending rounds (suc start) n le h =
+    omega (arith, end_is_left es ending rounds start n (omega (arith, le)) h)
+
+pub is_next : (p : ReplayState) → p.start ≤ length p.log.entries
+    → HasNoEnd (replayer_state p).told → entries_used p ≤ length p.log.entries
+is_next p begins h =
+    end_is_left p.log.entries p.log.ending p.log.rounds p.start p.answered begins h
+
+-- an exchange behind a start, by its number in the log
+pub get_behind : (es : List Exchange) (start n : ℕ)
+    → slice_get (drop start es) n ≡ slice_get es (n + start)
+get_behind es zero n = let same : n ≡ n + 0 = omega arith in ap (slice_get es) same
+get_behind [] (suc start) n = refl
+get_behind (e ∷ es) (suc start) n =
+    let more : suc (n + start) ≡ n + suc start = omega arith in
+    get_behind es start n ∙ ap (slice_get (e ∷ es)) more
 
 -- ---- what is read at its place
 
@@ -386,12 +404,13 @@ passed_more es n e at =
     take_more es n e (slice_get_within es n e at)
     ∙ ap (λ (x : Exchange). take n es ++ x ∷ []) (get_or_from_slice_get es n e e at)
 
-pub plays : (p n : ReplayState) (e : Exchange) → slice_get (exchanges p.log) p.answered ≡ Some e
+pub plays : (p n : ReplayState) (e : Exchange)
+    → slice_get (exchanges_from p.start p.log) p.answered ≡ Some e
     → n ≡ replay_advanced p → replayer_state n ≡ shim_answered (replayer_state p) e
 plays p n e at is =
-    let more : take (p.answered + 1) (exchanges p.log)
-    ≡ take p.answered (exchanges p.log) ++ e ∷ [] =
-    passed_more (exchanges p.log) p.answered e at in
+    let more : take (p.answered + 1) (exchanges_from p.start p.log)
+    ≡ take p.answered (exchanges_from p.start p.log) ++ e ∷ [] =
+    passed_more (exchanges_from p.start p.log) p.answered e at in
     ap replayer_state is
     ∙ ap (λ (x : List Exchange). record {
       told = x;
@@ -435,15 +454,40 @@ nothing_left : (n : ℕ) (none : List Exchange) → none ≡ [] → take n none 
 nothing_left zero none is = refl
 nothing_left (suc n) none is = rw is refl
 
-pub ends_whole : (es : List Exchange) (ending : Ending) (rounds n : ℕ) → AreEntries es
+whole_ends : (es : List Exchange) (ending : Ending) (rounds n : ℕ) → AreEntries es
     → (HasNoEnd (take n (es ++ End ending rounds ∷ [])) → ⊥)
     → take n (es ++ End ending rounds ∷ []) ≡ es ++ End ending rounds ∷ []
-ends_whole es ending rounds zero fits ended = absurd (ended tt)
-ends_whole [] ending rounds (suc n) fits ended =
+whole_ends es ending rounds zero fits ended = absurd (ended tt)
+whole_ends [] ending rounds (suc n) fits ended =
     ap (λ (xs : List Exchange). End ending rounds ∷ xs) (nothing_left n [] refl)
-ends_whole (End e r ∷ es) ending rounds (suc n) fits ended = absurd fits.0.1
-ends_whole (e ∷ es) ending rounds (suc n) fits ended =
-    ap (λ (xs : List Exchange). e ∷ xs) (ends_whole es ending rounds n fits.1 ended)
+whole_ends (End e r ∷ es) ending rounds (suc n) fits ended = absurd fits.0.1
+whole_ends (e ∷ es) ending rounds (suc n) fits ended =
+    ap (λ (xs : List Exchange). e ∷ xs) (whole_ends es ending rounds n fits.1 ended)
+
+left_ends : (es : List Exchange) (ending : Ending) (rounds start n : ℕ) → AreEntries es
+    → (HasNoEnd (take n (drop start (es ++ End ending rounds ∷ []))) → ⊥)
+    → take n (drop start (es ++ End ending rounds ∷ []))
+    ≡ drop start (es ++ End ending rounds ∷ [])
+left_ends es ending rounds zero n fits ended = whole_ends es ending rounds n fits ended
+left_ends [] ending rounds (suc start) n fits ended =
+    nothing_left n (drop start []) (drop_none start) ∙ sym (drop_none start)
+left_ends (e ∷ es) ending rounds (suc start) n fits ended =
+    left_ends es ending rounds start n fits.1 ended
+
+pub ends_whole : (p : ReplayState) → FitsLog p.log → (HasNoEnd (replayer_state p).told → ⊥)
+    → (replayer_state p).told ≡ exchanges_from p.start p.log
+ends_whole p fits ended =
+    left_ends p.log.entries p.log.ending p.log.rounds p.start p.answered fits.entries ended
+
+-- what is before one that goes on behind it
+pub goes_on : (p : ReplayState) → exchanges_from p.start p.log
+    ≡ (replayer_state p).told ++ exchanges_from (entries_used p) p.log
+goes_on p =
+    let sum : p.start + p.answered ≡ p.answered + p.start = omega arith in
+    sym (take-append-drop p.answered (exchanges_from p.start p.log))
+    ∙ ap (λ (es : List Exchange). (replayer_state p).told ++ es)
+    (drop-drop p.answered p.start (exchanges p.log)
+    ∙ ap (λ (n : ℕ). drop n (exchanges p.log)) sum)
 
 abbrev some_question : Question → Option Question
 some_question q = Some q
@@ -482,7 +526,7 @@ part_at (x ∷ xs) (suc n) wanted is =
 pub stands_next : (p : ReplayState) (asked : Question) (stop : ShimStop)
     (misfit : IsMisfitOf p asked stop) → StandsNext p misfit.kept
 stands_next p asked stop misfit =
-    let parted = part_at (exchanges p.log) p.answered misfit.kept misfit.next in
+    let parted = part_at (exchanges_from p.start p.log) p.answered misfit.kept misfit.next in
     record {
       next = parted.next;
       behind = parted.behind;

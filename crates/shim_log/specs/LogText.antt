@@ -1,6 +1,6 @@
 -- The one text of a log in each version: a header, any number of entries, the end, and nothing
 -- more. This project's own format. All numbers are little-endian.
-use Rattle.std.specs.Prelude.{ℕ, List, [], ◌∷◌, ◌++◌, length}
+use Rattle.std.specs.Prelude.{ℕ, List, [], ◌∷◌, ◌++◌, drop, length}
 use Rattle.std.specs.List.{concat, flat_map}
 use Rattle.std.specs.Int.{w16, w32, w64, to_le_bytes}
 use Rattle.dos_world.specs.declared.Post.{Post}
@@ -24,6 +24,10 @@ pub record Log : Type 0 where
 -- all of it, as the exchanges of a run
 abbrev pub exchanges : Log → List Exchange
 exchanges log = log.entries ++ End log.ending log.rounds ∷ []
+
+-- what is left of them behind so many
+abbrev pub exchanges_from : ℕ → Log → List Exchange
+exchanges_from start log = drop start (exchanges log)
 
 -- ---- the header
 

@@ -16,14 +16,15 @@ ghost use Rattle.shim_log.specs.Bytes.{IsBytes, AreDigests};
 ghost use Rattle.shim_log.specs.declared.version.LogVersion.{LogVersion};
 ghost use Rattle.shim_log.specs.Items.{Item, quiet, AreJoined, exchanges_of_items, items_of};
 ghost use Rattle.shim_log.specs.LogText.{Log, header_text, entry_text, item_text, entries_text};
-ghost use Rattle.shim_log.specs.LogText.{exchanges, logtext};
+ghost use Rattle.shim_log.specs.LogText.{exchanges, exchanges_from, logtext};
 ghost use Rattle.shim_log.specs.Ranges.{FitsLog};
 ghost use Rattle.shim_log.specs.Reading.{log_at};
 ghost use Rattle.shim_log.specs.Ledger.{LedgerState, RecorderFollows, empty_ledger, recorder_state};
 ghost use Rattle.dos_io.specs.declared.host_question.HostQuestion.{HostQuestion};
 ghost use Rattle.dos_io.specs.declared.shim.ShimStop.TheVariants.{HostFault};
 ghost use Rattle.shim_log.specs.Asking.{RecorderAsks, host_questions, stop_questions};
-ghost use Rattle.shim_log.specs.Replay.{ReplayState, StandsNext, IsMisfitOf, replayer_state};
+ghost use Rattle.shim_log.specs.Replay.{ReplayState, StandsNext, IsMisfitOf, entries_used};
+ghost use Rattle.shim_log.specs.Replay.{replayer_state};
 
 /// The text of a log is read as that log.
 pub fn texts_are_read()
@@ -94,10 +95,17 @@ pub fn recordings_ask_once()
         ++ stop_questions clock question stop)) × (stop ≢ HostFault → n ≡ m) }
 {}
 
-/// A replayer that has told an end has told its whole log.
+/// A replayer that has told an end has told its whole log from its start on.
 pub fn replays_end_whole()
     ensures { (p : ReplayState) → FitsLog p.log → (HasNoEnd (replayer_state p).told → ⊥)
-        → (replayer_state p).told ≡ exchanges p.log }
+        → (replayer_state p).told ≡ exchanges_from p.start p.log }
+{}
+
+/// Before a replayer there was what it has told, and then what is before one that goes on behind
+/// the entries that it used.
+pub fn replays_go_on()
+    ensures { (p : ReplayState) → exchanges_from p.start p.log
+        ≡ (replayer_state p).told ++ exchanges_from (entries_used p) p.log }
 {}
 
 /// Where a replayer stopped, the kept question is that of the exchange behind those that it told.

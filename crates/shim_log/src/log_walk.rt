@@ -53,3 +53,20 @@ pub(crate) fn entry_at(log: &Log, passed: u32, place: usize, within: u32) -> (En
         Err(_) => unreachable!(),
     }
 }
+
+/// Where the exchange behind so many of a log's stands: the place of its entry in the text, and how
+/// many of that entry's rounds are in front of it.
+pub(crate) fn place_behind(log: &Log, passed: u32) -> (usize, u32)
+    requires { passed ≤ length log.now.entries }
+    ensures { StandsAt log.now passed result.0 result.1 }
+{
+    let _len = log.len();
+    let mut place = 0;
+    let mut within = 0;
+    for index in 0..passed {
+        let (_, behind, rounds) = entry_at(log, index, place, within);
+        place = behind;
+        within = rounds;
+    }
+    (place, within)
+}

@@ -1,18 +1,20 @@
 // A shim that answers out of a log.
-ghost use Rattle.std.specs.Prelude.{◌≡◌, ◌≤◌, ◌+◌, length, drop, [], ◌∷◌, slice_get, Some};
+ghost use Rattle.std.specs.Prelude.{◌≡◌, ◌≤◌, ◌<◌, ◌+◌, length, drop, [], ◌∷◌, slice_get, Some};
 ghost use Rattle.std.specs.Prelude.{None, IfErr, IfOk};
 ghost use Rattle.dos_io.specs.Exchanges.{question_of};
 ghost use Rattle.dos_io.specs.Posts.{ArePosts};
+ghost use Rattle.dos_io.specs.Shims.{HasNoEnd};
 ghost use Rattle.dos_io.specs.declared.exchange.Exchange.TheVariants as Exchange;
-ghost use Rattle.shim_log.specs.LogText.{exchanges};
+ghost use Rattle.shim_log.specs.LogText.{exchanges, exchanges_from};
 ghost use Rattle.shim_log.specs.Ranges.{InRange};
 ghost use Rattle.shim_log.specs.Views.{posts_in_text, exchange_of};
 ghost use Rattle.shim_log.specs.Replay.{IsReplay, IsMisfitOf, StandsAt};
-ghost use Rattle.shim_log.specs.Replay.{replay_stopped, replay_advanced};
+ghost use Rattle.shim_log.specs.Replay.{entries_used, replay_stopped, replay_advanced};
+ghost use Rattle.shim_log.specs.Replay.{replayer_state};
 
 use crate::entry::Entry;
 use crate::log::Log;
-use crate::log_walk::entry_at;
+use crate::log_walk::{entry_at, place_behind};
 use crate::posts::fill;
 use dos_io::{Shim, ShimStop, SignalList};
 use dos_world::{Ending, Misfit, Question};
@@ -23,6 +25,7 @@ use std::marker::Model;
 #[derive(Drop)]
 pub struct Replayer {
     log: Log,
+    start: u32,
     place: usize,
     within: u32,
     answered: u32,
@@ -33,11 +36,13 @@ pub struct Replayer {
 
 impl Model for Replayer {
     ghost use Rattle.shim_log.specs.Replay.{ReplayState, IsReplay, StandsAt};
+    ghost use Rattle.std.specs.Prelude.{◌+◌};
 
     ghost Value = { ReplayState };
 
     ghost view = { λ s. record {
       log = s.log;
+      start = s.start;
       answered = s.answered;
       stops = s.stops;
       last = s.last;
@@ -46,12 +51,13 @@ impl Model for Replayer {
 
     ghost invariant = { λ s. IsReplay (record {
       log = s.log;
+      start = s.start;
       answered = s.answered;
       stops = s.stops;
       last = s.last;
       asked = s.asked;
     })
-        × StandsAt s.log s.answered s.place s.within };
+        × StandsAt s.log (s.answered + s.start) s.place s.within };
 }
 
 impl Replayer {
@@ -59,6 +65,7 @@ impl Replayer {
     pub fn new(log: Log) -> Replayer
         ensures { result ≡ record {
           log = log;
+          start = 0;
           answered = 0;
           stops = 0;
           last = None;
@@ -66,16 +73,43 @@ impl Replayer {
               None;
         } }
     {
-        let _len = log.len();
+        Replayer::resume(log, 0)
+    }
+
+    /// A replayer that was asked nothing yet, and answers from behind so many exchanges of the log
+    /// on. It takes a time that grows with these.
+    pub fn resume(log: Log, used: u32) -> Replayer
+        requires { used < length (exchanges log) }
+        ensures { result ≡ record {
+          log = log;
+          start = used;
+          answered = 0;
+          stops = 0;
+          last = None;
+          asked =
+              None;
+        } }
+    {
+        let (place, within) = place_behind(&log, used);
         Replayer {
             log,
-            place: 0,
-            within: 0,
+            start: used,
+            place,
+            within,
             answered: 0,
             stops: 0,
             last: None,
             asked: None,
         }
+    }
+
+    /// How many of the log's exchanges are used up: those in front of its start, and those by which
+    /// it answered.
+    pub fn used(&self) -> u32
+        ensures { result ≡ entries_used self.now }
+    {
+        let _len = self.log.len();
+        self.answered + self.start
     }
 
     /// What it kept all along: where its last call stopped, it stopped by the misfit of the next
@@ -89,32 +123,36 @@ impl Replayer {
     // The next exchange, and where the one behind it stands: the place of its entry in the text,
     // and how many of that entry's rounds are in front of it.
     fn next(&self) -> (Entry<'_>, usize, u32)
-        requires { self.now.answered ≤ length self.now.log.entries }
-        ensures entry { slice_get (exchanges self.now.log) self.now.answered
+        requires { HasNoEnd (replayer_state self.now).told }
+        ensures more { entries_used self.now ≤ length self.now.log.entries }
+        ensures entry { slice_get (exchanges_from self.now.start self.now.log) self.now.answered
             ≡ Some (exchange_of result.0) }
         ensures fits { InRange (exchange_of result.0) }
-        ensures behind { StandsAt self.now.log (self.now.answered + 1) result.1 result.2 }
+        ensures behind { StandsAt self.now.log (entries_used self.now + 1) result.1 result.2 }
     {
-        if self.answered == self.log.count() {
+        let used = self.used();
+        if used == self.log.count() {
             let end = Entry::End {
                 ending: self.log.ending(),
                 rounds: self.log.rounds(),
             };
             return (end, self.log.text().len(), 0);
         }
-        entry_at(&self.log, self.answered, self.place, self.within)
+        entry_at(&self.log, used, self.place, self.within)
     }
 
     // The next exchange, which is of this question, and where the one behind it stands; or the
     // misfit.
     fn fit(&self, asked: Question) -> Result<(Entry<'_>, usize, u32), Misfit>
-        requires { self.now.answered ≤ length self.now.log.entries }
-        ensures entry { IfOk result (λ x. slice_get (exchanges self.now.log) self.now.answered
+        requires { HasNoEnd (replayer_state self.now).told }
+        ensures more { IfOk result (λ _. entries_used self.now ≤ length self.now.log.entries) }
+        ensures entry { IfOk result
+            (λ x. slice_get (exchanges_from self.now.start self.now.log) self.now.answered
             ≡ Some (exchange_of x.0)) }
         ensures asked { IfOk result (λ x. question_of (exchange_of x.0) ≡ asked) }
         ensures fits { IfOk result (λ x. InRange (exchange_of x.0)) }
         ensures behind { IfOk result
-            (λ x. StandsAt self.now.log (self.now.answered + 1) x.1 x.2) }
+            (λ x. StandsAt self.now.log (entries_used self.now + 1) x.1 x.2) }
         ensures misfit { IfErr result
             (λ misfit. IsMisfitOf self.now asked (ShimStop.Misfit misfit)) }
         ensures question { IfErr result (λ misfit. misfit.asked ≡ asked) }
@@ -125,7 +163,7 @@ impl Replayer {
             return Ok((entry, place, within));
         }
         Err(Misfit {
-            entry: self.answered,
+            entry: self.used(),
             kept,
             asked,
         })
@@ -146,8 +184,8 @@ impl Replayer {
 
     // Goes on behind the next exchange.
     fn advance(&mut self, place: usize, within: u32)
-        requires more { self.old.answered ≤ length self.old.log.entries }
-        requires behind { StandsAt self.old.log (self.old.answered + 1) place within }
+        requires more { entries_used self.old ≤ length self.old.log.entries }
+        requires behind { StandsAt self.old.log (entries_used self.old + 1) place within }
         ensures { self.new ≡ replay_advanced self.old }
     {
         let _len = self.log.len();
@@ -159,7 +197,7 @@ impl Replayer {
 }
 
 impl Shim for Replayer {
-    ghost use Rattle.shim_log.specs.Replay.{replayer_state, FollowsLog};
+    ghost use Rattle.shim_log.specs.Replay.{FollowsLog};
     ghost use Rattle.shim_log.specs.ReplayerFollows.{log_itself, log_on};
 
     ghost state = { replayer_state };

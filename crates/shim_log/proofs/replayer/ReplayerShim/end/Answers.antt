@@ -2,14 +2,11 @@ use Rattle.std.proofs.Common.{◌∙◌, ap}
 use Rattle.dos_io.specs.declared.exchange.Exchange.{Exchange}
 use Rattle.dos_io.specs.Shims.{shim_answered}
 use Rattle.shim_log.specs.Replay.{replayer_state}
-use Rattle.shim_log.proofs.ReplayLaws.{is_next, plays, end_is}
+use Rattle.shim_log.proofs.ReplayLaws.{plays, end_is}
 use Rattle.shim_log.proofs.replayer.ReplayerShim.end.Goals as goal
 
-pub fit-requires : goal.fit-requires
-fit-requires c = is_next c.args.self.now c.requires
-
 pub advance-requires-clause-more : goal.advance-requires-clause-more
-advance-requires-clause-more c = is_next c.args.self.now c.requires
+advance-requires-clause-more c = c.in-Ok.ensures.more
 
 pub returns-in-Ok-clause-ok : goal.returns-in-Ok-clause-ok
 returns-in-Ok-clause-ok c =

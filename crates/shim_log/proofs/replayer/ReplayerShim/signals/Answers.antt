@@ -6,14 +6,11 @@ use Rattle.dos_io.specs.Exchanges.{question_of}
 use Rattle.dos_io.specs.Shims.{shim_answered}
 use Rattle.shim_log.specs.Views.{exchange_of}
 use Rattle.shim_log.specs.Replay.{replayer_state}
-use Rattle.shim_log.proofs.ReplayLaws.{is_next, plays, signals_is}
+use Rattle.shim_log.proofs.ReplayLaws.{plays, signals_is}
 use Rattle.shim_log.proofs.replayer.ReplayerShim.signals.Goals as goal
 
-pub fit-requires : goal.fit-requires
-fit-requires c = is_next c.args.self.now c.requires
-
 pub advance-requires-clause-more : goal.advance-requires-clause-more
-advance-requires-clause-more c = is_next c.args.self.now c.requires
+advance-requires-clause-more c = c.in-Ok.ensures.more
 
 pub returns-in-Signals-clause-ok : goal.returns-in-Signals-clause-ok
 returns-in-Signals-clause-ok c =
