@@ -1,9 +1,10 @@
 -- What comes of a format's parts that were read one by one.
 use Rattle.std.proofs.Common.{◌≡◌, ℕ, zero, suc, ◌≤◌, arith, Bool, true, false, cond, length, take}
-use Rattle.std.proofs.Common.{drop, ltb, List, Result, Ok, Err, refl, ap, ◌∷◌, [], map, subst, ◌∙◌}
-use Rattle.std.specs.Prelude.{◌==◌}
+use Rattle.std.proofs.Common.{drop, ltb, List, Result, Ok, Err, refl, ap, ◌∷◌, [], map, subst}
+use Rattle.std.proofs.Common.{sym, ◌∙◌}
+use Rattle.std.specs.Prelude.{◌==◌, nat_lt}
 use Rattle.std.proofs.lemmas.Bool.{ltb-false}
-use Rattle.std.proofs.lemmas.List.{length-take}
+use Rattle.std.proofs.lemmas.List.{length-take, length-take-le}
 use Rattle.group_text.specs.GroupText.{ended_row, life_by_code, owned_row, frame_by_code}
 use Rattle.group_text.specs.GroupText.{Header, header_row, group_row, body_row, group_body}
 use Rattle.group_text.specs.GroupText.{BodyFields, to_group}
@@ -118,3 +119,17 @@ pub owned_is : (given code : ℕ) → 2 ≤ code → frame_by_code given code �
 owned_is given zero low = absurd (omega arith)
 owned_is given (suc zero) low = absurd (omega arith)
 owned_is given (suc (suc n)) low = refl
+
+-- so many bytes that were read are so many
+pub first_bytes_count : (n end : ℕ) (bytes xs rest : List ℕ)
+    → first_bytes n end bytes ≡ Ok (xs, rest) → length xs ≡ n
+first_bytes_count n end bytes xs rest e = by (nat_lt (length bytes) n) refl e
+  where
+    by : (b : Bool) → nat_lt (length bytes) n ≡ b
+        → cond {A = Read (List ℕ)} b (Err (Short (field_place end bytes)))
+        (Ok (take n bytes, drop n bytes)) ≡ Ok (xs, rest) → length xs ≡ n
+    by true short e = cc
+    by false long e =
+        let both : ◌≡◌ {A = List ℕ × List ℕ} (take n bytes, drop n bytes) (xs, rest) = cc in
+        ap (λ (p : List ℕ × List ℕ). length p.0) (sym both)
+        ∙ length-take-le n bytes (ltb-false (length bytes) n long)

@@ -1,12 +1,11 @@
 -- What a saved group says, and the flat world that it stands for. This project's own rules.
-use Rattle.std.specs.Prelude.{ℕ, suc, List, [], ◌∷◌, map, length, replicate, flat_map, Option, Some}
-use Rattle.std.specs.Prelude.{None}
+use Rattle.std.specs.Prelude.{ℕ, List, [], map, length, replicate, flat_map}
 use Rattle.dos_world.specs.Numbered.{map_from}
 use Rattle.dos_world.specs.World.{World, Process, Thread, Sleeper, page_of}
 use Rattle.dos_world.specs.declared.Config.{Config}
 use Rattle.dos_world.specs.declared.Owner.{Owner}
 use Rattle.dos_world.specs.declared.Owner.TheVariants.{Free, Shared, Of}
-use Rattle.proc_table.specs.Spread.{spread}
+use Rattle.proc_table.specs.Spread.{living_from, spread}
 
 -- The digest of the log's file, and how many of its entries were used; what the run was given; how
 -- many rounds were run, and how many numbers of threads were given; each process, by number; the
@@ -25,12 +24,6 @@ pub record SavedGroup : Type 0 where
   pub frames : List (Owner × List ℕ)
 
 -- ---- from a world
-
--- the live threads of a list with their numbers, the first of which is n
-abbrev pub living_from : ℕ → List (Option Thread) → List (ℕ × Thread)
-living_from n [] = []
-living_from n (None ∷ threads) = living_from (suc n) threads
-living_from n (Some thread ∷ threads) = (n, thread) ∷ living_from (suc n) threads
 
 -- the page of a frame, left out where it is Free
 abbrev pub page_if_used : Owner → List ℕ → List ℕ

@@ -1,14 +1,16 @@
 -- What the records of a saved group are in the flat world. This project's own rules.
-use Rattle.std.specs.Prelude.{ℕ, List, map, Some, None}
+use Rattle.std.specs.Prelude.{ℕ, ◌≡◌, List, [], map, length, Some, None}
 use Rattle.dos_world.specs.World.{Process, Life, Thread, Sleeper, Holdings, live, ended}
 use Rattle.dos_world.specs.declared.Owner.{Owner}
+use Rattle.dos_world.specs.declared.Owner.TheVariants.{Free, Shared, Of}
+use Rattle.page_store.specs.Store.{whole}
 use Rattle.group_text.specs.declared.records.ProcessRecord.{ProcessRecord}
 use Rattle.group_text.specs.declared.records.ThreadRecord.{ThreadRecord}
 use Rattle.group_text.specs.declared.records.SleeperRecord.{SleeperRecord}
 use Rattle.group_text.specs.declared.records.FrameRecord.{FrameRecord}
 use Rattle.group_text.specs.declared.records.GroupRecord.{GroupRecord}
 use Rattle.group_text.specs.declared.header.HeaderRecord.{HeaderRecord}
-use Rattle.group_text.specs.Groups.{SavedGroup}
+use Rattle.group_text.specs.Groups.{SavedGroup, page_if_used}
 use Rattle.group_text.specs.GroupText.{Header}
 
 -- what a process that lives has
@@ -46,7 +48,13 @@ sleeper_of_record r = record { thread = r.tid; frame = r.frame; offset = r.offse
 
 -- a frame's owner, and its bytes where it isn't Free
 abbrev pub frame_of_record : FrameRecord → Owner × List ℕ
-frame_of_record r = (r.owner, r.bytes.items)
+frame_of_record r = (r.owner, page_if_used r.owner (whole r.page))
+
+-- the bytes of a frame with this owner: 4096, or none where it is Free
+abbrev pub HasItsPage : Owner → List ℕ → Type 0
+HasItsPage Free page = page ≡ []
+HasItsPage Shared page = length page ≡ 4096
+HasItsPage (Of t) page = length page ≡ 4096
 
 abbrev pub group_of_record : GroupRecord → SavedGroup
 group_of_record r = record {

@@ -1,17 +1,20 @@
 // Pipes, sleepers and frames.
-ghost use Rattle.std.specs.Prelude.{◌≡◌, ◌≤◌, ℕ, List, map};
+ghost use Rattle.std.specs.Prelude.{◌≡◌, ◌≤◌, ℕ, List, map, IfOk};
 ghost use Rattle.dos_world.specs.World.{Sleeper};
 ghost use Rattle.dos_world.specs.declared.Owner.{Owner};
 ghost use Rattle.text_fields.specs.Formats.{many, bytes, u8_in, any};
 ghost use Rattle.text_fields.specs.Reading.{GivesField, GivesRow};
 ghost use Rattle.group_text.specs.GroupText.{pipe_row, sleeper_row, sleeper_rows, frame_row};
 ghost use Rattle.group_text.specs.GroupText.{free_row, shared_row, owned_row};
-ghost use Rattle.group_text.specs.Records.{frame_of_record, sleeper_of_record};
+ghost use Rattle.group_text.specs.Groups.{page_if_used};
+ghost use Rattle.group_text.specs.Records.{HasItsPage, frame_of_record, sleeper_of_record};
+ghost use Rattle.page_store.specs.Store.{whole};
 
 use crate::records::{FrameRecord, SleeperRecord};
 use crate::rows::read_offset;
 use dos_world::Owner;
-use std::alloc::Global;
+use page_store::Page;
+use std::alloc::{AllocError, Global};
 use text_fields::{
     FieldError, Row, RowError, read_byte, read_byte_within, read_bytes, read_many, read_u16_within,
     read_u32_within,
@@ -111,16 +114,18 @@ pub(crate) fn read_sleepers<'b>(
 }
 
 fn read_free(end: usize, bytes: &[u8]) -> Result<((Owner, &[u8]), &[u8]), FieldError>
-    ensures { GivesField (λ x. ((x.0.0, x.0.1.now), x.1.now)) result
+    ensures gives { GivesField (λ x. ((x.0.0, x.0.1.now), x.1.now)) result
         (free_row.read end bytes.now) }
+    ensures page { IfOk result (λ x. HasItsPage x.0.0 x.0.1.now) }
 {
     let (_, rest) = read_u32_within(0, 0, end, bytes)?;
     Ok(((Owner::Free, &[]), rest))
 }
 
 fn read_shared(end: usize, bytes: &[u8]) -> Result<((Owner, &[u8]), &[u8]), FieldError>
-    ensures { GivesField (λ x. ((x.0.0, x.0.1.now), x.1.now)) result
+    ensures gives { GivesField (λ x. ((x.0.0, x.0.1.now), x.1.now)) result
         (shared_row.read end bytes.now) }
+    ensures page { IfOk result (λ x. HasItsPage x.0.0 x.0.1.now) }
 {
     let (_, rest) = read_u32_within(0, 0, end, bytes)?;
     let (page, rest) = read_bytes(4096, end, rest)?;
@@ -128,8 +133,9 @@ fn read_shared(end: usize, bytes: &[u8]) -> Result<((Owner, &[u8]), &[u8]), Fiel
 }
 
 fn read_owned(given: u16, end: usize, bytes: &[u8]) -> Result<((Owner, &[u8]), &[u8]), FieldError>
-    ensures { GivesField (λ x. ((x.0.0, x.0.1.now), x.1.now)) result
+    ensures gives { GivesField (λ x. ((x.0.0, x.0.1.now), x.1.now)) result
         ((owned_row given).read end bytes.now) }
+    ensures page { IfOk result (λ x. HasItsPage x.0.0 x.0.1.now) }
 {
     let (thread, rest) = read_u32_within(1, u32::from(given), end, bytes)?;
     let (page, rest) = read_bytes(4096, end, rest)?;
@@ -138,8 +144,9 @@ fn read_owned(given: u16, end: usize, bytes: &[u8]) -> Result<((Owner, &[u8]), &
 
 // a frame's owner, and its bytes where it isn't Free
 fn read_frame(given: u16, end: usize, bytes: &[u8]) -> Result<((Owner, &[u8]), &[u8]), FieldError>
-    ensures { GivesField (λ x. ((x.0.0, x.0.1.now), x.1.now)) result
+    ensures gives { GivesField (λ x. ((x.0.0, x.0.1.now), x.1.now)) result
         ((frame_row given).read end bytes.now) }
+    ensures page { IfOk result (λ x. HasItsPage x.0.0 x.0.1.now) }
 {
     let (kind, rest) = read_byte_within(0, 2, end, bytes)?;
     if kind == 0 {
@@ -149,6 +156,25 @@ fn read_frame(given: u16, end: usize, bytes: &[u8]) -> Result<((Owner, &[u8]), &
         return read_shared(end, rest);
     }
     read_owned(given, end, rest)
+}
+
+// the page of a frame with these bytes, which has 4096 or none
+fn page_from(alloc: Global, owner: Owner, bytes: &[u8]) -> Result<Page, AllocError>
+    requires { HasItsPage owner bytes.now }
+    ensures { IfOk result (λ page. page_if_used owner (whole page) ≡ bytes.now) }
+{
+    let mut page = Page::new(alloc)?;
+    match owner {
+        Owner::Free => Ok(page),
+        Owner::Shared => {
+            page.copy_from(0, bytes);
+            Ok(page)
+        }
+        Owner::Of(_) => {
+            page.copy_from(0, bytes);
+            Ok(page)
+        }
+    }
 }
 
 // Frames of threads of numbers up to `given`.
@@ -172,9 +198,9 @@ impl Row for FrameRow {
         end: usize,
         bytes: &'b [u8],
     ) -> Result<(FrameRecord, &'b [u8]), RowError> {
-        let ((owner, page), rest) = read_frame(self.given, end, bytes)?;
-        let bytes = Vec::from_slice(alloc, page)?;
-        Ok((FrameRecord { owner, bytes }, rest))
+        let ((owner, held), rest) = read_frame(self.given, end, bytes)?;
+        let page = page_from(alloc, owner, held)?;
+        Ok((FrameRecord { owner, page }, rest))
     }
 }
 

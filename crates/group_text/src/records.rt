@@ -1,5 +1,6 @@
 // A saved group as plain data.
 use dos_world::{Config, End, Entry, Owner, Regs, ThreadState};
+use page_store::Page;
 
 /// A process: its parent, 0 for none, and its status, where it has ended, and whether its parent
 /// has collected it. Where it lives, the actions of its signals 1 to 31, its 32 descriptors and its
@@ -36,11 +37,11 @@ pub struct SleeperRecord {
     pub offset: u16,
 }
 
-/// A frame: its owner, and its 4096 bytes, or none where it is Free.
+/// A frame: its owner, and its page, which says nothing where it is Free.
 #[derive(Drop)]
 pub struct FrameRecord {
     pub owner: Owner,
-    pub bytes: Vec<u8>,
+    pub page: Page,
 }
 
 /// A saved group: the digest of its log's file and how many of its entries were used, what the run

@@ -1,6 +1,8 @@
 -- How long the text of a saved group is, by counts that are at hand. This project's own rule.
 use Rattle.std.specs.Prelude.{ℕ, ◌+◌, ◌*◌, ◌-◌, ◌^◌, length, Some, None, min}
 use Rattle.std.specs.List.{sum_by}
+use Rattle.dos_world.specs.declared.Owner.{Owner}
+use Rattle.dos_world.specs.declared.Owner.TheVariants.{Free, Shared, Of}
 use Rattle.group_text.specs.declared.records.ProcessRecord.{ProcessRecord}
 use Rattle.group_text.specs.declared.records.ThreadRecord.{ThreadRecord}
 use Rattle.group_text.specs.declared.records.FrameRecord.{FrameRecord}
@@ -19,8 +21,13 @@ abbrev pub thread_room : ThreadRecord → ℕ
 thread_room r = length r.saved.items * 137 + 155
 
 -- an owner, and a page where it isn't Free
+abbrev pub owner_room : Owner → ℕ
+owner_room Free = 5
+owner_room Shared = 4101
+owner_room (Of t) = 4101
+
 abbrev pub frame_room : FrameRecord → ℕ
-frame_room r = length r.bytes.items + 5
+frame_room r = owner_room r.owner
 
 abbrev pub room_of : GroupRecord → ℕ
 room_of g =

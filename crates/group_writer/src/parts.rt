@@ -74,12 +74,12 @@ fn put_frame(out: &mut Vec<u8>, frame: &FrameRecord) -> Result<(), AllocError>
         Owner::Shared => {
             put_byte(out, 1)?;
             put_u32(out, 0)?;
-            out.extend_from_slice(&frame.bytes)
+            out.extend_from_slice(frame.page.bytes())
         }
         Owner::Of(thread) => {
             put_byte(out, 2)?;
             put_u32(out, thread)?;
-            out.extend_from_slice(&frame.bytes)
+            out.extend_from_slice(frame.page.bytes())
         }
     }
 }

@@ -2,8 +2,9 @@
 ghost use Rattle.std.specs.Prelude.{◌≡◌, ◌+◌, length};
 ghost use Rattle.std.specs.List.{sum_by};
 ghost use Rattle.group_writer.specs.Room.{capped, frame_room, process_room, room_of};
-ghost use Rattle.group_writer.specs.Room.{thread_room};
+ghost use Rattle.group_writer.specs.Room.{owner_room, thread_room};
 
+use dos_world::Owner;
 use group_text::{FrameRecord, GroupRecord, ProcessRecord, ThreadRecord};
 
 fn process_room(process: &ProcessRecord) -> usize
@@ -46,12 +47,22 @@ fn pipes_room(pipes: &[Vec<u8>]) -> usize
     room
 }
 
+fn frame_room(owner: Owner) -> usize
+    ensures { result ≡ owner_room owner }
+{
+    match owner {
+        Owner::Free => 5,
+        Owner::Shared => 4101,
+        Owner::Of(_) => 4101,
+    }
+}
+
 fn frames_room(frames: &[FrameRecord]) -> usize
     ensures { result ≡ capped (sum_by frame_room frames.now) }
 {
     let mut room: usize = 0;
     for i in 0..frames.len() {
-        room = room.saturating_add(frames[i].bytes.len().saturating_add(5));
+        room = room.saturating_add(frame_room(frames[i].owner));
     }
     room
 }

@@ -7,3 +7,6 @@ pub mod AgreeLaws
 pub mod RangeLaws
 pub mod LawfulLaws
 pub mod GroupFacts
+pub mod LawfulPasses
+pub mod FitsLaws
+pub mod Recorded

@@ -1,5 +1,7 @@
 -- Which saved groups are lawful. This project's own rule.
-use Rattle.std.specs.Prelude.{◌↔◌, ◌≡◌, Result, Ok, Err, ⊤}
+use Rattle.std.specs.Prelude.{◌↔◌, ◌≡◌, true, Result, Ok, Err, ⊤}
+use Rattle.dos_world.specs.IsLawful.{is_lawful}
+use Rattle.dos_world.specs.World.{World}
 use Rattle.dos_world.specs.Lawful.{Lawful}
 use Rattle.group_text.specs.Groups.{SavedGroup, world_in}
 use Rattle.group_text.specs.GroupText.{group_row}
@@ -11,6 +13,10 @@ use Rattle.lawful_groups.specs.Agreeing.{PartsAgree}
 -- Where the fields are in their ranges, the world is lawful exactly where its parts agree.
 abbrev pub LawfulByParts : Type 0
 LawfulByParts = (g : SavedGroup) → group_row.Fits g → Lawful (world_in g) ↔ PartsAgree (world_in g)
+
+-- A world is lawful exactly where it passes the test of the definitions.
+abbrev pub LawfulWorldsPass : Type 0
+LawfulWorldsPass = (w : World) → (is_lawful w ≡ true) ↔ Lawful w
 
 -- ---- what is promised of reading a lawful group
 

@@ -11,5 +11,6 @@ mod processes;
 mod reading;
 mod threads;
 
+pub use counts::count_uses;
 pub use lawful::is_lawful;
 pub use reading::{SavedError, read_lawful_group};

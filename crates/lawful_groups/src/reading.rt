@@ -1,5 +1,6 @@
 // A saved group that is read and is lawful.
-ghost use Rattle.std.specs.Prelude.{◌≡◌};
+ghost use Rattle.std.specs.Prelude.{◌≡◌, IfOk};
+ghost use Rattle.group_text.specs.GroupText.{group_row};
 ghost use Rattle.group_text.specs.Reading.{group_in_text};
 ghost use Rattle.group_text.specs.Records.{group_of_record};
 ghost use Rattle.lawful_groups.specs.Lawfulness.{GivesLawful};
@@ -22,7 +23,8 @@ pub enum SavedError {
 /// The saved group that these bytes spell, which is in a lawful world; or the first thing that is
 /// wrong, with its place; or that its world isn't lawful.
 pub fn read_lawful_group(alloc: Global, bytes: &[u8]) -> Result<GroupRecord, SavedError>
-    ensures { GivesLawful group_of_record result (group_in_text bytes.now) }
+    ensures gives { GivesLawful group_of_record result (group_in_text bytes.now) }
+    ensures fits { IfOk result (λ g. group_row.Fits (group_of_record g)) }
 {
     let group = match read_group(alloc, bytes) {
         Ok(group) => group,

@@ -8,3 +8,9 @@ is_lawful-requires c =
     (groups_are_spelled.found c.args.bytes.now (group_of_record c.in-Ok.group)
     (λ i. omega (arith, c.type_inv.bytes i))
     c.in-Ok.ensures).1
+
+pub returns-in-Ok-true-clause-fits : goal.returns-in-Ok-true-clause-fits
+returns-in-Ok-true-clause-fits c =
+    (groups_are_spelled.found c.args.bytes.now (group_of_record c.in-Ok.group)
+    (λ i. omega (arith, c.type_inv.bytes i))
+    c.in-Ok.ensures).1
