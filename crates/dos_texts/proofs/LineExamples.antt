@@ -9,6 +9,9 @@ use Rattle.dos_texts.specs.Exit.{line}
 use Rattle.dos_texts.specs.Lines.{words_refused, image_too_long, image_refused, no_room}
 use Rattle.dos_texts.specs.Lines.{log_too_long, log_refused, images_differ, digests_differ, misfit}
 use Rattle.dos_texts.specs.Lines.{file_fault, host_fault, out_of_memory, log_full}
+use Rattle.dos_texts.specs.Lines.{group_too_long, group_refused, group_unlawful}
+use Rattle.dos_texts.specs.Lines.{group_of_another_log}
+use Rattle.group_text.specs.declared.refusal.GroupRefusal.TheVariants as group
 
 abbrev ended : List ℕ
 ended = 10 ∷ []
@@ -129,6 +132,44 @@ of_another_digest : line (digests_differ 1 (0x0A ∷ 0xFF ∷ replicate 30 0x10)
     ++ codes ", log has 9c9c9c9c9c9c9c9c9c9c9c9c9c9c9c9c9c9c9c9c9c9c9c9c9c9c9c9c9c9c9c9c" ++ ended
 unfolding digits
 of_another_digest = refl
+
+-- ---- a saved group
+
+of_a_long_group : line group_too_long ≡ codes "dos: group too long" ++ ended
+unfolding digits
+of_a_long_group = refl
+
+of_a_cut_group : line (group_refused (group.Short 70)) ≡ codes "dos: group refused: short at 70"
+    ++ ended
+unfolding digits
+of_a_cut_group = refl
+
+of_no_group : line (group_refused group.Magic) ≡ codes "dos: group refused: magic" ++ ended
+unfolding digits
+of_no_group = refl
+
+of_a_later_group : line (group_refused (group.Version 2)) ≡ codes "dos: group refused: version 2"
+    ++ ended
+unfolding digits
+of_a_later_group = refl
+
+of_a_group_field : line (group_refused (group.Field 42)) ≡ codes "dos: group refused: field at 42"
+    ++ ended
+unfolding digits
+of_a_group_field = refl
+
+of_a_longer_group : line (group_refused (group.AfterEnd 70591))
+    ≡ codes "dos: group refused: after end at 70591" ++ ended
+unfolding digits
+of_a_longer_group = refl
+
+of_an_unlawful_group : line group_unlawful ≡ codes "dos: group refused: unlawful" ++ ended
+unfolding digits
+of_an_unlawful_group = refl
+
+of_a_group_elsewhere : line group_of_another_log ≡ codes "dos: group is of another log" ++ ended
+unfolding digits
+of_a_group_elsewhere = refl
 
 -- ---- a misfit, with each kind of question
 

@@ -11,7 +11,11 @@ use Rattle.log_files.specs.declared.refusal.LogRefusal.TheVariants.{Digest}
 use Rattle.dos_texts.specs.Lines.{Message, words_refused, image_too_long, image_refused, no_room}
 use Rattle.dos_texts.specs.Lines.{log_too_long, log_refused, images_differ, digests_differ, misfit}
 use Rattle.dos_texts.specs.Lines.{file_fault, host_fault, out_of_memory, log_full, indexes_text}
-use Rattle.dos_texts.specs.Lines.{refusal_text, question_text, digest_text}
+use Rattle.dos_texts.specs.Lines.{refusal_text, question_text, digest_text, group_too_long}
+use Rattle.dos_texts.specs.Lines.{group_refused, group_unlawful, group_of_another_log}
+use Rattle.dos_texts.specs.Lines.{group_refusal_text}
+use Rattle.group_files.specs.declared.refusal.SavedRefusal.{SavedRefusal}
+use Rattle.group_files.specs.declared.refusal.SavedRefusal.TheVariants as saved
 use Rattle.dos_texts.specs.declared.refusal.Refusal.{Refusal}
 use Rattle.dos_texts.specs.declared.refusal.Refusal.TheVariants as refusals
 
@@ -63,6 +67,11 @@ row (by_ending Limit) = silent 7
 row (by_ending Stalled) = silent 8
 row (by_message out_of_memory) = saying 9 (codes "out of memory")
 row (by_message log_full) = saying 10 (codes "log full")
+row (by_message group_too_long) = saying 11 (codes "group too long")
+row (by_message (group_refused refusal)) =
+    saying 11 (codes "group refused: " ++ group_refusal_text refusal)
+row (by_message group_unlawful) = saying 11 (codes "group refused: unlawful")
+row (by_message group_of_another_log) = saying 11 (codes "group is of another log")
 
 -- ---- what follows from it
 
@@ -90,6 +99,13 @@ log_message (Refused error) = log_refused error
 log_message (Images logged given) = images_differ logged given
 log_message (Digest image digest logged) = digests_differ image digest logged
 
+-- why a saved group isn't resumed
+abbrev pub group_message : SavedRefusal → Message
+group_message saved.TooLong = group_too_long
+group_message (saved.Refused error) = group_refused error
+group_message saved.Unlawful = group_unlawful
+group_message saved.OtherLog = group_of_another_log
+
 -- how a call ends that was refused
 abbrev pub exit_of : Refusal → Exit
 exit_of refusals.Words = by_message words_refused
@@ -97,6 +113,7 @@ exit_of (refusals.TooLong image) = by_message (image_too_long image)
 exit_of (refusals.Image image error) = by_message (image_refused image error)
 exit_of (refusals.NoRoom needed frames) = by_message (no_room needed frames)
 exit_of (refusals.Log why) = by_message (log_message why)
+exit_of (refusals.Group why) = by_message (group_message why)
 exit_of (refusals.Misfit m) = by_message (misfit m.entry m.kept m.asked)
 exit_of refusals.Files = by_message file_fault
 exit_of refusals.Host = by_message host_fault

@@ -5,6 +5,8 @@ use Rattle.dos_world.specs.declared.Question.{Question}
 use Rattle.dos_world.specs.declared.Question.TheVariants.{Signals, Input, Clock, End}
 use Rattle.dos_texts.specs.Report.{ending_word}
 use Rattle.elf_image.specs.declared.error.ImageError.{ImageError}
+use Rattle.group_text.specs.declared.refusal.GroupRefusal.{GroupRefusal}
+use Rattle.group_text.specs.declared.refusal.GroupRefusal.TheVariants as refusal
 use Rattle.elf_image.specs.declared.error.ImageError.TheVariants.{Segment, Overlap}
 use Rattle.shim_log.specs.declared.refusal.LogError.{LogError}
 use Rattle.shim_log.specs.declared.refusal.LogError.TheVariants.{Short, Magic, Version, Header}
@@ -26,6 +28,10 @@ pub data Message : Type 0 where
   host_fault : Message
   out_of_memory : Message
   log_full : Message
+  group_too_long : Message
+  group_refused : GroupRefusal → Message
+  group_unlawful : Message
+  group_of_another_log : Message
 
 -- ---- hexadecimal, in lower case
 
@@ -58,6 +64,14 @@ refusal_text (Version n) = codes "version " ++ decimal n
 refusal_text (Header place) = codes "header at " ++ decimal place
 refusal_text (Entry place) = codes "entry at " ++ decimal place
 refusal_text (AfterEnd place) = codes "after end at " ++ decimal place
+
+-- what is wrong with a saved group
+abbrev pub group_refusal_text : GroupRefusal → List ℕ
+group_refusal_text (refusal.Short place) = codes "short at " ++ decimal place
+group_refusal_text refusal.Magic = codes "magic"
+group_refusal_text (refusal.Version n) = codes "version " ++ decimal n
+group_refusal_text (refusal.Field place) = codes "field at " ++ decimal place
+group_refusal_text (refusal.AfterEnd place) = codes "after end at " ++ decimal place
 
 -- a question
 abbrev pub question_text : Question → List ℕ

@@ -1,7 +1,8 @@
 //! What `dos` says: how a call ends, with its status and the line of a refusal; the lines of a
-//! report; and what `inspect`, `gen` and `migrate` print.
+//! report; and what `inspect`, `gen`, `migrate` and `save` print.
 #![tactic(auto)]
 
+mod group_lines;
 mod image_lines;
 mod inspect;
 mod line;
@@ -12,6 +13,7 @@ mod output;
 mod refusal;
 mod report;
 
+pub use group_lines::put_saved;
 pub use inspect::put_inspect;
 pub use line::LINE;
 pub use migration::put_migrated;

@@ -1,12 +1,13 @@
 //! Lines of text, without memory of their own.
 
-ghost use Rattle.std.specs.Prelude.{◌≡◌, ◌+◌, ◌++◌, ◌<◌, ◌≤◌, OnOk, OnErr, length};
+ghost use Rattle.std.specs.Prelude.{◌≡◌, ◌+◌, ◌++◌, ◌<◌, ◌≤◌, OnOk, OnErr, decimal, length};
 ghost use Rattle.arrayvec.specs.ArrayString.{array_string_len};
 ghost use Rattle.dos_io.specs.Outside.{grown, GrewByFront, HasCause};
 ghost use Rattle.dos_texts.specs.Lines.{digest_text, hex, hex_digit};
 
 use arrayvec::ArrayString;
 use dos_io::{Sink, SinkFault};
+use itoa::Buffer;
 
 /// A line is at most so many bytes long.
 pub const LINE: usize = 192;
@@ -46,6 +47,18 @@ pub(crate) fn push_hex(line: &mut ArrayString<LINE>, count: usize, value: u32)
     }
     push_hex(line, count - 1, value / 16);
     line.push(hex_digit(value % 16));
+}
+
+/// Writes these words and a place behind them.
+pub(crate) fn push_place(line: &mut ArrayString<LINE>, words: &str, place: u64)
+    requires begun { array_string_len line.old ≤ 32 }
+    requires short { length words.now ≤ 32 }
+    ensures bytes { line.new.bytes ≡ line.old.bytes ++ words.now ++ decimal place }
+    ensures room { array_string_len line.new ≤ 96 }
+{
+    let mut number = Buffer::new();
+    line.push_str(words);
+    line.push_str(number.format(place));
 }
 
 /// Writes a digest, two hexadecimal digits for each byte. There must be room.

@@ -5,23 +5,11 @@ ghost use Rattle.arrayvec.specs.ArrayString.{array_string_len};
 ghost use Rattle.dos_texts.specs.Exit.{line, log_message};
 ghost use Rattle.dos_texts.specs.Lines.{log_refused, images_differ, digests_differ, refusal_text};
 
-use crate::line::{LINE, push_digest, text_line};
+use crate::line::{LINE, push_digest, push_place, text_line};
 use arrayvec::ArrayString;
 use itoa::Buffer;
 use log_files::LogRefusal;
 use shim_log::LogError;
-
-/// Writes these words and a place behind them.
-fn push_place(line: &mut ArrayString<LINE>, words: &str, place: u64)
-    requires begun { array_string_len line.old ≤ 32 }
-    requires short { length words.now ≤ 32 }
-    ensures bytes { line.new.bytes ≡ line.old.bytes ++ words.now ++ decimal place }
-    ensures room { array_string_len line.new ≤ 96 }
-{
-    let mut number = Buffer::new();
-    line.push_str(words);
-    line.push_str(number.format(place));
-}
 
 /// Writes what is wrong with a log.
 fn push_error(line: &mut ArrayString<LINE>, error: LogError)

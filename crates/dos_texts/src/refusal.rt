@@ -4,6 +4,7 @@ ghost use Rattle.std.specs.Prelude.{◌≡◌, ◌≢◌, ◌≤◌, ◌⊎◌};
 ghost use Rattle.dos_io.specs.Outside.{GrewByFront, Rose, grown};
 ghost use Rattle.dos_texts.specs.Exit.{IsStatus, ending_status, line_of, refusal_status};
 
+use crate::group_lines::group_line;
 use crate::image_lines::{long_line, refused_line, room_line};
 use crate::line::{LINE, text_line};
 use crate::log_lines::log_line;
@@ -12,6 +13,7 @@ use arrayvec::ArrayString;
 use dos_io::Sink;
 use dos_world::{Ending, Misfit};
 use elf_image::ImageError;
+use group_files::SavedRefusal;
 use log_files::LogRefusal;
 use std::alloc::AllocFailed;
 
@@ -39,6 +41,8 @@ pub enum Refusal {
     NoRoom(u64, u32),
     /// The log isn't replayed with the images, for this.
     Log(LogRefusal),
+    /// The run isn't gone on with from the saved group, for this.
+    Group(SavedRefusal),
     /// The run asks another question than the log has next.
     Misfit(Misfit),
     /// A file couldn't be read or written.
@@ -76,6 +80,7 @@ impl Refusal {
             Refusal::Image(_, _) => 3,
             Refusal::NoRoom(_, _) => 3,
             Refusal::Log(_) => 4,
+            Refusal::Group(_) => 11,
             Refusal::Misfit(_) => 4,
             Refusal::Files => 5,
             Refusal::Host => 5,
@@ -96,6 +101,7 @@ impl Refusal {
             Refusal::Image(image, error) => refused_line(image, error),
             Refusal::NoRoom(needed, frames) => room_line(needed, frames),
             Refusal::Log(why) => log_line(why),
+            Refusal::Group(why) => group_line(why),
             Refusal::Misfit(found) => misfit_line(found),
             Refusal::Files => text_line("dos: file fault\n"),
             Refusal::Host => text_line("dos: host fault\n"),

@@ -8,3 +8,4 @@ pub mod QuietRuns
 pub mod MisfitLaws
 mod SteadySinks
 pub mod Worked
+pub mod Joining

@@ -1,6 +1,6 @@
 -- Rounds of the kernel one after another, and the end that the shim is told.
 use Rattle.std.proofs.Common.{ℕ, suc, ◌+◌, ◌-◌, ◌≡◌, refl, sym, ap, ap₂, ◌∙◌, subst, List, [], ◌∷◌}
-use Rattle.std.proofs.Common.{◌++◌, length, append-nil, append_assoc, ◌≤◌, Option, None, Some}
+use Rattle.std.proofs.Common.{◌++◌, length, append-nil, append_assoc, ◌≤◌, ◌<◌, Option, None, Some}
 use Rattle.std.proofs.Common.{arith}
 use Rattle.std.specs.Prelude.{◌==◌, Bool, true, false, not, map, is_some, if◌then◌else◌, Err, Ok}
 use Rattle.std.specs.Prelude.{Result}
@@ -39,13 +39,17 @@ use Rattle.group_rounds.proofs.PlayLaws.{goes-questions}
 use Rattle.group_rounds.proofs.StatePlayLaws.{told_more, told_so}
 use Rattle.kernel_calls.specs.Plays.{AreFrontsOf, GoesOver, Plays, PlaysOn, Stopper, StopsAsking}
 use Rattle.kernel_calls.specs.Plays.{StopsIn, by_shim, by_sink, stopper}
-use Rattle.kernel_calls.proofs.Playing.{SendsBehind, plays_after, plays_and, plays_before}
+use Rattle.kernel_calls.proofs.Playing.{SendsBehind, over-append, over-then}
+use Rattle.kernel_calls.proofs.Playing.{bytes_behind, plays_after, plays_and, plays_before}
+use Rattle.kernel_calls.proofs.Playing.{tells_then}
+use Rattle.kernel_calls.specs.Plays.{sent_then}
+use Rattle.kernel_calls.proofs.ServicePlays.{tells_nothing}
 use Rattle.kernel_calls.proofs.Playing.{plays_from, plays_still}
 use Rattle.dos_io.specs.Borders.{BorderState, Crossing, Tells, bytes_to, exchanges_of}
 use Rattle.dos_io.specs.declared.border.Stream.TheVariants.{Output, Error}
 use Rattle.dos_io.proofs.OutsideLaws.{front-whole}
 use Rattle.group_rounds.proofs.PlayCauses.{asks_before_end, by_question, causes_err, fails_of}
-use Rattle.group_rounds.proofs.WorkLaws.{plays_more, since_nothing, since_then}
+use Rattle.group_rounds.proofs.WorkLaws.{plays_more, since_more, since_nothing, since_then}
 use Rattle.group_rounds.proofs.FrontLaws.{HasSent, fronts_kept, fronts_over, sending}
 use Rattle.worker_pool.specs.Ran.{GrewBy}
 use Rattle.worker_pool.proofs.Growing.{grew-more, grew-nothing}
@@ -57,9 +61,12 @@ use Rattle.dpg_run.proofs.RunKeeps.{rounds_keep}
 use Rattle.dpg_run.specs.GroupRuns.{AreFronts, CutGroup, PlaysNext, PlaysRounds, PlaysSome}
 use Rattle.dpg_run.specs.GroupRuns.{IsCountedIn, RanRounds, RanGroup, RunsGroup, StoppedGroup}
 use Rattle.dpg_run.specs.GroupRuns.{end_by, ending_by, finish_in, has_failed, left_of_run}
-use Rattle.dpg_run.specs.GroupRuns.{rounds_left}
+use Rattle.dpg_run.specs.GroupRuns.{limited_by, rounds_left}
 use Rattle.dpg_run.specs.Work.{HasWorked, rounds_work, work_from}
-use Rattle.dpg_run.proofs.Worked.{both_worked, round_worked, stop_worked}
+use Rattle.dpg_run.proofs.Worked.{both_worked, round_worked, stop_worked, worked_so_far}
+use Rattle.dpg_run.specs.Reaching.{HasRunOn, RanTo, RunsOn}
+use Rattle.dos_io.specs.Shims.{HasNoEnd}
+use Rattle.dos_io.specs.declared.exchange.Exchange.{Exchange}
 
 -- ---- fronts
 
@@ -314,6 +321,16 @@ some_then config here result s s' s'' b b' b'' t t' t'' same h k =
     both_some config result s s' s'' b b' b'' t t' t'' h
     (subst (λ (c : Config). PlaysSome c result s' b' s'' b'' t' t'') same k)
 
+-- the same under a limit
+pub limited_then : (limit : ℕ) (config here : Config) (result : Result (Option Ending) RunStop)
+    (s s' s'' : State) (b b' b'' : BorderState) (t t' t'' : ℕ) → here ≡ config
+    → PlaysSome (limited_by limit config) (Ok None) s b s' b' t t'
+    → PlaysSome (limited_by limit here) result s' b' s'' b'' t' t''
+    → PlaysSome (limited_by limit config) result s b s'' b'' t t''
+limited_then limit config here result s s' s'' b b' b'' t t' t'' same h k =
+    some_then (limited_by limit config) (limited_by limit here) result s s' s'' b b' b'' t t' t''
+    (ap (limited_by limit) same) h k
+
 -- so many more are counted
 pub counted_more : (ended : Option Ending) (rounds start round now : ℕ) → ended ≡ None
     → round ≡ start + rounds → IsCountedIn ended 1 round now → now ≡ start + (rounds + 1)
@@ -338,7 +355,30 @@ where_false false P Q is h = h
 pub counted_one : (ended : Option Ending) (round now : ℕ)
     → now ≡ next_round (end_by ended) round → IsCountedIn ended 1 round now
 counted_one None round now is = is
-counted_one (Some ending) round now is = tt
+counted_one (Some done_ending) round now is = omega (arith, is)
+counted_one (Some limit_ending) round now is = omega (arith, is)
+counted_one (Some stalled_ending) round now is = omega (arith, is)
+
+-- where it ended, fewer are than there were to be
+pub counted_fewer : (ended : Option Ending) (ending : Ending) (i rounds start round now : ℕ)
+    → ended ≡ Some ending → round ≡ start + i → i < rounds → IsCountedIn ended 1 round now
+    → now < start + rounds
+counted_fewer None ending i rounds start round now is before less one = absurd cc
+counted_fewer (Some other) ending i rounds start round now is before less one =
+    omega (arith, before, less, one)
+
+-- the rounds have come to this
+pub some_as : (config : Config) (s s' : State) (b b' : BorderState) (t t' : ℕ)
+    (ended is : Option Ending) → ended ≡ is → PlaysSome config (Ok ended) s b s' b' t t'
+    → PlaysSome config (Ok is) s b s' b' t t'
+some_as config s s' b b' t t' ended is same h =
+    subst (λ (x : Option Ending). PlaysSome config (Ok x) s b s' b' t t') same h
+
+-- so many rounds more are counted where the run goes on
+pub counted_none : (ended : Option Ending) (rounds start now : ℕ) → ended ≡ None
+    → IsCountedIn ended rounds start now → now ≡ start + rounds
+counted_none None rounds start now is counted = counted
+counted_none (Some ending) rounds start now is counted = absurd cc
 
 -- ---- all rounds
 
@@ -434,24 +474,29 @@ pub ran_rounds : (config : Config) (start s : State) (before told : BorderState)
     → RanRounds config start (told_at before) ending s (told_at told) work
 ran_rounds config start s before told ending work h = record {
   more = told_more h.crossings before told h.tells;
-  goes = goes-exchanges [] [] h.crossings (rounds_from (world_of config.quantum start) config)
-      (done (finish_in ending (sent (bytes_to Output h.crossings) (bytes_to Error h.crossings)
-      (world_of config.quantum s)) work)) (h.goes [] []);
+  goes = λ o e. goes-exchanges o e h.crossings
+      (rounds_from (sent o e (world_of config.quantum start)) config)
+      (done (finish_in ending (sent (o ++ bytes_to Output h.crossings)
+      (e ++ bytes_to Error h.crossings) (world_of config.quantum s)) work)) (h.goes o e);
 }
 
 -- ---- the end
 
 module _ (config : Config) (start s : State) (before told : Telling) (ending : Ending) (work : ℕ)
     (ran : RanRounds config start before ending s told work) where
-  -- what the rounds have come to
-  abbrev finish : Finish
-  finish = finish_in ending (sent ran.more.output ran.more.error (world_of config.quantum s))
-      work
+  -- the world before the rounds, with these bytes sent
+  abbrev begun : (o e : List ℕ) → World
+  begun o e = sent o e (world_of config.quantum start)
 
-  to_end : GoesOn ran.more.exchanges (run_from (world_of config.quantum start) config)
-      (told_end finish)
-  to_end = goes-then ran.more.exchanges (rounds_from (world_of config.quantum start) config)
-      (done finish) told_end ran.goes
+  -- what the rounds have come to behind them
+  abbrev finish : (o e : List ℕ) → Finish
+  finish o e = finish_in ending
+      (sent (o ++ ran.more.output) (e ++ ran.more.error) (world_of config.quantum s)) work
+
+  to_end : (o e : List ℕ)
+      → GoesOn ran.more.exchanges (run_from (begun o e) config) (told_end (finish o e))
+  to_end o e = goes-then ran.more.exchanges (rounds_from (begun o e) config)
+      (done (finish o e)) told_end (ran.goes o e)
 
   -- the shim stops at it
   pub end_stops : (after : Telling) (asked : Option Question) → after.exchanges ≡ told.exchanges
@@ -463,9 +508,9 @@ module _ (config : Config) (start s : State) (before told : Telling) (ending : E
     question = end_question ending (s.round - 1);
     asked_is = is;
     asks = goes-over ran.more.exchanges (run_from (world_of config.quantum start) config)
-        (told_end finish) to_end;
+        (told_end (finish [] [])) (to_end [] []);
     asked_so = goes-questions ran.more.exchanges
-        (run_from (world_of config.quantum start) config) (told_end finish) to_end;
+        (run_from (world_of config.quantum start) config) (told_end (finish [] [])) (to_end [] []);
   }
 
   -- it is cut off there
@@ -473,14 +518,34 @@ module _ (config : Config) (start s : State) (before told : Telling) (ending : E
       → after.error ≡ told.error → CutGroup config start before after
   end_cut after told_is out err = record {
     more = told_so before told after ran.more told_is out err;
-    goes = (told_end finish, to_end);
+    goes = (told_end (finish [] []), to_end [] []);
     fronts =
         seen_fronts ran.more.output ran.more.error _ _
         (subst (AreFrontsOf (λ finish. finish.world) ran.more.output ran.more.error)
         (sym (goes-over ran.more.exchanges (rounds_from (world_of config.quantum start) config)
-        (done finish) ran.goes))
+        (done (finish [] [])) (ran.goes [] [])))
         (front-whole ran.more.output, front-whole ran.more.error));
   }
+
+  -- the exchanges with the end behind them
+  abbrev all : List Exchange
+  all = ran.more.exchanges ++ End ending (s.round - 1) ∷ []
+
+  all_fit : (o e : List ℕ)
+      → questions (map answer_of all) (run_from (begun o e) config) ≡ map question_of all
+  all_fit o e =
+      goes-questions all (run_from (begun o e) config) (done (finish o e))
+      (goes-append ran.more.exchanges (End ending (s.round - 1) ∷ []) (run_from (begun o e) config)
+      (told_end (finish o e)) (done (finish o e)) (to_end o e) (refl, refl))
+      ∙ append-nil (map question_of all)
+
+  all_over : (o e : List ℕ) → over (map answer_of all) (rounds_from (begun o e) config)
+      ≡ gives (finish o e) (posts [] ∷ [])
+  all_over o e =
+      ap (λ answers. over answers (rounds_from (begun o e) config))
+      (map-append answer_of ran.more.exchanges (End ending (s.round - 1) ∷ []))
+      ∙ goes-over_more ran.more.exchanges (posts [] ∷ []) (rounds_from (begun o e) config)
+      (done (finish o e)) (ran.goes o e)
 
   -- the shim is told
   pub end_told : (after : Telling)
@@ -489,7 +554,7 @@ module _ (config : Config) (start s : State) (before told : Telling) (ending : E
       → RanGroup config start before ending s after work
   end_told after told_is out err = record {
     more = record {
-      exchanges = ran.more.exchanges ++ End ending (s.round - 1) ∷ [];
+      exchanges = all;
       output = ran.more.output;
       error = ran.more.error;
       exchanges_are = told_is ∙ ap (λ es. es ++ End ending (s.round - 1) ∷ [])
@@ -498,28 +563,122 @@ module _ (config : Config) (start s : State) (before told : Telling) (ending : E
       output_is = out ∙ ran.more.output_is;
       error_is = err ∙ ran.more.error_is;
     };
-    fits = fits;
-    ends = ap₂ result_of fits over_is;
+    fits = all_fit [] [];
+    ends = ap₂ result_of (all_fit [] []) (all_over [] []);
+    behind = record {
+      fits = all_fit;
+      is = λ o e. ap₂ result_of (all_fit o e) (all_over o e);
+    };
   }
-    where
-      fits : questions (map answer_of (ran.more.exchanges ++ End ending (s.round - 1) ∷ []))
-          (run_from (world_of config.quantum start) config)
-          ≡ map question_of (ran.more.exchanges ++ End ending (s.round - 1) ∷ [])
-      fits =
-          goes-questions (ran.more.exchanges ++ End ending (s.round - 1) ∷ [])
-          (run_from (world_of config.quantum start) config) (done finish)
-          (goes-append ran.more.exchanges (End ending (s.round - 1) ∷ [])
-          (run_from (world_of config.quantum start) config) (told_end finish) (done finish)
-          to_end (refl, refl))
-          ∙ append-nil (map question_of (ran.more.exchanges ++ End ending (s.round - 1) ∷ []))
 
-      over_is : over (map answer_of (ran.more.exchanges ++ End ending (s.round - 1) ∷ []))
-          (rounds_from (world_of config.quantum start) config) ≡ gives finish (posts [] ∷ [])
-      over_is =
-          ap (λ answers. over answers (rounds_from (world_of config.quantum start) config))
-          (map-append answer_of ran.more.exchanges (End ending (s.round - 1) ∷ []))
-          ∙ goes-over_more ran.more.exchanges (posts [] ∷ [])
-          (rounds_from (world_of config.quantum start) config) (done finish) ran.goes
+-- ---- rounds that are run, whatever is left behind them
+
+-- none
+pub on_nothing : (q : ℕ) (s : State) (b : BorderState) → RunsOn q 0 s b s b
+on_nothing q s b = record {
+  crossings = [];
+  tells = tells_nothing b;
+  work = 0;
+  goes = λ o e left earlier.
+      ap (λ n. rounds_of n (sent o e (world_of q s)) earlier) (sym (plus_nothing left))
+      ∙ ap (λ n. rounds_of left (sent o e (world_of q s)) n) (sym (with_nothing earlier))
+      ∙ ap₂ (λ x y. rounds_of left (sent x y (world_of q s)) (earlier + 0)) (sym (append-nil o))
+      (sym (append-nil e));
+}
+
+-- one round of those that are left
+one_on : (q : ℕ) (s s' : State) (b b' : BorderState) (h : PlaysNext q (Ok None) s b s' b')
+    (o e : List ℕ) (left earlier : ℕ)
+    → GoesOver o e h.plays.goes.crossings (rounds_of (suc left) (sent o e (world_of q s)) earlier)
+    (rounds_of left (sent_then h.plays.goes.crossings o e (world_of q s')) (earlier + h.work))
+one_on q s s' b b' h o e left earlier =
+    over-then o e h.plays.goes.crossings (round_of (sent o e (world_of q s)))
+    (done (end_in Went h.work (sent_then h.plays.goes.crossings o e (world_of q s'))))
+    (after_round left earlier) (h.plays.goes.goes o e)
+
+-- first so, then so
+over_both : {A : Type 0} (o e : List ℕ) (cs ds : List Crossing) (p p' : Play A)
+    (left : World → Play A) (w : World) → GoesOver o e cs p p'
+    → GoesOver (o ++ bytes_to Output cs) (e ++ bytes_to Error cs) ds p'
+    (left (sent_then ds (o ++ bytes_to Output cs) (e ++ bytes_to Error cs) w))
+    → GoesOver o e (cs ++ ds) p (left (sent_then (cs ++ ds) o e w))
+over_both o e cs ds p p' left w h k =
+    subst (λ x. GoesOver o e (cs ++ ds) p (left (sent x (e ++ bytes_to Error (cs ++ ds)) w)))
+    (sym (bytes_behind Output o cs ds))
+    (subst (λ y. GoesOver o e (cs ++ ds) p
+    (left (sent ((o ++ bytes_to Output cs) ++ bytes_to Output ds) y w)))
+    (sym (bytes_behind Error e cs ds))
+    (over-append o e cs ds p p'
+    (left (sent_then ds (o ++ bytes_to Output cs) (e ++ bytes_to Error cs) w)) h k))
+
+-- and one more
+pub on_more : (q n : ℕ) (s s' s'' : State) (b b' b'' : BorderState) → RunsOn q n s b s' b'
+    → PlaysNext q (Ok None) s' b' s'' b'' → RunsOn q (n + 1) s b s'' b''
+on_more q n s s' s'' b b' b'' h k = record {
+  crossings = h.crossings ++ k.plays.goes.crossings;
+  tells = tells_then b b' b'' h.crossings k.plays.goes.crossings h.tells k.plays.goes.tells;
+  work = h.work + k.work;
+  goes = λ o e left earlier.
+      over_both o e h.crossings k.plays.goes.crossings
+      (rounds_of (n + 1 + left) (sent o e (world_of q s)) earlier)
+      (rounds_of (suc left) (sent_then h.crossings o e (world_of q s')) (earlier + h.work))
+      (λ w. rounds_of left w (earlier + (h.work + k.work))) (world_of q s'')
+      (subst (λ m. GoesOver o e h.crossings (rounds_of m (sent o e (world_of q s)) earlier)
+      (rounds_of (suc left) (sent_then h.crossings o e (world_of q s')) (earlier + h.work)))
+      (let m : n + suc left ≡ n + 1 + left = omega arith in m) (h.goes o e (suc left) earlier))
+      (subst (λ m. GoesOver (o ++ bytes_to Output h.crossings) (e ++ bytes_to Error h.crossings)
+      k.plays.goes.crossings
+      (rounds_of (suc left) (sent_then h.crossings o e (world_of q s')) (earlier + h.work))
+      (rounds_of left (sent_then k.plays.goes.crossings (o ++ bytes_to Output h.crossings)
+      (e ++ bytes_to Error h.crossings) (world_of q s'')) m))
+      (let m : earlier + h.work + k.work ≡ earlier + (h.work + k.work) = omega arith in m)
+      (one_on q s' s'' b' b'' k (o ++ bytes_to Output h.crossings) (e ++ bytes_to Error h.crossings)
+      left (earlier + h.work)));
+}
+
+-- where a round was run behind which the run goes on
+pub on_next : (ended : Option Ending) (q n : ℕ) (s s' s'' : State) (b b' b'' : BorderState)
+    → ended ≡ None → RunsOn q n s b s' b' → PlaysNext q (Ok ended) s' b' s'' b''
+    → RunsOn q (n + 1) s b s'' b''
+on_next None q n s s' s'' b b' b'' is h k = on_more q n s s' s'' b b' b'' h k
+on_next (Some ending) q n s s' s'' b b' b'' is h k = absurd cc
+
+-- as many as were asked for
+pub on_all : (q i rounds : ℕ) (s s' : State) (b b' : BorderState) → i ≤ rounds → rounds ≤ i
+    → RunsOn q i s b s' b' → RunsOn q rounds s b s' b'
+on_all q i rounds s s' b b' few past h =
+    subst (λ n. RunsOn q n s b s' b')
+    (let n : i ≡ rounds = omega (arith, few, past) in n) h
+
+-- by whether the run goes on
+pub on_rounds : (ended : Option Ending) (q rounds : ℕ) (s s' : State) (b b' : BorderState)
+    → ended ≡ None → HasRunOn ended q rounds s b s' b' → RunsOn q rounds s b s' b'
+on_rounds None q rounds s s' b b' is h = h
+on_rounds (Some ending) q rounds s s' b b' is h = absurd cc
+
+-- what is told more of them
+pub ran_to : (config : Config) (rounds : ℕ) (s s' : State) (b b' : BorderState) (t t' : ℕ)
+    → PlaysSome config (Ok None) s b s' b' t t' → RunsOn config.quantum rounds s b s' b'
+    → s'.round ≡ s.round + rounds → HasNoEnd b'.shim.told
+    → RanTo config rounds s (told_at b) s' (told_at b') t t'
+ran_to config rounds s s' b b' t t' some on counted running = record {
+  more = told_more on.crossings b b' on.tells;
+  runs = record {
+    work = on.work;
+    goes = λ o e left earlier. goes-exchanges o e on.crossings
+        (rounds_of (rounds + left) (sent o e (world_of config.quantum s)) earlier)
+        (rounds_of left (sent_then on.crossings o e (world_of config.quantum s'))
+        (earlier + on.work)) (on.goes o e left earlier);
+  };
+  counted = counted;
+  running = running;
+  grew = subst (λ n. GrewBy t t' n)
+      (sym (worked_so_far config None (answers_since b.shim.told b'.shim.told)
+      (world_of config.quantum s) s' some.work (some.worked [] []))
+      ∙ ap (work_from (world_of config.quantum s) config)
+      (since_more b.shim.told b'.shim.told (exchanges_of on.crossings) on.tells.exchanges))
+      some.grew;
+}
 
 -- ---- whether the kernel has failed
 

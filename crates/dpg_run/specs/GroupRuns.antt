@@ -1,7 +1,8 @@
 -- What it means that the kernel has run a group to its end, or that the run has stopped. This
 -- project's own rules.
-use Rattle.std.specs.Prelude.{ℕ, ◌≡◌, ◌≢◌, ◌+◌, ◌-◌, Bool, true, false, not, List, [], ◌∷◌, ◌++◌}
-use Rattle.std.specs.Prelude.{map, Option, ⊤}
+use Rattle.std.specs.Prelude.{ℕ, ◌≡◌, ◌≢◌, ◌<◌, ◌+◌, ◌-◌, Bool, true, false, not, List, [], ◌∷◌}
+use Rattle.std.specs.Prelude.{◌++◌}
+use Rattle.std.specs.Prelude.{map, min, Option, ⊤}
 use Rattle.std.specs.Prelude.{Some, None, Result, Ok, Err, IfErr, IfOk, OnErr, OnSome}
 use Rattle.dos_world.specs.World.{World}
 use Rattle.dos_world.specs.Play.{Play, done, over, questions, asks}
@@ -31,7 +32,9 @@ use Rattle.group_rounds.specs.declared.round.RoundEnd.{RoundEnd}
 use Rattle.group_rounds.specs.declared.round.RoundEnd.TheVariants.{Went, Done, Stalled}
 use Rattle.dpg_run.specs.Fits.{FitsFrom}
 use Rattle.dpg_run.specs.Work.{HasWorked, work_from}
-use Rattle.flat_machine.specs.Machine.{Finish, Ran, machine_from, rounds_from, rounds_of, run_from}
+use Rattle.dpg_run.specs.Reaching.{RunsToItsEnd}
+use Rattle.flat_machine.specs.Machine.{Finish, Ran, Seen, machine_from, rounds_from, rounds_of}
+use Rattle.flat_machine.specs.Machine.{run_from}
 use Rattle.flat_machine.specs.Machine.{ends, needs}
 use Rattle.flat_machine.specs.Round.{round_of}
 use Rattle.flat_machine.specs.Machine.{status_in}
@@ -58,6 +61,10 @@ pub record PlaysRounds (config : Config) (result : Result Ending RunStop) (old :
         (answers_since before.shim.told after.shim.told) ≡ work
     pub grew : GrewBy tally tally_after work
 
+-- the configuration, with no more rounds than so many
+abbrev pub limited_by : ℕ → Config → Config
+limited_by limit config = record config { rounds = min limit config.rounds }
+
 -- how a round ended after which a run has ended so, or goes on
 abbrev pub end_by : Option Ending → RoundEnd
 end_by None = Went
@@ -80,10 +87,10 @@ abbrev pub left_of_run : Config → Option Ending → (work : ℕ) → World →
 left_of_run config None work w = rounds_left config work w
 left_of_run config (Some ending) work w = done (finish_in ending w work)
 
--- Where the run goes on after so many rounds, they are counted.
+-- Where the run goes on after so many rounds, they are counted; where it ended before, fewer are.
 abbrev pub IsCountedIn : Option Ending → (rounds round now : ℕ) → Type 0
 IsCountedIn None rounds round now = now ≡ round + rounds
-IsCountedIn (Some ending) rounds round now = ⊤
+IsCountedIn (Some ending) rounds round now = now < round + rounds
 
 -- The call plays some of the rounds that the configuration leaves to the old state's world,
 -- whatever bytes were sent before, and whatever work was done: to an ending, or so far that the
@@ -101,29 +108,41 @@ pub record PlaysSome (config : Config) (result : Result (Option Ending) RunStop)
     pub grew : GrewBy tally tally_after work
 
 -- The rounds of the machine from the old state's world, over the exchanges that are told more, have
--- ended so, in the new state's world with the bytes that are told more, after so much work.
+-- ended so, in the new state's world with the bytes that are told more, after so much work,
+-- whatever bytes were sent before.
 pub record RanRounds (config : Config) (old : State) (before : Telling) (ending : Ending)
     (new : State) (after : Telling) (work : ℕ) : Type 0 where
   pub more : ToldMore before after
-  pub goes : GoesOn more.exchanges (rounds_from (world_of config.quantum old) config)
-      (done (finish_in ending (sent more.output more.error (world_of config.quantum new)) work))
+  pub goes : (o e : List ℕ)
+      → GoesOn more.exchanges (rounds_from (sent o e (world_of config.quantum old)) config)
+      (done (finish_in ending
+      (sent (o ++ more.output) (e ++ more.error) (world_of config.quantum new)) work))
+
+-- what is seen of a run that asked these exchanges' questions and sent these bytes, and ended so in
+-- this state, after so much work
+abbrev pub seen_of_run : List Exchange → (output error : List ℕ) → Ending → State → (work : ℕ)
+    → Seen
+seen_of_run exchanges output error ending new work = record {
+  questions = map question_of exchanges;
+  output = output;
+  error = error;
+  statuses = map status_in new.table.processes;
+  ending = ending;
+  rounds = new.round - 1;
+  work = work;
+}
 
 -- The machine from the old state's world, over the exchanges that are told more, has sent what is
--- told more, has these statuses and has ended so, after so much work. The exchanges fit.
+-- told more, has these statuses and has ended so, after so much work. The exchanges fit. So it does
+-- behind whatever bytes.
 pub record RanGroup (config : Config) (old : State) (before : Telling) (ending : Ending)
     (new : State) (after : Telling) (work : ℕ) : Type 0 where
   pub more : ToldMore before after
   pub fits : FitsFrom (world_of config.quantum old) config more.exchanges
   pub ends : machine_from (world_of config.quantum old) config (map answer_of more.exchanges)
-      ≡ ends (record {
-        questions = map question_of more.exchanges;
-        output = more.output;
-        error = more.error;
-        statuses = map status_in new.table.processes;
-        ending = ending;
-        rounds = new.round - 1;
-        work = work;
-      })
+      ≡ ends (seen_of_run more.exchanges more.output more.error ending new work)
+  pub behind : RunsToItsEnd (world_of config.quantum old) config more.exchanges
+      (seen_of_run more.exchanges more.output more.error ending new work)
 
 -- The run from the old state's world has come to a question, which may be its end, after the
 -- exchanges and the bytes that are told more.

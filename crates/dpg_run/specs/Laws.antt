@@ -17,6 +17,7 @@ use Rattle.dos_world.specs.declared.Question.{Question}
 use Rattle.dos_io.specs.declared.exchange.Exchange.{Exchange}
 use Rattle.dos_io.specs.Exchanges.{question_of, answer_of}
 use Rattle.dpg_run.specs.Fits.{Fits, misfit}
+use Rattle.dpg_run.specs.Reaching.{RunsTo, RunsToItsEnd}
 use Rattle.flat_machine.specs.Machine.{Finish, Seen, ends, machine, rounds_of, rounds_from, group}
 
 -- ---- invariants of a run, one for each count of its rounds
@@ -83,3 +84,26 @@ MisfitsAreFirst =
 abbrev pub FitsHaveNoMisfit : Type 0
 FitsHaveNoMisfit = (images : List Image) (config : Config) (exchanges : List Exchange)
     → Fits images config exchanges → misfit images config exchanges ≡ None
+
+-- ---- from a round on
+
+-- What is seen of a run that asked the first exchanges' questions in so many rounds, which sent
+-- these bytes and worked so much, and the second ones' from there.
+abbrev pub seen_joined : (first second : List Exchange) → (output error : List ℕ) → (work : ℕ)
+    → Seen → Seen
+seen_joined first second output error work s = record s {
+  questions = map question_of (first ++ second);
+  output = output ++ s.output;
+  error = error ++ s.error;
+  work = work + s.work;
+}
+
+-- So many rounds, of those that the configuration allows, and then the run from where they lead,
+-- whatever was sent before, are one run from where they began.
+abbrev pub RunsJoin : Type 0
+RunsJoin =
+    (w last : World) (config : Config) (rounds : ℕ) (first second : List Exchange)
+    (output error : List ℕ) (s : Seen) → (ran : RunsTo rounds w first output error last)
+    → last.rounds ≡ w.rounds + rounds → last.rounds ≤ config.rounds
+    → RunsToItsEnd last config second s
+    → RunsToItsEnd w config (first ++ second) (seen_joined first second output error ran.work s)

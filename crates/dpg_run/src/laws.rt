@@ -2,7 +2,7 @@
 
 ghost use Rattle.dpg_run.specs.QuietRuns.{QuietRunsAreOne};
 ghost use Rattle.dpg_run.specs.Laws.{FitsHaveNoMisfit, GroupsEndLawful, MisfitsAreFirst, RunIsKept};
-ghost use Rattle.dpg_run.specs.Laws.{RunOwes, RunsEndLawful, RunsKeepTheirLimit};
+ghost use Rattle.dpg_run.specs.Laws.{RunOwes, RunsEndLawful, RunsJoin, RunsKeepTheirLimit};
 
 /// An invariant of a run: for each count of rounds, what holds in each world of the next one.
 pub trait RunInvariant {
@@ -56,4 +56,9 @@ pub fn quiet_runs_are_one()
 pub fn misfits_are_first()
     ensures first { MisfitsAreFirst }
     ensures none { FitsHaveNoMisfit }
+{}
+
+/// A run as far as a round, and from there to its end, is the run.
+pub fn runs_join()
+    ensures { RunsJoin }
 {}

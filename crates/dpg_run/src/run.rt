@@ -1,5 +1,5 @@
 // A whole run.
-ghost use Rattle.std.specs.Prelude.{ℕ, ◌≡◌, ◌≢◌, ◌≤◌, ◌<◌, ◌-◌, ◌==◌, ◌++◌, List, length};
+ghost use Rattle.std.specs.Prelude.{ℕ, ◌≡◌, ◌≢◌, ◌≤◌, ◌<◌, ◌+◌, ◌-◌, ◌==◌, ◌++◌, List, length};
 ghost use Rattle.std.specs.Prelude.{false, if◌then◌else◌, is_err, is_some, MatchBool};
 ghost use Rattle.std.specs.Prelude.{Ok, Err, IfOk, IfErr, OnErr, OnOk, OnSome};
 ghost use Rattle.dos_world.specs.Numbered.{numbers_of};
@@ -15,7 +15,8 @@ ghost use Rattle.dos_world.specs.declared.Config.{Config};
 ghost use Rattle.kernel_calls.specs.declared.state.State.{State};
 ghost use Rattle.dpg_run.specs.GroupRuns.{AreEnded, CutGroup, IsCountedIn, PlaysNext, PlaysRounds};
 ghost use Rattle.dpg_run.specs.GroupRuns.{PlaysSome, RanGroup, RunsGroup, StoppedGroup, end_by};
-ghost use Rattle.dpg_run.specs.GroupRuns.{ending_by, has_failed};
+ghost use Rattle.dpg_run.specs.GroupRuns.{ending_by, has_failed, limited_by};
+ghost use Rattle.dpg_run.specs.Reaching.{HasRunOn};
 ghost use Rattle.dpg_run.specs.Work.{work_from};
 ghost use Rattle.group_rounds.specs.Kernels.{IsBetweenRounds};
 
@@ -65,9 +66,15 @@ pub fn run_next<B: Border, W: Workers>(
     ensures some { PlaysSome kernel.old.config result
         kernel.old.state (B.state border.old) kernel.new.state (B.state border.new)
         (W.tally workers.old) (W.tally workers.new) }
+    // so it does under any limit that leaves this round
+    ensures limited { (limit : ℕ) → kernel.old.state.round ≤ limit
+        → PlaysSome (record kernel.old.config { rounds = limit }) result
+        kernel.old.state (B.state border.old) kernel.new.state (B.state border.new)
+        (W.tally workers.old) (W.tally workers.new) }
     ensures round { IfOk result
         (λ ended. kernel.new.state.round ≡ next_round (end_by ended) kernel.old.state.round) }
     ensures uncounted { OnErr result (kernel.new.state.round ≡ kernel.old.state.round) }
+    ensures marked { kernel.new.state.frames.marked ≡ kernel.old.state.frames.marked }
     ensures told { OnOk result (HasNoEnd (B.state border.new).shim.told) }
     ensures sound { kernel.new.failed ≡ false → IsBetweenRounds kernel.new.state kernel.new.config }
     ensures config { kernel.new.config ≡ kernel.old.config }
@@ -103,8 +110,16 @@ pub fn run_some<B: Border, W: Workers>(
     ensures some { PlaysSome kernel.old.config result
         kernel.old.state (B.state border.old) kernel.new.state (B.state border.new)
         (W.tally workers.old) (W.tally workers.new) }
+    // so it does under a limit of these rounds
+    ensures limited { PlaysSome
+        (limited_by (kernel.old.state.round - 1 + rounds) kernel.old.config) result
+        kernel.old.state (B.state border.old) kernel.new.state (B.state border.new)
+        (W.tally workers.old) (W.tally workers.new) }
     ensures counted { IfOk result
         (λ ended. IsCountedIn ended rounds kernel.old.state.round kernel.new.state.round) }
+    ensures on { IfOk result (λ ended. HasRunOn ended kernel.old.config.quantum rounds
+        kernel.old.state (B.state border.old) kernel.new.state (B.state border.new)) }
+    ensures marked { kernel.new.state.frames.marked ≡ kernel.old.state.frames.marked }
     ensures told { OnOk result (HasNoEnd (B.state border.new).shim.told) }
     ensures sound { kernel.new.failed ≡ false → IsBetweenRounds kernel.new.state kernel.new.config }
     ensures config { kernel.new.config ≡ kernel.old.config }
@@ -177,9 +192,9 @@ fn run_over<B: Border, W: Workers>(
     }
 }
 
-/// Runs a group that has run no round to its end, and tells the shim the end. The workers' tally
-/// grows by the run's work, the instructions of all parallel phases, and where the run stops by
-/// those of the rounds until then, the stopped one's with them.
+/// Runs a group to its end, from wherever it stands between two rounds, and tells the shim the end.
+/// The workers' tally grows by the run's work, the instructions of all parallel phases, and where
+/// the run stops by those of the rounds until then, the stopped one's with them.
 ///
 /// After a stop at the end the kernel hasn't failed; after any other it has, and nothing more is
 /// said of it. After any stop each sink holds a front of what the machine sends to it; after the
@@ -192,7 +207,6 @@ pub fn run_group<S: Shim, O: Sink, E: Sink, W: Workers>(
     workers: &mut W,
 ) -> Result<Ending, RunStop>
     requires running { kernel.old.failed ≡ false }
-    requires fresh { kernel.old.state.round ≡ 1 }
     requires told { HasNoEnd (S.state shim.old).told }
     ensures runs { IfOk result
         (λ ending. (work : ℕ) × RanGroup kernel.old.config kernel.old.state

@@ -24,6 +24,8 @@ use Rattle.flat_machine.specs.Machine.{status_in}
 use Rattle.dpg_run.specs.GroupRuns.{AreEnded, AreFronts, CutGroup, RanGroup, StoppedGroup}
 use Rattle.logged_runs.specs.Opened.{IsOpenedWith}
 use Rattle.logged_runs.specs.Runs.{Ended, Halted, RanAhead, RanUntil, RanWhole}
+use Rattle.logged_runs.proofs.FromWorld.{halted_cut, halted_so, ran_from, ran_from_ahead}
+use Rattle.logged_runs.proofs.FromWorld.{ran_from_until, work_since}
 use Rattle.logged_runs.proofs.RoundsAsk.{no_end_before, rounds_never}
 
 -- ---- what is told has its end
@@ -45,17 +47,8 @@ is_told ending rounds told ended none =
 module _ (k : Held) (before told : List Exchange) (o e o1 e1 : Option (List ℕ))
     (fresh : before ≡ []) (images : List Image) (config : Config)
     (opened : IsOpenedWith k images config) where
-  abbrev More : Type 0
-  More = ToldMore (telling before o e) (telling told o1 e1)
-
-  all_told : (more : More) → more.exchanges ≡ told
-  all_told more = sym (more.exchanges_are ∙ ap (λ es. es ++ more.exchanges) fresh)
-
-  from_opening : (P : World → Config → List Exchange → Type 0) (more : More)
-      → P (kernel_world k) k.config more.exchanges → P (opening images config) config told
-  from_opening P more h = subst (λ (w : World). P w config told) opened.world
-      (subst (λ (c : Config). P (kernel_world k) c told) opened.config_is
-      (subst (λ (es : List Exchange). P (kernel_world k) k.config es) (all_told more) h))
+  all_new : told ≡ before ++ told
+  all_new = ap (λ es. es ++ told) (sym fresh)
 
   -- it came to its end
   pub ran_whole : (k' : Held) (ending : Ending) (tally tally' work : ℕ)
@@ -63,51 +56,22 @@ module _ (k : Held) (before told : List Exchange) (o e o1 e1 : Option (List ℕ)
       → GrewBy tally tally' work
       → (seen : Seen) × RanWhole images config told seen
       × Ended k' ending seen o e o1 e1 tally tally'
-  ran_whole k' ending tally tally' work run grew =
-      let seen : Seen = record {
-        questions = map question_of run.more.exchanges;
-        output = run.more.output;
-        error = run.more.error;
-        statuses = map status_in k'.state.table.processes;
-        ending = ending;
-        rounds = k'.state.round - 1;
-        work = work;
-      } in (
-        seen,
-        record {
-          fits = from_opening (λ w c es. FitsFrom w c es) run.more run.fits;
-          is = from_opening (λ w c es. machine_from w c (map answer_of es) ≡ ends seen) run.more
-              run.ends;
-        },
-        record {
-          shows = record { ending_is = refl; report_is = refl };
-          put = record { out_is = run.more.output_is; err_is = run.more.error_is };
-          counted = grew;
-        },
-      )
+  ran_whole = ran_from k before told told o e o1 e1 all_new (opening images config) config
+      opened.world opened.config_is
 
   -- it came to a question
   pub ran_until : (asked : Option Question)
       (run : StoppedGroup k.config k.state (telling before o e) (telling told o1 e1) asked)
       → RanUntil images config told run.question run.more.output run.more.error
-  ran_until asked run = record {
-    asks = from_opening (λ w c es. over (map answer_of es) (run_from w c)
-        ≡ asks run.question run.more.output run.more.error) run.more run.asks;
-    asked = from_opening (λ w c es. questions (map answer_of es) (run_from w c)
-        ≡ map question_of es ++ run.question ∷ []) run.more run.asked_so;
-  }
+  ran_until = ran_from_until k before told told o e o1 e1 all_new (opening images config) config
+      opened.world opened.config_is
 
   -- after so much work
   pub counted_since : (tally tally' : ℕ) → GrewBy tally tally' (work_from (kernel_world k) k.config
       (answers_since before told)) → GrewBy tally tally' (group_work images config
       (map answer_of told))
-  counted_since tally tally' grew =
-      subst (λ (w : World). GrewBy tally tally' (work_from w config (map answer_of told)))
-      opened.world
-      (subst (λ (c : Config). GrewBy tally tally' (work_from (kernel_world k) c
-      (map answer_of told))) opened.config_is
-      (subst (λ (es : List Exchange). GrewBy tally tally' (work_from (kernel_world k) k.config
-      (answers_since es told))) fresh grew))
+  counted_since = work_since k before told told o e o1 e1 all_new (opening images config) config
+      opened.world opened.config_is
 
   pub halted_until : (asked : Option Question)
       (run : StoppedGroup k.config k.state (telling before o e) (telling told o1 e1) asked)
@@ -115,10 +79,8 @@ module _ (k : Held) (before told : List Exchange) (o e o1 e1 : Option (List ℕ)
       (answers_since before told))
       → Halted o e o1 e1 tally tally' run.more.output run.more.error (group_work images config
       (map answer_of told))
-  halted_until asked run tally tally' grew = record {
-    put = record { out_is = run.more.output_is; err_is = run.more.error_is };
-    counted = counted_since tally tally' grew;
-  }
+  halted_until = halted_so k before told told o e o1 e1 all_new (opening images config) config
+      opened.world opened.config_is
 
   -- and was told no end by then
   pub until_no_end : (question : Question) (output error : List ℕ)
@@ -132,19 +94,13 @@ module _ (k : Held) (before told : List Exchange) (o e o1 e1 : Option (List ℕ)
   pub ran_ahead :
       (cut : CutGroup k.config k.state (telling before o e) (telling told o1 e1))
       → RanAhead images config told cut.more.output cut.more.error
-  ran_ahead cut = record {
-    goes = from_opening (λ w c es. (left : Play Finish) × GoesOn es (run_from w c) left) cut.more
-        cut.goes;
-    fronts = from_opening (λ w c es. AreFronts cut.more.output cut.more.error
-        (machine_from w c (map answer_of es))) cut.more cut.fronts;
-  }
+  ran_ahead = ran_from_ahead k before told told o e o1 e1 all_new (opening images config) config
+      opened.world opened.config_is
 
   pub halted_ahead : (cut : CutGroup k.config k.state (telling before o e) (telling told o1 e1))
       (tally tally' : ℕ) → GrewBy tally tally' (work_from (kernel_world k) k.config
       (answers_since before told))
       → Halted o e o1 e1 tally tally' cut.more.output cut.more.error (group_work images config
       (map answer_of told))
-  halted_ahead cut tally tally' grew = record {
-    put = record { out_is = cut.more.output_is; err_is = cut.more.error_is };
-    counted = counted_since tally tally' grew;
-  }
+  halted_ahead = halted_cut k before told told o e o1 e1 all_new (opening images config) config
+      opened.world opened.config_is

@@ -1,5 +1,6 @@
 pub mod RoundsAsk
 mod Stops
+mod FromWorld
 pub mod FromOpening
 pub mod Recordings
 pub mod Replays

@@ -10,33 +10,48 @@ use Rattle.dos_io.specs.declared.exchange.Exchange.{Exchange}
 use Rattle.elf_image.specs.Image.{Image}
 use Rattle.group_rounds.specs.Plays.{GoesOn}
 use Rattle.group_rounds.specs.Kernels.{Held, kernel_world}
-use Rattle.dpg_run.specs.Fits.{Fits}
-use Rattle.flat_machine.specs.Machine.{Finish, Seen, ends, group, machine}
+use Rattle.dos_world.specs.World.{World}
+use Rattle.dpg_run.specs.Fits.{FitsFrom}
+use Rattle.flat_machine.specs.Machine.{Finish, Seen, ends, machine_from, run_from}
+use Rattle.flat_machine.specs.Opening.{opening}
 use Rattle.dpg_run.specs.Report.{report, report_in}
 use Rattle.dpg_run.specs.GroupRuns.{AreFronts}
 use Rattle.worker_pool.specs.Ran.{GrewBy}
 
--- The run asked exactly the questions of these exchanges, the last being its end, and this is seen
--- of it.
-pub record RanWhole (images : List Image) (config : Config) (exchanges : List Exchange)
-    (seen : Seen) : Type 0 where
-  pub fits : Fits images config exchanges
-  pub is : machine images config (map answer_of exchanges) ≡ ends seen
+-- The run from this world asked exactly the questions of these exchanges, the last being its end,
+-- and this is seen of it.
+pub record RanFrom (w : World) (config : Config) (exchanges : List Exchange) (seen : Seen)
+    : Type 0 where
+  pub fits : FitsFrom w config exchanges
+  pub is : machine_from w config (map answer_of exchanges) ≡ ends seen
 
--- The run asked the questions of these exchanges and then this one, which may be its end; by then
--- it had sent these bytes.
-pub record RanUntil (images : List Image) (config : Config) (exchanges : List Exchange)
+-- It asked the questions of these exchanges and then this one, which may be its end; by then it had
+-- sent these bytes.
+pub record RanFromUntil (w : World) (config : Config) (exchanges : List Exchange)
     (question : Question) (output error : List ℕ) : Type 0 where
-  pub asks : over (map answer_of exchanges) (group images config) ≡ asks question output error
-  pub asked : questions (map answer_of exchanges) (group images config)
+  pub asks : over (map answer_of exchanges) (run_from w config) ≡ asks question output error
+  pub asked : questions (map answer_of exchanges) (run_from w config)
       ≡ map question_of exchanges ++ question ∷ []
 
--- The run asked the questions of these exchanges, and these are fronts of what it sends until its
--- next question, or its end.
-pub record RanAhead (images : List Image) (config : Config) (exchanges : List Exchange)
+-- It asked the questions of these exchanges, and these are fronts of what it sends until its next
+-- question, or its end.
+pub record RanFromAhead (w : World) (config : Config) (exchanges : List Exchange)
     (output error : List ℕ) : Type 0 where
-  pub goes : (left : Play Finish) × GoesOn exchanges (group images config) left
-  pub fronts : AreFronts output error (machine images config (map answer_of exchanges))
+  pub goes : (left : Play Finish) × GoesOn exchanges (run_from w config) left
+  pub fronts : AreFronts output error (machine_from w config (map answer_of exchanges))
+
+-- the same of the run of these images, from their opening
+abbrev pub RanWhole : List Image → Config → List Exchange → Seen → Type 0
+RanWhole images config exchanges seen = RanFrom (opening images config) config exchanges seen
+
+abbrev pub RanUntil : List Image → Config → List Exchange → Question → (output error : List ℕ)
+    → Type 0
+RanUntil images config exchanges question output error =
+    RanFromUntil (opening images config) config exchanges question output error
+
+abbrev pub RanAhead : List Image → Config → List Exchange → (output error : List ℕ) → Type 0
+RanAhead images config exchanges output error =
+    RanFromAhead (opening images config) config exchanges output error
 
 -- What the two outputs tell before a run and after it: they tell these bytes more.
 pub record Put (out err out_after err_after : Option (List ℕ)) (output error : List ℕ) :

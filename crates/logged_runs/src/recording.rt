@@ -41,7 +41,6 @@ pub fn record_group<H: Host, O: Sink, E: Sink, W: Workers>(
     workers: &mut W,
 ) -> Result<(Ending, Log), RunStop>
     requires running { kernel.old.failed ≡ false }
-    requires fresh { kernel.old.state.round ≡ 1 }
     requires begins { ledger
         ≡ empty_ledger ledger.posts ledger.clock ledger.header ledger.room }
     ensures ran { IfOk result (λ x. (images : List Image) (config : Config)

@@ -32,7 +32,6 @@ pub fn replay_group<O: Sink, E: Sink, W: Workers>(
     workers: &mut W,
 ) -> Result<Ending, RunStop>
     requires running { kernel.old.failed ≡ false }
-    requires fresh { kernel.old.state.round ≡ 1 }
     ensures ran { IfOk result (λ ending. (images : List Image)
         → IsOpenedWith kernel.old images (config_of log.header)
         → (seen : Seen) × Replayed images log seen

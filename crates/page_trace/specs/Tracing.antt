@@ -7,7 +7,7 @@ use Rattle.dos_world.specs.declared.Ending.{Ending}
 use Rattle.dos_io.specs.Borders.{BorderState}
 use Rattle.dos_io.specs.Exchanges.{answer_of}
 use Rattle.dos_io.specs.Outside.{grown, GrewByFront, Rose}
-use Rattle.dos_io.specs.Shims.{HasNoEnd, ShimState}
+use Rattle.dos_io.specs.Shims.{HasNoEnd}
 use Rattle.dos_io.specs.declared.exchange.Exchange.{Exchange}
 use Rattle.dos_io.specs.declared.shim.ShimStop.{ShimStop}
 use Rattle.kernel_calls.specs.StateWorld.{shim_stop, world_of}
@@ -192,14 +192,3 @@ pub record EndsTraced (kernel : Held) (result : Result Ending TraceStop) (ending
       → TracesRounds config old start (traced_at before lines)
       → Traces config result old kernel.state start (traced_at after lines)
   pub stops : IfErr result (λ stop. IsOfRun stop)
-
--- what a border of these shows
-abbrev pub border_of : ShimState → (output error : Option (List ℕ))
-    → (out_faults err_faults : ℕ) → BorderState
-border_of shim output error out_faults err_faults = record {
-  shim = shim;
-  output = output;
-  error = error;
-  out_faults = out_faults;
-  err_faults = err_faults;
-}

@@ -2,11 +2,10 @@
 #![tactic(auto)]
 
 mod lines;
-mod owners;
+mod putting;
 mod stop;
 mod tracing;
 
 pub use lines::change_line;
-pub use owners::Owners;
 pub use stop::TraceStop;
 pub use tracing::run_traced;

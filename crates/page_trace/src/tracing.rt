@@ -3,14 +3,16 @@ ghost use Rattle.std.specs.Prelude.{◌≡◌, ◌≢◌, ◌≤◌, ◌-◌, fa
 ghost use Rattle.std.specs.Prelude.{IsErrOf, OnErr, OnOk};
 ghost use Rattle.dos_io.specs.Outside.{GrewByFront, HasCause, grown};
 ghost use Rattle.dos_io.specs.Shims.{HasNoEnd};
-ghost use Rattle.group_rounds.specs.Kernels.{IsBetweenRounds};
+ghost use Rattle.page_store.specs.Store.{AreMarked};
+ghost use Rattle.group_rounds.specs.Kernels.{IsBetweenRounds, kernel_marked};
 ghost use Rattle.dpg_run.specs.GroupRuns.{RunsGroup};
+ghost use Rattle.dpg_run.specs.Reached.{border_of};
 ghost use Rattle.page_trace.specs.Lines.{change_lines};
 ghost use Rattle.page_trace.specs.Trace.{changes};
 ghost use Rattle.page_trace.specs.Tracing.{Counts, EndsTraced, HasLineCause, OfRun, RoundTraces};
-ghost use Rattle.page_trace.specs.Tracing.{RoundsTrace, Traces, border_of, traced, traced_at};
+ghost use Rattle.page_trace.specs.Tracing.{RoundsTrace, Traces, traced, traced_at};
 
-use crate::owners::Owners;
+use crate::putting::put_changes;
 use crate::stop::TraceStop;
 use dos_io::{Border, GroupBorder, Shim, Sink};
 use dos_world::Ending;
@@ -21,24 +23,25 @@ use worker_pool::Workers;
 
 // The lines of a round after which the run has ended so, or goes on.
 fn put_round<T: Sink>(
-    kernel: &Kernel,
+    kernel: &mut Kernel,
     ended: Option<Ending>,
-    owners: &mut Owners,
     round: u32,
     lines: &mut T,
 ) -> Result<Option<Ending>, TraceStop>
-    requires { length owners.old ≡ length kernel.now.state.frames.owners }
+    requires { AreMarked kernel.old.state.frames }
     ensures same { IfOk result (λ x. x ≡ ended) }
-    ensures kept { OnOk result (owners.new ≡ kernel.now.state.frames.owners) }
-    ensures ok { OnOk result (T.told lines.new ≡ grown (T.told lines.old)
-        (change_lines (changes round owners.old kernel.now.state.frames.owners))) }
+    ensures kernel { kernel.new ≡ kernel_marked kernel.old kernel.new.state.frames.marked }
+    ensures marked { OnOk result (kernel.new.state.frames.marked
+        ≡ kernel.new.state.frames.owners) }
+    ensures ok { OnOk result (T.told lines.new ≡ grown (T.told lines.old) (change_lines (changes
+        round kernel.old.state.frames.marked kernel.old.state.frames.owners))) }
     ensures only { IfErr result (λ stop. stop ≡ TraceStop.LineFault) }
-    ensures err { OnErr result (GrewByFront (T.told lines.old) (T.told lines.new)
-        (change_lines (changes round owners.old kernel.now.state.frames.owners))) }
+    ensures err { OnErr result (GrewByFront (T.told lines.old) (T.told lines.new) (change_lines
+        (changes round kernel.old.state.frames.marked kernel.old.state.frames.owners))) }
     ensures cause { HasCause (T.faults lines.old) (T.faults lines.new) result }
     ensures steady { OnOk result (T.faults lines.new ≡ T.faults lines.old) }
 {
-    match owners.put_changes(round, &kernel.state().frames, lines) {
+    match put_changes(kernel, round, lines) {
         Ok(()) => Ok(ended),
         Err(_) => Err(TraceStop::LineFault),
     }
@@ -48,18 +51,18 @@ fn put_round<T: Sink>(
 fn trace_next<B: Border, T: Sink, W: Workers>(
     kernel: &mut Kernel,
     border: &mut B,
-    owners: &mut Owners,
     lines: &mut T,
     workers: &mut W,
 ) -> Result<Option<Ending>, TraceStop>
     requires running { kernel.old.failed ≡ false }
     requires limit { kernel.old.state.round ≤ kernel.old.config.rounds }
     requires told { HasNoEnd (B.state border.old).shim.told }
-    requires owners { owners.old ≡ kernel.old.state.frames.owners }
+    requires marked { kernel.old.state.frames.marked ≡ kernel.old.state.frames.owners }
     ensures traces { RoundTraces kernel.old.config result
         kernel.old.state (B.state border.old) kernel.new.state (B.state border.new)
         (T.told lines.old) (T.told lines.new) (W.tally workers.old) (W.tally workers.new) }
-    ensures owners { OnOk result (owners.new ≡ kernel.new.state.frames.owners) }
+    ensures marked { OnOk result (kernel.new.state.frames.marked
+        ≡ kernel.new.state.frames.owners) }
     ensures cause { IfErr result
         (λ stop. HasLineCause stop (T.faults lines.old) (T.faults lines.new)) }
     ensures later { T.faults lines.old ≤ T.faults lines.new }
@@ -72,7 +75,7 @@ fn trace_next<B: Border, T: Sink, W: Workers>(
 {
     let round = kernel.state().round;
     match run_next(kernel, border, workers) {
-        Ok(ended) => put_round(kernel, ended, owners, round, lines),
+        Ok(ended) => put_round(kernel, ended, round, lines),
         Err(stop) => Err(TraceStop::Run(stop)),
     }
 }
@@ -91,13 +94,12 @@ fn rounds_left(kernel: &Kernel) -> u32
 fn trace_rounds<B: Border, T: Sink, W: Workers>(
     kernel: &mut Kernel,
     border: &mut B,
-    owners: &mut Owners,
     lines: &mut T,
     workers: &mut W,
 ) -> Result<Ending, TraceStop>
     requires running { kernel.old.failed ≡ false }
     requires told { HasNoEnd (B.state border.old).shim.told }
-    requires owners { owners.old ≡ kernel.old.state.frames.owners }
+    requires marked { kernel.old.state.frames.marked ≡ kernel.old.state.frames.owners }
     ensures traces { RoundsTrace kernel.old.config result
         kernel.old.state (B.state border.old) kernel.new.state (B.state border.new)
         (T.told lines.old) (T.told lines.new) (W.tally workers.old) (W.tally workers.new) }
@@ -113,7 +115,7 @@ fn trace_rounds<B: Border, T: Sink, W: Workers>(
     ensures fixed { W.fixed workers.new ≡ W.fixed workers.old }
 {
     for _round in 0..rounds_left(kernel) {
-        if let Some(ending) = trace_next(kernel, border, owners, lines, workers)? {
+        if let Some(ending) = trace_next(kernel, border, lines, workers)? {
             return Ok(ending);
         }
     }
@@ -136,13 +138,12 @@ fn end_run<B: Border>(kernel: &Kernel, border: &mut B, ending: Ending) -> Result
 fn trace_over<B: Border, T: Sink, W: Workers>(
     kernel: &mut Kernel,
     border: &mut B,
-    owners: &mut Owners,
     lines: &mut T,
     workers: &mut W,
 ) -> Result<Ending, TraceStop>
     requires running { kernel.old.failed ≡ false }
     requires told { HasNoEnd (B.state border.old).shim.told }
-    requires owners { owners.old ≡ kernel.old.state.frames.owners }
+    requires marked { kernel.old.state.frames.marked ≡ kernel.old.state.frames.owners }
     ensures runs { OfRun result (λ ran. RunsGroup kernel.old.config ran
         kernel.old.state (B.state border.old) kernel.new.state (B.state border.new)
         kernel.new.failed (W.tally workers.old) (W.tally workers.new)) }
@@ -162,16 +163,15 @@ fn trace_over<B: Border, T: Sink, W: Workers>(
     ensures follows { B.follows border.old border.new }
     ensures fixed { W.fixed workers.new ≡ W.fixed workers.old }
 {
-    match trace_rounds(kernel, border, owners, lines, workers) {
+    match trace_rounds(kernel, border, lines, workers) {
         Ok(ending) => end_run(kernel, border, ending),
         Err(stop) => Err(stop),
     }
 }
 
-// the same with the owners that there are before the first round
-fn trace_owned<S: Shim, O: Sink, E: Sink, T: Sink, W: Workers>(
+// the same with the owners marked that there are before the first round
+fn trace_marked<S: Shim, O: Sink, E: Sink, T: Sink, W: Workers>(
     kernel: &mut Kernel,
-    owners: &mut Owners,
     shim: &mut S,
     out: &mut O,
     err: &mut E,
@@ -180,7 +180,7 @@ fn trace_owned<S: Shim, O: Sink, E: Sink, T: Sink, W: Workers>(
 ) -> Result<Ending, TraceStop>
     requires running { kernel.old.failed ≡ false }
     requires told { HasNoEnd (S.state shim.old).told }
-    requires owners { owners.old ≡ kernel.old.state.frames.owners }
+    requires marked { kernel.old.state.frames.marked ≡ kernel.old.state.frames.owners }
     ensures runs { OfRun result (λ ran. RunsGroup kernel.old.config ran kernel.old.state
         (border_of (S.state shim.old) (O.told out.old) (E.told err.old) (O.faults out.old)
         (E.faults err.old)) kernel.new.state
@@ -203,7 +203,7 @@ fn trace_owned<S: Shim, O: Sink, E: Sink, T: Sink, W: Workers>(
     ensures fixed { W.fixed workers.new ≡ W.fixed workers.old }
 {
     let mut border = GroupBorder { shim, out, err };
-    trace_over(kernel, &mut border, owners, lines, workers)
+    trace_over(kernel, &mut border, lines, workers)
 }
 
 /// Runs a group as `run_group` does, and puts after each round a line for each frame whose owner
@@ -246,8 +246,9 @@ pub fn run_traced<S: Shim, O: Sink, E: Sink, T: Sink, W: Workers>(
     ensures follows { S.follows shim.old shim.new }
     ensures fixed { W.fixed workers.new ≡ W.fixed workers.old }
 {
-    match Owners::of(alloc, &kernel.state().frames) {
-        Ok(mut owners) => trace_owned(kernel, &mut owners, shim, out, err, lines, workers),
+    let _state = kernel.state();
+    match kernel.mark(alloc) {
+        Ok(()) => trace_marked(kernel, shim, out, err, lines, workers),
         Err(_) => Err(TraceStop::Memory),
     }
 }

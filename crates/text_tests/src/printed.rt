@@ -1,6 +1,6 @@
-//! The lines of reports, of `inspect` and of `gen`.
+//! The lines of reports, of `inspect`, of `gen` and of `save`.
 use dos_io::{MemorySink, Sink, SinkFault};
-use dos_texts::{process_line, put_inspect, put_output, rounds_line};
+use dos_texts::{process_line, put_inspect, put_output, put_saved, rounds_line};
 use dos_world::Ending;
 use elf_image::{Image, read_image};
 use rv_asm::Builder;
@@ -115,4 +115,27 @@ fn outputs(rt: HostRuntime) {
     outputs_put(&rt, 0, &digest, &mut out, Err(SinkFault));
     has(&rt, &out, "output 0 bytes\n");
     drop(out);
+}
+
+// The answer where the line of a saved group is put.
+fn saved_is_put(rt: &impl Abort, round: u32, err: &mut impl Sink, answer: Result<(), SinkFault>) {
+    assert_eq!(rt; put_saved(round, err), answer);
+}
+
+// The line is one put.
+#[test]
+fn saved_groups(rt: HostRuntime) {
+    let alloc = rt.alloc();
+    for (round, line) in [
+        (1, "saved round 1\n"),
+        (1000000, "saved round 1000000\n"),
+        (4294967295, "saved round 4294967295\n"),
+    ] {
+        let mut err = MemorySink::new(alloc, 4096, &[2]).expect(&rt, "memory");
+        saved_is_put(&rt, round, &mut err, Ok(()));
+        has(&rt, &err, line);
+        saved_is_put(&rt, round, &mut err, Err(SinkFault));
+        has(&rt, &err, line);
+        drop(err);
+    }
 }

@@ -4,6 +4,8 @@ use dos_io::MemorySink;
 use dos_texts::{Refusal, put_refusal};
 use dos_world::{Ending, Misfit, Question};
 use elf_image::ImageError;
+use group_files::SavedRefusal;
+use group_text::GroupRefusal;
 use log_files::LogRefusal;
 use shim_log::LogError;
 use std::alloc::Global;
@@ -122,6 +124,58 @@ fn refusals_of_logs(rt: HostRuntime) {
     say(&rt, rt.alloc(), &rows);
 }
 
+#[test]
+fn refusals_of_saved_groups(rt: HostRuntime) {
+    let rows = [
+        (
+            Refusal::Group(SavedRefusal::TooLong),
+            11,
+            "dos: group too long\n",
+        ),
+        (
+            Refusal::Group(SavedRefusal::Refused(GroupRefusal::Short(0))),
+            11,
+            "dos: group refused: short at 0\n",
+        ),
+        (
+            Refusal::Group(SavedRefusal::Refused(GroupRefusal::Short(83886080))),
+            11,
+            "dos: group refused: short at 83886080\n",
+        ),
+        (
+            Refusal::Group(SavedRefusal::Refused(GroupRefusal::Magic)),
+            11,
+            "dos: group refused: magic\n",
+        ),
+        (
+            Refusal::Group(SavedRefusal::Refused(GroupRefusal::Version(65535))),
+            11,
+            "dos: group refused: version 65535\n",
+        ),
+        (
+            Refusal::Group(SavedRefusal::Refused(GroupRefusal::Field(18446744073709551615))),
+            11,
+            "dos: group refused: field at 18446744073709551615\n",
+        ),
+        (
+            Refusal::Group(SavedRefusal::Refused(GroupRefusal::AfterEnd(285))),
+            11,
+            "dos: group refused: after end at 285\n",
+        ),
+        (
+            Refusal::Group(SavedRefusal::Unlawful),
+            11,
+            "dos: group refused: unlawful\n",
+        ),
+        (
+            Refusal::Group(SavedRefusal::OtherLog),
+            11,
+            "dos: group is of another log\n",
+        ),
+    ];
+    say(&rt, rt.alloc(), &rows);
+}
+
 /// The refusal of a run that asks for `asked` where its log has `kept`.
 fn differs(entry: u32, kept: Question, asked: Question) -> Refusal {
     Refusal::Misfit(Misfit { entry, kept, asked })
@@ -171,4 +225,6 @@ fn misfits(rt: HostRuntime) {
 #[test]
 fn a_line_that_is_not_taken_is_a_fault(rt: HostRuntime) {
     says(&rt, rt.alloc(), &[1], Refusal::Words, 6, "");
+    let unlawful = Refusal::Group(SavedRefusal::Unlawful);
+    says(&rt, rt.alloc(), &[1], unlawful, 6, "");
 }

@@ -18,7 +18,7 @@ use Rattle.logged_runs.proofs.FromOpening.{counted_since}
 use Rattle.page_trace.specs.Lines.{change_lines}
 use Rattle.page_trace.specs.Trace.{trace}
 use Rattle.page_trace.specs.Tracing.{Counts, TracesBy, TracesFront, trace_lines, traced}
-use Rattle.shim_log.specs.LogText.{Log, exchanges}
+use Rattle.shim_log.specs.LogText.{Log, exchanges, exchanges_from}
 use Rattle.shim_log.specs.Ranges.{FitsLog}
 use Rattle.shim_log.specs.Replay.{ReplayState, replayer_state}
 use Rattle.shim_log.proofs.ReplayLaws.{ends_whole}
@@ -48,10 +48,15 @@ module _ (k : Held) (images : List Image) (config : Config) (opened : IsOpenedWi
 -- ---- the log that the replayer was made of
 
 module _ (k : Held) (before : List Exchange) (fresh : before ≡ []) (p : ReplayState) (log : Log)
-    (same : p.log ≡ log) (images : List Image)
+    (same : p.log ≡ log) (first : p.start ≡ 0) (images : List Image)
     (opened : IsOpenedWith k images (config_of log.header)) (l l' : Option (List ℕ)) where
   abbrev told : List Exchange
   told = (replayer_state p).told
+
+  told_first : told ≡ take p.answered (exchanges log)
+  told_first =
+      ap (λ (n : ℕ). take p.answered (exchanges_from n p.log)) first
+      ∙ ap (λ (read : Log). take p.answered (exchanges read)) same
 
   -- all of it
   pub whole_lines : FitsLog log → (HasNoEnd told → ⊥)
@@ -60,13 +65,13 @@ module _ (k : Held) (before : List Exchange) (fresh : before ≡ []) (p : Replay
   whole_lines fits ended h =
       let fits : FitsLog p.log = subst FitsLog (sym same) fits in
       let all : told ≡ exchanges p.log =
-      ends_whole p.log.entries p.log.ending p.log.rounds p.answered fits.entries ended in
+      ends_whole p fits ended ∙ ap (λ (n : ℕ). exchanges_from n p.log) first in
       lines_grew k images (config_of log.header) opened before told l l' fresh h
       ∙ ap (λ es. grown l (group_lines images (config_of log.header) es))
       (all ∙ ap exchanges same)
 
-  abbrev lines_over : Log → List ℕ
-  lines_over read = group_lines images (config_of log.header) (take p.answered (exchanges read))
+  abbrev lines_over : List Exchange → List ℕ
+  lines_over es = group_lines images (config_of log.header) es
 
   -- the first ones, as far as the run came
   pub until_lines : (count : ℕ) → count ≡ p.answered
@@ -74,7 +79,7 @@ module _ (k : Held) (before : List Exchange) (fresh : before ≡ []) (p : Replay
       → l' ≡ grown l (first_log_lines count images log)
   until_lines count at h =
       lines_grew k images (config_of log.header) opened before told l l' fresh h
-      ∙ ap (λ (read : Log). grown l (lines_over read)) same
+      ∙ ap (λ (es : List Exchange). grown l (lines_over es)) told_first
       ∙ ap (λ (n : ℕ). grown l (first_log_lines n images log)) (sym at)
 
   pub ahead_lines : (t t' : ℕ) → Counts k.config k.state before told t t'
@@ -82,10 +87,10 @@ module _ (k : Held) (before : List Exchange) (fresh : before ≡ []) (p : Replay
       → TracedAhead images log l l' t t'
   ahead_lines t t' counted h = record {
     answered = p.answered;
-    counted = subst (λ (read : Log). GrewBy t t' (group_work images (config_of log.header)
-        (map answer_of (take p.answered (exchanges read))))) same
+    counted = subst (λ (es : List Exchange). GrewBy t t' (group_work images (config_of log.header)
+        (map answer_of es))) told_first
         (counted_since k before told None None None None fresh images (config_of log.header) opened
         t t' counted);
-    front = subst (λ (read : Log). GrewByFront l l' (lines_over read)) same
+    front = subst (λ (es : List Exchange). GrewByFront l l' (lines_over es)) told_first
         (lines_front k images (config_of log.header) opened before told l l' fresh h);
   }

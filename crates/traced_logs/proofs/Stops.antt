@@ -1,5 +1,6 @@
 -- How a traced replay ends, from part to whole.
-use Rattle.std.proofs.Common.{◌≡◌, ℕ, Bool, refl, ap, subst, List, [], Option, Some, None, Ok}
+use Rattle.std.proofs.Common.{◌≡◌, ◌∙◌, ℕ, Bool, refl, ap, subst, List, [], Option, Some, None}
+use Rattle.std.proofs.Common.{Ok}
 use Rattle.std.proofs.Common.{Err, Result, arith}
 use Rattle.std.specs.Prelude.{IfSome, IsErrOf}
 use Rattle.dos_world.specs.declared.Ending.{Ending}
@@ -18,13 +19,15 @@ use Rattle.logged_runs.specs.Opened.{IsOpenedWith}
 use Rattle.logged_runs.specs.Replaying.{config_of}
 use Rattle.logged_runs.proofs.FromOpening.{is_told}
 use Rattle.logged_runs.proofs.Replays.{only, replayed, replayed_until}
-use Rattle.page_trace.specs.Tracing.{Counts, OfRun, TracesBy, Traces, border_of, trace_lines}
+use Rattle.dpg_run.specs.Reached.{border_of}
+use Rattle.page_trace.specs.Tracing.{Counts, OfRun, TracesBy, Traces, trace_lines}
 use Rattle.page_trace.specs.Tracing.{Traced, traced}
 use Rattle.page_trace.specs.declared.stop.TraceStop.{TraceStop}
 use Rattle.page_trace.specs.declared.stop.TraceStop.TheVariants as traces
 use Rattle.shim_log.specs.LogText.{Log}
 use Rattle.shim_log.specs.Ranges.{FitsLog}
-use Rattle.shim_log.specs.Replay.{IsMisfitOf, IsReplay, ReplayState, replayer_state}
+use Rattle.shim_log.specs.Replay.{IsMisfitOf, IsReplay, ReplayState, entries_used}
+use Rattle.shim_log.specs.Replay.{replayer_state}
 use Rattle.traced_logs.specs.TracedLogs.{StopsTrace, TracedAhead, TracedUntil, TracedWhole}
 use Rattle.traced_logs.proofs.Lines.{ahead_lines, until_lines, whole_lines}
 
@@ -39,7 +42,8 @@ one_misfit : (x y : Misfit) → some_misfit x ≡ some_misfit y → x ≡ y
 one_misfit x y is = cc
 
 module _ (k k' : Held) (s p : ReplayState) (log : Log) (fresh : (replayer_state s).told ≡ [])
-    (same : p.log ≡ log) (l l' : Option (List ℕ)) (has : Bool) (t t' : ℕ) where
+    (same : p.log ≡ log) (first : p.start ≡ 0) (l l' : Option (List ℕ)) (has : Bool)
+    (t t' : ℕ) where
   abbrev Runs : Result Ending RunStop → Type 0
   Runs ran = RunsGroup k.config ran k.state (quiet_border s) k'.state (quiet_border p) has t t'
 
@@ -50,15 +54,15 @@ module _ (k k' : Held) (s p : ReplayState) (log : Log) (fresh : (replayer_state 
         → TracedWhole images log k' ending l l' t t'
     traced_whole ending fits run lines =
         let ended = is_told ending _ (replayer_state p).told run.told_end in
-        let seen = replayed k (replayer_state s).told p None None None None fresh log same images
-        opened k' ending t t' run.runs.0 run.runs.1 run.runs.2 fits ended in
+        let seen = replayed k (replayer_state s).told p None None None None fresh log same
+        first images opened k' ending t t' run.runs.0 run.runs.1 run.runs.2 fits ended in
         record {
           seen = seen.0;
           replayed = seen.1;
           shows = seen.2.shows;
           counted = seen.2.counted;
-          lines_are = whole_lines k (replayer_state s).told fresh p log same images opened l l' fits
-              ended lines;
+          lines_are = whole_lines k (replayer_state s).told fresh p log same first images opened
+              l l' fits ended lines;
         }
 
     -- the misfit is of the entry that came next
@@ -71,8 +75,9 @@ module _ (k k' : Held) (s p : ReplayState) (log : Log) (fresh : (replayer_state 
         (subst (λ (o : Option Question). IfSome o (λ q. IfSome p.last (IsMisfitOf p q)))
         asked.asked_is kept.stop) in
         let here : Misfit =
-        record { entry = p.answered; kept = is.kept; asked = asked.question } in
-        ap (λ (m : Misfit). m.entry) (one_misfit found here is.says)
+        record { entry = entries_used p; kept = is.kept; asked = asked.question } in
+        let used_is : entries_used p ≡ p.answered = omega (arith, first) in
+        ap (λ (m : Misfit). m.entry) (one_misfit found here is.says) ∙ used_is
 
     pub traced_until : (stop : TraceStop) (found : Misfit) → stop ≡ traces.Run (stops.Misfit found)
         → IsReplay p → OfRun {T = Ending} (Err stop) Runs
@@ -87,16 +92,16 @@ module _ (k k' : Held) (s p : ReplayState) (log : Log) (fresh : (replayer_state 
         subst (λ (x : TraceStop). Traces k.config (Err x) k.state k'.state
         (traced (replayer_state s).told l) (traced (replayer_state p).told l')) is lines in
         let until = replayed_until k (replayer_state s).told p None None None None fresh log same
-        images opened (stops.Misfit found) found s refl run.asks run.causes.shim kept t t' run.grew
-        in
+        first images opened (stops.Misfit found) found s refl run.asks run.causes.shim kept t t'
+        run.grew in
         record {
           output = until.0;
           error = until.1;
           work = until.2;
           replayed = until.3;
           counted = until.4.counted;
-          lines_are = until_lines k (replayer_state s).told fresh p log same images opened l l'
-              found.entry (entry_is found run kept) lines;
+          lines_are = until_lines k (replayer_state s).told fresh p log same first images opened
+              l l' found.entry (entry_is found run kept) lines;
         }
 
     fault_is : (stop : TraceStop) → stop ≡ traces.LineFault
@@ -110,7 +115,7 @@ module _ (k k' : Held) (s p : ReplayState) (log : Log) (fresh : (replayer_state 
         (replayer_state s).told (replayer_state p).told t t')
         → TracedAhead images log l l' t t'
     traced_ahead stop is lines counted =
-        ahead_lines k (replayer_state s).told fresh p log same images opened l l' t t'
+        ahead_lines k (replayer_state s).told fresh p log same first images opened l l' t t'
         (counted (fault_is stop is))
         (subst (λ (x : TraceStop). Traces k.config (Err x) k.state k'.state
         (traced (replayer_state s).told l) (traced (replayer_state p).told l')) is lines)

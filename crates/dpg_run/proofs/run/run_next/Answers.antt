@@ -37,9 +37,17 @@ returns-in-Ok g c =
           c.requires.limit
           c.in-Ok.end c.ending_after.result round.work is c.in-Ok.ensures.round round.plays.goes
           round.grew;
+      limited = λ limit allowed. some_ok (record config { rounds = limit }) s s' b b'
+          (g.W.Workers.tally c.args.workers.now) (g.W.Workers.tally c.run_round.new.workers)
+          (between_here c.args.kernel.now.state c.state-state.result.now c.args.kernel.now.config
+          c.state-state.ensures.state
+          (c.state-state.ensures.sound c.requires.running)).sound.counted.round allowed
+          c.in-Ok.end c.ending_after.result round.work is c.in-Ok.ensures.round round.plays.goes
+          round.grew;
       round = next_numbered s.round s'.round c.in-Ok.end c.ending_after.result is
           c.in-Ok.ensures.round;
       uncounted = tt;
+      marked = c.run_round.ensures.marked;
       told = plays_told config.quantum (λ w. round_of w)
           (λ w. done (end_in c.in-Ok.end round.work w)) s s' b b' round.plays.goes
           c.requires.told;
@@ -67,8 +75,15 @@ returns-in-Err g c =
           (c.state-state.ensures.sound c.requires.running)).sound.counted.round
           c.requires.limit
           c.in-Err.stop round.work round.plays round.until round.grew;
+      limited = λ limit allowed. some_err (record config { rounds = limit }) s s' b b'
+          (g.W.Workers.tally c.args.workers.now) (g.W.Workers.tally c.run_round.new.workers)
+          (between_here c.args.kernel.now.state c.state-state.result.now c.args.kernel.now.config
+          c.state-state.ensures.state
+          (c.state-state.ensures.sound c.requires.running)).sound.counted.round allowed
+          c.in-Err.stop round.work round.plays round.until round.grew;
       round = tt;
       uncounted = c.in-Err.ensures.uncounted;
+      marked = c.run_round.ensures.marked;
       told = tt;
       sound = c.run_round.ensures.sound;
       config = c.run_round.ensures.config;

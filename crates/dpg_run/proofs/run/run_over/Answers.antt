@@ -5,8 +5,8 @@ use Rattle.dos_world.specs.declared.Ending.{Ending}
 use Rattle.dos_io.specs.Borders.{BorderState}
 use Rattle.kernel_calls.specs.declared.state.State.{State}
 use Rattle.dpg_run.specs.GroupRuns.{IsCountedIn, PlaysSome}
-use Rattle.dpg_run.proofs.RoundsRun.{all_err, all_ok, between_here, runs_stopped, some_over}
-use Rattle.dpg_run.proofs.RoundsRun.{some_then}
+use Rattle.dpg_run.proofs.RoundsRun.{all_err, all_ok, between_here, counted_none, runs_stopped}
+use Rattle.dpg_run.proofs.RoundsRun.{some_as, some_over, some_then}
 use Rattle.dpg_run.proofs.run.run_over.Goals as goal
 
 -- as many rounds as there may be leave none
@@ -37,13 +37,6 @@ returns-in-Err g c = record {
   fixed = c.run_some.ensures.fixed;
 }
 
--- the rounds have come to this
-some_as : (config : Config) (s s' : State) (b b' : BorderState) (t t' : ℕ)
-    (ended is : Option Ending) → ended ≡ is → PlaysSome config (Ok ended) s b s' b' t t'
-    → PlaysSome config (Ok is) s b s' b' t t'
-some_as config s s' b b' t t' ended is same h =
-    subst (λ (x : Option Ending). PlaysSome config (Ok x) s b s' b' t t') same h
-
 pub returns-in-Ok-Some-clause-runs : goal.returns-in-Ok-Some-clause-runs
 returns-in-Ok-Some-clause-runs g c =
     let config = c.args.kernel.now.config in
@@ -57,11 +50,6 @@ returns-in-Ok-Some-clause-runs g c =
     (c.run_some.ensures.failed ∙ ap is_err c.in-Ok-Some.is)
     (all_ok config c.in-Ok-Some.ending s s' b b' t t'
     (some_as config s s' b b' t t' _ _ c.in-Ok-Some.field-0-is c.in-Ok-Some.ensures.some))
-
-counted_none : (ended : Option Ending) (rounds start now : ℕ) → ended ≡ None
-    → IsCountedIn ended rounds start now → now ≡ start + rounds
-counted_none None rounds start now is counted = counted
-counted_none (Some ending) rounds start now is counted = absurd cc
 
 pub returns-in-Ok-None-clause-runs : goal.returns-in-Ok-None-clause-runs
 returns-in-Ok-None-clause-runs g c =

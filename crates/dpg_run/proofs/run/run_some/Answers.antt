@@ -3,14 +3,31 @@ use Rattle.std.proofs.Common.{Option, Some}
 use Rattle.std.specs.Prelude.{is_err}
 use Rattle.std.proofs.lemmas.Result.{err_from_is_err_and}
 use Rattle.dos_world.specs.declared.Ending.{Ending}
-use Rattle.dpg_run.specs.GroupRuns.{PlaysSome}
-use Rattle.dpg_run.proofs.RoundsRun.{between_here, counted_more, counted_one, some_none, some_over}
-use Rattle.dpg_run.proofs.RoundsRun.{some_then, where_false, where_true, with_nothing}
+use Rattle.dpg_run.specs.GroupRuns.{PlaysSome, limited_by}
+use Rattle.std.specs.Prelude.{min}
+use Rattle.std.proofs.Common.{◌-◌}
+use Rattle.dpg_run.proofs.RoundsRun.{between_here, counted_fewer, counted_more, counted_one, on_all}
+use Rattle.dpg_run.proofs.RoundsRun.{on_next, on_nothing, some_none, some_over}
+use Rattle.dos_world.specs.declared.Config.{Config}
+use Rattle.dpg_run.specs.GroupRuns.{PlaysNext}
+use Rattle.std.proofs.Common.{◌<◌}
+use Rattle.dpg_run.proofs.RoundsRun.{limited_then, some_then, where_false, where_true, with_nothing}
 use Rattle.dpg_run.proofs.run.run_some.Goals as goal
 
 all_counted : (start now i rounds : ℕ) → now ≡ start + i → i ≤ rounds → rounds ≤ i
     → now ≡ start + rounds
 all_counted start now i rounds is few past = omega (arith, is, few, past)
+
+-- what a limit of these rounds leaves
+over_limit : (n rounds run : ℕ) → rounds ≤ run → min n rounds ≤ run
+over_limit n rounds run past = omega (arith, past)
+
+within_limit_here : (start now i rounds limit : ℕ) → 1 ≤ start → now ≡ start + i → i < rounds
+    → now - 1 < limit → now ≤ min (start - 1 + rounds) limit
+within_limit_here start now i rounds limit first is less left = omega (arith, first, is, less, left)
+
+is_fewer : (start now i rounds : ℕ) → now ≡ start + i → i < rounds → now < start + rounds
+is_fewer start now i rounds is less = omega (arith, is, less)
 
 pub run_next-requires-clause-running : goal.run_next-requires-clause-running
 run_next-requires-clause-running g c = λ κs alive. c.loop-round.invariant.running
@@ -27,9 +44,16 @@ pub loop-round-init : goal.loop-round-init
 loop-round-init g c = record {
   some = some_none c.args.kernel.now.config c.args.kernel.now.state
       (g.B.Border.state c.args.border.now) (g.W.Workers.tally c.args.workers.now);
+  limited = some_none
+      (limited_by (c.args.kernel.now.state.round - 1 + c.args.rounds) c.args.kernel.now.config)
+      c.args.kernel.now.state (g.B.Border.state c.args.border.now)
+      (g.W.Workers.tally c.args.workers.now);
+  on = on_nothing c.args.kernel.now.config.quantum c.args.kernel.now.state
+      (g.B.Border.state c.args.border.now);
   running = c.requires.running;
   round = sym (with_nothing _);
   few = omega arith;
+  marked = refl;
   sound = between_here c.args.kernel.now.state c.state-state.result.now c.args.kernel.now.config
       c.state-state.ensures.state (c.state-state.ensures.sound c.requires.running);
   config = refl;
@@ -50,7 +74,20 @@ returns-then-is_over g c =
           c.limit_ending.result
           (where_true c.is_over.result _ _ c.if-is_over.true c.is_over.ensures)
           c.limit_ending.ensures.ending);
-      counted = tt;
+      limited = limited_then (c.args.kernel.now.state.round - 1 + c.args.rounds)
+          c.args.kernel.now.config c.loop-round.kernel.config (Ok (Some c.limit_ending.result))
+          c.args.kernel.now.state c.loop-round.kernel.state c.loop-round.kernel.state _ _ _ _ _ _
+          inv.config inv.limited
+          (some_over (limited_by (c.args.kernel.now.state.round - 1 + c.args.rounds)
+          c.loop-round.kernel.config) c.loop-round.kernel.state _ _ c.limit_ending.result
+          (over_limit (c.args.kernel.now.state.round - 1 + c.args.rounds)
+          c.loop-round.kernel.config.rounds (c.loop-round.kernel.state.round - 1)
+          (where_true c.is_over.result _ _ c.if-is_over.true c.is_over.ensures))
+          c.limit_ending.ensures.ending);
+      counted = is_fewer c.args.kernel.now.state.round c.loop-round.kernel.state.round
+          c.loop-round._round c.args.rounds inv.round c.loop-round-test.true;
+      on = tt;
+      marked = inv.marked;
       told = inv.told;
       sound = c.limit_ending.ensures.sound;
       config = inv.config;
@@ -67,7 +104,20 @@ returns-in_err-ending g c =
       some = some_then c.args.kernel.now.config c.loop-round.kernel.config (Err _)
           c.args.kernel.now.state c.loop-round.kernel.state c.run_next.new.kernel.state _ _ _ _ _ _
           inv.config inv.some c.in_err-ending.ensures.some;
+      limited = limited_then (c.args.kernel.now.state.round - 1 + c.args.rounds)
+          c.args.kernel.now.config c.loop-round.kernel.config (Err _) c.args.kernel.now.state
+          c.loop-round.kernel.state c.run_next.new.kernel.state _ _ _ _ _ _ inv.config inv.limited
+          (c.in_err-ending.ensures.limited _
+          (within_limit_here c.args.kernel.now.state.round c.loop-round.kernel.state.round
+          c.loop-round._round c.args.rounds c.loop-round.kernel.config.rounds
+          (between_here c.args.kernel.now.state c.state-state.result.now c.args.kernel.now.config
+          c.state-state.ensures.state
+          (c.state-state.ensures.sound c.requires.running)).sound.counted.round inv.round
+          c.loop-round-test.true
+          (where_false c.is_over.result _ _ c.if-is_over.false c.is_over.ensures)));
       counted = tt;
+      on = tt;
+      marked = c.run_next.ensures.marked ∙ inv.marked;
       told = tt;
       sound = c.run_next.ensures.sound;
       config = c.run_next.ensures.config ∙ inv.config;
@@ -88,7 +138,31 @@ returns-in-Some g c =
           (Ok c.in_ok-ending.field-0) c.args.kernel.now.state c.loop-round.kernel.state
           c.run_next.new.kernel.state _ _ _ _ _ _ inv.config inv.some
           c.in_ok-ending.ensures.some);
-      counted = tt;
+      limited = subst (λ (ended : Option Ending). PlaysSome
+          (limited_by (c.args.kernel.now.state.round - 1 + c.args.rounds) c.args.kernel.now.config)
+          (Ok ended) c.args.kernel.now.state (g.B.Border.state c.args.border.now)
+          c.run_next.new.kernel.state (g.B.Border.state c.run_next.new.border)
+          (g.W.Workers.tally c.args.workers.now) (g.W.Workers.tally c.run_next.new.workers))
+          c.in-Some.is
+          (limited_then (c.args.kernel.now.state.round - 1 + c.args.rounds)
+          c.args.kernel.now.config c.loop-round.kernel.config (Ok c.in_ok-ending.field-0)
+          c.args.kernel.now.state c.loop-round.kernel.state c.run_next.new.kernel.state _ _ _ _ _ _
+          inv.config inv.limited
+          (c.in_ok-ending.ensures.limited _
+          (within_limit_here c.args.kernel.now.state.round c.loop-round.kernel.state.round
+          c.loop-round._round c.args.rounds c.loop-round.kernel.config.rounds
+          (between_here c.args.kernel.now.state c.state-state.result.now c.args.kernel.now.config
+          c.state-state.ensures.state
+          (c.state-state.ensures.sound c.requires.running)).sound.counted.round inv.round
+          c.loop-round-test.true
+          (where_false c.is_over.result _ _ c.if-is_over.false c.is_over.ensures))));
+      counted = counted_fewer c.in_ok-ending.field-0 _ c.loop-round._round c.args.rounds
+          c.args.kernel.now.state.round c.loop-round.kernel.state.round
+          c.run_next.new.kernel.state.round c.in-Some.is inv.round c.loop-round-test.true
+          (counted_one c.in_ok-ending.field-0 c.loop-round.kernel.state.round
+          c.run_next.new.kernel.state.round c.in_ok-ending.ensures.round);
+      on = tt;
+      marked = c.run_next.ensures.marked ∙ inv.marked;
       told = c.in_ok-ending.ensures.told;
       sound = c.run_next.ensures.sound;
       config = c.run_next.ensures.config ∙ inv.config;
@@ -110,6 +184,31 @@ loop-round-preserved g c =
           (Ok c.in_ok-ending.field-0) c.args.kernel.now.state c.loop-round.kernel.state
           c.run_next.new.kernel.state _ _ _ _ _ _ inv.config inv.some
           c.in_ok-ending.ensures.some);
+      limited = subst (λ (ended : Option Ending). PlaysSome
+          (limited_by (c.args.kernel.now.state.round - 1 + c.args.rounds) c.args.kernel.now.config)
+          (Ok ended) c.args.kernel.now.state (g.B.Border.state c.args.border.now)
+          c.run_next.new.kernel.state (g.B.Border.state c.run_next.new.border)
+          (g.W.Workers.tally c.args.workers.now) (g.W.Workers.tally c.run_next.new.workers))
+          c.in_default.is
+          (limited_then (c.args.kernel.now.state.round - 1 + c.args.rounds)
+          c.args.kernel.now.config c.loop-round.kernel.config (Ok c.in_ok-ending.field-0)
+          c.args.kernel.now.state c.loop-round.kernel.state c.run_next.new.kernel.state _ _ _ _ _ _
+          inv.config inv.limited
+          (c.in_ok-ending.ensures.limited _
+          (within_limit_here c.args.kernel.now.state.round c.loop-round.kernel.state.round
+          c.loop-round._round c.args.rounds c.loop-round.kernel.config.rounds
+          (between_here c.args.kernel.now.state c.state-state.result.now c.args.kernel.now.config
+          c.state-state.ensures.state
+          (c.state-state.ensures.sound c.requires.running)).sound.counted.round inv.round
+          c.loop-round-test.true
+          (where_false c.is_over.result _ _ c.if-is_over.false c.is_over.ensures))));
+      on = on_next c.in_ok-ending.field-0 c.args.kernel.now.config.quantum c.loop-round._round
+          c.args.kernel.now.state c.loop-round.kernel.state c.run_next.new.kernel.state _ _ _
+          c.in_default.is inv.on
+          (subst (λ (k : Config). PlaysNext k.quantum (Ok c.in_ok-ending.field-0)
+          c.loop-round.kernel.state (g.B.Border.state c.loop-round.border)
+          c.run_next.new.kernel.state (g.B.Border.state c.run_next.new.border)) inv.config
+          c.in_ok-ending.ensures.plays);
       running = running;
       round = counted_more c.in_ok-ending.field-0 c.loop-round._round
           c.args.kernel.now.state.round c.loop-round.kernel.state.round
@@ -117,6 +216,7 @@ loop-round-preserved g c =
           (counted_one c.in_ok-ending.field-0 c.loop-round.kernel.state.round
           c.run_next.new.kernel.state.round c.in_ok-ending.ensures.round);
       few = omega (arith, c.loop-round-test.true);
+      marked = c.run_next.ensures.marked ∙ inv.marked;
       sound = c.run_next.ensures.sound running;
       config = c.run_next.ensures.config ∙ inv.config;
       told = c.in_ok-ending.ensures.told;
@@ -129,8 +229,13 @@ returns g c =
     let inv = c.loop-round.invariant in
     record {
       some = inv.some;
+      limited = inv.limited;
       counted = all_counted c.args.kernel.now.state.round c.loop-round.kernel.state.round
           c.loop-round._round c.args.rounds inv.round inv.few c.loop-round-test.false;
+      on = on_all c.args.kernel.now.config.quantum c.loop-round._round c.args.rounds
+          c.args.kernel.now.state c.loop-round.kernel.state _ _ inv.few c.loop-round-test.false
+          inv.on;
+      marked = inv.marked;
       told = inv.told;
       sound = λ _. inv.sound;
       config = inv.config;

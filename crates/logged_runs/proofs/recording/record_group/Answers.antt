@@ -10,9 +10,6 @@ use Rattle.logged_runs.proofs.recording.record_group.Goals as goal
 pub run_group-requires-clause-running : goal.run_group-requires-clause-running
 run_group-requires-clause-running g c = λ κs alive. c.requires.running
 
-pub run_group-requires-clause-fresh : goal.run_group-requires-clause-fresh
-run_group-requires-clause-fresh g c = λ κs alive. c.requires.fresh
-
 pub run_group-requires-clause-told : goal.run_group-requires-clause-told
 run_group-requires-clause-told g c = λ κs alive.
     no_end_told c.of-shim.result.ledger c.args.ledger c.of-shim.ensures.ledger c.requires.begins

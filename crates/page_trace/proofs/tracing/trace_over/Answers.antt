@@ -9,8 +9,8 @@ trace_rounds-requires-clause-running g c = λ κs alive. c.requires.running
 pub trace_rounds-requires-clause-told : goal.trace_rounds-requires-clause-told
 trace_rounds-requires-clause-told g c = λ κs alive. c.requires.told
 
-pub trace_rounds-requires-clause-owners : goal.trace_rounds-requires-clause-owners
-trace_rounds-requires-clause-owners g c = λ κs alive. c.requires.owners
+pub trace_rounds-requires-clause-marked : goal.trace_rounds-requires-clause-marked
+trace_rounds-requires-clause-marked g c = λ κs alive. c.requires.marked
 
 pub end_run-requires : goal.end_run-requires
 end_run-requires g c = c.in-Ok.ensures.told

@@ -26,8 +26,8 @@ trace_next-requires-clause-limit g c = λ κs alive.
 pub trace_next-requires-clause-told : goal.trace_next-requires-clause-told
 trace_next-requires-clause-told g c = λ κs alive. c.loop-round.invariant.told
 
-pub trace_next-requires-clause-owners : goal.trace_next-requires-clause-owners
-trace_next-requires-clause-owners g c = λ κs alive. c.loop-round.invariant.owners
+pub trace_next-requires-clause-marked : goal.trace_next-requires-clause-marked
+trace_next-requires-clause-marked g c = λ κs alive. c.loop-round.invariant.marked
 
 -- the round is one that the configuration leaves
 allowed : (g : Over) (c : After-trace_next g)
@@ -52,7 +52,7 @@ loop-round-init g c = record {
   sound = c.rounds_left-round-end.ensures.sound;
   config = refl;
   told = c.requires.told;
-  owners = c.requires.owners;
+  marked = c.requires.marked;
   later = le_refl _;
   steady = refl;
   follows = g.met.B.Border.reflexive c.args.border.now;
@@ -131,7 +131,7 @@ loop-round-preserved g c =
       sound = next.sound c.in_ok-ending.ensures.failed;
       config = next.config ∙ inv.config;
       told = traces.running;
-      owners = c.in_ok-ending.ensures.owners;
+      marked = c.in_ok-ending.ensures.marked;
       later = le_trans inv.later next.later;
       steady = c.in_ok-ending.ensures.steady (no_fault _) ∙ inv.steady;
       follows = g.met.B.Border.transitive _ _ _ inv.follows next.follows;

@@ -19,7 +19,7 @@ invariant-loop-round g l = record {
   sound : IsBetweenRounds l.kernel.state l.kernel.config;
   config : l.kernel.config ≡ l.fn.kernel.config;
   told : HasNoEnd (g.B.Border.state l.border).shim.told;
-  owners : l.owners ≡ l.kernel.state.frames.owners;
+  marked : l.kernel.state.frames.marked ≡ l.kernel.state.frames.owners;
   later : g.T.Sink.faults l.fn.lines ≤ g.T.Sink.faults l.lines;
   steady : g.T.Sink.faults l.lines ≡ g.T.Sink.faults l.fn.lines;
   follows : g.B.Border.follows l.fn.border l.border;

@@ -1,6 +1,6 @@
 use Rattle.std.proofs.Common.{sym, subst}
 use Rattle.dos_io.specs.Shims.{HasNoEnd}
-use Rattle.logged_runs.proofs.Replays.{nothing_told, same_log}
+use Rattle.logged_runs.proofs.Replays.{from_first, nothing_told, same_log}
 use Rattle.traced_logs.proofs.Stops.{lines_stay, no_trace_stop, this_trace_stop, traced_ahead}
 use Rattle.traced_logs.proofs.Stops.{traced_only, traced_until, traced_whole}
 use Rattle.traced_logs.proofs.tracing.trace_log.Goals as goal
@@ -18,7 +18,8 @@ returns-in-Ok g c =
     record {
       ran = λ images opened. traced_whole c.args.kernel.now c.run_traced.new.kernel
           c.new-shim.result c.run_traced.new.shim c.args.log (nothing_told _ _ c.new-shim.ensures)
-          (same_log _ _ _ c.new-shim.ensures run.follows) _ _ _ _ _ images opened c.in-Ok.ending
+          (same_log _ _ _ c.new-shim.ensures run.follows)
+          (from_first _ _ _ c.new-shim.ensures run.follows) _ _ _ _ _ images opened c.in-Ok.ending
           c.len-exchanges.ensures.fits run.runs run.traces;
       misfit = λ found is. absurd (no_trace_stop _ _ is);
       cut = λ is. absurd (no_trace_stop _ _ is);
@@ -36,6 +37,7 @@ returns g c =
     let run = c.in-Err.ensures in
     let told = nothing_told _ _ c.new-shim.ensures in
     let log = same_log _ _ _ c.new-shim.ensures run.follows in
+    let first = from_first _ _ _ c.new-shim.ensures run.follows in
     let k = c.args.kernel.now in
     let k' = c.run_traced.new.kernel in
     let s = c.new-shim.result in
@@ -46,14 +48,14 @@ returns g c =
     let t' = g.W.Workers.tally c.run_traced.new.workers in
     record {
       ran = tt;
-      misfit = λ found is images opened. traced_until k k' s p c.args.log told log l l'
+      misfit = λ found is images opened. traced_until k k' s p c.args.log told log first l l'
           k'.failed t t' images opened c.in-Err.stop found (this_trace_stop _ _ is)
           c.look.ensures run.runs run.traces;
-      cut = λ is images opened. traced_ahead k k' s p c.args.log told log l l' k'.failed t t'
+      cut = λ is images opened. traced_ahead k k' s p c.args.log told log first l l' k'.failed t t'
           images opened c.in-Err.stop (this_trace_stop _ _ is) run.traces run.counted;
       memory = λ is. lines_stay k k' _ _ _ _ c.in-Err.stop (this_trace_stop _ _ is) run.traces;
       rested = run.rested;
-      only = traced_only k k' s p c.args.log told log l l' k'.failed t t' c.in-Err.stop
+      only = traced_only k k' s p c.args.log told log first l l' k'.failed t t' c.in-Err.stop
           c.look.ensures run.runs;
       cause = run.cause;
       later = run.later;

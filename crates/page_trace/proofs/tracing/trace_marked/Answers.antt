@@ -1,8 +1,9 @@
 use Rattle.std.proofs.Common.{sym, ap, subst, ◌∙◌}
 use Rattle.dos_io.specs.Borders.{BorderState}
 use Rattle.dpg_run.specs.GroupRuns.{RunsGroup}
-use Rattle.page_trace.specs.Tracing.{Counts, OfRun, Traces, border_of, traced}
-use Rattle.page_trace.proofs.tracing.trace_owned.Goals as goal
+use Rattle.dpg_run.specs.Reached.{border_of}
+use Rattle.page_trace.specs.Tracing.{Counts, OfRun, Traces, traced}
+use Rattle.page_trace.proofs.tracing.trace_marked.Goals as goal
 
 pub returns : goal.returns
 returns g c =
