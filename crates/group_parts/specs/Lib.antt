@@ -1,0 +1,4 @@
+pub mod PipeEnds
+pub mod FrameLists
+pub mod Reading
+pub mod Restoring
