@@ -10,6 +10,8 @@ declare -A options_of=(
   [gen]='--number=number --threads=1-32 --workers=1-32'
   [migrate]='--log=file --to=file'
   [trace]='--log=file --workers=1-32'
+  ['save']='--log=file --round=1-1000000 --to=file --workers=1-32'
+  [resume]='--log=file --from=file --workers=1-32'
 )
 
 # What the option $1 of the command $2 takes, or nothing where it has no such option.
@@ -41,9 +43,12 @@ why_not() {
 # Which word isn't one, of words that ask for nothing.
 wrong_word() {
   local command=${1-} word value kind why names=0 given=' ' is_open=1
-  [ $# -gt 0 ] || { echo 'a command is wanted: run, replay, inspect, gen, migrate or trace'; return; }
+  [ $# -gt 0 ] || {
+    echo 'a command is wanted: run, replay, inspect, gen, migrate, trace, save or resume'
+    return
+  }
   [ -n "$command" ] && [ "${options_of[$command]+known}" ] || {
-    echo "$command is no command: these are run, replay, inspect, gen, migrate and trace"
+    echo "$command is no command: these are run, replay, inspect, gen, migrate, trace, save and resume"
     return
   }
   shift
@@ -79,30 +84,42 @@ wrong_word() {
     migrate)
       [[ $given = *' --log '* && $given = *' --to '* ]] ||
         { echo 'migrate wants --log and --to, each with a file'; return; } ;;
+    save)
+      [[ $given = *' --log '* && $given = *' --round '* && $given = *' --to '* ]] ||
+        { echo 'save wants --log, --round and --to'; return; } ;;
+    resume)
+      [[ $given = *' --log '* && $given = *' --from '* ]] ||
+        { echo 'resume wants --log and --from, each with a file'; return; } ;;
   esac
   case $command$names in
-    gen0|migrate0|inspect1|run[1-8]|replay[1-8]|trace[1-8]) ;;
-    gen*|migrate*) echo "$command takes no names" ;;
+    gen0|migrate0|resume0|inspect1|run[1-8]|replay[1-8]|trace[1-8]|save[1-8]) ;;
+    gen*|migrate*|resume*) echo "$command takes no names" ;;
     inspect*) echo 'inspect takes one name' ;;
     *0) echo "$command wants the name of a file" ;;
     *) echo "$command takes at most 8 names" ;;
   esac
 }
 
-# The file that `run` or `migrate` would write a log to, where there is such a file and it isn't a log:
-# it doesn't begin as one does.
-no_log() {
-  local log= option
-  case ${1-} in run) option=--log ;; migrate) option=--to ;; *) return ;; esac
+# Which file `run`, `migrate` or `save` would write a log or a group over, where there is such a file
+# and it is none: it doesn't begin as one does.
+no_place() {
+  local file= option magic=DPGL kind=log
+  case ${1-} in
+    run) option=--log ;;
+    migrate) option=--to ;;
+    save) option=--to magic=DPGS kind='saved group' ;;
+    *) return ;;
+  esac
   shift
   while [ $# -gt 0 ]; do
     case $1 in
       --) break ;;
-      "$option") log=${2-} ;;
-      "$option"=*) log=${1#"$option"=} ;;
+      "$option") file=${2-} ;;
+      "$option"=*) file=${1#"$option"=} ;;
     esac
     case $1 in --*=*) shift ;; --*) shift; [ $# -eq 0 ] || shift ;; *) shift ;; esac
   done
-  [ -n "$log" ] && [ -f "$log" ] && [ -s "$log" ] || return
-  [ "$(head -c 4 -- "$log" 2> /dev/null | tr '\0' ' ')" = DPGL ] || printf '%s\n' "$log"
+  [ -n "$file" ] && [ -f "$file" ] && [ -s "$file" ] || return
+  [ "$(head -c 4 -- "$file" 2> /dev/null | tr '\0' ' ')" = $magic ] ||
+    printf '%s\n' "$file is a file that isn't a $kind"
 }

@@ -15,11 +15,15 @@ use Rattle.log_files.specs.Judging.{IsOfFile, disagreement, first_other}
 use Rattle.log_files.specs.declared.refusal.LogRefusal.{LogRefusal}
 use Rattle.log_files.specs.declared.refusal.LogRefusal.TheVariants as logs
 use Rattle.shim_log.specs.LogText.{Log}
+use Rattle.dos_world.specs.declared.Ending.{Ending}
 use Rattle.dos_texts.specs.declared.refusal.Refusal.{Refusal}
 use Rattle.dos_texts.specs.declared.refusal.Refusal.TheVariants as refusals
 use Rattle.dos_words.specs.Numbers.{Text}
 use Rattle.dos_words.specs.declared.request.Request.{Request}
 use Rattle.dos_cmd.specs.Asking.{Named, files_named, named_by, named_in, file_reads, file_calls}
+use Rattle.dos_cmd.specs.Asking.{named_to_save, reads_for_group}
+use Rattle.group_files.specs.declared.refusal.SavedRefusal.{SavedRefusal}
+use Rattle.group_files.specs.declared.refusal.SavedRefusal.TheVariants as saved
 use Rattle.dos_cmd.specs.Asking.{reads_for, AreFirst, AskedUntil, AskedSoFar, Asks, IsOfImage}
 use Rattle.dos_cmd.specs.Judging.{OfFiles}
 use Rattle.dos_cmd.specs.Migrating.{LeavesMigration}
@@ -28,6 +32,9 @@ use Rattle.dos_cmd.specs.ReplayLeaves.{LeavesTaken, OfLogFile}
 use Rattle.dos_cmd.specs.RunLeaves.{RunAsked}
 use Rattle.dos_cmd.specs.Stops.{IsNotOpened, LeavesRun, refusal_by}
 use Rattle.dos_cmd.specs.TraceLeaves.{LeavesTrace}
+use Rattle.dos_cmd.specs.SaveLeaves.{LeavesSave}
+use Rattle.dos_cmd.specs.ResumeLeaves.{LeavesResume}
+use Rattle.group_text.specs.Groups.{SavedGroup}
 use Rattle.dos_world.specs.declared.Config.{Config}
 
 -- ---- nothing was asked
@@ -44,10 +51,15 @@ no_reads (logs.Images logged given) = refl
 no_reads (logs.Digest number digest kept) = refl
 no_reads why = refl
 
+no_group_reads : (why : SavedRefusal) → [] ≡ reads_for_group (files_named [] [] []) why
+no_group_reads saved.OtherLog = refl
+no_group_reads why = refl
+
 none_until : (why : Refusal) → AskedUntil (files_named [] [] []) why []
 none_until (refusals.TooLong image) = no_image image
 none_until (refusals.Image image error) = no_image image
 none_until (refusals.Log why) = no_reads why
+none_until (refusals.Group why) = no_group_reads why
 none_until refusals.Files = ([], refl)
 none_until refusals.Memory = ([], refl)
 none_until refusals.Sink = inl refl
@@ -129,6 +141,12 @@ log_first log names (logs.Digest number digest kept) asked h =
     ap (λ (x : List FileCall). getting log ∷ x) h
 log_first log names why asked h = ap (λ (x : List FileCall). getting log ∷ x) h
 
+group_first : (log : Text) (names : List Text) (why : SavedRefusal) (asked : List FileCall)
+    → asked ≡ reads_for_group (files_named [] names []) why
+    → getting log ∷ asked ≡ reads_for_group (files_named (log ∷ []) names []) why
+group_first log names saved.OtherLog asked h = ap (λ (x : List FileCall). getting log ∷ x) h
+group_first log names why asked h = ap (λ (x : List FileCall). getting log ∷ x) h
+
 log_until : (log : Text) (names : List Text) (why : Refusal) (asked : List FileCall)
     → AskedUntil (files_named [] names []) why asked
     → AskedUntil (files_named (log ∷ []) names []) why (getting log ∷ asked)
@@ -137,6 +155,7 @@ log_until log names (refusals.TooLong image) asked h =
 log_until log names (refusals.Image image error) asked h =
     ap (λ (x : List FileCall). getting log ∷ x) h
 log_until log names (refusals.Log why) asked h = log_first log names why asked h
+log_until log names (refusals.Group why) asked h = group_first log names why asked h
 log_until log names refusals.Files asked h =
     (h.0, ap (λ (x : List FileCall). getting log ∷ x) h.1)
 log_until log names refusals.Memory asked h =
@@ -235,11 +254,12 @@ not_agreed log names given logged why b a is asked =
 
 -- ---- behind all reads
 
--- Neither a log nor an image is refused.
+-- Neither a log, a saved group nor an image is refused.
 abbrev pub IsLater : Refusal → Type 0
 IsLater (refusals.TooLong image) = ⊥
 IsLater (refusals.Image image error) = ⊥
 IsLater (refusals.Log why) = ⊥
+IsLater (refusals.Group why) = ⊥
 IsLater why = ⊤
 
 pub later_if : {T : Type 0} (r : Result T Refusal) (P : Refusal → Type 0)
@@ -263,6 +283,11 @@ later_stop stop why is = subst IsLater (sym is) (go stop)
     go stops.LogFull = tt
     go (stops.Misfit found) = tt
     go stops.Memory = tt
+
+pub later_sink : (r : Result Ending Refusal) → IfErr r (λ why. why ≡ refusals.Sink)
+    → IfErr r IsLater
+later_sink (Ok ending) is = tt
+later_sink (Err why) is = subst IsLater (sym is) tt
 
 pub later_run : (asked : RunAsked) (images : List Image) (o : Outside) (f : Faults) (why : Refusal)
     → LeavesRun asked images o f why → IsLater why
@@ -289,6 +314,22 @@ later_trace log images o f refusals.Sink h = tt
 later_trace log images o f refusals.Memory h = tt
 later_trace log images o f why h = absurd h
 
+pub later_save : (log : Log) (images : List Image) (round : ℕ) (to : Text) (o : Outside)
+    (f : Faults) (why : Refusal) → LeavesSave log images round to o f why → IsLater why
+later_save log images round to o f (refusals.NoRoom n frames) h = tt
+later_save log images round to o f (refusals.Misfit found) h = tt
+later_save log images round to o f refusals.Sink h = tt
+later_save log images round to o f refusals.Files h = tt
+later_save log images round to o f refusals.Memory h = tt
+later_save log images round to o f why h = absurd h
+
+pub later_resume : (g : SavedGroup) (log : Log) (o : Outside) (f : Faults) (why : Refusal)
+    → LeavesResume g log o f why → IsLater why
+later_resume g log o f (refusals.Misfit found) h = tt
+later_resume g log o f refusals.Sink h = tt
+later_resume g log o f refusals.Memory h = tt
+later_resume g log o f why h = absurd h
+
 pub later_migration : (log : Log) (to : Text) (why : Refusal) (tells : Bool)
     (files after : Text → Option (List ℕ)) (out out' : Option (List ℕ)) (k k' n n' : ℕ)
     → LeavesMigration log to why tells files after out out' k k' n n' → IsLater why
@@ -308,6 +349,7 @@ later_until : (log images : List Text) (why : Refusal) → IsLater why
 later_until log images (refusals.TooLong image) later = absurd later
 later_until log images (refusals.Image image error) later = absurd later
 later_until log images (refusals.Log why) later = absurd later
+later_until log images (refusals.Group why) later = absurd later
 later_until log images refusals.Files later = ([], refl)
 later_until log images refusals.Memory later = ([], refl)
 later_until log images refusals.Sink later = inl refl
@@ -381,6 +423,7 @@ unwritten_until : (name : Text) (why : Refusal) → IsLater why
 unwritten_until name (refusals.TooLong image) later = absurd later
 unwritten_until name (refusals.Image image error) later = absurd later
 unwritten_until name (refusals.Log why) later = absurd later
+unwritten_until name (refusals.Group why) later = absurd later
 unwritten_until name refusals.Files later = (setting name ∷ [], refl)
 unwritten_until name refusals.Memory later = (setting name ∷ [], refl)
 unwritten_until name refusals.Sink later = inl refl
@@ -400,6 +443,7 @@ written_until : (log images : List Text) (name : Text) (why : Refusal) (asked : 
 written_until log images name (refusals.TooLong image) asked later h = absurd later
 written_until log images name (refusals.Image image error) asked later h = absurd later
 written_until log images name (refusals.Log why) asked later h = absurd later
+written_until log images name (refusals.Group why) asked later h = absurd later
 written_until log images name refusals.Files asked later h =
     let reads : List FileCall = map getting (log ++ images) in
     (h.0, ap (λ (x : List FileCall). reads ++ x) h.1 ∙ sym (append_assoc reads asked h.0))
@@ -442,6 +486,12 @@ same_reads log images written (logs.Images logged given) asked h = h
 same_reads log images written (logs.Digest number digest kept) asked h = h
 same_reads log images written why asked h = h
 
+same_group_reads : (log images written : List Text) (why : SavedRefusal) (asked : List FileCall)
+    → asked ≡ reads_for_group (files_named log images []) why
+    → asked ≡ reads_for_group (files_named log images written) why
+same_group_reads log images written saved.OtherLog asked h = h
+same_group_reads log images written why asked h = h
+
 more_behind : (reads asked written : List FileCall) → AreFirst asked (reads ++ [])
     → AreFirst asked (reads ++ written)
 more_behind reads asked written h = (
@@ -457,6 +507,8 @@ stopped_until log images written (refusals.TooLong image) asked h = h
 stopped_until log images written (refusals.Image image error) asked h = h
 stopped_until log images written (refusals.Log why) asked h =
     same_reads log images written why asked h
+stopped_until log images written (refusals.Group why) asked h =
+    same_group_reads log images written why asked h
 stopped_until log images written refusals.Files asked h =
     more_behind (map getting (log ++ images)) asked (map setting written) h
 stopped_until log images written refusals.Memory asked h =
@@ -474,6 +526,107 @@ stopped_in_reads log images written why b a h = record {
   until = stopped_until log images written why h.asked h.until;
   after_is = h.after_is;
 }
+
+-- ---- a group that is saved, if it comes to that
+
+save_reads : (logs images : List Text) (to : Text) (why : LogRefusal) (asked : List FileCall)
+    → asked ≡ reads_for (files_named logs images (to ∷ [])) why
+    → asked ≡ reads_for (named_to_save logs images to) why
+save_reads read images to (logs.Images logged given) asked h = h
+save_reads read images to (logs.Digest number digest kept) asked h = h
+save_reads logs images to why asked h = h
+
+save_group_reads : (logs images : List Text) (to : Text) (why : SavedRefusal)
+    (asked : List FileCall) → asked ≡ reads_for_group (files_named logs images (to ∷ [])) why
+    → asked ≡ reads_for_group (named_to_save logs images to) why
+save_group_reads logs images to saved.OtherLog asked h = h
+save_group_reads logs images to why asked h = h
+
+save_until : (logs images : List Text) (to : Text) (why : Refusal) (asked : List FileCall)
+    → AskedUntil (files_named logs images (to ∷ [])) why asked
+    → AskedUntil (named_to_save logs images to) why asked
+save_until logs images to (refusals.TooLong image) asked h = h
+save_until logs images to (refusals.Image image error) asked h = h
+save_until logs images to (refusals.Log why) asked h = save_reads logs images to why asked h
+save_until logs images to (refusals.Group why) asked h =
+    save_group_reads logs images to why asked h
+save_until logs images to refusals.Files asked h = h
+save_until logs images to refusals.Memory asked h = h
+save_until logs images to refusals.Sink asked h = h
+save_until logs images to why asked h = h
+
+-- and back
+reads_save : (logs images : List Text) (to : Text) (why : LogRefusal) (asked : List FileCall)
+    → asked ≡ reads_for (named_to_save logs images to) why
+    → asked ≡ reads_for (files_named logs images (to ∷ [])) why
+reads_save read images to (logs.Images logged given) asked h = h
+reads_save read images to (logs.Digest number digest kept) asked h = h
+reads_save logs images to why asked h = h
+
+group_reads_save : (logs images : List Text) (to : Text) (why : SavedRefusal)
+    (asked : List FileCall) → asked ≡ reads_for_group (named_to_save logs images to) why
+    → asked ≡ reads_for_group (files_named logs images (to ∷ [])) why
+group_reads_save logs images to saved.OtherLog asked h = h
+group_reads_save logs images to why asked h = h
+
+until_save : (logs images : List Text) (to : Text) (why : Refusal) (asked : List FileCall)
+    → AskedUntil (named_to_save logs images to) why asked
+    → AskedUntil (files_named logs images (to ∷ [])) why asked
+until_save logs images to (refusals.TooLong image) asked h = h
+until_save logs images to (refusals.Image image error) asked h = h
+until_save logs images to (refusals.Log why) asked h = reads_save logs images to why asked h
+until_save logs images to (refusals.Group why) asked h =
+    group_reads_save logs images to why asked h
+until_save logs images to refusals.Files asked h = h
+until_save logs images to refusals.Memory asked h = h
+until_save logs images to refusals.Sink asked h = h
+until_save logs images to why asked h = h
+
+pub save_so_far : (logs images : List Text) (to : Text) (why : Refusal) (b a : List FileCall)
+    → AskedSoFar (files_named logs images (to ∷ [])) why b a
+    → AskedSoFar (named_to_save logs images to) why b a
+save_so_far logs images to why b a h = record {
+  asked = h.asked;
+  until = save_until logs images to why h.asked h.until;
+  after_is = h.after_is;
+}
+
+-- it was saved, or couldn't be
+pub saving_asked : {T : Type 0} (r : Result T Refusal) (to : Text) (b a : List FileCall)
+    → Asks (files_named [] [] (to ∷ [])) r b a → Asks (named_to_save [] [] to) r b a
+saving_asked (Ok done) to b a h = inl h
+saving_asked (Err why) to b a h = save_so_far [] [] to why b a h
+
+-- it didn't come to that
+pub not_saving : {T : Type 0} (r : Result T Refusal) (to : Text) (b : List FileCall)
+    → IfErr r IsLater → Asks (named_to_save [] [] to) r b b
+not_saving (Ok done) to b later = inr (none_asked b)
+not_saving (Err why) to b later = save_so_far [] [] to why b b (not_asked to why b later)
+
+-- behind all reads
+pub saved_then : {T : Type 0} (r : Result T Refusal) (logs images : List Text) (to : Text)
+    (b m a : List FileCall) → m ≡ b ++ file_calls (files_named logs images [])
+    → IfErr r IsLater → Asks (named_to_save [] [] to) r m a
+    → Asks (named_to_save logs images to) r b a
+saved_then (Ok done) logs images to b m a first later (inl h) =
+    inl (written_then {T = ⊤} (Ok tt) logs images to b m a first tt h)
+saved_then (Ok done) logs images to b m a first later (inr h) =
+    let reads : List FileCall = map getting (logs ++ images) in
+    inr (h ∙ append-nil m ∙ first ∙ ap (λ (x : List FileCall). b ++ x) (append-nil reads))
+saved_then (Err why) logs images to b m a first later h =
+    save_so_far logs images to why b a
+    (written_then {T = ⊤} (Err why) logs images to b m a first later (record {
+      asked = h.asked;
+      until = until_save [] [] to why h.asked h.until;
+      after_is = h.after_is;
+    }))
+
+-- in the reads
+pub not_saved_yet : (logs images : List Text) (to : Text) (why : Refusal) (b a : List FileCall)
+    → AskedSoFar (files_named logs images []) why b a
+    → AskedSoFar (named_to_save logs images to) why b a
+not_saved_yet logs images to why b a h =
+    save_so_far logs images to why b a (stopped_in_reads logs images (to ∷ []) why b a h)
 
 -- ---- of the request, and of the words
 

@@ -3,7 +3,7 @@ use Rattle.std.proofs.Common.{ℕ, zero, suc, ◌≡◌, ◌≢◌, ◌≤◌, �
 use Rattle.std.proofs.Common.{arith, List, [], ◌∷◌, take, drop, Option, Some, None, IfSome}
 use Rattle.std.proofs.Common.{Result, Ok, Err}
 use Rattle.std.proofs.lemmas.List.{take-append-drop}
-use Rattle.std.specs.Prelude.{IfOk, IfErr, IsErrOf}
+use Rattle.std.specs.Prelude.{IfOk, IfErr, IsErrOf, length}
 use Rattle.std.specs.List.{AllByRecursion}
 use Rattle.std.specs.Int.{IsInRange}
 use Rattle.dos_world.specs.declared.Post.{Post}
@@ -26,14 +26,23 @@ use Rattle.dos_words.specs.Numbers.{Text}
 use Rattle.dos_words.specs.Request.{request}
 use Rattle.dos_words.specs.declared.request.Request.{Request}
 use Rattle.dos_words.specs.declared.request.Request.TheVariants.{Run, Replay, Gen, Migrate}
+use Rattle.dos_words.specs.declared.request.Request.TheVariants.{Save, Resume}
 use Rattle.dos_words.specs.declared.request.Request.TheVariants.{Trace}
 use Rattle.dos_io.specs.FileCalls.{FileCall}
+use Rattle.dpg_run.specs.Fits.{misfit_from}
+use Rattle.flat_machine.specs.Machine.{run_from}
+use Rattle.shim_log.specs.LogText.{exchanges_from}
+use Rattle.dos_cmd.specs.Results.{MustResume, MustSave}
+use Rattle.group_text.specs.Groups.{SavedGroup, world_in}
+use Rattle.dos_cmd.specs.SaveLeaves.{DidSave, MisfittedSave}
+use Rattle.dos_cmd.specs.ResumeLeaves.{DidResume, MisfittedResume}
 use Rattle.dos_cmd.specs.Asking.{AskedSoFar, named_in}
 use Rattle.dos_cmd.specs.Judging.{Taken, judgement}
 use Rattle.dos_cmd.specs.Outside.{Outside, Faults, OutputFailed, Says}
 use Rattle.dos_cmd.specs.ReplayLeaves.{DidReplay, Misfitted}
 use Rattle.dos_cmd.specs.TraceLeaves.{DidTrace, MisfittedTrace}
-use Rattle.dos_cmd.specs.Results.{Begun, NotTaken, OfLog, Did, HasMisfit, WasStopped, Leaves}
+use Rattle.dos_cmd.specs.Results.{Begun, NotTaken, OfBoth, OfLog, Did, HasMisfit, WasStopped}
+use Rattle.dos_cmd.specs.Results.{Leaves}
 use Rattle.dos_cmd.specs.Results.{FullLog, WasDone}
 use Rattle.dos_cmd.specs.Results.{Fails, Refused, CutShort, MustReplay, MustTrace, MustDo}
 use Rattle.dos_cmd.proofs.Saying.{with_error, with_faults, output_failed, fails_more}
@@ -135,11 +144,55 @@ traced_must w log names taken n o h = of_log taken.log h
         fits_have_none 0 (exchanges l) (group taken.images (config_of l.header)) h.replayed.fits in
         subst (λ (m : Option Misfit). MustTrace m l taken n o) (sym none) h
 
+saved_must : (w : ℕ) (log : Text) (round : ℕ) (to : Text) (names : List Text) (taken : Taken)
+    (n : ℕ) (o : Outside) → Did (Save w log round to names) taken n o
+    → MustDo (Save w log round to names) taken n o
+saved_must w log round to names taken n o h = of_log taken.log h
+  where
+    by_misfit : (found : Option Misfit) (l : Log) → DidSave l taken.images round to n o
+        → MustSave found l taken round to n o
+    by_misfit None l h = h
+    by_misfit (Some found) l h = inl h
+
+    of_log : (read : Option Log) → OfLog read (λ l. DidSave l taken.images round to n o)
+        → OfLog read (λ l. MustSave (misfit taken.images (config_of l.header) (exchanges l)) l
+        taken round to n o)
+    of_log None h = absurd h
+    of_log (Some l) h =
+        by_misfit (misfit taken.images (config_of l.header) (exchanges l)) l h
+
+-- of a saved group, as far as it is there
+abbrev GroupMust : ℕ → Outside → SavedGroup → Log → Type 0
+GroupMust n o g l = MustResume
+    (misfit_from g.used (exchanges_from g.used l) (run_from (world_in g) g.config)) g l n o
+
+both_weaker : (P Q : SavedGroup → Log → Type 0) → ((g : SavedGroup) (l : Log) → P g l → Q g l)
+    → (group : Option SavedGroup) (log : Option Log) → OfBoth group log P → OfBoth group log Q
+both_weaker P Q f None log h = absurd h
+both_weaker P Q f (Some g) None h = absurd h
+both_weaker P Q f (Some g) (Some l) h = f g l h
+
+resumed_must : (w : ℕ) (log from : Text) (taken : Taken) (n : ℕ) (o : Outside)
+    → Did (Resume w log from) taken n o → MustDo (Resume w log from) taken n o
+resumed_must w log from taken n o h =
+    both_weaker (λ g l. DidResume g l n o) (GroupMust n o) must taken.group taken.log h
+  where
+    must : (g : SavedGroup) (l : Log) → DidResume g l n o → GroupMust n o g l
+    must g l h =
+        let none : misfit_from g.used (exchanges_from g.used l) (run_from (world_in g) g.config)
+        ≡ None =
+        fits_have_none g.used (exchanges_from g.used l) (run_from (world_in g) g.config)
+        (h.resumed.fits [] []) in
+        subst (λ (m : Option Misfit). MustResume m g l n o) (sym none) h
+
 did_must : (words : List Text) (asked : Request) (taken : Taken) (n : ℕ) (o : Outside)
     → Did asked taken n o → MustDo asked taken n o
 did_must words (Replay w log names) taken n o h = replayed_must words w log names taken n o h
 did_must words (Trace w log names) taken n o h = traced_must w log names taken n o h
 did_must words (Migrate log to) taken n o h = h
+did_must words (Save w log round to names) taken n o h =
+    saved_must w log round to names taken n o h
+did_must words (Resume w log from) taken n o h = resumed_must w log from taken n o h
 did_must words asked taken n o h = λ full. h
 
 pub finished_must : (words : List Text) (n : ℕ) (o : Outside) (asked : Request) (taken : Taken)
@@ -205,6 +258,24 @@ misfit_must (Trace w log names) taken found n o is h = of_log taken.log h
     of_log None h = absurd h
     of_log (Some l) h =
         subst (λ (m : Option Misfit). MustTrace m l taken n o) (sym h.replayed.is) (is, h)
+misfit_must (Save w log round to names) taken found n o is h = of_log taken.log h
+  where
+    of_log : (read : Option Log)
+        → OfLog read (λ l. MisfittedSave l taken.images round found
+        (line_of (refusals.Misfit found)) o)
+        → OfLog read (λ l. MustSave (misfit taken.images (config_of l.header) (exchanges l)) l
+        taken round to n o)
+    of_log None h = absurd h
+    of_log (Some l) h =
+        subst (λ (m : Option Misfit). MustSave m l taken round to n o) (sym h.run.replayed.is)
+        (inr (is, h))
+misfit_must (Resume w log from) taken found n o is h =
+    both_weaker (λ g l. MisfittedResume g l found (line_of (refusals.Misfit found)) o)
+    (GroupMust n o) must taken.group taken.log h
+  where
+    must : (g : SavedGroup) (l : Log)
+        → MisfittedResume g l found (line_of (refusals.Misfit found)) o → GroupMust n o g l
+    must g l h = subst (λ (m : Option Misfit). MustResume m g l n o) (sym h.resumed.is) (is, h)
 misfit_must asked taken found n o is h = absurd h
 
 -- of a log that is full, in a run
@@ -365,6 +436,10 @@ fits_run asked q r f w posts start step log names is fits = subst FitsRequest is
 pub fits_gen : (asked : Request) (number threads w : ℕ) → asked ≡ Gen number threads w
     → FitsRequest asked → IsInRange 1 32 threads
 fits_gen asked number threads w is fits = (subst FitsRequest is fits).1
+
+pub fits_save : (asked : Request) (w : ℕ) (log : Text) (round : ℕ) (to : Text) (names : List Text)
+    → asked ≡ Save w log round to names → FitsRequest asked → IsInRange 1 8 (length names)
+fits_save asked w log round to names is fits = (subst FitsRequest is fits).2
 
 -- the same request
 pub did_as : (r : Result Ending Refusal) (asked other : Request) (o : Outside)

@@ -44,7 +44,7 @@ use Rattle.dos_texts.specs.declared.refusal.Refusal.{Refusal}
 use Rattle.dos_texts.specs.declared.refusal.Refusal.TheVariants as refusals
 use Rattle.dos_words.specs.Numbers.{Text}
 use Rattle.dos_words.specs.declared.request.Request.TheVariants as requests
-use Rattle.dos_cmd.specs.Judging.{gen_config}
+use Rattle.dos_cmd.specs.Judging.{gen_config, taken_images}
 use Rattle.dos_cmd.specs.Outside.{Faults, outside, faults}
 use Rattle.dos_cmd.specs.Printing.{HaltedQuietly, RanQuietly, byte_count}
 use Rattle.dos_cmd.specs.Results.{Begun, Did, Leaves}
@@ -254,7 +254,7 @@ leaves_stopped number threads n tells f h out e tally tally' counts why is halte
     subst (λ (w : Refusal). Leaves (requests.Gen number threads n)
     (outside tells f f h h out out e e tally tally') counts w []) (sym is)
     (inr (inl (record {
-      taken = record { log = None; images = generated number threads ∷ [] };
+      taken = taken_images (generated number threads ∷ []);
       is = refl;
       so = record {
         halted = halted;
@@ -286,7 +286,7 @@ module _ (number threads : ℕ) (kernel' : Held) (ending : Ending) (count : ℕ)
       (λ taken. Did (requests.Gen number threads n) taken (ending_status ending)
       (outside tells f f h h out out' e e tally tally'))
   gen_did told = λ n tells f h e. record {
-    taken = record { log = None; images = generated number threads ∷ [] };
+    taken = taken_images (generated number threads ∷ []);
     is = refl;
     so = record {
       seen = ran.seen;
@@ -312,7 +312,7 @@ module _ (number threads : ℕ) (kernel' : Held) (ending : Ending) (count : ℕ)
     inl rose,
     refl,
     record {
-      taken = record { log = None; images = generated number threads ∷ [] };
+      taken = taken_images (generated number threads ∷ []);
       is = refl;
       so = record {
         seen = ran.seen;

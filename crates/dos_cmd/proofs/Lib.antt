@@ -10,6 +10,9 @@ pub mod ReplayTaking
 pub mod ReplayEnds
 mod TraceEnds
 mod MigrationEnds
+mod SaveEnds
+mod SaveCalls
+mod ResumeEnds
 mod GenRuns
 mod Repeats
 mod BareRuns

@@ -21,7 +21,7 @@ use Rattle.dos_texts.specs.declared.refusal.Refusal.{Refusal}
 use Rattle.dos_texts.specs.declared.refusal.Refusal.TheVariants as refusals
 use Rattle.dos_words.specs.Numbers.{Text}
 use Rattle.dos_words.specs.declared.request.Request.TheVariants.{Migrate}
-use Rattle.dos_cmd.specs.Judging.{Taken, judgement, migrate_judged, migrated_of}
+use Rattle.dos_cmd.specs.Judging.{Taken, judgement, migrate_judged, migrated_of, taken_log}
 use Rattle.dos_cmd.specs.Migrating.{migrated_text, migration_lines, DoesMigrate, LeavesMigration}
 use Rattle.dos_cmd.specs.Migrating.{WasStored}
 use Rattle.dos_cmd.specs.Outside.{Outside, outside, faults}
@@ -32,11 +32,11 @@ use Rattle.dos_cmd.proofs.RunEnds.{all_stay, then_rose}
 
 -- ---- what the log's file is taken for
 
-abbrev taken_log : Log → Taken
-taken_log log = record { log = Some log; images = [] }
+abbrev taken_alone : Log → Taken
+taken_alone log = taken_log log []
 
 small_taken : (log : Log) → length (migrated_text log) ≤ most_bytes
-    → migrated_of log ≡ Ok (taken_log log)
+    → migrated_of log ≡ Ok (taken_alone log)
 unfolding migrated_of
 small_taken log fits = rw (le-ltb most_bytes (length (migrated_text log)) fits) refl
 
@@ -162,11 +162,11 @@ module _ (name to : Text) (log : Log) (tells read_tells : Bool)
   seen h e t = outside tells files after h h out out' e e t t
 
   begun : (h : HostSeen) (e : Option (List ℕ)) (t : ℕ) (P : Taken → Type 0)
-      → length (migrated_text log) ≤ most_bytes → P (taken_log log)
+      → length (migrated_text log) ≤ most_bytes → P (taken_alone log)
       → Begun (Migrate name to) (seen h e t) P
   begun h e t P fits so = record {
-    taken = taken_log log;
-    is = log_judged_as files name to log (Ok (taken_log log)) (small_taken log fits) accepted;
+    taken = taken_alone log;
+    is = log_judged_as files name to log (Ok (taken_alone log)) (small_taken log fits) accepted;
     so = so;
   }
 

@@ -29,6 +29,7 @@ use Rattle.dos_words.specs.Request.{request}
 use Rattle.dos_words.specs.declared.request.Request.{Request}
 use Rattle.dos_words.specs.declared.request.Request.TheVariants.{Replay}
 use Rattle.dos_cmd.specs.Judging.{Images, Judgement, Taken, agreed, by_log, digests_of, images_from}
+use Rattle.dos_cmd.specs.Judging.{taken_images, taken_log}
 use Rattle.dos_cmd.specs.Judging.{judgement, of_images, of_log, replay_judgement, then_images}
 use Rattle.dos_cmd.specs.Judging.{verdict, with_image, with_images, with_room}
 use Rattle.dos_cmd.specs.Outside.{Outside, Grew}
@@ -98,7 +99,7 @@ run_taken config (Ok images) taken is =
         absurd cc
     by_test false fits is =
         let kept : of_images (with_room config (Ok images))
-        ≡ Ok (record { log = None; images = images }) = rw fits refl in
+        ≡ Ok (taken_images images) = rw fits refl in
         let same : images ≡ taken.images = cc in
         (ap images_ok same, subst (λ i. needed i ≤ config.frames) same (grind (arith, nat_tests)))
 
@@ -114,7 +115,7 @@ taken_again : (log : Log) (images : List Image) (files : List (Option (List ℕ)
     → log_verdict (logtext log) ≡ Ok log → digests_of files ≡ Some ds
     → images_from 1 files ≡ Some (Ok images) → log.header.digests ≡ ds
     → needed images ≤ log.header.frames
-    → replay_judgement told files ≡ Some (Ok (record { log = Some log; images = images }))
+    → replay_judgement told files ≡ Some (Ok (taken_log log images))
 taken_again log images files ds told is accepted digests found kept fits =
     ap (λ (t : Option (List ℕ)). replay_judgement t files) is
     ∙ ap (λ v. by_log v files) accepted
@@ -151,10 +152,10 @@ module _ (o p : Outside) (asked : RunAsked) (images : List Image) (status n : �
 
   -- a replay of its log
   shown_again : MustReplay (misfit images (config_of did.log.header) (exchanges did.log)) did.log
-      (record { log = Some did.log; images = images }) n p → ShowTheSame status o n p
+      (taken_log did.log images) n p → ShowTheSame status o n p
   shown_again must =
       let replay : DidReplay did.log images n p = subst (λ (m : Option Misfit). MustReplay m did.log
-      (record { log = Some did.log; images = images }) n p) again.1 must in
+      (taken_log did.log images) n p) again.1 must in
       let same : did.seen ≡ replay.seen = same_seen
       (machine images (config_of did.log.header) (map answer_of (exchanges did.log))) did.seen
       replay.seen again.0.is replay.replayed.is in
@@ -174,7 +175,7 @@ module _ (o p : Outside) (asked : RunAsked) (images : List Image) (status n : �
       → images_from 1 (map o.files asked.names) ≡ Some found → found ≡ Ok images
       → needed images ≤ asked.config.frames → p.files log ≡ o.files_after asked.log
       → map p.files names ≡ map o.files asked.names → replay_judgement (p.files log)
-      (map p.files names) ≡ Some (Ok (record { log = Some did.log; images = images }))
+      (map p.files names) ≡ Some (Ok (taken_log did.log images))
   files_again log names ds found tells digests are fits room same_log same_images =
       taken_again did.log images (map p.files names) ds (p.files log)
       (same_log ∙ did.written.where_all_tell tells)
@@ -202,6 +203,6 @@ repeats first words status n o p done s must =
     begun.is) in
     shown_again o p s.asked images status n begun.so
     (must (Replay s.workers_again s.log s.names)
-    (record { log = Some begun.so.log; images = images }) s.asks_replay
+    (taken_log begun.so.log images) s.asks_replay
     (files_again o p s.asked images status n begun.so s.log s.names s.digests found.0 s.all_told
     s.are_there found.1 taken.0 taken.1 s.same_log s.same_images))

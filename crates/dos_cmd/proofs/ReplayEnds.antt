@@ -1,5 +1,5 @@
 -- What a replay leaves, by how it ends.
-use Rattle.std.proofs.Common.{◌≡◌, ◌≤◌, inl, inr, ℕ, Bool, List, [], map, append-nil, Option, Some}
+use Rattle.std.proofs.Common.{◌≡◌, ◌≤◌, inl, inr, ℕ, Bool, List, [], map, append-nil, Option}
 use Rattle.std.proofs.Common.{None, Result, Ok, Err, sym, ap, ◌∙◌, subst, refl, true}
 use Rattle.std.specs.Prelude.{IfSome, IfOk, IfErr, OnOk, OnErr}
 use Rattle.logged_runs.specs.Recording.{HostSeen, host_seen}
@@ -27,7 +27,7 @@ use Rattle.dos_texts.specs.declared.refusal.Refusal.TheVariants as refusals
 use Rattle.dos_words.specs.Numbers.{Text}
 use Rattle.dos_words.specs.declared.request.Request.TheVariants as requests
 use Rattle.dos_cmd.proofs.Asked.{IsLater, later_replay}
-use Rattle.dos_cmd.specs.Judging.{Judgement, agreed, replay_judgement}
+use Rattle.dos_cmd.specs.Judging.{Judgement, agreed, replay_judgement, taken_log}
 use Rattle.dos_cmd.specs.Outside.{Outside, Faults, outside, faults, Says}
 use Rattle.dos_cmd.specs.ReplayLeaves.{StaysAll, CutReplay, DidReplay, LeavesTaken}
 use Rattle.dos_cmd.specs.Results.{Begun, Did, Leaves}
@@ -203,7 +203,7 @@ replay_begun log images name names tells f f' out err out1 err1 tally tally1 (Er
     stay did = λ n h. tt
 replay_begun log images name names tells f f' out err out1 err1 tally tally1 (Ok ended) told fits
     stay did = λ n h. record {
-      taken = record { log = Some log; images = images };
+      taken = taken_log log images;
       is = room_taken (replay_judgement (f name) (map f names)) log images fits told;
       so = did tells f f' h stay;
     }
@@ -220,7 +220,7 @@ leaves_taken log images name names n o f (refusals.NoRoom m frames) told h = rec
   says = h.3;
 }
 leaves_taken log images name names n o f (refusals.Misfit found) told h = record {
-  taken = record { log = Some log; images = images };
+  taken = taken_log log images;
   is = room_taken (replay_judgement (o.files name) (map o.files names)) log images h.0 told;
   so = h.1;
 }
@@ -228,7 +228,7 @@ leaves_taken log images name names n o f refusals.Sink told h = (
   h.1,
   refl,
   record {
-    taken = record { log = Some log; images = images };
+    taken = taken_log log images;
     is = room_taken (replay_judgement (o.files name) (map o.files names)) log images h.0 told;
     so = h.2;
   },

@@ -14,6 +14,7 @@ use Rattle.dos_texts.specs.declared.refusal.Refusal.{Refusal}
 use Rattle.dos_texts.specs.declared.refusal.Refusal.TheVariants as refusals
 use Rattle.dos_words.specs.Numbers.{Text}
 use Rattle.dos_cmd.specs.Judging.{Images, Judgement, agreed, by_log, digests_of, images_from}
+use Rattle.dos_cmd.specs.Judging.{taken_log}
 use Rattle.dos_cmd.specs.Judging.{of_log, replay_judgement, with_images}
 use Rattle.dos_cmd.specs.ReplayLeaves.{OfLogFile, OfReading}
 use Rattle.dos_cmd.proofs.NotBegun.{has_room, no_room}
@@ -137,7 +138,7 @@ with_this (Some x) j k e h = h ∙ e
 
 pub room_taken : (told : Option Judgement) (log : Log) (images : List Image)
     → needed images ≤ log.header.frames → IfSome told (λ j. j ≡ agreed log images None)
-    → IfSome told (λ j. j ≡ Ok (record { log = Some log; images = images }))
+    → IfSome told (λ j. j ≡ Ok (taken_log log images))
 room_taken told log images fits h =
     with_this told _ _ (ap (of_log log) (has_room (config_of log.header) images fits)) h
 

@@ -18,7 +18,8 @@ use Rattle.dos_texts.specs.declared.refusal.Refusal.{Refusal}
 use Rattle.dos_texts.specs.declared.refusal.Refusal.TheVariants as refusals
 use Rattle.dos_words.specs.Numbers.{Text}
 use Rattle.dos_cmd.proofs.Asked.{IsLater, later_run}
-use Rattle.dos_cmd.specs.Judging.{Images, Judgement, Taken, OfFiles, digests_of, images_from}
+use Rattle.dos_cmd.specs.Judging.{Images, Judgement, OfFiles, Taken, digests_of, images_from}
+use Rattle.dos_cmd.specs.Judging.{taken_images}
 use Rattle.dos_cmd.specs.Judging.{judgement, of_images, with_room}
 use Rattle.dos_cmd.specs.Outside.{Outside, Faults, Says}
 use Rattle.dos_cmd.specs.Repeating.{run_asked_with}
@@ -32,7 +33,7 @@ use Rattle.dos_cmd.proofs.RunEnds.{then_rose}
 
 -- these images, and no log
 abbrev pub only_images : List Image → Taken
-only_images images = record { log = None; images = images }
+only_images images = taken_images images
 
 -- what all files are taken for, from what their images are
 then_taken : (config : Config) (told : Option Images) (images : Images) (j : Judgement)

@@ -13,13 +13,17 @@ use Rattle.traced_logs.specs.TracedLogs.{first_log_lines}
 use Rattle.dos_words.specs.Numbers.{Text}
 use Rattle.dos_words.specs.declared.request.Request.{Request}
 use Rattle.dos_words.specs.declared.request.Request.TheVariants.{Run, Replay, Gen, Migrate}
+use Rattle.dos_words.specs.declared.request.Request.TheVariants.{Save, Resume}
 use Rattle.dos_words.specs.declared.request.Request.TheVariants.{Trace}
+use Rattle.group_text.specs.Groups.{SavedGroup}
+use Rattle.dos_cmd.specs.SaveLeaves.{MisfittedSave, UnwrittenGroup}
+use Rattle.dos_cmd.specs.ResumeLeaves.{MisfittedResume}
 use Rattle.dos_cmd.specs.Judging.{Taken}
 use Rattle.dos_cmd.specs.Outside.{Outside, Faults, Grew, Says, OutputFailed}
 use Rattle.dos_cmd.specs.ReplayLeaves.{Misfitted}
 use Rattle.dos_cmd.specs.TraceLeaves.{MisfittedTrace}
-use Rattle.dos_cmd.specs.Results.{Begun, NotTaken, WasStopped, Unwritten, HasMisfit, OfLog, Cut}
-use Rattle.dos_cmd.specs.Results.{FullLog, Leaves, Fails}
+use Rattle.dos_cmd.specs.Results.{Begun, NotTaken, WasStopped, Unwritten, HasMisfit, OfBoth, OfLog}
+use Rattle.dos_cmd.specs.Results.{Cut, FullLog, Leaves, Fails}
 
 -- error tells this in the end
 abbrev pub with_error : Outside → Option (List ℕ) → Outside
@@ -115,6 +119,26 @@ module _ (o : Outside) (e : Option (List ℕ)) (last : List ℕ) (more : e ≡ g
       host_stays = h.host_stays;
       tally_stays = h.tally_stays;
     }
+    unwritten_more (Save w log round to names) taken h = of_log taken.log h
+      where
+        of_log : (read : Option Log)
+            → OfLog read (λ l. UnwrittenGroup l taken.images round to [] o)
+            → OfLog read (λ l. UnwrittenGroup l taken.images round to last (with_error o e))
+        of_log None h = absurd h
+        of_log (Some l) h = record {
+          used = h.used;
+          reached = h.reached;
+          output = h.output;
+          error = h.error;
+          came = record {
+            work = h.came.work;
+            replayed = h.came.replayed;
+            counted = h.came.counted;
+            host_stays = h.came.host_stays;
+          };
+          grew = grew_more h.output h.error h.grew;
+          others = h.others;
+        }
     unwritten_more asked taken h = absurd h
 
     misfit_more : (asked : Request) (taken : Taken) (found : Misfit)
@@ -145,6 +169,43 @@ module _ (o : Outside) (e : Option (List ℕ)) (last : List ℕ) (more : e ≡ g
           replayed = h.replayed;
           counted = h.counted;
           grew = grew_more (first_log_lines found.entry taken.images l) [] h.grew;
+          stays = record { files_stay = h.stays.files_stay; host_stays = h.stays.host_stays };
+        }
+    misfit_more (Save w log round to names) taken found h = of_log taken.log h
+      where
+        of_log : (read : Option Log)
+            → OfLog read (λ l. MisfittedSave l taken.images round found [] o)
+            → OfLog read (λ l. MisfittedSave l taken.images round found last (with_error o e))
+        of_log None h = absurd h
+        of_log (Some l) h = record {
+          run = record {
+            output = h.run.output;
+            error = h.run.error;
+            work = h.run.work;
+            replayed = h.run.replayed;
+            counted = h.run.counted;
+            grew = grew_more h.run.output h.run.error h.run.grew;
+            stays = record {
+              files_stay = h.run.stays.files_stay;
+              host_stays = h.run.stays.host_stays;
+            };
+          };
+          within = h.within;
+        }
+    misfit_more (Resume w log from) taken found h = of_both taken.group taken.log h
+      where
+        of_both : (group : Option SavedGroup) (read : Option Log)
+            → OfBoth group read (λ g l. MisfittedResume g l found [] o)
+            → OfBoth group read (λ g l. MisfittedResume g l found last (with_error o e))
+        of_both None read h = absurd h
+        of_both (Some g) None h = absurd h
+        of_both (Some g) (Some l) h = record {
+          output = h.output;
+          error = h.error;
+          work = h.work;
+          resumed = h.resumed;
+          counted = h.counted;
+          grew = grew_more h.output h.error h.grew;
           stays = record { files_stay = h.stays.files_stay; host_stays = h.stays.host_stays };
         }
     misfit_more asked taken found h = absurd h
@@ -188,6 +249,8 @@ leaves_more asked o f n e (refusals.NoRoom needed frames) last later none more h
     not_taken_more o e last more asked (refusals.NoRoom needed frames) h
 leaves_more asked o f n e (refusals.Log why) last later none more h =
     not_taken_more o e last more asked (refusals.Log why) h
+leaves_more asked o f n e (refusals.Group why) last later none more h =
+    not_taken_more o e last more asked (refusals.Group why) h
 leaves_more asked o f n e (refusals.Misfit found) last later none more h =
     begun_more o e last more asked (λ taken. HasMisfit asked taken found [] o)
     (λ taken. HasMisfit asked taken found last (with_error o e))

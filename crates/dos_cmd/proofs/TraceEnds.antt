@@ -1,5 +1,5 @@
 -- What a traced replay leaves, by how it ends.
-use Rattle.std.proofs.Common.{◌≡◌, ◌≤◌, inl, inr, ℕ, Bool, List, [], map, Option, Some, None}
+use Rattle.std.proofs.Common.{◌≡◌, ◌≤◌, inl, inr, ℕ, Bool, List, [], map, Option, None}
 use Rattle.std.proofs.Common.{Result, Ok, Err, sym, ap, ◌∙◌, subst, refl, true}
 use Rattle.std.specs.Prelude.{IfSome, IfOk, IfErr, OnOk, OnErr}
 use Rattle.logged_runs.specs.Recording.{HostSeen, host_seen}
@@ -26,7 +26,7 @@ use Rattle.dos_texts.specs.declared.refusal.Refusal.TheVariants as refusals
 use Rattle.dos_words.specs.Numbers.{Text}
 use Rattle.dos_words.specs.declared.request.Request.TheVariants as requests
 use Rattle.dos_cmd.proofs.Asked.{IsLater, later_trace}
-use Rattle.dos_cmd.specs.Judging.{agreed, replay_judgement}
+use Rattle.dos_cmd.specs.Judging.{agreed, replay_judgement, taken_log}
 use Rattle.dos_cmd.specs.Outside.{Outside, Faults, outside, faults, Says}
 use Rattle.dos_cmd.specs.ReplayLeaves.{StaysAll}
 use Rattle.dos_cmd.specs.Results.{Begun, Did, Leaves}
@@ -172,7 +172,7 @@ trace_begun log images name names tells f f' out err out1 err1 tally tally1 (Err
     stay did = λ n h. tt
 trace_begun log images name names tells f f' out err out1 err1 tally tally1 (Ok ended) told fits
     stay did = λ n h. record {
-      taken = record { log = Some log; images = images };
+      taken = taken_log log images;
       is = room_taken (replay_judgement (f name) (map f names)) log images fits told;
       so = did tells f f' h stay;
     }
@@ -189,7 +189,7 @@ trace_leaves_taken log images name names n o f (refusals.NoRoom m frames) told h
   says = h.3;
 }
 trace_leaves_taken log images name names n o f (refusals.Misfit found) told h = record {
-  taken = record { log = Some log; images = images };
+  taken = taken_log log images;
   is = room_taken (replay_judgement (o.files name) (map o.files names)) log images h.0 told;
   so = h.1;
 }
@@ -197,7 +197,7 @@ trace_leaves_taken log images name names n o f refusals.Sink told h = (
   h.1,
   refl,
   record {
-    taken = record { log = Some log; images = images };
+    taken = taken_log log images;
     is = room_taken (replay_judgement (o.files name) (map o.files names)) log images h.0 told;
     so = h.2;
   },

@@ -33,6 +33,7 @@ use Rattle.dos_words.specs.Request.{request}
 use Rattle.dos_words.specs.declared.request.Request.{Request}
 use Rattle.dos_words.specs.declared.request.Request.TheVariants.{Run, Replay}
 use Rattle.dos_cmd.specs.Judging.{Taken, agreed, by_log, digests_of, images_from, judgement}
+use Rattle.dos_cmd.specs.Judging.{taken_images, taken_log}
 use Rattle.dos_cmd.specs.Judging.{of_images, replay_judgement, verdict, with_images, with_room}
 use Rattle.dos_cmd.specs.Outside.{Outside, Counted, FilesStay, Grew, FileHolds, OthersStay}
 use Rattle.dos_cmd.specs.Results.{MustDo, MustReplay}
@@ -112,7 +113,7 @@ unfolding verdict image image_of refusal format_refusal machine_refusal table_re
 images_are = refl
 
 abbrev run_taken : Taken
-run_taken = record { log = None; images = images }
+run_taken = taken_images images
 
 run_takes : (contents : Text → Option (List ℕ)) → contents (codes "a") ≡ Some file
     → judgement contents run_asked ≡ Some (Ok run_taken)
@@ -181,7 +182,7 @@ unfolding log_verdict log_at log_header_at magic_at version_at fields_at header_
 log_is = refl
 
 abbrev replay_taken : Taken
-replay_taken = record { log = Some log; images = images }
+replay_taken = taken_log log images
 
 replay_takes : (contents : Text → Option (List ℕ)) → contents (codes "l") ≡ Some text
     → contents (codes "a") ≡ Some file

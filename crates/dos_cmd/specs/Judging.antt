@@ -1,5 +1,6 @@
 -- Which files are taken for what the words ask for, or why they aren't. This project's own rules.
-use Rattle.std.specs.Prelude.{⊤, ℕ, ◌≡◌, suc, List, [], ◌∷◌, ◌++◌, length, map, Option, Some, None}
+use Rattle.std.specs.Prelude.{⊤, ℕ, ◌≡◌, Bool, true, false, suc, List, [], ◌∷◌, ◌++◌, length, map}
+use Rattle.std.specs.Prelude.{Option, Some, None}
 use Rattle.std.specs.Prelude.{option_map, option_and_then, IfSome, Result, Ok, Err, nat_lt}
 use Rattle.std.specs.Prelude.{if◌then◌else◌}
 use Rattle.dos_world.specs.declared.Config.{Config}
@@ -12,14 +13,18 @@ use Rattle.log_files.specs.declared.refusal.LogRefusal.{LogRefusal}
 use Rattle.logged_runs.specs.Replaying.{config_of}
 use Rattle.sha2.specs.Sha256.{sha256}
 use Rattle.shim_log.specs.Bytes.{FitsDigest}
-use Rattle.shim_log.specs.LogText.{Log}
+use Rattle.shim_log.specs.LogText.{Log, exchanges}
+use Rattle.group_files.specs.Judging.{group_verdict, is_of_log}
+use Rattle.group_files.specs.declared.refusal.SavedRefusal.{SavedRefusal}
+use Rattle.group_files.specs.declared.refusal.SavedRefusal.TheVariants.{OtherLog}
+use Rattle.group_text.specs.Groups.{SavedGroup}
 use Rattle.shim_log.specs.Room.{most_bytes}
 use Rattle.dos_texts.specs.declared.refusal.Refusal.{Refusal}
 use Rattle.dos_texts.specs.declared.refusal.Refusal.TheVariants as refusals
 use Rattle.dos_words.specs.Numbers.{Text}
 use Rattle.dos_words.specs.declared.request.Request.{Request}
 use Rattle.dos_words.specs.declared.request.Request.TheVariants.{Run, Replay, Inspect, Gen}
-use Rattle.dos_words.specs.declared.request.Request.TheVariants.{Migrate, Trace}
+use Rattle.dos_words.specs.declared.request.Request.TheVariants.{Migrate, Trace, Save, Resume}
 use Rattle.dos_cmd.specs.Migrating.{migrated_text}
 
 -- ---- one image; images are counted from 1 in the order of the words
@@ -76,22 +81,36 @@ with_room config (Ok images) =
 
 -- ---- a replay: the log, the images, whether the log is of them, and room
 
--- what a call is done with: a log where it is a replay, and images
+-- what a call is done with: a log where it is a replay, images, and a saved group where it goes on
+-- with one
 pub record Taken : Type 0 where
   pub log : Option Log
   pub images : List Image
+  pub group : Option SavedGroup
+
+-- these images alone
+abbrev pub taken_images : List Image → Taken
+taken_images images = record { log = None; images = images; group = None }
+
+-- a log, and these images
+abbrev pub taken_log : Log → List Image → Taken
+taken_log log images = record { log = Some log; images = images; group = None }
+
+-- a saved group, and its log
+abbrev pub taken_group : SavedGroup → Log → Taken
+taken_group g log = record { log = Some log; images = []; group = Some g }
 
 abbrev pub Judgement : Type 0
 Judgement = Result Taken Refusal
 
 -- without a log
 abbrev pub of_images : Images → Judgement
-of_images (Ok images) = Ok (record { log = None; images = images })
+of_images (Ok images) = Ok (taken_images images)
 of_images (Err why) = Err why
 
 -- with a log
 abbrev pub of_log : Log → Images → Judgement
-of_log log (Ok images) = Ok (record { log = Some log; images = images })
+of_log log (Ok images) = Ok (taken_log log images)
 of_log log (Err why) = Err why
 
 -- The log is of images with these digests, or the first difference counts; then there is room or
@@ -121,12 +140,34 @@ replay_judgement (Some file) files = by_log (log_verdict file) files
 -- Its text of version 2 may not be longer than a log may be.
 unfoldable pub migrated_of : Log → Judgement
 migrated_of log = if nat_lt most_bytes (length (migrated_text log)) then Err refusals.LogFull
-    else Ok (record { log = Some log; images = [] })
+    else Ok (taken_log log [])
 
 -- what the log's file is taken for
 abbrev pub migrate_judged : Result Log LogRefusal → Judgement
 migrate_judged (Err why) = Err (refusals.Log why)
 migrate_judged (Ok log) = migrated_of log
+
+-- ---- a saved group, and its log
+
+-- whether the group is of the log
+abbrev pub belonging : SavedGroup → Log → Bool → Judgement
+belonging g log false = Err (refusals.Group OtherLog)
+belonging g log true = Ok (taken_group g log)
+
+-- what the log's file is taken for, behind the group
+abbrev pub with_log : SavedGroup → (file : List ℕ) → Result Log LogRefusal → Judgement
+with_log g file (Err why) = Err (refusals.Log why)
+with_log g file (Ok log) = belonging g log (is_of_log g (sha256 file) (length (exchanges log)))
+
+-- what the group's file is taken for, and the log's
+abbrev pub by_group : Result SavedGroup SavedRefusal → (log : Option (List ℕ)) → Option Judgement
+by_group (Err why) log = Some (Err (refusals.Group why))
+by_group (Ok g) log = option_map (λ file. with_log g file (log_verdict file)) log
+
+-- the group's file, and the log's
+abbrev pub resume_judgement : (group log : Option (List ℕ)) → Option Judgement
+resume_judgement None log = None
+resume_judgement (Some file) log = by_group (group_verdict file) log
 
 -- ---- what the words ask for
 
@@ -145,11 +186,14 @@ judgement contents (Replay workers log names) =
     replay_judgement (contents log) (map contents names)
 judgement contents (Inspect name) = option_map of_images (images_from 1 (contents name ∷ []))
 judgement contents (Gen number threads workers) =
-    Some (Ok (record { log = None; images = generated number threads ∷ [] }))
+    Some (Ok (taken_images (generated number threads ∷ [])))
 judgement contents (Migrate log to) =
     option_map (λ file. migrate_judged (log_verdict file)) (contents log)
 judgement contents (Trace workers log names) =
     replay_judgement (contents log) (map contents names)
+judgement contents (Save workers log round to names) =
+    replay_judgement (contents log) (map contents names)
+judgement contents (Resume workers log from) = resume_judgement (contents from) (contents log)
 
 -- A refusal that reading files may come to: of an image, by what its file tells; or a fault of the
 -- files, or want of memory.

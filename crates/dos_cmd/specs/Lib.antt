@@ -7,6 +7,8 @@ pub mod Printing
 pub mod Migrating
 pub mod Stops
 pub mod TraceLeaves
+pub mod SaveLeaves
+pub mod ResumeLeaves
 pub mod Requests
 pub mod Results
 pub mod Repeating

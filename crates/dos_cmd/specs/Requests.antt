@@ -1,5 +1,5 @@
 -- The code's own values of a request, as what the words ask for, and what is made ready for it.
-use Rattle.std.specs.Prelude.{◌≡◌, ℕ, Bool, List, [], Option, None, IfSome, Ok}
+use Rattle.std.specs.Prelude.{◌≡◌, ℕ, Bool, List, [], Option, IfSome, Ok}
 use Rattle.logged_runs.specs.Recording.{HostSeen}
 use Rattle.dos_texts.specs.declared.refusal.Refusal.{Refusal}
 use Rattle.dos_words.specs.Numbers.{Text}
@@ -10,7 +10,7 @@ use Rattle.group_rounds.specs.Kernels.{Held}
 use Rattle.logged_runs.specs.Opened.{IsOpenedWith}
 use Rattle.shim_log.specs.Ledger.{LedgerState}
 use Rattle.dos_cmd.specs.declared.run.RunRequest.{RunRequest}
-use Rattle.dos_cmd.specs.Judging.{judgement}
+use Rattle.dos_cmd.specs.Judging.{judgement, taken_images}
 use Rattle.dos_cmd.specs.Outside.{Outside, outside, faults}
 use Rattle.dos_cmd.specs.Results.{Leaves, run_request_asked}
 use Rattle.dos_cmd.specs.RunLeaves.{IsPrepared, RunAsked}
@@ -30,7 +30,7 @@ request_asked r =
 -- The files are taken for these images, as far as they tell.
 abbrev pub AreFilesTaken : RunRequest → (contents : Text → Option (List ℕ)) → List Image → Type 0
 AreFilesTaken r contents images = (n : ℕ) → IfSome (judgement contents (run_request r n))
-    (λ j. j ≡ Ok (record { log = None; images = images }))
+    (λ j. j ≡ Ok (taken_images images))
 
 -- A kernel was opened with the images that the files are taken for.
 pub record AreOpened (r : RunRequest) (contents : Text → Option (List ℕ)) (kernel : Held) :

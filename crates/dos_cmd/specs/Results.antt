@@ -6,9 +6,11 @@ use Rattle.dos_io.specs.declared.shim.ShimStop.{ShimStop}
 use Rattle.dos_io.specs.declared.shim.ShimStop.TheVariants as stops
 use Rattle.dos_world.specs.declared.Misfit.{Misfit}
 use Rattle.dos_world.specs.declared.Post.{Post}
-use Rattle.dpg_run.specs.Fits.{misfit}
+use Rattle.dpg_run.specs.Fits.{misfit, misfit_from}
 use Rattle.logged_runs.specs.Replaying.{config_of}
-use Rattle.shim_log.specs.LogText.{Log, exchanges}
+use Rattle.shim_log.specs.LogText.{Log, exchanges, exchanges_from}
+use Rattle.flat_machine.specs.Machine.{run_from}
+use Rattle.group_text.specs.Groups.{SavedGroup, world_in}
 use Rattle.dos_texts.specs.Exit.{refusal_status, line_of}
 use Rattle.dos_texts.specs.declared.refusal.Refusal.{Refusal}
 use Rattle.dos_texts.specs.declared.refusal.Refusal.TheVariants as refusals
@@ -16,7 +18,7 @@ use Rattle.dos_words.specs.Numbers.{Text}
 use Rattle.dos_words.specs.Request.{request}
 use Rattle.dos_words.specs.declared.request.Request.{Request}
 use Rattle.dos_words.specs.declared.request.Request.TheVariants.{Run, Replay, Inspect, Gen}
-use Rattle.dos_words.specs.declared.request.Request.TheVariants.{Migrate, Trace}
+use Rattle.dos_words.specs.declared.request.Request.TheVariants.{Migrate, Trace, Save, Resume}
 use Rattle.dos_cmd.specs.Asking.{AskedSoFar, named_in}
 use Rattle.dos_cmd.specs.Judging.{Taken, judgement}
 use Rattle.dos_cmd.specs.Outside.{Outside, Faults, FilesStay, OutputFailed, Says}
@@ -24,6 +26,8 @@ use Rattle.dos_cmd.specs.RunLeaves.{RunAsked, DidRun, StoppedRun, UnwrittenRun, 
 use Rattle.dos_cmd.specs.RunLeaves.{CutRunReport}
 use Rattle.dos_cmd.specs.ReplayLeaves.{DidReplay, Misfitted, CutReplay, CutReplayReport}
 use Rattle.dos_cmd.specs.TraceLeaves.{DidTrace, MisfittedTrace, CutTrace, CutTraceReport}
+use Rattle.dos_cmd.specs.SaveLeaves.{CutSave, DidSave, MisfittedSave, UnwrittenGroup}
+use Rattle.dos_cmd.specs.ResumeLeaves.{CutResume, CutResumeReport, DidResume, MisfittedResume}
 use Rattle.dos_cmd.specs.Migrating.{Migrated, UnwrittenText, CutMigration}
 use Rattle.dos_cmd.specs.Printing.{Inspected, Generated, CutInspect, CutSummary, QuietlyStopped}
 
@@ -46,6 +50,14 @@ abbrev pub OfLog : Option Log → (Log → Type 0) → Type 0
 OfLog None P = ⊥
 OfLog (Some log) P = P log
 
+-- of a saved group and a log, if they are there
+abbrev pub OfBoth : Option SavedGroup → Option Log → (SavedGroup → Log → Type 0) → Type 0
+OfBoth None read P = ⊥
+OfBoth (Some g) read P = OfLog read (P g)
+
+abbrev pub OfGroup : Taken → (SavedGroup → Log → Type 0) → Type 0
+OfGroup taken P = OfBoth taken.group taken.log P
+
 -- What is asked for was done with what was taken for it, and ended with this status.
 abbrev pub Did : Request → Taken → ℕ → Outside → Type 0
 Did (Run quantum rounds frames workers posts clock_from clock_step log names) taken status o =
@@ -59,6 +71,9 @@ Did (Gen number threads workers) taken status o = Generated taken.images status 
 Did (Migrate log to) taken status o = OfLog taken.log (λ read. Migrated read to status o)
 Did (Trace workers log names) taken status o =
     OfLog taken.log (λ read. DidTrace read taken.images status o)
+Did (Save workers log round to names) taken status o =
+    OfLog taken.log (λ read. DidSave read taken.images round to status o)
+Did (Resume workers log from) taken status o = OfGroup taken (λ g read. DidResume g read status o)
 
 -- ---- it was begun, and came to no report
 
@@ -71,20 +86,26 @@ WasStopped (Gen number threads workers) taken stops.Memory last o =
     QuietlyStopped taken.images last o
 WasStopped _ taken stop last o = ⊥
 
--- A recorded run's log couldn't be written, or a log anew.
+-- A recorded run's log couldn't be written, or a log anew, or a group that was to be saved.
 abbrev pub Unwritten : Request → Taken → (last : List ℕ) → Outside → Type 0
 Unwritten (Run quantum rounds frames workers posts clock_from clock_step log names) taken last o =
     UnwrittenRun (run_request_asked quantum rounds frames posts clock_from clock_step log names)
     taken.images last o
 Unwritten (Migrate log to) taken last o = UnwrittenText to last o
+Unwritten (Save workers log round to names) taken last o =
+    OfLog taken.log (λ read. UnwrittenGroup read taken.images round to last o)
 Unwritten _ taken last o = ⊥
 
--- A replay came to this misfit, traced or not.
+-- A replay came to this misfit, traced or not, as far as a round or from one on.
 abbrev pub HasMisfit : Request → Taken → Misfit → (last : List ℕ) → Outside → Type 0
 HasMisfit (Replay workers log names) taken found last o =
     OfLog taken.log (λ read. Misfitted read taken.images found last o)
 HasMisfit (Trace workers log names) taken found last o =
     OfLog taken.log (λ read. MisfittedTrace read taken.images found last o)
+HasMisfit (Save workers log round to names) taken found last o =
+    OfLog taken.log (λ read. MisfittedSave read taken.images round found last o)
+HasMisfit (Resume workers log from) taken found last o =
+    OfGroup taken (λ g read. MisfittedResume g read found last o)
 HasMisfit _ taken found last o = ⊥
 
 -- An output failed while what is asked for was done.
@@ -101,6 +122,10 @@ Cut (Gen number threads workers) taken o = CutSummary taken.images o
 Cut (Migrate log to) taken o = OfLog taken.log (λ read. CutMigration read to o)
 Cut (Trace workers log names) taken o =
     OfLog taken.log (λ read. CutTrace read taken.images o ⊎ CutTraceReport read taken.images o)
+Cut (Save workers log round to names) taken o =
+    OfLog taken.log (λ read. CutSave read taken.images round to o)
+Cut (Resume workers log from) taken o =
+    OfGroup taken (λ g read. CutResume g read o ⊎ CutResumeReport g read o)
 
 -- What the files are taken for, as far as they tell, and what is then so.
 pub record Begun (asked : Request) (o : Outside) (P : Taken → Type 0) : Type 0 where
@@ -130,6 +155,7 @@ Leaves asked o f (refusals.Image image error) last =
 Leaves asked o f (refusals.NoRoom needed frames) last =
     NotTaken asked o (refusals.NoRoom needed frames) last
 Leaves asked o f (refusals.Log why) last = NotTaken asked o (refusals.Log why) last
+Leaves asked o f (refusals.Group why) last = NotTaken asked o (refusals.Group why) last
 Leaves asked o f (refusals.Misfit found) last =
     Begun asked o (λ taken. HasMisfit asked taken found last o)
 Leaves asked o f refusals.Files last =
@@ -197,6 +223,21 @@ MustTrace (Some found) log taken status o =
     (status ≡ refusal_status (refusals.Misfit found))
     × MisfittedTrace log taken.images found (line_of (refusals.Misfit found)) o
 
+-- The same of one that is to be saved after a round; it may get there, or end, before the misfit.
+abbrev pub MustSave : Option Misfit → Log → Taken → (round : ℕ) → (to : Text) → ℕ → Outside → Type 0
+MustSave None log taken round to status o = DidSave log taken.images round to status o
+MustSave (Some found) log taken round to status o =
+    DidSave log taken.images round to status o
+    ⊎ ((status ≡ refusal_status (refusals.Misfit found))
+    × MisfittedSave log taken.images round found (line_of (refusals.Misfit found)) o)
+
+-- And of a saved group by what is left of its log.
+abbrev pub MustResume : Option Misfit → SavedGroup → Log → ℕ → Outside → Type 0
+MustResume None g log status o = DidResume g log status o
+MustResume (Some found) g log status o =
+    (status ≡ refusal_status (refusals.Misfit found))
+    × MisfittedResume g log found (line_of (refusals.Misfit found)) o
+
 -- With what is taken it is done; but a run's log may be full.
 abbrev pub MustDo : Request → Taken → ℕ → Outside → Type 0
 MustDo (Replay workers log names) taken status o =
@@ -206,4 +247,11 @@ MustDo (Trace workers log names) taken status o =
     OfLog taken.log (λ read. MustTrace
     (misfit taken.images (config_of read.header) (exchanges read)) read taken status o)
 MustDo (Migrate log to) taken status o = Did (Migrate log to) taken status o
+MustDo (Save workers log round to names) taken status o =
+    OfLog taken.log (λ read. MustSave
+    (misfit taken.images (config_of read.header) (exchanges read)) read taken round to status o)
+MustDo (Resume workers log from) taken status o =
+    OfGroup taken (λ g read. MustResume
+    (misfit_from g.used (exchanges_from g.used read) (run_from (world_in g) g.config)) g read
+    status o)
 MustDo asked taken status o = (status ≢ 10) → Did asked taken status o

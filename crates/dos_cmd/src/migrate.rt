@@ -43,7 +43,7 @@ fn text_of(alloc: Global, log: &Log) -> Result<Vec<u8>, Refusal>
 }
 
 /// Writes a text to a file. For want of memory it holds what it held.
-fn store<F: Files>(files: &mut F, name: &Text, text: &[u8]) -> Result<(), Refusal>
+pub(crate) fn store<F: Files>(files: &mut F, name: &Text, text: &[u8]) -> Result<(), Refusal>
     ensures content { OnOk result (IfSome (F.content files.old name.now)
         (λ _. F.content files.new name.now ≡ Some text.now)) }
     ensures holds { OnOk result (IsTrue (F.tells files.old)

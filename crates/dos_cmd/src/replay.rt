@@ -8,6 +8,8 @@ ghost use Rattle.dos_io.specs.Outside.{Rose};
 ghost use Rattle.flat_machine.specs.Opening.{needed};
 ghost use Rattle.log_files.specs.Judging.{IsOfFile, log_verdict};
 ghost use Rattle.logged_runs.specs.Replaying.{config_of};
+ghost use Rattle.shim_log.specs.LogText.{logtext};
+ghost use Rattle.shim_log.specs.Ranges.{FitsLog};
 ghost use Rattle.dos_texts.specs.Exit.{ending_status};
 ghost use Rattle.dos_words.specs.declared.request.Request.TheVariants as requests;
 ghost use Rattle.dos_cmd.specs.Asking.{Asks, files_named, named_by};
@@ -34,6 +36,8 @@ use worker_pool::Workers;
 pub(crate) fn read<F: Files>(alloc: Global, files: &mut F, name: &Text) -> Result<Log, Refusal>
     ensures accepted { IfOk result (λ log. IfSome (F.content files.old name.now)
         (λ file. log_verdict file ≡ Ok log)) }
+    ensures found { IfOk result (λ log. IfSome (F.content files.old name.now)
+        (λ file. (file ≡ logtext log) × FitsLog log)) }
     ensures refused { IfErr result (λ why. OfLogFile why (λ found. IfSome
         (F.content files.old name.now) (λ file. log_verdict file ≡ Err found))) }
     ensures of_file { IfErr result (λ why. OfLogFile why IsOfFile) }
@@ -85,6 +89,7 @@ pub(crate) fn take<F: Files>(
         (F.asked files.new) }
     ensures later { F.faults files.old ≤ F.faults files.new }
     ensures stays { (n : List ℕ) → F.content files.new n ≡ F.content files.old n }
+    ensures tells { F.tells files.new ≡ F.tells files.old }
 {
     let log = read(alloc, files, log)?;
     let (images, digests) = load_all(alloc, files, names)?;

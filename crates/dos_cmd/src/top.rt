@@ -7,7 +7,7 @@ ghost use Rattle.dos_words.specs.Ranges.{FitsRequest};
 ghost use Rattle.dos_words.specs.Numbers.{Text};
 ghost use Rattle.dos_words.specs.Request.{request};
 ghost use Rattle.dos_texts.specs.Exit.{IsStatus, ending_status, refusal_status};
-ghost use Rattle.dos_cmd.specs.Asking.{Asks, file_calls, named_by, named_in};
+ghost use Rattle.dos_cmd.specs.Asking.{Asks, HasAsked, named_by, named_in};
 ghost use Rattle.dos_cmd.specs.Judging.{Taken, judgement};
 ghost use Rattle.dos_cmd.specs.Outside.{Outside, outside, faults};
 ghost use Rattle.dos_cmd.specs.Repeating.{IsReplayOf, ShowTheSame};
@@ -18,7 +18,9 @@ use crate::generate::generate;
 use crate::inspect::inspect;
 use crate::migrate::migrate;
 use crate::replay::replay;
+use crate::resume::resume;
 use crate::run::{RunRequest, run};
+use crate::save::save;
 use crate::trace::trace;
 use crate::words::read_request;
 use dos_io::{Files, Host, Sink};
@@ -41,6 +43,8 @@ fn hire<W: Workers>(request: &Request, workers: &mut W)
         Request::Gen { workers: hired, .. } => workers.hire(*hired),
         Request::Migrate { .. } => {}
         Request::Trace { workers: hired, .. } => workers.hire(*hired),
+        Request::Save { workers: hired, .. } => workers.hire(*hired),
+        Request::Resume { workers: hired, .. } => workers.hire(*hired),
     }
 }
 
@@ -122,6 +126,14 @@ fn execute<F: Files, H: Host, O: Sink, E: Sink, W: Workers>(
         } => generate(alloc, *number, *threads, out, workers),
         Request::Migrate { log, to } => migrate(alloc, log, to, files, out),
         Request::Trace { log, names, .. } => trace(alloc, log, names, files, out, err, workers),
+        Request::Save {
+            log,
+            round,
+            to,
+            names,
+            ..
+        } => save(alloc, log, *round, to, names, files, out, err, workers),
+        Request::Resume { log, from, .. } => { resume(alloc, log, from, files, out, err, workers) }
     }
 }
 
@@ -186,13 +198,21 @@ fn command<F: Files, H: Host, O: Sink, E: Sink, W: Workers>(
 /// - `trace --log LOG [--workers N] NAME ..` replays a log, drops what the guests print, and prints
 ///   to `out`, after each round, a line for each frame whose owner has changed in it.
 ///
-/// For `run`, `replay`, `gen` and `trace` `workers` are hired, as many as the words say: at most so
-/// many threads run a round's packs, the caller's among them. What the call does is the same with
-/// any number of them. Their tally grows by the instructions that the packs run.
+/// - `save --log LOG --round R --to GROUP [--workers N] NAME ..` replays a log until R rounds have
+///   been run, writes the whole group to the file GROUP, and says so on `err`; a run that ends
+///   before is a whole replay, and no file is written.
+/// - `resume --log LOG --from GROUP [--workers N]` goes on with a saved group by what was left of
+///   the log.
+///
+/// For `run`, `replay`, `gen`, `trace`, `save` and `resume` `workers` are hired, as many as the
+/// words say: at most so many threads run a round's packs, the caller's among them. What the call
+/// does is the same with any number of them. Their tally grows by the instructions that the packs
+/// run.
 ///
 /// | Status | Comes |
 /// |---|---|
-/// | 0 | no process lives any more, or the image was inspected, or the log was written anew |
+/// | 0 | no process lives any more, or the image was inspected, or the log was written anew, or the
+/// group was saved |
 /// | 2 | exactly where the words ask for nothing |
 /// | 3 | exactly where an image is longer than 4194304 bytes or refused, or there is no room |
 /// | 4 | exactly where a log is longer than 67108864 bytes or refused, isn't of these images, or
@@ -204,12 +224,13 @@ fn command<F: Files, H: Host, O: Sink, E: Sink, W: Workers>(
 /// | 9 | only for want of memory |
 /// | 10 | exactly where the log has no room for what a question may bring, or for its text of
 /// version 2 |
+/// | 11 | exactly where a saved group is longer than 83886080 bytes or refused, or isn't of the
+/// log |
 ///
 /// A put that fails gives 6 in place of any other status, and nothing is put after it. Each
-/// "exactly" yields to 5, 6 and 9. With 2, 3, 4, 5, 9 and 10 `err` grows by one line behind what
-/// the run has put by then, and there is no report. The log's file is written only where the run
-/// came to its ending. In a replay, traced or not, want of memory comes only
-/// before the run.
+/// "exactly" yields to 5, 6 and 9. With 2, 3, 4, 5, 9, 10 and 11 `err` grows by one line behind
+/// what the run has put by then, and there is no report. The log's file is written only where the
+/// run came to its ending. In a replay, traced or not, want of memory comes only before the run.
 pub fn dos_main<F: Files, H: Host, O: Sink, E: Sink, W: Workers>(
     alloc: Global,
     words: &[String],
@@ -230,9 +251,11 @@ pub fn dos_main<F: Files, H: Host, O: Sink, E: Sink, W: Workers>(
         (E.told err.old) (E.told err.new)
         (W.tally workers.old) (W.tally workers.new)) }
 
-    // Each file that they name is asked for once then, in order, and none besides.
-    ensures asked { (result ≡ 0) ⊎ (result ≡ 7) ⊎ (result ≡ 8) → F.asked files.new
-        ≡ F.asked files.old ++ file_calls (named_in (request (map string_bytes words.now))) }
+    // Each file that they name is asked for once then, in order, and none besides; but one that
+    // isn't to be written.
+    ensures asked { (result ≡ 0) ⊎ (result ≡ 7) ⊎ (result ≡ 8)
+        → HasAsked (named_in (request (map string_bytes words.now))) (F.asked files.old)
+        (F.asked files.new) }
 
     // It isn't, for a reason that the status and the one line tell.
     ensures refused { result ≢ 0 → result ≢ 6 → result ≢ 7 → result ≢ 8

@@ -15,9 +15,9 @@ use Rattle.clap.proofs.OnLiterals.{clap_on_literals}
 use Rattle.dos_words.specs.declared.request.Request.{Request}
 use Rattle.dos_words.specs.Numbers.{Text}
 use Rattle.dos_words.specs.Asked.{Values, run_asked, replay_asked, inspect_asked, gen_asked}
-use Rattle.dos_words.specs.Asked.{migrate_asked, trace_asked}
+use Rattle.dos_words.specs.Asked.{migrate_asked, resume_asked, save_asked, trace_asked}
 use Rattle.dos_words.specs.Commands.{Command, run, replay, inspect, gen, migrate, commands}
-use Rattle.dos_words.specs.Commands.{command_named, trace_command}
+use Rattle.dos_words.specs.Commands.{command_named, resume_command, save_command, trace_command}
 use Rattle.dos_words.specs.Canonical.{Pairs, pairs_and_names, are_once, is_option_allowed}
 use Rattle.dos_words.specs.Canonical.{are_allowed}
 use Rattle.dos_words.specs.Canonical.{values_in, canonical}
@@ -87,6 +87,15 @@ migrate_asks v w (name ∷ names) h = refl
 trace_asks : (v w : Values) (names : List Text) → AgreeOn trace_command.options v w
     → trace_asked v names ≡ trace_asked w names
 trace_asks v w names h = rw (h.0, h.1.0) refl
+
+save_asks : (v w : Values) (names : List Text) → AgreeOn save_command.options v w
+    → save_asked v names ≡ save_asked w names
+save_asks v w names h = rw (h.0, h.1.0, h.1.1.0, h.1.1.1.0) refl
+
+resume_asks : (v w : Values) (names : List Text) → AgreeOn resume_command.options v w
+    → resume_asked v names ≡ resume_asked w names
+resume_asks v w [] h = rw (h.0, h.1.0, h.1.1.0) refl
+resume_asks v w (name ∷ names) h = refl
 
 run_is_built : IsBuilt run (shape_at 0)
 unfolding clap_on_literals
@@ -158,6 +167,30 @@ trace_is_built = record {
   options = are_options (shape_at 5) trace_command.options refl;
   treats_names = inl (record { by_index = refl; by_id = refl });
   asks = trace_asks;
+}
+
+save_is_built : IsBuilt save_command (shape_at 6)
+unfolding clap_on_literals
+save_is_built = record {
+  enters = search rules;
+  name_is = refl;
+  itself = refl;
+  level = search rules;
+  options = are_options (shape_at 6) save_command.options refl;
+  treats_names = inl (record { by_index = refl; by_id = refl });
+  asks = save_asks;
+}
+
+resume_is_built : IsBuilt resume_command (shape_at 7)
+unfolding clap_on_literals
+resume_is_built = record {
+  enters = search rules;
+  name_is = refl;
+  itself = refl;
+  level = search rules;
+  options = are_options (shape_at 7) resume_command.options refl;
+  treats_names = inr (refl, λ v name names. refl);
+  asks = resume_asks;
 }
 
 -- ---- canonical words of one command
@@ -263,7 +296,13 @@ named_built name command e =
           (shape_at 2, inspect_is_built),
           (
             (shape_at 3, gen_is_built),
-            ((shape_at 4, migrate_is_built), ((shape_at 5, trace_is_built), tt)),
+            (
+              (shape_at 4, migrate_is_built),
+              (
+                (shape_at 5, trace_is_built),
+                ((shape_at 6, save_is_built), ((shape_at 7, resume_is_built), tt)),
+              ),
+            ),
           ),
         ),
       ),

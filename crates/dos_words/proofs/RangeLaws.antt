@@ -10,12 +10,13 @@ use Rattle.clap.specs.Words.{Row, fault_of, subcommand_of}
 use Rattle.clap.specs.Kinds.{Kinds}
 use Rattle.dos_words.specs.declared.request.Request.{Request}
 use Rattle.dos_words.specs.declared.request.Request.TheVariants.{Run, Replay, Inspect, Gen}
-use Rattle.dos_words.specs.declared.request.Request.TheVariants.{Migrate, Trace}
+use Rattle.dos_words.specs.declared.request.Request.TheVariants.{Migrate, Trace, Save, Resume}
 use Rattle.dos_words.specs.Numbers.{Text, number, where_within, number_within, parts_by, post_in}
 use Rattle.dos_words.specs.Numbers.{posts_in_all, colon, comma}
 use Rattle.dos_words.specs.Asked.{Values, number_or, posts_or_none, number_if_given, most_u64}
 use Rattle.dos_words.specs.Asked.{workers_of, images_of, run_asked, replay_asked, inspect_asked}
-use Rattle.dos_words.specs.Asked.{gen_asked, migrate_asked, trace_asked}
+use Rattle.dos_words.specs.Asked.{gen_asked, migrate_asked, resume_asked, save_asked}
+use Rattle.dos_words.specs.Asked.{trace_asked}
 use Rattle.dos_words.specs.Commands.{Command, commands, command_named}
 use Rattle.dos_words.specs.Canonical.{pairs_and_names, are_allowed, canonical, values_in}
 use Rattle.dos_words.specs.Clap.{words_app, asked_by, where_taken, values_among, names_among}
@@ -186,6 +187,29 @@ trace_fits value names r e =
     subst FitsRequest (some_is (Trace workers.0 log.0 images.0) r images.2)
     (workers_fit value workers.0 workers.1, images_fit names images.0 images.1)
 
+save_fits : AsksInRange save_asked
+save_fits value names r e =
+    let workers = bind_some (workers_of value) _ r e in
+    let log = bind_some (value (codes "log")) _ r workers.2 in
+    let text = bind_some (value (codes "round")) _ r log.2 in
+    let round = bind_some (number_within 1 1000000 text.0) _ r text.2 in
+    let to = bind_some (value (codes "to")) _ r round.2 in
+    let images = bind_some (images_of names) _ r to.2 in
+    subst FitsRequest (some_is (Save workers.0 log.0 round.0 to.0 images.0) r images.2) (
+      workers_fit value workers.0 workers.1,
+      number_fits 1 1000000 text.0 round.0 round.1,
+      images_fit names images.0 images.1,
+    )
+
+resume_fits : AsksInRange resume_asked
+resume_fits value (name ∷ names) r e = absurd cc
+resume_fits value [] r e =
+    let workers = bind_some (workers_of value) _ r e in
+    let log = bind_some (value (codes "log")) _ r workers.2 in
+    let from = bind_some (value (codes "from")) _ r log.2 in
+    subst FitsRequest (some_is (Resume workers.0 log.0 from.0) r from.2)
+    (workers_fit value workers.0 workers.1)
+
 inspect_fits : AsksInRange inspect_asked
 inspect_fits value [] r e = absurd cc
 inspect_fits value (name ∷ []) r e = subst FitsRequest (some_is (Inspect name) r e) tt
@@ -233,8 +257,13 @@ named_in P name (first ∷ all) command each e =
 named_fits : (name : Text) (command : Command) → command_named name ≡ Some command
     → AsksInRange command.asked
 named_fits name command e =
-    (named_in (λ (c : Command). AsksInRange c.asked) name commands command
-    (run_fits, (replay_fits, (inspect_fits, (gen_fits, (migrate_fits, (trace_fits, tt)))))) e).0
+    (named_in (λ (c : Command). AsksInRange c.asked) name commands command (
+      run_fits,
+      (
+        replay_fits,
+        (inspect_fits, (gen_fits, (migrate_fits, (trace_fits, (save_fits, (resume_fits, tt)))))),
+      ),
+    ) e).0
 
 -- ---- both readings
 

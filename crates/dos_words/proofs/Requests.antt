@@ -2,7 +2,7 @@
 use Rattle.std.specs.Prelude.{ℕ, List, [], ◌∷◌, ◌++◌, flat_map, replicate, Some, None, codes, ◌≡◌}
 use Rattle.std.specs.Prelude.{refl}
 use Rattle.dos_words.specs.declared.request.Request.TheVariants.{Run, Replay, Inspect, Gen}
-use Rattle.dos_words.specs.declared.request.Request.TheVariants.{Migrate, Trace}
+use Rattle.dos_words.specs.declared.request.Request.TheVariants.{Migrate, Trace, Save, Resume}
 use Rattle.dos_words.specs.Request.{request}
 use Rattle.dos_world.specs.declared.Post.{Post}
 use Rattle.dos_words.specs.Numbers.{posts_from}
@@ -345,3 +345,42 @@ gen_no_threads = refl
 gen_name : request (codes "gen" ∷ codes "--number" ∷ codes "1" ∷ codes "--threads" ∷ codes "1"
     ∷ codes "a" ∷ []) ≡ None
 gen_name = refl
+
+-- ---- save
+
+save_one : request (codes "save" ∷ codes "--log" ∷ codes "l" ∷ codes "--round" ∷ codes "3"
+    ∷ codes "--to" ∷ codes "g" ∷ codes "a" ∷ [])
+    ≡ Some (Save 4 (codes "l") 3 (codes "g") (codes "a" ∷ []))
+save_one = refl
+
+save_in_any_order : request (codes "save" ∷ codes "--to" ∷ codes "g" ∷ codes "--workers"
+    ∷ codes "2" ∷ codes "--round" ∷ codes "1000000" ∷ codes "--log" ∷ codes "l" ∷ codes "a"
+    ∷ codes "b" ∷ [])
+    ≡ Some (Save 2 (codes "l") 1000000 (codes "g") (codes "a" ∷ codes "b" ∷ []))
+save_in_any_order = refl
+
+save_no_round : request (codes "save" ∷ codes "--log" ∷ codes "l" ∷ codes "--to" ∷ codes "g"
+    ∷ codes "a" ∷ []) ≡ None
+save_no_round = refl
+
+save_round_0 : request (codes "save" ∷ codes "--log" ∷ codes "l" ∷ codes "--round" ∷ codes "0"
+    ∷ codes "--to" ∷ codes "g" ∷ codes "a" ∷ []) ≡ None
+save_round_0 = refl
+
+save_no_image : request (codes "save" ∷ codes "--log" ∷ codes "l" ∷ codes "--round" ∷ codes "3"
+    ∷ codes "--to" ∷ codes "g" ∷ []) ≡ None
+save_no_image = refl
+
+-- ---- resume
+
+resume_one : request (codes "resume" ∷ codes "--log" ∷ codes "l" ∷ codes "--from" ∷ codes "g" ∷ [])
+    ≡ Some (Resume 4 (codes "l") (codes "g"))
+resume_one = refl
+
+resume_workers : request (codes "resume" ∷ codes "--from" ∷ codes "g" ∷ codes "--workers"
+    ∷ codes "1" ∷ codes "--log" ∷ codes "l" ∷ []) ≡ Some (Resume 1 (codes "l") (codes "g"))
+resume_workers = refl
+
+resume_a_name : request (codes "resume" ∷ codes "--log" ∷ codes "l" ∷ codes "--from" ∷ codes "g"
+    ∷ codes "a" ∷ []) ≡ None
+resume_a_name = refl

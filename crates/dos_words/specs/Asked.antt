@@ -9,7 +9,7 @@ use Rattle.dos_world.specs.declared.Post.{Post}
 use Rattle.dos_words.specs.Numbers.{Text, ◌>>=◌, number_within, posts_from}
 use Rattle.dos_words.specs.declared.request.Request.{Request}
 use Rattle.dos_words.specs.declared.request.Request.TheVariants.{Run, Replay, Inspect, Gen}
-use Rattle.dos_words.specs.declared.request.Request.TheVariants.{Migrate, Trace}
+use Rattle.dos_words.specs.declared.request.Request.TheVariants.{Migrate, Trace, Save, Resume}
 
 -- the value of an option by its name, where it is given
 abbrev pub Values : Type 0
@@ -73,6 +73,26 @@ trace_asked value names = do
   log ← value (codes "log")
   images ← images_of names
   Some (Trace workers log images)
+
+-- `save`
+abbrev pub save_asked : Values → List Text → Option Request
+save_asked value names = do
+  workers ← workers_of value
+  log ← value (codes "log")
+  text ← value (codes "round")
+  round ← number_within 1 1000000 text
+  to ← value (codes "to")
+  images ← images_of names
+  Some (Save workers log round to images)
+
+-- `resume`, with no names
+abbrev pub resume_asked : Values → List Text → Option Request
+resume_asked value [] = do
+  workers ← workers_of value
+  log ← value (codes "log")
+  from ← value (codes "from")
+  Some (Resume workers log from)
+resume_asked value _ = None
 
 -- `inspect`, of one name
 abbrev pub inspect_asked : Values → List Text → Option Request

@@ -3,7 +3,7 @@ use Rattle.std.specs.Prelude.{Bool, true, false, List, [], ◌∷◌, Option, fi
 use Rattle.dos_words.specs.declared.request.Request.{Request}
 use Rattle.dos_words.specs.Numbers.{Text}
 use Rattle.dos_words.specs.Asked.{Values, run_asked, replay_asked, inspect_asked, gen_asked}
-use Rattle.dos_words.specs.Asked.{migrate_asked, trace_asked}
+use Rattle.dos_words.specs.Asked.{migrate_asked, trace_asked, save_asked, resume_asked}
 
 -- its name, its options without their dashes, whether names follow them, and what it asks for
 pub record Command : Type 0 where
@@ -63,9 +63,28 @@ trace_command = record {
   asked = trace_asked;
 }
 
+-- runs by a log, and saves the group after a round
+abbrev pub save_command : Command
+save_command = record {
+  name = codes "save";
+  options = codes "workers" ∷ codes "log" ∷ codes "round" ∷ codes "to" ∷ [];
+  has_names = true;
+  asked = save_asked;
+}
+
+-- goes on with a saved group
+abbrev pub resume_command : Command
+resume_command = record {
+  name = codes "resume";
+  options = codes "workers" ∷ codes "log" ∷ codes "from" ∷ [];
+  has_names = false;
+  asked = resume_asked;
+}
+
 -- all of them
 abbrev pub commands : List Command
-commands = run ∷ replay ∷ inspect ∷ gen ∷ migrate ∷ trace_command ∷ []
+commands =
+    run ∷ replay ∷ inspect ∷ gen ∷ migrate ∷ trace_command ∷ save_command ∷ resume_command ∷ []
 
 -- the command of this name
 abbrev pub command_named : Text → Option Command

@@ -6,7 +6,8 @@ ghost use Rattle.clap.specs.Words.{app_of, kind_of, rows_of, found_of, subcomman
 ghost use Rattle.dos_words.specs.Numbers.{number_within};
 ghost use Rattle.dos_words.specs.Asked.{most_u64, number_or, number_if_given, posts_or_none};
 ghost use Rattle.dos_words.specs.Asked.{images_of, run_asked, replay_asked, inspect_asked};
-ghost use Rattle.dos_words.specs.Asked.{gen_asked, migrate_asked, trace_asked};
+ghost use Rattle.dos_words.specs.Asked.{gen_asked, migrate_asked, resume_asked, save_asked};
+ghost use Rattle.dos_words.specs.Asked.{trace_asked};
 ghost use Rattle.dos_words.specs.Clap.{words_app, asked_by, clap_request};
 ghost use Rattle.dos_words.specs.Request.{request};
 ghost use Rattle.dos_words.specs.Reads.{Reads, Takes, values_found, names_given, names_found};
@@ -292,6 +293,43 @@ fn read_migrate(alloc: Global, matches: &ArgMatches<'_>) -> Result<Request, Word
     Ok(Request::Migrate { log, to })
 }
 
+/// What `save` asks for.
+fn read_save(alloc: Global, matches: &ArgMatches<'_>) -> Result<Request, WordsError>
+    ensures { Reads result (save_asked (values_found matches.now) (names_found matches.now)) }
+{
+    let Some(workers) = number_of(matches, "workers", 1, 32, 4) else {
+        return Err(WordsError::Refused);
+    };
+    let log = text_of(alloc, matches, "log")?;
+    let Some(round) = needed_number(matches, "round", 1, 1000000) else {
+        return Err(WordsError::Refused);
+    };
+    let to = text_of(alloc, matches, "to")?;
+    let names = images_of(alloc, matches)?;
+    Ok(Request::Save {
+        workers,
+        log,
+        round,
+        to,
+        names,
+    })
+}
+
+/// What `resume` asks for.
+fn read_resume(alloc: Global, matches: &ArgMatches<'_>) -> Result<Request, WordsError>
+    ensures { Reads result (resume_asked (values_found matches.now) (names_found matches.now)) }
+{
+    if has_names(matches) {
+        return Err(WordsError::Refused);
+    }
+    let Some(workers) = number_of(matches, "workers", 1, 32, 4) else {
+        return Err(WordsError::Refused);
+    };
+    let log = text_of(alloc, matches, "log")?;
+    let from = text_of(alloc, matches, "from")?;
+    Ok(Request::Resume { workers, log, from })
+}
+
 /// What the command asks for, by its name.
 fn read_command(alloc: Global, name: &str, matches: &ArgMatches<'_>) -> Result<Request, WordsError>
     ensures { Reads result (asked_by (name.now, rows_of (found_of matches.now))) }
@@ -313,6 +351,12 @@ fn read_command(alloc: Global, name: &str, matches: &ArgMatches<'_>) -> Result<R
     }
     if name == "trace" {
         return read_trace(alloc, matches);
+    }
+    if name == "save" {
+        return read_save(alloc, matches);
+    }
+    if name == "resume" {
+        return read_resume(alloc, matches);
     }
     Err(WordsError::Refused)
 }

@@ -184,6 +184,28 @@ pub enum Request {
         /// The file of the new text, which may be the same.
         to: Text,
     },
+    /// A run by the answers of a log, whose group is saved after a round.
+    Save {
+        /// How many threads of the host run the rounds: 1 to 32.
+        workers: u32,
+        /// The file of the log.
+        log: Text,
+        /// After how many rounds: 1 to 1000000.
+        round: u32,
+        /// The file of the saved group.
+        to: Text,
+        /// The files of the images, 1 to 8.
+        names: Names,
+    },
+    /// A saved group's run, gone on with by the answers of its log.
+    Resume {
+        /// How many threads of the host run the rounds: 1 to 32.
+        workers: u32,
+        /// The file of the log.
+        log: Text,
+        /// The file of the saved group.
+        from: Text,
+    },
     /// A run by the answers of a log, of which it is printed which frames change their owners.
     Trace {
         /// How many threads of the host run the rounds: 1 to 32.

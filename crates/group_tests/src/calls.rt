@@ -23,6 +23,13 @@ pub struct Left {
     work: u64,
 }
 
+impl Left {
+    /// The status, what stands on both outputs, and by how much the tally grew.
+    pub fn seen(&self) -> (u8, &[u8], &[u8], u64) {
+        (self.status, self.out.bytes(), self.err.bytes(), self.work)
+    }
+}
+
 /// What comes from outside, and which calls fail, by their numbers from 1.
 #[derive(Clone, Copy)]
 pub struct Outside<'a> {
@@ -291,6 +298,46 @@ pub fn run_twice<R: Threads + Sync + Abort>(
     wanted: Wanted<'_>,
 ) {
     run_twice_over(rt, alloc, files, texts, &NOTHING, wanted);
+}
+
+// These bytes, and those behind them.
+fn joined(rt: &impl Abort, alloc: Global, first: &[u8], second: &[u8]) -> Vec<u8> {
+    let mut bytes = Vec::new(alloc);
+    bytes.extend_from_slice(first).expect(rt, "memory");
+    bytes.extend_from_slice(second).expect(rt, "memory");
+    bytes
+}
+
+/// A call ended with 0, and the last that it put to error is this line.
+pub fn check_last_line(rt: &impl Abort, left: &Left, line: &[u8]) {
+    let err = left.err.bytes();
+    same(rt, (left.status, err.ends_with(line)), (0, true));
+}
+
+/// What two calls left, one behind the other, is what a third left, but for the line that stands
+/// last in the first one's error.
+pub fn check_joined(
+    rt: &impl Abort,
+    alloc: Global,
+    first: &Left,
+    line: &[u8],
+    second: &Left,
+    whole: &Left,
+) {
+    check_last_line(rt, first, line);
+    let told = first.err.bytes().strip_suffix(line).unwrap_or(b"");
+    let out = joined(rt, alloc, first.out.bytes(), second.out.bytes());
+    let err = joined(rt, alloc, told, second.err.bytes());
+    let seen = (second.status, out.as_slice(), err.as_slice());
+    same(
+        rt,
+        seen,
+        (whole.status, whole.out.bytes(), whole.err.bytes()),
+    );
+    let work = first.work.saturating_add(second.work);
+    same(rt, work, whole.work);
+    drop(out);
+    drop(err);
 }
 
 /// The bytes of the log.

@@ -41,6 +41,10 @@ mod refusals;
 #[cfg(test)]
 mod rows;
 #[cfg(test)]
+mod saved_files;
+#[cfg(test)]
+mod saves;
+#[cfg(test)]
 mod traces;
 #[cfg(test)]
 mod workers;

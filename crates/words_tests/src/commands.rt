@@ -181,3 +181,116 @@ fn migrations_have_a_log_and_a_file(rt: HostRuntime) {
         &["migrate", "--log", "l", "--to", "m", "--to", "n"],
     );
 }
+
+/// The workers and the round of a replay of the log `l` with the images `a`, `b`, whose group is
+/// saved in the file `m`.
+fn saves(alloc: Global, texts: &[&str]) -> Option<[u32; 2]> {
+    match asked(alloc, texts) {
+        Ok(
+            Request::Save {
+                workers,
+                log,
+                round,
+                to,
+                names,
+            },
+        ) => {
+            let are_given = log.as_str() == "l"
+                && to.as_str() == "m"
+                && are_names(&names, &["a", "b"]);
+            if are_given {
+                Some([workers, round])
+            } else {
+                None
+            }
+        }
+        _ => None,
+    }
+}
+
+/// The workers with which the saved group `m` is gone on with by the log `l`.
+fn resumes(alloc: Global, texts: &[&str]) -> Option<u32> {
+    match asked(alloc, texts) {
+        Ok(Request::Resume { workers, log, from }) => {
+            let are_given = log.as_str() == "l" && from.as_str() == "m";
+            if are_given { Some(workers) } else { None }
+        }
+        _ => None,
+    }
+}
+
+/// Words of saves, and their workers and rounds.
+static SAVES: [(&[&str], [u32; 2]); 5] = [
+    (
+        &["save", "--log", "l", "--round", "3", "--to", "m", "a", "b"],
+        [4, 3],
+    ),
+    (
+        &[
+            "save",
+            "--to",
+            "m",
+            "--workers",
+            "1",
+            "--round",
+            "1",
+            "--log",
+            "l",
+            "a",
+            "b",
+        ],
+        [1, 1],
+    ),
+    (
+        &[
+            "save",
+            "--workers=32",
+            "--log=l",
+            "--to=m",
+            "--round=1000000",
+            "a",
+            "b",
+        ],
+        [32, 1000000],
+    ),
+    (
+        &[
+            "save", "--log", "l", "--round", "2", "--to", "m", "--", "a", "b",
+        ],
+        [4, 2],
+    ),
+    (
+        &["save", "a", "b", "--log", "l", "--round", "2", "--to", "m"],
+        [4, 2],
+    ),
+];
+
+#[test]
+fn a_save_has_a_log_a_round_a_file_and_images(rt: HostRuntime) {
+    let alloc = rt.alloc();
+    for &(texts, wanted) in &SAVES {
+        same_at(&rt, saves(alloc, texts), Some(wanted), texts);
+    }
+}
+
+/// Words of resumes, and their workers.
+static RESUMES: [(&[&str], u32); 4] = [
+    (&["resume", "--log", "l", "--from", "m"], 4),
+    (
+        &["resume", "--from", "m", "--workers", "1", "--log", "l"],
+        1,
+    ),
+    (
+        &["resume", "--workers", "32", "--from", "m", "--log", "l"],
+        32,
+    ),
+    (&["resume", "--from=m", "--log=l", "--workers=2"], 2),
+];
+
+#[test]
+fn a_resume_has_a_log_and_a_file(rt: HostRuntime) {
+    let alloc = rt.alloc();
+    for &(texts, wanted) in &RESUMES {
+        same_at(&rt, resumes(alloc, texts), Some(wanted), texts);
+    }
+}

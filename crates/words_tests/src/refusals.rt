@@ -65,3 +65,85 @@ fn generated_runs_are_in_range(rt: HostRuntime) {
         check_refused(&rt, rt.alloc(), &words);
     }
 }
+
+// Each option but the workers must be given, once; a save has names, and a resume has none.
+static SAVES_REFUSED: [&[&str]; 20] = [
+    &["save"],
+    &["save", "a"],
+    &["save", "--log", "l", "--round", "3", "--to", "m"],
+    &["save", "--log", "l", "--round", "3", "a"],
+    &["save", "--log", "l", "--to", "m", "a"],
+    &["save", "--round", "3", "--to", "m", "a"],
+    &["save", "--log", "l", "--round", "3", "--from", "m", "a"],
+    &[
+        "save", "--log", "l", "--round", "3", "--round", "3", "--to", "m", "a",
+    ],
+    &[
+        "save", "--log", "l", "--round", "3", "--to", "m", "--to", "m", "a",
+    ],
+    &[
+        "save",
+        "--log",
+        "l",
+        "--round",
+        "3",
+        "--to",
+        "m",
+        "--quantum",
+        "16",
+        "a",
+    ],
+    &["save", "--log", "l", "--round", "3", "--to", "m", "-a"],
+    &[
+        "save", "--log", "l", "--round", "3", "--to", "m", "a", "b", "c", "d", "e", "f", "g", "h",
+        "i",
+    ],
+    &["resume"],
+    &["resume", "--log", "l"],
+    &["resume", "--from", "m"],
+    &["resume", "--log", "l", "--from", "m", "a"],
+    &["resume", "--log", "l", "--from", "m", "--from", "m"],
+    &["resume", "--log", "l", "--to", "m"],
+    &["resume", "--log", "l", "--from", "m", "--round", "3"],
+    &["resume", "--log", "l", "--from"],
+];
+
+#[test]
+fn words_of_saved_groups_are_refused(rt: HostRuntime) {
+    for &texts in &SAVES_REFUSED {
+        check_refused(&rt, rt.alloc(), texts);
+    }
+}
+
+// Values of a save's option that are refused.
+static SAVED_OUT_OF_RANGE: [(&str, &str); 10] = [
+    ("--round", "0"),
+    ("--round", "1000001"),
+    ("--round", "4294967296"),
+    ("--round", "03"),
+    ("--round", "+3"),
+    ("--round", "3 "),
+    ("--round", "-3"),
+    ("--workers", "0"),
+    ("--workers", "33"),
+    ("--workers", "04"),
+];
+
+#[test]
+fn rounds_and_workers_of_a_save_are_in_range(rt: HostRuntime) {
+    for &(option, value) in &SAVED_OUT_OF_RANGE {
+        let other = if option == "--round" {
+            ["--workers", "2"]
+        } else {
+            ["--round", "3"]
+        };
+        let words = [
+            "save", option, value, other[0], other[1], "--log", "l", "--to", "m", "a",
+        ];
+        check_refused(&rt, rt.alloc(), &words);
+    }
+    for value in ["0", "33", "04"] {
+        let words = ["resume", "--workers", value, "--log", "l", "--from", "m"];
+        check_refused(&rt, rt.alloc(), &words);
+    }
+}

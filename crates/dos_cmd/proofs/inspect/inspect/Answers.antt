@@ -6,7 +6,7 @@ use Rattle.dos_io.proofs.OutsideLaws.{grown-nothing}
 use Rattle.elf_image.specs.Image.{Image}
 use Rattle.dos_words.specs.Numbers.{Text}
 use Rattle.dos_words.specs.declared.request.Request.TheVariants as requests
-use Rattle.dos_cmd.specs.Judging.{images_from, judgement, of_images, verdict}
+use Rattle.dos_cmd.specs.Judging.{images_from, judgement, of_images, taken_images, verdict}
 use Rattle.dos_texts.specs.declared.refusal.Refusal.{Refusal}
 use Rattle.dos_cmd.specs.Outside.{outside, faults}
 use Rattle.dos_cmd.proofs.Asked.{image_not_read, stopped_later}
@@ -18,12 +18,12 @@ use Rattle.dos_cmd.proofs.inspect.inspect.Goals as goal
 one_image : (contents : Text → Option (List ℕ)) (name : Text) (parsed : Image)
     → IfSome (contents name) (λ file. verdict 1 file ≡ Ok parsed)
     → IfSome (judgement contents (requests.Inspect name))
-    (λ j. j ≡ Ok (record { log = None; images = parsed ∷ [] }))
+    (λ j. j ≡ Ok (taken_images (parsed ∷ [])))
 one_image contents name parsed h = one (contents name) h
   where
     one : (told : Option (List ℕ)) → IfSome told (λ file. verdict 1 file ≡ Ok parsed)
         → IfSome (option_map of_images (images_from 1 (told ∷ [])))
-        (λ j. j ≡ Ok (record { log = None; images = parsed ∷ [] }))
+        (λ j. j ≡ Ok (taken_images (parsed ∷ [])))
     one None h = tt
     one (Some file) h = rw h refl
 

@@ -36,6 +36,7 @@ returns-in_err-log g c =
           c.read.ensures.asked;
       later = c.read.ensures.later;
       stays = c.read.ensures.stays;
+      tells = c.read.ensures.tells;
     })
 
 pub returns-in_err-images : goal.returns-in_err-images
@@ -57,6 +58,7 @@ returns-in_err-images g c =
           c.read.ensures.asked c.in_err-images.ensures.asked;
       later = le_trans c.read.ensures.later c.load_all.ensures.later;
       stays = λ n. c.load_all.ensures.stays n ∙ c.read.ensures.stays n;
+      tells = c.load_all.ensures.tells ∙ c.read.ensures.tells;
     })
 
 pub returns-in-Ok : goal.returns-in-Ok
@@ -79,6 +81,7 @@ returns-in-Ok g c = record {
       c.in_ok-images.ensures.asked;
   later = le_trans c.read.ensures.later c.load_all.ensures.later;
   stays = λ n. c.load_all.ensures.stays n ∙ c.read.ensures.stays n;
+  tells = c.load_all.ensures.tells ∙ c.read.ensures.tells;
 }
 
 pub returns-in-Err : goal.returns-in-Err
@@ -99,4 +102,5 @@ returns-in-Err g c = record {
       c.in_ok-images.ensures.asked);
   later = le_trans c.read.ensures.later c.load_all.ensures.later;
   stays = λ n. c.load_all.ensures.stays n ∙ c.read.ensures.stays n;
+  tells = c.load_all.ensures.tells ∙ c.read.ensures.tells;
 }

@@ -80,8 +80,5 @@ returns-in-Ok g c =
 pub record_group-requires-clause-running : goal.record_group-requires-clause-running
 record_group-requires-clause-running g c = λ κs alive. c.requires.running
 
-pub record_group-requires-clause-fresh : goal.record_group-requires-clause-fresh
-record_group-requires-clause-fresh g c = λ κs alive. c.requires.fresh
-
 pub record_group-requires-clause-begins : goal.record_group-requires-clause-begins
 record_group-requires-clause-begins g c = λ κs alive. c.requires.begins

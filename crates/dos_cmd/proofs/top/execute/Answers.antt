@@ -2,7 +2,7 @@ use Rattle.std.proofs.Common.{le_refl, refl, sym, ap, ◌∙◌}
 use Rattle.dos_words.specs.declared.request.Request.TheVariants.{Inspect}
 use Rattle.dos_cmd.proofs.Asked.{asks_as, none_named}
 use Rattle.logged_runs.specs.Recording.{host_seen}
-use Rattle.dos_cmd.proofs.Calls.{are_planned, did_as, fits_gen, fits_run, leaves_as}
+use Rattle.dos_cmd.proofs.Calls.{are_planned, did_as, fits_gen, fits_run, fits_save, leaves_as}
 use Rattle.dos_cmd.proofs.top.execute.Goals as goal
 
 -- ---- run
@@ -72,6 +72,49 @@ returns-in-Replay g c =
       out_steady = c.replay.ensures.out_steady;
       err_steady = c.replay.ensures.err_steady;
       fixed = c.replay.ensures.fixed;
+    }
+
+-- ---- save and resume
+
+pub save-requires-clause-few : goal.save-requires-clause-few
+save-requires-clause-few g c = λ κs alive. (fits_save _ _ _ _ _ _ c.in-Save.is c.requires).1
+
+pub returns-in-Save : goal.returns-in-Save
+returns-in-Save g c =
+    let workers = c.in-Save.workers in
+    let host = host_seen (g.H.Host.told c.args.host.now) (g.H.Host.asked c.args.host.now) in
+    record {
+      did = did_as _ _ _ _ (c.save.ensures.did workers host) c.in-Save.is;
+      leaves = leaves_as _ _ _ _ _ (c.save.ensures.leaves workers host
+          (g.H.Host.faults c.args.host.now)) c.in-Save.is;
+      asked = asks_as c.save.result _ _ _ _ c.in-Save.is (c.save.ensures.asked workers);
+      files_later = c.save.ensures.files_later;
+      host_later = le_refl _;
+      host_steady = λ _. refl;
+      out_later = c.save.ensures.out_later;
+      err_later = c.save.ensures.err_later;
+      out_steady = c.save.ensures.out_steady;
+      err_steady = c.save.ensures.err_steady;
+      fixed = c.save.ensures.fixed;
+    }
+
+pub returns-in-Resume : goal.returns-in-Resume
+returns-in-Resume g c =
+    let workers = c.in-Resume.workers in
+    let host = host_seen (g.H.Host.told c.args.host.now) (g.H.Host.asked c.args.host.now) in
+    record {
+      did = did_as _ _ _ _ (c.resume.ensures.did workers host) c.in-Resume.is;
+      leaves = leaves_as _ _ _ _ _ (c.resume.ensures.leaves workers host
+          (g.H.Host.faults c.args.host.now)) c.in-Resume.is;
+      asked = asks_as c.resume.result _ _ _ _ c.in-Resume.is (c.resume.ensures.asked workers);
+      files_later = c.resume.ensures.files_later;
+      host_later = le_refl _;
+      host_steady = λ _. refl;
+      out_later = c.resume.ensures.out_later;
+      err_later = c.resume.ensures.err_later;
+      out_steady = c.resume.ensures.out_steady;
+      err_steady = c.resume.ensures.err_steady;
+      fixed = c.resume.ensures.fixed;
     }
 
 -- ---- inspect

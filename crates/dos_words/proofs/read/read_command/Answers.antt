@@ -6,7 +6,7 @@ use Rattle.dos_words.specs.declared.request.Request.{Request}
 use Rattle.dos_words.specs.declared.error.WordsError.{WordsError}
 use Rattle.dos_words.specs.Numbers.{Text}
 use Rattle.dos_words.specs.Commands.{Command, command_named, run, replay, inspect, gen}
-use Rattle.dos_words.specs.Commands.{migrate, trace_command}
+use Rattle.dos_words.specs.Commands.{migrate, resume_command, save_command, trace_command}
 use Rattle.dos_words.specs.Clap.{values_among, names_among, asked_by}
 use Rattle.dos_words.specs.Reads.{Reads}
 use Rattle.dos_words.proofs.read.read_command.Goals as goal
@@ -23,8 +23,14 @@ later_named : (name : Text) (command : Command) (more : List Command)
 later_named name command more is = rw is refl
 
 -- those that come after a command
+abbrev behind_trace : List Command
+behind_trace = save_command ∷ resume_command ∷ []
+
+abbrev behind_migrate : List Command
+behind_migrate = trace_command ∷ behind_trace
+
 abbrev behind_gen : List Command
-behind_gen = migrate ∷ trace_command ∷ []
+behind_gen = migrate ∷ behind_migrate
 
 abbrev behind_inspect : List Command
 behind_inspect = gen ∷ behind_gen
@@ -86,7 +92,7 @@ returns-then-eq-5 c =
     ∙ later_named name replay behind_replay (sym c.if-eq-2.ensures)
     ∙ later_named name inspect behind_inspect (sym c.if-eq-3.ensures)
     ∙ later_named name gen behind_gen (sym c.if-eq-4.ensures)
-    ∙ first_named name migrate (trace_command ∷ []) (sym c.if-eq-5.ensures)) c.read_migrate.ensures
+    ∙ first_named name migrate behind_migrate (sym c.if-eq-5.ensures)) c.read_migrate.ensures
 
 pub returns-then-eq-6 : goal.returns-then-eq-6
 returns-then-eq-6 c =
@@ -97,8 +103,36 @@ returns-then-eq-6 c =
     ∙ later_named name replay behind_replay (sym c.if-eq-2.ensures)
     ∙ later_named name inspect behind_inspect (sym c.if-eq-3.ensures)
     ∙ later_named name gen behind_gen (sym c.if-eq-4.ensures)
-    ∙ later_named name migrate (trace_command ∷ []) (sym c.if-eq-5.ensures)
-    ∙ first_named name trace_command [] (sym c.if-eq-6.ensures)) c.read_trace.ensures
+    ∙ later_named name migrate behind_migrate (sym c.if-eq-5.ensures)
+    ∙ first_named name trace_command behind_trace (sym c.if-eq-6.ensures)) c.read_trace.ensures
+
+pub returns-then-eq-7 : goal.returns-then-eq-7
+returns-then-eq-7 c =
+    let name : Text = c.args.name.now in
+    reads_named name (rows_of (found_of c.args.matches.now)) (Some save_command)
+    c.read_save.result
+    (later_named name run behind_run (sym c.if-eq.ensures)
+    ∙ later_named name replay behind_replay (sym c.if-eq-2.ensures)
+    ∙ later_named name inspect behind_inspect (sym c.if-eq-3.ensures)
+    ∙ later_named name gen behind_gen (sym c.if-eq-4.ensures)
+    ∙ later_named name migrate behind_migrate (sym c.if-eq-5.ensures)
+    ∙ later_named name trace_command behind_trace (sym c.if-eq-6.ensures)
+    ∙ first_named name save_command (resume_command ∷ []) (sym c.if-eq-7.ensures))
+    c.read_save.ensures
+
+pub returns-then-eq-8 : goal.returns-then-eq-8
+returns-then-eq-8 c =
+    let name : Text = c.args.name.now in
+    reads_named name (rows_of (found_of c.args.matches.now)) (Some resume_command)
+    c.read_resume.result
+    (later_named name run behind_run (sym c.if-eq.ensures)
+    ∙ later_named name replay behind_replay (sym c.if-eq-2.ensures)
+    ∙ later_named name inspect behind_inspect (sym c.if-eq-3.ensures)
+    ∙ later_named name gen behind_gen (sym c.if-eq-4.ensures)
+    ∙ later_named name migrate behind_migrate (sym c.if-eq-5.ensures)
+    ∙ later_named name trace_command behind_trace (sym c.if-eq-6.ensures)
+    ∙ later_named name save_command (resume_command ∷ []) (sym c.if-eq-7.ensures)
+    ∙ first_named name resume_command [] (sym c.if-eq-8.ensures)) c.read_resume.ensures
 
 pub returns : goal.returns
 returns c =
@@ -109,5 +143,7 @@ returns c =
     ∙ later_named name replay behind_replay (sym c.if-eq-2.ensures)
     ∙ later_named name inspect behind_inspect (sym c.if-eq-3.ensures)
     ∙ later_named name gen behind_gen (sym c.if-eq-4.ensures)
-    ∙ later_named name migrate (trace_command ∷ []) (sym c.if-eq-5.ensures)
-    ∙ later_named name trace_command [] (sym c.if-eq-6.ensures))
+    ∙ later_named name migrate behind_migrate (sym c.if-eq-5.ensures)
+    ∙ later_named name trace_command behind_trace (sym c.if-eq-6.ensures)
+    ∙ later_named name save_command (resume_command ∷ []) (sym c.if-eq-7.ensures)
+    ∙ later_named name resume_command [] (sym c.if-eq-8.ensures))
