@@ -159,7 +159,7 @@ const GUESTS: [Guest; 10] = [
         code: &ECHOES,
         words: &["run", "--quantum", "16", "a"],
         outside: HUNDRED,
-        rounds: 14,
+        rounds: 15,
         ..RUN
     },
     Guest {
@@ -201,8 +201,8 @@ const GUESTS: [Guest; 10] = [
 ];
 
 /// Rounds, as they are spelled.
-pub const ROUNDS: [&str; 14] = [
-    "1", "2", "3", "4", "5", "6", "7", "8", "9", "10", "11", "12", "13", "14",
+pub const ROUNDS: [&str; 15] = [
+    "1", "2", "3", "4", "5", "6", "7", "8", "9", "10", "11", "12", "13", "14", "15",
 ];
 
 fn saved_line(rt: &impl Abort, alloc: Global, round: &str) -> Vec<u8> {
@@ -254,7 +254,7 @@ fn check_behind<R: Threads + Sync + Abort>(
     files: &mut MemoryFiles,
     rounds: usize,
 ) {
-    let behind = ROUNDS.get(rounds).unwrap_or(&"15");
+    let behind = ROUNDS.get(rounds).unwrap_or(&"16");
     let whole = call(rt, alloc, files, &["replay", "--log", LOG, "a"]);
     let words = ["save", "--log", LOG, "--round", behind, "--to", "none", "a"];
     let nothing = call(rt, alloc, files, &words);
