@@ -14,7 +14,7 @@ use Rattle.kernel_calls.specs.declared.state.RunStop.TheVariants as stops
 use Rattle.log_files.specs.Judging.{IsOfFile, disagreement, first_other}
 use Rattle.log_files.specs.declared.refusal.LogRefusal.{LogRefusal}
 use Rattle.log_files.specs.declared.refusal.LogRefusal.TheVariants as logs
-use Rattle.shim_log.specs.LogText.{Log}
+use Rattle.log_text.specs.LogText.{Log}
 use Rattle.dos_world.specs.declared.Ending.{Ending}
 use Rattle.dos_texts.specs.declared.refusal.Refusal.{Refusal}
 use Rattle.dos_texts.specs.declared.refusal.Refusal.TheVariants as refusals

@@ -16,7 +16,7 @@ use Rattle.dpg_run.specs.Fits.{misfit}
 use Rattle.flat_machine.specs.Machine.{group}
 use Rattle.dpg_run.proofs.MisfitLaws.{fits_have_none}
 use Rattle.dos_io.specs.declared.shim.ShimStop.TheVariants as stops
-use Rattle.shim_log.specs.LogText.{Log, exchanges}
+use Rattle.log_text.specs.LogText.{Log, exchanges}
 use Rattle.logged_runs.specs.Replaying.{config_of}
 use Rattle.dos_texts.specs.Exit.{ending_status, refusal_status, line_of}
 use Rattle.dos_texts.proofs.Statuses.{EndsAs, ending_ends}
@@ -31,7 +31,7 @@ use Rattle.dos_words.specs.declared.request.Request.TheVariants.{Trace}
 use Rattle.dos_io.specs.FileCalls.{FileCall}
 use Rattle.dpg_run.specs.Fits.{misfit_from}
 use Rattle.flat_machine.specs.Machine.{run_from}
-use Rattle.shim_log.specs.LogText.{exchanges_from}
+use Rattle.log_text.specs.LogText.{exchanges_from}
 use Rattle.dos_cmd.specs.Results.{MustResume, MustSave}
 use Rattle.group_text.specs.Groups.{SavedGroup, world_in}
 use Rattle.dos_cmd.specs.SaveLeaves.{DidSave, MisfittedSave}

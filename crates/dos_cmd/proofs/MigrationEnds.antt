@@ -12,9 +12,9 @@ use Rattle.dos_world.specs.declared.Ending.{Ending}
 use Rattle.dos_world.specs.declared.Ending.TheVariants.{Done}
 use Rattle.log_files.specs.Judging.{log_verdict}
 use Rattle.log_files.specs.declared.refusal.LogRefusal.{LogRefusal}
-use Rattle.shim_log.specs.declared.version.LogVersion.{LogVersion}
-use Rattle.shim_log.specs.LogText.{Log, logtext}
-use Rattle.shim_log.specs.Room.{most_bytes}
+use Rattle.log_text.specs.declared.version.LogVersion.{LogVersion}
+use Rattle.log_text.specs.LogText.{Log, logtext}
+use Rattle.log_text.specs.Ranges.{most_bytes}
 use Rattle.dos_texts.specs.Exit.{ending_status}
 use Rattle.dos_texts.specs.Migration.{migrated_lines}
 use Rattle.dos_texts.specs.declared.refusal.Refusal.{Refusal}

@@ -14,9 +14,9 @@ use Rattle.flat_machine.specs.Machine.{Ran, Seen, ends, machine}
 use Rattle.flat_machine.specs.Opening.{needed}
 use Rattle.dpg_run.specs.Fits.{misfit}
 use Rattle.dpg_run.specs.Report.{report}
-use Rattle.shim_log.specs.declared.header.LogHeader.{LogHeader}
-use Rattle.shim_log.specs.LogText.{Log, exchanges, logtext}
-use Rattle.shim_log.proofs.LogLaws.{log_again}
+use Rattle.log_text.specs.declared.header.LogHeader.{LogHeader}
+use Rattle.log_text.specs.LogText.{Log, exchanges, logtext}
+use Rattle.log_text.proofs.LogLaws.{log_again}
 use Rattle.log_files.specs.Judging.{disagreement, first_other, log_verdict}
 use Rattle.log_files.proofs.Verdicts.{accepted_as}
 use Rattle.logged_runs.specs.Replaying.{Replayed, config_of}

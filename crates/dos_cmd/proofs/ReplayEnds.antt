@@ -16,7 +16,7 @@ use Rattle.kernel_calls.specs.declared.state.RunStop.TheVariants as stops
 use Rattle.group_rounds.specs.Kernels.{Held, kernel_world}
 use Rattle.flat_machine.specs.Machine.{Seen}
 use Rattle.dpg_run.specs.Report.{report, report_in}
-use Rattle.shim_log.specs.LogText.{Log}
+use Rattle.log_text.specs.LogText.{Log}
 use Rattle.logged_runs.specs.Opened.{IsOpenedWith}
 use Rattle.logged_runs.specs.Replaying.{Replayed, ReplayedAhead, ReplayedUntil, StopsReplay}
 use Rattle.logged_runs.specs.Replaying.{config_of}

@@ -9,7 +9,7 @@ use Rattle.log_files.specs.Judging.{log_verdict, disagreement, first_other}
 use Rattle.log_files.specs.declared.refusal.LogRefusal.{LogRefusal}
 use Rattle.log_files.specs.declared.refusal.LogRefusal.TheVariants as log_refusals
 use Rattle.logged_runs.specs.Replaying.{config_of}
-use Rattle.shim_log.specs.LogText.{Log}
+use Rattle.log_text.specs.LogText.{Log}
 use Rattle.dos_texts.specs.declared.refusal.Refusal.{Refusal}
 use Rattle.dos_texts.specs.declared.refusal.Refusal.TheVariants as refusals
 use Rattle.dos_words.specs.Numbers.{Text}

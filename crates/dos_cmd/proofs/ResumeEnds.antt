@@ -21,8 +21,8 @@ use Rattle.group_rounds.specs.Kernels.{Held, kernel_world}
 use Rattle.flat_machine.specs.Machine.{Seen}
 use Rattle.dpg_run.specs.Report.{report, report_in}
 use Rattle.log_files.specs.Judging.{log_verdict}
-use Rattle.shim_log.specs.LogText.{Log, exchanges, logtext}
-use Rattle.shim_log.specs.Ranges.{FitsLog}
+use Rattle.log_text.specs.LogText.{Log, exchanges, logtext}
+use Rattle.log_text.specs.Ranges.{FitsLog}
 use Rattle.logged_runs.specs.Replaying.{StopsReplay}
 use Rattle.logged_runs.specs.Resuming.{Resumed, ResumedAhead, ResumedUntil}
 use Rattle.logged_runs.specs.Runs.{Ended, Halted}

@@ -11,7 +11,7 @@ use Rattle.elf_image.specs.Image.{Image}
 use Rattle.flat_machine.specs.Opening.{needed}
 use Rattle.group_rounds.specs.Kernels.{Held}
 use Rattle.shim_log.specs.Ledger.{LedgerState, empty_ledger}
-use Rattle.shim_log.specs.declared.header.LogHeader.{LogHeader}
+use Rattle.log_text.specs.declared.header.LogHeader.{LogHeader}
 use Rattle.logged_runs.specs.Opened.{IsOpenedWith}
 use Rattle.dos_texts.specs.Exit.{ending_status}
 use Rattle.dos_texts.specs.declared.refusal.Refusal.{Refusal}

@@ -19,7 +19,7 @@ use Rattle.group_rounds.specs.Kernels.{Held, kernel_world}
 use Rattle.flat_machine.specs.Machine.{Seen}
 use Rattle.dpg_run.specs.Report.{report, report_in}
 use Rattle.shim_log.specs.Ledger.{LedgerState}
-use Rattle.shim_log.specs.LogText.{Log, logtext}
+use Rattle.log_text.specs.LogText.{Log, logtext}
 use Rattle.logged_runs.specs.Opened.{IsOpenedWith}
 use Rattle.logged_runs.specs.Runs.{Ended, Halted}
 use Rattle.logged_runs.specs.Recording.{Plan, Recorded, RecordedAhead, RecordedUntil, plan_of}

@@ -13,7 +13,7 @@ use Rattle.elf_image.specs.declared.error.ImageError.{ImageError}
 use Rattle.elf_image.specs.declared.error.ImageError.TheVariants as errors
 use Rattle.elf_image.specs.Image.{Image, image}
 use Rattle.sha2.specs.Sha256.{sha256}
-use Rattle.shim_log.specs.Bytes.{AreDigests, FitsDigest}
+use Rattle.log_text.specs.Bytes.{AreDigests, FitsDigest}
 use Rattle.dos_texts.specs.declared.refusal.Refusal.{Refusal}
 use Rattle.dos_texts.specs.declared.refusal.Refusal.TheVariants as refusals
 use Rattle.dos_cmd.specs.Asking.{IsOfImage}

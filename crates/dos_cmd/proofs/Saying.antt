@@ -6,7 +6,7 @@ use Rattle.dos_io.proofs.OutsideLaws.{grown-nothing, grown-twice}
 use Rattle.dos_io.specs.declared.shim.ShimStop.{ShimStop}
 use Rattle.dos_io.specs.declared.shim.ShimStop.TheVariants as stops
 use Rattle.dos_world.specs.declared.Misfit.{Misfit}
-use Rattle.shim_log.specs.LogText.{Log}
+use Rattle.log_text.specs.LogText.{Log}
 use Rattle.dos_texts.specs.declared.refusal.Refusal.{Refusal}
 use Rattle.dos_texts.specs.declared.refusal.Refusal.TheVariants as refusals
 use Rattle.traced_logs.specs.TracedLogs.{first_log_lines}

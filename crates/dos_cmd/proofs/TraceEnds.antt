@@ -13,7 +13,7 @@ use Rattle.flat_machine.specs.Opening.{needed}
 use Rattle.kernel_calls.specs.declared.state.RunStop.TheVariants as stops
 use Rattle.group_rounds.specs.Kernels.{Held, kernel_world}
 use Rattle.dpg_run.specs.Report.{report_in}
-use Rattle.shim_log.specs.LogText.{Log}
+use Rattle.log_text.specs.LogText.{Log}
 use Rattle.logged_runs.specs.Opened.{IsOpenedWith}
 use Rattle.logged_runs.specs.Replaying.{config_of}
 use Rattle.page_trace.specs.Tracing.{HasLineCause}

@@ -19,12 +19,12 @@ use Rattle.dos_io.specs.declared.exchange.Exchange.TheVariants.{Signals as signa
 use Rattle.flat_machine.specs.Machine.{Seen, group}
 use Rattle.dpg_run.specs.Report.{report}
 use Rattle.dpg_run.proofs.MisfitLaws.{fits_have_none}
-use Rattle.shim_log.specs.LogText.{Log, exchanges, logtext}
-use Rattle.shim_log.specs.declared.version.LogVersion.TheVariants.{Two}
-use Rattle.shim_log.specs.Items.{quiet_rounds}
-use Rattle.shim_log.specs.Reading.{body_at, end_at, fields_at, read_header as log_header_at}
-use Rattle.shim_log.specs.Reading.{header_number_at, item_at, log_at, magic_at, many_at, quiet_at}
-use Rattle.shim_log.specs.Reading.{quiet_round_at, ranged_at, ranged_byte_at, version_at}
+use Rattle.log_text.specs.LogText.{Log, exchanges, logtext}
+use Rattle.log_text.specs.declared.version.LogVersion.TheVariants.{Two}
+use Rattle.log_text.specs.Items.{quiet_rounds}
+use Rattle.log_text.specs.Reading.{body_at, end_at, fields_at, read_header as log_header_at}
+use Rattle.log_text.specs.Reading.{header_number_at, item_at, log_at, magic_at, many_at, quiet_at}
+use Rattle.log_text.specs.Reading.{quiet_round_at, ranged_at, ranged_byte_at, version_at}
 use Rattle.log_files.specs.Judging.{disagreement, log_verdict}
 use Rattle.logged_runs.specs.Runs.{RanWhole}
 use Rattle.dos_texts.specs.Exit.{ending_status}

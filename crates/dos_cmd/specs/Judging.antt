@@ -12,13 +12,13 @@ use Rattle.log_files.specs.Judging.{disagreement, log_verdict}
 use Rattle.log_files.specs.declared.refusal.LogRefusal.{LogRefusal}
 use Rattle.logged_runs.specs.Replaying.{config_of}
 use Rattle.sha2.specs.Sha256.{sha256}
-use Rattle.shim_log.specs.Bytes.{FitsDigest}
-use Rattle.shim_log.specs.LogText.{Log, exchanges}
+use Rattle.log_text.specs.Bytes.{FitsDigest}
+use Rattle.log_text.specs.LogText.{Log, exchanges}
 use Rattle.group_files.specs.Judging.{group_verdict, is_of_log}
 use Rattle.group_files.specs.declared.refusal.SavedRefusal.{SavedRefusal}
 use Rattle.group_files.specs.declared.refusal.SavedRefusal.TheVariants.{OtherLog}
 use Rattle.group_text.specs.Groups.{SavedGroup}
-use Rattle.shim_log.specs.Room.{most_bytes}
+use Rattle.log_text.specs.Ranges.{most_bytes}
 use Rattle.dos_texts.specs.declared.refusal.Refusal.{Refusal}
 use Rattle.dos_texts.specs.declared.refusal.Refusal.TheVariants as refusals
 use Rattle.dos_words.specs.Numbers.{Text}

@@ -3,9 +3,9 @@
 use Rattle.std.specs.Prelude.{◌≡◌, ◌≢◌, ◌≤◌, ◌<◌, ℕ, Bool, List, [], length, Option, Some, IfSome}
 use Rattle.std.specs.Prelude.{IsTrue}
 use Rattle.dos_io.specs.Outside.{grown, GrewByFront, Rose}
-use Rattle.shim_log.specs.declared.version.LogVersion.TheVariants.{Two}
-use Rattle.shim_log.specs.LogText.{Log, logtext}
-use Rattle.shim_log.specs.Room.{most_bytes}
+use Rattle.log_text.specs.declared.version.LogVersion.TheVariants.{Two}
+use Rattle.log_text.specs.LogText.{Log, logtext}
+use Rattle.log_text.specs.Ranges.{most_bytes}
 use Rattle.dos_texts.specs.Migration.{migrated_lines}
 use Rattle.dos_texts.specs.declared.refusal.Refusal.{Refusal}
 use Rattle.dos_texts.specs.declared.refusal.Refusal.TheVariants as refusals

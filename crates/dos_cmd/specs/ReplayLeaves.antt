@@ -6,7 +6,7 @@ use Rattle.flat_machine.specs.Opening.{needed}
 use Rattle.log_files.specs.declared.refusal.LogRefusal.{LogRefusal}
 use Rattle.flat_machine.specs.Machine.{Seen}
 use Rattle.dpg_run.specs.Report.{report}
-use Rattle.shim_log.specs.LogText.{Log}
+use Rattle.log_text.specs.LogText.{Log}
 use Rattle.logged_runs.specs.Replaying.{Replayed, ReplayedUntil, ReplayedAhead}
 use Rattle.dos_texts.specs.Exit.{ending_status}
 use Rattle.dos_texts.specs.declared.refusal.Refusal.{Refusal}

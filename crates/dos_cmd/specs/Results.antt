@@ -8,7 +8,7 @@ use Rattle.dos_world.specs.declared.Misfit.{Misfit}
 use Rattle.dos_world.specs.declared.Post.{Post}
 use Rattle.dpg_run.specs.Fits.{misfit, misfit_from}
 use Rattle.logged_runs.specs.Replaying.{config_of}
-use Rattle.shim_log.specs.LogText.{Log, exchanges, exchanges_from}
+use Rattle.log_text.specs.LogText.{Log, exchanges, exchanges_from}
 use Rattle.flat_machine.specs.Machine.{run_from}
 use Rattle.group_text.specs.Groups.{SavedGroup, world_in}
 use Rattle.dos_texts.specs.Exit.{refusal_status, line_of}

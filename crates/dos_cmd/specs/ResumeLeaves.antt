@@ -6,7 +6,7 @@ use Rattle.dos_world.specs.declared.Misfit.{Misfit}
 use Rattle.flat_machine.specs.Machine.{Seen}
 use Rattle.dpg_run.specs.Report.{report}
 use Rattle.group_text.specs.Groups.{SavedGroup, world_in}
-use Rattle.shim_log.specs.LogText.{Log}
+use Rattle.log_text.specs.LogText.{Log}
 use Rattle.logged_runs.specs.Resuming.{Resumed, ResumedAhead, ResumedUntil}
 use Rattle.dos_texts.specs.Exit.{ending_status}
 use Rattle.dos_texts.specs.declared.refusal.Refusal.{Refusal}

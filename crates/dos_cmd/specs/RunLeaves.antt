@@ -10,8 +10,8 @@ use Rattle.flat_machine.specs.Machine.{Seen}
 use Rattle.kernel_calls.specs.StateWorld.{shim_stop}
 use Rattle.kernel_calls.specs.declared.state.RunStop.{RunStop}
 use Rattle.dpg_run.specs.Report.{report}
-use Rattle.shim_log.specs.LogText.{Log, logtext}
-use Rattle.shim_log.specs.declared.header.LogHeader.{LogHeader}
+use Rattle.log_text.specs.LogText.{Log, logtext}
+use Rattle.log_text.specs.declared.header.LogHeader.{LogHeader}
 use Rattle.logged_runs.specs.Recording.{Plan, Recorded, RecordedUntil, RecordedAhead, plan_of}
 use Rattle.dos_texts.specs.Exit.{ending_status}
 use Rattle.dos_words.specs.Numbers.{Text}

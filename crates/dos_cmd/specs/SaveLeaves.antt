@@ -10,7 +10,7 @@ use Rattle.flat_machine.specs.Opening.{needed}
 use Rattle.group_text.specs.GroupText.{grouptext}
 use Rattle.group_text.specs.Groups.{group_of}
 use Rattle.sha2.specs.Sha256.{sha256}
-use Rattle.shim_log.specs.LogText.{Log, logtext}
+use Rattle.log_text.specs.LogText.{Log, logtext}
 use Rattle.logged_runs.specs.Replaying.{config_of}
 use Rattle.logged_runs.specs.Resuming.{AsksWithin, ReplayedTo}
 use Rattle.dos_texts.specs.Saved.{saved_line}

@@ -8,7 +8,7 @@ use Rattle.dos_io.specs.declared.shim.ShimStop.TheVariants as shims
 use Rattle.kernel_calls.specs.declared.state.RunStop.{RunStop}
 use Rattle.kernel_calls.specs.declared.state.RunStop.TheVariants.{HostFault, LogFull, Misfit}
 use Rattle.kernel_calls.specs.declared.state.RunStop.TheVariants.{OutFault, ErrFault, Memory}
-use Rattle.shim_log.specs.LogText.{Log, logtext}
+use Rattle.log_text.specs.LogText.{Log, logtext}
 use Rattle.dos_words.specs.Numbers.{Text}
 use Rattle.dos_texts.specs.declared.refusal.Refusal.{Refusal}
 use Rattle.dos_texts.specs.declared.refusal.Refusal.TheVariants as refusals

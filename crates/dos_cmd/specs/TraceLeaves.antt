@@ -7,7 +7,7 @@ use Rattle.elf_image.specs.Image.{Image}
 use Rattle.flat_machine.specs.Machine.{Seen}
 use Rattle.flat_machine.specs.Opening.{needed}
 use Rattle.dpg_run.specs.Report.{report}
-use Rattle.shim_log.specs.LogText.{Log}
+use Rattle.log_text.specs.LogText.{Log}
 use Rattle.logged_runs.specs.Replaying.{Replayed, ReplayedUntil, first_work}
 use Rattle.page_trace.specs.declared.stop.TraceStop.{TraceStop}
 use Rattle.page_trace.specs.declared.stop.TraceStop.TheVariants as traces

@@ -4,7 +4,7 @@ ghost use Rattle.std.specs.Prelude.{IfSome, IsErrOf, OnOk, [], ◌∷◌, ◌++�
 ghost use Rattle.dos_io.specs.FileCalls.{getting};
 ghost use Rattle.dos_io.specs.Outside.{Rose};
 ghost use Rattle.sha2.specs.Sha256.{sha256};
-ghost use Rattle.shim_log.specs.Bytes.{AreDigests, FitsDigest};
+ghost use Rattle.log_text.specs.Bytes.{AreDigests, FitsDigest};
 ghost use Rattle.dos_cmd.specs.Asking.{Asks, IsOfImage, files_named};
 ghost use Rattle.dos_cmd.specs.Judging.{verdict, images_from, digests_of, IsNextImage, OfFiles};
 
@@ -13,7 +13,7 @@ use dos_texts::Refusal;
 use dos_words::Names;
 use elf_image::{Image, ImageError, read_image};
 use log_files::digest_of;
-use shim_log::Digests;
+use log_text::Digests;
 use std::alloc::Global;
 
 /// The longest file that is read.

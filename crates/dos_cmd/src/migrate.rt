@@ -4,7 +4,7 @@ ghost use Rattle.std.specs.Prelude.{Err, IfOk, IfErr, IfSome, IsErrOf, IsTrue, O
 ghost use Rattle.dos_io.specs.Hosts.{Told};
 ghost use Rattle.logged_runs.specs.Recording.{HostSeen};
 ghost use Rattle.dos_io.specs.Outside.{Rose};
-ghost use Rattle.shim_log.specs.Room.{most_bytes};
+ghost use Rattle.log_text.specs.Ranges.{most_bytes};
 ghost use Rattle.dos_texts.specs.Exit.{ending_status};
 ghost use Rattle.dos_words.specs.declared.request.Request.TheVariants as requests;
 ghost use Rattle.dos_cmd.specs.Asking.{Asks, files_named, named_by};
@@ -17,7 +17,7 @@ use dos_io::{FileError, Files, Sink};
 use dos_texts::{Refusal, put_migrated};
 use dos_words::Text;
 use dos_world::Ending;
-use shim_log::{Log, LogVersion, write_log};
+use log_text::{Log, LogVersion, write_log};
 use std::alloc::Global;
 
 /// The longest text that a log may have: 64 MiB.

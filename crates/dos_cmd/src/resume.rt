@@ -12,7 +12,7 @@ ghost use Rattle.group_files.specs.Judging.{group_verdict, is_of_log};
 ghost use Rattle.dos_cmd.specs.SaveLeaves.{log_digest};
 ghost use Rattle.group_rounds.specs.Kernels.{kernel_world};
 ghost use Rattle.logged_runs.specs.Recording.{HostSeen};
-ghost use Rattle.shim_log.specs.LogText.{exchanges};
+ghost use Rattle.log_text.specs.LogText.{exchanges};
 ghost use Rattle.dos_texts.specs.Exit.{ending_status};
 ghost use Rattle.dos_words.specs.declared.request.Request.TheVariants as requests;
 ghost use Rattle.dos_cmd.specs.Asking.{Asks, files_named, named_by};
@@ -34,8 +34,8 @@ use group_rounds::Kernel;
 use group_save::restore_group;
 use group_text::GroupRecord;
 use log_files::digest_of_log;
+use log_text::Log;
 use logged_runs::resume_group;
-use shim_log::Log;
 use std::alloc::Global;
 use worker_pool::Workers;
 

@@ -28,8 +28,8 @@ use group_rounds::Kernel;
 use group_save::record_group;
 use group_writer::write_group;
 use log_files::digest_of_log;
+use log_text::Log;
 use logged_runs::{Arrived, replay_to};
-use shim_log::Log;
 use std::alloc::Global;
 use worker_pool::Workers;
 

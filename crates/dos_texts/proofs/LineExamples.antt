@@ -4,7 +4,7 @@ use Rattle.std.specs.Prelude.{ℕ, List, [], ◌∷◌, ◌++◌, codes, replica
 use Rattle.dos_world.specs.declared.Ending.TheVariants.{Done, Limit, Stalled}
 use Rattle.dos_world.specs.declared.Question.TheVariants as question
 use Rattle.elf_image.specs.declared.error.ImageError.TheVariants as image
-use Rattle.shim_log.specs.declared.refusal.LogError.TheVariants as log
+use Rattle.log_text.specs.declared.refusal.LogError.TheVariants as log
 use Rattle.dos_texts.specs.Exit.{line}
 use Rattle.dos_texts.specs.Lines.{words_refused, image_too_long, image_refused, no_room}
 use Rattle.dos_texts.specs.Lines.{log_too_long, log_refused, images_differ, digests_differ, misfit}

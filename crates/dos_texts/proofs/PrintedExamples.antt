@@ -4,7 +4,7 @@ use Rattle.std.specs.Prelude.{ℕ, List, [], ◌∷◌, ◌++◌, codes, replica
 use Rattle.std.specs.Prelude.{◌≡◌, refl}
 use Rattle.dos_world.specs.declared.Ending.TheVariants.{Done, Limit, Stalled}
 use Rattle.dos_texts.specs.Report.{report_of}
-use Rattle.shim_log.specs.declared.version.LogVersion.TheVariants.{One}
+use Rattle.log_text.specs.declared.version.LogVersion.TheVariants.{One}
 use Rattle.dos_texts.specs.Migration.{migrated_lines}
 use Rattle.dos_texts.specs.Printed.{entry_line, part_line, inspect_lines, summary_of}
 

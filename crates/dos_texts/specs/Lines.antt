@@ -8,9 +8,9 @@ use Rattle.elf_image.specs.declared.error.ImageError.{ImageError}
 use Rattle.group_text.specs.declared.refusal.GroupRefusal.{GroupRefusal}
 use Rattle.group_text.specs.declared.refusal.GroupRefusal.TheVariants as refusal
 use Rattle.elf_image.specs.declared.error.ImageError.TheVariants.{Segment, Overlap}
-use Rattle.shim_log.specs.declared.refusal.LogError.{LogError}
-use Rattle.shim_log.specs.declared.refusal.LogError.TheVariants.{Short, Magic, Version, Header}
-use Rattle.shim_log.specs.declared.refusal.LogError.TheVariants.{Entry, AfterEnd}
+use Rattle.log_text.specs.declared.refusal.LogError.{LogError}
+use Rattle.log_text.specs.declared.refusal.LogError.TheVariants.{Short, Magic, Version, Header}
+use Rattle.log_text.specs.declared.refusal.LogError.TheVariants.{Entry, AfterEnd}
 
 -- Images are counted from 1 in the order of the words, a log's entries from 0. Want of memory
 -- refuses no image.

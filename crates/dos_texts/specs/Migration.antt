@@ -1,8 +1,8 @@
 -- What `migrate` prints. This project's own texts.
 use Rattle.std.specs.Prelude.{ℕ, List, ◌++◌, codes, decimal}
-use Rattle.shim_log.specs.declared.version.LogVersion.{LogVersion}
-use Rattle.shim_log.specs.declared.version.LogVersion.TheVariants.{Two}
-use Rattle.shim_log.specs.LogText.{version_number}
+use Rattle.log_text.specs.declared.version.LogVersion.{LogVersion}
+use Rattle.log_text.specs.declared.version.LogVersion.TheVariants.{Two}
+use Rattle.log_text.specs.LogText.{version_number}
 use Rattle.dos_texts.specs.Report.{line_feed}
 
 -- the line of a text: its version, and how long it is

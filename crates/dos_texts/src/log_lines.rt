@@ -9,7 +9,7 @@ use crate::line::{LINE, push_digest, push_place, text_line};
 use arrayvec::ArrayString;
 use itoa::Buffer;
 use log_files::LogRefusal;
-use shim_log::LogError;
+use log_text::LogError;
 
 /// Writes what is wrong with a log.
 fn push_error(line: &mut ArrayString<LINE>, error: LogError)

@@ -8,7 +8,7 @@ use crate::line::{LINE, put_line};
 use arrayvec::ArrayString;
 use dos_io::{Sink, SinkFault};
 use itoa::Buffer;
-use shim_log::LogVersion;
+use log_text::LogVersion;
 
 fn version_line(version: LogVersion, bytes: u64) -> ArrayString<LINE>
     ensures { result.bytes ≡ version_line version bytes }

@@ -1,7 +1,7 @@
 //! The work that is timed.
 use crate::kind::Kind;
 use crate::recording::{host, read, record, replay};
-use shim_log::{Log, write_log};
+use log_text::{Log, write_log};
 use std::alloc::Global;
 use std::io;
 

@@ -2,14 +2,15 @@
 ghost use Rattle.std.specs.Prelude.{◌≡◌, IfOk};
 ghost use Rattle.dos_io.specs.Shims.{HasNoEnd};
 ghost use Rattle.shim_log.specs.Ledger.{recorder_state};
-ghost use Rattle.shim_log.specs.Ranges.{FitsHeader};
+ghost use Rattle.log_text.specs.Ranges.{FitsHeader};
 ghost use Rattle.shim_log.specs.Replay.{replayer_state};
 
 use crate::kind::Kind;
 use crate::questions::{ANSWER, ask_all};
 use dos_io::{ClockRule, MemoryHost, Shim, ShimStop};
 use dos_world::Ending;
-use shim_log::{Digests, Log, LogHeader, Recorder, Replayer, read_log};
+use log_text::{Digests, Log, LogHeader, read_log};
+use shim_log::{Recorder, Replayer};
 use std::alloc::{AllocError, Global};
 use std::io;
 use std::io::ErrorKind;

@@ -3,13 +3,13 @@ use Rattle.std.proofs.Common.{◌≡◌, ◌∙◌, ℕ, ◌≤◌, ◌<◌, Lis
 use Rattle.std.proofs.Common.{refl, ap, subst}
 use Rattle.std.specs.Prelude.{IfSome, IsErrOf, ⊤}
 use Rattle.std.proofs.lemmas.Bool.{lt-ltb, le-ltb}
-use Rattle.shim_log.specs.declared.refusal.LogError.{LogError}
-use Rattle.shim_log.specs.declared.refusal.ReadError.{ReadError}
-use Rattle.shim_log.specs.declared.refusal.ReadError.TheVariants as read
-use Rattle.shim_log.specs.Gives.{FailsAs}
-use Rattle.shim_log.specs.LogText.{Log}
-use Rattle.shim_log.specs.Reading.{log_at}
-use Rattle.shim_log.specs.Room.{most_bytes}
+use Rattle.log_text.specs.declared.refusal.LogError.{LogError}
+use Rattle.log_text.specs.declared.refusal.ReadError.{ReadError}
+use Rattle.log_text.specs.declared.refusal.ReadError.TheVariants as read
+use Rattle.log_text.specs.Gives.{FailsAs}
+use Rattle.log_text.specs.LogText.{Log}
+use Rattle.log_text.specs.Reading.{log_at}
+use Rattle.log_text.specs.Ranges.{most_bytes}
 use Rattle.log_files.specs.declared.refusal.LogRefusal.{LogRefusal}
 use Rattle.log_files.specs.declared.refusal.LogRefusal.TheVariants.{TooLong, Refused}
 use Rattle.log_files.specs.declared.refusal.LoadError.TheVariants as load

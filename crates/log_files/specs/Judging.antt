@@ -2,10 +2,10 @@
 -- own rules.
 use Rattle.std.specs.Prelude.{ℕ, suc, ◌≡◌, List, [], ◌∷◌, length, Option, Some, None, Result, Ok}
 use Rattle.std.specs.Prelude.{Err, ⊤, nat_lt, ◌==◌, if◌then◌else◌, bytes_eq}
-use Rattle.shim_log.specs.declared.refusal.LogError.{LogError}
-use Rattle.shim_log.specs.LogText.{Log}
-use Rattle.shim_log.specs.Reading.{log_at}
-use Rattle.shim_log.specs.Room.{most_bytes}
+use Rattle.log_text.specs.declared.refusal.LogError.{LogError}
+use Rattle.log_text.specs.LogText.{Log}
+use Rattle.log_text.specs.Reading.{log_at}
+use Rattle.log_text.specs.Ranges.{most_bytes}
 use Rattle.log_files.specs.declared.refusal.LogRefusal.{LogRefusal}
 use Rattle.log_files.specs.declared.refusal.LogRefusal.TheVariants.{TooLong, Refused, Images}
 use Rattle.log_files.specs.declared.refusal.LogRefusal.TheVariants.{Digest}

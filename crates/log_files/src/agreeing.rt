@@ -4,8 +4,8 @@ ghost use Rattle.sha2.specs.Sha256.{sha256};
 ghost use Rattle.log_files.specs.Judging.{disagreement, first_other, Agrees};
 
 use crate::refusal::LogRefusal;
+use log_text::Digests;
 use sha2::{Digest, Sha256};
-use shim_log::Digests;
 
 /// The SHA-256 digest of a file (FIPS 180-4).
 pub fn digest_of(file: &[u8]) -> [u8; 32]

@@ -3,13 +3,13 @@ ghost use Rattle.std.specs.Prelude.{◌≡◌, ◌≤◌, ℕ, List, length, IfO
 ghost use Rattle.std.specs.Prelude.{Err, [], ◌∷◌, ◌++◌};
 ghost use Rattle.dos_io.specs.FileCalls.{getting};
 ghost use Rattle.dos_io.specs.Outside.{Rose};
-ghost use Rattle.shim_log.specs.LogText.{logtext};
-ghost use Rattle.shim_log.specs.Ranges.{FitsLog};
+ghost use Rattle.log_text.specs.LogText.{logtext};
+ghost use Rattle.log_text.specs.Ranges.{FitsLog};
 ghost use Rattle.log_files.specs.Judging.{log_verdict, IsForFile, IsLogRefusal};
 
 use crate::refusal::{LoadError, LogRefusal};
 use dos_io::{FileError, Files};
-use shim_log::{Log, LogError, ReadError, read_log};
+use log_text::{Log, LogError, ReadError, read_log};
 use std::alloc::Global;
 
 /// The longest file of a log, in bytes.

@@ -1,6 +1,6 @@
 // Why a log isn't replayed.
 
-use shim_log::LogError;
+use log_text::LogError;
 
 /// Why a log isn't replayed with the images of a call.
 #[derive(Clone, Copy, PartialEq, Eq)]

@@ -4,11 +4,11 @@ ghost use Rattle.std.specs.Prelude.{Err, IfOk, ◌⊎◌, [], ◌∷◌, ◌++�
 ghost use Rattle.dos_io.specs.FileCalls.{setting};
 ghost use Rattle.dos_io.specs.Outside.{Rose};
 ghost use Rattle.sha2.specs.Sha256.{sha256};
-ghost use Rattle.shim_log.specs.LogText.{logtext};
+ghost use Rattle.log_text.specs.LogText.{logtext};
 
 use crate::agreeing::digest_of;
 use dos_io::{FileError, Files};
-use shim_log::{Log, write_log};
+use log_text::{Log, write_log};
 use std::alloc::{AllocError, Global};
 
 // The text of the log in its version.

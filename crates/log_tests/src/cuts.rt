@@ -2,7 +2,7 @@
 ghost use Rattle.std.specs.Prelude.{◌≤◌};
 
 use crate::texts::{EACH_KIND, is_read};
-use shim_log::{LogError, ReadError};
+use log_text::{LogError, ReadError};
 use std::alloc::Global;
 use std::process::Abort;
 

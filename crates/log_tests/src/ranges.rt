@@ -1,6 +1,6 @@
 //! Each field of a log at and past each end of its range.
 use crate::texts::{EACH_KIND, STRETCHES, is_read};
-use shim_log::{LogError, ReadError};
+use log_text::{LogError, ReadError};
 use std::alloc::Global;
 use std::process::Abort;
 

@@ -2,14 +2,15 @@
 ghost use Rattle.std.specs.Prelude.{IfOk};
 ghost use Rattle.dos_io.specs.Shims.{HasNoEnd};
 ghost use Rattle.shim_log.specs.Ledger.{recorder_state};
-ghost use Rattle.shim_log.specs.Ranges.{FitsHeader};
+ghost use Rattle.log_text.specs.Ranges.{FitsHeader};
 
 use crate::hosts::brings;
 use crate::shims::{answers_clock, answers_input, answers_signals, came, fills};
 use crate::texts::{SMALLEST, are, is_written};
 use dos_io::{ClockRule, HostFault, MemoryHost, Shim, ShimStop, SignalList};
 use dos_world::{Ending, Post};
-use shim_log::{Digests, Ledger, Log, LogHeader, Recorder};
+use log_text::{Digests, Log, LogHeader};
+use shim_log::{Ledger, Recorder};
 use std::alloc::{AllocError, Global};
 use std::process::Abort;
 

@@ -7,7 +7,8 @@ use crate::shims::{answers_clock, answers_input, answers_signals, came, takes_en
 use crate::texts::{EACH_KIND, SMALLEST, SMALLEST_ONE, STRETCHES, are, is_written};
 use dos_io::{ShimStop, SignalList};
 use dos_world::{Ending, Misfit, Question};
-use shim_log::{ReadError, Replayer, read_log};
+use log_text::{ReadError, read_log};
+use shim_log::Replayer;
 use std::alloc::Global;
 use std::process::Abort;
 

@@ -1,7 +1,7 @@
 //! Texts of logs, spelled by hand, and what is read and written of them.
 ghost use Rattle.std.specs.Prelude.{◌≤◌, length};
 
-use shim_log::{Log, ReadError, read_log, write_log};
+use log_text::{Log, ReadError, read_log, write_log};
 use std::alloc::Global;
 use std::process::Abort;
 

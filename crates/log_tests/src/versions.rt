@@ -2,7 +2,7 @@
 ghost use Rattle.std.specs.Prelude.{◌≤◌, length};
 
 use crate::texts::{EACH_KIND, SMALLEST, SMALLEST_ONE, STRETCHES, are};
-use shim_log::{LogVersion, read_log, write_log};
+use log_text::{LogVersion, read_log, write_log};
 use std::alloc::Global;
 use std::process::Abort;
 

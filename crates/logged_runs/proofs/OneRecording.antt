@@ -14,9 +14,9 @@ use Rattle.dos_io.specs.declared.exchange.ClockRule.TheVariants.{Counted, FromHo
 use Rattle.dos_io.specs.declared.exchange.Exchange.{Exchange}
 use Rattle.dos_io.specs.declared.exchange.Exchange.TheVariants.{End, Input, Signals}
 use Rattle.dos_io.proofs.GivenLaws.{given_once, readings_append}
-use Rattle.shim_log.specs.declared.header.LogHeader.{LogHeader}
-use Rattle.shim_log.specs.declared.version.LogVersion.{LogVersion}
-use Rattle.shim_log.specs.LogText.{Log, exchanges}
+use Rattle.log_text.specs.declared.header.LogHeader.{LogHeader}
+use Rattle.log_text.specs.declared.version.LogVersion.{LogVersion}
+use Rattle.log_text.specs.LogText.{Log, exchanges}
 use Rattle.shim_log.specs.Room.{HadRoom, NoRoom}
 use Rattle.flat_machine.specs.Machine.{group}
 use Rattle.dpg_run.proofs.Asked.{Determines, next_asked, one_run}

@@ -27,15 +27,16 @@ use Rattle.kernel_calls.specs.declared.state.RunStop.{RunStop}
 use Rattle.kernel_calls.specs.declared.state.RunStop.TheVariants.{HostFault, LogFull, Misfit}
 use Rattle.kernel_calls.specs.declared.state.RunStop.TheVariants.{OutFault, ErrFault, Memory}
 use Rattle.worker_pool.specs.Ran.{GrewBy}
-use Rattle.shim_log.specs.declared.header.LogHeader.{LogHeader}
-use Rattle.shim_log.specs.declared.version.LogVersion.TheVariants.{Two}
+use Rattle.log_text.specs.declared.header.LogHeader.{LogHeader}
+use Rattle.log_text.specs.declared.version.LogVersion.TheVariants.{Two}
 use Rattle.shim_log.specs.Asking.{RecorderAsks, host_questions, stop_questions}
 use Rattle.shim_log.specs.Ledger.{RecorderFollows, IsLedger, LedgerState, MayStop, empty_ledger}
 use Rattle.shim_log.specs.Ledger.{end_of_ledger}
 use Rattle.shim_log.specs.Ledger.{recorder_state}
-use Rattle.shim_log.specs.LogText.{Log, exchanges, logtext}
-use Rattle.shim_log.specs.Ranges.{AreEntries, FitsLog}
-use Rattle.shim_log.specs.Room.{HadRoom, most_bytes}
+use Rattle.log_text.specs.LogText.{Log, exchanges, logtext}
+use Rattle.log_text.specs.Ranges.{AreEntries, FitsLog}
+use Rattle.log_text.specs.Ranges.{most_bytes}
+use Rattle.shim_log.specs.Room.{HadRoom}
 use Rattle.shim_log.proofs.AskingCalls.{asked_until, asked_whole}
 use Rattle.shim_log.proofs.RecorderLaws.{no_end, recording_given}
 use Rattle.flat_machine.specs.Machine.{Seen}

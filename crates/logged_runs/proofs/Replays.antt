@@ -21,8 +21,8 @@ use Rattle.kernel_calls.specs.declared.state.RunStop.TheVariants.{HostFault, Log
 use Rattle.kernel_calls.specs.declared.state.RunStop.TheVariants.{Misfit as MisfitFound}
 use Rattle.kernel_calls.specs.declared.state.RunStop.TheVariants.{Memory}
 use Rattle.worker_pool.specs.Ran.{GrewBy}
-use Rattle.shim_log.specs.LogText.{Log, exchanges, exchanges_from}
-use Rattle.shim_log.specs.Ranges.{FitsLog}
+use Rattle.log_text.specs.LogText.{Log, exchanges, exchanges_from}
+use Rattle.log_text.specs.Ranges.{FitsLog}
 use Rattle.shim_log.specs.Replay.{FollowsLog, IsMisfitOf, IsReplay, ReplayState, StandsNext}
 use Rattle.shim_log.specs.Replay.{entries_used, replayer_state}
 use Rattle.shim_log.proofs.ReplayLaws.{ends_whole, is_next, stands_next}

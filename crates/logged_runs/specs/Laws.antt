@@ -3,7 +3,7 @@ use Rattle.std.specs.Prelude.{◌≡◌, ℕ, List, Some, None}
 use Rattle.dos_io.specs.Hosts.{Told}
 use Rattle.dos_io.specs.declared.host_question.HostQuestion.{HostQuestion}
 use Rattle.dos_io.specs.declared.shim.ShimStop.TheVariants.{LogFull}
-use Rattle.shim_log.specs.LogText.{Log, exchanges}
+use Rattle.log_text.specs.LogText.{Log, exchanges}
 use Rattle.dpg_run.specs.Fits.{misfit}
 use Rattle.flat_machine.specs.Machine.{Seen}
 use Rattle.logged_runs.specs.Recording.{HostSeen, Plan, Recorded, RecordedUntil, host_seen}

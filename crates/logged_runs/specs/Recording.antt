@@ -14,12 +14,13 @@ use Rattle.elf_image.specs.Image.{Image}
 use Rattle.kernel_calls.specs.StateWorld.{shim_stop}
 use Rattle.kernel_calls.specs.declared.state.RunStop.{RunStop}
 use Rattle.shim_log.specs.Asking.{host_questions, stop_questions}
-use Rattle.shim_log.specs.declared.header.LogHeader.{LogHeader}
-use Rattle.shim_log.specs.declared.version.LogVersion.TheVariants.{Two}
+use Rattle.log_text.specs.declared.header.LogHeader.{LogHeader}
+use Rattle.log_text.specs.declared.version.LogVersion.TheVariants.{Two}
 use Rattle.shim_log.specs.Ledger.{LedgerState, MayStop, empty_ledger}
-use Rattle.shim_log.specs.LogText.{Log, exchanges, logtext}
-use Rattle.shim_log.specs.Ranges.{FitsLog}
-use Rattle.shim_log.specs.Room.{HadRoom, most_bytes}
+use Rattle.log_text.specs.LogText.{Log, exchanges, logtext}
+use Rattle.log_text.specs.Ranges.{FitsLog}
+use Rattle.log_text.specs.Ranges.{most_bytes}
+use Rattle.shim_log.specs.Room.{HadRoom}
 use Rattle.flat_machine.specs.Machine.{Seen}
 use Rattle.dpg_run.specs.Work.{group_work}
 use Rattle.logged_runs.specs.Runs.{RanWhole, RanUntil, RanAhead}

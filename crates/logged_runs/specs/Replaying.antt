@@ -9,8 +9,8 @@ use Rattle.dos_io.specs.Exchanges.{answer_of}
 use Rattle.dpg_run.specs.Fits.{misfit}
 use Rattle.dpg_run.specs.Work.{group_work}
 use Rattle.flat_machine.specs.Machine.{Seen}
-use Rattle.shim_log.specs.declared.header.LogHeader.{LogHeader}
-use Rattle.shim_log.specs.LogText.{Log, exchanges}
+use Rattle.log_text.specs.declared.header.LogHeader.{LogHeader}
+use Rattle.log_text.specs.LogText.{Log, exchanges}
 use Rattle.logged_runs.specs.Runs.{RanWhole, RanUntil, RanAhead}
 
 -- the configuration that a log's header has

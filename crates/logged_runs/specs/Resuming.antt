@@ -10,7 +10,7 @@ use Rattle.flat_machine.specs.Opening.{opening}
 use Rattle.dpg_run.specs.Fits.{misfit_from}
 use Rattle.dpg_run.specs.Reaching.{RunsTo, RunsToItsEnd}
 use Rattle.dpg_run.specs.Work.{work_from}
-use Rattle.shim_log.specs.LogText.{Log, exchanges, exchanges_from}
+use Rattle.log_text.specs.LogText.{Log, exchanges, exchanges_from}
 use Rattle.group_rounds.specs.Kernels.{Held, kernel_world}
 use Rattle.logged_runs.specs.Replaying.{Replayed, config_of, first_work}
 use Rattle.dpg_run.specs.GroupRuns.{limited_by}

@@ -17,7 +17,8 @@ use dos_world::Ending;
 use dpg_run::run_group;
 use group_rounds::Kernel;
 use kernel_calls::RunStop;
-use shim_log::{Ledger, Log, Recorder};
+use log_text::Log;
+use shim_log::{Ledger, Recorder};
 use worker_pool::Workers;
 
 // The host as the recorder leaves it.

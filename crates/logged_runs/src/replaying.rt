@@ -16,7 +16,8 @@ use dos_world::Ending;
 use dpg_run::run_group;
 use group_rounds::Kernel;
 use kernel_calls::RunStop;
-use shim_log::{Log, Replayer};
+use log_text::Log;
+use shim_log::Replayer;
 use worker_pool::Workers;
 
 /// Runs a group that was opened by the answers of a log, of which it asks nothing else.

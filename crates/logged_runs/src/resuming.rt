@@ -7,7 +7,7 @@ ghost use Rattle.flat_machine.specs.Machine.{Seen};
 ghost use Rattle.group_rounds.specs.Kernels.{IsBetweenRounds, kernel_world};
 ghost use Rattle.kernel_calls.specs.StateWorld.{HasSinkCause};
 ghost use Rattle.kernel_calls.specs.declared.state.RunStop.TheVariants as stops;
-ghost use Rattle.shim_log.specs.LogText.{exchanges};
+ghost use Rattle.log_text.specs.LogText.{exchanges};
 ghost use Rattle.logged_runs.specs.Opened.{IsOpenedWith};
 ghost use Rattle.logged_runs.specs.Runs.{Ended, Halted};
 ghost use Rattle.logged_runs.specs.Replaying.{ReplayedAhead, ReplayedUntil, StopsReplay, config_of};
@@ -19,7 +19,8 @@ use dos_world::Ending;
 use dpg_run::{Reached, run_group, run_to};
 use group_rounds::Kernel;
 use kernel_calls::RunStop;
-use shim_log::{Log, Replayer};
+use log_text::Log;
+use shim_log::Replayer;
 use worker_pool::Workers;
 
 /// How far a replay came that was to come to a round.

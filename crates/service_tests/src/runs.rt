@@ -3,7 +3,7 @@ ghost use Rattle.std.specs.Prelude.{◌≡◌, false};
 ghost use Rattle.dos_world.specs.Lawful.{IsConfig};
 ghost use Rattle.dos_io.specs.Shims.{HasNoEnd};
 ghost use Rattle.shim_log.specs.Ledger.{recorder_state};
-ghost use Rattle.shim_log.specs.Ranges.{FitsHeader};
+ghost use Rattle.log_text.specs.Ranges.{FitsHeader};
 
 use crate::checks::same_at;
 use crate::guests::{Step, file};
@@ -12,7 +12,8 @@ use dos_world::{Config, Ending, Post};
 use dpg_run::{open_group, put_report, run_group};
 use elf_image::{Image, read_image};
 use group_rounds::Kernel;
-use shim_log::{Digests, LogHeader, Recorder};
+use log_text::{Digests, LogHeader};
+use shim_log::Recorder;
 use std::alloc::Global;
 use std::process::Abort;
 use std::thread::Threads;

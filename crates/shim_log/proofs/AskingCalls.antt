@@ -16,7 +16,7 @@ use Rattle.dos_io.specs.declared.host_question.HostQuestion.{HostQuestion}
 use Rattle.dos_io.specs.declared.host_question.HostQuestion.TheVariants.{Reading}
 use Rattle.dos_io.specs.declared.shim.ShimStop.{ShimStop}
 use Rattle.dos_io.specs.declared.shim.ShimStop.TheVariants.{LogFull, HostFault, Memory, Misfit}
-use Rattle.shim_log.specs.declared.header.LogHeader.{LogHeader}
+use Rattle.log_text.specs.declared.header.LogHeader.{LogHeader}
 use Rattle.shim_log.specs.Ledger.{LedgerState, added, empty_ledger, next_reading, recorder_state}
 use Rattle.shim_log.specs.Ledger.{stopped}
 use Rattle.shim_log.specs.Asking.{ShimCall, answered, stopped_at, shown_after, asked_in, HostStands}

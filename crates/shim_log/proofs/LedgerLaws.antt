@@ -16,24 +16,26 @@ use Rattle.dos_io.specs.Given.{readings, Given}
 use Rattle.dos_io.specs.Shims.{HasNoEnd}
 use Rattle.dos_io.specs.Outside.{Rose}
 use Rattle.dos_io.proofs.GivenLaws.{given_none}
-use Rattle.shim_log.specs.declared.header.LogHeader.{LogHeader}
-use Rattle.shim_log.specs.declared.version.LogVersion.TheVariants.{Two}
-use Rattle.shim_log.specs.LogText.{header_text, entries_text, logtext}
-use Rattle.shim_log.specs.Ranges.{FitsHeader, InRange, NotEnd, AreEntries, FitsInput}
-use Rattle.shim_log.specs.Ranges.{FitsClock, most_exchanges}
-use Rattle.shim_log.proofs.LengthLaws.{header_length, input_length, text_length}
+use Rattle.log_text.specs.declared.header.LogHeader.{LogHeader}
+use Rattle.log_text.specs.declared.version.LogVersion.TheVariants.{Two}
+use Rattle.log_text.specs.LogText.{header_text, entries_text, logtext}
+use Rattle.log_text.specs.Ranges.{FitsHeader, InRange, NotEnd, AreEntries, FitsInput}
+use Rattle.log_text.specs.Ranges.{FitsClock, most_exchanges}
+use Rattle.log_text.proofs.LengthLaws.{header_length, input_length, text_length}
 use Rattle.dos_io.specs.declared.exchange.Exchange.TheVariants.{Signals, Input, Clock, End}
 use Rattle.dos_io.specs.Posts.{ArePosts}
 use Rattle.dos_io.specs.Given.{posts_in}
-use Rattle.shim_log.specs.Room.{most_bytes, longest, IsOver, NoRoom, HadRoom, GrowsBy, IsLogFull}
+use Rattle.log_text.specs.EntriesText.{GrowsBy}
+use Rattle.log_text.specs.Ranges.{most_bytes}
+use Rattle.shim_log.specs.Room.{longest, IsOver, NoRoom, HadRoom, IsLogFull}
 use Rattle.dos_world.specs.declared.Question.TheVariants.{Signals as signals_question}
 use Rattle.dos_world.specs.declared.Question.TheVariants.{Input as input_question}
 use Rattle.dos_world.specs.declared.Question.TheVariants.{Clock as clock_question}
 use Rattle.dos_world.specs.declared.Question.TheVariants.{End as end_question}
-use Rattle.shim_log.proofs.GrowingLaws.{loud_grows}
+use Rattle.log_text.proofs.GrowingLaws.{loud_grows}
 use Rattle.shim_log.specs.Ledger.{LedgerState, ArePlanned, end_of_ledger, recorder_state}
 use Rattle.shim_log.specs.Ledger.{IsLedger, AddsEntry, stopped, added, RecorderFollows}
-use Rattle.shim_log.proofs.EntriesTextLaws.{all_push}
+use Rattle.log_text.proofs.EntriesTextLaws.{all_push}
 
 room_push : (h : LogHeader) (posts : List (ℕ × Post)) (seen es : List Exchange) (e : Exchange)
     → HadRoom h posts seen es → (NoRoom h posts (seen ++ es) (question_of e) → ⊥)

@@ -16,7 +16,7 @@ use Rattle.dos_io.specs.declared.shim.ShimStop.TheVariants.{HostFault}
 use Rattle.dos_io.specs.Given.{readings, Given, GivesHost}
 use Rattle.dos_io.proofs.GivenSteps.{given_end, given_reading}
 use Rattle.dos_io.specs.Shims.{shim_answered, HasNoEnd}
-use Rattle.shim_log.specs.declared.header.LogHeader.{LogHeader}
+use Rattle.log_text.specs.declared.header.LogHeader.{LogHeader}
 use Rattle.shim_log.specs.Ledger.{LedgerState, end_of_ledger, recorder_state, empty_ledger, added}
 use Rattle.shim_log.specs.Ledger.{stopped}
 use Rattle.shim_log.specs.Ledger.{ledger_closed, RecorderFollows, next_reading}

@@ -8,9 +8,10 @@ use Rattle.dos_world.specs.declared.Question.TheVariants.{Clock as clock_questio
 use Rattle.dos_world.specs.declared.Question.TheVariants.{End as end_question}
 use Rattle.dos_io.specs.declared.exchange.Exchange.{Exchange}
 use Rattle.dos_io.specs.declared.exchange.Exchange.TheVariants.{Signals, Input}
-use Rattle.shim_log.specs.Ranges.{most_exchanges}
-use Rattle.shim_log.specs.Room.{most_bytes, IsOver, NoRoom}
-use Rattle.shim_log.proofs.Texts.{smallest}
+use Rattle.log_text.specs.Ranges.{most_exchanges}
+use Rattle.log_text.specs.Ranges.{most_bytes}
+use Rattle.shim_log.specs.Room.{IsOver, NoRoom}
+use Rattle.log_text.proofs.Texts.{smallest}
 
 abbrev posts : List (ℕ × Post)
 posts = (2, record { pid = 1; signal = 15 }) ∷ (2, record { pid = 2; signal = 9 }) ∷ []

@@ -18,11 +18,11 @@ use Rattle.dos_io.specs.Hosts.{Told}
 use Rattle.dos_io.specs.Given.{readings, counted_reading, Given}
 use Rattle.dos_io.specs.Outside.{counted_to_limit, Rose}
 use Rattle.dos_io.specs.Shims.{ShimState}
-use Rattle.shim_log.specs.declared.header.LogHeader.{LogHeader}
-use Rattle.shim_log.specs.declared.version.LogVersion.TheVariants.{Two}
-use Rattle.shim_log.specs.LogText.{header_text, entries_text}
-use Rattle.shim_log.specs.Ranges.{FitsHeader, AreEntries, most_exchanges}
-use Rattle.shim_log.specs.Room.{most_bytes, NoRoom, HadRoom}
+use Rattle.log_text.specs.declared.header.LogHeader.{LogHeader}
+use Rattle.log_text.specs.declared.version.LogVersion.TheVariants.{Two}
+use Rattle.log_text.specs.LogText.{header_text, entries_text}
+use Rattle.log_text.specs.Ranges.{FitsHeader, AreEntries, most_bytes, most_exchanges}
+use Rattle.shim_log.specs.Room.{NoRoom, HadRoom}
 
 -- the words' posts and clock, the log's header and entries so far, its end once it is told, the
 -- stops, and for how many more bytes memory is taken

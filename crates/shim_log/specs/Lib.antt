@@ -1,17 +1,7 @@
-pub mod Bytes
-pub mod LogText
-pub mod Ranges
-pub mod Reading
 pub mod Room
-pub mod EntriesText
 pub mod Ledger
 pub mod RecorderFollows
 pub mod Asking
 pub mod AskingLaws
-pub mod Gives
-pub mod Views
 pub mod Replay
 pub mod ReplayerFollows
-pub mod Passing
-pub mod Items
-pub mod Spelling

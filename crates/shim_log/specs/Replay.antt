@@ -1,5 +1,5 @@
 -- What a replayer keeps, and what it makes of it. This project's own rule.
-use Rattle.std.specs.Prelude.{◌≡◌, ◌≢◌, ◌≤◌, ◌<◌, ◌+◌, ◌++◌, [], ◌∷◌, ℕ, List, take, drop, length}
+use Rattle.std.specs.Prelude.{◌≡◌, ◌≢◌, ◌≤◌, ◌+◌, ◌++◌, ◌∷◌, ℕ, List, take, length}
 use Rattle.std.specs.Prelude.{Option, Some}
 use Rattle.std.specs.Prelude.{None, option_map, IfSome}
 use Rattle.std.specs.List.{slice_get}
@@ -10,10 +10,7 @@ use Rattle.dos_io.specs.declared.shim.ShimStop.TheVariants.{Misfit}
 use Rattle.dos_io.specs.Exchanges.{question_of}
 use Rattle.dos_io.specs.Outside.{counted_to_limit}
 use Rattle.dos_io.specs.Shims.{ShimState}
-use Rattle.shim_log.specs.declared.progress.Progress.{Progress}
-use Rattle.shim_log.specs.Items.{Item, quiet, kept, exchanges_of_items}
-use Rattle.shim_log.specs.LogText.{Log, exchanges_from, entries_text, items_text}
-use Rattle.shim_log.specs.Spelling.{AreSpelled}
+use Rattle.log_text.specs.LogText.{Log, exchanges_from}
 
 -- the log, how many of its exchanges are in front of those that it answers by, how many of these it
 -- answered by, and the stops
@@ -59,25 +56,6 @@ pub record StandsNext (p : ReplayState) (kept : Question) : Type 0 where
   pub log_is : exchanges_from p.start p.log ≡ (replayer_state p).told ++ next ∷ behind
   pub question : question_of next ≡ kept
   pub count : length (replayer_state p).told ≡ p.answered
-
--- ---- where it stands in the log's text
-
--- so many of the first entry's exchanges, and not all of them
-abbrev pub IsWithin : ℕ → List Item → Type 0
-IsWithin within [] = within ≡ 0
-IsWithin within (quiet round count ∷ items) = within < count
-IsWithin within (kept e ∷ items) = within ≡ 0
-
--- At this place of the text stand entries of which so many exchanges were answered; what is left of
--- them is what is left of the log's.
-pub record StandsAt (log : Log) (answered place within : ℕ) : Type 0 where
-  pub progress : Progress
-  pub items : List Item
-  pub text_is : drop place (entries_text log.version log.entries) ≡ items_text items
-  pub spelled : AreSpelled log.version progress items
-  pub left : drop answered log.entries ≡ drop within (exchanges_of_items items)
-  pub within_first : IsWithin within items
-  pub inside : place ≤ length (entries_text log.version log.entries)
 
 -- what a replayer keeps in its type
 pub record IsReplay (p : ReplayState) : Type 0 where

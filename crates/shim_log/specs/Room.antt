@@ -1,5 +1,5 @@
 -- Whether a log has no room for what a question may bring. This project's own rule.
-use Rattle.std.specs.Prelude.{◌≡◌, ℕ, ◌+◌, ◌<◌, ◌≤◌, ◌⊎◌, List, [], ◌∷◌, ◌++◌, length, replicate, ⊤}
+use Rattle.std.specs.Prelude.{ℕ, ◌+◌, ◌<◌, ◌≤◌, ◌⊎◌, List, [], ◌∷◌, ◌++◌, length, replicate, ⊤}
 use Rattle.dos_world.specs.declared.Post.{Post}
 use Rattle.dos_world.specs.declared.Question.{Question}
 use Rattle.dos_world.specs.declared.Question.TheVariants.{Signals as signals_question}
@@ -10,14 +10,10 @@ use Rattle.dos_io.specs.declared.exchange.Exchange.{Exchange}
 use Rattle.dos_io.specs.declared.exchange.Exchange.TheVariants.{Signals, Input, Clock, End}
 use Rattle.dos_io.specs.Exchanges.{question_of}
 use Rattle.dos_io.specs.Given.{posts_in}
-use Rattle.shim_log.specs.declared.header.LogHeader.{LogHeader}
-use Rattle.shim_log.specs.declared.version.LogVersion.TheVariants.{Two}
-use Rattle.shim_log.specs.LogText.{header_text, entries_text}
-use Rattle.shim_log.specs.Ranges.{most_exchanges}
-
--- 64 MiB
-abbrev pub most_bytes : ℕ
-most_bytes = 67108864
+use Rattle.log_text.specs.declared.header.LogHeader.{LogHeader}
+use Rattle.log_text.specs.declared.version.LogVersion.TheVariants.{Two}
+use Rattle.log_text.specs.LogText.{header_text, entries_text}
+use Rattle.log_text.specs.Ranges.{most_bytes, most_exchanges}
 
 -- the longest answer to a question: the round's posts, all the bytes that are asked for
 abbrev pub longest : List (ℕ × Post) → Question → Exchange
@@ -47,14 +43,8 @@ HadRoom header posts seen (e ∷ es) =
 
 -- ---- counted in bytes
 
--- The text of version 2 grows by so many bytes with this exchange.
-unfoldable pub GrowsBy : List Exchange → Exchange → ℕ → Type 0
-GrowsBy es e bytes =
-    length (entries_text Two (es ++ e ∷ [])) ≡ length (entries_text Two es) + bytes
-
 -- With so many bytes more, and the end's six, the text would be longer than a log may be; or as
--- many
--- exchanges are held as may be.
+-- many exchanges are held as may be.
 unfoldable pub IsLogFull : LogHeader → List Exchange → ℕ → Type 0
 IsLogFull header es bytes =
     (most_bytes < length (header_text Two header) + length (entries_text Two es) + bytes + 6)

@@ -7,20 +7,19 @@ ghost use Rattle.dos_io.specs.declared.exchange.Exchange.TheVariants.{Input as i
 ghost use Rattle.dos_io.specs.declared.exchange.Exchange.TheVariants.{Clock as clock_exchange};
 ghost use Rattle.dos_io.specs.Given.{readings, posts_in};
 ghost use Rattle.dos_io.specs.Shims.{HasNoEnd};
-ghost use Rattle.shim_log.specs.declared.version.LogVersion.TheVariants.{Two};
-ghost use Rattle.shim_log.specs.LogText.{entries_text, exchanges, logtext};
-ghost use Rattle.shim_log.specs.Ranges.{FitsHeader};
-ghost use Rattle.shim_log.specs.Room.{GrowsBy, IsLogFull, NoRoom, longest};
+ghost use Rattle.log_text.specs.declared.version.LogVersion.TheVariants.{Two};
+ghost use Rattle.log_text.specs.LogText.{entries_text, exchanges, logtext};
+ghost use Rattle.log_text.specs.Ranges.{FitsHeader};
+ghost use Rattle.log_text.specs.EntriesText.{GrowsBy};
+ghost use Rattle.shim_log.specs.Room.{IsLogFull, NoRoom, longest};
 ghost use Rattle.shim_log.specs.Ledger.{LedgerState, IsLedger, recorder_state, ArePlanned};
 ghost use Rattle.shim_log.specs.Ledger.{AddsEntry, MayStop, stopped, added, ledger_closed};
 ghost use Rattle.shim_log.specs.Ledger.{empty_ledger};
 ghost use Rattle.shim_log.specs.Ledger.{next_reading};
 
-use crate::growing::GrowingEntries;
-use crate::header::LogHeader;
-use crate::log::Log;
 use dos_io::{ClockRule, ShimStop, SignalList};
 use dos_world::{Ending, Post, Question};
+use log_text::{GrowingEntries, Log, LogHeader};
 use std::alloc::{AllocError, Global};
 use std::marker::Model;
 
@@ -43,8 +42,8 @@ pub struct Ledger {
 impl Model for Ledger {
     ghost use Rattle.std.specs.Prelude.{◌≡◌, ◌≤◌, ◌<◌, ◌^◌, length, IfSome};
     ghost use Rattle.dos_io.specs.Given.{readings};
-    ghost use Rattle.shim_log.specs.declared.version.LogVersion.TheVariants.{Two};
-    ghost use Rattle.shim_log.specs.LogText.{header_text};
+    ghost use Rattle.log_text.specs.declared.version.LogVersion.TheVariants.{Two};
+    ghost use Rattle.log_text.specs.LogText.{header_text};
     ghost use Rattle.shim_log.specs.Ledger.{LedgerState, IsLedger};
 
     ghost Value = { LedgerState };
@@ -304,12 +303,7 @@ impl Ledger {
             ..
         } = self;
         match ended {
-            Some((ending, rounds)) => Log {
-                header,
-                entries: entries.close(),
-                ending,
-                rounds,
-            },
+            Some((ending, rounds)) => entries.into_log(header, ending, rounds),
             None => unreachable!(),
         }
     }

@@ -1,17 +1,15 @@
 // A shim that asks a host, and keeps what it answered.
 ghost use Rattle.std.specs.Prelude.{◌≡◌, ◌≤◌, ◌<◌, ℕ, List, [], length, None, IfOk, IfSome};
 ghost use Rattle.dos_io.specs.Shims.{HasNoEnd};
-ghost use Rattle.shim_log.specs.LogText.{exchanges, logtext};
-ghost use Rattle.shim_log.specs.Ranges.{FitsHeader};
+ghost use Rattle.log_text.specs.LogText.{exchanges, logtext};
+ghost use Rattle.log_text.specs.Ranges.{FitsHeader};
 ghost use Rattle.shim_log.specs.Ledger.{LedgerState, IsLedger, ArePlanned, recorder_state};
 ghost use Rattle.shim_log.specs.Ledger.{empty_ledger, RecorderFollows};
 
-use crate::header::LogHeader;
 use crate::ledger::Ledger;
-use crate::log::Log;
-use crate::version::LogVersion;
 use dos_io::{ClockRule, Host, Shim, ShimStop, SignalList};
 use dos_world::{Ending, Post, Question};
+use log_text::{Log, LogHeader, LogVersion};
 use std::alloc::{AllocError, Global};
 
 // The bytes of an entry: of an input without its bytes, and of a reading.

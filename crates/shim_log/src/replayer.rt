@@ -5,19 +5,17 @@ ghost use Rattle.dos_io.specs.Exchanges.{question_of};
 ghost use Rattle.dos_io.specs.Posts.{ArePosts};
 ghost use Rattle.dos_io.specs.Shims.{HasNoEnd};
 ghost use Rattle.dos_io.specs.declared.exchange.Exchange.TheVariants as Exchange;
-ghost use Rattle.shim_log.specs.LogText.{exchanges, exchanges_from};
-ghost use Rattle.shim_log.specs.Ranges.{InRange};
-ghost use Rattle.shim_log.specs.Views.{posts_in_text, exchange_of};
-ghost use Rattle.shim_log.specs.Replay.{IsReplay, IsMisfitOf, StandsAt};
+ghost use Rattle.log_text.specs.LogText.{exchanges, exchanges_from};
+ghost use Rattle.log_text.specs.Ranges.{InRange};
+ghost use Rattle.log_text.specs.Views.{posts_in_text, exchange_of};
+ghost use Rattle.log_text.specs.Places.{StandsAt};
+ghost use Rattle.shim_log.specs.Replay.{IsReplay, IsMisfitOf};
 ghost use Rattle.shim_log.specs.Replay.{entries_used, replay_stopped, replay_advanced};
 ghost use Rattle.shim_log.specs.Replay.{replayer_state};
 
-use crate::entry::Entry;
-use crate::log::Log;
-use crate::log_walk::{entry_at, place_behind};
-use crate::posts::fill;
 use dos_io::{Shim, ShimStop, SignalList};
 use dos_world::{Ending, Misfit, Question};
+use log_text::{Entry, Log, exchange_at, fill, place_behind};
 use std::marker::Model;
 
 /// Answers each question by the next entry of a log, and stops where that entry is of another
@@ -35,7 +33,8 @@ pub struct Replayer {
 }
 
 impl Model for Replayer {
-    ghost use Rattle.shim_log.specs.Replay.{ReplayState, IsReplay, StandsAt};
+    ghost use Rattle.log_text.specs.Places.{StandsAt};
+    ghost use Rattle.shim_log.specs.Replay.{ReplayState, IsReplay};
     ghost use Rattle.std.specs.Prelude.{◌+◌};
 
     ghost Value = { ReplayState };
@@ -131,14 +130,7 @@ impl Replayer {
         ensures behind { StandsAt self.now.log (entries_used self.now + 1) result.1 result.2 }
     {
         let used = self.used();
-        if used == self.log.count() {
-            let end = Entry::End {
-                ending: self.log.ending(),
-                rounds: self.log.rounds(),
-            };
-            return (end, self.log.text().len(), 0);
-        }
-        entry_at(&self.log, used, self.place, self.within)
+        exchange_at(&self.log, used, self.place, self.within)
     }
 
     // The next exchange, which is of this question, and where the one behind it stands; or the

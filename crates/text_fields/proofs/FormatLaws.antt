@@ -3,12 +3,13 @@ use Rattle.std.proofs.Common.{◌≡◌, ℕ, zero, suc, ◌+◌, ◌^◌, ◌<�
 use Rattle.std.proofs.Common.{ltb}
 use Rattle.std.proofs.Common.{List, [], ◌∷◌, ◌++◌, length, take, drop, Result, Ok, Err}
 use Rattle.std.proofs.Common.{refl, sym, ap, subst, ◌∙◌, append_assoc, arith, inl, inr}
-use Rattle.std.specs.Int.{Width, w16, w32, byte_len, from_le_bytes, to_le_bytes}
+use Rattle.std.specs.Int.{Width, w16, w32, w64, byte_len, from_le_bytes, to_le_bytes}
 use Rattle.std.proofs.lemmas.Bool.{cases_lt, ltb-false, le-ltb}
 use Rattle.std.proofs.lemmas.List.{take_at, drop_at, take-append-drop, length-append, length-take}
 use Rattle.std.proofs.lemmas.List.{get_or-drop, get_or-take, get_or_past}
 use Rattle.std.proofs.lemmas.Nat.{le_bytes_2, le_bytes_4, from_le_bytes-to_le_bytes_2}
-use Rattle.std.proofs.lemmas.Nat.{from_le_bytes-to_le_bytes_4}
+use Rattle.std.proofs.lemmas.Nat.{from_le_bytes-to_le_bytes_4, from_le_bytes-to_le_bytes_8}
+use Rattle.std.proofs.lemmas.Nat.{le_bytes_8}
 use Rattle.text_fields.specs.declared.refusal.FieldError.{FieldError}
 use Rattle.text_fields.specs.declared.refusal.FieldError.TheVariants.{Short, Range}
 use Rattle.text_fields.specs.Reading.{◌>>=◌, field_place, first_bytes, first_number, passing}
@@ -114,6 +115,24 @@ wide32 = record {
   back = λ bytes len fits. le_bytes_4 bytes _ len fits refl;
   again = λ n lt. from_le_bytes-to_le_bytes_4 n lt;
   below = λ bytes fits. omega (arith, fits 0, fits 1, fits 2, fits 3);
+}
+
+pub wide64 : IsWide w64
+wide64 = record {
+  len = λ n. refl;
+  back = λ bytes len fits. le_bytes_8 bytes _ len fits refl;
+  again = λ n lt. from_le_bytes-to_le_bytes_8 n lt;
+  below = λ bytes fits. omega (
+    arith,
+    fits 0,
+    fits 1,
+    fits 2,
+    fits 3,
+    fits 4,
+    fits 5,
+    fits 6,
+    fits 7,
+  );
 }
 
 module _ (w : Width) (wide : IsWide w) (test : ℕ → Bool) where
@@ -315,6 +334,7 @@ ways_make_formats = record {
   one_byte = u8_format;
   two_bytes = number_format w16 wide16;
   four_bytes = number_format w32 wide32;
+  eight_bytes = number_format w64 wide64;
   one_then_another = λ first second one two. then_format first second one two;
   seen_otherwise = λ to from form is back. as_format to from form is back;
   by_a_tag = λ tag test form is tags. tagged_format tag test form is tags;

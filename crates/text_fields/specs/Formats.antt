@@ -2,7 +2,7 @@
 -- how it is read, with the first refusal. This project's own rule; numbers are little-endian.
 use Rattle.std.specs.Prelude.{ℕ, zero, suc, ◌^◌, ◌<◌, ◌≡◌, Bool, true, ◌&&◌, List, [], ◌∷◌, ◌++◌}
 use Rattle.std.specs.Prelude.{length, slice_index, Ok, ⊤, ◌==◌, nat_le}
-use Rattle.std.specs.Int.{Width, w16, w32, byte_len, to_le_bytes}
+use Rattle.std.specs.Int.{Width, w16, w32, w64, byte_len, to_le_bytes}
 use Rattle.text_fields.specs.Reading.{FieldReader, field_place, ◌>>=◌, first_bytes, first_byte}
 use Rattle.text_fields.specs.Reading.{first_number, passing, read_list}
 
@@ -38,6 +38,9 @@ u16_in test = number_in w16 test
 
 abbrev pub u32_in : (ℕ → Bool) → Format ℕ
 u32_in test = number_in w32 test
+
+abbrev pub u64_in : (ℕ → Bool) → Format ℕ
+u64_in test = number_in w64 test
 
 -- a byte that passes
 abbrev pub u8_in : (ℕ → Bool) → Format ℕ

@@ -1,7 +1,7 @@
 -- What holds of a format, and that each way to make one makes one.
 use Rattle.std.specs.Prelude.{ℕ, ◌≡◌, Bool, List, ◌++◌, length, Ok}
-use Rattle.text_fields.specs.Formats.{Format, AreBytes, bytes, u8_in, u16_in, u32_in, ◌then◌}
-use Rattle.text_fields.specs.Formats.{seen_as, tagged, listed, with_count}
+use Rattle.text_fields.specs.Formats.{Format, AreBytes, bytes, u8_in, u16_in, u32_in, u64_in}
+use Rattle.text_fields.specs.Formats.{◌then◌, seen_as, tagged, listed, with_count}
 
 -- what was read is spelled in front, and fits
 pub record Spells {A : Type 0} (form : Format A) (bytes : List ℕ) (x : A × List ℕ) : Type 0 where
@@ -23,6 +23,7 @@ pub record WaysMakeFormats : Type 1 where
   pub one_byte : (test : ℕ → Bool) → IsFormat (u8_in test)
   pub two_bytes : (test : ℕ → Bool) → IsFormat (u16_in test)
   pub four_bytes : (test : ℕ → Bool) → IsFormat (u32_in test)
+  pub eight_bytes : (test : ℕ → Bool) → IsFormat (u64_in test)
   pub one_then_another : {A B : Type 0} (first : Format A) (second : A → Format B) → IsFormat first
       → ((a : A) → first.Fits a → IsFormat (second a)) → IsFormat (first then second)
   -- what is made of what was read is read as that again

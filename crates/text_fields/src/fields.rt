@@ -1,11 +1,12 @@
 // Fields, from left to right.
 ghost use Rattle.std.specs.Prelude.{◌≡◌, ◌≤◌, ℕ, List, length, IfOk};
-ghost use Rattle.std.specs.Int.{w16, w32};
+ghost use Rattle.std.specs.Int.{w16, w32, w64};
 ghost use Rattle.text_fields.specs.Formats.{u8_in, u16_in, u32_in, from_to};
 ghost use Rattle.text_fields.specs.Reading.{GivesField, field_place, first_bytes, first_number};
 ghost use Rattle.text_fields.specs.Reading.{first_byte};
 
 use crate::refusal::FieldError;
+use byteorder::{ByteOrder, LittleEndian};
 
 /// The place at which the bytes that are left begin.
 pub fn field_place(end: usize, bytes: &[u8]) -> u64
@@ -35,6 +36,7 @@ pub fn read_byte(end: usize, bytes: &[u8]) -> Result<(u8, &[u8]), FieldError>
 }
 
 /// The next two bytes, as a number.
+#[tactic(auto, using(crate::proofs::Numbers::two_bytes))]
 pub fn read_u16(end: usize, bytes: &[u8]) -> Result<(u16, &[u8]), FieldError>
     ensures { GivesField (λ x. (x.0, x.1.now)) result (first_number w16 end bytes.now) }
 {
@@ -42,11 +44,11 @@ pub fn read_u16(end: usize, bytes: &[u8]) -> Result<(u16, &[u8]), FieldError>
         return Err(FieldError::Short(field_place(end, bytes)));
     }
     let (front, rest) = bytes.split_at(2);
-    let number = u16::from_le_bytes([front[0], front[1]]);
-    Ok((number, rest))
+    Ok((LittleEndian::read_u16(front), rest))
 }
 
 /// The next four bytes, as a number.
+#[tactic(auto, using(crate::proofs::Numbers::four_bytes))]
 pub fn read_u32(end: usize, bytes: &[u8]) -> Result<(u32, &[u8]), FieldError>
     ensures { GivesField (λ x. (x.0, x.1.now)) result (first_number w32 end bytes.now) }
 {
@@ -54,8 +56,19 @@ pub fn read_u32(end: usize, bytes: &[u8]) -> Result<(u32, &[u8]), FieldError>
         return Err(FieldError::Short(field_place(end, bytes)));
     }
     let (front, rest) = bytes.split_at(4);
-    let number = u32::from_le_bytes([front[0], front[1], front[2], front[3]]);
-    Ok((number, rest))
+    Ok((LittleEndian::read_u32(front), rest))
+}
+
+/// The next eight bytes, as a number.
+#[tactic(auto, using(crate::proofs::Numbers::eight_bytes))]
+pub fn read_u64(end: usize, bytes: &[u8]) -> Result<(u64, &[u8]), FieldError>
+    ensures { GivesField (λ x. (x.0, x.1.now)) result (first_number w64 end bytes.now) }
+{
+    if bytes.len() < 8 {
+        return Err(FieldError::Short(field_place(end, bytes)));
+    }
+    let (front, rest) = bytes.split_at(8);
+    Ok((LittleEndian::read_u64(front), rest))
 }
 
 /// The next byte, from `low` to `high`.

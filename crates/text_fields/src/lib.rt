@@ -10,7 +10,7 @@ mod refusal;
 
 pub use fields::{
     field_place, read_byte, read_byte_within, read_bytes, read_u16, read_u16_within, read_u32,
-    read_u32_within,
+    read_u32_within, read_u64,
 };
 pub use lists::{NumberedRow, Row, read_ascending, read_many};
 pub use refusal::{FieldError, RowError};

@@ -7,7 +7,7 @@ use elf_image::ImageError;
 use group_files::SavedRefusal;
 use group_text::GroupRefusal;
 use log_files::LogRefusal;
-use shim_log::LogError;
+use log_text::LogError;
 use std::alloc::Global;
 use std::process::Abort;
 

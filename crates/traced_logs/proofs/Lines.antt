@@ -18,8 +18,8 @@ use Rattle.logged_runs.proofs.FromOpening.{counted_since}
 use Rattle.page_trace.specs.Lines.{change_lines}
 use Rattle.page_trace.specs.Trace.{trace}
 use Rattle.page_trace.specs.Tracing.{Counts, TracesBy, TracesFront, trace_lines, traced}
-use Rattle.shim_log.specs.LogText.{Log, exchanges, exchanges_from}
-use Rattle.shim_log.specs.Ranges.{FitsLog}
+use Rattle.log_text.specs.LogText.{Log, exchanges, exchanges_from}
+use Rattle.log_text.specs.Ranges.{FitsLog}
 use Rattle.shim_log.specs.Replay.{ReplayState, replayer_state}
 use Rattle.shim_log.proofs.ReplayLaws.{ends_whole}
 use Rattle.traced_logs.specs.TracedLogs.{TracedAhead, first_log_lines, group_lines, log_lines}

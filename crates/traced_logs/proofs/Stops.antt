@@ -24,8 +24,8 @@ use Rattle.page_trace.specs.Tracing.{Counts, OfRun, TracesBy, Traces, trace_line
 use Rattle.page_trace.specs.Tracing.{Traced, traced}
 use Rattle.page_trace.specs.declared.stop.TraceStop.{TraceStop}
 use Rattle.page_trace.specs.declared.stop.TraceStop.TheVariants as traces
-use Rattle.shim_log.specs.LogText.{Log}
-use Rattle.shim_log.specs.Ranges.{FitsLog}
+use Rattle.log_text.specs.LogText.{Log}
+use Rattle.log_text.specs.Ranges.{FitsLog}
 use Rattle.shim_log.specs.Replay.{IsMisfitOf, IsReplay, ReplayState, entries_used}
 use Rattle.shim_log.specs.Replay.{replayer_state}
 use Rattle.traced_logs.specs.TracedLogs.{StopsTrace, TracedAhead, TracedUntil, TracedWhole}

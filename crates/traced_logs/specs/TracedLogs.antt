@@ -17,7 +17,7 @@ use Rattle.page_trace.specs.Lines.{change_lines}
 use Rattle.page_trace.specs.Trace.{trace}
 use Rattle.page_trace.specs.declared.stop.TraceStop.{TraceStop}
 use Rattle.page_trace.specs.declared.stop.TraceStop.TheVariants.{Run, LineFault, Memory}
-use Rattle.shim_log.specs.LogText.{Log, exchanges}
+use Rattle.log_text.specs.LogText.{Log, exchanges}
 use Rattle.worker_pool.specs.Ran.{GrewBy}
 
 -- the lines of the trace of these images' group over the answers of these exchanges

@@ -13,8 +13,9 @@ use dos_io::Sink;
 use dos_world::Ending;
 use generated_group::DropSink;
 use group_rounds::Kernel;
+use log_text::Log;
 use page_trace::{TraceStop, run_traced};
-use shim_log::{Log, Replayer};
+use shim_log::Replayer;
 use std::alloc::Global;
 use worker_pool::Workers;
 

@@ -4,7 +4,7 @@ use Rattle.std.specs.Prelude.{IsErrOf}
 use Rattle.std.proofs.lemmas.Result.{err_from_is_err_and}
 use Rattle.log_files.specs.Judging.{disagreement}
 use Rattle.log_files.specs.declared.refusal.LogRefusal.{LogRefusal}
-use Rattle.shim_log.specs.declared.header.LogHeader.{LogHeader}
+use Rattle.log_text.specs.declared.header.LogHeader.{LogHeader}
 use Rattle.dos_texts.specs.declared.refusal.Refusal.TheVariants as refusals
 use Rattle.dos_cmd.proofs.Asked.{log_not_read, log_then_all, log_then_stops, not_agreed}
 use Rattle.dos_cmd.proofs.NotBegun.{of_files}

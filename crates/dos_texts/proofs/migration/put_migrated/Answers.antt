@@ -1,4 +1,4 @@
-use Rattle.shim_log.specs.declared.version.LogVersion.TheVariants.{Two}
+use Rattle.log_text.specs.declared.version.LogVersion.TheVariants.{Two}
 use Rattle.dos_texts.specs.Migration.{version_line}
 use Rattle.dos_texts.proofs.Pieces.{on_err, first_fails, both_steady, both_told, second_fails}
 use Rattle.dos_texts.proofs.migration.put_migrated.Goals as goal

@@ -1,7 +1,7 @@
 use Rattle.std.proofs.Common.{◌≡◌, subst}
 use Rattle.std.specs.Prelude.{IfOk}
-use Rattle.shim_log.specs.declared.version.LogVersion.{LogVersion}
-use Rattle.shim_log.specs.LogText.{logtext}
+use Rattle.log_text.specs.declared.version.LogVersion.{LogVersion}
+use Rattle.log_text.specs.LogText.{logtext}
 use Rattle.log_files.proofs.storing.text_of.Goals as goal
 
 pub returns : goal.returns

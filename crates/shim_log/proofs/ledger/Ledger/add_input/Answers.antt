@@ -3,7 +3,7 @@ use Rattle.dos_world.specs.declared.Question.TheVariants.{Input}
 use Rattle.dos_io.specs.Given.{readings}
 use Rattle.dos_io.proofs.GivenLaws.{readings_append}
 use Rattle.shim_log.specs.Room.{NoRoom}
-use Rattle.shim_log.specs.Ranges.{FitsInput}
+use Rattle.log_text.specs.Ranges.{FitsInput}
 use Rattle.shim_log.specs.Ledger.{LedgerState}
 use Rattle.shim_log.proofs.LedgerLaws.{room_few, input_added}
 use Rattle.shim_log.proofs.ledger.Ledger.add_input.Goals as goal

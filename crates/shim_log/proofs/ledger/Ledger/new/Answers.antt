@@ -1,6 +1,6 @@
 use Rattle.std.proofs.Common.{◌∙◌, ◌+◌, ◌*◌, ℕ, sym, ap, refl}
-use Rattle.shim_log.specs.declared.version.LogVersion.TheVariants.{Two}
-use Rattle.shim_log.proofs.LengthLaws.{header_length}
+use Rattle.log_text.specs.declared.version.LogVersion.TheVariants.{Two}
+use Rattle.log_text.proofs.LengthLaws.{header_length}
 use Rattle.shim_log.proofs.LedgerLaws.{new_ledger}
 use Rattle.shim_log.proofs.ledger.Ledger.new.Goals as goal
 

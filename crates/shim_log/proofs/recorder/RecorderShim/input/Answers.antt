@@ -4,7 +4,8 @@ use Rattle.dos_io.proofs.GivenSteps.{given_input}
 use Rattle.shim_log.proofs.RecorderLaws.{adds_ok, adds_follow, stops_follow}
 use Rattle.shim_log.proofs.AskingCalls.{answer_asks, clock_kept, stop_asks, stop_asks_nothing}
 use Rattle.dos_world.specs.declared.Question.TheVariants.{Input}
-use Rattle.shim_log.specs.Room.{GrowsBy, longest}
+use Rattle.log_text.specs.EntriesText.{GrowsBy}
+use Rattle.shim_log.specs.Room.{longest}
 use Rattle.shim_log.proofs.LedgerLaws.{input_grows}
 use Rattle.shim_log.proofs.recorder.RecorderShim.input.Goals as goal
 

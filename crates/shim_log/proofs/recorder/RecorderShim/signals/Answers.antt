@@ -7,8 +7,8 @@ use Rattle.dos_io.specs.Given.{posts_in}
 use Rattle.shim_log.specs.Ledger.{LedgerState}
 use Rattle.shim_log.proofs.RecorderLaws.{stops_follow, adds_ok, adds_follow}
 use Rattle.shim_log.proofs.AskingCalls.{answer_asks, clock_kept, stop_asks_nothing}
-use Rattle.shim_log.specs.Room.{GrowsBy}
-use Rattle.shim_log.proofs.GrowingLaws.{fits_grown}
+use Rattle.log_text.specs.EntriesText.{GrowsBy}
+use Rattle.log_text.proofs.GrowingLaws.{fits_grown}
 use Rattle.shim_log.proofs.recorder.RecorderShim.signals.Goals as goal
 
 pub returns-clause-ok : goal.returns-clause-ok

@@ -4,7 +4,7 @@ use Rattle.dos_io.specs.declared.exchange.Exchange.{Exchange}
 use Rattle.dos_io.specs.declared.exchange.Exchange.TheVariants.{Signals}
 use Rattle.dos_io.specs.Exchanges.{question_of}
 use Rattle.dos_io.specs.Shims.{shim_answered}
-use Rattle.shim_log.specs.Views.{exchange_of}
+use Rattle.log_text.specs.Views.{exchange_of}
 use Rattle.shim_log.specs.Replay.{replayer_state}
 use Rattle.shim_log.proofs.ReplayLaws.{plays, signals_is}
 use Rattle.shim_log.proofs.replayer.ReplayerShim.signals.Goals as goal

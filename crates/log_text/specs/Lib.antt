@@ -1,0 +1,12 @@
+pub mod Bytes
+pub mod LogText
+pub mod Ranges
+pub mod Rows
+pub mod Reading
+pub mod EntriesText
+pub mod Gives
+pub mod Views
+pub mod Passing
+pub mod Items
+pub mod Spelling
+pub mod Places

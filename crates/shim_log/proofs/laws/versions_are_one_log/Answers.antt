@@ -1,7 +1,0 @@
-use Rattle.shim_log.proofs.LogLaws.{log_again}
-use Rattle.shim_log.proofs.laws.versions_are_one_log.Goals as goal
-
-pub returns : goal.returns
-returns c = λ log v fits.
-    log_again (record log { version = v })
-    (record { header = fits.header; entries = fits.entries; few = fits.few; rounds = fits.rounds })

@@ -1,5 +1,0 @@
-use Rattle.shim_log.specs.Replay.{StandsAt}
-use Rattle.shim_log.proofs.log_walk.place_behind.Given as goal
-
-abbrev pub invariant-loop-index : goal.invariant-loop-index
-invariant-loop-index l = StandsAt l.fn.log l.index l.place l.within

@@ -1,5 +1,0 @@
-use Rattle.std.proofs.Common.{arith}
-use Rattle.shim_log.proofs.posts.fill.Goals as goal
-
-pub first_post-requires : goal.first_post-requires
-first_post-requires c = omega (arith, c.loop.invariant.0, c.loop-test.true)

@@ -1,8 +1,0 @@
-use Rattle.std.proofs.Common.{◌≡◌, ◌+◌, ◌*◌, ◌++◌, length}
-use Rattle.dos_io.specs.Posts.{ArePosts}
-use Rattle.shim_log.specs.Views.{posts_in_text}
-use Rattle.shim_log.proofs.posts.fill.Given as goal
-
-abbrev pub invariant-loop : goal.invariant-loop
-invariant-loop l = (length l.posts ≡ 5 * l.counter + length l.rest)
-    × (l.list ++ posts_in_text l.rest ≡ posts_in_text l.posts) × ArePosts (posts_in_text l.rest)

@@ -1,7 +1,0 @@
-use Rattle.shim_log.proofs.GrowingLaws.{fits_grown}
-use Rattle.shim_log.proofs.translation.add_signals.Goals as goal
-
-pub push_signals-requires-clause-room : goal.push_signals-requires-clause-room
-push_signals-requires-clause-room c =
-    rw c.reserve.ensures.list
-    (fits_grown _ _ _ _ c.signals_bytes-bytes.ensures.value c.in_ok-reserve.ensures.room)
