@@ -9,12 +9,14 @@ mod away;
 mod in_place;
 mod kernel;
 mod packs;
-mod part;
-mod phases;
+pub mod part;
+pub mod phases;
 mod ripening;
-mod round;
+pub mod round;
 mod signals;
+mod taken_apart;
 
 pub use away::{HandedOut, PartsRun, hand_out, parallel_phase, run_parts, take_in};
 pub use kernel::{Kernel, run_round, serial_phase};
 pub use round::RoundEnd;
+pub use taken_apart::{SparePacks, put_together, take_apart};

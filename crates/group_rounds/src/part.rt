@@ -33,7 +33,7 @@ fn empty_reservation(table: &mut Table, tid: u32)
 }
 
 /// A part of the thread begins: with no reservation.
-pub(crate) fn begin(state: &mut State, tid: u32)
+pub fn begin(state: &mut State, tid: u32)
     requires sound { IsSound state.old }
     requires live { IsLiveThread state.old.table.threads tid }
     ensures empties { (q : ℕ) (o e : List ℕ)
@@ -50,7 +50,7 @@ pub(crate) fn begin(state: &mut State, tid: u32)
 
 /// Runs the thread in place until its next instruction stops or its budget is 0: why it stops, or
 /// None exactly where the budget is 0.
-pub(crate) fn run(state: &mut State, tid: u32) -> Option<Reason>
+pub fn run(state: &mut State, tid: u32) -> Option<Reason>
     requires sound { IsSound state.old }
     requires live { IsLiveThread state.old.table.threads tid }
     ensures ran { RanPart state.old tid state.new result }
@@ -91,8 +91,8 @@ pub(crate) fn run_alone(state: &mut State, tid: u32) -> u32
     budget - state.table.budget(tid)
 }
 
-// the page at an address is granted
-fn grant(state: &mut State, tid: u32, address: u32, access: Access)
+/// The page at an address is granted.
+pub fn grant(state: &mut State, tid: u32, address: u32, access: Access)
     requires sound { IsSound state.old }
     requires live { IsLiveThread state.old.table.threads tid }
     ensures grants { (q : ℕ) (o e : List ℕ)
@@ -110,8 +110,8 @@ fn grant(state: &mut State, tid: u32, address: u32, access: Access)
     }
 }
 
-// the thread's process ends, with 128 plus the number of its fault
-fn end_by_fault(state: &mut State, tid: u32, number: u8)
+/// The thread's process ends, with 128 plus the number of its fault.
+pub fn end_by_fault(state: &mut State, tid: u32, number: u8)
     requires sound { IsSound state.old }
     requires live { IsLiveThread state.old.table.threads tid }
     requires small { number ≤ 11 }
@@ -128,8 +128,8 @@ fn end_by_fault(state: &mut State, tid: u32, number: u8)
     end_process(state, pid, 128 + number);
 }
 
-// whether the thread's part goes on
-fn goes_on_after(way: Served) -> bool
+/// Whether the thread's part goes on.
+pub fn goes_on_after(way: Served) -> bool
     ensures { result ≡ goes_on_after way }
 {
     match way {

@@ -77,7 +77,7 @@ pub(crate) fn gather(table: &Table, starters: &mut Vec<u32>)
 }
 
 /// Each starter gets the quantum as its budget.
-pub(crate) fn set_budgets(state: &mut State, starters: &[u32], quantum: u32)
+pub fn set_budgets(state: &mut State, starters: &[u32], quantum: u32)
     requires sound { IsSound state.old }
     requires live { AreLive state.old.table.threads starters.now }
     ensures sets { (o e : List ℕ)

@@ -73,8 +73,10 @@ fn begin_round(state: &mut State, starters: &mut Vec<u32>, list: &SignalList)
     gather(&state.table, starters);
 }
 
-// The shim is asked for the signals of a round, and the round begins with what it answers.
-fn open_round<B: Border>(
+/// The shim is asked for the signals of a round, and the round begins with what it answers.
+///
+/// After an `Err` nothing is said of the state but its round, and how many frames there are.
+pub fn open_round<B: Border>(
     state: &mut State,
     starters: &mut Vec<u32>,
     border: &mut B,

@@ -1,0 +1,4 @@
+pub mod Needs
+pub mod Walks
+pub mod Places
+pub mod Plays
