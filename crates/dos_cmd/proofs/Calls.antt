@@ -275,7 +275,8 @@ misfit_must (Resume w log from) taken found n o is h =
   where
     must : (g : SavedGroup) (l : Log)
         → MisfittedResume g l found (line_of (refusals.Misfit found)) o → GroupMust n o g l
-    must g l h = subst (λ (m : Option Misfit). MustResume m g l n o) (sym h.resumed.is) (is, h)
+    must g l h = subst (λ (m : Option Misfit). MustResume m g l n o)
+        (sym (h.resumed.is [] [])) (is, h)
 misfit_must asked taken found n o is h = absurd h
 
 -- of a log that is full, in a run

@@ -17,3 +17,4 @@ mod GenRuns
 mod Repeats
 mod BareRuns
 mod WorkedExample
+mod Joins

@@ -12,8 +12,10 @@ use Rattle.dos_world.specs.declared.Ending.{Ending}
 use Rattle.dos_world.specs.declared.Misfit.{Misfit}
 use Rattle.elf_image.specs.Image.{Image}
 use Rattle.flat_machine.specs.Opening.{needed}
-use Rattle.group_text.specs.GroupText.{grouptext}
-use Rattle.group_text.specs.Groups.{group_of}
+use Rattle.dos_world.specs.Lawful.{Lawful}
+use Rattle.group_files.proofs.Lengths.{written_is_taken}
+use Rattle.group_text.specs.GroupText.{group_row, grouptext}
+use Rattle.group_text.specs.Groups.{SavedGroup, group_of, world_in}
 use Rattle.kernel_calls.specs.StateWorld.{HasSinkCause}
 use Rattle.kernel_calls.specs.declared.state.RunStop.{RunStop}
 use Rattle.kernel_calls.specs.declared.state.RunStop.TheVariants as stops
@@ -34,11 +36,23 @@ use Rattle.dos_words.specs.Numbers.{Text}
 use Rattle.dos_cmd.specs.Migrating.{WasStored}
 use Rattle.dos_cmd.specs.Outside.{FileHolds, Outside, Faults, outside, faults, Says}
 use Rattle.dos_cmd.specs.ReplayLeaves.{CutReplay, StaysAll}
-use Rattle.dos_cmd.specs.SaveLeaves.{CameToRound, DidSave, LeavesSave, LeavesSaving}
-use Rattle.dos_cmd.specs.SaveLeaves.{WasSaved, log_digest, saved_text}
+use Rattle.dos_cmd.specs.SaveLeaves.{CameToRound, ComesBack, DidSave, LeavesSave, LeavesSaving}
+use Rattle.dos_cmd.specs.SaveLeaves.{WasSaved, log_digest, saved_group, saved_text}
 use Rattle.dos_cmd.specs.Stops.{IsNotOpened, refusal_by}
 use Rattle.dos_cmd.proofs.NotBegun.{not_opened_as}
 use Rattle.dos_cmd.proofs.RunEnds.{all_stay, then_rose}
+
+-- ---- the group's text is taken for it
+
+pub came_back : (made g : SavedGroup) (w : World) → made ≡ g → group_row.Fits made
+    → Lawful (world_in made) → world_in made ≡ w → ComesBack g w
+came_back made g w is fits lawful world = subst (λ (x : SavedGroup). ComesBack x w) is
+    (record { taken = written_is_taken made fits lawful; stands = world })
+
+-- what holds anyway
+pub when_ok : {P : Type 0} (r : Result Ending Refusal) → P → IfOk r (λ _. P)
+when_ok (Ok ending) p = p
+when_ok (Err why) p = tt
 
 -- ---- the group isn't written
 
@@ -249,9 +263,10 @@ module _ (log : Log) (images : List Image) (round used : ℕ) (to : Text) (reach
     where_all_tell = λ all. stored.where_all_tell all ∙ ap (λ bytes. Some bytes) text_is;
   }
 
-  pub saved_did : (ending : Ending) → WasSaved text round to ending tells f1 f' err_then err1
+  pub saved_did : (ending : Ending) → ComesBack (saved_group log used reached) reached
+      → WasSaved text round to ending tells f1 f' err_then err1
       → DidSave log images round to (ending_status ending) seen_outside
-  saved_did ending saved = inl (
+  saved_did ending back saved = inl (
     ap ending_status saved.ending_is,
     record {
       used = used;
@@ -265,6 +280,7 @@ module _ (log : Log) (images : List Image) (round used : ℕ) (to : Text) (reach
             saved.err_is;
       };
       written = held saved.stored;
+      back = back;
       others = λ n other. saved.stored.others n other ∙ same n;
     },
   )
@@ -334,13 +350,14 @@ module _ (log : Log) (images : List Image) (round used : ℕ) (to : Text) (reach
     × ReplayedTo images log round used reached output error work
     × Halted out err out1 err_then tally tally1 output error work) where
   pub round_did : (r : Result Ending Refusal)
+      → IfOk r (λ _. ComesBack (saved_group log used reached) reached)
       → IfOk r (λ ending. WasSaved text round to ending tells f1 f' err_then err1)
       → IfOk r (λ ending. (f : Text → Option (List ℕ)) (h : HostSeen) → ((n : Text) → f1 n ≡ f n)
       → DidSave log images round to (ending_status ending)
       (outside tells f f' h h out out1 err err1 tally tally1))
-  round_did (Err why) saved = tt
-  round_did (Ok ending) saved = λ f h same. saved_did log images round used to reached text text_is
-      tells f f1 f' same out err out1 err_then err1 tally tally1 run h ending saved
+  round_did (Err why) back saved = tt
+  round_did (Ok ending) back saved = λ f h same. saved_did log images round used to reached text
+      text_is tells f f1 f' same out err out1 err_then err1 tally tally1 run h ending back saved
 
   pub round_leaves : (k1 k' oc oc1 ec ec1 ec' : ℕ) (r : Result Ending Refusal)
       → needed images ≤ log.header.frames → ec ≤ ec1
@@ -358,6 +375,17 @@ pub text_by : (log : Log) (used : ℕ) (reached : World) (digest : List ℕ) (co
     → digest ≡ log_digest log → config ≡ config_of log.header
     → grouptext (group_of digest used config reached) ≡ saved_text log used reached
 text_by log used reached digest config is same = rw (is, same) refl
+
+-- and the group
+pub back_by : (r : Result Ending Refusal) (log : Log) (used : ℕ) (reached : World)
+    (digest : List ℕ) (config : Config) → digest ≡ log_digest log → config ≡ config_of log.header
+    → IfOk r (λ _. ComesBack (group_of digest used config reached) reached)
+    → IfOk r (λ _. ComesBack (saved_group log used reached) reached)
+back_by r log used reached digest config is same back =
+    subst (λ (d : List ℕ). IfOk r (λ _. ComesBack (group_of d used (config_of log.header) reached)
+    reached)) is
+    (subst (λ (c : Config). IfOk r (λ _. ComesBack (group_of digest used c reached) reached)) same
+    back)
 
 -- ---- where memory runs out before the run
 

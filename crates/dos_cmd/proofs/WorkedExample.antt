@@ -22,9 +22,9 @@ use Rattle.dpg_run.proofs.MisfitLaws.{fits_have_none}
 use Rattle.log_text.specs.LogText.{Log, exchanges, logtext}
 use Rattle.log_text.specs.declared.version.LogVersion.TheVariants.{Two}
 use Rattle.log_text.specs.Items.{quiet_rounds}
-use Rattle.log_text.specs.Reading.{body_at, end_at, fields_at, read_header as log_header_at}
-use Rattle.log_text.specs.Reading.{header_number_at, item_at, log_at, magic_at, many_at, quiet_at}
-use Rattle.log_text.specs.Reading.{quiet_round_at, ranged_at, ranged_byte_at, version_at}
+use Rattle.log_text.specs.Reading.{body_at, fields_at, read_header as log_header_at}
+use Rattle.log_text.specs.Reading.{item_at, log_at, magic_at, version_at}
+use Rattle.text_fields.specs.Reading.{read_list}
 use Rattle.log_files.specs.Judging.{disagreement, log_verdict}
 use Rattle.logged_runs.specs.Runs.{RanWhole}
 use Rattle.dos_texts.specs.Exit.{ending_status}
@@ -177,8 +177,8 @@ text_is : logtext log ≡ text
 text_is = refl
 
 log_is : log_verdict text ≡ Ok log
-unfolding log_verdict log_at log_header_at magic_at version_at fields_at header_number_at many_at
-    body_at item_at quiet_at quiet_round_at quiet_rounds end_at ranged_at ranged_byte_at
+unfolding log_verdict log_at log_header_at magic_at version_at fields_at read_list body_at item_at
+    quiet_rounds
 log_is = refl
 
 abbrev replay_taken : Taken

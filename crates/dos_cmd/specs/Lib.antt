@@ -12,3 +12,4 @@ pub mod ResumeLeaves
 pub mod Requests
 pub mod Results
 pub mod Repeating
+pub mod Joining

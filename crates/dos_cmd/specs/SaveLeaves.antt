@@ -1,5 +1,5 @@
 -- What `save` leaves. This project's own rules.
-use Rattle.std.specs.Prelude.{◌≡◌, ◌⊎◌, ◌<◌, ◌≤◌, ◌++◌, ℕ, Bool, List, [], Option}
+use Rattle.std.specs.Prelude.{◌≡◌, ◌⊎◌, ◌<◌, ◌≤◌, ◌++◌, ℕ, Bool, List, [], Option, Ok}
 use Rattle.dos_io.specs.Outside.{GrewByFront, Rose, grown}
 use Rattle.dos_world.specs.declared.Ending.{Ending}
 use Rattle.dos_world.specs.declared.Ending.TheVariants.{Done}
@@ -8,7 +8,8 @@ use Rattle.dos_world.specs.declared.Misfit.{Misfit}
 use Rattle.elf_image.specs.Image.{Image}
 use Rattle.flat_machine.specs.Opening.{needed}
 use Rattle.group_text.specs.GroupText.{grouptext}
-use Rattle.group_text.specs.Groups.{group_of}
+use Rattle.group_files.specs.Judging.{group_verdict}
+use Rattle.group_text.specs.Groups.{SavedGroup, group_of, world_in}
 use Rattle.sha2.specs.Sha256.{sha256}
 use Rattle.log_text.specs.LogText.{Log, logtext}
 use Rattle.logged_runs.specs.Replaying.{config_of}
@@ -27,10 +28,18 @@ use Rattle.dos_cmd.specs.ReplayLeaves.{CutReplay, CutReplayReport, DidReplay, Mi
 abbrev pub log_digest : Log → List ℕ
 log_digest log = sha256 (logtext log)
 
--- the text of the group that is saved in this world, behind so many exchanges of the log
+-- the group that is saved in this world, behind so many exchanges of the log
+abbrev pub saved_group : Log → (used : ℕ) → World → SavedGroup
+saved_group log used reached = group_of (log_digest log) used (config_of log.header) reached
+
+-- its text
 abbrev pub saved_text : Log → (used : ℕ) → World → List ℕ
-saved_text log used reached =
-    grouptext (group_of (log_digest log) used (config_of log.header) reached)
+saved_text log used reached = grouptext (saved_group log used reached)
+
+-- The text of a group is a file that is taken for it, and it stands for that world.
+pub record ComesBack (g : SavedGroup) (w : World) : Type 0 where
+  pub taken : group_verdict (grouptext g) ≡ Ok g
+  pub stands : world_in g ≡ w
 
 -- The replay came to the round in a world: the outputs grew by its bytes until there, and the tally
 -- by its work.
@@ -41,8 +50,8 @@ pub record CameToRound (log : Log) (images : List Image) (round used : ℕ) (rea
   pub counted : Counted o work
   pub host_stays : HostStays o
 
--- The group was saved: the file of that name holds its text, no other file changed, and error grew
--- by the line that says so.
+-- The group was saved: the file of that name holds its text, which is taken for it, no other file
+-- changed, and error grew by the line that says so.
 pub record SavedRun (log : Log) (images : List Image) (round : ℕ) (to : Text) (o : Outside)
     : Type 0 where
   pub used : ℕ
@@ -52,6 +61,7 @@ pub record SavedRun (log : Log) (images : List Image) (round : ℕ) (to : Text) 
   pub came : CameToRound log images round used reached output error o
   pub grew : Grew o output (error ++ saved_line round)
   pub written : FileHolds o to (saved_text log used reached)
+  pub back : ComesBack (saved_group log used reached) reached
   pub others : OthersStay o to
 
 -- The run came to its end before the round: it is a whole replay, and no file changed.

@@ -13,7 +13,8 @@ ghost use Rattle.dos_words.specs.declared.request.Request.TheVariants as request
 ghost use Rattle.dos_cmd.specs.Asking.{Asks, files_named, named_by, named_to_save};
 ghost use Rattle.dos_cmd.specs.Outside.{outside, faults};
 ghost use Rattle.dos_cmd.specs.Results.{Begun, Did, Leaves};
-ghost use Rattle.dos_cmd.specs.SaveLeaves.{DidSave, LeavesSave, LeavesSaving, WasSaved, log_digest};
+ghost use Rattle.dos_cmd.specs.SaveLeaves.{ComesBack, DidSave, LeavesSave, LeavesSaving, WasSaved};
+ghost use Rattle.dos_cmd.specs.SaveLeaves.{log_digest};
 
 use crate::migrate::store;
 use crate::replay::{config_of, take};
@@ -44,11 +45,13 @@ fn digest(alloc: Global, log: &Log) -> Result<[u8; 32], Refusal>
     }
 }
 
-/// The text of a kernel's group, which is taken apart.
+/// The text of a kernel's group, which is taken apart. A file that holds it is taken for the group.
 fn text_of(alloc: Global, kernel: Kernel, used: u32, digest: [u8; 32]) -> Result<Vec<u8>, Refusal>
     requires running { kernel.failed ≡ false }
     ensures text { IfOk result (λ text. text.items
         ≡ grouptext (group_of digest used kernel.config (kernel_world kernel))) }
+    ensures back { IfOk result (λ _. ComesBack
+        (group_of digest used kernel.config (kernel_world kernel)) (kernel_world kernel)) }
     ensures memory { IfErr result (λ why. why ≡ Refusal.Memory) }
 {
     let config = kernel.config();
@@ -105,6 +108,8 @@ fn save_group<F: Files, E: Sink>(
         (grouptext (group_of digest used kernel.config (kernel_world kernel))) round to.now ending
         (F.tells files.old) (F.content files.old) (F.content files.new) (E.told err.old)
         (E.told err.new)) }
+    ensures back { IfOk result (λ _. ComesBack
+        (group_of digest used kernel.config (kernel_world kernel)) (kernel_world kernel)) }
     ensures leaves { IfErr result (λ why. LeavesSaving
         (grouptext (group_of digest used kernel.config (kernel_world kernel))) round to.now why
         (F.tells files.old) (F.content files.old) (F.content files.new) (E.told err.old)

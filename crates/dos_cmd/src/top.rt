@@ -8,11 +8,15 @@ ghost use Rattle.dos_words.specs.Numbers.{Text};
 ghost use Rattle.dos_words.specs.Request.{request};
 ghost use Rattle.dos_texts.specs.Exit.{IsStatus, ending_status, refusal_status};
 ghost use Rattle.dos_cmd.specs.Asking.{Asks, HasAsked, named_by, named_in};
+ghost use Rattle.elf_image.specs.Image.{Image};
+ghost use Rattle.log_text.specs.LogText.{Log};
+ghost use Rattle.dos_cmd.specs.Joining.{HasReplayed, IsResumeOf, ShowTogether};
 ghost use Rattle.dos_cmd.specs.Judging.{Taken, judgement};
 ghost use Rattle.dos_cmd.specs.Outside.{Outside, outside, faults};
 ghost use Rattle.dos_cmd.specs.Repeating.{IsReplayOf, ShowTheSame};
 ghost use Rattle.dos_cmd.specs.Results.{Begun, CutShort, Did, Fails, WasDone, Leaves, MustDo};
 ghost use Rattle.dos_cmd.specs.Results.{Refused};
+ghost use Rattle.dos_cmd.specs.SaveLeaves.{SavedRun};
 
 use crate::generate::generate;
 use crate::inspect::inspect;
@@ -308,6 +312,25 @@ pub fn dos_main<F: Files, H: Host, O: Sink, E: Sink, W: Workers>(
         (W.tally workers.old) (W.tally workers.new))
         → result ≢ 5 → result ≢ 6 → result ≢ 9
         → ShowTheSame status run result
+        (outside (F.tells files.old) (F.content files.old) (F.content files.new)
+        (host_seen (H.told host.old) (H.asked host.old))
+        (host_seen (H.told host.new) (H.asked host.new)) (O.told out.old) (O.told out.new)
+        (E.told err.old) (E.told err.new)
+        (W.tally workers.old) (W.tally workers.new)) }
+
+    // A group that was saved, and is gone on with here by its log: both calls show together what a
+    // replay of that log with those images showed.
+    ensures joins { (log : Log) (images : List Image) (round status : ℕ) (to : Text)
+        (save whole : Outside) → SavedRun log images round to save
+        → HasReplayed log images status whole
+        → IsResumeOf log to save (map string_bytes words.now)
+        (outside (F.tells files.old) (F.content files.old) (F.content files.new)
+        (host_seen (H.told host.old) (H.asked host.old))
+        (host_seen (H.told host.new) (H.asked host.new)) (O.told out.old) (O.told out.new)
+        (E.told err.old) (E.told err.new)
+        (W.tally workers.old) (W.tally workers.new))
+        → result ≢ 5 → result ≢ 6 → result ≢ 9
+        → ShowTogether round status save whole result
         (outside (F.tells files.old) (F.content files.old) (F.content files.new)
         (host_seen (H.told host.old) (H.asked host.old))
         (host_seen (H.told host.new) (H.asked host.new)) (O.told out.old) (O.told out.new)

@@ -3,13 +3,14 @@ use Rattle.std.proofs.Common.{◌≡◌, ◌≢◌, ◌∙◌, ℕ, suc, ◌+◌
 use Rattle.std.proofs.Common.{◌∷◌, ◌++◌, map, length, Some, None, refl, sym, ap, subst}
 use Rattle.std.proofs.Common.{arith}
 use Rattle.std.proofs.lemmas.Bool.{and_parts, eqb-true, eq-eqb}
-use Rattle.dos_world.specs.Play.{Play, done, ask, questions}
+use Rattle.dos_world.specs.Play.{Answer, Play, done, ask, questions}
 use Rattle.dos_world.specs.declared.Ending.{Ending}
 use Rattle.dos_world.specs.declared.Ending.TheVariants.{Done, Limit, Stalled}
 use Rattle.dos_world.specs.declared.Question.{Question}
 use Rattle.dos_world.specs.declared.Question.TheVariants.{Signals, Input, Clock, End}
 use Rattle.dos_io.specs.declared.exchange.Exchange.{Exchange}
 use Rattle.dos_io.specs.Exchanges.{question_of, answer_of}
+use Rattle.group_rounds.specs.Plays.{GoesOn}
 use Rattle.dpg_run.proofs.Asked.{heads}
 use Rattle.dpg_run.specs.Fits.{misfit_from}
 use Rattle.flat_machine.specs.Fits.{same_ending, same_question, first_misfit}
@@ -92,3 +93,51 @@ fits_have_none n (x ∷ es) (ask question output error next) is =
     subst (λ (q : Question). same_question (question_of x) q ≡ true) (sym h.0)
     (with_itself (question_of x)) in
     rw (t, first_misfit) (fits_have_none (suc n) es (next (answer_of x)) h.1)
+
+-- What is behind exchanges over which a play goes on is numbered on.
+pub misfit_behind : {A : Type 0} (n m : ℕ) (es rest : List Exchange) (p q : Play A)
+    → m ≡ n + length es → GoesOn es p q → misfit_from n (es ++ rest) p ≡ misfit_from m rest q
+misfit_behind n m [] rest p q count goes =
+    let place : n ≡ m = omega (arith, count) in
+    ap (misfit_from n rest) goes ∙ ap (λ i. misfit_from i rest q) place
+misfit_behind n m (e ∷ es) rest (done a) q count goes = absurd goes
+misfit_behind n m (e ∷ es) rest (ask question output error next) q count goes =
+    let t : same_question (question_of e) question ≡ true =
+    subst (λ (x : Question). same_question (question_of e) x ≡ true) (sym goes.0)
+    (with_itself (question_of e)) in
+    rw (t, first_misfit)
+    (misfit_behind (suc n) m es rest (next (answer_of e)) q (omega (arith, count)) goes.1)
+
+-- Plays that ask the same, whatever is answered, have one misfit.
+pub misfit_by_questions : {A B : Type 0} (n : ℕ) (es : List Exchange) (p : Play A) (q : Play B)
+    → ((answers : List Answer) → questions answers p ≡ questions answers q)
+    → misfit_from n es p ≡ misfit_from n es q
+misfit_by_questions n es (done a) (done b) same = refl
+misfit_by_questions n es (done a) (ask question output error next) same =
+    let none : [] ≡ question ∷ [] = same [] in absurd cc
+misfit_by_questions n es (ask question output error next) (done b) same =
+    let none : question ∷ [] ≡ [] = same [] in absurd cc
+misfit_by_questions n [] (ask question output error next) (ask question' output' error' next') same
+    = refl
+misfit_by_questions n (e ∷ es) (ask question output error next)
+    (ask question' output' error' next') same =
+    go (same_question (question_of e) question) refl
+    (misfit_by_questions (suc n) es (next (answer_of e)) (next' (answer_of e)) later)
+  where
+    later : (answers : List Answer)
+        → questions answers (next (answer_of e)) ≡ questions answers (next' (answer_of e))
+    later answers = (heads question question' (questions answers (next (answer_of e)))
+        (questions answers (next' (answer_of e))) (same (answer_of e ∷ answers))).1
+
+    one : question ≡ question'
+    one = (heads question question' [] [] (same [])).0
+
+    go : (b : Bool) → same_question (question_of e) question ≡ b
+        → misfit_from (suc n) es (next (answer_of e)) ≡ misfit_from (suc n) es (next' (answer_of e))
+        → misfit_from n (e ∷ es) (ask question output error next)
+        ≡ misfit_from n (e ∷ es) (ask question' output' error' next')
+    go true is rest =
+        rw (is, ap (same_question (question_of e)) (sym one) ∙ is, first_misfit) rest
+    go false is rest =
+        rw (is, ap (same_question (question_of e)) (sym one) ∙ is, first_misfit)
+        (ap (λ (x : Question). Some (record { entry = n; kept = question_of e; asked = x })) one)

@@ -64,7 +64,7 @@ use Rattle.dpg_run.specs.GroupRuns.{end_by, ending_by, finish_in, has_failed, le
 use Rattle.dpg_run.specs.GroupRuns.{limited_by, rounds_left}
 use Rattle.dpg_run.specs.Work.{HasWorked, rounds_work, work_from}
 use Rattle.dpg_run.proofs.Worked.{both_worked, round_worked, stop_worked, worked_so_far}
-use Rattle.dpg_run.specs.Reaching.{HasRunOn, RanTo, RunsOn}
+use Rattle.dpg_run.specs.Reaching.{RunsToQuestion, HasRunOn, RanTo, RunsOn}
 use Rattle.dos_io.specs.Shims.{HasNoEnd}
 use Rattle.dos_io.specs.declared.exchange.Exchange.{Exchange}
 
@@ -409,35 +409,48 @@ all_err config stop s s' b b' t t' h = record {
 -- ---- a run that stops before its end
 
 module _ (config : Config) (start : State) (before after : BorderState) where
-  -- the run's play from there
-  run_goes : (cs : List Crossing) (left : Play Finish)
-      → GoesOver [] [] cs (rounds_from (world_of config.quantum start) config) left
-      → GoesOn (exchanges_of cs) (run_from (world_of config.quantum start) config)
+  -- the run's play from there, behind these bytes
+  run_goes : (o e : List ℕ) (cs : List Crossing) (left : Play Finish)
+      → GoesOver o e cs (rounds_from (sent o e (world_of config.quantum start)) config) left
+      → GoesOn (exchanges_of cs) (run_from (sent o e (world_of config.quantum start)) config)
       (left >>= told_end)
-  run_goes cs left h =
-      goes-then (exchanges_of cs) (rounds_from (world_of config.quantum start) config) left told_end
-      (goes-exchanges [] [] cs (rounds_from (world_of config.quantum start) config) left h)
+  run_goes o e cs left h =
+      let w : World = sent o e (world_of config.quantum start) in
+      goes-then (exchanges_of cs) (rounds_from w config) left told_end
+      (goes-exchanges o e cs (rounds_from w config) left h)
+
+  -- a question to which it comes
+  to_question : (why : ShimStop)
+      (h : StopsAsking config.quantum (λ w. rounds_from w config) why start before after)
+      → RunsToQuestion (world_of config.quantum start) config (exchanges_of h.crossings) h.question
+      (bytes_to Output h.crossings) (bytes_to Error h.crossings)
+  to_question why h = record {
+    asks = λ o e. goes-over (exchanges_of h.crossings)
+        (run_from (sent o e (world_of config.quantum start)) config) (stands o e) (goes o e);
+    asked = λ o e. goes-questions (exchanges_of h.crossings)
+        (run_from (sent o e (world_of config.quantum start)) config) (stands o e) (goes o e);
+  }
+    where
+      stands : (o e : List ℕ) → Play Finish
+      stands o e = ask h.question (o ++ bytes_to Output h.crossings)
+          (e ++ bytes_to Error h.crossings) (λ answer. (h.goes o e).0 answer >>= told_end)
+
+      goes : (o e : List ℕ) → GoesOn (exchanges_of h.crossings)
+          (run_from (sent o e (world_of config.quantum start)) config) (stands o e)
+      goes o e = run_goes o e h.crossings (ask h.question (o ++ bytes_to Output h.crossings)
+          (e ++ bytes_to Error h.crossings) (h.goes o e).0) (h.goes o e).1
 
   pub stopped_group : (why : ShimStop)
       → StopsAsking config.quantum (λ w. rounds_from w config) why start before after
       → StoppedGroup config start (told_at before) (told_at after) after.shim.asked
-  stopped_group why h =
-      let there = h.goes [] [] in
-      let goes = run_goes h.crossings
-      (ask h.question (bytes_to Output h.crossings) (bytes_to Error h.crossings) there.0) there.1 in
-      record {
-        more = told_more h.crossings before after h.tells;
-        question = h.question;
-        asked_is = h.asked;
-        asks = goes-over (exchanges_of h.crossings)
-            (run_from (world_of config.quantum start) config)
-            (ask h.question (bytes_to Output h.crossings) (bytes_to Error h.crossings)
-            (λ answer. there.0 answer >>= told_end)) goes;
-        asked_so = goes-questions (exchanges_of h.crossings)
-            (run_from (world_of config.quantum start) config)
-            (ask h.question (bytes_to Output h.crossings) (bytes_to Error h.crossings)
-            (λ answer. there.0 answer >>= told_end)) goes;
-      }
+  stopped_group why h = record {
+    more = told_more h.crossings before after h.tells;
+    question = h.question;
+    asked_is = h.asked;
+    asks = (to_question why h).asks [] [];
+    asked_so = (to_question why h).asked [] [];
+    behind = to_question why h;
+  }
 
   cut_by : (cs : List Crossing) (left : Play Finish) → Tells before cs after
       → GoesOver [] [] cs (rounds_from (world_of config.quantum start) config) left
@@ -445,7 +458,7 @@ module _ (config : Config) (start : State) (before after : BorderState) where
       → CutGroup config start (told_at before) (told_at after)
   cut_by cs left tells h fronts = record {
     more = told_more cs before after tells;
-    goes = (left >>= told_end, run_goes cs left h);
+    goes = (left >>= told_end, run_goes [] [] cs left h);
     fronts =
         seen_fronts (bytes_to Output cs) (bytes_to Error cs) _ _
         (subst (AreFrontsOf (λ finish. finish.world) (bytes_to Output cs) (bytes_to Error cs))
@@ -511,6 +524,12 @@ module _ (config : Config) (start s : State) (before told : Telling) (ending : E
         (told_end (finish [] [])) (to_end [] []);
     asked_so = goes-questions ran.more.exchanges
         (run_from (world_of config.quantum start) config) (told_end (finish [] [])) (to_end [] []);
+    behind = record {
+      asks = λ o e. goes-over ran.more.exchanges (run_from (begun o e) config)
+          (told_end (finish o e)) (to_end o e);
+      asked = λ o e. goes-questions ran.more.exchanges (run_from (begun o e) config)
+          (told_end (finish o e)) (to_end o e);
+    };
   }
 
   -- it is cut off there

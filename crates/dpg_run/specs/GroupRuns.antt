@@ -32,7 +32,7 @@ use Rattle.group_rounds.specs.declared.round.RoundEnd.{RoundEnd}
 use Rattle.group_rounds.specs.declared.round.RoundEnd.TheVariants.{Went, Done, Stalled}
 use Rattle.dpg_run.specs.Fits.{FitsFrom}
 use Rattle.dpg_run.specs.Work.{HasWorked, work_from}
-use Rattle.dpg_run.specs.Reaching.{RunsToItsEnd}
+use Rattle.dpg_run.specs.Reaching.{RunsToItsEnd, RunsToQuestion}
 use Rattle.flat_machine.specs.Machine.{Finish, Ran, Seen, machine_from, rounds_from, rounds_of}
 use Rattle.flat_machine.specs.Machine.{run_from}
 use Rattle.flat_machine.specs.Machine.{ends, needs}
@@ -145,7 +145,7 @@ pub record RanGroup (config : Config) (old : State) (before : Telling) (ending :
       (seen_of_run more.exchanges more.output more.error ending new work)
 
 -- The run from the old state's world has come to a question, which may be its end, after the
--- exchanges and the bytes that are told more.
+-- exchanges and the bytes that are told more. So it does behind whatever bytes.
 pub record StoppedGroup (config : Config) (old : State) (before after : Telling)
     (asked : Option Question) : Type 0 where
   pub more : ToldMore before after
@@ -156,6 +156,8 @@ pub record StoppedGroup (config : Config) (old : State) (before after : Telling)
   pub asked_so : questions (map answer_of more.exchanges)
       (run_from (world_of config.quantum old) config)
       ≡ map question_of more.exchanges ++ question ∷ []
+  pub behind : RunsToQuestion (world_of config.quantum old) config more.exchanges question
+      more.output more.error
 
 -- These are fronts of what a run sends to output and to error, whether it ends or needs an answer.
 abbrev pub AreFronts : (output error : List ℕ) → Ran → Type 0

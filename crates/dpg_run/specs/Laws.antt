@@ -16,9 +16,11 @@ use Rattle.flat_machine.specs.Opening.{opening, needed}
 use Rattle.dos_world.specs.declared.Question.{Question}
 use Rattle.dos_io.specs.declared.exchange.Exchange.{Exchange}
 use Rattle.dos_io.specs.Exchanges.{question_of, answer_of}
-use Rattle.dpg_run.specs.Fits.{Fits, misfit}
-use Rattle.dpg_run.specs.Reaching.{RunsTo, RunsToItsEnd}
+use Rattle.kernel_calls.specs.StateWorld.{sent}
+use Rattle.dpg_run.specs.Fits.{Fits, misfit, misfit_from}
+use Rattle.dpg_run.specs.Reaching.{RunsTo, RunsToItsEnd, RunsToQuestion}
 use Rattle.flat_machine.specs.Machine.{Finish, Seen, ends, machine, rounds_of, rounds_from, group}
+use Rattle.flat_machine.specs.Machine.{run_from}
 
 -- ---- invariants of a run, one for each count of its rounds
 
@@ -100,10 +102,25 @@ seen_joined first second output error work s = record s {
 
 -- So many rounds, of those that the configuration allows, and then the run from where they lead,
 -- whatever was sent before, are one run from where they began.
-abbrev pub RunsJoin : Type 0
-RunsJoin =
-    (w last : World) (config : Config) (rounds : ℕ) (first second : List Exchange)
-    (output error : List ℕ) (s : Seen) → (ran : RunsTo rounds w first output error last)
-    → last.rounds ≡ w.rounds + rounds → last.rounds ≤ config.rounds
-    → RunsToItsEnd last config second s
-    → RunsToItsEnd w config (first ++ second) (seen_joined first second output error ran.work s)
+pub record RunsJoin : Type 0 where
+  -- to its end
+  pub ended : (w last : World) (config : Config) (rounds : ℕ) (first second : List Exchange)
+      (output error : List ℕ) (s : Seen) → (ran : RunsTo rounds w first output error last)
+      → last.rounds ≡ w.rounds + rounds → last.rounds ≤ config.rounds
+      → RunsToItsEnd last config second s
+      → RunsToItsEnd w config (first ++ second) (seen_joined first second output error ran.work s)
+  -- to a question
+  pub asked : (w last : World) (config : Config) (rounds : ℕ) (first second : List Exchange)
+      (question : Question) (output error output_then error_then : List ℕ)
+      → RunsTo rounds w first output error last
+      → last.rounds ≡ w.rounds + rounds → last.rounds ≤ config.rounds
+      → RunsToQuestion last config second question output_then error_then
+      → RunsToQuestion w config (first ++ second) question (output ++ output_then)
+      (error ++ error_then)
+  -- and where the exchanges behind the first don't fit, the number goes on
+  pub misfits : (w last : World) (config : Config) (rounds : ℕ) (first rest : List Exchange)
+      (output error : List ℕ) (n : ℕ) (o e : List ℕ) → RunsTo rounds w first output error last
+      → last.rounds ≡ w.rounds + rounds → last.rounds ≤ config.rounds
+      → misfit_from n (first ++ rest) (run_from (sent o e w) config)
+      ≡ misfit_from (n + length first) rest
+      (run_from (sent (o ++ output) (e ++ error) last) config)

@@ -1,15 +1,17 @@
 -- What it means that a run has come so many rounds far, and that it goes on from there, whatever
 -- was sent before. This project's own rules.
-use Rattle.std.specs.Prelude.{ℕ, ◌≡◌, ◌+◌, List, ◌++◌, map, Option, Some, None, ⊤}
+use Rattle.std.specs.Prelude.{ℕ, ◌≡◌, ◌+◌, List, [], ◌∷◌, ◌++◌, map, Option, Some, None, ⊤}
+use Rattle.dos_world.specs.Play.{asks, over, questions}
 use Rattle.dos_world.specs.World.{World}
 use Rattle.dos_world.specs.declared.Config.{Config}
 use Rattle.dos_world.specs.declared.Ending.{Ending}
+use Rattle.dos_world.specs.declared.Question.{Question}
 use Rattle.dos_io.specs.Borders.{BorderState, Crossing, Tells}
-use Rattle.dos_io.specs.Exchanges.{answer_of}
+use Rattle.dos_io.specs.Exchanges.{answer_of, question_of}
 use Rattle.dos_io.specs.Shims.{HasNoEnd}
 use Rattle.dos_io.specs.declared.exchange.Exchange.{Exchange}
 use Rattle.worker_pool.specs.Ran.{GrewBy}
-use Rattle.flat_machine.specs.Machine.{Seen, ends, machine_from, rounds_of}
+use Rattle.flat_machine.specs.Machine.{Seen, ends, machine_from, rounds_of, run_from}
 use Rattle.kernel_calls.specs.Plays.{GoesOver, sent_then}
 use Rattle.kernel_calls.specs.StateWorld.{sent, world_of}
 use Rattle.kernel_calls.specs.declared.state.State.{State}
@@ -70,3 +72,12 @@ pub record RunsToItsEnd (w : World) (config : Config) (exchanges : List Exchange
   pub fits : (o e : List ℕ) → FitsFrom (sent o e w) config exchanges
   pub is : (o e : List ℕ) → machine_from (sent o e w) config (map answer_of exchanges)
       ≡ ends (seen_behind o e seen)
+
+-- Whatever bytes were sent before, the run from this world asks the questions of these exchanges
+-- and then this one, which may be its end; by then it has sent these bytes.
+pub record RunsToQuestion (w : World) (config : Config) (exchanges : List Exchange)
+    (question : Question) (output error : List ℕ) : Type 0 where
+  pub asks : (o e : List ℕ) → over (map answer_of exchanges) (run_from (sent o e w) config)
+      ≡ asks question (o ++ output) (e ++ error)
+  pub asked : (o e : List ℕ) → questions (map answer_of exchanges) (run_from (sent o e w) config)
+      ≡ map question_of exchanges ++ question ∷ []

@@ -1,1 +1,2 @@
 mod GroupVerdicts
+pub mod Lengths

@@ -1,7 +1,7 @@
 -- What is read out of a state is what is saved of its world, and has a text.
 use Rattle.std.proofs.Common.{◌≡◌, ℕ, zero, suc, ◌+◌, ◌<◌, ◌≤◌, List, [], ◌∷◌, length}
 use Rattle.std.proofs.Common.{map}
-use Rattle.std.proofs.Common.{sym, ap, subst, ◌∙◌, arith, Option, Some, None, slice_get}
+use Rattle.std.proofs.Common.{refl, sym, ap, subst, ◌∙◌, arith, Option, Some, None, slice_get}
 use Rattle.std.specs.Prelude.{All, IfSome}
 use Rattle.std.specs.Global.{Vec}
 use Rattle.std.proofs.lemmas.List.Elements.{All-head, All-tail, All-map}
@@ -12,12 +12,12 @@ use Rattle.proc_table.specs.Spread.{living_from}
 use Rattle.kernel_calls.specs.StateWorld.{IsSound, world_of}
 use Rattle.kernel_calls.specs.declared.state.State.{State}
 use Rattle.group_text.specs.GroupText as row
-use Rattle.group_text.specs.Groups.{SavedGroup, group_of}
+use Rattle.group_text.specs.Groups.{SavedGroup, group_of, world_in}
 use Rattle.group_text.specs.Records.{group_of_record, frame_of_record, thread_of_record}
 use Rattle.group_text.specs.declared.records.FrameRecord.{FrameRecord}
 use Rattle.group_text.specs.declared.records.GroupRecord.{GroupRecord}
 use Rattle.lawful_groups.specs.Recording.{IsRecordable}
-use Rattle.lawful_groups.proofs.Recorded.{records_fit}
+use Rattle.lawful_groups.proofs.Recorded.{records_fit, worlds_come_back}
 use Rattle.group_parts.specs.FrameLists.{framed}
 use Rattle.group_parts.proofs.FrameFacts.{framed_is}
 use Rattle.group_save.specs.Recording.{IsKernelOf}
@@ -117,6 +117,15 @@ module _ (digest : List ℕ) (used : ℕ) (config : Config) (s : State) (g : Gro
       → row.group_row.Fits (group_of_record new)
   recorded_fits new e = subst (λ x. row.group_row.Fits x) (sym e)
       (records_fit digest used config w recordable)
+
+  pub recorded_world : (new : GroupRecord) → group_of_record new ≡ group_of digest used config w
+      → world_in (group_of_record new) ≡ w
+  recorded_world new e =
+      ap world_in e ∙ worlds_come_back digest used config w lawful_now refl refl refl
+
+  pub recorded_lawful : (new : GroupRecord) → group_of_record new ≡ group_of digest used config w
+      → Lawful (world_in (group_of_record new))
+  recorded_lawful new e = subst Lawful (sym (recorded_world new e)) lawful_now
 
 -- ---- what reading a state out asks
 

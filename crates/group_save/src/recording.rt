@@ -1,10 +1,10 @@
 // A kernel's state, read out.
 ghost use Rattle.std.specs.Prelude.{◌≡◌, ◌+◌, ◌≤◌, ◌<◌, All, IfOk, length};
-ghost use Rattle.dos_world.specs.Lawful.{IsConfig};
+ghost use Rattle.dos_world.specs.Lawful.{IsConfig, Lawful};
 ghost use Rattle.kernel_calls.specs.StateWorld.{IsSound, world_of};
 ghost use Rattle.text_fields.specs.Formats.{AreBytes};
 ghost use Rattle.group_text.specs.GroupText.{group_row};
-ghost use Rattle.group_text.specs.Groups.{group_of};
+ghost use Rattle.group_text.specs.Groups.{group_of, world_in};
 ghost use Rattle.group_text.specs.Records.{group_of_record};
 ghost use Rattle.group_save.specs.Recording.{IsKernelOf};
 
@@ -66,7 +66,8 @@ fn with_frames(group: GroupRecord, frames: Vec<FrameRecord>) -> GroupRecord
 }
 
 /// The saved group of a state: of a run that was given this, by a log of this digest, of which so
-/// many entries were used. Pages are moved, and never copied. The error is want of memory.
+/// many entries were used. It stands for the state's world, which is lawful. Pages are moved, and
+/// never copied. The error is want of memory.
 pub fn record_group(
     alloc: Global,
     state: State,
@@ -81,6 +82,9 @@ pub fn record_group(
     ensures is { IfOk result
         (λ g. group_of_record g ≡ group_of digest used config (world_of config.quantum state)) }
     ensures fits { IfOk result (λ g. group_row.Fits (group_of_record g)) }
+    ensures world { IfOk result
+        (λ g. world_in (group_of_record g) ≡ world_of config.quantum state) }
+    ensures lawful { IfOk result (λ g. Lawful (world_in (group_of_record g))) }
 {
     match record_kernel(alloc, &state, config, used, digest) {
         Ok(group) => {

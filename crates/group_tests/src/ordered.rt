@@ -7,6 +7,7 @@ ghost use Rattle.dos_io.specs.Memory.{asked_of, calls_of};
 use crate::calls::LOG;
 use crate::checks::same_at;
 use crate::machine_words::add_words;
+use crate::saves::{GROUP, RESUME};
 use dos_cmd::dos_main;
 use dos_io::{
     FileError, Files, Host, HostFault, HostQuestion, MemoryFiles, MemoryHost, Sink, SinkFault,
@@ -167,10 +168,10 @@ const WRITES_TO_BOTH: [u32; 22] = [
     0x0000_0073,
 ];
 
-// The words of a call, the code of the guest `a` and its text, the host's calls that fail, and what
-// the call asks and puts.
+// The words of some calls over the same files and the same host, the code of the guest `a` and its
+// text, the host's calls that fail, and what the calls ask and put.
 struct Case {
-    words: &'static [&'static str],
+    calls: &'static [&'static [&'static str]],
     code: &'static [u32],
     text: &'static [u8],
     host_failing: &'static [u32],
@@ -179,10 +180,12 @@ struct Case {
 
 const RUN: [&str; 4] = ["run", "--log", LOG, "a"];
 
-const CASES: [Case; 5] = [
+const SAVE: [&str; 8] = ["save", "--log", LOG, "--round", "1", "--to", GROUP, "a"];
+
+const CASES: [Case; 8] = [
     // what the guest puts before it reads is put before the host is asked
     Case {
-        words: &RUN,
+        calls: &[&RUN],
         code: &PROMPTS,
         text: b"? ",
         host_failing: &[],
@@ -191,7 +194,7 @@ const CASES: [Case; 5] = [
     },
     // output and error in turn
     Case {
-        words: &RUN,
+        calls: &[&RUN],
         code: &WRITES_TO_BOTH,
         text: b"abcdefgh",
         host_failing: &[],
@@ -200,14 +203,14 @@ const CASES: [Case; 5] = [
     },
     // a stop, behind which nothing is asked or put but its line
     Case {
-        words: &RUN,
+        calls: &[&RUN],
         code: &PROMPTS,
         text: b"? ",
         host_failing: &[1],
         events: "[get a][out ? ][input][err dos: host fault\n]",
     },
     Case {
-        words: &RUN,
+        calls: &[&RUN],
         code: &PROMPTS,
         text: b"? ",
         host_failing: &[2],
@@ -215,11 +218,42 @@ const CASES: [Case; 5] = [
     },
     // each file is read as its turn comes, and none behind one that can't be
     Case {
-        words: &["run", "--log", LOG, "a", "a", "none", "a"],
+        calls: &[&["run", "--log", LOG, "a", "a", "none", "a"]],
         code: &PROMPTS,
         text: b"? ",
         host_failing: &[],
         events: "[get a][get a][get none][err dos: file fault\n]",
+    },
+    // a replay asks its log first, then the images, and no host
+    Case {
+        calls: &[&RUN, &["replay", "--log", LOG, "a"]],
+        code: &PROMPTS,
+        text: b"? ",
+        host_failing: &[],
+        events: "[get a][out ? ][input][err yes][clock][set log]\
+            [err process 1 status 0\n][err rounds 1 done\n]\
+            [get log][get a][out ? ][err yes][err process 1 status 0\n][err rounds 1 done\n]",
+    },
+    // a group is written once its run has come to the round, and the line is put behind that; who
+    // goes on with it asks for the group, then for the log, and for no image
+    Case {
+        calls: &[&RUN, &SAVE, &RESUME],
+        code: &PROMPTS,
+        text: b"? ",
+        host_failing: &[],
+        events: "[get a][out ? ][input][err yes][clock][set log]\
+            [err process 1 status 0\n][err rounds 1 done\n]\
+            [get log][get a][out ? ][err yes][set group][err saved round 1\n]\
+            [get group][get log][err process 1 status 0\n][err rounds 1 done\n]",
+    },
+    // where there is no log, no image is asked for, nor is a group written; and a group that isn't
+    // there hides the log behind it
+    Case {
+        calls: &[&SAVE, &RESUME],
+        code: &PROMPTS,
+        text: b"? ",
+        host_failing: &[],
+        events: "[get log][err dos: file fault\n][get group][err dos: file fault\n]",
     },
 ];
 
@@ -244,11 +278,16 @@ fn host_of<'a>(rt: &impl Abort, alloc: Global, case: &Case, events: &'a Events) 
     NotedHost { host, events }
 }
 
-// Calls the program over files, a host and outputs that note all in one list.
-fn play<R: Threads + Sync + Abort>(rt: &R, alloc: Global, case: &Case, events: &Events) {
-    let words = words_of(rt, alloc, case.words);
-    let mut files = files_of(rt, alloc, case, events);
-    let mut host = host_of(rt, alloc, case, events);
+// Calls the program with these words over files, a host and outputs that note all in one list.
+fn call<R: Threads + Sync + Abort>(
+    rt: &R,
+    alloc: Global,
+    texts: &[&str],
+    files: &mut NotedFiles<'_>,
+    host: &mut NotedHost<'_>,
+    events: &Events,
+) {
+    let words = words_of(rt, alloc, texts);
     let mut out = NotedSink {
         name: "out ",
         events,
@@ -260,17 +299,18 @@ fn play<R: Threads + Sync + Abort>(rt: &R, alloc: Global, case: &Case, events: &
     let gate = OpenGate::new();
     let mut tally = Tally::new();
     let mut workers = Stealing::new(rt, alloc, 1, &gate, &mut tally);
-    let _status = dos_main(
-        alloc,
-        &words,
-        &mut files,
-        &mut host,
-        &mut out,
-        &mut err,
-        &mut workers,
-    );
+    let _status = dos_main(alloc, &words, files, host, &mut out, &mut err, &mut workers);
     workers.finish();
     drop(words);
+}
+
+// The calls of a case, one after another.
+fn play<R: Threads + Sync + Abort>(rt: &R, alloc: Global, case: &Case, events: &Events) {
+    let mut files = files_of(rt, alloc, case, events);
+    let mut host = host_of(rt, alloc, case, events);
+    for words in case.calls {
+        call(rt, alloc, words, &mut files, &mut host, events);
+    }
     drop(files);
     drop(host);
 }

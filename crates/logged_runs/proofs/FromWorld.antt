@@ -15,7 +15,7 @@ use Rattle.group_rounds.specs.Kernels.{Held, kernel_world}
 use Rattle.group_rounds.proofs.WorkLaws.{since_more}
 use Rattle.worker_pool.specs.Ran.{GrewBy}
 use Rattle.dpg_run.specs.Fits.{FitsFrom}
-use Rattle.dpg_run.specs.Reaching.{RunsToItsEnd}
+use Rattle.dpg_run.specs.Reaching.{RunsToItsEnd, RunsToQuestion}
 use Rattle.dpg_run.specs.Work.{work_from}
 use Rattle.flat_machine.specs.Machine.{Finish, Seen, ends, machine_from, run_from}
 use Rattle.dpg_run.specs.GroupRuns.{AreFronts, CutGroup, RanGroup, StoppedGroup, seen_of_run}
@@ -96,6 +96,11 @@ module _ (k : Held) (before told since : List Exchange) (o e o1 e1 : Option (Lis
       asked = from_world (λ v c es. questions (map answer_of es) (run_from v c)
           ≡ map question_of es ++ run.question ∷ []) run.more run.asked_so;
     }
+
+    pub runs_until : RunsToQuestion w config since run.question run.more.output run.more.error
+    runs_until = from_world
+        (λ v c es. RunsToQuestion v c es run.question run.more.output run.more.error) run.more
+        run.behind
 
     pub halted_so : (tally tally' : ℕ) → GrewBy tally tally' (work_from (kernel_world k) k.config
         (answers_since before told))

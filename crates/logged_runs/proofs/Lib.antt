@@ -5,3 +5,4 @@ pub mod FromOpening
 pub mod Recordings
 pub mod Replays
 pub mod OneRecording
+pub mod Joined

@@ -15,7 +15,7 @@ use Rattle.group_rounds.specs.StatePlays.{telling}
 use Rattle.group_rounds.specs.Kernels.{Held, kernel_world}
 use Rattle.group_rounds.specs.Rounds.{answers_since}
 use Rattle.group_rounds.specs.Outside.{HasShimCause}
-use Rattle.kernel_calls.specs.StateWorld.{shim_stop}
+use Rattle.kernel_calls.specs.StateWorld.{sent, shim_stop}
 use Rattle.kernel_calls.specs.declared.state.RunStop.{RunStop}
 use Rattle.kernel_calls.specs.declared.state.RunStop.TheVariants.{HostFault, LogFull}
 use Rattle.kernel_calls.specs.declared.state.RunStop.TheVariants.{Misfit as MisfitFound}
@@ -37,7 +37,7 @@ use Rattle.logged_runs.specs.Replaying.{Replayed, ReplayedAhead, ReplayedUntil, 
 use Rattle.logged_runs.specs.Replaying.{config_of}
 use Rattle.logged_runs.proofs.Stops.{stops_so}
 use Rattle.logged_runs.proofs.FromWorld.{from_world, halted_cut, halted_so, ran_behind, ran_from}
-use Rattle.logged_runs.proofs.FromWorld.{ran_from_ahead, ran_from_until}
+use Rattle.logged_runs.proofs.FromWorld.{ran_from_ahead, ran_from_until, runs_until}
 use Rattle.logged_runs.specs.Resuming.{AsksWithin, ReplayedTo, Resumed, ResumedAhead, ResumedUntil}
 use Rattle.dos_world.specs.World.{World}
 use Rattle.dos_world.specs.declared.Config.{Config}
@@ -202,14 +202,17 @@ module _ (k : Held) (before : List Exchange) (p : ReplayState) (o e o1 e1 : Opti
           let here : Misfit =
           record { entry = entries_used p; kept = is.kept; asked = run.question } in
           let same : found ≡ here = one_misfit found here is.says in
-          let ran = ran_from_until k before told told o e o1 e1 all_new w config at config_is
+          let ran = runs_until k before told told o e o1 e1 all_new w config at config_is
           p.asked run in
-          let found_at = misfit_at p.start (length told + p.start) told next.next next.behind
-          run.question (run_from w config) (omega arith) ran.asked
+          let found_at = λ (x y : List ℕ).
+          misfit_at p.start (length told + p.start) told next.next next.behind
+          run.question (run_from (sent x y w) config) (omega arith) (ran.asked x y)
           (λ eq. is.differ (sym next.question ∙ eq)) in
-          let found_so : misfit_from p.start (exchanges_from p.start p.log) (run_from w config)
-          ≡ Some here =
-          ap (λ es. misfit_from p.start es (run_from w config)) next.log_is ∙ found_at
+          let found_so : (x y : List ℕ)
+          → misfit_from p.start (exchanges_from p.start p.log) (run_from (sent x y w) config)
+          ≡ Some here = λ x y.
+          ap (λ es. misfit_from p.start es (run_from (sent x y w) config)) next.log_is
+          ∙ found_at x y
           ∙ ap (λ (i : ℕ). Some (record {
             entry = i + p.start;
             kept = question_of next.next;
@@ -363,9 +366,10 @@ module _ (k : Held) (before : List Exchange) (p : ReplayState) (o e o1 e1 : Opti
           ran.1,
           ran.2,
           record {
-            is = whole.is;
+            is = whole.is [] [];
             ran = subst (λ n. RanUntil images logged (take n (exchanges log)) found.asked ran.0
-                ran.1) place whole.ran;
+                ran.1) place
+                (record { asks = whole.ran.asks [] []; asked = whole.ran.asked [] [] });
             worked = ap (λ n. first_work n images log) (sym place) ∙ whole.worked;
           },
           ran.4,

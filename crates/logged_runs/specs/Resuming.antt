@@ -8,13 +8,14 @@ use Rattle.elf_image.specs.Image.{Image}
 use Rattle.flat_machine.specs.Machine.{Seen, run_from}
 use Rattle.flat_machine.specs.Opening.{opening}
 use Rattle.dpg_run.specs.Fits.{misfit_from}
-use Rattle.dpg_run.specs.Reaching.{RunsTo, RunsToItsEnd}
+use Rattle.kernel_calls.specs.StateWorld.{sent}
+use Rattle.dpg_run.specs.Reaching.{RunsTo, RunsToItsEnd, RunsToQuestion}
 use Rattle.dpg_run.specs.Work.{work_from}
 use Rattle.log_text.specs.LogText.{Log, exchanges, exchanges_from}
 use Rattle.group_rounds.specs.Kernels.{Held, kernel_world}
 use Rattle.logged_runs.specs.Replaying.{Replayed, config_of, first_work}
 use Rattle.dpg_run.specs.GroupRuns.{limited_by}
-use Rattle.logged_runs.specs.Runs.{Ended, Halted, RanFromAhead, RanFromUntil, RanUntil}
+use Rattle.logged_runs.specs.Runs.{Ended, Halted, RanFromAhead, RanUntil}
 use Rattle.logged_runs.specs.declared.resuming.Arrived.{Arrived}
 use Rattle.logged_runs.specs.declared.resuming.Arrived.TheVariants.{AtRound, AtItsEnd}
 
@@ -61,14 +62,16 @@ work_left count w config used log =
 abbrev pub Resumed : World → Config → (used : ℕ) → Log → Seen → Type 0
 Resumed w config used log seen = RunsToItsEnd w config (exchanges_from used log) seen
 
--- It came to a misfit, which is named by its place in the whole log; by then it had sent these
--- bytes, and its parallel phases had run so much.
+-- Whatever was sent before, it came to a misfit, which is named by its place in the whole log; by
+-- then it had sent these bytes, and its parallel phases had run so much.
 pub record ResumedUntil (w : World) (config : Config) (used : ℕ) (log : Log) (found : Misfit)
     (output error : List ℕ) (work : ℕ) : Type 0 where
   pub answered : ℕ
-  pub is : misfit_from used (exchanges_from used log) (run_from w config) ≡ Some found
+  pub is : (o e : List ℕ)
+      → misfit_from used (exchanges_from used log) (run_from (sent o e w) config) ≡ Some found
   pub place : found.entry ≡ used + answered
-  pub ran : RanFromUntil w config (take answered (exchanges_from used log)) found.asked output error
+  pub ran : RunsToQuestion w config (take answered (exchanges_from used log)) found.asked output
+      error
   pub worked : work_left answered w config used log ≡ work
 
 -- It was cut off over so many of the exchanges that were left, as an output failed.

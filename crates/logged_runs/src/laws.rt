@@ -1,5 +1,6 @@
 //! Laws of recorded and replayed runs, as contracts of functions that do nothing.
 ghost use Rattle.logged_runs.specs.Laws.{FullRunsNeverEnd, RecordedRunsAreOne, RecordingsReplay};
+ghost use Rattle.logged_runs.specs.Laws.{ReplaysJoin};
 
 /// The log of a recorded run fits its images, and its replay shows what the run showed.
 pub fn recordings_replay()
@@ -16,4 +17,10 @@ pub fn recorded_runs_are_one()
 /// same before.
 pub fn full_runs_never_end()
     ensures { FullRunsNeverEnd }
+{}
+
+/// A replay as far as a round, and from there by what is left of the log to its end or its misfit,
+/// is the replay: it shows the same, once one has shown what the other shows behind it.
+pub fn replays_join()
+    ensures { ReplaysJoin }
 {}

@@ -98,6 +98,7 @@ runs_marked config r old marked b new b' failed t t' h = record {
     asked_is = x.asked_is;
     asks = x.asks;
     asked_so = x.asked_so;
+    behind = x.behind;
   })) h.asks;
   cut = on_err_weaker r (λ x. record { more = x.more; goes = x.goes; fronts = x.fronts }) h.cut;
   grew = h.grew;

@@ -8,7 +8,7 @@ use Rattle.dos_cmd.proofs.Asked.{saving_asked}
 use Rattle.dos_cmd.proofs.ReplayEnds.{has_room, on_ok, opened_by}
 use Rattle.dos_cmd.proofs.NotBegun.{says_nothing}
 use Rattle.dos_cmd.proofs.RunEnds.{is_err_of}
-use Rattle.dos_cmd.proofs.SaveEnds.{arrived_so, ended_cut, ended_did, round_did}
+use Rattle.dos_cmd.proofs.SaveEnds.{arrived_so, back_by, ended_cut, ended_did, round_did}
 use Rattle.dos_cmd.proofs.SaveEnds.{round_leaves}
 use Rattle.dos_cmd.proofs.SaveEnds.{save_no_memory, save_not_opened}
 use Rattle.dos_cmd.proofs.SaveEnds.{save_stopped, text_by}
@@ -169,7 +169,11 @@ returns-in-Ok-AtRound g c =
           (g.E.Sink.told c.args.err.now) (g.O.Sink.told c.replay_to.new.out)
           (g.E.Sink.told c.replay_to.new.err) (g.E.Sink.told c.save_group.new.err)
           (g.W.Workers.tally c.args.workers.now) (g.W.Workers.tally c.replay_to.new.workers)
-          arrived c.save_group.result c.save_group.ensures.saved;
+          arrived c.save_group.result
+          (back_by c.save_group.result c.args.log c.in-Ok-AtRound.used
+          (kernel_world c.replay_to.new.kernel) c.in-Ok.digest c.replay_to.new.kernel.config
+          c.in-Ok.ensures.digest (run.config ∙ opening.opened.config_is ∙ is)
+          c.save_group.ensures.back) c.save_group.ensures.saved;
       room = on_ok c.save_group.result _
           (has_room c.args.log c.args.images.now c.config_of.result is opening.room);
       leaves = round_leaves c.args.log c.args.images.now c.args.round c.in-Ok-AtRound.used

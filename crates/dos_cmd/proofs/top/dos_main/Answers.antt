@@ -4,6 +4,7 @@ use Rattle.dos_texts.proofs.Statuses.{refusal_ends_not}
 use Rattle.dos_cmd.proofs.Calls.{status_ends, ends_not_six, ends_or_not, finished_as}
 use Rattle.dos_cmd.proofs.Calls.{finished_not_none, finished_not_refused, finished_must, fails_none}
 use Rattle.dos_cmd.proofs.Calls.{fails_refused, fails_must, refused_as, cut_short}
+use Rattle.dos_cmd.proofs.Joins.{joins}
 use Rattle.dos_cmd.proofs.Repeats.{repeats}
 use Rattle.dos_cmd.proofs.Steady.{no_host, no_sink, no_stop}
 use Rattle.dos_cmd.proofs.top.dos_main.Goals as goal
@@ -26,6 +27,10 @@ returns-in-Ok g c = record {
   replays = λ earlier status run did same a b d. repeats earlier (map string_bytes
       c.args.words.now) status _ run _ did same (λ asked taken ask told. finished_must _ _ _ asked
       taken (finished_as _ _ _ _ c.ending_status.ensures c.in-Ok.ensures.finished) ask told);
+  joins = λ log images round status to save whole saved replayed of a b d. joins (map string_bytes
+      c.args.words.now) log images round status _ to save whole _ saved replayed of
+      (λ asked taken ask told. finished_must _ _ _ asked taken (finished_as _ _ _ _
+      c.ending_status.ensures c.in-Ok.ensures.finished) ask told);
   files_later = c.command.ensures.files_later;
   host_later = c.command.ensures.host_later;
   host_steady = λ _ _. c.in-Ok.ensures.host_steady (no_stop _ _);
@@ -64,6 +69,13 @@ returns-in-Err g c = record {
       c.args.words.now) _ _ _ _ _ _ c.put_refusal.ensures.later (c.put_refusal.ensures.told b)
       c.in-Err.ensures.fails c.in-Err.ensures.asked in
       repeats earlier (map string_bytes c.args.words.now) status _ run _ did same
+      (λ asked taken ask told. fails_must (map string_bytes c.args.words.now) _ _ _ _ asked taken
+      r.status_is r.fails ask told a b d);
+  joins = λ log images round status to save whole saved replayed of a b d. let r = refused_as (map
+      string_bytes c.args.words.now) _ _ _ _ _ _ c.put_refusal.ensures.later
+      (c.put_refusal.ensures.told b) c.in-Err.ensures.fails c.in-Err.ensures.asked in
+      joins (map string_bytes c.args.words.now) log images round status _ to save whole _ saved
+      replayed of
       (λ asked taken ask told. fails_must (map string_bytes c.args.words.now) _ _ _ _ asked taken
       r.status_is r.fails ask told a b d);
   files_later = c.command.ensures.files_later;
