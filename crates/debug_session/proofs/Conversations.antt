@@ -1,6 +1,6 @@
 -- Conversations of worked examples: what is sent to a session, and what is heard.
-use Rattle.std.specs.Prelude.{ℕ, true, not, List, [], ◌∷◌, ◌++◌, ◌≡◌, flat_map, map, filter, length}
-use Rattle.std.specs.Prelude.{Some, None, codes, slice_get, unwrap_or, ◌==◌}
+use Rattle.std.specs.Prelude.{ℕ, true, not, List, [], ◌∷◌, ◌++◌, ◌≡◌, flat_map, map, filter}
+use Rattle.std.specs.Prelude.{codes, slice_get, unwrap_or, ◌==◌}
 use Rattle.dos_world.specs.Bytes.{bytes_of}
 use Rattle.dos_world.specs.Play.{Answer, posts}
 use Rattle.dos_world.specs.declared.Config.{Config}
@@ -9,10 +9,12 @@ use Rattle.flat_machine.specs.Opening.{opening}
 use Rattle.group_moves.specs.Moments.{first_moment, history}
 use Rattle.gdb_packets.specs.Hexadecimal.{bytes_digits}
 use Rattle.debug_session.specs.Positions.{at_start}
+use Rattle.debug_session.specs.Recordings.{Recording, LogEntry, fitting_answers}
 use Rattle.debug_session.specs.Where.{where_lines}
 use Rattle.debug_session.specs.Sessions.{Session, opening_session}
-use Rattle.debug_session.specs.Resuming.{Reply, packet, console}
+use Rattle.debug_session.specs.Resuming.{Reply, packet, console, Answered}
 use Rattle.debug_session.specs.Answers.{answer_to}
+use Rattle.debug_session.specs.Connections.{session_puts}
 
 -- ---- programs
 
@@ -44,11 +46,24 @@ with_frames frames = with_quantum 1000 frames
 
 -- ---- sessions
 
+-- files with these names and these bytes
+abbrev pub recording_of : (names files : List (List ℕ)) → Config → List LogEntry → Recording
+recording_of names files config entries =
+    record { names = names; files = files; limit = config.rounds; entries = entries }
+
 -- at the first moment of the history of these images, of at most so many moves
 abbrev pub session_of : (most : ℕ) → List Image → Config → List Answer → Session
 session_of most images config answers =
-    opening_session (length images) (at_start (first_moment (opening images config))
-    (history most images config answers))
+    opening_session (recording_of (map (λ image. codes "a") images) [] config [])
+    (at_start (first_moment (opening images config)) (history most images config answers))
+
+-- of files with names and bytes, and the entries of a log
+abbrev pub recorded_session : (most : ℕ) → (names files : List (List ℕ)) → List Image → Config
+    → List LogEntry → Session
+recorded_session most names files images config entries =
+    opening_session (recording_of names files config entries)
+    (at_start (first_moment (opening images config))
+    (history most images config (fitting_answers images config entries)))
 
 -- two small images in one round
 abbrev pub session_of_two : Image → Image → Session
@@ -82,6 +97,11 @@ says_more text heard = (sent text, heard)
 abbrev pub monitors : (words : List ℕ) → List (List ℕ) → Exchange
 monitors words heard = (sent (codes "qRcmd," ++ bytes_digits words), heard)
 
+-- what a person asks, with the lines that are heard
+abbrev pub asks_for : (words : List ℕ) → List (List ℕ) → Exchange
+asks_for words lines =
+    monitors words (map (λ line. codes "\"" ++ line ++ codes "\n\"") lines ++ codes "OK" ∷ [])
+
 -- a line of `where`
 abbrev pub looks : (number : ℕ) → (heard : List ℕ) → Exchange
 looks number heard = (looked number, heard ∷ [])
@@ -100,14 +120,20 @@ heard_of (console text) = codes "\"" ++ text ++ codes "\""
 abbrev pub conversation : Session → List Said → List (List ℕ)
 conversation s [] = []
 conversation s (looked n ∷ asked) =
-    without_ends (unwrap_or (slice_get (where_lines s.position) n) []) ∷ conversation s asked
-conversation s (sent text ∷ asked) = elim (answer_to s text) [
-  | None ↦ []
-  | Some said ↦ map heard_of said.1 ++ conversation said.0 asked
-]
+    without_ends (unwrap_or (slice_get (where_lines s.recording s.position) n) [])
+    ∷ conversation s asked
+conversation s (sent text ∷ asked) =
+    let said : Answered = answer_to s text in
+    map heard_of said.1 ++ conversation said.0 asked
 
 -- The session runs as written.
 abbrev pub Runs : Session → List Exchange → Type 0
 Runs s script =
     conversation s (map (λ (x : Exchange). x.0) script)
     ≡ flat_map (λ (x : Exchange). x.1) script
+
+-- ---- over a connection
+
+-- These bytes are put where those are read.
+abbrev pub Puts : Session → (input put : List ℕ) → Type 0
+Puts s input put = flat_map (λ x. x) (session_puts s input) ≡ put

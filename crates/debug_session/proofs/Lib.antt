@@ -2,3 +2,5 @@ mod Conversations
 mod OneThread
 mod Processes
 mod Races
+mod Recorded
+mod Spaces

@@ -7,7 +7,8 @@ use Rattle.gdb_packets.specs.Hexadecimal.{number_digits}
 use Rattle.debug_session.specs.Sessions.{Session}
 use Rattle.debug_session.proofs.Conversations.{Runs, program, with_frames, session_of}
 use Rattle.debug_session.proofs.Conversations.{session_of_two}
-use Rattle.debug_session.proofs.Conversations.{says, says_more, looks, exits_with_7, told_forks}
+use Rattle.debug_session.proofs.Conversations.{says, says_more, looks, asks_for, exits_with_7}
+use Rattle.debug_session.proofs.Conversations.{told_forks}
 
 -- fork; the parent waits and exits with the child's status, the child exits with 5
 abbrev forks : Session
@@ -34,6 +35,28 @@ a_fork_is_told : Runs
     ∷ says (codes "bc") (codes "T05thread:p1.1;replaylog:begin;") ∷ [])
 unfolding computing number_digits digits
 a_fork_is_told = refl
+
+-- A child has its parent's image, and frames of its own.
+a_child_has_its_parents_image : Runs
+    (told_forks forks)
+    (says (codes "qXfer:exec-file:read:2:0,100") (codes "E01")
+    ∷ says (codes "vCont;c:p1.-1") (codes "T05thread:p1.1;fork:p2.2;")
+    ∷ asks_for (codes "processes")
+    (codes "process 1 live, parent 0, image a" ∷ codes "process 2 live, parent 1, image a" ∷ [])
+    ∷ says (codes "qXfer:exec-file:read:2:0,100") (codes "l/a")
+    ∷ asks_for (codes "page 10024 2")
+    (codes "page 00010000 of process 2: frame 17, owner thread 2, rights rwx, private" ∷ []) ∷ [])
+unfolding computing number_digits digits
+a_child_has_its_parents_image = refl
+
+-- The status of a child that has ended is told.
+a_status_is_told : Runs
+    (forks)
+    (says (codes "vCont;c:p1.-1") (codes "T05thread:p1.1;replaylog:end;")
+    ∷ asks_for (codes "processes")
+    (codes "process 1 live, parent 0, image a" ∷ codes "process 2 status 5" ∷ []) ∷ [])
+unfolding computing number_digits digits
+a_status_is_told = refl
 
 -- A child that is let go isn't shown any more.
 a_child_is_let_go : Runs

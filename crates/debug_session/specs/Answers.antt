@@ -1,6 +1,5 @@
 -- What a session answers to a packet, by its bytes. GDB remote protocol, gdb's manual, appendix E;
--- which packets are answered is this project's own rule. Not here yet: the images'
--- names and files, and of what a person asks `processes`, `page` and `pages`.
+-- which packets are answered is this project's own rule.
 use Rattle.std.specs.Prelude.{ℕ, ◌==◌, Bool, not, List, [], ◌∷◌, ◌++◌, map, filter, drop}
 use Rattle.std.specs.Prelude.{Option, Some, None, codes, unwrap_or, if◌then◌else◌}
 use Rattle.dos_world.specs.World.{World, thread_at}
@@ -20,17 +19,21 @@ use Rattle.gdb_packets.specs.declared.packets.Packet.TheVariants.{Remove, Resume
 use Rattle.gdb_packets.specs.declared.packets.Packet.TheVariants.{Detach, KillProcess, Threads}
 use Rattle.gdb_packets.specs.declared.packets.Packet.TheVariants.{Monitor, Malformed, Unknown}
 use Rattle.gdb_packets.specs.declared.packets.Packet.TheVariants.{Description, SetFileSystem}
-use Rattle.gdb_packets.specs.declared.packets.Packet.TheVariants.{CloseFile}
+use Rattle.gdb_packets.specs.declared.packets.Packet.TheVariants.{CloseFile, OpenFile, FileStatus}
+use Rattle.gdb_packets.specs.declared.packets.Packet.TheVariants.{ReadFile, ExecFile}
 use Rattle.debug_session.specs.Description.{description_text}
 use Rattle.debug_session.specs.Actions.{thread_named}
 use Rattle.debug_session.specs.Stops.{plainly, stop_text, pair_text, trap_signal}
 use Rattle.debug_session.specs.Sessions.{Session, is_among, listed}
 use Rattle.debug_session.specs.Told.{registers_told, register_told, memory_told}
-use Rattle.debug_session.specs.Lists.{threads_told, threads_text, part_told}
+use Rattle.debug_session.specs.Lists.{threads_told, threads_text, listed_pairs, part_told}
 use Rattle.debug_session.specs.Where.{where_lines, goal_line, goal_form, console_line}
 use Rattle.debug_session.specs.Goals.{rewound}
 use Rattle.debug_session.specs.Halts.{puts_from}
 use Rattle.debug_session.specs.Tables.{thread_lines, pipe_lines, end_lines, sleeper_lines}
+use Rattle.debug_session.specs.Pages.{process_rows, page_lines, page_form, pages_lines}
+use Rattle.debug_session.specs.Files.{exec_file_told, file_opened, file_status_told}
+use Rattle.debug_session.specs.Files.{file_piece_told}
 use Rattle.debug_session.specs.Current.{named_current}
 use Rattle.debug_session.specs.Setting.{inserts, removes}
 use Rattle.debug_session.specs.Resuming.{packet, console, Answered, replies_one, resumes}
@@ -112,19 +115,22 @@ command_forms =
 abbrev pub prints : Session → List (List ℕ) → Answered
 prints s lines = (s, map console lines ++ packet (codes "OK") ∷ [])
 
-abbrev pub answered_command : Session → Command → Option Answered
-answered_command s command.Where = Some (prints s (where_lines s.position))
+abbrev pub answered_command : Session → Command → Answered
+answered_command s command.Where = prints s (where_lines s.recording s.position)
 answered_command s (command.Goto round made) =
-    Some (prints (record s { goal = Some (round, made) }) (goal_line round made ∷ []))
-answered_command s command.GotoForm = Some (prints s (goal_form ∷ []))
-answered_command s command.Threads = Some (prints s (thread_lines (current_world s)))
-answered_command s command.Pipes = Some (prints s (pipe_lines (current_world s)))
-answered_command s (command.Ends p) = Some (prints s (end_lines s p))
-answered_command s command.Sleepers = Some (prints s (sleeper_lines (current_world s)))
+    prints (record s { goal = Some (round, made) }) (goal_line round made ∷ [])
+answered_command s command.GotoForm = prints s (goal_form ∷ [])
+answered_command s command.Threads = prints s (thread_lines (current_world s))
+answered_command s command.Processes = prints s (process_rows s)
+answered_command s (command.Page address p) = prints s (page_lines s address p)
+answered_command s command.PageForm = prints s (page_form ∷ [])
+answered_command s (command.Pages p) = prints s (pages_lines s p)
+answered_command s command.Pipes = prints s (pipe_lines (current_world s))
+answered_command s (command.Ends p) = prints s (end_lines s p)
+answered_command s command.Sleepers = prints s (sleeper_lines (current_world s))
 answered_command s command.Output =
-    Some (prints s (puts_from (rewound s.position) s.position))
-answered_command s command.Other = Some (prints s (console_line command_forms ∷ []))
-answered_command s _ = None
+    prints s (puts_from (rewound s.position) s.position)
+answered_command s command.Other = prints s (console_line command_forms ∷ [])
 
 -- ---- all of them
 
@@ -132,37 +138,41 @@ answered_command s _ = None
 abbrev pub actions_in : List ℕ → List Resumption
 actions_in text = unwrap_or (resumptions_from (drop 5 text)) []
 
--- by the packet and its text; none of what isn't here yet
-abbrev pub answered_packet : Session → (text : List ℕ) → Packet → Option Answered
-answered_packet s text (Alone name) = Some (answered_plain s name)
+-- by the packet and its text
+abbrev pub answered_packet : Session → (text : List ℕ) → Packet → Answered
+answered_packet s text (Alone name) = answered_plain s name
 answered_packet s text (Supported forks) =
-    Some (replies_one (record s { is_told_forks = forks }) (features_text forks))
-answered_packet s text (Attached process) = Some (replies_one s (codes "1"))
-answered_packet s text (Alive id) = Some (means s (thread_named id))
-answered_packet s text (GeneralThread id) = Some (replies_one (named_current s id) (codes "OK"))
+    replies_one (record s { is_told_forks = forks }) (features_text forks)
+answered_packet s text (Attached process) = replies_one s (codes "1")
+answered_packet s text (Alive id) = means s (thread_named id)
+answered_packet s text (GeneralThread id) = replies_one (named_current s id) (codes "OK")
 answered_packet s text (ResumedThread id) =
-    Some (replies_one (record s { resumed = id }) (codes "OK"))
-answered_packet s text (Register number) = Some (replies_one s (one_register_told s number))
-answered_packet s text (Memory part) = Some (replies_one s (stretch_told s part))
+    replies_one (record s { resumed = id }) (codes "OK")
+answered_packet s text (Register number) = replies_one s (one_register_told s number)
+answered_packet s text (Memory part) = replies_one s (stretch_told s part)
 answered_packet s text Write =
-    Some (replies_one s (codes "E.nothing in a recorded run can be changed"))
-answered_packet s text (Insert point) = Some (inserts s point)
-answered_packet s text (Remove point) = Some (removes s point)
-answered_packet s text ResumeForms = Some (replies_one s (codes "vCont;c;C;s;S;r"))
-answered_packet s text Resume = Some (resumes s (actions_in text))
+    replies_one s (codes "E.nothing in a recorded run can be changed")
+answered_packet s text (Insert point) = inserts s point
+answered_packet s text (Remove point) = removes s point
+answered_packet s text ResumeForms = replies_one s (codes "vCont;c;C;s;S;r")
+answered_packet s text Resume = resumes s (actions_in text)
 answered_packet s text (Detach process) =
-    Some (replies_one (process_let_go s process) (codes "OK"))
+    replies_one (process_let_go s process) (codes "OK")
 answered_packet s text (KillProcess process) =
-    Some (replies_one (process_let_go s (Some process)) (codes "OK"))
+    replies_one (process_let_go s (Some process)) (codes "OK")
 answered_packet s text (Description part) =
-    Some (replies_one s (part_told description_text part))
-answered_packet s text (SetFileSystem number) = Some (replies_one s (codes "F0"))
-answered_packet s text (CloseFile number) = Some (replies_one s (codes "F0"))
-answered_packet s text (Threads part) = Some (replies_one s (part_told (threads_text s) part))
+    replies_one s (part_told description_text part)
+answered_packet s text (SetFileSystem number) = replies_one s (codes "F0")
+answered_packet s text (CloseFile number) = replies_one s (codes "F0")
+answered_packet s text (Threads part) =
+    replies_one s (part_told (threads_text (current_world s) (listed_pairs s)) part)
 answered_packet s text (Monitor asked) = answered_command s asked
-answered_packet s text Malformed = Some (replies_one s (codes "E01"))
-answered_packet s text Unknown = Some (replies_one s [])
-answered_packet s text _ = None
+answered_packet s text Malformed = replies_one s (codes "E01")
+answered_packet s text Unknown = replies_one s []
+answered_packet s text (ExecFile process part) = replies_one s (exec_file_told s process part)
+answered_packet s text OpenFile = replies_one s (file_opened s text)
+answered_packet s text (FileStatus file) = replies_one s (file_status_told s file)
+answered_packet s text (ReadFile file part) = replies_one s (file_piece_told s file part)
 
-abbrev pub answer_to : Session → List ℕ → Option Answered
+abbrev pub answer_to : Session → List ℕ → Answered
 answer_to s text = answered_packet s text (packet_from text)

@@ -1,4 +1,5 @@
 pub mod Positions
+pub mod Recordings
 pub mod Homes
 pub mod Actions
 pub mod Points
@@ -15,8 +16,11 @@ pub mod Lists
 pub mod Where
 pub mod Goals
 pub mod Tables
+pub mod Pages
 pub mod Description
+pub mod Files
 pub mod Resuming
 pub mod Current
 pub mod Setting
 pub mod Answers
+pub mod Connections

@@ -2,6 +2,7 @@
 -- sections "General Query Packets" and "Thread List Format".
 use Rattle.std.specs.Prelude.{ℕ, List, [], ◌∷◌, ◌++◌, flat_map, map, codes, take, drop, length}
 use Rattle.std.specs.Prelude.{nat_le, min, if◌then◌else◌}
+use Rattle.dos_world.specs.World.{World}
 use Rattle.gdb_packets.specs.Escapes.{escaped}
 use Rattle.gdb_packets.specs.declared.packets.Stretch.{Stretch}
 use Rattle.debug_session.specs.Stops.{pair_text}
@@ -27,14 +28,14 @@ threads_told s = pairs_told (listed_pairs s)
 
 -- ---- one element each, with what it is about
 
-abbrev pub thread_element : Session → Pair → List ℕ
-thread_element s pair =
-    codes "<thread id=\"" ++ pair_text pair ++ codes "\">"
-    ++ what_text s.position.moment.world pair.0 pair.1 ++ codes "</thread>"
+abbrev pub thread_element : World → Pair → List ℕ
+thread_element w pair =
+    codes "<thread id=\"" ++ pair_text pair ++ codes "\">" ++ what_text w pair.0 pair.1
+    ++ codes "</thread>"
 
-abbrev pub threads_text : Session → List ℕ
-threads_text s =
-    codes "<threads>" ++ flat_map (thread_element s) (listed_pairs s) ++ codes "</threads>"
+abbrev pub threads_text : World → List Pair → List ℕ
+threads_text w pairs =
+    codes "<threads>" ++ flat_map (thread_element w) pairs ++ codes "</threads>"
 
 -- ---- a part of a text
 

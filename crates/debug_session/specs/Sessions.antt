@@ -12,15 +12,17 @@ use Rattle.gdb_packets.specs.declared.ids.ThreadId.TheVariants.{ThreadAlone}
 use Rattle.gdb_packets.specs.declared.ids.Which.TheVariants.{All}
 use Rattle.gdb_packets.specs.declared.resumptions.Resumption.{Resumption}
 use Rattle.debug_session.specs.Positions.{Position, mover_at, all_moments}
+use Rattle.debug_session.specs.Recordings.{Recording}
 use Rattle.debug_session.specs.Homes.{is_some_number, birth_thread, home_of}
 use Rattle.debug_session.specs.Actions.{action_of_thread, are_for}
 use Rattle.debug_session.specs.Points.{Breakpoint, Watchpoint}
 
--- The position in the history; the current process and thread; what the last `Hc` named; the
--- processes that were told of, and those that were let go; whether the client is told of forks; the
--- points that are set; the thread that is meant where none is named; the thread whose step is owed;
--- the moment, as a round and a move, to go to.
+-- What is debugged; the position in its history; the current process and thread; what the last `Hc`
+-- named; the processes that were told of, and those that were let go; whether the client is told of
+-- forks; the points that are set; the thread that is meant where none is named; the thread whose
+-- step is owed; the moment, as a round and a move, to go to.
 pub record Session : Type 0 where
+  pub recording : Recording
   pub position : Position
   pub process : ℕ
   pub thread : ℕ
@@ -34,14 +36,15 @@ pub record Session : Type 0 where
   pub owed : Option ℕ
   pub goal : Option (ℕ × ℕ)
 
--- At first the processes of so many images are told of, and the first thread is current.
-abbrev pub opening_session : (images : ℕ) → Position → Session
-opening_session images at = record {
+-- At first the processes of the images are told of, and the first thread is current.
+abbrev pub opening_session : Recording → Position → Session
+opening_session r at = record {
+  recording = r;
   position = at;
   process = 1;
   thread = 1;
   resumed = ThreadAlone All;
-  told = run_of 1 images;
+  told = run_of 1 (length r.names);
   let_go = [];
   is_told_forks = false;
   breakpoints = [];

@@ -4,8 +4,7 @@ use Rattle.std.specs.Prelude.{ℕ, ◌+◌, ◌==◌, Bool, List, [], ◌∷◌,
 use Rattle.std.specs.Prelude.{flat_map, Option, Some, None, codes, decimal}
 use Rattle.std.specs.Prelude.{count_by, sum_by, unwrap_or, if◌then◌else◌}
 use Rattle.dos_world.specs.Numbered.{map_from}
-use Rattle.dos_world.specs.World.{World, Holdings, Thread, Sleeper, thread_at, live_process}
-use Rattle.dos_world.specs.World.{live_threads, all_holdings}
+use Rattle.dos_world.specs.World.{World, Holdings, Thread, Sleeper, live_process, all_holdings}
 use Rattle.dos_world.specs.Counts.{reads_pipe, writes_pipe}
 use Rattle.dos_world.specs.declared.End.{End}
 use Rattle.dos_world.specs.declared.End.TheVariants.{Input, Output, Error, PipeRead, PipeWrite}
@@ -22,16 +21,23 @@ abbrev pub saved_part : ℕ → List ℕ
 saved_part n = if n == 0 then [] else codes ", " ++ decimal n ++ codes " saved"
 
 -- what it is about, and what isn't empty: signals pending, its mask, saved registers
-abbrev pub thread_line : World → ℕ → Option Thread → List ℕ
-thread_line w t None = []
-thread_line w t (Some thread) =
-    console_line (codes "thread " ++ decimal t ++ codes " of process " ++ decimal thread.process
-    ++ codes ": " ++ what_text w thread.process t ++ word_part (codes "pending") thread.pending
-    ++ word_part (codes "mask") thread.mask ++ saved_part (length thread.saved))
+abbrev pub thread_parts : World → ℕ → Thread → List ℕ
+thread_parts w t thread =
+    what_text w thread.process t ++ word_part (codes "pending") thread.pending
+    ++ word_part (codes "mask") thread.mask ++ saved_part (length thread.saved)
 
--- the live threads
+abbrev pub thread_line : World → ℕ → Thread → List ℕ
+thread_line w t thread =
+    console_line (codes "thread " ++ decimal t ++ codes " of process " ++ decimal thread.process
+    ++ codes ": " ++ thread_parts w t thread)
+
+abbrev pub living_row : World → ℕ → Option Thread → List (List ℕ)
+living_row w t None = []
+living_row w t (Some thread) = thread_line w t thread ∷ []
+
+-- of each thread that lives
 abbrev pub thread_lines : World → List (List ℕ)
-thread_lines w = map (λ t. thread_line w t (thread_at w t)) (live_threads w)
+thread_lines w = flat_map (λ x. x) (map_from 1 (living_row w) w.threads)
 
 -- ---- descriptors
 

@@ -3,8 +3,8 @@
 use Rattle.std.specs.Prelude.{ℕ, ◌/◌, ◌%◌, ◌^◌, ◌==◌, List, [], ◌++◌, find, Option, Some, None}
 use Rattle.std.specs.Prelude.{codes}
 use Rattle.std.specs.Prelude.{decimal, if◌then◌else◌}
-use Rattle.dos_world.specs.World.{World, Thread, Process, Sleeper, live, ended, get, process_at}
-use Rattle.dos_world.specs.World.{thread_at}
+use Rattle.dos_world.specs.World.{World, Registers, Process, Sleeper, live, ended, get}
+use Rattle.dos_world.specs.World.{process_at, thread_at}
 use Rattle.dos_world.specs.declared.ThreadState.{ThreadState}
 use Rattle.dos_world.specs.declared.ThreadState.TheVariants.{Ready, Retry, Asleep}
 use Rattle.gdb_packets.specs.Hexadecimal.{byte_digits}
@@ -36,17 +36,18 @@ place_text None = []
 place_text (Some sleeper) =
     codes ", frame " ++ decimal sleeper.frame ++ codes " offset " ++ decimal sleeper.offset
 
-abbrev pub sleep_text : World → ℕ → (address : ℕ) → List ℕ
-sleep_text w t address =
+abbrev pub sleep_text : List Sleeper → ℕ → (address : ℕ) → List ℕ
+sleep_text sleepers t address =
     codes "sleeps at " ++ word_digits address
-    ++ place_text (find (λ sleeper. sleeper.thread == t) w.sleepers)
+    ++ place_text (find (λ sleeper. sleeper.thread == t) sleepers)
 
 -- ---- a thread
 
-abbrev pub state_text : World → ℕ → Thread → ThreadState → List ℕ
-state_text w t thread Ready = codes "ready, " ++ decimal thread.budget ++ codes " left"
-state_text w t thread Retry = wait_text (get thread.registers 17) (get thread.registers 10)
-state_text w t thread Asleep = sleep_text w t (get thread.registers 10)
+-- by what is left of its budget, its registers and its state
+abbrev pub state_text : List Sleeper → ℕ → (budget : ℕ) → Registers → ThreadState → List ℕ
+state_text sleepers t budget r Ready = codes "ready, " ++ decimal budget ++ codes " left"
+state_text sleepers t budget r Retry = wait_text (get r 17) (get r 10)
+state_text sleepers t budget r Asleep = sleep_text sleepers t (get r 10)
 
 -- of a listed thread that doesn't live, by its process
 abbrev pub absence_text : Option Process → List ℕ
@@ -60,5 +61,6 @@ absence_text (Some process) = elim process.life [
 abbrev pub what_text : World → (p t : ℕ) → List ℕ
 what_text w p t = elim (thread_at w t) [
   | None ↦ absence_text (process_at w p)
-  | Some thread ↦ state_text w t thread thread.state
+  | Some thread ↦
+      state_text w.sleepers t thread.budget thread.registers thread.state
 ]

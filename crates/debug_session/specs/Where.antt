@@ -1,13 +1,16 @@
 -- Where a session stands, in words for a person. This project's own texts; numbers are decimal.
-use Rattle.std.specs.Prelude.{ℕ, List, [], ◌∷◌, ◌++◌, Option, Some, None, codes}
+use Rattle.std.specs.Prelude.{ℕ, List, [], ◌∷◌, ◌++◌, length, Option, Some, None, codes}
 use Rattle.std.specs.Prelude.{decimal}
 use Rattle.dos_world.specs.declared.Ending.{Ending}
 use Rattle.dos_world.specs.declared.Ending.TheVariants.{Done, Limit, Stalled}
+use Rattle.dos_world.specs.declared.Misfit.{Misfit}
+use Rattle.dos_texts.specs.Lines.{question_text}
 use Rattle.group_moves.specs.Places.{Place, before_parts, before_rests, within_part}
 use Rattle.group_moves.specs.Places.{within_rest}
 use Rattle.group_moves.specs.Moves.{MoveKind, begins, runs, is_served, faults}
-use Rattle.group_moves.specs.Moments.{Moment, ending_at}
+use Rattle.group_moves.specs.Moments.{Moment, ending_at, kind_at}
 use Rattle.debug_session.specs.Positions.{Position, first_kind}
+use Rattle.debug_session.specs.Recordings.{Recording, used_entries, misfit_here}
 
 abbrev pub console_line : List ℕ → List ℕ
 console_line text = text ++ 10 ∷ []
@@ -46,17 +49,40 @@ ending_text Done = codes "done"
 ending_text Stalled = codes "stalled"
 ending_text Limit = codes "at its limit"
 
--- no move is next, since the run has ended
-abbrev pub next_text : Moment → Option MoveKind → List ℕ
-next_text m None = codes "none, the group is " ++ ending_text (ending_at m.world m.place)
-next_text m (Some kind) = move_text kind
+-- the run has ended
+abbrev pub ended_text : Moment → List ℕ
+ended_text m = codes "none, the group is " ++ ending_text (ending_at m.world m.place)
+
+-- the log's next entry is of another question than the next move would ask
+abbrev pub misfit_text : Option Misfit → List ℕ
+misfit_text None = codes "none"
+misfit_text (Some found) =
+    codes "none, log entry " ++ decimal found.entry ++ codes " is " ++ question_text found.kept
+    ++ codes ", asked " ++ question_text found.asked
+
+-- no move is next: the run has ended, or the log misfits
+abbrev pub no_next_text : Recording → Position → Option MoveKind → List ℕ
+no_next_text r at None = ended_text at.moment
+no_next_text r at (Some kind) = misfit_text (misfit_here r at)
+
+abbrev pub next_text : Recording → Position → Option MoveKind → List ℕ
+next_text r at None = no_next_text r at (kind_at r.limit at.moment)
+next_text r at (Some kind) = move_text kind
+
+-- How much of the log was used: the moves up to here have used so many of its entries, among which
+-- the end is counted, though no move uses it.
+abbrev pub log_line : Recording → Position → List ℕ
+log_line r at =
+    console_line (codes "log entry " ++ decimal (used_entries r at) ++ codes " of "
+    ++ decimal (length r.entries))
 
 -- The lines of a session that stands here.
-abbrev pub where_lines : Position → List (List ℕ)
-where_lines at =
+abbrev pub where_lines : Recording → Position → List (List ℕ)
+where_lines r at =
     moment_line at.moment
     ∷ console_line (codes "last: " ++ last_text (first_kind at.past))
-    ∷ console_line (codes "next: " ++ next_text at.moment (first_kind at.future)) ∷ []
+    ∷ console_line (codes "next: " ++ next_text r at (first_kind at.future))
+    ∷ log_line r at ∷ []
 
 -- ---- where the next resumption goes
 

@@ -1,0 +1,10 @@
+mod Absences
+mod Behind
+mod Counting
+mod Finding
+mod Lives
+mod Living
+mod Reading
+mod Rows
+mod Sleeping
+mod Whereabouts
