@@ -102,6 +102,25 @@ impl Replayer {
         }
     }
 
+    /// Answers from its start on again, as if it was asked nothing yet.
+    pub fn restart(&mut self)
+        ensures { self.new ≡ record self.old {
+          answered = 0;
+          stops = 0;
+          last = None;
+          asked = None;
+        } }
+    {
+        let _len = self.log.len();
+        let (place, within) = place_behind(&self.log, self.start);
+        self.place = place;
+        self.within = within;
+        self.answered = 0;
+        self.stops = 0;
+        self.last = None;
+        self.asked = None;
+    }
+
     /// How many of the log's exchanges are used up: those in front of its start, and those by which
     /// it answered.
     pub fn used(&self) -> u32
