@@ -9,7 +9,7 @@ use Rattle.flat_machine.specs.Opening.{opening}
 use Rattle.group_moves.specs.Moments.{first_moment, history}
 use Rattle.gdb_packets.specs.Hexadecimal.{bytes_digits}
 use Rattle.debug_session.specs.Positions.{at_start}
-use Rattle.debug_session.specs.Recordings.{Recording, LogEntry, fitting_answers}
+use Rattle.debug_session.specs.Recordings.{Recording, LogEntry, recorded}
 use Rattle.debug_session.specs.Where.{where_lines}
 use Rattle.debug_session.specs.Sessions.{Session, opening_session}
 use Rattle.debug_session.specs.Resuming.{Reply, packet, console, Answered}
@@ -63,7 +63,7 @@ abbrev pub recorded_session : (most : ℕ) → (names files : List (List ℕ)) �
 recorded_session most names files images config entries =
     opening_session (recording_of names files config entries)
     (at_start (first_moment (opening images config))
-    (history most images config (fitting_answers images config entries)))
+    (recorded most images config entries))
 
 -- two small images in one round
 abbrev pub session_of_two : Image → Image → Session

@@ -4,3 +4,4 @@ mod Processes
 mod Races
 mod Recorded
 mod Spaces
+mod Ends

@@ -23,7 +23,7 @@ use Rattle.gdb_packets.specs.declared.packets.Packet.TheVariants.{CloseFile, Ope
 use Rattle.gdb_packets.specs.declared.packets.Packet.TheVariants.{ReadFile, ExecFile}
 use Rattle.debug_session.specs.Description.{description_text}
 use Rattle.debug_session.specs.Actions.{thread_named}
-use Rattle.debug_session.specs.Stops.{plainly, stop_text, pair_text, trap_signal}
+use Rattle.debug_session.specs.Stops.{stop_text, pair_text, trap_signal}
 use Rattle.debug_session.specs.Sessions.{Session, is_among, listed}
 use Rattle.debug_session.specs.Told.{registers_told, register_told, memory_told}
 use Rattle.debug_session.specs.Lists.{threads_told, threads_text, listed_pairs, part_told}
@@ -38,12 +38,13 @@ use Rattle.debug_session.specs.Current.{named_current}
 use Rattle.debug_session.specs.Setting.{inserts, removes}
 use Rattle.debug_session.specs.Resuming.{packet, console, Answered, replies_one, resumes}
 use Rattle.debug_session.specs.Resuming.{continue_actions, step_actions, continues_back, steps_back}
+use Rattle.debug_session.specs.declared.stops.Cause.TheVariants.{Plainly}
 
 -- ---- the current thread
 
 abbrev pub current_told : Session → List ℕ
 current_told s =
-    stop_text (record { signal = trap_signal; whose = (s.process, s.thread); cause = plainly })
+    stop_text (record { signal = trap_signal; whose = (s.process, s.thread); cause = Plainly })
 
 abbrev pub current_world : Session → World
 current_world s = s.position.moment.world

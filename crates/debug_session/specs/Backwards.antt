@@ -8,11 +8,11 @@ use Rattle.group_moves.specs.Moments.{Moment}
 use Rattle.gdb_packets.specs.declared.resumptions.Resumption.{Resumption}
 use Rattle.debug_session.specs.Positions.{Position, position_at, mover_of}
 use Rattle.debug_session.specs.Homes.{is_some_number}
-use Rattle.debug_session.specs.Stops.{reached_start, plainly}
 use Rattle.debug_session.specs.Sessions.{Session, is_anybody_there, chosen_at, home_pair}
 use Rattle.debug_session.specs.Hits.{broken_by, hit_by}
 use Rattle.debug_session.specs.Halts.{Halt, halt_at}
 use Rattle.debug_session.specs.Forwards.{or_else, halt_broken, halt_watched, pair_or}
+use Rattle.debug_session.specs.declared.stops.Cause.TheVariants.{ReachedStart, Plainly}
 
 -- ---- by the move that led here
 
@@ -26,7 +26,7 @@ halt_broken_back s rs before mover =
 abbrev pub halt_stepped_back : Session → Position → (stepped mover : Option ℕ) → Option Halt
 halt_stepped_back s before None mover = None
 halt_stepped_back s before (Some t) mover =
-    if is_some_number t mover then Some (halt_at before (home_pair s t) plainly) else None
+    if is_some_number t mover then Some (halt_at before (home_pair s t) Plainly) else None
 
 -- A watchpoint; here the position that comes first is the one behind the move.
 abbrev pub halt_back : Session → List Resumption → (stepped : Option ℕ) → (here : Position)
@@ -52,7 +52,7 @@ was_ever_there s rs stepped past = list_any (λ move. is_there s rs stepped move
 
 abbrev pub halt_start : Session → List Resumption → (stepped : Option ℕ) → Position → Halt
 halt_start s rs stepped at =
-    halt_at at (pair_or s stepped (chosen_at s rs at)) reached_start
+    halt_at at (pair_or s stepped (chosen_at s rs at)) ReachedStart
 
 -- ---- backwards, over the moves behind
 

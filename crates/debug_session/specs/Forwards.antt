@@ -10,23 +10,24 @@ use Rattle.gdb_packets.specs.declared.resumptions.Resumption.{Resumption}
 use Rattle.debug_session.specs.Positions.{Position, position_at, mover_of, mover_at, first_kind}
 use Rattle.debug_session.specs.Actions.{is_stepping, is_stopping, action_of_thread, thread_named}
 use Rattle.debug_session.specs.Points.{Watchpoint}
-use Rattle.debug_session.specs.Stops.{broke, watched, bore, reached_end, plainly}
 use Rattle.debug_session.specs.Stops.{fault_signal}
 use Rattle.debug_session.specs.Sessions.{Session, is_told_of, is_anybody_there, is_among}
 use Rattle.debug_session.specs.Sessions.{chosen_at, home_pair, Pair}
 use Rattle.debug_session.specs.Hits.{broken_by, fault_by, hit_by, watching_mover, lowest_watcher}
 use Rattle.debug_session.specs.Halts.{Halt, halt_at, halt_by}
+use Rattle.debug_session.specs.declared.stops.Cause.TheVariants.{Broke, Watched}
+use Rattle.debug_session.specs.declared.stops.Cause.TheVariants.{Bore, ReachedEnd, Plainly}
 
 -- ---- at a moment: a breakpoint, then a fault
 
 abbrev pub halt_broken : Session → Position → Option ℕ → Option Halt
 halt_broken s at None = None
-halt_broken s at (Some t) = Some (halt_at at (home_pair s t) broke)
+halt_broken s at (Some t) = Some (halt_at at (home_pair s t) Broke)
 
 abbrev pub halt_faulted : Session → Position → Option (ℕ × ℕ) → Option Halt
 halt_faulted s at None = None
 halt_faulted s at (Some (t, number)) =
-    Some (halt_by (fault_signal number) at (home_pair s t) plainly)
+    Some (halt_by (fault_signal number) at (home_pair s t) Plainly)
 
 -- the first that there is
 abbrev pub or_else : Option Halt → Option Halt → Option Halt
@@ -43,7 +44,7 @@ halt_before s rs at =
 -- A hit that is told behind the move: the lowest thread that watches, or the chosen one there, is
 -- owed a step.
 abbrev pub halt_owing : Position → Pair → Watchpoint → Halt
-halt_owing at whose point = record (halt_at at whose (watched point)) { owed = Some whose.1 }
+halt_owing at whose point = record (halt_at at whose (Watched point)) { owed = Some whose.1 }
 
 abbrev pub pair_or : Session → Option ℕ → Pair → Pair
 pair_or s None other = other
@@ -55,7 +56,7 @@ abbrev pub halt_watched : Session → List Resumption → MoveKind → (behind :
 halt_watched s rs kind behind before after None = None
 halt_watched s rs kind behind before after (Some point) =
     elim (watching_mover s rs kind behind point) [
-      | Some t ↦ Some (halt_at before (home_pair s t) (watched point))
+      | Some t ↦ Some (halt_at before (home_pair s t) (Watched point))
       | None ↦ Some (halt_owing after
           (pair_or s (lowest_watcher s rs behind point) (chosen_at s rs after)) point)
     ]
@@ -67,7 +68,7 @@ abbrev pub halt_deserted : Session → List Resumption → (was_there : Bool) �
     → Option Halt
 halt_deserted s rs was_there last after =
     if was_there && not (is_anybody_there s rs after.moment.world)
-    then Some (halt_at last (chosen_at s rs last) reached_end) else None
+    then Some (halt_at last (chosen_at s rs last) ReachedEnd) else None
 
 -- the number of the process that a move bears
 abbrev pub born_between : (before behind : World) → Option ℕ
@@ -86,7 +87,7 @@ is_birth_told s rs before (Some t) child =
 abbrev pub halt_bearing : Session → Position → (parent child : ℕ) → (first : Option ℕ) → Option Halt
 halt_bearing s after t p None = None
 halt_bearing s after t p (Some first) =
-    Some (record (halt_at after (home_pair s t) (bore p first)) { born = p ∷ [] })
+    Some (record (halt_at after (home_pair s t) (Bore p first)) { born = p ∷ [] })
 
 abbrev pub halt_born : Session → List Resumption → World → (mover : Option ℕ) → Position
     → Option ℕ → Option Halt
@@ -118,7 +119,7 @@ halt_stepped s rs before None after = None
 halt_stepped s rs before (Some t) after =
     if is_told_of s rs before t
     && is_step_over rs (thread_at before t) (thread_at after.moment.world t) t
-    then Some (halt_at after (step_pair s rs after t) plainly) else None
+    then Some (halt_at after (step_pair s rs after t) Plainly) else None
 
 -- an action steps a thread that is gone
 abbrev pub steps_nobody : World → Resumption → Bool
@@ -134,7 +135,7 @@ is_stepping_nobody rs w =
 abbrev pub halt_unstepped : Session → List Resumption → Position → Option Halt
 halt_unstepped s rs after =
     if is_stepping_nobody rs after.moment.world
-    then Some (halt_at after (chosen_at s rs after) plainly) else None
+    then Some (halt_at after (chosen_at s rs after) Plainly) else None
 
 -- what a move stops by, from a position to the next
 abbrev pub halt_moving : Session → List Resumption → (was_there : Bool) → (last before : Position)
@@ -161,7 +162,7 @@ abbrev pub forwards_over : Session → List Resumption → (is_first was_there :
 forwards_over s rs is_first was_there last past m [] =
     let at : Position = position_at past m [] in
     let now : Position = last_there s rs last at in
-    halt_at now (chosen_at s rs now) reached_end
+    halt_at now (chosen_at s rs now) ReachedEnd
 forwards_over s rs is_first was_there last past m (move ∷ future) =
     let at : Position = position_at past m (move ∷ future) in
     let after : Position = position_at ((move.0, m) ∷ past) move.1 future in

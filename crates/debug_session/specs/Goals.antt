@@ -8,9 +8,10 @@ use Rattle.group_moves.specs.Moves.{MoveKind}
 use Rattle.group_moves.specs.Moments.{Moment}
 use Rattle.gdb_packets.specs.declared.resumptions.Resumption.{Resumption}
 use Rattle.debug_session.specs.Positions.{Position, position_at}
-use Rattle.debug_session.specs.Stops.{gone_signal, plainly}
+use Rattle.debug_session.specs.Stops.{gone_signal}
 use Rattle.debug_session.specs.Sessions.{Session, is_process_live, is_shown, chosen_at}
 use Rattle.debug_session.specs.Halts.{Halt, halt_by}
+use Rattle.debug_session.specs.declared.stops.Cause.TheVariants.{Plainly}
 
 -- the moment isn't before this round and move
 abbrev pub is_moment_reached : (round made : ℕ) → Moment → Bool
@@ -57,4 +58,4 @@ goal_position s round made =
 abbrev pub halt_gone : Session → List Resumption → (round made : ℕ) → Halt
 halt_gone s rs round made =
     let at : Position = goal_position s round made in
-    halt_by gone_signal at (chosen_at s rs at) plainly
+    halt_by gone_signal at (chosen_at s rs at) Plainly

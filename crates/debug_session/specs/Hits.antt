@@ -9,7 +9,8 @@ use Rattle.flat_machine.specs.Rest.{process_of}
 use Rattle.group_moves.specs.Moves.{MoveKind, runs, faults}
 use Rattle.gdb_packets.specs.declared.resumptions.Resumption.{Resumption}
 use Rattle.debug_session.specs.Positions.{mover_of}
-use Rattle.debug_session.specs.Points.{WatchKind, changes, reads, accesses, Watchpoint}
+use Rattle.debug_session.specs.Points.{WatchKind, Watchpoint}
+use Rattle.debug_session.specs.declared.points.WatchKind.TheVariants.{Changes, Reads, Accesses}
 use Rattle.debug_session.specs.Points.{is_broken_at}
 use Rattle.debug_session.specs.Told.{place_of_address, byte_told}
 use Rattle.debug_session.specs.Accesses.{Touch, touch_of, is_place_in}
@@ -69,10 +70,10 @@ is_touched_so test w _ point = false
 
 abbrev pub is_hit_as : WatchKind → (before : World) → MoveKind → (behind : World) → Watchpoint
     → Bool
-is_hit_as changes before kind behind point = is_changed before behind point
-is_hit_as reads before kind behind point =
+is_hit_as Changes before kind behind point = is_changed before behind point
+is_hit_as Reads before kind behind point =
     is_touched_so (λ (touch : Touch). touch.is_read) before kind point
-is_hit_as accesses before kind behind point =
+is_hit_as Accesses before kind behind point =
     is_changed before behind point
     || is_touched_so (λ (touch : Touch). touch.is_read || touch.is_written) before kind point
 

@@ -2,22 +2,10 @@
 -- section "Packets", `Z`; the order of watchpoints is this project's own rule.
 use Rattle.std.specs.Prelude.{ℕ, ◌==◌, ◌&&◌, Bool, true, false, not, List, [], ◌∷◌, ◌++◌, filter}
 use Rattle.std.specs.List.{list_any}
-
--- an address in a process
-pub record Breakpoint : Type 0 where
-  pub process : ℕ
-  pub address : ℕ
-
--- what a watchpoint is hit by: that bytes change, that they are read, or both
-pub data WatchKind : Type 0 where
-  changes reads accesses : WatchKind
-
--- so many bytes from an address in a process
-pub record Watchpoint : Type 0 where
-  pub process : ℕ
-  pub address : ℕ
-  pub length : ℕ
-  pub kind : WatchKind
+pub use Rattle.debug_session.specs.declared.points.Breakpoint.{Breakpoint}
+pub use Rattle.debug_session.specs.declared.points.WatchKind.{WatchKind}
+pub use Rattle.debug_session.specs.declared.points.Watchpoint.{Watchpoint}
+use Rattle.debug_session.specs.declared.points.WatchKind.TheVariants.{Changes, Reads, Accesses}
 
 -- ---- breakpoints
 
@@ -39,9 +27,9 @@ with_breakpoint points p address =
 -- ---- watchpoints, in their order
 
 abbrev pub is_same_kind : WatchKind → WatchKind → Bool
-is_same_kind changes changes = true
-is_same_kind reads reads = true
-is_same_kind accesses accesses = true
+is_same_kind Changes Changes = true
+is_same_kind Reads Reads = true
+is_same_kind Accesses Accesses = true
 is_same_kind _ _ = false
 
 abbrev pub is_same_watchpoint : Watchpoint → Watchpoint → Bool

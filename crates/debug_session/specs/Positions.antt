@@ -1,5 +1,5 @@
 -- Where one stands in a history: with moves behind and moves ahead. This project's own rule.
-use Rattle.std.specs.Prelude.{ℕ, List, [], ◌∷◌, ◌++◌, map, reverse, Option, Some, None}
+use Rattle.std.specs.Prelude.{ℕ, zero, suc, List, [], ◌∷◌, ◌++◌, map, reverse, Option, Some, None}
 use Rattle.group_moves.specs.Moves.{MoveKind, begins, runs, is_served, faults}
 use Rattle.group_moves.specs.Moments.{Moment}
 
@@ -63,3 +63,8 @@ moved_back at = go at at.past
     go : Position → List (MoveKind × Moment) → Position
     go at [] = at
     go at (move ∷ moves) = position_at moves move.1 ((move.0, at.moment) ∷ at.future)
+
+-- so many moves on
+abbrev pub position_after : (moves : ℕ) → Position → Position
+position_after zero at = at
+position_after (suc moves) at = moved_on (position_after moves at)

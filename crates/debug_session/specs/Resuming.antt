@@ -10,12 +10,13 @@ use Rattle.gdb_packets.specs.declared.resumptions.Action.TheVariants.{Continue, 
 use Rattle.gdb_packets.specs.declared.resumptions.Resumption.{Resumption}
 use Rattle.debug_session.specs.Homes.{is_some_number}
 use Rattle.debug_session.specs.Actions.{thread_named}
-use Rattle.debug_session.specs.Stops.{plainly, stop_text}
+use Rattle.debug_session.specs.Stops.{stop_text}
 use Rattle.debug_session.specs.Sessions.{Session, home_pair}
 use Rattle.debug_session.specs.Halts.{Halt, halt_at, halted_session, puts_from}
 use Rattle.debug_session.specs.Forwards.{forwards}
 use Rattle.debug_session.specs.Backwards.{backwards}
 use Rattle.debug_session.specs.Goals.{halt_gone}
+use Rattle.debug_session.specs.declared.stops.Cause.TheVariants.{Plainly}
 
 -- What a client is sent: a packet, or bytes for the person's console in one.
 pub data Reply : Type 0 where
@@ -61,7 +62,7 @@ owed_to (Some t) (r ∷ rs) =
 -- A moment to go to comes before a step that is owed, which makes no move; else it goes on.
 abbrev pub halt_or : Session → List Resumption → Option (ℕ × ℕ) → (owed : Option ℕ) → Halt → Halt
 halt_or s rs (Some (round, made)) owed other = halt_gone s rs round made
-halt_or s rs None (Some t) other = halt_at s.position (home_pair s t) plainly
+halt_or s rs None (Some t) other = halt_at s.position (home_pair s t) Plainly
 halt_or s rs None None other = other
 
 abbrev pub halt_of : Session → List Resumption → Halt → Halt

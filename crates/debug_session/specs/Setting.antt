@@ -9,7 +9,8 @@ use Rattle.gdb_packets.specs.declared.packets.PointKind.TheVariants.{WriteWatchp
 use Rattle.gdb_packets.specs.declared.packets.PointKind.TheVariants.{ReadWatchpoint}
 use Rattle.gdb_packets.specs.declared.packets.PointKind.TheVariants.{AccessWatchpoint}
 use Rattle.gdb_packets.specs.declared.packets.Point.{Point}
-use Rattle.debug_session.specs.Points.{WatchKind, changes, reads, accesses, Breakpoint, Watchpoint}
+use Rattle.debug_session.specs.Points.{WatchKind, Breakpoint, Watchpoint}
+use Rattle.debug_session.specs.declared.points.WatchKind.TheVariants.{Changes, Reads, Accesses}
 use Rattle.debug_session.specs.Points.{with_breakpoint, without_breakpoint}
 use Rattle.debug_session.specs.Points.{with_watchpoint, without_watchpoint}
 use Rattle.debug_session.specs.Sessions.{Session}
@@ -38,9 +39,9 @@ watches s kind point =
 abbrev pub inserts_kind : Session → PointKind → Point → Answered
 inserts_kind s SoftwareBreakpoint point = breaks_at s point
 inserts_kind s HardwareBreakpoint point = breaks_at s point
-inserts_kind s WriteWatchpoint point = watches s changes point
-inserts_kind s ReadWatchpoint point = watches s reads point
-inserts_kind s AccessWatchpoint point = watches s accesses point
+inserts_kind s WriteWatchpoint point = watches s Changes point
+inserts_kind s ReadWatchpoint point = watches s Reads point
+inserts_kind s AccessWatchpoint point = watches s Accesses point
 
 -- `Z`
 abbrev pub inserts : Session → Point → Answered
@@ -59,9 +60,9 @@ unwatched s kind point =
 abbrev pub removed_kind : Session → PointKind → Point → Session
 removed_kind s SoftwareBreakpoint point = unbroken s point
 removed_kind s HardwareBreakpoint point = unbroken s point
-removed_kind s WriteWatchpoint point = unwatched s changes point
-removed_kind s ReadWatchpoint point = unwatched s reads point
-removed_kind s AccessWatchpoint point = unwatched s accesses point
+removed_kind s WriteWatchpoint point = unwatched s Changes point
+removed_kind s ReadWatchpoint point = unwatched s Reads point
+removed_kind s AccessWatchpoint point = unwatched s Accesses point
 
 -- `z`
 abbrev pub removes : Session → Point → Answered

@@ -5,25 +5,16 @@ use Rattle.gdb_packets.specs.Hexadecimal.{byte_digits, bytes_digits, number_digi
 use Rattle.gdb_packets.specs.Ids.{id_text}
 use Rattle.gdb_packets.specs.declared.ids.Which.TheVariants.{Only}
 use Rattle.gdb_packets.specs.declared.ids.ThreadId.TheVariants.{Both}
-use Rattle.debug_session.specs.Points.{WatchKind, changes, reads, accesses, Watchpoint}
+use Rattle.debug_session.specs.Points.{WatchKind, Watchpoint}
+use Rattle.debug_session.specs.declared.points.WatchKind.TheVariants.{Changes, Reads, Accesses}
+pub use Rattle.debug_session.specs.declared.stops.Cause.{Cause}
+pub use Rattle.debug_session.specs.declared.stops.Stop.{Stop}
+use Rattle.debug_session.specs.declared.stops.Cause.TheVariants.{Broke, Watched, Bore, ReachedEnd}
+use Rattle.debug_session.specs.declared.stops.Cause.TheVariants.{ReachedStart, Plainly}
 
 -- a thread of a process, as it is sent
 abbrev pub pair_text : ℕ × ℕ → List ℕ
 pair_text pair = id_text (Both (Only pair.0) (Only pair.1))
-
--- A breakpoint; a watchpoint; the birth of a process, with its thread; an end of the history; or a
--- step, a fault, or a moment that was gone to, which their signals say.
-pub data Cause : Type 0 where
-  broke : Cause
-  watched : Watchpoint → Cause
-  bore : (process thread : ℕ) → Cause
-  reached_end reached_start plainly : Cause
-
--- a signal, a process and its thread, and why
-pub record Stop : Type 0 where
-  pub signal : ℕ
-  pub whose : ℕ × ℕ
-  pub cause : Cause
 
 -- ---- signals, by the numbers that gdb gives them
 
@@ -44,17 +35,17 @@ fault_signal number =
 -- ---- as it is sent
 
 abbrev pub watch_word : WatchKind → List ℕ
-watch_word changes = codes "watch:"
-watch_word reads = codes "rwatch:"
-watch_word accesses = codes "awatch:"
+watch_word Changes = codes "watch:"
+watch_word Reads = codes "rwatch:"
+watch_word Accesses = codes "awatch:"
 
 abbrev pub cause_text : Cause → List ℕ
-cause_text broke = codes "swbreak:;"
-cause_text (watched point) = watch_word point.kind ++ number_digits point.address ++ codes ";"
-cause_text (bore p t) = codes "fork:" ++ pair_text (p, t) ++ codes ";"
-cause_text reached_end = codes "replaylog:end;"
-cause_text reached_start = codes "replaylog:begin;"
-cause_text plainly = []
+cause_text Broke = codes "swbreak:;"
+cause_text (Watched point) = watch_word point.kind ++ number_digits point.address ++ codes ";"
+cause_text (Bore p t) = codes "fork:" ++ pair_text (p, t) ++ codes ";"
+cause_text ReachedEnd = codes "replaylog:end;"
+cause_text ReachedStart = codes "replaylog:begin;"
+cause_text Plainly = []
 
 abbrev pub stop_text : Stop → List ℕ
 stop_text stop =

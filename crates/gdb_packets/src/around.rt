@@ -11,7 +11,7 @@ fn place_of(text: &[u8], mark: u8) -> Option<usize>
 }
 
 /// What stands before the first mark, and what behind it.
-pub(crate) fn around(text: &[u8], mark: u8) -> Option<(&[u8], &[u8])>
+pub fn around(text: &[u8], mark: u8) -> Option<(&[u8], &[u8])>
     ensures { MatchOption result (around mark text.now ≡ None)
         (λ x. around mark text.now ≡ Some (x.0.now, x.1.now)) }
 {

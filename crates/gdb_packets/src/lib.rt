@@ -1,7 +1,7 @@
 //! Packets of gdb's remote serial protocol: framing, numbers, ids, and what each packet asks.
 #![tactic(auto)]
 
-mod around;
+pub mod around;
 pub mod commands;
 pub mod duties;
 pub mod escapes;
