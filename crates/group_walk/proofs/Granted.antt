@@ -28,10 +28,10 @@ use Rattle.group_walk.specs.Needs.{reason_of, all_granted}
 
 -- ---- a stop at a page, or the same
 
-record IsPage {A : Type 0} (r : Result A Reason) : Type 0 where
-  address : ℕ
-  access : Access
-  is : r ≡ Err (Page address access)
+pub record IsPage {A : Type 0} (r : Result A Reason) : Type 0 where
+  pub address : ℕ
+  pub access : Access
+  pub is : r ≡ Err (Page address access)
 
 -- one thing and then another, where the first is the same and so is the other
 then_same : {A B : Type 0} (r s : Result A Reason) (f g : A → Result B Reason)
@@ -88,7 +88,7 @@ set_granted t [] frame o = refl
 set_granted t (x ∷ owners) zero o = refl
 set_granted t (x ∷ owners) (suc frame) o = ap (λ os. Of t ∷ os) (set_granted t owners frame o)
 
-granted_again : (w : World) (t address : ℕ) (access : Access)
+pub granted_again : (w : World) (t address : ℕ) (access : Access)
     → all_granted t (page_granted w t address access) ≡ all_granted t w
 granted_again w t address access = go (entry_at w t address)
   where
@@ -100,7 +100,7 @@ granted_again w t address access = go (entry_at w t address)
 -- ---- what t's accesses give
 
 module _ (w : World) (t : ℕ) where
-  abbrev all : World
+  abbrev pub all : World
   all = all_granted t w
 
   reached-granted : (address : ℕ) (size : Size) (access : Access)
@@ -183,7 +183,7 @@ module _ (w : World) (t : ℕ) where
       (λ high. Ok (whole_word low high)) (half-granted ((pc + 2) % 2 ^ 32)) (λ high. inr refl)
   rest-granted pc low false = inr refl
 
-  instruction-granted : (pc : ℕ)
+  pub instruction-granted : (pc : ℕ)
       → (IsPage (instruction_at w t pc)) ⊎ (instruction_at w t pc ≡ instruction_at all t pc)
   instruction-granted pc = then_same (half_at w t pc) (half_at all t pc)
       (λ low. cond (eqb (low % 4) 3)

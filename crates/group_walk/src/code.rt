@@ -12,7 +12,7 @@ use kernel_calls::State;
 use rv_isa::{Instr, decode, expand_code};
 
 /// The instruction at an address, where its bytes mean one; or why it isn't fetched.
-pub(crate) fn instruction_of(
+pub fn instruction_of(
     state: &State,
     tid: u32,
     address: u32,

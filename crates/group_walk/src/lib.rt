@@ -13,6 +13,7 @@ mod stops;
 mod turns;
 mod walker;
 
+pub use code::instruction_of;
 pub use need::{Need, need_of};
 pub use stops::why_stops;
 pub use walker::{MoveKind, Phase, Walker};

@@ -1,0 +1,195 @@
+//! A small group's moves over logs, on and back.
+ghost use Rattle.std.specs.Prelude.{◌≡◌, ◌≤◌, false, length};
+
+use dos_world::Config;
+use elf_image::{Image, read_image};
+use group_walk::MoveKind;
+use log_text::read_log;
+use recorded_walk::Playback;
+use rv_asm::Builder;
+use std::alloc::Global;
+use std::process::Abort;
+
+/// Where the code begins.
+const CODE: u32 = 0x10000;
+
+const CONFIG: Config = Config {
+    quantum: 1000,
+    rounds: 100,
+    frames: 40,
+};
+
+/// Two threads read a word of one page, yield, and store it with one added: they race for the page.
+const RACES: &[u32] = &[
+    0x0030_0893,
+    0x0000_0517,
+    0x0145_0513,
+    0x0000_0073,
+    0x0170_0893,
+    0x0000_0073,
+    0x0000_0417,
+    0x0384_2283,
+    0x0170_0893,
+    0x0000_0073,
+    0x0012_8293,
+    0x0254_2C23,
+    0x0000_0073,
+    0x0080_0893,
+    0x0010_0513,
+    0x0384_0593,
+    0x0010_0613,
+    0x0000_0073,
+    0x0010_0893,
+    0x0000_0073,
+    0x0000_0030,
+];
+
+const BEGIN: MoveKind = MoveKind::Begins;
+
+const RUN_1: MoveKind = MoveKind::Runs { thread: 1 };
+
+const RUN_2: MoveKind = MoveKind::Runs { thread: 2 };
+
+const SERVE_1: MoveKind = MoveKind::IsServed { thread: 1 };
+
+const SERVE_2: MoveKind = MoveKind::IsServed { thread: 2 };
+
+/// The moves of the run.
+const RACE: &[MoveKind] = &[
+    BEGIN, RUN_1, RUN_1, RUN_1, SERVE_1, RUN_1, SERVE_1, BEGIN, RUN_1, RUN_1, RUN_1, SERVE_1,
+    RUN_2, RUN_2, RUN_2, SERVE_2, BEGIN, RUN_1, RUN_2, RUN_1, SERVE_1, RUN_2, SERVE_2, BEGIN,
+    RUN_2, RUN_2, RUN_2, RUN_2, RUN_1, RUN_1, RUN_1, RUN_1, SERVE_1, RUN_1, SERVE_1, SERVE_2,
+    RUN_2, SERVE_2,
+];
+
+/// The log of the run, without a signal: its four rounds, and its end.
+const WHOLE: &[u8] = &[
+    68, 80, 71, 76, 1, 0, 1, 0, 232, 3, 0, 0, 100, 0, 0, 0, 40, 0, 0, 0, 0, 0, 0, 0, 0, 0, 0, 0, 0,
+    0, 0, 0, 0, 0, 0, 0, 0, 0, 0, 0, 0, 0, 0, 0, 0, 0, 0, 0, 0, 0, 0, 0, 1, 1, 0, 0, 0, 0, 1, 2, 0,
+    0, 0, 0, 1, 3, 0, 0, 0, 0, 1, 4, 0, 0, 0, 0, 0, 0, 4, 0, 0, 0,
+];
+
+/// The same log, but that the third round's entry is of the fourth.
+const BROKEN: &[u8] = &[
+    68, 80, 71, 76, 1, 0, 1, 0, 232, 3, 0, 0, 100, 0, 0, 0, 40, 0, 0, 0, 0, 0, 0, 0, 0, 0, 0, 0, 0,
+    0, 0, 0, 0, 0, 0, 0, 0, 0, 0, 0, 0, 0, 0, 0, 0, 0, 0, 0, 0, 0, 0, 0, 1, 1, 0, 0, 0, 0, 1, 2, 0,
+    0, 0, 0, 1, 4, 0, 0, 0, 0, 0, 0, 4, 0, 0, 0,
+];
+
+fn word(rt: &impl Abort, builder: &mut Builder, word: u32) {
+    builder.word(word).expect(rt, "memory");
+}
+
+fn image(rt: &impl Abort, alloc: Global, words: &[u32]) -> Image {
+    let mut builder = Builder::new(alloc, CODE, true).expect(rt, "memory");
+    for one in words {
+        word(rt, &mut builder, *one);
+    }
+    let bytes = builder.finish().expect(rt, "an image");
+    let image = read_image(alloc, &bytes).expect(rt, "an image");
+    drop(bytes);
+    image
+}
+
+fn opened(rt: &impl Abort, alloc: Global, bytes: &[u8]) -> Playback
+    requires { length bytes.now ≤ 1000 }
+    ensures { result.failed ≡ false }
+{
+    let log = read_log(alloc, bytes).expect(rt, "a log");
+    let images = Vec::from_array(alloc, [image(rt, alloc, RACES)]).expect(rt, "memory");
+    Playback::open(alloc, images, CONFIG, log).expect(rt, "room")
+}
+
+/// The next move is of this kind, or there is none.
+fn ahead(rt: &impl Abort, play: &mut Playback, wanted: Option<MoveKind>)
+    requires { play.old.failed ≡ false }
+    ensures running { play.new.failed ≡ false }
+    ensures further { play.old.reached ≤ play.new.reached }
+{
+    let kind = play.next().expect(rt, "memory");
+    assert_eq!(rt; kind, wanted);
+}
+
+/// It is made, and puts so many bytes to output.
+fn on(rt: &impl Abort, play: &mut Playback, wanted: Option<MoveKind>) -> usize
+    requires { play.old.failed ≡ false }
+    ensures running { play.new.failed ≡ false }
+    ensures further { play.old.reached ≤ play.new.reached }
+{
+    let kind = play.advance().expect(rt, "memory");
+    assert_eq!(rt; kind, wanted);
+    let (out, err) = play.heard();
+    assert!(rt; err.is_empty());
+    out.len()
+}
+
+/// These moves are made, of which so many put a byte.
+fn follow(rt: &impl Abort, play: &mut Playback, moves: &[MoveKind], puts: usize)
+    requires { play.old.failed ≡ false }
+    ensures running { play.new.failed ≡ false }
+    ensures further { play.old.reached ≤ play.new.reached }
+{
+    let mut count = 0usize;
+    for wanted in moves {
+        count = count.saturating_add(on(rt, play, Some(*wanted)));
+    }
+    assert_eq!(rt; count, puts);
+}
+
+/// No move is next, however often it is asked.
+fn rests(rt: &impl Abort, play: &mut Playback, moves: u64, used: u32)
+    requires { play.old.failed ≡ false }
+    ensures running { play.new.failed ≡ false }
+    ensures further { play.old.reached ≤ play.new.reached }
+{
+    ahead(rt, play, None);
+    assert_eq!(rt; on(rt, play, None), 0);
+    ahead(rt, play, None);
+    assert_eq!(rt; on(rt, play, None), 0);
+    assert_eq!(rt; play.moves(), moves);
+    assert_eq!(rt; play.used(), used);
+}
+
+/// There and back.
+fn again(rt: &impl Abort, play: &mut Playback, moves: u64, used: u32, wanted: Option<MoveKind>)
+    requires running { play.old.failed ≡ false }
+    requires reached { moves ≤ play.old.reached }
+    ensures running { play.new.failed ≡ false }
+    ensures further { play.old.reached ≤ play.new.reached }
+{
+    play.go_to(moves).expect(rt, "memory");
+    assert_eq!(rt; play.moves(), moves);
+    assert_eq!(rt; play.used(), used);
+    ahead(rt, play, wanted);
+}
+
+#[test]
+fn a_run_is_walked_to_its_end_and_back(rt: HostRuntime) {
+    let mut play = opened(&rt, rt.alloc(), WHOLE);
+    let start = play.moves();
+    ahead(&rt, &mut play, Some(BEGIN));
+    follow(&rt, &mut play, &RACE[..7], 0);
+    let second = play.moves();
+    ahead(&rt, &mut play, Some(BEGIN));
+    follow(&rt, &mut play, &RACE[7..], 2);
+    let end = play.moves();
+    rests(&rt, &mut play, 38, 4);
+    again(&rt, &mut play, second, 1, Some(BEGIN));
+    again(&rt, &mut play, end, 4, None);
+    again(&rt, &mut play, start, 0, Some(BEGIN));
+    follow(&rt, &mut play, RACE, 2);
+    rests(&rt, &mut play, 38, 4);
+    drop(play);
+}
+
+#[test]
+fn a_move_that_the_log_does_not_answer_is_not_made(rt: HostRuntime) {
+    let mut play = opened(&rt, rt.alloc(), BROKEN);
+    follow(&rt, &mut play, &RACE[..16], 0);
+    let end = play.moves();
+    rests(&rt, &mut play, 16, 2);
+    let start = play.moves();
+    again(&rt, &mut play, start, 2, None);
+    again(&rt, &mut play, end, 2, None);
+    drop(play);
+}

@@ -1,0 +1,4 @@
+pub mod Following
+pub mod Tracks
+pub mod Playbacks
+pub mod Laws

@@ -1,0 +1,107 @@
+-- A recorded run that is walked: what is kept of it, and where it stands. This project's own words.
+use Rattle.std.specs.Prelude.{ℕ, suc, ◌≡◌, ◌≢◌, ◌≤◌, ◌<◌, ◌+◌, Bool, List, length, drop, Option}
+use Rattle.std.specs.Prelude.{Some, None, IfSome, IsSome}
+use Rattle.dos_world.specs.Lawful.{IsConfig}
+use Rattle.dos_world.specs.World.{World}
+use Rattle.dos_world.specs.declared.Config.{Config}
+use Rattle.debug_session.specs.Positions.{Position, at_start, position_after}
+use Rattle.debug_session.specs.Recordings.{LogEntry, Recording, recorded, recorded_from}
+use Rattle.debug_session.specs.Recordings.{used_entries}
+use Rattle.elf_image.specs.Image.{Image}
+use Rattle.flat_machine.specs.Opening.{needed, opening}
+use Rattle.group_moves.specs.Moments.{first_moment}
+use Rattle.group_open.specs.declared.error.OpenError.{OpenError}
+use Rattle.group_open.specs.declared.error.OpenError.TheVariants.{Memory, NoRoom}
+use Rattle.group_walk.specs.Walks.{Walk, moment_in, world_there}
+use Rattle.group_walk.specs.declared.walker.MoveKind.{MoveKind as kind_type}
+use Rattle.recorded_walk.specs.Following.{follow}
+
+-- The images and the configuration of a run, the entries of its log, and how many of them the moves
+-- up to here have used; the walk; how many moves were made since the start, and the greatest such
+-- number so far; what the last move put; and whether a call has failed.
+pub record Played : Type 0 where
+  pub images : List Image
+  pub config : Config
+  pub entries : List LogEntry
+  pub used : ℕ
+  pub walk : Walk
+  pub moves : ℕ
+  pub reached : ℕ
+  pub output : List ℕ
+  pub error : List ℕ
+  pub failed : Bool
+
+-- ---- positions
+
+-- This is the start of the history of these images over these entries, which is over behind some
+-- number of moves.
+pub record IsStart (images : List Image) (config : Config) (entries : List LogEntry)
+    (start : Position) : Type 0 where
+  pub most : ℕ
+  pub is : start
+      ≡ at_start (first_moment (opening images config)) (recorded most images config entries)
+  pub ended : (more : ℕ)
+      → recorded (most + more) images config entries ≡ recorded most images config entries
+
+-- the same of the run that is walked
+abbrev pub IsStartOf : Played → Position → Type 0
+IsStartOf p start = IsStart p.images p.config p.entries start
+
+-- The walk's world is that of this moment, with what was sent by then; what is ahead is what the
+-- entries that are left lead to from there, as far as that goes; and the others are those that the
+-- moves behind have used.
+pub record IsAtPlace (p : Played) (at : Position) : Type 0 where
+  pub moment : at.moment
+      ≡ moment_in p.walk (world_there p.walk at.moment.world.output at.moment.world.error)
+  pub left : ℕ
+  pub future : (more : ℕ)
+      → at.future ≡ recorded_from (left + more) p.config.rounds (drop p.used p.entries) at.moment
+  pub used : (r : Recording) → r.entries ≡ p.entries → used_entries r at ≡ p.used
+
+-- It stands where so many moves lead from the start.
+abbrev pub Stands : Played → Type 0
+Stands p = (start : Position) → IsStartOf p start → IsAtPlace p (position_after p.moves start)
+
+-- ---- calls
+
+-- the same run
+pub record IsOfSame (old new : Played) : Type 0 where
+  pub images : new.images ≡ old.images
+  pub config : new.config ≡ old.config
+  pub entries : new.entries ≡ old.entries
+
+-- how many moves a call has made, by the kind of the move
+abbrev pub moves_made : Option kind_type → ℕ
+moves_made None = 0
+moves_made (Some kind) = 1
+
+-- What was kept are the bytes that were sent from one world to the other.
+pub record Heard (p : Played) (before behind : World) : Type 0 where
+  pub output : p.output ≡ drop (length before.output) behind.output
+  pub error : p.error ≡ drop (length before.error) behind.error
+
+-- ---- opening
+
+-- Of these images and this configuration a group can be opened.
+pub record IsOpenable (images : List Image) (config : Config) : Type 0 where
+  pub some : 1 ≤ length images
+  pub few : length images ≤ 8
+  pub range : IsConfig config
+  pub room : needed images ≤ config.frames
+
+-- There was no memory, or not as many frames as the images need.
+abbrev pub IsRefused : List Image → Config → OpenError → Type 0
+IsRefused images config error = error ≢ Memory
+    → (error ≡ NoRoom (needed images) config.frames) × (config.frames < needed images)
+
+-- ---- what is kept of a history
+
+-- The history of these images over these entries has so many moves.
+abbrev pub HasMoves : List Image → Config → List LogEntry → ℕ → Type 0
+HasMoves images config entries moves =
+    IsSome (follow moves config.rounds entries (first_moment (opening images config)))
+
+-- It has no more than so many moves, where these are known.
+abbrev pub HasNoMore : List Image → Config → List LogEntry → Option ℕ → Type 0
+HasNoMore images config entries last = IfSome last (λ moves.
+    follow (suc moves) config.rounds entries (first_moment (opening images config)) ≡ None)

@@ -1,0 +1,330 @@
+// A recorded run that is walked.
+ghost use Rattle.std.specs.Prelude.{◌≡◌, ◌≤◌, ◌+◌, ◌⊎◌, IfOk, IfErr, OnOk, [], false, is_err};
+ghost use Rattle.std.specs.Prelude.{length};
+ghost use Rattle.debug_session.specs.Positions.{Position, first_kind, position_after};
+ghost use Rattle.dos_world.specs.Lawful.{IsConfig};
+ghost use Rattle.flat_machine.specs.Opening.{needed};
+ghost use Rattle.group_rounds.specs.Kernels.{IsBetweenRounds};
+ghost use Rattle.group_walk.specs.Places.{phase_of};
+ghost use Rattle.group_walk.specs.Walks.{kinds_named};
+ghost use Rattle.recorded_walk.specs.Following.{log_entries};
+ghost use Rattle.recorded_walk.specs.Playbacks.{Heard, IsOfSame, IsRefused, IsStartOf, Stands};
+ghost use Rattle.recorded_walk.specs.Playbacks.{moves_made};
+
+use crate::track::Track;
+use dos_world::Config;
+use elf_image::Image;
+use group_open::OpenError;
+use group_walk::{MoveKind, Phase};
+use kernel_calls::{RunStop, State};
+use log_text::Log;
+use std::alloc::{AllocError, Global};
+use std::marker::Model;
+
+/// The history of a recorded run, and where one stands in it. Contracts see the run, how many of
+/// its log's entries are used, the walk, how many moves were made, and whether a call has failed.
+///
+/// Backwards it opens the group anew and makes the moves again.
+#[derive(Drop)]
+pub struct Playback {
+    alloc: Global,
+    images: Vec<Image>,
+    config: Config,
+    track: Track,
+    reached: u64,
+    // behind so many moves no move is next: the log doesn't answer it
+    last: Option<u64>,
+    failed: bool,
+}
+
+impl Model for Playback {
+    ghost use Rattle.std.specs.Prelude.{◌≡◌, ◌≤◌, false};
+    ghost use Rattle.flat_machine.specs.Opening.{opening};
+    ghost use Rattle.group_moves.specs.Moments.{first_moment};
+    ghost use Rattle.recorded_walk.specs.Following.{log_entries};
+    ghost use Rattle.recorded_walk.specs.Playbacks.{HasMoves, HasNoMore, IsOpenable, Played};
+    ghost use Rattle.recorded_walk.specs.Tracks.{HasCome, IsOnTrack};
+    ghost use Rattle.shim_log.specs.Replay.{entries_used};
+
+    ghost Value = { Played };
+
+    ghost view = { λ p. record {
+      images = p.images.items;
+      config = p.config;
+      entries = log_entries p.track.shim.log;
+      used = entries_used p.track.shim;
+      walk = p.track.walker;
+      moves = p.track.moves;
+      reached = p.reached;
+      output = p.track.out.bytes.items;
+      error = p.track.err.bytes.items;
+      failed = p.failed;
+    } };
+
+    ghost invariant = { λ p. IsOpenable p.images.items p.config
+        × (p.track.shim.start ≡ 0)
+        × HasMoves p.images.items p.config (log_entries p.track.shim.log) p.reached
+        × HasNoMore p.images.items p.config (log_entries p.track.shim.log) p.last
+        × (p.failed ≡ false → IsOnTrack p.track
+        × HasCome (first_moment (opening p.images.items p.config)) p.track
+        × (p.track.walker.config ≡ p.config) × (p.track.moves ≤ p.reached)) };
+}
+
+// the greater of two numbers of moves
+fn furthest(a: u64, b: u64) -> u64
+    ensures one { (result ≡ a) ⊎ (result ≡ b) }
+    ensures first { a ≤ result }
+    ensures second { b ≤ result }
+{
+    if a < b {
+        return b;
+    }
+    a
+}
+
+impl Playback {
+    /// At the start of the history of these images over a log.
+    pub fn open(
+        alloc: Global,
+        images: Vec<Image>,
+        config: Config,
+        log: Log,
+    ) -> Result<Playback, OpenError>
+        requires some { 1 ≤ length images.items }
+        requires few { length images.items ≤ 8 }
+        requires config { IsConfig config }
+        ensures images { IfOk result (λ p. p.images ≡ images.items) }
+        ensures config { IfOk result (λ p. p.config ≡ config) }
+        ensures entries { IfOk result (λ p. p.entries ≡ log_entries log) }
+        ensures start { IfOk result (λ p. p.moves ≡ 0) }
+        ensures running { IfOk result (λ p. p.failed ≡ false) }
+        ensures stands { IfOk result Stands }
+        ensures room { IfOk result (λ _. needed images.items ≤ config.frames) }
+        ensures refused { IfErr result (IsRefused images.items config) }
+    {
+        match Track::begin(alloc, &images, config, log) {
+            Ok(track) => Ok(Playback {
+                alloc,
+                images,
+                config,
+                track,
+                reached: 0,
+                last: None,
+                failed: false,
+            }),
+            Err(error) => {
+                drop(images);
+                Err(error)
+            }
+        }
+    }
+
+    /// The state, with all frames home: that of the moment behind the moves so far.
+    pub fn state(&self) -> &State
+        ensures state { result.now ≡ self.now.walk.state }
+        ensures stands { self.now.failed ≡ false → Stands self.now }
+        ensures sound { self.now.failed ≡ false → IsBetweenRounds result.now self.now.config }
+    {
+        self.track.walker.state()
+    }
+
+    /// What the run was given.
+    pub fn config(&self) -> Config
+        ensures { result ≡ self.now.config }
+    {
+        self.config
+    }
+
+    /// The phase in which the next move is made.
+    pub fn phase(&self) -> Phase
+        ensures { phase_of self.now.walk.place ≡ result }
+    {
+        self.track.walker.phase()
+    }
+
+    /// How many rounds have begun.
+    pub fn begun(&self) -> u32
+        ensures { result ≡ self.now.walk.begun_rounds }
+    {
+        self.track.walker.begun()
+    }
+
+    /// How many moves were made since the last round began.
+    pub fn made(&self) -> u64
+        ensures { result ≡ self.now.walk.made }
+    {
+        self.track.walker.made()
+    }
+
+    /// How many moves were made since the start.
+    pub fn moves(&self) -> u64
+        ensures moves { result ≡ self.now.moves }
+        ensures reached { self.now.failed ≡ false → result ≤ self.now.reached }
+    {
+        self.track.moves
+    }
+
+    /// How many entries of the log the moves so far have used.
+    pub fn used(&self) -> u32
+        ensures { result ≡ self.now.used }
+    {
+        self.track.shim.used()
+    }
+
+    /// What the last move put to output and to error.
+    pub fn heard(&self) -> (&[u8], &[u8])
+        ensures output { result.0.now ≡ self.now.output }
+        ensures error { result.1.now ≡ self.now.error }
+    {
+        (&self.track.out.bytes, &self.track.err.bytes)
+    }
+
+    /// Whether a call has failed: nothing more is said of the state then.
+    pub fn is_failed(&self) -> bool
+        ensures { result ≡ self.now.failed }
+    {
+        self.failed
+    }
+
+    // At the start again, and then behind so many moves.
+    fn come_again(&mut self, moves: u64) -> Result<(), AllocError>
+        requires { moves ≤ self.old.reached }
+        ensures moves { OnOk result (self.new.moves ≡ moves) }
+        ensures stands { OnOk result (Stands self.new) }
+        ensures failed { self.new.failed ≡ is_err result }
+        ensures same { IsOfSame self.old self.new }
+        ensures reached { self.new.reached ≡ self.old.reached }
+    {
+        self.failed = true;
+        self.track
+            .begin_again(self.alloc, &self.images, self.config)?;
+        self.track.go_on(moves)?;
+        self.failed = false;
+        Ok(())
+    }
+
+    // Comes back from a move that the log doesn't answer: no move is next.
+    fn come_back(&mut self, moves: u64) -> Result<(), AllocError>
+        requires { moves ≤ self.old.reached }
+        ensures moves { OnOk result (self.new.moves ≡ moves) }
+        ensures stands { OnOk result (Stands self.new) }
+        ensures failed { self.new.failed ≡ is_err result }
+        ensures same { IsOfSame self.old self.new }
+        ensures reached { self.new.reached ≡ self.old.reached }
+        ensures output { self.new.output ≡ [] }
+        ensures error { self.new.error ≡ [] }
+    {
+        let came = self.come_again(moves);
+        self.track.hear_nothing();
+        came
+    }
+
+    /// One move on, and what it is. None exactly where no move is next, since the run is over or
+    /// the log doesn't answer it, and then it stands where it stood. What the move puts is kept.
+    ///
+    /// An `Err` is want of memory. It has failed then, and nothing more is said of the state.
+    pub fn advance(&mut self) -> Result<Option<MoveKind>, AllocError>
+        requires { self.old.failed ≡ false }
+        ensures kind { IfOk result (λ kind. (start : Position) → IsStartOf self.old start
+            → first_kind (position_after self.old.moves start).future ≡ kinds_named kind) }
+        ensures moves { IfOk result (λ kind. self.new.moves ≡ self.old.moves + moves_made kind) }
+        ensures stands { OnOk result (Stands self.new) }
+        ensures heard { OnOk result ((start : Position) → IsStartOf self.old start
+            → Heard self.new (position_after self.old.moves start).moment.world
+            (position_after self.new.moves start).moment.world) }
+        ensures failed { self.new.failed ≡ is_err result }
+        ensures same { IsOfSame self.old self.new }
+        ensures reached { self.old.reached ≤ self.new.reached }
+    {
+        if self.last == Some(self.track.moves) {
+            self.track.hear_nothing();
+            return Ok(None);
+        }
+        let moves = self.track.moves;
+        match self.track.step() {
+            Ok(kind) => {
+                self.reached = furthest(self.reached, self.track.moves);
+                Ok(kind)
+            }
+            Err(RunStop::Misfit(_)) => {
+                self.failed = true;
+                self.last = Some(moves);
+                self.come_back(moves)?;
+                Ok(None)
+            }
+            Err(_) => {
+                self.failed = true;
+                Err(AllocError)
+            }
+        }
+    }
+
+    /// What the next move is, and it stands where it stood. A round's begin and a service are tried
+    /// where it hasn't been further yet, and gone back on.
+    ///
+    /// An `Err` is want of memory. It has failed then, and nothing more is said of the state.
+    pub fn next(&mut self) -> Result<Option<MoveKind>, AllocError>
+        requires { self.old.failed ≡ false }
+        ensures kind { IfOk result (λ kind. (start : Position) → IsStartOf self.old start
+            → first_kind (position_after self.old.moves start).future ≡ kinds_named kind) }
+        ensures moves { OnOk result (self.new.moves ≡ self.old.moves) }
+        ensures stands { OnOk result (Stands self.new) }
+        ensures failed { self.new.failed ≡ is_err result }
+        ensures same { IsOfSame self.old self.new }
+        ensures reached { self.old.reached ≤ self.new.reached }
+    {
+        if self.track.moves < self.reached {
+            return Ok(self.track.walker.next());
+        }
+        match self.track.walker.next() {
+            Some(MoveKind::Runs { thread }) => Ok(Some(MoveKind::Runs { thread })),
+            Some(MoveKind::Faults { thread, number }) => {
+                Ok(Some(MoveKind::Faults { thread, number }))
+            }
+            Some(_) => self.try_next(),
+            None => Ok(None),
+        }
+    }
+
+    // The same by a try.
+    fn try_next(&mut self) -> Result<Option<MoveKind>, AllocError>
+        requires { self.old.failed ≡ false }
+        ensures kind { IfOk result (λ kind. (start : Position) → IsStartOf self.old start
+            → first_kind (position_after self.old.moves start).future ≡ kinds_named kind) }
+        ensures moves { OnOk result (self.new.moves ≡ self.old.moves) }
+        ensures stands { OnOk result (Stands self.new) }
+        ensures failed { self.new.failed ≡ is_err result }
+        ensures same { IsOfSame self.old self.new }
+        ensures reached { self.old.reached ≤ self.new.reached }
+    {
+        let moves = self.track.moves;
+        match self.advance()? {
+            Some(kind) => {
+                self.come_again(moves)?;
+                Ok(Some(kind))
+            }
+            None => Ok(None),
+        }
+    }
+
+    /// To the place behind so many moves, which the history has.
+    ///
+    /// An `Err` is want of memory. It has failed then, and nothing more is said of the state.
+    pub fn go_to(&mut self, moves: u64) -> Result<(), AllocError>
+        requires running { self.old.failed ≡ false }
+        requires reached { moves ≤ self.old.reached }
+        ensures moves { OnOk result (self.new.moves ≡ moves) }
+        ensures stands { OnOk result (Stands self.new) }
+        ensures failed { self.new.failed ≡ is_err result }
+        ensures same { IsOfSame self.old self.new }
+        ensures reached { self.new.reached ≡ self.old.reached }
+    {
+        if moves < self.track.moves {
+            return self.come_again(moves);
+        }
+        self.failed = true;
+        self.track.go_on(moves)?;
+        self.failed = false;
+        Ok(())
+    }
+}
