@@ -1,0 +1,21 @@
+use Rattle.std.proofs.Common.{◌≡◌, ◌+◌, ◌-◌, ℕ, List, length}
+use Rattle.std.specs.Prelude.{◌&&◌}
+use Rattle.std.specs.List.{list_any}
+use Rattle.dos_world.specs.Numbered.{run_of}
+use Rattle.kernel_calls.specs.StateWorld.{world_of, sent}
+use Rattle.debug_session.specs.Positions.{Position, all_moments}
+use Rattle.debug_session.specs.Recordings.{Recording}
+use Rattle.debug_session.specs.Sessions.{is_process_live, is_belonging, is_anybody_there}
+use Rattle.debug_client.specs.Births.{AreBirthsKnown}
+use Rattle.debug_client.specs.Clients.{session_of}
+use Rattle.debug_client.proofs.client.Client.is_anybody_there.Given as goal
+
+abbrev pub invariant-loop-place : goal.invariant-loop-place
+invariant-loop-place l = (r : Recording) (at : Position) (q : ℕ) (output error : List ℕ)
+    → AreBirthsKnown l.births (all_moments at)
+    → list_any (λ p. is_process_live (sent output error (world_of q l.state)) p
+    && is_belonging (session_of l.self r at) l.resumptions
+    (sent output error (world_of q l.state)) p)
+    (run_of (1 + l.place) (length l.state.table.processes - l.place))
+    ≡ is_anybody_there (session_of l.self r at) l.resumptions
+    (sent output error (world_of q l.state))
