@@ -1,0 +1,6 @@
+mod PageBytes
+mod Parts
+mod Keeping
+mod Hitting
+mod Granting
+mod Overlaps
