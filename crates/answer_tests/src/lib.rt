@@ -5,8 +5,18 @@
 #[cfg(test)]
 mod checks;
 #[cfg(test)]
+mod files;
+#[cfg(test)]
+mod forms;
+#[cfg(test)]
 mod group;
 #[cfg(test)]
 mod lists;
 #[cfg(test)]
 mod looks;
+#[cfg(test)]
+mod pages;
+#[cfg(test)]
+mod places;
+#[cfg(test)]
+mod stops;

@@ -1,11 +1,12 @@
 -- What was put behind a text.
 use Rattle.std.proofs.Common.{◌≡◌, ℕ, List, ◌++◌, OnOk, Result, Ok, Err, subst, ap, ◌∙◌}
-use Rattle.std.proofs.Common.{append_assoc, refl}
+use Rattle.std.proofs.Common.{append_assoc, refl, sym}
 
 -- A text that is another.
-pub put_as : {A E : Type 0} (r : Result A E) (old new a b : List ℕ) → a ≡ b
+pub put_as : {A E X : Type 0} (r : Result A E) (old new a b : List X) → a ≡ b
     → OnOk r (new ≡ old ++ a) → OnOk r (new ≡ old ++ b)
-put_as r old new a b same put = subst (λ (t : List ℕ). OnOk r (new ≡ old ++ t)) same put
+put_as {A} {E} {X} r old new a b same put =
+    subst (λ (t : List X). OnOk r (new ≡ old ++ t)) same put
 
 -- one text behind another
 pub behind : (old mid new a b whole : List ℕ) → mid ≡ old ++ a → a ++ b ≡ whole → new ≡ mid ++ b
@@ -30,3 +31,13 @@ two old mid new a b front put = behind old mid new a b (a ++ b) front refl put
 pub two_put : {A E : Type 0} (r : Result A E) (old mid new a b : List ℕ) → mid ≡ old ++ a
     → OnOk r (new ≡ mid ++ b) → OnOk r (new ≡ old ++ (a ++ b))
 two_put r old mid new a b front put = put_behind r old mid new a b (a ++ b) front refl put
+
+-- four texts, joined in pairs, and one more
+pub joined : (a b c d e : List ℕ) → ((a ++ b) ++ (c ++ d)) ++ e ≡ a ++ b ++ c ++ d ++ e
+joined a b c d e = ap (λ (t : List ℕ). t ++ e) (sym (append_assoc (a ++ b) c d))
+
+-- and two more
+pub joined_all : (a b c d e f : List ℕ)
+    → ((a ++ b) ++ (c ++ d)) ++ (e ++ f) ≡ a ++ b ++ c ++ d ++ e ++ f
+joined_all a b c d e f =
+    sym (append_assoc ((a ++ b) ++ (c ++ d)) e f) ∙ ap (λ (t : List ℕ). t ++ f) (joined a b c d e)

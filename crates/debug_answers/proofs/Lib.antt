@@ -1,10 +1,14 @@
 mod Absences
-mod Behind
+pub mod Behind
 mod Counting
 mod Finding
+mod Frames
 mod Lives
 mod Living
+mod Places
 mod Reading
-mod Rows
+pub mod Rows
 mod Sleeping
+mod Statuses
+mod Stretching
 mod Whereabouts

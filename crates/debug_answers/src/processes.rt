@@ -1,11 +1,13 @@
 // Processes in lines.
-ghost use Rattle.std.specs.Prelude.{◌≡◌, ◌++◌, [], ℕ, IfOk, OnOk, IsSome, IfSome, unwrap_or};
+ghost use Rattle.std.specs.Prelude.{◌≡◌, ◌++◌, ℕ, IfOk, OnOk, IsSome, IfSome};
 ghost use Rattle.dos_world.specs.Numbered.{numbered};
+ghost use Rattle.dos_world.specs.World.{live_process};
 ghost use Rattle.kernel_objects.specs.Pipework.{vector_bytes};
 ghost use Rattle.kernel_calls.specs.StateWorld.{world_of};
 ghost use Rattle.debug_session.specs.Pages.{life_words, process_told, processes_told};
 ghost use Rattle.debug_answers.specs.Images.{name_by};
 
+use crate::names::name_kept;
 use crate::texts::{put_bytes, put_text, put_words};
 use kernel_calls::State;
 use std::alloc::{AllocError, Global};
@@ -14,34 +16,24 @@ use std::alloc::{AllocError, Global};
 fn name_by<'n>(names: &'n [Vec<u8>], images: &[u32], process: u32) -> &'n [u8]
     ensures { result.now ≡ name_by (vector_bytes names.now) images.now process }
 {
-    match number_at(images, process) {
+    match name_kept(names, images, process) {
         None => b"".as_slice(),
-        Some(image) => name_at(names, image),
+        Some(name) => name,
     }
 }
 
-fn number_at(images: &[u32], process: u32) -> Option<u32>
-    ensures { result ≡ numbered images.now process }
+/// A number that is asked about, or 0, which no process has, where it is greater than all of
+/// theirs. Any number.
+pub fn process_numbered(state: &State, asked: u64) -> u32
+    ensures same { (q : ℕ) → live_process (world_of q state.now) result
+        ≡ live_process (world_of q state.now) asked }
+    ensures number { (q : ℕ) → IsSome (live_process (world_of q state.now) asked)
+        → result ≡ asked }
 {
-    if process == 0 {
-        return None;
+    if asked > u64::from(state.table.processes()) {
+        return 0;
     }
-    match images.get(process as usize - 1) {
-        None => None,
-        Some(image) => Some(*image),
-    }
-}
-
-fn name_at(names: &[Vec<u8>], image: u32) -> &[u8]
-    ensures { result.now ≡ unwrap_or (numbered (vector_bytes names.now) image) [] }
-{
-    if image == 0 {
-        return b"".as_slice();
-    }
-    match names.get(image as usize - 1) {
-        None => b"".as_slice(),
-        Some(name) => name.as_slice(),
-    }
+    asked as u32
 }
 
 // whether a process whose number was given lives, and what is told of it then

@@ -12,7 +12,7 @@ use itoa::{Buffer, Integer};
 use std::alloc::AllocError;
 
 /// A text.
-pub(crate) fn put_text(out: &mut Vec<u8>, text: &str) -> Result<(), AllocError>
+pub fn put_text(out: &mut Vec<u8>, text: &str) -> Result<(), AllocError>
     ensures { OnOk result (out.new.items ≡ out.old.items ++ text.now) }
 {
     out.extend_from_slice(text.as_bytes())
@@ -34,19 +34,15 @@ pub(crate) fn put_decimal<I: Integer>(out: &mut Vec<u8>, number: I) -> Result<()
 }
 
 /// Words, and a number behind them in decimal digits.
-pub(crate) fn put_words<I: Integer>(
-    out: &mut Vec<u8>,
-    words: &str,
-    number: I,
-) -> Result<(), AllocError>
+pub fn put_words<I: Integer>(out: &mut Vec<u8>, words: &str, number: I) -> Result<(), AllocError>
     ensures { OnOk result (out.new.items ≡ out.old.items ++ (words.now ++ I.text number)) }
 {
     put_text(out, words)?;
     put_decimal(out, number)
 }
 
-// A byte, two hexadecimal digits.
-fn put_byte_digits(out: &mut Vec<u8>, byte: u8) -> Result<(), AllocError>
+/// A byte, two hexadecimal digits.
+pub(crate) fn put_byte_digits(out: &mut Vec<u8>, byte: u8) -> Result<(), AllocError>
     ensures { OnOk result (out.new.items ≡ out.old.items ++ byte_digits byte) }
 {
     let mut digits: ArrayVec<u8, 2> = ArrayVec::new();

@@ -1,6 +1,6 @@
 // Lists of threads as they are told.
 ghost use Rattle.std.specs.Prelude.{◌≡◌, ◌++◌, OnOk, codes, map};
-ghost use Rattle.debug_session.specs.Stops.{pair_text, stop_text, trap_signal, plainly};
+ghost use Rattle.debug_session.specs.Stops.{pair_text};
 ghost use Rattle.debug_session.specs.Sessions.{is_among};
 ghost use Rattle.debug_session.specs.Lists.{commas, pairs_told};
 
@@ -38,19 +38,6 @@ pub fn put_current(out: &mut Vec<u8>, pair: (u32, u32)) -> Result<(), AllocError
 {
     put_text(out, "QC")?;
     put_pair(out, pair)
-}
-
-/// That the current thread has stopped, as `?` asks.
-pub fn put_stopped(out: &mut Vec<u8>, pair: (u32, u32)) -> Result<(), AllocError>
-    ensures { OnOk result (out.new.items ≡ out.old.items ++ stop_text (record {
-      signal = trap_signal;
-      whose = pair;
-      cause = plainly;
-    })) }
-{
-    put_text(out, "T05thread:")?;
-    put_pair(out, pair)?;
-    put_text(out, ";")
 }
 
 /// Whether a thread is one of those that are listed, as `T` asks.
