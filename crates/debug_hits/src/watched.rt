@@ -92,6 +92,13 @@ impl Watched {
         }
     }
 
+    /// How many watchpoints were looked at.
+    pub fn count(&self) -> usize
+        ensures { result ≡ length self.now }
+    {
+        self.marks.len()
+    }
+
     // one watchpoint more
     fn keep(&mut self, state: &State, point: Watchpoint, is_touched: bool) -> Result<(), AllocError>
         requires sound { IsSound state.now }

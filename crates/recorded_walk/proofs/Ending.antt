@@ -1,19 +1,15 @@
 -- Histories end.
 use Rattle.std.proofs.Common.{ℕ, zero, suc, ◌+◌, ◌≡◌, ◌∙◌, refl, sym, ap, subst, arith, List}
-use Rattle.std.proofs.Common.{[], ◌∷◌, map, Option, Some, None}
-use Rattle.dos_world.specs.Play.{Answer, Outcome, asks, gives}
-use Rattle.dos_world.specs.declared.Config.{Config}
-use Rattle.debug_session.specs.Positions.{Position, at_start}
+use Rattle.std.proofs.Common.{◌∷◌, map, Option, Some, None}
+use Rattle.dos_world.specs.Play.{gives}
+use Rattle.debug_session.specs.Positions.{at_start}
 use Rattle.debug_session.specs.Recordings.{LogEntry, recorded, recorded_from}
-use Rattle.elf_image.specs.Image.{Image}
 use Rattle.flat_machine.specs.Opening.{opening}
 use Rattle.group_moves.specs.Laws.{EndsAs, IsHistoryOver, RunsAreTheirMoves}
 use Rattle.group_moves.specs.Moves.{MoveKind}
-use Rattle.group_moves.specs.Moments.{Moment, first_moment, kind_at, walk}
+use Rattle.group_moves.specs.Moments.{Moment, first_moment, walk}
 use Rattle.recorded_walk.specs.Following.{follow, follow_one}
 use Rattle.recorded_walk.specs.Laws.{HistoriesStart}
-use Rattle.recorded_walk.specs.Playbacks.{IsStart}
-use Rattle.recorded_walk.proofs.Coming.{follow_on}
 use Rattle.recorded_walk.proofs.Kept.{none_leads}
 use Rattle.recorded_walk.proofs.Places.{answer_in, first_same, is_first, none_ahead, second_same}
 

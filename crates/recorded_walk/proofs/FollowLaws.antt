@@ -1,6 +1,6 @@
 -- What the entries of a log make of a play.
-use Rattle.std.proofs.Common.{ℕ, ◌≡◌, ◌≢◌, refl, sym, ap, ◌∙◌, subst, Bool, true, false}
-use Rattle.std.proofs.Common.{List, [], ◌∷◌, ◌++◌, map, Option, Some, None}
+use Rattle.std.proofs.Common.{ℕ, suc, ◌+◌, ◌≡◌, ◌≢◌, refl, sym, ap, ◌∙◌, subst, Bool, true}
+use Rattle.std.proofs.Common.{false, arith, length, List, [], ◌∷◌, ◌++◌, map, Option, Some, None}
 use Rattle.std.specs.Prelude.{IsSome}
 use Rattle.dos_world.specs.Play.{Play, Answer, done, ask, ◌>>=◌}
 use Rattle.dos_world.specs.declared.Misfit.{Misfit}
@@ -104,7 +104,72 @@ followed_then (e ∷ entries) (ask question output error next) f =
     by_test true h = h
     by_test false h = refl
 
+-- ---- misfits
+
+-- Behind the entries of exchanges over which a play goes on, the misfit is that of what is left.
+pub misfit_on : {A : Type 0} (n m : ℕ) (es : List Exchange) (rest : List LogEntry) (p q : Play A)
+    → m ≡ n + length es → GoesOn es p q
+    → first_misfit n (map asked_and_answered es ++ rest) p ≡ first_misfit m rest q
+misfit_on n m [] rest p q count goes =
+    let place : n ≡ m = omega (arith, count) in
+    ap (first_misfit n rest) goes ∙ ap (λ i. first_misfit i rest q) place
+misfit_on n m (e ∷ es) rest (done a) q count goes = absurd goes
+misfit_on n m (e ∷ es) rest (ask question output error next) q count goes =
+    let t : same_question (question_of e) question ≡ true =
+    subst (λ (x : Question). same_question (question_of e) x ≡ true) (sym goes.0)
+    (asks_itself e) in
+    rw (t, first_misfit)
+    (misfit_on (suc n) m es rest (next (answer_of e)) q (omega (arith, count)) goes.1)
+
+-- Where a play asks another question than the next entry's, that is the misfit.
+pub misfits_here : {A : Type 0} (n : ℕ) (x : Exchange) (rest : List LogEntry) (q : Question)
+    (output error : List ℕ) (next : Answer → Play A) → question_of x ≢ q
+    → first_misfit n (asked_and_answered x ∷ rest) (ask q output error next)
+    ≡ Some (record { entry = n; kept = question_of x; asked = q })
+misfits_here n x rest q output error next other = rw (asks_other x q other, first_misfit) refl
+
+-- What is made of what a play gives asks nothing more.
+misfit_then : {A B : Type 0} (n : ℕ) (entries : List LogEntry) (p : Play A) (f : A → B)
+    → first_misfit n entries (p >>= λ a. done (f a)) ≡ first_misfit n entries p
+misfit_then n entries (done a) f = refl
+misfit_then n [] (ask question output error next) f = refl
+misfit_then n (e ∷ entries) (ask question output error next) f =
+    by_test (same_question e.0 question) (misfit_then (suc n) entries (next e.1) f)
+  where
+    by_test : (b : Bool)
+        → first_misfit (suc n) entries (next e.1 >>= λ a. done (f a))
+        ≡ first_misfit (suc n) entries (next e.1)
+        → ◌≡◌ {A = Option Misfit}
+        (elim b [
+          | true ↦ first_misfit (suc n) entries (next e.1 >>= λ a. done (f a))
+          | false ↦ Some (record { entry = n; kept = e.0; asked = question })
+        ])
+        (elim b [
+          | true ↦ first_misfit (suc n) entries (next e.1)
+          | false ↦ Some (record { entry = n; kept = e.0; asked = question })
+        ])
+    by_test true h = h
+    by_test false h = refl
+
 -- ---- moves
+
+-- Where a move is next, its misfit is that of the move with what happens behind it.
+pub misfit_moved : (limit n : ℕ) (entries : List LogEntry) (m : Moment)
+    → IsSome (kind_at limit m)
+    → first_misfit n entries (move_of m.world m.place) ≡ first_misfit n entries (moved limit m)
+misfit_moved limit n entries m some = by_kind (kind_at limit m) some
+  where
+    by_kind : (k : Option MoveKind) → IsSome k
+        → first_misfit n entries (move_of m.world m.place)
+        ≡ first_misfit n entries (elim k [
+          | None ↦ done m
+          | Some kind ↦ move_of m.world m.place
+              >>= λ scene. done (moment_behind kind m (settled_scene scene))
+        ])
+    by_kind None some = absurd cc
+    by_kind (Some kind) some =
+        sym (misfit_then n entries (move_of m.world m.place)
+        (λ scene. moment_behind kind m (settled_scene scene)))
 
 -- Where a move is next, the entries lead where they lead in it, with what happens behind it.
 pub follow_moved : (limit : ℕ) (entries : List LogEntry) (m : Moment)

@@ -2,33 +2,41 @@
 use Rattle.std.proofs.Common.{ℕ, zero, suc, ◌+◌, ◌-◌, ◌≤◌, ◌≡◌, ◌⊎◌, ◌∙◌, refl, sym, ap, subst}
 use Rattle.std.proofs.Common.{arith}
 use Rattle.std.proofs.Common.{List, drop, length, Option, Some, None, Bool, false, inl, inr}
-use Rattle.std.proofs.Common.{true, eqb, Result, Ok, Err}
-use Rattle.std.specs.Prelude.{IsSome, OnOk, is_err}
+use Rattle.std.proofs.Common.{true, eqb, Result, Ok, Err, [], ◌∷◌, ap₂}
+use Rattle.std.specs.Prelude.{IsSome, OnOk, is_err, is_some}
 use Rattle.std.specs.Option.{option_eq}
 use Rattle.std.proofs.lemmas.Bool.{eqb-true}
 use Rattle.kernel_calls.specs.declared.state.RunStop.{RunStop}
 use Rattle.std.proofs.Math.Seq.{drop-length}
 use Rattle.dos_io.specs.Shims.{HasNoEnd}
+use Rattle.dos_world.specs.World.{World}
 use Rattle.dos_world.specs.declared.Config.{Config}
+use Rattle.dos_world.specs.declared.Ending.{Ending}
+use Rattle.dos_world.specs.declared.Misfit.{Misfit}
 use Rattle.debug_session.specs.Positions.{Position, first_kind, position_after}
-use Rattle.debug_session.specs.Recordings.{LogEntry, followed}
+use Rattle.debug_session.specs.Recordings.{LogEntry, Recording, followed, recorded_from}
 use Rattle.elf_image.specs.Image.{Image}
+use Rattle.flat_machine.specs.Fits.{first_misfit}
 use Rattle.flat_machine.specs.Opening.{opening}
 use Rattle.group_moves.specs.Moves.{MoveKind, move_of}
-use Rattle.group_moves.specs.Moments.{Moment, first_moment, kind_at, moment_behind, settled_scene}
-use Rattle.group_walk.specs.Walks.{Walk, kind_named, kinds_named}
+use Rattle.group_moves.specs.Moments.{Moment, ending_at, first_moment, kind_at, moment_behind}
+use Rattle.group_moves.specs.Moments.{settled_scene}
+use Rattle.group_moves.specs.Places.{Place, Scene, at_end, between_rounds}
+use Rattle.group_walk.specs.Places.{phase_of}
+use Rattle.group_walk.specs.Walks.{Walk, kind_named, kinds_named, world_there}
 use Rattle.group_walk.specs.declared.walker.MoveKind.{MoveKind as kind_type}
 use Rattle.log_text.specs.LogText.{Log}
 use Rattle.shim_log.specs.Replay.{ReplayState, entries_used, replayer_state}
 use Rattle.recorded_walk.specs.Following.{entries_left, follow, follow_one, log_entries}
-use Rattle.recorded_walk.specs.Playbacks.{HasMoves, HasNoMore, Heard, IsOpenable, IsStartOf}
-use Rattle.recorded_walk.specs.Playbacks.{Played}
+use Rattle.recorded_walk.specs.Playbacks.{IsEndedAs, KnowsMisfit, HasMoves, HasNoMore, Heard}
+use Rattle.recorded_walk.specs.Playbacks.{IsMisfitAt, IsOpenable, IsStartOf, Played, ended_in}
 use Rattle.recorded_walk.specs.Tracks.{HasCome, HasStepped, IsOfSameRun, IsOnTrack, MovesNowhere}
-use Rattle.recorded_walk.specs.Tracks.{HasNext, moment_sent}
+use Rattle.recorded_walk.specs.Tracks.{HasNext, MisfitsBy, moment_sent}
 use Rattle.recorded_walk.specs.declared.track.Track.{Track}
 use Rattle.recorded_walk.proofs.Coming.{follow_on, has_moved_on, moved_is}
 use Rattle.recorded_walk.proofs.Unasked.{AsksNothing, leads_unasked}
 use Rattle.recorded_walk.proofs.Places.{heard, is_there, kind_ahead, nothing_ahead, seen_of}
+use Rattle.recorded_walk.proofs.Places.{stands_there}
 
 -- ---- where nothing was done but to forget what was put
 
@@ -77,28 +85,34 @@ Keeps images config reached t = IsOnTrack t × HasCome (first_moment (opening im
 
 -- of a playback
 abbrev pub IsKept : List Image → Config → Track → (reached : ℕ) → (last : Option ℕ)
-    → (failed : Bool) → Type 0
-IsKept images config t reached last failed = IsOpenable images config
+    → (misfit : Option Misfit) → (entries : ℕ) → (failed : Bool) → Type 0
+IsKept images config t reached last misfit entries failed = IsOpenable images config
     × (t.shim.start ≡ 0)
     × HasMoves images config (log_entries t.shim.log) reached
     × HasNoMore images config (log_entries t.shim.log) last
+    × KnowsMisfit images config (log_entries t.shim.log) last misfit
+    × (length (log_entries t.shim.log) ≡ entries)
     × (failed ≡ false → Keeps images config reached t)
 
 module _ (images : List Image) (config : Config) where
   abbrev first : Moment
   first = first_moment (opening images config)
 
-  pub kept_still : (old new : Track) (reached : ℕ) (last : Option ℕ) (failed : Bool)
-      → IsUnmoved old new → IsKept images config old reached last failed
-      → IsKept images config new reached last failed
-  kept_still old new reached last failed same kept = (
+  pub kept_still : (old new : Track) (reached : ℕ) (last : Option ℕ) (misfit : Option Misfit)
+      (entries : ℕ) (failed : Bool) → IsUnmoved old new
+      → IsKept images config old reached last misfit entries failed
+      → IsKept images config new reached last misfit entries failed
+  kept_still old new reached last misfit entries failed same kept = (
     kept.0,
     ap (λ (p : ReplayState). p.start) same.shim ∙ kept.1,
     subst (λ (p : ReplayState). HasMoves images config (log_entries p.log) reached) (sym same.shim)
         kept.2,
     subst (λ (p : ReplayState). HasNoMore images config (log_entries p.log) last) (sym same.shim)
         kept.3,
-    λ running. keeps_still (kept.4 running),
+    subst (λ (p : ReplayState). KnowsMisfit images config (log_entries p.log) last misfit)
+        (sym same.shim) kept.4,
+    ap (λ (p : ReplayState). length (log_entries p.log)) same.shim ∙ kept.5,
+    λ running. keeps_still (kept.6 running),
   )
     where
       keeps_still : Keeps images config reached old → Keeps images config reached new
@@ -135,17 +149,21 @@ module _ (images : List Image) (config : Config) where
       has_moved_on first kind old new stepped same come
 
   pub kept_on : (kind : Option kind_type) (old new : Track) (reached : ℕ) (last : Option ℕ)
-      (further : ℕ) (failed : Bool) → HasStepped kind old new → IsOfSameRun old new
-      → IsOnTrack new → (further ≡ reached) ⊎ (further ≡ new.moves) → new.moves ≤ further
-      → Keeps images config reached old → IsKept images config old reached last failed
-      → IsKept images config new further last failed
-  kept_on kind old new reached last further failed stepped same on_track one greater keeps kept = (
-    kept.0,
-    same.start ∙ kept.1,
-    one_of one,
-    same_log (λ es. HasNoMore images config es last) kept.3,
-    λ running. (on_track, come, config_is, greater),
-  )
+      (misfit : Option Misfit) (entries further : ℕ) (failed : Bool) → HasStepped kind old new
+      → IsOfSameRun old new → IsOnTrack new → (further ≡ reached) ⊎ (further ≡ new.moves)
+      → new.moves ≤ further → Keeps images config reached old
+      → IsKept images config old reached last misfit entries failed
+      → IsKept images config new further last misfit entries failed
+  kept_on kind old new reached last misfit entries further failed stepped same on_track one greater
+      keeps kept = (
+        kept.0,
+        same.start ∙ kept.1,
+        one_of one,
+        same_log (λ es. HasNoMore images config es last) kept.3,
+        same_log (λ es. KnowsMisfit images config es last misfit) kept.4,
+        same_log (λ es. length es ≡ entries) kept.5,
+        λ running. (on_track, come, config_is, greater),
+      )
     where
       same_log : (P : List LogEntry → Type 0) → P (log_entries old.shim.log)
           → P (log_entries new.shim.log)
@@ -177,17 +195,39 @@ module _ (images : List Image) (config : Config) where
       (moment_sent old.walker come.output come.error)) (sym config_is)
       ∙ nowhere come.output come.error)
 
-  pub kept_no_more : (old new : Track) (reached : ℕ) (last : Option ℕ) (was failed : Bool)
-      → IsOfSameRun old new → MovesNowhere old.walker old.shim → Keeps images config reached old
-      → IsKept images config old reached last was → (failed ≡ false → ⊥)
-      → IsKept images config new reached (Some old.moves) failed
-  kept_no_more old new reached last was failed same nowhere keeps kept never = (
-    kept.0,
-    same.start ∙ kept.1,
-    subst (λ (l : Log). HasMoves images config (log_entries l) reached) (sym same.log) kept.2,
-    no_more old new same nowhere keeps.2 keeps.1,
-    λ running. absurd (never running),
-  )
+  -- by what it isn't answered
+  pub has_misfit : (t : Track) (found : Misfit) → MisfitsBy found t.walker t.shim
+      → t.walker.config ≡ config → HasCome first t
+      → entries_used t.shim ≤ length (log_entries t.shim.log)
+      → KnowsMisfit images config (log_entries t.shim.log) (Some t.moves) (Some found)
+  has_misfit t found by same come few start r is_start entries =
+      let at = stands_there images config t 0 false come same few start is_start in
+      let here = is_there images config (log_entries t.shim.log) start is_start t.moves
+      (moment_sent t.walker come.output come.error) (entries_left t.shim) (there t same come) in
+      ap₂ (λ n (es : List LogEntry). first_misfit n (drop n es)
+      (move_of (position_after t.moves start).moment.world
+      (position_after t.moves start).moment.place)) (at.used r entries) entries
+      ∙ ap (λ (m : Moment). first_misfit (entries_used t.shim) (entries_left t.shim)
+      (move_of m.world m.place)) here.moment
+      ∙ by come.output come.error
+
+  pub kept_no_more : (old new : Track) (reached : ℕ) (last : Option ℕ) (misfit : Option Misfit)
+      (found : Misfit) (entries : ℕ) (was failed : Bool) → IsOfSameRun old new
+      → MovesNowhere old.walker old.shim → MisfitsBy found old.walker old.shim
+      → Keeps images config reached old
+      → IsKept images config old reached last misfit entries was → (failed ≡ false → ⊥)
+      → IsKept images config new reached (Some old.moves) (Some found) entries failed
+  kept_no_more old new reached last misfit found entries was failed same nowhere by keeps kept
+      never = (
+        kept.0,
+        same.start ∙ kept.1,
+        subst (λ (l : Log). HasMoves images config (log_entries l) reached) (sym same.log) kept.2,
+        no_more old new same nowhere keeps.2 keeps.1,
+        subst (λ (l : Log). KnowsMisfit images config (log_entries l) (Some old.moves) (Some found))
+            (sym same.log) (has_misfit old found by keeps.2 keeps.1 keeps.0.used),
+        ap (λ (l : Log). length (log_entries l)) same.log ∙ kept.5,
+        λ running. absurd (never running),
+      )
 
 -- ---- what is ahead
 
@@ -206,6 +246,68 @@ none_leads limit entries m none = ap (λ (k : Option MoveKind). elim k [
 abbrev pub IsAhead : Played → Option kind_type → Type 0
 IsAhead p kind = (start : Position) → IsStartOf p start
     → first_kind (position_after p.moves start).future ≡ kinds_named kind
+
+-- an ending of its own
+pub ended_there : (w : World) (place : Place) (ending : Ending)
+    → ended_in (phase_of place) ≡ Some ending → ending_at w place ≡ ending
+ended_there w (at_end other) ending is = cc
+ended_there w place ending is = absurd cc
+
+-- and else by who lives
+pub ended_by_threads : (w : World) (place : Place) → ended_in (phase_of place) ≡ None
+    → ending_at w place ≡ ending_at w between_rounds
+ended_by_threads w (at_end other) is = absurd cc
+ended_by_threads w place is = refl
+
+-- what the log misfits by
+abbrev pub Misfits : Played → Option Misfit → Type 0
+Misfits p misfit = (start : Position) (r : Recording) → IsStartOf p start
+    → r.entries ≡ p.entries → IsMisfitAt p.config.rounds r (position_after p.moves start) misfit
+
+-- how the run has ended
+abbrev pub Ends : Played → Option Ending → Type 0
+Ends p ending = (start : Position) → IsStartOf p start
+    → IsEndedAs p.config.rounds (position_after p.moves start).moment ending
+
+-- nothing, where the move that would be next is ahead
+none_misfits : (limit : ℕ) (r : Recording) (at : Position) (kind : Option MoveKind)
+    → first_kind at.future ≡ kind → kind_at limit at.moment ≡ kind → IsMisfitAt limit r at None
+none_misfits limit r at None ahead next none some =
+    absurd (none_some (kind_at limit at.moment) next some)
+  where
+    none_some : (kind : Option MoveKind) → kind ≡ None → IsSome kind → ⊥
+    none_some None is some = cc
+    none_some (Some kind) is some = cc
+none_misfits limit r at (Some kind) ahead next none some =
+    absurd (some_none (sym ahead ∙ none))
+  where
+    some_none : ◌≡◌ {A = Option MoveKind} (Some kind) None → ⊥
+    some_none is = cc
+
+-- the first move that is recorded is the one that would be next
+first_recorded : (k limit : ℕ) (entries : List LogEntry) (m : Moment) (made : MoveKind)
+    → first_kind (recorded_from k limit entries m) ≡ Some made → kind_at limit m ≡ Some made
+first_recorded zero limit entries m made is = absurd (none_some is)
+  where
+    none_some : ◌≡◌ {A = Option MoveKind} None (Some made) → ⊥
+    none_some is = cc
+first_recorded (suc k) limit entries m made is =
+    by_kind (kind_at limit m) (followed entries (move_of m.world m.place)) is
+  where
+    by_kind : (kind : Option MoveKind) (given : Option (Scene × List LogEntry))
+        → first_kind (elim kind [
+          | None ↦ []
+          | Some kind ↦ elim given [
+            | None ↦ []
+            | Some (scene, left) ↦
+                let next : Moment = moment_behind kind m (settled_scene scene) in
+                (kind, next) ∷ recorded_from k limit left next
+          ]
+        ]) ≡ Some made
+        → kind ≡ Some made
+    by_kind None given is = absurd cc
+    by_kind (Some kind) None is = absurd cc
+    by_kind (Some kind) (Some (scene, left)) is = is
 
 module _ (images : List Image) (config : Config) (t : Track) (reached : ℕ) (failed : Bool)
     (come : HasCome (first_moment (opening images config)) t) (same : t.walker.config ≡ config)
@@ -324,6 +426,81 @@ module _ (images : List Image) (config : Config) (t : Track) (reached : ℕ) (fa
             → IsSome (follow_one config.rounds (entries_left t.shim) moment) → IsAhead seen kind
         by_kind (Some kind) next some = some_ahead_here kind next some
         by_kind None next some = over_ahead next
+
+    -- ---- what would be next
+
+    here_is : (start : Position) → IsStartOf seen start
+        → (position_after t.moves start).moment ≡ moment
+    here_is start is_start =
+        let here = is_there images config (log_entries t.shim.log) start is_start t.moves moment
+        (entries_left t.shim) (there images config t same come) in here.moment
+
+    pub next_here : (kind : Option kind_type) → HasNext kind t.walker → (start : Position)
+        → IsStartOf seen start
+        → kind_at config.rounds (position_after t.moves start).moment ≡ kinds_named kind
+    next_here kind next start is_start =
+        ap (kind_at config.rounds) (here_is start is_start)
+        ∙ ap (λ (c : Config). kind_at c.rounds moment) (sym same)
+        ∙ next come.output come.error
+
+    -- the move that is ahead is the one that would be next
+    pub ahead_is : (kind : Option kind_type) → HasNext kind t.walker → (start : Position)
+        (made : MoveKind) → IsStartOf seen start
+        → first_kind (position_after t.moves start).future ≡ Some made
+        → kinds_named kind ≡ Some made
+    ahead_is kind next start made is_start ahead =
+        let here = is_there images config (log_entries t.shim.log) start is_start t.moves moment
+        (entries_left t.shim) (there images config t same come) in
+        sym (next_here kind next start is_start)
+        ∙ ap (kind_at config.rounds) (here_is start is_start)
+        ∙ first_recorded (is_start.most + 0) config.rounds (entries_left t.shim) moment made
+        (ap first_kind (sym (here.future 0)) ∙ ahead)
+
+    -- ---- misfits
+
+    -- it is ahead
+    pub ahead_fits : (kind : Option kind_type) → HasNext kind t.walker → IsAhead seen kind
+        → Misfits seen None
+    ahead_fits kind next ahead start r is_start entries =
+        none_misfits config.rounds r (position_after t.moves start) (kinds_named kind)
+        (ahead start is_start) (next_here kind next start is_start)
+
+    pub stepped_fits : (kind : Option kind_type) (new : Track) → HasStepped kind t new
+        → Misfits seen None
+    stepped_fits None new stepped = ahead_fits None stepped.6 (stepped_ahead None new stepped)
+    stepped_fits (Some kind) new stepped =
+        ahead_fits (Some kind) stepped.1 (stepped_ahead (Some kind) new stepped)
+
+    -- what was kept
+    pub last_misfits : (misfit : Option Misfit)
+        → KnowsMisfit images config (log_entries t.shim.log) (Some t.moves) misfit
+        → Misfits seen misfit
+    last_misfits misfit has start r is_start entries none some = has start r is_start entries
+
+    -- what was found
+    pub found_misfits : (found : Misfit) → MisfitsBy found t.walker t.shim
+        → entries_used t.shim ≤ length (log_entries t.shim.log) → Misfits seen (Some found)
+    found_misfits found by few =
+        last_misfits (Some found) (has_misfit images config t found by same come few)
+
+    -- ---- endings
+
+    pub runs_on : (kind : Option kind_type) → HasNext kind t.walker → is_some kind ≡ true
+        → Ends seen None
+    runs_on None next some = absurd cc
+    runs_on (Some kind) next some = λ start is_start.
+        subst IsSome (sym (next_here (Some kind) next start is_start)) refl
+
+    pub ends_so : (kind : Option kind_type) (ending : Ending) → HasNext kind t.walker
+        → is_some kind ≡ false
+        → ((o e : List ℕ) → ending_at (world_there t.walker o e) t.walker.place ≡ ending)
+        → Ends seen (Some ending)
+    ends_so (Some kind) ending next none is = absurd cc
+    ends_so None ending next none is = λ start is_start. (
+      next_here None next start is_start,
+      ap (λ (m : Moment). ending_at m.world m.place) (here_is start is_start)
+          ∙ is come.output come.error,
+    )
 
 -- ---- results
 

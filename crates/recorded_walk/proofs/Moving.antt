@@ -1,8 +1,9 @@
 -- What a move by the answers of a replayer leads to.
-use Rattle.std.proofs.Common.{ℕ, ◌≡◌, ◌≢◌, sym, ap, ◌∙◌, subst, List, [], ◌∷◌, ◌++◌}
-use Rattle.std.proofs.Common.{map, Option, Some, None, append_assoc, ap₂}
+use Rattle.std.proofs.Common.{ℕ, ◌+◌, ◌≡◌, ◌≢◌, sym, ap, ◌∙◌, subst, List, [], ◌∷◌, ◌++◌}
+use Rattle.std.proofs.Common.{map, Option, Some, None, append_assoc, ap₂, arith, length, min}
 use Rattle.std.specs.Prelude.{IsSome, IfSome}
-use Rattle.std.proofs.lemmas.List.{append_cancel_left, drop-map, map-append}
+use Rattle.std.proofs.lemmas.List.{append_cancel_left, drop-map, length-append, length-take}
+use Rattle.std.proofs.lemmas.List.{map-append}
 use Rattle.dos_world.specs.World.{World}
 use Rattle.dos_world.specs.declared.Config.{Config}
 use Rattle.dos_io.specs.Shims.{ShimState}
@@ -16,6 +17,7 @@ use Rattle.dos_io.specs.declared.shim.ShimStop.{ShimStop}
 use Rattle.dos_io.specs.declared.shim.ShimStop.TheVariants as shim_stops
 use Rattle.dos_world.specs.declared.Misfit.{Misfit}
 use Rattle.dos_io.specs.Outside.{grown}
+use Rattle.flat_machine.specs.Fits.{first_misfit}
 use Rattle.group_rounds.proofs.PlayLaws.{goes-exchanges}
 use Rattle.group_moves.specs.Moments.{Moment, kind_at}
 use Rattle.group_walk.specs.Plays.{moved}
@@ -31,8 +33,9 @@ use Rattle.shim_log.proofs.ReplayLaws.{goes_on, stands_next}
 use Rattle.dpg_run.specs.Fits.{asked_and_answered}
 use Rattle.debug_session.specs.Recordings.{LogEntry, followed}
 use Rattle.recorded_walk.specs.Following.{entries_left}
-use Rattle.recorded_walk.specs.Tracks.{MovesNowhere, MovesOnTo, moment_sent}
-use Rattle.recorded_walk.proofs.FollowLaws.{follow_moved, followed_on, not_followed}
+use Rattle.recorded_walk.specs.Tracks.{MisfitsBy, MovesNowhere, MovesOnTo, moment_sent}
+use Rattle.recorded_walk.proofs.FollowLaws.{follow_moved, followed_on, misfit_moved}
+use Rattle.recorded_walk.proofs.FollowLaws.{misfit_on, misfits_here, not_followed}
 
 -- what is said of a question and a stop, where they are known
 stops_so : (asked : Option Question) (last : Option ShimStop) (question : Question)
@@ -74,14 +77,15 @@ left_behind_told s t more follows told =
         ∙ append_assoc before more (exchanges_from (entries_used t) t.log))
 
 -- Where it stopped by a misfit, the next entry that is left is of another question.
-pub record IsAnother (p : ReplayState) (asked : Question) : Type 0 where
+pub record IsAnother (p : ReplayState) (asked kept : Question) : Type 0 where
   pub next : Exchange
   pub behind : List LogEntry
   pub is : entries_left p ≡ asked_and_answered next ∷ behind
+  pub question : question_of next ≡ kept
   pub other : question_of next ≢ asked
 
-pub is_another : (p : ReplayState) (asked : Question) (stop : ShimStop) → IsMisfitOf p asked stop
-    → IsAnother p asked
+pub is_another : (p : ReplayState) (asked : Question) (stop : ShimStop)
+    (misfit : IsMisfitOf p asked stop) → IsAnother p asked misfit.kept
 is_another p asked stop misfit =
     let stands : StandsNext p misfit.kept = stands_next p asked stop misfit in
     let told : List Exchange = (replayer_state p).told in
@@ -92,8 +96,35 @@ is_another p asked stop misfit =
       next = stands.next;
       behind = map asked_and_answered stands.behind;
       is = left_are p ∙ ap (map asked_and_answered) rest;
+      question = stands.question;
       other = λ eq. misfit.differ (sym stands.question ∙ eq);
     }
+
+-- a misfit by which a shim stopped
+found_is : (found other : Misfit) → shim_stops.Misfit found ≡ shim_stops.Misfit other
+    → found ≡ other
+found_is found other is = cc
+
+-- As many entries more are used as were told since.
+used_more : (s t : ReplayState) (more : List Exchange) (asked : Question) (stop : ShimStop)
+    → FollowsLog s t → (replayer_state t).told ≡ (replayer_state s).told ++ more
+    → IsMisfitOf t asked stop → entries_used t ≡ entries_used s + length more
+used_more s t more asked stop follows told misfit =
+    let stands : StandsNext t misfit.kept = stands_next t asked stop misfit in
+    let same : exchanges_from t.start t.log ≡ exchanges_from s.start s.log =
+    ap (λ n. exchanges_from n t.log) follows.start_same
+    ∙ ap (λ (l : Log). exchanges_from s.start l) follows.log_same in
+    let within : min t.answered (length (exchanges_from t.start t.log)) ≡ t.answered =
+    sym (length-take t.answered (exchanges_from t.start t.log)) ∙ stands.count in
+    let fewer : min s.answered (length (exchanges_from t.start t.log))
+    ≡ length (replayer_state s).told =
+    ap (λ (es : List Exchange). min s.answered (length es)) same
+    ∙ sym (length-take s.answered (exchanges_from s.start s.log)) in
+    let sum : t.answered ≡ length (replayer_state s).told + length more =
+    sym stands.count ∙ ap length told ∙ length-append (replayer_state s).told more in
+    let start = follows.start_same in
+    let later = follows.answered_more in
+    omega (arith, within, fewer, sum, start, later)
 
 -- ---- moves
 
@@ -173,8 +204,55 @@ module _ (old : Walk) (s t : ReplayState) (before after : BorderState)
           (ap (λ (x : ShimState). x.asked) (sym is_after) ∙ h.asked)
           (ap (λ (x : ShimState). x.last) (sym is_after) ∙ h.fails.last) kept.stop
 
-      another : IsAnother t h.question
+      another : IsAnother t h.question misfit.kept
       another = is_another t h.question why misfit
+
+  -- and by this misfit
+  pub misfits : (found : Misfit) → IsReplay t
+      → StopsAsking old.config.quantum played (shim_stops.Misfit found) old.state before after
+      → MisfitsBy found old s
+  misfits found kept h o e =
+      misfit_moved old.config.rounds (entries_used s) (entries_left s) (moment_sent old o e)
+      (next o e)
+      ∙ ap (λ es. first_misfit (entries_used s) es
+      (played (sent o e (world_of old.config.quantum old.state))))
+      (left_behind_told s t (exchanges_of h.crossings) follows
+      (told_more (exchanges_of h.crossings) h.tells.exchanges))
+      ∙ misfit_on (entries_used s) (entries_used t) (exchanges_of h.crossings) (entries_left t)
+      (played (sent o e (world_of old.config.quantum old.state))) asking
+      (used_more s t (exchanges_of h.crossings) h.question (shim_stops.Misfit found) follows
+      (told_more (exchanges_of h.crossings) h.tells.exchanges) misfit)
+      (goes-exchanges o e h.crossings _ _ (h.goes o e).1)
+      ∙ ap (λ es. first_misfit (entries_used t) es asking) another.is
+      ∙ misfits_here (entries_used t) another.next another.behind h.question
+      (o ++ bytes_to Output h.crossings) (e ++ bytes_to Error h.crossings) (h.goes o e).0
+      another.other
+      ∙ ap (λ (q : Question).
+      Some (record { entry = entries_used t; kept = q; asked = h.question }))
+      another.question
+      ∙ ap Some (sym (found_is found _ misfit.says))
+    where
+      misfit : IsMisfitOf t h.question (shim_stops.Misfit found)
+      misfit = stops_so t.asked t.last h.question (shim_stops.Misfit found) (IsMisfitOf t)
+          (ap (λ (x : ShimState). x.asked) (sym is_after) ∙ h.asked)
+          (ap (λ (x : ShimState). x.last) (sym is_after) ∙ h.fails.last) kept.stop
+
+      another : IsAnother t h.question misfit.kept
+      another = is_another t h.question (shim_stops.Misfit found) misfit
+
+      asking : Play Moment
+      asking = ask h.question (o ++ bytes_to Output h.crossings) (e ++ bytes_to Error h.crossings)
+          (h.goes o e).0
+
+  pub misfits_by : (stop : RunStop) (found : Misfit) → stop ≡ stops.Misfit found
+      → IsReplay t
+      → StopsIn old.config.quantum (λ (m : Moment). m.world) played (stopper stop) old.state before
+      after
+      → MisfitsBy found old s
+  misfits_by stop found is kept h =
+      misfits found kept
+      (subst (λ (x : RunStop). StopsIn old.config.quantum (λ (m : Moment). m.world) played
+      (stopper x) old.state before after) is h)
 
   -- the same of a run's stop
   pub moves_nowhere_by : (stop : RunStop) (found : Misfit) → stop ≡ stops.Misfit found

@@ -4,16 +4,20 @@ use Rattle.std.specs.Prelude.{Some, None, IfSome, IsSome}
 use Rattle.dos_world.specs.Lawful.{IsConfig}
 use Rattle.dos_world.specs.World.{World}
 use Rattle.dos_world.specs.declared.Config.{Config}
-use Rattle.debug_session.specs.Positions.{Position, at_start, position_after}
-use Rattle.debug_session.specs.Recordings.{LogEntry, Recording, recorded, recorded_from}
-use Rattle.debug_session.specs.Recordings.{used_entries}
+use Rattle.dos_world.specs.declared.Ending.{Ending}
+use Rattle.dos_world.specs.declared.Misfit.{Misfit}
+use Rattle.debug_session.specs.Positions.{Position, at_start, first_kind, position_after}
+use Rattle.debug_session.specs.Recordings.{LogEntry, Recording, misfit_here, recorded}
+use Rattle.debug_session.specs.Recordings.{recorded_from, used_entries}
 use Rattle.elf_image.specs.Image.{Image}
 use Rattle.flat_machine.specs.Opening.{needed, opening}
-use Rattle.group_moves.specs.Moments.{first_moment}
+use Rattle.group_moves.specs.Moments.{Moment, ending_at, first_moment, kind_at}
 use Rattle.group_open.specs.declared.error.OpenError.{OpenError}
 use Rattle.group_open.specs.declared.error.OpenError.TheVariants.{Memory, NoRoom}
 use Rattle.group_walk.specs.Walks.{Walk, moment_in, world_there}
 use Rattle.group_walk.specs.declared.walker.MoveKind.{MoveKind as kind_type}
+use Rattle.group_walk.specs.declared.walker.Phase.{Phase}
+use Rattle.group_walk.specs.declared.walker.Phase.TheVariants.{Between, Parallel, Serial, Ended}
 use Rattle.recorded_walk.specs.Following.{follow}
 
 -- The images and the configuration of a run, the entries of its log, and how many of them the moves
@@ -75,6 +79,23 @@ abbrev pub moves_made : Option kind_type → ℕ
 moves_made None = 0
 moves_made (Some kind) = 1
 
+-- The run has ended so at this moment, whatever its log holds; or a move is next there.
+abbrev pub IsEndedAs : (limit : ℕ) → Moment → Option Ending → Type 0
+IsEndedAs limit m None = IsSome (kind_at limit m)
+IsEndedAs limit m (Some ending) = (kind_at limit m ≡ None) × (ending_at m.world m.place ≡ ending)
+
+-- an ending in which a phase is the run's last
+abbrev pub ended_in : Phase → Option Ending
+ended_in Between = None
+ended_in Parallel = None
+ended_in Serial = None
+ended_in (Ended ending) = Some ending
+
+-- What a log misfits by at a position: nothing where a move is ahead or the run has ended.
+abbrev pub IsMisfitAt : (limit : ℕ) → Recording → Position → Option Misfit → Type 0
+IsMisfitAt limit r at misfit = first_kind at.future ≡ None → IsSome (kind_at limit at.moment)
+    → misfit_here r at ≡ misfit
+
 -- What was kept are the bytes that were sent from one world to the other.
 pub record Heard (p : Played) (before behind : World) : Type 0 where
   pub output : p.output ≡ drop (length before.output) behind.output
@@ -105,3 +126,11 @@ HasMoves images config entries moves =
 abbrev pub HasNoMore : List Image → Config → List LogEntry → Option ℕ → Type 0
 HasNoMore images config entries last = IfSome last (λ moves.
     follow (suc moves) config.rounds entries (first_moment (opening images config)) ≡ None)
+
+-- What the entries misfit by behind the last of the moves, where these are known, in each recording
+-- that has these entries.
+abbrev pub KnowsMisfit : List Image → Config → List LogEntry → (last : Option ℕ) → Option Misfit
+    → Type 0
+KnowsMisfit images config entries last misfit = IfSome last (λ moves. (start : Position)
+    (r : Recording) → IsStart images config entries start → r.entries ≡ entries
+    → misfit_here r (position_after moves start) ≡ misfit)

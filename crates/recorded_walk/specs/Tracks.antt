@@ -1,7 +1,10 @@
 -- A walk by the answers of a log. This project's own words.
 use Rattle.std.specs.Prelude.{ℕ, ◌≡◌, ◌≤◌, ◌+◌, ◌++◌, List, [], length, Option, Some, None, false}
 use Rattle.dos_io.specs.Shims.{HasNoEnd}
+use Rattle.dos_world.specs.declared.Misfit.{Misfit}
+use Rattle.flat_machine.specs.Fits.{first_misfit}
 use Rattle.group_moves.specs.Moments.{Moment, kind_at}
+use Rattle.group_moves.specs.Moves.{move_of}
 use Rattle.group_walk.specs.Walks.{Walk, kinds_named, moment_in, world_there}
 use Rattle.group_walk.specs.declared.walker.MoveKind.{MoveKind as kind_type}
 use Rattle.shim_log.specs.Replay.{ReplayState, entries_used, replayer_state}
@@ -31,6 +34,13 @@ abbrev pub MovesNowhere : Walk → ReplayState → Type 0
 MovesNowhere walk shim = (o e : List ℕ)
     → follow_one walk.config.rounds (entries_left shim) (moment_sent walk o e) ≡ None
 
+-- The next move asks another question than that of its next entry, whatever was sent so far: which
+-- entry it is, its question, and what is asked.
+abbrev pub MisfitsBy : Misfit → Walk → ReplayState → Type 0
+MisfitsBy found walk shim = (o e : List ℕ)
+    → first_misfit (entries_used shim) (entries_left shim)
+    (move_of (world_there walk o e) walk.place) ≡ Some found
+
 -- ---- a track
 
 -- Nothing has failed, and the log's end wasn't asked for.
@@ -57,6 +67,6 @@ pub record IsOfSameRun (old new : Track) : Type 0 where
 abbrev pub HasStepped : Option kind_type → (old new : Track) → Type 0
 HasStepped None old new = (new.moves ≡ old.moves) × MovesNowhere old.walker old.shim
     × (new.walker ≡ old.walker) × (new.shim ≡ old.shim)
-    × (new.out.bytes.items ≡ []) × (new.err.bytes.items ≡ [])
+    × (new.out.bytes.items ≡ []) × (new.err.bytes.items ≡ []) × HasNext None old.walker
 HasStepped (Some kind) old new = (new.moves ≡ old.moves + 1) × HasNext (Some kind) old.walker
     × MovesOnTo old.walker old.shim new.walker new.shim new.out.bytes.items new.err.bytes.items

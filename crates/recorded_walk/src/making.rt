@@ -7,7 +7,7 @@ ghost use Rattle.group_moves.specs.Moments.{kind_at};
 ghost use Rattle.kernel_calls.specs.declared.state.RunStop.TheVariants as stops;
 ghost use Rattle.shim_log.specs.Replay.{FollowsLog, entries_used, replayer_state};
 ghost use Rattle.recorded_walk.specs.Following.{log_entries};
-ghost use Rattle.recorded_walk.specs.Tracks.{MovesNowhere, MovesOnTo, moment_sent};
+ghost use Rattle.recorded_walk.specs.Tracks.{MisfitsBy, MovesNowhere, MovesOnTo, moment_sent};
 
 use crate::puts::Puts;
 use dos_io::GroupBorder;
@@ -32,6 +32,8 @@ pub(crate) fn make_by_log(
         out.new.bytes.items err.new.bytes.items) }
     ensures misfit { (found : Misfit) → IsErrOf result (stops.Misfit found)
         → MovesNowhere walker.old shim.old }
+    ensures found { (found : Misfit) → IsErrOf result (stops.Misfit found)
+        → MisfitsBy found walker.old shim.old }
     ensures told { OnOk result (HasNoEnd (replayer_state shim.new).told) }
     ensures used { OnOk result (entries_used shim.new ≤ length (log_entries shim.new.log)) }
     ensures failed { walker.new.failed ≡ is_err result }

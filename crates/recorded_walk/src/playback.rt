@@ -1,18 +1,23 @@
 // A recorded run that is walked.
-ghost use Rattle.std.specs.Prelude.{◌≡◌, ◌≤◌, ◌+◌, ◌⊎◌, IfOk, IfErr, OnOk, [], false, is_err};
-ghost use Rattle.std.specs.Prelude.{length};
+ghost use Rattle.std.specs.Prelude.{◌≡◌, ◌≤◌, ◌+◌, ◌⊎◌, IfOk, IfErr, OnOk, Some, [], false};
+ghost use Rattle.std.specs.Prelude.{is_err, length};
 ghost use Rattle.debug_session.specs.Positions.{Position, first_kind, position_after};
+ghost use Rattle.debug_session.specs.Recordings.{Recording};
 ghost use Rattle.dos_world.specs.Lawful.{IsConfig};
+ghost use Rattle.dos_world.specs.World.{World};
 ghost use Rattle.flat_machine.specs.Opening.{needed};
+ghost use Rattle.group_moves.specs.Moments.{ending_at, kind_at};
+ghost use Rattle.group_moves.specs.Moves.{MoveKind as Move};
+ghost use Rattle.group_moves.specs.Places.{between_rounds};
 ghost use Rattle.group_rounds.specs.Kernels.{IsBetweenRounds};
 ghost use Rattle.group_walk.specs.Places.{phase_of};
 ghost use Rattle.group_walk.specs.Walks.{kinds_named};
 ghost use Rattle.recorded_walk.specs.Following.{log_entries};
-ghost use Rattle.recorded_walk.specs.Playbacks.{Heard, IsOfSame, IsRefused, IsStartOf, Stands};
-ghost use Rattle.recorded_walk.specs.Playbacks.{moves_made};
+ghost use Rattle.recorded_walk.specs.Playbacks.{IsEndedAs, Heard, IsMisfitAt, IsOfSame, IsRefused};
+ghost use Rattle.recorded_walk.specs.Playbacks.{IsStartOf, Stands, ended_in, moves_made};
 
 use crate::track::Track;
-use dos_world::Config;
+use dos_world::{Config, Ending, Misfit};
 use elf_image::Image;
 use group_open::OpenError;
 use group_walk::{MoveKind, Phase};
@@ -34,15 +39,20 @@ pub struct Playback {
     reached: u64,
     // behind so many moves no move is next: the log doesn't answer it
     last: Option<u64>,
+    // what it asks there and what the log has
+    misfit: Option<Misfit>,
+    // how many entries the log has
+    entries: u64,
     failed: bool,
 }
 
 impl Model for Playback {
-    ghost use Rattle.std.specs.Prelude.{◌≡◌, ◌≤◌, false};
+    ghost use Rattle.std.specs.Prelude.{◌≡◌, ◌≤◌, false, length};
     ghost use Rattle.flat_machine.specs.Opening.{opening};
     ghost use Rattle.group_moves.specs.Moments.{first_moment};
     ghost use Rattle.recorded_walk.specs.Following.{log_entries};
-    ghost use Rattle.recorded_walk.specs.Playbacks.{HasMoves, HasNoMore, IsOpenable, Played};
+    ghost use Rattle.recorded_walk.specs.Playbacks.{KnowsMisfit, HasMoves, HasNoMore, IsOpenable};
+    ghost use Rattle.recorded_walk.specs.Playbacks.{Played};
     ghost use Rattle.recorded_walk.specs.Tracks.{HasCome, IsOnTrack};
     ghost use Rattle.shim_log.specs.Replay.{entries_used};
 
@@ -65,6 +75,8 @@ impl Model for Playback {
         × (p.track.shim.start ≡ 0)
         × HasMoves p.images.items p.config (log_entries p.track.shim.log) p.reached
         × HasNoMore p.images.items p.config (log_entries p.track.shim.log) p.last
+        × KnowsMisfit p.images.items p.config (log_entries p.track.shim.log) p.last p.misfit
+        × (length (log_entries p.track.shim.log) ≡ p.entries)
         × (p.failed ≡ false → IsOnTrack p.track
         × HasCome (first_moment (opening p.images.items p.config)) p.track
         × (p.track.walker.config ≡ p.config) × (p.track.moves ≤ p.reached)) };
@@ -80,6 +92,27 @@ fn furthest(a: u64, b: u64) -> u64
         return b;
     }
     a
+}
+
+// the ending that a phase has
+fn ended_in(phase: Phase) -> Option<Ending>
+    ensures { result ≡ ended_in phase }
+{
+    match phase {
+        Phase::Between | Phase::Parallel | Phase::Serial => None,
+        Phase::Ended(ending) => Some(ending),
+    }
+}
+
+// how a run ends that doesn't stall
+fn ending_of(state: &State) -> Ending
+    ensures { (w : World) → w.threads ≡ state.now.table.threads
+        → ending_at w between_rounds ≡ result }
+{
+    if state.table.live_threads() == 0 {
+        return Ending::Done;
+    }
+    Ending::Limit
 }
 
 impl Playback {
@@ -102,6 +135,7 @@ impl Playback {
         ensures room { IfOk result (λ _. needed images.items ≤ config.frames) }
         ensures refused { IfErr result (IsRefused images.items config) }
     {
+        let entries = u64::from(log.len());
         match Track::begin(alloc, &images, config, log) {
             Ok(track) => Ok(Playback {
                 alloc,
@@ -110,6 +144,8 @@ impl Playback {
                 track,
                 reached: 0,
                 last: None,
+                misfit: None,
+                entries,
                 failed: false,
             }),
             Err(error) => {
@@ -142,6 +178,42 @@ impl Playback {
         self.track.walker.phase()
     }
 
+    /// What the next move would be, whether the log answers it or not; None where the run has
+    /// ended.
+    pub fn kind(&self) -> Option<MoveKind>
+        requires { self.now.failed ≡ false }
+        ensures kind { (start : Position) → IsStartOf self.now start
+            → kind_at self.now.config.rounds (position_after self.now.moves start).moment
+            ≡ kinds_named result }
+        ensures ahead { (start : Position) (made : Move) → IsStartOf self.now start
+            → first_kind (position_after self.now.moves start).future ≡ Some made
+            → kinds_named result ≡ Some made }
+    {
+        self.track.walker.next()
+    }
+
+    /// How the run has ended, where it has: no move is next, whatever the log holds.
+    pub fn ending(&self) -> Option<Ending>
+        requires { self.now.failed ≡ false }
+        ensures { (start : Position) → IsStartOf self.now start
+            → IsEndedAs self.now.config.rounds (position_after self.now.moves start).moment result }
+    {
+        if self.track.walker.next().is_some() {
+            return None;
+        }
+        match ended_in(self.track.walker.phase()) {
+            Some(ending) => Some(ending),
+            None => Some(ending_of(self.track.walker.state())),
+        }
+    }
+
+    /// How many entries the log has, its end too.
+    pub fn entries(&self) -> u64
+        ensures { length self.now.entries ≡ result }
+    {
+        self.entries
+    }
+
     /// How many rounds have begun.
     pub fn begun(&self) -> u32
         ensures { result ≡ self.now.walk.begun_rounds }
@@ -162,6 +234,13 @@ impl Playback {
         ensures reached { self.now.failed ≡ false → result ≤ self.now.reached }
     {
         self.track.moves
+    }
+
+    /// The greatest number of moves since the start so far.
+    pub fn reached(&self) -> u64
+        ensures { result ≡ self.now.reached }
+    {
+        self.reached
     }
 
     /// How many entries of the log the moves so far have used.
@@ -219,10 +298,52 @@ impl Playback {
         came
     }
 
+    // One move on, and what it is. None where no move is next, with what the log misfits by there.
+    fn make_next(&mut self) -> Result<(Option<MoveKind>, Option<Misfit>), AllocError>
+        requires { self.old.failed ≡ false }
+        ensures kind { IfOk result (λ made. (start : Position) → IsStartOf self.old start
+            → first_kind (position_after self.old.moves start).future ≡ kinds_named made.0) }
+        ensures misfit { IfOk result (λ made. (start : Position) (r : Recording)
+            → IsStartOf self.old start → r.entries ≡ self.old.entries
+            → IsMisfitAt self.old.config.rounds r (position_after self.old.moves start) made.1) }
+        ensures moves { IfOk result (λ made. self.new.moves
+            ≡ self.old.moves + moves_made made.0) }
+        ensures stands { OnOk result (Stands self.new) }
+        ensures heard { OnOk result ((start : Position) → IsStartOf self.old start
+            → Heard self.new (position_after self.old.moves start).moment.world
+            (position_after self.new.moves start).moment.world) }
+        ensures failed { self.new.failed ≡ is_err result }
+        ensures same { IsOfSame self.old self.new }
+        ensures reached { self.old.reached ≤ self.new.reached }
+    {
+        if self.last == Some(self.track.moves) {
+            self.track.hear_nothing();
+            return Ok((None, self.misfit));
+        }
+        let moves = self.track.moves;
+        match self.track.step() {
+            Ok(kind) => {
+                self.reached = furthest(self.reached, self.track.moves);
+                Ok((kind, None))
+            }
+            Err(RunStop::Misfit(found)) => {
+                self.failed = true;
+                self.last = Some(moves);
+                self.misfit = Some(found);
+                self.come_back(moves)?;
+                Ok((None, Some(found)))
+            }
+            Err(_) => {
+                self.failed = true;
+                Err(AllocError)
+            }
+        }
+    }
+
     /// One move on, and what it is. None exactly where no move is next, since the run is over or
     /// the log doesn't answer it, and then it stands where it stood. What the move puts is kept.
     ///
-    /// An `Err` is want of memory. It has failed then, and nothing more is said of the state.
+    /// After an `Err`, for want of memory, it has failed, and nothing more is said of the state.
     pub fn advance(&mut self) -> Result<Option<MoveKind>, AllocError>
         requires { self.old.failed ≡ false }
         ensures kind { IfOk result (λ kind. (start : Position) → IsStartOf self.old start
@@ -236,33 +357,65 @@ impl Playback {
         ensures same { IsOfSame self.old self.new }
         ensures reached { self.old.reached ≤ self.new.reached }
     {
-        if self.last == Some(self.track.moves) {
-            self.track.hear_nothing();
-            return Ok(None);
+        let made = self.make_next()?;
+        Ok(made.0)
+    }
+
+    // What the next move is, and where none is next, what the log misfits by there.
+    fn look_on(&mut self) -> Result<(Option<MoveKind>, Option<Misfit>), AllocError>
+        requires { self.old.failed ≡ false }
+        ensures kind { IfOk result (λ seen. (start : Position) → IsStartOf self.old start
+            → first_kind (position_after self.old.moves start).future ≡ kinds_named seen.0) }
+        ensures misfit { IfOk result (λ seen. (start : Position) (r : Recording)
+            → IsStartOf self.old start → r.entries ≡ self.old.entries
+            → IsMisfitAt self.old.config.rounds r (position_after self.old.moves start) seen.1) }
+        ensures moves { OnOk result (self.new.moves ≡ self.old.moves) }
+        ensures stands { OnOk result (Stands self.new) }
+        ensures failed { self.new.failed ≡ is_err result }
+        ensures same { IsOfSame self.old self.new }
+        ensures reached { self.old.reached ≤ self.new.reached }
+    {
+        if self.track.moves < self.reached {
+            return Ok((self.track.walker.next(), None));
         }
+        match self.track.walker.next() {
+            Some(MoveKind::Runs { thread }) => Ok((Some(MoveKind::Runs { thread }), None)),
+            Some(MoveKind::Faults { thread, number }) => {
+                Ok((Some(MoveKind::Faults { thread, number }), None))
+            }
+            Some(_) => self.try_next(),
+            None => Ok((None, None)),
+        }
+    }
+
+    // The same by a try.
+    fn try_next(&mut self) -> Result<(Option<MoveKind>, Option<Misfit>), AllocError>
+        requires { self.old.failed ≡ false }
+        ensures kind { IfOk result (λ seen. (start : Position) → IsStartOf self.old start
+            → first_kind (position_after self.old.moves start).future ≡ kinds_named seen.0) }
+        ensures misfit { IfOk result (λ seen. (start : Position) (r : Recording)
+            → IsStartOf self.old start → r.entries ≡ self.old.entries
+            → IsMisfitAt self.old.config.rounds r (position_after self.old.moves start) seen.1) }
+        ensures moves { OnOk result (self.new.moves ≡ self.old.moves) }
+        ensures stands { OnOk result (Stands self.new) }
+        ensures failed { self.new.failed ≡ is_err result }
+        ensures same { IsOfSame self.old self.new }
+        ensures reached { self.old.reached ≤ self.new.reached }
+    {
         let moves = self.track.moves;
-        match self.track.step() {
-            Ok(kind) => {
-                self.reached = furthest(self.reached, self.track.moves);
-                Ok(kind)
+        match self.make_next()? {
+            (Some(kind), misfit) => {
+                self.come_again(moves)?;
+                Ok((Some(kind), misfit))
             }
-            Err(RunStop::Misfit(_)) => {
-                self.failed = true;
-                self.last = Some(moves);
-                self.come_back(moves)?;
-                Ok(None)
-            }
-            Err(_) => {
-                self.failed = true;
-                Err(AllocError)
-            }
+            (None, misfit) => Ok((None, misfit)),
         }
     }
 
     /// What the next move is, and it stands where it stood. A round's begin and a service are tried
     /// where it hasn't been further yet, and gone back on.
     ///
-    /// An `Err` is want of memory. It has failed then, and nothing more is said of the state.
+    /// After an `Err`, for want of memory, it has failed, and nothing more is said of the state.
     pub fn next(&mut self) -> Result<Option<MoveKind>, AllocError>
         requires { self.old.failed ≡ false }
         ensures kind { IfOk result (λ kind. (start : Position) → IsStartOf self.old start
@@ -273,43 +426,32 @@ impl Playback {
         ensures same { IsOfSame self.old self.new }
         ensures reached { self.old.reached ≤ self.new.reached }
     {
-        if self.track.moves < self.reached {
-            return Ok(self.track.walker.next());
-        }
-        match self.track.walker.next() {
-            Some(MoveKind::Runs { thread }) => Ok(Some(MoveKind::Runs { thread })),
-            Some(MoveKind::Faults { thread, number }) => {
-                Ok(Some(MoveKind::Faults { thread, number }))
-            }
-            Some(_) => self.try_next(),
-            None => Ok(None),
-        }
+        let seen = self.look_on()?;
+        Ok(seen.0)
     }
 
-    // The same by a try.
-    fn try_next(&mut self) -> Result<Option<MoveKind>, AllocError>
+    /// The next entry of the log and what the next move would ask in its place, where that isn't
+    /// the entry's question; None where a move is next, or the run has ended.
+    ///
+    /// After an `Err`, for want of memory, it has failed, and nothing more is said of the state.
+    pub fn misfit(&mut self) -> Result<Option<Misfit>, AllocError>
         requires { self.old.failed ≡ false }
-        ensures kind { IfOk result (λ kind. (start : Position) → IsStartOf self.old start
-            → first_kind (position_after self.old.moves start).future ≡ kinds_named kind) }
+        ensures misfit { IfOk result (λ misfit. (start : Position) (r : Recording)
+            → IsStartOf self.old start → r.entries ≡ self.old.entries
+            → IsMisfitAt self.old.config.rounds r (position_after self.old.moves start) misfit) }
         ensures moves { OnOk result (self.new.moves ≡ self.old.moves) }
         ensures stands { OnOk result (Stands self.new) }
         ensures failed { self.new.failed ≡ is_err result }
         ensures same { IsOfSame self.old self.new }
         ensures reached { self.old.reached ≤ self.new.reached }
     {
-        let moves = self.track.moves;
-        match self.advance()? {
-            Some(kind) => {
-                self.come_again(moves)?;
-                Ok(Some(kind))
-            }
-            None => Ok(None),
-        }
+        let seen = self.look_on()?;
+        Ok(seen.1)
     }
 
     /// To the place behind so many moves, which the history has.
     ///
-    /// An `Err` is want of memory. It has failed then, and nothing more is said of the state.
+    /// After an `Err`, for want of memory, it has failed, and nothing more is said of the state.
     pub fn go_to(&mut self, moves: u64) -> Result<(), AllocError>
         requires running { self.old.failed ≡ false }
         requires reached { moves ≤ self.old.reached }

@@ -7,7 +7,7 @@ ghost use Rattle.group_moves.specs.Moments.{Moment, first_moment};
 ghost use Rattle.kernel_calls.specs.declared.state.RunStop.TheVariants as stops;
 ghost use Rattle.recorded_walk.specs.Playbacks.{IsRefused};
 ghost use Rattle.recorded_walk.specs.Tracks.{HasCome, HasStepped, IsOfSameRun, IsOnTrack};
-ghost use Rattle.recorded_walk.specs.Tracks.{MovesNowhere};
+ghost use Rattle.recorded_walk.specs.Tracks.{MisfitsBy, MovesNowhere};
 
 use crate::making::make_by_log;
 use crate::puts::Puts;
@@ -117,6 +117,8 @@ impl Track {
         ensures steps { IfOk result (λ kind. HasStepped kind self.old self.new) }
         ensures misfit { (found : Misfit) → IsErrOf result (stops.Misfit found)
             → MovesNowhere self.old.walker self.old.shim }
+        ensures found { (found : Misfit) → IsErrOf result (stops.Misfit found)
+            → MisfitsBy found self.old.walker self.old.shim }
         ensures on_track { OnOk result (IsOnTrack self.new) }
         ensures same { IsOfSameRun self.old self.new }
     {

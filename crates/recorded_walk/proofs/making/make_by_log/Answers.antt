@@ -3,7 +3,7 @@ use Rattle.kernel_calls.specs.declared.state.RunStop.{RunStop}
 use Rattle.shim_log.specs.Replay.{FollowsLog, replayer_state}
 use Rattle.recorded_walk.specs.declared.puts.Puts.{Puts}
 use Rattle.recorded_walk.proofs.Coming.{used_few}
-use Rattle.recorded_walk.proofs.Moving.{moves_nowhere_by, moves_on}
+use Rattle.recorded_walk.proofs.Moving.{misfits_by, moves_nowhere_by, moves_on}
 use Rattle.recorded_walk.proofs.making.make_by_log.Goals as goal
 
 pub returns-in-Ok-clause-goes : goal.returns-in-Ok-clause-goes
@@ -26,6 +26,14 @@ returns-in-Err-clause-misfit c = λ found is.
     let e = c.in-Err.ensures in
     let shim_is = c.shim-1.given.1 (sym e.follows.0) in
     moves_nowhere_by c.args.walker.now c.args.shim.now _ _ _ refl (ap replayer_state (sym shim_is))
+    (subst (FollowsLog c.args.shim.now) (sym shim_is) e.follows.3) c.requires.next c.in-Err.stop
+    found (stop_is _ _ _ is) c.look-in-Err.ensures e.plays.stops
+
+pub returns-in-Err-clause-found : goal.returns-in-Err-clause-found
+returns-in-Err-clause-found c = λ found is.
+    let e = c.in-Err.ensures in
+    let shim_is = c.shim-1.given.1 (sym e.follows.0) in
+    misfits_by c.args.walker.now c.args.shim.now _ _ _ refl (ap replayer_state (sym shim_is))
     (subst (FollowsLog c.args.shim.now) (sym shim_is) e.follows.3) c.requires.next c.in-Err.stop
     found (stop_is _ _ _ is) c.look-in-Err.ensures e.plays.stops
 
