@@ -10,6 +10,7 @@ declare -A options_of=(
   [gen]='--number=number --threads=1-32 --workers=1-32'
   [migrate]='--log=file --to=file'
   [trace]='--log=file --workers=1-32'
+  [debug]='--log=file --workers=1-32'
   ['save']='--log=file --round=1-1000000 --to=file --workers=1-32'
   [resume]='--log=file --from=file --workers=1-32'
 )
@@ -44,11 +45,12 @@ why_not() {
 wrong_word() {
   local command=${1-} word value kind why names=0 given=' ' is_open=1
   [ $# -gt 0 ] || {
-    echo 'a command is wanted: run, replay, inspect, gen, migrate, trace, save or resume'
+    echo 'a command is wanted: run, replay, inspect, gen, migrate, trace, save, resume or debug'
     return
   }
   [ -n "$command" ] && [ "${options_of[$command]+known}" ] || {
-    echo "$command is no command: these are run, replay, inspect, gen, migrate, trace, save and resume"
+    echo "$command is no command: these are run, replay, inspect, gen, migrate, trace, save, resume" \
+      "and debug"
     return
   }
   shift
@@ -76,7 +78,7 @@ wrong_word() {
     [ "$names" -eq 0 ] || { echo "$word stands behind a name: options come first"; return; }
   done
   case $command in
-    run|replay|trace)
+    run|replay|trace|debug)
       [[ $given = *' --log '* ]] || { echo "$command wants --log and the file of the log"; return; } ;;
     gen)
       [[ $given = *' --number '* && $given = *' --threads '* ]] ||
@@ -92,7 +94,7 @@ wrong_word() {
         { echo 'resume wants --log and --from, each with a file'; return; } ;;
   esac
   case $command$names in
-    gen0|migrate0|resume0|inspect1|run[1-8]|replay[1-8]|trace[1-8]|save[1-8]) ;;
+    gen0|migrate0|resume0|inspect1|run[1-8]|replay[1-8]|trace[1-8]|save[1-8]|debug[1-8]) ;;
     gen*|migrate*|resume*) echo "$command takes no names" ;;
     inspect*) echo 'inspect takes one name' ;;
     *0) echo "$command wants the name of a file" ;;

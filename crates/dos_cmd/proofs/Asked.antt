@@ -34,6 +34,9 @@ use Rattle.dos_cmd.specs.Stops.{IsNotOpened, LeavesRun, refusal_by}
 use Rattle.dos_cmd.specs.TraceLeaves.{LeavesTrace}
 use Rattle.dos_cmd.specs.SaveLeaves.{LeavesSave}
 use Rattle.dos_cmd.specs.ResumeLeaves.{LeavesResume}
+use Rattle.debugger.specs.declared.stops.DebugStop.{DebugStop}
+use Rattle.debugger.specs.declared.stops.DebugStop.TheVariants as debugs
+use Rattle.dos_cmd.specs.DebugLeaves.{debug_refusal}
 use Rattle.group_text.specs.Groups.{SavedGroup}
 use Rattle.dos_world.specs.declared.Config.{Config}
 
@@ -73,7 +76,7 @@ none_named (Err why) b = record { asked = []; until = none_until why; after_is =
 
 -- ---- images, one after another
 
-take_next : (names : List Text) (i : ℕ) (name : Text) → slice_get names i ≡ Some name
+pub take_next : (names : List Text) (i : ℕ) (name : Text) → slice_get names i ≡ Some name
     → take (i + 1) names ≡ take i names ++ name ∷ []
 take_next names i name is = ap (λ (n : ℕ). take n names) (let e : i + 1 ≡ suc i = omega arith in e)
     ∙ go names i is
@@ -329,6 +332,15 @@ later_resume g log o f (refusals.Misfit found) h = tt
 later_resume g log o f refusals.Sink h = tt
 later_resume g log o f refusals.Memory h = tt
 later_resume g log o f why h = absurd h
+
+pub later_debug : (stop : DebugStop) (why : Refusal) → why ≡ debug_refusal stop → IsLater why
+later_debug stop why is = subst IsLater (sym is) (go stop)
+  where
+    go : (stop : DebugStop) → IsLater (debug_refusal stop)
+    go (debugs.NoRoom needed frames) = tt
+    go debugs.HostFault = tt
+    go debugs.SinkFault = tt
+    go debugs.Memory = tt
 
 pub later_migration : (log : Log) (to : Text) (why : Refusal) (tells : Bool)
     (files after : Text → Option (List ℕ)) (out out' : Option (List ℕ)) (k k' n n' : ℕ)

@@ -13,6 +13,7 @@ mod MigrationEnds
 mod SaveEnds
 mod SaveCalls
 mod ResumeEnds
+mod DebugEnds
 mod GenRuns
 mod Repeats
 mod BareRuns

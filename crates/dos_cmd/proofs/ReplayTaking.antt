@@ -27,7 +27,7 @@ same_told f f' stays [] = refl
 same_told f f' stays (name ∷ names) = ap₂ (λ a b. a ∷ b) (stays name) (same_told f f' stays names)
 
 -- what holds of files as they are told later, holds as they are told before
-told_before : (f f' : Text → Option (List ℕ)) (names : List Text)
+pub told_before : (f f' : Text → Option (List ℕ)) (names : List Text)
     (P : List (Option (List ℕ)) → Type 0) → ((name : Text) → f' name ≡ f name)
     → P (map f' names) → P (map f names)
 told_before f f' names P stays h = subst P (same_told f f' stays names) h

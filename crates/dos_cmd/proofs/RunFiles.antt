@@ -4,7 +4,7 @@ use Rattle.std.proofs.Common.{length, map, drop, Option, Some, None, Result, Ok,
 use Rattle.std.proofs.Common.{◌∙◌, subst, refl, append_assoc, arith}
 use Rattle.std.specs.Prelude.{IfSome, IsErrOf, nat_lt, option_map, slice_get}
 use Rattle.std.specs.List.{AllByRecursion}
-use Rattle.std.proofs.lemmas.List.{append-nil, length-append}
+use Rattle.std.proofs.lemmas.List.{append-nil, length-append, map-append}
 use Rattle.std.proofs.Math.ListN.{drop_of_length-le}
 use Rattle.std.proofs.lemmas.Bool.{le-ltb}
 use Rattle.std.proofs.lemmas.Bool.Decides.{nat_tests}
@@ -16,9 +16,11 @@ use Rattle.sha2.specs.Sha256.{sha256}
 use Rattle.log_text.specs.Bytes.{AreDigests, FitsDigest}
 use Rattle.dos_texts.specs.declared.refusal.Refusal.{Refusal}
 use Rattle.dos_texts.specs.declared.refusal.Refusal.TheVariants as refusals
+use Rattle.std.specs.Global.{Vec}
+use Rattle.debug_connection.specs.Keeping.{texts_of}
 use Rattle.dos_cmd.specs.Asking.{IsOfImage}
 use Rattle.dos_cmd.specs.Judging.{limit, judged, verdict, Images, with_image, then_images}
-use Rattle.dos_cmd.specs.Judging.{images_from, digests_of, OfFiles}
+use Rattle.dos_cmd.specs.Judging.{contents_of, images_from, digests_of, IsNextContent, OfFiles}
 
 -- ---- one file
 
@@ -341,6 +343,63 @@ digests_all contents names i images digests le reads =
     let same : all ≡ Some ds = sym over ∙ reads.digests_left ds e in
     let whole : digests ++ [] ≡ digests = append-nil digests in
     cc)
+
+-- ---- what they hold
+
+-- The bytes so far stand in front of what those that are left hold.
+abbrev pub Keeps : (contents : List ℕ → Option (List ℕ)) → (names : List (List ℕ)) → (i : ℕ)
+    → (kept : List (List ℕ)) → Type 0
+Keeps contents names i kept = (all : List (List ℕ)) → contents_of (map contents names) ≡ Some all
+    → digests_behind kept (contents_of (map contents (drop i names))) ≡ Some all
+
+pub keeps_first : (contents : List ℕ → Option (List ℕ)) (names kept : List (List ℕ)) → kept ≡ []
+    → Keeps contents names 0 kept
+keeps_first contents names kept none = λ all e.
+    ap (λ (x : List (List ℕ)). digests_behind x (contents_of (map contents names))) none
+    ∙ digests_none (contents_of (map contents names)) ∙ e
+
+content_more : (told : Option (List ℕ)) (rest : List (Option (List ℕ))) (kept : List (List ℕ))
+    (bytes : List ℕ) (all : List (List ℕ)) → IfSome told (λ file. bytes ≡ file)
+    → digests_behind kept (contents_of (told ∷ rest)) ≡ Some all
+    → digests_behind (kept ++ bytes ∷ []) (contents_of rest) ≡ Some all
+content_more None rest kept bytes all h e = cc
+content_more (Some file) rest kept bytes all h e =
+    sym (digests_with kept bytes (contents_of rest))
+    ∙ ap (λ (b : List ℕ). digests_behind kept (option_map (λ o. b ∷ o) (contents_of rest))) h ∙ e
+
+pub keeps_more : (contents now : List ℕ → Option (List ℕ)) (names : List (List ℕ)) (i : ℕ)
+    (kept more : List (List ℕ)) (name : List ℕ) → slice_get names i ≡ Some name
+    → ((n : List ℕ) → now n ≡ contents n) → IsNextContent (now name) kept more
+    → Keeps contents names i kept → Keeps contents names (i + 1) more
+keeps_more contents now names i kept more name at stays next keeps = λ all e.
+    let told : IfSome (contents name) (λ file. next.bytes ≡ file) =
+    found_before contents now name (λ file. next.bytes ≡ file) stays next.bytes_are in
+    let here : digests_behind kept
+    (contents_of (contents name ∷ map contents (drop (i + 1) names))) ≡ Some all =
+    sym (ap (λ (x : List (Option (List ℕ))). digests_behind kept (contents_of x))
+    (left_from contents names i name at)) ∙ keeps all e in
+    ap (λ (x : List (List ℕ)). digests_behind x
+    (contents_of (map contents (drop (i + 1) names)))) next.last
+    ∙ content_more (contents name) (map contents (drop (i + 1) names)) kept next.bytes all told here
+
+pub keeps_all : (contents : List ℕ → Option (List ℕ)) (names : List (List ℕ)) (i : ℕ)
+    (kept : List (List ℕ)) → length names ≤ i → Keeps contents names i kept
+    → IfSome (contents_of (map contents names)) (λ all. kept ≡ all)
+keeps_all contents names i kept le keeps =
+    if_told (contents_of (map contents names)) (λ all. kept ≡ all) (λ all e.
+    let over : digests_behind kept (contents_of (map contents (drop i names)))
+    ≡ Some (kept ++ []) =
+    ap (λ (x : List (List ℕ)). digests_behind kept (contents_of (map contents x)))
+    (drop_of_length-le names le) in
+    let whole : Option (List (List ℕ)) = Some (kept ++ []) in
+    let same : whole ≡ Some all = sym over ∙ keeps all e in
+    let end : kept ++ [] ≡ kept = append-nil kept in
+    cc)
+
+-- a text more
+pub texts_more : (old new : List (Vec ℕ)) (last : Vec ℕ) → new ≡ old ++ last ∷ []
+    → texts_of new ≡ texts_of old ++ last.items ∷ []
+texts_more old new last is = ap texts_of is ∙ map-append (λ v. v.items) old (last ∷ [])
 
 -- so many are all
 pub all_counted : (names : List (List ℕ)) (i end : ℕ) → i ≤ end → end ≤ i → end ≡ length names

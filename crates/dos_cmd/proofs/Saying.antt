@@ -14,7 +14,10 @@ use Rattle.dos_words.specs.Numbers.{Text}
 use Rattle.dos_words.specs.declared.request.Request.{Request}
 use Rattle.dos_words.specs.declared.request.Request.TheVariants.{Run, Replay, Gen, Migrate}
 use Rattle.dos_words.specs.declared.request.Request.TheVariants.{Save, Resume}
-use Rattle.dos_words.specs.declared.request.Request.TheVariants.{Trace}
+use Rattle.dos_words.specs.declared.request.Request.TheVariants.{Trace, Debug}
+use Rattle.debug_connection.specs.declared.stops.ServeStop.{ServeStop}
+use Rattle.debug_connection.specs.declared.stops.ServeStop.TheVariants as serve
+use Rattle.dos_cmd.specs.DebugLeaves.{StoppedDebug}
 use Rattle.group_text.specs.Groups.{SavedGroup}
 use Rattle.dos_cmd.specs.SaveLeaves.{MisfittedSave, UnwrittenGroup}
 use Rattle.dos_cmd.specs.ResumeLeaves.{MisfittedResume}
@@ -56,6 +59,27 @@ module _ (o : Outside) (e : Option (List ℕ)) (last : List ℕ) (more : e ≡ g
         → NotTaken asked (with_error o e) why last
     not_taken_more asked why h = record { is = h.is; says = says_more h.says }
 
+    session_more : (names : List Text) (taken : Taken) (stop : ServeStop)
+        → OfLog taken.log (λ l. StoppedDebug l taken.images names stop [] o)
+        → OfLog taken.log (λ l. StoppedDebug l taken.images names stop last (with_error o e))
+    session_more names taken stop h = of_log taken.log h
+      where
+        of_log : (read : Option Log)
+            → OfLog read (λ l. StoppedDebug l taken.images names stop [] o)
+            → OfLog read (λ l. StoppedDebug l taken.images names stop last (with_error o e))
+        of_log None h = absurd h
+        of_log (Some l) h = record {
+          was = record {
+            files = h.was.files;
+            files_are = h.was.files_are;
+            debugged = h.was.debugged;
+            files_stay = h.was.files_stay;
+            tally_stays = h.was.tally_stays;
+          };
+          err_says = more
+              ∙ ap (λ told. grown told last) (h.err_says ∙ sym (grown-nothing o.err));
+        }
+
     stopped_more : (asked : Request) (taken : Taken) (stop : ShimStop)
         → WasStopped asked taken stop [] o → WasStopped asked taken stop last (with_error o e)
     stopped_more (Run q r f w posts from step log names) taken stop h = record {
@@ -89,6 +113,10 @@ module _ (o : Outside) (e : Option (List ℕ)) (last : List ℕ) (more : e ≡ g
       grew = grew_more [] [] h.grew;
       stays = record { files_stay = h.stays.files_stay; host_stays = h.stays.host_stays };
     }
+    stopped_more (Debug w log names) taken stops.HostFault h =
+        session_more names taken serve.HostFault h
+    stopped_more (Debug w log names) taken stops.Memory h =
+        session_more names taken serve.Memory h
     stopped_more asked taken stop h = absurd h
 
     unwritten_more : (asked : Request) (taken : Taken) → Unwritten asked taken [] o

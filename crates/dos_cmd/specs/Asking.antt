@@ -13,6 +13,7 @@ use Rattle.dos_words.specs.Numbers.{Text}
 use Rattle.dos_words.specs.declared.request.Request.{Request}
 use Rattle.dos_words.specs.declared.request.Request.TheVariants.{Run, Replay, Inspect, Gen}
 use Rattle.dos_words.specs.declared.request.Request.TheVariants.{Migrate, Trace, Save, Resume}
+use Rattle.dos_words.specs.declared.request.Request.TheVariants.{Debug}
 
 -- The files that a call names: a saved group and a log that it reads, images, and one that it
 -- writes; and whether it may be done without writing that one.
@@ -41,6 +42,7 @@ named_by (Migrate log to) = files_named (log ∷ []) [] (to ∷ [])
 named_by (Trace workers log names) = files_named (log ∷ []) names []
 named_by (Save workers log round to names) = named_to_save (log ∷ []) names to
 named_by (Resume workers log from) = files_named (from ∷ log ∷ []) [] []
+named_by (Debug workers log names) = files_named (log ∷ []) names []
 
 -- none, where the words ask for nothing
 abbrev pub named_in : Option Request → Named

@@ -25,6 +25,7 @@ use Rattle.dos_words.specs.Numbers.{Text}
 use Rattle.dos_words.specs.declared.request.Request.{Request}
 use Rattle.dos_words.specs.declared.request.Request.TheVariants.{Run, Replay, Inspect, Gen}
 use Rattle.dos_words.specs.declared.request.Request.TheVariants.{Migrate, Trace, Save, Resume}
+use Rattle.dos_words.specs.declared.request.Request.TheVariants.{Debug}
 use Rattle.dos_cmd.specs.Migrating.{migrated_text}
 
 -- ---- one image; images are counted from 1 in the order of the words
@@ -65,6 +66,12 @@ images_from number [] = Some (Ok [])
 images_from number (None ∷ files) = None
 images_from number (Some file ∷ files) = let others : Option Images =
     images_from (suc number) files in then_images (verdict number file) others
+
+-- what files hold, where all are told
+abbrev pub contents_of : List (Option (List ℕ)) → Option (List (List ℕ))
+contents_of [] = Some []
+contents_of (None ∷ files) = None
+contents_of (Some file ∷ files) = option_map (λ others. file ∷ others) (contents_of files)
 
 -- the digests of files (SHA-256, FIPS 180-4), where all are told
 abbrev pub digests_of : List (Option (List ℕ)) → Option (List (List ℕ))
@@ -194,6 +201,8 @@ judgement contents (Trace workers log names) =
 judgement contents (Save workers log round to names) =
     replay_judgement (contents log) (map contents names)
 judgement contents (Resume workers log from) = resume_judgement (contents from) (contents log)
+judgement contents (Debug workers log names) =
+    replay_judgement (contents log) (map contents names)
 
 -- A refusal that reading files may come to: of an image, by what its file tells; or a fault of the
 -- files, or want of memory.
@@ -215,3 +224,9 @@ pub record IsNextImage (number : ℕ) (told : Option (List ℕ)) (images longer 
   pub fits : FitsDigest digest
   pub image_last : longer ≡ images ++ parsed ∷ []
   pub digest_last : more ≡ digests ++ digest ∷ []
+
+-- One more file is kept, as far as it is told: its bytes go last.
+pub record IsNextContent (told : Option (List ℕ)) (kept more : List (List ℕ)) : Type 0 where
+  pub bytes : List ℕ
+  pub bytes_are : IfSome told (λ file. bytes ≡ file)
+  pub last : more ≡ kept ++ bytes ∷ []

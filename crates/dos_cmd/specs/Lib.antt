@@ -9,6 +9,7 @@ pub mod Stops
 pub mod TraceLeaves
 pub mod SaveLeaves
 pub mod ResumeLeaves
+pub mod DebugLeaves
 pub mod Requests
 pub mod Results
 pub mod Repeating

@@ -19,6 +19,7 @@ use Rattle.dos_words.specs.Request.{request}
 use Rattle.dos_words.specs.declared.request.Request.{Request}
 use Rattle.dos_words.specs.declared.request.Request.TheVariants.{Run, Replay, Inspect, Gen}
 use Rattle.dos_words.specs.declared.request.Request.TheVariants.{Migrate, Trace, Save, Resume}
+use Rattle.dos_words.specs.declared.request.Request.TheVariants.{Debug}
 use Rattle.dos_cmd.specs.Asking.{AskedSoFar, named_in}
 use Rattle.dos_cmd.specs.Judging.{Taken, judgement}
 use Rattle.dos_cmd.specs.Outside.{Outside, Faults, FilesStay, OutputFailed, Says}
@@ -28,6 +29,8 @@ use Rattle.dos_cmd.specs.ReplayLeaves.{DidReplay, Misfitted, CutReplay, CutRepla
 use Rattle.dos_cmd.specs.TraceLeaves.{DidTrace, MisfittedTrace, CutTrace, CutTraceReport}
 use Rattle.dos_cmd.specs.SaveLeaves.{CutSave, DidSave, MisfittedSave, UnwrittenGroup}
 use Rattle.dos_cmd.specs.ResumeLeaves.{CutResume, CutResumeReport, DidResume, MisfittedResume}
+use Rattle.debug_connection.specs.declared.stops.ServeStop.TheVariants as serve
+use Rattle.dos_cmd.specs.DebugLeaves.{CutDebug, DidDebug, StoppedDebug}
 use Rattle.dos_cmd.specs.Migrating.{Migrated, UnwrittenText, CutMigration}
 use Rattle.dos_cmd.specs.Printing.{Inspected, Generated, CutInspect, CutSummary, QuietlyStopped}
 
@@ -74,16 +77,23 @@ Did (Trace workers log names) taken status o =
 Did (Save workers log round to names) taken status o =
     OfLog taken.log (λ read. DidSave read taken.images round to status o)
 Did (Resume workers log from) taken status o = OfGroup taken (λ g read. DidResume g read status o)
+Did (Debug workers log names) taken status o =
+    OfLog taken.log (λ read. DidDebug read taken.images names status o)
 
 -- ---- it was begun, and came to no report
 
--- A run was stopped so: a recorded one, or the generated group's for want of memory.
+-- A run was stopped so: a recorded one, or the generated group's for want of memory; or a session
+-- of a debugger.
 abbrev pub WasStopped : Request → Taken → ShimStop → (last : List ℕ) → Outside → Type 0
 WasStopped (Run quantum rounds frames workers posts clock_from clock_step log names) taken stop last
     o = StoppedRun (run_request_asked quantum rounds frames posts clock_from clock_step log names)
     taken.images stop last o
 WasStopped (Gen number threads workers) taken stops.Memory last o =
     QuietlyStopped taken.images last o
+WasStopped (Debug workers log names) taken stops.HostFault last o =
+    OfLog taken.log (λ read. StoppedDebug read taken.images names serve.HostFault last o)
+WasStopped (Debug workers log names) taken stops.Memory last o =
+    OfLog taken.log (λ read. StoppedDebug read taken.images names serve.Memory last o)
 WasStopped _ taken stop last o = ⊥
 
 -- A recorded run's log couldn't be written, or a log anew, or a group that was to be saved.
@@ -126,6 +136,8 @@ Cut (Save workers log round to names) taken o =
     OfLog taken.log (λ read. CutSave read taken.images round to o)
 Cut (Resume workers log from) taken o =
     OfGroup taken (λ g read. CutResume g read o ⊎ CutResumeReport g read o)
+Cut (Debug workers log names) taken o =
+    OfLog taken.log (λ read. CutDebug read taken.images names o)
 
 -- What the files are taken for, as far as they tell, and what is then so.
 pub record Begun (asked : Request) (o : Outside) (P : Taken → Type 0) : Type 0 where

@@ -40,7 +40,8 @@ pub(crate) fn inspect<F: Files, O: Sink>(
     ensures out_later { O.faults out.old ≤ O.faults out.new }
     ensures out_steady { result ≢ Err Refusal.Sink → O.faults out.new ≡ O.faults out.old }
 {
-    let (image, _digest) = load(alloc, files, 1, name)?;
+    let (image, _digest, content) = load(alloc, files, 1, name)?;
+    drop(content);
     let put = put_inspect(&image, out);
     drop(image);
     match put {

@@ -13,7 +13,8 @@ ghost use Rattle.log_text.specs.Ranges.{FitsLog};
 ghost use Rattle.dos_texts.specs.Exit.{ending_status};
 ghost use Rattle.dos_words.specs.declared.request.Request.TheVariants as requests;
 ghost use Rattle.dos_cmd.specs.Asking.{Asks, files_named, named_by};
-ghost use Rattle.dos_cmd.specs.Judging.{agreed, replay_judgement};
+ghost use Rattle.debug_connection.specs.Keeping.{texts_of};
+ghost use Rattle.dos_cmd.specs.Judging.{agreed, contents_of, replay_judgement};
 ghost use Rattle.dos_cmd.specs.Outside.{outside, faults};
 ghost use Rattle.dos_cmd.specs.ReplayLeaves.{DidReplay, LeavesTaken, OfLogFile, OfReading};
 ghost use Rattle.dos_cmd.specs.Results.{Begun, Did, Leaves};
@@ -69,19 +70,24 @@ pub(crate) fn config_of(log: &Log) -> Config
     }
 }
 
-/// Reads a log and the images that it is to be of, and agrees them.
+/// Reads a log and the images that it is to be of, and agrees them; beside them the bytes of the
+/// images' files.
 pub(crate) fn take<F: Files>(
     alloc: Global,
     files: &mut F,
     log: &Text,
     names: &Names,
-) -> Result<(Log, Vec<Image>), Refusal>
+) -> Result<(Log, Vec<Image>, Vec<Vec<u8>>), Refusal>
     requires { length names.now ≤ 8 }
     // but for room, which isn't tried yet
     ensures taken { IfOk result (λ x. IfSome (replay_judgement (F.content files.old log.now)
         (map (F.content files.old) names.now)) (λ j. j ≡ agreed x.0 x.1.items None)) }
+    ensures contents { IfOk result (λ x. IfSome
+        (contents_of (map (F.content files.old) names.now))
+        (λ contents. texts_of x.2.items ≡ contents)) }
     ensures some { IfOk result (λ x. 1 ≤ length x.1.items) }
     ensures few { IfOk result (λ x. length x.1.items ≤ 8) }
+    ensures count { IfOk result (λ x. length x.1.items ≡ length names.now) }
     ensures refused { IfErr result (λ why. OfReading why (λ why. IfSome (replay_judgement
         (F.content files.old log.now) (map (F.content files.old) names.now)) (λ j. j ≡ Err why))) }
     ensures fault { IsErrOf result Refusal.Files → Rose (F.faults files.old) (F.faults files.new) }
@@ -92,10 +98,10 @@ pub(crate) fn take<F: Files>(
     ensures tells { F.tells files.new ≡ F.tells files.old }
 {
     let log = read(alloc, files, log)?;
-    let (images, digests) = load_all(alloc, files, names)?;
+    let (images, digests, contents) = load_all(alloc, files, names)?;
     let _len = log.len();
     match agree(&digests, &log.header().digests) {
-        Ok(()) => Ok((log, images)),
+        Ok(()) => Ok((log, images, contents)),
         Err(why) => Err(Refusal::Log(why)),
     }
 }
@@ -182,6 +188,7 @@ pub(crate) fn replay<F: Files, O: Sink, E: Sink, W: Workers>(
     ensures err_steady { result ≢ Err Refusal.Sink → E.faults err.new ≡ E.faults err.old }
     ensures fixed { W.fixed workers.new ≡ W.fixed workers.old }
 {
-    let (log, images) = take(alloc, files, log, names)?;
+    let (log, images, contents) = take(alloc, files, log, names)?;
+    drop(contents);
     replay_taken(alloc, log, &images, out, err, workers)
 }

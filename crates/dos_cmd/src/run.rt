@@ -275,7 +275,8 @@ fn open_named<F: Files>(
     ensures stays { (n : List ℕ) → F.content files.new n ≡ F.content files.old n }
     ensures tells { F.tells files.new ≡ F.tells files.old }
 {
-    let (images, digests) = load_all(alloc, files, request.names)?;
+    let (images, digests, contents) = load_all(alloc, files, request.names)?;
+    drop(contents);
     let opened = open(alloc, &images, request.config);
     drop(images);
     Ok((opened?, digests))

@@ -228,6 +228,7 @@ pub(crate) fn save<F: Files, O: Sink, E: Sink, W: Workers>(
     ensures err_steady { result ≢ Err Refusal.Sink → E.faults err.new ≡ E.faults err.old }
     ensures fixed { W.fixed workers.new ≡ W.fixed workers.old }
 {
-    let (log, images) = take(alloc, files, log, names)?;
+    let (log, images, contents) = take(alloc, files, log, names)?;
+    drop(contents);
     save_taken(alloc, log, &images, round, to, files, out, err, workers)
 }

@@ -18,6 +18,7 @@ ghost use Rattle.dos_cmd.specs.Results.{Begun, CutShort, Did, Fails, WasDone, Le
 ghost use Rattle.dos_cmd.specs.Results.{Refused};
 ghost use Rattle.dos_cmd.specs.SaveLeaves.{SavedRun};
 
+use crate::debug::debug;
 use crate::generate::generate;
 use crate::inspect::inspect;
 use crate::migrate::migrate;
@@ -49,6 +50,7 @@ fn hire<W: Workers>(request: &Request, workers: &mut W)
         Request::Trace { workers: hired, .. } => workers.hire(*hired),
         Request::Save { workers: hired, .. } => workers.hire(*hired),
         Request::Resume { workers: hired, .. } => workers.hire(*hired),
+        Request::Debug { .. } => {}
     }
 }
 
@@ -138,6 +140,7 @@ fn execute<F: Files, H: Host, O: Sink, E: Sink, W: Workers>(
             ..
         } => save(alloc, log, *round, to, names, files, out, err, workers),
         Request::Resume { log, from, .. } => { resume(alloc, log, from, files, out, err, workers) }
+        Request::Debug { log, names, .. } => debug(alloc, log, names, files, host, out),
     }
 }
 
@@ -207,6 +210,9 @@ fn command<F: Files, H: Host, O: Sink, E: Sink, W: Workers>(
 ///   before is a whole replay, and no file is written.
 /// - `resume --log LOG --from GROUP [--workers N]` goes on with a saved group by what was left of
 ///   the log.
+/// - `debug --log LOG [--workers N] NAME ..` shows the run of a log, as far as the log fits it, to
+///   a debugger that speaks GDB's remote serial protocol: it reads `host` to the end of its input,
+///   and puts what is answered to `out`. No worker is hired, and there is no report.
 ///
 /// For `run`, `replay`, `gen`, `trace`, `save` and `resume` `workers` are hired, as many as the
 /// words say: at most so many threads run a round's packs, the caller's among them. What the call
@@ -216,11 +222,11 @@ fn command<F: Files, H: Host, O: Sink, E: Sink, W: Workers>(
 /// | Status | Comes |
 /// |---|---|
 /// | 0 | no process lives any more, or the image was inspected, or the log was written anew, or the
-/// group was saved |
+/// group was saved, or the debugger's input has ended |
 /// | 2 | exactly where the words ask for nothing |
 /// | 3 | exactly where an image is longer than 4194304 bytes or refused, or there is no room |
-/// | 4 | exactly where a log is longer than 67108864 bytes or refused, isn't of these images, or
-/// isn't of their run |
+/// | 4 | exactly where a log is longer than 67108864 bytes or refused, isn't of these images, or,
+/// but in `debug`, isn't of their run |
 /// | 5 | only where the count of `files` or of `host` rose |
 /// | 6 | exactly where a put failed: the count of `out` or `err` rose, and else both stand |
 /// | 7 | exactly where processes live after as many rounds as there may be |

@@ -117,6 +117,7 @@ pub(crate) fn trace<F: Files, O: Sink, E: Sink, W: Workers>(
     ensures err_steady { result ≢ Err Refusal.Sink → E.faults err.new ≡ E.faults err.old }
     ensures fixed { W.fixed workers.new ≡ W.fixed workers.old }
 {
-    let (log, images) = take(alloc, files, log, names)?;
+    let (log, images, contents) = take(alloc, files, log, names)?;
+    drop(contents);
     trace_taken(alloc, log, &images, out, err, workers)
 }

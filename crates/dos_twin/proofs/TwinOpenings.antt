@@ -1,7 +1,7 @@
 -- What the files of a twin's names are taken for.
 use Rattle.std.proofs.Common.{◌≡◌, ◌≤◌, ◌<◌, refl, ap, ◌∙◌, sym, subst, true, ℕ, List, map, Option}
-use Rattle.std.proofs.Common.{Some, None, Ok, Err, arith, Bool, false, leb, ◌&&◌, length}
-use Rattle.std.specs.Prelude.{IfSome, nat_lt, option_map, if◌then◌else◌}
+use Rattle.std.proofs.Common.{Some, None, Result, Ok, Err, arith, Bool, false, leb, ◌&&◌, length}
+use Rattle.std.specs.Prelude.{IfOk, IfSome, nat_lt, option_map, if◌then◌else◌}
 use Rattle.std.specs.List.{list_all}
 use Rattle.std.proofs.lemmas.Bool.{le-ltb, and_parts, leb-true}
 use Rattle.std.proofs.lemmas.Bool.Decides.{nat_tests}
@@ -16,7 +16,9 @@ use Rattle.dos_words.specs.Numbers.{Text}
 use Rattle.dos_words.proofs.RangeLaws.{guard_some}
 use Rattle.dos_cmd.specs.Judging.{Images, OfFiles, images_from, with_room}
 use Rattle.dos_cmd.specs.Stops.{IsNotOpened}
-use Rattle.dos_twin.specs.TwinImages.{IsNotRead, twin_config, twin_images}
+use Rattle.group_rounds.specs.Kernels.{Held}
+use Rattle.logged_runs.specs.Opened.{IsOpenedWith}
+use Rattle.dos_twin.specs.TwinImages.{AreBothOpened, IsNotRead, twin_config, twin_images}
 
 -- ---- room
 
@@ -57,6 +59,22 @@ taken contents names images others same fits h =
     then_judged (images_from 1 (map contents names)) (Ok images) (Ok images)
     (has_room images fits)
     (same_images (images_from 1 (map contents names)) images others same h)
+
+-- with both groups
+pub both_opened : (r : Result (Held × Held) Refusal) (contents : Text → Option (List ℕ))
+    (names : List Text) (images others : List Image) → images ≡ others
+    → IfSome (images_from 1 (map contents names)) (λ i. i ≡ Ok others)
+    → IfOk r (λ k. needed images ≤ twin_config.frames)
+    → IfOk r (λ k. IsOpenedWith k.0 images twin_config)
+    → IfOk r (λ k. IsOpenedWith k.1 images twin_config)
+    → IfOk r (λ k. AreBothOpened names contents k.0 k.1)
+both_opened (Ok k) contents names images others same h fits first second = record {
+  images = images;
+  is = taken contents names images others same fits h;
+  opened = first;
+  second_opened = second;
+}
+both_opened (Err why) contents names images others same h fits first second = tt
 
 -- ---- they aren't taken for images, or aren't opened
 

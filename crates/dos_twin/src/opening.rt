@@ -88,7 +88,8 @@ pub(crate) fn open_named<F: Files>(
     ensures later { F.faults files.old ≤ F.faults files.new }
     ensures stays { (n : List ℕ) → F.content files.new n ≡ F.content files.old n }
 {
-    let (images, _digests) = load_all(alloc, files, names)?;
+    let (images, _digests, contents) = load_all(alloc, files, names)?;
+    drop(contents);
     let opened = open_both(alloc, &images);
     drop(images);
     opened

@@ -15,9 +15,10 @@ use Rattle.clap.proofs.OnLiterals.{clap_on_literals}
 use Rattle.dos_words.specs.declared.request.Request.{Request}
 use Rattle.dos_words.specs.Numbers.{Text}
 use Rattle.dos_words.specs.Asked.{Values, run_asked, replay_asked, inspect_asked, gen_asked}
-use Rattle.dos_words.specs.Asked.{migrate_asked, resume_asked, save_asked, trace_asked}
+use Rattle.dos_words.specs.Asked.{debug_asked, migrate_asked, resume_asked, save_asked, trace_asked}
 use Rattle.dos_words.specs.Commands.{Command, run, replay, inspect, gen, migrate, commands}
-use Rattle.dos_words.specs.Commands.{command_named, resume_command, save_command, trace_command}
+use Rattle.dos_words.specs.Commands.{command_named, debug_command, resume_command, save_command}
+use Rattle.dos_words.specs.Commands.{trace_command}
 use Rattle.dos_words.specs.Canonical.{Pairs, pairs_and_names, are_once, is_option_allowed}
 use Rattle.dos_words.specs.Canonical.{are_allowed}
 use Rattle.dos_words.specs.Canonical.{values_in, canonical}
@@ -96,6 +97,10 @@ resume_asks : (v w : Values) (names : List Text) → AgreeOn resume_command.opti
     → resume_asked v names ≡ resume_asked w names
 resume_asks v w [] h = rw (h.0, h.1.0, h.1.1.0) refl
 resume_asks v w (name ∷ names) h = refl
+
+debug_asks : (v w : Values) (names : List Text) → AgreeOn debug_command.options v w
+    → debug_asked v names ≡ debug_asked w names
+debug_asks v w names h = rw (h.0, h.1.0) refl
 
 run_is_built : IsBuilt run (shape_at 0)
 unfolding clap_on_literals
@@ -191,6 +196,18 @@ resume_is_built = record {
   options = are_options (shape_at 7) resume_command.options refl;
   treats_names = inr (refl, λ v name names. refl);
   asks = resume_asks;
+}
+
+debug_is_built : IsBuilt debug_command (shape_at 8)
+unfolding clap_on_literals
+debug_is_built = record {
+  enters = search rules;
+  name_is = refl;
+  itself = refl;
+  level = search rules;
+  options = are_options (shape_at 8) debug_command.options refl;
+  treats_names = inl (record { by_index = refl; by_id = refl });
+  asks = debug_asks;
 }
 
 -- ---- canonical words of one command
@@ -300,7 +317,10 @@ named_built name command e =
               (shape_at 4, migrate_is_built),
               (
                 (shape_at 5, trace_is_built),
-                ((shape_at 6, save_is_built), ((shape_at 7, resume_is_built), tt)),
+                (
+                  (shape_at 6, save_is_built),
+                  ((shape_at 7, resume_is_built), ((shape_at 8, debug_is_built), tt)),
+                ),
               ),
             ),
           ),

@@ -10,13 +10,14 @@ use Rattle.clap.specs.Words.{Row, fault_of, subcommand_of}
 use Rattle.clap.specs.Kinds.{Kinds}
 use Rattle.dos_words.specs.declared.request.Request.{Request}
 use Rattle.dos_words.specs.declared.request.Request.TheVariants.{Run, Replay, Inspect, Gen}
-use Rattle.dos_words.specs.declared.request.Request.TheVariants.{Migrate, Trace, Save, Resume}
+use Rattle.dos_words.specs.declared.request.Request.TheVariants.{Debug, Migrate, Trace, Save}
+use Rattle.dos_words.specs.declared.request.Request.TheVariants.{Resume}
 use Rattle.dos_words.specs.Numbers.{Text, number, where_within, number_within, parts_by, post_in}
 use Rattle.dos_words.specs.Numbers.{posts_in_all, colon, comma}
 use Rattle.dos_words.specs.Asked.{Values, number_or, posts_or_none, number_if_given, most_u64}
 use Rattle.dos_words.specs.Asked.{workers_of, images_of, run_asked, replay_asked, inspect_asked}
 use Rattle.dos_words.specs.Asked.{gen_asked, migrate_asked, resume_asked, save_asked}
-use Rattle.dos_words.specs.Asked.{trace_asked}
+use Rattle.dos_words.specs.Asked.{debug_asked, trace_asked}
 use Rattle.dos_words.specs.Commands.{Command, commands, command_named}
 use Rattle.dos_words.specs.Canonical.{pairs_and_names, are_allowed, canonical, values_in}
 use Rattle.dos_words.specs.Clap.{words_app, asked_by, where_taken, values_among, names_among}
@@ -187,6 +188,14 @@ trace_fits value names r e =
     subst FitsRequest (some_is (Trace workers.0 log.0 images.0) r images.2)
     (workers_fit value workers.0 workers.1, images_fit names images.0 images.1)
 
+debug_fits : AsksInRange debug_asked
+debug_fits value names r e =
+    let workers = bind_some (workers_of value) _ r e in
+    let log = bind_some (value (codes "log")) _ r workers.2 in
+    let images = bind_some (images_of names) _ r log.2 in
+    subst FitsRequest (some_is (Debug workers.0 log.0 images.0) r images.2)
+    (workers_fit value workers.0 workers.1, images_fit names images.0 images.1)
+
 save_fits : AsksInRange save_asked
 save_fits value names r e =
     let workers = bind_some (workers_of value) _ r e in
@@ -261,7 +270,13 @@ named_fits name command e =
       run_fits,
       (
         replay_fits,
-        (inspect_fits, (gen_fits, (migrate_fits, (trace_fits, (save_fits, (resume_fits, tt)))))),
+        (
+          inspect_fits,
+          (
+            gen_fits,
+            (migrate_fits, (trace_fits, (save_fits, (resume_fits, (debug_fits, tt))))),
+          ),
+        ),
       ),
     ) e).0
 

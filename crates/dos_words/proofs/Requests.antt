@@ -2,7 +2,8 @@
 use Rattle.std.specs.Prelude.{ℕ, List, [], ◌∷◌, ◌++◌, flat_map, replicate, Some, None, codes, ◌≡◌}
 use Rattle.std.specs.Prelude.{refl}
 use Rattle.dos_words.specs.declared.request.Request.TheVariants.{Run, Replay, Inspect, Gen}
-use Rattle.dos_words.specs.declared.request.Request.TheVariants.{Migrate, Trace, Save, Resume}
+use Rattle.dos_words.specs.declared.request.Request.TheVariants.{Debug, Migrate, Trace, Save}
+use Rattle.dos_words.specs.declared.request.Request.TheVariants.{Resume}
 use Rattle.dos_words.specs.Request.{request}
 use Rattle.dos_world.specs.declared.Post.{Post}
 use Rattle.dos_words.specs.Numbers.{posts_from}
@@ -105,6 +106,22 @@ trace_no_log = refl
 
 trace_no_image : request (codes "trace" ∷ codes "--log" ∷ codes "l" ∷ []) ≡ None
 trace_no_image = refl
+
+-- ---- debug
+
+debug_one : request (codes "debug" ∷ codes "--log" ∷ codes "l" ∷ codes "a" ∷ [])
+    ≡ Some (Debug 4 (codes "l") (codes "a" ∷ []))
+debug_one = refl
+
+debug_workers : request (codes "debug" ∷ codes "--log" ∷ codes "l" ∷ codes "--workers" ∷ codes "1"
+    ∷ codes "a" ∷ codes "b" ∷ []) ≡ Some (Debug 1 (codes "l") (codes "a" ∷ codes "b" ∷ []))
+debug_workers = refl
+
+debug_no_log : request (codes "debug" ∷ codes "a" ∷ []) ≡ None
+debug_no_log = refl
+
+debug_no_image : request (codes "debug" ∷ codes "--log" ∷ codes "l" ∷ []) ≡ None
+debug_no_image = refl
 
 -- ---- the bounds of each number: the lowest and the highest, and one past them
 

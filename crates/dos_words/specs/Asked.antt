@@ -9,7 +9,8 @@ use Rattle.dos_world.specs.declared.Post.{Post}
 use Rattle.dos_words.specs.Numbers.{Text, ◌>>=◌, number_within, posts_from}
 use Rattle.dos_words.specs.declared.request.Request.{Request}
 use Rattle.dos_words.specs.declared.request.Request.TheVariants.{Run, Replay, Inspect, Gen}
-use Rattle.dos_words.specs.declared.request.Request.TheVariants.{Migrate, Trace, Save, Resume}
+use Rattle.dos_words.specs.declared.request.Request.TheVariants.{Debug, Migrate, Trace, Save}
+use Rattle.dos_words.specs.declared.request.Request.TheVariants.{Resume}
 
 -- the value of an option by its name, where it is given
 abbrev pub Values : Type 0
@@ -73,6 +74,14 @@ trace_asked value names = do
   log ← value (codes "log")
   images ← images_of names
   Some (Trace workers log images)
+
+-- `debug`, as `replay`
+abbrev pub debug_asked : Values → List Text → Option Request
+debug_asked value names = do
+  workers ← workers_of value
+  log ← value (codes "log")
+  images ← images_of names
+  Some (Debug workers log images)
 
 -- `save`
 abbrev pub save_asked : Values → List Text → Option Request

@@ -3,7 +3,7 @@ use Rattle.std.specs.Prelude.{Bool, true, false, List, [], ◌∷◌, Option, fi
 use Rattle.dos_words.specs.declared.request.Request.{Request}
 use Rattle.dos_words.specs.Numbers.{Text}
 use Rattle.dos_words.specs.Asked.{Values, run_asked, replay_asked, inspect_asked, gen_asked}
-use Rattle.dos_words.specs.Asked.{migrate_asked, trace_asked, save_asked, resume_asked}
+use Rattle.dos_words.specs.Asked.{debug_asked, migrate_asked, trace_asked, save_asked, resume_asked}
 
 -- its name, its options without their dashes, whether names follow them, and what it asks for
 pub record Command : Type 0 where
@@ -81,10 +81,20 @@ resume_command = record {
   asked = resume_asked;
 }
 
+-- shows a run by a log to a debugger
+abbrev pub debug_command : Command
+debug_command = record {
+  name = codes "debug";
+  options = codes "workers" ∷ codes "log" ∷ [];
+  has_names = true;
+  asked = debug_asked;
+}
+
 -- all of them
 abbrev pub commands : List Command
 commands =
-    run ∷ replay ∷ inspect ∷ gen ∷ migrate ∷ trace_command ∷ save_command ∷ resume_command ∷ []
+    run ∷ replay ∷ inspect ∷ gen ∷ migrate ∷ trace_command ∷ save_command ∷ resume_command
+    ∷ debug_command ∷ []
 
 -- the command of this name
 abbrev pub command_named : Text → Option Command

@@ -7,7 +7,8 @@ use Rattle.dos_words.specs.Numbers.{Text}
 use Rattle.dos_words.specs.Asked.{most_u64}
 use Rattle.dos_words.specs.declared.request.Request.{Request}
 use Rattle.dos_words.specs.declared.request.Request.TheVariants.{Run, Replay, Inspect, Gen}
-use Rattle.dos_words.specs.declared.request.Request.TheVariants.{Migrate, Trace, Save, Resume}
+use Rattle.dos_words.specs.declared.request.Request.TheVariants.{Debug, Migrate, Trace, Save}
+use Rattle.dos_words.specs.declared.request.Request.TheVariants.{Resume}
 
 -- a post with its round
 pub record FitsAskedPost (post : ℕ × Post) : Type 0 where
@@ -38,6 +39,7 @@ FitsRequest (Gen number threads workers) =
     (number ≤ 4294967295) × IsInRange 1 32 threads × IsInRange 1 32 workers
 FitsRequest (Migrate log to) = ⊤
 FitsRequest (Trace workers log names) = IsInRange 1 32 workers × IsInRange 1 8 (length names)
+FitsRequest (Debug workers log names) = IsInRange 1 32 workers × IsInRange 1 8 (length names)
 FitsRequest (Save workers log round to names) =
     IsInRange 1 32 workers × IsInRange 1 1000000 round × IsInRange 1 8 (length names)
 FitsRequest (Resume workers log from) = IsInRange 1 32 workers

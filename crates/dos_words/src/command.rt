@@ -4,7 +4,8 @@ ghost use Rattle.clap.specs.Words.{App, Shape, app_of, shape_of, rule_of, with_r
 ghost use Rattle.clap.specs.Words.{with_subcommand, new_app};
 ghost use Rattle.clap.specs.declared.builder.command.Command.TheViews.{out-Command as fields_of};
 ghost use Rattle.dos_words.specs.Commands.{run, replay, inspect, gen, migrate};
-ghost use Rattle.dos_words.specs.Commands.{resume_command, save_command, trace_command};
+ghost use Rattle.dos_words.specs.Commands.{debug_command, resume_command, save_command};
+ghost use Rattle.dos_words.specs.Commands.{trace_command};
 ghost use Rattle.dos_words.specs.Clap.{option_rule, names_rule, command_shape, bare_app, words_app};
 
 use clap::{Arg, ArgAction, Command};
@@ -170,6 +171,15 @@ fn resume_command<'a>(alloc: Global) -> Result<Command<'a>, AllocError>
     with_options(alloc, Command::new(alloc, "resume"), &options)
 }
 
+fn debugs_command<'a>(alloc: Global) -> Result<Command<'a>, AllocError>
+    ensures shape { IfOk result (λ c. shape_of c ≡ command_shape debug_command) }
+    ensures local { IfOk result (λ c. (fields_of c).has_globals ≡ false) }
+{
+    let options = ["workers", "log"];
+    let command = with_options(alloc, Command::new(alloc, "debug"), &options);
+    with_names(alloc, command)
+}
+
 /// The program itself. Its words are without its name; help is no word of it.
 fn bare_command<'a>(alloc: Global) -> Command<'a>
     ensures { app_of result ≡ bare_app }
@@ -266,8 +276,8 @@ fn first_commands<'a>(alloc: Global) -> Result<Command<'a>, AllocError>
     with_command(logs_command(alloc), traces_command(alloc))
 }
 
-/// The program with all commands but the last.
-fn most_commands<'a>(alloc: Global) -> Result<Command<'a>, AllocError>
+/// The program with all commands but the last two.
+fn many_commands<'a>(alloc: Global) -> Result<Command<'a>, AllocError>
     ensures { IfOk result (λ c.
         app_of c
         ≡ fold with_subcommand bare_app
@@ -277,9 +287,21 @@ fn most_commands<'a>(alloc: Global) -> Result<Command<'a>, AllocError>
     with_command(first_commands(alloc), save_command(alloc))
 }
 
+/// The program with all commands but the last.
+fn most_commands<'a>(alloc: Global) -> Result<Command<'a>, AllocError>
+    ensures { IfOk result (λ c.
+        app_of c
+        ≡ fold with_subcommand bare_app
+        (map command_shape
+        (run ∷ replay ∷ inspect ∷ gen ∷ migrate ∷ trace_command ∷ save_command ∷ resume_command
+        ∷ []))) }
+{
+    with_command(many_commands(alloc), resume_command(alloc))
+}
+
 /// The program with its commands.
 pub fn words_command<'a>(alloc: Global) -> Result<Command<'a>, AllocError>
     ensures { IfOk result (λ c. app_of c ≡ words_app) }
 {
-    with_command(most_commands(alloc), resume_command(alloc))
+    with_command(most_commands(alloc), debugs_command(alloc))
 }

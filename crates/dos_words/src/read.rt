@@ -7,7 +7,7 @@ ghost use Rattle.dos_words.specs.Numbers.{number_within};
 ghost use Rattle.dos_words.specs.Asked.{most_u64, number_or, number_if_given, posts_or_none};
 ghost use Rattle.dos_words.specs.Asked.{images_of, run_asked, replay_asked, inspect_asked};
 ghost use Rattle.dos_words.specs.Asked.{gen_asked, migrate_asked, resume_asked, save_asked};
-ghost use Rattle.dos_words.specs.Asked.{trace_asked};
+ghost use Rattle.dos_words.specs.Asked.{debug_asked, trace_asked};
 ghost use Rattle.dos_words.specs.Clap.{words_app, asked_by, clap_request};
 ghost use Rattle.dos_words.specs.Request.{request};
 ghost use Rattle.dos_words.specs.Reads.{Reads, Takes, values_found, names_given, names_found};
@@ -220,6 +220,21 @@ fn read_trace(alloc: Global, matches: &ArgMatches<'_>) -> Result<Request, WordsE
     })
 }
 
+/// What `debug` asks for.
+fn read_debug(alloc: Global, matches: &ArgMatches<'_>) -> Result<Request, WordsError>
+    ensures { Reads result (debug_asked (values_found matches.now) (names_found matches.now)) }
+{
+    let Some(workers) = number_of(matches, "workers", 1, 32, 4) else {
+        return Err(WordsError::Refused);
+    };
+    let (log, names) = files_of(alloc, matches)?;
+    Ok(Request::Debug {
+        workers,
+        log,
+        names,
+    })
+}
+
 /// What `inspect` asks for.
 fn read_inspect(alloc: Global, matches: &ArgMatches<'_>) -> Result<Request, WordsError>
     ensures { Reads result (inspect_asked (values_found matches.now) (names_found matches.now)) }
@@ -357,6 +372,9 @@ fn read_command(alloc: Global, name: &str, matches: &ArgMatches<'_>) -> Result<R
     }
     if name == "resume" {
         return read_resume(alloc, matches);
+    }
+    if name == "debug" {
+        return read_debug(alloc, matches);
     }
     Err(WordsError::Refused)
 }

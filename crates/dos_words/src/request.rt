@@ -206,6 +206,15 @@ pub enum Request {
         /// The file of the saved group.
         from: Text,
     },
+    /// A run by the answers of a log, as a debugger looks at it.
+    Debug {
+        /// How many threads of the host run the rounds: 1 to 32.
+        workers: u32,
+        /// The file of the log.
+        log: Text,
+        /// The files of the images, 1 to 8.
+        names: Names,
+    },
     /// A run by the answers of a log, of which it is printed which frames change their owners.
     Trace {
         /// How many threads of the host run the rounds: 1 to 32.

@@ -219,6 +219,38 @@ fn resumes(alloc: Global, texts: &[&str]) -> Option<u32> {
     }
 }
 
+/// The workers with which `a` and `b` are debugged by the log `l`.
+fn debugs(alloc: Global, texts: &[&str]) -> Option<u32> {
+    match asked(alloc, texts) {
+        Ok(
+            Request::Debug {
+                workers,
+                log,
+                names,
+            },
+        ) => {
+            let are_given = log.as_str() == "l" && are_names(&names, &["a", "b"]);
+            if are_given { Some(workers) } else { None }
+        }
+        _ => None,
+    }
+}
+
+/// Words of debugged runs, and their workers.
+static DEBUGS: [(&[&str], u32); 3] = [
+    (&["debug", "--log", "l", "a", "b"], 4),
+    (&["debug", "a", "b", "--workers", "1", "--log", "l"], 1),
+    (&["debug", "--workers=32", "--log=l", "--", "a", "b"], 32),
+];
+
+#[test]
+fn a_debugged_run_has_a_log_and_images(rt: HostRuntime) {
+    let alloc = rt.alloc();
+    for &(texts, wanted) in &DEBUGS {
+        same_at(&rt, debugs(alloc, texts), Some(wanted), texts);
+    }
+}
+
 /// Words of saves, and their workers and rounds.
 static SAVES: [(&[&str], [u32; 2]); 5] = [
     (

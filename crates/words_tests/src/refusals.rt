@@ -115,6 +115,26 @@ fn words_of_saved_groups_are_refused(rt: HostRuntime) {
     }
 }
 
+// A debugged run has a log and 1 to 8 names.
+static DEBUGS_REFUSED: [&[&str]; 7] = [
+    &["debug", "a"],
+    &["debug", "--log", "l"],
+    &["debug", "--log", "l", "--log", "l", "a"],
+    &["debug", "--log", "l", "--workers", "0", "a"],
+    &["debug", "--log", "l", "--workers", "33", "a"],
+    &["debug", "--log", "l", "--round", "3", "a"],
+    &[
+        "debug", "--log", "l", "a", "b", "c", "d", "e", "f", "g", "h", "i",
+    ],
+];
+
+#[test]
+fn words_of_debugged_runs_are_refused(rt: HostRuntime) {
+    for &texts in &DEBUGS_REFUSED {
+        check_refused(&rt, rt.alloc(), texts);
+    }
+}
+
 // Values of a save's option that are refused.
 static SAVED_OUT_OF_RANGE: [(&str, &str); 10] = [
     ("--round", "0"),

@@ -13,6 +13,7 @@ returns-in-Err-TooLong g c =
       accepted = tt;
       digest = tt;
       fits = tt;
+      content = tt;
       refused = told_long c.args.image (g.F.Files.content c.args.files.now c.args.name.now)
           (get.too_long (is_err_of _ _ c.in-Err-TooLong.field-0-is));
       fault = λ is. absurd (long_no_fault _ is);
@@ -30,6 +31,7 @@ returns-in-Err-Fault g c =
       accepted = tt;
       digest = tt;
       fits = tt;
+      content = tt;
       refused = tt;
       fault = λ is. get.fault (is_err_of _ _ c.in-Err-Fault.field-0-is);
       numbered = tt;
@@ -46,6 +48,7 @@ returns-in-Err-Memory g c =
       accepted = tt;
       digest = tt;
       fits = tt;
+      content = tt;
       refused = tt;
       fault = λ is. absurd (memory_no_fault is);
       numbered = tt;
@@ -67,18 +70,22 @@ pub returns-in-Ok-read_image-clause-digest : goal.returns-in-Ok-read_image-claus
 returns-in-Ok-read_image-clause-digest g c =
     told_digest (g.F.Files.content c.args.files.now c.args.name.now) c.in-Ok.bytes.items
     c.deref-in-Ok-read_image.result.now _ c.in-Ok.ensures.bytes
-    c.deref-in-Ok-read_image.ensures.value c.digest_of.ensures
+    c.deref-in-Ok-read_image.ensures.value c.digest_of-digest.ensures
 
 pub returns-in-Ok-read_image-clause-fault : goal.returns-in-Ok-read_image-clause-fault
 returns-in-Ok-read_image-clause-fault g c = λ is. absurd (ok_no_err _ _ is)
 
-pub returns : goal.returns
-returns g c =
+pub returns-in-Ok-read_image-clause-content : goal.returns-in-Ok-read_image-clause-content
+returns-in-Ok-read_image-clause-content g c = c.in-Ok.ensures.bytes
+
+pub returns-in-Err : goal.returns-in-Err
+returns-in-Err g c =
     let get = c.in-Ok.ensures in
     record {
       accepted = tt;
       digest = tt;
       fits = tt;
+      content = tt;
       refused = told_not_read c.args.image
           (g.F.Files.content c.args.files.now c.args.name.now) c.in-Ok.bytes.items
           c.in-Err.error _ c.refusal_of.ensures get.bytes get.within

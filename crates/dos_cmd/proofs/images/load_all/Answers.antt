@@ -1,9 +1,10 @@
-use Rattle.std.proofs.Common.{◌≤◌, ◌∙◌, ◌+◌, length, refl, le_refl, le_trans, subst}
+use Rattle.std.proofs.Common.{◌≤◌, ◌∙◌, ◌+◌, ap, length, refl, le_refl, le_trans, subst}
 use Rattle.std.proofs.lemmas.Result.{err_from_is_err_and}
 use Rattle.dos_cmd.proofs.Asked.{image_not_read, images_read, none_asked, one_more}
 use Rattle.dos_cmd.proofs.RunEnds.{err_again, ok_no_err, then_rose}
+use Rattle.debug_connection.specs.Keeping.{texts_of}
 use Rattle.dos_cmd.proofs.RunFiles.{all_counted, digests_all, none_read, reads_all, reads_first}
-use Rattle.dos_cmd.proofs.RunFiles.{reads_more}
+use Rattle.dos_cmd.proofs.RunFiles.{keeps_all, keeps_first, keeps_more, reads_more}
 use Rattle.dos_cmd.proofs.images.load_all.Goals as goal
 
 pub loop-index-init : goal.loop-index-init
@@ -11,6 +12,8 @@ loop-index-init g c = record {
   reads = reads_first (g.F.Files.content c.args.files.now) c.args.names.now
       c.new-images.result.items c.new-digests.result c.new-images.ensures.items
       c.new-digests.ensures;
+  kept = keeps_first (g.F.Files.content c.args.files.now) c.args.names.now _
+      (ap texts_of c.new-contents.ensures.items);
   stays = λ n. refl;
   tells = refl;
   asked = none_asked _;
@@ -25,6 +28,10 @@ loop-index-preserved g c =
           c.at.result.now next.parsed next.digest c.at.ensures c.loop-index.invariant.stays
           next.accepted next.digest_is next.fits next.image_last next.digest_last
           c.loop-index.invariant.reads;
+      kept = keeps_more (g.F.Files.content c.args.files.now)
+          (g.F.Files.content c.loop-index.files) c.args.names.now c.loop-index.index _ _
+          c.at.result.now c.at.ensures c.loop-index.invariant.stays c.in_ok-load_next.ensures.kept
+          c.loop-index.invariant.kept;
       stays = λ n. c.in_ok-load_next.ensures.stays n ∙ c.loop-index.invariant.stays n;
       tells = c.in_ok-load_next.ensures.tells ∙ c.loop-index.invariant.tells;
       asked = one_more _ _ _ c.args.names.now c.loop-index.index c.at.result.now c.at.ensures
@@ -40,6 +47,7 @@ returns-in_err-load_next g c =
     rw (p.1, p.2) (record {
       accepted = tt;
       digests = tt;
+      contents = tt;
       count = tt;
       digest_count = tt;
       are_digests = tt;
@@ -66,6 +74,7 @@ returns g c =
     record {
       accepted = reads_all files c.args.names.now c.loop-index.index _ _ le all.reads;
       digests = digests_all files c.args.names.now c.loop-index.index _ _ le all.reads;
+      contents = keeps_all files c.args.names.now c.loop-index.index _ le all.kept;
       count = all.reads.count ∙ whole;
       digest_count = all.reads.digest_count ∙ whole;
       are_digests = all.reads.are_digests;

@@ -217,3 +217,25 @@ returns-in-Trace g c =
       err_steady = c.trace.ensures.err_steady;
       fixed = c.trace.ensures.fixed;
     }
+
+-- ---- debug
+
+pub returns-in-Debug : goal.returns-in-Debug
+returns-in-Debug g c =
+    let workers = c.in-Debug.workers in
+    let err = g.E.Sink.told c.args.err.now in
+    let tally = g.W.Workers.tally c.args.workers.now in
+    record {
+      did = did_as _ _ _ _ (c.debug.ensures.did workers err tally) c.in-Debug.is;
+      leaves = leaves_as _ _ _ _ _ (c.debug.ensures.leaves workers err tally
+          (g.E.Sink.faults c.args.err.now)) c.in-Debug.is;
+      asked = asks_as c.debug.result _ _ _ _ c.in-Debug.is (c.debug.ensures.asked workers);
+      files_later = c.debug.ensures.files_later;
+      host_later = c.debug.ensures.host_later;
+      host_steady = c.debug.ensures.host_steady;
+      out_later = c.debug.ensures.out_later;
+      err_later = le_refl _;
+      out_steady = c.debug.ensures.out_steady;
+      err_steady = λ _. refl;
+      fixed = refl;
+    }

@@ -1,7 +1,7 @@
-use Rattle.dos_words.specs.Commands.{resume_command}
+use Rattle.dos_words.specs.Commands.{debug_command}
 use Rattle.dos_words.specs.Clap.{command_shape}
 use Rattle.dos_words.proofs.command.words_command.Goals as goal
 
 pub returns : goal.returns
-returns c = c.with_command.ensures _ (command_shape resume_command) c.most_commands.ensures
-    c.resume_command.ensures.shape c.resume_command.ensures.local
+returns c = c.with_command.ensures _ (command_shape debug_command) c.most_commands.ensures
+    c.debugs_command.ensures.shape c.debugs_command.ensures.local

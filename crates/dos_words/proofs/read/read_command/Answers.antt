@@ -6,7 +6,8 @@ use Rattle.dos_words.specs.declared.request.Request.{Request}
 use Rattle.dos_words.specs.declared.error.WordsError.{WordsError}
 use Rattle.dos_words.specs.Numbers.{Text}
 use Rattle.dos_words.specs.Commands.{Command, command_named, run, replay, inspect, gen}
-use Rattle.dos_words.specs.Commands.{migrate, resume_command, save_command, trace_command}
+use Rattle.dos_words.specs.Commands.{debug_command, migrate, resume_command, save_command}
+use Rattle.dos_words.specs.Commands.{trace_command}
 use Rattle.dos_words.specs.Clap.{values_among, names_among, asked_by}
 use Rattle.dos_words.specs.Reads.{Reads}
 use Rattle.dos_words.proofs.read.read_command.Goals as goal
@@ -23,8 +24,11 @@ later_named : (name : Text) (command : Command) (more : List Command)
 later_named name command more is = rw is refl
 
 -- those that come after a command
+abbrev behind_save : List Command
+behind_save = resume_command ∷ debug_command ∷ []
+
 abbrev behind_trace : List Command
-behind_trace = save_command ∷ resume_command ∷ []
+behind_trace = save_command ∷ behind_save
 
 abbrev behind_migrate : List Command
 behind_migrate = trace_command ∷ behind_trace
@@ -117,7 +121,7 @@ returns-then-eq-7 c =
     ∙ later_named name gen behind_gen (sym c.if-eq-4.ensures)
     ∙ later_named name migrate behind_migrate (sym c.if-eq-5.ensures)
     ∙ later_named name trace_command behind_trace (sym c.if-eq-6.ensures)
-    ∙ first_named name save_command (resume_command ∷ []) (sym c.if-eq-7.ensures))
+    ∙ first_named name save_command behind_save (sym c.if-eq-7.ensures))
     c.read_save.ensures
 
 pub returns-then-eq-8 : goal.returns-then-eq-8
@@ -131,8 +135,24 @@ returns-then-eq-8 c =
     ∙ later_named name gen behind_gen (sym c.if-eq-4.ensures)
     ∙ later_named name migrate behind_migrate (sym c.if-eq-5.ensures)
     ∙ later_named name trace_command behind_trace (sym c.if-eq-6.ensures)
-    ∙ later_named name save_command (resume_command ∷ []) (sym c.if-eq-7.ensures)
-    ∙ first_named name resume_command [] (sym c.if-eq-8.ensures)) c.read_resume.ensures
+    ∙ later_named name save_command behind_save (sym c.if-eq-7.ensures)
+    ∙ first_named name resume_command (debug_command ∷ []) (sym c.if-eq-8.ensures))
+    c.read_resume.ensures
+
+pub returns-then-eq-9 : goal.returns-then-eq-9
+returns-then-eq-9 c =
+    let name : Text = c.args.name.now in
+    reads_named name (rows_of (found_of c.args.matches.now)) (Some debug_command)
+    c.read_debug.result
+    (later_named name run behind_run (sym c.if-eq.ensures)
+    ∙ later_named name replay behind_replay (sym c.if-eq-2.ensures)
+    ∙ later_named name inspect behind_inspect (sym c.if-eq-3.ensures)
+    ∙ later_named name gen behind_gen (sym c.if-eq-4.ensures)
+    ∙ later_named name migrate behind_migrate (sym c.if-eq-5.ensures)
+    ∙ later_named name trace_command behind_trace (sym c.if-eq-6.ensures)
+    ∙ later_named name save_command behind_save (sym c.if-eq-7.ensures)
+    ∙ later_named name resume_command (debug_command ∷ []) (sym c.if-eq-8.ensures)
+    ∙ first_named name debug_command [] (sym c.if-eq-9.ensures)) c.read_debug.ensures
 
 pub returns : goal.returns
 returns c =
@@ -145,5 +165,6 @@ returns c =
     ∙ later_named name gen behind_gen (sym c.if-eq-4.ensures)
     ∙ later_named name migrate behind_migrate (sym c.if-eq-5.ensures)
     ∙ later_named name trace_command behind_trace (sym c.if-eq-6.ensures)
-    ∙ later_named name save_command (resume_command ∷ []) (sym c.if-eq-7.ensures)
-    ∙ later_named name resume_command [] (sym c.if-eq-8.ensures))
+    ∙ later_named name save_command behind_save (sym c.if-eq-7.ensures)
+    ∙ later_named name resume_command (debug_command ∷ []) (sym c.if-eq-8.ensures)
+    ∙ later_named name debug_command [] (sym c.if-eq-9.ensures))
