@@ -1,1 +1,4 @@
+pub mod Standing
+pub mod Halting
+pub mod Asking
 pub mod Debugging

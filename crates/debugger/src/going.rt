@@ -1,4 +1,13 @@
 // A moment that a person wants to go to, and all that was put up to a moment.
+ghost use Rattle.std.specs.Prelude.{◌≡◌, ◌≤◌, [], IfOk, List, OnOk, false, None};
+ghost use Rattle.debug_session.specs.Goals.{goal_position, halt_gone, is_moment_reached};
+ghost use Rattle.debug_session.specs.Goals.{is_somebody_shown, rewound};
+ghost use Rattle.debug_session.specs.Positions.{Position, position_after};
+ghost use Rattle.debug_session.specs.Sessions.{Session as Told};
+ghost use Rattle.gdb_packets.specs.declared.resumptions.Resumption.{Resumption};
+ghost use Rattle.recorded_walk.specs.Playbacks.{IsStartOf};
+ghost use Rattle.debugger.specs.Halting.{HasKept, halt_meant, peopled_at};
+ghost use Rattle.debugger.specs.Standing.{IsAsked, IsSame, StillKnows, here};
 
 use crate::forwards::Put;
 use crate::halts::Halt;
@@ -11,7 +20,11 @@ const GONE: u8 = 2;
 
 impl Session {
     /// The moment isn't before this round and move.
-    fn is_reached(&self, round: u64, made: u64) -> bool {
+    fn is_reached(&self, round: u64, made: u64) -> bool
+        requires { self.now.failed ≡ false }
+        ensures { (start : Position) → IsStartOf self.now.playback start
+            → result ≡ is_moment_reached round made (here self.now start).moment }
+    {
         let begun = u64::from(self.playback.begun());
         if round < begun {
             return true;
@@ -22,15 +35,53 @@ impl Session {
         made <= self.playback.made()
     }
 
-    /// Goes on to the first moment that isn't before this round and move, or to the last one; how
-    /// many moves lead to the last moment up to there at which a process that is shown lives, or to
-    /// the first.
-    fn find_peopled(&mut self, round: u64, made: u64) -> Result<u64, AllocError> {
+    /// Whether some process that is shown lives here.
+    fn is_somebody_shown(&self) -> bool
+        requires { self.now.failed ≡ false }
+        ensures { (start : Position) (s : Told) → IsStartOf self.now.playback start
+            → IsAsked self.now start s
+            → result ≡ is_somebody_shown s (here self.now start).moment.world }
+    {
+        self.client.is_somebody_shown(self.playback.state())
+    }
+
+    /// The last moment up to here at which a process that is shown lives, by the last one in front
+    /// of
+    /// this one.
+    fn peopled_here(&self, peopled: u64) -> u64
+        requires { self.now.failed ≡ false }
+        ensures peopled { (start : Position) (s : Told) → IsStartOf self.now.playback start
+            → IsAsked self.now start s
+            → (is_somebody_shown s (here self.now start).moment.world ≡ false
+            → position_after peopled start ≡ peopled_at s (here self.now start))
+            → position_after result start ≡ peopled_at s (here self.now start) }
+        ensures within { peopled ≤ self.now.furthest → result ≤ self.now.furthest }
+    {
+        if self.is_somebody_shown() {
+            return self.playback.moves();
+        }
+        peopled
+    }
+
+    /// Goes from the start to the first moment that isn't before this round and move, or to the
+    /// last
+    /// one; how many moves lead to the last moment up to there at which a process that is shown
+    /// lives, or to the first.
+    fn find_peopled(&mut self, round: u64, made: u64) -> Result<u64, AllocError>
+        requires running { self.old.failed ≡ false }
+        requires first { self.old.playback.moves ≡ 0 }
+        ensures peopled { IfOk result (λ moves. (start : Position) (s : Told)
+            → IsStartOf self.old.playback start → IsAsked self.old start s
+            → rewound s.position ≡ start
+            → position_after moves start ≡ goal_position s round made) }
+        ensures there { IfOk result (λ moves. moves ≤ self.new.furthest) }
+        ensures same { IsSame self.old self.new }
+        ensures known { OnOk result (StillKnows self.old self.new) }
+        ensures failed { OnOk result (self.new.failed ≡ false) }
+    {
         let mut peopled = 0;
         for _ in 0..u64::MAX {
-            if self.client.is_somebody_shown(self.playback.state()) {
-                peopled = self.playback.moves();
-            }
+            peopled = self.peopled_here(peopled);
             if self.is_reached(round, made) {
                 return Ok(peopled);
             }
@@ -38,11 +89,23 @@ impl Session {
                 return Ok(peopled);
             }
         }
+        // no history is as long
         Err(AllocError)
     }
 
     /// The halt of a session that goes to a moment.
-    pub(crate) fn halt_gone(&mut self, round: u64, made: u64) -> Result<Halt, AllocError> {
+    pub(crate) fn halt_gone(&mut self, round: u64, made: u64) -> Result<Halt, AllocError>
+        requires { self.old.failed ≡ false }
+        ensures halt { IfOk result (λ halt. (rs : List Resumption) (start : Position) (s : Told)
+            → IsStartOf self.old.playback start → IsAsked self.old start s
+            → s.position ≡ here self.old start
+            → halt_gone s rs round made ≡ halt_meant s rs start halt) }
+        ensures there { IfOk result (λ halt. halt.moves ≤ self.new.furthest) }
+        ensures born { IfOk result (λ halt. halt.born ≡ None) }
+        ensures same { IsSame self.old self.new }
+        ensures known { OnOk result (StillKnows self.old self.new) }
+        ensures failed { OnOk result (self.new.failed ≡ false) }
+    {
         self.go_to(0)?;
         let moves = self.find_peopled(round, made)?;
         let mut halt = Halt::at(moves, None, Cause::Plainly);
@@ -51,11 +114,21 @@ impl Session {
     }
 
     /// What all moves up to this moment have put.
-    pub(crate) fn puts_so_far(&mut self, puts: &mut Vec<Put>) -> Result<(), AllocError> {
+    pub(crate) fn puts_so_far(&mut self, puts: &mut Vec<Put>) -> Result<(), AllocError>
+        requires running { self.old.failed ≡ false }
+        requires none { puts.old.items ≡ [] }
+        ensures puts { OnOk result ((start : Position) → IsStartOf self.old.playback start
+            → HasKept start 0 self.old.playback.moves puts.new.items) }
+        ensures moves { OnOk result (self.new.playback.moves ≡ self.old.playback.moves) }
+        ensures same { IsSame self.old self.new }
+        ensures failed { OnOk result (self.new.failed ≡ false) }
+    {
         let moves = self.playback.moves();
         self.go_to(0)?;
         for index in 0..moves {
-            let _made = self.advance()?;
+            let Some(_) = self.advance()? else {
+                return Err(AllocError);
+            };
             self.keep_puts(puts, index)?;
         }
         Ok(())

@@ -3,10 +3,10 @@ ghost use Rattle.std.specs.Prelude.{◌≡◌, ◌≢◌, ◌≤◌, Err, IfErr,
 ghost use Rattle.debug_connection.specs.Keeping.{texts_of};
 ghost use Rattle.dos_io.specs.Outside.{Rose};
 ghost use Rattle.flat_machine.specs.Opening.{needed};
-ghost use Rattle.logged_runs.specs.Recording.{host_seen};
 ghost use Rattle.dos_world.specs.Lawful.{IsConfig};
+ghost use Rattle.logged_runs.specs.Recording.{host_seen};
 ghost use Rattle.logged_runs.specs.Replaying.{config_of};
-ghost use Rattle.debugger.specs.Debugging.{HasDebugged, HasStopped};
+ghost use Rattle.debugger.specs.Debugging.{HasDebugged, HasStopped, debug_stop};
 
 use crate::opening::open_session;
 use crate::stops::DebugStop;
@@ -33,8 +33,20 @@ fn config_of(log: &Log) -> Config
     }
 }
 
+// why it was stopped, of the whole call
+fn debug_stop(stop: ServeStop) -> DebugStop
+    ensures { result ≡ debug_stop stop }
+{
+    match stop {
+        ServeStop::HostFault => DebugStop::HostFault,
+        ServeStop::SinkFault => DebugStop::SinkFault,
+        ServeStop::Memory => DebugStop::Memory,
+    }
+}
+
 /// Opens the group of these images, and shows its run by this log to a debugger: reads what the
-/// host gives to its end, and puts what is answered. `names` and `files` are those of the images.
+/// host
+/// gives to its end, and puts what is answered. `names` and `files` are those of the images.
 pub fn debug_group<H: Host, O: Sink>(
     alloc: Global,
     images: Vec<Image>,
@@ -77,8 +89,6 @@ pub fn debug_group<H: Host, O: Sink>(
     drop(session);
     match served {
         Ok(()) => Ok(()),
-        Err(ServeStop::HostFault) => Err(DebugStop::HostFault),
-        Err(ServeStop::SinkFault) => Err(DebugStop::SinkFault),
-        Err(ServeStop::Memory) => Err(DebugStop::Memory),
+        Err(stop) => Err(debug_stop(stop)),
     }
 }
