@@ -2,6 +2,9 @@ pub mod Refusals
 pub mod Granted
 pub mod Reached
 pub mod Stepping
+pub mod Freely
+pub mod SameGroup
+pub mod Stretching
 pub mod Stopping
 pub mod Turned
 pub mod TurnPlays
@@ -12,4 +15,6 @@ pub mod Walking
 pub mod WalkFronts
 pub mod Making
 pub mod ManyMoves
+pub mod RunningOn
 mod WorkedWalks
+pub mod Guarding

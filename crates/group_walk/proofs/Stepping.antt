@@ -31,7 +31,7 @@ use Rattle.group_walk.specs.Needs.{reason_of}
 
 -- ---- a thread that changes twice
 
-changed-then : (f g : Thread → Thread) (ts : List (Option Thread)) (t : ℕ)
+pub changed-then : (f g : Thread → Thread) (ts : List (Option Thread)) (t : ℕ)
     → changed (option_map g) (changed (option_map f) ts t) t
     ≡ changed (option_map (λ x. g (f x))) ts t
 changed-then f g ts zero = refl
@@ -48,7 +48,7 @@ changed-then f g ts (suc i) = at_place ts i
 -- ---- a step in a world in which its thread has another budget
 
 -- what a world becomes, where there is one
-abbrev behind : (World → World) → Result World Reason → Result World Reason
+abbrev pub behind : (World → World) → Result World Reason → Result World Reason
 behind f (Ok next) = Ok (f next)
 behind f (Err reason) = Err reason
 

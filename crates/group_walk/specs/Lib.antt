@@ -2,3 +2,4 @@ pub mod Needs
 pub mod Walks
 pub mod Places
 pub mod Plays
+pub mod Stretches

@@ -5,7 +5,7 @@ ghost use Rattle.std.specs.Vec.{vec_capacity};
 ghost use Rattle.dos_world.specs.Play.{done};
 ghost use Rattle.dos_io.specs.Shims.{HasNoEnd};
 ghost use Rattle.flat_machine.specs.Rest.{settled};
-ghost use Rattle.group_moves.specs.Moments.{settled_scene};
+ghost use Rattle.group_moves.specs.Moments.{moment_at, settled_scene};
 ghost use Rattle.group_moves.specs.Moves.{begun_scene, kind_by, rest_turn};
 ghost use Rattle.group_moves.specs.Places.{between_rounds};
 ghost use Rattle.kernel_calls.specs.Plays.{Plays};
@@ -14,11 +14,12 @@ ghost use Rattle.proc_table.specs.Tables.{IsLiveThread};
 ghost use Rattle.group_rounds.specs.Phases.{ready_in};
 ghost use Rattle.group_walk.specs.Places.{HasMove, at_part, at_rest, place_at};
 ghost use Rattle.group_walk.specs.Plays.{settled_move, turn_in, world_of_scene};
+ghost use Rattle.group_walk.specs.Stretches.{GoesManyOn};
 ghost use Rattle.group_walk.specs.Walks.{AreThere, ComesTo, kind_named};
 
 use crate::passing::{is_part_over, is_rest_over, pass_parts, pass_rests};
 use crate::stops::why_stops;
-use crate::turns::{step_once, take_turn};
+use crate::turns::{step_on_keeping, step_once, take_turn};
 use crate::{MoveKind, Phase};
 use dos_io::Border;
 use dos_world::{Ending, Reason};
@@ -108,6 +109,45 @@ pub(crate) fn run_next(state: &mut State, starters: &[u32], index: usize) -> (Ph
     (Phase::Parallel, index)
 }
 
+/// Instructions of the starter at an index in the parallel phase, at most so many, before each of
+/// which it is at none of these addresses, and which change no byte of these frames: how many, and
+/// who has a move next then.
+pub(crate) fn run_part(
+    state: &mut State,
+    starters: &[u32],
+    index: usize,
+    most: u32,
+    stops: &[u32],
+    kept: &[u32],
+) -> (u32, Phase, usize)
+    requires sound { IsSound state.old }
+    requires there { AreThere state.old (at_part starters.now (drop index starters.now)) }
+    requires limit { state.old.round ≤ 1000000 }
+    ensures most { result.0 ≤ most }
+    ensures runs { (q limit begun made : ℕ) (o e : List ℕ) → GoesManyOn stops.now kept.now result.0
+        limit (slice_index starters.now index)
+        (moment_at begun made (
+          sent o e (world_of q state.old),
+          at_part starters.now (drop index starters.now),
+        ))
+        (moment_at begun (made + result.0) (
+          sent o e (world_of q state.new),
+          place_at result.1 starters.now result.2,
+        )) }
+    ensures comes { ComesTo state.old state.new (place_at result.1 starters.now result.2) }
+{
+    let tid = starters[index];
+    let steps = step_on_keeping(state, tid, most, stops, kept);
+    if steps == 0 {
+        return (0, Phase::Parallel, index);
+    }
+    if is_part_over(state, tid) {
+        let (phase, index) = pass_parts(state, starters, index + 1);
+        return (steps, phase, index);
+    }
+    (steps, Phase::Parallel, index)
+}
+
 // who has a turn next behind one of the starter at an index
 fn pass_turn(state: &mut State, starters: &[u32], index: usize, goes_on: bool) -> (Phase, usize)
     requires sound { IsSound state.old }
@@ -155,6 +195,39 @@ pub(crate) fn turn_next<B: Border>(
         Ok(goes_on) => Ok(pass_turn(state, starters, index, goes_on)),
         Err(stop) => Err(stop),
     }
+}
+
+/// The same in the serial phase, where the first of them needs no grant.
+pub(crate) fn run_rest(
+    state: &mut State,
+    starters: &[u32],
+    index: usize,
+    most: u32,
+    stops: &[u32],
+    kept: &[u32],
+) -> (u32, Phase, usize)
+    requires sound { IsSound state.old }
+    requires there { AreThere state.old (at_rest starters.now (drop index starters.now)) }
+    requires limit { state.old.round ≤ 1000000 }
+    ensures most { result.0 ≤ most }
+    ensures runs { (q limit begun made : ℕ) (o e : List ℕ) → GoesManyOn stops.now kept.now result.0
+        limit (slice_index starters.now index)
+        (moment_at begun made (
+          sent o e (world_of q state.old),
+          at_rest starters.now (drop index starters.now),
+        ))
+        (moment_at begun (made + result.0) (
+          sent o e (world_of q state.new),
+          place_at result.1 starters.now result.2,
+        )) }
+    ensures comes { ComesTo state.old state.new (place_at result.1 starters.now result.2) }
+{
+    let steps = step_on_keeping(state, starters[index], most, stops, kept);
+    if steps == 0 {
+        return (0, Phase::Serial, index);
+    }
+    let (phase, index) = pass_turn(state, starters, index, true);
+    (steps, phase, index)
 }
 
 /// The move that is next in a phase, with the starter at an index at its part: who has a move next

@@ -11,8 +11,9 @@ ghost use Rattle.group_walk.specs.Places.{numbers_behind, phase_of};
 ghost use Rattle.group_walk.specs.Walks.{HasWalked, kinds_named, moment_in, moment_of};
 ghost use Rattle.group_walk.specs.Walks.{world_there};
 ghost use Rattle.group_walk.specs.Plays.{moved, walked};
+ghost use Rattle.group_walk.specs.Stretches.{HasGoneOn};
 
-use crate::moving::{reach_next, serial_kind};
+use crate::moving::{reach_next, run_part, run_rest, serial_kind};
 use dos_io::Border;
 use dos_world::{Config, Ending};
 use group_rounds::{Kernel, SparePacks, put_together, take_apart};
@@ -269,6 +270,30 @@ impl Walker {
                 Err(stop)
             }
         }
+    }
+
+    /// The next moves at once, as far as they are instructions of the thread that is next, which is
+    /// at none of these addresses before any of them, and change no byte of these frames; and at
+    /// most so many. How many they are.
+    pub fn run_on(&mut self, most: u32, stops: &[u32], kept: &[u32]) -> u32
+        requires running { self.old.failed ≡ false }
+        requires few { self.old.made + most < 2 ^ 64 }
+        ensures most { result ≤ most }
+        ensures runs { HasGoneOn stops.now kept.now result self.old self.new }
+        ensures config { self.new.config ≡ self.old.config }
+        ensures made { self.new.made ≡ self.old.made + result }
+        ensures running { self.new.failed ≡ false }
+    {
+        let at = self.index;
+        let (count, phase, index) = match self.phase {
+            Phase::Parallel => run_part(&mut self.state, &self.starters, at, most, stops, kept),
+            Phase::Serial => run_rest(&mut self.state, &self.starters, at, most, stops, kept),
+            Phase::Between | Phase::Ended(_) => return 0,
+        };
+        self.phase = phase;
+        self.index = index;
+        self.made += u64::from(count);
+        count
     }
 
     /// Makes so many moves, or fewer where no move is next.
