@@ -163,6 +163,99 @@ fn again(rt: &impl Abort, play: &mut Playback, moves: u64, used: u32, wanted: Op
     ahead(rt, play, wanted);
 }
 
+/// So many of the moves ahead are made at once, at most so many, and none from one of these
+/// addresses.
+fn at_once(rt: &impl Abort, play: &mut Playback, most: u32, stops: &[u32], wanted: u32)
+    requires { play.old.failed ≡ false }
+    ensures running { play.new.failed ≡ false }
+    ensures further { play.old.reached ≤ play.new.reached }
+{
+    let count = play.run_on(most, stops, &[]);
+    assert_eq!(rt; count, wanted);
+}
+
+/// A move, or as many instructions as are made at once.
+#[derive(Clone, Copy)]
+enum Stride {
+    One(MoveKind),
+    Many(u32),
+}
+
+/// The run in strides. Instructions of one thread in one phase are made at once, but that the first
+/// in the serial phase is none of them where it needs a grant: of the page that both share.
+const STRIDES: &[Stride] = &[
+    Stride::Many(0),
+    Stride::One(BEGIN),
+    Stride::Many(3),
+    Stride::Many(0),
+    Stride::One(SERVE_1),
+    Stride::Many(1),
+    Stride::One(SERVE_1),
+    Stride::One(BEGIN),
+    Stride::Many(3),
+    Stride::One(SERVE_1),
+    Stride::Many(0),
+    Stride::One(RUN_2),
+    Stride::Many(2),
+    Stride::One(SERVE_2),
+    Stride::One(BEGIN),
+    Stride::Many(1),
+    Stride::Many(1),
+    Stride::Many(0),
+    Stride::One(RUN_1),
+    Stride::Many(0),
+    Stride::One(SERVE_1),
+    Stride::Many(0),
+    Stride::One(RUN_2),
+    Stride::One(SERVE_2),
+    Stride::One(BEGIN),
+    Stride::Many(4),
+    Stride::Many(0),
+    Stride::One(RUN_1),
+    Stride::Many(3),
+    Stride::One(SERVE_1),
+    Stride::Many(1),
+    Stride::One(SERVE_1),
+    Stride::One(SERVE_2),
+    Stride::Many(1),
+    Stride::One(SERVE_2),
+];
+
+/// One of them; how many bytes it puts.
+fn stride(rt: &impl Abort, play: &mut Playback, wanted: Stride) -> usize
+    requires { play.old.failed ≡ false }
+    ensures running { play.new.failed ≡ false }
+    ensures further { play.old.reached ≤ play.new.reached }
+{
+    match wanted {
+        Stride::One(kind) => on(rt, play, Some(kind)),
+        Stride::Many(count) => {
+            at_once(rt, play, u32::MAX, &[], count);
+            0
+        }
+    }
+}
+
+#[test]
+fn instructions_are_made_at_once(rt: HostRuntime) {
+    let mut play = opened(&rt, rt.alloc(), WHOLE);
+    let start = play.moves();
+    let mut puts = 0usize;
+    for wanted in STRIDES {
+        puts = puts.saturating_add(stride(&rt, &mut play, *wanted));
+    }
+    assert_eq!(rt; puts, 2);
+    rests(&rt, &mut play, 38, 4);
+    again(&rt, &mut play, start, 0, Some(BEGIN));
+    on(&rt, &mut play, Some(BEGIN));
+    at_once(&rt, &mut play, 2, &[], 2);
+    at_once(&rt, &mut play, u32::MAX, &[CODE + 8], 0);
+    at_once(&rt, &mut play, u32::MAX, &[CODE + 4, CODE + 32], 1);
+    on(&rt, &mut play, Some(SERVE_1));
+    assert_eq!(rt; play.moves(), 5);
+    drop(play);
+}
+
 #[test]
 fn a_run_is_walked_to_its_end_and_back(rt: HostRuntime) {
     let mut play = opened(&rt, rt.alloc(), WHOLE);

@@ -148,13 +148,14 @@ module _ (images : List Image) (config : Config) where
   come_on (Some kind) old new stepped same come =
       has_moved_on first kind old new stepped same come
 
-  pub kept_on : (kind : Option kind_type) (old new : Track) (reached : ℕ) (last : Option ℕ)
-      (misfit : Option Misfit) (entries further : ℕ) (failed : Bool) → HasStepped kind old new
-      → IsOfSameRun old new → IsOnTrack new → (further ≡ reached) ⊎ (further ≡ new.moves)
-      → new.moves ≤ further → Keeps images config reached old
+  -- further on
+  pub kept_further : (old new : Track) (reached : ℕ) (last : Option ℕ) (misfit : Option Misfit)
+      (entries further : ℕ) (failed : Bool) → HasCome first new → IsOfSameRun old new
+      → IsOnTrack new → (further ≡ reached) ⊎ (further ≡ new.moves) → new.moves ≤ further
+      → Keeps images config reached old
       → IsKept images config old reached last misfit entries failed
       → IsKept images config new further last misfit entries failed
-  kept_on kind old new reached last misfit entries further failed stepped same on_track one greater
+  kept_further old new reached last misfit entries further failed come same on_track one greater
       keeps kept = (
         kept.0,
         same.start ∙ kept.1,
@@ -169,9 +170,6 @@ module _ (images : List Image) (config : Config) where
           → P (log_entries new.shim.log)
       same_log P h = subst (λ (l : Log). P (log_entries l)) (sym same.log) h
 
-      come : HasCome first new
-      come = come_on kind old new stepped same keeps.1
-
       config_is : new.walker.config ≡ config
       config_is = same.config ∙ keeps.2
 
@@ -181,6 +179,17 @@ module _ (images : List Image) (config : Config) where
           (same_log (λ es. HasMoves images config es reached) kept.2)
       one_of (inr is) = subst (λ n. HasMoves images config (log_entries new.shim.log) n) (sym is)
           (has_moves new config_is come)
+
+  pub kept_on : (kind : Option kind_type) (old new : Track) (reached : ℕ) (last : Option ℕ)
+      (misfit : Option Misfit) (entries further : ℕ) (failed : Bool) → HasStepped kind old new
+      → IsOfSameRun old new → IsOnTrack new → (further ≡ reached) ⊎ (further ≡ new.moves)
+      → new.moves ≤ further → Keeps images config reached old
+      → IsKept images config old reached last misfit entries failed
+      → IsKept images config new further last misfit entries failed
+  kept_on kind old new reached last misfit entries further failed stepped same on_track one greater
+      keeps kept =
+      kept_further old new reached last misfit entries further failed
+      (come_on kind old new stepped same keeps.1) same on_track one greater keeps kept
 
   -- a move that the log doesn't answer
   pub no_more : (old new : Track) → IsOfSameRun old new → MovesNowhere old.walker old.shim

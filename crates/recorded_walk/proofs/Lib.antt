@@ -5,3 +5,4 @@ pub mod Places
 pub mod Kept
 pub mod Unasked
 pub mod Ending
+pub mod Stretching

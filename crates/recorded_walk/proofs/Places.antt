@@ -79,7 +79,7 @@ module _ (limit : ℕ) (entries : List LogEntry) (m : Moment) where
   behind kind scene = moment_behind kind m (settled_scene scene)
 
   -- by the kind of the next move, and by what it gives
-  abbrev one_by : Option MoveKind → Option (Scene × List LogEntry)
+  abbrev pub one_by : Option MoveKind → Option (Scene × List LogEntry)
       → Option (Moment × List LogEntry)
   one_by kind given = elim kind [
     | None ↦ None

@@ -1,19 +1,23 @@
 -- A recorded run that is walked: what is kept of it, and where it stands. This project's own words.
-use Rattle.std.specs.Prelude.{ℕ, suc, ◌≡◌, ◌≢◌, ◌≤◌, ◌<◌, ◌+◌, Bool, List, length, drop, Option}
+use Rattle.std.specs.Prelude.{ℕ, zero, suc, ◌≡◌, ◌≢◌, ◌≤◌, ◌<◌, ◌+◌, Bool, List, ◌∷◌, length, drop}
+use Rattle.std.specs.Prelude.{All, Option, ⊤}
 use Rattle.std.specs.Prelude.{Some, None, IfSome, IsSome}
 use Rattle.dos_world.specs.Lawful.{IsConfig}
-use Rattle.dos_world.specs.World.{World}
+use Rattle.dos_world.specs.World.{World, thread_at}
 use Rattle.dos_world.specs.declared.Config.{Config}
 use Rattle.dos_world.specs.declared.Ending.{Ending}
 use Rattle.dos_world.specs.declared.Misfit.{Misfit}
-use Rattle.debug_session.specs.Positions.{Position, at_start, first_kind, position_after}
+use Rattle.debug_session.specs.Positions.{Position, at_start, first_kind, moved_on}
+use Rattle.debug_session.specs.Positions.{position_after}
 use Rattle.debug_session.specs.Recordings.{LogEntry, Recording, misfit_here, recorded}
 use Rattle.debug_session.specs.Recordings.{recorded_from, used_entries}
 use Rattle.elf_image.specs.Image.{Image}
 use Rattle.flat_machine.specs.Opening.{needed, opening}
 use Rattle.group_moves.specs.Moments.{Moment, ending_at, first_moment, kind_at}
+use Rattle.group_moves.specs.Moves.{MoveKind, runs}
 use Rattle.group_open.specs.declared.error.OpenError.{OpenError}
 use Rattle.group_open.specs.declared.error.OpenError.TheVariants.{Memory, NoRoom}
+use Rattle.group_walk.specs.Stretches.{IsElsewhere, IsSameGroup, KeepsFrame}
 use Rattle.group_walk.specs.Walks.{Walk, moment_in, world_there}
 use Rattle.group_walk.specs.declared.walker.MoveKind.{MoveKind as kind_type}
 use Rattle.group_walk.specs.declared.walker.Phase.{Phase}
@@ -100,6 +104,31 @@ IsMisfitAt limit r at misfit = first_kind at.future ≡ None → IsSome (kind_at
 pub record Heard (p : Played) (before behind : World) : Type 0 where
   pub output : p.output ≡ drop (length before.output) behind.output
   pub error : p.error ≡ drop (length before.error) behind.error
+
+-- ---- instructions ahead
+
+-- The move that is ahead is an instruction of t, which is at none of these addresses; the group and
+-- the bytes of these frames are the same behind it, in the same round.
+pub record IsSilentMove (stops kept : List ℕ) (t : ℕ) (at : Position) : Type 0 where
+  pub next : Moment
+  pub later : List (MoveKind × Moment)
+  pub ahead : at.future ≡ (runs t, next) ∷ later
+  pub elsewhere : IsElsewhere stops (thread_at at.moment.world t)
+  pub same : IsSameGroup at.moment.world next.world
+  pub keeps : All (KeepsFrame at.moment.world next.world) kept
+  pub round : next.begun_rounds ≡ at.moment.begun_rounds
+  pub made : next.made ≡ suc at.moment.made
+
+-- So many moves ahead are such.
+abbrev pub AreSilentMoves : (stops kept : List ℕ) → (count t : ℕ) → Position → Type 0
+AreSilentMoves stops kept zero t at = ⊤
+AreSilentMoves stops kept (suc count) t at =
+    IsSilentMove stops kept t at × AreSilentMoves stops kept count t (moved_on at)
+
+-- They are so of one thread.
+pub record MovesSilently (stops kept : List ℕ) (count : ℕ) (at : Position) : Type 0 where
+  pub thread : ℕ
+  pub silent : AreSilentMoves stops kept count thread at
 
 -- ---- opening
 

@@ -14,7 +14,8 @@ ghost use Rattle.group_walk.specs.Places.{phase_of};
 ghost use Rattle.group_walk.specs.Walks.{kinds_named};
 ghost use Rattle.recorded_walk.specs.Following.{log_entries};
 ghost use Rattle.recorded_walk.specs.Playbacks.{IsEndedAs, Heard, IsMisfitAt, IsOfSame, IsRefused};
-ghost use Rattle.recorded_walk.specs.Playbacks.{IsStartOf, Stands, ended_in, moves_made};
+ghost use Rattle.recorded_walk.specs.Playbacks.{IsStartOf, MovesSilently, Stands, ended_in};
+ghost use Rattle.recorded_walk.specs.Playbacks.{moves_made};
 
 use crate::track::Track;
 use dos_world::{Config, Ending, Misfit};
@@ -359,6 +360,27 @@ impl Playback {
     {
         let made = self.make_next()?;
         Ok(made.0)
+    }
+
+    /// The next moves at once, as far as they are instructions of the thread that is next, which is
+    /// at none of these addresses before any of them, and change no byte of these frames; and at
+    /// most so many. How many they are. They put nothing.
+    pub fn run_on(&mut self, most: u32, stops: &[u32], kept: &[u32]) -> u32
+        requires { self.old.failed ≡ false }
+        ensures most { result ≤ most }
+        ensures silent { (start : Position) → IsStartOf self.old start
+            → MovesSilently stops.now kept.now result (position_after self.old.moves start) }
+        ensures moves { self.new.moves ≡ self.old.moves + result }
+        ensures stands { Stands self.new }
+        ensures output { self.new.output ≡ [] }
+        ensures error { self.new.error ≡ [] }
+        ensures running { self.new.failed ≡ false }
+        ensures same { IsOfSame self.old self.new }
+        ensures reached { self.old.reached ≤ self.new.reached }
+    {
+        let count = self.track.run_on(most, stops, kept);
+        self.reached = furthest(self.reached, self.track.moves);
+        count
     }
 
     // What the next move is, and where none is next, what the log misfits by there.

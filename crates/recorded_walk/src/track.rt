@@ -1,10 +1,11 @@
 // A walk by the answers of a log, and how many moves were made.
-ghost use Rattle.std.specs.Prelude.{◌≡◌, ◌≤◌, [], IfOk, IfErr, IsErrOf, OnOk, length};
+ghost use Rattle.std.specs.Prelude.{◌≡◌, ◌≤◌, ◌<◌, ◌+◌, [], IfOk, IfErr, IsErrOf, OnOk, length};
 ghost use Rattle.dos_world.specs.Lawful.{IsConfig};
 ghost use Rattle.dos_world.specs.declared.Misfit.{Misfit};
 ghost use Rattle.flat_machine.specs.Opening.{needed, opening};
 ghost use Rattle.group_moves.specs.Moments.{Moment, first_moment};
 ghost use Rattle.kernel_calls.specs.declared.state.RunStop.TheVariants as stops;
+ghost use Rattle.group_walk.specs.Stretches.{HasGoneOn};
 ghost use Rattle.recorded_walk.specs.Playbacks.{IsRefused};
 ghost use Rattle.recorded_walk.specs.Tracks.{HasCome, HasStepped, IsOfSameRun, IsOnTrack};
 ghost use Rattle.recorded_walk.specs.Tracks.{MisfitsBy, MovesNowhere};
@@ -30,6 +31,17 @@ pub(crate) struct Track {
     pub(crate) out: Puts,
     pub(crate) err: Puts,
     pub(crate) moves: u64,
+}
+
+// So many moves and as many instructions as a call makes at once are still counted.
+const MOST_MOVES: u64 = 18_446_744_069_414_584_320;
+
+// so many moves, or as many as a call makes at once
+fn at_most(moves: u64) -> u32
+    ensures most { result ≤ moves }
+    ensures some { 0 < moves → 0 < result }
+{
+    moves.min(u64::from(u32::MAX)) as u32
 }
 
 impl Track {
@@ -141,6 +153,31 @@ impl Track {
         Ok(Some(kind))
     }
 
+    /// The next moves at once, as far as they are instructions of the thread that is next, which is
+    /// at none of these addresses before any of them, and change no byte of these frames; and at
+    /// most so many. How many they are.
+    pub(crate) fn run_on(&mut self, most: u32, stops: &[u32], kept: &[u32]) -> u32
+        requires { IsOnTrack self.old }
+        ensures most { result ≤ most }
+        ensures moves { self.new.moves ≡ self.old.moves + result }
+        ensures runs { HasGoneOn stops.now kept.now result self.old.walker self.new.walker }
+        ensures shim { self.new.shim ≡ self.old.shim }
+        ensures out { self.new.out.bytes.items ≡ [] }
+        ensures err { self.new.err.bytes.items ≡ [] }
+        ensures come { (first : Moment) → HasCome first self.old → HasCome first self.new }
+        ensures on_track { IsOnTrack self.new }
+        ensures same { IsOfSameRun self.old self.new }
+    {
+        self.hear_nothing();
+        // no run has so many
+        if self.moves >= MOST_MOVES {
+            return 0;
+        }
+        let count = self.walker.run_on(most, stops, kept);
+        self.moves += u64::from(count);
+        count
+    }
+
     /// So many moves on, where the history has them.
     pub(crate) fn go_on(&mut self, moves: u64) -> Result<(), AllocError>
         requires on_track { IsOnTrack self.old }
@@ -152,9 +189,11 @@ impl Track {
         ensures same { IsOfSameRun self.old self.new }
     {
         while self.moves < moves {
-            match self.step() {
-                Ok(Some(_)) => {}
-                Ok(None) | Err(_) => return Err(AllocError),
+            if self.run_on(at_most(moves - self.moves), &[], &[]) == 0 {
+                match self.step() {
+                    Ok(Some(_)) => {}
+                    Ok(None) | Err(_) => return Err(AllocError),
+                }
             }
         }
         Ok(())
