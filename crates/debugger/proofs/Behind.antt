@@ -1,13 +1,14 @@
 -- One move on, on the way back: what was seen before it, and what stands behind it.
 use Rattle.std.proofs.Common.{◌≡◌, ℕ, ◌+◌, ◌≤◌, Bool, List, [], Option, Some, None, false, sym, ap}
-use Rattle.std.proofs.Common.{subst, ◌∙◌, refl}
-use Rattle.std.specs.Prelude.{is_none}
+use Rattle.std.proofs.Common.{arith, subst, true, ◌∙◌, refl}
+use Rattle.std.specs.Global.{Vec}
+use Rattle.std.specs.Prelude.{is_none, ◌||◌, IfSome}
 use Rattle.std.proofs.lemmas.Bool.{true≢false}
 use Rattle.group_moves.specs.Moves.{MoveKind}
 use Rattle.group_walk.specs.Walks.{kind_named, kinds_named}
 use Rattle.group_walk.specs.declared.walker.MoveKind.{MoveKind as kind_type}
 use Rattle.gdb_packets.specs.declared.resumptions.Resumption.{Resumption}
-use Rattle.debug_session.specs.Backwards.{backwards, halt_start, was_ever_there}
+use Rattle.debug_session.specs.Backwards.{backwards, halt_start, is_there, was_ever_there}
 use Rattle.debug_session.specs.Positions.{Position, first_kind, position_after}
 use Rattle.debug_session.specs.Sessions.{Session}
 use Rattle.recorded_walk.specs.Playbacks.{IsStartOf, moves_made}
@@ -15,27 +16,144 @@ use Rattle.debug_hits.specs.Kept.{HasLooked}
 use Rattle.debugger.specs.declared.halts.Halt.{Halt as Kept}
 use Rattle.debugger.specs.declared.moving.Before.{Before}
 use Rattle.debugger.specs.Halting.{WasSeen, backwards_from, halt_meant}
+use Rattle.debugger.specs.Quiet.{StopsAtAddresses}
 use Rattle.debugger.specs.Standing.{Advances, IsAsked, IsSame, StillKnows, SessionView, here}
 use Rattle.debugger.proofs.Backing.{backwards_first, was_first}
-use Rattle.debugger.proofs.Staying.{asked_stays, same_on, same_watched, start_stays}
+use Rattle.debugger.proofs.Staying.{asked_stays, known_on, same_back, same_on, same_watched}
+use Rattle.debugger.proofs.Staying.{start_stays}
 
 -- ---- the loop
 
 -- So far on the way to the last moment, by what is kept.
 pub record HasComeBack (old now : SessionView) (rs : List Resumption) (stepped : Option ℕ)
-    (made last : ℕ) (was : Bool) (halt : Kept) : Type 0 where
+    (last : ℕ) (stops : Option (Vec ℕ)) (was : Bool) (halt : Kept) : Type 0 where
   pub running : now.failed ≡ false
-  pub moves : now.playback.moves ≡ made
-  pub within : made ≤ last
+  pub within : now.playback.moves ≤ last
   pub same : IsSame old now
   pub known : StillKnows old now
   pub furthest : last ≤ now.furthest
-  pub there : halt.moves ≤ made
+  pub there : halt.moves ≤ now.playback.moves
   pub born : halt.born ≡ None
   pub halts : (start : Position) (s : Session) → IsStartOf now.playback start → IsAsked now start s
       → halt_meant s rs start halt ≡ backwards_from s rs stepped (here now start)
   pub was_there : (start : Position) (s : Session) → IsStartOf now.playback start
       → IsAsked now start s → was ≡ was_ever_there s rs stepped (here now start).past
+  pub quiet : (start : Position) (s : Session) → IsAsked now start s
+      → IfSome stops (λ (found : Vec ℕ). StopsAtAddresses s found.items)
+
+-- where the breakpoints of a session are that watches nothing
+pub quiet_here : (now : SessionView) (stops : Option (Vec ℕ))
+    → IfSome stops (λ (found : Vec ℕ). (start : Position) (s : Session) → IsAsked now start s
+    → StopsAtAddresses s found.items)
+    → (start : Position) (s : Session) → IsAsked now start s
+    → IfSome stops (λ (found : Vec ℕ). StopsAtAddresses s found.items)
+quiet_here now None is start s asked = tt
+quiet_here now (Some found) is start s asked = is start s asked
+
+-- One move on, and behind instructions that tell of nothing.
+module _ (old at now : SessionView) (rs : List Resumption) (stepped : Option ℕ) (last : ℕ)
+    (stops : Option (Vec ℕ)) (was : Bool) (halt : Kept)
+    (come : HasComeBack old at rs stepped last stops was halt)
+    (same : IsSame at now) (known : StillKnows at now) (more : at.furthest ≤ now.furthest)
+    (running : now.failed ≡ false) (within : now.playback.moves ≤ last) (later : Kept)
+    (there : later.moves ≤ now.playback.moves) (born : later.born ≡ None) where
+  back : IsSame now at
+  back = same_back at now same
+
+  start_at : (start : Position) → IsStartOf now.playback start → IsStartOf at.playback start
+  start_at start is_start = start_stays now at back.run start is_start
+
+  asked_at : (start : Position) (s : Session) → IsAsked now start s → IsAsked at start s
+  asked_at start s asked = asked_stays now at back start s asked
+
+  quiet_now : (start : Position) (s : Session) → IsAsked now start s
+      → IfSome stops (λ (found : Vec ℕ). StopsAtAddresses s found.items)
+  quiet_now start s asked = come.quiet start s (asked_at start s asked)
+
+  reach : last ≤ now.furthest
+  reach = let before = come.furthest in omega (arith, before, more)
+
+  pub comes_on : (was_now : Bool)
+      → ((start : Position) (s : Session) → IsStartOf at.playback start → IsAsked at start s
+      → was_now ≡ (is_there s rs stepped (here at start).moment.world || was))
+      → ((start : Position) (s : Session) → IsStartOf at.playback start → IsAsked at start s
+      → halt_meant s rs start halt ≡ backwards_from s rs stepped (here at start)
+      → was_now ≡ (is_there s rs stepped (here at start).moment.world
+      || was_ever_there s rs stepped (here at start).past)
+      → halt_meant s rs start later ≡ backwards_from s rs stepped (here now start))
+      → ((start : Position) (s : Session) → IsStartOf at.playback start → IsAsked at start s
+      → was_ever_there s rs stepped (here now start).past
+      ≡ (is_there s rs stepped (here at start).moment.world
+      || was_ever_there s rs stepped (here at start).past))
+      → HasComeBack old now rs stepped last stops was_now later
+  comes_on was_now by_now halts wass = record {
+    running = running;
+    within = within;
+    same = same_on old at now come.same same;
+    known = known_on old at now come.known known;
+    furthest = reach;
+    there = there;
+    born = born;
+    halts = λ start s is_start asked.
+        let begun = start_at start is_start in
+        let asks = asked_at start s asked in
+        halts start s begun asks (come.halts start s begun asks) (now_is start s begun asks);
+    was_there = λ start s is_start asked.
+        let begun = start_at start is_start in
+        let asks = asked_at start s asked in
+        now_is start s begun asks ∙ sym (wass start s begun asks);
+    quiet = quiet_now;
+  }
+    where
+      now_is : (start : Position) (s : Session) → IsStartOf at.playback start → IsAsked at start s
+          → was_now ≡ (is_there s rs stepped (here at start).moment.world
+          || was_ever_there s rs stepped (here at start).past)
+      now_is start s begun asks =
+          by_now start s begun asks
+          ∙ ap (λ (b : Bool). is_there s rs stepped (here at start).moment.world || b)
+          (come.was_there start s begun asks)
+
+  pub comes_past : was ≡ true → (found : Vec ℕ) → stops ≡ Some found → (addresses : List ℕ)
+      → addresses ≡ found.items
+      → ((start : Position) (s : Session) (rs : List Resumption) → IsStartOf at.playback start
+      → IsAsked at start s → StopsAtAddresses s addresses
+      → was_ever_there s rs stepped (here at start).past ≡ true
+      → halt_meant s rs start halt ≡ backwards_from s rs stepped (here at start)
+      → halt_meant s rs start later ≡ backwards_from s rs stepped (here now start))
+      → ((start : Position) (s : Session) (rs : List Resumption) → IsStartOf at.playback start
+      → IsAsked at start s → was_ever_there s rs stepped (here at start).past ≡ true
+      → was_ever_there s rs stepped (here now start).past ≡ true)
+      → HasComeBack old now rs stepped last stops was later
+  comes_past somebody found some addresses same_addresses halts wass = record {
+    running = running;
+    within = within;
+    same = same_on old at now come.same same;
+    known = known_on old at now come.known known;
+    furthest = reach;
+    there = there;
+    born = born;
+    halts = λ start s is_start asked.
+        let begun = start_at start is_start in
+        let asks = asked_at start s asked in
+        halts start s rs begun asks (quiet_at start s asks) (ever start s begun asks)
+        (come.halts start s begun asks);
+    was_there = λ start s is_start asked.
+        let begun = start_at start is_start in
+        let asks = asked_at start s asked in
+        somebody ∙ sym (wass start s rs begun asks (ever start s begun asks));
+    quiet = quiet_now;
+  }
+    where
+      quiet_at : (start : Position) (s : Session) → IsAsked at start s
+          → StopsAtAddresses s addresses
+      quiet_at start s asks =
+          subst (StopsAtAddresses s) (sym same_addresses)
+          (subst (λ (o : Option (Vec ℕ)). IfSome o (λ (v : Vec ℕ). StopsAtAddresses s v.items)) some
+          (come.quiet start s asks))
+
+      ever : (start : Position) (s : Session) → IsStartOf at.playback start → IsAsked at start s
+          → was_ever_there s rs stepped (here at start).past ≡ true
+      ever start s begun asks = sym (come.was_there start s begun asks) ∙ somebody
 
 -- ---- one move
 
@@ -127,14 +245,13 @@ module _ (now : SessionView) (none : now.playback.moves ≡ 0) (start : Position
 
 -- where it began
 pub comes_back : (old now : SessionView) (rs : List Resumption) (stepped : Option ℕ)
-    (made last : ℕ) (was : Bool) (halt : Kept)
-    → HasComeBack old now rs stepped made last was halt → made ≡ old.playback.moves
+    (last : ℕ) (stops : Option (Vec ℕ)) (was : Bool) (halt : Kept)
+    → HasComeBack old now rs stepped last stops was halt → now.playback.moves ≡ old.playback.moves
     → (start : Position) (s : Session) → IsStartOf old.playback start → IsAsked old start s
     → s.position ≡ here old start
     → backwards s rs stepped ≡ halt_meant s rs start halt
-comes_back old now rs stepped made last was halt come all start s is_start asked at =
+comes_back old now rs stepped last stops was halt come all start s is_start asked at =
     ap (backwards_from s rs stepped) at
-    ∙ ap (λ (n : ℕ). backwards_from s rs stepped (position_after n start))
-    (sym (come.moves ∙ all))
+    ∙ ap (λ (n : ℕ). backwards_from s rs stepped (position_after n start)) (sym all)
     ∙ sym (come.halts start s (start_stays old now come.same.run start is_start)
     (asked_stays old now come.same start s asked))

@@ -24,3 +24,10 @@ pub mod Backing
 pub mod Staying
 pub mod Halted
 pub mod Behind
+pub mod Unhit
+pub mod Quieted
+pub mod Silent
+pub mod Passing
+pub mod SilentBack
+pub mod SilentTowards
+pub mod SilentPuts

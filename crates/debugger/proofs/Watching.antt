@@ -70,7 +70,7 @@ module _ (f : ℕ → Bool) (xs : List ℕ) (i : ℕ) where
 pub first_all : (f : ℕ → Bool) (xs : List ℕ) → first_of (filter f xs) ≡ find f (drop 0 xs)
 first_all f xs = first_kept f xs
 
-taken_more : {X : Type 0} (xs : List X) (i : ℕ) (x : X) → slice_get xs i ≡ Some x
+pub taken_more : {X : Type 0} (xs : List X) (i : ℕ) (x : X) → slice_get xs i ≡ Some x
     → take (i + 1) xs ≡ take i xs ++ x ∷ []
 taken_more [] i x is = cc
 taken_more {X} (y ∷ ys) zero x is = let same : y ≡ x = cc in ap (λ (z : X). z ∷ []) same

@@ -1,10 +1,11 @@
 -- Where a resumption halts, as it is kept, and what was seen before a move. This project's own
 -- words.
 use Rattle.std.specs.Prelude.{ℕ, ◌≡◌, ◌&&◌, ◌||◌, Bool, true, List, length, map, Option, Some, None}
-use Rattle.std.specs.Prelude.{is_some}
+use Rattle.std.specs.Prelude.{◌+◌, ◌<◌, false, is_some}
 use Rattle.std.specs.Prelude.{option_and_then, option_to_list, if◌then◌else◌, filter, nat_lt, ◌≤◌}
 use Rattle.std.specs.List.{list_all}
 use Rattle.dos_world.specs.World.{World, Thread, thread_at}
+use Rattle.group_moves.specs.Moments.{Moment}
 use Rattle.group_moves.specs.Moves.{MoveKind, faults}
 use Rattle.group_walk.specs.Walks.{kind_named}
 use Rattle.gdb_packets.specs.declared.resumptions.Action.{Action}
@@ -12,7 +13,7 @@ use Rattle.gdb_packets.specs.declared.resumptions.Resumption.{Resumption}
 use Rattle.debug_session.specs.Actions.{action_of_thread}
 use Rattle.debug_session.specs.Backwards.{backwards, backwards_over}
 use Rattle.debug_session.specs.Forwards.{forwards, forwards_over, halt_before, last_there}
-use Rattle.debug_session.specs.Goals.{peopled_over}
+use Rattle.debug_session.specs.Goals.{is_moment_reached, peopled_over, reached_from}
 use Rattle.debug_session.specs.Halts.{Halt, puts_from}
 use Rattle.debug_session.specs.Hits.{broken_by}
 use Rattle.debug_session.specs.Positions.{Position, first_kind, mover_of, position_after}
@@ -123,6 +124,16 @@ pub record HasKept (start : Position) (first now : ℕ) (puts : List Put) : Type
 -- the last position up to here at which a process that is shown lives, or the first of all
 abbrev pub peopled_at : Session → Position → Position
 peopled_at s at = peopled_over s at.past at.moment at.future
+
+-- the first position from here on that isn't before this round and move, or the last one
+abbrev pub reached_at : (round made : ℕ) → Position → Position
+reached_at round made at = reached_from round made at.past at.moment at.future
+
+-- Of so many moments of one round, from this one on, each is before this round and move.
+abbrev pub AreBefore : (round made count : ℕ) → Moment → Type 0
+AreBefore round made count m = (later : Moment) → later.begun_rounds ≡ m.begun_rounds
+    → m.made ≤ later.made → later.made < m.made + count
+    → is_moment_reached round made later ≡ false
 
 -- ---- backwards
 

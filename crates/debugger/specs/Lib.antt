@@ -2,3 +2,4 @@ pub mod Standing
 pub mod Halting
 pub mod Asking
 pub mod Debugging
+pub mod Quiet

@@ -262,9 +262,16 @@ impl Session {
         self.go_to(0)?;
         let mut halt = self.halt_start(resumptions, stepped);
         let mut was_there = false;
-        for _ in 0..moves {
+        let quiet = self.quiet_stops()?;
+        while self.playback.moves() < moves {
             was_there = self.was_there_by(resumptions, stepped, was_there);
             halt = self.halt_behind(resumptions, stepped, was_there, halt)?;
+            if !was_there {
+                continue;
+            }
+            if let Some(stops) = &quiet {
+                halt = self.pass_backwards(moves, stepped, stops, halt)?;
+            }
         }
         Ok(halt)
     }

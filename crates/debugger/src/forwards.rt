@@ -66,7 +66,7 @@ fn fault_of(kind: MoveKind) -> Option<u8>
 }
 
 /// Some action steps.
-fn is_any_stepping(resumptions: &[Resumption]) -> bool
+pub(crate) fn is_any_stepping(resumptions: &[Resumption]) -> bool
     ensures { result ≡ list_any (λ (r : Resumption). is_stepping r.action) resumptions.now }
 {
     resumptions
@@ -410,7 +410,7 @@ impl Session {
     }
 
     /// Whether somebody is there at this moment is counted.
-    fn with_here(&self, resumptions: &[Resumption], way: Way) -> Way
+    pub(crate) fn with_here(&self, resumptions: &[Resumption], way: Way) -> Way
         requires running { self.now.failed ≡ false }
         requires named { knows_named self.now.births resumptions.now ≡ true }
         requires last { way.last ≤ self.now.playback.moves }
@@ -423,6 +423,7 @@ impl Session {
             ≡ forwards_from s resumptions.now start result (here self.now start) }
         ensures low { way.last ≤ result.last }
         ensures high { result.last ≤ self.now.playback.moves }
+        ensures first { result.is_first ≡ way.is_first }
     {
         if self.is_anybody_there(resumptions) {
             return Way {
@@ -587,12 +588,16 @@ impl Session {
             was_there: false,
             last: self.playback.moves(),
         };
+        let stops = self.quiet_stops_forwards(resumptions)?;
         for _ in 0..u64::MAX {
             way = self.with_here(resumptions, way);
             if let Some(halt) = self.go_on(resumptions, &way, puts)? {
                 return Ok(halt);
             }
             way.is_first = false;
+            if let Some(stops) = &stops {
+                way = self.pass_forwards(resumptions, way, stops)?;
+            }
         }
         // no history is as long
         Err(AllocError)

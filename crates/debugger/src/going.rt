@@ -6,12 +6,13 @@ ghost use Rattle.debug_session.specs.Positions.{Position, position_after};
 ghost use Rattle.debug_session.specs.Sessions.{Session as Told};
 ghost use Rattle.gdb_packets.specs.declared.resumptions.Resumption.{Resumption};
 ghost use Rattle.recorded_walk.specs.Playbacks.{IsStartOf};
-ghost use Rattle.debugger.specs.Halting.{HasKept, halt_meant, peopled_at};
+ghost use Rattle.debugger.specs.Halting.{AreBefore, HasKept, halt_meant, peopled_at, reached_at};
 ghost use Rattle.debugger.specs.Standing.{IsAsked, IsSame, StillKnows, here};
 
 use crate::forwards::Put;
 use crate::halts::Halt;
 use crate::session::Session;
+use crate::stretches::at_most;
 use debug_session::Cause;
 use std::alloc::AllocError;
 
@@ -63,6 +64,49 @@ impl Session {
         peopled
     }
 
+    /// How many moves are made at once towards this round and move: none where it is reached.
+    fn most_towards(&self, round: u64, made: u64) -> u32
+        requires { self.now.failed ≡ false }
+        ensures { (start : Position) → IsStartOf self.now.playback start
+            → AreBefore round made result (here self.now start).moment }
+    {
+        let begun = u64::from(self.playback.begun());
+        if begun < round {
+            return u32::MAX;
+        }
+        if round < begun {
+            return 0;
+        }
+        at_most(made.saturating_sub(self.playback.made()))
+    }
+
+    /// Instructions ahead, none of which is behind this round and move: the last moment up to
+    /// there at which a process that is shown lives, by the last one in front of this one.
+    fn pass_towards(&mut self, round: u64, made: u64, peopled: u64) -> u64
+        requires running { self.old.failed ≡ false }
+        requires within { peopled ≤ self.old.furthest }
+        ensures reached { (start : Position) → IsStartOf self.old.playback start
+            → reached_at round made (here self.old start)
+            ≡ reached_at round made (here self.new start) }
+        ensures peopled { (start : Position) (s : Told) → IsStartOf self.old.playback start
+            → IsAsked self.old start s
+            → (is_somebody_shown s (here self.old start).moment.world ≡ false
+            → position_after peopled start ≡ peopled_at s (here self.old start))
+            → position_after result start ≡ peopled_at s (here self.new start) }
+        ensures within { result ≤ self.new.furthest }
+        ensures same { IsSame self.old self.new }
+        ensures known { StillKnows self.old self.new }
+        ensures running { self.new.failed ≡ false }
+    {
+        let most = self.most_towards(round, made);
+        let is_shown = self.is_somebody_shown();
+        let _silent = self.run_on(most, &[], &[]);
+        if is_shown {
+            return self.playback.moves();
+        }
+        peopled
+    }
+
     /// Goes from the start to the first moment that isn't before this round and move, or to the
     /// last
     /// one; how many moves lead to the last moment up to there at which a process that is shown
@@ -88,6 +132,7 @@ impl Session {
             if self.advance()?.is_none() {
                 return Ok(peopled);
             }
+            peopled = self.pass_towards(round, made, peopled);
         }
         // no history is as long
         Err(AllocError)
@@ -125,11 +170,14 @@ impl Session {
     {
         let moves = self.playback.moves();
         self.go_to(0)?;
-        for index in 0..moves {
+        while self.playback.moves() < moves {
+            let before = self.playback.moves();
             let Some(_) = self.advance()? else {
                 return Err(AllocError);
             };
-            self.keep_puts(puts, index)?;
+            self.keep_puts(puts, before)?;
+            let most = at_most(moves - self.playback.moves());
+            let _silent = self.run_on(most, &[], &[]);
         }
         Ok(())
     }

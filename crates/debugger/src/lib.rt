@@ -14,6 +14,7 @@ mod resuming;
 mod serving;
 mod session;
 mod stops;
+mod stretches;
 
 pub use serving::debug_group;
 pub use stops::DebugStop;

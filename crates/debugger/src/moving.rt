@@ -48,7 +48,7 @@ pub(crate) struct Before {
 }
 
 // at most a page each
-fn are_short(points: &[Watchpoint]) -> bool
+pub(crate) fn are_short(points: &[Watchpoint]) -> bool
     ensures { result ≡ true → All FitsPage points.now }
 {
     for point in points {
@@ -164,7 +164,7 @@ impl Session {
     }
 
     // the watchpoint at this place in their order
-    fn point_at(&self, index: usize) -> Watchpoint
+    pub(crate) fn point_at(&self, index: usize) -> Watchpoint
         requires { index < length self.now.client.watchpoints }
         ensures { slice_get self.now.client.watchpoints index ≡ Some result }
     {

@@ -4,7 +4,7 @@ ghost use Rattle.debug_session.specs.Positions.{Position, first_kind};
 ghost use Rattle.debug_session.specs.Recordings.{Recording};
 ghost use Rattle.kernel_calls.specs.StateWorld.{IsSound};
 ghost use Rattle.group_walk.specs.Walks.{kinds_named};
-ghost use Rattle.recorded_walk.specs.Playbacks.{IsMisfitAt, IsStartOf, moves_made};
+ghost use Rattle.recorded_walk.specs.Playbacks.{IsMisfitAt, IsStartOf, MovesSilently, moves_made};
 ghost use Rattle.debug_client.specs.Births.{knows_named};
 ghost use Rattle.debugger.specs.Standing.{Advances, IsSame, StillKnows, here};
 
@@ -96,6 +96,30 @@ impl Session {
         Ok(made)
     }
 
+    /// The next moves at once, as far as they are instructions of the thread that is next, which is
+    /// at none of these addresses before any of them, and change no byte of these frames; and at
+    /// most so many. How many they are.
+    pub(crate) fn run_on(&mut self, most: u32, stops: &[u32], kept: &[u32]) -> u32
+        requires { self.old.failed ≡ false }
+        ensures most { result ≤ most }
+        ensures moves { self.new.playback.moves ≡ self.old.playback.moves + result }
+        ensures silent { (start : Position) → IsStartOf self.old.playback start
+            → MovesSilently stops.now kept.now result (here self.old start) }
+        ensures same { IsSame self.old self.new }
+        ensures births { self.new.births ≡ self.old.births }
+        ensures watched { self.new.watched ≡ self.old.watched }
+        ensures furthest { self.old.furthest ≤ self.new.furthest }
+        ensures behind { self.new.playback.moves ≤ self.new.furthest }
+        ensures running { self.new.failed ≡ false }
+    {
+        histories_start();
+        self.failed = true;
+        let count = self.playback.run_on(most, stops, kept);
+        self.furthest = self.furthest.max(self.playback.moves());
+        self.failed = false;
+        count
+    }
+
     /// To the moment behind so many moves, which was come to before.
     pub(crate) fn go_to(&mut self, moves: u64) -> Result<(), AllocError>
         requires running { self.old.failed ≡ false }
@@ -182,6 +206,7 @@ impl Session {
             if self.advance()?.is_none() {
                 return Ok(());
             }
+            let _silent = self.run_on(u32::MAX, &[], &[]);
         }
         // no history is as long
         self.failed = true;

@@ -51,34 +51,47 @@ returns-then-is_none-clause-peopled c start s is_start asked from =
     ∙ reached_end c.args.round c.args.made (here k start) over))
     ∙ sym (goal_is s c.args.round c.args.made start from)
 
+pub pass_towards-peopled-requires-clause-within :
+    goal.pass_towards-peopled-requires-clause-within
+pass_towards-peopled-requires-clause-within c =
+    let low = c.peopled_here-peopled.ensures.within c.loop.invariant.within in
+    let more = c.in_ok-advance.ensures.furthest in
+    omega (arith, low, more)
+
 pub loop-preserved : goal.loop-preserved
 loop-preserved c =
     let inv = c.loop.invariant in
+    let old = c.args.self.now in
     let k = c.loop.self in
-    let new = c.advance.new.self in
+    let mid = c.advance.new.self in
+    let new = c.pass_towards-peopled.new.self in
     let e = c.in_ok-advance.ensures in
+    let passed = c.pass_towards-peopled.ensures in
     let made = some_made c.in_ok-advance.field-0 (c.is_none.ensures ∙ ap not c.if-is_none.false) in
-    let next : new.playback.moves ≡ k.playback.moves + 1 = e.moves
+    let next : mid.playback.moves ≡ k.playback.moves + 1 = e.moves
     ∙ ap (λ n. k.playback.moves + n) made.one in
+    let same_mid = same_on old k mid inv.same e.same in
     record {
-      same = same_on c.args.self.now k new inv.same e.same;
-      known = λ rs h. e.known rs (inv.known rs h);
-      running = e.failed;
-      within = (let low = c.peopled_here-peopled.ensures.within inv.within in
-          let more = e.furthest in omega (arith, low, more));
+      same = same_on old mid new same_mid passed.same;
+      known = λ rs h. passed.known rs (e.known rs (inv.known rs h));
+      running = passed.running;
+      within = passed.within;
       reached = λ start is_start.
-          let start_now = start_on c.args.self.now k inv.same.run start is_start in
+          let start_now = start_on old k inv.same.run start is_start in
           inv.reached start is_start
-          ∙ reached_moved (here k start) (here new start) made.kind (here_on k new start next)
+          ∙ reached_moved (here k start) (here mid start) made.kind (here_on k mid start next)
           ((e.advances start start_now).first ∙ made.kind_is) c.args.round c.args.made
-          (sym (c.is_reached.ensures start start_now) ∙ c.if-is_reached.false);
+          (sym (c.is_reached.ensures start start_now) ∙ c.if-is_reached.false)
+          ∙ passed.reached start (start_on old mid same_mid.run start is_start);
       peopled = λ start s is_start asked none.
-          let start_now = start_on c.args.self.now k inv.same.run start is_start in
-          let asked_now = asked_on c.args.self.now k inv.same start s asked in
-          c.peopled_here-peopled.ensures.peopled start s start_now asked_now
+          let start_now = start_on old k inv.same.run start is_start in
+          let asked_now = asked_on old k inv.same start s asked in
+          passed.peopled start s (start_on old mid same_mid.run start is_start)
+          (asked_on old mid same_mid start s asked)
+          (λ none_mid. c.peopled_here-peopled.ensures.peopled start s start_now asked_now
           (inv.peopled start s is_start asked)
-          ∙ peopled_moved (here k start) (here new start) made.kind (here_on k new start next)
-          ((e.advances start start_now).first ∙ made.kind_is) s none;
+          ∙ peopled_moved (here k start) (here mid start) made.kind (here_on k mid start next)
+          ((e.advances start start_now).first ∙ made.kind_is) s none_mid);
     }
 
 pub returns-then-is_none-clause-same : goal.returns-then-is_none-clause-same
