@@ -222,7 +222,7 @@ const STRIDES: &[Stride] = &[
 ];
 
 /// One of them; how many bytes it puts.
-fn stride(rt: &impl Abort, play: &mut Playback, wanted: Stride) -> usize
+fn take_stride(rt: &impl Abort, play: &mut Playback, wanted: Stride) -> usize
     requires { play.old.failed ≡ false }
     ensures running { play.new.failed ≡ false }
     ensures further { play.old.reached ≤ play.new.reached }
@@ -242,7 +242,7 @@ fn instructions_are_made_at_once(rt: HostRuntime) {
     let start = play.moves();
     let mut puts = 0usize;
     for wanted in STRIDES {
-        puts = puts.saturating_add(stride(&rt, &mut play, *wanted));
+        puts = puts.saturating_add(take_stride(&rt, &mut play, *wanted));
     }
     assert_eq!(rt; puts, 2);
     rests(&rt, &mut play, 38, 4);
