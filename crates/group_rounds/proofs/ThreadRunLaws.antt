@@ -1,7 +1,8 @@
 -- A thread that runs in place, and the grant of a page, over the kernel's state.
 use Rattle.std.proofs.Common.{ℕ, zero, suc, ◌-◌, ◌/◌, ◌<◌, ◌≤◌, ◌≡◌, refl, sym, ap, ap₂, ◌∙◌, subst}
 use Rattle.std.proofs.Common.{List, [], ◌∷◌, length, length-set, Option, Some, None, option_map}
-use Rattle.std.proofs.Common.{arith}
+use Rattle.std.proofs.Common.{arith, ◌⊎◌, inl, inr, true}
+use Rattle.std.proofs.lemmas.Bool.{true≢false}
 use Rattle.std.specs.Prelude.{All, IsSome, IfSome, Err, MatchOption, slice_get}
 use Rattle.dos_world.specs.Numbered.{changed, changed_at}
 use Rattle.dos_world.specs.World.{World, Thread, Registers, Holdings, flat, space_of, look}
@@ -15,7 +16,7 @@ use Rattle.dos_laws.specs.Standing.{LawfulWith}
 use Rattle.flat_machine.specs.Laws.{kept}
 use Rattle.flat_machine.specs.Step.{step}
 use Rattle.quantum_run.specs.Shows.{thread_space}
-use Rattle.quantum_run.specs.ThreadRuns.{run_to, AreMapped, IsRunOf}
+use Rattle.quantum_run.specs.ThreadRuns.{run_to, AreMapped, IsRunOf, StartsElsewhere, is_stop_at}
 use Rattle.flat_machine.specs.Laws.{after_steps}
 use Rattle.dos_world.specs.World.{ran}
 use Rattle.flat_machine.specs.Rest.{page_granted, granted_by}
@@ -24,7 +25,7 @@ use Rattle.proc_table.specs.Tables.{Tables, thread_in, held_in, thread_by, IsLiv
 use Rattle.kernel_calls.specs.StateWorld.{HaveParts, IsSound, world_of, sent}
 use Rattle.kernel_calls.specs.declared.state.State.{State}
 use Rattle.kernel_calls.proofs.Counted.{all_counted, counted_like}
-use Rattle.group_rounds.specs.Parts.{RanPart, budget_in}
+use Rattle.group_rounds.specs.Parts.{IsAtOneOf, RanPart, RanUpTo, budget_in}
 use Rattle.group_rounds.proofs.Sound.{sound_then, parts_then, sound_one, steps_keep, grant_keeps}
 
 -- ---- a live thread
@@ -168,16 +169,19 @@ module _ (s : State) (t : ℕ) (sound : IsSound s) (live : IsLiveThread s.table.
 
 -- ---- after a run in place
 
--- what run_until_stop and set_run leave of a state
-pub record IsRunFrom (s : State) (t : ℕ) (entries : List (ℕ × Entry)) (registers : Registers)
-    (budget : ℕ) (frames : Store) (table : Tables) (registers' : Registers) (budget' : ℕ)
+-- what run_until_address and set_run leave of a state
+pub record IsRunFrom (stops : List ℕ) (s : State) (t : ℕ) (entries : List (ℕ × Entry))
+    (registers : Registers) (budget : ℕ) (frames : Store) (table : Tables)
+    (registers' : Registers) (budget' : ℕ)
     (reason : Option Reason) : Type 0 where
   pub runs : (w : World) → IsRunOf w s.frames entries t registers budget
       → after_steps (budget - budget') w t ≡ Some (run_to w t frames.pages registers' budget')
-  pub stop : MatchOption reason (budget' ≡ 0)
+  pub stop : MatchOption reason ((budget' ≡ 0) ⊎ (is_stop_at stops registers'.pc ≡ true))
       (λ r. (0 < budget')
       × ((w : World) → IsRunOf w s.frames entries t registers budget
       → step (run_to w t frames.pages registers' budget') t ≡ Err r))
+  pub elsewhere : (w : World) → IsRunOf w s.frames entries t registers budget
+      → StartsElsewhere stops (budget - budget') w t
   pub within : budget' ≤ budget
   pub owners : frames.owners ≡ s.frames.owners
   pub uses : frames.uses ≡ s.frames.uses
@@ -185,13 +189,14 @@ pub record IsRunFrom (s : State) (t : ℕ) (entries : List (ℕ × Entry)) (regi
   pub count : length frames.owners ≡ length frames.pages
   pub table_is : table ≡ thread_by (ran registers' budget') s.table t
 
-module _ (s : State) (t : ℕ) (sound : IsSound s) (live : IsLiveThread s.table.threads t)
+module _ (ends : List ℕ) (s : State) (t : ℕ) (sound : IsSound s)
+    (live : IsLiveThread s.table.threads t)
     (entries : List (ℕ × Entry)) (registers : Registers) (budget : ℕ) (frames : Store)
     (table : Tables) (registers' : Registers) (budget' : ℕ) (reason : Option Reason)
     (es : entries ≡ (seen s t sound live).holdings.space)
     (rs : registers ≡ (seen s t sound live).thread.registers)
     (bs : budget ≡ (seen s t sound live).thread.budget)
-    (run : IsRunFrom s t entries registers budget frames table registers' budget' reason) where
+    (run : IsRunFrom ends s t entries registers budget frames table registers' budget' reason) where
   abbrev after : State
   after = record s { frames = frames; table = table }
 
@@ -226,14 +231,17 @@ module _ (s : State) (t : ℕ) (sound : IsSound s) (live : IsLiveThread s.table.
       ∙ ap Some (world_after q o e)
 
   stops_so : (o : Option Reason)
-      → MatchOption o (budget' ≡ 0)
+      → MatchOption o ((budget' ≡ 0) ⊎ (is_stop_at ends registers'.pc ≡ true))
       (λ r. (0 < budget')
       × ((w : World) → IsRunOf w s.frames entries t registers budget
       → step (run_to w t frames.pages registers' budget') t ≡ Err r))
-      → MatchOption o (budget_in after t ≡ 0)
+      → MatchOption o ((budget_in after t ≡ 0) ⊎ IsAtOneOf ends after t)
       (λ r. (0 < budget_in after t)
       × ((q : ℕ) (o e : List ℕ) → step (sent o e (world_of q after)) t ≡ Err r))
-  stops_so None h = budget_after ∙ h
+  stops_so None (inl none) = inl (budget_after ∙ none)
+  stops_so None (inr there) =
+      inr (subst (λ o. MatchOption o ⊥
+      (λ (thread : Thread). is_stop_at ends thread.registers.pc ≡ true)) (sym thread_after) there)
   stops_so (Some r) h = (
     subst (λ n. 0 < n) (sym budget_after) h.0,
     λ q o e. ap (λ w. step w t) (sym (world_after q o e))
@@ -241,12 +249,14 @@ module _ (s : State) (t : ℕ) (sound : IsSound s) (live : IsLiveThread s.table.
         (is_run s t sound live q o e entries registers budget es rs bs),
   )
 
-  pub run_after : RanPart s t after reason
+  pub run_after : RanUpTo ends s t after reason
   run_after = record {
     count = budget - budget';
     paid = let was = budget_before in let now = budget_after in let within = run.within in
         omega (arith, was, now, within);
     runs = runs_so;
+    elsewhere = λ q o e. run.elsewhere (sent o e (world_of q s))
+        (is_run s t sound live q o e entries registers budget es rs bs);
     stops = stops_so reason run.stop;
   }
 
@@ -272,6 +282,32 @@ module _ (s : State) (t : ℕ) (sound : IsSound s) (live : IsLiveThread s.table.
 
   pub live_after : IsLiveThread table.threads t
   live_after = subst (λ o. IsSome o) (sym thread_after) refl
+
+-- a run up to no address is a part
+pub part_ran : (s : State) (t : ℕ) (after : State) (reason : Option Reason)
+    → RanUpTo [] s t after reason → RanPart s t after reason
+part_ran s t after reason ran = record {
+  count = ran.count;
+  paid = ran.paid;
+  runs = ran.runs;
+  stops = stops reason ran.stops;
+}
+  where
+    nowhere : (o : Option Thread)
+        → MatchOption o ⊥ (λ (thread : Thread). is_stop_at [] thread.registers.pc ≡ true) → ⊥
+    nowhere None h = h
+    nowhere (Some thread) h = true≢false (sym h)
+
+    stops : (o : Option Reason)
+        → MatchOption o ((budget_in after t ≡ 0) ⊎ IsAtOneOf [] after t)
+        (λ r. (0 < budget_in after t)
+        × ((q : ℕ) (o e : List ℕ) → step (sent o e (world_of q after)) t ≡ Err r))
+        → MatchOption o (budget_in after t ≡ 0)
+        (λ r. (0 < budget_in after t)
+        × ((q : ℕ) (o e : List ℕ) → step (sent o e (world_of q after)) t ≡ Err r))
+    stops None (inl none) = none
+    stops None (inr there) = absurd (nowhere (thread_in after.table.threads t) there)
+    stops (Some r) h = h
 
 -- ---- after a grant
 

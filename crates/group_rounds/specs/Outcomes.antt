@@ -1,5 +1,5 @@
 -- What a call of the serial phase leaves. This project's own words.
-use Rattle.std.specs.Prelude.{ℕ, ◌≡◌, Result, OnOk}
+use Rattle.std.specs.Prelude.{ℕ, Result, OnOk}
 use Rattle.dos_world.specs.World.{World}
 use Rattle.dos_world.specs.Play.{Play, done}
 use Rattle.dos_io.specs.Borders.{BorderState}

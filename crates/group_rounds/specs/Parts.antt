@@ -1,7 +1,7 @@
 -- A thread's part in a round, over the kernel's state. This project's own rules.
 use Rattle.std.specs.Prelude.{ℕ, ◌≡◌, ◌+◌, ◌-◌, ◌*◌, ◌<◌, List, length, sum_by, Option, Some, Err}
-use Rattle.std.specs.Prelude.{MatchOption, Bool, true, false}
-use Rattle.dos_world.specs.World.{World}
+use Rattle.std.specs.Prelude.{MatchOption, ◌⊎◌, Bool, true, false}
+use Rattle.dos_world.specs.World.{World, Thread}
 use Rattle.dos_world.specs.Play.{Play, done}
 use Rattle.dos_world.specs.declared.Reason.{Reason}
 use Rattle.flat_machine.specs.Step.{step}
@@ -9,6 +9,8 @@ use Rattle.flat_machine.specs.Alone.{budget_of}
 use Rattle.flat_machine.specs.Laws.{after_steps}
 use Rattle.round_core.specs.Granting.{grants_needed}
 use Rattle.flat_machine.specs.Rest.{turns}
+use Rattle.proc_table.specs.Tables.{thread_in}
+use Rattle.quantum_run.specs.ThreadRuns.{StartsElsewhere, is_stop_at}
 use Rattle.kernel_calls.specs.StateWorld.{world_of, sent}
 use Rattle.kernel_calls.specs.declared.state.State.{State}
 use Rattle.kernel_calls.specs.declared.state.Served.{Served}
@@ -34,6 +36,24 @@ pub record RanPart (old : State) (t : ℕ) (new : State) (reason : Option Reason
   pub runs : (q : ℕ) (o e : List ℕ)
       → after_steps count (sent o e (world_of q old)) t ≡ Some (sent o e (world_of q new))
   pub stops : MatchOption reason (budget_in new t ≡ 0)
+      (λ r. (0 < budget_in new t)
+      × ((q : ℕ) (o e : List ℕ) → step (sent o e (world_of q new)) t ≡ Err r))
+
+-- t lives at one of these addresses
+abbrev pub IsAtOneOf : (addresses : List ℕ) → State → ℕ → Type 0
+IsAtOneOf addresses s t = MatchOption (thread_in s.table.threads t) ⊥
+    (λ (thread : Thread). is_stop_at addresses thread.registers.pc ≡ true)
+
+-- The same, each of them at none of these addresses; or it is at one of them now.
+pub record RanUpTo (addresses : List ℕ) (old : State) (t : ℕ) (new : State) (reason : Option Reason)
+    : Type 0 where
+  pub count : ℕ
+  pub paid : budget_in old t ≡ count + budget_in new t
+  pub runs : (q : ℕ) (o e : List ℕ)
+      → after_steps count (sent o e (world_of q old)) t ≡ Some (sent o e (world_of q new))
+  pub elsewhere : (q : ℕ) (o e : List ℕ)
+      → StartsElsewhere addresses count (sent o e (world_of q old)) t
+  pub stops : MatchOption reason ((budget_in new t ≡ 0) ⊎ IsAtOneOf addresses new t)
       (λ r. (0 < budget_in new t)
       × ((q : ℕ) (o e : List ℕ) → step (sent o e (world_of q new)) t ≡ Err r))
 

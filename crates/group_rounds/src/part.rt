@@ -12,7 +12,8 @@ ghost use Rattle.proc_table.specs.Tables.{IsLiveThread, thread_by};
 ghost use Rattle.kernel_calls.specs.StateWorld.{HaveParts, IsReady, IsSound, sent, world_of};
 ghost use Rattle.kernel_calls.specs.StateWorld.{StaysInRound};
 ghost use Rattle.kernel_calls.specs.Plays.{Plays};
-ghost use Rattle.group_rounds.specs.Parts.{KeepsCount, RanPart, budget_in, goes_on_after};
+ghost use Rattle.group_rounds.specs.Parts.{KeepsCount, RanPart, RanUpTo, budget_in};
+ghost use Rattle.group_rounds.specs.Parts.{goes_on_after};
 ghost use Rattle.group_rounds.specs.Parts.{part_left, part_measure, turns_left};
 ghost use Rattle.group_rounds.specs.Outcomes.{Serves};
 
@@ -20,7 +21,6 @@ use dos_io::Border;
 use dos_world::{Access, Reason};
 use kernel_calls::{RunStop, Served, State, end_process, serve};
 use proc_table::Table;
-use quantum_run::run_until_stop;
 
 // no reservation
 fn empty_reservation(table: &mut Table, tid: u32)
@@ -48,12 +48,12 @@ pub fn begin(state: &mut State, tid: u32)
     empty_reservation(&mut state.table, tid);
 }
 
-/// Runs the thread in place until its next instruction stops or its budget is 0: why it stops, or
-/// None exactly where the budget is 0.
-pub fn run(state: &mut State, tid: u32) -> Option<Reason>
+/// Runs the thread in place until its next instruction stops, its budget is 0 or it is at one of
+/// the addresses `stops`: why it stops, or else None.
+pub fn run_until_address(state: &mut State, tid: u32, stops: &[u32]) -> Option<Reason>
     requires sound { IsSound state.old }
     requires live { IsLiveThread state.old.table.threads tid }
-    ensures ran { RanPart state.old tid state.new result }
+    ensures ran { RanUpTo stops.now state.old tid state.new result }
     ensures sound { IsSound state.new }
     ensures parts { (ts : List ℕ) → HaveParts ts state.old → HaveParts ts state.new }
     ensures round { StaysInRound state.old state.new }
@@ -67,11 +67,27 @@ pub fn run(state: &mut State, tid: u32) -> Option<Reason>
     let pid = state.table.process_of(tid);
     let mut regs = *state.table.regs(tid);
     let space = state.table.space(pid);
-    let reason = run_until_stop(&mut state.frames, space, tid, &mut regs, &mut budget);
+    let frames = &mut state.frames;
+    let reason = quantum_run::run_until_address(frames, space, tid, &mut regs, &mut budget, stops);
     // that each page has an owner is known of the frames themselves
     let _count = state.frames.count();
     state.table.set_run(tid, regs, budget);
     reason
+}
+
+/// Runs the thread in place until its next instruction stops or its budget is 0: why it stops, or
+/// None exactly where the budget is 0.
+pub fn run(state: &mut State, tid: u32) -> Option<Reason>
+    requires sound { IsSound state.old }
+    requires live { IsLiveThread state.old.table.threads tid }
+    ensures ran { RanPart state.old tid state.new result }
+    ensures sound { IsSound state.new }
+    ensures parts { (ts : List ℕ) → HaveParts ts state.old → HaveParts ts state.new }
+    ensures round { StaysInRound state.old state.new }
+    ensures count { KeepsCount state.old state.new }
+    ensures live { IsLiveThread state.new.table.threads tid }
+{
+    run_until_address(state, tid, &[])
 }
 
 /// The thread's parallel part, in place: how many instructions it did, each for one of its budget.

@@ -1,10 +1,10 @@
 -- Moves one after another that are instructions of one thread. This project's own words.
-use Rattle.std.specs.Prelude.{ℕ, zero, suc, ◌≡◌, ◌==◌, ◌/◌, ⊤, false, List, map, Option, Some, None}
-use Rattle.std.specs.Prelude.{All, length, option_map, slice_index, Ok}
-use Rattle.std.specs.List.{list_any}
+use Rattle.std.specs.Prelude.{ℕ, zero, suc, ◌≡◌, ◌/◌, List, map, Option, Some, All, length}
+use Rattle.std.specs.Prelude.{option_map, slice_index, Ok}
 use Rattle.dos_world.specs.World.{World, Thread, thread_at}
 use Rattle.dos_world.specs.Play.{done}
 use Rattle.flat_machine.specs.Step.{step}
+pub use Rattle.quantum_run.specs.ThreadRuns.{IsElsewhere}
 use Rattle.group_moves.specs.Moments.{Moment, kind_at, moment_behind, settled_scene}
 use Rattle.group_moves.specs.Moves.{move_of, runs}
 use Rattle.group_moves.specs.Places.{Scene}
@@ -26,12 +26,6 @@ pub record IsSameGroup (before behind : World) : Type 0 where
   pub error : behind.error ≡ before.error
 
 -- ---- instructions
-
--- A thread is at none of these addresses, where it lives.
-abbrev pub IsElsewhere : (stops : List ℕ) → Option Thread → Type 0
-IsElsewhere stops None = ⊤
-IsElsewhere stops (Some thread) =
-    list_any (λ (stop : ℕ). stop == thread.registers.pc) stops ≡ false
 
 -- each byte of this frame is as it was
 abbrev pub KeepsFrame : (before behind : World) → (frame : ℕ) → Type 0

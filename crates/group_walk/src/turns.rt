@@ -19,7 +19,7 @@ ghost use Rattle.group_walk.specs.Stretches.{IsElsewhere, StepsOn};
 use crate::stops::why_stops;
 use dos_io::Border;
 use dos_world::{Access, Owner, Reason};
-use group_rounds::part::{end_by_fault, goes_on_after, grant, run};
+use group_rounds::part::{end_by_fault, goes_on_after, grant, run, run_until_address};
 use kernel_calls::{RunStop, State, serve};
 
 /// The thread's next instruction, which doesn't stop, for one of its budget.
@@ -44,35 +44,8 @@ pub(crate) fn step_once(state: &mut State, tid: u32)
     state.table.set_budget(tid, budget - 1);
 }
 
-/// The thread's next instructions, each for one of its budget, until one would stop or they are so
-/// many: how many.
-fn step_freely(state: &mut State, tid: u32, most: u32) -> u32
-    requires sound { IsSound state.old }
-    requires live { IsLiveThread state.old.table.threads tid }
-    ensures most { result ≤ most }
-    ensures some { 0 < most → 0 < budget_in state.old tid
-        → ((q : ℕ) (o e : List ℕ) → reason_of (step (sent o e (world_of q state.old)) tid) ≡ None)
-        → 0 < result }
-    ensures paid { budget_in state.old tid ≡ result + budget_in state.new tid }
-    ensures steps { (q : ℕ) (o e : List ℕ) → StepsOn [] [] result
-        (sent o e (world_of q state.old)) tid (sent o e (world_of q state.new)) }
-    ensures sound { IsSound state.new }
-    ensures parts { (ts : List ℕ) → HaveParts ts state.old → HaveParts ts state.new }
-    ensures live { (t : ℕ) → IsLiveThread state.old.table.threads t
-        → IsLiveThread state.new.table.threads t }
-    ensures round { state.new.round ≡ state.old.round }
-    ensures count { KeepsCount state.old state.new }
-{
-    let budget = state.table.budget(tid);
-    let part = budget.min(most);
-    state.table.set_budget(tid, part);
-    let _stop = run(state, tid);
-    let steps = part - state.table.budget(tid);
-    state.table.set_budget(tid, budget - steps);
-    steps
-}
-
-/// The same, until the thread is at one of these addresses.
+/// The thread's next instructions, each for one of its budget, until one would stop, they are so
+/// many or the thread is at one of these addresses: how many.
 pub(crate) fn step_on(state: &mut State, tid: u32, most: u32, stops: &[u32]) -> u32
     requires sound { IsSound state.old }
     requires live { IsLiveThread state.old.table.threads tid }
@@ -91,19 +64,12 @@ pub(crate) fn step_on(state: &mut State, tid: u32, most: u32, stops: &[u32]) -> 
     ensures round { state.new.round ≡ state.old.round }
     ensures count { KeepsCount state.old state.new }
 {
-    if stops.is_empty() {
-        return step_freely(state, tid, most);
-    }
-    let mut steps = 0;
-    while steps < most {
-        if stops.contains(&state.table.regs(tid).pc()) {
-            return steps;
-        }
-        if step_freely(state, tid, 1) == 0 {
-            return steps;
-        }
-        steps += 1;
-    }
+    let budget = state.table.budget(tid);
+    let part = budget.min(most);
+    state.table.set_budget(tid, part);
+    let _stop = run_until_address(state, tid, stops);
+    let steps = part - state.table.budget(tid);
+    state.table.set_budget(tid, budget - steps);
     steps
 }
 

@@ -9,6 +9,7 @@ pub mod Parts
 pub mod Overlay
 pub mod Alike
 pub mod Packing
+pub mod Elsewhere
 pub mod Filling
 pub mod Finishing
 pub mod Keeping

@@ -1,8 +1,9 @@
 -- A thread that runs in place, over the frames and its space. This project's own rules.
-use Rattle.std.specs.Prelude.{ℕ, ◌≡◌, ◌<◌, ◌-◌, List, [], Option, Some, None, Err}
-use Rattle.std.specs.Prelude.{option_map, length}
+use Rattle.std.specs.Prelude.{ℕ, ◌≡◌, ◌==◌, ◌<◌, ◌-◌, ⊤, Bool, false, List, [], Option, Some}
+use Rattle.std.specs.Prelude.{None, Err, option_map, length}
+use Rattle.std.specs.List.{list_any}
 pub use Rattle.dos_world.specs.World.{ran}
-use Rattle.dos_world.specs.World.{World, Registers, thread_at, with_thread, look}
+use Rattle.dos_world.specs.World.{World, Thread, Registers, thread_at, with_thread, look}
 use Rattle.dos_world.specs.declared.Entry.{Entry}
 use Rattle.dos_world.specs.declared.Owner.{Owner}
 use Rattle.dos_world.specs.declared.Reason.{Reason}
@@ -53,3 +54,19 @@ pub record Goes (floor : ℕ) (shows : World → Type 0) (w : World) (t : ℕ) (
     (budget left : ℕ) (stop : Option Reason) : Type 0 where
   pub reaches : Reaches shows w t registers budget left
   pub stops : Stops floor reaches.now t left stop
+
+-- ---- up to some addresses
+
+-- it is one of these addresses
+abbrev pub is_stop_at : (stops : List ℕ) → (pc : ℕ) → Bool
+is_stop_at stops pc = list_any (λ (stop : ℕ). stop == pc) stops
+
+-- A thread is at none of these addresses, where it lives.
+abbrev pub IsElsewhere : (stops : List ℕ) → Option Thread → Type 0
+IsElsewhere stops None = ⊤
+IsElsewhere stops (Some thread) = is_stop_at stops thread.registers.pc ≡ false
+
+-- From w on, t is at none of these addresses before each of so many instructions.
+abbrev pub StartsElsewhere : (stops : List ℕ) → (count : ℕ) → World → ℕ → Type 0
+StartsElsewhere stops count w t = (made : ℕ) (u : World) → made < count
+    → after_steps made w t ≡ Some u → IsElsewhere stops (thread_at u t)

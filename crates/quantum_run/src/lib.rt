@@ -14,4 +14,4 @@ mod slots;
 mod thread_memory;
 
 pub use pack::{Pack, Shared, View, run_out, run_pack, run_slice};
-pub use run::run_until_stop;
+pub use run::{run_until_address, run_until_stop};

@@ -1,13 +1,14 @@
 // The loop, over any memory and in place.
-ghost use Rattle.std.specs.Prelude.{◌≡◌, ◌<◌, ◌≤◌, ◌-◌, ℕ, List, Some, Err, MatchOption, length};
-ghost use Rattle.std.specs.Prelude.{map, is_some};
+ghost use Rattle.std.specs.Prelude.{◌≡◌, ◌<◌, ◌≤◌, ◌-◌, ◌⊎◌, ℕ, List, Some, Err, MatchOption};
+ghost use Rattle.std.specs.Prelude.{length, map, is_some, true};
 ghost use Rattle.dos_world.specs.World.{World};
 ghost use Rattle.page_store.specs.Store.{AreHome};
 ghost use Rattle.rv_exec.specs.Runs.{Runs};
 ghost use Rattle.flat_machine.specs.Step.{step};
 ghost use Rattle.quantum_run.specs.Knowing.{no_base};
 ghost use Rattle.quantum_run.specs.Pages.{AreOwn, AreReached, AreWithin, is_here, overlay};
-ghost use Rattle.quantum_run.specs.ThreadRuns.{AreMapped, Goes, IsRunOf, run_to};
+ghost use Rattle.quantum_run.specs.ThreadRuns.{AreMapped, Goes, IsRunOf, StartsElsewhere};
+ghost use Rattle.quantum_run.specs.ThreadRuns.{is_stop_at, run_to};
 ghost use Rattle.flat_machine.specs.Laws.{after_steps};
 ghost use Rattle.quantum_run.specs.ThreadRuns.{store_of};
 ghost use Rattle.quantum_run.specs.Showing.{ShowsBy, Still, still};
@@ -23,38 +24,63 @@ use rv_form::{Memo, place_after, place_after_short, place_of};
 use space_map::Space;
 use std::mem;
 
+/// Whether it is one of these addresses. Where there is none, nothing is left of it in the code.
+#[inline(always)]
+fn is_stop_at(stops: &[u32], pc: u32) -> bool
+    ensures { result ≡ is_stop_at stops.now pc }
+{
+    if stops.is_empty() {
+        return false;
+    }
+    stops.contains(&pc)
+}
+
 /// Instructions on a memory, each for one of the budget, until one stops or the budget has come
-/// down to the floor. While they run, pc stands beside the registers, and with it the place at
-/// which the memo may have its word. Nothing is known when they begin.
+/// down to the floor. In front of one at one of these addresses the floor is what is left. While
+/// they run, pc stands beside the registers, and with it the place at which the memo may have its
+/// word. Nothing is known when they begin.
 #[inline(always)]
 fn go<P: Pages>(
     regs: &mut Regs,
     memory: &mut Running<'_, P>,
     memo: &mut Memo,
     budget: &mut u32,
-    floor: u32,
+    floor: &mut u32,
+    stops: &[u32],
 ) -> Option<Reason>
     requires known { memory.old.base ≡ no_base }
-    requires floor { floor ≤ budget.old }
+    requires floor { floor.old ≤ budget.old }
     ensures runs { (f : Still × P.Fixed) (t : ℕ) (w : World)
         → Runs (ShowsBy
         (still memory.old.tid (P.owners memory.old.pages) memory.old.space.now.entries)
         (P.fixed memory.old.pages) (P.pages memory.old.pages) f t) w t regs.old budget.old
-        → Goes floor (ShowsBy
+        → Goes floor.new (ShowsBy
         (still memory.new.tid (P.owners memory.new.pages) memory.new.space.now.entries)
         (P.fixed memory.new.pages) (P.pages memory.new.pages) f t) w t regs.new budget.old
         budget.new result }
-    ensures stop { MatchOption result (budget.new ≡ floor) (λ reason. 0 < budget.new) }
+    ensures stop { MatchOption result (budget.new ≡ floor.new) (λ reason. 0 < budget.new) }
     ensures within { budget.new ≤ budget.old }
+    ensures floor { (floor.new ≡ floor.old) ⊎ (is_stop_at stops.now regs.new.pc ≡ true) }
+    ensures elsewhere { (f : Still × P.Fixed) (t : ℕ) (w : World)
+        → Runs (ShowsBy
+        (still memory.old.tid (P.owners memory.old.pages) memory.old.space.now.entries)
+        (P.fixed memory.old.pages) (P.pages memory.old.pages) f t) w t regs.old budget.old
+        → StartsElsewhere stops.now (budget.old - budget.new) w t }
 {
     let mut pc = regs.pc();
     let mut place = place_of(pc);
-    let mut left = *budget - floor;
+    let mut left = *budget - *floor;
     let mut why = Reason::Service;
     while left > 0 {
+        if is_stop_at(stops, pc) {
+            regs.set_pc(pc);
+            *floor += left;
+            *budget = *floor;
+            return None;
+        }
         if !memory.knows(memo, place, pc, &mut why) {
             regs.set_pc(pc);
-            *budget = left + floor;
+            *budget = *floor + left;
             return Some(why);
         }
         match one_known(regs, memory, memo.form(place), pc, &mut why) {
@@ -72,18 +98,59 @@ fn go<P: Pages>(
             }
             Next::Not => {
                 regs.set_pc(pc);
-                *budget = left + floor;
+                *budget = *floor + left;
                 return Some(why);
             }
         }
         left -= 1;
     }
     regs.set_pc(pc);
-    *budget = left + floor;
+    *budget = *floor + left;
     None
 }
 
-/// The run of the thread whose memory this is, until its budget has come down to the floor.
+/// The run of the thread whose memory this is, until its budget has come down to the floor; in
+/// front of one of these addresses the floor is what is left.
+#[inline(always)]
+fn run_by<P: Pages>(
+    memory: &mut Running<'_, P>,
+    memo: &mut Memo,
+    regs: &mut Regs,
+    budget: &mut u32,
+    floor: &mut u32,
+    stops: &[u32],
+) -> Option<Reason>
+    requires known { memory.old.base ≡ no_base }
+    requires floor { floor.old ≤ budget.old }
+    ensures runs { (w : World)
+        → IsRunOf w (store_of (P.owners memory.old.pages) (P.pages memory.old.pages))
+        memory.old.space.now.entries memory.old.tid regs.old budget.old
+        → after_steps (budget.old - budget.new) w memory.old.tid
+        ≡ Some (run_to w memory.old.tid (P.pages memory.new.pages) regs.new budget.new) }
+    ensures stop { MatchOption result (budget.new ≡ floor.new)
+        (λ reason. (0 < budget.new)
+        × ((w : World)
+        → IsRunOf w
+        (store_of (P.owners memory.old.pages) (P.pages memory.old.pages))
+        memory.old.space.now.entries memory.old.tid regs.old budget.old
+        → step (run_to w memory.old.tid (P.pages memory.new.pages) regs.new budget.new)
+        memory.old.tid ≡ Err reason)) }
+    ensures elsewhere { (w : World)
+        → IsRunOf w (store_of (P.owners memory.old.pages) (P.pages memory.old.pages))
+        memory.old.space.now.entries memory.old.tid regs.old budget.old
+        → StartsElsewhere stops.now (budget.old - budget.new) w memory.old.tid }
+    ensures floor { (floor.new ≡ floor.old) ⊎ (is_stop_at stops.now regs.new.pc ≡ true) }
+    ensures within { budget.new ≤ budget.old }
+    ensures owners { P.owners memory.new.pages ≡ P.owners memory.old.pages }
+    ensures fixed { P.fixed memory.new.pages ≡ P.fixed memory.old.pages }
+{
+    let mut own = *regs;
+    let stop = go(&mut own, memory, memo, budget, floor, stops);
+    *regs = own;
+    stop
+}
+
+/// The same, wherever the thread is.
 #[inline(never)]
 pub(crate) fn run<P: Pages>(
     memory: &mut Running<'_, P>,
@@ -111,10 +178,44 @@ pub(crate) fn run<P: Pages>(
     ensures owners { P.owners memory.new.pages ≡ P.owners memory.old.pages }
     ensures fixed { P.fixed memory.new.pages ≡ P.fixed memory.old.pages }
 {
-    let mut own = *regs;
-    let stop = go(&mut own, memory, memo, budget, floor);
-    *regs = own;
-    stop
+    let mut floor = floor;
+    run_by(memory, memo, regs, budget, &mut floor, &[])
+}
+
+/// The same until its budget is 0, or it is at one of these addresses.
+#[inline(never)]
+fn run_up_to<P: Pages>(
+    memory: &mut Running<'_, P>,
+    memo: &mut Memo,
+    regs: &mut Regs,
+    budget: &mut u32,
+    stops: &[u32],
+) -> Option<Reason>
+    requires known { memory.old.base ≡ no_base }
+    ensures runs { (w : World)
+        → IsRunOf w (store_of (P.owners memory.old.pages) (P.pages memory.old.pages))
+        memory.old.space.now.entries memory.old.tid regs.old budget.old
+        → after_steps (budget.old - budget.new) w memory.old.tid
+        ≡ Some (run_to w memory.old.tid (P.pages memory.new.pages) regs.new budget.new) }
+    ensures stop { MatchOption result
+        ((budget.new ≡ 0) ⊎ (is_stop_at stops.now regs.new.pc ≡ true))
+        (λ reason. (0 < budget.new)
+        × ((w : World)
+        → IsRunOf w
+        (store_of (P.owners memory.old.pages) (P.pages memory.old.pages))
+        memory.old.space.now.entries memory.old.tid regs.old budget.old
+        → step (run_to w memory.old.tid (P.pages memory.new.pages) regs.new budget.new)
+        memory.old.tid ≡ Err reason)) }
+    ensures elsewhere { (w : World)
+        → IsRunOf w (store_of (P.owners memory.old.pages) (P.pages memory.old.pages))
+        memory.old.space.now.entries memory.old.tid regs.old budget.old
+        → StartsElsewhere stops.now (budget.old - budget.new) w memory.old.tid }
+    ensures within { budget.new ≤ budget.old }
+    ensures owners { P.owners memory.new.pages ≡ P.owners memory.old.pages }
+    ensures fixed { P.fixed memory.new.pages ≡ P.fixed memory.old.pages }
+{
+    let mut floor = 0;
+    run_by(memory, memo, regs, budget, &mut floor, stops)
 }
 
 /// The run of a thread over pages of its own, with the frames lent, until its budget has come down
@@ -212,7 +313,7 @@ fn run_written(
     stop
 }
 
-/// The run of a thread in the frames.
+/// The run of a thread in the frames, up to one of these addresses.
 fn run_in_place(
     frames: &mut Frames,
     space: &Space,
@@ -220,16 +321,21 @@ fn run_in_place(
     memo: &mut Memo,
     regs: &mut Regs,
     budget: &mut u32,
+    stops: &[u32],
 ) -> Option<Reason>
     requires home { AreHome frames.old }
     requires mapped { AreMapped frames.old space.now.entries }
     ensures runs { (w : World) → IsRunOf w frames.old space.now.entries tid regs.old budget.old
         → after_steps (budget.old - budget.new) w tid
         ≡ Some (run_to w tid frames.new.pages regs.new budget.new) }
-    ensures stop { MatchOption result (budget.new ≡ 0)
+    ensures stop { MatchOption result
+        ((budget.new ≡ 0) ⊎ (is_stop_at stops.now regs.new.pc ≡ true))
         (λ reason. (0 < budget.new)
         × ((w : World) → IsRunOf w frames.old space.now.entries tid regs.old budget.old
         → step (run_to w tid frames.new.pages regs.new budget.new) tid ≡ Err reason)) }
+    ensures elsewhere { (w : World)
+        → IsRunOf w frames.old space.now.entries tid regs.old budget.old
+        → StartsElsewhere stops.now (budget.old - budget.new) w tid }
     ensures within { budget.new ≤ budget.old }
     ensures owners { frames.new.owners ≡ frames.old.owners }
     ensures uses { frames.new.uses ≡ frames.old.uses }
@@ -237,17 +343,62 @@ fn run_in_place(
     ensures home { AreHome frames.new }
 {
     let mut memory = Running::new(InPlace { frames }, space, tid);
-    run(&mut memory, memo, regs, budget, 0)
+    if stops.is_empty() {
+        return run(&mut memory, memo, regs, budget, 0);
+    }
+    run_up_to(&mut memory, memo, regs, budget, stops)
 }
 
-/// Runs instructions of thread `tid` in the frames, each for one of the budget, until one stops or
-/// the budget is 0: why it stops, with the budget above 0, or None where the budget is 0. The
-/// registers, the budget and the pages are then as the instructions left them that were done; the
-/// one that stops changes nothing. Owners, uses and marks stay. Each page is home, and each entry
-/// of the space names a frame that isn't Free.
+/// Runs instructions of thread `tid` in the frames, each for one of the budget, until one stops,
+/// the budget is 0 or the next is at one of the addresses `stops`: why it stops, with the budget
+/// above 0, or else None. The registers, the budget and the pages are then as the instructions left
+/// them that were done, each of which was at another address; the one that stops changes nothing.
+/// Owners, uses and marks stay. Each page is home, and each entry of the space names a frame that
+/// isn't Free.
 ///
-/// `runs` and `stop` say it of every world whose bytes, owners, space and thread these are. A part
-/// begins without a reservation, which the caller empties: see `laws::runs_are_parts`.
+/// `runs`, `stop` and `elsewhere` say it of every world whose bytes, owners, space and thread these
+/// are. A part begins without a reservation, which the caller empties: see `laws::runs_are_parts`.
+pub fn run_until_address(
+    frames: &mut Frames,
+    space: &Space,
+    tid: u32,
+    regs: &mut Regs,
+    budget: &mut u32,
+    stops: &[u32],
+) -> Option<Reason>
+    requires home { AreHome frames.old }
+    requires mapped { AreMapped frames.old space.now.entries }
+    ensures runs { (w : World) → IsRunOf w frames.old space.now.entries tid regs.old budget.old
+        → after_steps (budget.old - budget.new) w tid
+        ≡ Some (run_to w tid frames.new.pages regs.new budget.new) }
+    ensures stop { MatchOption result
+        ((budget.new ≡ 0) ⊎ (is_stop_at stops.now regs.new.pc ≡ true))
+        (λ reason. (0 < budget.new)
+        × ((w : World) → IsRunOf w frames.old space.now.entries tid regs.old budget.old
+        → step (run_to w tid frames.new.pages regs.new budget.new) tid ≡ Err reason)) }
+    ensures elsewhere { (w : World)
+        → IsRunOf w frames.old space.now.entries tid regs.old budget.old
+        → StartsElsewhere stops.now (budget.old - budget.new) w tid }
+    ensures within { budget.new ≤ budget.old }
+    ensures owners { frames.new.owners ≡ frames.old.owners }
+    ensures uses { frames.new.uses ≡ frames.old.uses }
+    ensures marked { frames.new.marked ≡ frames.old.marked }
+    ensures home { AreHome frames.new }
+{
+    match frames.take_memo() {
+        Some(mut memo) => {
+            let stop = run_in_place(frames, space, tid, &mut memo, regs, budget, stops);
+            frames.keep_memo(memo);
+            stop
+        }
+        None => {
+            let mut memo = Memo::new();
+            run_in_place(frames, space, tid, &mut memo, regs, budget, stops)
+        }
+    }
+}
+
+/// The same until one stops or the budget is 0: why it stops, or None where the budget is 0.
 pub fn run_until_stop(
     frames: &mut Frames,
     space: &Space,
@@ -270,15 +421,5 @@ pub fn run_until_stop(
     ensures marked { frames.new.marked ≡ frames.old.marked }
     ensures home { AreHome frames.new }
 {
-    match frames.take_memo() {
-        Some(mut memo) => {
-            let stop = run_in_place(frames, space, tid, &mut memo, regs, budget);
-            frames.keep_memo(memo);
-            stop
-        }
-        None => {
-            let mut memo = Memo::new();
-            run_in_place(frames, space, tid, &mut memo, regs, budget)
-        }
-    }
+    run_until_address(frames, space, tid, regs, budget, &[])
 }

@@ -1,84 +1,87 @@
-use Rattle.std.proofs.Common.{◌+◌, ◌≡◌, [], suc, None, arith, sym, ◌∙◌, subst}
-use Rattle.dos_world.specs.World.{World, thread_at}
-use Rattle.flat_machine.specs.Step.{step}
-use Rattle.kernel_calls.specs.StateWorld.{sent, world_of}
+use Rattle.std.proofs.Common.{[], ◌+◌, ◌-◌, ◌<◌, ◌≤◌, ◌≡◌, arith}
 use Rattle.kernel_calls.specs.declared.state.State.{State}
-use Rattle.proc_table.specs.Tables.{thread_in}
-use Rattle.group_walk.specs.Needs.{reason_of}
-use Rattle.group_walk.specs.Stretches.{IsElsewhere, StepsOn}
-use Rattle.group_walk.proofs.Freely.{elsewhere-so, not-elsewhere, one-step, positive, stands-still}
-use Rattle.group_walk.proofs.Freely.{steps-more}
+use Rattle.group_rounds.proofs.PhaseLaws.{budget_parts, budget_sound}
+use Rattle.group_rounds.proofs.ThreadRunLaws.{budget_is, own_budget, seen}
+use Rattle.group_walk.proofs.Freely.{budget-behind, part-paid, some_ran, steps-live, steps_so}
+use Rattle.group_walk.proofs.Stepping.{budget_lives}
 use Rattle.group_walk.proofs.turns.step_on.Goals as goal
 
-pub returns-then-contains-clause-some : goal.returns-then-contains-clause-some
-returns-then-contains-clause-some c = λ most some elsewhere goes_on.
-    let s : State = c.loop-steps.state in
-    positive c.loop-steps.steps (λ none.
-    let same = stands-still c.args.stops.now [] c.loop-steps.steps (world_of 0 c.args.state.now)
-    (world_of 0 s) c.args.tid (c.loop-steps.invariant.steps 0 [] []) none in
-    not-elsewhere c.args.stops.now c.pc.result c.regs.result.now c.pc.ensures
-    (thread_in s.table.threads c.args.tid) c.regs.ensures c.contains.result
-    c.contains.ensures.value c.if-contains.true
-    (c.loop-steps.invariant.live c.args.tid c.requires.live)
-    (subst (λ (w : World). IsElsewhere c.args.stops.now (thread_at w c.args.tid)) (sym same)
-    elsewhere))
+pub run_until_address-stop-requires-clause-sound : goal.run_until_address-stop-requires-clause-sound
+run_until_address-stop-requires-clause-sound c =
+    budget_sound c.args.state.now c.set_budget.new.self c.min-part.result c.args.tid
+    c.set_budget.ensures c.requires.sound
 
-pub returns-then-step_freely-eq0-clause-some : goal.returns-then-step_freely-eq0-clause-some
-returns-then-step_freely-eq0-clause-some c = λ most some elsewhere goes_on.
-    let s : State = c.loop-steps.state in
-    positive c.loop-steps.steps (λ none.
-    let paid = c.loop-steps.invariant.paid in
-    let any = c.step_freely-in-loop-steps.ensures.some (omega arith)
-    (omega (arith, some, paid, none))
-    (λ q o e. subst (λ w. reason_of (step w c.args.tid) ≡ None)
-    (sym (stands-still c.args.stops.now [] c.loop-steps.steps
-    (sent o e (world_of q c.args.state.now)) (sent o e (world_of q s)) c.args.tid
-    (c.loop-steps.invariant.steps q o e) none)) (goes_on q o e)) in
-    let zero = c.if-step_freely-eq0.true in
-    omega (arith, any, zero))
+pub run_until_address-stop-requires-clause-live : goal.run_until_address-stop-requires-clause-live
+run_until_address-stop-requires-clause-live c =
+    budget_lives c.args.state.now c.args.tid c.min-part.result c.set_budget.new.self
+    c.set_budget.ensures c.args.tid c.requires.live
 
-pub returns-then-step_freely-eq0-clause-steps : goal.returns-then-step_freely-eq0-clause-steps
-returns-then-step_freely-eq0-clause-steps c = λ q o e.
-    subst (λ w. StepsOn c.args.stops.now [] c.loop-steps.steps
-    (sent o e (world_of q c.args.state.now)) c.args.tid w)
-    (sym (stands-still [] [] c.step_freely-in-loop-steps.result
-    (sent o e (world_of q c.loop-steps.state))
-    (sent o e (world_of q c.step_freely-in-loop-steps.new.state)) c.args.tid
-    (c.step_freely-in-loop-steps.ensures.steps q o e) c.if-step_freely-eq0.true))
-    (c.loop-steps.invariant.steps q o e)
+pub overflow_sub-steps : goal.overflow_sub-steps
+overflow_sub-steps c =
+    let s : State = c.args.state.now in
+    let here = seen s c.args.tid c.requires.sound c.requires.live in
+    let paid = part-paid c.args.stops.now s c.args.tid c.budget-budget.result c.min-part.result
+    c.set_budget.new.self here.thread here.is
+    (own_budget s c.args.tid c.requires.sound c.requires.live c.budget-budget.result
+    c.budget-budget.ensures) c.set_budget.ensures c.run_until_address-stop.new.state
+    c.run_until_address-stop.result
+    c.run_until_address-stop.ensures.ran in
+    let left = budget_is c.run_until_address-stop.new.state c.args.tid
+    c.run_until_address-stop.ensures.sound
+    c.run_until_address-stop.ensures.live c.budget.result c.budget.ensures in
+    omega (arith, paid, left)
 
-pub loop-steps-preserved : goal.loop-steps-preserved
-loop-steps-preserved c =
-    let s : State = c.loop-steps.state in
-    let new : State = c.step_freely-in-loop-steps.new.state in
-    let one : c.step_freely-in-loop-steps.result ≡ 1 =
-    (let most = c.step_freely-in-loop-steps.ensures.most in
-    let some = c.if-step_freely-eq0.false in omega (arith, most, some)) in
-    let less = c.loop-steps-test.true in
-    let before = c.loop-steps.invariant.paid in
-    let after = c.step_freely-in-loop-steps.ensures.paid in
-    let count : suc c.loop-steps.steps ≡ c.loop-steps.steps + 1 = omega arith in
+pub returns : goal.returns
+returns c =
+    let s : State = c.args.state.now in
+    let ran : State = c.run_until_address-stop.new.state in
+    let t = c.args.tid in
+    let b = c.budget-budget.result in
+    let part = c.min-part.result in
+    let count = part - c.budget.result in
+    let here = seen s t c.requires.sound c.requires.live in
+    let own = own_budget s t c.requires.sound c.requires.live b c.budget-budget.ensures in
+    let has = budget_is s t c.requires.sound c.requires.live b c.budget-budget.ensures in
+    let paid = part-paid c.args.stops.now s t b part c.set_budget.new.self here.thread here.is own
+    c.set_budget.ensures ran c.run_until_address-stop.result c.run_until_address-stop.ensures.ran in
+    let left = budget_is ran t c.run_until_address-stop.ensures.sound
+    c.run_until_address-stop.ensures.live
+    c.budget.result c.budget.ensures in
+    let all : count ≡ c.run_until_address-stop.ensures.ran.count = omega (arith, paid, left) in
+    let least = c.min-part.ensures in
+    let within : part ≤ b = omega (arith, least) in
+    let sum : b ≡ count + (b - count) = omega (arith, within) in
+    let steps = steps_so c.args.stops.now s t b part c.set_budget.new.self here.thread here.is own
+    c.set_budget.ensures ran c.run_until_address-stop.result c.run_until_address-stop.ensures.ran
+    count (b - count)
+    c.set_budget-2.new.self all sum c.set_budget-2.ensures in
     record {
-      within = omega (arith, less);
-      paid = omega (arith, one, before, after);
-      steps = λ q o e.
-          subst (λ n. StepsOn c.args.stops.now [] n (sent o e (world_of q c.args.state.now))
-          c.args.tid
-          (sent o e (world_of q new))) count
-          (steps-more c.args.stops.now c.loop-steps.steps (sent o e (world_of q c.args.state.now))
-          (sent o e (world_of q s)) (sent o e (world_of q new)) c.args.tid
-          (c.loop-steps.invariant.steps q o e)
-          (elsewhere-so c.args.stops.now c.pc.result c.regs.result.now c.pc.ensures
-          (thread_in s.table.threads c.args.tid) c.regs.ensures c.contains.result
-          c.contains.ensures.value c.if-contains.false)
-          (one-step c.step_freely-in-loop-steps.result (sent o e (world_of q s))
-          (sent o e (world_of q new)) c.args.tid
-          (c.step_freely-in-loop-steps.ensures.steps q o e) one));
-      sound = c.step_freely-in-loop-steps.ensures.sound;
-      parts = λ ts parts. c.step_freely-in-loop-steps.ensures.parts ts
-          (c.loop-steps.invariant.parts ts parts);
-      live = λ t live. c.step_freely-in-loop-steps.ensures.live t
-          (c.loop-steps.invariant.live t live);
-      round = c.step_freely-in-loop-steps.ensures.round ∙ c.loop-steps.invariant.round;
-      count = c.step_freely-in-loop-steps.ensures.count ∙ c.loop-steps.invariant.count;
+      most = omega (arith, least);
+      some = λ most some elsewhere goes_on.
+          let any : 0 < part = omega (arith, least, most, some) in
+          let ran_some = some_ran c.args.stops.now s t b part c.set_budget.new.self here.thread
+          here.is own
+          c.set_budget.ensures ran c.run_until_address-stop.result
+          c.run_until_address-stop.ensures.ran any elsewhere goes_on in
+          omega (arith, ran_some, all);
+      paid =
+          let after = budget-behind c.args.stops.now s t b part c.set_budget.new.self here.thread
+          here.is own
+          c.set_budget.ensures ran c.run_until_address-stop.result
+          c.run_until_address-stop.ensures.ran count (b - count)
+          c.set_budget-2.new.self all sum c.set_budget-2.ensures
+          c.run_until_address-stop.ensures.live in
+          omega (arith, has, sum, after);
+      steps = steps;
+      sound = budget_sound ran c.set_budget-2.new.self (b - count) t c.set_budget-2.ensures
+          c.run_until_address-stop.ensures.sound;
+      parts = λ ts parts.
+          budget_parts ran c.set_budget-2.new.self (b - count) t c.set_budget-2.ensures
+          c.run_until_address-stop.ensures.sound ts
+          (c.run_until_address-stop.ensures.parts ts
+          (budget_parts s c.set_budget.new.self part t c.set_budget.ensures c.requires.sound ts
+          parts));
+      live = steps-live c.args.stops.now [] count _ _ t (steps 0 [] []);
+      round = c.run_until_address-stop.ensures.round.round;
+      count = c.run_until_address-stop.ensures.count;
     }

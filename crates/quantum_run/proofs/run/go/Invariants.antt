@@ -1,7 +1,7 @@
-use Rattle.std.proofs.Common.{ℕ, ◌+◌, ◌<◌, ◌≤◌}
+use Rattle.std.proofs.Common.{ℕ, ◌+◌, ◌-◌, ◌<◌, ◌≤◌, ◌≡◌}
 use Rattle.dos_world.specs.World.{World, with_pc}
 use Rattle.rv_exec.specs.Runs.{Runs}
-use Rattle.quantum_run.specs.ThreadRuns.{Reaches}
+use Rattle.quantum_run.specs.ThreadRuns.{Reaches, StartsElsewhere}
 use Rattle.quantum_run.specs.Showing.{ShowsBy, ShowsKnown, Still, still}
 use Rattle.quantum_run.proofs.run.go.Given as goal
 
@@ -15,8 +15,9 @@ invariant-loop-left g l =
     → Reaches (ShowsKnown
     (still l.memory.tid (g.P.Pages.owners l.memory.pages) l.memory.space.now.entries)
     (g.P.Pages.fixed l.memory.pages) (g.P.Pages.pages l.memory.pages) l.memory.base
-    l.memory.fetched (f, l.memo) t) w t (with_pc l.regs l.pc) l.fn.budget (l.left + l.fn.floor))
-    × (l.left + l.fn.floor ≤ l.fn.budget) × (l.place < 8192)
+    l.memory.fetched (f, l.memo) t) w t (with_pc l.regs l.pc) l.fn.budget (l.floor + l.left)
+    × StartsElsewhere l.stops (l.fn.budget - (l.floor + l.left)) w t)
+    × (l.floor + l.left ≤ l.fn.budget) × (l.place < 8192) × (l.floor ≡ l.fn.floor)
 
 abbrev pub decreases-loop-left : goal.decreases-loop-left
 decreases-loop-left g l = l.left
