@@ -13,6 +13,7 @@ pub mod Naming
 pub mod Kept
 pub mod Lasting
 pub mod Onward
+pub mod Exiting
 pub mod Passed
 pub mod Pathway
 pub mod Reached

@@ -1,16 +1,14 @@
--- Instructions by which a resumption forwards doesn't stop, and which put nothing.
-use Rattle.std.proofs.Common.{ℕ, zero, suc, ◌≡◌, ◌+◌, ◌<◌, ◌≤◌, List, [], ◌∷◌, ◌++◌, map, length}
-use Rattle.std.proofs.Common.{take, drop, Bool, true, false, Option, Some, None, refl, sym, ap, ◌∙◌}
-use Rattle.std.proofs.Common.{subst, arith, append-nil, get_or}
+-- Instructions by which a resumption forwards doesn't stop.
+use Rattle.std.proofs.Common.{ℕ, zero, suc, ◌≡◌, ◌+◌, List, [], ◌∷◌, length}
+use Rattle.std.proofs.Common.{Bool, true, false, Option, Some, None, refl, sym, ap, ◌∙◌}
+use Rattle.std.proofs.Common.{subst, arith}
 use Rattle.std.proofs.Math.Bool.{beq}
-use Rattle.std.specs.Prelude.{◌&&◌, ◌||◌, ◌==◌, cond, find, if◌then◌else◌, nat_lt, not, option_map}
+use Rattle.std.specs.Prelude.{◌&&◌, ◌||◌, cond, find, if◌then◌else◌, not, option_map}
 use Rattle.std.specs.Prelude.{All}
 use Rattle.std.specs.List.{list_all, list_any}
-use Rattle.std.proofs.lemmas.Bool.{eqb-true, le-ltb, true≢false}
-use Rattle.std.proofs.lemmas.List.{take_all}
-use Rattle.std.proofs.lemmas.Option.{slice_get-get_or}
-use Rattle.dos_world.specs.World.{Process, Thread, World, thread_at}
-use Rattle.group_moves.specs.Moves.{MoveKind, runs}
+use Rattle.std.proofs.lemmas.Bool.{le-ltb, true≢false}
+use Rattle.dos_world.specs.World.{Process, Thread, thread_at}
+use Rattle.group_moves.specs.Moves.{runs}
 use Rattle.group_walk.specs.Stretches.{IsElsewhere, KeepsFrame}
 use Rattle.gdb_packets.specs.declared.resumptions.Action.{Action}
 use Rattle.gdb_packets.specs.declared.resumptions.Action.TheVariants.{Continue, ContinueSignal}
@@ -22,28 +20,21 @@ use Rattle.debug_session.specs.Forwards.{born_between, forwards_over, halt_befor
 use Rattle.debug_session.specs.Forwards.{halt_broken, halt_deserted, halt_faulted, halt_moving}
 use Rattle.debug_session.specs.Forwards.{halt_stepped, halt_unstepped, halt_watched, is_step_over}
 use Rattle.debug_session.specs.Forwards.{or_else, step_pair, steps_nobody}
-use Rattle.debug_session.specs.Halts.{Halt, halt_at, puts_between, puts_from, some_bytes}
-use Rattle.debug_session.specs.Hits.{broken_by, fault_by, hit_by, is_hit_as, is_thread_broken}
-use Rattle.debug_session.specs.Hits.{is_watching}
+use Rattle.debug_session.specs.Halts.{Halt, halt_at}
+use Rattle.debug_session.specs.Hits.{broken_by, fault_by, hit_by, is_thread_broken}
 use Rattle.debug_session.specs.Points.{is_broken_at}
 use Rattle.debug_session.specs.Positions.{Position, first_kind, first_mover, moved_on}
 use Rattle.debug_session.specs.Positions.{position_after, position_at}
 use Rattle.debug_session.specs.Sessions.{Session, chosen_at, is_anybody_there, is_told_of}
-use Rattle.debug_session.specs.declared.points.Breakpoint.{Breakpoint}
-use Rattle.debug_session.specs.declared.points.Watchpoint.{Watchpoint}
 use Rattle.debug_session.specs.declared.stops.Cause.TheVariants.{Plainly, ReachedEnd}
 use Rattle.recorded_walk.specs.Playbacks.{AreSilentMoves, IsSilentMove, MovesSilently}
-use Rattle.debugger.specs.declared.forwards.Put.{Put}
 use Rattle.debugger.specs.declared.forwards.Way.{Way}
-use Rattle.debugger.specs.Halting.{HasKept, IsNoted, forwards_from, puts_kept}
+use Rattle.debugger.specs.Halting.{IsNoted, forwards_from}
 use Rattle.debugger.specs.Quiet.{AreWatchedIn, StopsAtAddresses, is_nobody_stepping}
 use Rattle.debugger.proofs.Unhit.{still_watched, unhit}
-use Rattle.debugger.proofs.Kept.{kept_more, numbered_so}
 use Rattle.debugger.proofs.Onward.{last_is, last_stays, moving_unstepped, over_on, over_there}
 use Rattle.debugger.proofs.Onward.{was_stays}
-use Rattle.debugger.proofs.Passed.{none_from}
-use Rattle.debugger.proofs.Pathway.{Step as Move, after_first, after_more, after_sum, on_step}
-use Rattle.debugger.proofs.Pathway.{puts_grow}
+use Rattle.debugger.proofs.Pathway.{Step as Move, after_first, after_sum, on_step}
 
 -- ---- actions that don't step
 
@@ -346,49 +337,6 @@ module _ (s : Session) (rs : List Resumption) (stops frames : List ℕ)
       ∙ ap (λ (p : Position). from_so false false last p) (sym on)
       ∙ sym (ap (λ (b : Bool). from_so b way.was_there last now) first
       ∙ ap (λ (b : Bool). from_so false b last now) was)
-
--- ---- nothing is put
-
-unput : (before behind : World) → behind.output ≡ before.output → behind.error ≡ before.error
-    → puts_between before behind ≡ []
-unput before behind output error =
-    ap (λ (o : List ℕ). some_bytes (drop (length before.output) o)
-    ++ some_bytes (drop (length before.error) behind.error)) output
-    ∙ ap (λ (bs : List ℕ). some_bytes bs
-    ++ some_bytes (drop (length before.error) behind.error))
-    (none_from before.output (length before.output) (omega arith))
-    ∙ ap (λ (e : List ℕ). some_bytes (drop (length before.error) e)) error
-    ∙ ap some_bytes (none_from before.error (length before.error) (omega arith))
-
-module _ (start : Position) (first : ℕ) (puts : List Put) (stops frames : List ℕ) (t : ℕ) where
-  kept_on : (now : ℕ) → first ≤ now → IsSilentMove stops frames t (position_after now start)
-      → HasKept start first now puts → HasKept start first (now + 1) puts
-  kept_on now from silent kept =
-      let at : Position = position_after now start in
-      let world_is : (position_after (now + 1) start).moment.world ≡ silent.next.world =
-      ap (λ (p : Position). p.moment.world) (after_more now start
-      ∙ on_step at (runs t, silent.next) silent.later silent.ahead) in
-      let none : puts_between at.moment.world (position_after (now + 1) start).moment.world ≡ [] =
-      ap (puts_between at.moment.world) world_is
-      ∙ unput at.moment.world silent.next.world silent.same.output silent.same.error in
-      kept_more start first now puts puts
-      (puts_between at.moment.world (position_after (now + 1) start).moment.world) from
-      (sym (append-nil (puts_kept puts))
-      ∙ ap (λ (bs : List (List ℕ)). puts_kept puts ++ numbered_so now bs) (sym none))
-      (puts_grow start first now (runs t, silent.next) silent.later from silent.ahead) kept
-
-  pub kept_along : (count now : ℕ) → first ≤ now
-      → AreSilentMoves stops frames count t (position_after now start)
-      → HasKept start first now puts → HasKept start first (now + count) puts
-  kept_along zero now from silent kept =
-      let same : now ≡ now + zero = omega arith in
-      subst (λ n. HasKept start first n puts) same kept
-  kept_along (suc count) now from silent kept =
-      let same : now + 1 + count ≡ now + suc count = omega arith in
-      subst (λ n. HasKept start first n puts) same
-      (kept_along count (now + 1) (omega (arith, from))
-      (subst (AreSilentMoves stops frames count t) (sym (after_more now start)) silent.1)
-      (kept_on now from silent.0 kept))
 
 -- ---- tests
 

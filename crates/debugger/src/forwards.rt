@@ -465,9 +465,30 @@ impl Session {
         Ok(self.halt_before(before)?)
     }
 
+    /// Somebody was there, and the move that is next ends the last process: nobody is there behind
+    /// it, so it isn't made.
+    fn halt_at_last_exit(&self, way: &Way) -> Option<Halt>
+        requires running { self.now.failed ≡ false }
+        ensures halt { IfSome result (λ halt. (rs : List Resumption) (start : Position) (s : Told)
+            (b : Before) → IsStartOf self.now.playback start → IsAsked self.now start s
+            → IsPassing b s rs way.now.is_first (here self.now start)
+            → IsNoted s rs start way.now (here self.now start)
+            → forwards_from s rs start way.now (here self.now start)
+            ≡ halt_meant s rs start halt) }
+        ensures there { IfSome result (λ halt. halt.moves ≡ way.now.last) }
+        ensures born { IfSome result (λ halt. halt.born ≡ None) }
+    {
+        if !way.was_there {
+            return None;
+        }
+        if !self.playback.is_last_exit() {
+            return None;
+        }
+        Some(Halt::at(way.last, None, Cause::ReachedEnd))
+    }
+
     /// The move is made that was seen, and what it puts is kept: where the resumption halts by it,
-    /// or
-    /// by that no move is next.
+    /// or by that no move is next. The last process's exit isn't made.
     fn move_on(
         &mut self,
         resumptions: &[Resumption],
@@ -511,6 +532,9 @@ impl Session {
         ensures furthest { self.old.furthest ≤ self.new.furthest }
         ensures failed { OnOk result (self.new.failed ≡ false) }
     {
+        if let Some(halt) = self.halt_at_last_exit(way) {
+            return Ok(Some(halt));
+        }
         let Some(_) = self.advance()? else {
             return Ok(Some(Halt::at(way.last, None, Cause::ReachedEnd)));
         };

@@ -291,17 +291,22 @@ kind-by t (Err (Page address access)) = refl
 kind-by t (Err (Fault number)) = refl
 kind-by t (Err Service) = refl
 
-pub kind-granted : (w : World) (t : ℕ) → MapsWithin w t
-    → kind_by t (settled 3 w t).1 ≡ kind_by t (step (all_granted t w) t)
-kind-granted w t within = go (settled-granted 3 w t)
+-- A stop at a page isn't left over, so it stops as where all pages are granted.
+pub settled-reason : (w : World) (t : ℕ) → MapsWithin w t
+    → reason_of (settled 3 w t).1 ≡ reason_of (step (all_granted t w) t)
+settled-reason w t within = go (settled-granted 3 w t)
   where
     go : (IsPage (settled 3 w t).1)
         ⊎ (reason_of (settled 3 w t).1 ≡ reason_of (step (all_granted t w) t))
-        → kind_by t (settled 3 w t).1 ≡ kind_by t (step (all_granted t w) t)
+        → reason_of (settled 3 w t).1 ≡ reason_of (step (all_granted t w) t)
     go (inl page) = absurd (three-are-enough w t within page.address page.access page.is)
-    go (inr same) =
-        kind-by t (settled 3 w t).1 ∙ ap (kind_refused t) same
-        ∙ sym (kind-by t (step (all_granted t w) t))
+    go (inr same) = same
+
+pub kind-granted : (w : World) (t : ℕ) → MapsWithin w t
+    → kind_by t (settled 3 w t).1 ≡ kind_by t (step (all_granted t w) t)
+kind-granted w t within =
+    kind-by t (settled 3 w t).1 ∙ ap (kind_refused t) (settled-reason w t within)
+    ∙ sym (kind-by t (step (all_granted t w) t))
 
 -- so by why a step stops there
 module _ (w : World) (t : ℕ) (within : MapsWithin w t) where

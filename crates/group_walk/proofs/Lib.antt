@@ -7,6 +7,7 @@ pub mod SameGroup
 pub mod Stretching
 pub mod Stopping
 pub mod Turned
+pub mod Deserting
 pub mod TurnPlays
 pub mod Passed
 pub mod Begun

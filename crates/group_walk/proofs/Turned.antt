@@ -19,7 +19,7 @@ use Rattle.group_walk.specs.Needs.{reason_of}
 
 -- ---- steps by their refusals
 
-stopped_so : (r : Result World Reason) (reason : Reason) → reason_of r ≡ Some reason
+pub stopped_so : (r : Result World Reason) (reason : Reason) → reason_of r ≡ Some reason
     → r ≡ Err reason
 stopped_so (Ok next) reason h = cc
 stopped_so (Err other) reason h = let same : other ≡ reason = cc in ap Err same

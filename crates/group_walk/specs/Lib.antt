@@ -3,3 +3,4 @@ pub mod Walks
 pub mod Places
 pub mod Plays
 pub mod Stretches
+pub mod Exits

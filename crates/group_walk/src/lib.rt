@@ -4,6 +4,7 @@
 #![tactic(auto)]
 
 mod code;
+mod exits;
 mod frames;
 pub mod laws;
 mod moving;

@@ -1,18 +1,20 @@
 // The walk.
 ghost use Rattle.std.specs.Prelude.{◌≡◌, ◌+◌, ◌-◌, ◌^◌, ◌<◌, ◌≤◌, ℕ, List, false, is_err, is_none};
-ghost use Rattle.std.specs.Prelude.{IsSome, OnOk};
+ghost use Rattle.std.specs.Prelude.{IsSome, OnOk, true};
 ghost use Rattle.dos_world.specs.Play.{done};
 ghost use Rattle.dos_io.specs.Shims.{HasNoEnd};
 ghost use Rattle.group_moves.specs.Moments.{Moment, first_moment, kind_at};
 ghost use Rattle.group_moves.specs.Places.{between_rounds};
 ghost use Rattle.kernel_calls.specs.Plays.{Plays};
 ghost use Rattle.group_rounds.specs.Kernels.{IsBetweenRounds, kernel_world};
+ghost use Rattle.group_walk.specs.Exits.{LeavesNobody};
 ghost use Rattle.group_walk.specs.Places.{numbers_behind, phase_of};
 ghost use Rattle.group_walk.specs.Walks.{HasWalked, kinds_named, moment_in, moment_of};
 ghost use Rattle.group_walk.specs.Walks.{world_there};
 ghost use Rattle.group_walk.specs.Plays.{moved, walked};
 ghost use Rattle.group_walk.specs.Stretches.{HasGoneOn};
 
+use crate::exits::is_last_exit;
 use crate::moving::{reach_next, run_part, run_rest, serial_kind};
 use dos_io::Border;
 use dos_world::{Config, Ending};
@@ -226,6 +228,20 @@ impl Walker {
             }),
             Phase::Serial => Some(serial_kind(&self.state, self.starters[self.index])),
             Phase::Ended(_) => None,
+        }
+    }
+
+    /// Whether the next move ends the only process that lives, without making it. No more is said
+    /// where it answers false.
+    pub fn is_last_exit(&self) -> bool
+        requires { self.now.failed ≡ false }
+        ensures { result ≡ true → (o e : List ℕ)
+            → LeavesNobody self.now.config.rounds
+            (moment_in self.now (world_there self.now o e)) }
+    {
+        match self.phase {
+            Phase::Serial => is_last_exit(&self.state, self.starters[self.index]),
+            Phase::Between | Phase::Parallel | Phase::Ended(_) => false,
         }
     }
 

@@ -18,10 +18,11 @@ use Rattle.debug_session.specs.Recordings.{LogEntry, Recording, followed, record
 use Rattle.elf_image.specs.Image.{Image}
 use Rattle.flat_machine.specs.Fits.{first_misfit}
 use Rattle.flat_machine.specs.Opening.{opening}
-use Rattle.group_moves.specs.Moves.{MoveKind, move_of}
+use Rattle.group_moves.specs.Moves.{MoveKind, begins, runs, is_served, faults, move_of}
 use Rattle.group_moves.specs.Moments.{Moment, ending_at, first_moment, kind_at, moment_behind}
 use Rattle.group_moves.specs.Moments.{settled_scene}
 use Rattle.group_moves.specs.Places.{Place, Scene, at_end, between_rounds}
+use Rattle.group_walk.specs.Exits.{IsDeserted, LeavesNobody}
 use Rattle.group_walk.specs.Places.{phase_of}
 use Rattle.group_walk.specs.Walks.{Walk, kind_named, kinds_named, world_there}
 use Rattle.group_walk.specs.declared.walker.MoveKind.{MoveKind as kind_type}
@@ -29,13 +30,15 @@ use Rattle.log_text.specs.LogText.{Log}
 use Rattle.shim_log.specs.Replay.{ReplayState, entries_used, replayer_state}
 use Rattle.recorded_walk.specs.Following.{entries_left, follow, follow_one, log_entries}
 use Rattle.recorded_walk.specs.Playbacks.{IsEndedAs, KnowsMisfit, HasMoves, HasNoMore, Heard}
-use Rattle.recorded_walk.specs.Playbacks.{IsMisfitAt, IsOpenable, IsStartOf, Played, ended_in}
+use Rattle.recorded_walk.specs.Playbacks.{IsLastExit, IsMisfitAt, IsOpenable, IsStartOf, Played}
+use Rattle.recorded_walk.specs.Playbacks.{ended_in}
 use Rattle.recorded_walk.specs.Tracks.{HasCome, HasStepped, IsOfSameRun, IsOnTrack, MovesNowhere}
 use Rattle.recorded_walk.specs.Tracks.{HasNext, MisfitsBy, moment_sent}
 use Rattle.recorded_walk.specs.declared.track.Track.{Track}
 use Rattle.recorded_walk.proofs.Coming.{follow_on, has_moved_on, moved_is}
-use Rattle.recorded_walk.proofs.Unasked.{AsksNothing, leads_unasked}
-use Rattle.recorded_walk.proofs.Places.{heard, is_there, kind_ahead, nothing_ahead, seen_of}
+use Rattle.recorded_walk.proofs.Unasked.{AsksNothing, leads_done, leads_unasked}
+use Rattle.recorded_walk.proofs.Places.{heard, is_first, is_there, kind_ahead, nothing_ahead}
+use Rattle.recorded_walk.proofs.Places.{seen_of}
 use Rattle.recorded_walk.proofs.Places.{stands_there}
 
 -- ---- where nothing was done but to forget what was put
@@ -251,6 +254,14 @@ none_leads limit entries m none = ap (λ (k : Option MoveKind). elim k [
   ]
 ]) none
 
+-- the world behind a move of any kind
+world_behind : (kind : MoveKind) (m : Moment) (scene : Scene)
+    → (moment_behind kind m scene).world ≡ scene.0
+world_behind begins m scene = refl
+world_behind (runs t) m scene = refl
+world_behind (is_served t) m scene = refl
+world_behind (faults t number) m scene = refl
+
 -- the first move ahead is of this kind
 abbrev pub IsAhead : Played → Option kind_type → Type 0
 IsAhead p kind = (start : Position) → IsStartOf p start
@@ -370,6 +381,44 @@ module _ (images : List Image) (config : Config) (t : Track) (reached : ℕ) (fa
         some_ahead_here kind next
         (leads_unasked config.rounds (entries_left t.shim) moment (kind_named kind) unasked
         (ap (λ (c : Config). kind_at c.rounds moment) (sym same) ∙ next come.output come.error))
+
+    -- the last exit
+    module _ (leaves : (o e : List ℕ)
+        → LeavesNobody t.walker.config.rounds (moment_sent t.walker o e)) where
+      leaves_here : LeavesNobody config.rounds moment
+      leaves_here = subst (λ (c : Config). LeavesNobody c.rounds moment) same
+          (leaves come.output come.error)
+
+      abbrev behind : Moment
+      behind = moment_behind leaves_here.kind moment (settled_scene leaves_here.scene)
+
+      exits : follow_one config.rounds (entries_left t.shim) moment
+          ≡ Some (behind, entries_left t.shim)
+      exits = leads_done config.rounds (entries_left t.shim) moment leaves_here.kind
+          leaves_here.scene leaves_here.next leaves_here.move
+
+      pub exit_ahead : (kind : kind_type) → HasNext (Some kind) t.walker → IsAhead seen (Some kind)
+      exit_ahead kind next = some_ahead_here kind next (subst IsSome (sym exits) refl)
+
+      pub exit_here : (start : Position) → IsStartOf seen start
+          → IsLastExit (position_after t.moves start)
+      exit_here start is_start =
+          let at = is_there images config (log_entries t.shim.log) start is_start t.moves moment
+          (entries_left t.shim) (there images config t same come) in
+          let step = is_first config.rounds (entries_left t.shim) moment behind
+          (entries_left t.shim) exits in
+          let more : is_start.most + 1 ≡ suc is_start.most = omega arith in
+          record {
+            kind = step.kind;
+            next = behind;
+            later = recorded_from is_start.most config.rounds (entries_left t.shim) behind;
+            ahead = at.future 1
+                ∙ ap (λ k. recorded_from k config.rounds (entries_left t.shim) moment) more
+                ∙ step.moves is_start.most;
+            deserted = subst IsDeserted
+                (sym (world_behind leaves_here.kind moment (settled_scene leaves_here.scene)))
+                leaves_here.deserted;
+          }
 
     -- a step says it
     pub stepped_ahead : (kind : Option kind_type) (new : Track) → HasStepped kind t new

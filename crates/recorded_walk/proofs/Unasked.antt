@@ -63,27 +63,26 @@ move_done limit begun w (within_rest starters t ts) kind h is =
     )
 move_done limit begun w (at_end ending) kind h is = absurd cc
 
--- So it leads on, whatever entries are left.
+-- A move that is done at once leads on, whatever entries are left.
+pub leads_done : (limit : ℕ) (entries : List LogEntry) (m : Moment) (kind : MoveKind)
+    (scene : Scene) → kind_at limit m ≡ Some kind → move_of m.world m.place ≡ done scene
+    → follow_one limit entries m ≡ Some (moment_behind kind m (settled_scene scene), entries)
+leads_done limit entries m kind scene is move =
+    ap (λ (k : Option MoveKind). elim k [
+      | None ↦ None
+      | Some kind ↦ elim (followed entries (move_of m.world m.place)) [
+        | None ↦ None
+        | Some (scene, left) ↦ Some (moment_behind kind m (settled_scene scene), left)
+      ]
+    ]) is
+    ∙ ap (λ (p : Play Scene). elim (followed entries p) [
+      | None ↦ None
+      | Some (scene, left) ↦ Some (moment_behind kind m (settled_scene scene), left)
+    ]) move
+
+-- So does one that asks nothing.
 pub leads_unasked : (limit : ℕ) (entries : List LogEntry) (m : Moment) (kind : MoveKind)
     → AsksNothing kind → kind_at limit m ≡ Some kind → IsSome (follow_one limit entries m)
 leads_unasked limit entries m kind h is =
-    let scene = move_done limit m.begun_rounds m.world m.place kind h is in
-    let given : followed entries (move_of m.world m.place) ≡ Some (scene.0, entries) =
-    ap (followed entries) scene.1 in
-    subst IsSome (sym (leads given)) refl
-  where
-    leads : {scene : Scene} → followed entries (move_of m.world m.place) ≡ Some (scene, entries)
-        → follow_one limit entries m
-        ≡ Some (moment_behind kind m (settled_scene scene), entries)
-    leads given =
-        ap (λ (k : Option MoveKind). elim k [
-          | None ↦ None
-          | Some kind ↦ elim (followed entries (move_of m.world m.place)) [
-            | None ↦ None
-            | Some (scene, left) ↦ Some (moment_behind kind m (settled_scene scene), left)
-          ]
-        ]) is
-        ∙ ap (λ (x : Option (Scene × List LogEntry)). elim x [
-          | None ↦ None
-          | Some (scene, left) ↦ Some (moment_behind kind m (settled_scene scene), left)
-        ]) given
+    let moved = move_done limit m.begun_rounds m.world m.place kind h is in
+    subst IsSome (sym (leads_done limit entries m kind moved.0 is moved.1)) refl

@@ -17,6 +17,7 @@ use Rattle.group_moves.specs.Moments.{Moment, ending_at, first_moment, kind_at}
 use Rattle.group_moves.specs.Moves.{MoveKind, runs}
 use Rattle.group_open.specs.declared.error.OpenError.{OpenError}
 use Rattle.group_open.specs.declared.error.OpenError.TheVariants.{Memory, NoRoom}
+use Rattle.group_walk.specs.Exits.{IsDeserted}
 use Rattle.group_walk.specs.Stretches.{IsElsewhere, IsSameGroup, KeepsFrame}
 use Rattle.group_walk.specs.Walks.{Walk, moment_in, world_there}
 use Rattle.group_walk.specs.declared.walker.MoveKind.{MoveKind as kind_type}
@@ -129,6 +130,16 @@ AreSilentMoves stops kept (suc count) t at =
 pub record MovesSilently (stops kept : List ℕ) (count : ℕ) (at : Position) : Type 0 where
   pub thread : ℕ
   pub silent : AreSilentMoves stops kept count thread at
+
+-- ---- the last exit ahead
+
+-- A move is ahead behind which no process lives.
+pub record IsLastExit (at : Position) : Type 0 where
+  pub kind : MoveKind
+  pub next : Moment
+  pub later : List (MoveKind × Moment)
+  pub ahead : at.future ≡ (kind, next) ∷ later
+  pub deserted : IsDeserted next.world
 
 -- ---- opening
 

@@ -1,6 +1,6 @@
 // A recorded run that is walked.
 ghost use Rattle.std.specs.Prelude.{◌≡◌, ◌≤◌, ◌+◌, ◌⊎◌, IfOk, IfErr, OnOk, Some, [], false};
-ghost use Rattle.std.specs.Prelude.{is_err, length};
+ghost use Rattle.std.specs.Prelude.{is_err, length, true};
 ghost use Rattle.debug_session.specs.Positions.{Position, first_kind, position_after};
 ghost use Rattle.debug_session.specs.Recordings.{Recording};
 ghost use Rattle.dos_world.specs.Lawful.{IsConfig};
@@ -14,8 +14,8 @@ ghost use Rattle.group_walk.specs.Places.{phase_of};
 ghost use Rattle.group_walk.specs.Walks.{kinds_named};
 ghost use Rattle.recorded_walk.specs.Following.{log_entries};
 ghost use Rattle.recorded_walk.specs.Playbacks.{IsEndedAs, Heard, IsMisfitAt, IsOfSame, IsRefused};
-ghost use Rattle.recorded_walk.specs.Playbacks.{IsStartOf, MovesSilently, Stands, ended_in};
-ghost use Rattle.recorded_walk.specs.Playbacks.{moves_made};
+ghost use Rattle.recorded_walk.specs.Playbacks.{IsLastExit, IsStartOf, MovesSilently, Stands};
+ghost use Rattle.recorded_walk.specs.Playbacks.{ended_in, moves_made};
 
 use crate::track::Track;
 use dos_world::{Config, Ending, Misfit};
@@ -191,6 +191,16 @@ impl Playback {
             → kinds_named result ≡ Some made }
     {
         self.track.walker.next()
+    }
+
+    /// Whether the next move ends the only process that lives, without making it; it asks the log
+    /// nothing. No more is said where it answers false.
+    pub fn is_last_exit(&self) -> bool
+        requires { self.now.failed ≡ false }
+        ensures { result ≡ true → (start : Position) → IsStartOf self.now start
+            → IsLastExit (position_after self.now.moves start) }
+    {
+        self.track.walker.is_last_exit()
     }
 
     /// How the run has ended, where it has: no move is next, whatever the log holds.
@@ -405,7 +415,12 @@ impl Playback {
             Some(MoveKind::Faults { thread, number }) => {
                 Ok((Some(MoveKind::Faults { thread, number }), None))
             }
-            Some(_) => self.try_next(),
+            Some(kind) => {
+                if self.track.walker.is_last_exit() {
+                    return Ok((Some(kind), None));
+                }
+                self.try_next()
+            }
             None => Ok((None, None)),
         }
     }
@@ -435,7 +450,7 @@ impl Playback {
     }
 
     /// What the next move is, and it stands where it stood. A round's begin and a service are tried
-    /// where it hasn't been further yet, and gone back on.
+    /// where it hasn't been further yet, and gone back on; but not the last process's exit.
     ///
     /// After an `Err`, for want of memory, it has failed, and nothing more is said of the state.
     pub fn next(&mut self) -> Result<Option<MoveKind>, AllocError>

@@ -18,11 +18,16 @@ use Rattle.debugger.proofs.Lasting.{asked_on, here_on, known_on, start_on}
 use Rattle.debugger.proofs.Onward.{found_moves, move_ended, move_made}
 use Rattle.debugger.proofs.session.Session.move_on.Goals as goal
 
-pub returns-in_default-clause-halt : goal.returns-in_default-clause-halt
-returns-in_default-clause-halt c start s is_start asked seen looked passing noted =
+pub returns-in_default-2-clause-halt : goal.returns-in_default-2-clause-halt
+returns-in_default-2-clause-halt c start s is_start asked seen looked passing noted =
     move_ended s c.args.resumptions.now start c.args.way.now (here c.args.self.now start)
     c.at.result c.at.ensures ((c.in_ok-advance.ensures.advances start is_start).first
-    ∙ ap (λ (o : Option kind_type). kinds_named o) c.in_default.is) noted
+    ∙ ap (λ (o : Option kind_type). kinds_named o) c.in_default-2.is) noted
+
+pub returns-in-Some-clause-halt : goal.returns-in-Some-clause-halt
+returns-in-Some-clause-halt c start s is_start asked seen looked passing noted =
+    c.in-Some.ensures.halt c.args.resumptions.now start s c.args.before.now is_start asked passing
+    noted
 
 pub returns-clause-halt : goal.returns-clause-halt
 returns-clause-halt c start s is_start asked seen looked passing noted =
@@ -38,7 +43,7 @@ returns-clause-halt c start s is_start asked seen looked passing noted =
     let at : position_after b.moves start ≡ here k0 start =
     ap (λ n. position_after n start) c.requires.moves in
     let next : k1.playback.moves ≡ k0.playback.moves + 1 =
-    went.moves ∙ ap (λ (o : Option kind_type). k0.playback.moves + moves_made o) c.in-Some.is in
+    went.moves ∙ ap (λ (o : Option kind_type). k0.playback.moves + moves_made o) c.in-Some-2.is in
     let moving = c.in_ok-halt_moving.ensures.halt start s start1 asked1
     (subst (λ (p : Position). WasSeen b s rs p.moment.world) (sym at) seen)
     (subst (λ (w : List Looked). HasLooked (position_after b.moves start).moment.world
@@ -47,7 +52,7 @@ returns-clause-halt c start s is_start asked seen looked passing noted =
     k0.watched) (sym at) looked)) in
     move_made s rs start way (here k0 start) b _
     ((went.advances start is_start).first
-    ∙ ap (λ (o : Option kind_type). kinds_named o) c.in-Some.is) passing noted
+    ∙ ap (λ (o : Option kind_type). kinds_named o) c.in-Some-2.is) passing noted
     (here k1 start) (here_on k0 k1 start next) found
     (moving ∙ ap (λ (p : Position). halt_moving s rs way.was_there
     (position_after way.last start) p (kind_named b.kind) (here k1 start)) at)
@@ -58,12 +63,12 @@ returns-clause-puts c start first is_start from kept =
     let k1 = c.advance.new.self in
     let went = c.in_ok-advance.ensures in
     let next : k1.playback.moves ≡ k0.playback.moves + 1 =
-    went.moves ∙ ap (λ (o : Option kind_type). k0.playback.moves + moves_made o) c.in-Some.is in
+    went.moves ∙ ap (λ (o : Option kind_type). k0.playback.moves + moves_made o) c.in-Some-2.is in
     let heard = (went.advances start is_start).heard in
     kept_move start first k0.playback.moves k1.playback.moves c.args.puts.now.items
     c.keep_puts.new.puts.items k1.playback _ from next
     ((went.advances start is_start).first
-    ∙ ap (λ (o : Option kind_type). kinds_named o) c.in-Some.is) heard
+    ∙ ap (λ (o : Option kind_type). kinds_named o) c.in-Some-2.is) heard
     (c.in_ok-keep_puts.ensures
     ∙ ap (λ n. puts_kept c.args.puts.now.items ++ numbered_so n
     (some_bytes k1.playback.output ++ some_bytes k1.playback.error)) c.requires.moves)
@@ -76,7 +81,7 @@ halt_moving-requires c =
     let b = c.args.before.now in
     let went = c.in_ok-advance.ensures in
     let next : k1.playback.moves ≡ k0.playback.moves + 1 =
-    went.moves ∙ ap (λ (o : Option kind_type). k0.playback.moves + moves_made o) c.in-Some.is in
+    went.moves ∙ ap (λ (o : Option kind_type). k0.playback.moves + moves_made o) c.in-Some-2.is in
     let moves = c.requires.moves in
     let last = c.requires.last in
     record {
@@ -90,13 +95,13 @@ halt_moving-requires c =
       last = omega (arith, moves, last);
     }
 
-pub returns-in_default-clause-moves : goal.returns-in_default-clause-moves
-returns-in_default-clause-moves c =
+pub returns-in_default-2-clause-moves : goal.returns-in_default-2-clause-moves
+returns-in_default-2-clause-moves c =
     let end : c.at.result.moves ≡ c.args.way.now.last = ap (λ (h : Kept). h.moves) c.at.ensures in
     let moved : c.advance.new.self.playback.moves ≡ c.args.self.now.playback.moves + 0 =
     c.in_ok-advance.ensures.moves
     ∙ ap (λ (o : Option kind_type). c.args.self.now.playback.moves + moves_made o)
-    c.in_default.is in
+    c.in_default-2.is in
     let last = c.requires.last in
     let within = c.requires.within in
     let more = c.in_ok-advance.ensures.furthest in (
@@ -111,16 +116,26 @@ returns-clause-moves c =
     let k1 = c.advance.new.self in
     let next : k1.playback.moves ≡ k0.playback.moves + 1 =
     c.in_ok-advance.ensures.moves
-    ∙ ap (λ (o : Option kind_type). k0.playback.moves + moves_made o) c.in-Some.is in
+    ∙ ap (λ (o : Option kind_type). k0.playback.moves + moves_made o) c.in-Some-2.is in
     found_moves c.in_ok-halt_moving.field-0 (k1.playback.moves ≡ k0.playback.moves + 1)
     c.args.way.now.last k1.playback.moves k1.furthest next c.in_ok-halt_moving.ensures.there
     c.in_ok-halt_moving.ensures.within
 
-pub returns-in_default-clause-puts : goal.returns-in_default-clause-puts
-returns-in_default-clause-puts c start first is_start from kept =
+pub returns-in_default-2-clause-puts : goal.returns-in_default-2-clause-puts
+returns-in_default-2-clause-puts c start first is_start from kept =
     let moved : c.args.self.now.playback.moves ≡ c.advance.new.self.playback.moves =
     (let is : c.advance.new.self.playback.moves ≡ c.args.self.now.playback.moves + 0 =
     c.in_ok-advance.ensures.moves
     ∙ ap (λ (o : Option kind_type). c.args.self.now.playback.moves + moves_made o)
-    c.in_default.is in omega (arith, is)) in
+    c.in_default-2.is in omega (arith, is)) in
     subst (λ n. HasKept start first n c.args.puts.now.items) moved kept
+
+pub returns-in-Some-clause-moves : goal.returns-in-Some-clause-moves
+returns-in-Some-clause-moves c =
+    let there = c.in-Some.ensures.there in
+    let last = c.requires.last in
+    let within = c.requires.within in (
+      omega (arith, there),
+      omega (arith, there, last),
+      omega (arith, there, last, within),
+    )

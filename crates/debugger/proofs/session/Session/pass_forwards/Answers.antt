@@ -3,7 +3,8 @@ use Rattle.debugger.specs.declared.forwards.Way.{Way}
 use Rattle.debugger.specs.Halting.{HasKept, forwards_from}
 use Rattle.debugger.specs.Quiet.{AreWatchedIn}
 use Rattle.debugger.specs.Standing.{SessionView, here}
-use Rattle.debugger.proofs.Passing.{kept_along, passed_nobody, passed_there, was_not, was_so}
+use Rattle.debugger.proofs.Passing.{passed_nobody, passed_there, was_not, was_so}
+use Rattle.debugger.proofs.SilentPuts.{kept_silent}
 use Rattle.debugger.proofs.session.Session.pass_forwards.Goals as goal
 use Rattle.debugger.proofs.session.Session.pass_forwards.Goals.{else-is_there, then-is_there}
 
@@ -47,5 +48,5 @@ returns-clause-puts c start first puts is_start from kept =
     let e = c.run_on-silent.ensures in
     let silent = e.silent start is_start in
     subst (λ n. HasKept start first n puts) (sym e.moves)
-    (kept_along start first puts c.args.stops.now _ silent.thread c.run_on-silent.result
-    c.args.self.now.playback.moves from silent.silent kept)
+    (kept_silent start first c.args.self.now.playback.moves c.run_on-silent.result puts
+    c.args.stops.now _ silent.thread from silent.silent kept)

@@ -5,8 +5,8 @@ use Rattle.recorded_walk.proofs.Places.{stands_there}
 use Rattle.group_walk.specs.Walks.{kinds_named}
 use Rattle.group_walk.specs.declared.walker.MoveKind.{MoveKind as kind_type}
 use Rattle.group_walk.specs.declared.walker.MoveKind.TheVariants.{Faults, Runs}
-use Rattle.recorded_walk.proofs.Kept.{IsAhead, Misfits, ahead_fits, earlier_ahead, over_ahead}
-use Rattle.recorded_walk.proofs.Kept.{unasked_ahead}
+use Rattle.recorded_walk.proofs.Kept.{IsAhead, Misfits, ahead_fits, earlier_ahead, exit_ahead}
+use Rattle.recorded_walk.proofs.Kept.{over_ahead, unasked_ahead}
 use Rattle.recorded_walk.proofs.playback.Playback.look_on.Goals as goal
 
 pub returns-then-self-clause-kind : goal.returns-then-self-clause-kind
@@ -122,3 +122,31 @@ returns-in-None-clause-misfit c =
     None next
     (over_ahead c.self.inside.images.items c.self.inside.config c.self.inside.track
     c.self.inside.reached c.self.inside.failed kept.1 kept.2 next))
+
+pub returns-then-is_last_exit-clause-kind : goal.returns-then-is_last_exit-clause-kind
+returns-then-is_last_exit-clause-kind c =
+    let kept = c.self.invariant.6 (ap (λ (p : Played). p.failed) c.self.view_is ∙ c.requires) in
+    subst (λ (p : Played). IsAhead p (Some c.in-Some.kind)) c.self.view_is
+    (exit_ahead c.self.inside.images.items c.self.inside.config c.self.inside.track
+    c.self.inside.reached c.self.inside.failed kept.1 kept.2
+    (c.is_last_exit.ensures c.if-is_last_exit.true) c.in-Some.kind
+    (λ o e. c.next-2.ensures o e ∙ ap kinds_named c.in-Some.is))
+
+pub returns-then-is_last_exit-clause-stands : goal.returns-then-is_last_exit-clause-stands
+returns-then-is_last_exit-clause-stands c =
+    let kept = c.self.invariant.6 (ap (λ (p : Played). p.failed) c.self.view_is ∙ c.requires) in
+    subst Stands c.self.view_is
+    (stands_there c.self.inside.images.items c.self.inside.config c.self.inside.track
+    c.self.inside.reached c.self.inside.failed kept.1 kept.2 kept.0.used)
+
+pub returns-then-is_last_exit-clause-misfit : goal.returns-then-is_last_exit-clause-misfit
+returns-then-is_last_exit-clause-misfit c =
+    let kept = c.self.invariant.6 (ap (λ (p : Played). p.failed) c.self.view_is ∙ c.requires) in
+    let next : HasNext (Some c.in-Some.kind) c.self.inside.track.walker =
+    (λ o e. c.next-2.ensures o e ∙ ap kinds_named c.in-Some.is) in
+    subst (λ (p : Played). Misfits p None) c.self.view_is
+    (ahead_fits c.self.inside.images.items c.self.inside.config c.self.inside.track
+    c.self.inside.reached c.self.inside.failed kept.1 kept.2 (Some c.in-Some.kind) next
+    (exit_ahead c.self.inside.images.items c.self.inside.config c.self.inside.track
+    c.self.inside.reached c.self.inside.failed kept.1 kept.2
+    (c.is_last_exit.ensures c.if-is_last_exit.true) c.in-Some.kind next))
