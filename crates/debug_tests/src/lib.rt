@@ -8,6 +8,8 @@ mod calls;
 #[cfg(test)]
 mod frames;
 #[cfg(test)]
+mod logs;
+#[cfg(test)]
 mod one_thread;
 #[cfg(test)]
 mod processes;

@@ -3,7 +3,7 @@ use crate::calls::check;
 use crate::frames::Said;
 
 /// Ends with status 7.
-const ENDS: &[u32] = &[0x0020_0893, 0x0070_0513, 0x0000_0073];
+pub const ENDS: &[u32] = &[0x0020_0893, 0x0070_0513, 0x0000_0073];
 
 const STEPS: &[Said] = &[
     ("?", &["T05thread:p1.1;"]),

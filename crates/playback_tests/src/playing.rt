@@ -44,6 +44,9 @@ const RACES: &[u32] = &[
     0x0000_0030,
 ];
 
+/// A process exits, with status 7.
+const EXITS: &[u32] = &[0x0020_0893, 0x0070_0513, 0x0000_0073];
+
 const BEGIN: MoveKind = MoveKind::Begins;
 
 const RUN_1: MoveKind = MoveKind::Runs { thread: 1 };
@@ -76,6 +79,13 @@ const BROKEN: &[u8] = &[
     0, 0, 0, 1, 4, 0, 0, 0, 0, 0, 0, 4, 0, 0, 0,
 ];
 
+/// The log of the exit: a round without a signal, and its end.
+const EXITED: &[u8] = &[
+    68, 80, 71, 76, 1, 0, 1, 0, 232, 3, 0, 0, 100, 0, 0, 0, 40, 0, 0, 0, 0, 0, 0, 0, 0, 0, 0, 0, 0,
+    0, 0, 0, 0, 0, 0, 0, 0, 0, 0, 0, 0, 0, 0, 0, 0, 0, 0, 0, 0, 0, 0, 0, 1, 1, 0, 0, 0, 0, 0, 0, 1,
+    0, 0, 0,
+];
+
 fn word(rt: &impl Abort, builder: &mut Builder, word: u32) {
     builder.word(word).expect(rt, "memory");
 }
@@ -91,12 +101,12 @@ fn image(rt: &impl Abort, alloc: Global, words: &[u32]) -> Image {
     image
 }
 
-fn opened(rt: &impl Abort, alloc: Global, bytes: &[u8]) -> Playback
+fn opened(rt: &impl Abort, alloc: Global, words: &[u32], bytes: &[u8]) -> Playback
     requires { length bytes.now ≤ 1000 }
     ensures { result.failed ≡ false }
 {
     let log = read_log(alloc, bytes).expect(rt, "a log");
-    let images = Vec::from_array(alloc, [image(rt, alloc, RACES)]).expect(rt, "memory");
+    let images = Vec::from_array(alloc, [image(rt, alloc, words)]).expect(rt, "memory");
     Playback::open(alloc, images, CONFIG, log).expect(rt, "room")
 }
 
@@ -236,19 +246,29 @@ fn take_stride(rt: &impl Abort, play: &mut Playback, wanted: Stride) -> usize
     }
 }
 
+/// These strides are taken, of which so many put a byte.
+fn take_strides(rt: &impl Abort, play: &mut Playback, strides: &[Stride], puts: usize)
+    requires { play.old.failed ≡ false }
+    ensures running { play.new.failed ≡ false }
+    ensures further { play.old.reached ≤ play.new.reached }
+{
+    let mut count = 0usize;
+    for wanted in strides {
+        count = count.saturating_add(take_stride(rt, play, *wanted));
+    }
+    assert_eq!(rt; count, puts);
+}
+
 #[test]
 fn instructions_are_made_at_once(rt: HostRuntime) {
-    let mut play = opened(&rt, rt.alloc(), WHOLE);
+    let mut play = opened(&rt, rt.alloc(), RACES, WHOLE);
     let start = play.moves();
-    let mut puts = 0usize;
-    for wanted in STRIDES {
-        puts = puts.saturating_add(take_stride(&rt, &mut play, *wanted));
-    }
-    assert_eq!(rt; puts, 2);
+    take_strides(&rt, &mut play, STRIDES, 2);
     rests(&rt, &mut play, 38, 4);
     again(&rt, &mut play, start, 0, Some(BEGIN));
     on(&rt, &mut play, Some(BEGIN));
-    at_once(&rt, &mut play, 2, &[], 2);
+    at_once(&rt, &mut play, 1, &[], 1);
+    at_once(&rt, &mut play, u32::MAX, &[CODE + 32, CODE + 8], 1);
     at_once(&rt, &mut play, u32::MAX, &[CODE + 8], 0);
     at_once(&rt, &mut play, u32::MAX, &[CODE + 4, CODE + 32], 1);
     on(&rt, &mut play, Some(SERVE_1));
@@ -256,9 +276,30 @@ fn instructions_are_made_at_once(rt: HostRuntime) {
     drop(play);
 }
 
+/// The move is made, behind whether it is seen to be the last process's exit.
+fn exits_by(rt: &impl Abort, play: &mut Playback, is_exit: bool, wanted: MoveKind)
+    requires { play.old.failed ≡ false }
+    ensures running { play.new.failed ≡ false }
+    ensures further { play.old.reached ≤ play.new.reached }
+{
+    assert_eq!(rt; play.is_last_exit(), is_exit);
+    on(rt, play, Some(wanted));
+}
+
+#[test]
+fn the_last_exit_is_seen_before_it_is_made(rt: HostRuntime) {
+    let mut play = opened(&rt, rt.alloc(), EXITS, EXITED);
+    exits_by(&rt, &mut play, false, BEGIN);
+    exits_by(&rt, &mut play, false, RUN_1);
+    exits_by(&rt, &mut play, false, RUN_1);
+    exits_by(&rt, &mut play, true, SERVE_1);
+    rests(&rt, &mut play, 4, 1);
+    drop(play);
+}
+
 #[test]
 fn a_run_is_walked_to_its_end_and_back(rt: HostRuntime) {
-    let mut play = opened(&rt, rt.alloc(), WHOLE);
+    let mut play = opened(&rt, rt.alloc(), RACES, WHOLE);
     let start = play.moves();
     ahead(&rt, &mut play, Some(BEGIN));
     follow(&rt, &mut play, &RACE[..7], 0);
@@ -277,7 +318,7 @@ fn a_run_is_walked_to_its_end_and_back(rt: HostRuntime) {
 
 #[test]
 fn a_move_that_the_log_does_not_answer_is_not_made(rt: HostRuntime) {
-    let mut play = opened(&rt, rt.alloc(), BROKEN);
+    let mut play = opened(&rt, rt.alloc(), RACES, BROKEN);
     follow(&rt, &mut play, &RACE[..16], 0);
     let end = play.moves();
     rests(&rt, &mut play, 16, 2);
