@@ -76,6 +76,18 @@ fn check_by<R: Threads + Sync + Abort>(
     drop(err);
 }
 
+// The session says what is wanted, by each number of workers.
+fn check_by_each<R: Threads + Sync + Abort>(
+    rt: &R,
+    alloc: Global,
+    files: &mut MemoryFiles,
+    script: &[Said],
+) {
+    for workers in ["1", "2", "32"] {
+        check_by(rt, alloc, files, workers, script);
+    }
+}
+
 // The file `a` of this code, and the log of its run over this input.
 fn recorded<R: Threads + Sync + Abort>(
     rt: &R,
@@ -102,9 +114,7 @@ pub fn check<R: Threads + Sync + Abort>(
     script: &[Said],
 ) {
     let mut files = recorded(rt, alloc, code, input);
-    for workers in ["1", "2", "32"] {
-        check_by(rt, alloc, &mut files, workers, script);
-    }
+    check_by_each(rt, alloc, &mut files, script);
     drop(files);
 }
 
@@ -129,7 +139,7 @@ pub fn check_changed<R: Threads + Sync + Abort>(
 ) {
     let mut files = recorded(rt, alloc, code, b"");
     change(rt, &mut files, "log", place, byte);
-    check_by(rt, alloc, &mut files, "1", script);
+    check_by_each(rt, alloc, &mut files, script);
     drop(files);
 }
 
