@@ -24,8 +24,7 @@ use rv_form::{Memo, place_after, place_after_short, place_of};
 use space_map::Space;
 use std::mem;
 
-/// Whether it is one of these addresses. Where it is known at a call that there is none, nothing is
-/// left of it in the code.
+/// Whether it is one of these addresses. Where there is none, nothing is left of it in the code.
 #[inline(always)]
 fn is_stop_at(stops: &[u32], pc: u32) -> bool
     ensures { result ≡ is_stop_at stops.now pc }
@@ -344,6 +343,9 @@ fn run_in_place(
     ensures home { AreHome frames.new }
 {
     let mut memory = Running::new(InPlace { frames }, space, tid);
+    if stops.is_empty() {
+        return run(&mut memory, memo, regs, budget, 0);
+    }
     run_up_to(&mut memory, memo, regs, budget, stops)
 }
 

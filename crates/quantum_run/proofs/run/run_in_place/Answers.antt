@@ -21,3 +21,7 @@ new-memory-requires-clause-within c =
 
 pub returns-clause-home : goal.returns-clause-home
 returns-clause-home c = home-kept c.args.frames.now.pages _ (search rules) c.requires.home
+
+pub returns-then-is_empty-clause-home : goal.returns-then-is_empty-clause-home
+returns-then-is_empty-clause-home c =
+    home-kept c.args.frames.now.pages _ (search rules) c.requires.home
