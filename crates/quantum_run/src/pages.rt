@@ -82,3 +82,47 @@ impl<'a> Pages for InPlace<'a> {
         self.frames.lend_mut(frame).write(offset, size, value);
     }
 }
+
+/// The same frames, of another type: what runs over them is compiled for itself, beside what runs
+/// over the first, and is as fast.
+#[derive(Drop)]
+pub struct Apart<'a> {
+    pub pages: InPlace<'a>,
+}
+
+impl<'a> Pages for Apart<'a> {
+    ghost use Rattle.std.specs.Prelude.{ℕ, Bool, List, map, is_some};
+    ghost use Rattle.std.specs.Borrow.{GName};
+    ghost use Rattle.dos_world.specs.declared.Owner.{Owner};
+    ghost use Rattle.quantum_run.specs.Pages.{is_here};
+
+    ghost Fixed = { GName × List ℕ × List Owner × List Bool };
+
+    ghost fixed = { λ p. (
+      p.pages.frames.ghost_name,
+      p.pages.frames.now.uses,
+      p.pages.frames.now.marked,
+      map is_some p.pages.frames.now.pages,
+    ) };
+
+    ghost owners = { λ p. p.pages.frames.now.owners };
+
+    ghost pages = { λ p. p.pages.frames.now.pages };
+
+    ghost is_own = { λ p frame. is_here p.pages.frames.now.pages frame };
+
+    #[inline]
+    fn owner(&self, frame: u32) -> Owner {
+        self.pages.owner(frame)
+    }
+
+    #[inline]
+    fn page(&self, frame: u32) -> &Page {
+        self.pages.page(frame)
+    }
+
+    #[inline]
+    fn write(&mut self, frame: u32, offset: u32, size: Size, value: u32) {
+        self.pages.write(frame, offset, size, value);
+    }
+}

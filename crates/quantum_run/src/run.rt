@@ -15,7 +15,7 @@ ghost use Rattle.quantum_run.specs.Showing.{ShowsBy, Still, still};
 
 use crate::lent::Lent;
 use crate::page_places::{Places, write_out};
-use crate::pages::{InPlace, Pages};
+use crate::pages::{Apart, InPlace, Pages};
 use crate::thread_memory::Running;
 use dos_world::{Reason, Regs};
 use page_store::{Frames, Page};
@@ -24,7 +24,8 @@ use rv_form::{Memo, place_after, place_after_short, place_of};
 use space_map::Space;
 use std::mem;
 
-/// Whether it is one of these addresses. Where there is none, nothing is left of it in the code.
+/// Whether it is one of these addresses. Where it is known at a call that there is none, nothing is
+/// left of it in the code.
 #[inline(always)]
 fn is_stop_at(stops: &[u32], pc: u32) -> bool
     ensures { result ≡ is_stop_at stops.now pc }
@@ -342,10 +343,14 @@ fn run_in_place(
     ensures marked { frames.new.marked ≡ frames.old.marked }
     ensures home { AreHome frames.new }
 {
-    let mut memory = Running::new(InPlace { frames }, space, tid);
     if stops.is_empty() {
+        let mut memory = Running::new(InPlace { frames }, space, tid);
         return run(&mut memory, memo, regs, budget, 0);
     }
+    let pages = Apart {
+        pages: InPlace { frames },
+    };
+    let mut memory = Running::new(pages, space, tid);
     run_up_to(&mut memory, memo, regs, budget, stops)
 }
 

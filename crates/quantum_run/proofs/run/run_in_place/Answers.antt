@@ -19,6 +19,22 @@ pub new-memory-requires-clause-within : goal.new-memory-requires-clause-within
 new-memory-requires-clause-within c =
     λ page e is. owned-within c.args.frames.now.owners e.frame (c.requires.mapped page e is).1
 
+pub new-memory-requires-2-clause-reached : goal.new-memory-requires-2-clause-reached
+new-memory-requires-2-clause-reached c = λ access address frame h.
+    home-here c.args.frames.now.pages frame c.requires.home
+    (found-within c.args.tid c.args.frames.now c.args.space.now.entries access address frame
+    c.requires.mapped h)
+
+pub new-memory-requires-2-clause-own : goal.new-memory-requires-2-clause-own
+new-memory-requires-2-clause-own c = λ access address frame writes h.
+    home-here c.args.frames.now.pages frame c.requires.home
+    (found-within c.args.tid c.args.frames.now c.args.space.now.entries access address frame
+    c.requires.mapped h)
+
+pub new-memory-requires-2-clause-within : goal.new-memory-requires-2-clause-within
+new-memory-requires-2-clause-within c =
+    λ page e is. owned-within c.args.frames.now.owners e.frame (c.requires.mapped page e is).1
+
 pub returns-clause-home : goal.returns-clause-home
 returns-clause-home c = home-kept c.args.frames.now.pages _ (search rules) c.requires.home
 
