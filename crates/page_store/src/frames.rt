@@ -17,9 +17,9 @@ ghost use Rattle.page_store.specs.Lending.{LendsPage, LendsSlot};
 use crate::Page;
 use crate::changes::{Changes, first_changed, note};
 use crate::tally::{free_frames, free_in, high_of};
+use code_pages::CodePages;
 use dos_world::{Access, Owner};
 use hierarchical_bitmap::Bitmap;
-use rv_form::Memo;
 use std::alloc::{AllocError, Global};
 use std::marker::Model;
 
@@ -34,8 +34,8 @@ pub struct Frames {
     // which frames are Free
     free_frames: Bitmap,
     high: u32,
-    // what words stand for, for the thread that runs in place
-    memo: Option<Box<Memo>>,
+    // the pages of code that are known, for the thread that runs in place
+    code: Option<Box<CodePages>>,
     // the marked owners, in a run that is traced
     changes: Option<Changes>,
 }
@@ -60,6 +60,11 @@ impl Model for Frames {
         × AreNotedIn f.owners.items f.changes };
 }
 
+// no page of code is known
+fn no_code(alloc: Global) -> Result<Box<CodePages>, AllocError> {
+    Ok(Box::new(alloc, CodePages::reserve(alloc)?)?)
+}
+
 impl Frames {
     /// `count` frames: all home, zero, Free and without uses. All their memory is taken here.
     pub fn reserve(alloc: Global, count: u32) -> Result<Frames, AllocError>
@@ -72,7 +77,7 @@ impl Frames {
             free: count,
             free_frames: Bitmap::full(alloc, count)?,
             high: 0,
-            memo: Some(Box::new(alloc, Memo::new())?),
+            code: Some(no_code(alloc)?),
             changes: None,
         })
     }
@@ -97,7 +102,7 @@ impl Frames {
             free,
             free_frames,
             high,
-            memo: Some(Box::new(alloc, Memo::new())?),
+            code: Some(no_code(alloc)?),
             changes: None,
         })
     }
@@ -209,18 +214,24 @@ impl Frames {
         page_mut(&mut self.pages[frame as usize])
     }
 
-    /// Gives away what words stand for, for a thread that runs in place; None where it is away.
-    pub fn take_memo(&mut self) -> Option<Box<Memo>>
-        ensures { self.new ≡ self.old }
-    {
-        self.memo.take()
+    /// Where their memory is from.
+    pub fn allocator(&self) -> Global {
+        *self.pages.allocator()
     }
 
-    /// Keeps what words stand for, for the next thread that runs in place.
-    pub fn keep_memo(&mut self, memo: Box<Memo>)
+    /// Gives away the pages of code that are known, for a thread that runs in place; None where
+    /// they are away.
+    pub fn take_code(&mut self) -> Option<Box<CodePages>>
         ensures { self.new ≡ self.old }
     {
-        self.memo = Some(memo);
+        self.code.take()
+    }
+
+    /// Keeps the pages of code that are known, for the next thread that runs in place.
+    pub fn keep_code(&mut self, code: Box<CodePages>)
+        ensures { self.new ≡ self.old }
+    {
+        self.code = Some(code);
     }
 
     /// The owner becomes Shared for a fetch or load, and `tid` for a store or claim. Nothing else

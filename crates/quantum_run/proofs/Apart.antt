@@ -1,19 +1,20 @@
--- Slots that have found nothing, slots of fetches beside those of stores, and the base of no key.
-use Rattle.std.proofs.Common.{ℕ, zero, suc, ◌^◌, ◌<◌, ◌≤◌, ◌≡◌, ◌≢◌, refl, sym, List, [], ◌∷◌, set}
-use Rattle.std.proofs.Common.{Bool, true, false, replicate, arith, subst, eq-eqb}
+-- Slots that have found nothing, and slots of fetches beside those of stores.
+use Rattle.std.proofs.Common.{ℕ, ◌<◌, ◌≤◌, ◌≡◌, ◌≢◌, refl, sym, List, [], ◌∷◌, set}
+use Rattle.std.proofs.Common.{Bool, true, false, replicate, arith, subst, eq-eqb, ◌⊎◌, inl, inr}
+use Rattle.std.proofs.Common.{All}
+use Rattle.std.proofs.Common.{length, ◌∙◌, ap, eqb, ◌+◌, ◌/◌, slice_get, Option, Some}
+use Rattle.std.proofs.lemmas.Bool.{cases_lt}
+use Rattle.std.proofs.lemmas.Bool.Decides.{eqb_tells}
+use Rattle.std.proofs.lemmas.List.{get_or_past, get_or-set_other, get_or-set_same, get_or_default}
 use Rattle.std.specs.Prelude.{slice_index_or, ◌==◌, ◌||◌}
 use Rattle.std.specs.List.{list_any}
 use Rattle.std.proofs.lemmas.List.Elements.{All-same, All-set, All-nil, All-cons, All-replicate}
+use Rattle.std.proofs.lemmas.List.Elements.{All-from_get_or}
 use Rattle.quantum_run.specs.declared.slot.Slot.{Slot}
-use Rattle.quantum_run.specs.Knowing.{FetchesAreApart, IsBase, IsNoCode, empty_slot, no_base}
-
--- a slot that has found nothing, whatever stands for slots that aren't there
-pub empty-page : (slots : List Slot) (place : ℕ) (none : Slot)
-    → (slice_index_or slots place none).page ≡ 0xFFFFFFFF
-    → (slice_index_or slots place empty_slot).page ≡ 0xFFFFFFFF
-empty-page [] place none is = refl
-empty-page (slot ∷ slots) zero none is = is
-empty-page (slot ∷ slots) (suc place) none is = empty-page slots place none is
+use Rattle.quantum_run.specs.Finding.{no_start}
+use Rattle.quantum_run.specs.Knowing.{AreFewer, AreHidden, FetchesAreApart, IsNoCode}
+use Rattle.quantum_run.specs.Knowing.{empty_slot}
+use Rattle.quantum_run.proofs.Comparing.{got-set-other, got-set-same}
 
 -- no slot has this frame
 none-more : (slot : Slot) (slots : List Slot) (frame : ℕ) (b : Bool) → (slot.frame == frame) ≡ b
@@ -24,39 +25,148 @@ none-more slot slots frame false is q = (refl, q)
 
 pub no-frame : (slots : List Slot) (frame : ℕ)
     → list_any (λ (slot : Slot). slot.frame == frame) slots ≡ false → IsNoCode slots frame
-no-frame [] frame none = All-nil (λ (slot : Slot). slot.frame ≢ frame)
+no-frame [] frame none = All-nil (λ (slot : Slot). slot.start < no_start → slot.frame ≢ frame)
 no-frame (slot ∷ slots) frame none =
     let more = none-more slot slots frame (slot.frame == frame) refl none in
-    All-cons (λ (s : Slot). s.frame ≢ frame) slot slots
-    (λ same. let yes = eq-eqb slot.frame frame same in let no = more.0 in cc)
+    All-cons (λ (s : Slot). s.start < no_start → s.frame ≢ frame) slot slots
+    (λ small same. let yes = eq-eqb slot.frame frame same in let no = more.0 in cc)
     (no-frame slots frame more.1)
 
 -- where nothing is found for stores
-pub apart-none : (fetched : List Slot) (n : ℕ) → FetchesAreApart fetched (replicate n empty_slot)
-apart-none fetched n =
-    All-replicate (λ (slot : Slot). slot.page < 2 ^ 20 → IsNoCode fetched slot.frame) n empty_slot
+pub apart-none : (shown : List Slot) (n : ℕ) → FetchesAreApart shown (replicate n empty_slot)
+apart-none shown n =
+    All-replicate (λ (slot : Slot). slot.start < no_start → IsNoCode shown slot.frame) n
+    empty_slot
     (λ h. absurd (omega (arith, h)))
 
 -- one more slot of a fetch, whose frame no store finds
-pub apart-fetched : (fetched stored : List Slot) (place : ℕ) (slot : Slot)
-    → FetchesAreApart fetched stored → IsNoCode stored slot.frame
-    → FetchesAreApart (set fetched place slot) stored
-apart-fetched fetched stored place slot apart free k d h small =
-    All-set (λ (s : Slot). s.frame ≢ (slice_index_or stored k d).frame) fetched place slot
-    (λ same. free k d h (sym same)) (apart k d h small)
+pub apart-shown : (shown stored : List Slot) (place : ℕ) (slot : Slot)
+    → FetchesAreApart shown stored → IsNoCode stored slot.frame
+    → FetchesAreApart (set shown place slot) stored
+apart-shown shown stored place slot apart free k d h small =
+    All-set (λ (s : Slot). s.start < no_start → s.frame ≢ (slice_index_or stored k d).frame) shown
+    place slot (λ begins same. free k d h small (sym same)) (apart k d h small)
 
 -- one more slot for stores, of a frame that no fetch has found
-pub apart-stored : (fetched stored new : List Slot) (place : ℕ) (slot : Slot)
-    → new ≡ set stored place slot → FetchesAreApart fetched stored → IsNoCode fetched slot.frame
-    → FetchesAreApart fetched new
-apart-stored fetched stored new place slot is apart free =
-    let P : Slot → Type 0 = λ (s : Slot). s.page < 2 ^ 20 → IsNoCode fetched s.frame in
+pub apart-stored : (shown stored new : List Slot) (place : ℕ) (slot : Slot)
+    → new ≡ set stored place slot → FetchesAreApart shown stored → IsNoCode shown slot.frame
+    → FetchesAreApart shown new
+apart-stored shown stored new place slot is apart free =
+    let P : Slot → Type 0 = λ (s : Slot). s.start < no_start → IsNoCode shown s.frame in
     All-same P new (set stored place slot) is
     (All-set P stored place slot (λ small. free) apart)
 
--- the base of no key
-pub base-none : (base : ℕ) → base ≡ no_base → IsBase base
-base-none base none = record {
-  given = λ some. absurd (some none);
-  room = subst (λ (b : ℕ). b ≤ 2 ^ 63) (sym none) (omega arith);
-}
+-- each slot is as it was, or has found nothing any more
+pub hidden-slot : (P : Slot → Type 0) (old new : List Slot) → P empty_slot → AreHidden old new
+    → All P old → All P new
+hidden-slot P old new none hidden all =
+    All-from_get_or P new empty_slot (λ k within. by_slot k (hidden k)
+    (cases_lt k (length old)))
+  where
+    by_slot : (k : ℕ) → (slice_index_or new k empty_slot ≡ slice_index_or old k empty_slot)
+        ⊎ (slice_index_or new k empty_slot ≡ empty_slot)
+        → (k < length old) ⊎ (length old ≤ k) → P (slice_index_or new k empty_slot)
+    by_slot k (inr gone) h = subst P (sym gone) none
+    by_slot k (inl same) (inl h) = subst P (sym same) (all k empty_slot h)
+    by_slot k (inl same) (inr past) = subst P (sym (same ∙ get_or_past old k empty_slot past)) none
+
+pub apart-hidden : (shown new stored : List Slot) → AreHidden shown new
+    → FetchesAreApart shown stored → FetchesAreApart new stored
+apart-hidden shown new stored hidden apart k d h small =
+    hidden-slot (λ (s : Slot). s.start < no_start → s.frame ≢ (slice_index_or stored k d).frame)
+    shown new (λ begins. absurd (omega (arith, begins))) hidden (apart k d h small)
+
+-- The slots before a place lack a frame.
+abbrev pub LacksBelow : ℕ → List Slot → (frame : ℕ) → Type 0
+LacksBelow n slots frame = (k : ℕ) → k < n → (slice_index_or slots k empty_slot).start < no_start
+    → (slice_index_or slots k empty_slot).frame ≢ frame
+
+pub lacks-more : (slots : List Slot) (at frame : ℕ) (slot : Slot) → at < length slots
+    → (slot.start < no_start → slot.frame ≢ frame) → LacksBelow at slots frame
+    → LacksBelow (at + 1) (set slots at slot) frame
+lacks-more slots at frame slot within none lacks k less = by_place (eqb_tells k at)
+  where
+    P : Slot → Type 0
+    P s = s.start < no_start → s.frame ≢ frame
+
+    by_place : ((eqb k at ≡ true) × (k ≡ at)) ⊎ ((eqb k at ≡ false) × (k ≢ at))
+        → P (slice_index_or (set slots at slot) k empty_slot)
+    by_place (inl here) =
+        subst P (sym (ap (λ (i : ℕ). slice_index_or (set slots at slot) i empty_slot) here.1
+        ∙ get_or-set_same slots at slot empty_slot within)) none
+    by_place (inr other) =
+        let out = other.1 in
+        subst P (sym (get_or-set_other slots at k slot empty_slot other.1))
+        (lacks k (omega (arith, less, out)))
+
+pub lacks-all : (slots : List Slot) (n frame : ℕ) → length slots ≤ n → LacksBelow n slots frame
+    → IsNoCode slots frame
+lacks-all slots n frame all lacks =
+    All-from_get_or (λ (s : Slot). s.start < no_start → s.frame ≢ frame) slots empty_slot
+    (λ k within. lacks k (omega (arith, within, all)))
+
+pub hidden-more : (old slots : List Slot) (at : ℕ) (none slot : Slot) → at < length slots
+    → (slot ≡ slice_index_or slots at none) ⊎ (slot ≡ empty_slot) → AreHidden old slots
+    → AreHidden old (set slots at slot)
+hidden-more old slots at none slot within is hidden k = by_place (eqb_tells k at)
+  where
+    Stands : Slot → Type 0
+    Stands s = (s ≡ slice_index_or old at empty_slot) ⊎ (s ≡ empty_slot)
+
+    new_there : (slot ≡ slice_index_or slots at none) ⊎ (slot ≡ empty_slot) → Stands slot
+    new_there (inl same) =
+        subst Stands (sym (same ∙ get_or_default slots at none empty_slot within))
+        (hidden at)
+    new_there (inr gone) = inr gone
+
+    by_place : ((eqb k at ≡ true) × (k ≡ at)) ⊎ ((eqb k at ≡ false) × (k ≢ at))
+        → (slice_index_or (set slots at slot) k empty_slot ≡ slice_index_or old k empty_slot)
+        ⊎ (slice_index_or (set slots at slot) k empty_slot ≡ empty_slot)
+    by_place (inl here) =
+        subst (λ (i : ℕ). (slice_index_or (set slots at slot) i empty_slot
+        ≡ slice_index_or old i empty_slot)
+        ⊎ (slice_index_or (set slots at slot) i empty_slot ≡ empty_slot)) (sym here.1)
+        (subst Stands (sym (get_or-set_same slots at slot empty_slot within)) (new_there is))
+    by_place (inr other) =
+        subst (λ (s : Slot). (s ≡ slice_index_or old k empty_slot) ⊎ (s ≡ empty_slot))
+        (sym (get_or-set_other slots at k slot empty_slot other.1)) (hidden k)
+
+pub hidden-same : (slots : List Slot) → AreHidden slots slots
+hidden-same slots k = inl refl
+
+-- No block of a slot has been compared, among those before a place.
+abbrev pub IsUncomparedBelow : ℕ → List Bool → (place : ℕ) → Type 0
+IsUncomparedBelow n compared place = (at : ℕ) → at < n → at / 16 ≡ place
+    → slice_get compared at ≢ Some true
+
+pub uncompared-more : (compared : List Bool) (at place : ℕ) → at < length compared
+    → IsUncomparedBelow at compared place
+    → IsUncomparedBelow (at + 1) (set compared at false) place
+uncompared-more compared at place within none k less of = by_place (eqb_tells k at)
+  where
+    by_place : ((eqb k at ≡ true) × (k ≡ at)) ⊎ ((eqb k at ≡ false) × (k ≢ at))
+        → slice_get (set compared at false) k ≢ Some true
+    by_place (inl here) = λ is.
+        let gone = got-set-same compared at false within in
+        let there = ap (λ (i : ℕ). slice_get (set compared at false) i) here.1 in
+        not-true (sym gone ∙ sym there ∙ is)
+      where
+        not-true : ◌≡◌ {A = Option Bool} (Some false) (Some true) → ⊥
+        not-true h = cc
+    by_place (inr other) = λ is.
+        let out = other.1 in
+        none k (omega (arith, less, out)) of (sym (got-set-other compared at k false other.1) ∙ is)
+
+pub fewer-more : (old compared : List Bool) (at : ℕ) → at < length compared
+    → AreFewer old compared → AreFewer old (set compared at false)
+fewer-more old compared at within fewer k is = by_place (eqb_tells k at)
+  where
+    not-true : ◌≡◌ {A = Option Bool} (Some false) (Some true) → ⊥
+    not-true h = cc
+
+    by_place : ((eqb k at ≡ true) × (k ≡ at)) ⊎ ((eqb k at ≡ false) × (k ≢ at))
+        → slice_get old k ≡ Some true
+    by_place (inl here) =
+        absurd (not-true (sym (got-set-same compared at false within)
+        ∙ sym (ap (λ (i : ℕ). slice_get (set compared at false) i) here.1) ∙ is))
+    by_place (inr other) = fewer k (sym (got-set-other compared at k false other.1) ∙ is)

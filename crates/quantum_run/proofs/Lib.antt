@@ -3,6 +3,9 @@ pub mod Places
 pub mod Apart
 pub mod Reaching
 pub mod RunSteps
+pub mod Flying
+pub mod Walking
+pub mod Stopping
 pub mod Witness
 pub mod Whole
 pub mod Parts
@@ -13,7 +16,8 @@ pub mod Elsewhere
 pub mod Filling
 pub mod Finishing
 pub mod Keeping
-pub mod Knowing
+pub mod Comparing
+pub mod Words
 pub mod Slices
 pub mod Ready
 pub mod Mix

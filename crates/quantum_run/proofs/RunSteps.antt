@@ -1,6 +1,7 @@
 -- A run on a memory, by one instruction more.
-use Rattle.std.proofs.Common.{ℕ, suc, ◌-◌, ◌<◌, ◌≤◌, ◌≡◌, refl, sym, ap, ◌∙◌, Option, Some, Result}
-use Rattle.std.proofs.Common.{Ok, Err, arith}
+use Rattle.std.proofs.Common.{ℕ, suc, ◌+◌, ◌-◌, ◌<◌, ◌≤◌, ◌≡◌, refl, sym, ap, ◌∙◌, Option, Some}
+use Rattle.std.proofs.Common.{None}
+use Rattle.std.proofs.Common.{Result, Ok, Err, arith}
 use Rattle.dos_world.specs.World.{World, Registers}
 use Rattle.dos_world.specs.declared.Reason.{Reason}
 use Rattle.rv_exec.specs.declared.Went.TheVariants.{Step, Stop}
@@ -8,7 +9,7 @@ use Rattle.flat_machine.specs.Step.{step}
 use Rattle.rv_exec.specs.Runs.{Runs, Steps}
 use Rattle.quantum_run.specs.ThreadRuns.{Reaches, Goes}
 use Rattle.flat_machine.specs.Laws.{after_steps}
-use Rattle.flat_machine.proofs.After.{after-more}
+use Rattle.flat_machine.proofs.After.{after-more, same-after}
 
 Step≢Stop : (reason : Reason) → Step ≡ Stop reason → ⊥
 Step≢Stop reason q = cc
@@ -71,4 +72,37 @@ unfolding reaches-shown
 goes-shown floor before after w t r budget left stop shows goes = record {
   reaches = reaches-shown before after w t r budget left shows goes.reaches;
   stops = goes.stops;
+}
+
+one-first : (k : ℕ) (u next : World) (t : ℕ) → step u t ≡ Ok next
+    → after_steps (suc k) u t ≡ after_steps k next t
+one-first k u next t is = ap (λ (r : Result World Reason). elim r as (λ _. Option World) [
+  | Ok v ↦ after_steps k v t
+  | Err reason ↦ None
+]) is
+
+-- a run goes on from where another led
+pub reaches-then : (before after : World → Type 0) (w : World) (t : ℕ) (r r' : Registers)
+    (budget middle left : ℕ) → left ≤ middle → middle ≤ budget
+    → ((u : World) → Runs before u t r middle → Reaches after u t r' middle left)
+    → Reaches before w t r budget middle → Reaches after w t r' budget left
+reaches-then before after w t r r' budget middle left less within goes reached =
+    let more = goes reached.now reached.runs in
+    let count : budget - left ≡ (budget - middle) + (middle - left) = omega (arith, less, within) in
+    record {
+      now = more.now;
+      ran = ap (λ n. after_steps n w t) count
+          ∙ same-after t (λ k u. after_steps k u t) (λ k u next is. one-first k u next t is)
+          (budget - middle) (middle - left) w reached.now reached.ran
+          ∙ more.ran;
+      runs = more.runs;
+    }
+
+-- none made yet
+pub reaches-none : (shows : World → Type 0) (w : World) (t : ℕ) (r : Registers) (budget : ℕ)
+    → Runs shows w t r budget → Reaches shows w t r budget budget
+reaches-none shows w t r budget runs = record {
+  now = w;
+  ran = let none : budget - budget ≡ 0 = omega arith in ap (λ n. after_steps n w t) none;
+  runs = runs;
 }

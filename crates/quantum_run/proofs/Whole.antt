@@ -90,11 +90,10 @@ module _ {F : Type 0} (floor t : ℕ) (owners : List Owner) (entries : List (ℕ
   stops = subst (λ (u : World). Stops floor u t left stop) now-is gone.stops
 
 -- what the run says of its end, and what the world says
-pub stops-both : (stop : Option Reason) (floor left t : ℕ) (IsOf : World → Type 0)
-    (end : World → World)
-    → MatchOption stop (left ≡ floor) (λ reason. 0 < left)
+pub stops-both : (A : Type 0) (stop : Option Reason) (floor left t : ℕ) (IsOf : World → Type 0)
+    (end : World → World) → MatchOption stop A (λ reason. 0 < left)
     → ((w : World) → IsOf w → Stops floor (end w) t left stop)
-    → MatchOption stop (left ≡ floor)
+    → MatchOption stop A
     (λ reason. (0 < left) × ((w : World) → IsOf w → step (end w) t ≡ Err reason))
-stops-both None floor left t IsOf end out at_end = out
-stops-both (Some reason) floor left t IsOf end some at_end = (some, at_end)
+stops-both A None floor left t IsOf end out at_end = out
+stops-both A (Some reason) floor left t IsOf end some at_end = (some, at_end)

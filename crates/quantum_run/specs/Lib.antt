@@ -8,3 +8,4 @@ pub mod Mix
 pub mod Laws
 pub mod PagePlaces
 pub mod Packs
+pub mod Flying

@@ -1,5 +1,6 @@
 -- What the memory of a thread that runs shows. This project's own rules.
-use Rattle.std.specs.Prelude.{ℕ, ◌≡◌, ◌/◌, Bool, List, Option, Ok, Err, MatchBool, slice_index_or}
+use Rattle.std.specs.Prelude.{ℕ, ◌≡◌, ◌/◌, Bool, true, false, List, Option, Result, Ok}
+use Rattle.std.specs.Prelude.{slice_index_or}
 use Rattle.std.proofs.Common.{◌∙◌}
 use Rattle.dos_world.specs.World.{World, Thread, with_thread, owner_of, entry_at, look}
 use Rattle.dos_world.specs.Reach.{is_foreign}
@@ -10,10 +11,8 @@ use Rattle.dos_world.specs.declared.Owner.TheVariants.{Free}
 use Rattle.dos_world.specs.declared.Reason.{Reason}
 use Rattle.page_store.specs.Store.{joined}
 use Rattle.flat_machine.specs.Blind.{entry_at-with_thread}
-use Rattle.rv_exec.specs.Follows.{word_at}
-use Rattle.rv_form.specs.Notes.{Note, note_at}
 use Rattle.quantum_run.specs.declared.slot.Slot.{Slot}
-use Rattle.quantum_run.specs.Knowing.{AreKnown}
+use Rattle.quantum_run.specs.Knowing.{AreRight}
 
 -- What stands still while a thread runs: who runs, the owners of the frames, and the entries of the
 -- space.
@@ -42,24 +41,19 @@ pub record ShowsBy {F : Type 0} (now : Still) (fixed_now : F) (pages : List (Opt
   pub fixed_is : fixed_now ≡ fixed.1
   pub holds : HoldsWorld fixed.0 pages t w
 
--- The same, and each word that a memo has by a key of its base is known.
+-- The same, and each block of a page of code that has been compared is right, of which these bytes
+-- are known.
 pub record ShowsKnown {F : Type 0} (now : Still) (fixed_now : F) (pages : List (Option (List ℕ)))
-    (base : ℕ) (fetched : List Slot) (fixed : (Still × F) × List Note) (t : ℕ) (w : World)
-    : Type 0 where
+    (shown : List Slot) (compared : List Bool) (fixed : (Still × F) × List (Option (List ℕ)))
+    (t : ℕ) (w : World) : Type 0 where
   pub shows : ShowsBy now fixed_now pages fixed.0 t w
-  pub known : AreKnown base fetched pages fixed.1
+  pub right : AreRight shown compared pages fixed.1
 
--- Each world that was shown before, with a memo's old notes, is shown after, with its new ones. And
--- the new note at the place has the word at the address there, where the answer is true; else the
--- fetch of that word is refused there, for this reason.
-abbrev pub HasWordOrReason : {F : Type 0}
-    (before after : (Still × F) × List Note → ℕ → World → Type 0) (old new : List Note)
-    (place address : ℕ) (answer : Bool) (why : Reason) → Type 0
-HasWordOrReason {F} before after old new place address answer why = (fixed : Still × F) (t : ℕ)
-    (w : World) → before (fixed, old) t w
-    → after (fixed, new) t w
-    × MatchBool answer (word_at w t address ≡ Ok (note_at new place).word)
-    (word_at w t address ≡ Err why)
+-- What came of a store that is done or not: it is done, and the world after it is shown; or it
+-- isn't, and the world is shown as it was.
+abbrev pub StoresOrNot : Bool → Result World Reason → World → (World → Type 0) → Type 0
+StoresOrNot true answer w shows = (after : World) × (answer ≡ Ok after) × shows after
+StoresOrNot false answer w shows = shows w
 
 -- The registers and the budget of a thread are no part of it.
 pub blind_by : {F : Type 0} (now : Still) (fixed_now : F) (pages : List (Option (List ℕ)))
@@ -78,11 +72,12 @@ blind_by now fixed_now pages fixed t w change same s = record {
 }
 
 pub blind_known : {F : Type 0} (now : Still) (fixed_now : F) (pages : List (Option (List ℕ)))
-    (base : ℕ) (fetched : List Slot) (fixed : (Still × F) × List Note) (t : ℕ) (w : World)
+    (shown : List Slot) (compared : List Bool) (fixed : (Still × F) × List (Option (List ℕ)))
+    (t : ℕ) (w : World)
     (change : Thread → Thread) → ((thread : Thread) → (change thread).process ≡ thread.process)
-    → ShowsKnown now fixed_now pages base fetched fixed t w
-    → ShowsKnown now fixed_now pages base fetched fixed t (with_thread w t change)
-blind_known now fixed_now pages base fetched fixed t w change same s = record {
+    → ShowsKnown now fixed_now pages shown compared fixed t w
+    → ShowsKnown now fixed_now pages shown compared fixed t (with_thread w t change)
+blind_known now fixed_now pages shown compared fixed t w change same s = record {
   shows = blind_by now fixed_now pages fixed.0 t w change same s.shows;
-  known = s.known;
+  right = s.right;
 }

@@ -2,15 +2,18 @@
 //! of its own with the frames lent.
 #![tactic(auto)]
 
-mod late_memo;
+mod extent;
+mod flight;
 pub mod laws;
 mod lent;
+mod lines;
 mod pack;
 mod page_places;
 mod pages;
 mod run;
 mod slot;
 mod slots;
+mod slowly;
 mod thread_memory;
 
 pub use pack::{Pack, Shared, View, run_out, run_pack, run_slice};

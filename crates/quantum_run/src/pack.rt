@@ -8,9 +8,9 @@ ghost use Rattle.quantum_run.specs.Packs.{HoldsNo, empty_pack, seen_by_view, see
 ghost use Rattle.quantum_run.specs.Packs.{with_own_page};
 ghost use Rattle.quantum_run.specs.Packs.{with_thread_of};
 
-use crate::late_memo::LateMemo;
 use crate::page_places::Places;
 use crate::run::run_lent;
+use code_pages::CodePages;
 use dos_world::Regs;
 use page_store::{Frames, Page};
 use proc_table::Table;
@@ -60,7 +60,7 @@ pub struct Pack {
     own: Places,
     held: Vec<u32>,
     // of no thread
-    memo: LateMemo,
+    code: Box<CodePages>,
 }
 
 impl Model for Pack {
@@ -96,7 +96,7 @@ impl Pack {
             left: 0,
             own: Places::reserve(alloc, frames)?,
             held: Vec::with_capacity(alloc, frames as usize)?,
-            memo: LateMemo::reserve(alloc)?,
+            code: Box::new(alloc, CodePages::reserve(alloc)?)?,
         })
     }
 
@@ -221,7 +221,7 @@ pub fn run_slice(pack: &mut Pack, view: &View<'_>, most: u32) -> bool
         view.frames,
         space,
         pack.tid,
-        pack.memo.get(),
+        &mut pack.code,
         &mut regs,
         &mut left,
         floor,

@@ -1,67 +1,110 @@
 // The loop, over any memory and in place.
-ghost use Rattle.std.specs.Prelude.{◌≡◌, ◌<◌, ◌≤◌, ◌-◌, ◌⊎◌, ℕ, List, Some, Err, MatchOption};
-ghost use Rattle.std.specs.Prelude.{length, map, is_some, true};
-ghost use Rattle.dos_world.specs.World.{World};
+ghost use Rattle.std.specs.Prelude.{◌≡◌, ◌<◌, ◌≤◌, ◌+◌, ◌-◌, ◌⊎◌, ℕ, List, Some, Err, MatchOption};
+ghost use Rattle.std.specs.Prelude.{length, map, is_some, true, false, replicate};
+ghost use Rattle.dos_world.specs.World.{World, with_pc};
 ghost use Rattle.page_store.specs.Store.{AreHome};
 ghost use Rattle.rv_exec.specs.Runs.{Runs};
 ghost use Rattle.flat_machine.specs.Step.{step};
-ghost use Rattle.quantum_run.specs.Knowing.{no_base};
+ghost use Rattle.code_pages.specs.Lines.{bytes_of_pages};
 ghost use Rattle.quantum_run.specs.Pages.{AreOwn, AreReached, AreWithin, is_here, overlay};
 ghost use Rattle.quantum_run.specs.ThreadRuns.{AreMapped, Goes, IsRunOf, StartsElsewhere};
-ghost use Rattle.quantum_run.specs.ThreadRuns.{is_stop_at, run_to};
+ghost use Rattle.quantum_run.specs.ThreadRuns.{Reaches, is_stop_at, run_to};
 ghost use Rattle.flat_machine.specs.Laws.{after_steps};
 ghost use Rattle.quantum_run.specs.ThreadRuns.{store_of};
-ghost use Rattle.quantum_run.specs.Showing.{ShowsBy, Still, still};
+ghost use Rattle.quantum_run.specs.Showing.{ShowsBy, ShowsKnown, Still, still};
 
+use crate::flight::fly;
 use crate::lent::Lent;
 use crate::page_places::{Places, write_out};
-use crate::pages::{Apart, InPlace, Pages};
+use crate::pages::{InPlace, Pages};
+use crate::slowly::slowly;
 use crate::thread_memory::Running;
+use code_pages::CodePages;
 use dos_world::{Reason, Regs};
 use page_store::{Frames, Page};
-use rv_exec::{Next, one_known};
-use rv_form::{Memo, place_after, place_after_short, place_of};
 use space_map::Space;
 use std::mem;
 
-/// Whether it is one of these addresses. Where it is known at a call that there is none, nothing is
-/// left of it in the code.
-#[inline(always)]
+/// Whether it is one of these addresses.
 fn is_stop_at(stops: &[u32], pc: u32) -> bool
     ensures { result ≡ is_stop_at stops.now pc }
 {
-    if stops.is_empty() {
-        return false;
-    }
     stops.contains(&pc)
 }
 
 /// Instructions on a memory, each for one of the budget, until one stops or the budget has come
-/// down to the floor. In front of one at one of these addresses the floor is what is left. While
-/// they run, pc stands beside the registers, and with it the place at which the memo may have its
-/// word. Nothing is known when they begin.
+/// down to the floor: by the lines that are known where they are, and else one by one. While they
+/// run, pc stands beside the registers. Nothing has been compared when they begin.
 #[inline(always)]
 fn go<P: Pages>(
     regs: &mut Regs,
     memory: &mut Running<'_, P>,
-    memo: &mut Memo,
+    code: &mut CodePages,
     budget: &mut u32,
-    floor: &mut u32,
-    stops: &[u32],
+    floor: u32,
 ) -> Option<Reason>
-    requires known { memory.old.base ≡ no_base }
-    requires floor { floor.old ≤ budget.old }
+    requires known { memory.old.compared ≡ replicate 1024 false }
+    requires floor { floor ≤ budget.old }
     ensures runs { (f : Still × P.Fixed) (t : ℕ) (w : World)
         → Runs (ShowsBy
         (still memory.old.tid (P.owners memory.old.pages) memory.old.space.now.entries)
         (P.fixed memory.old.pages) (P.pages memory.old.pages) f t) w t regs.old budget.old
-        → Goes floor.new (ShowsBy
+        → Goes floor (ShowsBy
         (still memory.new.tid (P.owners memory.new.pages) memory.new.space.now.entries)
         (P.fixed memory.new.pages) (P.pages memory.new.pages) f t) w t regs.new budget.old
         budget.new result }
-    ensures stop { MatchOption result (budget.new ≡ floor.new) (λ reason. 0 < budget.new) }
+    ensures stop { MatchOption result (budget.new ≡ floor) (λ reason. 0 < budget.new) }
     ensures within { budget.new ≤ budget.old }
-    ensures floor { (floor.new ≡ floor.old) ⊎ (is_stop_at stops.now regs.new.pc ≡ true) }
+{
+    let mut pc = regs.pc();
+    let mut left = *budget - floor;
+    let mut why = Reason::Service;
+    while left > 0 {
+        let flown = fly(regs, memory, code, pc, left);
+        pc = flown.pc;
+        left = flown.left;
+        if left == 0 {
+            break;
+        }
+        match slowly(regs, memory, code, pc, &mut why) {
+            Some(next) => {
+                pc = next;
+                left -= 1;
+            }
+            None => {
+                regs.set_pc(pc);
+                *budget = floor + left;
+                return Some(why);
+            }
+        }
+    }
+    regs.set_pc(pc);
+    *budget = floor;
+    None
+}
+
+/// The same until the budget is 0, or the next instruction is at one of these addresses: one by
+/// one.
+#[inline(always)]
+fn go_up_to<P: Pages>(
+    regs: &mut Regs,
+    memory: &mut Running<'_, P>,
+    code: &mut CodePages,
+    budget: &mut u32,
+    stops: &[u32],
+) -> Option<Reason>
+    requires known { memory.old.compared ≡ replicate 1024 false }
+    ensures runs { (f : Still × P.Fixed) (t : ℕ) (w : World)
+        → Runs (ShowsBy
+        (still memory.old.tid (P.owners memory.old.pages) memory.old.space.now.entries)
+        (P.fixed memory.old.pages) (P.pages memory.old.pages) f t) w t regs.old budget.old
+        → Goes budget.new (ShowsBy
+        (still memory.new.tid (P.owners memory.new.pages) memory.new.space.now.entries)
+        (P.fixed memory.new.pages) (P.pages memory.new.pages) f t) w t regs.new budget.old
+        budget.new result }
+    ensures stop { MatchOption result
+        ((budget.new ≡ 0) ⊎ (is_stop_at stops.now regs.new.pc ≡ true)) (λ reason. 0 < budget.new) }
+    ensures within { budget.new ≤ budget.old }
     ensures elsewhere { (f : Still × P.Fixed) (t : ℕ) (w : World)
         → Runs (ShowsBy
         (still memory.old.tid (P.owners memory.old.pages) memory.old.space.now.entries)
@@ -69,98 +112,39 @@ fn go<P: Pages>(
         → StartsElsewhere stops.now (budget.old - budget.new) w t }
 {
     let mut pc = regs.pc();
-    let mut place = place_of(pc);
-    let mut left = *budget - *floor;
+    let mut left = *budget;
     let mut why = Reason::Service;
     while left > 0 {
         if is_stop_at(stops, pc) {
             regs.set_pc(pc);
-            *floor += left;
-            *budget = *floor;
+            *budget = left;
             return None;
         }
-        if !memory.knows(memo, place, pc, &mut why) {
-            regs.set_pc(pc);
-            *budget = *floor + left;
-            return Some(why);
-        }
-        match one_known(regs, memory, memo.form(place), pc, &mut why) {
-            Next::On => {
-                pc = pc.wrapping_add(4);
-                place = place_after(place);
-            }
-            Next::Short => {
-                place = place_after_short(place, pc);
-                pc = pc.wrapping_add(2);
-            }
-            Next::To(target) => {
-                pc = target;
-                place = place_of(target);
-            }
-            Next::Not => {
+        match slowly(regs, memory, code, pc, &mut why) {
+            Some(next) => pc = next,
+            None => {
                 regs.set_pc(pc);
-                *budget = *floor + left;
+                *budget = left;
                 return Some(why);
             }
         }
         left -= 1;
     }
     regs.set_pc(pc);
-    *budget = *floor + left;
+    *budget = 0;
     None
 }
 
-/// The run of the thread whose memory this is, until its budget has come down to the floor; in
-/// front of one of these addresses the floor is what is left.
-#[inline(always)]
-fn run_by<P: Pages>(
-    memory: &mut Running<'_, P>,
-    memo: &mut Memo,
-    regs: &mut Regs,
-    budget: &mut u32,
-    floor: &mut u32,
-    stops: &[u32],
-) -> Option<Reason>
-    requires known { memory.old.base ≡ no_base }
-    requires floor { floor.old ≤ budget.old }
-    ensures runs { (w : World)
-        → IsRunOf w (store_of (P.owners memory.old.pages) (P.pages memory.old.pages))
-        memory.old.space.now.entries memory.old.tid regs.old budget.old
-        → after_steps (budget.old - budget.new) w memory.old.tid
-        ≡ Some (run_to w memory.old.tid (P.pages memory.new.pages) regs.new budget.new) }
-    ensures stop { MatchOption result (budget.new ≡ floor.new)
-        (λ reason. (0 < budget.new)
-        × ((w : World)
-        → IsRunOf w
-        (store_of (P.owners memory.old.pages) (P.pages memory.old.pages))
-        memory.old.space.now.entries memory.old.tid regs.old budget.old
-        → step (run_to w memory.old.tid (P.pages memory.new.pages) regs.new budget.new)
-        memory.old.tid ≡ Err reason)) }
-    ensures elsewhere { (w : World)
-        → IsRunOf w (store_of (P.owners memory.old.pages) (P.pages memory.old.pages))
-        memory.old.space.now.entries memory.old.tid regs.old budget.old
-        → StartsElsewhere stops.now (budget.old - budget.new) w memory.old.tid }
-    ensures floor { (floor.new ≡ floor.old) ⊎ (is_stop_at stops.now regs.new.pc ≡ true) }
-    ensures within { budget.new ≤ budget.old }
-    ensures owners { P.owners memory.new.pages ≡ P.owners memory.old.pages }
-    ensures fixed { P.fixed memory.new.pages ≡ P.fixed memory.old.pages }
-{
-    let mut own = *regs;
-    let stop = go(&mut own, memory, memo, budget, floor, stops);
-    *regs = own;
-    stop
-}
-
-/// The same, wherever the thread is.
+/// The run of the thread whose memory this is, until its budget has come down to the floor.
 #[inline(never)]
 pub(crate) fn run<P: Pages>(
     memory: &mut Running<'_, P>,
-    memo: &mut Memo,
+    code: &mut CodePages,
     regs: &mut Regs,
     budget: &mut u32,
     floor: u32,
 ) -> Option<Reason>
-    requires known { memory.old.base ≡ no_base }
+    requires known { memory.old.compared ≡ replicate 1024 false }
     requires floor { floor ≤ budget.old }
     ensures runs { (w : World)
         → IsRunOf w (store_of (P.owners memory.old.pages) (P.pages memory.old.pages))
@@ -179,20 +163,22 @@ pub(crate) fn run<P: Pages>(
     ensures owners { P.owners memory.new.pages ≡ P.owners memory.old.pages }
     ensures fixed { P.fixed memory.new.pages ≡ P.fixed memory.old.pages }
 {
-    let mut floor = floor;
-    run_by(memory, memo, regs, budget, &mut floor, &[])
+    let mut own = *regs;
+    let stop = go(&mut own, memory, code, budget, floor);
+    *regs = own;
+    stop
 }
 
 /// The same until its budget is 0, or it is at one of these addresses.
 #[inline(never)]
 fn run_up_to<P: Pages>(
     memory: &mut Running<'_, P>,
-    memo: &mut Memo,
+    code: &mut CodePages,
     regs: &mut Regs,
     budget: &mut u32,
     stops: &[u32],
 ) -> Option<Reason>
-    requires known { memory.old.base ≡ no_base }
+    requires known { memory.old.compared ≡ replicate 1024 false }
     ensures runs { (w : World)
         → IsRunOf w (store_of (P.owners memory.old.pages) (P.pages memory.old.pages))
         memory.old.space.now.entries memory.old.tid regs.old budget.old
@@ -215,8 +201,10 @@ fn run_up_to<P: Pages>(
     ensures owners { P.owners memory.new.pages ≡ P.owners memory.old.pages }
     ensures fixed { P.fixed memory.new.pages ≡ P.fixed memory.old.pages }
 {
-    let mut floor = 0;
-    run_by(memory, memo, regs, budget, &mut floor, stops)
+    let mut own = *regs;
+    let stop = go_up_to(&mut own, memory, code, budget, stops);
+    *regs = own;
+    stop
 }
 
 /// The run of a thread over pages of its own, with the frames lent, until its budget has come down
@@ -226,7 +214,7 @@ pub(crate) fn run_lent(
     frames: &Frames,
     space: &Space,
     tid: u32,
-    memo: &mut Memo,
+    code: &mut CodePages,
     regs: &mut Regs,
     budget: &mut u32,
     floor: u32,
@@ -260,7 +248,7 @@ pub(crate) fn run_lent(
         frames,
         space,
         tid,
-        memo,
+        code,
         regs,
         budget,
         floor,
@@ -274,7 +262,7 @@ fn run_written(
     frames: &Frames,
     space: &Space,
     tid: u32,
-    memo: &mut Memo,
+    code: &mut CodePages,
     regs: &mut Regs,
     budget: &mut u32,
     floor: u32,
@@ -308,8 +296,9 @@ fn run_written(
         lent: frames.pages(),
         frames,
     };
-    let mut memory = Running::new(pages, space, tid);
-    let stop = run(&mut memory, memo, regs, budget, floor);
+    let mut memory = Running::new(pages, space, tid, code.hints());
+    let stop = run(&mut memory, code, regs, budget, floor);
+    code.keep_hints(memory.hints);
     *own = memory.pages.own;
     stop
 }
@@ -319,7 +308,7 @@ fn run_in_place(
     frames: &mut Frames,
     space: &Space,
     tid: u32,
-    memo: &mut Memo,
+    code: &mut CodePages,
     regs: &mut Regs,
     budget: &mut u32,
     stops: &[u32],
@@ -344,14 +333,15 @@ fn run_in_place(
     ensures home { AreHome frames.new }
 {
     if stops.is_empty() {
-        let mut memory = Running::new(InPlace { frames }, space, tid);
-        return run(&mut memory, memo, regs, budget, 0);
+        let mut memory = Running::new(InPlace { frames }, space, tid, code.hints());
+        let stop = run(&mut memory, code, regs, budget, 0);
+        code.keep_hints(memory.hints);
+        return stop;
     }
-    let pages = Apart {
-        pages: InPlace { frames },
-    };
-    let mut memory = Running::new(pages, space, tid);
-    run_up_to(&mut memory, memo, regs, budget, stops)
+    let mut memory = Running::new(InPlace { frames }, space, tid, code.hints());
+    let stop = run_up_to(&mut memory, code, regs, budget, stops);
+    code.keep_hints(memory.hints);
+    stop
 }
 
 /// Runs instructions of thread `tid` in the frames, each for one of the budget, until one stops,
@@ -390,15 +380,15 @@ pub fn run_until_address(
     ensures marked { frames.new.marked ≡ frames.old.marked }
     ensures home { AreHome frames.new }
 {
-    match frames.take_memo() {
-        Some(mut memo) => {
-            let stop = run_in_place(frames, space, tid, &mut memo, regs, budget, stops);
-            frames.keep_memo(memo);
+    match frames.take_code() {
+        Some(mut code) => {
+            let stop = run_in_place(frames, space, tid, &mut code, regs, budget, stops);
+            frames.keep_code(code);
             stop
         }
         None => {
-            let mut memo = Memo::new();
-            run_in_place(frames, space, tid, &mut memo, regs, budget, stops)
+            let mut code = CodePages::empty(frames.allocator());
+            run_in_place(frames, space, tid, &mut code, regs, budget, stops)
         }
     }
 }

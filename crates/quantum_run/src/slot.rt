@@ -1,8 +1,8 @@
 // A page that was found.
 
-/// A page that an access of one kind found.
+/// A page that accesses of one kind find, by its first address.
 #[derive(Clone, Copy)]
 pub struct Slot {
-    pub page: u32,
+    pub start: u32,
     pub frame: u32,
 }

@@ -1,22 +1,26 @@
 // Slots for pages that were found.
-ghost use Rattle.std.specs.Prelude.{◌≡◌, ◌<◌, ◌==◌, ◌/◌, ◌%◌, ◌⊎◌, replicate, slice_set};
+ghost use Rattle.std.specs.Prelude.{◌≡◌, ◌≢◌, ◌<◌, ◌+◌, ◌==◌, ◌/◌, ◌%◌, ◌⊎◌, replicate, slice_set};
 ghost use Rattle.std.specs.List.{list_any};
-ghost use Rattle.quantum_run.specs.Knowing.{IsNoCode, empty_slot, no_base};
+ghost use Rattle.dos_world.specs.Reach.{width};
+ghost use Rattle.quantum_run.specs.Finding.{no_start, page_start};
+ghost use Rattle.quantum_run.specs.Knowing.{AreFewer, AreHidden, IsNoCode, IsUncompared};
+ghost use Rattle.quantum_run.specs.Knowing.{code_place};
+ghost use Rattle.quantum_run.specs.Knowing.{empty_slot};
 
 use crate::slot::Slot;
-use rv_form::NO_BASE;
+use dos_world::Size;
 
-/// The page of a slot that has found nothing: none has this number.
-pub const NO_PAGE: u32 = 0xffff_ffff;
+/// The start of a slot that has found nothing: no page begins there.
+pub const NO_START: u32 = 0xffff_ffff;
 
 /// No slot has found anything.
 #[inline]
 pub fn nothing_found() -> [Slot; 64]
-    ensures { result ≡ replicate 64 (record { page = 0xFFFFFFFF; frame = 0xFFFFFFFF }) }
+    ensures { result ≡ replicate 64 empty_slot }
 {
     [Slot {
-        page: NO_PAGE,
-        frame: NO_PAGE,
+        start: NO_START,
+        frame: NO_START,
     }; 64]
 }
 
@@ -29,21 +33,60 @@ pub fn slot_place(address: u32) -> usize
     (address / 4096 % 64) as usize
 }
 
+/// The first address of an address's page.
+#[inline(always)]
+pub fn start_of(address: u32) -> u32
+    ensures { result ≡ page_start address }
+{
+    address / 4096 * 4096
+}
+
+/// The first address of an aligned address's page, and no page's first address for any other. One
+/// comparison with it tests both.
+#[inline(always)]
+pub fn aligned_start(address: u32, size: Size) -> u32
+    ensures { result ≡ page_start address + address % width size }
+{
+    match size {
+        Size::Byte => address / 4096 * 4096,
+        Size::Half => address / 4096 * 4096 + address % 2,
+        Size::Word => address / 4096 * 4096 + address % 4,
+    }
+}
+
+/// The offset in its page of an aligned address, spelled so that a compiler knows it to be aligned:
+/// then it loads the bytes there at once, and else one by one.
+#[inline(always)]
+pub fn aligned_offset(address: u32, size: Size) -> u32
+    requires { address % width size ≡ 0 }
+    ensures { result ≡ address % 4096 }
+{
+    match size {
+        Size::Byte => address % 4096,
+        Size::Half => address % 4096 / 2 * 2,
+        Size::Word => address % 4096 / 4 * 4,
+    }
+}
+
 /// Whether a slot has this frame.
 pub fn has_frame(slots: &[Slot; 64], frame: u32) -> bool
     ensures { result ≡ list_any (λ slot. slot.frame == frame) slots.now }
 {
-    slots.iter().any(|slot| slot.frame == frame)
+    let mut found = false;
+    for slot in slots {
+        found |= slot.frame == frame;
+    }
+    found
 }
 
 /// The slot of an address's page has this frame from now on.
 #[inline(always)]
 pub fn keep_frame(slots: &mut [Slot; 64], address: u32, frame: u32)
     ensures { slots.new ≡ slice_set slots.old (address / 4096 % 64)
-        (record { page = address / 4096; frame = frame }) }
+        (record { start = page_start address; frame = frame }) }
 {
     slots[slot_place(address)] = Slot {
-        page: address / 4096,
+        start: start_of(address),
         frame,
     };
 }
@@ -58,10 +101,48 @@ pub fn forget_frame(slots: &mut [Slot; 64], frame: u32)
     }
 }
 
-/// The base after a page is found in the place of this slot: what was known of the page that was
-/// there isn't any more.
-pub fn base_beside(slot: Slot, base: u64) -> u64
-    ensures { (result ≡ no_base) ⊎ ((result ≡ base) × (slot.page ≡ 0xFFFFFFFF)) }
+/// A slot, or one that has found nothing where it has this frame.
+fn hidden(slot: Slot, frame: u32) -> Slot
+    ensures none { result.start < no_start → result.frame ≢ frame }
+    ensures other { (result ≡ slot) ⊎ (result ≡ empty_slot) }
 {
-    if slot.page == NO_PAGE { base } else { NO_BASE }
+    if slot.frame == frame {
+        return Slot {
+            start: NO_START,
+            frame: NO_START,
+        };
+    }
+    slot
+}
+
+/// No slot has this frame from now on; the others are the same.
+#[cold]
+#[inline(never)]
+pub fn hide_frame(slots: &mut [Slot; 64], frame: u32)
+    ensures none { IsNoCode slots.new frame }
+    ensures others { AreHidden slots.old slots.new }
+{
+    for at in 0..64usize {
+        slots[at] = hidden(slots[at], frame);
+    }
+}
+
+/// No block of a slot has been compared from now on; the others are the same.
+pub fn forget_blocks(compared: &mut [bool; 1024], slot: usize)
+    requires { slot < 64 }
+    ensures none { IsUncompared compared.new slot }
+    ensures others { AreFewer compared.old compared.new }
+{
+    for block in 16 * slot..16 * slot + 16 {
+        compared[block] = false;
+    }
+}
+
+/// At which of 256 places an address's page of code is known.
+#[inline(always)]
+pub fn code_place(address: u32) -> usize
+    ensures place { result ≡ code_place address }
+    ensures small { result < 256 }
+{
+    (address / 4096 % 256) as usize
 }

@@ -5,9 +5,9 @@
 mod form_perform;
 mod memory;
 mod next;
-mod numbers;
+pub mod numbers;
 mod on_memory;
-mod on_registers;
+pub mod on_registers;
 mod one_page;
 mod perform;
 mod short_perform;

@@ -1,2 +1,1 @@
 pub mod Uppers
-mod NoteLaws

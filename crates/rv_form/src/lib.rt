@@ -4,11 +4,6 @@
 
 mod decoding;
 mod form;
-mod line;
-mod memo;
-mod place;
 
 pub use decoding::form_of;
 pub use form::{Form, Op};
-pub use memo::{Memo, NO_BASE};
-pub use place::{place_after, place_after_short, place_of};

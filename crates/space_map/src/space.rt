@@ -1,6 +1,6 @@
 // The pages of a process, in rising order.
 ghost use Rattle.std.specs.Prelude.{◌≡◌, ◌<◌, ◌≤◌, ◌+◌, ◌^◌, ◌++◌, length, map, take, drop, false};
-ghost use Rattle.std.specs.Prelude.{None, Some, [], slice_get, IfOk, IfErr};
+ghost use Rattle.std.specs.Prelude.{None, Some, [], slice_get, IfOk, IfErr, IfSome};
 ghost use Rattle.dos_world.specs.World.{look};
 ghost use Rattle.dos_world.specs.Kernel.{put};
 ghost use Rattle.dos_world.specs.Numbered.{run_of};
@@ -68,6 +68,41 @@ impl Space {
     {
         match self.search(page) {
             Ok(place) => Some(self.entries[place].1),
+            Err(_) => None,
+        }
+    }
+
+    /// The page's entry, as `look` gives it. It is looked for first at the place of the hint, which
+    /// may be any number, and the hint is its place then.
+    #[inline]
+    pub fn look_near(&self, page: u32, hint: &mut u32) -> Option<Entry>
+        ensures entry { result ≡ look self.now.entries page }
+        ensures near { IfSome result (λ entry. IsAt self.now.entries page hint.new) }
+    {
+        let place = *hint as usize;
+        if place < self.entries.len() {
+            let (number, entry) = self.entries[place];
+            if number == page {
+                return Some(entry);
+            }
+        }
+        self.look_far(page, hint)
+    }
+
+    // the same by a binary search
+    #[cold]
+    #[inline(never)]
+    fn look_far(&self, page: u32, hint: &mut u32) -> Option<Entry>
+        ensures entry { result ≡ look self.now.entries page }
+        ensures near { IfSome result (λ entry. IsAt self.now.entries page hint.new) }
+    {
+        // how many places there are is known of the entries
+        let _entries = &self.entries;
+        match self.search(page) {
+            Ok(place) => {
+                *hint = place as u32;
+                Some(self.entries[place].1)
+            }
             Err(_) => None,
         }
     }

@@ -5,10 +5,10 @@ use Rattle.quantum_run.proofs.run.run_until_address.Goals as goal
 
 pub run_in_place-stop-requires-clause-mapped : goal.run_in_place-stop-requires-clause-mapped
 run_in_place-stop-requires-clause-mapped c =
-    subst (λ (s : Store). AreMapped s c.args.space.now.entries) (sym c.take_memo.ensures)
+    subst (λ (s : Store). AreMapped s c.args.space.now.entries) (sym c.take_code.ensures)
     c.requires.mapped
 
 pub run_in_place-requires-clause-mapped : goal.run_in_place-requires-clause-mapped
 run_in_place-requires-clause-mapped c =
-    subst (λ (s : Store). AreMapped s c.args.space.now.entries) (sym c.take_memo.ensures)
+    subst (λ (s : Store). AreMapped s c.args.space.now.entries) (sym c.take_code.ensures)
     c.requires.mapped

@@ -1,18 +1,23 @@
-use Rattle.quantum_run.proofs.Knowing.{keeps-same}
+use Rattle.quantum_run.proofs.Comparing.{keeps-same}
 use Rattle.quantum_run.proofs.thread_memory.Running.find_to_write.Goals as goal
 
-pub returns-in_default-clause-known : goal.returns-in_default-clause-known
-returns-in_default-clause-known g c =
+pub returns-in_default-clause-right : goal.returns-in_default-clause-right
+returns-in_default-clause-right g c =
     let m = c.args.self.now in
     let n = c.find.new.self in
-    keeps-same m.base n.base m.fetched n.fetched (g.P.Pages.pages m.pages) (g.P.Pages.pages n.pages)
-    c.find.ensures.same.0 c.find.ensures.same.1 c.find.ensures.pages
-
-pub returns-clause-known : goal.returns-clause-known
-returns-clause-known g c = λ notes are.
-    let m = c.args.self.now in
-    let n = c.find.new.self in
-    c.store_again.ensures.known notes
-    (keeps-same m.base n.base m.fetched n.fetched (g.P.Pages.pages m.pages)
+    keeps-same m.shown n.shown m.compared n.compared (g.P.Pages.pages m.pages)
     (g.P.Pages.pages n.pages) c.find.ensures.same.0 c.find.ensures.same.1 c.find.ensures.pages
-    notes are)
+
+pub returns-clause-right : goal.returns-clause-right
+returns-clause-right g c = λ known are.
+    let m = c.args.self.now in
+    let n = c.find.new.self in
+    let s = c.store_again.new.self in
+    let l = c.load_too.new.self in
+    keeps-same s.shown l.shown s.compared l.compared (g.P.Pages.pages s.pages)
+    (g.P.Pages.pages l.pages) c.load_too.ensures.same.0 c.load_too.ensures.same.1
+    c.load_too.ensures.pages known
+    (c.store_again.ensures.right known
+    (keeps-same m.shown n.shown m.compared n.compared (g.P.Pages.pages m.pages)
+    (g.P.Pages.pages n.pages) c.find.ensures.same.0 c.find.ensures.same.1 c.find.ensures.pages
+    known are))

@@ -6,8 +6,8 @@ use Rattle.quantum_run.proofs.Apart.{apart-none}
 use Rattle.quantum_run.proofs.Places.{none-found}
 use Rattle.quantum_run.proofs.thread_memory.Running.new.Goals as goal
 
-pub invariant_of-result-clause-fetched_are : goal.invariant_of-result-clause-fetched_are
-invariant_of-result-clause-fetched_are g c =
+pub invariant_of-result-clause-shown_are : goal.invariant_of-result-clause-shown_are
+invariant_of-result-clause-shown_are g c =
     none-found c.args.tid
     (g.P.Pages.owners c.args.pages) c.args.space.now.entries Fetch c.nothing_found.result
     c.nothing_found.ensures

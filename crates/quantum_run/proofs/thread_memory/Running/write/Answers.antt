@@ -1,10 +1,10 @@
-use Rattle.std.proofs.Common.{◌≡◌, sym, ap, ◌∙◌, subst, List, true, inl, inr}
+use Rattle.std.proofs.Common.{◌≡◌, ◌%◌, sym, ap, ◌∙◌, subst, List, true}
 use Rattle.dos_world.specs.declared.Owner.{Owner}
 use Rattle.dos_world.specs.declared.Access.TheVariants.{Fetch, Load, Store}
 use Rattle.page_store.specs.Store.{joined}
 use Rattle.quantum_run.specs.Finding.{AreFramesOf, frame_for}
-use Rattle.quantum_run.specs.Knowing.{KeepsKnown}
-use Rattle.quantum_run.proofs.Knowing.{keeps-none, keeps-written}
+use Rattle.dos_world.specs.Reach.{bytes_of, width}
+use Rattle.quantum_run.proofs.Comparing.{keeps-written}
 use Rattle.quantum_run.proofs.Places.{written-joined}
 use Rattle.quantum_run.specs.Pages.{is_here, AreWithin}
 use Rattle.quantum_run.proofs.Overlay.{here-set}
@@ -17,16 +17,12 @@ returns-clause-bytes g c =
     (g.P.Pages.pages c.args.self.now.pages) c.args.frame c.args.address c.args.size w.before
     w.after c.args.value w.was c.requires.aligned w.is
 
-pub returns-clause-known : goal.returns-clause-known
-returns-clause-known g c =
+pub returns-clause-right : goal.returns-clause-right
+returns-clause-right g c =
     let m = c.args.self.now in
-    let before = g.P.Pages.pages m.pages in
-    let after = g.P.Pages.pages c.write.new.self in
-    elim c.requires.free as (λ _. KeepsKnown m.base m.fetched before m.base m.fetched after) [
-      | inl none ↦ keeps-none m.base m.base m.fetched m.fetched before after none
-      | inr free ↦ keeps-written m.base m.fetched before after c.args.frame c.args.address
-          c.args.size c.args.value c.requires.aligned (returns-clause-bytes g c) free
-    ]
+    keeps-written m.shown m.compared (g.P.Pages.pages m.pages) (g.P.Pages.pages c.write.new.self)
+    c.args.frame (c.args.address % 4096) (bytes_of (width c.args.size) c.args.value)
+    c.write.ensures.pages c.requires.free
 
 pub invariant_of-self : goal.invariant_of-self
 invariant_of-self g c =
@@ -45,14 +41,13 @@ invariant_of-self g c =
           (c.args.self.now.own access address frame writes
           (ap (λ (os : List Owner). frame_for t os entries access address) (sym e) ∙ h));
       within = subst (λ (os : List Owner). AreWithin os entries) (sym e) c.args.self.now.within;
-      fetched_are = subst (λ
-          (os : List Owner). AreFramesOf t os entries Fetch c.args.self.now.fetched)
-          (sym e) c.args.self.now.fetched_are;
+      shown_are = subst (λ
+          (os : List Owner). AreFramesOf t os entries Fetch c.args.self.now.shown)
+          (sym e) c.args.self.now.shown_are;
       loaded_are = subst (λ (os : List Owner). AreFramesOf t os entries Load c.args.self.now.loaded)
           (sym e) c.args.self.now.loaded_are;
       stored_are = subst (λ
           (os : List Owner). AreFramesOf t os entries Store c.args.self.now.stored)
           (sym e) c.args.self.now.stored_are;
       apart = c.args.self.now.apart;
-      base_is = c.args.self.now.base_is;
     }

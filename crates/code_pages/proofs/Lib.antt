@@ -1,0 +1,5 @@
+pub mod Bytes
+pub mod KindLaws
+pub mod KnownLaws
+pub mod LineLaws
+pub mod Lists

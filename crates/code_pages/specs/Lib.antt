@@ -1,0 +1,4 @@
+pub mod Codes
+pub mod Kinds
+pub mod KindTable
+pub mod Lines

@@ -1,0 +1,421 @@
+-- Blocks that have been compared stay right, as pages are found, compared and written.
+use Rattle.std.proofs.Common.{ℕ, zero, suc, ◌+◌, ◌*◌, ◌/◌, ◌%◌, ◌^◌, ◌<◌, ◌≤◌, ◌≡◌, ◌≢◌, ◌⊎◌}
+use Rattle.std.proofs.Common.{inl, inr}
+use Rattle.std.proofs.Common.{refl, sym, ap, ◌∙◌, subst, arith, List, [], ◌∷◌, length, take}
+use Rattle.std.proofs.Common.{drop, set}
+use Rattle.std.proofs.Common.{Bool, true, false, Option, Some, None, slice_get, length-set}
+use Rattle.std.proofs.Common.{replicate}
+use Rattle.std.proofs.Common.{map, eqb}
+use Rattle.std.specs.Prelude.{◌-◌, if◌then◌else◌, slice_index, slice_index_or, unwrap_or}
+use Rattle.std.specs.Option.{option_map}
+use Rattle.std.proofs.lemmas.Bool.{cases_lt}
+use Rattle.std.proofs.lemmas.Bool.Decides.{eqb_tells}
+use Rattle.std.proofs.lemmas.List.{get_or-set_other, get_or-set_same, get_or_past, get_or-take}
+use Rattle.std.proofs.lemmas.List.{get_or_default}
+use Rattle.std.proofs.lemmas.List.{get_or-drop, length-take, length-drop, length-map}
+use Rattle.dos_world.specs.Bytes.{written, zero_page}
+use Rattle.page_store.specs.Store.{whole}
+use Rattle.page_store.proofs.Pages.{length-whole, length-zero_page}
+use Rattle.code_pages.specs.Lines.{AreKnownPages, CodePage, Known, bytes_of_pages, page_bytes_at}
+use Rattle.code_pages.specs.Lines.{with_block}
+use Rattle.quantum_run.specs.declared.slot.Slot.{Slot}
+use Rattle.quantum_run.specs.Finding.{no_start, page_start}
+use Rattle.quantum_run.specs.Knowing.{AreFewer, AreHidden, AreRight, AreSameAround, IsCompared}
+use Rattle.quantum_run.specs.Knowing.{IsNoCode, IsRightAt, IsUncompared, KeepsRight, block_place}
+use Rattle.quantum_run.specs.Knowing.{code_place, empty_slot, slot_of}
+use Rattle.quantum_run.specs.Pages.{Writes}
+
+-- ---- lists
+
+pub got-set-same : {A : Type 0} (xs : List A) (i : ℕ) (y : A) → i < length xs
+    → slice_get (set xs i y) i ≡ Some y
+got-set-same [] i y h = absurd (omega (arith, h))
+got-set-same (x ∷ xs) zero y h = refl
+got-set-same (x ∷ xs) (suc i) y h = got-set-same xs i y (omega (arith, h))
+
+pub got-set-other : {A : Type 0} (xs : List A) (i k : ℕ) (y : A) → k ≢ i
+    → slice_get (set xs i y) k ≡ slice_get xs k
+got-set-other [] i k y h = refl
+got-set-other (x ∷ xs) zero zero y h = absurd (h refl)
+got-set-other (x ∷ xs) zero (suc k) y h = refl
+got-set-other (x ∷ xs) (suc i) zero y h = refl
+got-set-other (x ∷ xs) (suc i) (suc k) y h = got-set-other xs i k y (λ e. h (ap suc e))
+
+Some-same : {A : Type 0} {x y : A} → ◌≡◌ {A = Option A} (Some x) (Some y) → x ≡ y
+Some-same h = cc
+
+-- ---- slots
+
+-- a slot that has found a page is one of them
+pub slot-there : (slots : List Slot) (address : ℕ) → address < 2 ^ 32
+    → (slot_of slots address).start ≡ page_start address → address / 4096 % 64 < length slots
+slot-there slots address fits found =
+    by_order (cases_lt (address / 4096 % 64) (length slots))
+  where
+    by_order : (address / 4096 % 64 < length slots) ⊎ (length slots ≤ address / 4096 % 64)
+        → address / 4096 % 64 < length slots
+    by_order (inl h) = h
+    by_order (inr h) =
+        let none : (slot_of slots address).start ≡ no_start =
+        ap (λ (s : Slot). s.start) (get_or_past slots (address / 4096 % 64) empty_slot h) in
+        absurd (omega (arith, none, found, fits))
+
+-- the slot of an address, whatever stands for slots that aren't there
+pub slot-here : (slots : List Slot) (address place : ℕ) (none : Slot)
+    → place ≡ address / 4096 % 64 → place < length slots
+    → slice_index_or slots place none ≡ slot_of slots address
+slot-here slots address place none is within =
+    get_or_default slots place none empty_slot within
+    ∙ ap (λ (k : ℕ). slice_index_or slots k empty_slot) is
+
+-- and no slot that has found nothing
+slot-begins : (slots : List Slot) (address : ℕ) → address < 2 ^ 32
+    → (slot_of slots address).start ≡ page_start address → (slot_of slots address).start < no_start
+slot-begins slots address fits found = omega (arith, found, fits)
+
+-- ---- what stays right
+
+pub keeps-same : (shown shown' : List Slot) (compared compared' : List Bool)
+    (pages pages' : List (Option (List ℕ)))
+    → shown' ≡ shown → compared' ≡ compared → pages' ≡ pages
+    → KeepsRight shown compared pages shown' compared' pages'
+keeps-same shown shown' compared compared' pages pages' s c p known are =
+    subst (λ (x : List Slot). AreRight x compared' pages' known) (sym s)
+    (subst (λ (x : List Bool). AreRight shown x pages' known) (sym c)
+    (subst (λ (x : List (Option (List ℕ))). AreRight shown compared x known) (sym p) are))
+
+-- what is right at an address is right by each list with the same slot
+right-there : (shown new : List Slot) (pages known : List (Option (List ℕ))) (address : ℕ)
+    → slot_of new address ≡ slot_of shown address
+    → IsRightAt shown pages known address → IsRightAt new pages known address
+right-there shown new pages known address same right = record {
+  own = right.own;
+  here = right.here;
+  page = right.page;
+  there = ap (λ (s : Slot). slice_get pages s.frame) same ∙ right.there;
+  same = right.same;
+}
+
+-- where no slot found another page, and no block has been compared that hadn't been
+keeps-fewer : (shown new : List Slot) (compared after : List Bool)
+    (pages : List (Option (List ℕ)))
+    → ((address : ℕ) → address < 2 ^ 32 → IsCompared new after address
+    → (slot_of new address ≡ slot_of shown address)
+    × (slice_get compared (block_place address) ≡ Some true))
+    → KeepsRight shown compared pages new after pages
+keeps-fewer shown new compared after pages fewer known are address fits is =
+    let old = fewer address fits is in
+    right-there shown new pages known address old.0
+    (are address fits (record {
+      found = ap (λ (s : Slot). s.start) (sym old.0) ∙ is.found;
+      is = old.1;
+    }))
+
+-- slots that have found nothing any more
+pub keeps-hidden : (shown new : List Slot) (compared : List Bool) (pages : List (Option (List ℕ)))
+    → AreHidden shown new → KeepsRight shown compared pages new compared pages
+keeps-hidden shown new compared pages hidden =
+    keeps-fewer shown new compared compared pages
+    (λ address fits is. (by_slot address fits is (hidden (address / 4096 % 64)), is.is))
+  where
+    by_slot : (address : ℕ) → address < 2 ^ 32 → IsCompared new compared address
+        → (slot_of new address ≡ slot_of shown address) ⊎ (slot_of new address ≡ empty_slot)
+        → slot_of new address ≡ slot_of shown address
+    by_slot address fits is (inl same) = same
+    by_slot address fits is (inr none) =
+        let start : (slot_of new address).start ≡ no_start = ap (λ (s : Slot). s.start) none in
+        let found = is.found in
+        absurd (omega (arith, start, found, fits))
+
+-- a page more that a fetch finds, of which no block has been compared
+pub keeps-found : (shown : List Slot) (compared after : List Bool)
+    (pages : List (Option (List ℕ))) (place : ℕ) (slot : Slot)
+    → IsUncompared after place → AreFewer compared after
+    → KeepsRight shown compared pages (set shown place slot) after pages
+keeps-found shown compared after pages place slot none fewer =
+    keeps-fewer shown (set shown place slot) compared after pages
+    (λ address fits is. (other address is, fewer (block_place address) is.is))
+  where
+    other : (address : ℕ) → IsCompared (set shown place slot) after address
+        → slot_of (set shown place slot) address ≡ slot_of shown address
+    other address is = get_or-set_other shown place (address / 4096 % 64) slot empty_slot
+        (λ here. none (block_place address) (omega (arith, here)) is.is)
+
+-- what is written in a frame that no fetch has found
+pub keeps-written : (shown : List Slot) (compared : List Bool)
+    (pages new : List (Option (List ℕ))) (frame offset : ℕ) (bytes : List ℕ)
+    → Writes pages new frame offset bytes → IsNoCode shown frame
+    → KeepsRight shown compared pages shown compared new
+keeps-written shown compared pages new frame offset bytes writes free known are address fits is =
+    let right = are address fits is in
+    let other : (slot_of shown address).frame ≢ frame =
+    free (address / 4096 % 64) empty_slot (slot-there shown address fits is.found)
+    (slot-begins shown address fits is.found) in
+    record {
+      own = right.own;
+      here = right.here;
+      page = right.page;
+      there = ap (λ (ps : List (Option (List ℕ))). slice_get ps (slot_of shown address).frame)
+          writes.pages
+          ∙ got-set-other pages frame (slot_of shown address).frame (Some writes.after) other
+          ∙ right.there;
+      same = right.same;
+    }
+
+-- nothing is compared yet
+pub right-begun : (shown : List Slot) (compared : List Bool) (pages known : List (Option (List ℕ)))
+    → compared ≡ replicate 1024 false → AreRight shown compared pages known
+right-begun shown compared pages known none address fits is =
+    absurd (never 1024 (block_place address)
+    (ap (λ (c : List Bool). slice_get c (block_place address)) (sym none) ∙ is.is))
+  where
+    never : (n i : ℕ) → slice_get (replicate n false) i ≡ Some true → ⊥
+    never zero i h = cc
+    never (suc n) zero h = cc
+    never (suc n) (suc i) h = never n i h
+
+-- ---- a block that is compared
+
+-- a byte beside those that are written
+byte-beside : (xs : List ℕ) (p : ℕ) (new : List ℕ) (i : ℕ) → (i < p) ⊎ (p + length new ≤ i)
+    → slice_index (written xs p new) i ≡ slice_index xs i
+byte-beside xs p [] i out = refl
+byte-beside xs p (b ∷ new) i (inl h) =
+    byte-beside (set xs p b) (suc p) new i (inl (omega (arith, h)))
+    ∙ get_or-set_other xs p i b 0 (λ e. omega (arith, h, e))
+byte-beside xs p (b ∷ new) i (inr h) =
+    byte-beside (set xs p b) (suc p) new i (inr (omega (arith, h)))
+    ∙ get_or-set_other xs p i b 0 (λ e. omega (arith, h, e))
+
+-- and one of them
+byte-written : (xs : List ℕ) (p : ℕ) (new : List ℕ) (i j : ℕ) → i ≡ p + j → j < length new
+    → i < length xs → slice_index (written xs p new) i ≡ slice_index new j
+byte-written xs p [] i j is h within = absurd (omega (arith, h))
+byte-written xs p (b ∷ new) i zero is h within =
+    byte-beside (set xs p b) (suc p) new i (inl (omega (arith, is)))
+    ∙ ap (λ (k : ℕ). slice_index (set xs p b) k) first
+    ∙ get_or-set_same xs p b 0 (omega (arith, first, within))
+  where
+    first : i ≡ p
+    first = omega (arith, is)
+byte-written xs p (b ∷ new) i (suc j) is h within =
+    byte-written (set xs p b) (suc p) new i j (omega (arith, is)) (omega (arith, h))
+    (omega (arith, within, length-set xs p b))
+
+-- a byte of a page with a block, where it lies in the block or right behind it, and elsewhere
+block-byte : (old : List ℕ) (block : ℕ) (bytes : List ℕ) (i : ℕ) → length old ≡ 4096
+    → length bytes ≡ 4096 → 256 * block ≤ i → i < 256 * block + 258 → i < 4096
+    → slice_index (with_block old block bytes) i ≡ slice_index bytes i
+block-byte old block bytes i size full low high within =
+    let cut : List ℕ = take 258 (drop (256 * block) bytes) in
+    let j : ℕ = i - 256 * block in
+    let is : i ≡ 256 * block + j = omega (arith, low) in
+    byte-written old (256 * block) cut i j is
+    (omega (
+      arith,
+      is,
+      high,
+      within,
+      full,
+      length-take 258 (drop (256 * block) bytes),
+      length-drop (256 * block) bytes,
+    ))
+    (omega (arith, size, within))
+    ∙ get_or-take 258 (drop (256 * block) bytes) j 0 (omega (arith, is, high))
+    ∙ get_or-drop (256 * block) bytes j 0
+    ∙ ap (λ (k : ℕ). slice_index bytes k) (sym is)
+
+block-beside : (old : List ℕ) (block : ℕ) (bytes : List ℕ) (i : ℕ)
+    → (i < 256 * block) ⊎ (256 * block + 258 ≤ i)
+    → slice_index (with_block old block bytes) i ≡ slice_index old i
+block-beside old block bytes i (inl h) =
+    byte-beside old (256 * block) (take 258 (drop (256 * block) bytes)) i (inl h)
+block-beside old block bytes i (inr h) =
+    byte-beside old (256 * block) (take 258 (drop (256 * block) bytes)) i
+    (inr (omega (arith, h, length-take 258 (drop (256 * block) bytes))))
+
+-- a page that is known has 4096 bytes, and so have the zeros where none is
+bytes-there : (known : Known) (place : ℕ) → AreKnownPages known
+    → length (page_bytes_at known place) ≡ 4096
+bytes-there known place are = by_page known.pages place (λ page is. (are.each place page is).bytes)
+  where
+    by_page : (pages : List (Option CodePage)) (at : ℕ)
+        → ((page : CodePage) → slice_get pages at ≡ Some (Some page) → length page.bytes ≡ 4096)
+        → length (unwrap_or (slice_index_or
+        (map (λ page. option_map (λ (p : CodePage). p.bytes) page) pages) at None) zero_page)
+        ≡ 4096
+    by_page [] at h = length-zero_page
+    by_page (None ∷ pages) zero h = length-zero_page
+    by_page (Some page ∷ pages) zero h = h page refl
+    by_page (page ∷ pages) (suc at) h = by_page pages at h
+
+-- the bytes that are known at a place
+bytes-known : (known : Known) (place : ℕ) (own : List ℕ)
+    → slice_get (bytes_of_pages known) place ≡ Some (Some own)
+    → own ≡ page_bytes_at known place
+bytes-known known place own here = by_list (bytes_of_pages known) place here
+  where
+    by_list : (pages : List (Option (List ℕ))) (at : ℕ) → slice_get pages at ≡ Some (Some own)
+        → own ≡ unwrap_or (slice_index_or pages at None) zero_page
+    by_list [] at h = cc
+    by_list (page ∷ pages) zero h =
+        ap (λ (p : Option (List ℕ)). unwrap_or p zero_page) (sym (Some-same h))
+    by_list (page ∷ pages) (suc at) h = by_list pages at h
+
+-- as many pages are known as places
+bytes-many : (known : Known) → length (bytes_of_pages known) ≡ length known.pages
+bytes-many known = length-map known.pages (λ page. option_map (λ (p : CodePage). p.bytes) page)
+
+-- One block more has been compared, in the page of a slot that a fetch has found.
+module _ (shown : List Slot) (compared : List Bool) (pages : List (Option (List ℕ)))
+    (known : Known) (address block : ℕ) (page : List ℕ) (fits : address < 2 ^ 32)
+    (found : (slot_of shown address).start ≡ page_start address)
+    (there : slice_get pages (slot_of shown address).frame ≡ Some (Some page))
+    (is_block : block ≡ address % 4096 / 256)
+    (inside : code_place address < length known.pages)
+    (pages_known : AreKnownPages known) (are : AreRight shown compared pages (bytes_of_pages known))
+  where
+    abbrev old : List ℕ
+    old = page_bytes_at known (code_place address)
+
+    abbrev now : List ℕ
+    now = with_block old block (whole page)
+
+    abbrev after : List (Option (List ℕ))
+    after = set (bytes_of_pages known) (code_place address) (Some now)
+
+    size : length old ≡ 4096
+    size = bytes-there known (code_place address) pages_known
+
+    here : slice_get after (code_place address) ≡ Some (Some now)
+    here = got-set-same (bytes_of_pages known) (code_place address) (Some now)
+        (omega (arith, inside, bytes-many known))
+
+    -- the bytes around an offset, in the block or not
+    around : (offset : ℕ) → (own : List ℕ) → own ≡ old → AreSameAround offset own (whole page)
+        → AreSameAround offset now (whole page)
+    around offset own is same i low high within =
+        by_place (cases_lt i (256 * block)) (cases_lt i (256 * block + 258))
+      where
+        elsewhere : (i < 256 * block) ⊎ (256 * block + 258 ≤ i)
+            → slice_index now i ≡ slice_index (whole page) i
+        elsewhere out = block-beside old block (whole page) i out
+            ∙ ap (λ (xs : List ℕ). slice_index xs i) (sym is)
+            ∙ same i low high within
+
+        by_place : (i < 256 * block) ⊎ (256 * block ≤ i)
+            → (i < 256 * block + 258) ⊎ (256 * block + 258 ≤ i)
+            → slice_index now i ≡ slice_index (whole page) i
+        by_place (inl h) more = elsewhere (inl h)
+        by_place (inr h) (inr more) = elsewhere (inr more)
+        by_place (inr h) (inl less) =
+            block-byte old block (whole page) i size (length-whole page) h less within
+
+    same_slot : (a : ℕ) → a / 4096 % 64 ≡ address / 4096 % 64
+        → slot_of shown a ≡ slot_of shown address
+    same_slot a is = ap (λ (k : ℕ). slice_index_or shown k empty_slot) is
+
+    -- where an address's place is this one, its page is
+    same_page : (a : ℕ) → a / 4096 % 64 ≡ address / 4096 % 64
+        → (slot_of shown a).start ≡ page_start a → a / 4096 ≡ address / 4096
+    same_page a is begins =
+        let start = ap (λ (s : Slot). s.start) (same_slot a is) in
+        omega (arith, start, begins, found)
+
+    -- an address of the block
+    in_block : (a : ℕ) → (slot_of shown a).start ≡ page_start a
+        → block_place a ≡ block_place address
+        → IsRightAt shown pages after a
+    in_block a begins place =
+        let slot : a / 4096 % 64 ≡ address / 4096 % 64 = omega (arith, place) in
+        let number = same_page a slot begins in
+        let offset : a % 4096 / 256 ≡ block = omega (arith, place, slot, is_block) in
+        record {
+          own = now;
+          here = ap (λ (k : ℕ). slice_get after (k % 256)) number ∙ here;
+          page = page;
+          there = ap (λ (s : Slot). slice_get pages s.frame) (same_slot a slot) ∙ there;
+          same = λ i low high within.
+              block-byte old block (whole page) i size (length-whole page)
+              (omega (arith, offset, low)) (omega (arith, offset, high)) within;
+        }
+
+    -- any other that has been compared before
+    before : (a : ℕ) → a < 2 ^ 32 → IsCompared shown compared a → IsRightAt shown pages after a
+    before a small is =
+        let right = are a small is in by_place right (eqb_tells (code_place a) (code_place address))
+      where
+        by_place : IsRightAt shown pages (bytes_of_pages known) a
+            → ((eqb (code_place a) (code_place address) ≡ true)
+            × (code_place a ≡ code_place address))
+            ⊎ ((eqb (code_place a) (code_place address) ≡ false)
+            × (code_place a ≢ code_place address))
+            → IsRightAt shown pages after a
+        by_place right (inr other) = record {
+          own = right.own;
+          here = got-set-other (bytes_of_pages known) (code_place address) (code_place a) (Some now)
+              other.1 ∙ right.here;
+          page = right.page;
+          there = right.there;
+          same = right.same;
+        }
+        by_place right (inl at) =
+            let slot : a / 4096 % 64 ≡ address / 4096 % 64 = omega (arith, at.1) in
+            let one : right.page ≡ page = Some-same (Some-same (sym right.there
+            ∙ ap (λ (s : Slot). slice_get pages s.frame) (same_slot a slot) ∙ there)) in
+            let own : right.own ≡ old = bytes-known known (code_place address) right.own
+            (ap (λ (k : ℕ). slice_get (bytes_of_pages known) k) (sym at.1) ∙ right.here) in
+            record {
+              own = now;
+              here = ap (λ (k : ℕ). slice_get after k) at.1 ∙ here;
+              page = page;
+              there = ap (λ (s : Slot). slice_get pages s.frame) (same_slot a slot) ∙ there;
+              same = around (a % 4096) right.own own
+                  (subst (λ (p : List ℕ). AreSameAround (a % 4096) right.own (whole p)) one
+                  right.same);
+            }
+
+    pub right-more : AreRight shown (set compared (block_place address) true) pages after
+    right-more a small is = by_place (eqb_tells (block_place a) (block_place address))
+      where
+        by_place : ((eqb (block_place a) (block_place address) ≡ true)
+            × (block_place a ≡ block_place address))
+            ⊎ ((eqb (block_place a) (block_place address) ≡ false)
+            × (block_place a ≢ block_place address))
+            → IsRightAt shown pages after a
+        by_place (inl at) = in_block a is.found at.1
+        by_place (inr other) = before a small (record {
+          found = is.found;
+          is = sym (got-set-other compared (block_place address) (block_place a) true other.1)
+              ∙ is.is;
+        })
+
+-- what is right after a block has been checked, which is `done`
+pub right-compared : (shown : List Slot) (compared : List Bool) (pages new : List (Option (List ℕ)))
+    (known : Known) (address block place at : ℕ) (page bytes : List ℕ) (done : Bool) → done ≡ true
+    → address < 2 ^ 32 → (slot_of shown address).start ≡ page_start address
+    → slice_get pages (slot_of shown address).frame ≡ Some (Some page)
+    → block ≡ address % 4096 / 256 → place ≡ code_place address → at ≡ block_place address
+    → bytes ≡ whole page → (done ≡ true → place < length known.pages) → AreKnownPages known
+    → new ≡ (if done then set (bytes_of_pages known) place
+    (Some (with_block (page_bytes_at known place) block bytes)) else bytes_of_pages known)
+    → AreRight shown compared pages (bytes_of_pages known)
+    → AreRight shown (set compared at true) pages new
+right-compared shown compared pages new known address block place at page bytes done did fits found
+    there block_is place_is at_is bytes_is inside pages_known is are =
+    let within : code_place address < length known.pages =
+    subst (λ (k : ℕ). k < length known.pages) place_is (inside did) in
+    let final : new ≡ set (bytes_of_pages known) (code_place address)
+    (Some (with_block (page_bytes_at known (code_place address)) block (whole page))) =
+    is
+    ∙ ap (λ (b : Bool). if b then set (bytes_of_pages known) place
+    (Some (with_block (page_bytes_at known place) block bytes)) else bytes_of_pages known) did
+    ∙ ap (λ (k : ℕ). set (bytes_of_pages known) k
+    (Some (with_block (page_bytes_at known k) block bytes))) place_is
+    ∙ ap (λ (xs : List ℕ). set (bytes_of_pages known) (code_place address)
+    (Some (with_block (page_bytes_at known (code_place address)) block xs))) bytes_is in
+    subst (λ (k : ℕ). AreRight shown (set compared k true) pages new) (sym at_is)
+    (subst (λ (x : List (Option (List ℕ))).
+    AreRight shown (set compared (block_place address) true) pages x) (sym final)
+    (right-more shown compared pages known address block page fits found there block_is within
+    pages_known are))

@@ -1,0 +1,415 @@
+-- From a line to the one behind it.
+use Rattle.std.proofs.Common.{ℕ, suc, zero, ◌+◌, ◌-◌, ◌*◌, ◌/◌, ◌%◌, ◌^◌, ◌<◌, ◌≤◌, ◌≡◌, ◌≢◌, ◌⊎◌}
+use Rattle.std.proofs.Common.{inl, inr}
+use Rattle.std.proofs.Common.{refl, sym, ap, ◌∙◌, subst, arith, Bool, true, false, List, [], ◌∷◌}
+use Rattle.std.proofs.Common.{Option, Some}
+use Rattle.std.proofs.Common.{Ok, get_or, length, cond, eqb}
+use Rattle.std.specs.Prelude.{slice_get, slice_index_or}
+use Rattle.dos_world.specs.World.{World, Thread, Registers, with_pc, with_thread}
+use Rattle.dos_world.specs.declared.Access.TheVariants.{Fetch}
+use Rattle.rv_form.specs.declared.form.Form.{Form}
+use Rattle.rv_form.specs.Forms.{IsFormOf}
+use Rattle.flat_machine.specs.Effect.{Effect}
+use Rattle.flat_machine.specs.Over.{effect_in, world_answers}
+use Rattle.rv_exec.specs.Follows.{Follows, word_at}
+use Rattle.rv_exec.specs.Instruction.{effect_of_form}
+use Rattle.rv_exec.specs.Arrivals.{arrived_by}
+use Rattle.rv_exec.specs.declared.Went.TheVariants.{Step}
+use Rattle.rv_exec.specs.declared.next.Next.{Next}
+use Rattle.rv_exec.specs.declared.next.Next.TheVariants.{On, Short, To, Not}
+use Rattle.code_pages.specs.Codes.{code_size}
+use Rattle.code_pages.specs.Kinds.{ends}
+use Rattle.code_pages.specs.Lines.{AreKnownPages, CodePage, IsCodeLine, IsLineAt, IsLiveAt}
+use Rattle.code_pages.specs.Lines.{IsStartIn, Known, bytes_of_pages, start_at}
+use Rattle.code_pages.specs.declared.kind.Kind.TheVariants as kind
+use Rattle.code_pages.specs.declared.line.Line.{Line}
+use Rattle.code_pages.proofs.KnownLaws.{IsNextLine, line-of-start, live-line, next-line}
+use Rattle.quantum_run.specs.declared.slot.Slot.{Slot}
+use Rattle.quantum_run.specs.Finding.{AreFramesOf, page_start}
+use Rattle.quantum_run.specs.Flying.{DoneOrNot, IsLineOf}
+use Rattle.quantum_run.specs.Knowing.{IsLineFor, block_place, code_place, empty_slot}
+use Rattle.quantum_run.specs.Knowing.{slot_of}
+use Rattle.quantum_run.specs.Showing.{ShowsKnown, Still, blind_known}
+use Rattle.quantum_run.specs.ThreadRuns.{Reaches}
+use Rattle.quantum_run.proofs.Flying.{steps-by-form}
+use Rattle.quantum_run.proofs.RunSteps.{reaches-more, reaches-shown}
+use Rattle.quantum_run.proofs.Words.{line-word}
+
+pub Some-line : (a b : Line) → ◌≡◌ {A = Option Line} (Some a) (Some b) → a ≡ b
+Some-line a b same = cc
+
+-- a line that isn't an end isn't stale
+pub live-unless-end : (line : Line) → line.kind ≢ kind.End → 0 < line.size
+live-unless-end line other = by_size line.size refl
+  where
+    by_size : (n : ℕ) → line.size ≡ n → 0 < line.size
+    by_size zero e = absurd (other (line.sized e))
+    by_size (suc n) e = omega (arith, e)
+
+-- the line at a place where one stands that isn't stale
+pub live-at : (lines own : List Line) (at : ℕ) (line : Line) → lines ≡ own → IsLiveAt own at
+    → slice_get lines at ≡ Some line → 0 < line.size
+live-at lines own at line are live is =
+    let same : live.line ≡ line = Some-line live.line line
+    (sym live.is ∙ ap (λ (xs : List Line). slice_get xs at) (sym are) ∙ is) in
+    subst (λ (x : Line). 0 < x.size) same live.size
+
+size-even : (code : ℕ) → code_size code % 2 ≡ 0
+size-even code = by_test (eqb (code % 4) 3)
+  where
+    by_test : (b : Bool) → cond b 4 2 % 2 ≡ 0
+    by_test true = refl
+    by_test false = refl
+
+pub got-within : (xs : List Line) (i : ℕ) (line : Line) → slice_get xs i ≡ Some line → i < length xs
+got-within [] i line is = cc
+got-within (x ∷ xs) zero line is = omega arith
+got-within (x ∷ xs) (suc i) line is = omega (arith, got-within xs i line is)
+
+-- ---- the line of a code
+
+module _ (shown : List Slot) (compared : List Bool) (known : Known) (lines : List Line)
+    (base address : ℕ) where
+  -- the line with its page
+  line-at : (n : ℕ) (of : IsLineOf shown compared known lines base address (suc n))
+      → IsLineAt known.lines of.line.start.page (address % 4096) (suc n)
+  line-at n of =
+      line-of-start known (code_place address) (address % 4096) n of.line.start.page of.pages
+      of.line.start.is (omega (arith, of.even)) of.line.start.begins
+
+  -- its line is the one in the lines
+  line-is : (n : ℕ) (line : Line) (of : IsLineOf shown compared known lines base address (suc n))
+      → slice_get lines (suc n) ≡ Some line → (line-at n of).line ≡ line
+  line-is n line of is =
+      Some-line (line-at n of).line line
+      (sym (line-at n of).is ∙ ap (λ (xs : List Line). slice_get xs (suc n)) of.lines_are ∙ is)
+
+  pub stands-at : (n : ℕ) (line : Line) → IsLineOf shown compared known lines base address (suc n)
+      → slice_get lines (suc n) ≡ Some line → address ≡ base + line.offset
+  stands-at n line of is =
+      let there : line.offset ≡ address % 4096 =
+      ap (λ (x : Line). x.offset) (sym (line-is n line of is)) ∙ (line-at n of).there in
+      omega (arith, there, of.page)
+
+  -- what stands behind a line at which no run ends
+  pub behind : (n : ℕ) (line next : Line) (of : IsLineOf shown compared known lines base address
+      (suc n))
+      → slice_get lines (suc n) ≡ Some line → ends line.kind ≡ false
+      → slice_get lines (suc (suc n)) ≡ Some next
+      → (next.offset ≡ line.offset + line.size) × ((next.kind ≡ kind.End)
+      ⊎ IsLineOf shown compared known lines base ((base + next.offset) % 2 ^ 32) (suc (suc n)))
+  behind n line next of is goes there = by_known after.known
+    where
+      at : IsLineAt known.lines of.line.start.page (address % 4096) (suc n)
+      at = line-at n of
+
+      same : at.line ≡ line
+      same = line-is n line of is
+
+      page : CodePage
+      page = of.line.start.page
+
+      is-known : slice_get known.lines (suc n) ≡ Some line
+      is-known = ap (λ (xs : List Line). slice_get xs (suc n)) of.lines_are ∙ is
+
+      after : IsNextLine known page (suc n) line
+      after = next-line known (code_place address) (address % 4096) (suc n) page line of.pages
+          of.line.start.is (omega (arith, of.even)) at is-known goes
+
+      code : IsCodeLine known.lines page.bytes (suc n) line
+      code = subst (λ (x : Line). 0 < x.size → IsCodeLine known.lines page.bytes (suc n) x) same
+          at.knows (live-line line goes)
+
+      next-is : after.next ≡ next
+      next-is = Some-line after.next next
+          (sym after.is ∙ ap (λ (xs : List Line). slice_get xs (suc (suc n))) of.lines_are
+          ∙ there)
+
+      offset : next.offset ≡ line.offset + line.size
+      offset = ap (λ (x : Line). x.offset) (sym next-is) ∙ after.offset
+
+      there-is : line.offset ≡ address % 4096
+      there-is = ap (λ (x : Line). x.offset) (sym same) ∙ at.there
+
+      by_begins : start_at page next.offset ≡ suc (suc n)
+          → next.offset / 256 ≡ line.offset / 256
+          → IsLineOf shown compared known lines base ((base + next.offset) % 2 ^ 32) (suc (suc n))
+      by_begins begins near =
+          let a : ℕ = (base + next.offset) % 2 ^ 32 in
+          let small : next.offset < 4096 = omega (arith, near, there-is) in
+          let number : a / 4096 ≡ address / 4096 = omega (arith, small, of.page, of.small) in
+          let place : a % 4096 ≡ next.offset = omega (arith, small, of.page, of.small) in
+          let part : a % 4096 / 256 ≡ address % 4096 / 256 =
+          ap (λ k. k / 256) place ∙ near ∙ ap (λ k. k / 256) there-is in
+          record {
+            lines_are = of.lines_are;
+            pages = of.pages;
+            line = record {
+              compared_is = record {
+                found = ap (λ k. (slice_index_or shown (k % 64) empty_slot).start) number
+                    ∙ of.line.compared_is.found ∙ ap (λ k. k * 4096) (sym number);
+                is = ap (λ k. slice_get compared (k % 64 * 16 + a % 4096 / 256)) number
+                    ∙ ap (λ k. slice_get compared (address / 4096 % 64 * 16 + k)) part
+                    ∙ of.line.compared_is.is;
+              };
+              start = record {
+                page = page;
+                is = ap (λ k. slice_get known.pages (k % 256)) number ∙ of.line.start.is;
+                begins = ap (start_at page) place ∙ begins;
+              };
+            };
+            page = ap (λ k. k * 4096) number ∙ of.page;
+            even = omega (arith, place, offset, there-is, of.even, size-even code.code, code.size);
+            small = omega arith;
+          }
+
+      by_known : (after.next.kind ≡ kind.End) ⊎ ((start_at page after.next.offset ≡ suc (suc n))
+          × (after.next.offset / 256 ≡ line.offset / 256)
+          × IsLineAt known.lines page (line.offset + line.size) (suc (suc n)))
+          → (next.offset ≡ line.offset + line.size) × ((next.kind ≡ kind.End)
+          ⊎ IsLineOf shown compared known lines base ((base + next.offset) % 2 ^ 32) (suc (suc n)))
+      by_known (inl e) = (offset, inl (ap (λ (x : Line). x.kind) (sym next-is) ∙ e))
+      by_known (inr k) = (
+        offset,
+        inr (by_begins (ap (λ (x : Line). start_at page x.offset) (sym next-is) ∙ k.0)
+            (ap (λ (x : Line). x.offset / 256) (sym next-is) ∙ k.1)),
+      )
+
+pub stands : (shown : List Slot) (compared : List Bool) (known : Known) (lines : List Line)
+    (base address at : ℕ) (line : Line) → 0 < at
+    → IsLineOf shown compared known lines base address at → slice_get lines at ≡ Some line
+    → address ≡ base + line.offset
+stands shown compared known lines base address zero line some of is = absurd (omega (arith, some))
+stands shown compared known lines base address (suc n) line some of is =
+    stands-at shown compared known lines base address n line of is
+
+pub goes-behind : (shown : List Slot) (compared : List Bool) (known : Known) (lines : List Line)
+    (base address at : ℕ) (line next : Line) → 0 < at
+    → IsLineOf shown compared known lines base address at → slice_get lines at ≡ Some line
+    → ends line.kind ≡ false → slice_get lines (suc at) ≡ Some next
+    → (next.offset ≡ line.offset + line.size) × ((next.kind ≡ kind.End)
+    ⊎ IsLineOf shown compared known lines base ((base + next.offset) % 2 ^ 32) (suc at))
+goes-behind shown compared known lines base address zero line next some of is goes there =
+    absurd (omega (arith, some))
+goes-behind shown compared known lines base address (suc n) line next some of is goes there =
+    behind shown compared known lines base address n line next of is goes there
+
+-- the code of a line that isn't stale is the one that t fetches
+pub fetched : {F : Type 0} (now : Still) (fixed : F) (pages : List (Option (List ℕ)))
+    (shown : List Slot) (compared : List Bool) (known : Known) (lines : List Line)
+    (base address n : ℕ) (line : Line) (f : Still × F) (t : ℕ) (w : World)
+    → AreFramesOf now.thread now.owners now.entries Fetch shown
+    → IsLineOf shown compared known lines base address (suc n)
+    → slice_get lines (suc n) ≡ Some line → 0 < line.size
+    → ShowsKnown now fixed pages shown compared (f, bytes_of_pages known) t w
+    → (code : ℕ) × IsFormOf code line.form × (word_at w t address ≡ Ok code)
+fetched now fixed pages shown compared known lines base address n line f t w frames of is live
+    shows =
+    let here = line-word now fixed pages shown compared f known t w address (suc n) line shows
+    frames of.pages of.line (omega arith) of.even of.small
+    (ap (λ (xs : List Line). slice_get xs (suc n)) of.lines_are ∙ is) live in
+    (here.is.code, here.is.form, here.word)
+
+pub not-none : (n : ℕ) → (n ≡ 0 → ⊥) → 0 < n
+not-none zero other = absurd (other refl)
+not-none (suc n) other = omega arith
+
+pub line-of : (shown : List Slot) (compared : List Bool) (known : Known) (lines : List Line)
+    (address at : ℕ) → 0 < at → (at ≡ 0) ⊎ IsLineFor shown compared known address at
+    → (at ≡ 0) ⊎ (address % 2 ≡ 0) → address < 2 ^ 32 → lines ≡ known.lines
+    → AreKnownPages known → IsLineOf shown compared known lines (page_start address) address at
+line-of shown compared known lines address at some (inl none) even small are pages =
+    absurd (omega (arith, some, none))
+line-of shown compared known lines address at some (inr line) (inl none) small are pages =
+    absurd (omega (arith, some, none))
+line-of shown compared known lines address at some (inr line) (inr even) small are pages = record {
+  lines_are = sym are;
+  pages = pages;
+  line = line;
+  page = refl;
+  even = even;
+  small = small;
+}
+
+pub not-left : {A : Type 0} (n : ℕ) → (n ≡ 0) ⊎ A → (n ≡ 0 → ⊥) → A
+not-left n (inl none) other = absurd (other none)
+not-left n (inr a) other = a
+
+got-true : (xs : List Bool) (i : ℕ) → get_or xs i false ≡ true → slice_get xs i ≡ Some true
+got-true [] i is = cc
+got-true (x ∷ xs) zero is = ap Some is
+got-true (x ∷ xs) (suc i) is = got-true xs i is
+
+-- the line that begins at an offset of a page whose block there has been compared
+pub lands : (shown : List Slot) (compared : List Bool) (known : Known) (lines : List Line)
+    (base to at block place : ℕ) → lines ≡ known.lines → AreKnownPages known
+    → (slot_of shown base).start ≡ base → base % 4096 ≡ 0 → to < 4096 → to % 2 ≡ 0
+    → base < 2 ^ 32 → block ≡ base / 4096 % 64
+    → get_or compared (16 * block + to / 256) false ≡ true
+    → place ≡ code_place base → IsStartIn known place to at
+    → IsLineOf shown compared known lines base ((base + to) % 2 ^ 32) at
+lands shown compared known lines base to at block place are pages found whole inside even small slot
+    is same start =
+    let a : ℕ = (base + to) % 2 ^ 32 in
+    let number : a / 4096 ≡ base / 4096 = omega (arith, inside, whole, small) in
+    let offset : a % 4096 ≡ to = omega (arith, inside, whole, small) in
+    let there : block_place a ≡ 16 * block + to / 256 =
+    ap (λ k. k % 64 * 16 + a % 4096 / 256) number
+    ∙ ap (λ k. base / 4096 % 64 * 16 + k / 256) offset
+    ∙ omega (arith, slot) in
+    let page : page_start a ≡ base = omega (arith, number, whole) in
+    let begun : IsStartIn known (code_place base) to at =
+    subst (λ k. IsStartIn known k to at) same start in
+    record {
+      lines_are = sym are;
+      pages = pages;
+      line = record {
+        compared_is = record {
+          found = ap (λ k. (slice_index_or shown (k % 64) empty_slot).start) number ∙ found
+              ∙ sym page;
+          is = ap (λ k. slice_get compared k) there ∙ got-true compared (16 * block + to / 256) is;
+        };
+        start = record {
+          page = begun.page;
+          is = ap (λ k. slice_get known.pages (k % 256)) number ∙ begun.is;
+          begins = ap (start_at begun.page) offset ∙ begun.begins;
+        };
+      };
+      page = page;
+      even = omega (arith, offset, even);
+      small = omega arith;
+    }
+
+pub placed : (shown : List Slot) (compared : List Bool) (known : Known) (lines : List Line)
+    (base address at : ℕ) → 0 < at → IsLineOf shown compared known lines base address at
+    → (line : Line) × (slice_get lines at ≡ Some line)
+placed shown compared known lines base address zero some of = absurd (omega (arith, some))
+placed shown compared known lines base address (suc n) some of =
+    let here = line-at shown compared known lines base address n of in (
+      here.line,
+      subst (λ (xs : List Line). slice_get xs (suc n) ≡ Some here.line) of.lines_are
+          here.is,
+    )
+
+pub fetched-at : {F : Type 0} (now : Still) (fixed : F) (pages : List (Option (List ℕ)))
+    (shown : List Slot) (compared : List Bool) (known : Known) (lines : List Line)
+    (base address at : ℕ) (line : Line) (f : Still × F) (t : ℕ) (w : World) → 0 < at
+    → AreFramesOf now.thread now.owners now.entries Fetch shown
+    → IsLineOf shown compared known lines base address at
+    → slice_get lines at ≡ Some line → 0 < line.size
+    → ShowsKnown now fixed pages shown compared (f, bytes_of_pages known) t w
+    → (code : ℕ) × IsFormOf code line.form × (word_at w t address ≡ Ok code)
+fetched-at now fixed pages shown compared known lines base address zero line f t w some frames of is
+    live shows = absurd (omega (arith, some))
+fetched-at now fixed pages shown compared known lines base address (suc n) line f t w some frames of
+    is live shows =
+    fetched now fixed pages shown compared known lines base address n line f t w frames of is live
+    shows
+
+-- ---- a run by one line more
+
+pub walked : (before after : World → Type 0) (t : ℕ)
+    → ((w : World) (change : Thread → Thread)
+    → ((thread : Thread) → (change thread).process ≡ thread.process) → after w
+    → after (with_thread w t change))
+    → (pc : ℕ) (r left : Registers) (form : Form) (w : World) (budget more : ℕ)
+    → 0 < more → more ≤ budget
+    → ((u : World) → before u
+    → (code : ℕ) × IsFormOf code form × (word_at u t pc ≡ Ok code))
+    → ((u : World) → before u → Follows after u (with_pc r pc) left Step
+    (effect_in (world_answers t) u (effect_of_form form (with_pc r pc))))
+    → Reaches before w t (with_pc r pc) budget more → Reaches after w t left budget (more - 1)
+walked before after t blind pc r left form w budget more some within fetches does reached =
+    reaches-more before after w t (with_pc r pc) left budget more some within
+    (λ u runs. let found = fetches u runs.shown in
+    steps-by-form before after t blind pc r left form u more found.0 found.1 found.2 (does u) runs)
+    reached
+
+-- the line at a place is the one that is got there
+pub got-line : (xs : List Line) (i : ℕ) (line other : Line) → slice_get xs i ≡ Some line
+    → other ≡ get_or xs i other → other ≡ line
+got-line xs i line other is same = same ∙ go xs i is
+  where
+    go : (ys : List Line) (k : ℕ) → slice_get ys k ≡ Some line → get_or ys k other ≡ line
+    go [] k q = cc
+    go (y ∷ ys) zero q = Some-line y line q
+    go (y ∷ ys) (suc k) q = go ys k q
+
+pub On≢Not : On ≡ Not → ⊥
+On≢Not q = cc
+
+pub Short≢Not : Short ≡ Not → ⊥
+Short≢Not q = cc
+
+pub To≢Not : (target : ℕ) → To target ≡ Not → ⊥
+To≢Not target q = cc
+
+-- a run by the instruction of a line, which is done
+pub line-done : {F : Type 0} (now left : Still) (fixed after : F)
+    (pages left_pages : List (Option (List ℕ))) (shown left_shown first_shown : List Slot)
+    (compared left_compared first_compared : List Bool) (known : Known) (lines : List Line)
+    (base pc at : ℕ) (line : Line) (r r' : Registers) (next : Next) (budget more : ℕ)
+    → AreFramesOf now.thread now.owners now.entries Fetch shown
+    → DoneOrNot (ShowsKnown now fixed pages shown compared)
+    (ShowsKnown left after left_pages left_shown left_compared) line.size pc r r' next
+    (effect_of_form line.form)
+    → next ≢ Not → 0 < at → slice_get lines at ≡ Some line → 0 < line.size → shown ≡ first_shown
+    → compared ≡ first_compared → 0 < more → more ≤ budget
+    → (f : Still × F) (t : ℕ) (w : World)
+    → IsLineOf first_shown first_compared known lines base pc at
+    → Reaches (ShowsKnown now fixed pages shown compared (f, bytes_of_pages known) t) w t
+    (with_pc r pc) budget more
+    → Reaches (ShowsKnown left after left_pages left_shown left_compared
+    (f, bytes_of_pages known) t) w t (arrived_by line.size r' pc next) budget (more - 1)
+line-done now left fixed after pages left_pages shown left_shown first_shown compared left_compared
+    first_compared known lines base pc zero line r r' next budget more frames done other some is
+    live same_shown same_compared left_some within f t w of reached = absurd (omega (arith, some))
+line-done {F} now left fixed after pages left_pages shown left_shown first_shown compared
+    left_compared first_compared known lines base pc (suc n) line r r' next budget more frames done
+    other some is live same_shown same_compared left_some within f t w of reached =
+    by_next next other done
+  where
+    before : World → Type 0
+    before = ShowsKnown now fixed pages shown compared (f, bytes_of_pages known) t
+
+    then : World → Type 0
+    then = ShowsKnown left after left_pages left_shown left_compared (f, bytes_of_pages known) t
+
+    here : IsLineOf shown compared known lines base pc (suc n)
+    here = subst (λ (xs : List Slot). IsLineOf xs compared known lines base pc (suc n))
+        (sym same_shown)
+        (subst (λ (xs : List Bool). IsLineOf first_shown xs known lines base pc (suc n))
+        (sym same_compared) of)
+
+    go : (to : Registers) → ((u : World) → before u → Follows then u (with_pc r pc) to Step
+        (effect_in (world_answers t) u (effect_of_form line.form (with_pc r pc))))
+        → Reaches then w t to budget (more - 1)
+    go to does = walked before then t
+        (blind_known left after left_pages left_shown left_compared (f, bytes_of_pages known) t)
+        pc r to line.form w budget more left_some within
+        (λ u shows. fetched now fixed pages shown compared known lines base pc n line f t u frames
+        here is live shows)
+        does reached
+
+    by_next : (k : Next) → k ≢ Not
+        → DoneOrNot (ShowsKnown now fixed pages shown compared)
+        (ShowsKnown left after left_pages left_shown left_compared) line.size pc r r' k
+        (effect_of_form line.form)
+        → Reaches then w t (arrived_by line.size r' pc k) budget (more - 1)
+    by_next On q d = go (arrived_by line.size r' pc On) (λ u s. d (f, bytes_of_pages known) t u s)
+    by_next Short q d =
+        go (arrived_by line.size r' pc Short) (λ u s. d (f, bytes_of_pages known) t u s)
+    by_next (To target) q d =
+        go (arrived_by line.size r' pc (To target)) (λ u s. d (f, bytes_of_pages known) t u s)
+    by_next Not q d = absurd (q refl)
+
+-- and by one that isn't
+pub line-not-done : {F : Type 0} (old new : (Still × F) × List (Option (List ℕ)) → ℕ → World
+    → Type 0) (size pc : ℕ) (r r' : Registers) (e : Registers → Effect) (budget more : ℕ)
+    → DoneOrNot old new size pc r r' Not e → (f : (Still × F) × List (Option (List ℕ))) (t : ℕ)
+    (w : World) → Reaches (old f t) w t (with_pc r pc) budget more
+    → Reaches (new f t) w t (with_pc r' pc) budget more
+line-not-done old new size pc r r' e budget more done f t w reached =
+    subst (λ (x : Registers). Reaches (new f t) w t x budget more) (sym done.0)
+    (reaches-shown (old f t) (new f t) w t (with_pc r pc) budget more (λ u s. done.1 f t u s)
+    reached)

@@ -1,0 +1,191 @@
+-- The word of a line whose block has been compared.
+use Rattle.std.proofs.Common.{ℕ, zero, suc, ◌+◌, ◌*◌, ◌/◌, ◌%◌, ◌^◌, ◌<◌, ◌≤◌, ◌≡◌}
+use Rattle.std.proofs.Common.{inl, inr}
+use Rattle.std.proofs.Common.{refl, sym, ap, ◌∙◌, subst, arith, List, [], ◌∷◌, length, take, drop}
+use Rattle.std.proofs.Common.{Bool, Option, Some, Ok, slice_get, map}
+use Rattle.std.specs.Prelude.{slice_index}
+use Rattle.std.specs.Option.{option_map}
+use Rattle.std.proofs.lemmas.List.{drop-drop}
+use Rattle.dos_world.specs.World.{World}
+use Rattle.dos_world.specs.Reach.{number_of}
+use Rattle.dos_world.specs.declared.Access.TheVariants.{Fetch}
+use Rattle.dos_world.specs.declared.Size.TheVariants.{Half}
+use Rattle.page_store.specs.Store.{whole}
+use Rattle.page_store.proofs.Pages.{length-whole}
+use Rattle.code_pages.specs.Codes.{IsCodeIn}
+use Rattle.code_pages.proofs.KnownLaws.{line-of-start}
+use Rattle.code_pages.specs.declared.line.Line.{Line}
+use Rattle.code_pages.specs.Lines.{AreKnownPages, CodePage, IsCodeLine, IsLineAt, IsStartIn, Known}
+use Rattle.code_pages.specs.Lines.{bytes_of_pages}
+use Rattle.flat_machine.specs.Step.{half_at}
+use Rattle.rv_exec.specs.Follows.{word_at}
+use Rattle.quantum_run.specs.declared.slot.Slot.{Slot}
+use Rattle.quantum_run.specs.Finding.{AreFramesOf, page_start}
+use Rattle.quantum_run.specs.Knowing.{AreSameAround, IsLineFor}
+use Rattle.quantum_run.specs.Knowing.{code_place, empty_slot, slot_of}
+use Rattle.quantum_run.specs.Showing.{HoldsWorld, ShowsKnown, Still}
+use Rattle.quantum_run.proofs.Comparing.{slot-there}
+use Rattle.quantum_run.proofs.Places.{read-joined}
+use Rattle.quantum_run.proofs.Reaching.{half-found, number-four, word-alone, word-both}
+
+Some-same : {A : Type 0} {x y : A} → ◌≡◌ {A = Option A} (Some x) (Some y) → x ≡ y
+Some-same h = cc
+
+-- ---- bytes that are the same
+
+-- bytes cut out where both lists have the same ones
+same-cut : (n o : ℕ) (xs ys : List ℕ) → o + n ≤ length xs → o + n ≤ length ys
+    → ((i : ℕ) → o ≤ i → i < o + n → slice_index xs i ≡ slice_index ys i)
+    → take n (drop o xs) ≡ take n (drop o ys)
+same-cut zero zero xs ys a b h = refl
+same-cut (suc n) zero [] ys a b h = absurd (omega (arith, a))
+same-cut (suc n) zero (x ∷ xs) [] a b h = absurd (omega (arith, b))
+same-cut (suc n) zero (x ∷ xs) (y ∷ ys) a b h =
+    ap (λ (z : ℕ). z ∷ take n xs) (h 0 (omega arith) (omega arith))
+    ∙ ap (λ (zs : List ℕ). y ∷ zs)
+    (same-cut n zero xs ys (omega (arith, a)) (omega (arith, b))
+    (λ i low high. h (suc i) (omega arith) (omega (arith, high))))
+same-cut zero (suc o) [] ys a b h = absurd (omega (arith, a))
+same-cut (suc n) (suc o) [] ys a b h = absurd (omega (arith, a))
+same-cut zero (suc o) (x ∷ xs) [] a b h = absurd (omega (arith, b))
+same-cut (suc n) (suc o) (x ∷ xs) [] a b h = absurd (omega (arith, b))
+same-cut zero (suc o) (x ∷ xs) (y ∷ ys) a b h =
+    same-cut zero o xs ys (omega (arith, a)) (omega (arith, b))
+    (λ i low high. h (suc i) (omega (arith, low)) (omega (arith, high)))
+same-cut (suc n) (suc o) (x ∷ xs) (y ∷ ys) a b h =
+    same-cut (suc n) o xs ys (omega (arith, a)) (omega (arith, b))
+    (λ i low high. h (suc i) (omega (arith, low)) (omega (arith, high)))
+
+-- the code at an offset stands in each page with the same bytes around it
+code-around : (own page : List ℕ) (offset code : ℕ) → length own ≡ 4096 → length page ≡ 4096
+    → offset % 2 ≡ 0 → offset < 4096 → AreSameAround offset own page → IsCodeIn own offset code
+    → IsCodeIn page offset code
+code-around own page offset code size full even within same (inl lone) = inl (
+  lone.0,
+  lone.1 ∙ ap number_of (same-cut 2 offset own page (omega (arith, size, even, within))
+      (omega (arith, full, even, within))
+      (λ i low high. same i (omega (arith, low)) (omega (arith, high, even))
+      (omega (arith, high, even, within)))),
+)
+code-around own page offset code size full even within same (inr pair) = let room = pair.1 in inr (
+  pair.0,
+  pair.1,
+  pair.2 ∙ ap number_of (same-cut 4 offset own page (omega (arith, size, room))
+      (omega (arith, full, room))
+      (λ i low high. same i (omega (arith, low)) (omega (arith, high, even))
+      (omega (arith, high, room)))),
+)
+
+-- ---- the word
+
+-- a halfword of a page that a fetch finds
+half-in : (fixed : Still) (pages : List (Option (List ℕ))) (t : ℕ) (w : World)
+    (shown : List Slot) (address a : ℕ) (page : List ℕ) → HoldsWorld fixed pages t w
+    → AreFramesOf fixed.thread fixed.owners fixed.entries Fetch shown → a < 2 ^ 32
+    → a / 4096 ≡ address / 4096 → a % 2 ≡ 0
+    → (slot_of shown address).start ≡ page_start address → address < 2 ^ 32
+    → slice_get pages (slot_of shown address).frame ≡ Some (Some page)
+    → half_at w t a ≡ Ok (number_of (take 2 (drop (a % 4096) (whole page))))
+half-in fixed pages t w shown address a page holds frames small number even found fits there =
+    let frame = (slot_of shown address).frame in
+    let at = frames (address / 4096 % 64) empty_slot (slot-there shown address fits found) in
+    half-found fixed pages t w holds a frame even
+    (at.finds a small (ap (λ (n : ℕ). n * 4096) number ∙ sym found))
+    ∙ ap Ok (sym (read-joined pages frame a Half page
+    (number_of (take 2 (drop (a % 4096) (whole page)))) there (omega (arith, even)) refl))
+
+module _ (fixed : Still) (pages : List (Option (List ℕ))) (t : ℕ) (w : World)
+    (shown : List Slot) (address : ℕ) (page : List ℕ) (holds : HoldsWorld fixed pages t w)
+    (frames : AreFramesOf fixed.thread fixed.owners fixed.entries Fetch shown)
+    (even : address % 2 ≡ 0) (fits : address < 2 ^ 32)
+    (found : (slot_of shown address).start ≡ page_start address)
+    (there : slice_get pages (slot_of shown address).frame ≡ Some (Some page)) where
+  -- a code in the page that a fetch finds is the word there
+  pub word-in : (code : ℕ) → IsCodeIn (whole page) (address % 4096) code
+      → word_at w t address ≡ Ok code
+  word-in code (inl lone) =
+      word-alone w t address code
+      (half-in fixed pages t w shown address address page holds frames fits refl even found fits
+      there ∙ ap Ok (sym lone.1)) lone.0
+  word-in code (inr pair) =
+      let bytes : List ℕ = drop (address % 4096) (whole page) in
+      let low : ℕ = number_of (take 2 bytes) in
+      let high : ℕ = number_of (take 2 (drop 2 bytes)) in
+      let is : code ≡ low + 2 ^ 16 * high = pair.2 ∙ number-four bytes in
+      let after : ℕ = (address + 2) % 2 ^ 32 in
+      let room = pair.1 in
+      let full = pair.0 in
+      let next : after ≡ address + 2 = omega (arith, even, fits, room) in
+      let number : after / 4096 ≡ address / 4096 = omega (arith, next, room) in
+      let offset : address % 4096 + 2 ≡ after % 4096 = omega (arith, next, room) in
+      word-both w t address low high
+      (half-in fixed pages t w shown address address page holds frames fits refl even found fits
+      there)
+      (omega (arith, is, full))
+      (half-in fixed pages t w shown address after page holds frames
+      (omega (arith, next, fits, room)) number (omega (arith, next, even)) found fits there
+      ∙ ap (λ (k : ℕ). Ok (number_of (take 2 (drop k (whole page))))) (sym offset)
+      ∙ ap (λ (xs : List ℕ). Ok (number_of (take 2 xs)))
+      (sym (drop-drop 2 (address % 4096) (whole page))))
+      ∙ ap Ok (sym is)
+
+-- ---- lines
+
+-- At this address of t's stands the code of this line.
+pub record HasLine (known : Known) (w : World) (t address at : ℕ) (line : Line) : Type 0 where
+  pub page : CodePage
+  pub is : IsCodeLine known.lines page.bytes at line
+  pub word : word_at w t address ≡ Ok is.code
+
+got-map : {A B : Type 0} (f : A → B) (xs : List A) (i : ℕ) (x : A) → slice_get xs i ≡ Some x
+    → slice_get (map f xs) i ≡ Some (f x)
+got-map f [] i x h = cc
+got-map f (y ∷ xs) zero x h = ap (λ (z : _). Some (f z)) (Some-same h)
+got-map f (y ∷ xs) (suc i) x h = got-map f xs i x h
+
+-- the line with which the code at an offset begins
+line-stands : (known : Known) (place offset at : ℕ) → AreKnownPages known → offset % 2 ≡ 0
+    → 0 < at → (start : IsStartIn known place offset at) → IsLineAt known.lines start.page offset at
+line-stands known place offset zero are even some start = absurd (omega (arith, some))
+line-stands known place offset (suc k) are even some start =
+    line-of-start known place offset k start.page are start.is even start.begins
+
+-- At an address whose block has been compared t fetches the code of its line, unless that is stale.
+pub line-word : {F : Type 0} (now : Still) (fixed_now : F) (pages : List (Option (List ℕ)))
+    (shown : List Slot) (compared : List Bool) (f : Still × F) (known : Known) (t : ℕ) (w : World)
+    (address at : ℕ) (line : Line)
+    → ShowsKnown now fixed_now pages shown compared (f, bytes_of_pages known) t w
+    → AreFramesOf now.thread now.owners now.entries Fetch shown → AreKnownPages known
+    → IsLineFor shown compared known address at → 0 < at → address % 2 ≡ 0 → address < 2 ^ 32
+    → slice_get known.lines at ≡ Some line → 0 < line.size → HasLine known w t address at line
+line-word now fixed_now pages shown compared f known t w address at line s frames are for some even
+    fits there live =
+    let right = s.right address fits for.compared_is in
+    let start = for.start in
+    let offset : ℕ = address % 4096 in
+    let two : offset % 2 ≡ 0 = omega (arith, even) in
+    let stands = line-stands known (code_place address) offset at are two some start in
+    let same : stands.line ≡ line = Some-same (sym stands.is ∙ there) in
+    let is : IsCodeLine known.lines start.page.bytes at line =
+    subst (λ (l : Line). 0 < l.size → IsCodeLine known.lines start.page.bytes at l) same
+    stands.knows live in
+    let begins : line.offset ≡ offset =
+    ap (λ (l : Line). l.offset) (sym same) ∙ stands.there in
+    let own : start.page.bytes ≡ right.own = Some-same (Some-same
+    (sym (got-map (λ page. option_map (λ (p : CodePage). p.bytes) page) known.pages
+    (code_place address) (Some start.page) start.is) ∙ right.here)) in
+    let size : length right.own ≡ 4096 =
+    ap (λ (xs : List ℕ). length xs) (sym own)
+    ∙ (are.each (code_place address) start.page start.is).bytes in
+    record {
+      page = start.page;
+      is = is;
+      word = word-in f.0 pages t w shown address right.page s.shows.holds
+          (subst (λ (x : Still). AreFramesOf x.thread x.owners x.entries Fetch shown) s.shows.still
+          frames)
+          even fits for.compared_is.found right.there is.code
+          (code-around right.own (whole right.page) offset is.code size
+          (length-whole right.page) two (omega arith) right.same
+          (subst (λ (xs : List ℕ). IsCodeIn xs offset is.code) own
+          (subst (λ (o : ℕ). IsCodeIn start.page.bytes o is.code) begins is.stands)));
+    }

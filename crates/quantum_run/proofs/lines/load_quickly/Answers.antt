@@ -1,0 +1,14 @@
+use Rattle.quantum_run.specs.Showing.{ShowsKnown, still}
+use Rattle.quantum_run.proofs.Flying.{loaded}
+use Rattle.quantum_run.proofs.lines.load_quickly.Goals as goal
+
+pub returns-in-Some : goal.returns-in-Some
+returns-in-Some g c =
+    let m = c.args.memory.now in
+    loaded (ShowsKnown (still m.tid (g.P.Pages.owners m.pages) m.space.now.entries)
+    (g.P.Pages.fixed m.pages) (g.P.Pages.pages m.pages) m.shown m.compared) c.args.op
+    c.args.form.now.rd c.args.form.now.rs1 c.args.form.now.imm c.address_of-address.result
+    c.in-Some.number
+    c.load_result.result c.load_size.result c.args.regs.now c.put.new.regs
+    c.address_of-address.ensures c.load_size.ensures
+    c.in-Some.ensures.number c.load_result.ensures c.put.ensures

@@ -1,0 +1,160 @@
+// Instructions of a page of code, from landing to landing.
+ghost use Rattle.std.specs.Prelude.{◌≡◌, ◌+◌, ◌<◌, ◌≤◌, ◌%◌, ◌^◌, ◌⊎◌, ℕ, true};
+ghost use Rattle.dos_world.specs.World.{World, with_pc};
+ghost use Rattle.rv_exec.specs.Runs.{Runs};
+ghost use Rattle.code_pages.specs.Lines.{AreKnownPages, bytes_of_pages};
+ghost use Rattle.quantum_run.specs.Finding.{page_start};
+ghost use Rattle.quantum_run.specs.Flying.{IsLineOf};
+ghost use Rattle.quantum_run.specs.Knowing.{slot_of};
+ghost use Rattle.quantum_run.specs.Showing.{ShowsKnown, Still, still};
+ghost use Rattle.quantum_run.specs.ThreadRuns.{Reaches};
+
+use crate::extent::Whole;
+use crate::lines::{follow, line_in, part_of_run};
+use crate::pages::Pages;
+use crate::slots::{code_place, slot_place};
+use crate::thread_memory::Running;
+use code_pages::CodePages;
+use dos_world::Regs;
+
+/// Where instructions led, and what is left of the budget.
+#[derive(Drop)]
+pub struct Flown {
+    pub pc: u32,
+    pub left: u32,
+}
+
+/// The same for the lines of one page, and whether lines may lead on from there.
+#[derive(Drop)]
+struct Leg {
+    pc: u32,
+    left: u32,
+    goes_on: bool,
+}
+
+/// Whether an offset is that of a halfword of a page.
+#[inline(always)]
+fn is_place(to: u32) -> bool
+    ensures { result ≡ true → (to < 4096) × (to % 2 ≡ 0) }
+{
+    to < 4096 && to % 2 == 0
+}
+
+/// The line to land at, of the code at an offset of a page that a fetch has found: 0 where its
+/// block hasn't been compared, or where it isn't known.
+#[inline(always)]
+fn landing<P: Pages>(memory: &Running<'_, P>, code: &CodePages, base: u32, to: u32) -> usize
+    requires known { AreKnownPages code.now }
+    requires found { (slot_of memory.now.shown base).start ≡ base }
+    requires base { base % 4096 ≡ 0 }
+    requires inside { to < 4096 }
+    requires even { to % 2 ≡ 0 }
+    ensures { (result ≡ 0) ⊎ IsLineOf memory.now.shown memory.now.compared code.now code.now.lines
+        base ((base + to) % 2 ^ 32) result }
+{
+    if !memory.compared[16 * slot_place(base) + (to / 256) as usize] {
+        return 0;
+    }
+    code.line_at(code_place(base), to)
+}
+
+/// Instructions by the lines of one page, as many as are known and need no search, where a fetch
+/// has found the page; each for one of the budget.
+#[inline(always)]
+fn fly_in_page<P: Pages>(
+    regs: &mut Regs,
+    memory: &mut Running<'_, P>,
+    code: &CodePages,
+    pc: u32,
+    budget: u32,
+) -> Leg
+    ensures reaches { (floor : ℕ) (f : Still × P.Fixed) (t : ℕ) (w : World) → Runs (ShowsKnown
+        (still memory.old.tid (P.owners memory.old.pages) memory.old.space.now.entries)
+        (P.fixed memory.old.pages) (P.pages memory.old.pages) memory.old.shown memory.old.compared
+        (f, bytes_of_pages code.now) t) w t (with_pc regs.old pc) (floor + budget)
+        → Reaches (ShowsKnown
+        (still memory.new.tid (P.owners memory.new.pages) memory.new.space.now.entries)
+        (P.fixed memory.new.pages) (P.pages memory.new.pages) memory.new.shown memory.new.compared
+        (f, bytes_of_pages code.now) t) w t (with_pc regs.new result.pc) (floor + budget)
+        (floor + result.left) }
+    ensures within { result.left ≤ budget }
+    ensures on { result.goes_on ≡ true → result.left < budget }
+{
+    if !memory.is_shown_at(pc) {
+        return Leg {
+            pc,
+            left: budget,
+            goes_on: false,
+        };
+    }
+    let lines = code.lines();
+    let base = pc / 4096 * 4096;
+    let mut to = pc % 4096;
+    let mut left = budget;
+    while is_place(to) {
+        let at = landing(memory, code, base, to);
+        if at == 0 {
+            return Leg {
+                pc: base.wrapping_add(to),
+                left,
+                goes_on: false,
+            };
+        }
+        if left <= u32::from(line_in(lines, at).run) {
+            let gone = part_of_run(regs, memory, lines, base, at, left);
+            return Leg {
+                pc: base.wrapping_add(gone.to),
+                left: gone.left,
+                goes_on: gone.left < budget,
+            };
+        }
+        let gone = follow::<P, Whole>(regs, memory, lines, base, at, left);
+        if gone.left == left {
+            return Leg {
+                pc: base.wrapping_add(gone.to),
+                left,
+                goes_on: false,
+            };
+        }
+        to = gone.to;
+        left = gone.left;
+    }
+    Leg {
+        pc: base.wrapping_add(to),
+        left,
+        goes_on: left < budget,
+    }
+}
+
+/// Instructions by lines, as many as are known and need no search; each for one of the budget.
+#[inline(always)]
+pub fn fly<P: Pages>(
+    regs: &mut Regs,
+    memory: &mut Running<'_, P>,
+    code: &CodePages,
+    pc: u32,
+    budget: u32,
+) -> Flown
+    ensures reaches { (floor : ℕ) (f : Still × P.Fixed) (t : ℕ) (w : World) → Runs (ShowsKnown
+        (still memory.old.tid (P.owners memory.old.pages) memory.old.space.now.entries)
+        (P.fixed memory.old.pages) (P.pages memory.old.pages) memory.old.shown memory.old.compared
+        (f, bytes_of_pages code.now) t) w t (with_pc regs.old pc) (floor + budget)
+        → Reaches (ShowsKnown
+        (still memory.new.tid (P.owners memory.new.pages) memory.new.space.now.entries)
+        (P.fixed memory.new.pages) (P.pages memory.new.pages) memory.new.shown memory.new.compared
+        (f, bytes_of_pages code.now) t) w t (with_pc regs.new result.pc) (floor + budget)
+        (floor + result.left) }
+    ensures within { result.left ≤ budget }
+{
+    let mut pc = pc;
+    let mut left = budget;
+    while left > 0 {
+        let leg = fly_in_page(regs, memory, code, pc, left);
+        pc = leg.pc;
+        left = leg.left;
+        if !leg.goes_on {
+            break;
+        }
+    }
+    Flown { pc, left }
+}

@@ -1,0 +1,79 @@
+// One instruction, with pc beside the registers.
+ghost use Rattle.std.specs.Prelude.{◌≡◌, ℕ, List, unwrap_or};
+ghost use Rattle.dos_world.specs.World.{World, Registers as registers_of_thread, with_pc};
+ghost use Rattle.dos_world.specs.declared.Reason.{Reason as reason};
+ghost use Rattle.rv_exec.specs.Arrivals.{arrived, went};
+ghost use Rattle.rv_exec.specs.Runs.{Runs, Steps};
+ghost use Rattle.flat_machine.specs.Step.{step};
+ghost use Rattle.code_pages.specs.Lines.{bytes_of_pages};
+ghost use Rattle.quantum_run.specs.Flying.{went_on};
+ghost use Rattle.quantum_run.specs.Showing.{ShowsKnown, Still, still};
+
+use crate::lines::line_in;
+use crate::pages::Pages;
+use crate::thread_memory::Running;
+use code_pages::CodePages;
+use dos_world::{Reason, Regs};
+use rv_exec::{Memory, Next, Went, one, one_known};
+
+/// Where an instruction at pc leads; None where it leads nowhere.
+#[inline(always)]
+fn behind(pc: u32, next: Next) -> Option<u32>
+    ensures registers { (r : registers_of_thread)
+        → with_pc r (unwrap_or result pc) ≡ arrived r pc next }
+    ensures went { (why : reason) → went_on result why ≡ went next why }
+{
+    match next {
+        Next::On => Some(pc.wrapping_add(4)),
+        Next::Short => Some(pc.wrapping_add(2)),
+        Next::To(target) => Some(target),
+        Next::Not => None,
+    }
+}
+
+/// One instruction at pc, by a fetch: where it leads, or None, for this reason.
+fn by_fetch<M: Memory>(regs: &mut Regs, memory: &mut M, pc: u32, why: &mut Reason) -> Option<u32>
+    ensures { (f : M.Fixed) (t : ℕ) (w : World) (budget : ℕ)
+        → Runs (M.shows memory.old f t) w t (with_pc regs.old pc) budget
+        → Steps (M.shows memory.new f t) w t (with_pc regs.new (unwrap_or result pc)) budget
+        (went_on result why.new) (step w t) }
+{
+    regs.set_pc(pc);
+    match one(regs, memory) {
+        Went::Step => Some(regs.pc()),
+        Went::Stop(reason) => {
+            *why = reason;
+            None
+        }
+    }
+}
+
+/// One instruction at pc, by its line where that can be known: where it leads, or None, for this
+/// reason, where it stops and changes nothing.
+#[inline(never)]
+pub fn slowly<P: Pages>(
+    regs: &mut Regs,
+    memory: &mut Running<'_, P>,
+    code: &mut CodePages,
+    pc: u32,
+    why: &mut Reason,
+) -> Option<u32>
+    ensures { (f : Still × P.Fixed) (t : ℕ) (w : World) (budget : ℕ)
+        → Runs (ShowsKnown
+        (still memory.old.tid (P.owners memory.old.pages) memory.old.space.now.entries)
+        (P.fixed memory.old.pages) (P.pages memory.old.pages) memory.old.shown memory.old.compared
+        (f, bytes_of_pages code.old) t) w t (with_pc regs.old pc) budget
+        → Steps (ShowsKnown
+        (still memory.new.tid (P.owners memory.new.pages) memory.new.space.now.entries)
+        (P.fixed memory.new.pages) (P.pages memory.new.pages) memory.new.shown memory.new.compared
+        (f, bytes_of_pages code.new) t) w t (with_pc regs.new (unwrap_or result pc)) budget
+        (went_on result why.new) (step w t) }
+{
+    let at = memory.line_to_perform(code, pc);
+    if at == 0 {
+        return by_fetch(regs, memory, pc, why);
+    }
+    let line = line_in(code.lines(), at);
+    let next = one_known(regs, memory, &line.form, pc, why);
+    behind(pc, next)
+}
